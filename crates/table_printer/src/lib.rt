@@ -1,0 +1,12 @@
+//! The text of a table: an answer's rows under their headers, in columns as wide as a terminal
+//! shows them.
+#![tactic(auto)]
+
+pub mod answer;
+mod cells;
+mod digits;
+pub mod short_writer;
+mod table;
+pub mod writing;
+
+pub use table::print;
