@@ -35,7 +35,9 @@ fn day_of(year: u16, month: u16, day: u16) -> Result<Day, NotADay>
         return Err(NotADay);
     }
     match Date::new(year as i16, month as i8, day as i8) {
-        Ok(date) => Ok(Day { date }),
+        Ok(date) => Ok(Day {
+            date: date.to_plain(),
+        }),
         Err(_) => Err(NotADay),
     }
 }
