@@ -1,7 +1,6 @@
 //! What a query or a listing answers: named columns of values.
 ghost use Rattle.std.specs.Prelude.{◌≡◌};
-ghost use Rattle.table_printer.specs.Shown.{from_cell, is_number};
-ghost use Rattle.table_printer.specs.Values.{value_of};
+ghost use Rattle.table_printer.specs.Values.{from_cell, is_number, value_of};
 ghost use Rattle.posting_table.specs.Rows.{cell_of};
 
 use bean_base::days::Day;

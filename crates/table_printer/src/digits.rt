@@ -1,5 +1,6 @@
 //! The texts of numbers and days.
-ghost use Rattle.std.specs.Prelude.{◌≡◌, ◌++◌, ◌<◌, ◌≤◌, ◌^◌, OnOk};
+ghost use Rattle.std.specs.Prelude.{◌≡◌, ◌++◌, ◌/◌, ◌%◌, ◌<◌, ◌≤◌, ◌^◌, [], OnOk, if◌then◌else◌};
+ghost use Rattle.std.specs.Int.RustNames.{unsigned_abs};
 ghost use Rattle.std.specs.String.{string_bytes};
 ghost use Rattle.table_printer.specs.Digits.{digits_of, exact_decimals, decimals_of, number_text, day_text, zeros};
 
@@ -41,28 +42,51 @@ fn push_zeros(text: &mut String, count: u8) -> Result<(), AllocError>
     Ok(())
 }
 
+fn push_if(text: &mut String, mark: &str, is_wanted: bool) -> Result<(), AllocError>
+    ensures { OnOk result (string_bytes text.new ≡ string_bytes text.old ++ (if is_wanted then mark.now else [])) }
+{
+    if is_wanted { text.push_str(mark) } else { Ok(()) }
+}
+
 /// The point and the decimals, as few as are exact but at least so many.
 fn push_decimals(text: &mut String, places: u8, decimals: u64, least: u8) -> Result<(), AllocError>
     ensures { OnOk result (string_bytes text.new ≡ string_bytes text.old ++ decimals_of places decimals least) }
 {
     let (exact, shown) = without_zeros(places, decimals);
-    if exact > 0 || least > 0 {
-        text.push('.')?;
-    }
+    push_if(text, ".", exact.max(least) > 0)?;
     push_digits(text, exact, shown)?;
-    push_zeros(text, least.saturating_sub(exact))
+    push_zeros(text, least.saturating_sub(exact))?;
+    Ok(())
+}
+
+/// The whole part of a number, and the number that its decimals write, signs left off.
+fn parts_of(number: Num) -> (u64, u64)
+    ensures whole { result.0 ≡ unsigned_abs number.count / 10 ^ number.places }
+    ensures decimals { result.1 ≡ unsigned_abs number.count % 10 ^ number.places }
+{
+    let magnitude = number.count.unsigned_abs();
+    let unit = 10u128.pow(number.places as u32);
+    ((magnitude / unit) as u64, (magnitude % unit) as u64)
 }
 
 /// A number with the fewest decimals that are exact, but at least so many.
 pub fn push_number(text: &mut String, number: Num, least: u8) -> Result<(), AllocError>
     ensures { OnOk result (string_bytes text.new ≡ string_bytes text.old ++ number_text number.count number.places least) }
 {
-    if number.count < 0 {
-        text.push('-')?;
-    }
-    let magnitude = number.count.unsigned_abs();
-    let unit = 10u128.pow(number.places as u32);
-    let whole = (magnitude / unit) as u64;
+    push_if(text, "-", number.count < 0)?;
+    let (whole, decimals) = parts_of(number);
     write!(text, "{whole}")?;
-    push_decimals(text, number.places, (magnitude % unit) as u64, least)
+    push_decimals(text, number.places, decimals, least)
+}
+
+/// A day as `2014-01-31`.
+pub fn push_day(text: &mut String, day: Day) -> Result<(), AllocError>
+    ensures { OnOk result (string_bytes text.new ≡ string_bytes text.old ++ day_text day) }
+{
+    push_digits(text, 4, day.year().unsigned_abs() as u64)?;
+    text.push_str("-")?;
+    push_digits(text, 2, day.month() as u64)?;
+    text.push_str("-")?;
+    push_digits(text, 2, day.day() as u64)?;
+    Ok(())
 }

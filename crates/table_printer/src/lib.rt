@@ -5,8 +5,6 @@
 pub mod answer;
 mod cells;
 mod digits;
-pub mod short_writer;
 mod table;
-pub mod writing;
 
 pub use table::print;
