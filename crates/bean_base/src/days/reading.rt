@@ -7,7 +7,7 @@ ghost use Rattle.bean_base.specs.Days.{is_day_form, HasDay, ParsesDay};
 
 use crate::days::{Day, NotADay};
 use crate::digits::are_digits;
-use jiff::civil::Date;
+use jiff_core::civil::Date;
 
 /// The number that up to four digits write.
 #[tactic(auto, using(crate::proofs::DayDigits::more, crate::proofs::DayDigits::fits_more))]
