@@ -45,7 +45,11 @@ fn push_zeros(text: &mut String, count: u8) -> Result<(), AllocError>
 fn push_if(text: &mut String, mark: &str, is_wanted: bool) -> Result<(), AllocError>
     ensures { OnOk result (string_bytes text.new ≡ string_bytes text.old ++ (if is_wanted then mark.now else [])) }
 {
-    if is_wanted { text.push_str(mark) } else { Ok(()) }
+    if is_wanted {
+        text.push_str(mark)
+    } else {
+        Ok(())
+    }
 }
 
 /// The point and the decimals, as few as are exact but at least so many.

@@ -5,6 +5,10 @@
 pub mod answer;
 mod cells;
 mod digits;
+pub mod output;
+pub mod short_writer;
 mod table;
+pub mod writing;
 
 pub use table::print;
+pub use writing::write_table;

@@ -173,7 +173,7 @@ fn column_width(
 ) -> Result<usize, AllocError>
     ensures { IfOk result (λ n. n ≡ column_width
         (map header_cell headers.now
-            ∷ map (map (cell_of (places_of display.now))) (map (λ row. map value_of row.items) rows.now)) column) }
+        ∷ map (map (cell_of (places_of display.now))) (map (λ row. map value_of row.items) rows.now)) column) }
 {
     let mut width = width_at(headers, column, scratch, display)?.max(1);
     for row in rows {

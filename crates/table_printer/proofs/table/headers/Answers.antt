@@ -17,7 +17,7 @@ loop-i-preserved c =
     ∙ list_any-map (is_number_at i) (λ row. map value_of row.items) c.args.answer.now.rows.items in
     let more = next_header (λ name. name.now) (rows_of c.args.answer.now) c.args.answer.now.headers.items i none (omega arith) in record {
       cells = ap (map header_cell) c.in_ok-push.ensures.items ∙ map-append header_cell c.loop-i.headers.items _
-      ∙ (λ k. c.loop-i.invariant.cells k ++ record { text = clean_text (get_or (same k) i none).now; stands_right = right k } ∷ []) ∙ sym more;
+          ∙ (λ k. c.loop-i.invariant.cells k ++ record { text = clean_text (get_or (same k) i none).now; stands_right = right k } ∷ []) ∙ sym more;
       len = omega (arith, c.in_ok-push.ensures.len, c.loop-i.invariant.len);
     }
 

@@ -1,0 +1,17 @@
+use Rattle.std.proofs.Common.{◌≡◌, ℕ, ◌+◌, ◌≤◌, List, ◌++◌, Option, Some, None, length, take, drop, arith, sym, ap, ◌∙◌, append_assoc, take-add}
+use Rattle.std.specs.Io.KnownBytes.{Appends}
+use Rattle.table_printer.proofs.writing.write_bytes.Goals as goal
+
+-- what was taken, and then some of the rest
+appends_more : (old mid new : Option (List ℕ)) (xs : List ℕ) (w n : ℕ) → Appends old mid (take w xs) → Appends mid new (take n (drop w xs)) → Appends old new (take (w + n) xs)
+appends_more None mid new xs w n first rest = tt
+appends_more (Some a) None new xs w n first rest = absurd first
+appends_more (Some a) (Some b) None xs w n first rest = absurd rest
+appends_more (Some a) (Some b) (Some d) xs w n first rest =
+    rest ∙ ap (λ l. l ++ take n (drop w xs)) first ∙ append_assoc a (take w xs) (take n (drop w xs)) ∙ ap (λ l. a ++ l) (sym (take-add w n xs))
+
+pub loop-written-preserved : goal.loop-written-preserved
+loop-written-preserved g c = record {
+  within = omega (arith, c.in-Ok.ensures.within);
+  taken = appends_more _ _ _ c.args.bytes.now c.loop-written.written c.in-Ok.count c.loop-written.invariant.taken c.in-Ok.ensures.bytes;
+}

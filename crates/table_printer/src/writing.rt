@@ -1,0 +1,66 @@
+//! Writing a table to an output.
+ghost use Rattle.std.specs.Prelude.{◌≡◌, ◌≤◌, ◌<◌, length, take, All, vec_len, IfOk};
+ghost use Rattle.std.specs.Io.KnownBytes.{Appends, Keeps};
+ghost use Rattle.posting_table.specs.Decimals.{places_of};
+ghost use Rattle.table_printer.specs.Faults.{WritesTable};
+ghost use Rattle.table_printer.specs.Table.{table_text};
+ghost use Rattle.table_printer.specs.Values.{names_of, rows_of};
+ghost use Rattle.table_printer.specs.Writing.{Refused};
+
+use crate::answer::Answer;
+use crate::output::{NotTaken, Output};
+use crate::table::print;
+use posting_table::display::Display;
+use std::alloc::{AllocError, Global};
+use thiserror::Error;
+
+/// What kept a table from being written.
+#[derive(Clone, Copy, Debug, Drop, PartialEq, Eq, Error)]
+pub enum PrintFault {
+    /// The output failed or took nothing, behind so many bytes.
+    #[error("P1 not written, {written} bytes were")]
+    NotWritten { written: u64 },
+    #[error("M2 out of memory")]
+    OutOfMemory,
+}
+
+/// Hands bytes over until all are taken, or the output fails or takes nothing, and counts them.
+fn write_bytes<W: Output>(out: &mut W, bytes: &[u8]) -> usize
+    ensures within { result ≤ length bytes.now }
+    ensures taken { Appends (W.taken out.old) (W.taken out.new) (take result bytes.now) }
+    ensures refused { result < length bytes.now → Refused W W.may_answer out.new }
+{
+    let mut written = 0;
+    while written < bytes.len() {
+        match out.write(&bytes[written..]) {
+            Ok(0) => return written,
+            Ok(count) => written += count,
+            Err(NotTaken) => return written,
+        }
+    }
+    written
+}
+
+/// Writes the table of an answer: each row has as many values as there are headers. The whole text
+/// is made before the first byte is handed over, so where memory lacks the output has none of it.
+pub fn write_table<W: Output>(
+    alloc: Global,
+    answer: &Answer<'_>,
+    display: &Display<'_>,
+    out: &mut W,
+) -> Result<u64, PrintFault>
+    requires { All (λ row. vec_len row ≡ vec_len answer.now.headers) answer.now.rows.items }
+    ensures { WritesTable W W.taken W.may_answer out.old out.new
+        (table_text (names_of answer.now) (rows_of answer.now) (places_of display.now)) result }
+{
+    let Ok(text) = print(alloc, answer, display) else {
+        return Err(PrintFault::OutOfMemory);
+    };
+    let written = write_bytes(out, &text);
+    if written < text.len() {
+        return Err(PrintFault::NotWritten {
+            written: written as u64,
+        });
+    }
+    Ok(written as u64)
+}
