@@ -1,4 +1,5 @@
-use Rattle.std.proofs.Common.{◌≡◌, ℕ, ◌+◌, ◌≤◌, List, ◌++◌, Option, Some, None, length, take, drop, arith, sym, ap, ◌∙◌, append_assoc, take-add}
+use Rattle.std.proofs.Common.{◌≡◌, ℕ, ◌+◌, ◌-◌, ◌≤◌, List, ◌++◌, Option, Some, None, length, take, drop, arith, sym, ap, subst, ◌∙◌, append_assoc, length-drop, take-add}
+use Rattle.std.proofs.lemmas.List.{take_all}
 use Rattle.std.specs.Io.KnownBytes.{Appends}
 use Rattle.table_printer.proofs.writing.write_bytes.Goals as goal
 
@@ -11,7 +12,11 @@ appends_more (Some a) (Some b) (Some d) xs w n first rest =
     rest ∙ ap (λ l. l ++ take n (drop w xs)) first ∙ append_assoc a (take w xs) (take n (drop w xs)) ∙ ap (λ l. a ++ l) (sym (take-add w n xs))
 
 pub loop-written-preserved : goal.loop-written-preserved
-loop-written-preserved g c = record {
-  within = omega (arith, c.in-Ok.ensures.within);
-  taken = appends_more _ _ _ c.args.bytes.now c.loop-written.written c.in-Ok.count c.loop-written.invariant.taken c.in-Ok.ensures.bytes;
-}
+loop-written-preserved g c =
+    let bytes = c.args.bytes.now in
+    let w = c.loop-written.written in
+    let rest : take (length bytes - w) (drop w bytes) ≡ drop w bytes = take_all (length bytes - w) (drop w bytes) (omega (arith, length-drop w bytes)) in
+    let told = subst (λ l. Appends (g.W.Output.taken c.loop-written.out) (g.W.Output.taken c.write.new.self) (take c.in-Ok.count l)) rest c.in-Ok.ensures.bytes in record {
+      within = omega (arith, c.in-Ok.ensures.within);
+      taken = appends_more _ _ _ c.args.bytes.now c.loop-written.written c.in-Ok.count c.loop-written.invariant.taken told;
+    }
