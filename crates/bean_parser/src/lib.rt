@@ -1,0 +1,4 @@
+//! The directives of a ledger's text.
+#![tactic(auto)]
+
+pub mod directive;
