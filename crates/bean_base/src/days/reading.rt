@@ -1,0 +1,69 @@
+//! How a text writes a day.
+ghost use Rattle.std.specs.Prelude.{◌≡◌, ◌<◌, ◌≤◌, ◌^◌, length, IsTrue};
+ghost use Rattle.std.specs.List.{list_all};
+ghost use Rattle.std.specs.Char.{is_ascii_digit};
+ghost use Rattle.std.specs.Str.Parse.{digits_value};
+ghost use Rattle.bean_base.specs.Days.{is_day_form, HasDay, ParsesDay};
+
+use crate::days::{Day, NotADay};
+use crate::digits::are_digits;
+use jiff::civil::Date;
+
+/// The number that up to four digits write.
+#[tactic(auto, using(crate::proofs::DayDigits::more, crate::proofs::DayDigits::fits_more))]
+fn value_of(bytes: &[u8]) -> u16
+    requires few { length bytes.now ≤ 4 }
+    requires digits { IsTrue (list_all is_ascii_digit bytes.now) }
+    ensures value { result ≡ digits_value 10 bytes.now }
+    ensures bound { result < 10 ^ length bytes.now }
+{
+    let mut value = 0;
+    for b in bytes {
+        value = value * 10 + (*b - b'0') as u16;
+    }
+    value
+}
+
+/// The day of that number in its month and year, where the calendar has it.
+fn day_of(year: u16, month: u16, day: u16) -> Result<Day, NotADay>
+    requires year { year < 10000 }
+    requires month { month < 100 }
+    requires day { day < 100 }
+    ensures { HasDay result year month day }
+{
+    if year == 0 {
+        return Err(NotADay);
+    }
+    match Date::new(year as i16, month as i8, day as i8) {
+        Ok(date) => Ok(Day { date }),
+        Err(_) => Err(NotADay),
+    }
+}
+
+impl Day {
+    /// Whether the bytes have the form of a day, which the calendar may not have.
+    pub fn is_form(bytes: &[u8]) -> bool
+        ensures { result ≡ is_day_form bytes.now }
+    {
+        bytes.len() == 10
+            && (bytes[4] == b'-' || bytes[4] == b'/')
+            && bytes[7] == bytes[4]
+            && are_digits(&bytes[..4])
+            && are_digits(&bytes[5..7])
+            && are_digits(&bytes[8..10])
+    }
+}
+
+/// The day that a text writes, as `2014-01-31` or `2014/01/31`.
+pub fn parse_day(text: &str) -> Result<Day, NotADay>
+    ensures { ParsesDay result text.now }
+{
+    let bytes = text.as_bytes();
+    if !Day::is_form(bytes) {
+        return Err(NotADay);
+    }
+    let year = value_of(&bytes[..4]);
+    let month = value_of(&bytes[5..7]);
+    let day = value_of(&bytes[8..10]);
+    day_of(year, month, day)
+}
