@@ -1,0 +1,5 @@
+pub mod Lexemes
+pub mod Blocks
+pub mod Parts
+pub mod Grammar
+pub mod Directives

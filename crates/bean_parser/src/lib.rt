@@ -1,4 +1,8 @@
 //! The directives of a ledger's text.
 #![tactic(auto)]
 
+pub mod block;
 pub mod directive;
+mod front;
+mod line;
+pub mod parse;

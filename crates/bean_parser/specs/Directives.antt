@@ -1,0 +1,116 @@
+-- What a ledger's text says: its directives and its faults.
+use Rattle.std.specs.Prelude.{◌≡◌, ℕ, ℤ, pos, neg_ℤ, Bool, true, false, List, [], ◌∷◌, map, Option, Some, None, Result, Ok, Err, ◌⊎◌, cond}
+use Rattle.std.specs.Option.{option_map}
+use Rattle.bean_base.specs.Decimal.{IsLedger}
+use Rattle.bean_base.specs.Numeral.{count_of, places_of}
+use Rattle.bean_base.specs.Days.{IsDayOf, year_of, month_of, day_of}
+use Rattle.bean_base.specs.declared.days.Day.{Day}
+use Rattle.bean_base.specs.declared.fault.Fault.{Fault}
+use Rattle.bean_base.specs.declared.fault.FaultKind.{FaultKind}
+use Rattle.bean_base.specs.declared.fault.FaultKind.TheVariants.{BadToken, NotADirective, OutOfRange}
+use Rattle.bean_lexer.specs.declared.token.Token.{Token}
+use Rattle.bean_parser.specs.declared.directive.Flag.{Flag}
+use Rattle.bean_parser.specs.declared.directive.Text.{Text}
+use Rattle.bean_parser.specs.declared.directive.Posting.{Posting}
+use Rattle.bean_parser.specs.declared.directive.Directive.{Directive}
+use Rattle.bean_parser.specs.declared.directive.Directive.TheVariants as directive
+use Rattle.bean_parser.specs.Blocks.{blocks, first_line, fault_line}
+use Rattle.bean_parser.specs.Grammar.{Texts, Head, opens, transacts, Written, Tree, HasTree}
+
+-- Directives, without where they lie in memory.
+
+pub record DayValue : Type 0 where
+  pub year : ℤ
+  pub month : ℕ
+  pub day : ℕ
+
+pub record PostingValue : Type 0 where
+  pub account : List ℕ
+  pub count : ℤ
+  pub places : ℕ
+  pub currency : List ℕ
+  pub line : ℕ
+
+pub data DirectiveValue : Type 0 where
+  open_is : (day : DayValue) (account : List ℕ) (line : ℕ) → DirectiveValue
+  transaction_is : (day : DayValue) (flag : Flag) (payee narration : Option (List ℕ)) (postings : List PostingValue) (line : ℕ) → DirectiveValue
+
+abbrev pub day_value : Day → DayValue
+day_value d = record { year = d.date.year; month = d.date.month; day = d.date.day }
+
+abbrev pub posting_value : Posting → PostingValue
+posting_value p = record { account = p.account.text.now; count = p.units.number.count; places = p.units.number.places; currency = p.units.currency.text.now; line = p.line }
+
+abbrev pub text_value : Option Text → Option (List ℕ)
+text_value t = option_map (λ t. t.quoted.now) t
+
+abbrev pub directive_value : Directive → DirectiveValue
+directive_value (directive.Open o) = open_is (day_value o.day) o.account.text.now o.line
+directive_value (directive.Transaction t) = transaction_is (day_value t.day) t.flag (text_value t.payee) (text_value t.narration) (map posting_value t.postings.items) t.line
+
+-- What a tree stands for.
+
+abbrev pub day_written : List ℕ → DayValue
+day_written bs = record { year = pos (year_of bs); month = month_of bs; day = day_of bs }
+
+abbrev pub signed : Bool → ℕ → ℤ
+signed minus n = cond minus (neg_ℤ (pos n)) (pos n)
+
+abbrev pub posting_written : ℕ × Written → PostingValue
+posting_written p = record { account = p.1.account; count = signed p.1.minus (count_of p.1.number); places = places_of p.1.number; currency = p.1.currency; line = p.0 }
+
+-- of two texts the first is the payee, and the last text is the narration
+abbrev pub payee_of : Texts → Option (List ℕ)
+payee_of (Some (first, Some second)) = Some first
+payee_of (Some (first, None)) = None
+payee_of None = None
+
+abbrev pub narration_of : Texts → Option (List ℕ)
+narration_of (Some (first, Some second)) = Some second
+narration_of (Some (first, None)) = Some first
+narration_of None = None
+
+abbrev pub directive_written : Tree → DirectiveValue
+directive_written t = elim t.head [
+    opens a ↦ open_is (day_written t.day) a t.line
+  | transacts flag words ↦ transaction_is (day_written t.day) flag (payee_of words) (narration_of words) (map posting_written t.under) t.line
+  ]
+
+-- its numbers are numbers of a ledger, and its day is in the calendar
+abbrev pub IsNumberInRange : List ℕ → Type 0
+IsNumberInRange bs = IsLedger (pos (count_of bs)) (places_of bs)
+
+abbrev pub AreInRange : List (ℕ × Written) → Type 0
+AreInRange [] = Unit {0}
+AreInRange (p ∷ ps) = IsNumberInRange p.1.number × AreInRange ps
+
+abbrev pub IsInRange : Tree → Type 0
+IsInRange t = IsDayOf (year_of t.day) (month_of t.day) (day_of t.day) × AreInRange t.under
+
+-- What a block gives.
+
+abbrev pub fault_at : FaultKind → ℕ → Fault
+fault_at kind line = record { kind = kind; file = 0; line = line }
+
+-- without a fault token: its one tree, F2 where it has none, F3 where the tree is out of range
+abbrev pub ReadsAs : List Token → Result DirectiveValue Fault → Type 0
+ReadsAs block (Ok d) = (t : Tree) × HasTree block t × IsInRange t × (d ≡ directive_written t)
+ReadsAs block (Err f) =
+    ((f ≡ fault_at NotADirective (first_line block)) × ((t : Tree) → HasTree block t → ⊥))
+    ⊎ ((f ≡ fault_at OutOfRange (first_line block)) × ((t : Tree) × HasTree block t × (IsInRange t → ⊥)))
+
+abbrev pub GivesAt : Option ℕ → List Token → Result DirectiveValue Fault → Type 0
+GivesAt (Some line) block outcome = outcome ≡ Err (fault_at BadToken line)
+GivesAt None block outcome = ReadsAs block outcome
+
+-- F1 where it holds a fault token
+abbrev pub Gives : List Token → Result DirectiveValue Fault → Type 0
+Gives block outcome = GivesAt (fault_line block) block outcome
+
+-- each block gives its directive or its fault, in reading order
+pub data Give : List (List Token) → List DirectiveValue → List Fault → Type 0 where
+  nothing : Give [] [] []
+  a_directive : (block : List Token) (rest : List (List Token)) (d : DirectiveValue) (ds : List DirectiveValue) (fs : List Fault)
+      → Gives block (Ok d) → Give rest ds fs → Give (block ∷ rest) (d ∷ ds) fs
+  a_fault : (block : List Token) (rest : List (List Token)) (f : Fault) (ds : List DirectiveValue) (fs : List Fault)
+      → Gives block (Err f) → Give rest ds fs → Give (block ∷ rest) ds (f ∷ fs)
