@@ -42,11 +42,14 @@ flags = mapped flag_of (word flag_word)
 abbrev pub transactings : Form Lexeme (FlagWord × Texts) Head
 transactings = mapped transacting (both begins_with_text flags texts)
 
-abbrev pub HeadTree : Type 0
-HeadTree = List ℕ × (List ℕ ⊎ (FlagWord × Texts))
+abbrev pub KindTree : Type 0
+KindTree = List ℕ ⊎ (FlagWord × Texts)
 
-abbrev pub heads : Form Lexeme HeadTree (List ℕ × Head)
-heads = both begins_with_text (word day) (either begins_with_text openings transactings)
+abbrev pub kinds : Form Lexeme KindTree Head
+kinds = either begins_with_text openings transactings
+
+abbrev pub heads : Form Lexeme (List ℕ × KindTree) (List ℕ × Head)
+heads = both begins_with_text (word day) kinds
 
 -- The lines under it.
 
