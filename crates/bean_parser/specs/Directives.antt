@@ -1,8 +1,8 @@
 -- What a ledger's text says: its directives and its faults.
-use Rattle.std.specs.Prelude.{◌≡◌, ℕ, ℤ, pos, neg_ℤ, Bool, true, false, List, [], ◌∷◌, map, Option, Some, None, Result, Ok, Err, ◌⊎◌, cond}
+use Rattle.std.specs.Prelude.{◌≡◌, ℕ, ℤ, pos, neg_ℤ, Bool, true, false, List, [], ◌∷◌, map, Option, Some, None, Result, Ok, Err, ◌⊎◌, cond, IsTrue}
 use Rattle.bean_base.specs.Decimal.{IsLedger}
-use Rattle.bean_base.specs.Numeral.{count_of, places_of}
-use Rattle.bean_base.specs.Days.{IsDayOf, year_of, month_of, day_of}
+use Rattle.bean_base.specs.Numeral.{is_number, count_of, places_of}
+use Rattle.bean_base.specs.Days.{is_day_form, IsDayOf, year_of, month_of, day_of}
 use Rattle.bean_base.specs.declared.fault.Fault.{Fault}
 use Rattle.bean_base.specs.declared.fault.FaultKind.{FaultKind}
 use Rattle.bean_base.specs.declared.fault.FaultKind.TheVariants.{BadToken, NotADirective, OutOfRange}
@@ -39,16 +39,20 @@ directive_written t = elim t.head [
   | transacts flag words ↦ transaction_is (day_written t.day) flag (payee_of words) (narration_of words) (map posting_written t.under) t.line
   ]
 
--- its numbers are numbers of a ledger, and its day is in the calendar
-abbrev pub IsNumberInRange : List ℕ → Type 0
-IsNumberInRange bs = IsLedger (pos (count_of bs)) (places_of bs)
+-- a number of a ledger: at most 12 whole digits, leading zeros not counted, and at most 8 decimals
+abbrev pub IsLedgerNumber : List ℕ → Type 0
+IsLedgerNumber bs = IsTrue (is_number bs) × IsLedger (pos (count_of bs)) (places_of bs)
 
-abbrev pub AreInRange : List (ℕ × Written) → Type 0
-AreInRange [] = Unit {0}
-AreInRange (p ∷ ps) = IsNumberInRange p.1.number × AreInRange ps
+abbrev pub AreLedgerNumbers : List (ℕ × Written) → Type 0
+AreLedgerNumbers [] = Unit {0}
+AreLedgerNumbers (p ∷ ps) = IsLedgerNumber p.1.number × AreLedgerNumbers ps
+
+-- a day that the calendar has
+abbrev pub IsCalendarDay : List ℕ → Type 0
+IsCalendarDay bs = IsTrue (is_day_form bs) × IsDayOf (year_of bs) (month_of bs) (day_of bs)
 
 abbrev pub IsInRange : Tree → Type 0
-IsInRange t = IsDayOf (year_of t.day) (month_of t.day) (day_of t.day) × AreInRange t.under
+IsInRange t = IsCalendarDay t.day × AreLedgerNumbers t.under
 
 -- What a block gives.
 

@@ -1,4 +1,11 @@
 //! Lines, read whole: the first of a block, and a posting under it.
+ghost use Rattle.std.specs.Prelude.{◌≡◌, MatchOption};
+ghost use Rattle.grammar_forms.specs.Forms.{Reads, HasNone, Is, IsNone, word, optional};
+ghost use Rattle.bean_parser.specs.Lexemes.{lexemes, text, begins_with_text};
+ghost use Rattle.bean_parser.specs.Grammar.{texts, kinds, heads, signs, postings};
+ghost use Rattle.bean_parser.specs.Values.{text_value, posting_value};
+ghost use Rattle.bean_parser.specs.Lines.{texts_of, head_of, written_value};
+ghost use Rattle.bean_parser.specs.Directives.{IsLedgerNumber, posting_written};
 
 use crate::directive::{Amount, Flag, Posting, Text};
 use crate::front::{
@@ -28,14 +35,18 @@ pub struct WrittenPosting<'a> {
     pub currency: Currency<'a>,
 }
 
-fn second_text<'t, 'a>(tokens: &'t [Token<'a>]) -> (Option<Text<'a>>, &'t [Token<'a>]) {
+fn second_text<'t, 'a>(tokens: &'t [Token<'a>]) -> (Option<Text<'a>>, &'t [Token<'a>])
+    ensures { Reads (optional begins_with_text (word text)) (lexemes tokens.now) (text_value result.0) (lexemes result.1.now) }
+{
     match after_text(tokens) {
         Some((text, rest)) => (Some(text), rest),
         None => (None, tokens),
     }
 }
 
-fn texts<'t, 'a>(tokens: &'t [Token<'a>]) -> (Texts<'a>, &'t [Token<'a>]) {
+fn read_texts<'t, 'a>(tokens: &'t [Token<'a>]) -> (Texts<'a>, &'t [Token<'a>])
+    ensures { Reads texts (lexemes tokens.now) (texts_of result.0) (lexemes result.1.now) }
+{
     match after_text(tokens) {
         Some((first, rest)) => {
             let (second, rest) = second_text(rest);
@@ -46,18 +57,22 @@ fn texts<'t, 'a>(tokens: &'t [Token<'a>]) -> (Texts<'a>, &'t [Token<'a>]) {
 }
 
 /// What stands behind the day of a first line.
-fn read_kind<'t, 'a>(tokens: &'t [Token<'a>]) -> Option<(Head<'a>, &'t [Token<'a>])> {
+fn read_kind<'t, 'a>(tokens: &'t [Token<'a>]) -> Option<(Head<'a>, &'t [Token<'a>])>
+    ensures { MatchOption result (HasNone kinds (lexemes tokens.now)) (λ r. Reads kinds (lexemes tokens.now) (head_of r.0) (lexemes r.1.now)) }
+{
     if let Some(rest) = after_open(tokens) {
         let (account, rest) = after_account(rest)?;
         return Some((Head::Open(account), rest));
     }
     let (flag, rest) = after_flag(tokens)?;
-    let (texts, rest) = texts(rest);
+    let (texts, rest) = read_texts(rest);
     Some((Head::Transaction(flag, texts), rest))
 }
 
 /// The day, as it is written, and the kind of a block that has this first line.
-pub fn read_head<'a>(line: &[Token<'a>]) -> Option<(&'a str, Head<'a>)> {
+pub fn read_head<'a>(line: &[Token<'a>]) -> Option<(&'a str, Head<'a>)>
+    ensures { MatchOption result (IsNone heads (lexemes line.now)) (λ r. Is heads (lexemes line.now) (r.0.now, head_of r.1)) }
+{
     let (day, rest) = after_day(line)?;
     let (head, rest) = read_kind(rest)?;
     match next(rest) {
@@ -67,7 +82,9 @@ pub fn read_head<'a>(line: &[Token<'a>]) -> Option<(&'a str, Head<'a>)> {
 }
 
 /// Whether there is a minus at the front, and what stands behind a sign.
-fn minus_if_any<'t, 'a>(tokens: &'t [Token<'a>]) -> (bool, &'t [Token<'a>]) {
+fn minus_if_any<'t, 'a>(tokens: &'t [Token<'a>]) -> (bool, &'t [Token<'a>])
+    ensures { Reads signs (lexemes tokens.now) result.0 (lexemes result.1.now) }
+{
     match after_sign(tokens) {
         Some((is_minus, rest)) => (is_minus, rest),
         None => (false, tokens),
@@ -75,7 +92,9 @@ fn minus_if_any<'t, 'a>(tokens: &'t [Token<'a>]) -> (bool, &'t [Token<'a>]) {
 }
 
 /// The posting that a line is.
-pub fn read_posting<'a>(line: &[Token<'a>]) -> Option<WrittenPosting<'a>> {
+pub fn read_posting<'a>(line: &[Token<'a>]) -> Option<WrittenPosting<'a>>
+    ensures { MatchOption result (IsNone postings (lexemes line.now)) (λ r. Is postings (lexemes line.now) (written_value r)) }
+{
     let (account, rest) = after_account(line)?;
     let (is_minus, rest) = minus_if_any(rest);
     let (number, rest) = after_number(rest)?;
@@ -93,8 +112,13 @@ pub fn read_posting<'a>(line: &[Token<'a>]) -> Option<WrittenPosting<'a>> {
 
 impl<'a> WrittenPosting<'a> {
     /// The posting, where its number is a number of a ledger.
-    pub fn in_range(self, line: usize) -> Option<Posting<'a>> {
-        let magnitude = Num::parse(self.number).ok()?;
+    pub fn in_range(self, line: usize) -> Option<Posting<'a>>
+        ensures { MatchOption result (IsLedgerNumber self.entry.number.now → ⊥)
+            (λ p. IsLedgerNumber self.entry.number.now × (posting_value p ≡ posting_written (line, written_value self.entry))) }
+    {
+        let Ok(magnitude) = Num::parse(self.number) else {
+            return None;
+        };
         let number = if self.is_minus {
             magnitude.negated()
         } else {
