@@ -1,5 +1,7 @@
 -- The blocks of a list of tokens, and the lines of a block.
 use Rattle.std.specs.Prelude.{ℕ, Bool, true, false, List, [], ◌∷◌, map, Option, Some, None, cond}
+use Rattle.std.specs.Option.{option_map}
+use Rattle.std.specs.List.{find}
 use Rattle.bean_lexer.specs.declared.kind.Kind.{Kind}
 use Rattle.bean_lexer.specs.declared.kind.Kind.TheVariants as kind
 use Rattle.bean_lexer.specs.declared.kind.Place.{Place}
@@ -64,5 +66,4 @@ is_fault kind = false
 
 -- the line on which the first fault token begins
 abbrev pub fault_line : List Token → Option ℕ
-fault_line [] = None
-fault_line (t ∷ ts) = cond (is_fault t.kind) (Some t.line) (fault_line ts)
+fault_line ts = option_map (λ t. t.line) (find (λ t. is_fault t.kind) ts)

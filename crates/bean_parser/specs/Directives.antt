@@ -75,9 +75,9 @@ abbrev pub Gives : List Token → Result DirectiveValue Fault → Type 0
 Gives block outcome = GivesAt (fault_line block) block outcome
 
 -- each block gives its directive or its fault, in reading order
-pub data Give : List (List Token) → List DirectiveValue → List Fault → Type 0 where
-  nothing : Give [] [] []
+pub data BlocksGive : List (List Token) → List DirectiveValue → List Fault → Type 0 where
+  nothing : BlocksGive [] [] []
   a_directive : (block : List Token) (rest : List (List Token)) (d : DirectiveValue) (ds : List DirectiveValue) (fs : List Fault)
-      → Gives block (Ok d) → Give rest ds fs → Give (block ∷ rest) (d ∷ ds) fs
+      → Gives block (Ok d) → BlocksGive rest ds fs → BlocksGive (block ∷ rest) (d ∷ ds) fs
   a_fault : (block : List Token) (rest : List (List Token)) (f : Fault) (ds : List DirectiveValue) (fs : List Fault)
-      → Gives block (Err f) → Give rest ds fs → Give (block ∷ rest) ds (f ∷ fs)
+      → Gives block (Err f) → BlocksGive rest ds fs → BlocksGive (block ∷ rest) ds (f ∷ fs)

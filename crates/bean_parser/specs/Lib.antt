@@ -5,3 +5,4 @@ pub mod Values
 pub mod Grammar
 pub mod Lines
 pub mod Directives
+pub mod Reading

@@ -2,7 +2,12 @@
 ghost use Rattle.std.specs.Prelude.{◌≡◌, ◌<◌, ◌≤◌, [], ◌∷◌, length, MatchOption, IfSome, IfOk, Some, None, Ok, Err};
 ghost use Rattle.std.specs.List.{prefix_len};
 ghost use Rattle.bean_parser.specs.Parts.{begins_at, begins, goes_on};
-ghost use Rattle.bean_parser.specs.Blocks.{cut_before};
+ghost use Rattle.bean_parser.specs.Blocks.{cut_before, lines, is_fault, fault_line, first_line, is_in_column_one};
+ghost use Rattle.bean_parser.specs.Grammar.{HasTree, Tree, opens, transacts};
+ghost use Rattle.bean_parser.specs.Lines.{head_of, texts_of};
+ghost use Rattle.bean_parser.specs.Values.{text_value};
+ghost use Rattle.bean_parser.specs.Directives.{Gives, fault_at, payee_of, narration_of};
+ghost use Rattle.bean_parser.specs.Reading.{BeginsWith, ReadsPosting, ReadsPostings, ReadsUnder, ReadsBlock, outcome_of};
 
 use crate::directive::{Directive, Flag, Open, Posting, Text, Transaction};
 use crate::line::{Head, Texts, read_head, read_posting};
@@ -56,23 +61,32 @@ pub fn first_part<'t, 'a>(
     tokens: &'t [Token<'a>],
 ) -> Option<(&'t [Token<'a>], &'t [Token<'a>])>
     ensures front { MatchOption result (tokens.now ≡ []) (λ r. cut_before (begins part) tokens.now ≡ r.0.now ∷ cut_before (begins part) r.1.now) }
+    ensures same_line { IfSome result (λ r. first_line r.0.now ≡ first_line tokens.now) }
     ensures shorter { IfSome result (λ r. length r.1.now < length tokens.now) }
 {
     let (_, others) = tokens.split_first()?;
     Some(tokens.split_at(1 + reach(part, others)))
 }
 
-/// The line on which the first fault token begins.
-fn fault_line(block: &[Token<'_>]) -> Option<usize> {
-    for token in block {
-        if token.kind == Kind::Fault {
-            return Some(token.line);
-        }
-    }
-    None
+fn is_fault(kind: Kind) -> bool
+    ensures { result ≡ is_fault kind }
+{
+    matches!(kind, Kind::Fault)
 }
 
-fn first_line(tokens: &[Token<'_>]) -> usize {
+/// The line on which the first fault token begins.
+fn fault_line(block: &[Token<'_>]) -> Option<usize>
+    ensures { result ≡ fault_line block.now }
+{
+    block
+        .iter()
+        .find(|token| is_fault(token.kind))
+        .map(|token| token.line)
+}
+
+fn first_line(tokens: &[Token<'_>]) -> usize
+    ensures { result ≡ first_line tokens.now }
+{
     match tokens.first() {
         Some(token) => token.line,
         None => 0,
@@ -86,7 +100,9 @@ pub enum Refusal {
     OutOfRange,
 }
 
-fn is_in_column_one(block: &[Token<'_>]) -> bool {
+fn is_in_column_one(block: &[Token<'_>]) -> bool
+    ensures { result ≡ is_in_column_one block.now }
+{
     match block.first() {
         Some(token) => Part::Block.begins_at(token.place),
         None => false,
@@ -96,7 +112,9 @@ fn is_in_column_one(block: &[Token<'_>]) -> bool {
 /// The day, as it is written, and the kind of a block, and the lines under its first one.
 fn read_first_line<'t, 'a>(
     block: &'t [Token<'a>],
-) -> Option<(&'a str, Head<'a>, &'t [Token<'a>])> {
+) -> Option<(&'a str, Head<'a>, &'t [Token<'a>])>
+    ensures { MatchOption result ((t : Tree) → HasTree block.now t → ⊥) (λ r. BeginsWith block.now r.0.now (head_of r.1) r.2.now) }
+{
     if !is_in_column_one(block) {
         return None;
     }
@@ -105,7 +123,9 @@ fn read_first_line<'t, 'a>(
     Some((day, head, under))
 }
 
-fn read_posting_line<'a>(line: &[Token<'a>]) -> Result<Posting<'a>, Refusal> {
+fn read_posting_line<'a>(line: &[Token<'a>]) -> Result<Posting<'a>, Refusal>
+    ensures { ReadsPosting line.now result }
+{
     let Some(written) = read_posting(line) else {
         return Err(Refusal::NotADirective);
     };
@@ -119,7 +139,9 @@ fn read_posting_line<'a>(line: &[Token<'a>]) -> Result<Posting<'a>, Refusal> {
 fn read_postings<'a>(
     alloc: Global,
     under: &[Token<'a>],
-) -> Result<Result<Vec<Posting<'a>>, Refusal>, AllocError> {
+) -> Result<Result<Vec<Posting<'a>>, Refusal>, AllocError>
+    ensures { IfOk result (ReadsPostings (λ v. v.items) (lines under.now)) }
+{
     let mut postings = Vec::new(alloc);
     let mut are_in_range = true;
     let mut rest = Unread { tokens: under };
@@ -143,7 +165,9 @@ fn read_open<'a>(
     account: Account<'a>,
     line: usize,
     under: &[Token<'a>],
-) -> Result<Directive<'a>, Refusal> {
+) -> Result<Directive<'a>, Refusal>
+    ensures { ReadsUnder line day.now (opens account.entry.text.now) (lines under.now) result }
+{
     if !under.is_empty() {
         return Err(Refusal::NotADirective);
     }
@@ -154,7 +178,10 @@ fn read_open<'a>(
 }
 
 /// The payee and the narration: of two texts the first and the second, and one is the narration.
-fn payee_and_narration<'a>(texts: Texts<'a>) -> (Option<Text<'a>>, Option<Text<'a>>) {
+fn payee_and_narration<'a>(texts: Texts<'a>) -> (Option<Text<'a>>, Option<Text<'a>>)
+    ensures payee { text_value result.0 ≡ payee_of (texts_of texts.entry) }
+    ensures narration { text_value result.1 ≡ narration_of (texts_of texts.entry) }
+{
     match texts {
         Some((payee, Some(narration))) => (Some(payee), Some(narration)),
         Some((narration, None)) => (None, Some(narration)),
@@ -169,7 +196,9 @@ fn read_transaction<'a>(
     texts: Texts<'a>,
     line: usize,
     under: &[Token<'a>],
-) -> Result<Result<Directive<'a>, Refusal>, AllocError> {
+) -> Result<Result<Directive<'a>, Refusal>, AllocError>
+    ensures { IfOk result (ReadsUnder line day.now (transacts flag (texts_of texts.entry)) (lines under.now)) }
+{
     let postings = match read_postings(alloc, under)? {
         Ok(postings) => postings,
         Err(refusal) => return Ok(Err(refusal)),
@@ -193,7 +222,9 @@ fn read_transaction<'a>(
 fn read_directive<'a>(
     alloc: Global,
     block: &[Token<'a>],
-) -> Result<Result<Directive<'a>, Refusal>, AllocError> {
+) -> Result<Result<Directive<'a>, Refusal>, AllocError>
+    ensures { IfOk result (ReadsBlock block.now) }
+{
     let Some((day, head, under)) = read_first_line(block) else {
         return Ok(Err(Refusal::NotADirective));
     };
@@ -204,7 +235,9 @@ fn read_directive<'a>(
     }
 }
 
-fn fault_at(kind: FaultKind, line: usize) -> Fault {
+fn fault_at(kind: FaultKind, line: usize) -> Fault
+    ensures { result ≡ fault_at kind line }
+{
     Fault {
         kind,
         file: 0,
@@ -216,7 +249,9 @@ fn fault_at(kind: FaultKind, line: usize) -> Fault {
 pub fn read_block<'a>(
     alloc: Global,
     block: &[Token<'a>],
-) -> Result<Result<Directive<'a>, Fault>, AllocError> {
+) -> Result<Result<Directive<'a>, Fault>, AllocError>
+    ensures { IfOk result (λ r. Gives block.now (outcome_of r)) }
+{
     if let Some(line) = fault_line(block) {
         return Ok(Err(fault_at(FaultKind::BadToken, line)));
     }
