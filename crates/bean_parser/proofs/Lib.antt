@@ -1,3 +1,5 @@
 pub mod Cuts
 pub mod Forms
 pub mod Postings
+pub mod OneTree
+pub mod Blocks
