@@ -3,3 +3,4 @@ pub mod Forms
 pub mod Postings
 pub mod OneTree
 pub mod Blocks
+pub mod Texts

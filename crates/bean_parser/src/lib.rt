@@ -4,5 +4,6 @@
 pub mod block;
 pub mod directive;
 mod front;
+pub mod grammar;
 mod line;
 pub mod parse;
