@@ -4,3 +4,4 @@ pub mod Postings
 pub mod OneTree
 pub mod Blocks
 pub mod Texts
+pub mod Examples

@@ -1,7 +1,7 @@
 //! The directives of a ledger's text.
 #![tactic(auto)]
 
-pub mod block;
+mod block;
 pub mod directive;
 mod front;
 pub mod grammar;

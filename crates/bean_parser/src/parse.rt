@@ -18,7 +18,7 @@ pub struct Parsed<'a> {
 }
 
 /// The directives and the faults of a list of tokens.
-pub fn parse_tokens<'a>(alloc: Global, tokens: &[Token<'a>]) -> Result<Parsed<'a>, AllocError>
+fn parse_tokens<'a>(alloc: Global, tokens: &[Token<'a>]) -> Result<Parsed<'a>, AllocError>
     ensures { IfOk result (λ p. BlocksGive (blocks tokens.now) (map directive_value p.directives.items) p.faults.items) }
 {
     let mut directives = Vec::new(alloc);
