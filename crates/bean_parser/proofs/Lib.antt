@@ -1,0 +1,7 @@
+pub mod Cuts
+pub mod Forms
+pub mod Postings
+pub mod OneTree
+pub mod Blocks
+pub mod Texts
+pub mod Examples

@@ -1,0 +1,35 @@
+//! From a ledger's text to its directives and its faults.
+ghost use Rattle.std.specs.Prelude.{IfOk, map};
+ghost use Rattle.bean_parser.specs.Blocks.{blocks};
+ghost use Rattle.bean_parser.specs.Values.{directive_value};
+ghost use Rattle.bean_parser.specs.Directives.{BlocksGive};
+
+use crate::block::{Part, Unread, first_part, read_block};
+use crate::directive::Directive;
+use bean_base::fault::Fault;
+use bean_lexer::token::Token;
+use std::alloc::{AllocError, Global};
+
+/// What a ledger's text says, in reading order. The faults have file 0.
+#[derive(Drop)]
+pub struct Parsed<'a> {
+    pub directives: Vec<Directive<'a>>,
+    pub faults: Vec<Fault>,
+}
+
+/// The directives and the faults of a list of tokens.
+fn parse_tokens<'a>(alloc: Global, tokens: &[Token<'a>]) -> Result<Parsed<'a>, AllocError>
+    ensures { IfOk result (λ p. BlocksGive (blocks tokens.now) (map directive_value p.directives.items) p.faults.items) }
+{
+    let mut directives = Vec::new(alloc);
+    let mut faults = Vec::new(alloc);
+    let mut rest = Unread { tokens };
+    while let Some((block, after)) = first_part(Part::Block, rest.tokens) {
+        match read_block(alloc, block)? {
+            Ok(directive) => directives.push(directive)?,
+            Err(fault) => faults.push(fault)?,
+        }
+        rest = Unread { tokens: after };
+    }
+    Ok(Parsed { directives, faults })
+}
