@@ -1,0 +1,4 @@
+pub mod Statuses
+pub mod Words
+pub mod Sources
+pub mod Named

@@ -1,0 +1,39 @@
+-- What sources and stores tell of themselves.
+use Rattle.std.specs.Prelude.{◌≡◌, ℕ, ◌+◌, List, [], ◌∷◌, ◌++◌, Option, Some, None, Result, Ok, Err, ⊤, Vec}
+
+use Rattle.bq.specs.declared.store.SourceFault.{SourceFault}
+use Rattle.bq.specs.declared.store.SourceFault.TheVariants.{Failed, OutOfMemory}
+
+-- a name that was asked for, with the bytes that were given, or none where the source failed
+abbrev pub Reading : Type 0
+Reading = List ℕ × Option (List ℕ)
+
+-- one failure more where a call failed
+abbrev pub failures_behind : {T : Type 0} → ℕ → Result T SourceFault → ℕ
+failures_behind n (Ok x) = n
+failures_behind n (Err Failed) = n + 1
+failures_behind n (Err OutOfMemory) = n
+
+-- what an answer adds to what was told
+abbrev pub readings : {Z : Type 0} → List ℕ → Result (Vec ℕ Z) SourceFault → List Reading
+readings name (Ok v) = (name, Some v.items) ∷ []
+readings name (Err Failed) = (name, None) ∷ []
+readings name (Err OutOfMemory) = []
+
+abbrev pub Tells : {Z : Type 0} → Option (List Reading) → Option (List Reading) → List ℕ → Result (Vec ℕ Z) SourceFault → Type 0
+Tells None new name r = ⊤
+Tells (Some old) None name r = ⊥
+Tells (Some old) (Some new) name r = new ≡ old ++ readings name r
+
+-- a file that was put
+abbrev pub Putting : Type 0
+Putting = List ℕ × List ℕ
+
+abbrev pub puttings : List ℕ → List ℕ → Result Unit SourceFault → List Putting
+puttings name bytes (Ok x) = (name, bytes) ∷ []
+puttings name bytes (Err e) = []
+
+abbrev pub Puts : Option (List Putting) → Option (List Putting) → List ℕ → List ℕ → Result Unit SourceFault → Type 0
+Puts None new name bytes r = ⊤
+Puts (Some old) None name bytes r = ⊥
+Puts (Some old) (Some new) name bytes r = new ≡ old ++ puttings name bytes r
