@@ -1,6 +1,6 @@
 -- What rows and cells hold, without where their texts lie in memory.
 use Rattle.std.specs.Prelude.{ℕ, ℤ, List}
-use Rattle.bean_base.specs.declared.days.Day.{Day}
+use Rattle.bean_base.specs.Days.{DayValue, day_value}
 use Rattle.posting_table.specs.declared.row.Position.{Position}
 use Rattle.posting_table.specs.declared.row.Row.{Row}
 use Rattle.posting_table.specs.declared.row.Cell.{Cell}
@@ -16,7 +16,7 @@ pub record PositionValue : Type 0 where
 
 -- a booked posting
 pub record RowValue : Type 0 where
-  pub date : Day
+  pub date : DayValue
   pub flag : List ℕ
   pub account : List ℕ
   pub position : PositionValue
@@ -24,18 +24,18 @@ pub record RowValue : Type 0 where
 -- what stands in a column
 pub data CellValue : Type 0 where
   text : List ℕ → CellValue
-  day : Day → CellValue
+  day : DayValue → CellValue
   position : PositionValue → CellValue
 
 abbrev pub position_of : Position → PositionValue
 position_of p = record { count = p.number.count; places = p.number.places; currency = p.currency.text.now }
 
 abbrev pub row_of : Row → RowValue
-row_of r = record { date = r.date; flag = r.flag.now; account = r.account.text.now; position = position_of r.position }
+row_of r = record { date = day_value r.date; flag = r.flag.now; account = r.account.text.now; position = position_of r.position }
 
 abbrev pub cell_of : Cell → CellValue
 cell_of (cell.Text t) = text t.now
-cell_of (cell.Day d) = day d
+cell_of (cell.Day d) = day (day_value d)
 cell_of (cell.Position p) = position (position_of p)
 
 -- what a posting has in a column

@@ -1,7 +1,7 @@
 -- The texts of numbers and days.
 use Rattle.std.specs.Prelude.{ℕ, ℤ, zero, suc, pos, negsuc, ◌+◌, ◌-◌, ◌/◌, ◌%◌, ◌^◌, ◌==◌, List, [], ◌∷◌, ◌++◌, length, replicate, if◌then◌else◌}
 use Rattle.std.specs.Fmt.{decimal}
-use Rattle.bean_base.specs.declared.days.Day.{Day}
+use Rattle.bean_base.specs.Days.{DayValue}
 use Rattle.std.specs.Int.RustNames.{unsigned_abs}
 
 -- the last digits of a number, so many
@@ -37,5 +37,5 @@ number_text (pos n) places least = magnitude_text n places least
 number_text (negsuc n) places least = 45 ∷ magnitude_text (suc n) places least
 
 -- YYYY-MM-DD
-abbrev pub day_text : Day → List ℕ
-day_text d = digits_of 4 (unsigned_abs d.date.year) ++ 45 ∷ digits_of 2 d.date.month ++ 45 ∷ digits_of 2 d.date.day
+abbrev pub day_text : DayValue → List ℕ
+day_text d = digits_of 4 (unsigned_abs d.year) ++ 45 ∷ digits_of 2 d.month ++ 45 ∷ digits_of 2 d.day

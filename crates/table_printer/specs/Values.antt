@@ -2,7 +2,7 @@
 use Rattle.std.specs.Prelude.{ℕ, ℤ, Bool, true, false, List, [], ◌∷◌, ◌++◌, map, chars, encode_utf8, if◌then◌else◌}
 use Rattle.std.specs.Char.{is_control}
 use Rattle.std.specs.List.{flat_map}
-use Rattle.bean_base.specs.declared.days.Day.{Day}
+use Rattle.bean_base.specs.Days.{DayValue, day_value}
 use Rattle.posting_table.specs.Rows.{PositionValue, position_of, CellValue}
 use Rattle.posting_table.specs.Rows as rows
 use Rattle.table_printer.specs.Digits.{number_text, day_text}
@@ -14,14 +14,14 @@ pub data ShownValue : Type 0 where
   null : ShownValue
   number : ℤ → ℕ → ShownValue
   text : List ℕ → ShownValue
-  day : Day → ShownValue
+  day : DayValue → ShownValue
   position : PositionValue → ShownValue
 
 abbrev pub value_of : Value → ShownValue
 value_of value.Null = null
 value_of (value.Number n) = number n.count n.places
 value_of (value.Text t) = text t.now
-value_of (value.Day d) = day d
+value_of (value.Day d) = day (day_value d)
 value_of (value.Position p) = position (position_of p)
 
 -- the value of a posting's cell

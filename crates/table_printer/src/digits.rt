@@ -2,6 +2,7 @@
 ghost use Rattle.std.specs.Prelude.{◌≡◌, ◌++◌, ◌/◌, ◌%◌, ◌<◌, ◌≤◌, ◌^◌, [], OnOk, if◌then◌else◌};
 ghost use Rattle.std.specs.Int.RustNames.{unsigned_abs};
 ghost use Rattle.std.specs.String.{string_bytes};
+ghost use Rattle.bean_base.specs.Days.{day_value};
 ghost use Rattle.table_printer.specs.Digits.{digits_of, exact_decimals, decimals_of, number_text, day_text, zeros};
 
 use bean_base::days::Day;
@@ -85,7 +86,7 @@ pub fn push_number(text: &mut String, number: Num, least: u8) -> Result<(), Allo
 
 /// A day as `2014-01-31`.
 pub fn push_day(text: &mut String, day: Day) -> Result<(), AllocError>
-    ensures { OnOk result (string_bytes text.new ≡ string_bytes text.old ++ day_text day) }
+    ensures { OnOk result (string_bytes text.new ≡ string_bytes text.old ++ day_text (day_value day)) }
 {
     push_digits(text, 4, day.year().unsigned_abs() as u64)?;
     text.push_str("-")?;
