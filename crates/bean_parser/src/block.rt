@@ -1,8 +1,8 @@
 //! Blocks: where they end, and what each gives.
-ghost use Rattle.std.specs.Prelude.{◌≡◌, ◌<◌, ◌≤◌, [], ◌∷◌, length, MatchOption, IfSome, IfOk, Some, None, Ok, Err};
+ghost use Rattle.std.specs.Prelude.{◌≡◌, ◌<◌, ◌≤◌, [], ◌∷◌, length, MatchOption, IfSome, IfOk, count_by};
 ghost use Rattle.std.specs.List.{prefix_len};
 ghost use Rattle.bean_parser.specs.Parts.{begins_at, begins, goes_on};
-ghost use Rattle.bean_parser.specs.Blocks.{cut_before, lines, is_fault, fault_line, first_line, is_in_column_one};
+ghost use Rattle.bean_parser.specs.Blocks.{begins_line, cut_before, lines, is_fault, fault_line, first_line, is_in_column_one};
 ghost use Rattle.bean_parser.specs.Grammar.{HasTree, Tree, opens, transacts};
 ghost use Rattle.bean_parser.specs.Lines.{head_of, texts_of};
 ghost use Rattle.bean_parser.specs.Values.{text_value};
@@ -135,6 +135,16 @@ fn read_posting_line<'a>(line: &[Token<'a>]) -> Result<Posting<'a>, Refusal>
     }
 }
 
+/// How many lines begin among the tokens.
+fn line_count(tokens: &[Token<'_>]) -> usize
+    ensures { result ≡ count_by begins_line tokens.now }
+{
+    tokens
+        .iter()
+        .filter(|token| Part::Line.begins_at(token.place))
+        .count()
+}
+
 /// The postings that lines are.
 fn read_postings<'a>(
     alloc: Global,
@@ -142,7 +152,7 @@ fn read_postings<'a>(
 ) -> Result<Result<Vec<Posting<'a>>, Refusal>, AllocError>
     ensures { IfOk result (ReadsPostings (λ v. v.items) (lines under.now)) }
 {
-    let mut postings = Vec::new(alloc);
+    let mut postings = Vec::with_capacity(alloc, line_count(under))?;
     let mut are_in_range = true;
     let mut rest = Unread { tokens: under };
     while let Some((line, after)) = first_part(Part::Line, rest.tokens) {
