@@ -1,5 +1,5 @@
 -- Cutting a list, part by part.
-use Rattle.std.proofs.Common.{◌≡◌, ℕ, ◌+◌, Bool, true, false, not, List, [], ◌∷◌, length, take, drop, cond, suc, refl, sym, ◌∙◌, ap, arith}
+use Rattle.std.proofs.Common.{◌≡◌, ℕ, ◌+◌, Bool, true, false, not, List, [], ◌∷◌, length, take, drop, cond, suc, map, refl, sym, ◌∙◌, ap, arith}
 use Rattle.std.specs.List.{prefix_len}
 use Rattle.bean_parser.specs.Blocks.{cut_before, put_before}
 
@@ -46,3 +46,25 @@ first_cut_of begins tokens x xs n front back at len f b =
     let back_is : back ≡ drop n xs = b ∙ (ap (λ m. drop m tokens) one ∙ ap (drop (suc n)) at) in
     let cut : cut_before begins tokens ≡ cut_at begins x xs n = ap (cut_before begins) at ∙ (first_cut begins x xs ∙ ap (cut_at begins x xs) (sym len)) in
     cut ∙ (ap (λ p. p ∷ cut_before begins (drop n xs)) (sym front_is) ∙ ap (λ p. front ∷ cut_before begins p) (sym back_is))
+
+-- what is cut may be told by a view of the elements
+
+map_cond : {A B : Type 0} (f : A → B) (b : Bool) (p q : A) → f (cond b p q) ≡ cond b (f p) (f q)
+map_cond f true p q = refl
+map_cond f false p q = refl
+
+map_put : {A B : Type 0} (f : A → B) (begins : B → Bool) (x : A) (parts : List (List A))
+    → map (map f) (put_before (λ y. begins (f y)) x parts) ≡ put_before begins (f x) (map (map f) parts)
+map_put f begins x [] = refl
+map_put f begins x ([] ∷ parts) = refl
+map_put f begins x ((y ∷ ys) ∷ parts) = map_cond (map (map f)) (begins (f y)) ((x ∷ []) ∷ ((y ∷ ys) ∷ parts)) ((x ∷ (y ∷ ys)) ∷ parts)
+
+map_cut : {A B : Type 0} (f : A → B) (begins : B → Bool) (xs : List A) → map (map f) (cut_before (λ y. begins (f y)) xs) ≡ cut_before begins (map f xs)
+map_cut f begins [] = refl
+map_cut f begins (x ∷ xs) = map_put f begins x (cut_before (λ y. begins (f y)) xs) ∙ ap (put_before begins (f x)) (map_cut f begins xs)
+
+pub first_cut_seen : {A B : Type 0} (f : A → B) (begins : B → Bool) (tokens : List A) (x : A) (xs : List A) (n : ℕ) (front back : List A)
+    → tokens ≡ x ∷ xs → n ≡ others_len (λ y. begins (f y)) xs → front ≡ take (1 + n) tokens → back ≡ drop (1 + n) tokens
+    → cut_before begins (map f tokens) ≡ map f front ∷ cut_before begins (map f back)
+first_cut_seen f begins tokens x xs n front back at len h k =
+    sym (map_cut f begins tokens) ∙ (ap (map (map f)) (first_cut_of (λ y. begins (f y)) tokens x xs n front back at len h k) ∙ ap (λ parts. map f front ∷ parts) (map_cut f begins back))

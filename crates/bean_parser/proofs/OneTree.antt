@@ -3,9 +3,8 @@ use Rattle.std.proofs.Common.{◌≡◌, ℕ, List, [], ◌∷◌, refl, sym, �
 use Rattle.grammar_forms.specs.Forms.{Is, IsUnambiguous, word, both, optional, behind, either, mapped}
 use Rattle.grammar_forms.proofs.Unambiguous.{one_word, one_behind, one_mapped, one_both, one_optional, one_either, one_value}
 use Rattle.bean_lexer.specs.declared.kind.Keyword.TheVariants as keywords
-use Rattle.bean_lexer.specs.declared.token.Token.{Token}
 use Rattle.bean_parser.specs.Blocks.{Line, lines}
-use Rattle.bean_parser.specs.Lexemes.{Lexeme, day, number, text, account, currency, keyword, flag_word, flag_of, plus_or_minus, begins_with_text, begins_with_sign, begins_with_open}
+use Rattle.bean_parser.specs.Lexemes.{TokenValue, Lexeme, day, number, text, account, currency, keyword, flag_word, flag_of, plus_or_minus, begins_with_text, begins_with_sign, begins_with_open}
 use Rattle.bean_parser.specs.Grammar.{never, texts, opening, transacting, openings, flags, transactings, kinds, heads, is_minus, signs, units, written_of, postings, Head, Written, ArePostings, Tree, HaveTree, HasTree}
 use Rattle.bean_parser.proofs.Forms.{exact_day, exact_number, exact_text, exact_account, exact_currency, exact_flag, exact_sign, tells_text, tells_texts, tells_sign, tells_opening, transacting_avoids, second_follows, texts_follow, kinds_end, kinds_follow, currency_follows, number_follows, units_follow}
 
@@ -70,5 +69,5 @@ have_one [] t u h k = absurd h
 have_one (l ∷ ls) t u h k =
     same_tree t u (h.0 ∙ sym k.0) (same_head l.lexemes (t.day, t.head) (u.day, u.head) h.1 k.1) (same_postings ls t.under u.under h.2 k.2)
 
-pub one_tree : (block : List Token) (t u : Tree) → HasTree block t → HasTree block u → t ≡ u
+pub one_tree : (block : List TokenValue) (t u : Tree) → HasTree block t → HasTree block u → t ≡ u
 one_tree block t u h k = have_one (lines block) t u h.1 k.1

@@ -1,9 +1,8 @@
 -- Postings, line by line.
 use Rattle.std.proofs.Common.{◌≡◌, ℕ, Bool, true, false, List, [], ◌∷◌, ◌++◌, map, refl, sym, ◌∙◌, ap, subst, append_assoc}
 use Rattle.grammar_forms.specs.Forms.{Is, IsNone}
-use Rattle.bean_lexer.specs.declared.token.Token.{Token}
 use Rattle.bean_parser.specs.Blocks.{Line, line_of, lines, first_line, cut_before, begins_line}
-use Rattle.bean_parser.specs.Lexemes.{lexemes}
+use Rattle.bean_parser.specs.Lexemes.{TokenValue, lexemes}
 use Rattle.bean_parser.specs.Grammar.{postings, Written, ArePostings}
 use Rattle.bean_parser.specs.Values.{PostingValue, posting_value}
 use Rattle.bean_parser.specs.declared.directive.Posting.{Posting}
@@ -25,7 +24,7 @@ pub postings_begin : (ls : List Line) → InPostings ls ls true []
 postings_begin ls = record { read = []; whole = λ us h. h; only = λ ws h. (ws, h); ranged = (tt, refl) }
 
 -- the cut of tokens is the cut of their lines
-pub next_line : (rest line after : List Token) → cut_before begins_line rest ≡ line ∷ cut_before begins_line after → lines rest ≡ line_of line ∷ lines after
+pub next_line : (rest line after : List TokenValue) → cut_before begins_line rest ≡ line ∷ cut_before begins_line after → lines rest ≡ line_of line ∷ lines after
 next_line rest line after e = ap (map line_of) e
 
 front_in_range : (read : List (ℕ × Written)) (w : ℕ × Written) → AreLedgerNumbers (read ++ w ∷ []) → AreLedgerNumbers read
@@ -53,7 +52,7 @@ behind_first : (line : Line) (after : List Line) (us : List (ℕ × Written)) �
 behind_first line after [] h = absurd h
 behind_first line after (u ∷ us) h = (us, h.2)
 
-whole_more : (ls rest : List Line) (line : List Token) (after : List Line) (read : List (ℕ × Written)) (w : Written)
+whole_more : (ls rest : List Line) (line : List TokenValue) (after : List Line) (read : List (ℕ × Written)) (w : Written)
     → rest ≡ line_of line ∷ after → Is postings (lexemes line) w
     → ((us : List (ℕ × Written)) → ArePostings rest us → ArePostings ls (read ++ us))
     → (us : List (ℕ × Written)) → ArePostings after us → ArePostings ls ((read ++ (first_line line, w) ∷ []) ++ us)
@@ -69,7 +68,7 @@ only_more ls rest line after at only ws h =
     let o = only ws h in
     behind_first line after o.0 (subst (λ x. ArePostings x o.0) at o.1)
 
-pub posting_more : (ls rest : List Line) (b : Bool) (ps : List PostingValue) (line : List Token) (after : List Line) (w : Written) (v : PostingValue)
+pub posting_more : (ls rest : List Line) (b : Bool) (ps : List PostingValue) (line : List TokenValue) (after : List Line) (w : Written) (v : PostingValue)
     → InPostings ls rest b ps → rest ≡ line_of line ∷ after → Is postings (lexemes line) w → IsLedgerNumber w.number → v ≡ posting_written (first_line line, w)
     → InPostings ls after b (ps ++ v ∷ [])
 posting_more ls rest b ps line after w v p at is good e = record {
@@ -79,7 +78,7 @@ posting_more ls rest b ps line after w v p at is good e = record {
   ranged = ranged_more b p.read ps (first_line line, w) v p.ranged good e;
 }
 
-pub posting_out : (ls rest : List Line) (b : Bool) (ps : List PostingValue) (line : List Token) (after : List Line) (w : Written)
+pub posting_out : (ls rest : List Line) (b : Bool) (ps : List PostingValue) (line : List TokenValue) (after : List Line) (w : Written)
     → InPostings ls rest b ps → rest ≡ line_of line ∷ after → Is postings (lexemes line) w → (IsLedgerNumber w.number → ⊥)
     → InPostings ls after false ps
 posting_out ls rest b ps line after w p at is bad = record {
@@ -89,11 +88,11 @@ posting_out ls rest b ps line after w p at is bad = record {
   ranged = λ all. bad (last_in_range p.read (first_line line, w) all);
 }
 
-none_at : (line : List Token) (after : List Line) → IsNone postings (lexemes line) → (us : List (ℕ × Written)) → ArePostings (line_of line ∷ after) us → ⊥
+none_at : (line : List TokenValue) (after : List Line) → IsNone postings (lexemes line) → (us : List (ℕ × Written)) → ArePostings (line_of line ∷ after) us → ⊥
 none_at line after none [] h = h
 none_at line after none (u ∷ us) h = none h.1.tree h.1.fits h.1.written
 
-pub posting_none : (ls rest : List Line) (b : Bool) (ps : List PostingValue) (line : List Token) (after : List Line)
+pub posting_none : (ls rest : List Line) (b : Bool) (ps : List PostingValue) (line : List TokenValue) (after : List Line)
     → InPostings ls rest b ps → rest ≡ line_of line ∷ after → IsNone postings (lexemes line) → (ws : List (ℕ × Written)) → ArePostings ls ws → ⊥
 posting_none ls rest b ps line after p at none ws h =
     let o = p.only ws h in
@@ -110,7 +109,7 @@ map_pushed : (items : List Posting) (p : Posting) → map posting_value (items +
 map_pushed [] p = refl
 map_pushed (q ∷ qs) p = ap (λ xs. posting_value q ∷ xs) (map_pushed qs p)
 
-pub posting_pushed : (ls rest : List Line) (b b' : Bool) (items items' : List Posting) (line : List Token) (after : List Line) (w : Written) (p : Posting)
+pub posting_pushed : (ls rest : List Line) (b b' : Bool) (items items' : List Posting) (line : List TokenValue) (after : List Line) (w : Written) (p : Posting)
     → b' ≡ b → items' ≡ items ++ p ∷ []
     → InPostings ls rest b (map posting_value items) → rest ≡ line_of line ∷ after → Is postings (lexemes line) w → IsLedgerNumber w.number → posting_value p ≡ posting_written (first_line line, w)
     → InPostings ls after b' (map posting_value items')
@@ -119,7 +118,7 @@ posting_pushed ls rest b b' items items' line after w p same pushed inside at is
     let values : map posting_value items' ≡ map posting_value items ++ posting_value p ∷ [] = ap (map posting_value) pushed ∙ map_pushed items p in
     subst (λ x. InPostings ls after x (map posting_value items')) (sym same) (subst (InPostings ls after b) (sym values) more)
 
-pub posting_kept_out : (ls rest : List Line) (b b' : Bool) (items items' : List Posting) (line : List Token) (after : List Line) (w : Written)
+pub posting_kept_out : (ls rest : List Line) (b b' : Bool) (items items' : List Posting) (line : List TokenValue) (after : List Line) (w : Written)
     → b' ≡ false → items' ≡ items
     → InPostings ls rest b (map posting_value items) → rest ≡ line_of line ∷ after → Is postings (lexemes line) w → (IsLedgerNumber w.number → ⊥)
     → InPostings ls after b' (map posting_value items')

@@ -6,8 +6,7 @@ use Rattle.bean_lexer.specs.declared.kind.Kind.{Kind}
 use Rattle.bean_lexer.specs.declared.kind.Kind.TheVariants as kind
 use Rattle.bean_lexer.specs.declared.kind.Place.{Place}
 use Rattle.bean_lexer.specs.declared.kind.Place.TheVariants.{ColumnOne, Indented, Inside}
-use Rattle.bean_lexer.specs.declared.token.Token.{Token}
-use Rattle.bean_parser.specs.Lexemes.{Lexeme, lexemes}
+use Rattle.bean_parser.specs.Lexemes.{TokenValue, Lexeme, lexemes}
 
 -- x before the parts that follow it: in the first of them, or in a part of its own where the first
 -- begins with what begins a part
@@ -31,10 +30,10 @@ begins_line_at ColumnOne = true
 begins_line_at Indented = true
 begins_line_at Inside = false
 
-abbrev pub begins_block : Token → Bool
+abbrev pub begins_block : TokenValue → Bool
 begins_block t = begins_block_at t.place
 
-abbrev pub begins_line : Token → Bool
+abbrev pub begins_line : TokenValue → Bool
 begins_line t = begins_line_at t.place
 
 -- A line: the number of the text's line on which it begins, and its lexemes.
@@ -42,21 +41,21 @@ pub record Line : Type 0 where
   pub number : ℕ
   pub lexemes : List Lexeme
 
-abbrev pub first_line : List Token → ℕ
+abbrev pub first_line : List TokenValue → ℕ
 first_line [] = 0
 first_line (t ∷ ts) = t.line
 
-abbrev pub line_of : List Token → Line
+abbrev pub line_of : List TokenValue → Line
 line_of ts = record { number = first_line ts; lexemes = lexemes ts }
 
-abbrev pub blocks : List Token → List (List Token)
+abbrev pub blocks : List TokenValue → List (List TokenValue)
 blocks tokens = cut_before begins_block tokens
 
-abbrev pub lines : List Token → List Line
+abbrev pub lines : List TokenValue → List Line
 lines tokens = map line_of (cut_before begins_line tokens)
 
 -- a block stands in column one, or is indented lines with no block before them
-abbrev pub is_in_column_one : List Token → Bool
+abbrev pub is_in_column_one : List TokenValue → Bool
 is_in_column_one [] = false
 is_in_column_one (t ∷ ts) = begins_block t
 
@@ -65,5 +64,5 @@ is_fault kind.Fault = true
 is_fault kind = false
 
 -- the line on which the first fault token begins
-abbrev pub fault_line : List Token → Option ℕ
+abbrev pub fault_line : List TokenValue → Option ℕ
 fault_line ts = option_map (λ t. t.line) (find (λ t. is_fault t.kind) ts)

@@ -6,7 +6,7 @@ use Rattle.bean_base.specs.Days.{is_day_form, IsDayOf, year_of, month_of, day_of
 use Rattle.bean_base.specs.declared.fault.Fault.{Fault}
 use Rattle.bean_base.specs.declared.fault.FaultKind.{FaultKind}
 use Rattle.bean_base.specs.declared.fault.FaultKind.TheVariants.{BadToken, NotADirective, OutOfRange}
-use Rattle.bean_lexer.specs.declared.token.Token.{Token}
+use Rattle.bean_parser.specs.Lexemes.{TokenValue}
 use Rattle.bean_parser.specs.Blocks.{blocks, first_line, fault_line}
 use Rattle.bean_parser.specs.Grammar.{Texts, Head, opens, transacts, Written, Tree, HasTree}
 use Rattle.bean_parser.specs.Values.{DayValue, PostingValue, DirectiveValue, open_is, transaction_is}
@@ -60,24 +60,24 @@ abbrev pub fault_at : FaultKind → ℕ → Fault
 fault_at kind line = record { kind = kind; file = 0; line = line }
 
 -- without a fault token: its one tree, F2 where it has none, F3 where the tree is out of range
-abbrev pub ReadsAs : List Token → Result DirectiveValue Fault → Type 0
+abbrev pub ReadsAs : List TokenValue → Result DirectiveValue Fault → Type 0
 ReadsAs block (Ok d) = (t : Tree) × HasTree block t × IsInRange t × (d ≡ directive_written t)
 ReadsAs block (Err f) =
     ((f ≡ fault_at NotADirective (first_line block)) × ((t : Tree) → HasTree block t → ⊥))
     ⊎ ((f ≡ fault_at OutOfRange (first_line block)) × ((t : Tree) × HasTree block t × (IsInRange t → ⊥)))
 
-abbrev pub GivesAt : Option ℕ → List Token → Result DirectiveValue Fault → Type 0
+abbrev pub GivesAt : Option ℕ → List TokenValue → Result DirectiveValue Fault → Type 0
 GivesAt (Some line) block outcome = outcome ≡ Err (fault_at BadToken line)
 GivesAt None block outcome = ReadsAs block outcome
 
 -- F1 where it holds a fault token
-abbrev pub Gives : List Token → Result DirectiveValue Fault → Type 0
+abbrev pub Gives : List TokenValue → Result DirectiveValue Fault → Type 0
 Gives block outcome = GivesAt (fault_line block) block outcome
 
 -- each block gives its directive or its fault, in reading order
-pub data BlocksGive : List (List Token) → List DirectiveValue → List Fault → Type 0 where
+pub data BlocksGive : List (List TokenValue) → List DirectiveValue → List Fault → Type 0 where
   nothing : BlocksGive [] [] []
-  a_directive : (block : List Token) (rest : List (List Token)) (d : DirectiveValue) (ds : List DirectiveValue) (fs : List Fault)
+  a_directive : (block : List TokenValue) (rest : List (List TokenValue)) (d : DirectiveValue) (ds : List DirectiveValue) (fs : List Fault)
       → Gives block (Ok d) → BlocksGive rest ds fs → BlocksGive (block ∷ rest) (d ∷ ds) fs
-  a_fault : (block : List Token) (rest : List (List Token)) (f : Fault) (ds : List DirectiveValue) (fs : List Fault)
+  a_fault : (block : List TokenValue) (rest : List (List TokenValue)) (f : Fault) (ds : List DirectiveValue) (fs : List Fault)
       → Gives block (Err f) → BlocksGive rest ds fs → BlocksGive (block ∷ rest) ds (f ∷ fs)

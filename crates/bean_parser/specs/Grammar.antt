@@ -4,10 +4,9 @@
 -- posting = account ["+"|"-"] number currency
 use Rattle.std.specs.Prelude.{◌≡◌, ℕ, Bool, true, false, List, [], ◌∷◌, Option, Some, None, ◌⊎◌}
 use Rattle.grammar_forms.specs.Forms.{Form, Is, IsNone, word, behind, both, optional, either, mapped}
-use Rattle.bean_lexer.specs.declared.token.Token.{Token}
 use Rattle.bean_lexer.specs.declared.kind.Keyword.TheVariants as keywords
 use Rattle.bean_parser.specs.declared.directive.Flag.{Flag}
-use Rattle.bean_parser.specs.Lexemes.{Lexeme, day, number, text, account, currency, keyword, FlagWord, flag_word, flag_of, plus_or_minus, begins_with_text, begins_with_sign}
+use Rattle.bean_parser.specs.Lexemes.{TokenValue, Lexeme, day, number, text, account, currency, keyword, FlagWord, flag_word, flag_of, plus_or_minus, begins_with_text, begins_with_sign}
 use Rattle.bean_parser.specs.Blocks.{Line, lines, is_in_column_one}
 
 -- nothing goes on
@@ -104,5 +103,5 @@ abbrev pub HaveTree : List Line → Tree → Type 0
 HaveTree [] t = ⊥
 HaveTree (l ∷ ls) t = (t.line ≡ l.number) × Is heads l.lexemes (t.day, t.head) × ArePostings ls t.under × MayStandUnder t.head t.under
 
-abbrev pub HasTree : List Token → Tree → Type 0
+abbrev pub HasTree : List TokenValue → Tree → Type 0
 HasTree block t = (is_in_column_one block ≡ true) × HaveTree (lines block) t

@@ -1,14 +1,28 @@
 -- What the grammar sees of a token: what it is, with what it holds, and not where it stands.
-use Rattle.std.specs.Prelude.{ℕ, Bool, true, false, List, [], ◌∷◌}
+use Rattle.std.specs.Prelude.{ℕ, Bool, true, false, List, [], ◌∷◌, map}
 use Rattle.bean_lexer.specs.declared.kind.Kind.{Kind}
 use Rattle.bean_lexer.specs.declared.kind.Kind.TheVariants as kind
 use Rattle.bean_lexer.specs.declared.kind.Keyword.{Keyword}
 use Rattle.bean_lexer.specs.declared.kind.Keyword.TheVariants as keywords
 use Rattle.bean_lexer.specs.declared.kind.Sign.{Sign}
 use Rattle.bean_lexer.specs.declared.kind.Sign.TheVariants as sign_kinds
+use Rattle.bean_lexer.specs.declared.kind.Place.{Place}
 use Rattle.bean_lexer.specs.declared.token.Token.{Token}
 use Rattle.bean_parser.specs.declared.directive.Flag.{Flag}
 use Rattle.bean_parser.specs.declared.directive.Flag.TheVariants.{Complete, Incomplete}
+
+-- A token, without where it lies in memory and in the text.
+pub record TokenValue : Type 0 where
+  pub kind : Kind
+  pub place : Place
+  pub text : List ℕ
+  pub line : ℕ
+
+abbrev pub token_value : Token → TokenValue
+token_value t = record { kind = t.kind; place = t.place; text = t.text.now; line = t.line }
+
+abbrev pub seen : List Token → List TokenValue
+seen ts = map token_value ts
 
 pub data Lexeme : Type 0 where
   day : List ℕ → Lexeme
@@ -36,10 +50,10 @@ lexeme_at (kind.Keyword k) bs = keyword k
 lexeme_at (kind.Sign s) bs = sign s
 lexeme_at kind.Fault bs = fault
 
-abbrev pub lexeme_of : Token → Lexeme
-lexeme_of t = lexeme_at t.kind t.text.now
+abbrev pub lexeme_of : TokenValue → Lexeme
+lexeme_of t = lexeme_at t.kind t.text
 
-abbrev pub lexemes : List Token → List Lexeme
+abbrev pub lexemes : List TokenValue → List Lexeme
 lexemes [] = []
 lexemes (t ∷ ts) = lexeme_of t ∷ lexemes ts
 

@@ -1,8 +1,10 @@
 //! Blocks: where they end, and what each gives.
-ghost use Rattle.std.specs.Prelude.{◌≡◌, ◌<◌, ◌≤◌, [], ◌∷◌, length, MatchOption, IfSome, IfOk, Some, None, Ok, Err};
-ghost use Rattle.std.specs.List.{prefix_len};
-ghost use Rattle.bean_parser.specs.Parts.{begins_at, begins, goes_on};
-ghost use Rattle.bean_parser.specs.Blocks.{cut_before, lines, is_fault, fault_line, first_line, is_in_column_one};
+ghost use Rattle.std.specs.Prelude.{◌≡◌, ◌<◌, ◌≤◌, [], ◌∷◌, length, MatchOption, IfSome, IfOk, count_by, not};
+ghost use Rattle.std.specs.List.{prefix_len, find};
+ghost use Rattle.std.specs.Option.{option_map};
+ghost use Rattle.bean_parser.specs.Lexemes.{token_value, seen};
+ghost use Rattle.bean_parser.specs.Parts.{begins_at, begins};
+ghost use Rattle.bean_parser.specs.Blocks.{begins_line, cut_before, lines, is_fault, first_line, is_in_column_one};
 ghost use Rattle.bean_parser.specs.Grammar.{HasTree, Tree, opens, transacts};
 ghost use Rattle.bean_parser.specs.Lines.{head_of, texts_of};
 ghost use Rattle.bean_parser.specs.Values.{text_value};
@@ -46,7 +48,7 @@ impl Part {
 
 /// How many tokens stand before the first one that begins a part.
 fn reach(part: Part, tokens: &[Token<'_>]) -> usize
-    ensures len { result ≡ prefix_len (goes_on part) tokens.now }
+    ensures len { result ≡ prefix_len (λ t. not (begins part (token_value t))) tokens.now }
     ensures inside { result ≤ length tokens.now }
 {
     tokens
@@ -60,8 +62,8 @@ pub fn first_part<'t, 'a>(
     part: Part,
     tokens: &'t [Token<'a>],
 ) -> Option<(&'t [Token<'a>], &'t [Token<'a>])>
-    ensures front { MatchOption result (tokens.now ≡ []) (λ r. cut_before (begins part) tokens.now ≡ r.0.now ∷ cut_before (begins part) r.1.now) }
-    ensures same_line { IfSome result (λ r. first_line r.0.now ≡ first_line tokens.now) }
+    ensures front { MatchOption result (tokens.now ≡ []) (λ r. cut_before (begins part) (seen tokens.now) ≡ seen r.0.now ∷ cut_before (begins part) (seen r.1.now)) }
+    ensures same_line { IfSome result (λ r. first_line (seen r.0.now) ≡ first_line (seen tokens.now)) }
     ensures shorter { IfSome result (λ r. length r.1.now < length tokens.now) }
 {
     let (_, others) = tokens.split_first()?;
@@ -76,7 +78,7 @@ fn is_fault(kind: Kind) -> bool
 
 /// The line on which the first fault token begins.
 fn fault_line(block: &[Token<'_>]) -> Option<usize>
-    ensures { result ≡ fault_line block.now }
+    ensures { result ≡ option_map (λ t. t.line) (find (λ t. is_fault t.kind) block.now) }
 {
     block
         .iter()
@@ -85,7 +87,7 @@ fn fault_line(block: &[Token<'_>]) -> Option<usize>
 }
 
 fn first_line(tokens: &[Token<'_>]) -> usize
-    ensures { result ≡ first_line tokens.now }
+    ensures { result ≡ first_line (seen tokens.now) }
 {
     match tokens.first() {
         Some(token) => token.line,
@@ -101,7 +103,7 @@ pub enum Refusal {
 }
 
 fn is_in_column_one(block: &[Token<'_>]) -> bool
-    ensures { result ≡ is_in_column_one block.now }
+    ensures { result ≡ is_in_column_one (seen block.now) }
 {
     match block.first() {
         Some(token) => Part::Block.begins_at(token.place),
@@ -113,7 +115,7 @@ fn is_in_column_one(block: &[Token<'_>]) -> bool
 fn read_first_line<'t, 'a>(
     block: &'t [Token<'a>],
 ) -> Option<(&'a str, Head<'a>, &'t [Token<'a>])>
-    ensures { MatchOption result ((t : Tree) → HasTree block.now t → ⊥) (λ r. BeginsWith block.now r.0.now (head_of r.1) r.2.now) }
+    ensures { MatchOption result ((t : Tree) → HasTree (seen block.now) t → ⊥) (λ r. BeginsWith (seen block.now) r.0.now (head_of r.1) (seen r.2.now)) }
 {
     if !is_in_column_one(block) {
         return None;
@@ -124,7 +126,7 @@ fn read_first_line<'t, 'a>(
 }
 
 fn read_posting_line<'a>(line: &[Token<'a>]) -> Result<Posting<'a>, Refusal>
-    ensures { ReadsPosting line.now result }
+    ensures { ReadsPosting (seen line.now) result }
 {
     let Some(written) = read_posting(line) else {
         return Err(Refusal::NotADirective);
@@ -135,14 +137,24 @@ fn read_posting_line<'a>(line: &[Token<'a>]) -> Result<Posting<'a>, Refusal>
     }
 }
 
+/// How many lines begin among the tokens.
+fn line_count(tokens: &[Token<'_>]) -> usize
+    ensures { result ≡ count_by (λ t. begins_line (token_value t)) tokens.now }
+{
+    tokens
+        .iter()
+        .filter(|token| Part::Line.begins_at(token.place))
+        .count()
+}
+
 /// The postings that lines are.
 fn read_postings<'a>(
     alloc: Global,
     under: &[Token<'a>],
 ) -> Result<Result<Vec<Posting<'a>>, Refusal>, AllocError>
-    ensures { IfOk result (ReadsPostings (λ v. v.items) (lines under.now)) }
+    ensures { IfOk result (ReadsPostings (λ v. v.items) (lines (seen under.now))) }
 {
-    let mut postings = Vec::new(alloc);
+    let mut postings = Vec::with_capacity(alloc, line_count(under))?;
     let mut are_in_range = true;
     let mut rest = Unread { tokens: under };
     while let Some((line, after)) = first_part(Part::Line, rest.tokens) {
@@ -166,7 +178,7 @@ fn read_open<'a>(
     line: usize,
     under: &[Token<'a>],
 ) -> Result<Directive<'a>, Refusal>
-    ensures { ReadsUnder line day.now (opens account.entry.text.now) (lines under.now) result }
+    ensures { ReadsUnder line day.now (opens account.entry.text.now) (lines (seen under.now)) result }
 {
     if !under.is_empty() {
         return Err(Refusal::NotADirective);
@@ -197,7 +209,7 @@ fn read_transaction<'a>(
     line: usize,
     under: &[Token<'a>],
 ) -> Result<Result<Directive<'a>, Refusal>, AllocError>
-    ensures { IfOk result (ReadsUnder line day.now (transacts flag (texts_of texts.entry)) (lines under.now)) }
+    ensures { IfOk result (ReadsUnder line day.now (transacts flag (texts_of texts.entry)) (lines (seen under.now))) }
 {
     let postings = match read_postings(alloc, under)? {
         Ok(postings) => postings,
@@ -223,7 +235,7 @@ fn read_directive<'a>(
     alloc: Global,
     block: &[Token<'a>],
 ) -> Result<Result<Directive<'a>, Refusal>, AllocError>
-    ensures { IfOk result (ReadsBlock block.now) }
+    ensures { IfOk result (ReadsBlock (seen block.now)) }
 {
     let Some((day, head, under)) = read_first_line(block) else {
         return Ok(Err(Refusal::NotADirective));
@@ -246,11 +258,12 @@ fn fault_at(kind: FaultKind, line: usize) -> Fault
 }
 
 /// The directive of a block, or its first fault.
+#[tactic(auto, using(crate::proofs::Blocks::fault_line_seen))]
 pub fn read_block<'a>(
     alloc: Global,
     block: &[Token<'a>],
 ) -> Result<Result<Directive<'a>, Fault>, AllocError>
-    ensures { IfOk result (λ r. Gives block.now (outcome_of r)) }
+    ensures { IfOk result (λ r. Gives (seen block.now) (outcome_of r)) }
 {
     if let Some(line) = fault_line(block) {
         return Ok(Err(fault_at(FaultKind::BadToken, line)));

@@ -1,7 +1,7 @@
 //! Lines, read whole: the first of a block, and a posting under it.
 ghost use Rattle.std.specs.Prelude.{◌≡◌, MatchOption};
 ghost use Rattle.grammar_forms.specs.Forms.{Reads, HasNone, Is, IsNone, word, optional};
-ghost use Rattle.bean_parser.specs.Lexemes.{lexemes, text, begins_with_text};
+ghost use Rattle.bean_parser.specs.Lexemes.{seen, lexemes, text, begins_with_text};
 ghost use Rattle.bean_parser.specs.Grammar.{texts, kinds, heads, signs, postings};
 ghost use Rattle.bean_parser.specs.Values.{text_value, posting_value};
 ghost use Rattle.bean_parser.specs.Lines.{texts_of, head_of, written_value};
@@ -36,7 +36,7 @@ pub struct WrittenPosting<'a> {
 }
 
 fn second_text<'t, 'a>(tokens: &'t [Token<'a>]) -> (Option<Text<'a>>, &'t [Token<'a>])
-    ensures { Reads (optional begins_with_text (word text)) (lexemes tokens.now) (text_value result.0) (lexemes result.1.now) }
+    ensures { Reads (optional begins_with_text (word text)) (lexemes (seen tokens.now)) (text_value result.0) (lexemes (seen result.1.now)) }
 {
     match after_text(tokens) {
         Some((text, rest)) => (Some(text), rest),
@@ -45,7 +45,7 @@ fn second_text<'t, 'a>(tokens: &'t [Token<'a>]) -> (Option<Text<'a>>, &'t [Token
 }
 
 fn read_texts<'t, 'a>(tokens: &'t [Token<'a>]) -> (Texts<'a>, &'t [Token<'a>])
-    ensures { Reads texts (lexemes tokens.now) (texts_of result.0) (lexemes result.1.now) }
+    ensures { Reads texts (lexemes (seen tokens.now)) (texts_of result.0) (lexemes (seen result.1.now)) }
 {
     match after_text(tokens) {
         Some((first, rest)) => {
@@ -58,7 +58,7 @@ fn read_texts<'t, 'a>(tokens: &'t [Token<'a>]) -> (Texts<'a>, &'t [Token<'a>])
 
 /// What stands behind the day of a first line.
 fn read_kind<'t, 'a>(tokens: &'t [Token<'a>]) -> Option<(Head<'a>, &'t [Token<'a>])>
-    ensures { MatchOption result (HasNone kinds (lexemes tokens.now)) (λ r. Reads kinds (lexemes tokens.now) (head_of r.0) (lexemes r.1.now)) }
+    ensures { MatchOption result (HasNone kinds (lexemes (seen tokens.now))) (λ r. Reads kinds (lexemes (seen tokens.now)) (head_of r.0) (lexemes (seen r.1.now))) }
 {
     if let Some(rest) = after_open(tokens) {
         let (account, rest) = after_account(rest)?;
@@ -71,7 +71,7 @@ fn read_kind<'t, 'a>(tokens: &'t [Token<'a>]) -> Option<(Head<'a>, &'t [Token<'a
 
 /// The day, as it is written, and the kind of a block that has this first line.
 pub fn read_head<'a>(line: &[Token<'a>]) -> Option<(&'a str, Head<'a>)>
-    ensures { MatchOption result (IsNone heads (lexemes line.now)) (λ r. Is heads (lexemes line.now) (r.0.now, head_of r.1)) }
+    ensures { MatchOption result (IsNone heads (lexemes (seen line.now))) (λ r. Is heads (lexemes (seen line.now)) (r.0.now, head_of r.1)) }
 {
     let (day, rest) = after_day(line)?;
     let (head, rest) = read_kind(rest)?;
@@ -83,7 +83,7 @@ pub fn read_head<'a>(line: &[Token<'a>]) -> Option<(&'a str, Head<'a>)>
 
 /// Whether there is a minus at the front, and what stands behind a sign.
 fn minus_if_any<'t, 'a>(tokens: &'t [Token<'a>]) -> (bool, &'t [Token<'a>])
-    ensures { Reads signs (lexemes tokens.now) result.0 (lexemes result.1.now) }
+    ensures { Reads signs (lexemes (seen tokens.now)) result.0 (lexemes (seen result.1.now)) }
 {
     match after_sign(tokens) {
         Some((is_minus, rest)) => (is_minus, rest),
@@ -93,7 +93,7 @@ fn minus_if_any<'t, 'a>(tokens: &'t [Token<'a>]) -> (bool, &'t [Token<'a>])
 
 /// The posting that a line is.
 pub fn read_posting<'a>(line: &[Token<'a>]) -> Option<WrittenPosting<'a>>
-    ensures { MatchOption result (IsNone postings (lexemes line.now)) (λ r. Is postings (lexemes line.now) (written_value r)) }
+    ensures { MatchOption result (IsNone postings (lexemes (seen line.now))) (λ r. Is postings (lexemes (seen line.now)) (written_value r)) }
 {
     let (account, rest) = after_account(line)?;
     let (is_minus, rest) = minus_if_any(rest);

@@ -1,5 +1,6 @@
 //! From a ledger's text to its directives and its faults.
 ghost use Rattle.std.specs.Prelude.{IfOk, map};
+ghost use Rattle.bean_parser.specs.Lexemes.{seen};
 ghost use Rattle.bean_parser.specs.Blocks.{blocks};
 ghost use Rattle.bean_parser.specs.Values.{directive_value};
 ghost use Rattle.bean_parser.specs.Directives.{BlocksGive};
@@ -19,7 +20,7 @@ pub struct Parsed<'a> {
 
 /// The directives and the faults of a list of tokens.
 fn parse_tokens<'a>(alloc: Global, tokens: &[Token<'a>]) -> Result<Parsed<'a>, AllocError>
-    ensures { IfOk result (λ p. BlocksGive (blocks tokens.now) (map directive_value p.directives.items) p.faults.items) }
+    ensures { IfOk result (λ p. BlocksGive (blocks (seen tokens.now)) (map directive_value p.directives.items) p.faults.items) }
 {
     let mut directives = Vec::new(alloc);
     let mut faults = Vec::new(alloc);
