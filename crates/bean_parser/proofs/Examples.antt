@@ -7,7 +7,8 @@ use Rattle.bean_parser.specs.declared.directive.Flag.TheVariants.{Complete, Inco
 use Rattle.bean_parser.specs.Blocks.{cut_before}
 use Rattle.bean_parser.specs.Lexemes.{day, number, text, account, currency, keyword, sign, star, bang, txn}
 use Rattle.bean_parser.specs.Grammar.{heads, postings, opens, transacts, Written}
-use Rattle.bean_parser.specs.Values.{DayValue, PostingValue, open_is, transaction_is}
+use Rattle.bean_base.specs.Days.{DayValue}
+use Rattle.bean_parser.specs.Values.{PostingValue, open_is, transaction_is}
 use Rattle.bean_parser.specs.Directives.{directive_written}
 
 -- a list is cut before each 0

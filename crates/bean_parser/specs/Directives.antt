@@ -9,7 +9,8 @@ use Rattle.bean_base.specs.declared.fault.FaultKind.TheVariants.{BadToken, NotAD
 use Rattle.bean_parser.specs.Lexemes.{TokenValue}
 use Rattle.bean_parser.specs.Blocks.{blocks, first_line, fault_line}
 use Rattle.bean_parser.specs.Grammar.{Texts, Head, opens, transacts, Written, Tree, HasTree}
-use Rattle.bean_parser.specs.Values.{DayValue, PostingValue, DirectiveValue, open_is, transaction_is}
+use Rattle.bean_base.specs.Days.{DayValue}
+use Rattle.bean_parser.specs.Values.{PostingValue, DirectiveValue, open_is, transaction_is}
 
 -- What a tree stands for.
 

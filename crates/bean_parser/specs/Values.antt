@@ -1,18 +1,12 @@
 -- Directives, without where they lie in memory.
 use Rattle.std.specs.Prelude.{ℕ, ℤ, List, map, Option}
 use Rattle.std.specs.Option.{option_map}
-use Rattle.bean_base.specs.declared.days.Day.{Day}
+use Rattle.bean_base.specs.Days.{DayValue, day_value}
 use Rattle.bean_parser.specs.declared.directive.Flag.{Flag}
 use Rattle.bean_parser.specs.declared.directive.Text.{Text}
 use Rattle.bean_parser.specs.declared.directive.Posting.{Posting}
 use Rattle.bean_parser.specs.declared.directive.Directive.{Directive}
 use Rattle.bean_parser.specs.declared.directive.Directive.TheVariants as directive
-
-
-pub record DayValue : Type 0 where
-  pub year : ℤ
-  pub month : ℕ
-  pub day : ℕ
 
 pub record PostingValue : Type 0 where
   pub account : List ℕ
@@ -24,9 +18,6 @@ pub record PostingValue : Type 0 where
 pub data DirectiveValue : Type 0 where
   open_is : (day : DayValue) (account : List ℕ) (line : ℕ) → DirectiveValue
   transaction_is : (day : DayValue) (flag : Flag) (payee narration : Option (List ℕ)) (postings : List PostingValue) (line : ℕ) → DirectiveValue
-
-abbrev pub day_value : Day → DayValue
-day_value d = record { year = d.date.year; month = d.date.month; day = d.date.day }
 
 abbrev pub posting_value : Posting → PostingValue
 posting_value p = record { account = p.account.text.now; count = p.units.number.count; places = p.units.number.places; currency = p.units.currency.text.now; line = p.line }
