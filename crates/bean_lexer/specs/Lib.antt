@@ -1,0 +1,6 @@
+pub mod Forms
+pub mod Kinds
+pub mod Gaps
+pub mod Longest
+pub mod Steps
+pub mod Tokens

@@ -1,4 +1,5 @@
 //! The kinds of tokens.
+ghost use Rattle.std.specs.Prelude.{◌≡◌};
 
 /// A word of the ledger language, written in small letters, or a truth value.
 #[derive(Clone, Copy, Debug, PartialEq, Eq)]
@@ -25,6 +26,62 @@ pub enum Keyword {
     True,
     False,
 }
+
+impl Keyword {
+    ghost use Rattle.bean_lexer.specs.Forms.{keyword_spelling};
+
+    /// How the word is written.
+    pub fn spelling(self) -> &'static str
+        ensures { result.now ≡ keyword_spelling self }
+    {
+        match self {
+            Keyword::Open => "open",
+            Keyword::Close => "close",
+            Keyword::Commodity => "commodity",
+            Keyword::Txn => "txn",
+            Keyword::Balance => "balance",
+            Keyword::Pad => "pad",
+            Keyword::Note => "note",
+            Keyword::Document => "document",
+            Keyword::Price => "price",
+            Keyword::Event => "event",
+            Keyword::Query => "query",
+            Keyword::Custom => "custom",
+            Keyword::Option => "option",
+            Keyword::Include => "include",
+            Keyword::Plugin => "plugin",
+            Keyword::PushTag => "pushtag",
+            Keyword::PopTag => "poptag",
+            Keyword::PushMeta => "pushmeta",
+            Keyword::PopMeta => "popmeta",
+            Keyword::True => "TRUE",
+            Keyword::False => "FALSE",
+        }
+    }
+}
+
+/// The words in small letters.
+pub const WORDS: [Keyword; 19] = [
+    Keyword::Open,
+    Keyword::Txn,
+    Keyword::Balance,
+    Keyword::Price,
+    Keyword::Close,
+    Keyword::Commodity,
+    Keyword::Pad,
+    Keyword::Note,
+    Keyword::Document,
+    Keyword::Event,
+    Keyword::Query,
+    Keyword::Custom,
+    Keyword::Option,
+    Keyword::Include,
+    Keyword::Plugin,
+    Keyword::PushTag,
+    Keyword::PopTag,
+    Keyword::PushMeta,
+    Keyword::PopMeta,
+];
 
 /// A sign of the ledger language.
 #[derive(Clone, Copy, Debug, PartialEq, Eq)]

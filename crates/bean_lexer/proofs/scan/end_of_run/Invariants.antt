@@ -1,0 +1,12 @@
+use Rattle.std.proofs.Common.{◌≡◌, ◌+◌, ◌-◌, ◌≤◌, length, drop}
+use Rattle.std.specs.List.{prefix_len}
+use Rattle.bean_lexer.proofs.scan.end_of_run.Given as goal
+
+abbrev pub invariant-loop-end : goal.invariant-loop-end
+invariant-loop-end g l = record {
+  inside : l.end ≤ length l.bytes;
+  run : l.end + prefix_len g.C.ByteClass.holds (drop l.end l.bytes) ≡ l.fn.start + prefix_len g.C.ByteClass.holds (drop l.fn.start l.bytes);
+}
+
+abbrev pub decreases-loop-end : goal.decreases-loop-end
+decreases-loop-end g l = length l.bytes - l.end

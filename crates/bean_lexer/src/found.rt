@@ -1,0 +1,10 @@
+//! What stands at the front of a text.
+
+use crate::kind::Kind;
+
+/// What the token at the front is, and how long.
+#[derive(Clone, Copy, Debug)]
+pub struct Found {
+    pub kind: Kind,
+    pub len: usize,
+}

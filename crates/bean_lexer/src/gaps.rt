@@ -1,0 +1,89 @@
+//! What stands between tokens: white space, line feeds, comments and skipped lines.
+ghost use Rattle.std.specs.Prelude.{◌≡◌, ◌≤◌, length, take, count_by, ◌==◌};
+ghost use Rattle.bean_lexer.specs.Gaps.{gap_len, behind_gap, gap_step, place_of, behind_white};
+
+use crate::kind::Place;
+
+/// Where in a gap a byte stands.
+#[derive(Clone, Copy, Debug, PartialEq, Eq)]
+pub enum Spot {
+    /// In the first column.
+    LineStart,
+    /// Behind white space that begins its line.
+    Indent,
+    /// Behind a token of its line, or behind a text that began on an earlier one.
+    Behind,
+    /// In a comment or a skipped line.
+    Comment,
+}
+
+/// A gap's length, the line feeds in it, and where it ends.
+#[derive(Clone, Copy, Debug)]
+pub struct Gap {
+    pub len: usize,
+    pub line_feeds: usize,
+    pub end: Spot,
+}
+
+impl Spot {
+    /// The place of a token that begins here.
+    pub fn place(self) -> Place
+        ensures { result ≡ place_of self }
+    {
+        match self {
+            Spot::LineStart => Place::ColumnOne,
+            Spot::Indent => Place::Indented,
+            Spot::Behind | Spot::Comment => Place::Inside,
+        }
+    }
+
+    fn behind_white(self) -> Spot
+        ensures { result ≡ behind_white self }
+    {
+        match self {
+            Spot::LineStart => Spot::Indent,
+            spot => spot,
+        }
+    }
+
+    /// Behind one more byte of a gap, if it goes on with that byte.
+    fn step(self, b: u8) -> Option<Spot>
+        ensures { result ≡ gap_step self b }
+    {
+        match b {
+            b'\n' => Some(Spot::LineStart),
+            b' ' | b'\t' | b'\r' => Some(self.behind_white()),
+            b';' => Some(Spot::Comment),
+            b'*' | b':' | b'#' if self == Spot::LineStart => Some(Spot::Comment),
+            _ if self == Spot::Comment => Some(Spot::Comment),
+            _ => None,
+        }
+    }
+}
+
+/// The gap at the front of a text.
+pub fn gap_at(start: Spot, bytes: &[u8]) -> Gap
+    ensures len { result.len ≡ gap_len start bytes.now }
+    ensures end { result.end ≡ behind_gap start bytes.now }
+    ensures inside { result.len ≤ length bytes.now }
+    ensures line_feeds { result.line_feeds ≡ count_by (λ b. b == 10) (take result.len bytes.now) }
+{
+    let mut end = start;
+    let mut len = 0;
+    let mut line_feeds = 0;
+    while len < bytes.len() {
+        match end.step(bytes[len]) {
+            Some(next) => {
+                end = next;
+                line_feeds += (bytes[len] == b'\n') as usize;
+                len += 1;
+            }
+            None => break,
+        }
+    }
+    Gap {
+        len,
+        line_feeds,
+        end,
+    }
+}

@@ -1,0 +1,184 @@
+//! Accounts, currencies, tags and links.
+ghost use Rattle.std.specs.Prelude.{◌≡◌, ℕ, ◌+◌, ◌<◌, ◌≤◌, ◌&&◌, ◌||◌, ◌==◌, false, true, nat_lt, length, slice_index, IsTrue, take, drop, MatchOption};
+ghost use Rattle.std.specs.List.{prefix_len};
+ghost use Rattle.std.specs.Char.{is_ascii_digit, is_ascii_uppercase};
+ghost use Rattle.std.specs.Str.{IsUtf8, IsCharBoundary};
+ghost use Rattle.bean_base.specs.Names.{is_account, begins_component, is_in_component};
+ghost use Rattle.bean_lexer.specs.Longest.{IsLongestFront, HasNoFront};
+ghost use Rattle.bean_lexer.specs.Steps.{root_len, begins_component_at, has_next_component, is_currency_form, ends_currency, has_bad_end};
+ghost use Rattle.bean_lexer.specs.Tokens.{IsToken};
+
+use crate::found::Found;
+use crate::kind::{Keyword, Kind, Sign};
+use crate::scan::{InComponent, InCurrency, InName, end_of_run};
+
+/// The account, the currency or the truth value that begins with a capital.
+pub fn account_or_currency(bytes: &[u8]) -> Found
+    requires some { 0 < length bytes.now }
+    requires capital { IsTrue (is_ascii_uppercase (slice_index bytes.now 0)) }
+    ensures token { IsToken bytes.now result.kind result.len }
+    ensures boundary { IsUtf8 bytes.now → IsCharBoundary bytes.now result.len }
+{
+    match account_len(bytes) {
+        Some(len) => Found {
+            kind: Kind::Account,
+            len,
+        },
+        None => currency_or_truth(bytes),
+    }
+}
+
+/// The length of a root and its colon at the front, or 0.
+fn root_len(bytes: &[u8]) -> usize
+    ensures { result ≡ root_len bytes.now }
+{
+    if bytes.starts_with(b"Assets:") {
+        7
+    } else if bytes.starts_with(b"Liabilities:") {
+        12
+    } else if bytes.starts_with(b"Equity:") {
+        7
+    } else if bytes.starts_with(b"Income:") {
+        7
+    } else if bytes.starts_with(b"Expenses:") {
+        9
+    } else {
+        0
+    }
+}
+
+fn begins_component(b: u8) -> bool
+    ensures { result ≡ begins_component b }
+{
+    b.is_ascii_uppercase() || b.is_ascii_digit() || b >= 128
+}
+
+fn begins_component_at(bytes: &[u8], at: usize) -> bool
+    ensures { result ≡ begins_component_at bytes.now at }
+{
+    at < bytes.len() && begins_component(bytes[at])
+}
+
+/// A colon and the first character of a component stand at a place.
+fn has_next_component(bytes: &[u8], at: usize) -> bool
+    requires { at ≤ length bytes.now }
+    ensures { result ≡ has_next_component bytes.now at }
+{
+    at < bytes.len() && bytes[at] == b':' && begins_component_at(bytes, at + 1)
+}
+
+/// The length of the account at the front.
+fn account_len(bytes: &[u8]) -> Option<usize>
+    ensures account { MatchOption result (HasNoFront is_account bytes.now) (IsLongestFront is_account bytes.now) }
+    ensures long { MatchOption result (0 ≤ 0) (λ len. 7 < len) }
+    ensures colon { MatchOption result (0 ≤ 0) (λ len. ((at : ℕ) × (at < len) × (slice_index bytes.now at ≡ 58))) }
+    ensures boundary { MatchOption result (0 ≤ 0) (λ len. IsUtf8 bytes.now → IsCharBoundary bytes.now len) }
+{
+    let root = root_len(bytes);
+    if root == 0 || !begins_component_at(bytes, root) {
+        return None;
+    }
+    let mut len = end_of_run::<InComponent>(bytes, root);
+    while has_next_component(bytes, len) {
+        len = end_of_run::<InComponent>(bytes, len + 1);
+    }
+    Some(len)
+}
+
+/// The currency or the truth value that begins with a capital.
+fn currency_or_truth(bytes: &[u8]) -> Found
+    requires some { 0 < length bytes.now }
+    requires capital { IsTrue (is_ascii_uppercase (slice_index bytes.now 0)) }
+    requires no_account { HasNoFront is_account bytes.now }
+    ensures token { IsToken bytes.now result.kind result.len }
+    ensures boundary { IsUtf8 bytes.now → IsCharBoundary bytes.now result.len }
+{
+    let len = currency_len(bytes);
+    let name = &bytes[..len];
+    if name == b"TRUE".as_slice() {
+        Found {
+            kind: Kind::Keyword(Keyword::True),
+            len,
+        }
+    } else if name == b"FALSE".as_slice() {
+        Found {
+            kind: Kind::Keyword(Keyword::False),
+            len,
+        }
+    } else {
+        Found {
+            kind: Kind::Currency,
+            len,
+        }
+    }
+}
+
+fn ends_currency(b: u8) -> bool
+    ensures { result ≡ ends_currency b }
+{
+    b.is_ascii_uppercase() || b.is_ascii_digit()
+}
+
+/// The last of some characters ends no currency.
+fn has_bad_end(bytes: &[u8], len: usize) -> bool
+    requires { len ≤ length bytes.now }
+    ensures { result ≡ has_bad_end bytes.now len }
+{
+    len > 1 && !ends_currency(bytes[len - 1])
+}
+
+/// The length of the currency or the truth value that begins with a capital.
+fn currency_len(bytes: &[u8]) -> usize
+    requires some { 0 < length bytes.now }
+    requires capital { IsTrue (is_ascii_uppercase (slice_index bytes.now 0)) }
+    ensures currency { IsLongestFront is_currency_form bytes.now result }
+    ensures boundary { IsUtf8 bytes.now → IsCharBoundary bytes.now result }
+{
+    let mut len = end_of_run::<InCurrency>(bytes, 0).min(24);
+    while has_bad_end(bytes, len) {
+        len -= 1;
+    }
+    len
+}
+
+/// The tag that begins with `#`, or the sign alone.
+pub fn tag_or_hash(bytes: &[u8]) -> Found
+    requires some { 0 < length bytes.now }
+    requires hash { slice_index bytes.now 0 ≡ 35 }
+    ensures token { IsToken bytes.now result.kind result.len }
+    ensures boundary { IsUtf8 bytes.now → IsCharBoundary bytes.now result.len }
+{
+    let len = end_of_run::<InName>(bytes, 1);
+    if len > 1 {
+        Found {
+            kind: Kind::Tag,
+            len,
+        }
+    } else {
+        Found {
+            kind: Kind::Sign(Sign::Hash),
+            len: 1,
+        }
+    }
+}
+
+/// The link that begins with `^`, or a fault.
+pub fn link_or_fault(bytes: &[u8]) -> Found
+    requires some { 0 < length bytes.now }
+    requires caret { slice_index bytes.now 0 ≡ 94 }
+    ensures token { IsToken bytes.now result.kind result.len }
+    ensures boundary { IsUtf8 bytes.now → IsCharBoundary bytes.now result.len }
+{
+    let len = end_of_run::<InName>(bytes, 1);
+    if len > 1 {
+        Found {
+            kind: Kind::Link,
+            len,
+        }
+    } else {
+        Found {
+            kind: Kind::Fault,
+            len: 1,
+        }
+    }
+}

@@ -1,0 +1,79 @@
+//! Texts in quotes.
+ghost use Rattle.std.specs.Prelude.{◌≡◌, ◌+◌, ◌<◌, ◌≤◌, length, slice_index, take, drop, false};
+ghost use Rattle.std.specs.Str.{IsUtf8, IsCharBoundary};
+ghost use Rattle.bean_lexer.specs.Forms.{is_text, is_escape};
+ghost use Rattle.bean_lexer.specs.Tokens.{IsToken, text_reach};
+
+use crate::found::Found;
+use crate::kind::Kind;
+use crate::scan::{PlainText, end_of_run};
+
+/// The text that begins with a quote, or a fault as long.
+pub fn text_or_fault(bytes: &[u8]) -> Found
+    requires some { 0 < length bytes.now }
+    requires quote { slice_index bytes.now 0 ≡ 34 }
+    ensures token { IsToken bytes.now result.kind result.len }
+    ensures boundary { IsUtf8 bytes.now → IsCharBoundary bytes.now result.len }
+{
+    let reach = text_reach(bytes);
+    if reach.is_text {
+        Found {
+            kind: Kind::Text,
+            len: reach.len,
+        }
+    } else {
+        Found {
+            kind: Kind::Fault,
+            len: reach.len,
+        }
+    }
+}
+
+/// How far a text reaches, and whether it is closed and its escapes are known.
+#[derive(Clone, Copy)]
+struct Reach {
+    len: usize,
+    is_text: bool,
+}
+
+fn is_escape(b: u8) -> bool
+    ensures { result ≡ is_escape b }
+{
+    b == b'"' || b == b'\\' || b == b'n' || b == b't'
+}
+
+/// How far the text reaches that begins with a quote.
+fn text_reach(bytes: &[u8]) -> Reach
+    requires some { 0 < length bytes.now }
+    requires quote { slice_index bytes.now 0 ≡ 34 }
+    ensures inside { result.len ≤ length bytes.now }
+    ensures len { result.len ≡ 1 + text_reach false (drop 1 bytes.now) }
+    ensures is_text { result.is_text ≡ is_text (take result.len bytes.now) }
+    ensures boundary { IsUtf8 bytes.now → IsCharBoundary bytes.now result.len }
+{
+    let mut len = 1;
+    let mut escapes_known = true;
+    'pieces: loop {
+        let end = end_of_run::<PlainText>(bytes, len);
+        if end == bytes.len() {
+            return Reach {
+                len: end,
+                is_text: false,
+            };
+        }
+        if bytes[end] == b'"' {
+            return Reach {
+                len: end + 1,
+                is_text: escapes_known,
+            };
+        }
+        if end + 1 == bytes.len() {
+            return Reach {
+                len: end + 1,
+                is_text: false,
+            };
+        }
+        escapes_known &= is_escape(bytes[end + 1]);
+        len = end + 2;
+    }
+}
