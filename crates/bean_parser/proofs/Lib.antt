@@ -5,3 +5,4 @@ pub mod OneTree
 pub mod Blocks
 pub mod Texts
 pub mod Examples
+pub mod OneReading

@@ -1,5 +1,5 @@
 -- Laws of forms: what is read part by part is read as a whole.
-use Rattle.std.proofs.Common.{◌⊎◌, inl, inr, ◌≡◌, Bool, true, false, ◌||◌, List, [], ◌∷◌, Option, Some, None, refl, sym, ◌∙◌, ap}
+use Rattle.std.proofs.Common.{◌⊎◌, inl, inr, ◌≡◌, Bool, true, false, ◌||◌, List, [], ◌∷◌, Option, Some, None, refl, ◌∙◌, ap}
 use Rattle.std.specs.Option.{option_map}
 use Rattle.grammar_forms.specs.Forms.{Form, HasNone, Reads, word, both, maybe_before, MaybeFits, optional, behind, mapped, Is, IsNone, either, either_before, EitherFits, either_value}
 

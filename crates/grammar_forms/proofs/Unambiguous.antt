@@ -1,6 +1,6 @@
 -- What is written in one way part by part is written in one way as a whole.
-use Rattle.std.proofs.Common.{◌⊎◌, inl, inr, ◌≡◌, Bool, true, false, ◌||◌, List, [], ◌∷◌, Option, Some, None, refl, sym, ◌∙◌, ap}
-use Rattle.grammar_forms.specs.Forms.{Form, Is, word, both, maybe_before, MaybeFits, optional, behind, mapped, either, either_before, EitherFits, IsUnambiguous}
+use Rattle.std.proofs.Common.{inl, inr, ◌≡◌, Bool, false, List, [], Some, None, refl, sym, ◌∙◌, ap}
+use Rattle.grammar_forms.specs.Forms.{Form, Is, word, both, optional, behind, mapped, either, IsUnambiguous}
 use Rattle.grammar_forms.proofs.Laws.{IsExact, Follows, Tells, Avoids, EndsBoth, either_false}
 
 pub one_word : {L T : Type 0} (make : T → L) → IsExact make → IsUnambiguous (word make)
