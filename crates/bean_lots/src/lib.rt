@@ -4,3 +4,5 @@
 pub mod inventory;
 pub mod lot;
 pub mod reduction;
+#[cfg(test)]
+mod tests;
