@@ -80,6 +80,26 @@ impl<'a> Model for Inventory<'a> {
     ghost invariant = { λ a. IsInventory a.entries.items };
 }
 
+impl Clone for Entry<'_> {
+    ghost is_clone = { λ a b. b ≡ a };
+
+    fn clone(&self) -> Result<Self, AllocError> {
+        Ok(Entry {
+            key: self.key,
+            count: self.count,
+        })
+    }
+}
+
+impl Clone for Inventory<'_> {
+    ghost is_clone = { λ a b. b ≡ a };
+
+    fn clone(&self) -> Result<Self, AllocError> {
+        let entries = self.entries.clone()?;
+        Ok(Inventory { entries })
+    }
+}
+
 fn position_of(entries: &[Entry<'_>], key: &Key<'_>) -> Option<usize>
     ensures { result ≡ position (λ e. same_key (key_value key.now) e.0) entries.now }
 {

@@ -31,26 +31,22 @@ fn put(inventory: &mut Inventory<'static>, key: Key<'static>, units: i32) -> Res
 }
 
 /// 10 HOOL at 100 USD, then 5 at 110 USD of the next day, all times a sign.
-fn two_lots(alloc: Global, sign: i8) -> Result<Inventory<'static>, Fail> {
-    let mut held = Inventory::new(alloc);
-    put(&mut held, lot("100", "2014-01-02")?, 10 * sign as i32)?;
-    put(&mut held, lot("110", "2014-01-03")?, 5 * sign as i32)?;
-    Ok(held)
+fn put_two_lots(held: &mut Inventory<'static>, sign: i8) -> Result<(), Fail> {
+    put(held, lot("100", "2014-01-02")?, 10 * sign as i32)?;
+    put(held, lot("110", "2014-01-03")?, 5 * sign as i32)
 }
 
-fn all() -> Result<Selector<'static>, Fail> {
+/// The lots of HOOL, at any cost or at one in USD.
+fn lots_at(cost: Option<&'static str>) -> Result<Selector<'static>, Fail> {
+    let cost = match cost {
+        Some(number) => Some(Cost::new(Num::parse(number)?, parse_currency("USD")?)),
+        None => None,
+    };
     Ok(Selector {
         currency: parse_currency("HOOL")?,
-        cost: None,
+        cost,
         day: None,
         label: None,
-    })
-}
-
-fn at(cost: &str) -> Result<Selector<'static>, Fail> {
-    Ok(Selector {
-        cost: Some(Cost::new(Num::parse(cost)?, parse_currency("USD")?)),
-        ..all()?
     })
 }
 
@@ -80,87 +76,67 @@ fn taken(
     Ok(words)
 }
 
+/// A want under a method, of lots at any cost or at one, and what is answered.
+#[derive(Clone, Copy)]
+struct Row {
+    cost: Option<&'static str>,
+    want: i32,
+    method: Method,
+    answer: &'static str,
+}
+
+fn expect(cost: Option<&'static str>, want: i32, method: Method, answer: &'static str) -> Row {
+    Row {
+        cost,
+        want,
+        method,
+        answer,
+    }
+}
+
 #[test]
 fn takes_of_what_is_held(rt: HostRuntime) -> Result<(), Fail> {
     let alloc = rt.alloc();
-    let held = two_lots(alloc, 1)?;
-    let any = all()?;
-    assert_eq!(rt;
-        taken(alloc, &held, &any, -12, Method::Fifo)?.as_str(),
-        "-10@100 -2@110 "
-    );
-    assert_eq!(rt;
-        taken(alloc, &held, &any, -12, Method::Lifo)?.as_str(),
-        "-5@110 -7@100 "
-    );
-    assert_eq!(rt;
-        taken(alloc, &held, &any, -15, Method::Strict)?.as_str(),
-        "-10@100 -5@110 "
-    );
-    assert_eq!(rt;
-        taken(alloc, &held, &any, -12, Method::Strict)?.as_str(),
-        "F14 ambiguous lots"
-    );
-    assert_eq!(rt;
-        taken(alloc, &held, &any, -16, Method::Strict)?.as_str(),
-        "F14 ambiguous lots"
-    );
-    assert_eq!(rt;
-        taken(alloc, &held, &any, -16, Method::Fifo)?.as_str(),
-        "F15 not enough units"
-    );
-    assert_eq!(rt;
-        taken(alloc, &held, &at("120")?, -1, Method::Fifo)?.as_str(),
-        "F13 no lot matches"
-    );
-    assert_eq!(rt;
-        taken(alloc, &held, &any, 0, Method::Fifo)?.as_str(),
-        "F13 no lot matches"
-    );
-    assert_eq!(rt;
-        taken(alloc, &held, &at("110.00")?, -3, Method::Strict)?.as_str(),
-        "-3@110 "
-    );
+    let mut held = Inventory::new(alloc);
+    put_two_lots(&mut held, 1)?;
+    let rows = [
+        expect(None, -12, Method::Fifo, "-10@100 -2@110 "),
+        expect(None, -12, Method::Lifo, "-5@110 -7@100 "),
+        expect(None, -15, Method::Strict, "-10@100 -5@110 "),
+        expect(None, -12, Method::Strict, "F14 ambiguous lots"),
+        expect(None, -16, Method::Strict, "F14 ambiguous lots"),
+        expect(None, -16, Method::Fifo, "F15 not enough units"),
+        expect(None, 0, Method::Fifo, "F13 no lot matches"),
+        expect(Some("120"), -1, Method::Fifo, "F13 no lot matches"),
+        expect(Some("110.00"), -3, Method::Strict, "-3@110 "),
+    ];
+    for row in &rows {
+        let answer = taken(alloc, &held, &lots_at(row.cost)?, row.want, row.method)?;
+        assert_eq!(rt; answer.as_str(), row.answer);
+    }
     Ok(())
 }
 
 #[test]
 fn takes_of_what_is_owed(rt: HostRuntime) -> Result<(), Fail> {
     let alloc = rt.alloc();
-    let held = two_lots(alloc, -1)?;
-    let any = all()?;
-    assert_eq!(rt;
-        taken(alloc, &held, &any, 12, Method::Fifo)?.as_str(),
-        "10@100 2@110 "
-    );
-    assert_eq!(rt;
-        taken(alloc, &held, &any, 12, Method::Lifo)?.as_str(),
-        "5@110 7@100 "
-    );
-    assert_eq!(rt;
-        taken(alloc, &held, &any, 15, Method::Strict)?.as_str(),
-        "10@100 5@110 "
-    );
-    assert_eq!(rt;
-        taken(alloc, &held, &any, 12, Method::Strict)?.as_str(),
-        "F14 ambiguous lots"
-    );
-    assert_eq!(rt;
-        taken(alloc, &held, &any, 16, Method::Strict)?.as_str(),
-        "F14 ambiguous lots"
-    );
-    assert_eq!(rt;
-        taken(alloc, &held, &any, 16, Method::Fifo)?.as_str(),
-        "F15 not enough units"
-    );
-    assert_eq!(rt;
-        taken(alloc, &held, &at("120")?, 1, Method::Fifo)?.as_str(),
-        "F13 no lot matches"
-    );
-    assert_eq!(rt;
-        taken(alloc, &held, &any, 0, Method::Fifo)?.as_str(),
-        "F13 no lot matches"
-    );
+    let mut owed = Inventory::new(alloc);
+    put_two_lots(&mut owed, -1)?;
+    let rows = [
+        expect(None, 12, Method::Fifo, "10@100 2@110 "),
+        expect(None, 12, Method::Lifo, "5@110 7@100 "),
+        expect(None, 15, Method::Strict, "10@100 5@110 "),
+        expect(None, 12, Method::Strict, "F14 ambiguous lots"),
+        expect(None, 16, Method::Strict, "F14 ambiguous lots"),
+        expect(None, 16, Method::Fifo, "F15 not enough units"),
+        expect(None, 0, Method::Fifo, "F13 no lot matches"),
+        expect(Some("120"), 1, Method::Fifo, "F13 no lot matches"),
+        expect(Some("110.00"), 3, Method::Strict, "3@110 "),
+    ];
+    for row in &rows {
+        let answer = taken(alloc, &owed, &lots_at(row.cost)?, row.want, row.method)?;
+        assert_eq!(rt; answer.as_str(), row.answer);
+    }
     Ok(())
 }
 
@@ -170,13 +146,13 @@ fn one_lot_is_too_small(rt: HostRuntime) -> Result<(), Fail> {
     let mut held = Inventory::new(alloc);
     put(&mut held, lot("100", "2014-01-02")?, 10)?;
     assert_eq!(rt;
-        taken(alloc, &held, &all()?, -16, Method::Strict)?.as_str(),
+        taken(alloc, &held, &lots_at(None)?, -16, Method::Strict)?.as_str(),
         "F15 not enough units"
     );
     let mut owed = Inventory::new(alloc);
     put(&mut owed, lot("100", "2014-01-02")?, -10)?;
     assert_eq!(rt;
-        taken(alloc, &owed, &all()?, 16, Method::Strict)?.as_str(),
+        taken(alloc, &owed, &lots_at(None)?, 16, Method::Strict)?.as_str(),
         "F15 not enough units"
     );
     Ok(())
@@ -185,7 +161,7 @@ fn one_lot_is_too_small(rt: HostRuntime) -> Result<(), Fail> {
 #[test]
 fn equal_days_go_by_entry(rt: HostRuntime) -> Result<(), Fail> {
     let alloc = rt.alloc();
-    let any = all()?;
+    let any = lots_at(None)?;
     let first = lot("100", "2014-01-02")?;
     for sign in [1i8, -1] {
         let mut held = Inventory::new(alloc);
@@ -229,10 +205,25 @@ fn costs_are_equal_by_value(rt: HostRuntime) -> Result<(), Fail> {
     put(&mut held, lot("100.00", "2014-01-02")?, 5)?;
     assert_eq!(rt; held.get(&lot("100.0", "2014-01-02")?), 1_500_000_000);
     assert_eq!(rt;
-        taken(alloc, &held, &at("100.000")?, -15, Method::Strict)?.as_str(),
+        taken(
+            alloc,
+            &held,
+            &lots_at(Some("100.000"))?,
+            -15,
+            Method::Strict
+        )?
+        .as_str(),
         "-15@100 "
     );
-    let none = reduce(alloc, &held, &at("99")?, Num::new(-1, 0)?, Method::Lifo);
+    let none = reduce(
+        alloc,
+        &held,
+        &lots_at(Some("99"))?,
+        Num::new(-1, 0)?,
+        Method::Lifo,
+    );
     assert_eq!(rt; none.err(), Some(LotFault::NoLotMatches));
+    let copy = held.clone()?;
+    assert_eq!(rt; copy.get(&lot("100", "2014-01-02")?), 1_500_000_000);
     Ok(())
 }
