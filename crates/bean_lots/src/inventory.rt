@@ -1,5 +1,5 @@
 //! Inventories: what an account holds of each currency, in lots or without one.
-ghost use Rattle.std.specs.Prelude.{◌≡◌, ◌+ℤ◌, ◌<◌, ◌++◌, ◌∷◌, [], OnOk, OnErr, List, ℤ, pos, position, if◌then◌else◌, length, take, drop, suc, slice_index_or};
+ghost use Rattle.std.specs.Prelude.{◌≡◌, ◌+ℤ◌, ◌<◌, ◌++◌, ◌∷◌, [], OnOk, OnErr, IsTrue, ◌↔◌, List, ℤ, pos, position, if◌then◌else◌, length, take, drop, suc, slice_index_or};
 ghost use Rattle.std.specs.Int.{w128};
 ghost use Rattle.std.specs.Int.RustNames.{FitsSigned};
 ghost use Rattle.bean_lots.specs.Values.{KeyValue, key_value, same_key};
@@ -171,7 +171,8 @@ impl<'a> Inventory<'a> {
 
     /// The count under a key, 0 where nothing is held.
     pub fn get(&self, key: &Key<'_>) -> i128
-        ensures { result ≡ count_of self.now (key_value key.now) }
+        ensures count { result ≡ count_of self.now (key_value key.now) }
+        ensures inventory { IsInventory self.now }
     {
         count_in(&self.entries, key)
     }
@@ -192,6 +193,16 @@ impl<'a> Inventory<'a> {
         self.entries.as_slice()
     }
 }
+
+/// Keys are compared by their values.
+pub fn same_keys_are_equal()
+    ensures { (a b : KeyValue) → IsTrue (same_key a b) ↔ (a ≡ b) }
+{}
+
+/// An addition leaves no count of 0 and no key twice.
+pub fn add_keeps_an_inventory()
+    ensures { (es : List (KeyValue × ℤ)) (k : KeyValue) (n : ℤ) → IsInventory es → IsInventory (added es k n) }
+{}
 
 /// An addition under a key adds to its count, and to no other.
 pub fn add_is_pointwise()
