@@ -46,6 +46,7 @@ fn reads_names_and_days(rt: HostRuntime) -> Result<(), Fail> {
     assert_eq!(rt; day.month(), 1);
     assert_eq!(rt; day.day(), 31);
     assert_eq!(rt; day.number(), 16101);
+    assert_eq!(rt; format!(in rt.alloc(); "{day}")?.as_str(), "2014-01-31");
     assert!(rt; day < parse_day("2014-02-01")?);
     Ok(())
 }

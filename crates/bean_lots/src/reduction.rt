@@ -1,0 +1,96 @@
+//! Reductions: which lots are taken, and how much of each.
+ghost use Rattle.std.specs.Prelude.{◌≡◌, ◌↔◌};
+
+mod queue;
+mod takes;
+
+use crate::lot::{Cost, Lot};
+use bean_base::days::Day;
+use bean_base::names::Currency;
+use std::alloc::{AllocError, AllocFailed};
+pub use takes::{one_reduction, reduce};
+use thiserror::Error;
+
+/// How an account chooses among its lots.
+#[derive(Clone, Copy, Debug, Drop, PartialEq, Eq)]
+pub enum Method {
+    /// The one candidate, or all of them where their sum is the want.
+    Strict,
+    /// The earliest days first.
+    Fifo,
+    /// The latest days first.
+    Lifo,
+    /// No choice: nothing is reduced, and lots of both signs may stand together.
+    None,
+}
+
+/// Which lots may be reduced: those of the currency that have every part that is given.
+#[derive(Clone, Copy, Debug)]
+pub struct Selector<'a> {
+    pub currency: Currency<'a>,
+    pub cost: Option<Cost<'a>>,
+    pub day: Option<Day>,
+    pub label: Option<&'a str>,
+}
+
+/// What keeps a reduction from being made.
+#[derive(Clone, Copy, Debug, Drop, PartialEq, Eq, Error)]
+pub enum LotFault {
+    #[error("F13 no lot matches")]
+    NoLotMatches,
+    #[error("F14 ambiguous lots")]
+    AmbiguousLots,
+    #[error("F15 not enough units")]
+    NotEnoughUnits,
+    #[error("out of memory")]
+    OutOfMemory,
+}
+
+impl From<AllocError> for LotFault {
+    ghost use Rattle.bean_lots.specs.declared.reduction.LotFault.TheVariants.{OutOfMemory};
+
+    ghost from_gives = { λ _ fault. fault ≡ OutOfMemory };
+
+    fn from(_: AllocError) -> LotFault {
+        LotFault::OutOfMemory
+    }
+}
+
+impl Selector<'_> {
+    ghost use Rattle.bean_lots.specs.Values.{lot_value};
+    ghost use Rattle.bean_lots.specs.Candidates.{selector_value, has_cost, has_day, has_label, agrees};
+
+    fn has_cost(&self, lot: &Lot<'_>) -> bool
+        ensures { result ≡ has_cost (selector_value self.now).cost (lot_value lot.now) }
+    {
+        match self.cost {
+            Some(cost) => cost == lot.cost,
+            None => true,
+        }
+    }
+
+    fn has_day(&self, lot: &Lot<'_>) -> bool
+        ensures { result ≡ has_day (selector_value self.now).day (lot_value lot.now) }
+    {
+        match self.day {
+            Some(day) => day == lot.day,
+            None => true,
+        }
+    }
+
+    fn has_label(&self, lot: &Lot<'_>) -> bool
+        ensures { result ≡ has_label (selector_value self.now).label (lot_value lot.now) }
+    {
+        match self.label {
+            Some(_) => self.label == lot.label,
+            None => true,
+        }
+    }
+
+    /// Whether a lot has every part that is given.
+    fn agrees(&self, lot: &Lot<'_>) -> bool
+        ensures { result ≡ agrees (selector_value self.now) (lot_value lot.now) }
+    {
+        self.has_cost(lot) && self.has_day(lot) && self.has_label(lot)
+    }
+}

@@ -1,0 +1,183 @@
+//! The candidates of a reduction, in the order in which they are taken.
+ghost use Rattle.std.specs.Prelude.{◌≡◌, ◌↔◌, ◌≢◌, ◌-◌, ◌++◌, ◌&&◌, OnOk, IfOk, IsTrue, IsPermutation, sum_by};
+ghost use Rattle.bean_lots.specs.Values.{lot_value, same_text};
+ghost use Rattle.bean_lots.specs.Candidates.{selector_value, agrees, is_opposite, candidate_of, candidates};
+ghost use Rattle.bean_lots.specs.Takes.{IsQueue, units_of};
+ghost use Rattle.bean_lots.specs.Filling.{Judges};
+
+use super::{LotFault, Method, Selector};
+use crate::inventory::Entry;
+use crate::lot::{Key, Lot};
+use std::alloc::{AllocError, Global};
+use std::cmp::Reverse;
+use std::marker::Model;
+
+/// A lot that may be reduced, with the units that are held of it, without their sign.
+#[derive(Drop)]
+pub(crate) struct Candidate<'a> {
+    lot: Lot<'a>,
+    units: u128,
+}
+
+impl<'a> Model for Candidate<'a> {
+    ghost use Rattle.std.specs.Prelude.{ℕ};
+    ghost use Rattle.bean_lots.specs.Values.{LotValue, lot_value};
+
+    ghost Value = { LotValue × ℕ };
+
+    ghost view = { λ c. (lot_value c.lot, c.units) };
+}
+
+impl<'a> Candidate<'a> {
+    fn new(lot: Lot<'a>, units: u128) -> Candidate<'a>
+        ensures { result ≡ (lot_value lot.entry, units) }
+    {
+        Candidate { lot, units }
+    }
+
+    pub(crate) fn lot(&self) -> Lot<'a>
+        ensures { lot_value result ≡ self.now.0 }
+    {
+        self.lot
+    }
+
+    pub(crate) fn units(&self) -> u128
+        ensures { result ≡ self.now.1 }
+    {
+        self.units
+    }
+
+    fn day_number(&self) -> i32
+        ensures { result ≡ self.now.0.day }
+    {
+        self.lot.day.number()
+    }
+}
+
+fn is_opposite(want: i128, count: i128) -> bool
+    ensures { result ≡ is_opposite want count }
+{
+    want < 0 && 0 < count || 0 < want && count < 0
+}
+
+/// Whether a lot that is held under a key may be reduced.
+fn is_candidate(
+    selector: &Selector<'_>,
+    want: i128,
+    key: &Key<'_>,
+    lot: &Lot<'_>,
+    count: i128,
+) -> bool
+    ensures { result ≡ (same_text key.now.currency.text.now (selector_value selector.now).currency
+        && agrees (selector_value selector.now) (lot_value lot.now) && is_opposite want count) }
+{
+    key.currency == selector.currency && selector.agrees(lot) && is_opposite(want, count)
+}
+
+fn push_candidate<'a>(
+    found: &mut Vec<Candidate<'a>>,
+    selector: &Selector<'_>,
+    want: i128,
+    entry: &Entry<'a>,
+) -> Result<(), AllocError>
+    ensures { OnOk result (found.new.items ≡ found.old.items ++ candidate_of (selector_value selector.now) want entry.now.0.currency entry.now.0.lot entry.now.1) }
+{
+    let key = entry.key();
+    let count = entry.count();
+    if let Some(lot) = key.lot {
+        if is_candidate(selector, want, &key, &lot, count) {
+            found.push(Candidate::new(lot, count.unsigned_abs()))?;
+        }
+    }
+    Ok(())
+}
+
+/// The candidates, in order of entry.
+fn candidates<'a>(
+    alloc: Global,
+    entries: &[Entry<'a>],
+    selector: &Selector<'_>,
+    want: i128,
+) -> Result<Vec<Candidate<'a>>, AllocError>
+    ensures { IfOk result (λ found. found.items ≡ candidates (selector_value selector.now) want entries.now) }
+{
+    let mut found = Vec::new(alloc);
+    for entry in entries {
+        push_candidate(&mut found, selector, want, entry)?;
+    }
+    Ok(found)
+}
+
+/// Puts candidates in the order in which they are taken.
+fn arrange(method: Method, queue: &mut Vec<Candidate<'_>>) -> Result<(), AllocError>
+    requires { method ≢ Method.None }
+    ensures queue { OnOk result (IsQueue method queue.old.items queue.new.items) }
+    ensures same { IsPermutation queue.old.items queue.new.items }
+{
+    match method {
+        Method::Lifo => queue.sort_by_key(|c| Reverse(c.day_number())),
+        Method::Strict | Method::Fifo => queue.sort_by_key(|c| c.day_number()),
+        Method::None => unreachable!(),
+    }
+}
+
+/// The candidates in the order in which they are taken.
+pub(crate) fn queue_of<'a>(
+    alloc: Global,
+    entries: &[Entry<'a>],
+    selector: &Selector<'_>,
+    want: i128,
+    method: Method,
+) -> Result<Vec<Candidate<'a>>, AllocError>
+    requires { method ≢ Method.None }
+    ensures queue { IfOk result (λ queue. IsQueue method (candidates (selector_value selector.now) want entries.now) queue.items) }
+    ensures same { IfOk result (λ queue. IsPermutation (candidates (selector_value selector.now) want entries.now) queue.items) }
+{
+    let mut queue = candidates(alloc, entries, selector, want)?;
+    arrange(method, &mut queue)?;
+    Ok(queue)
+}
+
+/// What is left of the want once all is taken.
+fn shortfall(queue: &[Candidate<'_>], want: u128) -> u128
+    ensures { result ≡ want - sum_by units_of queue.now }
+{
+    let mut rest = want;
+    for c in queue {
+        rest = rest.saturating_sub(c.units());
+    }
+    rest
+}
+
+/// Whether all that is held comes to the want.
+fn comes_to(queue: &[Candidate<'_>], want: u128) -> bool
+    ensures { IsTrue result ↔ (sum_by units_of queue.now ≡ want) }
+{
+    let mut rest = want;
+    for c in queue {
+        if c.units() > rest {
+            return false;
+        }
+        rest -= c.units();
+    }
+    rest == 0
+}
+
+/// Whether a queue can be taken from.
+pub(crate) fn judge(method: Method, queue: &[Candidate<'_>], want: u128) -> Result<(), LotFault>
+    ensures { Judges method queue.now want result }
+{
+    if queue.is_empty() {
+        return Err(LotFault::NoLotMatches);
+    }
+    if method == Method::Strict && queue.len() > 1 {
+        if comes_to(queue, want) {
+            return Ok(());
+        }
+        return Err(LotFault::AmbiguousLots);
+    }
+    if shortfall(queue, want) > 0 {
+        return Err(LotFault::NotEnoughUnits);
+    }
+    Ok(())
+}

@@ -1,0 +1,229 @@
+//! Reductions by each method, of long and of short positions.
+
+use crate::inventory::Inventory;
+use crate::lot::{Cost, Key, Lot};
+use crate::reduction::{LotFault, Method, Selector, reduce};
+use bean_base::days::parse_day;
+use bean_base::names::parse_currency;
+use bean_base::num::Num;
+use std::alloc::Global;
+use std::test::Fail;
+
+fn lot(cost: &str, day: &'static str) -> Result<Key<'static>, Fail> {
+    let cost = Cost::new(Num::parse(cost)?, parse_currency("USD")?);
+    Ok(Key {
+        currency: parse_currency("HOOL")?,
+        lot: Some(Lot {
+            cost,
+            day: parse_day(day)?,
+            label: None,
+        }),
+    })
+}
+
+/// Adds whole units.
+fn put(inventory: &mut Inventory<'static>, key: Key<'static>, units: i32) -> Result<(), Fail> {
+    let count = units as i128 * 100_000_000;
+    if inventory.get(&key).checked_add(count).is_some() {
+        inventory.add(key, count)?;
+    }
+    Ok(())
+}
+
+/// 10 HOOL at 100 USD, then 5 at 110 USD of the next day, all times a sign.
+fn put_two_lots(held: &mut Inventory<'static>, sign: i8) -> Result<(), Fail> {
+    put(held, lot("100", "2014-01-02")?, 10 * sign as i32)?;
+    put(held, lot("110", "2014-01-03")?, 5 * sign as i32)
+}
+
+/// The lots of HOOL, at any cost or at one in USD.
+fn lots_at(cost: Option<&'static str>) -> Result<Selector<'static>, Fail> {
+    let cost = match cost {
+        Some(number) => Some(Cost::new(Num::parse(number)?, parse_currency("USD")?)),
+        None => None,
+    };
+    Ok(Selector {
+        currency: parse_currency("HOOL")?,
+        cost,
+        day: None,
+        label: None,
+    })
+}
+
+/// The takes in words, as `-10@100 -2@110`, or the fault.
+fn taken(
+    alloc: Global,
+    held: &Inventory<'static>,
+    selector: &Selector<'static>,
+    want: i32,
+    method: Method,
+) -> Result<String, Fail> {
+    let units = Num::new(want as i128, 0)?;
+    let mut words = String::new(alloc);
+    if method == Method::None {
+        return Ok(words);
+    }
+    match reduce(alloc, held, selector, units, method) {
+        Ok(takes) => {
+            for (lot, number) in &takes {
+                let cost = lot.cost.count / 100_000_000;
+                let count = number.count / 100_000_000;
+                words.push_str(format!(in alloc; "{count}@{cost} ")?.as_str())?;
+            }
+        }
+        Err(fault) => words.push_str(format!(in alloc; "{fault}")?.as_str())?,
+    }
+    Ok(words)
+}
+
+/// A want under a method, of lots at any cost or at one, and what is answered.
+#[derive(Clone, Copy)]
+struct Row {
+    cost: Option<&'static str>,
+    want: i32,
+    method: Method,
+    answer: &'static str,
+}
+
+fn expect(cost: Option<&'static str>, want: i32, method: Method, answer: &'static str) -> Row {
+    Row {
+        cost,
+        want,
+        method,
+        answer,
+    }
+}
+
+#[test]
+fn takes_of_what_is_held(rt: HostRuntime) -> Result<(), Fail> {
+    let alloc = rt.alloc();
+    let mut held = Inventory::new(alloc);
+    put_two_lots(&mut held, 1)?;
+    let rows = [
+        expect(None, -12, Method::Fifo, "-10@100 -2@110 "),
+        expect(None, -12, Method::Lifo, "-5@110 -7@100 "),
+        expect(None, -15, Method::Strict, "-10@100 -5@110 "),
+        expect(None, -12, Method::Strict, "F14 ambiguous lots"),
+        expect(None, -16, Method::Strict, "F14 ambiguous lots"),
+        expect(None, -16, Method::Fifo, "F15 not enough units"),
+        expect(None, 0, Method::Fifo, "F13 no lot matches"),
+        expect(Some("120"), -1, Method::Fifo, "F13 no lot matches"),
+        expect(Some("110.00"), -3, Method::Strict, "-3@110 "),
+    ];
+    for row in &rows {
+        let answer = taken(alloc, &held, &lots_at(row.cost)?, row.want, row.method)?;
+        assert_eq!(rt; answer.as_str(), row.answer);
+    }
+    Ok(())
+}
+
+#[test]
+fn takes_of_what_is_owed(rt: HostRuntime) -> Result<(), Fail> {
+    let alloc = rt.alloc();
+    let mut owed = Inventory::new(alloc);
+    put_two_lots(&mut owed, -1)?;
+    let rows = [
+        expect(None, 12, Method::Fifo, "10@100 2@110 "),
+        expect(None, 12, Method::Lifo, "5@110 7@100 "),
+        expect(None, 15, Method::Strict, "10@100 5@110 "),
+        expect(None, 12, Method::Strict, "F14 ambiguous lots"),
+        expect(None, 16, Method::Strict, "F14 ambiguous lots"),
+        expect(None, 16, Method::Fifo, "F15 not enough units"),
+        expect(None, 0, Method::Fifo, "F13 no lot matches"),
+        expect(Some("120"), 1, Method::Fifo, "F13 no lot matches"),
+        expect(Some("110.00"), 3, Method::Strict, "3@110 "),
+    ];
+    for row in &rows {
+        let answer = taken(alloc, &owed, &lots_at(row.cost)?, row.want, row.method)?;
+        assert_eq!(rt; answer.as_str(), row.answer);
+    }
+    Ok(())
+}
+
+#[test]
+fn one_lot_is_too_small(rt: HostRuntime) -> Result<(), Fail> {
+    let alloc = rt.alloc();
+    let mut held = Inventory::new(alloc);
+    put(&mut held, lot("100", "2014-01-02")?, 10)?;
+    assert_eq!(rt;
+        taken(alloc, &held, &lots_at(None)?, -16, Method::Strict)?.as_str(),
+        "F15 not enough units"
+    );
+    let mut owed = Inventory::new(alloc);
+    put(&mut owed, lot("100", "2014-01-02")?, -10)?;
+    assert_eq!(rt;
+        taken(alloc, &owed, &lots_at(None)?, 16, Method::Strict)?.as_str(),
+        "F15 not enough units"
+    );
+    Ok(())
+}
+
+#[test]
+fn equal_days_go_by_entry(rt: HostRuntime) -> Result<(), Fail> {
+    let alloc = rt.alloc();
+    let any = lots_at(None)?;
+    let first = lot("100", "2014-01-02")?;
+    for sign in [1i8, -1] {
+        let mut held = Inventory::new(alloc);
+        let whole = 10 * sign as i32;
+        put(&mut held, first, whole)?;
+        put(&mut held, lot("90", "2014-01-02")?, whole)?;
+        let want = -12 * sign as i32;
+        let by_entry = if sign > 0 {
+            "-10@100 -2@90 "
+        } else {
+            "10@100 2@90 "
+        };
+        assert_eq!(rt;
+            taken(alloc, &held, &any, want, Method::Fifo)?.as_str(),
+            by_entry
+        );
+        assert_eq!(rt;
+            taken(alloc, &held, &any, want, Method::Lifo)?.as_str(),
+            by_entry
+        );
+        put(&mut held, first, -whole)?;
+        put(&mut held, first, whole)?;
+        let last = if sign > 0 {
+            "-10@90 -2@100 "
+        } else {
+            "10@90 2@100 "
+        };
+        assert_eq!(rt;
+            taken(alloc, &held, &any, want, Method::Fifo)?.as_str(),
+            last
+        );
+    }
+    Ok(())
+}
+
+#[test]
+fn costs_are_equal_by_value(rt: HostRuntime) -> Result<(), Fail> {
+    let alloc = rt.alloc();
+    let mut held = Inventory::new(alloc);
+    put(&mut held, lot("100", "2014-01-02")?, 10)?;
+    put(&mut held, lot("100.00", "2014-01-02")?, 5)?;
+    assert_eq!(rt; held.get(&lot("100.0", "2014-01-02")?), 1_500_000_000);
+    assert_eq!(rt;
+        taken(
+            alloc,
+            &held,
+            &lots_at(Some("100.000"))?,
+            -15,
+            Method::Strict
+        )?
+        .as_str(),
+        "-15@100 "
+    );
+    let none = reduce(
+        alloc,
+        &held,
+        &lots_at(Some("99"))?,
+        Num::new(-1, 0)?,
+        Method::Lifo,
+    );
+    assert_eq!(rt; none.err(), Some(LotFault::NoLotMatches));
+    let copy = held.clone()?;
+    assert_eq!(rt; copy.get(&lot("100", "2014-01-02")?), 1_500_000_000);
+    Ok(())
+}
