@@ -6,7 +6,8 @@ use Rattle.bean_base.specs.Days.{is_day_form, IsDayOf, year_of, month_of, day_of
 use Rattle.bean_base.specs.declared.fault.Fault.{Fault}
 use Rattle.bean_base.specs.declared.fault.FaultKind.{FaultKind}
 use Rattle.bean_base.specs.declared.fault.FaultKind.TheVariants.{BadToken, NotADirective, OutOfRange}
-use Rattle.bean_parser.specs.Lexemes.{TokenValue}
+use Rattle.bean_parser.specs.Lexemes.{TokenValue, seen}
+use Rattle.bean_lexer.specs.declared.token.Token.{Token}
 use Rattle.bean_parser.specs.Blocks.{blocks, first_line, fault_line}
 use Rattle.bean_parser.specs.Grammar.{Texts, Head, opens, transacts, Written, Tree, HasTree}
 use Rattle.bean_base.specs.Days.{DayValue}
@@ -82,3 +83,8 @@ pub data BlocksGive : List (List TokenValue) → List DirectiveValue → List Fa
       → Gives block (Ok d) → BlocksGive rest ds fs → BlocksGive (block ∷ rest) (d ∷ ds) fs
   a_fault : (block : List TokenValue) (rest : List (List TokenValue)) (f : Fault) (ds : List DirectiveValue) (fs : List Fault)
       → Gives block (Err f) → BlocksGive rest ds fs → BlocksGive (block ∷ rest) ds (f ∷ fs)
+
+-- What a text says: the tokens of it, and what their blocks give.
+pub record IsParsed (text : List ℕ) (directives : List DirectiveValue) (faults : List Fault) : Type 0 where
+  pub tokens : List Token
+  pub give : BlocksGive (blocks (seen tokens)) directives faults

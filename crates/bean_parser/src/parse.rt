@@ -3,12 +3,13 @@ ghost use Rattle.std.specs.Prelude.{IfOk, map};
 ghost use Rattle.bean_parser.specs.Lexemes.{seen};
 ghost use Rattle.bean_parser.specs.Blocks.{blocks};
 ghost use Rattle.bean_parser.specs.Values.{directive_value};
-ghost use Rattle.bean_parser.specs.Directives.{BlocksGive};
+ghost use Rattle.bean_parser.specs.Directives.{BlocksGive, IsParsed};
 
 use crate::block::{Part, Unread, first_part, read_block};
 use crate::directive::Directive;
 use bean_base::fault::Fault;
 use bean_lexer::token::Token;
+use bean_lexer::tokens::tokens;
 use std::alloc::{AllocError, Global};
 
 /// What a ledger's text says, in reading order. The faults have file 0.
@@ -33,4 +34,12 @@ fn parse_tokens<'a>(alloc: Global, tokens: &[Token<'a>]) -> Result<Parsed<'a>, A
         rest = Unread { tokens: after };
     }
     Ok(Parsed { directives, faults })
+}
+
+/// What a ledger's text says: its directives and its faults, in reading order.
+pub fn parse<'a>(alloc: Global, text: &'a str) -> Result<Parsed<'a>, AllocError>
+    ensures { IfOk result (λ p. IsParsed text.now (map directive_value p.directives.items) p.faults.items) }
+{
+    let tokens = tokens(alloc, text)?;
+    parse_tokens(alloc, &tokens)
 }

@@ -1,0 +1,3 @@
+pub mod Unique
+pub mod Rows
+pub mod Order

@@ -1,4 +1,6 @@
 pub mod Statuses
 pub mod Words
-pub mod Sources
 pub mod Named
+pub mod Sources
+pub mod Arrangement
+pub mod Listing

@@ -44,6 +44,16 @@ decimals_from n currency ps = fold max n (map (λ p. p.places) (filter (λ p. by
 abbrev pub decimals_in : List DirectiveValue → List ℕ → ℕ
 decimals_in ds currency = decimals_from 0 currency (flat_map postings_in ds)
 
+-- The ledger of the text: its directives, arranged, and a row for each of their postings.
+pub record IsListing (text : List ℕ) (rows : List RowValue) (decimals : List ℕ → ℕ) : Type 0 where
+  pub directives : List DirectiveValue
+  pub faults : List Fault
+  pub parsed : IsParsed text directives faults
+  pub arranged : List DirectiveValue
+  pub in_order : IsArranged directives arranged
+  pub rows_are : rows ≡ rows_of_all arranged
+  pub decimals_are : (currency : List ℕ) → decimals currency ≡ decimals_in arranged currency
+
 -- date, flag, account and position
 abbrev pub shown_row : RowValue → List ShownValue
 shown_row row = shown.day row.date ∷ shown.text row.flag ∷ shown.text row.account ∷ shown.position row.position ∷ []
@@ -51,11 +61,9 @@ shown_row row = shown.day row.date ∷ shown.text row.flag ∷ shown.text row.ac
 abbrev pub headers : List (List ℕ)
 headers = codes "date" ∷ codes "flag" ∷ codes "account" ∷ codes "position" ∷ []
 
--- The table of the text: its directives, arranged, and a line for each of their postings.
+-- The table of the text's ledger.
 pub record Lists (text table : List ℕ) : Type 0 where
-  pub directives : List DirectiveValue
-  pub faults : List Fault
-  pub parsed : IsParsed text directives faults
-  pub arranged : List DirectiveValue
-  pub in_order : IsArranged directives arranged
-  pub is : table ≡ table_text headers (map shown_row (rows_of_all arranged)) (decimals_in arranged)
+  pub rows : List RowValue
+  pub decimals : List ℕ → ℕ
+  pub listing : IsListing text rows decimals
+  pub is : table ≡ table_text headers (map shown_row rows) decimals

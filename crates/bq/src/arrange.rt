@@ -1,15 +1,14 @@
 //! The order in which directives are taken.
 ghost use Rattle.std.specs.Prelude.{◌≡◌, ℕ, List, OnOk, map};
 ghost use Rattle.bean_parser.specs.Values.{DirectiveValue, directive_value};
-ghost use Rattle.bq.specs.Arrangement.{IsArranged, key_of};
-ghost use Rattle.bean_base.specs.Days.{number};
+ghost use Rattle.bq.specs.Arrangement.{IsArranged, day_in, rank_in};
 
 use bean_base::days::Day;
 use bean_parser::directive::Directive;
 use std::alloc::AllocError;
 
 fn day_of(directive: &Directive<'_>) -> Day
-    ensures { number result ≡ (key_of (directive_value directive.now)).0 }
+    ensures { result ≡ day_in directive.now }
 {
     match directive {
         Directive::Open(open) => open.day,
@@ -19,7 +18,7 @@ fn day_of(directive: &Directive<'_>) -> Day
 
 /// Of one day, opens are taken before transactions.
 fn rank(directive: &Directive<'_>) -> u8
-    ensures { result ≡ (key_of (directive_value directive.now)).1 }
+    ensures { result ≡ rank_in directive.now }
 {
     match directive {
         Directive::Open(_) => 0,

@@ -1,11 +1,11 @@
 //! The postings of a text's transactions as a ledger.
-ghost use Rattle.std.specs.Prelude.{◌≡◌, ◌<◌, ◌++◌, ℕ, List, OnOk, IfOk, IfErr, map, filter, fold, max, length, if◌then◌else◌};
+ghost use Rattle.std.specs.Prelude.{◌≡◌, ◌<◌, ◌≤◌, ◌+◌, ◌++◌, ◌∷◌, [], ℕ, Err, List, OnOk, IfOk, IfErr, map, filter, fold, max, length, if◌then◌else◌};
 ghost use Rattle.std.specs.Str.{bytes_eq};
 ghost use Rattle.bean_parser.specs.Values.{directive_value, posting_value};
 ghost use Rattle.bean_base.specs.Days.{day_value};
 ghost use Rattle.posting_table.specs.Rows.{row_of};
 ghost use Rattle.posting_table.specs.Ledgers.{rows_of, decimals_of};
-ghost use Rattle.bq.specs.Listing.{flag_text, rows_of_all, decimals_from, row_of_posting, IsListing};
+ghost use Rattle.bq.specs.Listing.{flag_text, postings_in, rows_in, rows_of_all, decimals_from, decimals_in, row_of_posting, IsListing};
 
 use crate::arrange::arrange;
 use bean_base::days::Day;
@@ -81,7 +81,7 @@ fn push_posting<'a>(
         ≡ rows_of ledger.old ++ row_of_posting (day_value day) flag (posting_value posting.now) ∷ []) }
     ensures decimals { OnOk result ((name : List ℕ) → decimals_of ledger.new name
         ≡ decimals_from (decimals_of ledger.old name) name (posting_value posting.now ∷ [])) }
-    ensures full { result ≡ Err LedgerFault.TooManyPostings → length (rows_of ledger.old) ≡ MOST_POSTINGS }
+    ensures full { result ≡ Err LedgerFault.TooManyPostings → MOST_POSTINGS ≤ length (rows_of ledger.old) }
 {
     if ledger.len() >= MOST_POSTINGS {
         return Err(LedgerFault::TooManyPostings);
@@ -89,4 +89,75 @@ fn push_posting<'a>(
     note_decimals(ledger, posting)?;
     ledger.push(row_of(day, flag, posting))?;
     Ok(())
+}
+
+fn push_postings<'a>(
+    ledger: &mut Ledger<'a>,
+    day: Day,
+    flag: Flag,
+    postings: &[Posting<'a>],
+) -> Result<(), LedgerFault>
+    ensures rows { OnOk result (rows_of ledger.new
+        ≡ rows_of ledger.old ++ map (row_of_posting (day_value day) flag) (map posting_value postings.now)) }
+    ensures decimals { OnOk result ((name : List ℕ) → decimals_of ledger.new name
+        ≡ decimals_from (decimals_of ledger.old name) name (map posting_value postings.now)) }
+    ensures full { result ≡ Err LedgerFault.TooManyPostings
+        → MOST_POSTINGS < length (rows_of ledger.old) + length postings.now }
+{
+    for posting in postings {
+        push_posting(ledger, day, flag, posting)?;
+    }
+    Ok(())
+}
+
+fn push_directive<'a>(
+    ledger: &mut Ledger<'a>,
+    directive: &Directive<'a>,
+) -> Result<(), LedgerFault>
+    ensures rows { OnOk result (rows_of ledger.new
+        ≡ rows_of ledger.old ++ rows_in (directive_value directive.now)) }
+    ensures decimals { OnOk result ((name : List ℕ) → decimals_of ledger.new name
+        ≡ decimals_from (decimals_of ledger.old name) name (postings_in (directive_value directive.now))) }
+    ensures full { result ≡ Err LedgerFault.TooManyPostings
+        → MOST_POSTINGS < length (rows_of ledger.old) + length (rows_in (directive_value directive.now)) }
+{
+    match directive {
+        Directive::Open(_) => Ok(()),
+        Directive::Transaction(transaction) => push_postings(
+            ledger,
+            transaction.day,
+            transaction.flag,
+            &transaction.postings,
+        ),
+    }
+}
+
+/// The ledger of directives that are in order.
+fn ledger_of_all<'a>(
+    alloc: Global,
+    directives: &[Directive<'a>],
+) -> Result<Ledger<'a>, LedgerFault>
+    ensures rows { IfOk result (λ l. rows_of l ≡ rows_of_all (map directive_value directives.now)) }
+    ensures decimals { IfOk result (λ l. (name : List ℕ) → decimals_of l name
+        ≡ decimals_in (map directive_value directives.now) name) }
+    ensures full { result ≡ Err LedgerFault.TooManyPostings
+        → MOST_POSTINGS < length (rows_of_all (map directive_value directives.now)) }
+{
+    let mut ledger = Ledger::new(alloc);
+    for directive in directives {
+        match push_directive(&mut ledger, directive) {
+            Ok(()) => {}
+            Err(fault) => return Err(fault),
+        }
+    }
+    Ok(ledger)
+}
+
+/// The ledger of a text: its transactions' postings, arranged. Blocks at fault are left out.
+pub fn ledger_of<'a>(alloc: Global, text: &'a str) -> Result<Ledger<'a>, LedgerFault>
+    ensures { IfOk result (λ l. IsListing text.now (rows_of l) (decimals_of l)) }
+{
+    let mut parsed = parse(alloc, text)?;
+    arrange(&mut parsed.directives)?;
+    ledger_of_all(alloc, &parsed.directives)
 }
