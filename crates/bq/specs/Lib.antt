@@ -4,3 +4,4 @@ pub mod Named
 pub mod Sources
 pub mod Arrangement
 pub mod Listing
+pub mod Runs

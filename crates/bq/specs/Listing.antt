@@ -1,5 +1,5 @@
 -- What `list` shows of a text.
-use Rattle.std.specs.Prelude.{◌≡◌, ℕ, max, List, [], ◌∷◌, ◌++◌, map, fold, filter, codes}
+use Rattle.std.specs.Prelude.{◌≡◌, ◌<◌, ℕ, max, length, List, [], ◌∷◌, ◌++◌, map, fold, filter, codes}
 use Rattle.std.specs.List.{flat_map}
 use Rattle.std.specs.Str.{bytes_eq}
 use Rattle.bean_base.specs.Days.{DayValue}
@@ -53,6 +53,15 @@ pub record IsListing (text : List ℕ) (rows : List RowValue) (decimals : List �
   pub in_order : IsArranged directives arranged
   pub rows_are : rows ≡ rows_of_all arranged
   pub decimals_are : (currency : List ℕ) → decimals currency ≡ decimals_in arranged currency
+
+-- more than 1,000,000 postings
+pub record HasTooMany (text : List ℕ) : Type 0 where
+  pub directives : List DirectiveValue
+  pub faults : List Fault
+  pub parsed : IsParsed text directives faults
+  pub arranged : List DirectiveValue
+  pub in_order : IsArranged directives arranged
+  pub too_many : 1000000 < length (rows_of_all arranged)
 
 -- date, flag, account and position
 abbrev pub shown_row : RowValue → List ShownValue

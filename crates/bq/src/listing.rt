@@ -5,7 +5,7 @@ ghost use Rattle.bean_parser.specs.Values.{directive_value, posting_value};
 ghost use Rattle.bean_base.specs.Days.{day_value};
 ghost use Rattle.posting_table.specs.Rows.{row_of};
 ghost use Rattle.posting_table.specs.Ledgers.{rows_of, decimals_of};
-ghost use Rattle.bq.specs.Listing.{flag_text, postings_in, rows_in, rows_of_all, decimals_from, decimals_in, row_of_posting, IsListing};
+ghost use Rattle.bq.specs.Listing.{flag_text, postings_in, rows_in, rows_of_all, decimals_from, decimals_in, row_of_posting, IsListing, HasTooMany};
 
 use crate::arrange::arrange;
 use bean_base::days::Day;
@@ -155,7 +155,8 @@ fn ledger_of_all<'a>(
 
 /// The ledger of a text: its transactions' postings, arranged. Blocks at fault are left out.
 pub fn ledger_of<'a>(alloc: Global, text: &'a str) -> Result<Ledger<'a>, LedgerFault>
-    ensures { IfOk result (λ l. IsListing text.now (rows_of l) (decimals_of l)) }
+    ensures ok { IfOk result (λ l. IsListing text.now (rows_of l) (decimals_of l)) }
+    ensures full { result ≡ Err LedgerFault.TooManyPostings → HasTooMany text.now }
 {
     let mut parsed = parse(alloc, text)?;
     arrange(&mut parsed.directives)?;

@@ -25,7 +25,7 @@ pub enum PrintFault {
 }
 
 /// Hands bytes over until all are taken, or the output fails or takes nothing, and counts them.
-fn write_bytes<W: Output>(out: &mut W, bytes: &[u8]) -> usize
+pub fn write_bytes<W: Output>(out: &mut W, bytes: &[u8]) -> usize
     ensures within { result ≤ length bytes.now }
     ensures taken { Appends (W.taken out.old) (W.taken out.new) (take result bytes.now) }
     ensures refused { result < length bytes.now → Refused W W.may_answer out.new }

@@ -1,0 +1,80 @@
+-- What the commands come to.
+use Rattle.std.specs.Prelude.{◌≡◌, ℕ, ◌+◌, ◌<◌, ◌++◌, ◌⊎◌, List, [], ◌∷◌, length, Option, Some, None, Result, Ok, Err, ⊤}
+use Rattle.std.specs.Io.KnownBytes.{Appends}
+use Rattle.std.specs.Str.{IsUtf8}
+use Rattle.table_printer.specs.Writing.{Refused}
+use Rattle.table_printer.specs.declared.output.NotTaken.{NotTaken}
+use Rattle.clap.specs.Walk.{Text}
+use Rattle.bq.specs.Listing.{Lists, HasTooMany}
+use Rattle.bq.specs.Named.{RefusesWords}
+use Rattle.bq.specs.Sources.{Reading}
+use Rattle.bq.specs.Statuses.{status_of}
+use Rattle.bq.specs.Words.{ledger_named}
+use Rattle.bq.specs.declared.refusal.Refusal.{Refusal}
+use Rattle.bq.specs.declared.refusal.Refusal.TheVariants as refusal
+
+-- the source gave these bytes under the name, and says so where it tells what it gave
+abbrev pub Gave : Option (List Reading) → Option (List Reading) → List ℕ → List ℕ → Type 0
+Gave None new name bytes = ⊤
+Gave (Some old) None name bytes = ⊥
+Gave (Some old) (Some new) name bytes = new ≡ old ++ (name, Some bytes) ∷ []
+
+-- 16 MiB
+abbrev pub largest_text : ℕ
+largest_text = 16777216
+
+-- the table of the text was written, or the output refused it, or it has nothing of it
+abbrev pub ListsText : (O : Type 0) → (O → Option (List ℕ)) → (O → List ℕ → Result ℕ NotTaken → O → Type 0) → O → O → List ℕ → Result Unit Refusal → Type 0
+ListsText O taken may_answer old new text (Ok x) = (table : List ℕ) × Lists text table × Appends (taken old) (taken new) table
+ListsText O taken may_answer old new text (Err refusal.NotWritten) = Refused O may_answer new
+ListsText O taken may_answer old new text (Err refusal.TooManyPostings) = HasTooMany text × (new ≡ old)
+ListsText O taken may_answer old new text (Err refusal.OutOfMemory) = new ≡ old
+ListsText O taken may_answer old new text (Err refusal) = ⊥
+
+-- What `list` does with a store and an output.
+pub record Ends (S O : Type 0) : Type 1 where
+  pub failures : S → ℕ
+  pub told : S → Option (List Reading)
+  pub taken : O → Option (List ℕ)
+  pub may_answer : O → List ℕ → Result ℕ NotTaken → O → Type 0
+  pub store_before : S
+  pub store_after : S
+  pub out_before : O
+  pub out_after : O
+
+-- the bytes that the store gave, of which this holds, and nothing was written
+abbrev pub RefusesBytes : {S O : Type 0} → Ends S O → List ℕ → (List ℕ → Type 0) → Type 0
+RefusesBytes ends name Cause = (bytes : List ℕ) × Gave (ends.told ends.store_before) (ends.told ends.store_after) name bytes × Cause bytes × (ends.out_after ≡ ends.out_before)
+
+abbrev pub ListsNamed : {S O : Type 0} → Ends S O → List ℕ → Result Unit Refusal → Type 0
+ListsNamed ends name (Ok x) =
+    (bytes : List ℕ) × Gave (ends.told ends.store_before) (ends.told ends.store_after) name bytes
+    × ((table : List ℕ) × Lists bytes table × Appends (ends.taken ends.out_before) (ends.taken ends.out_after) table)
+ListsNamed ends name (Err refusal.Unreadable) = (ends.failures ends.store_after ≡ ends.failures ends.store_before + 1) × (ends.out_after ≡ ends.out_before)
+ListsNamed ends name (Err refusal.TooLarge) = RefusesBytes ends name (λ bytes. largest_text < length bytes)
+ListsNamed ends name (Err refusal.NotUtf8) = RefusesBytes ends name (λ bytes. ¬ IsUtf8 bytes)
+ListsNamed ends name (Err refusal.TooManyPostings) = RefusesBytes ends name HasTooMany
+ListsNamed {S} {O} ends name (Err refusal.NotWritten) = Refused O ends.may_answer ends.out_after
+ListsNamed ends name (Err refusal.OutOfMemory) = ends.out_after ≡ ends.out_before
+ListsNamed ends name (Err refusal.Words) = ⊥
+
+-- the words are refused before anything is asked of the store
+abbrev pub RefusesAtWords : {S O : Type 0} → Ends S O → List Text → Result Unit Refusal → Type 0
+RefusesAtWords ends words result =
+    (r : Refusal) × (result ≡ Err r) × RefusesWords words r × (ends.store_after ≡ ends.store_before) × (ends.out_after ≡ ends.out_before)
+
+-- the words name a ledger, and `list` does its work on that
+abbrev pub RunsList : {S O : Type 0} → Ends S O → List Text → Result Unit Refusal → Type 0
+RunsList ends words result = ((name : List ℕ) × (ledger_named words ≡ Some name) × ListsNamed ends name result) ⊎ RefusesAtWords ends words result
+
+abbrev pub status_of_run : Result Unit Refusal → ℕ
+status_of_run (Ok x) = 0
+status_of_run (Err r) = status_of r
+
+-- a run with this status
+abbrev pub EndsRun : {S O : Type 0} → Ends S O → List Text → ℕ → Type 0
+EndsRun ends words status = (result : Result Unit Refusal) × RunsList ends words result × (status ≡ status_of_run result)
+
+-- What was written is the table of the text that the words name, as the store gave it.
+abbrev pub Answers : {S O : Type 0} → Ends S O → List Text → Type 0
+Answers ends words = (name : List ℕ) × (ledger_named words ≡ Some name) × ListsNamed ends name (Ok tt)

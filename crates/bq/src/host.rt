@@ -1,0 +1,123 @@
+//! The program's own store and outputs: files, standard input and the standard streams.
+ghost use Rattle.std.specs.Prelude.{⊤};
+
+use crate::store::{Source, SourceFault, Store};
+use std::alloc::{AllocError, Global};
+use std::fs::File;
+use std::io::{self, Read};
+use std::rt::Files;
+use table_printer::output::{NotTaken, Output};
+
+/// One byte more than the largest text, so that a larger one shows.
+const MOST_BYTES: usize = crate::run::LARGEST_TEXT + 1;
+
+/// After so many reads of a file the store has failed.
+const MOST_READS: u32 = 33_554_432;
+
+const BUFFER: usize = 65_536;
+
+/// Files by their names, and standard input by the name `-`.
+#[derive(Drop)]
+pub struct HostStore<R> {
+    rt: R,
+    failures: u64,
+}
+
+impl<R> HostStore<R> {
+    pub fn new(rt: R) -> HostStore<R> {
+        HostStore { rt, failures: 0 }
+    }
+}
+
+fn fault_of(error: &io::Error) -> SourceFault {
+    match error.kind() {
+        io::ErrorKind::OutOfMemory => SourceFault::OutOfMemory,
+        _ => SourceFault::Failed,
+    }
+}
+
+/// The bytes up to the end, or the first that are too many for a text.
+fn read_bytes<T: Read>(alloc: Global, from: &mut T) -> Result<Vec<u8>, SourceFault> {
+    let mut buffer = vec![in alloc; 0u8; BUFFER]?;
+    let mut bytes = Vec::new(alloc);
+    for _ in 0..MOST_READS {
+        let count = match from.read(&mut buffer) {
+            Ok(count) => count,
+            Err(error) if error.kind() == io::ErrorKind::Interrupted => continue,
+            Err(error) => return Err(fault_of(&error)),
+        };
+        let room = MOST_BYTES.saturating_sub(bytes.len());
+        bytes.extend_from_slice(&buffer[..count.min(room)])?;
+        if count == 0 || room <= count {
+            return Ok(bytes);
+        }
+    }
+    Err(SourceFault::Failed)
+}
+
+/// The bytes of a file, or of standard input.
+fn bytes_of<R: Files + Input + AllocGlobal>(rt: &R, name: &str) -> Result<Vec<u8>, SourceFault> {
+    if name == "-" {
+        return read_bytes(rt.alloc(), &mut rt.reader());
+    }
+    match File::open(rt, name) {
+        Ok(mut file) => read_bytes(rt.alloc(), &mut file),
+        Err(error) => Err(fault_of(&error)),
+    }
+}
+
+impl<R: Files + Input + AllocGlobal + Drop> Source for HostStore<R> {
+    ghost failures = { λ s. s.failures };
+
+    fn text(&mut self, name: &str) -> Result<Vec<u8>, SourceFault> {
+        if self.failures == u64::MAX {
+            return Err(SourceFault::OutOfMemory);
+        }
+        let found = bytes_of(&self.rt, name);
+        if matches!(found, Err(SourceFault::Failed)) {
+            self.failures += 1;
+        }
+        found
+    }
+}
+
+impl<R: Files + Input + AllocGlobal + Drop> Store for HostStore<R> {
+    fn put(&mut self, name: &str, bytes: &[u8]) -> Result<(), SourceFault> {
+        if self.failures == u64::MAX {
+            return Err(SourceFault::OutOfMemory);
+        }
+        match std::fs::write(&self.rt, name, bytes) {
+            Ok(()) => Ok(()),
+            Err(error) => {
+                let fault = fault_of(&error);
+                if fault == SourceFault::Failed {
+                    self.failures += 1;
+                }
+                Err(fault)
+            }
+        }
+    }
+}
+
+/// A standard stream.
+#[derive(Drop)]
+pub struct Stream<P> {
+    to: P,
+}
+
+impl<P> Stream<P> {
+    pub fn new(to: P) -> Stream<P> {
+        Stream { to }
+    }
+}
+
+impl<P: Print> Output for Stream<P> {
+    ghost may_answer = { λ _ _ _ _. ⊤ };
+
+    fn write(&mut self, bytes: &[u8]) -> Result<usize, NotTaken> {
+        match self.to.write_all(bytes) {
+            Ok(()) => Ok(bytes.len()),
+            Err(_) => Err(NotTaken),
+        }
+    }
+}

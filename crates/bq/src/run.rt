@@ -1,0 +1,151 @@
+//! What the program does with its words.
+ghost use Rattle.std.specs.Prelude.{◌≡◌, ◌<◌, length, ℕ, IfOk, All, map, vec_len, slice_index_or};
+ghost use Rattle.table_printer.specs.Values.{names_of, rows_of as values_of, value_of};
+ghost use Rattle.posting_table.specs.Rows.{RowValue};
+ghost use Rattle.posting_table.specs.Ledgers.{rows_of};
+ghost use Rattle.bq.specs.Listing.{headers, shown_row};
+ghost use Rattle.bq.specs.Runs.{ListsText, ListsNamed, RunsList, EndsRun, Answers};
+
+use crate::listing::{LedgerFault, ledger_of};
+use crate::refusal::Refusal;
+use crate::store::{Source, SourceFault, Store};
+use crate::words::ledger_named;
+use posting_table::ledger::Ledger;
+use posting_table::row::Column;
+use std::alloc::{AllocError, Global};
+use table_printer::answer::{Answer, Value};
+use table_printer::output::Output;
+use table_printer::writing::{PrintFault, write_bytes, write_table};
+
+/// The most bytes of a text: 16 MiB.
+pub const LARGEST_TEXT: usize = 16_777_216;
+
+fn headers(alloc: Global) -> Result<Vec<&'static str>, AllocError>
+    ensures names { IfOk result (λ v. map (λ name. name.now) v.items ≡ headers) }
+    ensures len { IfOk result (λ v. vec_len v ≡ 4) }
+{
+    let mut headers = Vec::with_capacity(alloc, 4)?;
+    headers.push("date")?;
+    headers.push("flag")?;
+    headers.push("account")?;
+    headers.push("position")?;
+    Ok(headers)
+}
+
+/// What `list` shows of a posting.
+fn shown_row<'a>(alloc: Global, ledger: &Ledger<'a>, row: usize) -> Result<Vec<Value<'a>>, AllocError>
+    requires { row < length (rows_of ledger.now) }
+    ensures values { IfOk result (λ v. (d : RowValue) → map value_of v.items ≡ shown_row (slice_index_or (rows_of ledger.now) row d)) }
+    ensures len { IfOk result (λ v. vec_len v ≡ 4) }
+{
+    let mut values = Vec::with_capacity(alloc, 4)?;
+    values.push(Value::of_cell(ledger.cell(row, Column::Date)))?;
+    values.push(Value::of_cell(ledger.cell(row, Column::Flag)))?;
+    values.push(Value::of_cell(ledger.cell(row, Column::Account)))?;
+    values.push(Value::of_cell(ledger.cell(row, Column::Position)))?;
+    Ok(values)
+}
+
+/// Date, flag, account and position of each posting.
+fn answer_of<'a>(alloc: Global, ledger: &Ledger<'a>) -> Result<Answer<'a>, AllocError>
+    ensures names { IfOk result (λ a. names_of a ≡ headers) }
+    ensures rows { IfOk result (λ a. values_of a ≡ map shown_row (rows_of ledger.now)) }
+    ensures widths { IfOk result (λ a. All (λ row. vec_len row ≡ vec_len a.headers) a.rows.items) }
+{
+    let headers = headers(alloc)?;
+    let mut rows = Vec::with_capacity(alloc, ledger.len())?;
+    for row in 0..ledger.len() {
+        rows.push(shown_row(alloc, ledger, row)?)?;
+    }
+    Ok(Answer {
+        headers,
+        rows,
+        steps: 0,
+        groups: ledger.len() as u64,
+    })
+}
+
+/// Writes the table of a text's postings.
+fn list_text<O: Output>(alloc: Global, text: &str, out: &mut O) -> Result<(), Refusal>
+    ensures { ListsText O O.taken O.may_answer out.old out.new text.now result }
+{
+    let ledger = match ledger_of(alloc, text) {
+        Ok(ledger) => ledger,
+        Err(LedgerFault::TooManyPostings) => return Err(Refusal::TooManyPostings),
+        Err(LedgerFault::OutOfMemory) => return Err(Refusal::OutOfMemory),
+    };
+    let Ok(answer) = answer_of(alloc, &ledger) else {
+        return Err(Refusal::OutOfMemory);
+    };
+    match write_table(alloc, &answer, ledger.display(), out) {
+        Ok(_) => Ok(()),
+        Err(PrintFault::NotWritten { .. }) => Err(Refusal::NotWritten),
+        Err(PrintFault::OutOfMemory) => Err(Refusal::OutOfMemory),
+    }
+}
+
+/// Writes the table of the postings in the text of that name.
+fn list<S: Source, O: Output>(
+    alloc: Global,
+    name: &str,
+    store: &mut S,
+    out: &mut O,
+) -> Result<(), Refusal>
+    ensures { ListsNamed (record { failures = S.failures; told = S.told; taken = O.taken; may_answer = O.may_answer;
+        store_before = store.old; store_after = store.new; out_before = out.old; out_after = out.new }) name.now result }
+{
+    let bytes = match store.text(name) {
+        Ok(bytes) => bytes,
+        Err(SourceFault::Failed) => return Err(Refusal::Unreadable),
+        Err(SourceFault::OutOfMemory) => return Err(Refusal::OutOfMemory),
+    };
+    if bytes.len() > LARGEST_TEXT {
+        return Err(Refusal::TooLarge);
+    }
+    let Ok(text) = str::from_utf8(&bytes) else {
+        return Err(Refusal::NotUtf8);
+    };
+    list_text(alloc, text, out)
+}
+
+/// Does what the words say.
+fn run<S: Store, O: Output>(
+    alloc: Global,
+    words: &[&str],
+    store: &mut S,
+    out: &mut O,
+) -> Result<(), Refusal>
+    ensures { RunsList (record { failures = S.failures; told = S.told; taken = O.taken; may_answer = O.may_answer;
+        store_before = store.old; store_after = store.new; out_before = out.old; out_after = out.new })
+        (map (λ w. w.now) words.now) result }
+{
+    let name = ledger_named(alloc, words)?;
+    list(alloc, name, store, out)
+}
+
+/// Runs the program on its words, without its own name: the answer goes to `out`, and where there
+/// is none one line that says why to `err`. The status is 0 where it answered, 2 where the words or
+/// the input are refused, 3 where reading or writing failed and 4 where memory lacked.
+pub fn run_words<S: Store, O: Output, E: Output>(
+    alloc: Global,
+    words: &[&str],
+    store: &mut S,
+    out: &mut O,
+    err: &mut E,
+) -> u8
+    ensures ends { EndsRun (record { failures = S.failures; told = S.told; taken = O.taken; may_answer = O.may_answer;
+        store_before = store.old; store_after = store.new; out_before = out.old; out_after = out.new })
+        (map (λ w. w.now) words.now) result }
+    ensures answered { result ≡ 0 → Answers (record { failures = S.failures; told = S.told; taken = O.taken; may_answer = O.may_answer;
+        store_before = store.old; store_after = store.new; out_before = out.old; out_after = out.new })
+        (map (λ w. w.now) words.now) }
+{
+    match run(alloc, words, store, out) {
+        Ok(()) => 0,
+        Err(refusal) => {
+            // The status stands even where the line can't be written.
+            let _ = write_bytes(err, refusal.line().as_bytes());
+            refusal.status()
+        }
+    }
+}
