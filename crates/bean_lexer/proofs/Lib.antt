@@ -12,3 +12,4 @@ pub mod WordSteps
 pub mod CapitalSteps
 pub mod TokenSteps
 pub mod OneList
+mod Examples
