@@ -69,10 +69,10 @@ first_is : (kind : Kind) (xs : List ℕ) → is_of kind xs ≡ true → may_begi
 first_is kind [] h = let none = no_empty kind in absurd (cc)
 first_is kind (b ∷ bs) h = first_is_cons kind b bs h
 
-abbrev in_number : ℕ → Bool
+abbrev pub in_number : ℕ → Bool
 in_number b = is_ascii_digit b || nat_eq b 44 || nat_eq b 46
 
-two_true : (a b : Bool) → (a && b) ≡ true → (a ≡ true) × (b ≡ true)
+pub two_true : (a b : Bool) → (a && b) ≡ true → (a ≡ true) × (b ≡ true)
 two_true true b h = (refl, h)
 two_true false b h = absurd (cc)
 
@@ -106,7 +106,7 @@ number_by after b bs false e rest h =
     (λ i. q i && rest (is_ascii_digit b) p.1 i)
 
 -- a number has digits, commas and points alone
-number_bytes : (after : Bool) (xs : List ℕ) → rest_of_number after xs ≡ true → list_all in_number xs ≡ true
+pub number_bytes : (after : Bool) (xs : List ℕ) → rest_of_number after xs ≡ true → list_all in_number xs ≡ true
 number_bytes after [] h = refl
 number_bytes after (b ∷ bs) h = number_by after b bs (is_point b) refl (λ next. number_bytes next bs) h
 
@@ -147,7 +147,7 @@ capital_of xs a capital h =
     let q : nat_eq (get_or xs 0 0) 34 ≡ false = grind (arith, nat_tests) in
     no _ _ _ d ∙ no _ _ _ q ∙ yes _ _ _ capital ∙ h
 
-middle : (a b c : Bool) → (a && b && c) ≡ true → b ≡ true
+pub middle : (a b c : Bool) → (a && b && c) ≡ true → b ≡ true
 middle true true c h = refl
 middle true false c h = absurd (cc)
 middle false b c h = absurd (cc)
@@ -169,7 +169,7 @@ no_colon_by xs true e h =
     let none = list_all_at is_in_currency xs (position_or_len is_colon xs) 0 low bad in
     absurd (cc)
 
-currency_parts : (xs : List ℕ) → is_currency xs ≡ true → (list_all is_in_currency xs ≡ true) × (bytes_eq xs (codes "TRUE") ≡ false) × (bytes_eq xs (codes "FALSE") ≡ false)
+pub currency_parts : (xs : List ℕ) → is_currency xs ≡ true → (list_all is_in_currency xs ≡ true) × (bytes_eq xs (codes "TRUE") ≡ false) × (bytes_eq xs (codes "FALSE") ≡ false)
 currency_parts xs h = (grind (arith, nat_tests), not_both _ (λ t. absurd (grind (arith, nat_tests))), not_both _ (λ t. absurd (grind (arith, nat_tests))))
 
 of_currency : (xs : List ℕ) → is_currency xs ≡ true → kind_of xs ≡ Some kinds.Currency

@@ -1,12 +1,14 @@
 //! The tokens of a text, in order.
-ghost use Rattle.std.specs.Prelude.{◌≡◌, ◌+◌, ◌<◌, ◌≤◌, length, IfOk, ℕ, count_by, ◌==◌};
+ghost use Rattle.std.specs.Prelude.{◌≡◌, ◌<◌, length, IfOk, IsTrue, count_by, ◌==◌};
 ghost use Rattle.std.specs.Str.{IsUtf8, IsCharBoundary};
+ghost use Rattle.bean_lexer.specs.Kinds.{may_be};
 ghost use Rattle.bean_lexer.specs.Tokens.{AreTokens, IsToken};
 ghost use Rattle.bean_lexer.specs.Laws.{HasOneListOfTokens};
 
 use crate::digits::day_or_number;
 use crate::found::Found;
 use crate::gaps::{Spot, gap_at};
+use crate::kind::Kind;
 use crate::names::{account_or_currency, link_or_fault, tag_or_hash};
 use crate::texts::text_or_fault;
 use crate::token::Token;
@@ -27,6 +29,17 @@ fn token_at(bytes: &[u8]) -> Found
         b'#' => tag_or_hash(bytes),
         b'^' => link_or_fault(bytes),
         _ => sign_or_fault(bytes),
+    }
+}
+
+/// The line feeds in a token, which has none unless it is a text or a fault.
+fn line_feeds_of(kind: Kind, bytes: &[u8]) -> usize
+    requires { IsTrue (may_be kind bytes.now) }
+    ensures { result ≡ count_by (λ b. b == 10) bytes.now }
+{
+    match kind {
+        Kind::Text | Kind::Fault => line_feeds(bytes),
+        _ => 0,
     }
 }
 
@@ -58,7 +71,7 @@ pub fn tokens<'a, A: Allocator>(alloc: A, text: &'a str) -> Result<Vec<Token<'a>
             start: text.len() - behind.len(),
             line,
         })?;
-        line += line_feeds(token.as_bytes());
+        line += line_feeds_of(found.kind, token.as_bytes());
         rest = after;
         spot = Spot::Behind;
     }

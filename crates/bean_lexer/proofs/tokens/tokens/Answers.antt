@@ -37,8 +37,8 @@ tokens-preserved g c =
     let at_end : IsCharBoundary behind n = subst (λ l. IsCharBoundary l n) same (found.boundary c.as_bytes-in-tokens.ensures.utf8) in
     let utf8_after : IsUtf8 after = subst IsUtf8 (sym parts.back) (IsUtf8-drop behind n utf8_behind at_end) in
     let fits : n ≤ length behind = omega arith in
-    subst (λ items. ReadsTokens text items after Behind (c.tokens.line + c.gap_at-gap.result.line_feeds + c.line_feeds-line.result)) (sym c.in_ok-push.ensures.items)
+    subst (λ items. ReadsTokens text items after Behind (c.tokens.line + c.gap_at-gap.result.line_feeds + c.line_feeds_of-line.result)) (sym c.in_ok-push.ensures.items)
     (reads_on text c.tokens.out.items rest c.tokens.spot c.tokens.line c.gap_at-gap.result.len c.gap_at-gap.result.line_feeds c.gap_at-gap.result.end behind _ n after _
     c.tokens.invariant (gap.len ∙ ap (gap_len c.tokens.spot) seen) (gap.end ∙ ap (behind_gap c.tokens.spot) seen) (let i = gap.inside in let s = ap length seen in omega arith)
     (gap.line_feeds ∙ ap (λ l. count_by is_feed (take c.gap_at-gap.result.len l)) seen) split.back some (subst (λ l. IsToken l c.token_at-found.result.kind n) same found.token) fits parts.front parts.back
-    refl c.place.ensures refl utf8_after (ap (λ k. c.tokens.line + c.gap_at-gap.result.line_feeds + k) (c.line_feeds-line.ensures ∙ ap (count_by is_feed) c.as_bytes-in-tokens-2.ensures.value)))
+    refl c.place.ensures refl utf8_after (ap (λ k. c.tokens.line + c.gap_at-gap.result.line_feeds + k) (c.line_feeds_of-line.ensures ∙ ap (count_by is_feed) c.as_bytes-in-tokens-2.ensures.value)))
