@@ -50,7 +50,9 @@ fn line_feeds(bytes: &[u8]) -> usize
 }
 
 /// The tokens of a text, in order.
-pub fn tokens<'a, A: Allocator>(alloc: A, text: &'a str) -> Result<Vec<Token<'a>, A>, AllocError> {
+pub fn tokens<'a, A: Allocator>(alloc: A, text: &'a str) -> Result<Vec<Token<'a>, A>, AllocError>
+    ensures { IfOk result (λ tokens. AreTokens text.now tokens.items) }
+{
     let mut out = Vec::with_capacity(alloc, text.len() / 6)?;
     let mut rest = text;
     let mut spot = Spot::LineStart;
