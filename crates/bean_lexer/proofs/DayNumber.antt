@@ -1,5 +1,5 @@
 -- A day or a number at the front.
-use Rattle.std.proofs.Common.{◌≡◌, ◌≢◌, ℕ, zero, suc, ◌+◌, ◌-◌, ◌<◌, ◌≤◌, ◌||◌, ◌&&◌, not, cond, Bool, true, false, nat_eq, nat_lt, nat_le, List, [], ◌∷◌, length, get_or, take, drop, arith, sym, ap, subst, ◌∙◌, refl, length-take-le, length-drop, IsUtf8, lit<}
+use Rattle.std.proofs.Common.{◌≡◌, ◌≢◌, ℕ, ◌+◌, ◌<◌, ◌≤◌, ◌||◌, ◌&&◌, Bool, true, false, nat_eq, nat_le, List, length, get_or, take, drop, arith, sym, ap, ◌∙◌, refl, length-take-le, length-drop, IsUtf8, lit<}
 use Rattle.std.proofs.lemmas.Bool.Decides.{nat_tests}
 use Rattle.std.proofs.lemmas.List.{get_or-take, get_or-drop}
 use Rattle.std.proofs.lemmas.List.Sums.{prefix_len_is}
@@ -15,7 +15,7 @@ use Rattle.bean_lexer.specs.Steps.{has_more_digits}
 use Rattle.bean_lexer.specs.Tokens.{NoneOf, IsLongestToken}
 use Rattle.bean_lexer.specs.declared.kind.Kind.TheVariants as kinds
 use Rattle.bean_lexer.proofs.Leads.{at_digit, second_true}
-use Rattle.bean_lexer.proofs.NumberSteps.{rest_of_number, digits_front, no_more}
+use Rattle.bean_lexer.proofs.NumberSteps.{digits_front, no_more}
 
 day_is_ten : (xs : List ℕ) → nat_eq (length xs) 10 ≡ false → is_day_form xs ≡ false
 day_is_ten xs h = grind (arith, nat_tests)

@@ -1,8 +1,5 @@
 -- The definitions on worked values.
-use Rattle.std.proofs.Common.{◌≡◌, ℕ, List, [], ◌∷◌, ◌++◌, true, false, codes, refl, drop}
-use Rattle.bean_base.specs.Numeral.{is_number}
-use Rattle.bean_base.specs.Names.{is_account, is_currency}
-use Rattle.bean_base.specs.Days.{is_day_form}
+use Rattle.std.proofs.Common.{◌≡◌, [], ◌∷◌, ◌++◌, true, false, codes, refl}
 use Rattle.bean_lexer.specs.Forms.{is_text, is_tag, is_link, is_key}
 use Rattle.bean_lexer.specs.Kinds.{is_of}
 use Rattle.bean_lexer.specs.Gaps.{gap_len, behind_gap, place_of}

@@ -1,12 +1,12 @@
 -- No token but a text or a fault has a line feed.
-use Rattle.std.proofs.Common.{◌≡◌, ℕ, zero, suc, ◌+◌, ◌-◌, ◌<◌, ◌≤◌, ◌||◌, ◌&&◌, cond, Bool, true, false, nat_eq, nat_lt, List, [], ◌∷◌, ◌++◌, length, get_or, take, drop, arith, sym, ap, ◌∙◌, refl, codes, ◌≢◌, eq-eqb}
+use Rattle.std.proofs.Common.{◌≡◌, ℕ, ◌+◌, ◌-◌, ◌<◌, ◌||◌, ◌&&◌, cond, Bool, true, false, nat_eq, nat_lt, List, [], ◌∷◌, ◌++◌, length, get_or, take, drop, arith, sym, ap, ◌∙◌, refl, codes, ◌≢◌, eq-eqb}
 use Rattle.std.proofs.lemmas.Bool.Decides.{nat_tests}
 use Rattle.std.proofs.lemmas.List.{take-append-drop, drop_all}
 use Rattle.std.proofs.lemmas.List.Sums.{sum_by-append, split_at_first, passes_at_first}
-use Rattle.std.specs.List.{count_by, list_all, before_first, after_first, position_or_len, slice_split}
+use Rattle.std.specs.List.{count_by, list_all, before_first, after_first, position_or_len}
 use Rattle.std.specs.Str.{bytes_eq}
-use Rattle.std.specs.Char.{is_ascii_digit, is_ascii_lowercase}
-use Rattle.bean_base.specs.Names.{is_root, is_account, is_colon, is_component, is_in_component, is_in_currency, begins_component}
+use Rattle.std.specs.Char.{is_ascii_digit}
+use Rattle.bean_base.specs.Names.{is_root, is_account, is_colon, is_in_component, is_in_currency, begins_component}
 use Rattle.bean_base.specs.Days.{is_day_form}
 use Rattle.bean_base.proofs.Numerals.{drop_more}
 use Rattle.bean_lexer.specs.Forms.{is_in_name, is_name_behind, is_in_key, is_key, keyword_spelling, sign_spelling}

@@ -13,7 +13,7 @@ use Rattle.bean_lexer.specs.Steps.{has_more_digits}
 use Rattle.bean_lexer.specs.Longest.{IsLongestFront}
 use Rattle.std.proofs.lemmas.Str.{IsCharBoundary-start, IsCharBoundary-after_ascii}
 use Rattle.bean_lexer.proofs.Boundaries.{run_boundary}
-use Rattle.bean_lexer.proofs.Fronts.{front_at, front_run, front_end, front_end_nil, front_end_at, all_front}
+use Rattle.bean_lexer.proofs.Fronts.{front_at, front_run, front_end, front_end_nil, all_front}
 
 one_more : (n : ℕ) → 1 + n ≡ suc n
 one_more n = omega arith

@@ -1,5 +1,5 @@
 -- A text has one list of tokens.
-use Rattle.std.proofs.Common.{◌≡◌, ◌≢◌, ℕ, zero, suc, ◌+◌, ◌-◌, ◌<◌, ◌≤◌, ◌||◌, ◌&&◌, not, cond, if◌then◌else◌, Bool, true, false, nat_eq, nat_lt, nat_le, List, [], ◌∷◌, ◌++◌, Option, Some, None, option_map, length, get_or, take, drop, arith, sym, ap, subst, ◌∙◌, refl, ⊎_elim, inl, codes, length-take-le, length-drop}
+use Rattle.std.proofs.Common.{◌≡◌, ℕ, ◌+◌, ◌-◌, ◌<◌, ◌||◌, ◌&&◌, if◌then◌else◌, Bool, true, false, nat_eq, nat_lt, List, [], ◌∷◌, Option, Some, option_map, length, get_or, take, drop, arith, sym, ap, subst, ◌∙◌, refl, ⊎_elim, inl, codes, length-drop}
 use Rattle.std.proofs.str.Laws.{order}
 use Rattle.std.proofs.lemmas.Bool.Decides.{nat_tests}
 use Rattle.std.proofs.lemmas.List.{get_or_past}
@@ -14,8 +14,7 @@ use Rattle.bean_base.specs.Days.{is_day_form}
 use Rattle.bean_lexer.specs.Forms.{is_text, is_tag, is_link, is_key, is_name_behind, is_in_name, keyword_spelling, sign_spelling}
 use Rattle.bean_lexer.specs.Kinds.{is_of}
 use Rattle.bean_lexer.specs.Steps.{sign_of, doubled_sign_of}
-use Rattle.bean_lexer.specs.Gaps.{gap_len, behind_gap, place_of}
-use Rattle.bean_lexer.specs.Tokens.{IsToken, IsLongestToken, IsFaultToken, TokensFrom, AreTokens, line_at}
+use Rattle.bean_lexer.specs.Tokens.{IsToken, IsLongestToken, IsFaultToken, TokensFrom, line_at}
 use Rattle.bean_lexer.specs.Laws.{AreSame, HasOneListOfTokens}
 use Rattle.bean_lexer.specs.declared.kind.TheConstants.{WORDS}
 use Rattle.bean_lexer.specs.declared.kind.Kind.{Kind}

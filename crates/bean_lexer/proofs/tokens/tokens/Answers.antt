@@ -1,4 +1,4 @@
-use Rattle.std.proofs.Common.{◌≡◌, nat_eq, true, false, ◌+◌, ◌<◌, ◌≤◌, length, take, drop, arith, sym, ap, subst, ◌∙◌, refl, IsUtf8, length-drop}
+use Rattle.std.proofs.Common.{◌≡◌, nat_eq, true, false, ◌+◌, ◌<◌, ◌≤◌, length, take, arith, sym, ap, subst, ◌∙◌, refl, IsUtf8}
 use Rattle.std.proofs.lemmas.Bool.Decides.{nat_tests}
 use Rattle.std.specs.List.{count_by}
 use Rattle.std.specs.Str.{IsCharBoundary}
