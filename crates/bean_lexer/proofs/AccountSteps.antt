@@ -1,13 +1,13 @@
 -- The longest account at the front of a text.
-use Rattle.std.proofs.Common.{◌≡◌, ◌≢◌, ℕ, zero, suc, ◌+◌, ◌-◌, ◌<◌, ◌≤◌, ◌&&◌, ◌||◌, not, cond, Bool, true, false, nat_lt, nat_le, nat_eq, List, [], ◌∷◌, ◌++◌, length, get_or, take, drop, arith, sym, ap, subst, ◌∙◌, refl, ⊎_elim, length-append, length-take-le, length-drop}
+use Rattle.std.proofs.Common.{◌≡◌, ◌≢◌, ℕ, zero, suc, ◌+◌, ◌-◌, ◌<◌, ◌≤◌, ◌&&◌, not, cond, Bool, true, false, nat_lt, nat_eq, List, [], ◌∷◌, ◌++◌, length, get_or, take, drop, arith, sym, ap, subst, ◌∙◌, refl, ⊎_elim, length-append, length-take-le, length-drop}
 use Rattle.std.proofs.str.Laws.{order}
 use Rattle.std.proofs.lemmas.Bool.Decides.{nat_tests}
-use Rattle.std.proofs.lemmas.List.{take-append-le, get_or-take, get_or-append-add, drop-drop, get_or-drop}
-use Rattle.std.proofs.lemmas.List.Sums.{position_or_len_is, split_at_first, fails_before_first, prefix_len-drop_yes, prefix_len_stops, prefix_len-le-length}
+use Rattle.std.proofs.lemmas.List.{take-append-le, get_or-take, drop-drop, get_or-drop}
+use Rattle.std.proofs.lemmas.List.Sums.{position_or_len_is, prefix_len-drop_yes, prefix_len_stops, prefix_len-le-length}
 use Rattle.std.proofs.lemmas.Str.{IsCharBoundary-end, IsCharBoundary-before_ascii}
 use Rattle.std.proofs.Math.Seq.{take-append-add, take-append_seam, drop-append-add, get_or-append_seam}
 use Rattle.std.proofs.Math.ListN.{get_or-append}
-use Rattle.std.specs.List.{list_all, before_first, after_first, position_or_len, slice_split, onto_first, prefix_len}
+use Rattle.std.specs.List.{list_all, before_first, position_or_len, slice_split, onto_first, prefix_len}
 use Rattle.std.specs.Str.{IsCharBoundary}
 use Rattle.bean_base.specs.Names.{is_account, is_root, is_colon, is_component, is_in_component, begins_component}
 use Rattle.bean_base.proofs.Numerals.{drop_more}

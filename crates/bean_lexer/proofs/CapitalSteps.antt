@@ -1,5 +1,5 @@
 -- An account, a currency or a truth value at the front.
-use Rattle.std.proofs.Common.{◌≡◌, ◌≢◌, ℕ, zero, suc, ◌+◌, ◌-◌, ◌<◌, ◌≤◌, ◌||◌, ◌&&◌, not, cond, Bool, true, false, nat_eq, nat_lt, nat_le, List, [], ◌∷◌, length, get_or, take, drop, arith, sym, ap, subst, ◌∙◌, refl, length-take-le, codes}
+use Rattle.std.proofs.Common.{◌≡◌, ℕ, ◌<◌, ◌≤◌, ◌&&◌, not, Bool, true, false, nat_eq, List, length, get_or, take, arith, ap, ◌∙◌, refl, length-take-le, codes}
 use Rattle.std.proofs.lemmas.Bool.Decides.{nat_tests}
 use Rattle.std.proofs.lemmas.List.{get_or-take}
 use Rattle.std.proofs.lemmas.List.Folds.{list_all_at}
@@ -9,7 +9,7 @@ use Rattle.std.specs.Str.{bytes_eq}
 use Rattle.bean_base.specs.Names.{is_account, is_currency, is_in_currency}
 use Rattle.bean_lexer.specs.Forms.{keyword_spelling}
 use Rattle.bean_lexer.specs.Longest.{IsLongestFront, HasNoFront}
-use Rattle.bean_lexer.specs.Steps.{is_currency_form, root_len}
+use Rattle.bean_lexer.specs.Steps.{is_currency_form}
 use Rattle.bean_lexer.specs.Tokens.{NoneOf, IsLongestToken}
 use Rattle.bean_lexer.specs.declared.kind.Kind.TheVariants as kinds
 use Rattle.bean_lexer.specs.declared.kind.Keyword.{Keyword}

@@ -1,5 +1,5 @@
 -- The longest front, behind a byte and behind a run of bytes.
-use Rattle.std.proofs.Common.{◌≡◌, ℕ, zero, suc, add-one, add-zero, ◌+◌, ◌-◌, ◌<◌, ◌≤◌, ◌&&◌, Bool, true, false, List, [], ◌∷◌, ◌++◌, length, get_or, take, drop, arith, ap, sym, ◌∙◌, subst, refl, cond, length-drop}
+use Rattle.std.proofs.Common.{◌≡◌, ℕ, suc, ◌+◌, ◌-◌, ◌<◌, ◌≤◌, ◌&&◌, Bool, true, false, List, [], ◌∷◌, length, get_or, take, drop, arith, ap, sym, ◌∙◌, subst, refl, cond, length-drop}
 use Rattle.std.specs.List.{prefix_len, list_all}
 use Rattle.bean_base.proofs.Numerals.{drop_more}
 use Rattle.bean_lexer.specs.Longest.{IsLongestFront}

@@ -11,3 +11,6 @@ pub mod NameSteps
 pub mod WordSteps
 pub mod CapitalSteps
 pub mod TokenSteps
+pub mod OneList
+mod Examples
+pub mod Feeds

@@ -1,5 +1,5 @@
 -- The steps of a text.
-use Rattle.std.proofs.Common.{◌≡◌, ◌≢◌, ℕ, zero, suc, ◌+◌, ◌-◌, ◌<◌, ◌≤◌, ◌||◌, ◌&&◌, ◌⊎◌, ⊎_elim, not, cond, Bool, true, false, nat_eq, nat_lt, List, [], ◌∷◌, ◌++◌, length, get_or, take, drop, arith, sym, ap, subst, ◌∙◌, refl, length-drop, append_assoc, IsUtf8}
+use Rattle.std.proofs.Common.{◌≡◌, ◌≢◌, ℕ, zero, suc, ◌+◌, ◌<◌, ◌≤◌, ◌&&◌, cond, Bool, true, false, nat_eq, nat_lt, List, [], ◌∷◌, ◌++◌, length, get_or, take, drop, arith, sym, ap, ◌∙◌, refl, length-drop, append_assoc, IsUtf8}
 use Rattle.std.proofs.lemmas.Bool.Decides.{nat_tests}
 use Rattle.std.proofs.lemmas.List.{append-nil, take_more, drop-drop, drop_all, get_or-drop}
 use Rattle.std.proofs.lemmas.List.Sums.{prefix_len-le-length, prefix_len_stops}
@@ -9,9 +9,7 @@ use Rattle.std.specs.Str.{IsCharBoundary}
 use Rattle.std.specs.List.{prefix_len}
 use Rattle.bean_base.proofs.Numerals.{drop_more}
 use Rattle.bean_lexer.specs.Forms.{is_text, is_escape, is_plain, is_empty, ends_text}
-use Rattle.bean_lexer.specs.Kinds.{is_of}
-use Rattle.bean_lexer.specs.Tokens.{text_reach, fault_len, goes_on_character, NoneOf, IsToken, IsLongestToken, IsFaultToken}
-use Rattle.bean_lexer.specs.declared.kind.Kind.{Kind}
+use Rattle.bean_lexer.specs.Tokens.{text_reach, fault_len, goes_on_character, IsLongestToken, IsFaultToken}
 use Rattle.bean_lexer.specs.declared.kind.Kind.TheVariants as kinds
 use Rattle.bean_lexer.proofs.Leads.{at_quote, second_true}
 

@@ -1,13 +1,12 @@
 -- The tokens of a text, one by one.
-use Rattle.std.proofs.Common.{◌≡◌, ℕ, zero, suc, ◌+◌, ◌-◌, ◌<◌, ◌≤◌, ◌||◌, ◌&&◌, ◌⊎◌, ⊎_elim, inl, inr, cond, Bool, true, false, nat_eq, nat_lt, List, [], ◌∷◌, ◌++◌, length, get_or, take, drop, arith, sym, ap, subst, ◌∙◌, refl, length-take, length-take-le, length-drop, append_assoc, IsUtf8}
-use Rattle.std.proofs.lemmas.Bool.Decides.{nat_tests}
+use Rattle.std.proofs.Common.{◌≡◌, ℕ, zero, suc, ◌+◌, ◌-◌, ◌<◌, ◌≤◌, ⊎_elim, cond, Bool, true, false, nat_eq, nat_lt, List, [], ◌∷◌, ◌++◌, length, take, drop, arith, sym, ap, subst, ◌∙◌, refl, length-take, length-take-le, length-drop, append_assoc, IsUtf8}
 use Rattle.std.proofs.lemmas.List.{append-nil, drop-drop}
 use Rattle.std.proofs.lemmas.List.Sums.{count_by-le-length, sum_by-append}
 use Rattle.std.proofs.Math.Seq.{take-add}
 use Rattle.std.specs.List.{count_by, prefix_len}
 use Rattle.bean_lexer.specs.Kinds.{is_of, may_be}
 use Rattle.bean_lexer.specs.Gaps.{gap_len, behind_gap, place_of}
-use Rattle.bean_lexer.specs.Tokens.{IsToken, IsLongestToken, IsFaultToken, TokensFrom, line_at, fault_len, text_reach, goes_on_character}
+use Rattle.bean_lexer.specs.Tokens.{IsToken, TokensFrom, line_at, fault_len, text_reach, goes_on_character}
 use Rattle.bean_lexer.specs.declared.kind.Kind.{Kind}
 use Rattle.bean_lexer.specs.declared.kind.Kind.TheVariants as kinds
 use Rattle.bean_lexer.specs.declared.kind.Keyword.{Keyword}
@@ -41,7 +40,7 @@ no_empty_sign : (sign : Sign) → is_of (kinds.Sign sign) [] ≡ false
 no_empty_sign signs.Star = refl
 no_empty_sign _ = refl
 
-no_empty : (kind : Kind) → is_of kind [] ≡ false
+pub no_empty : (kind : Kind) → is_of kind [] ≡ false
 no_empty (kinds.Keyword word) = no_empty_word word
 no_empty (kinds.Sign sign) = no_empty_sign sign
 no_empty kinds.Day = refl

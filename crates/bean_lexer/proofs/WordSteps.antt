@@ -1,5 +1,5 @@
 -- Words and signs at the front.
-use Rattle.std.proofs.Common.{◌≡◌, ◌≢◌, ℕ, zero, suc, ◌+◌, ◌-◌, ◌<◌, ◌≤◌, ◌||◌, ◌&&◌, not, cond, if◌then◌else◌, Bool, true, false, nat_eq, nat_lt, nat_le, List, [], ◌∷◌, ◌++◌, Option, Some, None, length, get_or, take, drop, arith, sym, ap, subst, ◌∙◌, refl, length-take, length-take-le, IsUtf8, ⊎_elim, lit<}
+use Rattle.std.proofs.Common.{◌≡◌, ◌≢◌, ℕ, ◌+◌, ◌-◌, ◌<◌, ◌≤◌, ◌&&◌, cond, if◌then◌else◌, Bool, true, false, nat_eq, nat_lt, List, [], ◌∷◌, ◌++◌, Some, None, length, get_or, take, drop, arith, sym, ap, subst, ◌∙◌, refl, length-take, length-take-le, IsUtf8, ⊎_elim, lit<}
 use Rattle.std.proofs.str.Laws.{order}
 use Rattle.std.proofs.lemmas.Bool.Decides.{nat_tests}
 use Rattle.std.proofs.lemmas.Slice.Eq.{bytes_eq-Decides}
@@ -7,9 +7,9 @@ use Rattle.std.proofs.lemmas.List.{take-append-drop, get_or-take}
 use Rattle.std.proofs.lemmas.List.Folds.{list_all_at}
 use Rattle.std.proofs.lemmas.Str.{IsCharBoundary-after_ascii}
 use Rattle.std.specs.List.{list_all, find, starts_with, prefix_len}
-use Rattle.std.specs.Char.{is_ascii_lowercase, is_ascii_uppercase, is_ascii_digit}
+use Rattle.std.specs.Char.{is_ascii_lowercase, is_ascii_uppercase}
 use Rattle.std.specs.Str.{bytes_eq, IsCharBoundary}
-use Rattle.bean_lexer.specs.Forms.{keyword_spelling, sign_spelling, is_in_key, is_key}
+use Rattle.bean_lexer.specs.Forms.{keyword_spelling, sign_spelling, is_in_key}
 use Rattle.bean_lexer.specs.Steps.{begins_other, sign_of, doubled_sign_of, doubled_sign_at, keyword_at, has_colon}
 use Rattle.bean_lexer.specs.Tokens.{NoneOf, NoneLonger, IsLongestToken, IsFaultToken, fault_len, goes_on_character, text_reach}
 use Rattle.bean_lexer.specs.declared.kind.TheConstants.{WORDS}

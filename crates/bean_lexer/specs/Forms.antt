@@ -1,7 +1,7 @@
 -- How texts, tags, links, keys, words and signs are written.
 use Rattle.std.specs.Prelude.{ℕ, ◌-◌, ◌==◌, ◌&&◌, ◌||◌, Bool, true, false, List, [], ◌∷◌, length, take, nat_lt, slice_index, if◌then◌else◌, codes, not}
 use Rattle.std.specs.List.{list_all}
-use Rattle.std.specs.Char.{is_ascii_digit, is_ascii_lowercase, is_ascii_alphanumeric}
+use Rattle.std.specs.Char.{is_ascii_lowercase, is_ascii_alphanumeric}
 use Rattle.bean_lexer.specs.declared.kind.Keyword.{Keyword}
 use Rattle.bean_lexer.specs.declared.kind.Keyword.TheVariants.{Open, Close, Commodity, Txn, Balance, Pad, Note, Document, Price, Event, Query, Custom, Option, Include, Plugin, PushTag, PopTag, PushMeta, PopMeta, True, False}
 use Rattle.bean_lexer.specs.declared.kind.Sign.{Sign}

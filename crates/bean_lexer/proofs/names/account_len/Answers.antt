@@ -1,4 +1,4 @@
-use Rattle.std.proofs.Common.{◌≡◌, ◌+◌, ◌-◌, ◌<◌, ◌≤◌, arith, sym, ◌∙◌, subst, ap, drop}
+use Rattle.std.proofs.Common.{◌≡◌, ◌+◌, ◌-◌, ◌<◌, arith, sym, ◌∙◌, subst, ap, drop}
 use Rattle.bean_lexer.specs.Steps.{root_len, begins_component_at}
 use Rattle.bean_lexer.specs.Longest.{IsLongestFront, HasNoFront}
 use Rattle.bean_base.specs.Names.{is_account}

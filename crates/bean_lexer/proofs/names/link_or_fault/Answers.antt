@@ -1,4 +1,4 @@
-use Rattle.std.proofs.Common.{◌≤◌, ◌<◌, get_or, arith, inl, inr, refl}
+use Rattle.std.proofs.Common.{◌<◌, get_or, arith, inl, inr, refl}
 use Rattle.std.proofs.lemmas.Bool.Decides.{nat_tests}
 use Rattle.bean_lexer.proofs.Leads.{at_caret}
 use Rattle.bean_lexer.proofs.NameSteps.{named, unnamed, named_boundary, first_boundary}

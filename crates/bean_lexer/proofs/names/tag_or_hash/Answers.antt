@@ -1,4 +1,4 @@
-use Rattle.std.proofs.Common.{◌≤◌, ◌<◌, get_or, arith, inl, inr, refl}
+use Rattle.std.proofs.Common.{◌<◌, get_or, arith, inl}
 use Rattle.bean_lexer.proofs.Leads.{at_hash}
 use Rattle.bean_lexer.proofs.NameSteps.{named, unnamed, named_boundary, first_boundary}
 use Rattle.bean_lexer.proofs.WordSteps.{hash_token, no_sign_past}
