@@ -11,3 +11,4 @@ pub mod NameSteps
 pub mod WordSteps
 pub mod CapitalSteps
 pub mod TokenSteps
+pub mod OneList

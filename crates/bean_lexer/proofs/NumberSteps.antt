@@ -33,7 +33,7 @@ abbrev pub rest_of_number : Bool → List ℕ → Bool
 rest_of_number after bs = completes after (before_first is_point bs) && list_all is_ascii_digit (after_first is_point bs)
 
 -- a byte that is no point stands in the whole part
-whole_step : (after : Bool) (b : ℕ) (bs : List ℕ) → is_point b ≡ false →
+pub whole_step : (after : Bool) (b : ℕ) (bs : List ℕ) → is_point b ≡ false →
     rest_of_number after (b ∷ bs) ≡ ((goes_on after b && completes (is_ascii_digit b) (before_first is_point bs)) && list_all is_ascii_digit (after_first is_point bs))
 whole_step after b bs h =
     (λ i. completes after (before_cons b bs h i) && list_all is_ascii_digit (after_cons b bs h i))

@@ -41,7 +41,7 @@ no_empty_sign : (sign : Sign) → is_of (kinds.Sign sign) [] ≡ false
 no_empty_sign signs.Star = refl
 no_empty_sign _ = refl
 
-no_empty : (kind : Kind) → is_of kind [] ≡ false
+pub no_empty : (kind : Kind) → is_of kind [] ≡ false
 no_empty (kinds.Keyword word) = no_empty_word word
 no_empty (kinds.Sign sign) = no_empty_sign sign
 no_empty kinds.Day = refl

@@ -4,3 +4,4 @@ pub mod Gaps
 pub mod Longest
 pub mod Steps
 pub mod Tokens
+pub mod Laws

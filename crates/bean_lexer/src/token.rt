@@ -1,6 +1,9 @@
 //! Tokens.
+ghost use Rattle.std.specs.Prelude.{◌≡◌, ◌+◌, ◌<◌, ◌^◌, IsTrue, length};
+ghost use Rattle.bean_lexer.specs.Kinds.{may_be};
 
 use crate::kind::{Kind, Place};
+use bean_base::span::Span;
 
 /// A token of a ledger's text, as a slice of it.
 #[derive(Clone, Copy, Debug)]
@@ -12,4 +15,21 @@ pub struct Token<'a> {
     pub start: usize,
     /// The line on which it begins, from 1.
     pub line: usize,
+    ghost of_kind: { IsTrue (may_be kind text.now) },
+    ghost ends: { start + length text.now < 2 ^ 64 },
+}
+
+impl Token<'_> {
+    /// Where the token stands in the text.
+    pub fn span(&self) -> Span
+        ensures start { result.start ≡ self.now.start }
+        ensures end { result.end ≡ self.now.start + length self.now.text.now }
+        ensures line { result.line ≡ self.now.line }
+    {
+        Span {
+            start: self.start,
+            end: self.start + self.text.len(),
+            line: self.line,
+        }
+    }
 }

@@ -2,6 +2,7 @@
 ghost use Rattle.std.specs.Prelude.{◌≡◌, ◌+◌, ◌<◌, ◌≤◌, length, IfOk, ℕ, count_by, ◌==◌};
 ghost use Rattle.std.specs.Str.{IsUtf8, IsCharBoundary};
 ghost use Rattle.bean_lexer.specs.Tokens.{AreTokens, IsToken};
+ghost use Rattle.bean_lexer.specs.Laws.{HasOneListOfTokens};
 
 use crate::digits::day_or_number;
 use crate::found::Found;
@@ -61,4 +62,11 @@ pub fn tokens<'a, A: Allocator>(alloc: A, text: &'a str) -> Result<Vec<Token<'a>
         rest = after;
         spot = Spot::Behind;
     }
+}
+
+/// A text has one list of tokens: two that are its tokens are the same.
+pub fn a_text_has_one_list_of_tokens(text: &str)
+    ensures { HasOneListOfTokens text.now }
+{
+    let _ = text;
 }
