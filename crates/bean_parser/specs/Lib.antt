@@ -6,3 +6,4 @@ pub mod Grammar
 pub mod Lines
 pub mod Directives
 pub mod Reading
+pub mod Parsed

@@ -9,6 +9,7 @@ use crate::block::{Part, Unread, first_part, read_block};
 use crate::directive::Directive;
 use bean_base::fault::Fault;
 use bean_lexer::token::Token;
+use bean_lexer::tokens::tokens;
 use std::alloc::{AllocError, Global};
 
 /// What a ledger's text says, in reading order. The faults have file 0.
@@ -34,3 +35,12 @@ fn parse_tokens<'a>(alloc: Global, tokens: &[Token<'a>]) -> Result<Parsed<'a>, A
     }
     Ok(Parsed { directives, faults })
 }
+
+/// The directives and the faults of a ledger's text.
+pub fn parse(alloc: Global, text: &str) -> Result<Parsed<'_>, AllocError> {
+    let all = tokens(alloc, text)?;
+    parse_tokens(alloc, &all)
+}
+
+#[cfg(test)]
+mod tests;
