@@ -64,7 +64,7 @@ block_read_if block line day found head under (Err e) at same b h = h
 find_seen : (ts : List Token) (b : Bool) (t : Token) → is_fault t.kind ≡ b
     → option_map (λ t. t.line) (find (λ t. is_fault t.kind) (seen ts)) ≡ option_map (λ t. t.line) (find (λ t. is_fault t.kind) ts)
     → option_map (λ t. t.line) (cond (is_fault t.kind) (Some (token_value t)) (find (λ t. is_fault t.kind) (seen ts)))
-      ≡ option_map (λ t. t.line) (cond (is_fault t.kind) (Some t) (find (λ t. is_fault t.kind) ts))
+    ≡ option_map (λ t. t.line) (cond (is_fault t.kind) (Some t) (find (λ t. is_fault t.kind) ts))
 find_seen ts true t e h = rw e refl
 find_seen ts false t e h = rw e h
 

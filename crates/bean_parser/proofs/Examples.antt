@@ -41,6 +41,6 @@ cash = record { account = codes "Assets:Cash"; minus = true; number = codes "1,0
 -- one text is the narration
 directive : directive_written record { line = 3; day = codes "2014-01-02"; head = transacts Incomplete (Some (codes "\"Start\"", None)); under = (4, cash) ∷ [] }
     ≡ transaction_is record { year = pos 2014; month = 1; day = 2 } Incomplete None (Some (codes "\"Start\""))
-        (record { account = codes "Assets:Cash"; count = negsuc 100049; places = 2; currency = codes "USD"; line = 4 } ∷ []) 3
+    (record { account = codes "Assets:Cash"; count = negsuc 100049; places = 2; currency = codes "USD"; line = 4 } ∷ []) 3
 unfolding cash
 directive = refl

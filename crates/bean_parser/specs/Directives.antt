@@ -35,9 +35,9 @@ narration_of None = None
 
 abbrev pub directive_written : Tree → DirectiveValue
 directive_written t = elim t.head [
-    opens a ↦ open_is (day_written t.day) a t.line
+  | opens a ↦ open_is (day_written t.day) a t.line
   | transacts flag words ↦ transaction_is (day_written t.day) flag (payee_of words) (narration_of words) (map posting_written t.under) t.line
-  ]
+]
 
 -- a number of a ledger: at most 12 whole digits, leading zeros not counted, and at most 8 decimals
 abbrev pub IsLedgerNumber : List ℕ → Type 0

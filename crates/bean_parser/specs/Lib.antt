@@ -7,3 +7,4 @@ pub mod Lines
 pub mod Directives
 pub mod Reading
 pub mod Parsed
+pub mod Laws

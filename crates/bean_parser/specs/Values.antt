@@ -8,7 +8,6 @@ use Rattle.bean_parser.specs.declared.directive.Posting.{Posting}
 use Rattle.bean_parser.specs.declared.directive.Directive.{Directive}
 use Rattle.bean_parser.specs.declared.directive.Directive.TheVariants as directive
 
-
 pub record DayValue : Type 0 where
   pub year : ℤ
   pub month : ℕ

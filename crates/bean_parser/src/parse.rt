@@ -21,7 +21,8 @@ pub struct Parsed<'a> {
 
 /// The directives and the faults of a list of tokens.
 fn parse_tokens<'a>(alloc: Global, tokens: &[Token<'a>]) -> Result<Parsed<'a>, AllocError>
-    ensures { IfOk result (λ p. BlocksGive (blocks (seen tokens.now)) (map directive_value p.directives.items) p.faults.items) }
+    ensures { IfOk result (λ p. BlocksGive (blocks (seen tokens.now))
+        (map directive_value p.directives.items) p.faults.items) }
 {
     let mut directives = Vec::new(alloc);
     let mut faults = Vec::new(alloc);

@@ -12,13 +12,18 @@ fn transaction_at<'p, 'a>(parsed: &'p Parsed<'a>, index: usize) -> Option<&'p Tr
     }
 }
 
-fn posting_at<'p, 'a>(parsed: &'p Parsed<'a>, index: usize, line: usize) -> Option<&'p Posting<'a>> {
+fn posting_at<'p, 'a>(
+    parsed: &'p Parsed<'a>,
+    index: usize,
+    line: usize,
+) -> Option<&'p Posting<'a>> {
     transaction_at(parsed, index)?.postings.get(line)
 }
 
 #[test]
 fn the_worked_ledger(rt: HostRuntime) -> Result<(), Fail> {
-    let text = "2014-01-01 open Assets:Cash\n2014-01-01 open Equity:Open\n2014-01-02 * \"Start\"\n  Assets:Cash  100.00 USD\n  Equity:Open  -100.00 USD\n";
+    let text =
+        "2014-01-01 open Assets:Cash\n2014-01-01 open Equity:Open\n2014-01-02 * \"Start\"\n  Assets:Cash  100.00 USD\n  Equity:Open  -100.00 USD\n";
     let parsed = parse(rt.alloc(), text)?;
     assert_eq!(rt; parsed.directives.len(), 3);
     assert_eq!(rt; parsed.faults.len(), 0);
@@ -35,7 +40,8 @@ fn the_worked_ledger(rt: HostRuntime) -> Result<(), Fail> {
 
 #[test]
 fn a_bad_block_between_good_ones(rt: HostRuntime) -> Result<(), Fail> {
-    let text = "2014-01-01 open Assets:Cash\r\n2014-01-02 close Assets:Cash\r\n2014-02-30 open Assets:Cash\r\n  Assets:\u{c9}pargne 1 USD\r\n2014-01-03 open Assets:\u{c9}pargne\r\n";
+    let text =
+        "2014-01-01 open Assets:Cash\r\n2014-01-02 close Assets:Cash\r\n2014-02-30 open Assets:Cash\r\n  Assets:\u{c9}pargne 1 USD\r\n2014-01-03 open Assets:\u{c9}pargne\r\n";
     let parsed = parse(rt.alloc(), text)?;
     assert_eq!(rt; parsed.directives.len(), 2);
     assert_eq!(rt; parsed.faults.len(), 2);
