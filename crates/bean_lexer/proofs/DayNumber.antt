@@ -33,17 +33,23 @@ no_day_by bs m false e high h = longer_is_no_day bs m high (grind (arith, nat_te
 pub no_day : (bs : List ℕ) (n : ℕ) → (nat_le 10 (length bs) && is_day_form (take 10 bs)) ≡ false → NoneOf kinds.Day bs n
 no_day bs n h m low high = no_day_by bs m (nat_eq m 10) refl high h
 
-year_digits : (xs : List ℕ) → is_day_form xs ≡ true → list_all is_ascii_digit (take 4 xs) ≡ true
+pub year_digits : (xs : List ℕ) → is_day_form xs ≡ true → list_all is_ascii_digit (take 4 xs) ≡ true
 year_digits xs h = grind (arith, nat_tests)
 
-mark_of : (xs : List ℕ) → is_day_form xs ≡ true → (nat_eq (get_or xs 4 0) 45 || nat_eq (get_or xs 4 0) 47) ≡ true
+pub month_digits : (xs : List ℕ) → is_day_form xs ≡ true → list_all is_ascii_digit (take 2 (drop 5 xs)) ≡ true
+month_digits xs h = grind (arith, nat_tests)
+
+pub second_mark : (xs : List ℕ) → is_day_form xs ≡ true → nat_eq (get_or xs 7 0) (get_or xs 4 0) ≡ true
+second_mark xs h = grind (arith, nat_tests)
+
+pub mark_of : (xs : List ℕ) → is_day_form xs ≡ true → (nat_eq (get_or xs 4 0) 45 || nat_eq (get_or xs 4 0) 47) ≡ true
 mark_of xs h = grind (arith, nat_tests)
 
 digit_by : (xs : List ℕ) (k : ℕ) (t : Bool) → is_ascii_digit (get_or xs k 0) ≡ t → k < length xs → list_all is_ascii_digit xs ≡ true → is_ascii_digit (get_or xs k 0) ≡ true
 digit_by xs k true e h all = e
 digit_by xs k false e h all = let n = list_all_at is_ascii_digit xs k 0 h e in absurd (cc)
 
-day_digits : (xs : List ℕ) → is_day_form xs ≡ true → list_all is_ascii_digit (take 2 (drop 8 xs)) ≡ true
+pub day_digits : (xs : List ℕ) → is_day_form xs ≡ true → list_all is_ascii_digit (take 2 (drop 8 xs)) ≡ true
 day_digits xs h = grind (arith, nat_tests)
 
 last_digit : (bs : List ℕ) → 10 ≤ length bs → is_day_form (take 10 bs) ≡ true → is_ascii_digit (get_or bs 9 0) ≡ true

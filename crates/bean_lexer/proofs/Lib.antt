@@ -12,3 +12,5 @@ pub mod WordSteps
 pub mod CapitalSteps
 pub mod TokenSteps
 pub mod OneList
+mod Examples
+pub mod Feeds

@@ -38,13 +38,13 @@ kind_of xs =
     if is_ascii_digit (get_or xs 0 0) then (if nat_eq (get_or xs 4 0) 45 || nat_eq (get_or xs 4 0) 47 then Some kinds.Day else Some kinds.Number)
     else if nat_eq (get_or xs 0 0) 34 then Some kinds.Text
     else if is_ascii_uppercase (get_or xs 0 0) then (
-      if nat_lt (position_or_len is_colon xs) (length xs) then Some kinds.Account
-      else if bytes_eq xs (codes "TRUE") then Some (kinds.Keyword words.True)
-      else if bytes_eq xs (codes "FALSE") then Some (kinds.Keyword words.False)
-      else Some kinds.Currency)
+    if nat_lt (position_or_len is_colon xs) (length xs) then Some kinds.Account
+    else if bytes_eq xs (codes "TRUE") then Some (kinds.Keyword words.True)
+    else if bytes_eq xs (codes "FALSE") then Some (kinds.Keyword words.False)
+    else Some kinds.Currency)
     else if is_ascii_lowercase (get_or xs 0 0) then (
-      if nat_eq (get_or xs (length xs - 1) 0) 58 then Some kinds.Key
-      else option_map (λ word. kinds.Keyword word) (find (λ word. bytes_eq xs (keyword_spelling word)) WORDS))
+    if nat_eq (get_or xs (length xs - 1) 0) 58 then Some kinds.Key
+    else option_map (λ word. kinds.Keyword word) (find (λ word. bytes_eq xs (keyword_spelling word)) WORDS))
     else if nat_eq (get_or xs 0 0) 35 then (if nat_lt 1 (length xs) then Some kinds.Tag else Some (kinds.Sign signs.Hash))
     else if nat_eq (get_or xs 0 0) 94 then Some kinds.Link
     else option_map (λ sign. kinds.Sign sign) (if nat_lt 1 (length xs) then doubled_sign_of (get_or xs 0 0) else sign_of (get_or xs 0 0))
@@ -69,10 +69,10 @@ first_is : (kind : Kind) (xs : List ℕ) → is_of kind xs ≡ true → may_begi
 first_is kind [] h = let none = no_empty kind in absurd (cc)
 first_is kind (b ∷ bs) h = first_is_cons kind b bs h
 
-abbrev in_number : ℕ → Bool
+abbrev pub in_number : ℕ → Bool
 in_number b = is_ascii_digit b || nat_eq b 44 || nat_eq b 46
 
-two_true : (a b : Bool) → (a && b) ≡ true → (a ≡ true) × (b ≡ true)
+pub two_true : (a b : Bool) → (a && b) ≡ true → (a ≡ true) × (b ≡ true)
 two_true true b h = (refl, h)
 two_true false b h = absurd (cc)
 
@@ -106,7 +106,7 @@ number_by after b bs false e rest h =
     (λ i. q i && rest (is_ascii_digit b) p.1 i)
 
 -- a number has digits, commas and points alone
-number_bytes : (after : Bool) (xs : List ℕ) → rest_of_number after xs ≡ true → list_all in_number xs ≡ true
+pub number_bytes : (after : Bool) (xs : List ℕ) → rest_of_number after xs ≡ true → list_all in_number xs ≡ true
 number_bytes after [] h = refl
 number_bytes after (b ∷ bs) h = number_by after b bs (is_point b) refl (λ next. number_bytes next bs) h
 
@@ -114,9 +114,9 @@ no_mark_by : (xs : List ℕ) (t : Bool) → (nat_eq (get_or xs 4 0) 45 || nat_eq
 no_mark_by xs false e h = refl
 no_mark_by xs true e h =
     ⊎_elim (λ low.
-      let bad : in_number (get_or xs 4 0) ≡ false = grind (arith, nat_tests) in
-      let none = list_all_at in_number xs 4 0 low bad in
-      absurd (cc))
+    let bad : in_number (get_or xs 4 0) ≡ false = grind (arith, nat_tests) in
+    let none = list_all_at in_number xs 4 0 low bad in
+    absurd (cc))
     (λ past. let out : get_or xs 4 0 ≡ 0 = get_or_past xs 4 0 past in absurd (grind (arith, nat_tests))) (order 4 (length xs))
 
 no_mark : (xs : List ℕ) → is_number xs ≡ true → (nat_eq (get_or xs 4 0) 45 || nat_eq (get_or xs 4 0) 47) ≡ false
@@ -139,15 +139,15 @@ of_text xs h =
 
 capital_of : (xs : List ℕ) (a : Option Kind) → is_ascii_uppercase (get_or xs 0 0) ≡ true →
     (if nat_lt (position_or_len is_colon xs) (length xs) then Some kinds.Account
-      else if bytes_eq xs (codes "TRUE") then Some (kinds.Keyword words.True)
-      else if bytes_eq xs (codes "FALSE") then Some (kinds.Keyword words.False)
-      else Some kinds.Currency) ≡ a → kind_of xs ≡ a
+    else if bytes_eq xs (codes "TRUE") then Some (kinds.Keyword words.True)
+    else if bytes_eq xs (codes "FALSE") then Some (kinds.Keyword words.False)
+    else Some kinds.Currency) ≡ a → kind_of xs ≡ a
 capital_of xs a capital h =
     let d : is_ascii_digit (get_or xs 0 0) ≡ false = grind (arith, nat_tests) in
     let q : nat_eq (get_or xs 0 0) 34 ≡ false = grind (arith, nat_tests) in
     no _ _ _ d ∙ no _ _ _ q ∙ yes _ _ _ capital ∙ h
 
-middle : (a b c : Bool) → (a && b && c) ≡ true → b ≡ true
+pub middle : (a b c : Bool) → (a && b && c) ≡ true → b ≡ true
 middle true true c h = refl
 middle true false c h = absurd (cc)
 middle false b c h = absurd (cc)
@@ -169,7 +169,7 @@ no_colon_by xs true e h =
     let none = list_all_at is_in_currency xs (position_or_len is_colon xs) 0 low bad in
     absurd (cc)
 
-currency_parts : (xs : List ℕ) → is_currency xs ≡ true → (list_all is_in_currency xs ≡ true) × (bytes_eq xs (codes "TRUE") ≡ false) × (bytes_eq xs (codes "FALSE") ≡ false)
+pub currency_parts : (xs : List ℕ) → is_currency xs ≡ true → (list_all is_in_currency xs ≡ true) × (bytes_eq xs (codes "TRUE") ≡ false) × (bytes_eq xs (codes "FALSE") ≡ false)
 currency_parts xs h = (grind (arith, nat_tests), not_both _ (λ t. absurd (grind (arith, nat_tests))), not_both _ (λ t. absurd (grind (arith, nat_tests))))
 
 of_currency : (xs : List ℕ) → is_currency xs ≡ true → kind_of xs ≡ Some kinds.Currency
@@ -263,8 +263,8 @@ one_token bs kind other n m some t u =
     ⊎_elim
     (λ long. ⊎_elim (λ too. one_longest bs kind other n m long too) (λ fault. absurd (no_longest bs kind other n m some long fault)) u)
     (λ fault.
-      ⊎_elim (λ long. absurd (no_longest bs other kind m n some long fault))
-      (λ too. (fault.is_fault ∙ sym too.is_fault, fault.reach ∙ sym too.reach)) u) t
+    ⊎_elim (λ long. absurd (no_longest bs other kind m n some long fault))
+    (λ too. (fault.is_fault ∙ sym too.is_fault, fault.reach ∙ sym too.reach)) u) t
 
 same_from : (text : List ℕ) (spot : Spot) (at : ℕ) (ts us : List Token) → TokensFrom text spot at ts → TokensFrom text spot at us → AreSame ts us
 same_from text spot at [] [] from too = tt

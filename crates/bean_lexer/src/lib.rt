@@ -7,6 +7,8 @@ mod gaps;
 pub mod kind;
 mod names;
 mod scan;
+#[cfg(test)]
+mod tests;
 mod texts;
 pub mod token;
 pub mod tokens;

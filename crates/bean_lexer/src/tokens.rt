@@ -1,12 +1,14 @@
 //! The tokens of a text, in order.
-ghost use Rattle.std.specs.Prelude.{◌≡◌, ◌+◌, ◌<◌, ◌≤◌, length, IfOk, ℕ, count_by, ◌==◌};
+ghost use Rattle.std.specs.Prelude.{◌≡◌, ◌<◌, length, IfOk, IsTrue, count_by, ◌==◌};
 ghost use Rattle.std.specs.Str.{IsUtf8, IsCharBoundary};
+ghost use Rattle.bean_lexer.specs.Kinds.{may_be};
 ghost use Rattle.bean_lexer.specs.Tokens.{AreTokens, IsToken};
 ghost use Rattle.bean_lexer.specs.Laws.{HasOneListOfTokens};
 
 use crate::digits::day_or_number;
 use crate::found::Found;
 use crate::gaps::{Spot, gap_at};
+use crate::kind::Kind;
 use crate::names::{account_or_currency, link_or_fault, tag_or_hash};
 use crate::texts::text_or_fault;
 use crate::token::Token;
@@ -30,6 +32,17 @@ fn token_at(bytes: &[u8]) -> Found
     }
 }
 
+/// The line feeds in a token, which has none unless it is a text or a fault.
+fn line_feeds_of(kind: Kind, bytes: &[u8]) -> usize
+    requires { IsTrue (may_be kind bytes.now) }
+    ensures { result ≡ count_by (λ b. b == 10) bytes.now }
+{
+    match kind {
+        Kind::Text | Kind::Fault => line_feeds(bytes),
+        _ => 0,
+    }
+}
+
 fn line_feeds(bytes: &[u8]) -> usize
     ensures { result ≡ count_by (λ b. b == 10) bytes.now }
 {
@@ -37,7 +50,9 @@ fn line_feeds(bytes: &[u8]) -> usize
 }
 
 /// The tokens of a text, in order.
-pub fn tokens<'a, A: Allocator>(alloc: A, text: &'a str) -> Result<Vec<Token<'a>, A>, AllocError> {
+pub fn tokens<'a, A: Allocator>(alloc: A, text: &'a str) -> Result<Vec<Token<'a>, A>, AllocError>
+    ensures { IfOk result (λ tokens. AreTokens text.now tokens.items) }
+{
     let mut out = Vec::with_capacity(alloc, text.len() / 6)?;
     let mut rest = text;
     let mut spot = Spot::LineStart;
@@ -58,7 +73,7 @@ pub fn tokens<'a, A: Allocator>(alloc: A, text: &'a str) -> Result<Vec<Token<'a>
             start: text.len() - behind.len(),
             line,
         })?;
-        line += line_feeds(token.as_bytes());
+        line += line_feeds_of(found.kind, token.as_bytes());
         rest = after;
         spot = Spot::Behind;
     }
