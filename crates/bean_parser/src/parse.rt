@@ -4,6 +4,7 @@ ghost use Rattle.bean_parser.specs.Lexemes.{seen};
 ghost use Rattle.bean_parser.specs.Blocks.{blocks};
 ghost use Rattle.bean_parser.specs.Values.{directive_value};
 ghost use Rattle.bean_parser.specs.Directives.{BlocksGive};
+ghost use Rattle.bean_parser.specs.Parsed.{IsParsed};
 
 use crate::block::{Part, Unread, first_part, read_block};
 use crate::directive::Directive;
@@ -38,7 +39,10 @@ fn parse_tokens<'a>(alloc: Global, tokens: &[Token<'a>]) -> Result<Parsed<'a>, A
 }
 
 /// The directives and the faults of a ledger's text.
-pub fn parse(alloc: Global, text: &str) -> Result<Parsed<'_>, AllocError> {
+pub fn parse(alloc: Global, text: &str) -> Result<Parsed<'_>, AllocError>
+    ensures { IfOk result (λ p. IsParsed text.now
+        (map directive_value p.directives.items) p.faults.items) }
+{
     let all = tokens(alloc, text)?;
     parse_tokens(alloc, &all)
 }
