@@ -1,5 +1,5 @@
 -- What a ledger's text says: its directives and its faults.
-use Rattle.std.specs.Prelude.{◌≡◌, ℕ, ℤ, pos, neg_ℤ, Bool, true, false, List, [], ◌∷◌, map, Option, Some, None, Result, Ok, Err, ◌⊎◌, cond, IsTrue}
+use Rattle.std.specs.Prelude.{◌≡◌, ℕ, ℤ, pos, neg_ℤ, Bool, List, [], ◌∷◌, map, Option, Some, None, Result, Ok, Err, ◌⊎◌, cond, IsTrue}
 use Rattle.bean_base.specs.Decimal.{IsLedger}
 use Rattle.bean_base.specs.Numeral.{is_number, count_of, places_of}
 use Rattle.bean_base.specs.Days.{is_day_form, IsDayOf, year_of, month_of, day_of}
@@ -7,8 +7,8 @@ use Rattle.bean_base.specs.declared.fault.Fault.{Fault}
 use Rattle.bean_base.specs.declared.fault.FaultKind.{FaultKind}
 use Rattle.bean_base.specs.declared.fault.FaultKind.TheVariants.{BadToken, NotADirective, OutOfRange}
 use Rattle.bean_parser.specs.Lexemes.{TokenValue}
-use Rattle.bean_parser.specs.Blocks.{blocks, first_line, fault_line}
-use Rattle.bean_parser.specs.Grammar.{Texts, Head, opens, transacts, Written, Tree, HasTree}
+use Rattle.bean_parser.specs.Blocks.{first_line, fault_line}
+use Rattle.bean_parser.specs.Grammar.{Texts, opens, transacts, Written, Tree, HasTree}
 use Rattle.bean_parser.specs.Values.{DayValue, PostingValue, DirectiveValue, open_is, transaction_is}
 
 -- What a tree stands for.
