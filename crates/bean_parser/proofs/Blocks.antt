@@ -1,12 +1,11 @@
 -- A block, from its first line and those under it.
-use Rattle.std.proofs.Common.{◌≡◌, ℕ, ◌==◌, Bool, true, false, List, [], ◌∷◌, length, map, Result, Ok, Err, IfOk, take, drop, cond, Some, None, refl, sym, ◌∙◌, ap, subst}
+use Rattle.std.proofs.Common.{◌≡◌, ℕ, ◌==◌, Bool, true, false, List, [], ◌∷◌, length, map, Result, Ok, Err, IfOk, take, drop, cond, Some, refl, sym, ap, subst}
 use Rattle.std.specs.Option.{option_map}
 use Rattle.std.specs.List.{find}
-use Rattle.grammar_forms.specs.Forms.{Is}
 use Rattle.bean_lexer.specs.declared.token.Token.{Token}
-use Rattle.bean_parser.specs.Blocks.{Line, line_of, lines, first_line, cut_before, begins_line, is_in_column_one, is_fault, fault_line}
+use Rattle.bean_parser.specs.Blocks.{Line, line_of, lines, first_line, begins_line, is_fault, fault_line}
 use Rattle.bean_parser.specs.Lexemes.{TokenValue, token_value, seen, lexemes}
-use Rattle.bean_parser.specs.Grammar.{Head, heads, Written, ArePostings, MayStandUnder, Tree, HaveTree, HasTree}
+use Rattle.bean_parser.specs.Grammar.{Head, Written, ArePostings, MayStandUnder, Tree, HaveTree, HasTree}
 use Rattle.bean_parser.specs.Reading.{BeginsWith, ReadsUnder, ReadsBlock, tree_of}
 use Rattle.bean_parser.specs.declared.block.Refusal.{Refusal}
 use Rattle.bean_parser.specs.declared.block.Refusal.TheVariants.{NotADirective, OutOfRange}
@@ -64,7 +63,7 @@ block_read_if block line day found head under (Err e) at same b h = h
 find_seen : (ts : List Token) (b : Bool) (t : Token) → is_fault t.kind ≡ b
     → option_map (λ t. t.line) (find (λ t. is_fault t.kind) (seen ts)) ≡ option_map (λ t. t.line) (find (λ t. is_fault t.kind) ts)
     → option_map (λ t. t.line) (cond (is_fault t.kind) (Some (token_value t)) (find (λ t. is_fault t.kind) (seen ts)))
-      ≡ option_map (λ t. t.line) (cond (is_fault t.kind) (Some t) (find (λ t. is_fault t.kind) ts))
+    ≡ option_map (λ t. t.line) (cond (is_fault t.kind) (Some t) (find (λ t. is_fault t.kind) ts))
 find_seen ts true t e h = rw e refl
 find_seen ts false t e h = rw e h
 

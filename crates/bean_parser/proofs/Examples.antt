@@ -1,14 +1,13 @@
 -- Worked values of the definitions.
-use Rattle.std.proofs.Common.{◌≡◌, ℕ, true, false, List, [], ◌∷◌, Some, None, inl, inr, refl, pos, negsuc}
+use Rattle.std.proofs.Common.{◌≡◌, true, [], ◌∷◌, Some, None, inl, inr, refl, pos, negsuc}
 use Rattle.std.specs.Prelude.{codes, nat_eq}
 use Rattle.bean_lexer.specs.declared.kind.Keyword.TheVariants as keywords
 use Rattle.bean_lexer.specs.declared.kind.Sign.TheVariants as sign_kinds
 use Rattle.bean_parser.specs.declared.directive.Flag.TheVariants.{Complete, Incomplete}
 use Rattle.bean_parser.specs.Blocks.{cut_before}
-use Rattle.bean_parser.specs.Lexemes.{day, number, text, account, currency, keyword, sign, star, bang, txn}
-use Rattle.bean_parser.specs.Grammar.{heads, postings, opens, transacts, Written}
-use Rattle.bean_base.specs.Days.{DayValue}
-use Rattle.bean_parser.specs.Values.{PostingValue, open_is, transaction_is}
+use Rattle.bean_parser.specs.Lexemes.{day, number, text, account, currency, keyword, sign, bang, txn}
+use Rattle.bean_parser.specs.Grammar.{heads, postings, transacts, Written}
+use Rattle.bean_parser.specs.Values.{transaction_is}
 use Rattle.bean_parser.specs.Directives.{directive_written}
 
 -- a list is cut before each 0
@@ -42,6 +41,6 @@ cash = record { account = codes "Assets:Cash"; minus = true; number = codes "1,0
 -- one text is the narration
 directive : directive_written record { line = 3; day = codes "2014-01-02"; head = transacts Incomplete (Some (codes "\"Start\"", None)); under = (4, cash) ∷ [] }
     ≡ transaction_is record { year = pos 2014; month = 1; day = 2 } Incomplete None (Some (codes "\"Start\""))
-        (record { account = codes "Assets:Cash"; count = negsuc 100049; places = 2; currency = codes "USD"; line = 4 } ∷ []) 3
+    (record { account = codes "Assets:Cash"; count = negsuc 100049; places = 2; currency = codes "USD"; line = 4 } ∷ []) 3
 unfolding cash
 directive = refl

@@ -1,9 +1,9 @@
 -- The forms of the grammar are told apart by their first lexemes.
-use Rattle.std.proofs.Common.{◌≡◌, ℕ, Bool, true, false, ◌||◌, List, ◌∷◌, Option, refl, ap}
-use Rattle.grammar_forms.specs.Forms.{word, both, optional, behind}
+use Rattle.std.proofs.Common.{◌≡◌, true, false, ◌||◌, List, ◌∷◌, refl, ap}
+use Rattle.grammar_forms.specs.Forms.{word, both, optional}
 use Rattle.grammar_forms.proofs.Laws.{IsExact, Tells, Avoids, Follows, EndsBoth}
-use Rattle.bean_parser.specs.Lexemes.{Lexeme, day, number, text, account, currency, keyword, FlagWord, star, bang, txn, flag_word, plus_or_minus, begins_with_text, begins_with_sign, begins_with_open}
-use Rattle.bean_parser.specs.Grammar.{never, Texts, texts, openings, flags, transactings, kinds, signs, units}
+use Rattle.bean_parser.specs.Lexemes.{Lexeme, day, number, text, account, currency, FlagWord, star, bang, txn, flag_word, plus_or_minus, begins_with_text, begins_with_sign, begins_with_open}
+use Rattle.bean_parser.specs.Grammar.{never, texts, openings, flags, transactings, kinds, signs, units}
 
 pub exact_day : IsExact day
 exact_day a b e = cc

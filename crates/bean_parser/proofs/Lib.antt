@@ -6,3 +6,4 @@ pub mod Blocks
 pub mod Texts
 pub mod Examples
 pub mod OneReading
+pub mod OneText

@@ -3,7 +3,6 @@ use Rattle.std.proofs.Common.{◌≡◌, ℕ, ◌⊎◌, inl, inr, List, [], ◌
 use Rattle.bean_base.specs.declared.fault.Fault.{Fault}
 use Rattle.bean_parser.specs.Lexemes.{TokenValue}
 use Rattle.bean_parser.specs.Blocks.{fault_line}
-use Rattle.bean_parser.specs.Grammar.{Tree, HasTree}
 use Rattle.bean_parser.specs.Values.{DirectiveValue}
 use Rattle.bean_parser.specs.Directives.{directive_written, IsInRange, ReadsAs, GivesAt, Gives, BlocksGive, nothing, a_directive, a_fault}
 use Rattle.bean_parser.proofs.OneTree.{one_tree}

@@ -1,6 +1,6 @@
 -- A block has at most one tree.
-use Rattle.std.proofs.Common.{◌≡◌, ℕ, List, [], ◌∷◌, refl, sym, ◌∙◌, ap, subst}
-use Rattle.grammar_forms.specs.Forms.{Is, IsUnambiguous, word, both, optional, behind, either, mapped}
+use Rattle.std.proofs.Common.{◌≡◌, ℕ, List, [], ◌∷◌, refl, sym, ◌∙◌, ap}
+use Rattle.grammar_forms.specs.Forms.{Is, IsUnambiguous, word, both, optional, behind}
 use Rattle.grammar_forms.proofs.Unambiguous.{one_word, one_behind, one_mapped, one_both, one_optional, one_either, one_value}
 use Rattle.bean_lexer.specs.declared.kind.Keyword.TheVariants as keywords
 use Rattle.bean_parser.specs.Blocks.{Line, lines}

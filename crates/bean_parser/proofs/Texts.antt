@@ -1,5 +1,5 @@
 -- A text, block by block.
-use Rattle.std.proofs.Common.{◌≡◌, Bool, List, [], ◌∷◌, ◌++◌, map, Result, Ok, Err, refl, sym, ◌∙◌, ap, subst, append_assoc}
+use Rattle.std.proofs.Common.{◌≡◌, List, [], ◌∷◌, ◌++◌, map, Ok, Err, refl, sym, ◌∙◌, ap, subst, append_assoc}
 use Rattle.bean_base.specs.declared.fault.Fault.{Fault}
 use Rattle.bean_parser.specs.Lexemes.{TokenValue}
 use Rattle.bean_parser.specs.Values.{DirectiveValue, directive_value}

@@ -1,5 +1,5 @@
 -- The blocks of a list of tokens, and the lines of a block.
-use Rattle.std.specs.Prelude.{ℕ, Bool, true, false, List, [], ◌∷◌, map, Option, Some, None, cond}
+use Rattle.std.specs.Prelude.{ℕ, Bool, true, false, List, [], ◌∷◌, map, Option, cond}
 use Rattle.std.specs.Option.{option_map}
 use Rattle.std.specs.List.{find}
 use Rattle.bean_lexer.specs.declared.kind.Kind.{Kind}

@@ -1,15 +1,14 @@
 -- What a ledger's text says: its directives and its faults.
-use Rattle.std.specs.Prelude.{◌≡◌, ℕ, ℤ, pos, neg_ℤ, Bool, true, false, List, [], ◌∷◌, map, Option, Some, None, Result, Ok, Err, ◌⊎◌, cond, IsTrue}
+use Rattle.std.specs.Prelude.{◌≡◌, ℕ, ℤ, pos, neg_ℤ, Bool, List, [], ◌∷◌, map, Option, Some, None, Result, Ok, Err, ◌⊎◌, cond, IsTrue}
 use Rattle.bean_base.specs.Decimal.{IsLedger}
 use Rattle.bean_base.specs.Numeral.{is_number, count_of, places_of}
 use Rattle.bean_base.specs.Days.{is_day_form, IsDayOf, year_of, month_of, day_of}
 use Rattle.bean_base.specs.declared.fault.Fault.{Fault}
 use Rattle.bean_base.specs.declared.fault.FaultKind.{FaultKind}
 use Rattle.bean_base.specs.declared.fault.FaultKind.TheVariants.{BadToken, NotADirective, OutOfRange}
-use Rattle.bean_parser.specs.Lexemes.{TokenValue, seen}
-use Rattle.bean_lexer.specs.declared.token.Token.{Token}
-use Rattle.bean_parser.specs.Blocks.{blocks, first_line, fault_line}
-use Rattle.bean_parser.specs.Grammar.{Texts, Head, opens, transacts, Written, Tree, HasTree}
+use Rattle.bean_parser.specs.Lexemes.{TokenValue}
+use Rattle.bean_parser.specs.Blocks.{first_line, fault_line}
+use Rattle.bean_parser.specs.Grammar.{Texts, opens, transacts, Written, Tree, HasTree}
 use Rattle.bean_base.specs.Days.{DayValue}
 use Rattle.bean_parser.specs.Values.{PostingValue, DirectiveValue, open_is, transaction_is}
 
@@ -37,9 +36,9 @@ narration_of None = None
 
 abbrev pub directive_written : Tree → DirectiveValue
 directive_written t = elim t.head [
-    opens a ↦ open_is (day_written t.day) a t.line
+  | opens a ↦ open_is (day_written t.day) a t.line
   | transacts flag words ↦ transaction_is (day_written t.day) flag (payee_of words) (narration_of words) (map posting_written t.under) t.line
-  ]
+]
 
 -- a number of a ledger: at most 12 whole digits, leading zeros not counted, and at most 8 decimals
 abbrev pub IsLedgerNumber : List ℕ → Type 0
@@ -83,8 +82,3 @@ pub data BlocksGive : List (List TokenValue) → List DirectiveValue → List Fa
       → Gives block (Ok d) → BlocksGive rest ds fs → BlocksGive (block ∷ rest) (d ∷ ds) fs
   a_fault : (block : List TokenValue) (rest : List (List TokenValue)) (f : Fault) (ds : List DirectiveValue) (fs : List Fault)
       → Gives block (Err f) → BlocksGive rest ds fs → BlocksGive (block ∷ rest) ds (f ∷ fs)
-
--- What a text says: the tokens of it, and what their blocks give.
-pub record IsParsed (text : List ℕ) (directives : List DirectiveValue) (faults : List Fault) : Type 0 where
-  pub tokens : List Token
-  pub give : BlocksGive (blocks (seen tokens)) directives faults

@@ -3,7 +3,7 @@
 -- head    = day ("open" account | flag [text [text]])     flag = "*" | "!" | "txn"
 -- posting = account ["+"|"-"] number currency
 use Rattle.std.specs.Prelude.{◌≡◌, ℕ, Bool, true, false, List, [], ◌∷◌, Option, Some, None, ◌⊎◌}
-use Rattle.grammar_forms.specs.Forms.{Form, Is, IsNone, word, behind, both, optional, either, mapped}
+use Rattle.grammar_forms.specs.Forms.{Form, Is, word, behind, both, optional, either, mapped}
 use Rattle.bean_lexer.specs.declared.kind.Keyword.TheVariants as keywords
 use Rattle.bean_parser.specs.declared.directive.Flag.{Flag}
 use Rattle.bean_parser.specs.Lexemes.{TokenValue, Lexeme, day, number, text, account, currency, keyword, FlagWord, flag_word, flag_of, plus_or_minus, begins_with_text, begins_with_sign}

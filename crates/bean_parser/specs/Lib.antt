@@ -6,3 +6,5 @@ pub mod Grammar
 pub mod Lines
 pub mod Directives
 pub mod Reading
+pub mod Parsed
+pub mod Laws

@@ -1,5 +1,5 @@
 -- Lines as they were read, without where they lie in memory.
-use Rattle.std.specs.Prelude.{List, Option}
+use Rattle.std.specs.Prelude.{Option}
 use Rattle.std.specs.Option.{option_map}
 use Rattle.bean_parser.specs.declared.directive.Text.{Text}
 use Rattle.bean_parser.specs.declared.line.Head as head

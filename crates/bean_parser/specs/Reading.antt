@@ -6,7 +6,7 @@ use Rattle.bean_parser.specs.Blocks.{Line, line_of, lines, first_line, is_in_col
 use Rattle.bean_parser.specs.Lexemes.{TokenValue, lexemes}
 use Rattle.bean_parser.specs.Grammar.{Head, heads, postings, Written, ArePostings, MayStandUnder, Tree, HasTree}
 use Rattle.bean_parser.specs.Values.{DirectiveValue, directive_value, posting_value}
-use Rattle.bean_parser.specs.Directives.{IsLedgerNumber, AreLedgerNumbers, IsCalendarDay, IsInRange, posting_written, directive_written}
+use Rattle.bean_parser.specs.Directives.{IsLedgerNumber, AreLedgerNumbers, IsInRange, posting_written, directive_written}
 use Rattle.bean_parser.specs.declared.block.Refusal.{Refusal}
 use Rattle.bean_parser.specs.declared.block.Refusal.TheVariants.{NotADirective, OutOfRange}
 use Rattle.bean_parser.specs.declared.directive.Posting.{Posting}

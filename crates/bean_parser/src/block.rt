@@ -62,8 +62,11 @@ pub fn first_part<'t, 'a>(
     part: Part,
     tokens: &'t [Token<'a>],
 ) -> Option<(&'t [Token<'a>], &'t [Token<'a>])>
-    ensures front { MatchOption result (tokens.now ≡ []) (λ r. cut_before (begins part) (seen tokens.now) ≡ seen r.0.now ∷ cut_before (begins part) (seen r.1.now)) }
-    ensures same_line { IfSome result (λ r. first_line (seen r.0.now) ≡ first_line (seen tokens.now)) }
+    ensures front { MatchOption result (tokens.now ≡ [])
+        (λ r. cut_before (begins part) (seen tokens.now)
+        ≡ seen r.0.now ∷ cut_before (begins part) (seen r.1.now)) }
+    ensures same_line { IfSome result
+        (λ r. first_line (seen r.0.now) ≡ first_line (seen tokens.now)) }
     ensures shorter { IfSome result (λ r. length r.1.now < length tokens.now) }
 {
     let (_, others) = tokens.split_first()?;
@@ -112,10 +115,9 @@ fn is_in_column_one(block: &[Token<'_>]) -> bool
 }
 
 /// The day, as it is written, and the kind of a block, and the lines under its first one.
-fn read_first_line<'t, 'a>(
-    block: &'t [Token<'a>],
-) -> Option<(&'a str, Head<'a>, &'t [Token<'a>])>
-    ensures { MatchOption result ((t : Tree) → HasTree (seen block.now) t → ⊥) (λ r. BeginsWith (seen block.now) r.0.now (head_of r.1) (seen r.2.now)) }
+fn read_first_line<'t, 'a>(block: &'t [Token<'a>]) -> Option<(&'a str, Head<'a>, &'t [Token<'a>])>
+    ensures { MatchOption result ((t : Tree) → HasTree (seen block.now) t → ⊥)
+        (λ r. BeginsWith (seen block.now) r.0.now (head_of r.1) (seen r.2.now)) }
 {
     if !is_in_column_one(block) {
         return None;
@@ -178,7 +180,8 @@ fn read_open<'a>(
     line: usize,
     under: &[Token<'a>],
 ) -> Result<Directive<'a>, Refusal>
-    ensures { ReadsUnder line day.now (opens account.entry.text.now) (lines (seen under.now)) result }
+    ensures { ReadsUnder line day.now (opens account.entry.text.now)
+        (lines (seen under.now)) result }
 {
     if !under.is_empty() {
         return Err(Refusal::NotADirective);
@@ -209,7 +212,8 @@ fn read_transaction<'a>(
     line: usize,
     under: &[Token<'a>],
 ) -> Result<Result<Directive<'a>, Refusal>, AllocError>
-    ensures { IfOk result (ReadsUnder line day.now (transacts flag (texts_of texts.entry)) (lines (seen under.now))) }
+    ensures { IfOk result (ReadsUnder line day.now (transacts flag (texts_of texts.entry))
+        (lines (seen under.now))) }
 {
     let postings = match read_postings(alloc, under)? {
         Ok(postings) => postings,

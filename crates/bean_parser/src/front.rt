@@ -12,7 +12,8 @@ use bean_lexer::token::Token;
 
 /// The first token, and what stands behind it.
 pub fn next<'t, 'a>(tokens: &'t [Token<'a>]) -> Option<(Token<'a>, &'t [Token<'a>])>
-    ensures { MatchOption result (lexemes (seen tokens.now) ≡ []) (λ r. lexemes (seen tokens.now) ≡ lexeme_of (token_value r.0) ∷ lexemes (seen r.1.now)) }
+    ensures { MatchOption result (lexemes (seen tokens.now) ≡ [])
+        (λ r. lexemes (seen tokens.now) ≡ lexeme_of (token_value r.0) ∷ lexemes (seen r.1.now)) }
 {
     let (first, rest) = tokens.split_first()?;
     Some((*first, rest))
@@ -20,7 +21,8 @@ pub fn next<'t, 'a>(tokens: &'t [Token<'a>]) -> Option<(Token<'a>, &'t [Token<'a
 
 /// The day at the front, as it is written, and what stands behind it.
 pub fn after_day<'t, 'a>(tokens: &'t [Token<'a>]) -> Option<(&'a str, &'t [Token<'a>])>
-    ensures { MatchOption result (begins_with_day (lexemes (seen tokens.now)) ≡ false) (λ r. lexemes (seen tokens.now) ≡ day r.0.now ∷ lexemes (seen r.1.now)) }
+    ensures { MatchOption result (begins_with_day (lexemes (seen tokens.now)) ≡ false)
+        (λ r. lexemes (seen tokens.now) ≡ day r.0.now ∷ lexemes (seen r.1.now)) }
 {
     let (token, rest) = next(tokens)?;
     match token.kind {
@@ -31,7 +33,8 @@ pub fn after_day<'t, 'a>(tokens: &'t [Token<'a>]) -> Option<(&'a str, &'t [Token
 
 /// The number at the front, as it is written, and what stands behind it.
 pub fn after_number<'t, 'a>(tokens: &'t [Token<'a>]) -> Option<(&'a str, &'t [Token<'a>])>
-    ensures { MatchOption result (begins_with_number (lexemes (seen tokens.now)) ≡ false) (λ r. lexemes (seen tokens.now) ≡ number r.0.now ∷ lexemes (seen r.1.now)) }
+    ensures { MatchOption result (begins_with_number (lexemes (seen tokens.now)) ≡ false)
+        (λ r. lexemes (seen tokens.now) ≡ number r.0.now ∷ lexemes (seen r.1.now)) }
 {
     let (token, rest) = next(tokens)?;
     match token.kind {
@@ -42,7 +45,8 @@ pub fn after_number<'t, 'a>(tokens: &'t [Token<'a>]) -> Option<(&'a str, &'t [To
 
 /// The text at the front, and what stands behind it.
 pub fn after_text<'t, 'a>(tokens: &'t [Token<'a>]) -> Option<(Text<'a>, &'t [Token<'a>])>
-    ensures { MatchOption result (begins_with_text (lexemes (seen tokens.now)) ≡ false) (λ r. lexemes (seen tokens.now) ≡ text r.0.quoted.now ∷ lexemes (seen r.1.now)) }
+    ensures { MatchOption result (begins_with_text (lexemes (seen tokens.now)) ≡ false)
+        (λ r. lexemes (seen tokens.now) ≡ text r.0.quoted.now ∷ lexemes (seen r.1.now)) }
 {
     let (token, rest) = next(tokens)?;
     match token.kind {
@@ -53,7 +57,8 @@ pub fn after_text<'t, 'a>(tokens: &'t [Token<'a>]) -> Option<(Text<'a>, &'t [Tok
 
 /// The account at the front, and what stands behind it.
 pub fn after_account<'t, 'a>(tokens: &'t [Token<'a>]) -> Option<(Account<'a>, &'t [Token<'a>])>
-    ensures { MatchOption result (begins_with_account (lexemes (seen tokens.now)) ≡ false) (λ r. lexemes (seen tokens.now) ≡ account r.0.text.now ∷ lexemes (seen r.1.now)) }
+    ensures { MatchOption result (begins_with_account (lexemes (seen tokens.now)) ≡ false)
+        (λ r. lexemes (seen tokens.now) ≡ account r.0.text.now ∷ lexemes (seen r.1.now)) }
 {
     let (token, rest) = next(tokens)?;
     match token.kind {
@@ -64,7 +69,8 @@ pub fn after_account<'t, 'a>(tokens: &'t [Token<'a>]) -> Option<(Account<'a>, &'
 
 /// The currency at the front, and what stands behind it.
 pub fn after_currency<'t, 'a>(tokens: &'t [Token<'a>]) -> Option<(Currency<'a>, &'t [Token<'a>])>
-    ensures { MatchOption result (begins_with_currency (lexemes (seen tokens.now)) ≡ false) (λ r. lexemes (seen tokens.now) ≡ currency r.0.text.now ∷ lexemes (seen r.1.now)) }
+    ensures { MatchOption result (begins_with_currency (lexemes (seen tokens.now)) ≡ false)
+        (λ r. lexemes (seen tokens.now) ≡ currency r.0.text.now ∷ lexemes (seen r.1.now)) }
 {
     let (token, rest) = next(tokens)?;
     match token.kind {
@@ -75,7 +81,8 @@ pub fn after_currency<'t, 'a>(tokens: &'t [Token<'a>]) -> Option<(Currency<'a>, 
 
 /// What stands behind the word `open` at the front.
 pub fn after_open<'t, 'a>(tokens: &'t [Token<'a>]) -> Option<&'t [Token<'a>]>
-    ensures { MatchOption result (begins_with_open (lexemes (seen tokens.now)) ≡ false) (λ r. lexemes (seen tokens.now) ≡ keyword Open ∷ lexemes (seen r.now)) }
+    ensures { MatchOption result (begins_with_open (lexemes (seen tokens.now)) ≡ false)
+        (λ r. lexemes (seen tokens.now) ≡ keyword Open ∷ lexemes (seen r.now)) }
 {
     let (token, rest) = next(tokens)?;
     match token.kind {
@@ -86,7 +93,8 @@ pub fn after_open<'t, 'a>(tokens: &'t [Token<'a>]) -> Option<&'t [Token<'a>]>
 
 /// The flag at the front, and what stands behind it.
 pub fn after_flag<'t, 'a>(tokens: &'t [Token<'a>]) -> Option<(Flag, &'t [Token<'a>])>
-    ensures { MatchOption result (begins_with_flag (lexemes (seen tokens.now)) ≡ false) (λ r. Reads flags (lexemes (seen tokens.now)) r.0 (lexemes (seen r.1.now))) }
+    ensures { MatchOption result (begins_with_flag (lexemes (seen tokens.now)) ≡ false)
+        (λ r. Reads flags (lexemes (seen tokens.now)) r.0 (lexemes (seen r.1.now))) }
 {
     let (token, rest) = next(tokens)?;
     match token.kind {
@@ -98,7 +106,8 @@ pub fn after_flag<'t, 'a>(tokens: &'t [Token<'a>]) -> Option<(Flag, &'t [Token<'
 
 /// Whether a sign at the front is a minus, and what stands behind it.
 pub fn after_sign<'t, 'a>(tokens: &'t [Token<'a>]) -> Option<(bool, &'t [Token<'a>])>
-    ensures { MatchOption result (begins_with_sign (lexemes (seen tokens.now)) ≡ false) (λ r. lexemes (seen tokens.now) ≡ plus_or_minus r.0 ∷ lexemes (seen r.1.now)) }
+    ensures { MatchOption result (begins_with_sign (lexemes (seen tokens.now)) ≡ false)
+        (λ r. lexemes (seen tokens.now) ≡ plus_or_minus r.0 ∷ lexemes (seen r.1.now)) }
 {
     let (token, rest) = next(tokens)?;
     match token.kind {

@@ -36,7 +36,8 @@ pub struct WrittenPosting<'a> {
 }
 
 fn second_text<'t, 'a>(tokens: &'t [Token<'a>]) -> (Option<Text<'a>>, &'t [Token<'a>])
-    ensures { Reads (optional begins_with_text (word text)) (lexemes (seen tokens.now)) (text_value result.0) (lexemes (seen result.1.now)) }
+    ensures { Reads (optional begins_with_text (word text)) (lexemes (seen tokens.now))
+        (text_value result.0) (lexemes (seen result.1.now)) }
 {
     match after_text(tokens) {
         Some((text, rest)) => (Some(text), rest),
@@ -45,7 +46,8 @@ fn second_text<'t, 'a>(tokens: &'t [Token<'a>]) -> (Option<Text<'a>>, &'t [Token
 }
 
 fn read_texts<'t, 'a>(tokens: &'t [Token<'a>]) -> (Texts<'a>, &'t [Token<'a>])
-    ensures { Reads texts (lexemes (seen tokens.now)) (texts_of result.0) (lexemes (seen result.1.now)) }
+    ensures { Reads texts (lexemes (seen tokens.now))
+        (texts_of result.0) (lexemes (seen result.1.now)) }
 {
     match after_text(tokens) {
         Some((first, rest)) => {
@@ -58,7 +60,8 @@ fn read_texts<'t, 'a>(tokens: &'t [Token<'a>]) -> (Texts<'a>, &'t [Token<'a>])
 
 /// What stands behind the day of a first line.
 fn read_kind<'t, 'a>(tokens: &'t [Token<'a>]) -> Option<(Head<'a>, &'t [Token<'a>])>
-    ensures { MatchOption result (HasNone kinds (lexemes (seen tokens.now))) (λ r. Reads kinds (lexemes (seen tokens.now)) (head_of r.0) (lexemes (seen r.1.now))) }
+    ensures { MatchOption result (HasNone kinds (lexemes (seen tokens.now)))
+        (λ r. Reads kinds (lexemes (seen tokens.now)) (head_of r.0) (lexemes (seen r.1.now))) }
 {
     if let Some(rest) = after_open(tokens) {
         let (account, rest) = after_account(rest)?;
@@ -71,7 +74,8 @@ fn read_kind<'t, 'a>(tokens: &'t [Token<'a>]) -> Option<(Head<'a>, &'t [Token<'a
 
 /// The day, as it is written, and the kind of a block that has this first line.
 pub fn read_head<'a>(line: &[Token<'a>]) -> Option<(&'a str, Head<'a>)>
-    ensures { MatchOption result (IsNone heads (lexemes (seen line.now))) (λ r. Is heads (lexemes (seen line.now)) (r.0.now, head_of r.1)) }
+    ensures { MatchOption result (IsNone heads (lexemes (seen line.now)))
+        (λ r. Is heads (lexemes (seen line.now)) (r.0.now, head_of r.1)) }
 {
     let (day, rest) = after_day(line)?;
     let (head, rest) = read_kind(rest)?;
@@ -93,7 +97,8 @@ fn minus_if_any<'t, 'a>(tokens: &'t [Token<'a>]) -> (bool, &'t [Token<'a>])
 
 /// The posting that a line is.
 pub fn read_posting<'a>(line: &[Token<'a>]) -> Option<WrittenPosting<'a>>
-    ensures { MatchOption result (IsNone postings (lexemes (seen line.now))) (λ r. Is postings (lexemes (seen line.now)) (written_value r)) }
+    ensures { MatchOption result (IsNone postings (lexemes (seen line.now)))
+        (λ r. Is postings (lexemes (seen line.now)) (written_value r)) }
 {
     let (account, rest) = after_account(line)?;
     let (is_minus, rest) = minus_if_any(rest);
@@ -114,7 +119,8 @@ impl<'a> WrittenPosting<'a> {
     /// The posting, where its number is a number of a ledger.
     pub fn in_range(self, line: usize) -> Option<Posting<'a>>
         ensures { MatchOption result (IsLedgerNumber self.entry.number.now → ⊥)
-            (λ p. IsLedgerNumber self.entry.number.now × (posting_value p ≡ posting_written (line, written_value self.entry))) }
+            (λ p. IsLedgerNumber self.entry.number.now
+            × (posting_value p ≡ posting_written (line, written_value self.entry))) }
     {
         let Ok(magnitude) = Num::parse(self.number) else {
             return None;

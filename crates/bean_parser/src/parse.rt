@@ -3,7 +3,8 @@ ghost use Rattle.std.specs.Prelude.{IfOk, map};
 ghost use Rattle.bean_parser.specs.Lexemes.{seen};
 ghost use Rattle.bean_parser.specs.Blocks.{blocks};
 ghost use Rattle.bean_parser.specs.Values.{directive_value};
-ghost use Rattle.bean_parser.specs.Directives.{BlocksGive, IsParsed};
+ghost use Rattle.bean_parser.specs.Directives.{BlocksGive};
+ghost use Rattle.bean_parser.specs.Parsed.{IsParsed};
 
 use crate::block::{Part, Unread, first_part, read_block};
 use crate::directive::Directive;
@@ -21,7 +22,8 @@ pub struct Parsed<'a> {
 
 /// The directives and the faults of a list of tokens.
 fn parse_tokens<'a>(alloc: Global, tokens: &[Token<'a>]) -> Result<Parsed<'a>, AllocError>
-    ensures { IfOk result (λ p. BlocksGive (blocks (seen tokens.now)) (map directive_value p.directives.items) p.faults.items) }
+    ensures { IfOk result (λ p. BlocksGive (blocks (seen tokens.now))
+        (map directive_value p.directives.items) p.faults.items) }
 {
     let mut directives = Vec::new(alloc);
     let mut faults = Vec::new(alloc);
@@ -36,10 +38,14 @@ fn parse_tokens<'a>(alloc: Global, tokens: &[Token<'a>]) -> Result<Parsed<'a>, A
     Ok(Parsed { directives, faults })
 }
 
-/// What a ledger's text says: its directives and its faults, in reading order.
-pub fn parse<'a>(alloc: Global, text: &'a str) -> Result<Parsed<'a>, AllocError>
-    ensures { IfOk result (λ p. IsParsed text.now (map directive_value p.directives.items) p.faults.items) }
+/// The directives and the faults of a ledger's text.
+pub fn parse(alloc: Global, text: &str) -> Result<Parsed<'_>, AllocError>
+    ensures { IfOk result (λ p. IsParsed text.now
+        (map directive_value p.directives.items) p.faults.items) }
 {
-    let tokens = tokens(alloc, text)?;
-    parse_tokens(alloc, &tokens)
+    let all = tokens(alloc, text)?;
+    parse_tokens(alloc, &all)
 }
+
+#[cfg(test)]
+mod tests;

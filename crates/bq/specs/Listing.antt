@@ -4,7 +4,7 @@ use Rattle.std.specs.List.{flat_map}
 use Rattle.std.specs.Str.{bytes_eq}
 use Rattle.bean_base.specs.Days.{DayValue}
 use Rattle.bean_base.specs.declared.fault.Fault.{Fault}
-use Rattle.bean_parser.specs.Directives.{IsParsed}
+use Rattle.bean_parser.specs.Parsed.{IsParsed}
 use Rattle.bean_parser.specs.Values.{DirectiveValue, PostingValue, open_is, transaction_is}
 use Rattle.bean_parser.specs.declared.directive.Flag.{Flag}
 use Rattle.bean_parser.specs.declared.directive.Flag.TheVariants.{Complete, Incomplete}

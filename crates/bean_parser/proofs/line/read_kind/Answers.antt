@@ -1,4 +1,4 @@
-use Rattle.std.proofs.Common.{refl, ap, ◌∙◌}
+use Rattle.std.proofs.Common.{ap}
 use Rattle.grammar_forms.specs.Forms.{word, both, behind}
 use Rattle.grammar_forms.proofs.Laws.{reads_word, reads_both, reads_behind, reads_mapped, reads_left, reads_right}
 use Rattle.bean_lexer.specs.declared.kind.Keyword.TheVariants as keywords
