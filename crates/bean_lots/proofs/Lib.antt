@@ -10,3 +10,4 @@ pub mod Reduced
 pub mod Held
 pub mod Pushed
 pub mod Chosen
+mod Examples

@@ -1,5 +1,5 @@
 //! Reductions: which lots are taken, and how much of each.
-ghost use Rattle.std.specs.Prelude.{◌≡◌, ◌↔◌};
+ghost use Rattle.std.specs.Prelude.{◌≡◌};
 
 mod queue;
 mod takes;
@@ -7,7 +7,7 @@ mod takes;
 use crate::lot::{Cost, Lot};
 use bean_base::days::Day;
 use bean_base::names::Currency;
-use std::alloc::{AllocError, AllocFailed};
+use std::alloc::AllocError;
 pub use takes::{one_reduction, reduce};
 use thiserror::Error;
 
