@@ -5,3 +5,4 @@ pub mod Sources
 pub mod Arrangement
 pub mod Listing
 pub mod Runs
+pub mod Memory

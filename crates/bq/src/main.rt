@@ -4,6 +4,7 @@
 mod arrange;
 mod host;
 mod listing;
+mod memory;
 mod refusal;
 mod run;
 mod store;

@@ -43,6 +43,13 @@ fn push_gap(out: &mut Vec<u8>, column: usize) -> Result<(), AllocError>
     Ok(())
 }
 
+fn end_line(out: &mut Vec<u8>) -> Result<(), AllocError>
+    ensures { OnOk result (out.new.items ≡ out.old.items ++ 10 ∷ []) }
+{
+    out.push(b'\n')?;
+    Ok(())
+}
+
 /// The line that rules off the header.
 #[tactic(auto, using(crate::proofs::Lines::rule_more))]
 fn push_rule(out: &mut Vec<u8>, widths: &[usize]) -> Result<(), AllocError>
@@ -52,7 +59,7 @@ fn push_rule(out: &mut Vec<u8>, widths: &[usize]) -> Result<(), AllocError>
         push_gap(out, i)?;
         push_many(out, b'-', *width)?;
     }
-    out.push(b'\n')?;
+    end_line(out)?;
     Ok(())
 }
 
@@ -145,7 +152,7 @@ fn push_line<C: Shown>(
     push_joined(&mut scratch.line, cells, widths, &mut scratch.text, display)?;
     scratch.line.truncate(trimmed_len(&scratch.line));
     out.extend_from_slice(&scratch.line)?;
-    out.push(b'\n')?;
+    end_line(out)?;
     Ok(())
 }
 
