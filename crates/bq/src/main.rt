@@ -8,6 +8,8 @@ mod memory;
 mod refusal;
 mod run;
 mod store;
+#[cfg(test)]
+mod tests;
 mod words;
 
 use crate::host::{HostStore, Stream};

@@ -22,6 +22,7 @@ const TABLE: &str = "date        flag  account      position
 ";
 
 /// What a run on the words of `list l` ends with: the status, and what the outputs took.
+#[derive(Drop)]
 struct Ended {
     status: u8,
     out: ShortWriter,
