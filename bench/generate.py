@@ -1,0 +1,108 @@
+#!/usr/bin/env python3
+"""Prints a plain ledger, the same one for the same words.
+
+generate.py POSTINGS SEED            so many postings
+generate.py --unlisted POSTINGS SEED the same, but each transaction is of a 31 June: it is read whole
+                                     and then left out, so that `list` has no row to print
+generate.py --opens BYTES SEED       about so many bytes of `open` lines, which give no row either
+"""
+import argparse
+import datetime
+import random
+import sys
+
+FIRST_DAY = datetime.date(2005, 1, 1)
+DAYS = 7000
+ROOTS = {
+    "Assets": ["Bank", "Cash", "Fund", "Loan"],
+    "Liabilities": ["Card", "Tax"],
+    "Equity": ["Open"],
+    "Income": ["Pay", "Rent", "Gift"],
+    "Expenses": ["Food", "Home", "Car", "Fun", "Tax", "Kids", "Bank", "Shoes"],
+}
+# Each currency with its weight and the decimals that are written for it.
+CURRENCIES = {"EUR": (70, 2), "USD": (20, 2), "JPY": (5, 0), "VTI": (4, 3), "BTC": (1, 6)}
+PAYEES = ["Market", "Baker", "Landlord", "Employer", "Railway", "Book shop", "Chemist", "Town hall"]
+NARRATIONS = ["Weekly shopping", "Rent", "Salary", "Tickets", "Bread", "A gift; see the card", "Fee", "Two books"]
+
+
+def accounts(count, pick):
+    names = []
+    for number in range(count):
+        root = pick.choices(list(ROOTS), weights=[20, 10, 2, 10, 58])[0]
+        group = pick.choice(ROOTS[root])
+        names.append(f"{root}:{group}{number}" if number % 8 else f"{root}:{group}:P{number}")
+    return names
+
+
+def opens(names, day):
+    return "".join(f"{day} open {name}\n" for name in names)
+
+
+def number(count, places):
+    sign, magnitude = "-" if count < 0 else "", abs(count)
+    if places == 0:
+        return f"{sign}{magnitude}"
+    whole, decimals = divmod(magnitude, 10 ** places)
+    return f"{sign}{whole}.{decimals:0{places}}"
+
+
+def first_line(day, pick):
+    flag = pick.choices(["*", "!", "txn"], weights=[90, 5, 5])[0]
+    texts = pick.choices([0, 1, 2], weights=[10, 70, 20])[0]
+    words = [pick.choice(PAYEES), pick.choice(NARRATIONS)][2 - texts:]
+    return " ".join([str(day), flag, *(f'"{word}"' for word in words)]) + "\n"
+
+
+def transaction(day, size, names, pick):
+    """A transaction whose postings are of one currency and come to 0."""
+    currency = pick.choices(list(CURRENCIES), weights=[w for w, _ in CURRENCIES.values()])[0]
+    places = CURRENCIES[currency][1]
+    counts = [pick.randint(1, 10 ** pick.randint(3, 5)) for _ in range(size - 1)]
+    lines = [f"  {pick.choice(names)}  {number(count, places)} {currency}\n" for count in [*counts, -sum(counts)]]
+    return first_line(day, pick) + "".join(lines)
+
+
+def day_at(done, postings, pick):
+    """Days go forward; one of fifty transactions is up to thirty days late in the text."""
+    late = pick.randint(1, 30) if pick.randrange(50) == 0 else 0
+    return FIRST_DAY + datetime.timedelta(days=done * DAYS // postings - late)
+
+
+def ledger(postings, seed, unlisted):
+    pick = random.Random(seed)
+    names = accounts(min(300, max(30, postings // 300)), pick)
+    yield opens(names, FIRST_DAY)
+    done = 0
+    while done < postings:
+        size = min(pick.choices([2, 3, 4], weights=[60, 25, 15])[0], max(postings - done, 2))
+        day = day_at(done, postings, pick)
+        yield transaction(f"{day.year}-06-31" if unlisted else day, size, names, pick)
+        done += size
+
+
+def only_opens(size, seed):
+    pick = random.Random(seed)
+    done = 0
+    while done < size:
+        text = opens(accounts(300, pick), FIRST_DAY + datetime.timedelta(days=done * DAYS // size))
+        done += len(text)
+        yield text
+
+
+def main():
+    words = argparse.ArgumentParser(description=__doc__, formatter_class=argparse.RawDescriptionHelpFormatter)
+    words.add_argument("size", type=int, metavar="POSTINGS|BYTES")
+    words.add_argument("seed", type=int)
+    kinds = words.add_mutually_exclusive_group()
+    kinds.add_argument("--unlisted", action="store_true")
+    kinds.add_argument("--opens", action="store_true")
+    given = words.parse_args()
+    if given.opens:
+        sys.stdout.writelines(only_opens(given.size, given.seed))
+    else:
+        sys.stdout.writelines(ledger(given.size, given.seed, given.unlisted))
+
+
+if __name__ == "__main__":
+    main()
