@@ -68,6 +68,7 @@ module _ {X Y : Type 0} (f : X → Y) (key : X → Key) (key_of_value : Y → Ke
     where
       at : (y : X) → p y ≡ true → filter p ys ≡ filter p xs
       at y h = filter_same p (ties lt y) (class y h) ys ∙ stable y ∙ sym (filter_same p (ties lt y) (class y h) xs)
+
       by : (l : List X) → filter p ys ≡ l → (m : List X) → filter p xs ≡ m → filter p ys ≡ filter p xs
       by (y ∷ l) e m g = at y (passes p ys y l e)
       by [] e (x ∷ m) g = at x (passes p xs x m g)
@@ -91,6 +92,7 @@ module _ {X Y : Type 0} (f : X → Y) (key : X → Key) (key_of_value : Y → Ke
     where
       p : X → Bool
       p x = same_key k (key x)
+
       class : (y : X) → p y ≡ true → (z : X) → p z ≡ ties lt y z
       class y h z =
           let moved : key_cmp k (key z) ≡ key_cmp (key y) (key z) = key_total.congr k (key y) (key z) (is_equal (key_cmp k (key y)) h) in

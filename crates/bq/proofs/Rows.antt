@@ -9,7 +9,6 @@ use Rattle.std.proofs.lemmas.Grind.{flat_map-append}
 use Rattle.bean_parser.specs.Values.{PostingValue}
 use Rattle.bq.specs.Listing.{decimals_from}
 
-
 -- the decimals of some postings, and then of others
 pub decimals_from-append : (n : ℕ) (currency : List ℕ) (ps qs : List PostingValue) → decimals_from n currency (ps ++ qs) ≡ decimals_from (decimals_from n currency ps) currency qs
 decimals_from-append n currency ps qs =

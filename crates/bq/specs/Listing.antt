@@ -24,7 +24,9 @@ postings_in (transaction_is day flag payee narration postings line) = postings
 
 abbrev pub row_of_posting : DayValue → Flag → PostingValue → RowValue
 row_of_posting day flag p = record {
-  date = day; flag = flag_text flag; account = p.account;
+  date = day;
+  flag = flag_text flag;
+  account = p.account;
   position = record { count = p.count; places = p.places; currency = p.currency };
 }
 

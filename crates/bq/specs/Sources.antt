@@ -1,6 +1,5 @@
 -- What sources and stores tell of themselves.
 use Rattle.std.specs.Prelude.{◌≡◌, ℕ, ◌+◌, List, [], ◌∷◌, ◌++◌, Option, Some, None, Result, Ok, Err, ⊤, Vec}
-
 use Rattle.bq.specs.declared.store.SourceFault.{SourceFault}
 use Rattle.bq.specs.declared.store.SourceFault.TheVariants.{Failed, OutOfMemory}
 

@@ -59,8 +59,8 @@ fn row_of<'a>(day: Day, flag: Flag, posting: &Posting<'a>) -> Row<'a>
 fn note_decimals<'a>(ledger: &mut Ledger<'a>, posting: &Posting<'a>) -> Result<(), AllocError>
     ensures decimals { OnOk result ((name : List ℕ) → decimals_of ledger.new name
         ≡ (if bytes_eq posting.now.units.currency.text.now name
-            then max (decimals_of ledger.old name) posting.now.units.number.places
-            else decimals_of ledger.old name)) }
+        then max (decimals_of ledger.old name) posting.now.units.number.places
+        else decimals_of ledger.old name)) }
     ensures rows { rows_of ledger.new ≡ rows_of ledger.old }
 {
     let places = posting.units.number.places;
@@ -110,10 +110,7 @@ fn push_postings<'a>(
     Ok(())
 }
 
-fn push_directive<'a>(
-    ledger: &mut Ledger<'a>,
-    directive: &Directive<'a>,
-) -> Result<(), LedgerFault>
+fn push_directive<'a>(ledger: &mut Ledger<'a>, directive: &Directive<'a>) -> Result<(), LedgerFault>
     ensures rows { OnOk result (rows_of ledger.new
         ≡ rows_of ledger.old ++ rows_in (directive_value directive.now)) }
     ensures decimals { OnOk result ((name : List ℕ) → decimals_of ledger.new name
@@ -133,10 +130,7 @@ fn push_directive<'a>(
 }
 
 /// The ledger of directives that are in order.
-fn ledger_of_all<'a>(
-    alloc: Global,
-    directives: &[Directive<'a>],
-) -> Result<Ledger<'a>, LedgerFault>
+fn ledger_of_all<'a>(alloc: Global, directives: &[Directive<'a>]) -> Result<Ledger<'a>, LedgerFault>
     ensures rows { IfOk result (λ l. rows_of l ≡ rows_of_all (map directive_value directives.now)) }
     ensures decimals { IfOk result (λ l. (name : List ℕ) → decimals_of l name
         ≡ decimals_in (map directive_value directives.now) name) }

@@ -16,10 +16,9 @@ use crate::host::{HostStore, Stream};
 use crate::refusal::Refusal;
 use crate::run::run_words;
 use std::alloc::{AllocError, Global};
-use std::env;
-use std::io;
 use std::process::ExitCode;
 use std::rt::Env;
+use std::{env, io};
 
 /// The words behind the program's own name.
 fn words_given<R: Env + AllocGlobal>(rt: &R) -> io::Result<Vec<String>> {

@@ -33,7 +33,11 @@ fn headers(alloc: Global) -> Result<Vec<&'static str>, AllocError>
 }
 
 /// What `list` shows of a posting.
-fn shown_row<'a>(alloc: Global, ledger: &Ledger<'a>, row: usize) -> Result<Vec<Value<'a>>, AllocError>
+fn shown_row<'a>(
+    alloc: Global,
+    ledger: &Ledger<'a>,
+    row: usize,
+) -> Result<Vec<Value<'a>>, AllocError>
     requires { row < length (rows_of ledger.now) }
     ensures values { IfOk result (λ v. (d : RowValue) → map value_of v.items ≡ shown_row (slice_index_or (rows_of ledger.now) row d)) }
     ensures len { IfOk result (λ v. vec_len v ≡ 4) }
@@ -91,8 +95,16 @@ fn list<S: Source, O: Output>(
     store: &mut S,
     out: &mut O,
 ) -> Result<(), Refusal>
-    ensures { ListsNamed (record { failures = S.failures; told = S.told; taken = O.taken; may_answer = O.may_answer;
-        store_before = store.old; store_after = store.new; out_before = out.old; out_after = out.new }) name.now result }
+    ensures { ListsNamed (record {
+      failures = S.failures;
+      told = S.told;
+      taken = O.taken;
+      may_answer = O.may_answer;
+      store_before = store.old;
+      store_after = store.new;
+      out_before = out.old;
+      out_after = out.new;
+    }) name.now result }
 {
     let bytes = match store.text(name) {
         Ok(bytes) => bytes,
@@ -115,8 +127,16 @@ fn run<S: Store, O: Output>(
     store: &mut S,
     out: &mut O,
 ) -> Result<(), Refusal>
-    ensures { RunsList (record { failures = S.failures; told = S.told; taken = O.taken; may_answer = O.may_answer;
-        store_before = store.old; store_after = store.new; out_before = out.old; out_after = out.new })
+    ensures { RunsList (record {
+      failures = S.failures;
+      told = S.told;
+      taken = O.taken;
+      may_answer = O.may_answer;
+      store_before = store.old;
+      store_after = store.new;
+      out_before = out.old;
+      out_after = out.new;
+    })
         (map (λ w. w.now) words.now) result }
 {
     let name = ledger_named(alloc, words)?;
@@ -133,11 +153,27 @@ pub fn run_words<S: Store, O: Output, E: Output>(
     out: &mut O,
     err: &mut E,
 ) -> u8
-    ensures ends { EndsRun (record { failures = S.failures; told = S.told; taken = O.taken; may_answer = O.may_answer;
-        store_before = store.old; store_after = store.new; out_before = out.old; out_after = out.new })
+    ensures ends { EndsRun (record {
+      failures = S.failures;
+      told = S.told;
+      taken = O.taken;
+      may_answer = O.may_answer;
+      store_before = store.old;
+      store_after = store.new;
+      out_before = out.old;
+      out_after = out.new;
+    })
         (map (λ w. w.now) words.now) result }
-    ensures answered { result ≡ 0 → Answers (record { failures = S.failures; told = S.told; taken = O.taken; may_answer = O.may_answer;
-        store_before = store.old; store_after = store.new; out_before = out.old; out_after = out.new })
+    ensures answered { result ≡ 0 → Answers (record {
+      failures = S.failures;
+      told = S.told;
+      taken = O.taken;
+      may_answer = O.may_answer;
+      store_before = store.old;
+      store_after = store.new;
+      out_before = out.old;
+      out_after = out.new;
+    })
         (map (λ w. w.now) words.now) }
 {
     match run(alloc, words, store, out) {

@@ -2,3 +2,4 @@ pub mod Decimals
 pub mod Lines
 pub mod Pieces
 pub mod Names
+pub mod Printable

@@ -1,5 +1,7 @@
 //! What stands in the lines of a table: headers and values, with their texts.
 ghost use Rattle.std.specs.Prelude.{◌≡◌, ◌++◌, ℕ, List, OnOk, IfOk, map, encode_utf8_all, chars};
+ghost use Rattle.std.specs.Int.{is_in_range};
+ghost use Rattle.std.specs.List.{list_all};
 ghost use Rattle.std.specs.String.{string_bytes};
 ghost use Rattle.posting_table.specs.Decimals.{places_of};
 ghost use Rattle.table_printer.specs.Table.{Cell, cell_of, text_width};
@@ -40,10 +42,33 @@ fn shown_character(c: char) -> char
     if c.is_control() { ' ' } else { c }
 }
 
+/// Whether a text has printable ASCII characters alone, as most have.
+fn is_printable(text: &str) -> bool
+    ensures { result ≡ list_all (is_in_range 32 126) text.now }
+{
+    text.as_bytes().iter().all(|b| 32 <= *b && *b <= 126)
+}
+
+/// How many columns of a terminal a text takes.
+#[tactic(auto, using(crate::proofs::Printable::width_printable))]
+fn text_width(text: &str) -> usize
+    ensures { result ≡ text_width text.now }
+{
+    if is_printable(text) {
+        text.len()
+    } else {
+        text.width()
+    }
+}
+
 /// A text with spaces in place of its control characters.
 fn push_clean(out: &mut String, text: &str) -> Result<(), AllocError>
     ensures { OnOk result (string_bytes out.new ≡ string_bytes out.old ++ clean_text text.now) }
 {
+    if is_printable(text) {
+        out.push_str(text)?;
+        return Ok(());
+    }
     for c in text.chars() {
         out.push(shown_character(c))?;
     }
@@ -108,5 +133,5 @@ pub(crate) fn width_of<C: Shown>(
 {
     scratch.clear();
     cell.push_text(scratch, display)?;
-    Ok(scratch.as_str().width())
+    Ok(text_width(scratch.as_str()))
 }

@@ -16,8 +16,8 @@ loop-directive-preserved c =
     let is = ap directive_value c.directive-item.is in record {
       rows = c.in-Ok.ensures.rows ∙ (λ k. c.loop-directive.invariant.rows k ++ rows_in (is k)) ∙ sym rows;
       decimals = λ name. c.in-Ok.ensures.decimals name
-      ∙ (λ k. decimals_from (c.loop-directive.invariant.decimals name k) name (postings_in (is k)))
-      ∙ sym (decimals_from-append 0 name (flat_map postings_in (map directive_value (take i ds))) _) ∙ ap (decimals_from 0 name) (sym postings);
+          ∙ (λ k. decimals_from (c.loop-directive.invariant.decimals name k) name (postings_in (is k)))
+          ∙ sym (decimals_from-append 0 name (flat_map postings_in (map directive_value (take i ds))) _) ∙ ap (decimals_from 0 name) (sym postings);
     }
 
 pub returns-in-Err-clause-full : goal.returns-in-Err-clause-full

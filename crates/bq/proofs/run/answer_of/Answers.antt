@@ -16,6 +16,6 @@ loop-row-preserved c =
     let next = seen_more shown_row rows c.loop-row.row none (omega arith) in
     let items = c.in_ok-push.ensures.items in record {
       rows = ap (map (λ row. map value_of row.items)) items ∙ map-append (λ row. map value_of row.items) c.loop-row.rows.items _
-      ∙ (λ k. c.loop-row.invariant.rows k ++ c.in_ok-shown_row.ensures.values none k ∷ []) ∙ sym next;
+          ∙ (λ k. c.loop-row.invariant.rows k ++ c.in_ok-shown_row.ensures.values none k ∷ []) ∙ sym next;
       widths = subst (All (λ row. vec_len row ≡ 4)) (sym items) (All-push (λ row. vec_len row ≡ 4) _ _ c.loop-row.invariant.widths c.in_ok-shown_row.ensures.len);
     }

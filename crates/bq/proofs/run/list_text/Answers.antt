@@ -8,8 +8,7 @@ pub returns-in-Ok-write_table : goal.returns-in-Ok-write_table
 returns-in-Ok-write_table g c =
     let answer = c.in-Ok-answer_of.answer in
     let ledger = c.in-Ok.ledger in
-    let told = c.in-Ok-answer_of.ensures in
-    (
+    let told = c.in-Ok-answer_of.ensures in (
       table_text (names_of answer) (values_of answer) (places_of c.display.result.now),
       record {
         rows = rows_of ledger;

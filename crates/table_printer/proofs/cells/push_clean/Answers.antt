@@ -4,7 +4,12 @@ use Rattle.std.specs.String.{string_bytes}
 use Rattle.std.proofs.lemmas.Iterator.{YieldsList-from_chars}
 use Rattle.std.proofs.lemmas.Iterator.Consumers.{YieldsList-end}
 use Rattle.table_printer.specs.Values.{shown_character}
+use Rattle.table_printer.proofs.Printable.{clean_printable}
 use Rattle.table_printer.proofs.cells.push_clean.Goals as goal
+
+pub returns-then-is_printable : goal.returns-then-is_printable
+returns-then-is_printable c =
+    c.in_ok-push_str.ensures.bytes ∙ ap (λ l. string_bytes c.args.out.now ++ l) (sym (clean_printable c.args.text.now (sym c.is_printable.ensures ∙ c.if-is_printable.true)))
 
 pub returns : goal.returns
 returns c =
