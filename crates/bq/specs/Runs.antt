@@ -42,6 +42,18 @@ pub record Ends (S O : Type 0) : Type 1 where
   pub out_before : O
   pub out_after : O
 
+abbrev pub between : {S O : Type 0} → (S → ℕ) → (S → Option (List Reading)) → (O → Option (List ℕ)) → (O → List ℕ → Result ℕ NotTaken → O → Type 0) → S → S → O → O → Ends S O
+between failures told taken may_answer store store' out out' = record {
+  failures = failures;
+  told = told;
+  taken = taken;
+  may_answer = may_answer;
+  store_before = store;
+  store_after = store';
+  out_before = out;
+  out_after = out';
+}
+
 -- the bytes that the store gave, of which this holds, and nothing was written
 abbrev pub RefusesBytes : {S O : Type 0} → Ends S O → List ℕ → (List ℕ → Type 0) → Type 0
 RefusesBytes ends name Cause = (bytes : List ℕ) × Gave (ends.told ends.store_before) (ends.told ends.store_after) name bytes × Cause bytes × (ends.out_after ≡ ends.out_before)

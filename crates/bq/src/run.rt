@@ -4,7 +4,7 @@ ghost use Rattle.table_printer.specs.Values.{names_of, rows_of as values_of, val
 ghost use Rattle.posting_table.specs.Rows.{RowValue};
 ghost use Rattle.posting_table.specs.Ledgers.{rows_of};
 ghost use Rattle.bq.specs.Listing.{headers, shown_row};
-ghost use Rattle.bq.specs.Runs.{ListsText, ListsNamed, RunsList, EndsRun, Answers};
+ghost use Rattle.bq.specs.Runs.{ListsText, between, ListsNamed, RunsList, EndsRun, Answers};
 
 use crate::listing::{LedgerFault, ledger_of};
 use crate::refusal::Refusal;
@@ -95,16 +95,8 @@ fn list<S: Source, O: Output>(
     store: &mut S,
     out: &mut O,
 ) -> Result<(), Refusal>
-    ensures { ListsNamed (record {
-      failures = S.failures;
-      told = S.told;
-      taken = O.taken;
-      may_answer = O.may_answer;
-      store_before = store.old;
-      store_after = store.new;
-      out_before = out.old;
-      out_after = out.new;
-    }) name.now result }
+    ensures { ListsNamed (between S.failures S.told O.taken O.may_answer
+        store.old store.new out.old out.new) name.now result }
 {
     let bytes = match store.text(name) {
         Ok(bytes) => bytes,
@@ -127,16 +119,8 @@ fn run<S: Store, O: Output>(
     store: &mut S,
     out: &mut O,
 ) -> Result<(), Refusal>
-    ensures { RunsList (record {
-      failures = S.failures;
-      told = S.told;
-      taken = O.taken;
-      may_answer = O.may_answer;
-      store_before = store.old;
-      store_after = store.new;
-      out_before = out.old;
-      out_after = out.new;
-    })
+    ensures { RunsList (between S.failures S.told O.taken O.may_answer
+        store.old store.new out.old out.new)
         (map (λ w. w.now) words.now) result }
 {
     let name = ledger_named(alloc, words)?;
@@ -153,27 +137,11 @@ pub fn run_words<S: Store, O: Output, E: Output>(
     out: &mut O,
     err: &mut E,
 ) -> u8
-    ensures ends { EndsRun (record {
-      failures = S.failures;
-      told = S.told;
-      taken = O.taken;
-      may_answer = O.may_answer;
-      store_before = store.old;
-      store_after = store.new;
-      out_before = out.old;
-      out_after = out.new;
-    })
+    ensures ends { EndsRun (between S.failures S.told O.taken O.may_answer
+        store.old store.new out.old out.new)
         (map (λ w. w.now) words.now) result }
-    ensures answered { result ≡ 0 → Answers (record {
-      failures = S.failures;
-      told = S.told;
-      taken = O.taken;
-      may_answer = O.may_answer;
-      store_before = store.old;
-      store_after = store.new;
-      out_before = out.old;
-      out_after = out.new;
-    })
+    ensures answered { result ≡ 0 → Answers (between S.failures S.told O.taken O.may_answer
+        store.old store.new out.old out.new)
         (map (λ w. w.now) words.now) }
 {
     match run(alloc, words, store, out) {

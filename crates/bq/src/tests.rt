@@ -73,7 +73,9 @@ fn a_short_output_has_the_first_bytes(rt: HostRuntime) -> Result<(), Fail> {
 fn a_short_output_is_told_with_its_count(rt: HostRuntime) -> Result<(), Fail> {
     let alloc = rt.alloc();
     let mut headers = Vec::new(alloc);
-    headers.push("date")?;
+    for name in ["date", "flag", "account", "position"] {
+        headers.push(name)?;
+    }
     let answer = Answer {
         headers,
         rows: Vec::new(alloc),
@@ -81,9 +83,9 @@ fn a_short_output_is_told_with_its_count(rt: HostRuntime) -> Result<(), Fail> {
         groups: 0,
     };
     let ledger = posting_table::ledger::Ledger::new(alloc);
-    let mut out = ShortWriter::new(alloc, 3);
+    let mut out = ShortWriter::new(alloc, 5);
     let written = write_table(alloc, &answer, ledger.display(), &mut out);
-    assert_eq!(rt; written.err(), Some(PrintFault::NotWritten { written: 3 }));
-    assert_eq!(rt; out.taken(), b"dat".as_slice());
+    assert_eq!(rt; written.err(), Some(PrintFault::NotWritten { written: 5 }));
+    assert_eq!(rt; out.taken(), b"date ".as_slice());
     Ok(())
 }
