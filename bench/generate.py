@@ -69,13 +69,21 @@ def day_at(done, postings, pick):
     return FIRST_DAY + datetime.timedelta(days=done * DAYS // postings - late)
 
 
+def size_of_next(left, pick):
+    """Two to four postings, so that not one alone is left for the last transaction."""
+    size = min(pick.choices([2, 3, 4], weights=[60, 25, 15])[0], left)
+    if left - size == 1:
+        return size + 1 if size == 2 else size - 1
+    return size
+
+
 def ledger(postings, seed, unlisted):
     pick = random.Random(seed)
     names = accounts(min(300, max(30, postings // 300)), pick)
     yield opens(names, FIRST_DAY)
     done = 0
     while done < postings:
-        size = min(pick.choices([2, 3, 4], weights=[60, 25, 15])[0], max(postings - done, 2))
+        size = size_of_next(postings - done, pick)
         day = day_at(done, postings, pick)
         yield transaction(f"{day.year}-06-31" if unlisted else day, size, names, pick)
         done += size
