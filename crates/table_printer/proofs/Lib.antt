@@ -1,5 +1,6 @@
 pub mod Decimals
-pub mod Lines
+pub mod Joined
 pub mod Pieces
-pub mod Names
+pub mod Seen
 pub mod Printable
+pub mod Written

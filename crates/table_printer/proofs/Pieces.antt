@@ -1,13 +1,20 @@
 -- The pieces of a line, one by one.
-use Rattle.std.proofs.Common.{◌≡◌, ℕ, zero, suc, ◌+◌, ◌<◌, ◌≤◌, max, map, fold, List, [], ◌∷◌, ◌++◌, length, get_or, take, arith, sym, ap, ◌∙◌, refl, length-take-le}
+use Rattle.std.proofs.Common.{◌≡◌, ℕ, zero, suc, ◌+◌, ◌<◌, ◌≤◌, max, map, fold, false, List, [], ◌∷◌, ◌++◌, length, get_or, take, Some, arith, sym, ap, ◌∙◌, refl, length-take-le}
 use Rattle.table_printer.specs.Layout.{joined, gap}
 use Rattle.std.proofs.lemmas.List.{append-nil, get_or-map, length-map, map-append, take_more, take_all}
 use Rattle.std.proofs.lemmas.Grind.{flat_map-append}
-use Rattle.std.specs.List.{flat_map}
+use Rattle.std.specs.List.{flat_map, slice_get}
+use Rattle.std.proofs.lemmas.Option.{slice_get_within, get_or_from_slice_get}
 use Rattle.std.proofs.lemmas.List.Sums.{fold-append}
 use Rattle.table_printer.specs.Table.{Cell, cell_of, padded, pieces, width_at, column_width}
-use Rattle.table_printer.specs.Values.{ShownValue}
-use Rattle.table_printer.proofs.Lines.{joined_more}
+use Rattle.table_printer.specs.Headers.{width_of}
+use Rattle.table_printer.specs.declared.columns.Column.{Column}
+use Rattle.std.proofs.Math.ListN.{get_or-map as get_or-map_default}
+use Rattle.table_printer.proofs.Joined.{joined_more}
+
+-- the width of the column at a place; 0 behind the last
+pub width_is : (columns : List Column) (i : ℕ) → (get_or columns i (record { name = record { ref_ptr = (0, 0); now = [] }; width = 0; has_numbers = false })).width ≡ get_or (map width_of columns) i 0
+width_is columns i = sym (get_or-map_default width_of columns i (record { name = record { ref_ptr = (0, 0); now = [] }; width = 0; has_numbers = false }))
 
 pub length-pieces : (ws : List ℕ) (cs : List Cell) → length cs ≡ length ws → length (pieces ws cs) ≡ length cs
 length-pieces [] cs same = sym same
@@ -38,6 +45,12 @@ pieces_more_of f ws xs i x same within is =
     let many : length (map f xs) ≡ length xs = length-map xs f in
     pieces_more ws (map f xs) i (f x) (many ∙ same) (omega arith) (ap f is ∙ sym (get_or-map f xs i x (f x) within))
 
+-- the same where the next is seen at its place
+pub pieces_more_at : {X : Type 0} (f : X → Cell) (ws : List ℕ) (xs : List X) (i : ℕ) (x : X) → length xs ≡ length ws → Some x ≡ slice_get xs i →
+    joined (take (i + 1) (pieces ws (map f xs))) ≡ joined (take i (pieces ws (map f xs))) ++ gap i ++ padded (get_or ws i 0) (f x)
+pieces_more_at f ws xs i x same is =
+    pieces_more_of f ws xs i x same (slice_get_within xs i x (sym is)) (sym (get_or_from_slice_get xs i x x (sym is)))
+
 -- one more line
 pub column_width_more : {X : Type 0} (f : X → List Cell) (head : List Cell) (xs : List X) (i column : ℕ) (x : X) → i < length xs → x ≡ get_or xs i x →
     column_width (head ∷ map f (take (i + 1) xs)) column ≡ max (column_width (head ∷ map f (take i xs)) column) (width_at column (f x))
@@ -48,23 +61,6 @@ column_width_more f head xs i column x within is =
     ap (map f) (take_more xs i x within ∙ ap (λ y. take i xs ++ y ∷ []) (sym is)) ∙ map-append f (take i xs) (x ∷ []) in
     ap (λ l. fold max start (map width l)) more ∙ ap (fold max start) (map-append width (map f (take i xs)) (f x ∷ []))
     ∙ fold-append max start (map width (map f (take i xs))) (width (f x) ∷ [])
-
--- all the lines, where the values of the rows are seen first
-module _ {X Y : Type 0} (see : X → ShownValue) (items : Y → List X) (places : List ℕ → ℕ) where
-  seen_once : (vs : List X) → map (λ v. cell_of places (see v)) vs ≡ map (cell_of places) (map see vs)
-  seen_once [] = refl
-  seen_once (v ∷ vs) = ap (λ l. cell_of places (see v) ∷ l) (seen_once vs)
-
-  pub seen_twice : (rows : List Y) → map (λ row. map (λ v. cell_of places (see v)) (items row)) rows ≡ map (map (cell_of places)) (map (λ row. map see (items row)) rows)
-  seen_twice [] = refl
-  seen_twice (r ∷ rows) = λ k. seen_once (items r) k ∷ seen_twice rows k
-
-  pub column_width_of : (head : List Cell) (rows : List Y) (i column : ℕ) → length rows ≤ i →
-      column_width (head ∷ map (λ row. map (λ v. cell_of places (see v)) (items row)) (take i rows)) column
-      ≡ column_width (head ∷ map (map (cell_of places)) (map (λ row. map see (items row)) rows)) column
-  column_width_of head rows i column all =
-      ap (λ l. column_width (head ∷ map (λ row. map (λ v. cell_of places (see v)) (items row)) l) column) (take_all i rows all)
-      ∙ ap (λ l. column_width (head ∷ l) column) (seen_twice rows)
 
 -- the line of one more row
 pub lines_more : {X : Type 0} (line : List Cell → List ℕ) (f : X → List Cell) (xs : List X) (i : ℕ) (x : X) → i < length xs → x ≡ get_or xs i x →

@@ -46,3 +46,6 @@ clean_printable bs h = ap (flat_map (λ c. encode_utf8 (shown_character c))) (ch
 
 pub width_printable : (bs : List ℕ) → list_all is_printable bs ≡ true → text_width bs ≡ length bs
 width_printable bs h = ap (str_width false) (chars_of bs h) ∙ str_width-printable false bs h
+
+pub clean_width_printable : (bs : List ℕ) → list_all is_printable bs ≡ true → text_width (clean_text bs) ≡ length bs
+clean_width_printable bs h = ap text_width (clean_printable bs h) ∙ width_printable bs h

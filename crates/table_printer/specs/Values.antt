@@ -1,5 +1,5 @@
 -- What an answer holds, without where its texts lie in memory, and the text of each value.
-use Rattle.std.specs.Prelude.{ℕ, ℤ, Bool, true, false, List, [], ◌∷◌, ◌++◌, map, chars, encode_utf8, if◌then◌else◌}
+use Rattle.std.specs.Prelude.{ℕ, ℤ, Bool, true, false, List, [], ◌∷◌, ◌++◌, map, chars, encode_utf8, slice_index_or, if◌then◌else◌}
 use Rattle.std.specs.Char.{is_control}
 use Rattle.std.specs.List.{flat_map}
 use Rattle.bean_base.specs.Days.{DayValue, day_value}
@@ -40,6 +40,10 @@ names_of answer = map (λ name. name.now) answer.headers.items
 
 abbrev pub rows_of : Answer → List (List ShownValue)
 rows_of answer = map (λ row. map value_of row.items) answer.rows.items
+
+-- a row: none behind the last
+abbrev pub row_at : List (List ShownValue) → ℕ → List ShownValue
+row_at rows i = slice_index_or rows i []
 
 -- a control character becomes a space
 abbrev pub shown_character : ℕ → ℕ

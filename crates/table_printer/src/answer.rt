@@ -3,6 +3,7 @@ ghost use Rattle.std.specs.Prelude.{◌≡◌};
 ghost use Rattle.table_printer.specs.Values.{from_cell, is_number, value_of};
 ghost use Rattle.posting_table.specs.Rows.{cell_of};
 
+use crate::rows::Rows;
 use bean_base::days::Day;
 use bean_base::num::Num;
 use posting_table::row::{Cell, Position};
@@ -45,5 +46,29 @@ impl<'a> Value<'a> {
         ensures { result ≡ is_number (value_of self.now) }
     {
         matches!(self, Value::Number(_))
+    }
+}
+
+impl Rows for Answer<'_> {
+    ghost use Rattle.table_printer.specs.Values.{names_of, rows_of};
+
+    ghost names = { names_of };
+
+    ghost rows = { rows_of };
+
+    fn columns(&self) -> usize {
+        self.headers.len()
+    }
+
+    fn name(&self, column: usize) -> &str {
+        self.headers[column]
+    }
+
+    fn len(&self) -> usize {
+        self.rows.len()
+    }
+
+    fn value(&self, row: usize, column: usize) -> Value<'_> {
+        self.rows[row][column]
     }
 }

@@ -1,39 +1,37 @@
-//! What stands in the lines of a table: headers and values, with their texts.
-ghost use Rattle.std.specs.Prelude.{◌≡◌, ◌++◌, ℕ, List, OnOk, IfOk, map, encode_utf8_all, chars};
+//! The texts of values, and how wide they are.
+ghost use Rattle.std.specs.Prelude.{◌≡◌, ◌++◌, OnOk, IfOk};
 ghost use Rattle.std.specs.Int.{is_in_range};
 ghost use Rattle.std.specs.List.{list_all};
 ghost use Rattle.std.specs.String.{string_bytes};
 ghost use Rattle.posting_table.specs.Decimals.{places_of};
-ghost use Rattle.table_printer.specs.Table.{Cell, cell_of, text_width};
-ghost use Rattle.table_printer.specs.Values.{value_of, clean_text, shown_character};
+ghost use Rattle.table_printer.specs.Digits.{number_text};
+ghost use Rattle.table_printer.specs.Table.{text_width};
+ghost use Rattle.table_printer.specs.Values.{value_of, value_text, clean_text, shown_character};
 
 use crate::answer::Value;
 use crate::digits::{push_day, push_number};
+use bean_base::num::Num;
 use posting_table::display::Display;
 use posting_table::row::Position;
-use std::alloc::AllocError;
+use std::alloc::{AllocError, Global};
 use unicode_width::UnicodeWidthStr;
 
-/// What stands in a line of the table.
-pub(crate) trait Shown {
-    /// The cell, where these are the display decimals of the currencies.
-    ghost cell: { (List ℕ → ℕ) → Self → Cell };
-
-    /// Adds its text.
-    fn push_text(&self, out: &mut String, display: &Display<'_>) -> Result<(), AllocError>
-        ensures { OnOk result (string_bytes out.new
-            ≡ string_bytes out.old ++ (cell (places_of display.now) self.now).text) };
-
-    /// Whether it stands at the right of its column.
-    fn stands_right(&self) -> bool
-        ensures { (places : List ℕ → ℕ) → result ≡ (cell places self.now).stands_right };
+/// Buffers that every cell uses again.
+#[derive(Drop)]
+pub(crate) struct Scratch {
+    /// A text without control characters.
+    clean: String,
+    /// A text that is only measured.
+    measured: Vec<u8>,
 }
 
-/// The name of a column.
-#[derive(Clone, Copy)]
-pub(crate) struct Header<'a> {
-    pub name: &'a str,
-    pub is_over_numbers: bool,
+impl Scratch {
+    pub(crate) fn new(alloc: Global) -> Scratch {
+        Scratch {
+            clean: String::new(alloc),
+            measured: Vec::new(alloc),
+        }
+    }
 }
 
 fn shown_character(c: char) -> char
@@ -42,96 +40,124 @@ fn shown_character(c: char) -> char
     if c.is_control() { ' ' } else { c }
 }
 
-/// Whether a text has printable ASCII characters alone, as most have.
+/// Whether a text has printable ASCII characters alone, as most have. It shows as it is then, and
+/// takes a column for each byte.
 fn is_printable(text: &str) -> bool
     ensures { result ≡ list_all (is_in_range 32 126) text.now }
 {
     text.as_bytes().iter().all(|b| 32 <= *b && *b <= 126)
 }
 
-/// How many columns of a terminal a text takes.
-#[tactic(auto, using(crate::proofs::Printable::width_printable))]
-fn text_width(text: &str) -> usize
-    ensures { result ≡ text_width text.now }
+/// A text with spaces in place of its control characters, in place of what was there.
+fn make_clean(clean: &mut String, text: &str) -> Result<(), AllocError>
+    ensures { OnOk result (string_bytes clean.new ≡ clean_text text.now) }
 {
-    if is_printable(text) {
-        text.len()
-    } else {
-        text.width()
-    }
-}
-
-/// A text with spaces in place of its control characters.
-fn push_clean(out: &mut String, text: &str) -> Result<(), AllocError>
-    ensures { OnOk result (string_bytes out.new ≡ string_bytes out.old ++ clean_text text.now) }
-{
-    if is_printable(text) {
-        out.push_str(text)?;
-        return Ok(());
-    }
+    clean.clear();
     for c in text.chars() {
-        out.push(shown_character(c))?;
+        clean.push(shown_character(c))?;
     }
     Ok(())
 }
 
+/// How many columns of a terminal a text takes without its control characters.
+fn clean_width(text: &str, clean: &mut String) -> Result<usize, AllocError>
+    ensures { IfOk result (λ n. n ≡ text_width (clean_text text.now)) }
+{
+    if is_printable(text) {
+        return Ok(text.len());
+    }
+    make_clean(clean, text)?;
+    Ok(clean.width())
+}
+
+/// Adds a text without its control characters, and tells its width.
+fn push_clean(out: &mut Vec<u8>, text: &str, clean: &mut String) -> Result<usize, AllocError>
+    ensures text { OnOk result (out.new.items ≡ out.old.items ++ clean_text text.now) }
+    ensures width { IfOk result (λ n. n ≡ text_width (clean_text text.now)) }
+{
+    if is_printable(text) {
+        out.extend_from_slice(text.as_bytes())?;
+        return Ok(text.len());
+    }
+    make_clean(clean, text)?;
+    out.extend_from_slice(clean.as_bytes())?;
+    Ok(clean.width())
+}
+
+/// Adds a number with the fewest decimals that are exact, and tells its width.
+fn push_exact(out: &mut Vec<u8>, number: Num) -> Result<usize, AllocError>
+    ensures text { OnOk result (out.new.items
+        ≡ out.old.items ++ number_text number.count number.places 0) }
+    ensures width { IfOk result (λ n. n ≡ text_width (number_text number.count number.places 0)) }
+{
+    let start = out.len();
+    push_number(out, number, 0)?;
+    Ok(out.len() - start)
+}
+
+/// Adds units and their currency, and tells their width.
 fn push_position(
-    out: &mut String,
+    out: &mut Vec<u8>,
     position: &Position<'_>,
     display: &Display<'_>,
-) -> Result<(), AllocError>
-    ensures { OnOk result (string_bytes out.new ≡ string_bytes out.old
-        ++ (cell_of (places_of display.now) (value_of (Value.Position position.now))).text) }
+) -> Result<usize, AllocError>
+    ensures text { OnOk result (out.new.items ≡ out.old.items
+        ++ value_text (places_of display.now) (value_of (Value.Position position.now))) }
+    ensures width { IfOk result (λ n. n
+        ≡ text_width (value_text (places_of display.now) (value_of (Value.Position position.now)))) }
 {
+    let start = out.len();
     let currency = position.currency.text;
     push_number(out, position.number, display.places(currency))?;
-    out.push_str(" ")?;
-    out.push_str(currency)?;
-    Ok(())
+    out.push(b' ')?;
+    out.extend_from_slice(currency.as_bytes())?;
+    Ok(out.len() - start)
 }
 
-impl Shown for Header<'_> {
-    ghost use Rattle.table_printer.specs.Headers.{header_cell};
+/// How wide the text of a day is.
+const DAY_WIDTH: usize = 10;
 
-    ghost cell = { λ _ header. header_cell header };
-
-    fn push_text(&self, out: &mut String, display: &Display<'_>) -> Result<(), AllocError> {
-        push_clean(out, self.name)
-    }
-
-    fn stands_right(&self) -> bool {
-        self.is_over_numbers
-    }
-}
-
-impl Shown for Value<'_> {
-    ghost cell = { λ places value. cell_of places (value_of value) };
-
-    fn push_text(&self, out: &mut String, display: &Display<'_>) -> Result<(), AllocError> {
+impl Value<'_> {
+    /// Adds the text, and tells how many columns of a terminal it takes.
+    pub(crate) fn push_text(
+        &self,
+        out: &mut Vec<u8>,
+        scratch: &mut Scratch,
+        display: &Display<'_>,
+    ) -> Result<usize, AllocError>
+        ensures text { OnOk result (out.new.items ≡ out.old.items
+            ++ value_text (places_of display.now) (value_of self.now)) }
+        ensures width { IfOk result (λ n. n
+            ≡ text_width (value_text (places_of display.now) (value_of self.now))) }
+    {
         match self {
-            Value::Null => Ok(()),
-            Value::Number(number) => push_number(out, *number, 0),
-            Value::Text(text) => push_clean(out, text),
-            Value::Day(day) => push_day(out, *day),
+            Value::Null => Ok(0),
+            Value::Number(number) => push_exact(out, *number),
+            Value::Text(text) => push_clean(out, text, &mut scratch.clean),
+            Value::Day(day) => {
+                push_day(out, *day)?;
+                Ok(DAY_WIDTH)
+            }
             Value::Position(position) => push_position(out, position, display),
         }
     }
 
-    fn stands_right(&self) -> bool {
-        self.is_number()
+    /// How many columns of a terminal the text takes.
+    pub(crate) fn width(
+        &self,
+        scratch: &mut Scratch,
+        display: &Display<'_>,
+    ) -> Result<usize, AllocError>
+        ensures { IfOk result (λ n. n
+            ≡ text_width (value_text (places_of display.now) (value_of self.now))) }
+    {
+        scratch.measured.clear();
+        match self {
+            Value::Null => Ok(0),
+            Value::Number(number) => push_exact(&mut scratch.measured, *number),
+            Value::Text(text) => clean_width(text, &mut scratch.clean),
+            Value::Day(_) => Ok(DAY_WIDTH),
+            Value::Position(position) => push_position(&mut scratch.measured, position, display),
+        }
     }
-}
-
-/// Writes a cell's text in place of another, and tells how many columns of a terminal it takes.
-pub(crate) fn width_of<C: Shown>(
-    cell: &C,
-    scratch: &mut String,
-    display: &Display<'_>,
-) -> Result<usize, AllocError>
-    ensures text { OnOk result (string_bytes scratch.new ≡ (C.cell (places_of display.now) cell.now).text) }
-    ensures width { IfOk result (λ n. n ≡ text_width (C.cell (places_of display.now) cell.now).text) }
-{
-    scratch.clear();
-    cell.push_text(scratch, display)?;
-    Ok(text_width(scratch.as_str()))
 }

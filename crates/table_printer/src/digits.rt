@@ -1,66 +1,70 @@
 //! The texts of numbers and days.
-ghost use Rattle.std.specs.Prelude.{◌≡◌, ◌++◌, ◌/◌, ◌%◌, ◌<◌, ◌≤◌, ◌^◌, [], OnOk, if◌then◌else◌};
+ghost use Rattle.std.specs.Prelude.{◌≡◌, ◌+◌, ◌-◌, ◌/◌, ◌%◌, ◌^◌, [], ◌∷◌, ◌++◌, OnOk, length, if◌then◌else◌};
 ghost use Rattle.std.specs.Int.RustNames.{unsigned_abs};
-ghost use Rattle.std.specs.String.{string_bytes};
 ghost use Rattle.bean_base.specs.Days.{day_value};
 ghost use Rattle.table_printer.specs.Digits.{digits_of, exact_decimals, decimals_of, number_text, day_text, zeros};
 
+use crate::runs::push_run;
 use bean_base::days::Day;
 use bean_base::num::Num;
+use itoa::Buffer;
 use std::alloc::AllocError;
 
-/// The last `places` digits of a number.
-fn push_digits(text: &mut String, places: u8, number: u64) -> Result<(), AllocError>
-    ensures { OnOk result (string_bytes text.new ≡ string_bytes text.old ++ digits_of places number) }
+fn digit(number: u64) -> u8
+    ensures { result ≡ 48 + number % 10 }
 {
-    if places > 0 {
-        push_digits(text, places - 1, number / 10)?;
-        text.push((b'0' + (number % 10) as u8) as char)?;
+    b'0' + (number % 10) as u8
+}
+
+/// The last `places` digits of a number.
+fn push_digits(out: &mut Vec<u8>, places: u8, number: u64) -> Result<(), AllocError>
+    ensures { OnOk result (out.new.items ≡ out.old.items ++ digits_of places number) }
+{
+    if places == 0 {
+        return Ok(());
     }
+    push_digits(out, places - 1, number / 10)?;
+    out.push(b'0' + (number % 10) as u8)?;
     Ok(())
 }
 
-/// Decimals without the zeros at their end: how many they are, and the number that they write.
-fn without_zeros(places: u8, decimals: u64) -> (u8, u64)
-    ensures exact { digits_of result.0 result.1 ≡ exact_decimals places decimals }
-    ensures fewer { result.0 ≤ places }
+/// Decimals without the zeros at their end behind the first `least`: how many they are, and the
+/// number that they write.
+fn without_zeros(places: u8, decimals: u64, least: u8) -> (u8, u64)
+    ensures { digits_of result.0 result.1 ++ zeros (least - result.0)
+        ≡ exact_decimals places decimals ++ zeros (least - length (exact_decimals places decimals)) }
 {
     let mut places = places;
     let mut decimals = decimals;
-    while places > 0 && decimals % 10 == 0 {
+    while places > least && decimals % 10 == 0 {
         places -= 1;
         decimals /= 10;
     }
     (places, decimals)
 }
 
-fn push_zeros(text: &mut String, count: u8) -> Result<(), AllocError>
-    ensures { OnOk result (string_bytes text.new ≡ string_bytes text.old ++ zeros count) }
+fn push_if(out: &mut Vec<u8>, mark: u8, is_wanted: bool) -> Result<(), AllocError>
+    ensures { OnOk result (out.new.items ≡ out.old.items ++ (if is_wanted then mark ∷ [] else [])) }
 {
-    for _i in 0..count {
-        text.push('0')?;
+    if is_wanted {
+        out.push(mark)?;
     }
     Ok(())
 }
 
-fn push_if(text: &mut String, mark: &str, is_wanted: bool) -> Result<(), AllocError>
-    ensures { OnOk result (string_bytes text.new ≡ string_bytes text.old ++ (if is_wanted then mark.now else [])) }
-{
-    if is_wanted {
-        text.push_str(mark)
-    } else {
-        Ok(())
-    }
-}
-
 /// The point and the decimals, as few as are exact but at least so many.
-fn push_decimals(text: &mut String, places: u8, decimals: u64, least: u8) -> Result<(), AllocError>
-    ensures { OnOk result (string_bytes text.new ≡ string_bytes text.old ++ decimals_of places decimals least) }
+fn push_decimals(
+    out: &mut Vec<u8>,
+    places: u8,
+    decimals: u64,
+    least: u8,
+) -> Result<(), AllocError>
+    ensures { OnOk result (out.new.items ≡ out.old.items ++ decimals_of places decimals least) }
 {
-    let (exact, shown) = without_zeros(places, decimals);
-    push_if(text, ".", exact.max(least) > 0)?;
-    push_digits(text, exact, shown)?;
-    push_zeros(text, least.saturating_sub(exact))?;
+    let (shown, digits) = without_zeros(places, decimals, least);
+    push_if(out, b'.', shown.max(least) > 0)?;
+    push_digits(out, shown, digits)?;
+    push_run(out, b'0', least.saturating_sub(shown) as usize)?;
     Ok(())
 }
 
@@ -70,28 +74,47 @@ fn parts_of(number: Num) -> (u64, u64)
     ensures decimals { result.1 ≡ unsigned_abs number.count % 10 ^ number.places }
 {
     let magnitude = number.count.unsigned_abs();
-    let unit = 10u128.pow(number.places as u32);
-    ((magnitude / unit) as u64, (magnitude % unit) as u64)
+    let unit = 10u64.pow(number.places as u32);
+    match u64::try_from(magnitude) {
+        Ok(magnitude) => (magnitude / unit, magnitude % unit),
+        Err(_) => (
+            (magnitude / unit as u128) as u64,
+            (magnitude % unit as u128) as u64,
+        ),
+    }
 }
 
 /// A number with the fewest decimals that are exact, but at least so many.
-pub fn push_number(text: &mut String, number: Num, least: u8) -> Result<(), AllocError>
-    ensures { OnOk result (string_bytes text.new ≡ string_bytes text.old ++ number_text number.count number.places least) }
+pub(crate) fn push_number(out: &mut Vec<u8>, number: Num, least: u8) -> Result<(), AllocError>
+    ensures { OnOk result (out.new.items
+        ≡ out.old.items ++ number_text number.count number.places least) }
 {
-    push_if(text, "-", number.count < 0)?;
     let (whole, decimals) = parts_of(number);
-    write!(text, "{whole}")?;
-    push_decimals(text, number.places, decimals, least)
+    push_if(out, b'-', number.count < 0)?;
+    out.extend_from_slice(Buffer::new().format(whole).as_bytes())?;
+    push_decimals(out, number.places, decimals, least)?;
+    Ok(())
 }
 
 /// A day as `2014-01-31`.
-pub fn push_day(text: &mut String, day: Day) -> Result<(), AllocError>
-    ensures { OnOk result (string_bytes text.new ≡ string_bytes text.old ++ day_text (day_value day)) }
+pub(crate) fn push_day(out: &mut Vec<u8>, day: Day) -> Result<(), AllocError>
+    ensures { OnOk result (out.new.items ≡ out.old.items ++ day_text (day_value day)) }
 {
-    push_digits(text, 4, day.year().unsigned_abs() as u64)?;
-    text.push_str("-")?;
-    push_digits(text, 2, day.month() as u64)?;
-    text.push_str("-")?;
-    push_digits(text, 2, day.day() as u64)?;
+    let year = day.year().unsigned_abs() as u64;
+    let month = day.month() as u64;
+    let number = day.day() as u64;
+    let text = [
+        digit(year / 10 / 10 / 10),
+        digit(year / 10 / 10),
+        digit(year / 10),
+        digit(year),
+        b'-',
+        digit(month / 10),
+        digit(month),
+        b'-',
+        digit(number / 10),
+        digit(number),
+    ];
+    out.extend_from_slice(&text)?;
     Ok(())
 }

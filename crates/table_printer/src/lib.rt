@@ -4,8 +4,12 @@
 
 pub mod answer;
 mod cells;
+mod columns;
 mod digits;
+mod lines;
 pub mod output;
+pub mod rows;
+mod runs;
 pub mod short_writer;
 mod table;
 pub mod writing;

@@ -1,14 +1,13 @@
 //! Writing a table to an output.
-ghost use Rattle.std.specs.Prelude.{◌≡◌, ◌≤◌, ◌<◌, length, take, All, vec_len, IfOk};
+ghost use Rattle.std.specs.Prelude.{◌≡◌, ◌≤◌, ◌<◌, length, take, All, IfOk};
 ghost use Rattle.std.specs.Io.KnownBytes.{Appends, Keeps};
 ghost use Rattle.posting_table.specs.Decimals.{places_of};
 ghost use Rattle.table_printer.specs.Faults.{WritesTable};
 ghost use Rattle.table_printer.specs.Table.{table_text};
-ghost use Rattle.table_printer.specs.Values.{names_of, rows_of};
 ghost use Rattle.table_printer.specs.Writing.{Refused};
 
-use crate::answer::Answer;
 use crate::output::{NotTaken, Output};
+use crate::rows::Rows;
 use crate::table::print;
 use posting_table::display::Display;
 use std::alloc::{AllocError, Global};
@@ -41,19 +40,19 @@ pub fn write_bytes<W: Output>(out: &mut W, bytes: &[u8]) -> usize
     written
 }
 
-/// Writes the table of an answer: each row has as many values as there are headers. The whole text
-/// is made before the first byte is handed over, so where memory lacks the output has none of it.
-pub fn write_table<W: Output>(
+/// Writes the table of rows: each has as many values as there are columns. The whole text is made
+/// before the first byte is handed over, so where memory lacks the output has none of it.
+pub fn write_table<T: Rows, W: Output>(
     alloc: Global,
-    answer: &Answer<'_>,
+    table: &T,
     display: &Display<'_>,
     out: &mut W,
 ) -> Result<u64, PrintFault>
-    requires { All (λ row. vec_len row ≡ vec_len answer.now.headers) answer.now.rows.items }
+    requires { All (λ row. length row ≡ length (T.names table.now)) (T.rows table.now) }
     ensures { WritesTable W W.taken W.may_answer out.old out.new
-        (table_text (names_of answer.now) (rows_of answer.now) (places_of display.now)) result }
+        (table_text (T.names table.now) (T.rows table.now) (places_of display.now)) result }
 {
-    let Ok(text) = print(alloc, answer, display) else {
+    let Ok(text) = print(alloc, table, display) else {
         return Err(PrintFault::OutOfMemory);
     };
     let written = write_bytes(out, &text);

@@ -1,17 +1,17 @@
-use Rattle.std.proofs.Common.{ℕ, encode_utf8, ◌++◌, sym, ap, ◌∙◌, map-id}
-use Rattle.std.specs.List.{flat_map}
-use Rattle.std.specs.String.{string_bytes}
-use Rattle.std.proofs.lemmas.Iterator.{YieldsList-from_chars}
-use Rattle.std.proofs.lemmas.Iterator.Consumers.{YieldsList-end}
-use Rattle.table_printer.specs.Values.{shown_character}
-use Rattle.table_printer.proofs.Printable.{clean_printable}
+use Rattle.std.proofs.Common.{ap, sym, ◌∙◌, ◌++◌}
+use Rattle.table_printer.specs.Table.{text_width}
+use Rattle.table_printer.proofs.Printable.{clean_printable, clean_width_printable}
 use Rattle.table_printer.proofs.cells.push_clean.Goals as goal
 
 pub returns-then-is_printable : goal.returns-then-is_printable
 returns-then-is_printable c =
-    c.in_ok-push_str.ensures.bytes ∙ ap (λ l. string_bytes c.args.out.now ++ l) (sym (clean_printable c.args.text.now (sym c.is_printable.ensures ∙ c.if-is_printable.true)))
+    let plain = sym c.is_printable.ensures ∙ c.if-is_printable.true in record {
+      text = c.in_ok-extend_from_slice.ensures.items ∙ ap (λ l. c.args.out.now.items ++ l) (c.as_bytes.ensures.value ∙ sym (clean_printable c.args.text.now plain));
+      width = sym (clean_width_printable c.args.text.now plain);
+    }
 
 pub returns : goal.returns
-returns c =
-    let end = YieldsList-end (YieldsList-from_chars c.args.text.now c.utf8.text cc) c.loop-c.yielded _ c.loop-c.yielded_by _ _ c.in-None.is c.next.ensures.steps in
-    c.loop-c.invariant ∙ ap (λ cs. string_bytes c.args.out.now ++ flat_map (λ (c : ℕ). encode_utf8 (shown_character c)) cs) (sym (map-id c.loop-c.yielded) ∙ end.0)
+returns c = record {
+  text = c.in_ok-extend_from_slice-2.ensures.items ∙ ap (λ l. c.args.out.now.items ++ l) (c.as_bytes-2.ensures.value ∙ c.in_ok-make_clean.ensures);
+  width = c.width.ensures.value ∙ ap text_width (c.deref.ensures ∙ c.in_ok-make_clean.ensures);
+}
