@@ -4,5 +4,6 @@ pub mod Named
 pub mod Sources
 pub mod Arrangement
 pub mod Listing
+pub mod Columns
 pub mod Runs
 pub mod Memory

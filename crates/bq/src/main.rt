@@ -7,6 +7,7 @@ mod listing;
 mod memory;
 mod refusal;
 mod run;
+mod shown;
 mod store;
 #[cfg(test)]
 mod tests;

@@ -1,73 +1,18 @@
 //! What the program does with its words.
-ghost use Rattle.std.specs.Prelude.{◌≡◌, ◌<◌, length, ℕ, IfOk, All, map, vec_len, slice_index_or};
-ghost use Rattle.table_printer.specs.Values.{names_of, rows_of as values_of, value_of};
-ghost use Rattle.posting_table.specs.Rows.{RowValue};
-ghost use Rattle.posting_table.specs.Ledgers.{rows_of};
-ghost use Rattle.bq.specs.Listing.{headers, shown_row};
+ghost use Rattle.std.specs.Prelude.{◌≡◌, map};
 ghost use Rattle.bq.specs.Runs.{ListsText, between, ListsNamed, RunsList, EndsRun, Answers};
 
 use crate::listing::{LedgerFault, ledger_of};
 use crate::refusal::Refusal;
+use crate::shown::Postings;
 use crate::store::{Source, SourceFault, Store};
 use crate::words::ledger_named;
-use posting_table::ledger::Ledger;
-use posting_table::row::Column;
-use std::alloc::{AllocError, Global};
-use table_printer::answer::{Answer, Value};
+use std::alloc::Global;
 use table_printer::output::Output;
 use table_printer::writing::{PrintFault, write_bytes, write_table};
 
 /// The most bytes of a text: 16 MiB.
 pub const LARGEST_TEXT: usize = 16_777_216;
-
-fn headers(alloc: Global) -> Result<Vec<&'static str>, AllocError>
-    ensures names { IfOk result (λ v. map (λ name. name.now) v.items ≡ headers) }
-    ensures len { IfOk result (λ v. vec_len v ≡ 4) }
-{
-    let mut headers = Vec::with_capacity(alloc, 4)?;
-    headers.push("date")?;
-    headers.push("flag")?;
-    headers.push("account")?;
-    headers.push("position")?;
-    Ok(headers)
-}
-
-/// What `list` shows of a posting.
-fn shown_row<'a>(
-    alloc: Global,
-    ledger: &Ledger<'a>,
-    row: usize,
-) -> Result<Vec<Value<'a>>, AllocError>
-    requires { row < length (rows_of ledger.now) }
-    ensures values { IfOk result (λ v. (d : RowValue) → map value_of v.items ≡ shown_row (slice_index_or (rows_of ledger.now) row d)) }
-    ensures len { IfOk result (λ v. vec_len v ≡ 4) }
-{
-    let mut values = Vec::with_capacity(alloc, 4)?;
-    values.push(Value::of_cell(ledger.cell(row, Column::Date)))?;
-    values.push(Value::of_cell(ledger.cell(row, Column::Flag)))?;
-    values.push(Value::of_cell(ledger.cell(row, Column::Account)))?;
-    values.push(Value::of_cell(ledger.cell(row, Column::Position)))?;
-    Ok(values)
-}
-
-/// Date, flag, account and position of each posting.
-fn answer_of<'a>(alloc: Global, ledger: &Ledger<'a>) -> Result<Answer<'a>, AllocError>
-    ensures names { IfOk result (λ a. names_of a ≡ headers) }
-    ensures rows { IfOk result (λ a. values_of a ≡ map shown_row (rows_of ledger.now)) }
-    ensures widths { IfOk result (λ a. All (λ row. vec_len row ≡ vec_len a.headers) a.rows.items) }
-{
-    let headers = headers(alloc)?;
-    let mut rows = Vec::with_capacity(alloc, ledger.len())?;
-    for row in 0..ledger.len() {
-        rows.push(shown_row(alloc, ledger, row)?)?;
-    }
-    Ok(Answer {
-        headers,
-        rows,
-        steps: 0,
-        groups: ledger.len() as u64,
-    })
-}
 
 /// Writes the table of a text's postings.
 fn list_text<O: Output>(alloc: Global, text: &str, out: &mut O) -> Result<(), Refusal>
@@ -78,10 +23,8 @@ fn list_text<O: Output>(alloc: Global, text: &str, out: &mut O) -> Result<(), Re
         Err(LedgerFault::TooManyPostings) => return Err(Refusal::TooManyPostings),
         Err(LedgerFault::OutOfMemory) => return Err(Refusal::OutOfMemory),
     };
-    let Ok(answer) = answer_of(alloc, &ledger) else {
-        return Err(Refusal::OutOfMemory);
-    };
-    match write_table(alloc, &answer, ledger.display(), out) {
+    let postings = Postings { ledger: &ledger };
+    match write_table(alloc, &postings, ledger.display(), out) {
         Ok(_) => Ok(()),
         Err(PrintFault::NotWritten { .. }) => Err(Refusal::NotWritten),
         Err(PrintFault::OutOfMemory) => Err(Refusal::OutOfMemory),

@@ -53,12 +53,7 @@ fn push_if(out: &mut Vec<u8>, mark: u8, is_wanted: bool) -> Result<(), AllocErro
 }
 
 /// The point and the decimals, as few as are exact but at least so many.
-fn push_decimals(
-    out: &mut Vec<u8>,
-    places: u8,
-    decimals: u64,
-    least: u8,
-) -> Result<(), AllocError>
+fn push_decimals(out: &mut Vec<u8>, places: u8, decimals: u64, least: u8) -> Result<(), AllocError>
     ensures { OnOk result (out.new.items ≡ out.old.items ++ decimals_of places decimals least) }
 {
     let (shown, digits) = without_zeros(places, decimals, least);
