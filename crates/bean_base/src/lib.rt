@@ -10,5 +10,3 @@ pub mod fault;
 pub mod names;
 pub mod num;
 pub mod span;
-#[cfg(test)]
-mod tests;

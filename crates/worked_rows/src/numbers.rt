@@ -1,9 +1,9 @@
 //! The calls at values from outside, and the texts of the faults.
 
-use crate::days::{NotADay, parse_day};
-use crate::fault::FaultKind;
-use crate::names::{NameFault, parse_account, parse_currency};
-use crate::num::{Num, NumFault};
+use bean_base::days::{NotADay, parse_day};
+use bean_base::fault::FaultKind;
+use bean_base::names::{NameFault, parse_account, parse_currency};
+use bean_base::num::{Num, NumFault};
 use std::test::Fail;
 
 #[test]

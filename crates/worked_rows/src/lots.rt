@@ -1,11 +1,11 @@
 //! Reductions by each method, of long and of short positions.
 
-use crate::inventory::Inventory;
-use crate::lot::{Cost, Key, Lot};
-use crate::reduction::{LotFault, Method, Selector, reduce};
 use bean_base::days::parse_day;
 use bean_base::names::parse_currency;
 use bean_base::num::Num;
+use bean_lots::inventory::Inventory;
+use bean_lots::lot::{Cost, Key, Lot};
+use bean_lots::reduction::{LotFault, Method, Selector, reduce};
 use std::alloc::Global;
 use std::test::Fail;
 

@@ -1,0 +1,9 @@
+//! The libraries, called from outside at values that were worked out by hand, with ample memory.
+#![tactic(auto)]
+
+#[cfg(test)]
+mod lots;
+#[cfg(test)]
+mod numbers;
+#[cfg(test)]
+mod tables;
