@@ -1,5 +1,6 @@
 //! The program's own store and outputs: files, standard input and the standard streams.
-ghost use Rattle.std.specs.Prelude.{⊤};
+ghost use Rattle.std.specs.Prelude.{◌≡◌, ⊤};
+ghost use Rattle.bq.specs.Sources.{failures_behind};
 
 use crate::store::{Source, SourceFault, Store};
 use std::alloc::{AllocError, Global};
@@ -24,7 +25,10 @@ pub struct HostStore<R> {
 }
 
 impl<R> HostStore<R> {
-    pub fn new(rt: R) -> HostStore<R> {
+    /// A store that didn't fail yet.
+    pub fn new(rt: R) -> HostStore<R>
+        ensures { result.failures ≡ 0 }
+    {
         HostStore { rt, failures: 0 }
     }
 }
@@ -69,6 +73,8 @@ fn bytes_of<R: Files + Input + AllocGlobal>(rt: &R, name: &str) -> Result<Vec<u8
 impl<R: Files + Input + AllocGlobal + Drop> Source for HostStore<R> {
     ghost failures = { λ s. s.failures };
 
+    ghost may_give = { λ before _ answer after. after.failures ≡ failures_behind before.failures answer };
+
     fn text(&mut self, name: &str) -> Result<Vec<u8>, SourceFault> {
         if self.failures == u64::MAX {
             return Err(SourceFault::OutOfMemory);
@@ -82,6 +88,8 @@ impl<R: Files + Input + AllocGlobal + Drop> Source for HostStore<R> {
 }
 
 impl<R: Files + Input + AllocGlobal + Drop> Store for HostStore<R> {
+    ghost may_keep = { λ before _ _ answer after. after.failures ≡ failures_behind before.failures answer };
+
     fn put(&mut self, name: &str, bytes: &[u8]) -> Result<(), SourceFault> {
         if self.failures == u64::MAX {
             return Err(SourceFault::OutOfMemory);

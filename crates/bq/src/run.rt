@@ -95,7 +95,7 @@ fn list<S: Source, O: Output>(
     store: &mut S,
     out: &mut O,
 ) -> Result<(), Refusal>
-    ensures { ListsNamed (between S.failures S.told O.taken O.may_answer
+    ensures { ListsNamed (between S.failures S.told S.may_give O.taken O.may_answer
         store.old store.new out.old out.new) name.now result }
 {
     let bytes = match store.text(name) {
@@ -119,7 +119,7 @@ fn run<S: Store, O: Output>(
     store: &mut S,
     out: &mut O,
 ) -> Result<(), Refusal>
-    ensures { RunsList (between S.failures S.told O.taken O.may_answer
+    ensures { RunsList (between S.failures S.told S.may_give O.taken O.may_answer
         store.old store.new out.old out.new)
         (map (λ w. w.now) words.now) result }
 {
@@ -137,10 +137,10 @@ pub fn run_words<S: Store, O: Output, E: Output>(
     out: &mut O,
     err: &mut E,
 ) -> u8
-    ensures ends { EndsRun (between S.failures S.told O.taken O.may_answer
+    ensures ends { EndsRun (between S.failures S.told S.may_give O.taken O.may_answer
         store.old store.new out.old out.new)
         (map (λ w. w.now) words.now) result }
-    ensures answered { result ≡ 0 → Answers (between S.failures S.told O.taken O.may_answer
+    ensures answered { result ≡ 0 → Answers (between S.failures S.told S.may_give O.taken O.may_answer
         store.old store.new out.old out.new)
         (map (λ w. w.now) words.now) }
 {
