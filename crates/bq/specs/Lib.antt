@@ -2,6 +2,7 @@ pub mod Statuses
 pub mod Words
 pub mod Named
 pub mod Sources
+pub mod Streams
 pub mod Arrangement
 pub mod Listing
 pub mod Runs
