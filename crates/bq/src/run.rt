@@ -4,7 +4,7 @@ ghost use Rattle.table_printer.specs.Values.{names_of, rows_of as values_of, val
 ghost use Rattle.posting_table.specs.Rows.{RowValue};
 ghost use Rattle.posting_table.specs.Ledgers.{rows_of};
 ghost use Rattle.bq.specs.Listing.{headers, shown_row};
-ghost use Rattle.bq.specs.Runs.{ListsText, between, ListsNamed, RunsList, EndsRun, Answers};
+ghost use Rattle.bq.specs.Runs.{ListsText, between, ListsNamed, RunsList, TellsWhy, EndsRun, Answers};
 
 use crate::listing::{LedgerFault, ledger_of};
 use crate::refusal::Refusal;
@@ -139,6 +139,7 @@ pub fn run_words<S: Store, O: Output, E: Output>(
 ) -> u8
     ensures ends { EndsRun (between S.failures S.told S.may_give O.taken O.may_answer
         store.old store.new out.old out.new)
+        (TellsWhy E E.taken E.may_answer err.old err.new)
         (map (λ w. w.now) words.now) result }
     ensures answered { result ≡ 0 → Answers (between S.failures S.told S.may_give O.taken O.may_answer
         store.old store.new out.old out.new)
