@@ -7,3 +7,4 @@ pub mod Arrangement
 pub mod Listing
 pub mod Runs
 pub mod Memory
+pub mod MemoryRuns

@@ -1,7 +1,7 @@
 //! The program over a store and outputs of memory.
 
+use crate::in_memory::run_in_memory;
 use crate::memory::{Entry, MemoryStore};
-use crate::run::run_words;
 use crate::store::{Source, SourceFault, Store};
 use std::alloc::Global;
 use std::test::Fail;
@@ -39,7 +39,7 @@ fn listed(alloc: Global, text: &str, fails_at: u64, room: usize) -> Result<Ended
     let mut store = MemoryStore::new(alloc, files, fails_at);
     let mut out = ShortWriter::new(alloc, room);
     let mut err = ShortWriter::new(alloc, 100);
-    let status = run_words(alloc, &["list", "l"], &mut store, &mut out, &mut err);
+    let status = run_in_memory(alloc, &["list", "l"], &mut store, &mut out, &mut err);
     Ok(Ended { status, out, err })
 }
 
