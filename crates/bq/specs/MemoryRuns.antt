@@ -6,6 +6,7 @@ use Rattle.table_printer.specs.declared.short_writer.ShortWriter.{ShortWriter}
 use Rattle.bq.specs.Listing.{Lists}
 use Rattle.bq.specs.Memory.{found_next}
 use Rattle.bq.specs.Runs.{status_of_run}
+use Rattle.bq.specs.Statuses.{line_of}
 use Rattle.bq.specs.Words.{ledger_named}
 use Rattle.bq.specs.declared.memory.MemoryStore.{MemoryStore}
 use Rattle.bq.specs.declared.refusal.Refusal.{Refusal}
@@ -40,7 +41,14 @@ ComesTo store out out' words (Err Unreadable) = HoldsNone store words × (out' �
 ComesTo store out out' words (Err NotWritten) = ListsFront store out out' words
 ComesTo store out out' words (Err refusal) = out' ≡ out
 
--- a run with this status
-abbrev pub EndsInMemory : MemoryStore → ShortWriter → ShortWriter → List Text → ℕ → Type 0
-EndsInMemory store out out' words status =
-    (result : Result Unit Refusal) × ComesTo store out out' words result × (status ≡ status_of_run result)
+-- the line of the refusal, or a front of it up to the limit of that output, or up to where memory was refused to it
+abbrev pub Says : ShortWriter → ShortWriter → Result Unit Refusal → Type 0
+Says err err' (Ok x) = err' ≡ err
+Says err err' (Err refusal) =
+    (n : ℕ) × (taken_of err' ≡ taken_of err ++ take n (line_of refusal))
+    × (n < length (line_of refusal) → starved_of err' ≡ false → limit_of err' ≤ length (taken_of err'))
+
+-- a run with this status, and what it says
+abbrev pub EndsInMemory : MemoryStore → ShortWriter → ShortWriter → ShortWriter → ShortWriter → List Text → ℕ → Type 0
+EndsInMemory store out out' err err' words status =
+    (result : Result Unit Refusal) × ComesTo store out out' words result × (status ≡ status_of_run result) × Says err err' result

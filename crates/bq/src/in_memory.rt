@@ -15,7 +15,7 @@ pub fn run_in_memory(
     out: &mut ShortWriter,
     err: &mut ShortWriter,
 ) -> u8
-    ensures ends { EndsInMemory store.old out.old out.new (map (λ w. w.now) words.now) result }
+    ensures ends { EndsInMemory store.old out.old out.new err.old err.new (map (λ w. w.now) words.now) result }
     ensures answered { result ≡ 0 → ListsHeld store.old out.old out.new (map (λ w. w.now) words.now) }
 {
     run_words(alloc, words, store, out, err)

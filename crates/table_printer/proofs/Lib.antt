@@ -3,3 +3,4 @@ pub mod Lines
 pub mod Pieces
 pub mod Names
 pub mod Printable
+pub mod Limits
