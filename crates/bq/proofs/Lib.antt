@@ -1,3 +1,4 @@
 pub mod Unique
 pub mod Rows
 pub mod Order
+pub mod InMemory

@@ -2,8 +2,10 @@ pub mod Statuses
 pub mod Words
 pub mod Named
 pub mod Sources
+pub mod Streams
 pub mod Arrangement
 pub mod Listing
 pub mod Columns
 pub mod Runs
 pub mod Memory
+pub mod MemoryRuns

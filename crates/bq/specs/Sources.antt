@@ -3,6 +3,11 @@ use Rattle.std.specs.Prelude.{◌≡◌, ℕ, ◌+◌, List, [], ◌∷◌, ◌+
 use Rattle.bq.specs.declared.store.SourceFault.{SourceFault}
 use Rattle.bq.specs.declared.store.SourceFault.TheVariants.{Failed, OutOfMemory}
 
+-- an answer without addresses
+abbrev pub given : {Z : Type 0} → Result (Vec ℕ Z) SourceFault → Result (List ℕ) SourceFault
+given (Ok v) = Ok v.items
+given (Err fault) = Err fault
+
 -- a name that was asked for, with the bytes that were given, or none where the source failed
 abbrev pub Reading : Type 0
 Reading = List ℕ × Option (List ℕ)
@@ -14,15 +19,15 @@ failures_behind n (Err Failed) = n + 1
 failures_behind n (Err OutOfMemory) = n
 
 -- what an answer adds to what was told
-abbrev pub readings : {Z : Type 0} → List ℕ → Result (Vec ℕ Z) SourceFault → List Reading
-readings name (Ok v) = (name, Some v.items) ∷ []
+abbrev pub readings : List ℕ → Result (List ℕ) SourceFault → List Reading
+readings name (Ok bytes) = (name, Some bytes) ∷ []
 readings name (Err Failed) = (name, None) ∷ []
 readings name (Err OutOfMemory) = []
 
-abbrev pub Tells : {Z : Type 0} → Option (List Reading) → Option (List Reading) → List ℕ → Result (Vec ℕ Z) SourceFault → Type 0
-Tells None new name r = ⊤
-Tells (Some old) None name r = ⊥
-Tells (Some old) (Some new) name r = new ≡ old ++ readings name r
+abbrev pub Tells : Option (List Reading) → Option (List Reading) → List ℕ → Result (List ℕ) SourceFault → Type 0
+Tells None new name answer = ⊤
+Tells (Some old) None name answer = ⊥
+Tells (Some old) (Some new) name answer = new ≡ old ++ readings name answer
 
 -- a file that was put
 abbrev pub Putting : Type 0

@@ -1,5 +1,6 @@
 //! The program's own store and outputs: files, standard input and the standard streams.
-ghost use Rattle.std.specs.Prelude.{⊤};
+ghost use Rattle.std.specs.Prelude.{◌≡◌, ◌≤◌, false, length, IfOk};
+ghost use Rattle.bq.specs.Sources.{failures_behind};
 
 use crate::store::{Source, SourceFault, Store};
 use std::alloc::{AllocError, Global};
@@ -16,6 +17,9 @@ const MOST_READS: u32 = 33_554_432;
 
 const BUFFER: usize = 65_536;
 
+/// After so many calls that signals interrupted, one more is made, and that is the last.
+const MOST_INTERRUPTIONS: u32 = 65_536;
+
 /// Files by their names, and standard input by the name `-`.
 #[derive(Drop)]
 pub struct HostStore<R> {
@@ -24,7 +28,10 @@ pub struct HostStore<R> {
 }
 
 impl<R> HostStore<R> {
-    pub fn new(rt: R) -> HostStore<R> {
+    /// A store that didn't fail yet.
+    pub fn new(rt: R) -> HostStore<R>
+        ensures { result.failures ≡ 0 }
+    {
         HostStore { rt, failures: 0 }
     }
 }
@@ -69,6 +76,8 @@ fn bytes_of<R: Files + Input + AllocGlobal>(rt: &R, name: &str) -> Result<Vec<u8
 impl<R: Files + Input + AllocGlobal + Drop> Source for HostStore<R> {
     ghost failures = { λ s. s.failures };
 
+    ghost may_give = { λ before _ answer after. after.failures ≡ failures_behind before.failures answer };
+
     fn text(&mut self, name: &str) -> Result<Vec<u8>, SourceFault> {
         if self.failures == u64::MAX {
             return Err(SourceFault::OutOfMemory);
@@ -82,6 +91,8 @@ impl<R: Files + Input + AllocGlobal + Drop> Source for HostStore<R> {
 }
 
 impl<R: Files + Input + AllocGlobal + Drop> Store for HostStore<R> {
+    ghost may_keep = { λ before _ _ answer after. after.failures ≡ failures_behind before.failures answer };
+
     fn put(&mut self, name: &str, bytes: &[u8]) -> Result<(), SourceFault> {
         if self.failures == u64::MAX {
             return Err(SourceFault::OutOfMemory);
@@ -99,25 +110,56 @@ impl<R: Files + Input + AllocGlobal + Drop> Store for HostStore<R> {
     }
 }
 
-/// A standard stream.
+/// A standard stream, which remembers whether it failed.
 #[derive(Drop)]
 pub struct Stream<P> {
     to: P,
+    failed: bool,
 }
 
 impl<P> Stream<P> {
-    pub fn new(to: P) -> Stream<P> {
-        Stream { to }
+    /// A stream that didn't fail yet.
+    pub fn new(to: P) -> Stream<P>
+        ensures { result.failed ≡ false }
+    {
+        Stream { to, failed: false }
+    }
+
+    /// Whether it ever failed.
+    pub fn has_failed(&self) -> bool
+        ensures { result ≡ self.now.failed }
+    {
+        self.failed
     }
 }
 
-impl<P: Print> Output for Stream<P> {
-    ghost may_answer = { λ _ _ _ _. ⊤ };
+/// Hands bytes to the system, which takes some of them, from the front on. A call that a signal
+/// interrupts is made again.
+fn write_some<P: Print>(to: &P, bytes: &[u8]) -> io::Result<usize>
+    ensures { IfOk result (λ n. n ≤ length bytes.now) }
+{
+    for _ in 0..MOST_INTERRUPTIONS {
+        match to.write_some(bytes) {
+            Err(error) if error.kind() == io::ErrorKind::Interrupted => continue,
+            answer => return answer,
+        }
+    }
+    to.write_some(bytes)
+}
 
+impl<P: Print> Output for Stream<P> {
+    ghost use Rattle.bq.specs.Streams.{AnswersStream};
+
+    ghost may_answer = { λ before bytes answer after. AnswersStream before.failed bytes answer after.failed };
+
+    /// Takes what the system takes. Fails where the system fails, or takes nothing of some bytes.
     fn write(&mut self, bytes: &[u8]) -> Result<usize, NotTaken> {
-        match self.to.write_all(bytes) {
-            Ok(()) => Ok(bytes.len()),
-            Err(_) => Err(NotTaken),
+        match write_some(&self.to, bytes) {
+            Ok(count) if 0 < count || bytes.is_empty() => Ok(count),
+            _ => {
+                self.failed = true;
+                Err(NotTaken)
+            }
         }
     }
 }

@@ -3,6 +3,7 @@
 
 mod arrange;
 mod host;
+mod in_memory;
 mod listing;
 mod memory;
 mod refusal;

@@ -1,31 +1,23 @@
 //! Why the program gives no answer, and the status that it ends with.
 ghost use Rattle.std.specs.Prelude.{◌≡◌};
-ghost use Rattle.bq.specs.Statuses.{status_of};
-
-use thiserror::Error;
+ghost use Rattle.bq.specs.Statuses.{status_of, line_of};
 
 /// What a user is told in one line on standard error.
-#[derive(Clone, Copy, Debug, Drop, PartialEq, Eq, Error)]
+#[derive(Clone, Copy, Debug, Drop, PartialEq, Eq)]
 pub enum Refusal {
     /// The words are no command.
-    #[error("bq: words")]
     Words,
     /// The ledger can't be read.
-    #[error("bq: L1")]
     Unreadable,
     /// The ledger is not UTF-8.
-    #[error("bq: L2")]
     NotUtf8,
     /// The ledger has more than 16 MiB.
-    #[error("bq: L3")]
     TooLarge,
     /// There are more than 1,000,000 postings.
-    #[error("bq: B1")]
     TooManyPostings,
     /// The table can't be written.
-    #[error("bq: P1")]
     NotWritten,
-    #[error("bq: M2")]
+    /// Memory lacked.
     OutOfMemory,
 }
 
@@ -41,8 +33,10 @@ impl Refusal {
         }
     }
 
-    /// The line that tells it.
-    pub fn line(self) -> &'static str {
+    /// The line that tells it, with its line feed. Takes no memory.
+    pub fn line(self) -> &'static str
+        ensures { result.now ≡ line_of self }
+    {
         match self {
             Refusal::Words => "bq: words\n",
             Refusal::Unreadable => "bq: L1\n",

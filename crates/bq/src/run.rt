@@ -1,6 +1,6 @@
 //! What the program does with its words.
 ghost use Rattle.std.specs.Prelude.{◌≡◌, map};
-ghost use Rattle.bq.specs.Runs.{ListsText, between, ListsNamed, RunsList, EndsRun, Answers};
+ghost use Rattle.bq.specs.Runs.{ListsText, between, ListsNamed, RunsList, TellsWhy, EndsRun, Answers};
 
 use crate::listing::{LedgerFault, ledger_of};
 use crate::refusal::Refusal;
@@ -38,7 +38,7 @@ fn list<S: Source, O: Output>(
     store: &mut S,
     out: &mut O,
 ) -> Result<(), Refusal>
-    ensures { ListsNamed (between S.failures S.told O.taken O.may_answer
+    ensures { ListsNamed (between S.failures S.told S.may_give O.taken O.may_answer
         store.old store.new out.old out.new) name.now result }
 {
     let bytes = match store.text(name) {
@@ -62,7 +62,7 @@ fn run<S: Store, O: Output>(
     store: &mut S,
     out: &mut O,
 ) -> Result<(), Refusal>
-    ensures { RunsList (between S.failures S.told O.taken O.may_answer
+    ensures { RunsList (between S.failures S.told S.may_give O.taken O.may_answer
         store.old store.new out.old out.new)
         (map (λ w. w.now) words.now) result }
 {
@@ -80,10 +80,11 @@ pub fn run_words<S: Store, O: Output, E: Output>(
     out: &mut O,
     err: &mut E,
 ) -> u8
-    ensures ends { EndsRun (between S.failures S.told O.taken O.may_answer
+    ensures ends { EndsRun (between S.failures S.told S.may_give O.taken O.may_answer
         store.old store.new out.old out.new)
+        (TellsWhy E E.taken E.may_answer err.old err.new)
         (map (λ w. w.now) words.now) result }
-    ensures answered { result ≡ 0 → Answers (between S.failures S.told O.taken O.may_answer
+    ensures answered { result ≡ 0 → Answers (between S.failures S.told S.may_give O.taken O.may_answer
         store.old store.new out.old out.new)
         (map (λ w. w.now) words.now) }
 {

@@ -1,7 +1,8 @@
 //! The program over a store and outputs of memory.
 
+use crate::in_memory::run_in_memory;
 use crate::memory::{Entry, MemoryStore};
-use crate::run::run_words;
+use crate::store::{Source, SourceFault, Store};
 use std::alloc::Global;
 use std::test::Fail;
 use table_printer::answer::Answer;
@@ -38,7 +39,7 @@ fn listed(alloc: Global, text: &str, fails_at: u64, room: usize) -> Result<Ended
     let mut store = MemoryStore::new(alloc, files, fails_at);
     let mut out = ShortWriter::new(alloc, room);
     let mut err = ShortWriter::new(alloc, 100);
-    let status = run_words(alloc, &["list", "l"], &mut store, &mut out, &mut err);
+    let status = run_in_memory(alloc, &["list", "l"], &mut store, &mut out, &mut err);
     Ok(Ended { status, out, err })
 }
 
@@ -87,5 +88,80 @@ fn a_short_output_is_told_with_its_count(rt: HostRuntime) -> Result<(), Fail> {
     let written = write_table(alloc, &answer, ledger.display(), &mut out);
     assert_eq!(rt; written.err(), Some(PrintFault::NotWritten { written: 5 }));
     assert_eq!(rt; out.taken(), b"date ".as_slice());
+    Ok(())
+}
+
+/// A store with two files of one name, and one of another, which fails at that call.
+fn store_of_three(alloc: Global, fails_at: u64) -> Result<MemoryStore, Fail> {
+    let mut files = Vec::new(alloc);
+    for (name, text) in [("l", "first"), ("m", "other"), ("l", "second")] {
+        files.push(Entry {
+            name: String::from_str(alloc, name)?,
+            bytes: Vec::from_slice(alloc, text.as_bytes())?,
+        })?;
+    }
+    Ok(MemoryStore::new(alloc, files, fails_at))
+}
+
+fn gives(store: &mut MemoryStore, name: &str, text: &str) -> bool {
+    match store.text(name) {
+        Ok(bytes) => bytes.as_slice() == text.as_bytes(),
+        Err(_) => false,
+    }
+}
+
+fn fails(store: &mut MemoryStore, name: &str) -> bool {
+    matches!(store.text(name), Err(SourceFault::Failed))
+}
+
+#[test]
+fn a_put_is_read_back(rt: HostRuntime) -> Result<(), Fail> {
+    let mut store = store_of_three(rt.alloc(), 0)?;
+    assert!(rt; gives(&mut store, "l", "first"));
+    for text in ["third", "fourth"] {
+        assert!(rt; store.put("l", text.as_bytes()).is_ok());
+        assert!(rt; gives(&mut store, "l", text));
+    }
+    assert!(rt; gives(&mut store, "m", "other"));
+    assert!(rt; store.held("l") == Some(b"fourth".as_slice()));
+    assert_eq!(rt; store.told().len(), 4);
+    Ok(())
+}
+
+#[test]
+fn the_chosen_call_fails_and_no_other(rt: HostRuntime) -> Result<(), Fail> {
+    let mut store = store_of_three(rt.alloc(), 2)?;
+    assert!(rt; gives(&mut store, "l", "first"));
+    assert!(rt; fails(&mut store, "l"));
+    assert!(rt; gives(&mut store, "l", "first"));
+    Ok(())
+}
+
+#[test]
+fn a_put_at_the_chosen_call_changes_nothing(rt: HostRuntime) -> Result<(), Fail> {
+    let mut store = store_of_three(rt.alloc(), 1)?;
+    assert!(rt;
+        matches!(
+            store.put("l", b"third".as_slice()),
+            Err(SourceFault::Failed)
+        )
+    );
+    assert!(rt; gives(&mut store, "l", "first"));
+    Ok(())
+}
+
+#[test]
+fn a_name_that_is_not_held_fails(rt: HostRuntime) -> Result<(), Fail> {
+    let mut store = store_of_three(rt.alloc(), 0)?;
+    assert!(rt; fails(&mut store, "n"));
+    assert!(rt; gives(&mut store, "m", "other"));
+    Ok(())
+}
+
+#[test]
+fn an_output_at_its_limit_is_not_starved(rt: HostRuntime) -> Result<(), Fail> {
+    let ended = listed(rt.alloc(), LEDGER, 0, 5)?;
+    assert_eq!(rt; ended.status, 3);
+    assert!(rt; !ended.out.is_starved());
     Ok(())
 }

@@ -97,7 +97,7 @@ pub(crate) fn push_day(out: &mut Vec<u8>, day: Day) -> Result<(), AllocError>
 {
     let year = day.year().unsigned_abs() as u64;
     let month = day.month() as u64;
-    let number = day.day() as u64;
+    let day = day.day() as u64;
     let text = [
         digit(year / 10 / 10 / 10),
         digit(year / 10 / 10),
@@ -107,8 +107,8 @@ pub(crate) fn push_day(out: &mut Vec<u8>, day: Day) -> Result<(), AllocError>
         digit(month / 10),
         digit(month),
         b'-',
-        digit(number / 10),
-        digit(number),
+        digit(day / 10),
+        digit(day),
     ];
     out.extend_from_slice(&text)?;
     Ok(())

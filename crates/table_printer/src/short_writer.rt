@@ -1,6 +1,6 @@
 //! An output over memory that fails at a chosen byte.
-ghost use Rattle.std.specs.Prelude.{◌≡◌, ◌≤◌, ◌-◌, [], Some, length, min, IfOk};
-ghost use Rattle.table_printer.specs.ShortWriters.{AnswersShort, taken_of, limit_of};
+ghost use Rattle.std.specs.Prelude.{◌≡◌, ◌≤◌, ◌-◌, false, [], Some, length, min, IfOk};
+ghost use Rattle.table_printer.specs.ShortWriters.{AnswersShort, RefusesAtLimit, taken_of, limit_of, starved_of};
 
 use crate::output::{NotTaken, Output};
 use std::alloc::Global;
@@ -10,6 +10,7 @@ use std::alloc::Global;
 pub struct ShortWriter {
     taken: Vec<u8>,
     limit: usize,
+    starved: bool,
 }
 
 impl ShortWriter {
@@ -17,10 +18,12 @@ impl ShortWriter {
     pub fn new(alloc: Global, limit: usize) -> ShortWriter
         ensures empty { taken_of result ≡ [] }
         ensures limit { limit_of result ≡ limit }
+        ensures fed { starved_of result ≡ false }
     {
         ShortWriter {
             taken: Vec::new(alloc),
             limit,
+            starved: false,
         }
     }
 
@@ -30,6 +33,13 @@ impl ShortWriter {
     {
         &self.taken
     }
+
+    /// Whether it ever failed for want of memory.
+    pub fn is_starved(&self) -> bool
+        ensures { result ≡ starved_of self.now }
+    {
+        self.starved
+    }
 }
 
 impl Output for ShortWriter {
@@ -37,13 +47,22 @@ impl Output for ShortWriter {
 
     ghost may_answer = { AnswersShort };
 
-    /// Takes what fits below its limit. Also fails where it can't keep that much.
+    /// Takes what fits below its limit. Also fails where it can't keep that much, and remembers it.
     fn write(&mut self, bytes: &[u8]) -> Result<usize, NotTaken> {
         let room = self.limit.saturating_sub(self.taken.len());
         let count = room.min(bytes.len());
-        if count == 0 || self.taken.extend_from_slice(&bytes[..count]).is_err() {
+        if count == 0 {
+            return Err(NotTaken);
+        }
+        if self.taken.extend_from_slice(&bytes[..count]).is_err() {
+            self.starved = true;
             return Err(NotTaken);
         }
         Ok(count)
     }
 }
+
+/// Where it refused bytes, and not for want of memory, its limit is reached.
+pub fn refuses_at_its_limit()
+    ensures { RefusesAtLimit }
+{}
