@@ -29,7 +29,7 @@ named : (store store' : MemoryStore) (out out' : ShortWriter) (words : List Text
 named store store' out out' words name (Ok x) is h = (h.2.0, (name, is, (h.0, h.1.0.0, h.2.1)), h.2.2)
 named store store' out out' words name (Err Unreadable) is h = ((name, is, h.0.0.0), h.1)
 named store store' out out' words name (Err NotWritten) is h =
-    let stop = h.2.2 in (h.2.0, (name, is, (h.0, h.1.0.0, h.2.1)), (stop.0, stop.1, stop.2), refuses_at_limit out' stop.3)
+    let stop = h.2.2 in (h.2.0, (name, is, (h.0, h.1.0.0, h.2.1)), (stop.0, stop.1, stop.2), refuses_at_limit out out' stop.3)
 named store store' out out' words name (Err NotUtf8) is h = h.3
 named store store' out out' words name (Err TooLarge) is h = h.3
 named store store' out out' words name (Err TooManyPostings) is h = h.3
@@ -43,4 +43,4 @@ comes store store' out out' words result (inr h) =
 
 pub says : (err err' : ShortWriter) (result : Result Unit Refusal) → TellsWhy ShortWriter (λ w. Some (taken_of w)) AnswersShort err err' result → Says err err' result
 says err err' (Ok x) told = told
-says err err' (Err r) told = (told.0, told.2, λ short. refuses_at_limit err' (told.3 short))
+says err err' (Err r) told = (told.0, told.2, λ short. refuses_at_limit err err' (told.3 short))

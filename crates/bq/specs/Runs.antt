@@ -23,7 +23,7 @@ largest_text = 16777216
 abbrev pub StopsShort : (O : Type 0) → (O → Option (List ℕ)) → (O → List ℕ → Result ℕ NotTaken → O → Type 0) → O → O → List ℕ → Type 0
 StopsShort O taken may_answer old new text =
     (table : List ℕ) × Lists text table
-    × ((n : ℕ) × (n < length table) × Appends (taken old) (taken new) (take n table) × Refused O may_answer new)
+    × ((n : ℕ) × (n < length table) × Appends (taken old) (taken new) (take n table) × Refused O may_answer old new)
 
 -- the table of the text was written, or a front of it, or the output has nothing of it
 abbrev pub ListsText : (O : Type 0) → (O → Option (List ℕ)) → (O → List ℕ → Result ℕ NotTaken → O → Type 0) → O → O → List ℕ → Result Unit Refusal → Type 0
@@ -103,7 +103,7 @@ TellsWhy E taken may_answer old new (Ok x) = new ≡ old
 TellsWhy E taken may_answer old new (Err r) =
     (n : ℕ) × (n ≤ length (line_of r))
     × Appends (taken old) (taken new) (take n (line_of r))
-    × (n < length (line_of r) → Refused E may_answer new)
+    × (n < length (line_of r) → Refused E may_answer old new)
 
 -- a run with this status, which tells why
 abbrev pub EndsRun : {S O : Type 0} → Ends S O → (Result Unit Refusal → Type 0) → List Text → ℕ → Type 0

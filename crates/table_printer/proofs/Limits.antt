@@ -16,4 +16,4 @@ refused before w bytes answer some (inr failed) told fed =
     let nothing = subst (λ a. AnswersShort before bytes a w) failed.1 told in at_limit before w bytes some nothing.0 nothing.1 nothing.2 fed
 
 pub refuses_at_limit : RefusesAtLimit
-refuses_at_limit w r fed = refused r.before w r.bytes r.answer r.some r.nothing r.told fed
+refuses_at_limit start w r fed = refused r.before w r.bytes r.answer r.some r.nothing r.told fed

@@ -40,4 +40,4 @@ AnswersShort before bytes (Err e) after =
 -- one that refused bytes, and to which no memory was refused, has reached its limit
 abbrev pub RefusesAtLimit : Type 0
 RefusesAtLimit =
-    (w : ShortWriter) → Refused ShortWriter AnswersShort w → starved_of w ≡ false → limit_of w ≤ length (taken_of w)
+    (start w : ShortWriter) → Refused ShortWriter AnswersShort start w → starved_of w ≡ false → limit_of w ≤ length (taken_of w)

@@ -27,7 +27,7 @@ pub enum PrintFault {
 pub fn write_bytes<W: Output>(out: &mut W, bytes: &[u8]) -> usize
     ensures within { result ≤ length bytes.now }
     ensures taken { Appends (W.taken out.old) (W.taken out.new) (take result bytes.now) }
-    ensures refused { result < length bytes.now → Refused W W.may_answer out.new }
+    ensures refused { result < length bytes.now → Refused W W.may_answer out.old out.new }
 {
     let mut written = 0;
     while written < bytes.len() {
