@@ -35,7 +35,7 @@ pub enum Part {
 
 impl Part {
     /// Whether a token at this place begins a part.
-    fn begins_at(self, place: Place) -> bool
+    pub fn begins_at(self, place: Place) -> bool
         ensures { result ≡ begins_at self place }
     {
         match (self, place) {
