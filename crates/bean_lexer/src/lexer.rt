@@ -42,6 +42,7 @@ impl<'a> Lexer<'a> {
     }
 
     /// The next token, or none where there are no more.
+    #[inline]
     pub fn next_token(&mut self) -> Option<Token<'a>>
         ensures tokens { MatchOption result ((ToCome self.old []) × (self.new ≡ self.old))
             (λ t. (ts : List Token) → ToCome self.new ts → ToCome self.old (t ∷ ts)) }

@@ -10,7 +10,7 @@ ghost use Rattle.bean_lexer.specs.Tokens.{IsToken};
 
 use crate::found::Found;
 use crate::kind::{Keyword, Kind, Sign};
-use crate::scan::{InComponent, InCurrency, InName, end_of_run};
+use crate::scan::{InComponent, InCurrency, InName, end_of_run, has_front};
 
 /// The account, the currency or the truth value that begins with a capital.
 pub fn account_or_currency(bytes: &[u8]) -> Found
@@ -32,15 +32,15 @@ pub fn account_or_currency(bytes: &[u8]) -> Found
 fn root_len(bytes: &[u8]) -> usize
     ensures { result ≡ root_len bytes.now }
 {
-    if bytes.starts_with(b"Assets:") {
+    if has_front(bytes, b"Assets:") {
         7
-    } else if bytes.starts_with(b"Liabilities:") {
+    } else if has_front(bytes, b"Liabilities:") {
         12
-    } else if bytes.starts_with(b"Equity:") {
+    } else if has_front(bytes, b"Equity:") {
         7
-    } else if bytes.starts_with(b"Income:") {
+    } else if has_front(bytes, b"Income:") {
         7
-    } else if bytes.starts_with(b"Expenses:") {
+    } else if has_front(bytes, b"Expenses:") {
         9
     } else {
         0
