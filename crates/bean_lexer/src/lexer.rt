@@ -13,10 +13,10 @@ pub struct Lexer<'a> {
     pub text: &'a str,
     /// What is still to be read of it.
     pub rest: &'a str,
-    /// Where in a gap the rest begins.
-    pub spot: Spot,
     /// The line on which the rest begins, from 1.
     pub line: usize,
+    /// Where in a gap the rest begins.
+    pub spot: Spot,
     ghost inside: { length rest.now ≤ length text.now },
     ghost is_rest: { rest.now ≡ drop (length text.now - length rest.now) text.now },
     ghost is_line: { line ≡ line_at text.now (length text.now - length rest.now) },
@@ -42,7 +42,7 @@ impl<'a> Lexer<'a> {
     }
 
     /// The next token, or none where there are no more.
-    #[inline]
+    #[inline(always)]
     pub fn next_token(&mut self) -> Option<Token<'a>>
         ensures tokens { MatchOption result ((ToCome self.old []) × (self.new ≡ self.old))
             (λ t. (ts : List Token) → ToCome self.new ts → ToCome self.old (t ∷ ts)) }

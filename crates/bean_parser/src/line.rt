@@ -31,9 +31,9 @@ pub enum Head<'a> {
 #[derive(Clone, Copy)]
 pub struct WrittenPosting<'a> {
     pub account: Account<'a>,
-    pub is_minus: bool,
     pub number: &'a str,
     pub currency: Currency<'a>,
+    pub is_minus: bool,
 }
 
 fn second_text<'t, 'a>(tokens: &'t [Token<'a>]) -> (Option<Text<'a>>, &'t [Token<'a>])
