@@ -66,7 +66,7 @@ impl ByteClass for InName {
     ghost holds = { is_in_name };
 
     fn has(b: u8) -> bool {
-        b.is_ascii_alphanumeric() || b == b'-' || b == b'_' || b == b'/' || b == b'.'
+        b.is_ascii_alphanumeric() || matches!(b, b'-' | b'_' | b'/' | b'.')
     }
 }
 
@@ -88,12 +88,7 @@ impl ByteClass for InCurrency {
     ghost holds = { is_in_currency };
 
     fn has(b: u8) -> bool {
-        b.is_ascii_uppercase()
-            || b.is_ascii_digit()
-            || b == b'\''
-            || b == b'.'
-            || b == b'_'
-            || b == b'-'
+        b.is_ascii_uppercase() || b.is_ascii_digit() || matches!(b, b'\'' | b'.' | b'_' | b'-')
     }
 }
 

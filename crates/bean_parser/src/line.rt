@@ -127,10 +127,14 @@ impl WrittenPosting<'_> {
         let Ok(magnitude) = Num::parse(self.number) else {
             return None;
         };
-        Some(if self.is_minus {
-            magnitude.negated()
+        let count = if self.is_minus {
+            -magnitude.count
         } else {
-            magnitude
+            magnitude.count
+        };
+        Some(Num {
+            count,
+            places: magnitude.places,
         })
     }
 }
