@@ -13,6 +13,7 @@ use crate::kind::{Keyword, Kind, Sign};
 use crate::scan::{InComponent, InCurrency, InName, end_of_run, has_front};
 
 /// The account, the currency or the truth value that begins with a capital.
+#[inline(always)]
 pub fn account_or_currency(bytes: &[u8]) -> Found
     requires some { 0 < length bytes.now }
     requires capital { IsTrue (is_ascii_uppercase (slice_index bytes.now 0)) }
@@ -86,6 +87,7 @@ fn account_len(bytes: &[u8]) -> Option<usize>
 }
 
 /// The currency or the truth value that begins with a capital.
+#[inline(always)]
 fn currency_or_truth(bytes: &[u8]) -> Found
     requires some { 0 < length bytes.now }
     requires capital { IsTrue (is_ascii_uppercase (slice_index bytes.now 0)) }

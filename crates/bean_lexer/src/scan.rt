@@ -34,7 +34,7 @@ pub fn has_front(bytes: &[u8], front: &[u8]) -> bool
     requires { 0 < length front.now }
     ensures { result ≡ starts_with nat_eq bytes.now front.now }
 {
-    !bytes.is_empty() && bytes[0] == front[0] && bytes.starts_with(front)
+    bytes.len() >= front.len() && bytes[0] == front[0] && front == &bytes[..front.len()]
 }
 
 /// The digits of a number.
