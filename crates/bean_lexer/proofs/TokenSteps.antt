@@ -1,10 +1,10 @@
 -- The tokens of a text, one by one.
-use Rattle.std.proofs.Common.{◌≡◌, ℕ, zero, suc, ◌+◌, ◌-◌, ◌<◌, ◌≤◌, ⊎_elim, cond, Bool, true, false, nat_eq, nat_lt, List, [], ◌∷◌, length, take, drop, arith, sym, ap, subst, ◌∙◌, refl, length-take, length-take-le, length-drop}
+use Rattle.std.proofs.Common.{◌≡◌, ℕ, zero, suc, ◌+◌, ◌-◌, ◌<◌, ◌≤◌, ⊎_elim, cond, Bool, true, false, nat_eq, nat_lt, List, [], ◌∷◌, length, take, drop, arith, sym, ap, subst, ◌∙◌, refl, length-take-le, length-drop}
 use Rattle.std.proofs.lemmas.List.{drop-drop}
-use Rattle.std.proofs.lemmas.List.Sums.{count_by-le-length, sum_by-append}
+use Rattle.std.proofs.lemmas.List.Sums.{sum_by-append}
 use Rattle.std.proofs.Math.Seq.{take-add}
 use Rattle.std.specs.List.{count_by, prefix_len}
-use Rattle.bean_lexer.specs.Kinds.{is_of, may_be}
+use Rattle.bean_lexer.specs.Kinds.{is_of}
 use Rattle.bean_lexer.specs.Gaps.{gap_len, behind_gap, place_of}
 use Rattle.bean_lexer.specs.Tokens.{IsToken, TokensFrom, line_at, fault_len, text_reach, goes_on_character}
 use Rattle.bean_lexer.specs.declared.kind.Kind.{Kind}
@@ -20,18 +20,6 @@ use Rattle.bean_lexer.specs.declared.token.Token.{Token}
 
 abbrev pub is_feed : ℕ → Bool
 is_feed b = nat_eq b 10
-
-may_be_of : (kind : Kind) (bs : List ℕ) → is_of kind bs ≡ true → may_be kind bs ≡ true
-may_be_of kinds.Fault bs h = refl
-may_be_of kinds.Day bs h = h
-may_be_of _ bs h = h
-
-may_be_fault : (kind : Kind) (bs : List ℕ) → kind ≡ kinds.Fault → may_be kind bs ≡ true
-may_be_fault kind bs h = ap (λ k. may_be k bs) h
-
--- a token is of its kind
-pub token_is_of : (bs : List ℕ) (kind : Kind) (n : ℕ) → IsToken bs kind n → may_be kind (take n bs) ≡ true
-token_is_of bs kind n token = ⊎_elim (λ longest. may_be_of kind (take n bs) longest.of_kind) (λ fault. may_be_fault kind (take n bs) fault.is_fault) token
 
 no_empty_word : (word : Keyword) → is_of (kinds.Keyword word) [] ≡ false
 no_empty_word words.Open = refl
@@ -70,9 +58,6 @@ feeds_add text at n = ap (count_by is_feed) (take-add at n text) ∙ sum_by-appe
 
 pub line_add : (text : List ℕ) (at n line feeds : ℕ) → line ≡ line_at text at → feeds ≡ count_by is_feed (take n (drop at text)) → line + feeds ≡ line_at text (at + n)
 line_add text at n line feeds is count = let e = feeds_add text at n in omega arith
-
-pub few_lines : (text : List ℕ) (at : ℕ) → line_at text at ≤ 1 + length text
-few_lines text at = let c = count_by-le-length is_feed (take at text) in let l = length-take at text in omega arith
 
 -- What a lexer keeps: what is still to be read of the text, and the line where it begins.
 pub record IsAt (text rest : List ℕ) (line : ℕ) : Type 0 where
