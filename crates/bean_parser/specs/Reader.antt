@@ -18,7 +18,7 @@ ToComeFrom (Some t) lexer (u ∷ us) = (u ≡ t) × ToCome lexer us
 abbrev pub ToRead : BlockReader → List Token → Type 0
 ToRead reader ts = ToComeFrom reader.first reader.lexer ts
 
--- how much is left, at least as many bytes as there are blocks
+-- how much is left: one more than the bytes behind the token that was read ahead, and nothing without one
 abbrev pub left_of : BlockReader → ℕ
 left_of reader = option_map_or (λ t. 1 + length reader.lexer.rest.now) reader.first 0
 
