@@ -1,10 +1,10 @@
 -- The tokens of a text, one by one.
-use Rattle.std.proofs.Common.{◌≡◌, ℕ, zero, suc, ◌+◌, ◌-◌, ◌<◌, ◌≤◌, ⊎_elim, cond, Bool, true, false, nat_eq, nat_lt, List, [], ◌∷◌, ◌++◌, length, take, drop, arith, sym, ap, subst, ◌∙◌, refl, length-take, length-take-le, length-drop, append_assoc, IsUtf8}
-use Rattle.std.proofs.lemmas.List.{append-nil, drop-drop}
-use Rattle.std.proofs.lemmas.List.Sums.{count_by-le-length, sum_by-append}
+use Rattle.std.proofs.Common.{◌≡◌, ℕ, zero, suc, ◌+◌, ◌-◌, ◌<◌, ◌≤◌, ⊎_elim, cond, Bool, true, false, nat_eq, nat_lt, List, [], ◌∷◌, length, take, drop, arith, sym, ap, subst, ◌∙◌, refl, length-take-le, length-drop}
+use Rattle.std.proofs.lemmas.List.{drop-drop}
+use Rattle.std.proofs.lemmas.List.Sums.{sum_by-append}
 use Rattle.std.proofs.Math.Seq.{take-add}
 use Rattle.std.specs.List.{count_by, prefix_len}
-use Rattle.bean_lexer.specs.Kinds.{is_of, may_be}
+use Rattle.bean_lexer.specs.Kinds.{is_of}
 use Rattle.bean_lexer.specs.Gaps.{gap_len, behind_gap, place_of}
 use Rattle.bean_lexer.specs.Tokens.{IsToken, TokensFrom, line_at, fault_len, text_reach, goes_on_character}
 use Rattle.bean_lexer.specs.declared.kind.Kind.{Kind}
@@ -15,22 +15,11 @@ use Rattle.bean_lexer.specs.declared.kind.Sign.{Sign}
 use Rattle.bean_lexer.specs.declared.kind.Sign.TheVariants as signs
 use Rattle.bean_lexer.specs.declared.gaps.Spot.{Spot}
 use Rattle.bean_lexer.specs.declared.gaps.Spot.TheVariants as spots
+use Rattle.bean_lexer.specs.declared.kind.Place.{Place}
 use Rattle.bean_lexer.specs.declared.token.Token.{Token}
 
 abbrev pub is_feed : ℕ → Bool
 is_feed b = nat_eq b 10
-
-may_be_of : (kind : Kind) (bs : List ℕ) → is_of kind bs ≡ true → may_be kind bs ≡ true
-may_be_of kinds.Fault bs h = refl
-may_be_of kinds.Day bs h = h
-may_be_of _ bs h = h
-
-may_be_fault : (kind : Kind) (bs : List ℕ) → kind ≡ kinds.Fault → may_be kind bs ≡ true
-may_be_fault kind bs h = ap (λ k. may_be k bs) h
-
--- a token is of its kind
-pub token_is_of : (bs : List ℕ) (kind : Kind) (n : ℕ) → IsToken bs kind n → may_be kind (take n bs) ≡ true
-token_is_of bs kind n token = ⊎_elim (λ longest. may_be_of kind (take n bs) longest.of_kind) (λ fault. may_be_fault kind (take n bs) fault.is_fault) token
 
 no_empty_word : (word : Keyword) → is_of (kinds.Keyword word) [] ≡ false
 no_empty_word words.Open = refl
@@ -70,69 +59,99 @@ feeds_add text at n = ap (count_by is_feed) (take-add at n text) ∙ sum_by-appe
 pub line_add : (text : List ℕ) (at n line feeds : ℕ) → line ≡ line_at text at → feeds ≡ count_by is_feed (take n (drop at text)) → line + feeds ≡ line_at text (at + n)
 line_add text at n line feeds is count = let e = feeds_add text at n in omega arith
 
-pub few_lines : (text : List ℕ) (at : ℕ) → line_at text at ≤ 1 + length text
-few_lines text at = let c = count_by-le-length is_feed (take at text) in let l = length-take at text in omega arith
-
--- what stands so far is followed by the tokens from a place on
-abbrev pub Continues : List ℕ → List Token → Spot → ℕ → Type 0
-Continues text out spot at = (ts : List Token) → TokensFrom text spot at ts → TokensFrom text spots.LineStart 0 (out ++ ts)
-
--- what the loop keeps
-pub record ReadsTokens (text : List ℕ) (out : List Token) (rest : List ℕ) (spot : Spot) (line : ℕ) : Type 0 where
+-- What a lexer keeps: what is still to be read of the text, and the line where it begins.
+pub record IsAt (text rest : List ℕ) (line : ℕ) : Type 0 where
   pub inside : length rest ≤ length text
-  pub rest_is : rest ≡ drop (length text - length rest) text
-  pub utf8 : IsUtf8 rest
-  pub line_is : line ≡ line_at text (length text - length rest)
-  pub so_far : Continues text out spot (length text - length rest)
+  pub is_rest : rest ≡ drop (length text - length rest) text
+  pub is_line : line ≡ line_at text (length text - length rest)
 
-pub starts_reading : (text : List ℕ) → IsUtf8 text → ReadsTokens text [] text spots.LineStart 1
-starts_reading text utf8 = record {
-  inside = omega arith;
-  rest_is = let e : length text - length text ≡ 0 = omega arith in sym (ap (λ n. drop n text) e);
-  utf8 = utf8;
-  line_is = let e : length text - length text ≡ 0 = omega arith in sym (ap (λ n. line_at text n) e);
-  so_far = λ ts from. let e : length text - length text ≡ 0 = omega arith in subst (λ n. TokensFrom text spots.LineStart n ts) e from;
-}
+-- A gap, a token's text and what stands behind them.
+pub record Parts (rest : List ℕ) (gap : ℕ) (behind token : List ℕ) (n : ℕ) (after : List ℕ) : Type 0 where
+  pub gap_inside : gap ≤ length rest
+  pub behind_is : behind ≡ drop gap rest
+  pub inside : n ≤ length behind
+  pub token_is : token ≡ take n behind
+  pub after_is : after ≡ drop n behind
 
-pub ends_reading : (text : List ℕ) (out : List Token) (rest : List ℕ) (spot : Spot) (line gap : ℕ) (behind : List ℕ) → ReadsTokens text out rest spot line → gap ≡ gap_len spot rest → gap ≤ length rest → behind ≡ drop gap rest → length behind ≡ 0 → TokensFrom text spots.LineStart 0 out
-ends_reading text out rest spot line gap behind reads is inside behind_is empty =
-    let l = ap length behind_is ∙ length-drop gap rest in
-    let at = length text - length rest in
-    let n = reads.inside in
-    let whole : gap_len spot (drop at text) ≡ length text - at = ap (gap_len spot) (sym reads.rest_is) ∙ sym is ∙ (let e : gap ≡ length text - (length text - length rest) = omega arith in e) in
-    subst (TokensFrom text spots.LineStart 0) (append-nil out) (reads.so_far [] whole)
+-- The gap's line feeds, and those of the token.
+pub record Feeds (rest token : List ℕ) (gap feeds more : ℕ) : Type 0 where
+  pub of_gap : feeds ≡ count_by is_feed (take gap rest)
+  pub of_token : more ≡ count_by is_feed token
 
-pub reads_on : (text : List ℕ) (out : List Token) (rest : List ℕ) (spot : Spot) (line gap feeds : ℕ) (end : Spot) (behind : List ℕ) (t : Token) (n : ℕ) (after : List ℕ) (last : ℕ) →
-    ReadsTokens text out rest spot line → gap ≡ gap_len spot rest → end ≡ behind_gap spot rest → gap ≤ length rest → feeds ≡ count_by is_feed (take gap rest) →
-    behind ≡ drop gap rest → 0 < length behind → IsToken behind t.kind n → n ≤ length behind → t.text.now ≡ take n behind → after ≡ drop n behind →
-    t.start ≡ length text - length behind → t.place ≡ place_of end → t.line ≡ line + feeds → IsUtf8 after → last ≡ t.line + count_by is_feed t.text.now →
-    ReadsTokens text (out ++ t ∷ []) after spots.Behind last
-reads_on text out rest spot line gap feeds end behind t n after last reads is end_is inside count behind_is some token fits text_is after_is start place line_is utf8 last_is =
-    let at = length text - length rest in
-    let before = reads.inside in
-    let length_behind = ap length behind_is ∙ length-drop gap rest in
-    let length_after = ap length after_is ∙ length-drop n behind in
-    let length_text : length t.text.now ≡ n = ap length text_is ∙ length-take-le n behind fits in
-    let from : drop at text ≡ rest = sym reads.rest_is in
-    let start_is : t.start ≡ at + gap = omega arith in
-    let behind_at : drop t.start text ≡ behind = ap (λ k. drop k text) start_is ∙ (let e : at + gap ≡ at + gap = refl in sym (drop-drop gap at text)) ∙ ap (drop gap) from ∙ sym behind_is in
-    let next : length text - length after ≡ t.start + n = omega arith in
-    let after_at : drop (t.start + n) text ≡ after = sym (drop-drop n t.start text) ∙ ap (drop n) behind_at ∙ sym after_is in
-    let line_here : t.line ≡ line_at text t.start = line_is ∙ line_add text at gap line feeds reads.line_is (count ∙ ap (λ l. count_by is_feed (take gap l)) (sym from)) ∙ ap (line_at text) (sym start_is) in
+behind_at : (text rest : List ℕ) (line gap : ℕ) (behind token : List ℕ) (n : ℕ) (after : List ℕ) → IsAt text rest line → Parts rest gap behind token n after
+    → drop (length text - length behind) text ≡ behind
+behind_at text rest line gap behind token n after at parts =
+    let inside = at.inside in
+    let gap_inside = parts.gap_inside in
+    let length_behind = ap length parts.behind_is ∙ length-drop gap rest in
+    let start : length text - length behind ≡ length text - length rest + gap = omega arith in
+    ap (λ k. drop k text) start ∙ sym (drop-drop gap (length text - length rest) text) ∙ ap (drop gap) (sym at.is_rest) ∙ sym parts.behind_is
+
+line_behind : (text rest : List ℕ) (line gap feeds more : ℕ) (behind token : List ℕ) (n : ℕ) (after : List ℕ) → IsAt text rest line → Parts rest gap behind token n after → Feeds rest token gap feeds more
+    → line + feeds ≡ line_at text (length text - length behind)
+line_behind text rest line gap feeds more behind token n after at parts count =
+    let inside = at.inside in
+    let gap_inside = parts.gap_inside in
+    let length_behind = ap length parts.behind_is ∙ length-drop gap rest in
+    let start : length text - length rest + gap ≡ length text - length behind = omega arith in
+    line_add text (length text - length rest) gap line feeds at.is_line (count.of_gap ∙ ap (λ l. count_by is_feed (take gap l)) at.is_rest) ∙ ap (line_at text) start
+
+-- a lexer is behind the token that it read
+pub is_behind : (text rest : List ℕ) (line gap feeds more : ℕ) (behind token : List ℕ) (n : ℕ) (after : List ℕ) → IsAt text rest line → Parts rest gap behind token n after → Feeds rest token gap feeds more
+    → IsAt text after (line + feeds + more)
+is_behind text rest line gap feeds more behind token n after at parts count =
+    let inside = at.inside in
+    let gap_inside = parts.gap_inside in
+    let n_inside = parts.inside in
+    let length_behind = ap length parts.behind_is ∙ length-drop gap rest in
+    let length_after = ap length parts.after_is ∙ length-drop n behind in
+    let start = length text - length behind in
+    let here = behind_at text rest line gap behind token n after at parts in
+    let next : length text - length after ≡ start + n = omega arith in
+    let after_at : drop (start + n) text ≡ after = sym (drop-drop n start text) ∙ ap (drop n) here ∙ sym parts.after_is in
+    let token_line = line_behind text rest line gap feeds more behind token n after at parts count in
     record {
       inside = omega arith;
-      rest_is = sym (ap (λ k. drop k text) next ∙ after_at);
-      utf8 = utf8;
-      line_is = last_is ∙ line_add text t.start n t.line (count_by is_feed t.text.now) line_here (ap (count_by is_feed) text_is ∙ ap (λ l. count_by is_feed (take n l)) (sym behind_at)) ∙ ap (line_at text) (sym next);
-      so_far = λ ts more.
-          subst (TokensFrom text spots.LineStart 0) (sym (append_assoc out (t ∷ []) ts))
-          (reads.so_far (t ∷ ts) (
-            start_is ∙ ap (λ k. at + k) (is ∙ ap (gap_len spot) (sym from)),
-            omega arith,
-            place ∙ ap place_of (end_is ∙ ap (behind_gap spot) (sym from)),
-            line_here,
-            text_is ∙ ap (take n) (sym behind_at) ∙ ap (λ k. take k (drop t.start text)) (sym length_text),
-            subst (λ k. IsToken (drop t.start text) t.kind k) (sym length_text) (subst (λ l. IsToken l t.kind n) (sym behind_at) token),
-            subst (λ k. TokensFrom text spots.Behind (t.start + k) ts) (sym length_text) (subst (λ k. TokensFrom text spots.Behind k ts) next more),
-          ));
+      is_rest = sym (ap (λ k. drop k text) next ∙ after_at);
+      is_line =
+          line_add text start n (line + feeds) more token_line (count.of_token ∙ ap (count_by is_feed) parts.token_is ∙ ap (λ l. count_by is_feed (take n l)) (sym here)) ∙ ap (line_at text) (sym next);
     }
+
+-- no token is to come where the gap is all that is left
+pub none_to_come : (text rest : List ℕ) (spot : Spot) (line gap : ℕ) (behind : List ℕ) → IsAt text rest line → gap ≡ gap_len spot rest → gap ≤ length rest → behind ≡ drop gap rest → length behind ≡ 0
+    → TokensFrom text spot (length text - length rest) []
+none_to_come text rest spot line gap behind at is gap_inside behind_is empty =
+    let length_behind = ap length behind_is ∙ length-drop gap rest in
+    let inside = at.inside in
+    ap (gap_len spot) (sym at.is_rest) ∙ sym is ∙ (let e : gap ≡ length text - (length text - length rest) = omega arith in e)
+
+-- what comes from a lexer is the token that it read, and then what comes behind it
+pub token_to_come : (text rest : List ℕ) (spot : Spot) (line gap feeds more : ℕ) (end : Spot) (behind token : List ℕ) (kind : Kind) (place : Place) (n : ℕ) (after : List ℕ) →
+    IsAt text rest line → Parts rest gap behind token n after → Feeds rest token gap feeds more → gap ≡ gap_len spot rest → end ≡ behind_gap spot rest →
+    0 < length behind → IsToken behind kind n → place ≡ place_of end →
+    (ts : List Token) → TokensFrom text spots.Behind (length text - length after) ts →
+    (length text - length behind ≡ length text - length rest + gap_len spot (drop (length text - length rest) text))
+    × (length text - length behind < length text)
+    × (place ≡ place_of (behind_gap spot (drop (length text - length rest) text)))
+    × (line + feeds ≡ line_at text (length text - length behind))
+    × (token ≡ take (length token) (drop (length text - length behind) text))
+    × IsToken (drop (length text - length behind) text) kind (length token)
+    × TokensFrom text spots.Behind (length text - length behind + length token) ts
+token_to_come text rest spot line gap feeds more end behind token kind place n after at parts count is end_is some is_token place_is ts to_come =
+    let inside = at.inside in
+    let gap_inside = parts.gap_inside in
+    let n_inside = parts.inside in
+    let length_behind = ap length parts.behind_is ∙ length-drop gap rest in
+    let length_after = ap length parts.after_is ∙ length-drop n behind in
+    let length_token : length token ≡ n = ap length parts.token_is ∙ length-take-le n behind parts.inside in
+    let start : length text - length behind ≡ length text - length rest + gap = omega arith in
+    let here = behind_at text rest line gap behind token n after at parts in
+    let next : length text - length after ≡ length text - length behind + length token = omega arith in (
+      start ∙ ap (λ k. length text - length rest + k) (is ∙ ap (gap_len spot) at.is_rest),
+      omega arith,
+      place_is ∙ ap place_of (end_is ∙ ap (behind_gap spot) at.is_rest),
+      line_behind text rest line gap feeds more behind token n after at parts count,
+      parts.token_is ∙ ap (take n) (sym here) ∙ ap (λ k. take k (drop (length text - length behind) text)) (sym length_token),
+      subst (λ k. IsToken (drop (length text - length behind) text) kind k) (sym length_token) (subst (λ l. IsToken l kind n) (sym here) is_token),
+      subst (λ k. TokensFrom text spots.Behind k ts) next to_come,
+    )

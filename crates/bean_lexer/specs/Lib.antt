@@ -5,3 +5,4 @@ pub mod Longest
 pub mod Steps
 pub mod Tokens
 pub mod Laws
+pub mod ToCome

@@ -5,6 +5,6 @@ use crate::kind::Kind;
 /// What the token at the front is, and how long.
 #[derive(Clone, Copy, Debug)]
 pub struct Found {
-    pub kind: Kind,
     pub len: usize,
+    pub kind: Kind,
 }

@@ -5,11 +5,13 @@ mod digits;
 mod found;
 mod gaps;
 pub mod kind;
+pub mod lexer;
 mod names;
 mod scan;
 #[cfg(test)]
 mod tests;
 mod texts;
 pub mod token;
+mod token_at;
 pub mod tokens;
 mod words;

@@ -10,9 +10,10 @@ ghost use Rattle.bean_lexer.specs.Tokens.{IsToken};
 
 use crate::found::Found;
 use crate::kind::{Keyword, Kind, Sign};
-use crate::scan::{InComponent, InCurrency, InName, end_of_run};
+use crate::scan::{InComponent, InCurrency, InName, end_of_run, has_front};
 
 /// The account, the currency or the truth value that begins with a capital.
+#[inline(always)]
 pub fn account_or_currency(bytes: &[u8]) -> Found
     requires some { 0 < length bytes.now }
     requires capital { IsTrue (is_ascii_uppercase (slice_index bytes.now 0)) }
@@ -32,15 +33,15 @@ pub fn account_or_currency(bytes: &[u8]) -> Found
 fn root_len(bytes: &[u8]) -> usize
     ensures { result ≡ root_len bytes.now }
 {
-    if bytes.starts_with(b"Assets:") {
+    if has_front(bytes, b"Assets:") {
         7
-    } else if bytes.starts_with(b"Liabilities:") {
+    } else if has_front(bytes, b"Liabilities:") {
         12
-    } else if bytes.starts_with(b"Equity:") {
+    } else if has_front(bytes, b"Equity:") {
         7
-    } else if bytes.starts_with(b"Income:") {
+    } else if has_front(bytes, b"Income:") {
         7
-    } else if bytes.starts_with(b"Expenses:") {
+    } else if has_front(bytes, b"Expenses:") {
         9
     } else {
         0
@@ -86,6 +87,7 @@ fn account_len(bytes: &[u8]) -> Option<usize>
 }
 
 /// The currency or the truth value that begins with a capital.
+#[inline(always)]
 fn currency_or_truth(bytes: &[u8]) -> Found
     requires some { 0 < length bytes.now }
     requires capital { IsTrue (is_ascii_uppercase (slice_index bytes.now 0)) }

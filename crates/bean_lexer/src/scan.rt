@@ -1,6 +1,6 @@
-//! Runs of bytes of a class.
-ghost use Rattle.std.specs.Prelude.{◌≡◌, ℕ, Bool, ◌+◌, ◌≤◌, length, drop};
-ghost use Rattle.std.specs.List.{prefix_len};
+//! Runs of bytes of a class, and what stands at a front.
+ghost use Rattle.std.specs.Prelude.{◌≡◌, ℕ, Bool, ◌+◌, ◌<◌, ◌≤◌, nat_eq, length, drop};
+ghost use Rattle.std.specs.List.{prefix_len, starts_with};
 ghost use Rattle.std.specs.Char.{is_ascii_digit};
 ghost use Rattle.bean_base.specs.Names.{is_in_component, is_in_currency};
 ghost use Rattle.bean_lexer.specs.Forms.{is_in_name, is_in_key, is_plain};
@@ -25,6 +25,16 @@ pub fn end_of_run<C: ByteClass>(bytes: &[u8], start: usize) -> usize
         end += 1;
     }
     end
+}
+
+/// Whether some bytes stand at the front. The first byte is looked at before the others, since it
+/// mostly decides.
+#[inline(always)]
+pub fn has_front(bytes: &[u8], front: &[u8]) -> bool
+    requires { 0 < length front.now }
+    ensures { result ≡ starts_with nat_eq bytes.now front.now }
+{
+    bytes.len() >= front.len() && bytes[0] == front[0] && front == &bytes[..front.len()]
 }
 
 /// The digits of a number.
@@ -56,7 +66,7 @@ impl ByteClass for InName {
     ghost holds = { is_in_name };
 
     fn has(b: u8) -> bool {
-        b.is_ascii_alphanumeric() || b == b'-' || b == b'_' || b == b'/' || b == b'.'
+        b.is_ascii_alphanumeric() || matches!(b, b'-' | b'_' | b'/' | b'.')
     }
 }
 
@@ -78,12 +88,7 @@ impl ByteClass for InCurrency {
     ghost holds = { is_in_currency };
 
     fn has(b: u8) -> bool {
-        b.is_ascii_uppercase()
-            || b.is_ascii_digit()
-            || b == b'\''
-            || b == b'.'
-            || b == b'_'
-            || b == b'-'
+        b.is_ascii_uppercase() || b.is_ascii_digit() || matches!(b, b'\'' | b'.' | b'_' | b'-')
     }
 }
 

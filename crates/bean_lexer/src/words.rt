@@ -10,7 +10,7 @@ ghost use Rattle.bean_lexer.specs.Tokens.{IsToken, goes_on_character};
 
 use crate::found::Found;
 use crate::kind::{Keyword, Kind, Sign, WORDS};
-use crate::scan::{GoesOnCharacter, InKey, end_of_run};
+use crate::scan::{GoesOnCharacter, InKey, end_of_run, has_front};
 
 /// The key or the word that begins with a small letter, or a fault.
 pub fn key_or_keyword(bytes: &[u8]) -> Found
@@ -51,7 +51,7 @@ fn keyword_at(bytes: &[u8]) -> Option<Keyword>
     WORDS
         .iter()
         .copied()
-        .find(|word| bytes.starts_with(word.spelling().as_bytes()))
+        .find(|word| has_front(bytes, word.spelling().as_bytes()))
 }
 
 /// The sign of one byte, but for `#`.

@@ -11,10 +11,10 @@ others_len begins xs = prefix_len (λ y. not (begins y)) xs
 abbrev pub cut_at : {A : Type 0} → (A → Bool) → A → List A → ℕ → List (List A)
 cut_at begins x xs n = (x ∷ take n xs) ∷ cut_before begins (drop n xs)
 
-put_true : {A : Type 0} (begins : A → Bool) (x y : A) (a : List A) (r : List (List A)) → begins y ≡ true → put_before begins x ((y ∷ a) ∷ r) ≡ (x ∷ []) ∷ ((y ∷ a) ∷ r)
+pub put_true : {A : Type 0} (begins : A → Bool) (x y : A) (a : List A) (r : List (List A)) → begins y ≡ true → put_before begins x ((y ∷ a) ∷ r) ≡ (x ∷ []) ∷ ((y ∷ a) ∷ r)
 put_true begins x y a r e = ap (λ b. cond b ((x ∷ []) ∷ ((y ∷ a) ∷ r)) ((x ∷ (y ∷ a)) ∷ r)) e
 
-put_false : {A : Type 0} (begins : A → Bool) (x y : A) (a : List A) (r : List (List A)) → begins y ≡ false → put_before begins x ((y ∷ a) ∷ r) ≡ (x ∷ (y ∷ a)) ∷ r
+pub put_false : {A : Type 0} (begins : A → Bool) (x y : A) (a : List A) (r : List (List A)) → begins y ≡ false → put_before begins x ((y ∷ a) ∷ r) ≡ (x ∷ (y ∷ a)) ∷ r
 put_false begins x y a r e = ap (λ b. cond b ((x ∷ []) ∷ ((y ∷ a) ∷ r)) ((x ∷ (y ∷ a)) ∷ r)) e
 
 len_true : {A : Type 0} (begins : A → Bool) (y : A) (ys : List A) → begins y ≡ true → others_len begins (y ∷ ys) ≡ 0

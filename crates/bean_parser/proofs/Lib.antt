@@ -7,3 +7,4 @@ pub mod Texts
 pub mod Examples
 pub mod OneReading
 pub mod OneText
+pub mod Takes

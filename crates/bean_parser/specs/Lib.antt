@@ -8,3 +8,4 @@ pub mod Directives
 pub mod Reading
 pub mod Parsed
 pub mod Laws
+pub mod Reader

@@ -11,7 +11,7 @@ ghost use Rattle.bean_parser.specs.Values.{text_value};
 ghost use Rattle.bean_parser.specs.Directives.{Gives, fault_at, payee_of, narration_of};
 ghost use Rattle.bean_parser.specs.Reading.{BeginsWith, ReadsPosting, ReadsPostings, ReadsUnder, ReadsBlock, outcome_of};
 
-use crate::directive::{Directive, Flag, Open, Posting, Text, Transaction};
+use crate::directive::{Amount, Directive, Flag, Open, Posting, Text, Transaction};
 use crate::line::{Head, Texts, read_head, read_posting};
 use bean_base::days::parse_day;
 use bean_base::fault::{Fault, FaultKind};
@@ -35,7 +35,7 @@ pub enum Part {
 
 impl Part {
     /// Whether a token at this place begins a part.
-    fn begins_at(self, place: Place) -> bool
+    pub fn begins_at(self, place: Place) -> bool
         ensures { result ≡ begins_at self place }
     {
         match (self, place) {
@@ -133,10 +133,18 @@ fn read_posting_line<'a>(line: &[Token<'a>]) -> Result<Posting<'a>, Refusal>
     let Some(written) = read_posting(line) else {
         return Err(Refusal::NotADirective);
     };
-    match written.in_range(first_line(line)) {
-        Some(posting) => Ok(posting),
-        None => Err(Refusal::OutOfRange),
-    }
+    let Some(number) = written.signed_number() else {
+        return Err(Refusal::OutOfRange);
+    };
+    let units = Amount {
+        number,
+        currency: written.currency,
+    };
+    Ok(Posting {
+        account: written.account,
+        units,
+        line: first_line(line),
+    })
 }
 
 /// How many lines begin among the tokens.

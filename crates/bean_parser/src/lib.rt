@@ -7,3 +7,4 @@ mod front;
 pub mod grammar;
 mod line;
 pub mod parse;
+mod reader;

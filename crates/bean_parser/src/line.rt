@@ -3,11 +3,12 @@ ghost use Rattle.std.specs.Prelude.{◌≡◌, MatchOption};
 ghost use Rattle.grammar_forms.specs.Forms.{Reads, HasNone, Is, IsNone, word, optional};
 ghost use Rattle.bean_parser.specs.Lexemes.{seen, lexemes, text, begins_with_text};
 ghost use Rattle.bean_parser.specs.Grammar.{texts, kinds, heads, signs, postings};
-ghost use Rattle.bean_parser.specs.Values.{text_value, posting_value};
+ghost use Rattle.bean_parser.specs.Values.{text_value};
 ghost use Rattle.bean_parser.specs.Lines.{texts_of, head_of, written_value};
-ghost use Rattle.bean_parser.specs.Directives.{IsLedgerNumber, posting_written};
+ghost use Rattle.bean_parser.specs.Directives.{IsLedgerNumber, signed};
+ghost use Rattle.bean_base.specs.Numeral.{count_of, places_of};
 
-use crate::directive::{Amount, Flag, Posting, Text};
+use crate::directive::{Flag, Text};
 use crate::front::{
     after_account, after_currency, after_day, after_flag, after_number, after_open, after_sign,
     after_text, next,
@@ -30,9 +31,9 @@ pub enum Head<'a> {
 #[derive(Clone, Copy)]
 pub struct WrittenPosting<'a> {
     pub account: Account<'a>,
-    pub is_minus: bool,
     pub number: &'a str,
     pub currency: Currency<'a>,
+    pub is_minus: bool,
 }
 
 fn second_text<'t, 'a>(tokens: &'t [Token<'a>]) -> (Option<Text<'a>>, &'t [Token<'a>])
@@ -115,29 +116,25 @@ pub fn read_posting<'a>(line: &[Token<'a>]) -> Option<WrittenPosting<'a>>
     })
 }
 
-impl<'a> WrittenPosting<'a> {
-    /// The posting, where its number is a number of a ledger.
-    pub fn in_range(self, line: usize) -> Option<Posting<'a>>
+impl WrittenPosting<'_> {
+    /// The number with its sign, where it is a number of a ledger.
+    pub fn signed_number(self) -> Option<Num>
         ensures { MatchOption result (IsLedgerNumber self.entry.number.now → ⊥)
-            (λ p. IsLedgerNumber self.entry.number.now
-            × (posting_value p ≡ posting_written (line, written_value self.entry))) }
+            (λ n. IsLedgerNumber self.entry.number.now
+            × (n.count ≡ signed self.entry.is_minus (count_of self.entry.number.now))
+            × (n.places ≡ places_of self.entry.number.now)) }
     {
         let Ok(magnitude) = Num::parse(self.number) else {
             return None;
         };
-        let number = if self.is_minus {
-            magnitude.negated()
+        let count = if self.is_minus {
+            -magnitude.count
         } else {
-            magnitude
+            magnitude.count
         };
-        let units = Amount {
-            number,
-            currency: self.currency,
-        };
-        Some(Posting {
-            account: self.account,
-            units,
-            line,
+        Some(Num {
+            count,
+            places: magnitude.places,
         })
     }
 }

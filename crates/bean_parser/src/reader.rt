@@ -1,0 +1,63 @@
+//! The blocks of a text, one after the other.
+ghost use Rattle.std.specs.Prelude.{List, ◌<◌, length, IfOk, IfSome, IsTrue};
+ghost use Rattle.bean_lexer.specs.declared.token.Token.{Token};
+ghost use Rattle.bean_lexer.specs.Tokens.{AreTokens};
+ghost use Rattle.bean_parser.specs.Reader.{ToRead, left_of, TakesBlock, TakesOthers};
+
+use crate::block::Part;
+use bean_lexer::lexer::Lexer;
+use bean_lexer::token::Token;
+use std::alloc::AllocError;
+
+/// Takes the blocks of a text off its tokens, one after the other.
+#[derive(Clone, Copy)]
+pub struct BlockReader<'a> {
+    pub lexer: Lexer<'a>,
+    /// The first token of the next block.
+    pub first: Option<Token<'a>>,
+}
+
+impl<'a> BlockReader<'a> {
+    /// All the tokens of a text are still to be read.
+    pub fn new(text: &'a str) -> BlockReader<'a>
+        ensures { (ts : List Token) → ToRead result ts → AreTokens text.now ts }
+    {
+        let mut lexer = Lexer::new(text);
+        let first = lexer.next_token();
+        BlockReader { lexer, first }
+    }
+
+    /// Fills `block` with the tokens of the next block, in place of what it held. Says whether there
+    /// was one.
+    pub fn next_block(&mut self, block: &mut Vec<Token<'a>>) -> Result<bool, AllocError>
+        ensures block { IfOk result (λ some. TakesBlock some self.old block.new.items self.new) }
+        ensures shorter { IfOk result (λ some. IsTrue some → left_of self.new < left_of self.old) }
+    {
+        block.clear();
+        let Some(first) = self.first else {
+            return Ok(false);
+        };
+        block.push(first)?;
+        self.first = take_others(&mut self.lexer, block)?;
+        Ok(true)
+    }
+}
+
+/// Adds the tokens of a lexer up to the next one that begins a block, which it gives.
+fn take_others<'a>(
+    lexer: &mut Lexer<'a>,
+    block: &mut Vec<Token<'a>>,
+) -> Result<Option<Token<'a>>, AllocError>
+    ensures others { IfOk result
+        (λ next. TakesOthers lexer.old block.old.items next lexer.new block.new.items) }
+    ensures shorter { IfOk result (λ next. IfSome next
+        (λ _. length lexer.new.rest.now < length lexer.old.rest.now)) }
+{
+    while let Some(token) = lexer.next_token() {
+        if Part::Block.begins_at(token.place) {
+            return Ok(Some(token));
+        }
+        block.push(token)?;
+    }
+    Ok(None)
+}
