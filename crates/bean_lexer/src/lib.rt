@@ -8,8 +8,6 @@ pub mod kind;
 pub mod lexer;
 mod names;
 mod scan;
-#[cfg(test)]
-mod tests;
 mod texts;
 pub mod token;
 mod token_at;

@@ -33,6 +33,3 @@ pub fn parse(alloc: Global, text: &str) -> Result<Parsed<'_>, AllocError>
     }
     Ok(Parsed { directives, faults })
 }
-
-#[cfg(test)]
-mod tests;

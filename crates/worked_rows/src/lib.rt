@@ -2,8 +2,12 @@
 #![tactic(auto)]
 
 #[cfg(test)]
+mod ledgers;
+#[cfg(test)]
 mod lots;
 #[cfg(test)]
 mod numbers;
 #[cfg(test)]
 mod tables;
+#[cfg(test)]
+mod tokens;

@@ -1,8 +1,8 @@
 //! Ledgers that are parsed whole.
 
-use crate::directive::{Directive, Flag, Posting, Transaction};
-use crate::parse::{Parsed, parse};
 use bean_base::fault::FaultKind;
+use bean_parser::directive::{Directive, Flag, Posting, Transaction};
+use bean_parser::parse::{Parsed, parse};
 use std::test::Fail;
 
 fn transaction_at<'p, 'a>(parsed: &'p Parsed<'a>, index: usize) -> Option<&'p Transaction<'a>> {
