@@ -17,7 +17,7 @@ abbrev pub in_memory : MemoryStore → MemoryStore → ShortWriter → ShortWrit
 in_memory = between (λ s. s.failures) (λ s. Some (told_of s)) Gives (λ w. Some (taken_of w)) AnswersShort
 
 at_words : (store : MemoryStore) (out out' : ShortWriter) (words : List Text) (r : Refusal) → RefusesWords words r → out' ≡ out → ComesTo store out out' words (Err r)
-at_words store out out' words Words refused same = same
+at_words store out out' words Words refused same = (refused, same)
 at_words store out out' words OutOfMemory refused same = same
 at_words store out out' words Unreadable refused same = absurd refused
 at_words store out out' words NotUtf8 refused same = absurd refused
@@ -30,9 +30,9 @@ named store store' out out' words name (Ok x) is h = (h.2.0, (name, is, (h.0, h.
 named store store' out out' words name (Err Unreadable) is h = ((name, is, h.0.0.0), h.1)
 named store store' out out' words name (Err NotWritten) is h =
     let stop = h.2.2 in (h.2.0, (name, is, (h.0, h.1.0.0, h.2.1)), (stop.0, stop.1, stop.2), refuses_at_limit out out' stop.3)
-named store store' out out' words name (Err NotUtf8) is h = h.3
-named store store' out out' words name (Err TooLarge) is h = h.3
-named store store' out out' words name (Err TooManyPostings) is h = h.3
+named store store' out out' words name (Err NotUtf8) is h = ((name, is, (h.0, h.1.0.0, h.2)), h.3)
+named store store' out out' words name (Err TooLarge) is h = ((name, is, (h.0, h.1.0.0, h.2)), h.3)
+named store store' out out' words name (Err TooManyPostings) is h = ((name, is, (h.0, h.1.0.0, h.2)), h.3)
 named store store' out out' words name (Err OutOfMemory) is h = h.2
 named store store' out out' words name (Err Words) is h = absurd h
 

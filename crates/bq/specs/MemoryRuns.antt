@@ -3,14 +3,16 @@ use Rattle.std.specs.Prelude.{◌≡◌, ℕ, ◌<◌, ◌≤◌, ◌++◌, fals
 use Rattle.clap.specs.Walk.{Text}
 use Rattle.table_printer.specs.ShortWriters.{taken_of, limit_of, starved_of}
 use Rattle.table_printer.specs.declared.short_writer.ShortWriter.{ShortWriter}
-use Rattle.bq.specs.Listing.{Lists}
+use Rattle.std.specs.Str.{IsUtf8}
+use Rattle.bq.specs.Listing.{Lists, HasTooMany}
 use Rattle.bq.specs.Memory.{found_next}
-use Rattle.bq.specs.Runs.{status_of_run}
+use Rattle.bq.specs.Named.{RefusesWords}
+use Rattle.bq.specs.Runs.{largest_text, status_of_run}
 use Rattle.bq.specs.Statuses.{line_of}
 use Rattle.bq.specs.Words.{ledger_named}
 use Rattle.bq.specs.declared.memory.MemoryStore.{MemoryStore}
 use Rattle.bq.specs.declared.refusal.Refusal.{Refusal}
-use Rattle.bq.specs.declared.refusal.Refusal.TheVariants.{Unreadable, NotWritten}
+use Rattle.bq.specs.declared.refusal.Refusal.TheVariants.{Words, Unreadable, NotUtf8, TooLarge, TooManyPostings, NotWritten, OutOfMemory}
 
 -- the table of the bytes that the store's next call finds under the name that the words say
 abbrev pub ShowsHeld : MemoryStore → List Text → List ℕ → Type 0
@@ -34,12 +36,22 @@ ListsFront store out out' words =
 abbrev pub HoldsNone : MemoryStore → List Text → Type 0
 HoldsNone store words = (name : List ℕ) × (ledger_named words ≡ Some name) × (found_next store name ≡ None)
 
--- L1 only where the store has nothing to give, P1 only where the output is full; no other refusal writes anything
+-- the bytes that it finds there are such
+abbrev pub HoldsSuch : MemoryStore → List Text → (List ℕ → Type 0) → Type 0
+HoldsSuch store words Cause =
+    (name : List ℕ) × (ledger_named words ≡ Some name)
+    × ((bytes : List ℕ) × (found_next store name ≡ Some bytes) × Cause bytes)
+
+-- each refusal only where its cause holds: L1 where the store has nothing to give, P1 where the output is full; no other writes anything
 abbrev pub ComesTo : MemoryStore → ShortWriter → ShortWriter → List Text → Result Unit Refusal → Type 0
 ComesTo store out out' words (Ok x) = ListsHeld store out out' words
 ComesTo store out out' words (Err Unreadable) = HoldsNone store words × (out' ≡ out)
 ComesTo store out out' words (Err NotWritten) = ListsFront store out out' words
-ComesTo store out out' words (Err refusal) = out' ≡ out
+ComesTo store out out' words (Err Words) = RefusesWords words Words × (out' ≡ out)
+ComesTo store out out' words (Err NotUtf8) = HoldsSuch store words (λ bytes. ¬ IsUtf8 bytes) × (out' ≡ out)
+ComesTo store out out' words (Err TooLarge) = HoldsSuch store words (λ bytes. largest_text < length bytes) × (out' ≡ out)
+ComesTo store out out' words (Err TooManyPostings) = HoldsSuch store words HasTooMany × (out' ≡ out)
+ComesTo store out out' words (Err OutOfMemory) = out' ≡ out
 
 -- the line of the refusal, or a front of it up to the limit of that output, or up to where memory was refused to it
 abbrev pub Says : ShortWriter → ShortWriter → Result Unit Refusal → Type 0
