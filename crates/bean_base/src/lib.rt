@@ -4,6 +4,7 @@
 //! No call here takes memory: a name is a slice of the text that it was read from.
 #![tactic(auto)]
 
+pub mod bytes;
 pub mod days;
 mod digits;
 pub mod fault;
