@@ -8,7 +8,7 @@
 //! let paid = Amount { number: price.add(fee)?, currency: usd };
 //! let cash = parse_account("Assets:Cash")?;
 //! let day = parse_day("2014-01-31")?;          // Display writes it so again
-//! let shop = Text::new("The \\"Corner\\" shop");  // stands for The "Corner" shop
+//! let shop = Text::new("The \"Corner\" shop");  // stands for The "Corner" shop
 //! ```
 //!
 //! # Slices
@@ -33,6 +33,7 @@
 #![tactic(auto)]
 
 pub mod amounts;
+pub mod bytes;
 pub mod days;
 mod digits;
 pub mod fault;
