@@ -11,9 +11,9 @@ use Rattle.std.specs.List.{list_all, before_first, position_or_len, slice_split,
 use Rattle.std.specs.Str.{IsCharBoundary}
 use Rattle.bean_base.specs.Names.{is_account, is_root, is_colon, is_component, is_in_component, begins_component}
 use Rattle.bean_base.proofs.Numerals.{drop_more}
-use Rattle.bean_lexer.specs.Longest.{IsLongestFront, HasNoFront}
-use Rattle.bean_lexer.specs.Steps.{begins_component_at, has_next_component}
-use Rattle.bean_lexer.proofs.Fronts.{front_at, front_run, front_end, front_end_nil}
+use Rattle.theory.specs.LongestFront.{IsLongestFront, HasNoFront}
+use Rattle.bean_lexer.specs.Lookahead.{begins_component_at, has_next_component}
+use Rattle.theory.proofs.LongestFrontFacts.{front_at, front_run, front_end, front_end_nil}
 
 -- no byte is a colon
 abbrev pub NoColon : List ℕ → Type 0
@@ -219,7 +219,7 @@ component_front bs i e n is begins front =
     let len : 1 + (q + n) ≡ e - i + n = omega arith in
     let rest : IsLongestFront behind_name (drop q (drop (i + 1) bs)) n = subst (λ l. IsLongestFront behind_name l n) (ap (λ k. drop k bs) at ∙ sym (drop-drop q (i + 1) bs)) front in
     subst (λ k. IsLongestFront are_names (drop i bs) k) len
-    (front_at are_names behind_name bs i (q + n) inside (λ more. begin_step (get_or bs i 0) more h.1)
+    (front_at are_names behind_name bs i (q + n) 0 inside (λ more. begin_step (get_or bs i 0) more h.1)
     (front_run behind_name is_in_component (λ b b_in more. in_step b more b_in) (drop (i + 1) bs) n rest))
 
 -- what the loop over components keeps
@@ -270,7 +270,7 @@ names_go_on bs root len e is next so_far =
           let l : len - root + (1 + (e - (len + 1) + n)) ≡ e - root + n = omega (arith, ends.0) in
           subst (λ k. IsLongestFront are_names (drop root bs) k) l
           (so_far.so_far (1 + (e - (len + 1) + n))
-          (front_at behind_name are_names bs len (e - (len + 1) + n) inside (λ more. colon_step (get_or bs len 0) more colon)
+          (front_at behind_name are_names bs len (e - (len + 1) + n) 0 inside (λ more. colon_step (get_or bs len 0) more colon)
           (component_front bs (len + 1) e n is h.1 front)));
     }
 

@@ -9,7 +9,7 @@ use Rattle.std.specs.List.{prefix_len}
 use Rattle.std.specs.Str.{IsCharBoundary}
 use Rattle.bean_base.proofs.Numerals.{drop_more}
 use Rattle.bean_lexer.specs.Tokens.{goes_on_character}
-use Rattle.bean_lexer.specs.Gaps.{gap_len, gap_step, is_comment}
+use Rattle.bean_lexer.specs.Gap.{gap_len, gap_step, is_comment}
 use Rattle.bean_lexer.specs.declared.gaps.Spot.{Spot}
 use Rattle.bean_lexer.specs.declared.gaps.Spot.TheVariants as spots
 

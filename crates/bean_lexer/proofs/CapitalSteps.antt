@@ -7,9 +7,9 @@ use Rattle.std.specs.List.{list_all}
 use Rattle.std.specs.Char.{is_ascii_uppercase, is_ascii_lowercase}
 use Rattle.std.specs.Str.{bytes_eq}
 use Rattle.bean_base.specs.Names.{is_account, is_currency, is_in_currency}
-use Rattle.bean_lexer.specs.Forms.{keyword_spelling}
-use Rattle.bean_lexer.specs.Longest.{IsLongestFront, HasNoFront}
-use Rattle.bean_lexer.specs.Steps.{is_currency_form}
+use Rattle.bean_lexer.specs.TokenForm.{keyword_spelling}
+use Rattle.theory.specs.LongestFront.{IsLongestFront, HasNoFront}
+use Rattle.bean_lexer.specs.Lookahead.{is_currency_form}
 use Rattle.bean_lexer.specs.Tokens.{NoneOf, IsLongestToken}
 use Rattle.bean_lexer.specs.declared.kind.Kind.TheVariants as kinds
 use Rattle.bean_lexer.specs.declared.kind.Keyword.{Keyword}

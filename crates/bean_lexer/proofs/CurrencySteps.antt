@@ -9,9 +9,9 @@ use Rattle.std.specs.List.{list_all, prefix_len}
 use Rattle.std.specs.Char.{is_ascii_digit, is_ascii_uppercase}
 use Rattle.std.specs.Str.{IsCharBoundary}
 use Rattle.bean_base.specs.Names.{is_in_currency}
-use Rattle.bean_lexer.specs.Longest.{IsLongestFront}
-use Rattle.bean_lexer.specs.Steps.{is_currency_form, ends_currency, has_bad_end}
-use Rattle.bean_lexer.proofs.Fronts.{all_front}
+use Rattle.theory.specs.LongestFront.{IsLongestFront}
+use Rattle.bean_lexer.specs.Lookahead.{is_currency_form, ends_currency, has_bad_end}
+use Rattle.theory.proofs.LongestFrontFacts.{all_front}
 
 -- how far the characters of a currency reach
 abbrev pub reach_of : List ℕ → ℕ

@@ -10,8 +10,8 @@ use Rattle.std.specs.Char.{is_ascii_digit}
 use Rattle.std.specs.Str.{IsCharBoundary}
 use Rattle.bean_base.specs.Numeral.{is_number}
 use Rattle.bean_base.specs.Days.{is_day_form}
-use Rattle.bean_lexer.specs.Longest.{IsLongestFront}
-use Rattle.bean_lexer.specs.Steps.{has_more_digits}
+use Rattle.theory.specs.LongestFront.{IsLongestFront}
+use Rattle.bean_lexer.specs.Lookahead.{has_more_digits}
 use Rattle.bean_lexer.specs.Tokens.{NoneOf, IsLongestToken}
 use Rattle.bean_lexer.specs.declared.kind.Kind.TheVariants as kinds
 use Rattle.bean_lexer.proofs.Leads.{at_digit, second_true}

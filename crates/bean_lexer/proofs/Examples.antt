@@ -1,8 +1,8 @@
 -- The definitions on worked values.
 use Rattle.std.proofs.Common.{◌≡◌, [], ◌∷◌, ◌++◌, true, false, codes, refl}
-use Rattle.bean_lexer.specs.Forms.{is_text, is_tag, is_link, is_key}
-use Rattle.bean_lexer.specs.Kinds.{is_of}
-use Rattle.bean_lexer.specs.Gaps.{gap_len, behind_gap, place_of}
+use Rattle.bean_lexer.specs.TokenForm.{is_text, is_tag, is_link, is_key}
+use Rattle.bean_lexer.specs.KindForm.{is_of}
+use Rattle.bean_lexer.specs.Gap.{gap_len, behind_gap, place_of}
 use Rattle.bean_lexer.specs.Tokens.{fault_len, line_at}
 use Rattle.bean_lexer.specs.declared.kind.Kind.TheVariants as kinds
 use Rattle.bean_lexer.specs.declared.kind.Keyword.TheVariants as words

@@ -9,8 +9,8 @@ use Rattle.std.specs.Char.{is_ascii_digit}
 use Rattle.bean_base.specs.Names.{is_root, is_account, is_colon, is_in_component, is_in_currency, begins_component}
 use Rattle.bean_base.specs.Days.{is_day_form}
 use Rattle.bean_base.proofs.Numerals.{drop_more}
-use Rattle.bean_lexer.specs.Forms.{is_in_name, is_name_behind, is_in_key, is_key, keyword_spelling, sign_spelling}
-use Rattle.bean_lexer.specs.Kinds.{is_of, may_be}
+use Rattle.bean_lexer.specs.TokenForm.{is_in_name, is_name_behind, is_in_key, is_key, keyword_spelling, sign_spelling}
+use Rattle.bean_lexer.specs.KindForm.{is_of, may_be}
 use Rattle.bean_lexer.specs.declared.kind.Kind.{Kind}
 use Rattle.bean_lexer.specs.declared.kind.Kind.TheVariants as kinds
 use Rattle.bean_lexer.specs.declared.kind.Keyword.{Keyword}

@@ -1,5 +1,4 @@
 pub mod Boundaries
-pub mod Fronts
 pub mod NumberSteps
 pub mod Leads
 pub mod TextSteps

@@ -8,9 +8,9 @@ use Rattle.std.proofs.lemmas.Str.{IsCharBoundary-after_ascii}
 use Rattle.std.specs.List.{list_all, prefix_len}
 use Rattle.std.specs.Char.{is_ascii_lowercase}
 use Rattle.std.specs.Str.{IsCharBoundary}
-use Rattle.bean_lexer.specs.Forms.{is_name_behind, is_in_name, is_key, is_in_key}
-use Rattle.bean_lexer.specs.Longest.{IsLongestFront, HasNoFront}
-use Rattle.bean_lexer.proofs.Fronts.{front_cons, all_front}
+use Rattle.bean_lexer.specs.TokenForm.{is_name_behind, is_in_name, is_key, is_in_key}
+use Rattle.theory.specs.LongestFront.{IsLongestFront, HasNoFront}
+use Rattle.theory.proofs.LongestFrontFacts.{front_cons, all_front}
 use Rattle.bean_lexer.proofs.Boundaries.{run_boundary}
 
 abbrev pub is_name : List ℕ → Bool

@@ -9,11 +9,11 @@ use Rattle.std.specs.Str.{IsCharBoundary}
 use Rattle.std.specs.Char.{is_ascii_digit}
 use Rattle.bean_base.specs.Numeral.{is_number, is_point, goes_on}
 use Rattle.bean_base.proofs.Numerals.{completes, completes_step, drop_more}
-use Rattle.bean_lexer.specs.Steps.{has_more_digits}
-use Rattle.bean_lexer.specs.Longest.{IsLongestFront}
+use Rattle.bean_lexer.specs.Lookahead.{has_more_digits}
+use Rattle.theory.specs.LongestFront.{IsLongestFront}
 use Rattle.std.proofs.lemmas.Str.{IsCharBoundary-start, IsCharBoundary-after_ascii}
 use Rattle.bean_lexer.proofs.Boundaries.{run_boundary}
-use Rattle.bean_lexer.proofs.Fronts.{front_at, front_run, front_end, front_end_nil, all_front}
+use Rattle.theory.proofs.LongestFrontFacts.{front_at, front_run, front_end, front_end_nil, all_front}
 
 one_more : (n : ℕ) → 1 + n ≡ suc n
 one_more n = omega arith
@@ -82,7 +82,7 @@ digits_front after bs i e n is inside digit front =
     let len : 1 + (q + n) ≡ e - i + n = omega arith in
     let rest : IsLongestFront (rest_of_number true) (drop q (drop (i + 1) bs)) n = subst (λ l. IsLongestFront (rest_of_number true) l n) (ap (λ k. drop k bs) at ∙ sym (drop-drop q (i + 1) bs)) front in
     subst (λ k. IsLongestFront (rest_of_number after) (drop i bs) k) len
-    (front_at (rest_of_number after) (rest_of_number true) bs i (q + n) inside (λ more. digit_step after (get_or bs i 0) more digit)
+    (front_at (rest_of_number after) (rest_of_number true) bs i (q + n) 0 inside (λ more. digit_step after (get_or bs i 0) more digit)
     (front_run (rest_of_number true) is_ascii_digit (λ b h more. digit_step true b more h) (drop (i + 1) bs) n rest))
 
 -- a comma, and a run of digits
@@ -91,7 +91,7 @@ pub comma_front : (bs : List ℕ) (i e n : ℕ) → e ≡ i + 1 + prefix_len is_
 comma_front bs i e n is inside comma digit front =
     let len : 1 + (e - (i + 1) + n) ≡ e - i + n = omega arith in
     subst (λ k. IsLongestFront (rest_of_number true) (drop i bs) k) len
-    (front_at (rest_of_number true) (rest_of_number false) bs i (e - (i + 1) + n) (omega arith) (comma_step (get_or bs i 0) comma)
+    (front_at (rest_of_number true) (rest_of_number false) bs i (e - (i + 1) + n) 0 (omega arith) (comma_step (get_or bs i 0) comma)
     (digits_front false bs (i + 1) e n is inside digit front))
 
 -- a point, and a run of digits
@@ -99,7 +99,7 @@ pub point_front : (bs : List ℕ) (i e : ℕ) → e ≡ i + 1 + prefix_len is_as
 point_front bs i e is inside point =
     let len : 1 + prefix_len is_ascii_digit (drop (i + 1) bs) ≡ e - i = omega arith in
     subst (λ k. IsLongestFront (rest_of_number true) (drop i bs) k) len
-    (front_at (rest_of_number true) (list_all is_ascii_digit) bs i (prefix_len is_ascii_digit (drop (i + 1) bs)) inside (point_step (get_or bs i 0) point)
+    (front_at (rest_of_number true) (list_all is_ascii_digit) bs i (prefix_len is_ascii_digit (drop (i + 1) bs)) 0 inside (point_step (get_or bs i 0) point)
     (all_front is_ascii_digit (drop (i + 1) bs)))
 
 no_number_front : (ys : List ℕ) (k : ℕ) → (0 < length ys → is_ascii_digit (get_or ys 0 0) ≡ false) → is_number (take k ys) ≡ false

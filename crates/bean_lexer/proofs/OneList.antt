@@ -11,11 +11,11 @@ use Rattle.std.specs.Str.{bytes_eq}
 use Rattle.bean_base.specs.Numeral.{is_number, is_point, goes_on}
 use Rattle.bean_base.specs.Names.{is_account, is_currency, is_in_currency, is_colon, is_root, is_component}
 use Rattle.bean_base.specs.Days.{is_day_form}
-use Rattle.bean_lexer.specs.Forms.{is_text, is_tag, is_link, is_key, is_name_behind, is_in_name, keyword_spelling, sign_spelling}
-use Rattle.bean_lexer.specs.Kinds.{is_of}
-use Rattle.bean_lexer.specs.Steps.{sign_of, doubled_sign_of}
+use Rattle.bean_lexer.specs.TokenForm.{is_text, is_tag, is_link, is_key, is_name_behind, is_in_name, keyword_spelling, sign_spelling}
+use Rattle.bean_lexer.specs.KindForm.{is_of}
+use Rattle.bean_lexer.specs.Lookahead.{sign_of, doubled_sign_of}
 use Rattle.bean_lexer.specs.Tokens.{IsToken, IsLongestToken, IsFaultToken, TokensFrom, line_at}
-use Rattle.bean_lexer.specs.Laws.{AreSame, HasOneListOfTokens}
+use Rattle.bean_lexer.specs.OneListOfTokens.{AreSame, HasOneListOfTokens}
 use Rattle.bean_lexer.specs.declared.kind.TheConstants.{WORDS}
 use Rattle.bean_lexer.specs.declared.kind.Kind.{Kind}
 use Rattle.bean_lexer.specs.declared.kind.Kind.TheVariants as kinds

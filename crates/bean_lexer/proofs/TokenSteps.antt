@@ -4,8 +4,8 @@ use Rattle.std.proofs.lemmas.List.{drop-drop}
 use Rattle.std.proofs.lemmas.List.Sums.{sum_by-append}
 use Rattle.std.proofs.Math.Seq.{take-add}
 use Rattle.std.specs.List.{count_by, prefix_len}
-use Rattle.bean_lexer.specs.Kinds.{is_of}
-use Rattle.bean_lexer.specs.Gaps.{gap_len, behind_gap, place_of}
+use Rattle.bean_lexer.specs.KindForm.{is_of}
+use Rattle.bean_lexer.specs.Gap.{gap_len, behind_gap, place_of}
 use Rattle.bean_lexer.specs.Tokens.{IsToken, TokensFrom, line_at, fault_len, text_reach, goes_on_character}
 use Rattle.bean_lexer.specs.declared.kind.Kind.{Kind}
 use Rattle.bean_lexer.specs.declared.kind.Kind.TheVariants as kinds

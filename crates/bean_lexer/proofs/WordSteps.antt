@@ -9,8 +9,8 @@ use Rattle.std.proofs.lemmas.Str.{IsCharBoundary-after_ascii}
 use Rattle.std.specs.List.{list_all, find, starts_with, prefix_len}
 use Rattle.std.specs.Char.{is_ascii_lowercase, is_ascii_uppercase}
 use Rattle.std.specs.Str.{bytes_eq, IsCharBoundary}
-use Rattle.bean_lexer.specs.Forms.{keyword_spelling, sign_spelling, is_in_key}
-use Rattle.bean_lexer.specs.Steps.{begins_other, sign_of, doubled_sign_of, doubled_sign_at, keyword_at, has_colon}
+use Rattle.bean_lexer.specs.TokenForm.{keyword_spelling, sign_spelling, is_in_key}
+use Rattle.bean_lexer.specs.Lookahead.{begins_other, sign_of, doubled_sign_of, doubled_sign_at, keyword_at, has_colon}
 use Rattle.bean_lexer.specs.Tokens.{NoneOf, NoneLonger, IsLongestToken, IsFaultToken, fault_len, goes_on_character, text_reach}
 use Rattle.bean_lexer.specs.declared.kind.TheConstants.{WORDS}
 use Rattle.bean_lexer.specs.declared.kind.Kind.TheVariants as kinds

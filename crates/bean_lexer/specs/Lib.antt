@@ -1,8 +1,7 @@
-pub mod Forms
-pub mod Kinds
-pub mod Gaps
-pub mod Longest
-pub mod Steps
+pub mod TokenForm
+pub mod KindForm
+pub mod Gap
+pub mod Lookahead
 pub mod Tokens
-pub mod Laws
+pub mod OneListOfTokens
 pub mod ToCome

@@ -2,8 +2,8 @@
 -- of a kind ends where a character ends, since only accounts have bytes past ASCII, and take all of them.
 use Rattle.std.specs.Prelude.{◌≡◌, ℕ, ◌+◌, ◌-◌, ◌<◌, ◌≤◌, ◌==◌, ◌⊎◌, Bool, true, false, List, [], ◌∷◌, length, take, drop, count_by, nat_lt, nat_le, ◌&&◌, if◌then◌else◌}
 use Rattle.std.specs.List.{prefix_len}
-use Rattle.bean_lexer.specs.Kinds.{is_of}
-use Rattle.bean_lexer.specs.Gaps.{gap_len, behind_gap, place_of}
+use Rattle.bean_lexer.specs.KindForm.{is_of}
+use Rattle.bean_lexer.specs.Gap.{gap_len, behind_gap, place_of}
 use Rattle.bean_lexer.specs.declared.gaps.Spot.{Spot}
 use Rattle.bean_lexer.specs.declared.gaps.Spot.TheVariants as spots
 use Rattle.bean_lexer.specs.declared.kind.Kind.{Kind}

@@ -4,13 +4,13 @@ ghost use Rattle.std.specs.Char.{is_ascii_digit};
 ghost use Rattle.std.specs.Str.{IsUtf8, IsCharBoundary};
 ghost use Rattle.bean_base.specs.Numeral.{is_number};
 ghost use Rattle.bean_base.specs.Days.{is_day_form};
-ghost use Rattle.bean_lexer.specs.Longest.{IsLongestFront};
-ghost use Rattle.bean_lexer.specs.Steps.{has_more_digits};
+ghost use Rattle.theory.specs.LongestFront.{IsLongestFront};
+ghost use Rattle.bean_lexer.specs.Lookahead.{has_more_digits};
 ghost use Rattle.bean_lexer.specs.Tokens.{IsToken};
 
 use crate::found::Found;
 use crate::kind::Kind;
-use crate::scan::{Digit, end_of_run};
+use bean_base::bytes::{Digit, end_of_run};
 use bean_base::days::Day;
 
 /// The day or the number that begins with a digit.

@@ -1,6 +1,6 @@
 //! What stands between tokens: white space, line feeds, comments and skipped lines.
 ghost use Rattle.std.specs.Prelude.{◌≡◌, ◌≤◌, length, take, count_by, ◌==◌};
-ghost use Rattle.bean_lexer.specs.Gaps.{gap_len, behind_gap, gap_step, place_of, behind_white};
+ghost use Rattle.bean_lexer.specs.Gap.{gap_len, behind_gap, gap_step, place_of, behind_white};
 
 use crate::kind::Place;
 

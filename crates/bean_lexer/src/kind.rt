@@ -28,7 +28,7 @@ pub enum Keyword {
 }
 
 impl Keyword {
-    ghost use Rattle.bean_lexer.specs.Forms.{keyword_spelling};
+    ghost use Rattle.bean_lexer.specs.TokenForm.{keyword_spelling};
 
     /// How the word is written.
     pub fn spelling(self) -> &'static str

@@ -4,13 +4,14 @@ ghost use Rattle.std.specs.List.{prefix_len};
 ghost use Rattle.std.specs.Char.{is_ascii_digit, is_ascii_uppercase};
 ghost use Rattle.std.specs.Str.{IsUtf8, IsCharBoundary};
 ghost use Rattle.bean_base.specs.Names.{is_account, begins_component, is_in_component};
-ghost use Rattle.bean_lexer.specs.Longest.{IsLongestFront, HasNoFront};
-ghost use Rattle.bean_lexer.specs.Steps.{root_len, begins_component_at, has_next_component, is_currency_form, ends_currency, has_bad_end};
+ghost use Rattle.theory.specs.LongestFront.{IsLongestFront, HasNoFront};
+ghost use Rattle.bean_lexer.specs.Lookahead.{root_len, begins_component_at, has_next_component, is_currency_form, ends_currency, has_bad_end};
 ghost use Rattle.bean_lexer.specs.Tokens.{IsToken};
 
+use crate::classes::{InComponent, InCurrency, InName};
 use crate::found::Found;
 use crate::kind::{Keyword, Kind, Sign};
-use crate::scan::{InComponent, InCurrency, InName, end_of_run, has_front};
+use bean_base::bytes::{end_of_run, has_front};
 
 /// The account, the currency or the truth value that begins with a capital.
 #[inline(always)]

@@ -1,12 +1,13 @@
 //! Texts in quotes.
 ghost use Rattle.std.specs.Prelude.{◌≡◌, ◌+◌, ◌<◌, ◌≤◌, length, slice_index, take, drop, false};
 ghost use Rattle.std.specs.Str.{IsUtf8, IsCharBoundary};
-ghost use Rattle.bean_lexer.specs.Forms.{is_text, is_escape};
+ghost use Rattle.bean_lexer.specs.TokenForm.{is_text, is_escape};
 ghost use Rattle.bean_lexer.specs.Tokens.{IsToken, text_reach};
 
+use crate::classes::PlainText;
 use crate::found::Found;
 use crate::kind::Kind;
-use crate::scan::{PlainText, end_of_run};
+use bean_base::bytes::end_of_run;
 
 /// The text that begins with a quote, or a fault as long.
 pub fn text_or_fault(bytes: &[u8]) -> Found

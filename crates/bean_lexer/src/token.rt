@@ -1,6 +1,6 @@
 //! Tokens.
 ghost use Rattle.std.specs.Prelude.{◌≡◌, ◌+◌, ◌<◌, ◌^◌, IsTrue, length};
-ghost use Rattle.bean_lexer.specs.Kinds.{may_be};
+ghost use Rattle.bean_lexer.specs.KindForm.{may_be};
 
 use crate::kind::{Kind, Place};
 use bean_base::span::Span;

@@ -1,7 +1,7 @@
 //! The token at the front of a text.
 ghost use Rattle.std.specs.Prelude.{◌≡◌, ◌<◌, length, IsTrue, count_by, ◌==◌};
 ghost use Rattle.std.specs.Str.{IsUtf8, IsCharBoundary};
-ghost use Rattle.bean_lexer.specs.Kinds.{may_be};
+ghost use Rattle.bean_lexer.specs.KindForm.{may_be};
 ghost use Rattle.bean_lexer.specs.Tokens.{IsToken};
 
 use crate::digits::day_or_number;

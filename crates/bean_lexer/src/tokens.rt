@@ -1,7 +1,7 @@
 //! The tokens of a text, in order.
 ghost use Rattle.std.specs.Prelude.{IfOk};
 ghost use Rattle.bean_lexer.specs.Tokens.{AreTokens};
-ghost use Rattle.bean_lexer.specs.Laws.{HasOneListOfTokens};
+ghost use Rattle.bean_lexer.specs.OneListOfTokens.{HasOneListOfTokens};
 
 use crate::lexer::Lexer;
 use crate::token::Token;

@@ -4,13 +4,14 @@ ghost use Rattle.std.specs.List.{prefix_len};
 ghost use Rattle.std.specs.Option.{IfSome};
 ghost use Rattle.std.specs.Char.{is_ascii_lowercase};
 ghost use Rattle.std.specs.Str.{IsUtf8, IsCharBoundary};
-ghost use Rattle.bean_lexer.specs.Forms.{sign_spelling};
-ghost use Rattle.bean_lexer.specs.Steps.{begins_other, sign_of, doubled_sign_of, doubled_sign_at, keyword_at, has_colon};
+ghost use Rattle.bean_lexer.specs.TokenForm.{sign_spelling};
+ghost use Rattle.bean_lexer.specs.Lookahead.{begins_other, sign_of, doubled_sign_of, doubled_sign_at, keyword_at, has_colon};
 ghost use Rattle.bean_lexer.specs.Tokens.{IsToken, goes_on_character};
 
+use crate::classes::{GoesOnCharacter, InKey};
 use crate::found::Found;
 use crate::kind::{Keyword, Kind, Sign, WORDS};
-use crate::scan::{GoesOnCharacter, InKey, end_of_run, has_front};
+use bean_base::bytes::{end_of_run, has_front};
 
 /// The key or the word that begins with a small letter, or a fault.
 pub fn key_or_keyword(bytes: &[u8]) -> Found

@@ -2,7 +2,7 @@
 use Rattle.std.proofs.Common.{◌≡◌, ℕ, List, [], ◌∷◌, refl, ◌∙◌, ap, subst}
 use Rattle.bean_base.specs.declared.fault.Fault.{Fault}
 use Rattle.bean_lexer.specs.declared.token.Token.{Token}
-use Rattle.bean_lexer.specs.Laws.{AreSame}
+use Rattle.bean_lexer.specs.OneListOfTokens.{AreSame}
 use Rattle.bean_lexer.proofs.OneList.{one_list}
 use Rattle.bean_parser.specs.Lexemes.{token_value, seen}
 use Rattle.bean_parser.specs.Blocks.{blocks}

@@ -1,6 +1,6 @@
 use Rattle.std.proofs.Common.{◌≡◌, ◌+◌, ◌-◌, ◌≤◌, length, take, drop, nat_eq}
 use Rattle.std.specs.List.{count_by}
-use Rattle.bean_lexer.specs.Gaps.{gap_len, behind_gap}
+use Rattle.bean_lexer.specs.Gap.{gap_len, behind_gap}
 use Rattle.bean_lexer.proofs.gaps.gap_at.Given as goal
 
 abbrev pub invariant-loop-len : goal.invariant-loop-len

@@ -3,7 +3,7 @@ use Rattle.std.proofs.lemmas.Bool.Decides.{nat_tests}
 use Rattle.std.specs.List.{count_by}
 use Rattle.std.specs.Str.{IsCharBoundary}
 use Rattle.std.proofs.lemmas.Str.{IsCharBoundary-start}
-use Rattle.bean_lexer.specs.Gaps.{gap_len, behind_gap}
+use Rattle.bean_lexer.specs.Gap.{gap_len, behind_gap}
 use Rattle.bean_lexer.specs.Tokens.{IsToken}
 use Rattle.bean_lexer.proofs.Boundaries.{gap_boundary}
 use Rattle.bean_lexer.proofs.TokenSteps.{IsAt, Parts, Feeds, is_behind, token_to_come, is_feed}

@@ -1,0 +1,8 @@
+pub mod FormFacts
+pub mod RowFacts
+pub mod OneReading
+pub mod LongestFrontFacts
+pub mod ArrangementFacts
+pub mod CutFacts
+pub mod JoinedFacts
+mod Examples

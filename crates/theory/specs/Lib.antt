@@ -1,0 +1,5 @@
+pub mod Form
+pub mod LongestFront
+pub mod Arrangement
+pub mod Cut
+pub mod Joined
