@@ -1,3 +1,4 @@
-pub mod Rows
+pub mod Column
+pub mod Row
 pub mod Decimals
-pub mod Ledgers
+pub mod Ledger

@@ -1,22 +1,34 @@
 //! How many decimals each currency shows.
-ghost use Rattle.std.specs.Prelude.{◌≡◌, ℕ, List, OnOk, OnErr, if◌then◌else◌};
-ghost use Rattle.std.specs.Str.{bytes_eq};
-ghost use Rattle.posting_table.specs.Decimals.{places_of};
+ghost use Rattle.std.specs.Prelude.{◌≡◌, OnOk, OnErr};
+ghost use Rattle.std.specs.FinMap as map;
+ghost use Rattle.posting_table.specs.Decimals.{decimals_of};
 
-use bean_base::names::Currency;
+use bean_base::Currency;
 use indexmap::IndexMap;
 use std::alloc::{AllocError, Global};
+use std::marker::Model;
 
-/// The display decimals of the currencies: 0 for one that has none set.
+/// The display decimals of the currencies, as a map from each name to a count: 0 where none is set.
 #[derive(Debug, Drop)]
 pub struct Display<'a> {
-    places: IndexMap<&'a str, u8>,
+    places: IndexMap<Currency<'a>, u8>,
+}
+
+impl<'a> Model for Display<'a> {
+    ghost use Rattle.std.specs.FinMap.{from_entries};
+    ghost use Rattle.posting_table.specs.Decimals.{Decimals, decimals_code};
+
+    ghost Value = { Decimals };
+
+    ghost coded = { decimals_code };
+
+    ghost view = { λ d. from_entries d.places.entries };
 }
 
 impl<'a> Display<'a> {
     /// Every currency at 0 decimals. Takes no memory.
     pub fn new(alloc: Global) -> Display<'a>
-        ensures { (currency : List ℕ) → places_of result currency ≡ 0 }
+        ensures { result ≡ map.empty }
     {
         Display {
             places: IndexMap::new(alloc),
@@ -24,8 +36,8 @@ impl<'a> Display<'a> {
     }
 
     /// The decimals of a currency.
-    pub fn places(&self, currency: &str) -> u8
-        ensures { result ≡ places_of self.now currency.now }
+    pub fn places(&self, currency: &Currency<'_>) -> u8
+        ensures { result ≡ decimals_of self.now currency.now }
     {
         match self.places.get(currency) {
             Some(places) => *places,
@@ -35,11 +47,10 @@ impl<'a> Display<'a> {
 
     /// Sets the decimals of one currency; the others stay as they were.
     pub fn set(&mut self, currency: Currency<'a>, places: u8) -> Result<(), AllocError>
-        ensures set { OnOk result ((name : List ℕ) → places_of self.new name
-            ≡ (if bytes_eq currency.entry.text.now name then places else places_of self.old name)) }
-        ensures unchanged { OnErr result ((name : List ℕ) → places_of self.new name ≡ places_of self.old name) }
+        ensures set { OnOk result (self.new ≡ map.insert self.old currency.entry places) }
+        ensures unchanged { OnErr result (self.new ≡ self.old) }
     {
-        self.places.insert(currency.text, places)?;
+        self.places.insert(currency, places)?;
         Ok(())
     }
 }

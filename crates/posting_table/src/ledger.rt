@@ -1,15 +1,16 @@
 //! The ledger: rows in order, and the display decimals.
-ghost use Rattle.std.specs.Prelude.{◌≡◌, ◌==◌, ℕ, List, [], ◌∷◌, ◌++◌, ◌<◌, OnOk, OnErr, length, Some, slice_get, if◌then◌else◌};
-ghost use Rattle.std.specs.Str.{bytes_eq};
+ghost use Rattle.std.specs.Prelude.{◌≡◌, ◌==◌, [], ◌∷◌, ◌++◌, ◌<◌, ◌≤◌, OnOk, OnErr, length, Some, slice_get};
 ghost use Rattle.std.specs.Option.{option_map};
-ghost use Rattle.posting_table.specs.Rows.{row_of, cell_of, cell_at};
-ghost use Rattle.posting_table.specs.Decimals.{places_of};
-ghost use Rattle.posting_table.specs.Ledgers.{rows_of, decimals_of};
+ghost use Rattle.std.specs.FinMap as map;
+ghost use Rattle.posting_table.specs.Row.{cell_at};
 
+use crate::cell::Cell;
+use crate::column::Column;
 use crate::display::Display;
-use crate::row::{Cell, Column, Row};
-use bean_base::names::Currency;
+use crate::row::Row;
+use bean_base::Currency;
 use std::alloc::{AllocError, Global};
+use std::marker::Model;
 
 /// The most postings that a ledger holds.
 pub const MOST_POSTINGS: usize = 1_000_000;
@@ -21,11 +22,26 @@ pub struct Ledger<'a> {
     display: Display<'a>,
 }
 
+impl<'a> Model for Ledger<'a> {
+    ghost use Rattle.std.specs.Prelude.{◌≤◌, length};
+    ghost use Rattle.std.specs.Coded.{codes};
+    ghost use Rattle.posting_table.specs.Decimals.{decimals_code};
+    ghost use Rattle.posting_table.specs.Ledger.{Ledger};
+    ghost use Rattle.posting_table.specs.declared.ledger.TheConstants.{MOST_POSTINGS};
+
+    ghost Value = { Ledger };
+
+    ghost coded = { Prim.hlevel (codes, decimals_code) };
+
+    ghost view = { λ l. record { rows = l.rows.items; decimals = l.display } };
+
+    ghost invariant = { λ l. length l.rows.items ≤ MOST_POSTINGS };
+}
+
 impl<'a> Ledger<'a> {
     /// No postings, and every currency at 0 decimals. Takes no memory.
     pub fn new(alloc: Global) -> Ledger<'a>
-        ensures rows { rows_of result ≡ [] }
-        ensures decimals { (currency : List ℕ) → decimals_of result currency ≡ 0 }
+        ensures { result ≡ record { rows = []; decimals = map.empty } }
     {
         Ledger {
             rows: Vec::new(alloc),
@@ -35,10 +51,10 @@ impl<'a> Ledger<'a> {
 
     /// Adds a posting at the end.
     pub fn push(&mut self, row: Row<'a>) -> Result<(), AllocError>
-        requires { length (rows_of self.old) < MOST_POSTINGS }
-        ensures rows { OnOk result (rows_of self.new ≡ rows_of self.old ++ row_of row.entry ∷ []) }
-        ensures unchanged { OnErr result (rows_of self.new ≡ rows_of self.old) }
-        ensures decimals { (currency : List ℕ) → decimals_of self.new currency ≡ decimals_of self.old currency }
+        requires { length self.old.rows < MOST_POSTINGS }
+        ensures pushed { OnOk result (self.new
+            ≡ record { rows = self.old.rows ++ row.entry ∷ []; decimals = self.old.decimals }) }
+        ensures unchanged { OnErr result (self.new ≡ self.old) }
     {
         match self.rows.push(row) {
             Ok(()) => Ok(()),
@@ -48,39 +64,39 @@ impl<'a> Ledger<'a> {
 
     /// Sets how many decimals a currency shows.
     pub fn set_display(&mut self, currency: Currency<'a>, places: u8) -> Result<(), AllocError>
-        ensures set { OnOk result ((name : List ℕ) → decimals_of self.new name
-            ≡ (if bytes_eq currency.entry.text.now name then places else decimals_of self.old name)) }
-        ensures unchanged { OnErr result ((name : List ℕ) → decimals_of self.new name ≡ decimals_of self.old name) }
-        ensures rows { rows_of self.new ≡ rows_of self.old }
+        ensures set { OnOk result (self.new ≡ record { rows = self.old.rows;
+            decimals = map.insert self.old.decimals currency.entry places }) }
+        ensures unchanged { OnErr result (self.new ≡ self.old) }
     {
         self.display.set(currency, places)
     }
 
     /// How many postings it holds.
     pub fn len(&self) -> usize
-        ensures { result ≡ length (rows_of self.now) }
+        ensures count { result ≡ length self.now.rows }
+        ensures bound { result ≤ MOST_POSTINGS }
     {
         self.rows.len()
     }
 
     /// Whether it holds none.
     pub fn is_empty(&self) -> bool
-        ensures { result ≡ (length (rows_of self.now) == 0) }
+        ensures { result ≡ (length self.now.rows == 0) }
     {
         self.rows.is_empty()
     }
 
-    /// What a posting has in a column.
-    pub fn cell(&self, row: usize, column: Column) -> Cell<'a>
-        requires { row < length (rows_of self.now) }
-        ensures { Some (cell_of result) ≡ option_map (λ r. cell_at r column) (slice_get (rows_of self.now) row) }
+    /// What a posting has in a column, lent from its row.
+    pub fn cell(&self, row: usize, column: Column) -> Cell<'_>
+        requires { row < length self.now.rows }
+        ensures { Some result ≡ option_map (λ r. cell_at r column) (slice_get self.now.rows row) }
     {
         self.rows[row].cell(column)
     }
 
     /// How many decimals each currency shows.
     pub fn display(&self) -> &Display<'a>
-        ensures { (currency : List ℕ) → places_of result.now currency ≡ decimals_of self.now currency }
+        ensures { result.now ≡ self.now.decimals }
     {
         &self.display
     }

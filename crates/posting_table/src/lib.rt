@@ -1,7 +1,55 @@
-//! The table of postings that booking makes and queries read: a list of rows, and how many
-//! decimals each currency shows.
+//! The table of postings that booking makes and that listings and queries read.
+//!
+//! A [`Ledger`] is a list of [`Row`]s, one for each booked posting, and a map of display decimals:
+//! how many decimals a table shows at least of each currency.
+//!
+//! ```text
+//! let mut ledger = Ledger::new(alloc);
+//! ledger.push(Row {
+//!     date: parse_day("2014-01-02")?,
+//!     flag: Flag::Complete,
+//!     account: parse_account("Assets:Cash")?,
+//!     position: Position { count: 10_000_000_000, currency: parse_currency("USD")? },
+//! })?;
+//! ledger.set_display(parse_currency("USD")?, 2)?;
+//! let account = ledger.cell(0, Column::Account);   // Cell::Text of Assets:Cash
+//! let name = Column::Account.name();               // account
+//! ```
+//!
+//! # Cells
+//!
+//! What a row has in a [`Column`] is a [`Cell`], which is lent from where the row is kept: names and
+//! texts as slices, sets and positions by reference ([`Lent`]). Contracts see what is lent as the
+//! thing itself, so a cell is the value that they speak of. A [`Decimal`] has room for each number
+//! that a query computes.
+//!
+//! # What may be asked
+//!
+//! `push` wants room: a ledger holds at most [`MOST_POSTINGS`]. `cell` wants a row that is there. A
+//! call that answers with an error left the ledger as it was; the only cause is want of memory.
+//!
+//! # Cost
+//!
+//! A row is moved in and never copied. `cell` and `len` take a few steps, `push` and `set_display` a
+//! few on the average; `new` takes no memory.
 #![tactic(auto)]
 
-pub mod display;
-pub mod ledger;
-pub mod row;
+mod cell;
+mod column;
+mod decimal;
+mod display;
+mod ledger;
+mod lent;
+mod position;
+mod row;
+mod text_set;
+
+pub use cell::Cell;
+pub use column::Column;
+pub use decimal::Decimal;
+pub use display::Display;
+pub use ledger::{Ledger, MOST_POSTINGS};
+pub use lent::Lent;
+pub use position::Position;
+pub use row::Row;
+pub use text_set::TextSet;

@@ -1,54 +1,32 @@
 //! A row of the table, and the cells that are read from it.
 ghost use Rattle.std.specs.Prelude.{◌≡◌};
-ghost use Rattle.posting_table.specs.Rows.{cell_of, cell_at, row_of};
+ghost use Rattle.posting_table.specs.Row.{cell_at};
 
-use bean_base::days::Day;
-use bean_base::names::{Account, Currency};
-use bean_base::num::Num;
-
-/// Units of a currency.
-#[derive(Clone, Copy, Debug, PartialEq, Eq)]
-pub struct Position<'a> {
-    pub number: Num,
-    pub currency: Currency<'a>,
-}
+use crate::cell::Cell;
+use crate::column::Column;
+use crate::lent::Lent;
+use crate::position::Position;
+use bean_base::{Account, Day, Flag, Slice};
 
 /// A booked posting, with what it has from its transaction.
-#[derive(Clone, Copy, PartialEq, Eq)]
+#[derive(Debug, Drop, PartialEq, Eq)]
 pub struct Row<'a> {
     pub date: Day,
-    pub flag: &'a str,
+    pub flag: Flag,
     pub account: Account<'a>,
     pub position: Position<'a>,
 }
 
-/// A column of the table.
-#[derive(Clone, Copy, Debug, PartialEq, Eq)]
-pub enum Column {
-    Date,
-    Flag,
-    Account,
-    Position,
-}
-
-/// What a row has in a column.
-#[derive(Clone, Copy, PartialEq, Eq)]
-pub enum Cell<'a> {
-    Text(&'a str),
-    Day(Day),
-    Position(Position<'a>),
-}
-
 impl<'a> Row<'a> {
     /// The row's cell in a column.
-    pub fn cell(&self, column: Column) -> Cell<'a>
-        ensures { cell_of result ≡ cell_at (row_of self.now) column }
+    pub fn cell(&self, column: Column) -> Cell<'_>
+        ensures { result ≡ cell_at self.now column }
     {
         match column {
             Column::Date => Cell::Day(self.date),
-            Column::Flag => Cell::Text(self.flag),
-            Column::Account => Cell::Text(self.account.text),
-            Column::Position => Cell::Position(self.position),
+            Column::Flag => Cell::Text(Slice::new(self.flag.spelling())),
+            Column::Account => Cell::Text(Slice::new(self.account.text())),
+            Column::Position => Cell::Position(Lent::new(&self.position)),
         }
     }
 }
