@@ -23,8 +23,6 @@ use Rattle.bean_lexer.specs.declared.kind.Keyword.{Keyword}
 use Rattle.bean_lexer.specs.declared.kind.Keyword.TheVariants as words
 use Rattle.bean_lexer.specs.declared.kind.Sign.{Sign}
 use Rattle.bean_lexer.specs.declared.kind.Sign.TheVariants as signs
-use Rattle.bean_lexer.specs.declared.gaps.Spot.{Spot}
-use Rattle.bean_lexer.specs.declared.gaps.Spot.TheVariants as spots
 use Rattle.bean_lexer.specs.declared.token.Token.{Token}
 use Rattle.bean_lexer.proofs.Leads.{begins, may_begin}
 use Rattle.bean_lexer.proofs.NumberSteps.{rest_of_number, whole_step}
@@ -265,17 +263,17 @@ one_token bs kind other n m some t u =
     ⊎_elim (λ long. absurd (no_longest bs other kind m n some long fault))
     (λ too. (fault.is_fault ∙ sym too.is_fault, fault.reach ∙ sym too.reach)) u) t
 
-same_from : (text : List ℕ) (spot : Spot) (at : ℕ) (ts us : List Token) → TokensFrom text spot at ts → TokensFrom text spot at us → AreSame ts us
-same_from text spot at [] [] from too = tt
-same_from text spot at [] (u ∷ us) from too =
+same_from : (text : List ℕ) (at : ℕ) (ts us : List Token) → TokensFrom text at ts → TokensFrom text at us → AreSame ts us
+same_from text at [] [] from too = tt
+same_from text at [] (u ∷ us) from too =
     let start = too.0 in
     let inside = too.1 in
     absurd (omega arith)
-same_from text spot at (t ∷ ts) [] from too =
+same_from text at (t ∷ ts) [] from too =
     let start = from.0 in
     let inside = from.1 in
     absurd (omega arith)
-same_from text spot at (t ∷ ts) (u ∷ us) from too =
+same_from text at (t ∷ ts) (u ∷ us) from too =
     let start : t.start ≡ u.start = from.0 ∙ sym too.0 in
     let inside = from.1 in
     let l = length-drop t.start text in
@@ -285,7 +283,7 @@ same_from text spot at (t ∷ ts) (u ∷ us) from too =
     let bytes : t.text.now ≡ u.text.now = from.4 ∙ (λ i. take (one.1 i) (drop (start i) text)) ∙ sym too.4 in
     let line : t.line ≡ u.line = from.3 ∙ ap (line_at text) start ∙ sym too.3 in
     let next : u.start + length u.text.now ≡ t.start + length t.text.now = omega (arith, one.1) in
-    (one.0, from.2 ∙ sym too.2, bytes, start, line, same_from text spots.Behind (t.start + length t.text.now) ts us from.6 (subst (λ k. TokensFrom text spots.Behind k us) next too.6))
+    (one.0, from.2 ∙ sym too.2, bytes, start, line, same_from text (t.start + length t.text.now) ts us from.6 (subst (λ k. TokensFrom text k us) next too.6))
 
 pub one_list : (text : List ℕ) → HasOneListOfTokens text
-one_list text = λ ts us from too. same_from text spots.LineStart 0 ts us from too
+one_list text = λ ts us from too. same_from text 0 ts us from too

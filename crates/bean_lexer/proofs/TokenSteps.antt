@@ -5,7 +5,7 @@ use Rattle.std.proofs.lemmas.List.Sums.{sum_by-append}
 use Rattle.std.proofs.Math.Seq.{take-add}
 use Rattle.std.specs.List.{count_by, prefix_len}
 use Rattle.bean_lexer.specs.KindForm.{is_of}
-use Rattle.bean_lexer.specs.Gap.{gap_len, behind_gap, place_of}
+use Rattle.bean_lexer.specs.Gap.{gap_len, behind_gap, place_of, spot_at}
 use Rattle.bean_lexer.specs.Tokens.{IsToken, TokensFrom, line_at, fault_len, text_reach, goes_on_character}
 use Rattle.bean_lexer.specs.declared.kind.Kind.{Kind}
 use Rattle.bean_lexer.specs.declared.kind.Kind.TheVariants as kinds
@@ -14,7 +14,6 @@ use Rattle.bean_lexer.specs.declared.kind.Keyword.TheVariants as words
 use Rattle.bean_lexer.specs.declared.kind.Sign.{Sign}
 use Rattle.bean_lexer.specs.declared.kind.Sign.TheVariants as signs
 use Rattle.bean_lexer.specs.declared.gaps.Spot.{Spot}
-use Rattle.bean_lexer.specs.declared.gaps.Spot.TheVariants as spots
 use Rattle.bean_lexer.specs.declared.kind.Place.{Place}
 use Rattle.bean_lexer.specs.declared.token.Token.{Token}
 
@@ -118,26 +117,28 @@ is_behind text rest line gap feeds more behind token n after at parts count =
     }
 
 -- no token is to come where the gap is all that is left
-pub none_to_come : (text rest : List ℕ) (spot : Spot) (line gap : ℕ) (behind : List ℕ) → IsAt text rest line → gap ≡ gap_len spot rest → gap ≤ length rest → behind ≡ drop gap rest → length behind ≡ 0
-    → TokensFrom text spot (length text - length rest) []
-none_to_come text rest spot line gap behind at is gap_inside behind_is empty =
+pub none_to_come : (text rest : List ℕ) (line gap : ℕ) (behind : List ℕ) → IsAt text rest line → gap ≡ gap_len (spot_at (length text - length rest)) rest → gap ≤ length rest → behind ≡ drop gap rest → length behind ≡ 0
+    → TokensFrom text (length text - length rest) []
+none_to_come text rest line gap behind at is gap_inside behind_is empty =
+    let spot = spot_at (length text - length rest) in
     let length_behind = ap length behind_is ∙ length-drop gap rest in
     let inside = at.inside in
     ap (gap_len spot) (sym at.is_rest) ∙ sym is ∙ (let e : gap ≡ length text - (length text - length rest) = omega arith in e)
 
 -- what comes from a lexer is the token that it read, and then what comes behind it
-pub token_to_come : (text rest : List ℕ) (spot : Spot) (line gap feeds more : ℕ) (end : Spot) (behind token : List ℕ) (kind : Kind) (place : Place) (n : ℕ) (after : List ℕ) →
-    IsAt text rest line → Parts rest gap behind token n after → Feeds rest token gap feeds more → gap ≡ gap_len spot rest → end ≡ behind_gap spot rest →
+pub token_to_come : (text rest : List ℕ) (line gap feeds more : ℕ) (end : Spot) (behind token : List ℕ) (kind : Kind) (place : Place) (n : ℕ) (after : List ℕ) →
+    IsAt text rest line → Parts rest gap behind token n after → Feeds rest token gap feeds more → gap ≡ gap_len (spot_at (length text - length rest)) rest → end ≡ behind_gap (spot_at (length text - length rest)) rest →
     0 < length behind → IsToken behind kind n → place ≡ place_of end →
-    (ts : List Token) → TokensFrom text spots.Behind (length text - length after) ts →
-    (length text - length behind ≡ length text - length rest + gap_len spot (drop (length text - length rest) text))
+    (ts : List Token) → TokensFrom text (length text - length after) ts →
+    (length text - length behind ≡ length text - length rest + gap_len (spot_at (length text - length rest)) (drop (length text - length rest) text))
     × (length text - length behind < length text)
-    × (place ≡ place_of (behind_gap spot (drop (length text - length rest) text)))
+    × (place ≡ place_of (behind_gap (spot_at (length text - length rest)) (drop (length text - length rest) text)))
     × (line + feeds ≡ line_at text (length text - length behind))
     × (token ≡ take (length token) (drop (length text - length behind) text))
     × IsToken (drop (length text - length behind) text) kind (length token)
-    × TokensFrom text spots.Behind (length text - length behind + length token) ts
-token_to_come text rest spot line gap feeds more end behind token kind place n after at parts count is end_is some is_token place_is ts to_come =
+    × TokensFrom text (length text - length behind + length token) ts
+token_to_come text rest line gap feeds more end behind token kind place n after at parts count is end_is some is_token place_is ts to_come =
+    let spot = spot_at (length text - length rest) in
     let inside = at.inside in
     let gap_inside = parts.gap_inside in
     let n_inside = parts.inside in
@@ -153,5 +154,5 @@ token_to_come text rest spot line gap feeds more end behind token kind place n a
       line_behind text rest line gap feeds more behind token n after at parts count,
       parts.token_is ∙ ap (take n) (sym here) ∙ ap (λ k. take k (drop (length text - length behind) text)) (sym length_token),
       subst (λ k. IsToken (drop (length text - length behind) text) kind k) (sym length_token) (subst (λ l. IsToken l kind n) (sym here) is_token),
-      subst (λ k. TokensFrom text spots.Behind k ts) next to_come,
+      subst (λ k. TokensFrom text k ts) next to_come,
     )

@@ -1,5 +1,5 @@
 -- What stands between tokens: white space, line feeds, comments and skipped lines.
-use Rattle.std.specs.Prelude.{ℕ, ◌+◌, ◌==◌, ◌&&◌, ◌||◌, Bool, true, false, List, [], ◌∷◌, Option, Some, None, if◌then◌else◌}
+use Rattle.std.specs.Prelude.{ℕ, zero, suc, ◌+◌, ◌==◌, ◌&&◌, ◌||◌, Bool, true, false, List, [], ◌∷◌, drop, Option, Some, None, if◌then◌else◌}
 use Rattle.std.specs.Option.{option_map_or}
 use Rattle.bean_lexer.specs.declared.kind.Place.{Place}
 use Rattle.bean_lexer.specs.declared.kind.Place.TheVariants as place
@@ -56,3 +56,16 @@ place_of spot.LineStart = place.ColumnOne
 place_of spot.Indent = place.Indented
 place_of spot.Behind = place.Inside
 place_of spot.Comment = place.Inside
+
+-- where one is at a place at which a gap begins: at the text's start, or behind a token
+abbrev pub spot_at : ℕ → Spot
+spot_at zero = spot.LineStart
+spot_at (suc at) = spot.Behind
+
+-- how long the gap at a place of a text is
+abbrev pub gap_from : List ℕ → ℕ → ℕ
+gap_from text at = gap_len (spot_at at) (drop at text)
+
+-- and the place of a token behind it
+abbrev pub place_behind : List ℕ → ℕ → Place
+place_behind text at = place_of (behind_gap (spot_at at) (drop at text))

@@ -3,9 +3,7 @@
 use Rattle.std.specs.Prelude.{◌≡◌, ℕ, ◌+◌, ◌-◌, ◌<◌, ◌≤◌, ◌==◌, ◌⊎◌, Bool, true, false, List, [], ◌∷◌, length, take, drop, count_by, nat_lt, nat_le, ◌&&◌, if◌then◌else◌}
 use Rattle.std.specs.List.{prefix_len}
 use Rattle.bean_lexer.specs.KindForm.{is_of}
-use Rattle.bean_lexer.specs.Gap.{gap_len, behind_gap, place_of}
-use Rattle.bean_lexer.specs.declared.gaps.Spot.{Spot}
-use Rattle.bean_lexer.specs.declared.gaps.Spot.TheVariants as spots
+use Rattle.bean_lexer.specs.Gap.{gap_from, place_behind}
 use Rattle.bean_lexer.specs.declared.kind.Kind.{Kind}
 use Rattle.bean_lexer.specs.declared.kind.Kind.TheVariants as kinds
 use Rattle.bean_lexer.specs.declared.token.Token.{Token}
@@ -58,16 +56,16 @@ abbrev pub line_at : List ℕ → ℕ → ℕ
 line_at text at = 1 + count_by (λ b. b == 10) (take at text)
 
 -- from the place `at` of the text on stand a gap and a token, and so on, up to a last gap
-abbrev pub TokensFrom : List ℕ → Spot → ℕ → List Token → Type 0
-TokensFrom text spot at [] = gap_len spot (drop at text) ≡ length text - at
-TokensFrom text spot at (t ∷ ts) =
-    (t.start ≡ at + gap_len spot (drop at text))
+abbrev pub TokensFrom : List ℕ → ℕ → List Token → Type 0
+TokensFrom text at [] = gap_from text at ≡ length text - at
+TokensFrom text at (t ∷ ts) =
+    (t.start ≡ at + gap_from text at)
     × (t.start < length text)
-    × (t.place ≡ place_of (behind_gap spot (drop at text)))
+    × (t.place ≡ place_behind text at)
     × (t.line ≡ line_at text t.start)
     × (t.text.now ≡ take (length t.text.now) (drop t.start text))
     × IsToken (drop t.start text) t.kind (length t.text.now)
-    × TokensFrom text spots.Behind (t.start + length t.text.now) ts
+    × TokensFrom text (t.start + length t.text.now) ts
 
 abbrev pub AreTokens : List ℕ → List Token → Type 0
-AreTokens text tokens = TokensFrom text spots.LineStart 0 tokens
+AreTokens text tokens = TokensFrom text 0 tokens

@@ -1,6 +1,6 @@
 //! What stands between tokens: white space, line feeds, comments and skipped lines.
 ghost use Rattle.std.specs.Prelude.{◌≡◌, ◌≤◌, length, take, count_by, ◌==◌};
-ghost use Rattle.bean_lexer.specs.Gap.{gap_len, behind_gap, gap_step, place_of, behind_white};
+ghost use Rattle.bean_lexer.specs.Gap.{gap_len, behind_gap, gap_step, place_of, behind_white, spot_at};
 
 use crate::kind::Place;
 
@@ -26,6 +26,16 @@ pub struct Gap {
 }
 
 impl Spot {
+    /// Where a gap begins at a place of a text: at its start, or behind a token.
+    pub fn at(place: usize) -> Spot
+        ensures { result ≡ spot_at place }
+    {
+        match place {
+            0 => Spot::LineStart,
+            _ => Spot::Behind,
+        }
+    }
+
     /// The place of a token that begins here.
     pub fn place(self) -> Place
         ensures { result ≡ place_of self }

@@ -14,8 +14,8 @@ split_at-requires c =
     let rest = c.args.self.now.rest.now in
     let seen = c.as_bytes.ensures.value in
     let utf8 = subst IsUtf8 seen c.as_bytes.ensures.utf8 in
-    let gap : c.gap_at-gap.result.len ≡ 0 + gap_len c.args.self.now.spot rest = let l = c.gap_at-gap.ensures.len in let s = ap (gap_len c.args.self.now.spot) seen in omega arith in
-    subst (IsCharBoundary rest) (sym gap) (gap_boundary rest rest 0 c.args.self.now.spot refl (omega arith) utf8 (λ _. IsCharBoundary-start rest utf8))
+    let gap : c.gap_at-gap.result.len ≡ 0 + gap_len c.at-spot.result rest = let l = c.gap_at-gap.ensures.len in let s = ap (gap_len c.at-spot.result) seen in omega arith in
+    subst (IsCharBoundary rest) (sym gap) (gap_boundary rest rest 0 c.at-spot.result refl (omega arith) utf8 (λ _. IsCharBoundary-start rest utf8))
 
 pub invariant_of-self : goal.invariant_of-self
 invariant_of-self c =
@@ -62,6 +62,6 @@ returns-clause-tokens c =
       of_token = c.line_feeds_of.ensures ∙ ap (count_by is_feed) c.as_bytes-3.ensures.value;
     } in
     let some : 0 < length c.split_at.result.1.now = let e : nat_eq (length c.split_at.result.1.now) 0 ≡ false = sym c.is_empty.ensures ∙ c.if-is_empty.false in grind (arith, nat_tests) in
-    token_to_come lexer.text.now lexer.rest.now lexer.spot lexer.line _ _ _ c.gap_at-gap.result.end c.split_at.result.1.now _ _ _ _ c.split_at-2.result.1.now at parts count
-    (gap.len ∙ ap (gap_len lexer.spot) seen) (gap.end ∙ ap (behind_gap lexer.spot) seen) some (subst (λ l. IsToken l c.token_at-found.result.kind c.token_at-found.result.len) same c.token_at-found.ensures.token)
+    token_to_come lexer.text.now lexer.rest.now lexer.line _ _ _ c.gap_at-gap.result.end c.split_at.result.1.now _ _ _ _ c.split_at-2.result.1.now at parts count
+    (gap.len ∙ ap (gap_len _) seen ∙ ap (λ s. gap_len s lexer.rest.now) c.at-spot.ensures) (gap.end ∙ ap (behind_gap _) seen ∙ ap (λ s. behind_gap s lexer.rest.now) c.at-spot.ensures) some (subst (λ l. IsToken l c.token_at-found.result.kind c.token_at-found.result.len) same c.token_at-found.ensures.token)
     c.place.ensures
