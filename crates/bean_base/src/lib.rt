@@ -1,13 +1,59 @@
-//! What the books are made of: exact decimal numbers, accounts, currencies and days, each with the
-//! call that reads it from a text, and the faults of a ledger with their places.
+//! What the books are made of: exact decimal numbers, accounts, currencies, amounts, quoted texts and
+//! days, each with the call that reads it from a text, and the faults of a ledger with their places.
 //!
-//! No call here takes memory: a name is a slice of the text that it was read from.
+//! ```text
+//! let usd = parse_currency("USD")?;
+//! let price = Num::parse("1,000.50")?;         // the count 100050 of 10^-2
+//! let fee = Num::parse("2")?.negated();
+//! let paid = Amount { number: price.add(fee)?, currency: usd };
+//! let cash = parse_account("Assets:Cash")?;
+//! let day = parse_day("2014-01-31")?;          // Display writes it so again
+//! let shop = Text::new("The \"Corner\" shop");  // stands for The "Corner" shop
+//! ```
+//!
+//! # Slices
+//!
+//! A name or a text is a slice of the text that it was read from, and takes no memory. Contracts see
+//! its bytes, wherever they lie ([`Slice`], [`Account`], [`Currency`]), or what the text stands for
+//! ([`Text`]), so a struct or an enum of them is itself the value that contracts speak of. Such a
+//! value can't be `Copy`: `lend` gives it once more.
+//!
+//! # Faults
+//!
+//! - `N1`, where a number is no number of the ledger: more than 8 decimals, or a whole part of
+//!   `10^12` or more,
+//! - `N2` to `N5`, where a text is no number, account, currency or day.
+//!
+//! [`Fault`] is what a ledger's text has wrong, with its file and line.
+//!
+//! # Cost
+//!
+//! No call here takes memory. Each is linear in the text that it reads, and a sum, a product or a
+//! rounding takes a few steps.
 #![tactic(auto)]
 
+pub mod amounts;
 pub mod bytes;
 pub mod days;
 mod digits;
 pub mod fault;
+pub mod flags;
+pub mod list;
 pub mod names;
 pub mod num;
+pub mod roots;
+pub mod slice;
 pub mod span;
+pub mod texts;
+
+pub use amounts::Amount;
+pub use days::{Day, NotADay, parse_day};
+pub use fault::{Fault, FaultKind};
+pub use flags::Flag;
+pub use list::List;
+pub use names::{Account, Currency, NameFault, parse_account, parse_currency};
+pub use num::{Num, NumFault};
+pub use roots::Root;
+pub use slice::Slice;
+pub use span::Span;
+pub use texts::Text;

@@ -3,14 +3,14 @@ ghost use Rattle.std.specs.Prelude.{◌≡◌, ◌<◌, ◌≤◌, ◌^◌, leng
 ghost use Rattle.std.specs.List.{list_all};
 ghost use Rattle.std.specs.Char.{is_ascii_digit};
 ghost use Rattle.std.specs.Str.Parse.{digits_value};
-ghost use Rattle.bean_base.specs.Days.{is_day_form, HasDay, ParsesDay};
+ghost use Rattle.bean_base.specs.Day.{is_day_form, HasDay, ParsesDay};
 
 use crate::days::{Day, NotADay};
 use crate::digits::are_digits;
 use jiff::civil::Date;
 
 /// The number that up to four digits write.
-#[tactic(auto, using(crate::proofs::DayDigits::more, crate::proofs::DayDigits::fits_more))]
+#[tactic(auto, using(crate::proofs::DayFacts::more, crate::proofs::DayFacts::fits_more))]
 fn value_of(bytes: &[u8]) -> u16
     requires few { length bytes.now ≤ 4 }
     requires digits { IsTrue (list_all is_ascii_digit bytes.now) }

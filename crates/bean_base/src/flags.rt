@@ -1,0 +1,23 @@
+//! The flags of transactions and postings.
+ghost use Rattle.std.specs.Prelude.{◌≡◌};
+ghost use Rattle.bean_base.specs.Flag.{spelling};
+
+/// Whether a transaction or a posting is marked as complete, by `*` or `txn`, or as incomplete, by
+/// `!`.
+#[derive(Clone, Copy, Debug, Drop, PartialEq, Eq, Hash)]
+pub enum Flag {
+    Complete,
+    Incomplete,
+}
+
+impl Flag {
+    /// How a table shows the flag.
+    pub fn spelling(self) -> &'static str
+        ensures { result.now ≡ spelling self }
+    {
+        match self {
+            Flag::Complete => "*",
+            Flag::Incomplete => "!",
+        }
+    }
+}

@@ -1,0 +1,71 @@
+//! Slices of a text that are compared, hashed and named in contracts by their bytes.
+ghost use Rattle.std.specs.Prelude.{◌≡◌, nat_eq};
+ghost use Rattle.std.specs.Cmp.Lexicographic.{pointwise, nat_list_eq_equiv};
+ghost use Rattle.std.specs.Cmp;
+ghost use Rattle.std.specs.Hash as fed;
+ghost use Rattle.std.specs.Cmp.Rules.{hashing};
+ghost use Rattle.std.proofs.Common.{rules};
+
+use std::hash::{Hash, Hasher};
+use std::marker::Model;
+
+/// A slice of a text. Its value is its bytes, wherever they lie, so a struct of slices is the value
+/// that contracts speak of.
+#[derive(Debug, Drop)]
+pub struct Slice<'a> {
+    text: &'a str,
+}
+
+impl<'a> Model for Slice<'a> {
+    ghost use Rattle.std.specs.Prelude.{List, ℕ};
+
+    ghost Value = { List ℕ };
+
+    ghost view = { λ s. s.text.now };
+}
+
+impl<'a> Slice<'a> {
+    pub fn new(text: &'a str) -> Slice<'a>
+        ensures { result ≡ text.now }
+    {
+        Slice { text }
+    }
+
+    /// The slice itself.
+    pub fn text(&self) -> &'a str
+        ensures { result.now ≡ self.now }
+    {
+        self.text
+    }
+
+    /// The same slice once more.
+    pub fn lend(&self) -> Slice<'a>
+        ensures { result ≡ self.now }
+    {
+        Slice { text: self.text }
+    }
+}
+
+impl PartialEq for Slice<'_> {
+    ghost eq = { pointwise nat_eq };
+
+    ghost laws = { Cmp.partial_equiv_from_equiv nat_list_eq_equiv };
+
+    fn eq(&self, other: &Self) -> bool {
+        self.text() == other.text()
+    }
+}
+
+impl Eq for Slice<'_> {
+    ghost laws = { nat_list_eq_equiv };
+}
+
+impl Hash for Slice<'_> {
+    ghost hash_input = { λ s. fed.str s };
+
+    ghost respects_eq = { Prim.search (hashing, rules) };
+
+    fn hash<H: Hasher>(&self, state: &mut H) {
+        self.text().hash(state);
+    }
+}

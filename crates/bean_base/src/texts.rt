@@ -1,0 +1,154 @@
+//! Quoted texts: as they are written, and what they stand for.
+ghost use Rattle.std.specs.Prelude.{◌≡◌, ◌<◌, [], ◌∷◌, nat_eq, length, IfSome, MatchOption};
+ghost use Rattle.std.specs.List.{list_any};
+ghost use Rattle.std.specs.Cmp.Lexicographic.{pointwise, nat_list_eq_equiv};
+ghost use Rattle.std.specs.Cmp;
+ghost use Rattle.std.specs.Hash as fed;
+ghost use Rattle.std.specs.List.{flat_map};
+ghost use Rattle.std.specs.Cmp.Rules.{hashing};
+ghost use Rattle.std.proofs.Common.{rules};
+ghost use Rattle.bean_base.specs.Character.{backslash};
+ghost use Rattle.bean_base.specs.Text.{escaped, read_text};
+
+use std::hash::{Hash, Hasher};
+use std::marker::Model;
+
+/// A quoted text, as a slice of what is written between its quotes.
+///
+/// Its value is what it stands for: `\n` is a line feed, `\t` a tab, and a backslash before any
+/// other character stands for that character. So two texts are `==` where they stand for the same,
+/// however they are written.
+#[derive(Debug, Drop)]
+pub struct Text<'a> {
+    written: &'a str,
+}
+
+impl<'a> Model for Text<'a> {
+    ghost use Rattle.std.specs.Prelude.{List, ℕ};
+    ghost use Rattle.bean_base.specs.Text.{read_text};
+
+    ghost Value = { List ℕ };
+
+    ghost view = { λ t. read_text t.written.now };
+}
+
+/// What a backslash and this character stand for.
+fn escaped(c: u8) -> u8
+    ensures { result ≡ escaped c }
+{
+    match c {
+        b'n' => b'\n',
+        b't' => b'\t',
+        _ => c,
+    }
+}
+
+/// The first byte that a written text stands for, and what is written behind it.
+fn next_byte(written: &[u8]) -> Option<(u8, &[u8])>
+    ensures byte { MatchOption result (read_text written.now ≡ [])
+        (λ r. read_text written.now ≡ r.0 ∷ read_text r.1.now) }
+    ensures shorter { IfSome result (λ r. length r.1.now < length written.now) }
+{
+    match written {
+        [] => None,
+        [b'\\', c, rest @ ..] => Some((escaped(*c), rest)),
+        [b, rest @ ..] => Some((*b, rest)),
+    }
+}
+
+/// What is still to be read of a written text.
+#[derive(Clone, Copy)]
+struct Unread<'t> {
+    written: &'t [u8],
+}
+
+/// Whether two written texts stand for the same.
+fn stand_for_the_same(a: &[u8], b: &[u8]) -> bool
+    ensures { result ≡ pointwise nat_eq (read_text a.now) (read_text b.now) }
+{
+    let mut left = Unread { written: a };
+    let mut right = Unread { written: b };
+    while let Some((x, after_x)) = next_byte(left.written) {
+        match next_byte(right.written) {
+            Some((y, after_y)) if x == y => {
+                left = Unread { written: after_x };
+                right = Unread { written: after_y };
+            }
+            _ => return false,
+        }
+    }
+    next_byte(right.written).is_none()
+}
+
+fn has_escape(written: &[u8]) -> bool
+    ensures { result ≡ list_any (nat_eq backslash) written.now }
+{
+    written.contains(&b'\\')
+}
+
+impl<'a> Text<'a> {
+    /// The text of what is written between its quotes.
+    pub fn new(written: &'a str) -> Text<'a>
+        ensures { result ≡ read_text written.now }
+    {
+        Text { written }
+    }
+
+    /// The text of no characters.
+    pub fn empty() -> Text<'a>
+        ensures { result ≡ [] }
+    {
+        Text { written: "" }
+    }
+
+    /// The same text once more.
+    pub fn lend(&self) -> Text<'a>
+        ensures { result ≡ self.now }
+    {
+        Text {
+            written: self.written,
+        }
+    }
+
+    /// What it stands for as a slice, where it has no escape.
+    pub fn plain(&self) -> Option<&'a str>
+        ensures { IfSome result (λ s. s.now ≡ self.now) }
+    {
+        if has_escape(self.written.as_bytes()) {
+            None
+        } else {
+            Some(self.written)
+        }
+    }
+}
+
+impl PartialEq for Text<'_> {
+    ghost eq = { pointwise nat_eq };
+
+    ghost laws = { Cmp.partial_equiv_from_equiv nat_list_eq_equiv };
+
+    fn eq(&self, other: &Self) -> bool {
+        stand_for_the_same(self.written.as_bytes(), other.written.as_bytes())
+    }
+}
+
+impl Eq for Text<'_> {
+    ghost laws = { nat_list_eq_equiv };
+}
+
+/// It feeds each byte that it stands for, so that texts that are `==` feed the same.
+impl Hash for Text<'_> {
+    ghost hash_input = { λ t. flat_map fed.u8 t };
+
+    ghost respects_eq = { Prim.search (hashing, rules) };
+
+    fn hash<H: Hasher>(&self, state: &mut H) {
+        let mut unread = Unread {
+            written: self.written.as_bytes(),
+        };
+        while let Some((byte, behind)) = next_byte(unread.written) {
+            state.write_u8(byte);
+            unread = Unread { written: behind };
+        }
+    }
+}
