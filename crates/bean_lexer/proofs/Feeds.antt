@@ -6,9 +6,9 @@ use Rattle.std.proofs.lemmas.List.Sums.{sum_by-append, split_at_first, passes_at
 use Rattle.std.specs.List.{count_by, list_all, before_first, after_first, position_or_len}
 use Rattle.std.specs.Str.{bytes_eq}
 use Rattle.std.specs.Char.{is_ascii_digit}
-use Rattle.bean_base.specs.Names.{is_root, is_account, is_colon, is_in_component, is_in_currency, begins_component}
-use Rattle.bean_base.specs.Days.{is_day_form}
-use Rattle.bean_base.proofs.Numerals.{drop_more}
+use Rattle.bean_base.specs.Name.{is_root, is_account, is_colon, is_in_component, is_in_currency, begins_component}
+use Rattle.bean_base.specs.Day.{is_day_form}
+use Rattle.bean_base.proofs.NumeralFacts.{drop_more}
 use Rattle.bean_lexer.specs.TokenForm.{is_in_name, is_name_behind, is_in_key, is_key, keyword_spelling, sign_spelling}
 use Rattle.bean_lexer.specs.KindForm.{is_of, may_be}
 use Rattle.bean_lexer.specs.declared.kind.Kind.{Kind}

@@ -9,8 +9,8 @@ use Rattle.std.specs.List.{find, list_all, position_or_len, before_first, after_
 use Rattle.std.specs.Char.{is_ascii_digit, is_ascii_uppercase, is_ascii_lowercase}
 use Rattle.std.specs.Str.{bytes_eq}
 use Rattle.bean_base.specs.Numeral.{is_number, is_point, goes_on}
-use Rattle.bean_base.specs.Names.{is_account, is_currency, is_in_currency, is_colon, is_root, is_component}
-use Rattle.bean_base.specs.Days.{is_day_form}
+use Rattle.bean_base.specs.Name.{is_account, is_currency, is_in_currency, is_colon, is_root, is_component}
+use Rattle.bean_base.specs.Day.{is_day_form}
 use Rattle.bean_lexer.specs.TokenForm.{is_text, is_tag, is_link, is_key, is_name_behind, is_in_name, keyword_spelling, sign_spelling}
 use Rattle.bean_lexer.specs.KindForm.{is_of}
 use Rattle.bean_lexer.specs.Lookahead.{sign_of, doubled_sign_of}
@@ -278,12 +278,12 @@ same_from text at (t ∷ ts) (u ∷ us) from too =
     let inside = from.1 in
     let l = length-drop t.start text in
     let some : 0 < length (drop t.start text) = omega arith in
-    let other : IsToken (drop t.start text) u.kind (length u.text.now) = subst (λ k. IsToken (drop k text) u.kind (length u.text.now)) (sym start) too.5 in
-    let one = one_token (drop t.start text) t.kind u.kind (length t.text.now) (length u.text.now) some from.5 other in
-    let bytes : t.text.now ≡ u.text.now = from.4 ∙ (λ i. take (one.1 i) (drop (start i) text)) ∙ sym too.4 in
+    let other : IsToken (drop t.start text) u.kind (length u.text) = subst (λ k. IsToken (drop k text) u.kind (length u.text)) (sym start) too.5 in
+    let one = one_token (drop t.start text) t.kind u.kind (length t.text) (length u.text) some from.5 other in
+    let bytes : t.text ≡ u.text = from.4 ∙ (λ i. take (one.1 i) (drop (start i) text)) ∙ sym too.4 in
     let line : t.line ≡ u.line = from.3 ∙ ap (line_at text) start ∙ sym too.3 in
-    let next : u.start + length u.text.now ≡ t.start + length t.text.now = omega (arith, one.1) in
-    (one.0, from.2 ∙ sym too.2, bytes, start, line, same_from text (t.start + length t.text.now) ts us from.6 (subst (λ k. TokensFrom text k us) next too.6))
+    let next : u.start + length u.text ≡ t.start + length t.text = omega (arith, one.1) in
+    (one.0, from.2 ∙ sym too.2, bytes, start, line, same_from text (t.start + length t.text) ts us from.6 (subst (λ k. TokensFrom text k us) next too.6))
 
 pub one_list : (text : List ℕ) → HasOneListOfTokens text
 one_list text = λ ts us from too. same_from text 0 ts us from too

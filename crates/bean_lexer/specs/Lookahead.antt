@@ -2,7 +2,7 @@
 use Rattle.std.specs.Prelude.{ℕ, ◌+◌, ◌-◌, ◌==◌, ◌&&◌, ◌||◌, not, Bool, List, length, nat_lt, nat_le, nat_eq, slice_index, codes, Option, Some, None, if◌then◌else◌}
 use Rattle.std.specs.List.{find, list_all, starts_with}
 use Rattle.std.specs.Char.{is_ascii_digit, is_ascii_uppercase, is_ascii_lowercase}
-use Rattle.bean_base.specs.Names.{begins_component, is_in_currency}
+use Rattle.bean_base.specs.Name.{begins_component, is_in_currency}
 use Rattle.bean_lexer.specs.TokenForm.{keyword_spelling}
 use Rattle.bean_lexer.specs.declared.kind.TheConstants.{WORDS}
 use Rattle.bean_lexer.specs.declared.kind.Keyword.{Keyword}

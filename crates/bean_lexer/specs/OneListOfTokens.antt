@@ -9,7 +9,7 @@ AreSame [] [] = Unit {0}
 AreSame [] (u ∷ us) = ⊥
 AreSame (t ∷ ts) [] = ⊥
 AreSame (t ∷ ts) (u ∷ us) =
-    (t.kind ≡ u.kind) × (t.place ≡ u.place) × (t.text.now ≡ u.text.now) × (t.start ≡ u.start) × (t.line ≡ u.line) × AreSame ts us
+    (t.kind ≡ u.kind) × (t.place ≡ u.place) × (t.text ≡ u.text) × (t.start ≡ u.start) × (t.line ≡ u.line) × AreSame ts us
 
 abbrev pub HasOneListOfTokens : List ℕ → Type 0
 HasOneListOfTokens text = (ts us : List Token) → AreTokens text ts → AreTokens text us → AreSame ts us

@@ -63,9 +63,9 @@ TokensFrom text at (t ∷ ts) =
     × (t.start < length text)
     × (t.place ≡ place_behind text at)
     × (t.line ≡ line_at text t.start)
-    × (t.text.now ≡ take (length t.text.now) (drop t.start text))
-    × IsToken (drop t.start text) t.kind (length t.text.now)
-    × TokensFrom text (t.start + length t.text.now) ts
+    × (t.text ≡ take (length t.text) (drop t.start text))
+    × IsToken (drop t.start text) t.kind (length t.text)
+    × TokensFrom text (t.start + length t.text) ts
 
 abbrev pub AreTokens : List ℕ → List Token → Type 0
 AreTokens text tokens = TokensFrom text 0 tokens

@@ -5,6 +5,7 @@ ghost use Rattle.bean_lexer.specs.Tokens.{line_at};
 use crate::gaps::{Spot, gap_at};
 use crate::token::Token;
 use crate::token_at::{line_feeds_of, token_at};
+use bean_base::slice::Slice;
 
 /// Gives the tokens of a text one after the other. It takes no memory.
 #[derive(Clone, Copy, Debug)]
@@ -56,7 +57,7 @@ impl<'a> Lexer<'a> {
         let token = Token {
             kind: found.kind,
             place: gap.end.place(),
-            text,
+            text: Slice::new(text),
             start: self.text.len() - behind.len(),
             line: self.line + gap.line_feeds,
         };

@@ -3,7 +3,7 @@ ghost use Rattle.std.specs.Prelude.{◌≡◌, ℕ, ◌+◌, ◌<◌, ◌≤◌,
 ghost use Rattle.std.specs.List.{prefix_len};
 ghost use Rattle.std.specs.Char.{is_ascii_digit, is_ascii_uppercase};
 ghost use Rattle.std.specs.Str.{IsUtf8, IsCharBoundary};
-ghost use Rattle.bean_base.specs.Names.{is_account, begins_component, is_in_component};
+ghost use Rattle.bean_base.specs.Name.{is_account, begins_component, is_in_component};
 ghost use Rattle.theory.specs.LongestFront.{IsLongestFront, HasNoFront};
 ghost use Rattle.bean_lexer.specs.Lookahead.{root_len, begins_component_at, has_next_component, is_currency_form, ends_currency, has_bad_end};
 ghost use Rattle.bean_lexer.specs.Tokens.{IsToken};

@@ -62,6 +62,7 @@ returns-clause-tokens c =
       of_token = c.line_feeds_of.ensures ∙ ap (count_by is_feed) c.as_bytes-3.ensures.value;
     } in
     let some : 0 < length c.split_at.result.1.now = let e : nat_eq (length c.split_at.result.1.now) 0 ≡ false = sym c.is_empty.ensures ∙ c.if-is_empty.false in grind (arith, nat_tests) in
-    token_to_come lexer.text.now lexer.rest.now lexer.line _ _ _ c.gap_at-gap.result.end c.split_at.result.1.now _ _ _ _ c.split_at-2.result.1.now at parts count
+    rw c.new.ensures
+    (token_to_come lexer.text.now lexer.rest.now lexer.line _ _ _ c.gap_at-gap.result.end c.split_at.result.1.now _ _ _ _ c.split_at-2.result.1.now at parts count
     (gap.len ∙ ap (gap_len _) seen ∙ ap (λ s. gap_len s lexer.rest.now) c.at-spot.ensures) (gap.end ∙ ap (behind_gap _) seen ∙ ap (λ s. behind_gap s lexer.rest.now) c.at-spot.ensures) some (subst (λ l. IsToken l c.token_at-found.result.kind c.token_at-found.result.len) same c.token_at-found.ensures.token)
-    c.place.ensures
+    c.place.ensures)
