@@ -5,8 +5,8 @@ use Rattle.std.proofs.lemmas.List.{append-nil}
 use Rattle.std.proofs.lemmas.List.Folds.{list_any-append}
 use Rattle.std.specs.Option.{option_map_or}
 use Rattle.std.specs.List.{list_any}
-use Rattle.bean_lexer.specs.Gap.{gap_len, gap_step, is_white, begins_skipped, spot_at, gap_from, behind_white, is_comment, is_line_start}
-use Rattle.bean_lexer.specs.Between.{is_line_feed, is_semicolon, last_line, is_in_comment, line_begins, first_is_skipped, is_in_skipped, is_between, IsGap, HasGaps}
+use Rattle.bean_lexer.specs.Gap.{is_line_feed, gap_len, gap_step, is_white, begins_skipped, spot_at, gap_from, behind_white, is_comment, is_line_start}
+use Rattle.bean_lexer.specs.Between.{is_semicolon, last_line, is_in_comment, line_begins, first_is_skipped, is_in_skipped, is_between, IsGap, HasGaps}
 use Rattle.bean_lexer.specs.declared.gaps.Spot.{Spot}
 use Rattle.bean_lexer.specs.declared.gaps.Spot.TheVariants as spots
 

@@ -2,11 +2,8 @@
 -- stand before it.
 use Rattle.std.specs.Prelude.{◌≡◌, ℕ, ◌<◌, ◌≤◌, ◌==◌, ◌&&◌, ◌||◌, Bool, true, false, List, [], ◌∷◌, ◌++◌, length, take, drop, slice_index, if◌then◌else◌}
 use Rattle.std.specs.List.{list_any}
-use Rattle.bean_base.specs.Character.{line_feed, semicolon}
-use Rattle.bean_lexer.specs.Gap.{is_white, begins_skipped, gap_from}
-
-abbrev pub is_line_feed : ℕ → Bool
-is_line_feed b = b == line_feed
+use Rattle.bean_base.specs.Character.{semicolon}
+use Rattle.bean_lexer.specs.Gap.{is_line_feed, is_white, begins_skipped, gap_from}
 
 abbrev pub is_semicolon : ℕ → Bool
 is_semicolon b = b == semicolon

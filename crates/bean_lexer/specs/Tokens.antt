@@ -2,8 +2,9 @@
 -- of a kind ends where a character ends, since only accounts have bytes past ASCII, and take all of them.
 use Rattle.std.specs.Prelude.{◌≡◌, ℕ, ◌+◌, ◌-◌, ◌<◌, ◌≤◌, ◌==◌, ◌⊎◌, Bool, true, false, List, [], ◌∷◌, length, take, drop, count_by, nat_lt, nat_le, ◌&&◌, if◌then◌else◌}
 use Rattle.std.specs.List.{prefix_len}
+use Rattle.bean_base.specs.Character.{quote, backslash, is_ascii, is_past_ascii}
 use Rattle.bean_lexer.specs.KindForm.{is_of}
-use Rattle.bean_lexer.specs.Gap.{gap_from, place_behind}
+use Rattle.bean_lexer.specs.Gap.{is_line_feed, gap_from, place_behind}
 use Rattle.bean_lexer.specs.declared.kind.Kind.{Kind}
 use Rattle.bean_lexer.specs.declared.kind.Kind.TheVariants as kinds
 use Rattle.bean_lexer.specs.declared.token.Token.{Token}
@@ -27,18 +28,18 @@ pub record IsLongestToken (bs : List ℕ) (kind : Kind) (n : ℕ) : Type 0 where
 abbrev pub text_reach : Bool → List ℕ → ℕ
 text_reach escaped [] = 0
 text_reach true (b ∷ bs) = 1 + text_reach false bs
-text_reach false (b ∷ bs) = if b == 34 then 1 else 1 + text_reach (b == 92) bs
+text_reach false (b ∷ bs) = if b == quote then 1 else 1 + text_reach (b == backslash) bs
 
 -- a byte that goes on a character
 abbrev pub goes_on_character : ℕ → Bool
-goes_on_character b = nat_le 128 b && nat_lt b 192
+goes_on_character b = is_past_ascii b && nat_lt b 192
 
 -- the length of a fault token: that of a text, or of one character
 abbrev pub fault_len : List ℕ → ℕ
 fault_len [] = 0
 fault_len (b ∷ bs) =
-    if b == 34 then 1 + text_reach false bs
-    else if nat_lt b 128 then 1
+    if b == quote then 1 + text_reach false bs
+    else if is_ascii b then 1
     else 1 + prefix_len goes_on_character bs
 
 -- a fault, where no front is of a kind
@@ -53,7 +54,7 @@ IsToken bs kind n = IsLongestToken bs kind n ⊎ IsFaultToken bs kind n
 
 -- the line of a place in a text, from 1
 abbrev pub line_at : List ℕ → ℕ → ℕ
-line_at text at = 1 + count_by (λ b. b == 10) (take at text)
+line_at text at = 1 + count_by is_line_feed (take at text)
 
 -- from the place `at` of the text on stand a gap and a token, and so on, up to a last gap
 abbrev pub TokensFrom : List ℕ → ℕ → List Token → Type 0
