@@ -1,12 +1,12 @@
 -- A gap is what stands between tokens.
-use Rattle.std.proofs.Common.{◌≡◌, ℕ, zero, suc, ◌+◌, ◌<◌, ◌≤◌, ◌&&◌, ◌||◌, ◌==◌, cond, Bool, true, false, nat_eq, List, [], ◌∷◌, ◌++◌, length, get_or, take, drop, Option, Some, None, arith, refl, sym, ap, ◌∙◌, subst, if◌then◌else◌, append_assoc}
+use Rattle.std.proofs.Common.{◌≡◌, ℕ, zero, suc, ◌+◌, ◌<◌, ◌≤◌, ◌&&◌, ◌||◌, ◌==◌, cond, Bool, true, false, List, [], ◌∷◌, ◌++◌, length, get_or, take, drop, Option, Some, None, arith, refl, sym, ap, ◌∙◌, subst, if◌then◌else◌, append_assoc}
 use Rattle.std.proofs.lemmas.Bool.Decides.{nat_tests}
 use Rattle.std.proofs.lemmas.List.{append-nil}
 use Rattle.std.proofs.lemmas.List.Folds.{list_any-append}
 use Rattle.std.specs.Option.{option_map_or}
 use Rattle.std.specs.List.{list_any}
-use Rattle.bean_lexer.specs.Gap.{is_line_feed, gap_len, gap_step, is_white, begins_skipped, spot_at, gap_from, behind_white, is_comment, is_line_start}
-use Rattle.bean_lexer.specs.Between.{is_semicolon, last_line, is_in_comment, line_begins, first_is_skipped, is_in_skipped, is_between, IsGap, HasGaps}
+use Rattle.bean_lexer.specs.Gap.{is_line_feed, gap_len, is_white, begins_skipped, spot_at, behind_white, is_comment, is_line_start}
+use Rattle.bean_lexer.specs.Between.{is_semicolon, last_line, line_begins, first_is_skipped, is_between, HasGaps}
 use Rattle.bean_lexer.specs.declared.gaps.Spot.{Spot}
 use Rattle.bean_lexer.specs.declared.gaps.Spot.TheVariants as spots
 

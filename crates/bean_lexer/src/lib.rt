@@ -38,10 +38,10 @@ mod names;
 mod texts;
 pub mod token;
 mod token_at;
-pub mod tokens;
+pub mod token_list;
 mod words;
 
 pub use kind::{Keyword, Kind, Place, Sign};
 pub use lexer::Lexer;
 pub use token::Token;
-pub use tokens::tokens;
+pub use token_list::tokens;
