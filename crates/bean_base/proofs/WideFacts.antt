@@ -1,5 +1,5 @@
 -- Wide numbers are told by their counts and places.
-use Rattle.std.proofs.Common.{◌≡◌, ◌<◌, ◌≤◌, ◌^◌, ℕ, ℤ, Bool, true, false, Option, Some, None, arith, ap, refl}
+use Rattle.std.proofs.Common.{◌≡◌, ◌<◌, ◌≤◌, ◌^◌, ℕ, ℤ, Bool, true, false, Option, Some, None, arith, ap, sym, refl}
 use Rattle.std.proofs.Math.Dec.{T_prop}
 use Rattle.std.proofs.lemmas.Grind.{common_steps}
 use Rattle.std.specs.Coded.{le_prop}
@@ -7,7 +7,7 @@ use Rattle.std.specs.Int.RustNames.{unsigned_abs}
 use mathlib.Core.HLevel.{is_prop→PathP}
 use Rattle.bean_base.specs.declared.decimal.Decimal.{Decimal}
 use Rattle.bean_base.specs.WideCount.{is_wide}
-use Rattle.bean_base.specs.Wide.{decimal_where, decimal_of}
+use Rattle.bean_base.specs.Wide.{decimal_where, decimal_of, is_narrow, is_in_range}
 
 pub one_decimal : (a b : Decimal) → a.count ≡ b.count → a.places ≡ b.places → a ≡ b
 one_decimal a b count places = λ i. record {
@@ -30,3 +30,13 @@ found d = found_where d (is_wide d.places d.count) refl
 
 pub missing : (places : ℕ) (count : ℤ) → is_wide places count ≡ false → None ≡ decimal_of places count
 missing places count never = missing_where places count (is_wide places count) refl never
+
+back_where : (places : ℕ) (count : ℤ) (d : Decimal) (b : Bool) (is : is_wide places count ≡ b) → decimal_where places count b is ≡ Some d → (d.places ≡ places) × (d.count ≡ count)
+back_where places count d true is e =
+    let same : record { count = count; places = places; narrow = is_narrow places count is; in_range = is_in_range places count is } ≡ d = cc in
+    (ap (λ (x : Decimal). x.places) (sym same), ap (λ (x : Decimal). x.count) (sym same))
+back_where places count d false is e = absurd cc
+
+-- a number has the places and the count that it was made of
+pub parts_back : (places : ℕ) (count : ℤ) (d : Decimal) → decimal_of places count ≡ Some d → (d.places ≡ places) × (d.count ≡ count)
+parts_back places count d = back_where places count d (is_wide places count) refl

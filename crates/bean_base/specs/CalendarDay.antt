@@ -1,6 +1,7 @@
 -- The days that the calendar has, as their years, months and days.
 use Rattle.std.specs.Prelude.{◌≡◌, ◌≤ℤ◌, ℕ, ◌&&◌, Bool, true, false, pos, nat_le, Option, Some, None, refl}
 use Rattle.std.specs.Int.{IsInRange}
+use Rattle.std.specs.Int.RustNames.{unsigned_abs}
 use Rattle.std.proofs.Common.{arith}
 use Rattle.std.proofs.lemmas.Grind.{common_steps}
 use Rattle.std.proofs.lemmas.Int.{ints}
@@ -37,3 +38,7 @@ day_where y m d false is = None
 -- the day of a year, a month and a day, where there is one
 abbrev pub day_of : ℕ → ℕ → ℕ → Option Day
 day_of y m d = day_where y m d (is_day y m d) refl
+
+-- the year, the month and the day of a day
+abbrev pub parts_of : Day → ℕ × (ℕ × ℕ)
+parts_of d = (unsigned_abs d.date.year, (d.date.month, d.date.day))
