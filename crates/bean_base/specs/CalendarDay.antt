@@ -42,3 +42,7 @@ day_of y m d = day_where y m d (is_day y m d) refl
 -- the year, the month and the day of a day
 abbrev pub parts_of : Day → ℕ × (ℕ × ℕ)
 parts_of d = (unsigned_abs d.date.year, (d.date.month, d.date.day))
+
+-- the first day of the calendar
+abbrev pub first_day : Day
+first_day = day_at 1 1 1 refl

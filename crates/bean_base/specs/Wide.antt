@@ -1,5 +1,5 @@
 -- The wide number of a count and places.
-use Rattle.std.specs.Prelude.{◌≡◌, ◌≤◌, ◌<◌, ◌^◌, ℕ, ℤ, ◌&&◌, Bool, true, false, nat_le, nat_lt, Option, Some, None, refl}
+use Rattle.std.specs.Prelude.{◌≡◌, ◌≤◌, ◌<◌, ◌^◌, ℕ, ℤ, pos, ◌&&◌, Bool, true, false, nat_le, nat_lt, Option, Some, None, refl}
 use Rattle.std.specs.Int.RustNames.{unsigned_abs}
 use Rattle.std.proofs.Common.{arith}
 use Rattle.std.proofs.lemmas.Grind.{common_steps}
@@ -20,3 +20,6 @@ decimal_where places count false is = None
 -- the number of that count and places, where it is one
 abbrev pub decimal_of : ℕ → ℤ → Option Decimal
 decimal_of places count = decimal_where places count (is_wide places count) refl
+
+abbrev pub zero : Decimal
+zero = record { count = pos 0; places = 0; narrow = is_narrow 0 (pos 0) refl; in_range = is_in_range 0 (pos 0) refl }

@@ -7,7 +7,7 @@ use Rattle.std.proofs.lemmas.List.{take_at, drop_at, take-append-drop, length-ap
 use Rattle.std.proofs.lemmas.Nat.{be_bytes_2, be_bytes_4, from_be_bytes-to_be_bytes_2, from_be_bytes-to_be_bytes_4}
 use Rattle.query_code.specs.declared.refusal.Cause.{Cause}
 use Rattle.query_code.specs.declared.refusal.Stop.{Stop}
-use Rattle.query_code.specs.ByteForm.{Form, ◌>>=◌, stop, raw, mapped, such_that, standing_for, taken_as, Read, before, both, AllFit, all_written, read_all, row, counted, byte, read_byte, number, marked, just, Case, chosen, told}
+use Rattle.query_code.specs.ByteForm.{Form, ◌>>=◌, stop, raw, mapped, such_that, standing_for, taken_as, before, both, AllFit, all_written, read_all, row, counted, byte, read_byte, number, marked, just, Case, chosen, told}
 use Rattle.std.specs.Str.{bytes_eq}
 use Rattle.std.proofs.lemmas.Slice.Eq.{bytes_eq-Decides}
 

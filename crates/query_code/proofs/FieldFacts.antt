@@ -1,10 +1,9 @@
 -- The form of each field, and of the file, is exact.
-use Rattle.std.proofs.Common.{◌≡◌, ℕ, ℤ, ◌+◌, ◌^◌, Bool, true, false, List, [], ◌∷◌, length, Option, Some, None, refl, ap, ap₂}
+use Rattle.std.proofs.Common.{◌≡◌, ℕ, ℤ, ◌+◌, ◌^◌, true, false, [], ◌∷◌, length, Some, None, refl, ap, ap₂}
 use Rattle.std.specs.Prelude.{◌||◌, ◌==◌, nat_lt, nat_le, codes}
 use Rattle.std.specs.Int.{w16, w32, w128, cast_signed, cast_unsigned}
-use Rattle.std.specs.Str.{is_utf8, bytes_eq}
+use Rattle.std.specs.Str.{is_utf8}
 use Rattle.bean_base.specs.CalendarDay as calendar
-use Rattle.query_code.specs.declared.refusal.Cause.{Cause}
 use Rattle.query_code.specs.declared.refusal.Cause.TheVariants.{Magic, Version, BadField, NotUtf8}
 use Rattle.query_code.specs.declared.instruction.Push.TheVariants as push
 use Rattle.query_code.specs.declared.instruction.Unary.TheVariants as unary
@@ -13,20 +12,15 @@ use Rattle.query_code.specs.declared.instruction.Instruction.{Instruction}
 use Rattle.query_code.specs.declared.instruction.Instruction.TheVariants.{Push, Unary, Binary, LoadSlot, StoreSlot, Jump, JumpIfFalse}
 use Rattle.query_code.specs.declared.program.Mode.{Mode}
 use Rattle.query_code.specs.declared.program.Mode.TheVariants.{Plain, Grouped}
-use Rattle.query_code.specs.declared.program.Aggregate.{Aggregate}
 use Rattle.query_code.specs.declared.program.Aggregate.TheVariants as aggregates
-use Rattle.query_code.specs.declared.program.Constant.{Constant}
 use Rattle.query_code.specs.declared.program.Constant.TheVariants as constants
-use Rattle.query_code.specs.declared.program.Numbers.{Numbers}
-use Rattle.query_code.specs.declared.program.Parts.{Parts}
 use Rattle.query_code.specs.InstructionForm.{at_least_one, word, code_of, operand_of, instruction, instructions}
-use Rattle.bean_base.specs.declared.days.Day.{Day}
 use Rattle.bean_base.specs.declared.decimal.Decimal.{Decimal}
 use Rattle.bean_base.proofs.DayFacts as days
 use Rattle.bean_base.proofs.WideFacts as decimals
 use Rattle.std.proofs.lemmas.Int.{of_z-to_z}
-use Rattle.query_code.specs.ByteForm.{Form, raw, mapped, such_that, standing_for, before, both, counted, byte, number, marked, just, case}
-use Rattle.query_code.specs.QueryFile.{long, wide_integer, is_count, count, text, bit_of, flag, has, or_0, limit, mode_number, mode, is_grouped, only, places, some_number, decimal_from, places_and_count, decimal, day_from, day, numbers_of, numbers, kind_of, its_text, its_number, its_day, its_texts, its_numbers, its_days, constant, constant_cases, aggregate_number, its_places, aggregate, aggregate_cases, bounds_of, bounds, place_below, output, section, code, parts, file}
+use Rattle.query_code.specs.ByteForm.{Form, raw, mapped, such_that, before, both, counted, byte, number, marked, just, case}
+use Rattle.query_code.specs.QueryFile.{long, wide_integer, is_count, count, text, bit_of, flag, has, or_0, limit, mode_number, mode, is_grouped, only, places, some_number, decimal_from, places_and_count, decimal, day_from, day, numbers_of, numbers, kind_of, its_text, its_number, its_day, its_texts, its_numbers, its_days, constant, constant_cases, aggregate_number, its_places, aggregate, aggregate_cases, bounds_of, bounds, place_below, columns, output, section, code, parts, file}
 use Rattle.query_code.proofs.ByteFormFacts.{IsExact, IsCase, is_case, is_just, wide16, wide32, exact_raw, exact_mapped, exact_such_that, exact_standing_for, exact_before, exact_both, exact_byte, exact_number, exact_counted, exact_marked, exact_told}
 use Rattle.query_code.proofs.WideNumberFacts.{wide128}
 
@@ -75,51 +69,136 @@ with_operand n a make tells forth exact = is_case code_of n make operand_of a te
 
 pub exact_instruction : IsExact instruction
 unfolding instruction
-exact_instruction = exact_told code_of instructions
-  (is_just code_of (Push push.True),
-  (is_just code_of (Push push.False),
-  (with_operand 2 word (λ x. Push (push.Const x)) (λ x. refl) (λ x. refl) exact_word,
-  (with_operand 3 byte (λ x. Push (push.LoadColumn x)) (λ x. refl) (λ x. refl) exact_byte,
-  (with_operand 4 byte LoadSlot (λ x. refl) (λ x. refl) exact_byte,
-  (with_operand 5 byte StoreSlot (λ x. refl) (λ x. refl) exact_byte,
-  (with_operand 6 byte (λ x. Push (push.LoadKey x)) (λ x. refl) (λ x. refl) exact_byte,
-  (with_operand 7 byte (λ x. Push (push.LoadAggregate x)) (λ x. refl) (λ x. refl) exact_byte,
-  (with_operand 8 byte (λ x. Unary (unary.Align x)) (λ x. refl) (λ x. refl) exact_byte,
-  (is_just code_of (Binary binary.Add),
-  (is_just code_of (Binary binary.Sub),
-  (is_just code_of (Binary binary.Mul),
-  (is_just code_of (Unary unary.Neg),
-  (is_just code_of (Unary unary.Abs),
-  (is_just code_of (Binary binary.Equal),
-  (is_just code_of (Binary binary.NotEqual),
-  (is_just code_of (Binary binary.Less),
-  (is_just code_of (Binary binary.AtMost),
-  (is_just code_of (Binary binary.Greater),
-  (is_just code_of (Binary binary.AtLeast),
-  (is_just code_of (Unary unary.Not),
-  (is_just code_of (Unary unary.IsNull),
-  (with_operand 48 word Jump (λ x. refl) (λ x. refl) exact_word,
-  (with_operand 49 word JumpIfFalse (λ x. refl) (λ x. refl) exact_word,
-  (with_operand 64 word (λ x. Unary (unary.Match x)) (λ x. refl) (λ x. refl) exact_word,
-  (with_operand 65 word (λ x. Unary (unary.MatchAny x)) (λ x. refl) (λ x. refl) exact_word,
-  (is_just code_of (Binary binary.InSet),
-  (with_operand 67 word (λ x. Unary (unary.InList x)) (λ x. refl) (λ x. refl) exact_word,
-  (is_just code_of (Unary unary.Year),
-  (is_just code_of (Unary unary.Month),
-  (is_just code_of (Unary unary.Day),
-  (with_operand 83 some_byte (λ x. Unary (unary.Root x)) (λ x. refl) (λ x. refl) exact_some_byte,
-  (is_just code_of (Unary unary.Parent),
-  (is_just code_of (Unary unary.Leaf),
-  (is_just code_of (Unary unary.Length),
-  (is_just code_of (Unary unary.Units),
-  (is_just code_of (Unary unary.Cost),
-  (is_just code_of (Unary unary.Number),
-  (is_just code_of (Unary unary.Currency),
-  (with_operand 91 word (λ x. Push (push.Meta x)) (λ x. refl) (λ x. refl) exact_word,
-  (with_operand 92 word (λ x. Push (push.EntryMeta x)) (λ x. refl) (λ x. refl) exact_word,
-  (with_operand 93 word (λ x. Push (push.AnyMeta x)) (λ x. refl) (λ x. refl) exact_word,
-  (is_just code_of (Unary unary.RootRank),
-  tt)))))))))))))))))))))))))))))))))))))))))))
+exact_instruction = exact_told code_of instructions (
+  is_just code_of (Push push.True),
+  (
+    is_just code_of (Push push.False),
+    (
+      with_operand 2 word (λ x. Push (push.Const x)) (λ x. refl) (λ x. refl) exact_word,
+      (
+        with_operand 3 byte (λ x. Push (push.LoadColumn x)) (λ x. refl) (λ x. refl) exact_byte,
+        (
+          with_operand 4 byte LoadSlot (λ x. refl) (λ x. refl) exact_byte,
+          (
+            with_operand 5 byte StoreSlot (λ x. refl) (λ x. refl) exact_byte,
+            (
+              with_operand 6 byte (λ x. Push (push.LoadKey x)) (λ x. refl) (λ x. refl) exact_byte,
+              (
+                with_operand 7 byte (λ x. Push (push.LoadAggregate x)) (λ x. refl) (λ x. refl) exact_byte,
+                (
+                  with_operand 8 byte (λ x. Unary (unary.Align x)) (λ x. refl) (λ x. refl) exact_byte,
+                  (
+                    is_just code_of (Binary binary.Add),
+                    (
+                      is_just code_of (Binary binary.Sub),
+                      (
+                        is_just code_of (Binary binary.Mul),
+                        (
+                          is_just code_of (Unary unary.Neg),
+                          (
+                            is_just code_of (Unary unary.Abs),
+                            (
+                              is_just code_of (Binary binary.Equal),
+                              (
+                                is_just code_of (Binary binary.NotEqual),
+                                (
+                                  is_just code_of (Binary binary.Less),
+                                  (
+                                    is_just code_of (Binary binary.AtMost),
+                                    (
+                                      is_just code_of (Binary binary.Greater),
+                                      (
+                                        is_just code_of (Binary binary.AtLeast),
+                                        (
+                                          is_just code_of (Unary unary.Not),
+                                          (
+                                            is_just code_of (Unary unary.IsNull),
+                                            (
+                                              with_operand 48 word Jump (λ x. refl) (λ x. refl) exact_word,
+                                              (
+                                                with_operand 49 word JumpIfFalse (λ x. refl) (λ x. refl) exact_word,
+                                                (
+                                                  with_operand 64 word (λ x. Unary (unary.Match x)) (λ x. refl) (λ x. refl) exact_word,
+                                                  (
+                                                    with_operand 65 word (λ x. Unary (unary.MatchAny x)) (λ x. refl) (λ x. refl) exact_word,
+                                                    (
+                                                      is_just code_of (Binary binary.InSet),
+                                                      (
+                                                        with_operand 67 word (λ x. Unary (unary.InList x)) (λ x. refl) (λ x. refl) exact_word,
+                                                        (
+                                                          is_just code_of (Unary unary.Year),
+                                                          (
+                                                            is_just code_of (Unary unary.Month),
+                                                            (
+                                                              is_just code_of (Unary unary.Day),
+                                                              (
+                                                                with_operand 83 some_byte (λ x. Unary (unary.Root x)) (λ x. refl) (λ x. refl) exact_some_byte,
+                                                                (
+                                                                  is_just code_of (Unary unary.Parent),
+                                                                  (
+                                                                    is_just code_of (Unary unary.Leaf),
+                                                                    (
+                                                                      is_just code_of (Unary unary.Length),
+                                                                      (
+                                                                        is_just code_of (Unary unary.Units),
+                                                                        (
+                                                                          is_just code_of (Unary unary.Cost),
+                                                                          (
+                                                                            is_just code_of (Unary unary.Number),
+                                                                            (
+                                                                              is_just code_of (Unary unary.Currency),
+                                                                              (
+                                                                                with_operand 91 word (λ x. Push (push.Meta x)) (λ x. refl) (λ x. refl) exact_word,
+                                                                                (
+                                                                                  with_operand 92 word (λ x. Push (push.EntryMeta x)) (λ x. refl) (λ x. refl) exact_word,
+                                                                                  (
+                                                                                    with_operand 93 word (λ x. Push (push.AnyMeta x)) (λ x. refl) (λ x. refl) exact_word,
+                                                                                    (
+                                                                                      is_just code_of (Unary unary.RootRank),
+                                                                                      tt,
+                                                                                    ),
+                                                                                  ),
+                                                                                ),
+                                                                              ),
+                                                                            ),
+                                                                          ),
+                                                                        ),
+                                                                      ),
+                                                                    ),
+                                                                  ),
+                                                                ),
+                                                              ),
+                                                            ),
+                                                          ),
+                                                        ),
+                                                      ),
+                                                    ),
+                                                  ),
+                                                ),
+                                              ),
+                                            ),
+                                          ),
+                                        ),
+                                      ),
+                                    ),
+                                  ),
+                                ),
+                              ),
+                            ),
+                          ),
+                        ),
+                      ),
+                    ),
+                  ),
+                ),
+              ),
+            ),
+          ),
+        ),
+      ),
+    ),
+  ),
+)
 
 pub exact_section : IsExact section
 unfolding section
@@ -153,28 +232,56 @@ exact_numbers = exact_mapped (λ p. numbers_of p.0 p.1) (λ n. (n.places, n.coun
 
 pub exact_constant : IsExact constant
 unfolding constant
-exact_constant = exact_told kind_of constant_cases
-  (is_case kind_of 1 constants.Text its_text text (λ x. refl) (λ x fits. refl) exact_text,
-  (is_case kind_of 2 constants.Number its_number decimal (λ x. refl) (λ x fits. refl) exact_decimal,
-  (is_case kind_of 3 constants.Day its_day day (λ x. refl) (λ x fits. refl) exact_day,
-  (is_case kind_of 4 constants.Pattern its_text text (λ x. refl) (λ x fits. refl) exact_text,
-  (is_case kind_of 5 constants.Texts its_texts (counted some_number text) (λ x. refl) (λ x fits. refl) (exact_counted some_number text exact_some_number exact_text),
-  (is_case kind_of 6 constants.Numbers its_numbers numbers (λ x. refl) (λ x fits. refl) exact_numbers,
-  (is_case kind_of 7 constants.Days its_days (counted some_number day) (λ x. refl) (λ x fits. refl) (exact_counted some_number day exact_some_number exact_day),
-  tt)))))))
+exact_constant = exact_told kind_of constant_cases (
+  is_case kind_of 1 constants.Text its_text text (λ x. refl) (λ x fits. refl) exact_text,
+  (
+    is_case kind_of 2 constants.Number its_number decimal (λ x. refl) (λ x fits. refl) exact_decimal,
+    (
+      is_case kind_of 3 constants.Day its_day day (λ x. refl) (λ x fits. refl) exact_day,
+      (
+        is_case kind_of 4 constants.Pattern its_text text (λ x. refl) (λ x fits. refl) exact_text,
+        (
+          is_case kind_of 5 constants.Texts its_texts (counted some_number text) (λ x. refl) (λ x fits. refl) (exact_counted some_number text exact_some_number exact_text),
+          (
+            is_case kind_of 6 constants.Numbers its_numbers numbers (λ x. refl) (λ x fits. refl) exact_numbers,
+            (
+              is_case kind_of 7 constants.Days its_days (counted some_number day) (λ x. refl) (λ x fits. refl) (exact_counted some_number day exact_some_number exact_day),
+              tt,
+            ),
+          ),
+        ),
+      ),
+    ),
+  ),
+)
 
 pub exact_aggregate : IsExact aggregate
 unfolding aggregate
-exact_aggregate = exact_told aggregate_number aggregate_cases
-  (is_just aggregate_number aggregates.CountRows,
-  (is_just aggregate_number aggregates.Count,
-  (is_case aggregate_number 2 aggregates.Sum its_places places (λ x. refl) (λ x fits. refl) exact_places,
-  (is_case aggregate_number 3 aggregates.SumInventory its_places places (λ x. refl) (λ x fits. refl) exact_places,
-  (is_just aggregate_number aggregates.First,
-  (is_just aggregate_number aggregates.Last,
-  (is_just aggregate_number aggregates.Min,
-  (is_just aggregate_number aggregates.Max,
-  tt))))))))
+exact_aggregate = exact_told aggregate_number aggregate_cases (
+  is_just aggregate_number aggregates.CountRows,
+  (
+    is_just aggregate_number aggregates.Count,
+    (
+      is_case aggregate_number 2 aggregates.Sum its_places places (λ x. refl) (λ x fits. refl) exact_places,
+      (
+        is_case aggregate_number 3 aggregates.SumInventory its_places places (λ x. refl) (λ x fits. refl) exact_places,
+        (
+          is_just aggregate_number aggregates.First,
+          (
+            is_just aggregate_number aggregates.Last,
+            (
+              is_just aggregate_number aggregates.Min,
+              (
+                is_just aggregate_number aggregates.Max,
+                tt,
+              ),
+            ),
+          ),
+        ),
+      ),
+    ),
+  ),
+)
 
 -- ---- the file
 
@@ -190,8 +297,9 @@ exact_place_below most = exact_such_that BadField (λ i. nat_lt i most) byte exa
 exact_order : (most : ℕ) → IsExact (counted byte (place_below most))
 exact_order most = exact_counted byte (place_below most) exact_byte (exact_place_below most)
 
-exact_shown : IsExact (before (counted some_byte text) (λ targets. before byte (λ hidden. counted byte (place_below (length targets + hidden)))))
-exact_shown = exact_before (counted some_byte text) (λ targets. before byte (λ hidden. counted byte (place_below (length targets + hidden))))
+pub exact_columns : IsExact columns
+unfolding columns
+exact_columns = exact_before (counted some_byte text) (λ targets. before byte (λ hidden. counted byte (place_below (length targets + hidden))))
     (exact_counted some_byte text exact_some_byte exact_text)
     (λ targets fits. exact_before byte (λ hidden. counted byte (place_below (length targets + hidden))) exact_byte
     (λ hidden fits. exact_order (length targets + hidden)))
@@ -201,7 +309,7 @@ unfolding output
 exact_output = exact_mapped
     (λ p. record { is_distinct = p.0; is_descending = p.1.0; limit = p.1.1.0; targets = p.1.1.1.0; hidden = p.1.1.1.1.0; order = p.1.1.1.1.1 })
     (λ o. (o.is_distinct, (o.is_descending, (o.limit, (o.targets, (o.hidden, o.order)))))) _ (λ p fits. refl)
-    (exact_both flag _ exact_flag (exact_both flag _ exact_flag (exact_both limit _ exact_limit exact_shown)))
+    (exact_both flag _ exact_flag (exact_both flag _ exact_flag (exact_both limit _ exact_limit exact_columns)))
 
 pub exact_code : (m : Mode) → IsExact (code m)
 unfolding code

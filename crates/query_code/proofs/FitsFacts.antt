@@ -1,5 +1,5 @@
 -- That a value has a form is a proposition.
-use Rattle.std.proofs.Common.{ℕ, ℤ, ◌+◌, ◌^◌, Bool, true, false, List, [], ◌∷◌, length, Option, Some, None, eqb, cond}
+use Rattle.std.proofs.Common.{ℕ, ◌+◌, ◌^◌, Bool, true, false, List, [], ◌∷◌, length, Option, Some, None, eqb, cond}
 use Rattle.std.proofs.Props.{props}
 use Rattle.std.proofs.Math.Dec.{T_prop}
 use Rattle.std.specs.Int.{Width}
@@ -29,9 +29,8 @@ use Rattle.bean_base.specs.declared.bounds.Bounds.{Bounds}
 use Rattle.query_code.specs.declared.program.Output.{Output}
 use Rattle.query_code.specs.declared.program.Code.{Code}
 use Rattle.query_code.specs.ByteForm.{Form, raw, mapped, such_that, standing_for, before, both, AllFit, row, counted, byte, number, marked, just, Case, case, chosen, told}
-use Rattle.query_code.specs.QueryFile.{long, wide_integer, is_count, count, text, bit_of, flag, has, or_0, limit, mode_number, mode, is_grouped, only, places, some_number, decimal_from, places_and_count, decimal, day_from, day, numbers_of, numbers, kind_of, its_text, its_number, its_day, its_texts, its_numbers, its_days, constant, constant_cases, aggregate_number, its_places, aggregate, aggregate_cases, bounds_of, bounds, place_below, output, section, code, parts, file}
+use Rattle.query_code.specs.QueryFile.{long, wide_integer, is_count, count, text, bit_of, flag, has, or_0, limit, mode_number, mode, is_grouped, only, places, some_number, decimal_from, places_and_count, decimal, day_from, day, numbers_of, numbers, kind_of, its_text, its_number, its_day, its_texts, its_numbers, its_days, constant, constant_cases, aggregate_number, its_places, aggregate, aggregate_cases, bounds_of, bounds, place_below, columns, output, section, code, parts, file}
 use Rattle.query_code.proofs.FieldFacts.{some_byte}
-
 
 pub record IsSound {T : Type 0} (f : Form T) : Type 0 where
   pub prop : (v : T) → IsProp (f.fits v)
@@ -138,51 +137,136 @@ sound_with a make sound = sound_mapped make operand_of a instruction_set sound
 
 sound_instruction : IsSound instruction
 unfolding instruction
-sound_instruction = sound_told code_of instructions instruction_set
-  (sound_just (Push push.True) instruction_set,
-  (sound_just (Push push.False) instruction_set,
-  (sound_with word (λ x. Push (push.Const x)) sound_word,
-  (sound_with byte (λ x. Push (push.LoadColumn x)) sound_byte,
-  (sound_with byte LoadSlot sound_byte,
-  (sound_with byte StoreSlot sound_byte,
-  (sound_with byte (λ x. Push (push.LoadKey x)) sound_byte,
-  (sound_with byte (λ x. Push (push.LoadAggregate x)) sound_byte,
-  (sound_with byte (λ x. Unary (unary.Align x)) sound_byte,
-  (sound_just (Binary binary.Add) instruction_set,
-  (sound_just (Binary binary.Sub) instruction_set,
-  (sound_just (Binary binary.Mul) instruction_set,
-  (sound_just (Unary unary.Neg) instruction_set,
-  (sound_just (Unary unary.Abs) instruction_set,
-  (sound_just (Binary binary.Equal) instruction_set,
-  (sound_just (Binary binary.NotEqual) instruction_set,
-  (sound_just (Binary binary.Less) instruction_set,
-  (sound_just (Binary binary.AtMost) instruction_set,
-  (sound_just (Binary binary.Greater) instruction_set,
-  (sound_just (Binary binary.AtLeast) instruction_set,
-  (sound_just (Unary unary.Not) instruction_set,
-  (sound_just (Unary unary.IsNull) instruction_set,
-  (sound_with word Jump sound_word,
-  (sound_with word JumpIfFalse sound_word,
-  (sound_with word (λ x. Unary (unary.Match x)) sound_word,
-  (sound_with word (λ x. Unary (unary.MatchAny x)) sound_word,
-  (sound_just (Binary binary.InSet) instruction_set,
-  (sound_with word (λ x. Unary (unary.InList x)) sound_word,
-  (sound_just (Unary unary.Year) instruction_set,
-  (sound_just (Unary unary.Month) instruction_set,
-  (sound_just (Unary unary.Day) instruction_set,
-  (sound_with some_byte (λ x. Unary (unary.Root x)) sound_some_byte,
-  (sound_just (Unary unary.Parent) instruction_set,
-  (sound_just (Unary unary.Leaf) instruction_set,
-  (sound_just (Unary unary.Length) instruction_set,
-  (sound_just (Unary unary.Units) instruction_set,
-  (sound_just (Unary unary.Cost) instruction_set,
-  (sound_just (Unary unary.Number) instruction_set,
-  (sound_just (Unary unary.Currency) instruction_set,
-  (sound_with word (λ x. Push (push.Meta x)) sound_word,
-  (sound_with word (λ x. Push (push.EntryMeta x)) sound_word,
-  (sound_with word (λ x. Push (push.AnyMeta x)) sound_word,
-  (sound_just (Unary unary.RootRank) instruction_set,
-  tt)))))))))))))))))))))))))))))))))))))))))))
+sound_instruction = sound_told code_of instructions instruction_set (
+  sound_just (Push push.True) instruction_set,
+  (
+    sound_just (Push push.False) instruction_set,
+    (
+      sound_with word (λ x. Push (push.Const x)) sound_word,
+      (
+        sound_with byte (λ x. Push (push.LoadColumn x)) sound_byte,
+        (
+          sound_with byte LoadSlot sound_byte,
+          (
+            sound_with byte StoreSlot sound_byte,
+            (
+              sound_with byte (λ x. Push (push.LoadKey x)) sound_byte,
+              (
+                sound_with byte (λ x. Push (push.LoadAggregate x)) sound_byte,
+                (
+                  sound_with byte (λ x. Unary (unary.Align x)) sound_byte,
+                  (
+                    sound_just (Binary binary.Add) instruction_set,
+                    (
+                      sound_just (Binary binary.Sub) instruction_set,
+                      (
+                        sound_just (Binary binary.Mul) instruction_set,
+                        (
+                          sound_just (Unary unary.Neg) instruction_set,
+                          (
+                            sound_just (Unary unary.Abs) instruction_set,
+                            (
+                              sound_just (Binary binary.Equal) instruction_set,
+                              (
+                                sound_just (Binary binary.NotEqual) instruction_set,
+                                (
+                                  sound_just (Binary binary.Less) instruction_set,
+                                  (
+                                    sound_just (Binary binary.AtMost) instruction_set,
+                                    (
+                                      sound_just (Binary binary.Greater) instruction_set,
+                                      (
+                                        sound_just (Binary binary.AtLeast) instruction_set,
+                                        (
+                                          sound_just (Unary unary.Not) instruction_set,
+                                          (
+                                            sound_just (Unary unary.IsNull) instruction_set,
+                                            (
+                                              sound_with word Jump sound_word,
+                                              (
+                                                sound_with word JumpIfFalse sound_word,
+                                                (
+                                                  sound_with word (λ x. Unary (unary.Match x)) sound_word,
+                                                  (
+                                                    sound_with word (λ x. Unary (unary.MatchAny x)) sound_word,
+                                                    (
+                                                      sound_just (Binary binary.InSet) instruction_set,
+                                                      (
+                                                        sound_with word (λ x. Unary (unary.InList x)) sound_word,
+                                                        (
+                                                          sound_just (Unary unary.Year) instruction_set,
+                                                          (
+                                                            sound_just (Unary unary.Month) instruction_set,
+                                                            (
+                                                              sound_just (Unary unary.Day) instruction_set,
+                                                              (
+                                                                sound_with some_byte (λ x. Unary (unary.Root x)) sound_some_byte,
+                                                                (
+                                                                  sound_just (Unary unary.Parent) instruction_set,
+                                                                  (
+                                                                    sound_just (Unary unary.Leaf) instruction_set,
+                                                                    (
+                                                                      sound_just (Unary unary.Length) instruction_set,
+                                                                      (
+                                                                        sound_just (Unary unary.Units) instruction_set,
+                                                                        (
+                                                                          sound_just (Unary unary.Cost) instruction_set,
+                                                                          (
+                                                                            sound_just (Unary unary.Number) instruction_set,
+                                                                            (
+                                                                              sound_just (Unary unary.Currency) instruction_set,
+                                                                              (
+                                                                                sound_with word (λ x. Push (push.Meta x)) sound_word,
+                                                                                (
+                                                                                  sound_with word (λ x. Push (push.EntryMeta x)) sound_word,
+                                                                                  (
+                                                                                    sound_with word (λ x. Push (push.AnyMeta x)) sound_word,
+                                                                                    (
+                                                                                      sound_just (Unary unary.RootRank) instruction_set,
+                                                                                      tt,
+                                                                                    ),
+                                                                                  ),
+                                                                                ),
+                                                                              ),
+                                                                            ),
+                                                                          ),
+                                                                        ),
+                                                                      ),
+                                                                    ),
+                                                                  ),
+                                                                ),
+                                                              ),
+                                                            ),
+                                                          ),
+                                                        ),
+                                                      ),
+                                                    ),
+                                                  ),
+                                                ),
+                                              ),
+                                            ),
+                                          ),
+                                        ),
+                                      ),
+                                    ),
+                                  ),
+                                ),
+                              ),
+                            ),
+                          ),
+                        ),
+                      ),
+                    ),
+                  ),
+                ),
+              ),
+            ),
+          ),
+        ),
+      ),
+    ),
+  ),
+)
 
 day_set : IsSet Day
 day_set = hlevel (props, T_prop)
@@ -220,28 +304,56 @@ sound_numbers = sound_mapped (λ p. numbers_of p.0 p.1) (λ n. (n.places, n.coun
 
 sound_constant : IsSound constant
 unfolding constant
-sound_constant = sound_told kind_of constant_cases constant_set
-  (sound_mapped constants.Text its_text text constant_set sound_text,
-  (sound_mapped constants.Number its_number decimal constant_set sound_decimal,
-  (sound_mapped constants.Day its_day day constant_set sound_day,
-  (sound_mapped constants.Pattern its_text text constant_set sound_text,
-  (sound_mapped constants.Texts its_texts (counted some_number text) constant_set (sound_counted some_number text (hlevel props) sound_some_number sound_text),
-  (sound_mapped constants.Numbers its_numbers numbers constant_set sound_numbers,
-  (sound_mapped constants.Days its_days (counted some_number day) constant_set (sound_counted some_number day (hlevel (props, day_set)) sound_some_number sound_day),
-  tt)))))))
+sound_constant = sound_told kind_of constant_cases constant_set (
+  sound_mapped constants.Text its_text text constant_set sound_text,
+  (
+    sound_mapped constants.Number its_number decimal constant_set sound_decimal,
+    (
+      sound_mapped constants.Day its_day day constant_set sound_day,
+      (
+        sound_mapped constants.Pattern its_text text constant_set sound_text,
+        (
+          sound_mapped constants.Texts its_texts (counted some_number text) constant_set (sound_counted some_number text (hlevel props) sound_some_number sound_text),
+          (
+            sound_mapped constants.Numbers its_numbers numbers constant_set sound_numbers,
+            (
+              sound_mapped constants.Days its_days (counted some_number day) constant_set (sound_counted some_number day (hlevel (props, day_set)) sound_some_number sound_day),
+              tt,
+            ),
+          ),
+        ),
+      ),
+    ),
+  ),
+)
 
 sound_aggregate : IsSound aggregate
 unfolding aggregate
-sound_aggregate = sound_told aggregate_number aggregate_cases aggregate_set
-  (sound_just aggregates.CountRows aggregate_set,
-  (sound_just aggregates.Count aggregate_set,
-  (sound_mapped aggregates.Sum its_places places aggregate_set sound_places,
-  (sound_mapped aggregates.SumInventory its_places places aggregate_set sound_places,
-  (sound_just aggregates.First aggregate_set,
-  (sound_just aggregates.Last aggregate_set,
-  (sound_just aggregates.Min aggregate_set,
-  (sound_just aggregates.Max aggregate_set,
-  tt))))))))
+sound_aggregate = sound_told aggregate_number aggregate_cases aggregate_set (
+  sound_just aggregates.CountRows aggregate_set,
+  (
+    sound_just aggregates.Count aggregate_set,
+    (
+      sound_mapped aggregates.Sum its_places places aggregate_set sound_places,
+      (
+        sound_mapped aggregates.SumInventory its_places places aggregate_set sound_places,
+        (
+          sound_just aggregates.First aggregate_set,
+          (
+            sound_just aggregates.Last aggregate_set,
+            (
+              sound_just aggregates.Min aggregate_set,
+              (
+                sound_just aggregates.Max aggregate_set,
+                tt,
+              ),
+            ),
+          ),
+        ),
+      ),
+    ),
+  ),
+)
 
 bounds_set : IsSet Bounds
 bounds_set = hlevel props
@@ -255,8 +367,9 @@ sound_below : (most : ℕ) → IsSound (place_below most)
 unfolding place_below
 sound_below most = sound_such_that BadField (λ i. nat_lt i most) byte sound_byte
 
-sound_shown : IsSound (before (counted some_byte text) (λ targets. before byte (λ hidden. counted byte (place_below (length targets + hidden)))))
-sound_shown = sound_before (counted some_byte text) (λ targets. before byte (λ hidden. counted byte (place_below (length targets + hidden))))
+sound_columns : IsSound columns
+unfolding columns
+sound_columns = sound_before (counted some_byte text) (λ targets. before byte (λ hidden. counted byte (place_below (length targets + hidden))))
     (sound_counted some_byte text (hlevel props) sound_some_byte sound_text)
     (λ targets. sound_before byte (λ hidden. counted byte (place_below (length targets + hidden))) sound_byte
     (λ hidden. sound_counted byte (place_below (length targets + hidden)) (hlevel props) sound_byte (sound_below (length targets + hidden))))
@@ -269,7 +382,7 @@ unfolding output
 sound_output = sound_mapped
     (λ p. record { is_distinct = p.0; is_descending = p.1.0; limit = p.1.1.0; targets = p.1.1.1.0; hidden = p.1.1.1.1.0; order = p.1.1.1.1.1 })
     (λ o. (o.is_distinct, (o.is_descending, (o.limit, (o.targets, (o.hidden, o.order)))))) _ output_set
-    (sound_both flag _ sound_flag (sound_both flag _ sound_flag (sound_both limit _ sound_limit sound_shown)))
+    (sound_both flag _ sound_flag (sound_both flag _ sound_flag (sound_both limit _ sound_limit sound_columns)))
 
 sound_only : (m : Mode) (a : Form ℕ) → IsSound a → IsSound (only m a)
 sound_only m a sound = sound_such_that BadField (λ n. is_grouped m || (n == 0)) a sound

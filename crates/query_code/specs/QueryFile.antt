@@ -1,6 +1,6 @@
 -- A query file: what stands in it, field by field, and the program that it is the file of.
-use Rattle.std.specs.Prelude.{not, ◌≡◌, ℕ, ℤ, pos, ◌+◌, ◌-◌, ◌^◌, ◌||◌, ◌==◌, Bool, true, false, nat_lt, nat_le, List, [], ◌∷◌, length, codes, Option, Some, None, Result, Ok, Err, if◌then◌else◌}
-use Rattle.std.specs.Int.{w16, w32, w128, cast_signed, cast_unsigned}
+use Rattle.std.specs.Prelude.{◌≡◌, ℕ, ℤ, ◌+◌, ◌-◌, ◌^◌, ◌||◌, ◌==◌, Bool, true, false, nat_lt, nat_le, List, [], ◌∷◌, length, codes, Option, Some, None, Result, Ok, Err, if◌then◌else◌}
+use Rattle.std.specs.Int.{w32, w128, cast_signed, cast_unsigned}
 use Rattle.std.specs.Int.RustNames.{unsigned_abs}
 use Rattle.std.specs.Str.{is_utf8}
 use Rattle.bean_base.specs.CalendarDay as calendar
@@ -203,15 +203,15 @@ bounds = mapped (λ p. bounds_of p.0 p.1.0 p.1.1) (λ b. (b.postings, (b.units_d
 unfoldable pub place_below : ℕ → Form ℕ
 place_below most = such_that BadField (λ i. nat_lt i most) byte
 
--- one name or more; each place of the order is below the number of names and hidden columns
+-- one name or more, how many are hidden behind them, and those to order by, each below the number of all
+unfoldable pub columns : Form (List (List ℕ) × (ℕ × List ℕ))
+columns = before (counted (such_that BadField at_least_one byte) text) (λ targets. before byte (λ hidden. counted byte (place_below (length targets + hidden))))
+
 unfoldable pub output : Form Output
 output = mapped
     (λ p. record { is_distinct = p.0; is_descending = p.1.0; limit = p.1.1.0; targets = p.1.1.1.0; hidden = p.1.1.1.1.0; order = p.1.1.1.1.1 })
     (λ o. (o.is_distinct, (o.is_descending, (o.limit, (o.targets, (o.hidden, o.order))))))
-    (both flag (both flag (both limit
-    (before (counted (such_that BadField at_least_one byte) text) (λ targets.
-    before byte (λ hidden.
-    counted byte (place_below (length targets + hidden))))))))
+    (both flag (both flag (both limit columns)))
 
 unfoldable pub section : Form (List Instruction)
 section = counted word instruction

@@ -3,13 +3,13 @@ ghost use Rattle.std.specs.Prelude.{◌≡◌, List, length, Ok, IfOk};
 ghost use Rattle.query_code.specs.declared.refusal.Cause.TheVariants.{BadField};
 ghost use Rattle.query_code.specs.ByteForm.{Gives, byte, counted, read_all, such_that};
 ghost use Rattle.query_code.specs.InstructionForm.{word, instruction};
-ghost use Rattle.query_code.specs.QueryFile.{text, count, day, numbers, constant, aggregate, section, some_number, place_below, output, only, code};
+ghost use Rattle.query_code.specs.QueryFile.{text, count, day, numbers, constant, aggregate, section, some_number, place_below, columns, output, only, code};
 
 use crate::instruction::{Binary, Instruction, Push, Unary};
 use crate::program::{Aggregate, Code, Constant, Mode, Numbers, Output};
 use crate::reading::{
-    byte_at, count_at, day_at, decimal_at, flag_at, limit_at, places_at, some_byte_at, some_number_at,
-    stopped, text_at, word_at,
+    byte_at, count_at, day_at, decimal_at, flag_at, limit_at, places_at, some_byte_at,
+    some_number_at, stopped, text_at, word_at,
 };
 use crate::refusal::{Cause, Fault};
 use bean_base::{Day, List, Slice};
@@ -118,7 +118,11 @@ pub fn instruction_at(bytes: &[u8]) -> Result<(Instruction, &[u8]), Fault>
 
 /// So many instructions.
 #[tactic(auto, using(crate::proofs::RowFacts::begins, crate::proofs::RowFacts::goes_on, crate::proofs::RowFacts::ends, crate::proofs::RowFacts::is_done, crate::proofs::RowFacts::all_read))]
-pub fn instructions_at(alloc: Global, len: usize, bytes: &[u8]) -> Result<(Vec<Instruction>, &[u8]), Fault>
+pub fn instructions_at(
+    alloc: Global,
+    len: usize,
+    bytes: &[u8],
+) -> Result<(Vec<Instruction>, &[u8]), Fault>
     ensures read { Gives (λ x. (x.0.items, x.1.now)) result (read_all instruction len bytes.now) }
     ensures number { IfOk result (λ x. length x.0.items ≡ len) }
 {
@@ -206,7 +210,11 @@ fn aggregate_at(bytes: &[u8]) -> Result<(Aggregate, &[u8]), Fault>
 
 /// So many aggregates.
 #[tactic(auto, using(crate::proofs::RowFacts::begins, crate::proofs::RowFacts::goes_on, crate::proofs::RowFacts::ends, crate::proofs::RowFacts::is_done, crate::proofs::RowFacts::all_read))]
-pub fn aggregates_at(alloc: Global, len: usize, bytes: &[u8]) -> Result<(Vec<Aggregate>, &[u8]), Fault>
+pub fn aggregates_at(
+    alloc: Global,
+    len: usize,
+    bytes: &[u8],
+) -> Result<(Vec<Aggregate>, &[u8]), Fault>
     ensures read { Gives (λ x. (x.0.items, x.1.now)) result (read_all aggregate len bytes.now) }
     ensures number { IfOk result (λ x. length x.0.items ≡ len) }
 {
@@ -287,7 +295,11 @@ fn constant_at(alloc: Global, bytes: &[u8]) -> Result<(Constant<'_>, &[u8]), Fau
 
 /// So many entries of the pool.
 #[tactic(auto, using(crate::proofs::RowFacts::begins, crate::proofs::RowFacts::goes_on, crate::proofs::RowFacts::ends, crate::proofs::RowFacts::is_done, crate::proofs::RowFacts::all_read))]
-pub fn constants_at(alloc: Global, len: usize, bytes: &[u8]) -> Result<(Vec<Constant<'_>>, &[u8]), Fault>
+pub fn constants_at(
+    alloc: Global,
+    len: usize,
+    bytes: &[u8],
+) -> Result<(Vec<Constant<'_>>, &[u8]), Fault>
     ensures read { Gives (λ x. (x.0.items, x.1.now)) result (read_all constant len bytes.now) }
     ensures number { IfOk result (λ x. length x.0.items ≡ len) }
 {
@@ -314,7 +326,12 @@ fn place_below_at(most: usize, bytes: &[u8]) -> Result<(u8, &[u8]), Fault>
 
 /// So many columns, each below the count of all.
 #[tactic(auto, using(crate::proofs::RowFacts::begins, crate::proofs::RowFacts::goes_on, crate::proofs::RowFacts::ends, crate::proofs::RowFacts::is_done, crate::proofs::RowFacts::all_read))]
-pub fn order_at(alloc: Global, most: usize, len: usize, bytes: &[u8]) -> Result<(Vec<u8>, &[u8]), Fault>
+pub fn order_at(
+    alloc: Global,
+    most: usize,
+    len: usize,
+    bytes: &[u8],
+) -> Result<(Vec<u8>, &[u8]), Fault>
     ensures read { Gives (λ x. (x.0.items, x.1.now)) result (read_all (place_below most) len bytes.now) }
     ensures number { IfOk result (λ x. length x.0.items ≡ len) }
 {
@@ -328,6 +345,33 @@ pub fn order_at(alloc: Global, most: usize, len: usize, bytes: &[u8]) -> Result<
     Ok((items, rest))
 }
 
+/// The columns of an answer: the names of those that are shown, how many are hidden, and those to
+/// order by.
+#[derive(Debug, Drop)]
+struct Columns<'a> {
+    targets: List<Slice<'a>>,
+    hidden: u8,
+    order: List<u8>,
+}
+
+#[tactic(auto, unfolding(crate::specs::QueryFile::columns))]
+fn columns_at(alloc: Global, bytes: &[u8]) -> Result<(Columns<'_>, &[u8]), Fault>
+    ensures { Gives (λ x. ((x.0.targets, (x.0.hidden, x.0.order)), x.1.now)) result (columns.read bytes.now) }
+{
+    let (count, rest) = some_byte_at(bytes)?;
+    let (targets, rest) = texts_at(alloc, count as usize, rest)?;
+    let (hidden, rest) = byte_at(rest)?;
+    let (items, rest) = byte_at(rest)?;
+    let most = count as usize + hidden as usize;
+    let (order, rest) = order_at(alloc, most, items as usize, rest)?;
+    let columns = Columns {
+        targets: List::new(targets),
+        hidden,
+        order: List::new(order),
+    };
+    Ok((columns, rest))
+}
+
 #[tactic(auto, unfolding(crate::specs::QueryFile::output))]
 pub fn output_at(alloc: Global, bytes: &[u8]) -> Result<(Output<'_>, &[u8]), Fault>
     ensures { Gives (λ x. (x.0, x.1.now)) result (output.read bytes.now) }
@@ -335,19 +379,14 @@ pub fn output_at(alloc: Global, bytes: &[u8]) -> Result<(Output<'_>, &[u8]), Fau
     let (is_distinct, rest) = flag_at(bytes)?;
     let (is_descending, rest) = flag_at(rest)?;
     let (limit, rest) = limit_at(rest)?;
-    let (count, rest) = some_byte_at(rest)?;
-    let (targets, rest) = texts_at(alloc, count as usize, rest)?;
-    let (hidden, rest) = byte_at(rest)?;
-    let (items, rest) = byte_at(rest)?;
-    let most = count as usize + hidden as usize;
-    let (order, rest) = order_at(alloc, most, items as usize, rest)?;
+    let (columns, rest) = columns_at(alloc, rest)?;
     let output = Output {
         is_distinct,
         is_descending,
         limit,
-        targets: List::new(targets),
-        hidden,
-        order: List::new(order),
+        targets: columns.targets,
+        hidden: columns.hidden,
+        order: columns.order,
     };
     Ok((output, rest))
 }

@@ -27,10 +27,10 @@ pub mod instruction;
 pub mod program;
 mod reading;
 pub mod refusal;
-
+mod writing;
 
 pub use decoding::{decode, one_file_each};
 pub use instruction::{Binary, Instruction, Push, Unary};
 pub use program::{Aggregate, Code, Constant, Mode, Numbers, Output, Parts, Program};
 pub use refusal::{Cause, DecodeFault, Refusal};
-
+pub use writing::encode;
