@@ -6,3 +6,4 @@ pub mod FieldFacts
 pub mod FitsFacts
 pub mod QueryFileFacts
 pub mod WrittenFacts
+mod Examples

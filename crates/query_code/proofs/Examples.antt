@@ -1,0 +1,66 @@
+-- What some bytes are, computed.
+use Rattle.std.proofs.Common.{◌≡◌, ℕ, List, [], ◌∷◌, ◌++◌, Option, None, Ok, Err, codes, false, refl}
+use Rattle.std.specs.Str.{is_utf8, chars}
+use Rattle.query_code.specs.declared.refusal.Cause.TheVariants.{Magic, Version, Truncated, TrailingBytes, BadField, NotUtf8}
+use Rattle.query_code.specs.declared.instruction.Push.TheVariants as push
+use Rattle.query_code.specs.declared.instruction.Instruction.TheVariants.{Push}
+use Rattle.query_code.specs.declared.program.Mode.TheVariants.{Grouped}
+use Rattle.query_code.specs.declared.program.Aggregate.TheVariants.{CountRows}
+use Rattle.query_code.specs.declared.program.Parts.{Parts}
+use Rattle.query_code.specs.ByteForm.{read_all}
+use Rattle.query_code.specs.InstructionForm.{instruction}
+use Rattle.query_code.specs.QueryFile.{whole, decoded, parts, bounds, flag, limit, mode, output, columns, code, file, text, section, constant, aggregate}
+
+-- up to the mode, with the bounds 1000000, 20 and 28
+front : List ℕ
+front = 66 ∷ 81 ∷ 76 ∷ 67 ∷ 0 ∷ 1 ∷ 0 ∷ 15 ∷ 66 ∷ 64 ∷ 20 ∷ 28 ∷ []
+
+-- SELECT count(*)
+count_rows : List ℕ
+count_rows =
+    front
+    ++ 1 ∷ 0 ∷ 0 ∷ 0 ∷ 1 ∷ 0 ∷ 8 ∷ codes "count(*)"
+    ++ 0 ∷ 0 ∷ 0 ∷ 1 ∷ 0 ∷ 0 ∷ 0 ∷ 0 ∷ 1 ∷ 0 ∷ 0 ∷ 0 ∷ 0 ∷ 1 ∷ 7 ∷ 0 ∷ []
+
+counted : Parts
+counted = record {
+  bounds = record { postings = 1000000; units_digits = 20; value_digits = 28 };
+  mode = Grouped;
+  output = record { is_distinct = false; is_descending = false; limit = None; targets = codes "count(*)" ∷ []; hidden = 0; order = [] };
+  code = record {
+    keys = 0;
+    aggregates = CountRows ∷ [];
+    pool = [];
+    filter = Push push.True ∷ [];
+    row = [];
+    last = Push (push.LoadAggregate 0) ∷ [];
+  };
+}
+
+a_file : decoded count_rows ≡ Ok counted
+unfolding front count_rows counted whole file parts bounds mode flag limit output columns text code aggregate section instruction constant read_all is_utf8 chars lib.Utf8.encode
+a_file = refl
+
+not_a_file : decoded (65 ∷ 81 ∷ 76 ∷ 67 ∷ []) ≡ Err (record { code = Magic; place = 0 })
+unfolding whole file parts
+not_a_file = refl
+
+cut_magic : decoded (66 ∷ 88 ∷ []) ≡ Err (record { code = Truncated; place = 2 })
+unfolding whole file parts
+cut_magic = refl
+
+other_version : decoded (66 ∷ 81 ∷ 76 ∷ 67 ∷ 0 ∷ 2 ∷ []) ≡ Err (record { code = Version; place = 4 })
+unfolding whole file parts
+other_version = refl
+
+no_mode : decoded (front ++ 2 ∷ []) ≡ Err (record { code = BadField; place = 12 })
+unfolding front whole file parts bounds mode
+no_mode = refl
+
+no_text : decoded (front ++ 0 ∷ 0 ∷ 0 ∷ 0 ∷ 1 ∷ 0 ∷ 2 ∷ 255 ∷ 65 ∷ []) ≡ Err (record { code = NotUtf8; place = 19 })
+unfolding front whole file parts bounds mode flag limit output columns text read_all is_utf8 chars lib.Utf8.encode
+no_text = refl
+
+one_byte_more : decoded (count_rows ++ 7 ∷ []) ≡ Err (record { code = TrailingBytes; place = 43 })
+unfolding front count_rows whole file parts bounds mode flag limit output columns text code aggregate section instruction constant read_all is_utf8 chars lib.Utf8.encode
+one_byte_more = refl
