@@ -8,6 +8,8 @@ mod lots;
 #[cfg(test)]
 mod numbers;
 #[cfg(test)]
+mod query_files;
+#[cfg(test)]
 mod tables;
 #[cfg(test)]
 mod tokens;

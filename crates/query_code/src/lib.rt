@@ -24,6 +24,7 @@
 mod code_reading;
 mod decoding;
 pub mod instruction;
+mod listing;
 pub mod program;
 mod reading;
 pub mod refusal;
@@ -31,6 +32,7 @@ mod writing;
 
 pub use decoding::{decode, one_file_each};
 pub use instruction::{Binary, Instruction, Push, Unary};
+pub use listing::show;
 pub use program::{Aggregate, Code, Constant, Mode, Numbers, Output, Parts, Program};
 pub use refusal::{Cause, DecodeFault, Refusal};
 pub use writing::encode;
