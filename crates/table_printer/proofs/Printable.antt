@@ -10,7 +10,7 @@ use Rattle.std.proofs.lemmas.Str.{chars-IsAscii, encode_ascii}
 use Rattle.unicode_width.specs.Width.{str_width}
 use Rattle.unicode_width.proofs.Rules.{str_width-printable}
 use Rattle.table_printer.specs.Table.{text_width}
-use Rattle.table_printer.specs.Values.{clean_text, shown_character}
+use Rattle.table_printer.specs.CellText.{clean_text, shown_character}
 
 abbrev pub is_printable : ℕ → Bool
 is_printable b = is_in_range 0x20 0x7E b
