@@ -1,5 +1,5 @@
 -- The characters that the ledger and query languages write with, by their names.
-use Rattle.std.specs.Prelude.{ℕ, Bool, nat_le}
+use Rattle.std.specs.Prelude.{ℕ, Bool, nat_le, nat_lt}
 
 abbrev pub tab : ℕ
 tab = 9
@@ -13,6 +13,9 @@ carriage_return = 13
 abbrev pub space : ℕ
 space = 32
 
+abbrev pub bang : ℕ
+bang = 33
+
 abbrev pub quote : ℕ
 quote = 34
 
@@ -22,8 +25,17 @@ hash = 35
 abbrev pub apostrophe : ℕ
 apostrophe = 39
 
+abbrev pub open_parenthesis : ℕ
+open_parenthesis = 40
+
+abbrev pub close_parenthesis : ℕ
+close_parenthesis = 41
+
 abbrev pub star : ℕ
 star = 42
+
+abbrev pub plus : ℕ
+plus = 43
 
 abbrev pub comma : ℕ
 comma = 44
@@ -43,6 +55,9 @@ colon = 58
 abbrev pub semicolon : ℕ
 semicolon = 59
 
+abbrev pub at_sign : ℕ
+at_sign = 64
+
 abbrev pub backslash : ℕ
 backslash = 92
 
@@ -57,6 +72,19 @@ letter_n = 110
 
 abbrev pub letter_t : ℕ
 letter_t = 116
+
+abbrev pub open_brace : ℕ
+open_brace = 123
+
+abbrev pub close_brace : ℕ
+close_brace = 125
+
+abbrev pub tilde : ℕ
+tilde = 126
+
+-- a character of ASCII
+abbrev pub is_ascii : ℕ → Bool
+is_ascii b = nat_lt b 128
 
 -- a byte of a character past ASCII
 abbrev pub is_past_ascii : ℕ → Bool

@@ -33,8 +33,10 @@
 #![tactic(auto)]
 
 pub mod amounts;
+pub mod bounds;
 pub mod bytes;
 pub mod days;
+pub mod decimal;
 mod digits;
 pub mod fault;
 pub mod flags;
@@ -47,7 +49,9 @@ pub mod span;
 pub mod texts;
 
 pub use amounts::Amount;
+pub use bounds::Bounds;
 pub use days::{Day, NotADay, parse_day};
+pub use decimal::Decimal;
 pub use fault::{Fault, FaultKind};
 pub use flags::Flag;
 pub use list::List;

@@ -9,8 +9,8 @@ use Rattle.std.proofs.Math.Seq.{take-append-add, take-append_seam, drop-append-a
 use Rattle.std.proofs.Math.ListN.{get_or-append}
 use Rattle.std.specs.List.{list_all, before_first, position_or_len, slice_split, onto_first, prefix_len}
 use Rattle.std.specs.Str.{IsCharBoundary}
-use Rattle.bean_base.specs.Names.{is_account, is_root, is_colon, is_component, is_in_component, begins_component}
-use Rattle.bean_base.proofs.Numerals.{drop_more}
+use Rattle.bean_base.specs.Name.{is_account, is_root, is_colon, is_component, is_in_component, begins_component}
+use Rattle.bean_base.proofs.NumeralFacts.{drop_more}
 use Rattle.theory.specs.LongestFront.{IsLongestFront, HasNoFront}
 use Rattle.bean_lexer.specs.Lookahead.{begins_component_at, has_next_component}
 use Rattle.theory.proofs.LongestFrontFacts.{front_at, front_run, front_end, front_end_nil}

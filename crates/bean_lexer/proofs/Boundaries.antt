@@ -7,7 +7,7 @@ use Rattle.std.proofs.lemmas.List.Sums.{prefix_len_passes, prefix_len_stops, pre
 use Rattle.std.proofs.lemmas.List.{get_or-drop}
 use Rattle.std.specs.List.{prefix_len}
 use Rattle.std.specs.Str.{IsCharBoundary}
-use Rattle.bean_base.proofs.Numerals.{drop_more}
+use Rattle.bean_base.proofs.NumeralFacts.{drop_more}
 use Rattle.bean_lexer.specs.Tokens.{goes_on_character}
 use Rattle.bean_lexer.specs.Gap.{gap_len, gap_step, is_comment}
 use Rattle.bean_lexer.specs.declared.gaps.Spot.{Spot}

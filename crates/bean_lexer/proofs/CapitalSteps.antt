@@ -6,7 +6,7 @@ use Rattle.std.proofs.lemmas.List.Folds.{list_all_at}
 use Rattle.std.specs.List.{list_all}
 use Rattle.std.specs.Char.{is_ascii_uppercase, is_ascii_lowercase}
 use Rattle.std.specs.Str.{bytes_eq}
-use Rattle.bean_base.specs.Names.{is_account, is_currency, is_in_currency}
+use Rattle.bean_base.specs.Name.{is_account, is_currency, is_in_currency}
 use Rattle.bean_lexer.specs.TokenForm.{keyword_spelling}
 use Rattle.theory.specs.LongestFront.{IsLongestFront, HasNoFront}
 use Rattle.bean_lexer.specs.Lookahead.{is_currency_form}

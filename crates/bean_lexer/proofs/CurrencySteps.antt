@@ -8,7 +8,7 @@ use Rattle.std.proofs.lemmas.Str.{IsCharBoundary-after_ascii}
 use Rattle.std.specs.List.{list_all, prefix_len}
 use Rattle.std.specs.Char.{is_ascii_digit, is_ascii_uppercase}
 use Rattle.std.specs.Str.{IsCharBoundary}
-use Rattle.bean_base.specs.Names.{is_in_currency}
+use Rattle.bean_base.specs.Name.{is_in_currency}
 use Rattle.theory.specs.LongestFront.{IsLongestFront}
 use Rattle.bean_lexer.specs.Lookahead.{is_currency_form, ends_currency, has_bad_end}
 use Rattle.theory.proofs.LongestFrontFacts.{all_front}

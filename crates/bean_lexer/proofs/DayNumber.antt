@@ -9,7 +9,7 @@ use Rattle.std.specs.List.{list_all, prefix_len}
 use Rattle.std.specs.Char.{is_ascii_digit}
 use Rattle.std.specs.Str.{IsCharBoundary}
 use Rattle.bean_base.specs.Numeral.{is_number}
-use Rattle.bean_base.specs.Days.{is_day_form}
+use Rattle.bean_base.specs.Day.{is_day_form}
 use Rattle.theory.specs.LongestFront.{IsLongestFront}
 use Rattle.bean_lexer.specs.Lookahead.{has_more_digits}
 use Rattle.bean_lexer.specs.Tokens.{NoneOf, IsLongestToken}

@@ -2,7 +2,8 @@
 use Rattle.std.proofs.Common.{◌≡◌, [], ◌∷◌, ◌++◌, true, false, codes, refl}
 use Rattle.bean_lexer.specs.TokenForm.{is_text, is_tag, is_link, is_key}
 use Rattle.bean_lexer.specs.KindForm.{is_of}
-use Rattle.bean_lexer.specs.Gap.{gap_len, behind_gap, place_of}
+use Rattle.bean_lexer.specs.Gap.{gap_len, gap_from, behind_gap, place_of}
+use Rattle.bean_lexer.specs.Between.{is_between, last_line}
 use Rattle.bean_lexer.specs.Tokens.{fault_len, line_at}
 use Rattle.bean_lexer.specs.declared.kind.Kind.TheVariants as kinds
 use Rattle.bean_lexer.specs.declared.kind.Keyword.TheVariants as words
@@ -101,3 +102,29 @@ behind_a_token = refl
 
 third_line : line_at (10 ∷ 10 ∷ codes "z") 2 ≡ 3
 third_line = refl
+
+-- a semicolon's comment and white space stand between, and so does the line feed behind them
+gap_of_a_comment : gap_from (codes "a ; b" ++ 10 ∷ codes " c") 1 ≡ 6
+gap_of_a_comment = refl
+
+last_of_two_lines : last_line (codes "a" ++ 10 ∷ codes "bc") ≡ codes "bc"
+last_of_two_lines = refl
+
+in_the_comment : is_between false (codes " ; ") 98 ≡ true
+in_the_comment = refl
+
+behind_the_comment : is_between false (codes " ; b" ++ 10 ∷ codes " ") 99 ≡ false
+behind_the_comment = refl
+
+-- a star begins a skipped line in the first column alone
+skipped_at_the_start : is_between true [] 42 ≡ true
+skipped_at_the_start = refl
+
+no_line_behind_a_token : is_between false [] 42 ≡ false
+no_line_behind_a_token = refl
+
+skipped_on_a_new_line : is_between false (10 ∷ codes "* a") 98 ≡ true
+skipped_on_a_new_line = refl
+
+not_skipped_indented : is_between false (10 ∷ codes " ") 42 ≡ false
+not_skipped_indented = refl

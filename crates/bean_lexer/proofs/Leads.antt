@@ -4,8 +4,8 @@ use Rattle.std.proofs.lemmas.Bool.Decides.{nat_tests}
 use Rattle.std.specs.List.{before_first, prefix_len}
 use Rattle.std.specs.Str.{bytes_eq}
 use Rattle.std.specs.Char.{is_ascii_digit, is_ascii_uppercase, is_ascii_lowercase}
-use Rattle.bean_base.specs.Names.{is_account, is_currency, is_root, is_colon}
-use Rattle.bean_base.specs.Days.{is_day_form}
+use Rattle.bean_base.specs.Name.{is_account, is_currency, is_root, is_colon}
+use Rattle.bean_base.specs.Day.{is_day_form}
 use Rattle.bean_lexer.specs.TokenForm.{is_key, keyword_spelling, sign_spelling}
 use Rattle.bean_lexer.specs.KindForm.{is_of}
 use Rattle.bean_lexer.specs.Lookahead.{begins_other}

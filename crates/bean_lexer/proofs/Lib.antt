@@ -13,3 +13,4 @@ pub mod TokenSteps
 pub mod OneList
 mod Examples
 pub mod Feeds
+pub mod BetweenFacts

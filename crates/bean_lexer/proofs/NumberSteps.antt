@@ -8,7 +8,7 @@ use Rattle.std.specs.List.{list_all, before_first, after_first, prefix_len}
 use Rattle.std.specs.Str.{IsCharBoundary}
 use Rattle.std.specs.Char.{is_ascii_digit}
 use Rattle.bean_base.specs.Numeral.{is_number, is_point, goes_on}
-use Rattle.bean_base.proofs.Numerals.{completes, completes_step, drop_more}
+use Rattle.bean_base.proofs.NumeralFacts.{completes, completes_step, drop_more}
 use Rattle.bean_lexer.specs.Lookahead.{has_more_digits}
 use Rattle.theory.specs.LongestFront.{IsLongestFront}
 use Rattle.std.proofs.lemmas.Str.{IsCharBoundary-start, IsCharBoundary-after_ascii}

@@ -1,5 +1,8 @@
 -- A text has one list of tokens.
-use Rattle.std.proofs.Common.{◌≡◌, ℕ, ◌+◌, ◌-◌, ◌<◌, ◌||◌, ◌&&◌, if◌then◌else◌, Bool, true, false, nat_eq, nat_lt, List, [], ◌∷◌, Option, Some, option_map, length, get_or, take, drop, arith, sym, ap, subst, ◌∙◌, refl, ⊎_elim, inl, codes, length-drop}
+use Rattle.std.proofs.Common.{◌≡◌, ℕ, ◌+◌, ◌-◌, ◌<◌, ◌^◌, IsTrue, ◌||◌, ◌&&◌, if◌then◌else◌, Bool, true, false, nat_eq, nat_lt, List, [], ◌∷◌, Option, Some, option_map, length, get_or, take, drop, arith, sym, ap, subst, ◌∙◌, refl, ⊎_elim, inl, codes, length-drop}
+use mathlib.Core.HLevel.{is_prop→PathP}
+use Rattle.std.proofs.Math.Bridge.{le_prop}
+use Rattle.std.proofs.Math.Bool.{Bool-set}
 use Rattle.std.proofs.str.Laws.{order}
 use Rattle.std.proofs.lemmas.Bool.Decides.{nat_tests}
 use Rattle.std.proofs.lemmas.List.{get_or_past}
@@ -9,13 +12,13 @@ use Rattle.std.specs.List.{find, list_all, position_or_len, before_first, after_
 use Rattle.std.specs.Char.{is_ascii_digit, is_ascii_uppercase, is_ascii_lowercase}
 use Rattle.std.specs.Str.{bytes_eq}
 use Rattle.bean_base.specs.Numeral.{is_number, is_point, goes_on}
-use Rattle.bean_base.specs.Names.{is_account, is_currency, is_in_currency, is_colon, is_root, is_component}
-use Rattle.bean_base.specs.Days.{is_day_form}
+use Rattle.bean_base.specs.Name.{is_account, is_currency, is_in_currency, is_colon, is_root, is_component}
+use Rattle.bean_base.specs.Day.{is_day_form}
 use Rattle.bean_lexer.specs.TokenForm.{is_text, is_tag, is_link, is_key, is_name_behind, is_in_name, keyword_spelling, sign_spelling}
-use Rattle.bean_lexer.specs.KindForm.{is_of}
+use Rattle.bean_lexer.specs.KindForm.{is_of, may_be}
 use Rattle.bean_lexer.specs.Lookahead.{sign_of, doubled_sign_of}
 use Rattle.bean_lexer.specs.Tokens.{IsToken, IsLongestToken, IsFaultToken, TokensFrom, line_at}
-use Rattle.bean_lexer.specs.OneListOfTokens.{AreSame, HasOneListOfTokens}
+use Rattle.bean_lexer.specs.OneListOfTokens.{HasOneListOfTokens}
 use Rattle.bean_lexer.specs.declared.kind.TheConstants.{WORDS}
 use Rattle.bean_lexer.specs.declared.kind.Kind.{Kind}
 use Rattle.bean_lexer.specs.declared.kind.Kind.TheVariants as kinds
@@ -23,8 +26,6 @@ use Rattle.bean_lexer.specs.declared.kind.Keyword.{Keyword}
 use Rattle.bean_lexer.specs.declared.kind.Keyword.TheVariants as words
 use Rattle.bean_lexer.specs.declared.kind.Sign.{Sign}
 use Rattle.bean_lexer.specs.declared.kind.Sign.TheVariants as signs
-use Rattle.bean_lexer.specs.declared.gaps.Spot.{Spot}
-use Rattle.bean_lexer.specs.declared.gaps.Spot.TheVariants as spots
 use Rattle.bean_lexer.specs.declared.token.Token.{Token}
 use Rattle.bean_lexer.proofs.Leads.{begins, may_begin}
 use Rattle.bean_lexer.proofs.NumberSteps.{rest_of_number, whole_step}
@@ -265,27 +266,41 @@ one_token bs kind other n m some t u =
     ⊎_elim (λ long. absurd (no_longest bs other kind m n some long fault))
     (λ too. (fault.is_fault ∙ sym too.is_fault, fault.reach ∙ sym too.reach)) u) t
 
-same_from : (text : List ℕ) (spot : Spot) (at : ℕ) (ts us : List Token) → TokensFrom text spot at ts → TokensFrom text spot at us → AreSame ts us
-same_from text spot at [] [] from too = tt
-same_from text spot at [] (u ∷ us) from too =
+-- tokens of the same kind, place, bytes, start and line
+same_token : (t u : Token) → t.kind ≡ u.kind → t.place ≡ u.place → t.text ≡ u.text → t.start ≡ u.start → t.line ≡ u.line → t ≡ u
+same_token t u kind place text start line = λ i. record {
+  text = text i;
+  start = start i;
+  line = line i;
+  kind = kind i;
+  place = place i;
+  of_kind = is_prop→PathP (λ j. IsTrue (may_be (kind j) (text j))) (λ j. Bool-set _ _) t.of_kind u.of_kind i;
+  ends = is_prop→PathP (λ j. start j + length (text j) < 2 ^ 64) (λ j. le_prop) t.ends u.ends i;
+}
+
+same_from : (text : List ℕ) (at : ℕ) (ts us : List Token) → TokensFrom text at ts → TokensFrom text at us → ts ≡ us
+same_from text at [] [] from too = refl
+same_from text at [] (u ∷ us) from too =
     let start = too.0 in
     let inside = too.1 in
     absurd (omega arith)
-same_from text spot at (t ∷ ts) [] from too =
+same_from text at (t ∷ ts) [] from too =
     let start = from.0 in
     let inside = from.1 in
     absurd (omega arith)
-same_from text spot at (t ∷ ts) (u ∷ us) from too =
+same_from text at (t ∷ ts) (u ∷ us) from too =
     let start : t.start ≡ u.start = from.0 ∙ sym too.0 in
     let inside = from.1 in
     let l = length-drop t.start text in
     let some : 0 < length (drop t.start text) = omega arith in
-    let other : IsToken (drop t.start text) u.kind (length u.text.now) = subst (λ k. IsToken (drop k text) u.kind (length u.text.now)) (sym start) too.5 in
-    let one = one_token (drop t.start text) t.kind u.kind (length t.text.now) (length u.text.now) some from.5 other in
-    let bytes : t.text.now ≡ u.text.now = from.4 ∙ (λ i. take (one.1 i) (drop (start i) text)) ∙ sym too.4 in
+    let other : IsToken (drop t.start text) u.kind (length u.text) = subst (λ k. IsToken (drop k text) u.kind (length u.text)) (sym start) too.5 in
+    let one = one_token (drop t.start text) t.kind u.kind (length t.text) (length u.text) some from.5 other in
+    let bytes : t.text ≡ u.text = from.4 ∙ (λ i. take (one.1 i) (drop (start i) text)) ∙ sym too.4 in
     let line : t.line ≡ u.line = from.3 ∙ ap (line_at text) start ∙ sym too.3 in
-    let next : u.start + length u.text.now ≡ t.start + length t.text.now = omega (arith, one.1) in
-    (one.0, from.2 ∙ sym too.2, bytes, start, line, same_from text spots.Behind (t.start + length t.text.now) ts us from.6 (subst (λ k. TokensFrom text spots.Behind k us) next too.6))
+    let next : u.start + length u.text ≡ t.start + length t.text = omega (arith, one.1) in
+    let first : t ≡ u = same_token t u one.0 (from.2 ∙ sym too.2) bytes start line in
+    let more : ts ≡ us = same_from text (t.start + length t.text) ts us from.6 (subst (λ k. TokensFrom text k us) next too.6) in
+    (λ i. first i ∷ more i)
 
 pub one_list : (text : List ℕ) → HasOneListOfTokens text
-one_list text = λ ts us from too. same_from text spots.LineStart 0 ts us from too
+one_list text = λ ts us from too. same_from text 0 ts us from too

@@ -9,7 +9,7 @@ use Rattle.std.proofs.lemmas.List.Folds.{list_all_at}
 use Rattle.std.proofs.lemmas.List.Sums.{split_at_first, fails_before_first, passes_at_first}
 use Rattle.std.specs.List.{list_all, before_first, after_first, position_or_len, starts_with}
 use Rattle.std.specs.Str.{bytes_eq}
-use Rattle.bean_base.specs.Names.{is_account, is_root, is_colon}
+use Rattle.bean_base.specs.Name.{is_account, is_root, is_colon}
 use Rattle.theory.specs.LongestFront.{IsLongestFront, HasNoFront}
 use Rattle.bean_lexer.specs.Lookahead.{root_len, begins_component_at}
 use Rattle.bean_lexer.proofs.AccountSteps.{NoColon, are_names, behind_root, no_names, no_root, no_colon, no_names_front, no_first}

@@ -7,7 +7,7 @@ use Rattle.std.proofs.Math.Seq.{take-add}
 use Rattle.std.proofs.lemmas.Str.{IsCharBoundary-after_ascii}
 use Rattle.std.specs.Str.{IsCharBoundary}
 use Rattle.std.specs.List.{prefix_len}
-use Rattle.bean_base.proofs.Numerals.{drop_more}
+use Rattle.bean_base.proofs.NumeralFacts.{drop_more}
 use Rattle.bean_lexer.specs.TokenForm.{is_text, is_escape, is_plain, is_empty, ends_text}
 use Rattle.bean_lexer.specs.Tokens.{text_reach, fault_len, goes_on_character, IsLongestToken, IsFaultToken}
 use Rattle.bean_lexer.specs.declared.kind.Kind.TheVariants as kinds

@@ -5,7 +5,7 @@ use Rattle.std.proofs.lemmas.List.Sums.{sum_by-append}
 use Rattle.std.proofs.Math.Seq.{take-add}
 use Rattle.std.specs.List.{count_by, prefix_len}
 use Rattle.bean_lexer.specs.KindForm.{is_of}
-use Rattle.bean_lexer.specs.Gap.{gap_len, behind_gap, place_of}
+use Rattle.bean_lexer.specs.Gap.{is_line_feed, gap_len, behind_gap, place_of, spot_at}
 use Rattle.bean_lexer.specs.Tokens.{IsToken, TokensFrom, line_at, fault_len, text_reach, goes_on_character}
 use Rattle.bean_lexer.specs.declared.kind.Kind.{Kind}
 use Rattle.bean_lexer.specs.declared.kind.Kind.TheVariants as kinds
@@ -14,12 +14,8 @@ use Rattle.bean_lexer.specs.declared.kind.Keyword.TheVariants as words
 use Rattle.bean_lexer.specs.declared.kind.Sign.{Sign}
 use Rattle.bean_lexer.specs.declared.kind.Sign.TheVariants as signs
 use Rattle.bean_lexer.specs.declared.gaps.Spot.{Spot}
-use Rattle.bean_lexer.specs.declared.gaps.Spot.TheVariants as spots
 use Rattle.bean_lexer.specs.declared.kind.Place.{Place}
 use Rattle.bean_lexer.specs.declared.token.Token.{Token}
-
-abbrev pub is_feed : ℕ → Bool
-is_feed b = nat_eq b 10
 
 no_empty_word : (word : Keyword) → is_of (kinds.Keyword word) [] ≡ false
 no_empty_word words.Open = refl
@@ -53,10 +49,10 @@ pub token_some : (bs : List ℕ) (kind : Kind) (n : ℕ) → 0 < length bs → I
 token_some bs kind n some token = ⊎_elim (λ longest. longest_some bs kind n longest.of_kind) (λ fault. fault_some bs n some fault.reach) token
 
 -- lines, from one place to a later one
-feeds_add : (text : List ℕ) (at n : ℕ) → count_by is_feed (take (at + n) text) ≡ count_by is_feed (take at text) + count_by is_feed (take n (drop at text))
-feeds_add text at n = ap (count_by is_feed) (take-add at n text) ∙ sum_by-append (λ x. cond (is_feed x) 1 0) (take at text) (take n (drop at text))
+feeds_add : (text : List ℕ) (at n : ℕ) → count_by is_line_feed (take (at + n) text) ≡ count_by is_line_feed (take at text) + count_by is_line_feed (take n (drop at text))
+feeds_add text at n = ap (count_by is_line_feed) (take-add at n text) ∙ sum_by-append (λ x. cond (is_line_feed x) 1 0) (take at text) (take n (drop at text))
 
-pub line_add : (text : List ℕ) (at n line feeds : ℕ) → line ≡ line_at text at → feeds ≡ count_by is_feed (take n (drop at text)) → line + feeds ≡ line_at text (at + n)
+pub line_add : (text : List ℕ) (at n line feeds : ℕ) → line ≡ line_at text at → feeds ≡ count_by is_line_feed (take n (drop at text)) → line + feeds ≡ line_at text (at + n)
 line_add text at n line feeds is count = let e = feeds_add text at n in omega arith
 
 -- What a lexer keeps: what is still to be read of the text, and the line where it begins.
@@ -75,8 +71,8 @@ pub record Parts (rest : List ℕ) (gap : ℕ) (behind token : List ℕ) (n : �
 
 -- The gap's line feeds, and those of the token.
 pub record Feeds (rest token : List ℕ) (gap feeds more : ℕ) : Type 0 where
-  pub of_gap : feeds ≡ count_by is_feed (take gap rest)
-  pub of_token : more ≡ count_by is_feed token
+  pub of_gap : feeds ≡ count_by is_line_feed (take gap rest)
+  pub of_token : more ≡ count_by is_line_feed token
 
 behind_at : (text rest : List ℕ) (line gap : ℕ) (behind token : List ℕ) (n : ℕ) (after : List ℕ) → IsAt text rest line → Parts rest gap behind token n after
     → drop (length text - length behind) text ≡ behind
@@ -94,7 +90,7 @@ line_behind text rest line gap feeds more behind token n after at parts count =
     let gap_inside = parts.gap_inside in
     let length_behind = ap length parts.behind_is ∙ length-drop gap rest in
     let start : length text - length rest + gap ≡ length text - length behind = omega arith in
-    line_add text (length text - length rest) gap line feeds at.is_line (count.of_gap ∙ ap (λ l. count_by is_feed (take gap l)) at.is_rest) ∙ ap (line_at text) start
+    line_add text (length text - length rest) gap line feeds at.is_line (count.of_gap ∙ ap (λ l. count_by is_line_feed (take gap l)) at.is_rest) ∙ ap (line_at text) start
 
 -- a lexer is behind the token that it read
 pub is_behind : (text rest : List ℕ) (line gap feeds more : ℕ) (behind token : List ℕ) (n : ℕ) (after : List ℕ) → IsAt text rest line → Parts rest gap behind token n after → Feeds rest token gap feeds more
@@ -114,30 +110,32 @@ is_behind text rest line gap feeds more behind token n after at parts count =
       inside = omega arith;
       is_rest = sym (ap (λ k. drop k text) next ∙ after_at);
       is_line =
-          line_add text start n (line + feeds) more token_line (count.of_token ∙ ap (count_by is_feed) parts.token_is ∙ ap (λ l. count_by is_feed (take n l)) (sym here)) ∙ ap (line_at text) (sym next);
+          line_add text start n (line + feeds) more token_line (count.of_token ∙ ap (count_by is_line_feed) parts.token_is ∙ ap (λ l. count_by is_line_feed (take n l)) (sym here)) ∙ ap (line_at text) (sym next);
     }
 
 -- no token is to come where the gap is all that is left
-pub none_to_come : (text rest : List ℕ) (spot : Spot) (line gap : ℕ) (behind : List ℕ) → IsAt text rest line → gap ≡ gap_len spot rest → gap ≤ length rest → behind ≡ drop gap rest → length behind ≡ 0
-    → TokensFrom text spot (length text - length rest) []
-none_to_come text rest spot line gap behind at is gap_inside behind_is empty =
+pub none_to_come : (text rest : List ℕ) (line gap : ℕ) (behind : List ℕ) → IsAt text rest line → gap ≡ gap_len (spot_at (length text - length rest)) rest → gap ≤ length rest → behind ≡ drop gap rest → length behind ≡ 0
+    → TokensFrom text (length text - length rest) []
+none_to_come text rest line gap behind at is gap_inside behind_is empty =
+    let spot = spot_at (length text - length rest) in
     let length_behind = ap length behind_is ∙ length-drop gap rest in
     let inside = at.inside in
     ap (gap_len spot) (sym at.is_rest) ∙ sym is ∙ (let e : gap ≡ length text - (length text - length rest) = omega arith in e)
 
 -- what comes from a lexer is the token that it read, and then what comes behind it
-pub token_to_come : (text rest : List ℕ) (spot : Spot) (line gap feeds more : ℕ) (end : Spot) (behind token : List ℕ) (kind : Kind) (place : Place) (n : ℕ) (after : List ℕ) →
-    IsAt text rest line → Parts rest gap behind token n after → Feeds rest token gap feeds more → gap ≡ gap_len spot rest → end ≡ behind_gap spot rest →
+pub token_to_come : (text rest : List ℕ) (line gap feeds more : ℕ) (end : Spot) (behind token : List ℕ) (kind : Kind) (place : Place) (n : ℕ) (after : List ℕ) →
+    IsAt text rest line → Parts rest gap behind token n after → Feeds rest token gap feeds more → gap ≡ gap_len (spot_at (length text - length rest)) rest → end ≡ behind_gap (spot_at (length text - length rest)) rest →
     0 < length behind → IsToken behind kind n → place ≡ place_of end →
-    (ts : List Token) → TokensFrom text spots.Behind (length text - length after) ts →
-    (length text - length behind ≡ length text - length rest + gap_len spot (drop (length text - length rest) text))
+    (ts : List Token) → TokensFrom text (length text - length after) ts →
+    (length text - length behind ≡ length text - length rest + gap_len (spot_at (length text - length rest)) (drop (length text - length rest) text))
     × (length text - length behind < length text)
-    × (place ≡ place_of (behind_gap spot (drop (length text - length rest) text)))
+    × (place ≡ place_of (behind_gap (spot_at (length text - length rest)) (drop (length text - length rest) text)))
     × (line + feeds ≡ line_at text (length text - length behind))
     × (token ≡ take (length token) (drop (length text - length behind) text))
     × IsToken (drop (length text - length behind) text) kind (length token)
-    × TokensFrom text spots.Behind (length text - length behind + length token) ts
-token_to_come text rest spot line gap feeds more end behind token kind place n after at parts count is end_is some is_token place_is ts to_come =
+    × TokensFrom text (length text - length behind + length token) ts
+token_to_come text rest line gap feeds more end behind token kind place n after at parts count is end_is some is_token place_is ts to_come =
+    let spot = spot_at (length text - length rest) in
     let inside = at.inside in
     let gap_inside = parts.gap_inside in
     let n_inside = parts.inside in
@@ -153,5 +151,5 @@ token_to_come text rest spot line gap feeds more end behind token kind place n a
       line_behind text rest line gap feeds more behind token n after at parts count,
       parts.token_is ∙ ap (take n) (sym here) ∙ ap (λ k. take k (drop (length text - length behind) text)) (sym length_token),
       subst (λ k. IsToken (drop (length text - length behind) text) kind k) (sym length_token) (subst (λ l. IsToken l kind n) (sym here) is_token),
-      subst (λ k. TokensFrom text spots.Behind k ts) next to_come,
+      subst (λ k. TokensFrom text k ts) next to_come,
     )

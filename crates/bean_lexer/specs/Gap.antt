@@ -1,6 +1,7 @@
 -- What stands between tokens: white space, line feeds, comments and skipped lines.
-use Rattle.std.specs.Prelude.{ℕ, ◌+◌, ◌==◌, ◌&&◌, ◌||◌, Bool, true, false, List, [], ◌∷◌, Option, Some, None, if◌then◌else◌}
+use Rattle.std.specs.Prelude.{ℕ, zero, suc, ◌+◌, ◌==◌, ◌&&◌, ◌||◌, Bool, true, false, List, [], ◌∷◌, drop, Option, Some, None, if◌then◌else◌}
 use Rattle.std.specs.Option.{option_map_or}
+use Rattle.bean_base.specs.Character.{tab, line_feed, carriage_return, space, hash, star, colon, semicolon}
 use Rattle.bean_lexer.specs.declared.kind.Place.{Place}
 use Rattle.bean_lexer.specs.declared.kind.Place.TheVariants as place
 use Rattle.bean_lexer.specs.declared.gaps.Spot.{Spot}
@@ -8,11 +9,14 @@ use Rattle.bean_lexer.specs.declared.gaps.Spot.TheVariants as spot
 
 -- space, tab and carriage return
 abbrev pub is_white : ℕ → Bool
-is_white b = (b == 32) || (b == 9) || (b == 13)
+is_white b = (b == space) || (b == tab) || (b == carriage_return)
+
+abbrev pub is_line_feed : ℕ → Bool
+is_line_feed b = b == line_feed
 
 -- a line whose first character is * : or # is skipped
 abbrev pub begins_skipped : ℕ → Bool
-begins_skipped b = (b == 42) || (b == 58) || (b == 35)
+begins_skipped b = (b == star) || (b == colon) || (b == hash)
 
 abbrev pub behind_white : Spot → Spot
 behind_white spot.LineStart = spot.Indent
@@ -35,9 +39,9 @@ is_comment spot.Comment = true
 -- where one is behind one more byte of a gap; none where a token begins at that byte
 abbrev pub gap_step : Spot → ℕ → Option Spot
 gap_step at b =
-    if b == 10 then Some spot.LineStart
+    if is_line_feed b then Some spot.LineStart
     else if is_white b then Some (behind_white at)
-    else if is_comment at || (b == 59) || (is_line_start at && begins_skipped b) then Some spot.Comment
+    else if is_comment at || (b == semicolon) || (is_line_start at && begins_skipped b) then Some spot.Comment
     else None
 
 -- how long the gap at the front is
@@ -56,3 +60,16 @@ place_of spot.LineStart = place.ColumnOne
 place_of spot.Indent = place.Indented
 place_of spot.Behind = place.Inside
 place_of spot.Comment = place.Inside
+
+-- where one is at a place at which a gap begins: at the text's start, or behind a token
+abbrev pub spot_at : ℕ → Spot
+spot_at zero = spot.LineStart
+spot_at (suc at) = spot.Behind
+
+-- how long the gap at a place of a text is
+abbrev pub gap_from : List ℕ → ℕ → ℕ
+gap_from text at = gap_len (spot_at at) (drop at text)
+
+-- and the place of a token behind it
+abbrev pub place_behind : List ℕ → ℕ → Place
+place_behind text at = place_of (behind_gap (spot_at at) (drop at text))

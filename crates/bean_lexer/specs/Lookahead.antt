@@ -1,8 +1,9 @@
--- What the readers of tokens test.
+-- What a lexer looks ahead for: the tests by which it tells a token from its first bytes.
 use Rattle.std.specs.Prelude.{ℕ, ◌+◌, ◌-◌, ◌==◌, ◌&&◌, ◌||◌, not, Bool, List, length, nat_lt, nat_le, nat_eq, slice_index, codes, Option, Some, None, if◌then◌else◌}
 use Rattle.std.specs.List.{find, list_all, starts_with}
 use Rattle.std.specs.Char.{is_ascii_digit, is_ascii_uppercase, is_ascii_lowercase}
-use Rattle.bean_base.specs.Names.{begins_component, is_in_currency}
+use Rattle.bean_base.specs.Character.{bang, quote, hash, open_parenthesis, close_parenthesis, star, plus, comma, dash, colon, at_sign, caret, open_brace, close_brace, tilde}
+use Rattle.bean_base.specs.Name.{begins_component, is_in_currency}
 use Rattle.bean_lexer.specs.TokenForm.{keyword_spelling}
 use Rattle.bean_lexer.specs.declared.kind.TheConstants.{WORDS}
 use Rattle.bean_lexer.specs.declared.kind.Keyword.{Keyword}
@@ -11,7 +12,7 @@ use Rattle.bean_lexer.specs.declared.kind.Sign.TheVariants as signs
 
 -- a comma and a digit stand at a place
 abbrev pub has_more_digits : List ℕ → ℕ → Bool
-has_more_digits bs at = nat_lt (at + 1) (length bs) && (slice_index bs at == 44) && is_ascii_digit (slice_index bs (at + 1))
+has_more_digits bs at = nat_lt (at + 1) (length bs) && (slice_index bs at == comma) && is_ascii_digit (slice_index bs (at + 1))
 
 -- the length of a root and its colon at the front, or 0
 abbrev pub root_len : List ℕ → ℕ
@@ -28,7 +29,7 @@ begins_component_at bs at = nat_lt at (length bs) && begins_component (slice_ind
 
 -- a colon stands at a place
 abbrev pub has_colon : List ℕ → ℕ → Bool
-has_colon bs at = nat_lt at (length bs) && (slice_index bs at == 58)
+has_colon bs at = nat_lt at (length bs) && (slice_index bs at == colon)
 
 -- a colon and the first character of a component stand at a place
 abbrev pub has_next_component : List ℕ → ℕ → Bool
@@ -55,31 +56,31 @@ keyword_at bs = find (λ word. starts_with nat_eq bs (keyword_spelling word)) WO
 -- the bytes that begin nothing but signs and faults
 abbrev pub begins_other : ℕ → Bool
 begins_other b =
-    not (is_ascii_digit b) && not (is_ascii_uppercase b) && not (is_ascii_lowercase b) && not (b == 34) && not (b == 35)
-    && not (b == 94)
+    not (is_ascii_digit b) && not (is_ascii_uppercase b) && not (is_ascii_lowercase b) && not (b == quote) && not (b == hash)
+    && not (b == caret)
 
 -- the sign of one byte, but for #
 abbrev pub sign_of : ℕ → Option Sign
 sign_of b =
-    if b == 42 then Some signs.Star
-    else if b == 33 then Some signs.Bang
-    else if b == 44 then Some signs.Comma
-    else if b == 43 then Some signs.Plus
-    else if b == 45 then Some signs.Minus
-    else if b == 40 then Some signs.OpenParenthesis
-    else if b == 41 then Some signs.CloseParenthesis
-    else if b == 123 then Some signs.OpenBrace
-    else if b == 125 then Some signs.CloseBrace
-    else if b == 64 then Some signs.At
-    else if b == 126 then Some signs.Tilde
+    if b == star then Some signs.Star
+    else if b == bang then Some signs.Bang
+    else if b == comma then Some signs.Comma
+    else if b == plus then Some signs.Plus
+    else if b == dash then Some signs.Minus
+    else if b == open_parenthesis then Some signs.OpenParenthesis
+    else if b == close_parenthesis then Some signs.CloseParenthesis
+    else if b == open_brace then Some signs.OpenBrace
+    else if b == close_brace then Some signs.CloseBrace
+    else if b == at_sign then Some signs.At
+    else if b == tilde then Some signs.Tilde
     else None
 
 -- the sign that a byte is twice
 abbrev pub doubled_sign_of : ℕ → Option Sign
 doubled_sign_of b =
-    if b == 123 then Some signs.OpenBraces
-    else if b == 125 then Some signs.CloseBraces
-    else if b == 64 then Some signs.AtAt
+    if b == open_brace then Some signs.OpenBraces
+    else if b == close_brace then Some signs.CloseBraces
+    else if b == at_sign then Some signs.AtAt
     else None
 
 abbrev pub doubled_sign_at : List ℕ → Option Sign

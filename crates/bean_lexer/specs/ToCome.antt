@@ -6,4 +6,4 @@ use Rattle.bean_lexer.specs.declared.lexer.Lexer.{Lexer}
 
 -- the tokens of its text from the place on where its rest begins
 abbrev pub ToCome : Lexer → List Token → Type 0
-ToCome lexer ts = TokensFrom lexer.text.now lexer.spot (length lexer.text.now - length lexer.rest.now) ts
+ToCome lexer ts = TokensFrom lexer.text.now (length lexer.text.now - length lexer.rest.now) ts

@@ -2,6 +2,7 @@
 use Rattle.std.specs.Prelude.{ℕ, ◌-◌, ◌==◌, ◌&&◌, ◌||◌, Bool, true, false, List, [], ◌∷◌, length, take, nat_lt, slice_index, if◌then◌else◌, codes, not}
 use Rattle.std.specs.List.{list_all}
 use Rattle.std.specs.Char.{is_ascii_lowercase, is_ascii_alphanumeric}
+use Rattle.bean_base.specs.Character.{quote, hash, dash, point, slash, colon, backslash, caret, underscore, letter_n, letter_t}
 use Rattle.bean_lexer.specs.declared.kind.Keyword.{Keyword}
 use Rattle.bean_lexer.specs.declared.kind.Keyword.TheVariants.{Open, Close, Commodity, Txn, Balance, Pad, Note, Document, Price, Event, Query, Custom, Option, Include, Plugin, PushTag, PopTag, PushMeta, PopMeta, True, False}
 use Rattle.bean_lexer.specs.declared.kind.Sign.{Sign}
@@ -11,26 +12,26 @@ abbrev pub is_empty : List ℕ → Bool
 is_empty [] = true
 is_empty (b ∷ bs) = false
 
--- what may follow a backslash: a quote, a backslash, n and t
+-- what may follow a backslash
 abbrev pub is_escape : ℕ → Bool
-is_escape b = (b == 34) || (b == 92) || (b == 110) || (b == 116)
+is_escape b = (b == quote) || (b == backslash) || (b == letter_n) || (b == letter_t)
 
 abbrev pub is_plain : ℕ → Bool
-is_plain b = not (b == 34) && not (b == 92)
+is_plain b = not (b == quote) && not (b == backslash)
 
 -- the rest of a text behind its first quote, or behind a backslash in it
 abbrev pub ends_text : Bool → List ℕ → Bool
 ends_text escaped [] = false
 ends_text true (b ∷ bs) = is_escape b && ends_text false bs
-ends_text false (b ∷ bs) = if b == 34 then is_empty bs else ends_text (b == 92) bs
+ends_text false (b ∷ bs) = if b == quote then is_empty bs else ends_text (b == backslash) bs
 
 abbrev pub is_text : List ℕ → Bool
 is_text [] = false
-is_text (b ∷ bs) = (b == 34) && ends_text false bs
+is_text (b ∷ bs) = (b == quote) && ends_text false bs
 
 -- letters, digits and - _ / .
 abbrev pub is_in_name : ℕ → Bool
-is_in_name b = is_ascii_alphanumeric b || (b == 45) || (b == 95) || (b == 47) || (b == 46)
+is_in_name b = is_ascii_alphanumeric b || (b == dash) || (b == underscore) || (b == slash) || (b == point)
 
 -- a sign, and a name of one or more characters
 abbrev pub is_name_behind : ℕ → List ℕ → Bool
@@ -38,20 +39,20 @@ is_name_behind sign [] = false
 is_name_behind sign (b ∷ bs) = (b == sign) && nat_lt 0 (length bs) && list_all is_in_name bs
 
 abbrev pub is_tag : List ℕ → Bool
-is_tag bs = is_name_behind 35 bs
+is_tag bs = is_name_behind hash bs
 
 abbrev pub is_link : List ℕ → Bool
-is_link bs = is_name_behind 94 bs
+is_link bs = is_name_behind caret bs
 
 -- letters, digits, - and _
 abbrev pub is_in_key : ℕ → Bool
-is_in_key b = is_ascii_alphanumeric b || (b == 45) || (b == 95)
+is_in_key b = is_ascii_alphanumeric b || (b == dash) || (b == underscore)
 
 -- a small letter, and what goes on a key up to its colon
 abbrev pub is_key : List ℕ → Bool
 is_key bs =
     is_ascii_lowercase (slice_index bs 0) && list_all is_in_key (take (length bs - 1) bs)
-    && (slice_index bs (length bs - 1) == 58)
+    && (slice_index bs (length bs - 1) == colon)
 
 abbrev pub keyword_spelling : Keyword → List ℕ
 keyword_spelling Open = codes "open"

@@ -1,5 +1,5 @@
 //! The classes of bytes that tokens are made of.
-ghost use Rattle.bean_base.specs.Names.{is_in_component, is_in_currency};
+ghost use Rattle.bean_base.specs.Name.{is_in_component, is_in_currency};
 ghost use Rattle.bean_lexer.specs.TokenForm.{is_in_name, is_in_key, is_plain};
 ghost use Rattle.bean_lexer.specs.Tokens.{goes_on_character};
 

@@ -3,7 +3,7 @@ ghost use Rattle.std.specs.Prelude.{◌≡◌, ◌<◌, ◌≤◌, ◌&&◌, ◌
 ghost use Rattle.std.specs.Char.{is_ascii_digit};
 ghost use Rattle.std.specs.Str.{IsUtf8, IsCharBoundary};
 ghost use Rattle.bean_base.specs.Numeral.{is_number};
-ghost use Rattle.bean_base.specs.Days.{is_day_form};
+ghost use Rattle.bean_base.specs.Day.{is_day_form};
 ghost use Rattle.theory.specs.LongestFront.{IsLongestFront};
 ghost use Rattle.bean_lexer.specs.Lookahead.{has_more_digits};
 ghost use Rattle.bean_lexer.specs.Tokens.{IsToken};

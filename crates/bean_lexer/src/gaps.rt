@@ -1,6 +1,6 @@
 //! What stands between tokens: white space, line feeds, comments and skipped lines.
-ghost use Rattle.std.specs.Prelude.{◌≡◌, ◌≤◌, length, take, count_by, ◌==◌};
-ghost use Rattle.bean_lexer.specs.Gap.{gap_len, behind_gap, gap_step, place_of, behind_white};
+ghost use Rattle.std.specs.Prelude.{◌≡◌, ◌≤◌, length, take, count_by};
+ghost use Rattle.bean_lexer.specs.Gap.{is_line_feed, gap_len, behind_gap, gap_step, place_of, behind_white, spot_at};
 
 use crate::kind::Place;
 
@@ -26,6 +26,16 @@ pub struct Gap {
 }
 
 impl Spot {
+    /// Where a gap begins at a place of a text: at its start, or behind a token.
+    pub fn at(place: usize) -> Spot
+        ensures { result ≡ spot_at place }
+    {
+        match place {
+            0 => Spot::LineStart,
+            _ => Spot::Behind,
+        }
+    }
+
     /// The place of a token that begins here.
     pub fn place(self) -> Place
         ensures { result ≡ place_of self }
@@ -66,7 +76,7 @@ pub fn gap_at(start: Spot, bytes: &[u8]) -> Gap
     ensures len { result.len ≡ gap_len start bytes.now }
     ensures end { result.end ≡ behind_gap start bytes.now }
     ensures inside { result.len ≤ length bytes.now }
-    ensures line_feeds { result.line_feeds ≡ count_by (λ b. b == 10) (take result.len bytes.now) }
+    ensures line_feeds { result.line_feeds ≡ count_by is_line_feed (take result.len bytes.now) }
 {
     let mut end = start;
     let mut len = 0;

@@ -5,6 +5,7 @@ ghost use Rattle.bean_lexer.specs.Tokens.{line_at};
 use crate::gaps::{Spot, gap_at};
 use crate::token::Token;
 use crate::token_at::{line_feeds_of, token_at};
+use bean_base::slice::Slice;
 
 /// Gives the tokens of a text one after the other. It takes no memory.
 #[derive(Clone, Copy, Debug)]
@@ -15,8 +16,6 @@ pub struct Lexer<'a> {
     pub rest: &'a str,
     /// The line on which the rest begins, from 1.
     pub line: usize,
-    /// Where in a gap the rest begins.
-    pub spot: Spot,
     ghost inside: { length rest.now ≤ length text.now },
     ghost is_rest: { rest.now ≡ drop (length text.now - length rest.now) text.now },
     ghost is_line: { line ≡ line_at text.now (length text.now - length rest.now) },
@@ -36,7 +35,6 @@ impl<'a> Lexer<'a> {
         Lexer {
             text,
             rest: text,
-            spot: Spot::LineStart,
             line: 1,
         }
     }
@@ -48,7 +46,8 @@ impl<'a> Lexer<'a> {
             (λ t. (ts : List Token) → ToCome self.new ts → ToCome self.old (t ∷ ts)) }
         ensures shorter { IfSome result (λ _. length self.new.rest.now < length self.old.rest.now) }
     {
-        let gap = gap_at(self.spot, self.rest.as_bytes());
+        let spot = Spot::at(self.text.len() - self.rest.len());
+        let gap = gap_at(spot, self.rest.as_bytes());
         let (_, behind) = self.rest.split_at(gap.len);
         if behind.is_empty() {
             return None;
@@ -58,14 +57,13 @@ impl<'a> Lexer<'a> {
         let token = Token {
             kind: found.kind,
             place: gap.end.place(),
-            text,
+            text: Slice::new(text),
             start: self.text.len() - behind.len(),
             line: self.line + gap.line_feeds,
         };
         *self = Lexer {
             text: self.text,
             rest,
-            spot: Spot::Behind,
             line: token.line + line_feeds_of(found.kind, text.as_bytes()),
         };
         Some(token)

@@ -3,7 +3,8 @@ ghost use Rattle.std.specs.Prelude.{◌≡◌, ℕ, ◌+◌, ◌<◌, ◌≤◌,
 ghost use Rattle.std.specs.List.{prefix_len};
 ghost use Rattle.std.specs.Char.{is_ascii_digit, is_ascii_uppercase};
 ghost use Rattle.std.specs.Str.{IsUtf8, IsCharBoundary};
-ghost use Rattle.bean_base.specs.Names.{is_account, begins_component, is_in_component};
+ghost use Rattle.bean_base.specs.Character.{hash, colon, caret};
+ghost use Rattle.bean_base.specs.Name.{is_account, begins_component, is_in_component};
 ghost use Rattle.theory.specs.LongestFront.{IsLongestFront, HasNoFront};
 ghost use Rattle.bean_lexer.specs.Lookahead.{root_len, begins_component_at, has_next_component, is_currency_form, ends_currency, has_bad_end};
 ghost use Rattle.bean_lexer.specs.Tokens.{IsToken};
@@ -73,7 +74,8 @@ fn has_next_component(bytes: &[u8], at: usize) -> bool
 fn account_len(bytes: &[u8]) -> Option<usize>
     ensures account { MatchOption result (HasNoFront is_account bytes.now) (IsLongestFront is_account bytes.now) }
     ensures long { MatchOption result (0 ≤ 0) (λ len. 7 < len) }
-    ensures colon { MatchOption result (0 ≤ 0) (λ len. ((at : ℕ) × (at < len) × (slice_index bytes.now at ≡ 58))) }
+    ensures colon { MatchOption result (0 ≤ 0)
+        (λ len. ((at : ℕ) × (at < len) × (slice_index bytes.now at ≡ colon))) }
     ensures boundary { MatchOption result (0 ≤ 0) (λ len. IsUtf8 bytes.now → IsCharBoundary bytes.now len) }
 {
     let root = root_len(bytes);
@@ -147,7 +149,7 @@ fn currency_len(bytes: &[u8]) -> usize
 /// The tag that begins with `#`, or the sign alone.
 pub fn tag_or_hash(bytes: &[u8]) -> Found
     requires some { 0 < length bytes.now }
-    requires hash { slice_index bytes.now 0 ≡ 35 }
+    requires hash { slice_index bytes.now 0 ≡ hash }
     ensures token { IsToken bytes.now result.kind result.len }
     ensures boundary { IsUtf8 bytes.now → IsCharBoundary bytes.now result.len }
 {
@@ -168,7 +170,7 @@ pub fn tag_or_hash(bytes: &[u8]) -> Found
 /// The link that begins with `^`, or a fault.
 pub fn link_or_fault(bytes: &[u8]) -> Found
     requires some { 0 < length bytes.now }
-    requires caret { slice_index bytes.now 0 ≡ 94 }
+    requires caret { slice_index bytes.now 0 ≡ caret }
     ensures token { IsToken bytes.now result.kind result.len }
     ensures boundary { IsUtf8 bytes.now → IsCharBoundary bytes.now result.len }
 {

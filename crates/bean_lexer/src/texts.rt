@@ -1,6 +1,7 @@
 //! Texts in quotes.
 ghost use Rattle.std.specs.Prelude.{◌≡◌, ◌+◌, ◌<◌, ◌≤◌, length, slice_index, take, drop, false};
 ghost use Rattle.std.specs.Str.{IsUtf8, IsCharBoundary};
+ghost use Rattle.bean_base.specs.Character.{quote};
 ghost use Rattle.bean_lexer.specs.TokenForm.{is_text, is_escape};
 ghost use Rattle.bean_lexer.specs.Tokens.{IsToken, text_reach};
 
@@ -12,7 +13,7 @@ use bean_base::bytes::end_of_run;
 /// The text that begins with a quote, or a fault as long.
 pub fn text_or_fault(bytes: &[u8]) -> Found
     requires some { 0 < length bytes.now }
-    requires quote { slice_index bytes.now 0 ≡ 34 }
+    requires quote { slice_index bytes.now 0 ≡ quote }
     ensures token { IsToken bytes.now result.kind result.len }
     ensures boundary { IsUtf8 bytes.now → IsCharBoundary bytes.now result.len }
 {
@@ -46,7 +47,7 @@ fn is_escape(b: u8) -> bool
 /// How far the text reaches that begins with a quote.
 fn text_reach(bytes: &[u8]) -> Reach
     requires some { 0 < length bytes.now }
-    requires quote { slice_index bytes.now 0 ≡ 34 }
+    requires quote { slice_index bytes.now 0 ≡ quote }
     ensures inside { result.len ≤ length bytes.now }
     ensures len { result.len ≡ 1 + text_reach false (drop 1 bytes.now) }
     ensures is_text { result.is_text ≡ is_text (take result.len bytes.now) }

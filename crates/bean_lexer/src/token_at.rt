@@ -1,6 +1,7 @@
 //! The token at the front of a text.
-ghost use Rattle.std.specs.Prelude.{◌≡◌, ◌<◌, length, IsTrue, count_by, ◌==◌};
+ghost use Rattle.std.specs.Prelude.{◌≡◌, ◌<◌, length, IsTrue, count_by};
 ghost use Rattle.std.specs.Str.{IsUtf8, IsCharBoundary};
+ghost use Rattle.bean_lexer.specs.Gap.{is_line_feed};
 ghost use Rattle.bean_lexer.specs.KindForm.{may_be};
 ghost use Rattle.bean_lexer.specs.Tokens.{IsToken};
 
@@ -31,7 +32,7 @@ pub fn token_at(bytes: &[u8]) -> Found
 /// The line feeds in a token, which has none unless it is a text or a fault.
 pub fn line_feeds_of(kind: Kind, bytes: &[u8]) -> usize
     requires { IsTrue (may_be kind bytes.now) }
-    ensures { result ≡ count_by (λ b. b == 10) bytes.now }
+    ensures { result ≡ count_by is_line_feed bytes.now }
 {
     match kind {
         Kind::Text | Kind::Fault => line_feeds(bytes),
@@ -40,7 +41,7 @@ pub fn line_feeds_of(kind: Kind, bytes: &[u8]) -> usize
 }
 
 fn line_feeds(bytes: &[u8]) -> usize
-    ensures { result ≡ count_by (λ b. b == 10) bytes.now }
+    ensures { result ≡ count_by is_line_feed bytes.now }
 {
     bytes.iter().filter(|b| **b == b'\n').count()
 }

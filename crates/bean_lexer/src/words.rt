@@ -1,9 +1,10 @@
 //! Keys, words and signs, and characters that begin no token.
-ghost use Rattle.std.specs.Prelude.{◌≡◌, ◌<◌, ◌∷◌, [], ◌+◌, if◌then◌else◌, nat_lt, drop, length, slice_index, IsTrue};
+ghost use Rattle.std.specs.Prelude.{◌≡◌, ◌<◌, ◌∷◌, [], ◌+◌, if◌then◌else◌, drop, length, slice_index, IsTrue};
 ghost use Rattle.std.specs.List.{prefix_len};
 ghost use Rattle.std.specs.Option.{IfSome};
 ghost use Rattle.std.specs.Char.{is_ascii_lowercase};
 ghost use Rattle.std.specs.Str.{IsUtf8, IsCharBoundary};
+ghost use Rattle.bean_base.specs.Character.{is_ascii};
 ghost use Rattle.bean_lexer.specs.TokenForm.{sign_spelling};
 ghost use Rattle.bean_lexer.specs.Lookahead.{begins_other, sign_of, doubled_sign_of, doubled_sign_at, keyword_at, has_colon};
 ghost use Rattle.bean_lexer.specs.Tokens.{IsToken, goes_on_character};
@@ -104,7 +105,8 @@ fn doubled_sign_at(bytes: &[u8]) -> Option<Sign>
 /// The length of the character at the front.
 fn character_len(bytes: &[u8]) -> usize
     requires { 0 < length bytes.now }
-    ensures len { result ≡ (if nat_lt (slice_index bytes.now 0) 128 then 1 else 1 + prefix_len goes_on_character (drop 1 bytes.now)) }
+    ensures len { result ≡ (if is_ascii (slice_index bytes.now 0) then 1
+        else 1 + prefix_len goes_on_character (drop 1 bytes.now)) }
     ensures boundary { IsUtf8 bytes.now → IsCharBoundary bytes.now result }
 {
     if bytes[0] < 128 {

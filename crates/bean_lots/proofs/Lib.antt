@@ -1,13 +1,9 @@
-pub mod Alike
-pub mod Laws
-pub mod Places
-pub mod Kept
-pub mod Filling
+pub mod LotFacts
+pub mod SoughtFacts
+pub mod InventoryFacts
+pub mod FillingFacts
 pub mod InTurn
-pub mod First
-pub mod Unique
-pub mod Reduced
-pub mod Held
-pub mod Pushed
-pub mod Chosen
+pub mod TakeFacts
+pub mod ReductionFacts
+pub mod CandidateFacts
 mod Examples

@@ -1,7 +1,7 @@
-pub mod Values
-pub mod Entries
-pub mod Places
-pub mod Candidates
-pub mod Takes
+pub mod Lot
+pub mod Inventory
+pub mod Sought
+pub mod Candidate
+pub mod Take
 pub mod Filling
-pub mod Reductions
+pub mod Reduction

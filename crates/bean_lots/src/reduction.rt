@@ -5,8 +5,7 @@ mod queue;
 mod takes;
 
 use crate::lot::{Cost, Lot};
-use bean_base::days::Day;
-use bean_base::names::Currency;
+use bean_base::{Currency, Day, Text};
 use std::alloc::AllocError;
 pub use takes::{one_reduction, reduce};
 use thiserror::Error;
@@ -25,12 +24,12 @@ pub enum Method {
 }
 
 /// Which lots may be reduced: those of the currency that have every part that is given.
-#[derive(Clone, Copy, Debug)]
+#[derive(Debug, Drop)]
 pub struct Selector<'a> {
     pub currency: Currency<'a>,
     pub cost: Option<Cost<'a>>,
     pub day: Option<Day>,
-    pub label: Option<&'a str>,
+    pub label: Option<Text<'a>>,
 }
 
 /// What keeps a reduction from being made.
@@ -57,20 +56,19 @@ impl From<AllocError> for LotFault {
 }
 
 impl Selector<'_> {
-    ghost use Rattle.bean_lots.specs.Values.{lot_value};
-    ghost use Rattle.bean_lots.specs.Candidates.{selector_value, has_cost, has_day, has_label, agrees};
+    ghost use Rattle.bean_lots.specs.Candidate.{has_cost, has_day, has_label, agrees};
 
     fn has_cost(&self, lot: &Lot<'_>) -> bool
-        ensures { result ≡ has_cost (selector_value self.now).cost (lot_value lot.now) }
+        ensures { result ≡ has_cost self.now.cost lot.now }
     {
-        match self.cost {
-            Some(cost) => cost == lot.cost,
+        match &self.cost {
+            Some(cost) => *cost == lot.cost,
             None => true,
         }
     }
 
     fn has_day(&self, lot: &Lot<'_>) -> bool
-        ensures { result ≡ has_day (selector_value self.now).day (lot_value lot.now) }
+        ensures { result ≡ has_day self.now.day lot.now }
     {
         match self.day {
             Some(day) => day == lot.day,
@@ -79,9 +77,9 @@ impl Selector<'_> {
     }
 
     fn has_label(&self, lot: &Lot<'_>) -> bool
-        ensures { result ≡ has_label (selector_value self.now).label (lot_value lot.now) }
+        ensures { result ≡ has_label self.now.label lot.now }
     {
-        match self.label {
+        match &self.label {
             Some(_) => self.label == lot.label,
             None => true,
         }
@@ -89,7 +87,7 @@ impl Selector<'_> {
 
     /// Whether a lot has every part that is given.
     fn agrees(&self, lot: &Lot<'_>) -> bool
-        ensures { result ≡ agrees (selector_value self.now) (lot_value lot.now) }
+        ensures { result ≡ agrees self.now lot.now }
     {
         self.has_cost(lot) && self.has_day(lot) && self.has_label(lot)
     }

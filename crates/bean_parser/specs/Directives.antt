@@ -2,14 +2,14 @@
 use Rattle.std.specs.Prelude.{◌≡◌, ℕ, ℤ, pos, neg_ℤ, Bool, List, [], ◌∷◌, map, Option, Some, None, Result, Ok, Err, ◌⊎◌, cond, IsTrue}
 use Rattle.bean_base.specs.Decimal.{IsLedger}
 use Rattle.bean_base.specs.Numeral.{is_number, count_of, places_of}
-use Rattle.bean_base.specs.Days.{is_day_form, IsDayOf, year_of, month_of, day_of}
+use Rattle.bean_base.specs.Day.{is_day_form, IsDayOf, year_of, month_of, day_of}
 use Rattle.bean_base.specs.declared.fault.Fault.{Fault}
 use Rattle.bean_base.specs.declared.fault.FaultKind.{FaultKind}
 use Rattle.bean_base.specs.declared.fault.FaultKind.TheVariants.{BadToken, NotADirective, OutOfRange}
 use Rattle.bean_parser.specs.Lexemes.{TokenValue}
 use Rattle.bean_parser.specs.Blocks.{first_line, fault_line}
 use Rattle.bean_parser.specs.Grammar.{Texts, opens, transacts, Written, Tree, HasTree}
-use Rattle.bean_base.specs.Days.{DayValue}
+use Rattle.bean_base.specs.Day.{DayValue}
 use Rattle.bean_parser.specs.Values.{PostingValue, DirectiveValue, open_is, transaction_is}
 
 -- What a tree stands for.

@@ -1,7 +1,7 @@
 -- Directives, without where they lie in memory.
 use Rattle.std.specs.Prelude.{ℕ, ℤ, List, map, Option}
 use Rattle.std.specs.Option.{option_map}
-use Rattle.bean_base.specs.Days.{DayValue, day_value}
+use Rattle.bean_base.specs.Day.{DayValue, day_value}
 use Rattle.bean_parser.specs.declared.directive.Flag.{Flag}
 use Rattle.bean_parser.specs.declared.directive.Text.{Text}
 use Rattle.bean_parser.specs.declared.directive.Posting.{Posting}

@@ -1,7 +1,7 @@
 //! The tokens of worked texts.
 
 use bean_lexer::kind::{Keyword, Kind, Place, Sign};
-use bean_lexer::tokens::tokens;
+use bean_lexer::tokens;
 use std::alloc::{AllocError, Global};
 use std::test::Fail;
 

@@ -24,25 +24,22 @@ fn value_of(bytes: &[u8]) -> u16
     value
 }
 
-/// The day of that number in its month and year, where the calendar has it.
-fn day_of(year: u16, month: u16, day: u16) -> Result<Day, NotADay>
-    requires year { year < 10000 }
-    requires month { month < 100 }
-    requires day { day < 100 }
-    ensures { HasDay result year month day }
-{
-    if year == 0 {
-        return Err(NotADay);
-    }
-    match Date::new(year as i16, month as i8, day as i8) {
-        Ok(date) => Ok(Day {
-            date: date.to_plain(),
-        }),
-        Err(_) => Err(NotADay),
-    }
-}
-
 impl Day {
+    /// The day of that number in its month and year, where the calendar has it.
+    pub fn new(year: u16, month: u8, day: u8) -> Result<Day, NotADay>
+        ensures { HasDay result year month day }
+    {
+        if year == 0 || year > 9999 || month > 12 || day > 31 {
+            return Err(NotADay);
+        }
+        match Date::new(year as i16, month as i8, day as i8) {
+            Ok(date) => Ok(Day {
+                date: date.to_plain(),
+            }),
+            Err(_) => Err(NotADay),
+        }
+    }
+
     /// Whether the bytes have the form of a day, which the calendar may not have.
     pub fn is_form(bytes: &[u8]) -> bool
         ensures { result ≡ is_day_form bytes.now }
@@ -67,5 +64,5 @@ pub fn parse_day(text: &str) -> Result<Day, NotADay>
     let year = value_of(&bytes[..4]);
     let month = value_of(&bytes[5..7]);
     let day = value_of(&bytes[8..10]);
-    day_of(year, month, day)
+    Day::new(year, month as u8, day as u8)
 }

@@ -1,13 +1,13 @@
 //! The candidates of a reduction, in the order in which they are taken.
 ghost use Rattle.std.specs.Prelude.{◌≡◌, ◌↔◌, ◌≢◌, ◌-◌, ◌++◌, ◌&&◌, OnOk, IfOk, IsTrue, IsPermutation, sum_by};
-ghost use Rattle.bean_lots.specs.Values.{lot_value, same_text};
-ghost use Rattle.bean_lots.specs.Candidates.{selector_value, agrees, is_opposite, candidate_of, candidates};
-ghost use Rattle.bean_lots.specs.Takes.{IsQueue, units_of};
+ghost use Rattle.bean_base.specs.Day.{number};
+ghost use Rattle.bean_lots.specs.Lot.{same_text};
+ghost use Rattle.bean_lots.specs.Candidate.{agrees, is_opposite, candidate_of, candidates};
+ghost use Rattle.bean_lots.specs.Take.{IsQueue, units_of};
 ghost use Rattle.bean_lots.specs.Filling.{Judges};
 
 use super::{LotFault, Method, Selector};
-use crate::inventory::Entry;
-use crate::lot::{Key, Lot};
+use crate::lot::{Key, Lot, Position};
 use std::alloc::{AllocError, Global};
 use std::cmp::Reverse;
 use std::marker::Model;
@@ -21,24 +21,24 @@ pub(crate) struct Candidate<'a> {
 
 impl<'a> Model for Candidate<'a> {
     ghost use Rattle.std.specs.Prelude.{ℕ};
-    ghost use Rattle.bean_lots.specs.Values.{LotValue, lot_value};
+    ghost use Rattle.bean_lots.specs.declared.lot.Lot.{Lot};
 
-    ghost Value = { LotValue × ℕ };
+    ghost Value = { Lot × ℕ };
 
-    ghost view = { λ c. (lot_value c.lot, c.units) };
+    ghost view = { λ c. (c.lot, c.units) };
 }
 
 impl<'a> Candidate<'a> {
     fn new(lot: Lot<'a>, units: u128) -> Candidate<'a>
-        ensures { result ≡ (lot_value lot.entry, units) }
+        ensures { result ≡ (lot.entry, units) }
     {
         Candidate { lot, units }
     }
 
     pub(crate) fn lot(&self) -> Lot<'a>
-        ensures { lot_value result ≡ self.now.0 }
+        ensures { result ≡ self.now.0 }
     {
-        self.lot
+        self.lot.lend()
     }
 
     pub(crate) fn units(&self) -> u128
@@ -48,7 +48,7 @@ impl<'a> Candidate<'a> {
     }
 
     fn day_number(&self) -> i32
-        ensures { result ≡ self.now.0.day }
+        ensures { result ≡ number self.now.0.day }
     {
         self.lot.day.number()
     }
@@ -68,8 +68,8 @@ fn is_candidate(
     lot: &Lot<'_>,
     count: i128,
 ) -> bool
-    ensures { result ≡ (same_text key.now.currency.text.now (selector_value selector.now).currency
-        && agrees (selector_value selector.now) (lot_value lot.now) && is_opposite want count) }
+    ensures { result ≡ (same_text key.now.currency selector.now.currency
+        && agrees selector.now lot.now && is_opposite want count) }
 {
     key.currency == selector.currency && selector.agrees(lot) && is_opposite(want, count)
 }
@@ -78,15 +78,13 @@ fn push_candidate<'a>(
     found: &mut Vec<Candidate<'a>>,
     selector: &Selector<'_>,
     want: i128,
-    entry: &Entry<'a>,
+    entry: &Position<'a>,
 ) -> Result<(), AllocError>
-    ensures { OnOk result (found.new.items ≡ found.old.items ++ candidate_of (selector_value selector.now) want entry.now.0.currency entry.now.0.lot entry.now.1) }
+    ensures { OnOk result (found.new.items ≡ found.old.items ++ candidate_of selector.now want entry.now.key.currency entry.now.key.lot entry.now.count) }
 {
-    let key = entry.key();
-    let count = entry.count();
-    if let Some(lot) = key.lot {
-        if is_candidate(selector, want, &key, &lot, count) {
-            found.push(Candidate::new(lot, count.unsigned_abs()))?;
+    if let Some(lot) = &entry.key.lot {
+        if is_candidate(selector, want, &entry.key, lot, entry.count) {
+            found.push(Candidate::new(lot.lend(), entry.count.unsigned_abs()))?;
         }
     }
     Ok(())
@@ -95,11 +93,11 @@ fn push_candidate<'a>(
 /// The candidates, in order of entry.
 fn candidates<'a>(
     alloc: Global,
-    entries: &[Entry<'a>],
+    entries: &[Position<'a>],
     selector: &Selector<'_>,
     want: i128,
 ) -> Result<Vec<Candidate<'a>>, AllocError>
-    ensures { IfOk result (λ found. found.items ≡ candidates (selector_value selector.now) want entries.now) }
+    ensures { IfOk result (λ found. found.items ≡ candidates selector.now want entries.now) }
 {
     let mut found = Vec::new(alloc);
     for entry in entries {
@@ -124,14 +122,14 @@ fn arrange(method: Method, queue: &mut Vec<Candidate<'_>>) -> Result<(), AllocEr
 /// The candidates in the order in which they are taken.
 pub(crate) fn queue_of<'a>(
     alloc: Global,
-    entries: &[Entry<'a>],
+    entries: &[Position<'a>],
     selector: &Selector<'_>,
     want: i128,
     method: Method,
 ) -> Result<Vec<Candidate<'a>>, AllocError>
     requires { method ≢ Method.None }
-    ensures queue { IfOk result (λ queue. IsQueue method (candidates (selector_value selector.now) want entries.now) queue.items) }
-    ensures same { IfOk result (λ queue. IsPermutation (candidates (selector_value selector.now) want entries.now) queue.items) }
+    ensures queue { IfOk result (λ queue. IsQueue method (candidates selector.now want entries.now) queue.items) }
+    ensures same { IfOk result (λ queue. IsPermutation (candidates selector.now want entries.now) queue.items) }
 {
     let mut queue = candidates(alloc, entries, selector, want)?;
     arrange(method, &mut queue)?;

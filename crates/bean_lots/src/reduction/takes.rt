@@ -2,18 +2,18 @@
 ghost use Rattle.std.specs.Prelude.{◌≡◌, ◌≢◌, ◌<◌, ◌^◌, ◌++◌, ◌∷◌, [], OnOk, IfOk, List, ℕ, map};
 ghost use Rattle.std.specs.Int.RustNames.{unsigned_abs};
 ghost use Rattle.bean_base.specs.Decimal.{scaled};
-ghost use Rattle.bean_lots.specs.Values.{LotValue, lot_value, take_value};
-ghost use Rattle.bean_lots.specs.Candidates.{selector_value, candidates};
-ghost use Rattle.bean_lots.specs.Takes.{with_sign, signed_take, signed_takes};
+ghost use Rattle.bean_lots.specs.declared.lot.Lot.{Lot};
+ghost use Rattle.bean_lots.specs.Candidate.{candidates};
+ghost use Rattle.bean_lots.specs.Take.{with_sign, signed_take, signed_takes, take_counts};
 ghost use Rattle.bean_lots.specs.Filling.{filled};
-ghost use Rattle.bean_lots.specs.Reductions.{IsReduction, Reduces};
+ghost use Rattle.bean_lots.specs.Reduction.{IsReduction, Reduces};
 ghost use Rattle.bean_lots.specs.declared.reduction.Method.{Method};
 
 use super::queue::{Candidate, judge, queue_of};
 use super::{LotFault, Method, Selector};
-use crate::inventory::{Entry, Inventory};
-use crate::lot::Lot;
-use bean_base::num::Num;
+use crate::inventory::Inventory;
+use crate::lot::{Lot, Position};
+use bean_base::Num;
 use std::alloc::{AllocError, Global};
 
 /// The number of that many units, with the sign of the want.
@@ -36,21 +36,21 @@ fn push_take<'a>(
     units: u128,
 ) -> Result<(), AllocError>
     requires { units < 10 ^ 20 }
-    ensures { OnOk result (map take_value takes.new.items ≡ map take_value takes.old.items ++ signed_take want (candidate.now.0, units) ∷ []) }
+    ensures { OnOk result (map take_counts takes.new.items ≡ map take_counts takes.old.items ++ signed_take want (candidate.now.0, units) ∷ []) }
 {
     takes.push((candidate.lot(), number_of(want, units)))?;
     Ok(())
 }
 
 /// Takes what is wanted, of one candidate after the other.
-#[tactic(auto, using(crate::proofs::Filling::more, crate::proofs::Filling::filled_zero))]
+#[tactic(auto, using(crate::proofs::FillingFacts::more, crate::proofs::FillingFacts::filled_zero))]
 fn fill<'a>(
     alloc: Global,
     queue: &[Candidate<'a>],
     want: i128,
 ) -> Result<Vec<(Lot<'a>, Num)>, AllocError>
     requires { unsigned_abs want < 10 ^ 20 }
-    ensures { IfOk result (λ takes. map take_value takes.items ≡ signed_takes want (filled queue.now (unsigned_abs want))) }
+    ensures { IfOk result (λ takes. map take_counts takes.items ≡ signed_takes want (filled queue.now (unsigned_abs want))) }
 {
     let mut takes = Vec::new(alloc);
     let mut rest = want.unsigned_abs();
@@ -67,14 +67,14 @@ fn fill<'a>(
 
 fn reduce_in<'a>(
     alloc: Global,
-    entries: &[Entry<'a>],
+    entries: &[Position<'a>],
     selector: &Selector<'_>,
     want: i128,
     method: Method,
 ) -> Result<Vec<(Lot<'a>, Num)>, LotFault>
     requires small { unsigned_abs want < 10 ^ 20 }
     requires chooses { method ≢ Method.None }
-    ensures { Reduces method (candidates (selector_value selector.now) want entries.now) want result }
+    ensures { Reduces method (candidates selector.now want entries.now) want result }
 {
     let queue = queue_of(alloc, entries, selector, want, method)?;
     match judge(method, &queue, want.unsigned_abs()) {
@@ -94,7 +94,7 @@ pub fn reduce<'a>(
 ) -> Result<Vec<(Lot<'a>, Num)>, LotFault>
     requires { method ≢ Method.None }
     ensures { let want = scaled units.count units.places 8 in
-        Reduces method (candidates (selector_value selector.now) want inventory.now) want result }
+        Reduces method (candidates selector.now want inventory.now) want result }
 {
     reduce_in(
         alloc,
@@ -107,5 +107,5 @@ pub fn reduce<'a>(
 
 /// There is at most one list of takes.
 pub fn one_reduction()
-    ensures { (m : Method) (cs : List (LotValue × ℕ)) (want : ℕ) (ts us : List (LotValue × ℕ)) → IsReduction m cs want ts → IsReduction m cs want us → ts ≡ us }
+    ensures { (m : Method) (cs : List (Lot × ℕ)) (want : ℕ) (ts us : List (Lot × ℕ)) → IsReduction m cs want ts → IsReduction m cs want us → ts ≡ us }
 {}

@@ -1,6 +1,6 @@
-use Rattle.std.proofs.Common.{◌≡◌, ◌+◌, ◌-◌, ◌≤◌, length, take, drop, nat_eq}
+use Rattle.std.proofs.Common.{◌≡◌, ◌+◌, ◌-◌, ◌≤◌, length, take, drop}
 use Rattle.std.specs.List.{count_by}
-use Rattle.bean_lexer.specs.Gap.{gap_len, behind_gap}
+use Rattle.bean_lexer.specs.Gap.{is_line_feed, gap_len, behind_gap}
 use Rattle.bean_lexer.proofs.gaps.gap_at.Given as goal
 
 abbrev pub invariant-loop-len : goal.invariant-loop-len
@@ -8,7 +8,7 @@ invariant-loop-len l = record {
   inside : l.len ≤ length l.bytes;
   gap : l.len + gap_len l.end (drop l.len l.bytes) ≡ gap_len l.fn.start l.bytes;
   behind : behind_gap l.end (drop l.len l.bytes) ≡ behind_gap l.fn.start l.bytes;
-  feeds : l.line_feeds ≡ count_by (λ b. nat_eq b 10) (take l.len l.bytes);
+  feeds : l.line_feeds ≡ count_by is_line_feed (take l.len l.bytes);
 }
 
 abbrev pub decreases-loop-len : goal.decreases-loop-len

@@ -1,7 +1,7 @@
 use Rattle.std.proofs.Common.{◌≡◌, ◌+◌, ◌-◌, ◌<◌, arith, sym, ◌∙◌, subst, ap, drop}
 use Rattle.bean_lexer.specs.Lookahead.{root_len, begins_component_at}
 use Rattle.theory.specs.LongestFront.{IsLongestFront, HasNoFront}
-use Rattle.bean_base.specs.Names.{is_account}
+use Rattle.bean_base.specs.Name.{is_account}
 use Rattle.bean_lexer.proofs.AccountSteps.{names_start, names_go_on, names_end, are_names}
 use Rattle.bean_lexer.proofs.Roots.{no_root_at, no_component, account_is, root_is_long, root_colon}
 use Rattle.bean_lexer.proofs.names.account_len.Goals as goal

@@ -3,10 +3,10 @@ use Rattle.std.proofs.lemmas.Bool.Decides.{nat_tests}
 use Rattle.std.specs.List.{count_by}
 use Rattle.std.specs.Str.{IsCharBoundary}
 use Rattle.std.proofs.lemmas.Str.{IsCharBoundary-start}
-use Rattle.bean_lexer.specs.Gap.{gap_len, behind_gap}
+use Rattle.bean_lexer.specs.Gap.{is_line_feed, gap_len, behind_gap}
 use Rattle.bean_lexer.specs.Tokens.{IsToken}
 use Rattle.bean_lexer.proofs.Boundaries.{gap_boundary}
-use Rattle.bean_lexer.proofs.TokenSteps.{IsAt, Parts, Feeds, is_behind, token_to_come, is_feed}
+use Rattle.bean_lexer.proofs.TokenSteps.{IsAt, Parts, Feeds, is_behind, token_to_come}
 use Rattle.bean_lexer.proofs.lexer.Lexer.next_token.Goals as goal
 
 pub split_at-requires : goal.split_at-requires
@@ -14,8 +14,8 @@ split_at-requires c =
     let rest = c.args.self.now.rest.now in
     let seen = c.as_bytes.ensures.value in
     let utf8 = subst IsUtf8 seen c.as_bytes.ensures.utf8 in
-    let gap : c.gap_at-gap.result.len ≡ 0 + gap_len c.args.self.now.spot rest = let l = c.gap_at-gap.ensures.len in let s = ap (gap_len c.args.self.now.spot) seen in omega arith in
-    subst (IsCharBoundary rest) (sym gap) (gap_boundary rest rest 0 c.args.self.now.spot refl (omega arith) utf8 (λ _. IsCharBoundary-start rest utf8))
+    let gap : c.gap_at-gap.result.len ≡ 0 + gap_len c.at-spot.result rest = let l = c.gap_at-gap.ensures.len in let s = ap (gap_len c.at-spot.result) seen in omega arith in
+    subst (IsCharBoundary rest) (sym gap) (gap_boundary rest rest 0 c.at-spot.result refl (omega arith) utf8 (λ _. IsCharBoundary-start rest utf8))
 
 pub invariant_of-self : goal.invariant_of-self
 invariant_of-self c =
@@ -34,8 +34,8 @@ invariant_of-self c =
       after_is = c.split_at-2.ensures.back;
     } in
     let count : Feeds lexer.rest.now c.split_at-2.result.0.now c.gap_at-gap.result.len c.gap_at-gap.result.line_feeds c.line_feeds_of.result = record {
-      of_gap = gap.line_feeds ∙ ap (λ l. count_by is_feed (take c.gap_at-gap.result.len l)) seen;
-      of_token = c.line_feeds_of.ensures ∙ ap (count_by is_feed) c.as_bytes-3.ensures.value;
+      of_gap = gap.line_feeds ∙ ap (λ l. count_by is_line_feed (take c.gap_at-gap.result.len l)) seen;
+      of_token = c.line_feeds_of.ensures ∙ ap (count_by is_line_feed) c.as_bytes-3.ensures.value;
     } in
     let next = is_behind lexer.text.now lexer.rest.now lexer.line _ _ _ c.split_at.result.1.now c.split_at-2.result.0.now _ c.split_at-2.result.1.now at parts count in
     record { inside = next.inside; is_rest = next.is_rest; is_line = next.is_line }
@@ -58,10 +58,11 @@ returns-clause-tokens c =
       after_is = c.split_at-2.ensures.back;
     } in
     let count : Feeds lexer.rest.now c.split_at-2.result.0.now c.gap_at-gap.result.len c.gap_at-gap.result.line_feeds c.line_feeds_of.result = record {
-      of_gap = gap.line_feeds ∙ ap (λ l. count_by is_feed (take c.gap_at-gap.result.len l)) seen;
-      of_token = c.line_feeds_of.ensures ∙ ap (count_by is_feed) c.as_bytes-3.ensures.value;
+      of_gap = gap.line_feeds ∙ ap (λ l. count_by is_line_feed (take c.gap_at-gap.result.len l)) seen;
+      of_token = c.line_feeds_of.ensures ∙ ap (count_by is_line_feed) c.as_bytes-3.ensures.value;
     } in
     let some : 0 < length c.split_at.result.1.now = let e : nat_eq (length c.split_at.result.1.now) 0 ≡ false = sym c.is_empty.ensures ∙ c.if-is_empty.false in grind (arith, nat_tests) in
-    token_to_come lexer.text.now lexer.rest.now lexer.spot lexer.line _ _ _ c.gap_at-gap.result.end c.split_at.result.1.now _ _ _ _ c.split_at-2.result.1.now at parts count
-    (gap.len ∙ ap (gap_len lexer.spot) seen) (gap.end ∙ ap (behind_gap lexer.spot) seen) some (subst (λ l. IsToken l c.token_at-found.result.kind c.token_at-found.result.len) same c.token_at-found.ensures.token)
-    c.place.ensures
+    rw c.new.ensures
+    (token_to_come lexer.text.now lexer.rest.now lexer.line _ _ _ c.gap_at-gap.result.end c.split_at.result.1.now _ _ _ _ c.split_at-2.result.1.now at parts count
+    (gap.len ∙ ap (gap_len _) seen ∙ ap (λ s. gap_len s lexer.rest.now) c.at-spot.ensures) (gap.end ∙ ap (behind_gap _) seen ∙ ap (λ s. behind_gap s lexer.rest.now) c.at-spot.ensures) some (subst (λ l. IsToken l c.token_at-found.result.kind c.token_at-found.result.len) same c.token_at-found.ensures.token)
+    c.place.ensures)

@@ -2,6 +2,7 @@
 ghost use Rattle.std.specs.Prelude.{IfOk};
 ghost use Rattle.bean_lexer.specs.Tokens.{AreTokens};
 ghost use Rattle.bean_lexer.specs.OneListOfTokens.{HasOneListOfTokens};
+ghost use Rattle.bean_lexer.specs.Between.{HasGaps};
 
 use crate::lexer::Lexer;
 use crate::token::Token;
@@ -22,6 +23,15 @@ pub fn tokens<'a, A: Allocator>(alloc: A, text: &'a str) -> Result<Vec<Token<'a>
 /// A text has one list of tokens: two that are its tokens are the same.
 pub fn a_text_has_one_list_of_tokens(text: &str)
     ensures { HasOneListOfTokens text.now }
+{
+    let _ = text;
+}
+
+/// What stands between the tokens of a text: white space, line feeds, comments, and lines that begin
+/// with `*`, `:` or `#` in the first column; and a token begins at the first byte that is none of
+/// these.
+pub fn a_gap_is_white_space_comments_and_skipped_lines(text: &str)
+    ensures { HasGaps text.now }
 {
     let _ = text;
 }

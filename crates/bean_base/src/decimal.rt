@@ -1,0 +1,28 @@
+//! Numbers that are wider than those that a ledger writes: those of cells, of answers and of query
+//! files.
+ghost use Rattle.std.specs.Prelude.{◌≡◌, ◌≤◌, ◌<◌, ◌^◌};
+ghost use Rattle.std.specs.Int.RustNames.{unsigned_abs};
+
+use crate::num::Num;
+
+/// `count * 10^-places`, with at most 32 places and a count of at most `2^127 - 1`, signs left off.
+#[derive(Clone, Copy, Debug, Drop, PartialEq, Eq)]
+pub struct Decimal {
+    pub count: i128,
+    pub places: u8,
+    ghost narrow: { places ≤ 32 },
+    ghost in_range: { unsigned_abs count < 2 ^ 127 },
+}
+
+impl Decimal {
+    /// A number of the ledger.
+    pub fn of_num(number: Num) -> Decimal
+        ensures count { result.count ≡ number.count }
+        ensures places { result.places ≡ number.places }
+    {
+        Decimal {
+            count: number.count,
+            places: number.places,
+        }
+    }
+}

@@ -1,0 +1,44 @@
+-- The candidates of a reduction: the lots of the currency that agree with the selector and have the opposite sign.
+use Rattle.std.specs.Prelude.{Bool, true, ◌&&◌, ◌||◌, ℕ, ℤ, pos, List, [], ◌∷◌, ◌++◌, Option, Some, None, if◌then◌else◌}
+use Rattle.std.specs.Int.RustNames.{unsigned_abs}
+use Rattle.std.specs.Int.Signed.{lt_z}
+use Rattle.std.specs.Ordering.{int_eq}
+use Rattle.std.specs.Option.{option_eq}
+use Rattle.bean_base.specs.Day.{number}
+use Rattle.bean_lots.specs.Lot.{same_text, same_cost}
+use Rattle.bean_lots.specs.declared.lot.Lot.{Lot}
+use Rattle.bean_lots.specs.declared.lot.Key.{Key}
+use Rattle.bean_lots.specs.declared.lot.Position.{Position}
+use Rattle.bean_base.specs.declared.days.Day.{Day}
+use Rattle.bean_lots.specs.declared.lot.Cost.{Cost}
+use Rattle.bean_lots.specs.declared.reduction.Selector.{Selector}
+
+abbrev pub has_cost : Option Cost → Lot → Bool
+has_cost None lot = true
+has_cost (Some cost) lot = same_cost cost lot.cost
+
+abbrev pub has_day : Option Day → Lot → Bool
+has_day None lot = true
+has_day (Some day) lot = int_eq (number day) (number lot.day)
+
+abbrev pub has_label : Option (List ℕ) → Lot → Bool
+has_label None lot = true
+has_label (Some label) lot = option_eq same_text (Some label) lot.label
+
+-- the lot has every part that is given
+abbrev pub agrees : Selector → Lot → Bool
+agrees s lot = has_cost s.cost lot && has_day s.day lot && has_label s.label lot
+
+abbrev pub is_opposite : ℤ → ℤ → Bool
+is_opposite want n = (lt_z want (pos 0) && lt_z (pos 0) n) || (lt_z (pos 0) want && lt_z n (pos 0))
+
+-- the candidate that an entry is, with what is held of it
+abbrev pub candidate_of : Selector → ℤ → List ℕ → Option Lot → ℤ → List (Lot × ℕ)
+candidate_of s want currency None n = []
+candidate_of s want currency (Some lot) n =
+    if same_text currency s.currency && agrees s lot && is_opposite want n then (lot, unsigned_abs n) ∷ [] else []
+
+-- the candidates, in order of entry
+abbrev pub candidates : Selector → ℤ → List Position → List (Lot × ℕ)
+candidates s want [] = []
+candidates s want (e ∷ es) = candidate_of s want e.key.currency e.key.lot e.count ++ candidates s want es

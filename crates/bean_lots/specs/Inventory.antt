@@ -1,0 +1,29 @@
+-- An inventory as the list of its positions, in order of entry.
+use Rattle.std.specs.Prelude.{◌≡◌, false, List, [], ◌∷◌, ◌++◌, ℤ, pos, ◌+ℤ◌, if◌then◌else◌}
+use Rattle.std.specs.Ordering.{int_eq}
+use Rattle.std.specs.List.{AllByRecursion}
+use Rattle.bean_lots.specs.Lot.{same_key}
+use Rattle.bean_lots.specs.declared.lot.Key.{Key}
+use Rattle.bean_lots.specs.declared.lot.Position.{Position}
+
+-- the count under a key, 0 where it has none
+abbrev pub count_of : List Position → Key → ℤ
+count_of [] k = pos 0
+count_of (e ∷ es) k = if same_key k e.key then e.count else count_of es k
+
+-- the position of a count, none for 0
+abbrev pub held_as : Key → ℤ → List Position
+held_as k n = if int_eq n (pos 0) then [] else record { key = k; count = n } ∷ []
+
+-- with n more under a key: a new key goes last, one that is there keeps its place, and one that comes to 0 goes
+abbrev pub added : List Position → Key → ℤ → List Position
+added [] k n = held_as k n
+added (e ∷ es) k n = if same_key k e.key then held_as e.key (e.count +ℤ n) ++ es else e ∷ added es k n
+
+abbrev pub DiffersFrom : Key → Position → Type 0
+DiffersFrom k e = same_key k e.key ≡ false
+
+-- no count is 0, and no key comes twice
+abbrev pub IsInventory : List Position → Type 0
+IsInventory [] = Unit {0}
+IsInventory (e ∷ es) = (int_eq e.count (pos 0) ≡ false) × AllByRecursion (DiffersFrom e.key) es × IsInventory es
