@@ -1,11 +1,10 @@
 //! What stands in the cells of a table.
 ghost use Rattle.std.specs.Prelude.{◌≡◌};
 
-use crate::decimal::Decimal;
 use crate::lent::Lent;
-use crate::position::Position;
 use crate::text_set::TextSet;
-use bean_base::{Currency, Day, Slice};
+use bean_base::{Currency, Day, Decimal, Slice};
+use bean_lots::Position;
 
 /// What stands in a cell, lent from where it is kept.
 #[derive(Debug, Drop)]
