@@ -18,7 +18,7 @@ is_printable b = is_in_range 0x20 0x7E b
 bounds : (b : ℕ) → is_printable b ≡ true → (32 ≤ b) × (b ≤ 126)
 bounds b h = (grind (arith, nat_tests), grind (arith, nat_tests))
 
-is_ascii : (bs : List ℕ) → list_all is_printable bs ≡ true → IsAscii bs
+pub is_ascii : (bs : List ℕ) → list_all is_printable bs ≡ true → IsAscii bs
 is_ascii [] h = λ i. omega arith
 is_ascii (b ∷ bs) h = at (bounds b (and_parts _ _ h).0) (is_ascii bs (and_parts _ _ h).1)
   where

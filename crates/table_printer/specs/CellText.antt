@@ -1,10 +1,13 @@
 -- The texts of cells.
-use Rattle.std.specs.Prelude.{ℕ, ℤ, Bool, true, false, List, [], ◌∷◌, ◌++◌, map, chars, encode_utf8, slice_index_or, nat_lt, if◌then◌else◌}
+use Rattle.std.specs.Prelude.{ℕ, ℤ, Bool, true, false, Option, Some, None, List, [], ◌∷◌, ◌++◌, map, chars, codes, encode_utf8, slice_index_or, nat_lt, if◌then◌else◌}
 use Rattle.std.specs.Char.{is_control}
 use Rattle.std.specs.List.{flat_map}
 use Rattle.bean_base.specs.Character.{comma, space}
+use Rattle.bean_lots.specs.declared.lot.Lot.{Lot}
+use Rattle.bean_lots.specs.declared.lot.Position.{Position}
 use Rattle.posting_table.specs.declared.cell.Cell.{Cell}
-use Rattle.posting_table.specs.declared.cell.Cell.TheVariants.{Null, Number, Text, Day, Set, Amount, Position}
+use Rattle.posting_table.specs.declared.cell.Cell.TheVariants.{Null, Number, Text, Day, Set, Amount}
+use Rattle.posting_table.specs.declared.cell.Cell.TheVariants as cell
 use Rattle.table_printer.specs.Digits.{number_text, day_text}
 
 -- numbers stand at the right of their columns
@@ -36,8 +39,28 @@ separator i = if nat_lt 0 i then comma ∷ [] else []
 abbrev pub units_text : (List ℕ → ℕ) → ℤ → ℕ → List ℕ → List ℕ
 units_text display count places currency = number_text count places (display currency) ++ space ∷ currency
 
--- a number has the fewest decimals that are exact, and amounts and units at least those that their
--- currency shows; a position's count is of 10^-8
+-- a label between quotes, behind a comma
+abbrev pub label_text : Option (List ℕ) → List ℕ
+label_text None = []
+label_text (Some label) = codes ", \"" ++ clean_text label ++ codes "\""
+
+-- what units cost, when they were bought, and under which label
+abbrev pub lot_text : (List ℕ → ℕ) → Lot → List ℕ
+lot_text display lot =
+    codes " {" ++ units_text display lot.cost.count 8 lot.cost.currency ++ codes ", " ++ day_text lot.day
+    ++ label_text lot.label ++ codes "}"
+
+-- units, and the lot that they are held as
+abbrev pub held_text : (List ℕ → ℕ) → List ℕ → Option Lot → List ℕ
+held_text display units None = units
+held_text display units (Some lot) = units ++ lot_text display lot
+
+-- the counts of positions and costs are of 10^-8
+abbrev pub position_text : (List ℕ → ℕ) → Position → List ℕ
+position_text display p = held_text display (units_text display p.count 8 p.key.currency) p.key.lot
+
+-- a number has the fewest decimals that are exact, and amounts, units and costs at least those that
+-- their currency shows
 abbrev pub cell_text : (List ℕ → ℕ) → Cell → List ℕ
 cell_text display Null = []
 cell_text display (Number n) = number_text n.count n.places 0
@@ -45,4 +68,4 @@ cell_text display (Text t) = clean_text t
 cell_text display (Day d) = day_text d
 cell_text display (Set texts) = set_text texts
 cell_text display (Amount n currency) = units_text display n.count n.places currency
-cell_text display (Position p) = units_text display p.count 8 p.currency
+cell_text display (cell.Position p) = position_text display p

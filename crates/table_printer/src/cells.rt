@@ -1,5 +1,5 @@
 //! The texts of cells, and how wide they are.
-ghost use Rattle.std.specs.Prelude.{◌≡◌, ◌≤◌, ◌++◌, OnOk, IfOk, map};
+ghost use Rattle.std.specs.Prelude.{◌≡◌, ◌≤◌, ◌++◌, OnOk, IfOk, true};
 ghost use Rattle.std.specs.Int.{is_in_range};
 ghost use Rattle.std.specs.List.{list_all};
 ghost use Rattle.std.specs.String.{string_bytes};
@@ -9,8 +9,9 @@ ghost use Rattle.table_printer.specs.Table.{text_width};
 ghost use Rattle.table_printer.specs.CellText.{cell_text, clean_text, is_number, separator, set_text, shown_character, units_text};
 
 use crate::digits::{push_day, push_number};
-use bean_base::Currency;
-use posting_table::{Cell, Decimal, Display, TextSet};
+use crate::positions::{position_width, push_position};
+use bean_base::{Currency, Decimal};
+use posting_table::{Cell, Display, TextSet};
 use std::alloc::{AllocError, Global};
 use unicode_width::UnicodeWidthStr;
 
@@ -18,15 +19,18 @@ use unicode_width::UnicodeWidthStr;
 #[derive(Drop)]
 pub(crate) struct Scratch {
     /// A text without control characters.
-    clean: String,
+    pub clean: String,
+    /// What a text with escapes stands for.
+    pub read: String,
     /// A text that is only measured.
-    measured: Vec<u8>,
+    pub measured: Vec<u8>,
 }
 
 impl Scratch {
     pub(crate) fn new(alloc: Global) -> Scratch {
         Scratch {
             clean: String::new(alloc),
+            read: String::new(alloc),
             measured: Vec::new(alloc),
         }
     }
@@ -54,7 +58,7 @@ fn is_printable(text: &str) -> bool
 }
 
 /// Adds a text with spaces in place of its control characters.
-fn add_clean(clean: &mut String, text: &str) -> Result<(), AllocError>
+pub(crate) fn add_clean(clean: &mut String, text: &str) -> Result<(), AllocError>
     ensures { OnOk result (string_bytes clean.new ≡ string_bytes clean.old ++ clean_text text.now) }
 {
     for c in text.chars() {
@@ -152,7 +156,7 @@ fn push_exact(out: &mut Vec<u8>, number: Decimal) -> Result<usize, AllocError>
 }
 
 /// Adds the number `count` · `10^-places` and a currency, and tells their width.
-fn push_units(
+pub(crate) fn push_units(
     out: &mut Vec<u8>,
     count: i128,
     places: u8,
@@ -164,6 +168,8 @@ fn push_units(
         ++ units_text (decimals_of display.now) count places currency.now) }
     ensures width { IfOk result (λ n. n
         ≡ text_width (units_text (decimals_of display.now) count places currency.now)) }
+    ensures printable { IfOk result (λ _. list_all (is_in_range 32 126)
+        (units_text (decimals_of display.now) count places currency.now) ≡ true) }
 {
     let start = out.len();
     push_number(out, count, places, display.places(currency))?;
@@ -174,9 +180,6 @@ fn push_units(
 
 /// How wide the text of a day is.
 const DAY_WIDTH: usize = 10;
-
-/// The decimals of a position's count.
-const POSITION_PLACES: u8 = 8;
 
 /// Adds the text of a cell, and tells how many columns of a terminal it takes.
 pub(crate) fn push_cell(
@@ -202,10 +205,7 @@ pub(crate) fn push_cell(
         Cell::Amount(number, currency) => {
             push_units(out, number.count, number.places, currency, display)
         }
-        Cell::Position(position) => {
-            let position = position.get();
-            push_units(out, position.count, POSITION_PLACES, &position.currency, display)
-        }
+        Cell::Position(position) => push_position(out, position.get(), scratch, display),
     }
 }
 
@@ -219,19 +219,16 @@ pub(crate) fn cell_width(
         ≡ text_width (cell_text (decimals_of display.now) cell.now)) }
 {
     scratch.measured.clear();
-    let measured = &mut scratch.measured;
     match cell {
         Cell::Null => Ok(0),
-        Cell::Number(number) => push_exact(measured, *number),
+        Cell::Number(number) => push_exact(&mut scratch.measured, *number),
         Cell::Text(text) => clean_width(text.text(), &mut scratch.clean),
         Cell::Day(_) => Ok(DAY_WIDTH),
         Cell::Set(set) => set_width(set.get(), &mut scratch.clean),
         Cell::Amount(number, currency) => {
+            let measured = &mut scratch.measured;
             push_units(measured, number.count, number.places, currency, display)
         }
-        Cell::Position(position) => {
-            let position = position.get();
-            push_units(measured, position.count, POSITION_PLACES, &position.currency, display)
-        }
+        Cell::Position(position) => position_width(position.get(), scratch, display),
     }
 }

@@ -8,6 +8,7 @@ mod digits;
 mod headings;
 mod lines;
 pub mod output;
+mod positions;
 mod rows;
 mod runs;
 pub mod short_writer;

@@ -26,3 +26,9 @@ returns-clause-width c =
     let sized = ap length (rw c.places.ensures at c.in_ok-push_number.ensures ∙ (λ k. c.args.out.now.items ++ number_text (to_z-of_z w128 c.args.count c.ranges.count k) c.args.places least)) in
     let named = ap length (c.as_bytes.ensures.value ∙ c.text.ensures.text) in
     omega (arith, wide, sized, named, length-append c.args.out.now.items number, length-append number (32 ∷ currency), c.in_ok-push.ensures.len, c.in_ok-extend_from_slice.ensures.len, c.len.ensures, c.len-start.ensures)
+
+pub returns-clause-printable : goal.returns-clause-printable
+returns-clause-printable c =
+    let currency = c.args.currency.now in
+    let least = decimals_of c.args.display.now currency in
+    printable_units (number_text c.args.count c.args.places least) currency (printable_number c.args.count c.args.places least (bounded c.args.count c.ranges.count)) c.text.ensures.is_currency
