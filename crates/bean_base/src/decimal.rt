@@ -2,6 +2,7 @@
 //! files.
 ghost use Rattle.std.specs.Prelude.{◌≡◌, ◌≤◌, ◌<◌, ◌^◌};
 ghost use Rattle.std.specs.Int.RustNames.{unsigned_abs};
+ghost use Rattle.bean_base.specs.WideCount.{is_wide};
 
 use crate::num::Num;
 
@@ -14,7 +15,26 @@ pub struct Decimal {
     ghost in_range: { unsigned_abs count < 2 ^ 127 },
 }
 
+fn is_wide(count: i128, places: u8) -> bool
+    ensures { result ≡ is_wide places count }
+{
+    places <= 32 && count != i128::MIN
+}
+
 impl Decimal {
+    ghost use Rattle.bean_base.specs.Wide.{decimal_of};
+
+    /// The number of that count and places, where it is one.
+    pub fn new(count: i128, places: u8) -> Option<Decimal>
+        ensures { result ≡ decimal_of places count }
+    {
+        if is_wide(count, places) {
+            Some(Decimal { count, places })
+        } else {
+            None
+        }
+    }
+
     /// A number of the ledger.
     pub fn of_num(number: Num) -> Decimal
         ensures count { result.count ≡ number.count }

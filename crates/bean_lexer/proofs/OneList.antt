@@ -220,6 +220,13 @@ of_sign_spelling : (sign : Sign) → kind_of (sign_spelling sign) ≡ Some (kind
 of_sign_spelling signs.Star = refl
 of_sign_spelling _ = refl
 
+-- words, and signs, that are spelled alike are the same
+pub one_keyword : (word other : Keyword) → keyword_spelling word ≡ keyword_spelling other → word ≡ other
+one_keyword word other e = let a = of_spelling word in let b = of_spelling other in let same = ap kind_of e in cc
+
+pub one_sign : (sign other : Sign) → sign_spelling sign ≡ sign_spelling other → sign ≡ other
+one_sign sign other e = let a = of_sign_spelling sign in let b = of_sign_spelling other in let same = ap kind_of e in cc
+
 is_only : (kind : Kind) (xs : List ℕ) → is_of kind xs ≡ true → kind_of xs ≡ Some kind
 is_only kinds.Day xs h = of_day xs h
 is_only kinds.Number xs h = of_number xs h

@@ -1,73 +1,95 @@
 -- A block has at most one tree.
 use Rattle.std.proofs.Common.{◌≡◌, ℕ, List, [], ◌∷◌, refl, sym, ◌∙◌, ap}
-use Rattle.grammar_forms.specs.Forms.{Is, IsUnambiguous, word, both, optional, behind}
-use Rattle.grammar_forms.proofs.Unambiguous.{one_word, one_behind, one_mapped, one_both, one_optional, one_either, one_value}
-use Rattle.bean_lexer.specs.declared.kind.Keyword.TheVariants as keywords
-use Rattle.bean_parser.specs.Blocks.{Line, lines}
-use Rattle.bean_parser.specs.Lexemes.{TokenValue, Lexeme, day, number, text, account, currency, keyword, flag_word, flag_of, plus_or_minus, begins_with_text, begins_with_sign, begins_with_open}
-use Rattle.bean_parser.specs.Grammar.{never, texts, opening, transacting, openings, flags, transactings, kinds, heads, is_minus, signs, units, written_of, postings, Head, Written, ArePostings, Tree, HaveTree, HasTree}
-use Rattle.bean_parser.proofs.Forms.{exact_day, exact_number, exact_text, exact_account, exact_currency, exact_flag, exact_sign, tells_text, tells_texts, tells_sign, tells_opening, transacting_avoids, second_follows, texts_follow, kinds_end, kinds_follow, currency_follows, number_follows, units_follow}
+use Rattle.theory.specs.Form.{Is, IsUnambiguous, word, made, ◌<+>◌, behind, due, either, related, pair}
+use Rattle.theory.proofs.OneReading.{one_word, one_made, one_applied, one_behind, one_due, one_either, one_related, one_value}
+use Rattle.bean_base.specs.declared.days.Day as days
+use Rattle.bean_lexer.specs.declared.kind.Keyword.TheVariants as keyword
+use Rattle.bean_lexer.specs.declared.token.Token.{Token}
+use Rattle.bean_parser.specs.declared.directive.DirectiveKind.{DirectiveKind}
+use Rattle.bean_parser.specs.declared.directive.Posting.{Posting}
+use Rattle.bean_parser.specs.declared.ranged.Ranged.{Ranged}
+use Rattle.bean_parser.specs.Block.{Line, lines}
+use Rattle.bean_parser.specs.Lexeme.{Lexeme, Day, Number, Text, Account, Currency, Keyword, flag_word, flag_of, plus_or_minus, begins_with_text, begins_with_keyword, begins_with_plus_or_minus}
+use Rattle.bean_parser.specs.Grammar.{IsDay, day, text_of, text, exact_of, IsNumber, exact, number, amount_of, amount, words_of, words, flag, transaction_of, transaction, opening_of, opening, kind, head, posting_of, posting, ArePostings, Tree, HaveTree, HasTree}
+use Rattle.bean_parser.proofs.LexemeFacts.{exact_day, exact_number, exact_text, exact_account, exact_currency, exact_flag, exact_plus_or_minus}
+use Rattle.bean_parser.proofs.RangeFacts.{one_day, one_number}
+use Rattle.bean_parser.proofs.GrammarFacts.{text_told, sign_told, opening_told, transaction_avoids}
 
-one_text : IsUnambiguous (word text)
-one_text = one_word text exact_text
+one_written_day : IsUnambiguous day
+one_written_day = one_related IsDay (word Day) one_day (one_word Day exact_day)
 
-one_texts : IsUnambiguous texts
-one_texts =
-    one_optional begins_with_text (both begins_with_text (word text) (optional begins_with_text (word text))) tells_texts
-    (one_both begins_with_text (word text) (optional begins_with_text (word text)) second_follows one_text (one_optional begins_with_text (word text) tells_text one_text))
+one_text : IsUnambiguous text
+one_text = one_applied (made text_of) (word Text) (λ ls v rest p e f. refl) (one_made text_of) (one_word Text exact_text)
 
-one_opening : IsUnambiguous openings
-one_opening = one_mapped opening (behind (keyword keywords.Open) (word account)) (one_behind (keyword keywords.Open) (word account) (one_word account exact_account))
+one_text_due : IsUnambiguous (due begins_with_text text)
+one_text_due = one_due begins_with_text text text_told one_text
 
-one_transacting : IsUnambiguous transactings
-one_transacting =
-    one_mapped transacting (both begins_with_text flags texts)
-    (one_both begins_with_text flags texts texts_follow (one_mapped flag_of (word flag_word) (one_word flag_word exact_flag)) one_texts)
+one_words : IsUnambiguous words
+one_words =
+    one_applied (made words_of <+> due begins_with_text text) (due begins_with_text text) (λ ls v rest p e f. refl)
+    (one_applied (made words_of) (due begins_with_text text) (λ ls v rest p e f. refl) (one_made words_of) one_text_due) one_text_due
 
-pub one_head : IsUnambiguous heads
+one_flag : IsUnambiguous flag
+one_flag = one_applied (made flag_of) (word flag_word) (λ ls v rest p e f. refl) (one_made flag_of) (one_word flag_word exact_flag)
+
+one_transaction : IsUnambiguous transaction
+one_transaction =
+    one_applied (made transaction_of <+> flag) words (λ ls v rest p e f. refl)
+    (one_applied (made transaction_of) flag (λ ls v rest p e f. refl) (one_made transaction_of) one_flag) one_words
+
+one_opening : IsUnambiguous opening
+one_opening =
+    one_applied (made opening_of) (behind (Keyword keyword.Open) (word Account)) (λ ls v rest p e f. refl) (one_made opening_of)
+    (one_behind (Keyword keyword.Open) (word Account) (one_word Account exact_account))
+
+one_kind : IsUnambiguous kind
+one_kind = one_either (begins_with_keyword keyword.Open) opening transaction opening_told transaction_avoids one_opening one_transaction
+
+one_head : IsUnambiguous head
 one_head =
-    one_both begins_with_text (word day) kinds kinds_follow (one_word day exact_day)
-    (one_either begins_with_open begins_with_text openings transactings kinds_end tells_opening transacting_avoids one_opening one_transacting)
+    one_applied (made pair <+> day) kind (λ ls v rest p e f. refl)
+    (one_applied (made pair) day (λ ls v rest p e f. refl) (one_made pair) one_written_day) one_kind
 
-one_sign : IsUnambiguous signs
-one_sign = one_mapped is_minus (optional begins_with_sign (word plus_or_minus)) (one_optional begins_with_sign (word plus_or_minus) tells_sign (one_word plus_or_minus exact_sign))
+one_exact : IsUnambiguous exact
+one_exact =
+    one_applied (made exact_of <+> due begins_with_plus_or_minus (word plus_or_minus)) (word Number) (λ ls v rest p e f. refl)
+    (one_applied (made exact_of) (due begins_with_plus_or_minus (word plus_or_minus)) (λ ls v rest p e f. refl) (one_made exact_of)
+    (one_due begins_with_plus_or_minus (word plus_or_minus) sign_told (one_word plus_or_minus exact_plus_or_minus))) (one_word Number exact_number)
 
-pub one_posting : IsUnambiguous postings
-one_posting =
-    one_mapped written_of (both never (word account) units)
-    (one_both never (word account) units units_follow (one_word account exact_account)
-    (one_both never signs (both never (word number) (word currency)) number_follows one_sign
-    (one_both never (word number) (word currency) currency_follows (one_word number exact_number) (one_word currency exact_currency))))
+one_amount : IsUnambiguous amount
+one_amount =
+    one_applied (made amount_of <+> number) (word Currency) (λ ls v rest p e f. refl)
+    (one_applied (made amount_of) number (λ ls v rest p e f. refl) (one_made amount_of) (one_related IsNumber exact one_number one_exact)) (one_word Currency exact_currency)
 
-pub same_head : (lexemes : List Lexeme) (v w : List ℕ × Head) → Is heads lexemes v → Is heads lexemes w → v ≡ w
-same_head lexemes v w p q = one_value heads lexemes v w one_head refl p q
+one_posting : (line : ℕ) → IsUnambiguous (posting line)
+one_posting line =
+    one_applied (made (posting_of line) <+> word Account) amount (λ ls v rest p e f. refl)
+    (one_applied (made (posting_of line)) (word Account) (λ ls v rest p e f. refl) (one_made (posting_of line)) (one_word Account exact_account)) one_amount
 
-line_and : (p q : ℕ × Written) → p.0 ≡ q.0 → p.1 ≡ q.1 → p ≡ q
-line_and p q e f = ap (λ x. (x, p.1)) e ∙ ap (λ y. (q.0, y)) f
+pub same_head : (ls : List Lexeme) (v w : Ranged days.Day × DirectiveKind) → Is head ls v → Is head ls w → v ≡ w
+same_head ls v w p q = one_value head ls v w one_head refl p q
 
-same_postings : (ls : List Line) (ps qs : List (ℕ × Written)) → ArePostings ls ps → ArePostings ls qs → ps ≡ qs
+same_postings : (ls : List Line) (ps qs : List (Ranged Posting)) → ArePostings ls ps → ArePostings ls qs → ps ≡ qs
 same_postings [] ps qs h k = h ∙ sym k
 same_postings (l ∷ ls) [] qs h k = absurd h
 same_postings (l ∷ ls) (p ∷ ps) [] h k = absurd k
 same_postings (l ∷ ls) (p ∷ ps) (q ∷ qs) h k =
-    let first : p ≡ q = line_and p q (h.0 ∙ sym k.0) (one_value postings l.lexemes p.1 q.1 one_posting refl h.1 k.1) in
-    ap (λ x. x ∷ ps) first ∙ ap (λ xs. q ∷ xs) (same_postings ls ps qs h.2 k.2)
+    let first = one_value (posting l.number) l.lexemes p q (one_posting l.number) refl h.0 k.0 in
+    let others = same_postings ls ps qs h.1 k.1 in
+    (λ i. first i ∷ others i)
 
-first_of : Tree → List ℕ × Head
-first_of t = (t.day, t.head)
+first_of : Tree → Ranged days.Day × DirectiveKind
+first_of t = (t.day, t.kind)
 
-same_tree : (t u : Tree) → t.line ≡ u.line → first_of t ≡ first_of u → t.under ≡ u.under → t ≡ u
+same_tree : (t u : Tree) → t.line ≡ u.line → first_of t ≡ first_of u → t.postings ≡ u.postings → t ≡ u
 unfolding first_of
-same_tree t u line head under =
-    ap (λ x. record t { line = x }) line
-    ∙ (ap (λ (p : List ℕ × Head). record u { day = p.0; head = p.1; under = t.under }) head
-    ∙ ap (λ x. record u { under = x }) under)
+same_tree t u line first postings = λ i. record { line = line i; day = (first i).0; kind = (first i).1; postings = postings i }
 
 have_one : (ls : List Line) (t u : Tree) → HaveTree ls t → HaveTree ls u → t ≡ u
 unfolding first_of
 have_one [] t u h k = absurd h
 have_one (l ∷ ls) t u h k =
-    same_tree t u (h.0 ∙ sym k.0) (same_head l.lexemes (t.day, t.head) (u.day, u.head) h.1 k.1) (same_postings ls t.under u.under h.2 k.2)
+    same_tree t u (h.0 ∙ sym k.0) (same_head l.lexemes (t.day, t.kind) (u.day, u.kind) h.1 k.1) (same_postings ls t.postings u.postings h.2 k.2)
 
-pub one_tree : (block : List TokenValue) (t u : Tree) → HasTree block t → HasTree block u → t ≡ u
+pub one_tree : (block : List Token) (t u : Tree) → HasTree block t → HasTree block u → t ≡ u
 one_tree block t u h k = have_one (lines block) t u h.1 k.1

@@ -1,113 +1,127 @@
 //! What stands at the front of a list of tokens, and what stands behind it.
-ghost use Rattle.std.specs.Prelude.{◌≡◌, [], ◌∷◌, false, MatchOption};
-ghost use Rattle.grammar_forms.specs.Forms.{Reads};
-ghost use Rattle.bean_parser.specs.Grammar.{flags};
-ghost use Rattle.bean_parser.specs.Lexemes.{token_value, seen, lexeme_of, lexemes, day, number, text, account, currency, keyword, begins_with_day, begins_with_number, begins_with_text, begins_with_account, begins_with_currency, begins_with_open, begins_with_flag, begins_with_sign, plus_or_minus};
-ghost use Rattle.bean_lexer.specs.declared.kind.Keyword.TheVariants.{Open};
+ghost use Rattle.std.specs.Prelude.{◌≡◌, ◌<◌, [], ◌∷◌, false, length, IsTrue, MatchOption, IfSome};
+ghost use Rattle.bean_base.specs.Day.{is_day_form};
+ghost use Rattle.bean_base.specs.Numeral.{is_number};
+ghost use Rattle.bean_lexer.specs.TokenForm.{is_text};
+ghost use Rattle.bean_parser.specs.Lexeme as lexeme;
+ghost use Rattle.bean_parser.specs.Lexeme.{lexeme_of, lexemes, flag_word, plus_or_minus};
+ghost use Rattle.bean_parser.specs.Lexeme.{begins_with_day, begins_with_number, begins_with_text};
+ghost use Rattle.bean_parser.specs.Lexeme.{begins_with_account, begins_with_currency};
+ghost use Rattle.bean_parser.specs.Lexeme.{begins_with_keyword, begins_with_sign};
+ghost use Rattle.bean_parser.specs.Lexeme.{begins_with_flag, begins_with_plus_or_minus};
 
-use crate::directive::{Flag, Text};
-use bean_base::names::{Account, Currency};
-use bean_lexer::kind::{Keyword, Kind, Sign};
-use bean_lexer::token::Token;
+use bean_base::{Account, Currency};
+use bean_lexer::{Keyword, Kind, Sign, Token};
 
 /// The first token, and what stands behind it.
-pub fn next<'t, 'a>(tokens: &'t [Token<'a>]) -> Option<(Token<'a>, &'t [Token<'a>])>
-    ensures { MatchOption result (lexemes (seen tokens.now) ≡ [])
-        (λ r. lexemes (seen tokens.now) ≡ lexeme_of (token_value r.0) ∷ lexemes (seen r.1.now)) }
+pub fn next<'t, 'a>(tokens: &'t [Token<'a>]) -> Option<(&'t Token<'a>, &'t [Token<'a>])>
+    ensures front { MatchOption result (lexemes tokens.now ≡ [])
+        (λ r. lexemes tokens.now ≡ lexeme_of r.0.now ∷ lexemes r.1.now) }
+    ensures shorter { IfSome result (λ r. length r.1.now < length tokens.now) }
 {
     let (first, rest) = tokens.split_first()?;
-    Some((*first, rest))
+    Some((first, rest))
+}
+
+/// What stands behind a word at the front.
+pub fn after_keyword<'t, 'a>(tokens: &'t [Token<'a>], word: Keyword) -> Option<&'t [Token<'a>]>
+    ensures front { MatchOption result (begins_with_keyword word (lexemes tokens.now) ≡ false)
+        (λ r. lexemes tokens.now ≡ lexeme.Keyword word ∷ lexemes r.now) }
+    ensures shorter { IfSome result (λ r. length r.now < length tokens.now) }
+{
+    let (token, rest) = next(tokens)?;
+    match token.kind {
+        Kind::Keyword(found) if found == word => Some(rest),
+        _ => None,
+    }
+}
+
+/// What stands behind a sign at the front.
+pub fn after_sign<'t, 'a>(tokens: &'t [Token<'a>], mark: Sign) -> Option<&'t [Token<'a>]>
+    ensures front { MatchOption result (begins_with_sign mark (lexemes tokens.now) ≡ false)
+        (λ r. lexemes tokens.now ≡ lexeme.Sign mark ∷ lexemes r.now) }
+    ensures shorter { IfSome result (λ r. length r.now < length tokens.now) }
+{
+    let (token, rest) = next(tokens)?;
+    match token.kind {
+        Kind::Sign(found) if found == mark => Some(rest),
+        _ => None,
+    }
 }
 
 /// The day at the front, as it is written, and what stands behind it.
 pub fn after_day<'t, 'a>(tokens: &'t [Token<'a>]) -> Option<(&'a str, &'t [Token<'a>])>
-    ensures { MatchOption result (begins_with_day (lexemes (seen tokens.now)) ≡ false)
-        (λ r. lexemes (seen tokens.now) ≡ day r.0.now ∷ lexemes (seen r.1.now)) }
+    ensures front { MatchOption result (begins_with_day (lexemes tokens.now) ≡ false)
+        (λ r. lexemes tokens.now ≡ lexeme.Day r.0.now ∷ lexemes r.1.now) }
+    ensures form { IfSome result (λ r. IsTrue (is_day_form r.0.now)) }
+    ensures shorter { IfSome result (λ r. length r.1.now < length tokens.now) }
 {
     let (token, rest) = next(tokens)?;
     match token.kind {
-        Kind::Day => Some((token.text, rest)),
+        Kind::Day => Some((token.text.text(), rest)),
         _ => None,
     }
 }
 
 /// The number at the front, as it is written, and what stands behind it.
 pub fn after_number<'t, 'a>(tokens: &'t [Token<'a>]) -> Option<(&'a str, &'t [Token<'a>])>
-    ensures { MatchOption result (begins_with_number (lexemes (seen tokens.now)) ≡ false)
-        (λ r. lexemes (seen tokens.now) ≡ number r.0.now ∷ lexemes (seen r.1.now)) }
+    ensures front { MatchOption result (begins_with_number (lexemes tokens.now) ≡ false)
+        (λ r. lexemes tokens.now ≡ lexeme.Number r.0.now ∷ lexemes r.1.now) }
+    ensures form { IfSome result (λ r. IsTrue (is_number r.0.now)) }
+    ensures shorter { IfSome result (λ r. length r.1.now < length tokens.now) }
 {
     let (token, rest) = next(tokens)?;
     match token.kind {
-        Kind::Number => Some((token.text, rest)),
+        Kind::Number => Some((token.text.text(), rest)),
         _ => None,
     }
 }
 
-/// The text at the front, and what stands behind it.
-pub fn after_text<'t, 'a>(tokens: &'t [Token<'a>]) -> Option<(Text<'a>, &'t [Token<'a>])>
-    ensures { MatchOption result (begins_with_text (lexemes (seen tokens.now)) ≡ false)
-        (λ r. lexemes (seen tokens.now) ≡ text r.0.quoted.now ∷ lexemes (seen r.1.now)) }
+/// The text at the front, as it is written, and what stands behind it.
+pub fn after_text<'t, 'a>(tokens: &'t [Token<'a>]) -> Option<(&'a str, &'t [Token<'a>])>
+    ensures front { MatchOption result (begins_with_text (lexemes tokens.now) ≡ false)
+        (λ r. lexemes tokens.now ≡ lexeme.Text r.0.now ∷ lexemes r.1.now) }
+    ensures form { IfSome result (λ r. IsTrue (is_text r.0.now)) }
+    ensures shorter { IfSome result (λ r. length r.1.now < length tokens.now) }
 {
     let (token, rest) = next(tokens)?;
     match token.kind {
-        Kind::Text => Some((Text { quoted: token.text }, rest)),
+        Kind::Text => Some((token.text.text(), rest)),
         _ => None,
     }
 }
 
 /// The account at the front, and what stands behind it.
 pub fn after_account<'t, 'a>(tokens: &'t [Token<'a>]) -> Option<(Account<'a>, &'t [Token<'a>])>
-    ensures { MatchOption result (begins_with_account (lexemes (seen tokens.now)) ≡ false)
-        (λ r. lexemes (seen tokens.now) ≡ account r.0.text.now ∷ lexemes (seen r.1.now)) }
+    ensures front { MatchOption result (begins_with_account (lexemes tokens.now) ≡ false)
+        (λ r. lexemes tokens.now ≡ lexeme.Account r.0 ∷ lexemes r.1.now) }
+    ensures shorter { IfSome result (λ r. length r.1.now < length tokens.now) }
 {
     let (token, rest) = next(tokens)?;
     match token.kind {
-        Kind::Account => Some((Account { text: token.text }, rest)),
+        Kind::Account => Some((Account::new(token.text.text()), rest)),
         _ => None,
     }
 }
 
 /// The currency at the front, and what stands behind it.
 pub fn after_currency<'t, 'a>(tokens: &'t [Token<'a>]) -> Option<(Currency<'a>, &'t [Token<'a>])>
-    ensures { MatchOption result (begins_with_currency (lexemes (seen tokens.now)) ≡ false)
-        (λ r. lexemes (seen tokens.now) ≡ currency r.0.text.now ∷ lexemes (seen r.1.now)) }
+    ensures front { MatchOption result (begins_with_currency (lexemes tokens.now) ≡ false)
+        (λ r. lexemes tokens.now ≡ lexeme.Currency r.0 ∷ lexemes r.1.now) }
+    ensures shorter { IfSome result (λ r. length r.1.now < length tokens.now) }
 {
     let (token, rest) = next(tokens)?;
     match token.kind {
-        Kind::Currency => Some((Currency { text: token.text }, rest)),
+        Kind::Currency => Some((Currency::new(token.text.text()), rest)),
         _ => None,
     }
 }
 
-/// What stands behind the word `open` at the front.
-pub fn after_open<'t, 'a>(tokens: &'t [Token<'a>]) -> Option<&'t [Token<'a>]>
-    ensures { MatchOption result (begins_with_open (lexemes (seen tokens.now)) ≡ false)
-        (λ r. lexemes (seen tokens.now) ≡ keyword Open ∷ lexemes (seen r.now)) }
-{
-    let (token, rest) = next(tokens)?;
-    match token.kind {
-        Kind::Keyword(Keyword::Open) => Some(rest),
-        _ => None,
-    }
-}
-
-/// The flag at the front, and what stands behind it.
-pub fn after_flag<'t, 'a>(tokens: &'t [Token<'a>]) -> Option<(Flag, &'t [Token<'a>])>
-    ensures { MatchOption result (begins_with_flag (lexemes (seen tokens.now)) ≡ false)
-        (λ r. Reads flags (lexemes (seen tokens.now)) r.0 (lexemes (seen r.1.now))) }
-{
-    let (token, rest) = next(tokens)?;
-    match token.kind {
-        Kind::Sign(Sign::Star) | Kind::Keyword(Keyword::Txn) => Some((Flag::Complete, rest)),
-        Kind::Sign(Sign::Bang) => Some((Flag::Incomplete, rest)),
-        _ => None,
-    }
-}
-
-/// Whether a sign at the front is a minus, and what stands behind it.
-pub fn after_sign<'t, 'a>(tokens: &'t [Token<'a>]) -> Option<(bool, &'t [Token<'a>])>
-    ensures { MatchOption result (begins_with_sign (lexemes (seen tokens.now)) ≡ false)
-        (λ r. lexemes (seen tokens.now) ≡ plus_or_minus r.0 ∷ lexemes (seen r.1.now)) }
+/// Whether a sign of a number at the front is a minus, and what stands behind it.
+pub fn after_plus_or_minus<'t, 'a>(tokens: &'t [Token<'a>]) -> Option<(bool, &'t [Token<'a>])>
+    ensures front { MatchOption result (begins_with_plus_or_minus (lexemes tokens.now) ≡ false)
+        (λ r. lexemes tokens.now ≡ plus_or_minus r.0 ∷ lexemes r.1.now) }
+    ensures shorter { IfSome result (λ r. length r.1.now < length tokens.now) }
 {
     let (token, rest) = next(tokens)?;
     match token.kind {

@@ -6,5 +6,8 @@ pub mod directive;
 mod front;
 pub mod grammar;
 mod line;
+mod number;
 pub mod parse;
+mod part;
+pub mod ranged;
 mod reader;

@@ -1,140 +1,142 @@
 //! Lines, read whole: the first of a block, and a posting under it.
-ghost use Rattle.std.specs.Prelude.{◌≡◌, MatchOption};
-ghost use Rattle.grammar_forms.specs.Forms.{Reads, HasNone, Is, IsNone, word, optional};
-ghost use Rattle.bean_parser.specs.Lexemes.{seen, lexemes, text, begins_with_text};
-ghost use Rattle.bean_parser.specs.Grammar.{texts, kinds, heads, signs, postings};
-ghost use Rattle.bean_parser.specs.Values.{text_value};
-ghost use Rattle.bean_parser.specs.Lines.{texts_of, head_of, written_value};
-ghost use Rattle.bean_parser.specs.Directives.{IsLedgerNumber, signed};
-ghost use Rattle.bean_base.specs.Numeral.{count_of, places_of};
+ghost use Rattle.std.specs.Prelude.{◌≡◌, false, MatchOption};
+ghost use Rattle.theory.specs.Form.{Reads, HasNone, Is, IsNone};
+ghost use Rattle.bean_parser.specs.Lexeme.{lexemes, begins_with_flag};
+ghost use Rattle.bean_parser.specs.Block as spec;
+ghost use Rattle.bean_parser.specs.Grammar as rule;
 
-use crate::directive::{Flag, Text};
-use crate::front::{
-    after_account, after_currency, after_day, after_flag, after_number, after_open, after_sign,
-    after_text, next,
-};
-use bean_base::names::{Account, Currency};
-use bean_base::num::Num;
-use bean_lexer::token::Token;
+use crate::directive::{DirectiveKind, Open, Posting, Transaction};
+use crate::front::{after_account, after_keyword, next};
+use crate::number::{amount, day, text_if_due};
+use crate::part::first_line;
+use crate::ranged::Ranged;
+use bean_base::{Account, Amount, Day, Flag, List, Text};
+use bean_lexer::{Keyword, Kind, Sign, Token};
+use std::alloc::Global;
 
-/// Up to two texts: one, or one and another behind it.
-pub type Texts<'a> = Option<(Text<'a>, Option<Text<'a>>)>;
-
-/// What a block is, by its first line.
-#[derive(Clone, Copy)]
-pub enum Head<'a> {
-    Open(Account<'a>),
-    Transaction(Flag, Texts<'a>),
+/// The payee and the narration of a transaction.
+#[derive(Drop)]
+pub struct PayeeAndNarration<'a> {
+    pub payee: Option<Text<'a>>,
+    pub narration: Text<'a>,
 }
 
-/// A posting as it is written.
-#[derive(Clone, Copy)]
-pub struct WrittenPosting<'a> {
-    pub account: Account<'a>,
-    pub number: &'a str,
-    pub currency: Currency<'a>,
-    pub is_minus: bool,
-}
-
-fn second_text<'t, 'a>(tokens: &'t [Token<'a>]) -> (Option<Text<'a>>, &'t [Token<'a>])
-    ensures { Reads (optional begins_with_text (word text)) (lexemes (seen tokens.now))
-        (text_value result.0) (lexemes (seen result.1.now)) }
+/// Of two texts the first is the payee, and the last text is the narration.
+fn words_of<'a>(first: Option<Text<'a>>, second: Option<Text<'a>>) -> PayeeAndNarration<'a>
+    ensures { result ≡ rule.words_of first.entry second.entry }
 {
-    match after_text(tokens) {
-        Some((text, rest)) => (Some(text), rest),
-        None => (None, tokens),
+    match (first, second) {
+        (Some(payee), Some(narration)) => PayeeAndNarration {
+            payee: Some(payee),
+            narration,
+        },
+        (Some(narration), None) => PayeeAndNarration {
+            payee: None,
+            narration,
+        },
+        (None, _) => PayeeAndNarration {
+            payee: None,
+            narration: Text::empty(),
+        },
     }
 }
 
-fn read_texts<'t, 'a>(tokens: &'t [Token<'a>]) -> (Texts<'a>, &'t [Token<'a>])
-    ensures { Reads texts (lexemes (seen tokens.now))
-        (texts_of result.0) (lexemes (seen result.1.now)) }
+/// Up to two texts at the front, and what stands behind them.
+fn words<'t, 'a>(tokens: &'t [Token<'a>]) -> (PayeeAndNarration<'a>, &'t [Token<'a>])
+    ensures { Reads rule.words (lexemes tokens.now) result.0 (lexemes result.1.now) }
 {
-    match after_text(tokens) {
-        Some((first, rest)) => {
-            let (second, rest) = second_text(rest);
-            (Some((first, second)), rest)
-        }
-        None => (None, tokens),
+    let (first, rest) = text_if_due(tokens);
+    let (second, rest) = text_if_due(rest);
+    (words_of(first, second), rest)
+}
+
+/// The flag at the front, and what stands behind it.
+fn flag<'t, 'a>(tokens: &'t [Token<'a>]) -> Option<(Flag, &'t [Token<'a>])>
+    ensures { MatchOption result (begins_with_flag (lexemes tokens.now) ≡ false)
+        (λ r. Reads rule.flag (lexemes tokens.now) r.0 (lexemes r.1.now)) }
+{
+    let (token, rest) = next(tokens)?;
+    match token.kind {
+        Kind::Sign(Sign::Star) | Kind::Keyword(Keyword::Txn) => Some((Flag::Complete, rest)),
+        Kind::Sign(Sign::Bang) => Some((Flag::Incomplete, rest)),
+        _ => None,
     }
+}
+
+/// The first line of a transaction behind its day, and what stands behind it.
+fn transaction<'t, 'a>(
+    alloc: Global,
+    tokens: &'t [Token<'a>],
+) -> Option<(DirectiveKind<'a>, &'t [Token<'a>])>
+    ensures { MatchOption result (HasNone rule.transaction (lexemes tokens.now))
+        (λ r. Reads rule.transaction (lexemes tokens.now) r.0 (lexemes r.1.now)) }
+{
+    let (flag, rest) = flag(tokens)?;
+    let (words, rest) = words(rest);
+    let transaction = Transaction {
+        flag,
+        payee: words.payee,
+        narration: words.narration,
+        postings: List::new(Vec::new(alloc)),
+    };
+    Some((DirectiveKind::Transaction(transaction), rest))
 }
 
 /// What stands behind the day of a first line.
-fn read_kind<'t, 'a>(tokens: &'t [Token<'a>]) -> Option<(Head<'a>, &'t [Token<'a>])>
-    ensures { MatchOption result (HasNone kinds (lexemes (seen tokens.now)))
-        (λ r. Reads kinds (lexemes (seen tokens.now)) (head_of r.0) (lexemes (seen r.1.now))) }
+fn kind<'t, 'a>(
+    alloc: Global,
+    tokens: &'t [Token<'a>],
+) -> Option<(DirectiveKind<'a>, &'t [Token<'a>])>
+    ensures { MatchOption result (HasNone rule.kind (lexemes tokens.now))
+        (λ r. Reads rule.kind (lexemes tokens.now) r.0 (lexemes r.1.now)) }
 {
-    if let Some(rest) = after_open(tokens) {
-        let (account, rest) = after_account(rest)?;
-        return Some((Head::Open(account), rest));
-    }
-    let (flag, rest) = after_flag(tokens)?;
-    let (texts, rest) = read_texts(rest);
-    Some((Head::Transaction(flag, texts), rest))
+    let Some(rest) = after_keyword(tokens, Keyword::Open) else {
+        return transaction(alloc, tokens);
+    };
+    let (account, rest) = after_account(rest)?;
+    Some((DirectiveKind::Open(Open { account }), rest))
 }
 
-/// The day, as it is written, and the kind of a block that has this first line.
-pub fn read_head<'a>(line: &[Token<'a>]) -> Option<(&'a str, Head<'a>)>
-    ensures { MatchOption result (IsNone heads (lexemes (seen line.now)))
-        (λ r. Is heads (lexemes (seen line.now)) (r.0.now, head_of r.1)) }
+/// The day and the kind of a block that has this first line.
+pub fn head<'a>(alloc: Global, line: &[Token<'a>]) -> Option<(Ranged<Day>, DirectiveKind<'a>)>
+    ensures { MatchOption result (IsNone rule.head (lexemes line.now))
+        (λ r. Is rule.head (lexemes line.now) r) }
 {
-    let (day, rest) = after_day(line)?;
-    let (head, rest) = read_kind(rest)?;
+    let (day, rest) = day(line)?;
+    let (kind, rest) = kind(alloc, rest)?;
     match next(rest) {
         Some(_) => None,
-        None => Some((day, head)),
+        None => Some((day, kind)),
     }
 }
 
-/// Whether there is a minus at the front, and what stands behind a sign.
-fn minus_if_any<'t, 'a>(tokens: &'t [Token<'a>]) -> (bool, &'t [Token<'a>])
-    ensures { Reads signs (lexemes (seen tokens.now)) result.0 (lexemes (seen result.1.now)) }
+fn posting_of<'a>(
+    line: usize,
+    account: Account<'a>,
+    units: Ranged<Amount<'a>>,
+) -> Ranged<Posting<'a>>
+    ensures { result ≡ rule.posting_of line account.entry units.entry }
 {
-    match after_sign(tokens) {
-        Some((is_minus, rest)) => (is_minus, rest),
-        None => (false, tokens),
+    match units {
+        Ranged::Within(units) => Ranged::Within(Posting {
+            account,
+            units,
+            line,
+        }),
+        Ranged::Outside => Ranged::Outside,
     }
 }
 
 /// The posting that a line is.
-pub fn read_posting<'a>(line: &[Token<'a>]) -> Option<WrittenPosting<'a>>
-    ensures { MatchOption result (IsNone postings (lexemes (seen line.now)))
-        (λ r. Is postings (lexemes (seen line.now)) (written_value r)) }
+pub fn posting<'a>(line: &[Token<'a>]) -> Option<Ranged<Posting<'a>>>
+    ensures { MatchOption result
+        (IsNone (rule.posting (spec.first_line line.now)) (lexemes line.now))
+        (Is (rule.posting (spec.first_line line.now)) (lexemes line.now)) }
 {
     let (account, rest) = after_account(line)?;
-    let (is_minus, rest) = minus_if_any(rest);
-    let (number, rest) = after_number(rest)?;
-    let (currency, rest) = after_currency(rest)?;
-    if let Some(_) = next(rest) {
-        return None;
-    }
-    Some(WrittenPosting {
-        account,
-        is_minus,
-        number,
-        currency,
-    })
-}
-
-impl WrittenPosting<'_> {
-    /// The number with its sign, where it is a number of a ledger.
-    pub fn signed_number(self) -> Option<Num>
-        ensures { MatchOption result (IsLedgerNumber self.entry.number.now → ⊥)
-            (λ n. IsLedgerNumber self.entry.number.now
-            × (n.count ≡ signed self.entry.is_minus (count_of self.entry.number.now))
-            × (n.places ≡ places_of self.entry.number.now)) }
-    {
-        let Ok(magnitude) = Num::parse(self.number) else {
-            return None;
-        };
-        let count = if self.is_minus {
-            -magnitude.count
-        } else {
-            magnitude.count
-        };
-        Some(Num {
-            count,
-            places: magnitude.places,
-        })
+    let (units, rest) = amount(rest)?;
+    match next(rest) {
+        Some(_) => None,
+        None => Some(posting_of(first_line(line), account, units)),
     }
 }

@@ -2,15 +2,14 @@
 ghost use Rattle.std.specs.Prelude.{List, ◌<◌, length, IfOk, IfSome, IsTrue};
 ghost use Rattle.bean_lexer.specs.declared.token.Token.{Token};
 ghost use Rattle.bean_lexer.specs.Tokens.{AreTokens};
-ghost use Rattle.bean_parser.specs.Reader.{ToRead, left_of, TakesBlock, TakesOthers};
+ghost use Rattle.bean_parser.specs.BlockReader.{ToRead, left_of, TakesBlock, TakesOthers};
 
-use crate::block::Part;
-use bean_lexer::lexer::Lexer;
-use bean_lexer::token::Token;
+use crate::part::Part;
+use bean_lexer::{Lexer, Token};
 use std::alloc::AllocError;
 
 /// Takes the blocks of a text off its tokens, one after the other.
-#[derive(Clone, Copy)]
+#[derive(Drop)]
 pub struct BlockReader<'a> {
     pub lexer: Lexer<'a>,
     /// The first token of the next block.
@@ -34,7 +33,7 @@ impl<'a> BlockReader<'a> {
         ensures shorter { IfOk result (λ some. IsTrue some → left_of self.new < left_of self.old) }
     {
         block.clear();
-        let Some(first) = self.first else {
+        let Some(first) = self.first.take() else {
             return Ok(false);
         };
         block.push(first)?;

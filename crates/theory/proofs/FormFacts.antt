@@ -1,6 +1,6 @@
 -- Laws of forms: what is read part by part is read as a whole.
 use Rattle.std.proofs.Common.{◌⊎◌, inl, inr, ◌≡◌, Bool, true, false, ◌||◌, List, [], ◌∷◌, Option, Some, None, refl, sym, ◌∙◌, ap, subst}
-use Rattle.theory.specs.Form.{Form, word, made, ◌<+>◌, behind, closed, checked, OptionRead, optional, DueRead, due, either, ending, Reads, HasNone, Is, IsNone}
+use Rattle.theory.specs.Form.{Form, word, made, ◌<+>◌, behind, closed, checked, related, OptionRead, optional, DueRead, due, either, ending, Reads, HasNone, Is, IsNone}
 
 -- different contents make different lexemes
 abbrev pub IsExact : {L V : Type 0} → (V → L) → Type 0
@@ -83,6 +83,15 @@ none_checked f a ls none w after p ends = none p.0 after p.1 ends
 
 pub not_checked : {L V W : Type 0} (f : V → Option W) (a : Form L V) (ls : List L) (v : V) (rest : List L) → Reads a ls v rest → f v ≡ None → HasNone (checked f a) ls
 not_checked f a ls v rest r at w after p ends = let o = r.only p.0 after p.1 ends in let e = ap f o.0 in cc (e, at, p.2)
+
+pub reads_related : {L V W : Type 0} (R : V → W → Type 0) (a : Form L V) (ls : List L) (v : V) (w : W) (rest : List L) → Reads a ls v rest → R v w → ((x : W) → R v x → w ≡ x) → Reads (related R a) ls w rest
+reads_related R a ls v w rest r is one = record {
+  read = (v, r.read, is);
+  only = λ x after p ends. let o = r.only p.0 after p.1 ends in (one x (subst (λ u. R u x) (sym o.0) p.2), o.1);
+}
+
+pub none_related : {L V W : Type 0} (R : V → W → Type 0) (a : Form L V) (ls : List L) → HasNone a ls → HasNone (related R a) ls
+none_related R a ls none w after p ends = none p.0 after p.1 ends
 
 -- the test tells what begins with the form, and what doesn't
 abbrev pub Tells : {L V : Type 0} → (List L → Bool) → Form L V → Type 0

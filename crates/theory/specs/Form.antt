@@ -41,6 +41,13 @@ checked {L} {V} f a = record {
   goes_on = a.goes_on;
 }
 
+-- the same, standing for what is related to it
+abbrev pub related : {L V W : Type 0} → (V → W → Type 0) → Form L V → Form L W
+related {L} {V} R a = record {
+  reads = λ ls w rest. (v : V) × a.reads ls v rest × R v w;
+  goes_on = a.goes_on;
+}
+
 abbrev pub OptionRead : {L V : Type 0} → Form L V → List L → Option V → List L → Type 0
 OptionRead a ls None rest = ls ≡ rest
 OptionRead a ls (Some v) rest = a.reads ls v rest

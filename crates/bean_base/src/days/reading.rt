@@ -3,6 +3,8 @@ ghost use Rattle.std.specs.Prelude.{◌≡◌, ◌<◌, ◌≤◌, ◌^◌, leng
 ghost use Rattle.std.specs.List.{list_all};
 ghost use Rattle.std.specs.Char.{is_ascii_digit};
 ghost use Rattle.std.specs.Str.Parse.{digits_value};
+ghost use Rattle.std.specs.Result.{result_ok};
+ghost use Rattle.bean_base.specs.CalendarDay.{day_of};
 ghost use Rattle.bean_base.specs.Day.{is_day_form, HasDay, ParsesDay};
 
 use crate::days::{Day, NotADay};
@@ -24,20 +26,29 @@ fn value_of(bytes: &[u8]) -> u16
     value
 }
 
+/// The day, as the calendar has it.
+fn calendar_day(year: u16, month: u8, day: u8) -> Result<Day, NotADay>
+    ensures { HasDay result year month day }
+{
+    if year == 0 || year > 9999 || month > 12 || day > 31 {
+        return Err(NotADay);
+    }
+    match Date::new(year as i16, month as i8, day as i8) {
+        Ok(date) => Ok(Day {
+            date: date.to_plain(),
+        }),
+        Err(_) => Err(NotADay),
+    }
+}
+
 impl Day {
     /// The day of that number in its month and year, where the calendar has it.
+    #[tactic(auto, using(crate::proofs::DayFacts::is_day_of))]
     pub fn new(year: u16, month: u8, day: u8) -> Result<Day, NotADay>
-        ensures { HasDay result year month day }
+        ensures has { HasDay result year month day }
+        ensures is { result_ok result ≡ day_of year month day }
     {
-        if year == 0 || year > 9999 || month > 12 || day > 31 {
-            return Err(NotADay);
-        }
-        match Date::new(year as i16, month as i8, day as i8) {
-            Ok(date) => Ok(Day {
-                date: date.to_plain(),
-            }),
-            Err(_) => Err(NotADay),
-        }
+        calendar_day(year, month, day)
     }
 
     /// Whether the bytes have the form of a day, which the calendar may not have.

@@ -1,4 +1,4 @@
-use Rattle.bean_parser.proofs.OneText.{one_text}
+use Rattle.bean_parser.proofs.OneReadingFacts.{one_text}
 use Rattle.bean_parser.proofs.grammar.a_text_has_one_reading.Goals as goal
 
 pub returns : goal.returns

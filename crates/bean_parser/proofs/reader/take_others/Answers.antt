@@ -1,5 +1,5 @@
 use Rattle.std.proofs.Common.{sym, ◌∙◌, arith}
-use Rattle.bean_parser.proofs.Takes.{taking_starts, taking_more, taking_next, taking_ends}
+use Rattle.bean_parser.proofs.BlockReaderFacts.{taking_starts, taking_more, taking_next, taking_ends}
 use Rattle.bean_parser.proofs.reader.take_others.Goals as goal
 
 pub loop-token-init : goal.loop-token-init

@@ -1,5 +1,5 @@
 use Rattle.std.proofs.Common.{length}
-use Rattle.bean_parser.proofs.Takes.{Taking}
+use Rattle.bean_parser.proofs.BlockReaderFacts.{Taking}
 use Rattle.bean_parser.proofs.reader.take_others.Given as goal
 
 abbrev pub invariant-loop-token : goal.invariant-loop-token

@@ -1,0 +1,97 @@
+//! Programs: compiled queries.
+ghost use Rattle.query_code.specs.QueryFile.{file};
+
+use crate::instruction::Instruction;
+use bean_base::{Bounds, Day, Decimal, List, Slice};
+
+/// Whether the rows of a query are postings or groups.
+#[derive(Clone, Copy, Debug, Drop, PartialEq, Eq)]
+pub enum Mode {
+    Plain,
+    Grouped,
+}
+
+/// What is gathered over the postings of a group.
+#[derive(Clone, Copy, Debug, Drop, PartialEq, Eq)]
+pub enum Aggregate {
+    /// How many postings there are.
+    CountRows,
+    /// How many values there are.
+    Count,
+    /// A sum of numbers of so many decimals.
+    Sum(u8),
+    /// An inventory of amounts of so many decimals, or of positions at 8.
+    SumInventory(u8),
+    First,
+    Last,
+    Min,
+    Max,
+}
+
+/// Counts of numbers that all have so many decimals.
+#[derive(Debug, Drop)]
+pub struct Numbers {
+    pub places: u8,
+    pub counts: List<i128>,
+}
+
+/// An entry of the pool.
+#[derive(Debug, Drop)]
+pub enum Constant<'a> {
+    Text(Slice<'a>),
+    Number(Decimal),
+    Day(Day),
+    /// A regular expression.
+    Pattern(Slice<'a>),
+    Texts(List<Slice<'a>>),
+    Numbers(Numbers),
+    Days(List<Day>),
+}
+
+/// What becomes of the rows that the code gives.
+#[derive(Debug, Drop)]
+pub struct Output<'a> {
+    /// Only the first of equal rows.
+    pub is_distinct: bool,
+    pub is_descending: bool,
+    /// The most rows.
+    pub limit: Option<u32>,
+    /// The names of the columns that are shown, one or more.
+    pub targets: List<Slice<'a>>,
+    /// How many columns stand behind them, to order by.
+    pub hidden: u8,
+    /// The columns to order by, the most important first.
+    pub order: List<u8>,
+}
+
+/// The sections of instructions, and what they refer to.
+#[derive(Debug, Drop)]
+pub struct Code<'a> {
+    /// How many keys a group has.
+    pub keys: u8,
+    pub aggregates: List<Aggregate>,
+    pub pool: List<Constant<'a>>,
+    /// Run for each posting: whether it passes.
+    pub filter: List<Instruction>,
+    /// Run for each posting that passes: its row, or its keys and what its group gathers.
+    pub row: List<Instruction>,
+    /// Run for each group: its row.
+    pub last: List<Instruction>,
+}
+
+/// The parts of a program.
+#[derive(Debug, Drop)]
+pub struct Parts<'a> {
+    pub bounds: Bounds,
+    pub mode: Mode,
+    pub output: Output<'a>,
+    pub code: Code<'a>,
+}
+
+/// A compiled query: parts that keep the limits of a query file. Its texts are slices of the query,
+/// or of the file, that it was made from.
+#[derive(Debug, Drop)]
+pub struct Program<'a> {
+    pub parts: Parts<'a>,
+    ghost has_file: { ∥ file.fits parts ∥₁ },
+}

@@ -1,0 +1,92 @@
+//! Why bytes are no query file, and why a query file is refused.
+ghost use Rattle.std.specs.Prelude.{◌≡◌};
+ghost use Rattle.query_code.specs.declared.refusal.Fault.TheVariants.{OutOfMemory};
+
+use std::alloc::{AllocError, AllocFailed};
+use thiserror::Error;
+
+/// What is wrong with a query file. The first six keep bytes from being one; the others keep a file
+/// from being run.
+#[derive(Clone, Copy, Debug, Drop, PartialEq, Eq, PartialOrd, Ord, Error)]
+pub enum Cause {
+    #[error("V1 magic")]
+    Magic,
+    #[error("V2 version")]
+    Version,
+    #[error("V3 truncated")]
+    Truncated,
+    #[error("V4 trailing bytes")]
+    TrailingBytes,
+    #[error("V5 bad field")]
+    BadField,
+    #[error("V6 not UTF-8")]
+    NotUtf8,
+    #[error("V7 jump target")]
+    JumpTarget,
+    #[error("V8 too few operands")]
+    TooFewOperands,
+    #[error("V9 stack too deep")]
+    StackTooDeep,
+    #[error("V10 operands")]
+    Operands,
+    #[error("V11 unknown column, key or aggregate")]
+    UnknownColumn,
+    #[error("V12 slot")]
+    Slot,
+    #[error("V13 pool")]
+    Pool,
+    #[error("V14 too wide")]
+    TooWide,
+    #[error("V15 end of a section")]
+    SectionEnd,
+    #[error("V16 pattern")]
+    Pattern,
+    #[error("V17 bounds")]
+    Bounds,
+    #[error("V18 unreachable")]
+    Unreachable,
+}
+
+/// What is wrong, and at which byte of the file.
+#[derive(Clone, Copy, Debug, Drop, PartialEq, Eq)]
+pub struct Refusal {
+    pub code: Cause,
+    pub place: usize,
+}
+
+/// What is wrong, and how many bytes are left where it is.
+#[derive(Clone, Copy, Debug, Drop, PartialEq, Eq)]
+pub(crate) struct Stop {
+    pub cause: Cause,
+    pub left: usize,
+}
+
+/// Why a field was not read.
+#[derive(Clone, Copy, Debug, Drop, PartialEq, Eq)]
+pub(crate) enum Fault {
+    OutOfMemory,
+    Stopped(Stop),
+}
+
+impl From<AllocError> for Fault {
+    ghost from_gives = { λ _ e. e ≡ OutOfMemory };
+
+    fn from(_error: AllocError) -> Fault {
+        Fault::OutOfMemory
+    }
+}
+
+impl<T: Drop> From<AllocFailed<T>> for Fault {
+    ghost from_gives = { λ _ e. e ≡ OutOfMemory };
+
+    fn from(_error: AllocFailed<T>) -> Fault {
+        Fault::OutOfMemory
+    }
+}
+
+/// Why bytes were not decoded.
+#[derive(Clone, Copy, Debug, Drop, PartialEq, Eq)]
+pub enum DecodeFault {
+    OutOfMemory,
+    Refused(Refusal),
+}
