@@ -1,5 +1,6 @@
 //! Quoted texts: as they are written, and what they stand for.
-ghost use Rattle.std.specs.Prelude.{◌≡◌, ◌<◌, [], ◌∷◌, nat_eq, length, IfSome, MatchOption};
+ghost use Rattle.std.specs.Prelude.{◌≡◌, ◌<◌, ◌≤◌, [], ◌∷◌, ◌++◌, nat_eq, length, IfSome, MatchOption, IfOk, OnOk};
+ghost use Rattle.std.specs.String.{string_bytes};
 ghost use Rattle.std.specs.List.{list_any};
 ghost use Rattle.std.specs.Cmp.Lexicographic.{pointwise, nat_list_eq_equiv};
 ghost use Rattle.std.specs.Cmp;
@@ -10,6 +11,7 @@ ghost use Rattle.std.proofs.Common.{rules};
 ghost use Rattle.bean_base.specs.Character.{backslash};
 ghost use Rattle.bean_base.specs.Text.{escaped, read_text};
 
+use std::alloc::AllocError;
 use std::hash::{Hash, Hasher};
 use std::marker::Model;
 
@@ -86,6 +88,50 @@ fn has_escape(written: &[u8]) -> bool
     written.contains(&b'\\')
 }
 
+/// What is still to be added of a written text.
+#[derive(Clone, Copy)]
+struct Unadded<'t> {
+    written: &'t str,
+}
+
+/// What stands before the first backslash, and behind it.
+fn split_at_escape(written: &str) -> Option<(&str, &str)>
+    ensures parts { MatchOption result (read_text written.now ≡ written.now)
+        (λ p. read_text written.now ≡ p.0.now ++ read_text (backslash ∷ p.1.now)) }
+    ensures shorter { IfSome result (λ p. length p.1.now < length written.now) }
+{
+    match written.split_once('\\') {
+        Some((before, behind)) => Some((before, behind)),
+        None => None,
+    }
+}
+
+/// Adds what an escape stands for, and tells what is written behind it. Of an escape whose character
+/// stands for itself that character is left.
+fn add_escape<'t>(out: &mut String, behind: &'t str) -> Result<&'t str, AllocError>
+    ensures read { IfOk result (λ rest. string_bytes out.new ++ read_text rest.now
+        ≡ string_bytes out.old ++ read_text (backslash ∷ behind.now)) }
+    ensures shorter { IfOk result (λ rest. length rest.now ≤ length behind.now) }
+{
+    if let Some(rest) = behind.strip_prefix('n') {
+        out.push('\n')?;
+        return Ok(rest);
+    }
+    if let Some(rest) = behind.strip_prefix('t') {
+        out.push('\t')?;
+        return Ok(rest);
+    }
+    if let Some(rest) = behind.strip_prefix('\\') {
+        out.push('\\')?;
+        return Ok(rest);
+    }
+    if behind.is_empty() {
+        out.push('\\')?;
+        return Ok(behind);
+    }
+    Ok(behind)
+}
+
 impl<'a> Text<'a> {
     /// The text of what is written between its quotes.
     pub fn new(written: &'a str) -> Text<'a>
@@ -119,6 +165,23 @@ impl<'a> Text<'a> {
         } else {
             Some(self.written)
         }
+    }
+
+    /// Adds what it stands for at the end.
+    pub fn add_to(&self, out: &mut String) -> Result<(), AllocError>
+        ensures { OnOk result (string_bytes out.new ≡ string_bytes out.old ++ self.now) }
+    {
+        let mut unadded = Unadded {
+            written: self.written,
+        };
+        while let Some((before, behind)) = split_at_escape(unadded.written) {
+            out.push_str(before)?;
+            unadded = Unadded {
+                written: add_escape(out, behind)?,
+            };
+        }
+        out.push_str(unadded.written)?;
+        Ok(())
     }
 }
 

@@ -1,70 +1,197 @@
-//! Tables of answers.
+//! Tables of answers and of what a ledger lends.
 ghost use Rattle.std.specs.Prelude.{◌≡◌, length, IfOk, All};
-ghost use Rattle.table_printer.specs.Values.{names_of, rows_of};
 
-use bean_base::days::parse_day;
-use bean_base::names::parse_currency;
-use bean_base::num::Num;
-use posting_table::display::Display;
-use posting_table::row::Position;
+use bean_base::{
+    Currency, Decimal, Flag, List, NameFault, Num, Slice, Text, parse_account, parse_currency,
+    parse_day,
+};
+use bean_lots::{Cost, Key, Lot, Position};
+use posting_table::{Cell, Column, Display, Ledger, Lent, Row};
 use std::alloc::{AllocError, Global};
 use std::test::Fail;
-use table_printer::answer::{Answer, Value};
-use table_printer::print;
+use table_printer::{Answer, print};
 
-const VALUES: &str = "text  number  day         units
-----  ------  ----------  ---------
-a b     10.5  2014-01-02  -1.00 USD
-           7
+const VALUES: &str = "text  number  day         amount
+----  ------  ----------  ----------
+a b     10.5  2014-01-02  -1.125 USD
+           7              1.00 USD
+";
+
+const POSITIONS: &str = "position
+-----------------------------------------
+100.00 USD
+2.5 HOOL {0.10 USD, 2014-01-02}
+-1 HOOL {120.00 USD, 2014-01-03, \"a \\ b\"}
 ";
 
 fn answer_of<'a>(
     alloc: Global,
-    headers: [&'a str; 4],
-    first: [Value<'a>; 4],
-    second: [Value<'a>; 4],
+    headers: [Slice<'a>; 4],
+    first: [Cell<'a>; 4],
+    second: [Cell<'a>; 4],
 ) -> Result<Answer<'a>, AllocError>
-    ensures { IfOk result (λ a. All (λ row. length row ≡ length (names_of a)) (rows_of a)) }
+    ensures { IfOk result (λ a. All (λ row. length row ≡ length a.headers) a.rows) }
 {
     let mut rows = Vec::new(alloc);
-    rows.push(Vec::from_slice(alloc, &first)?)?;
-    rows.push(Vec::from_slice(alloc, &second)?)?;
+    rows.push(List::new(Vec::from_array(alloc, first)?))?;
+    rows.push(List::new(Vec::from_array(alloc, second)?))?;
     Ok(Answer {
-        headers: Vec::from_slice(alloc, &headers)?,
-        rows,
+        headers: List::new(Vec::from_array(alloc, headers)?),
+        rows: List::new(rows),
         steps: 0,
         groups: 0,
     })
 }
 
+fn usd() -> Result<Currency<'static>, NameFault> {
+    parse_currency("USD")
+}
+
 #[test]
-fn prints_values_of_each_kind(rt: HostRuntime) -> Result<(), Fail> {
+fn prints_cells_of_each_kind(rt: HostRuntime) -> Result<(), Fail> {
     let alloc = rt.alloc();
-    let units = Position {
-        number: Num::parse("1")?.negated(),
-        currency: parse_currency("USD")?,
+    let cost = Decimal {
+        count: -1_125_000_000_000_000,
+        places: 15,
     };
-    let answer = answer_of(
-        alloc,
-        ["text", "number", "day", "units"],
-        [
-            Value::Text("a\tb"),
-            Value::Number(Num::parse("10.50")?),
-            Value::Day(parse_day("2014-01-02")?),
-            Value::Position(units),
-        ],
-        [
-            Value::Null,
-            Value::Number(Num::parse("7")?),
-            Value::Null,
-            Value::Null,
-        ],
-    )?;
+    let headers = [
+        Slice::new("text"),
+        Slice::new("number"),
+        Slice::new("day"),
+        Slice::new("amount"),
+    ];
+    let first = [
+        Cell::Text(Slice::new("a\tb")),
+        Cell::Number(Decimal::of_num(Num::parse("10.50")?)),
+        Cell::Day(parse_day("2014-01-02")?),
+        Cell::Amount(cost, usd()?),
+    ];
+    let second = [
+        Cell::Null,
+        Cell::Number(Decimal {
+            count: 700_000_000_000_000_000_000_000_000_000_000,
+            places: 32,
+        }),
+        Cell::Null,
+        Cell::Amount(
+            Decimal {
+                count: 1,
+                places: 0,
+            },
+            usd()?,
+        ),
+    ];
+    let answer = answer_of(alloc, headers, first, second)?;
     let mut display = Display::new(alloc);
-    display.set(parse_currency("USD")?, 2)?;
+    display.set(usd()?, 2)?;
     assert_eq!(rt;
         print(alloc, &answer, &display)?.as_slice(),
         VALUES.as_bytes()
     );
+    Ok(())
+}
+
+fn row_of<'a>(alloc: Global, position: &'a Position<'a>) -> Result<List<Cell<'a>>, AllocError>
+    ensures { IfOk result (λ row. length row ≡ 1) }
+{
+    let cell = Cell::Position(Lent::new(position));
+    Ok(List::new(Vec::from_array(alloc, [cell])?))
+}
+
+/// A column of positions.
+fn column_of<'a>(
+    alloc: Global,
+    first: &'a Position<'a>,
+    second: &'a Position<'a>,
+    third: &'a Position<'a>,
+) -> Result<Answer<'a>, AllocError>
+    ensures { IfOk result (λ a. All (λ row. length row ≡ length a.headers) a.rows) }
+{
+    let mut rows = Vec::new(alloc);
+    rows.push(row_of(alloc, first)?)?;
+    rows.push(row_of(alloc, second)?)?;
+    rows.push(row_of(alloc, third)?)?;
+    Ok(Answer {
+        headers: List::new(Vec::from_array(alloc, [Slice::new("position")])?),
+        rows: List::new(rows),
+        steps: 0,
+        groups: 0,
+    })
+}
+
+/// Units of HOOL that were bought at so many dollars.
+fn held(
+    count: i128,
+    cost: &str,
+    day: &str,
+    label: Option<Text<'static>>,
+) -> Result<Position<'static>, Fail> {
+    let lot = Lot {
+        cost: Cost::new(Num::parse(cost)?, usd()?),
+        day: parse_day(day)?,
+        label,
+    };
+    Ok(Position {
+        key: Key {
+            currency: parse_currency("HOOL")?,
+            lot: Some(lot),
+        },
+        count,
+    })
+}
+
+#[test]
+fn prints_positions_with_their_lots(rt: HostRuntime) -> Result<(), Fail> {
+    let alloc = rt.alloc();
+    let cash = Position {
+        key: Key {
+            currency: usd()?,
+            lot: None,
+        },
+        count: 10_000_000_000,
+    };
+    let bought = held(250_000_000, "0.1", "2014-01-02", None)?;
+    let owed = held(
+        -100_000_000,
+        "120",
+        "2014-01-03",
+        Some(Text::new("a\\n\\\\ b")),
+    )?;
+    let (first, second, third) = (&cash, &bought, &owed);
+    let answer = column_of(alloc, first, second, third)?;
+    let mut display = Display::new(alloc);
+    display.set(usd()?, 2)?;
+    assert_eq!(rt;
+        print(alloc, &answer, &display)?.as_slice(),
+        POSITIONS.as_bytes()
+    );
+    Ok(())
+}
+
+#[test]
+fn a_ledger_lends_its_cells(rt: HostRuntime) -> Result<(), Fail> {
+    let alloc = rt.alloc();
+    let mut ledger = Ledger::new(alloc);
+    let position = held(250_000_000, "0.1", "2014-01-02", None)?;
+    ledger.push(Row {
+        date: parse_day("2014-01-02")?,
+        flag: Flag::Incomplete,
+        account: parse_account("Assets:Cash")?,
+        position,
+    })?;
+    ledger.set_display(usd()?, 2)?;
+    ledger.set_display(parse_currency("HOOL")?, 3)?;
+    ledger.set_display(usd()?, 4)?;
+    assert_eq!(rt; ledger.len(), 1);
+    assert_eq!(rt; ledger.display().places(&usd()?), 4);
+    assert_eq!(rt; ledger.display().places(&parse_currency("EUR")?), 0);
+    match ledger.cell(0, Column::Flag) {
+        Cell::Text(flag) => assert_eq!(rt; flag.text(), "!"),
+        _ => assert!(rt; false),
+    }
+    match ledger.cell(0, Column::Position) {
+        Cell::Position(position) => assert_eq!(rt; position.get().count, 250_000_000),
+        _ => assert!(rt; false),
+    }
     Ok(())
 }

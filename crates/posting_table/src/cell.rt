@@ -1,9 +1,10 @@
 //! What stands in the cells of a table.
-use crate::decimal::Decimal;
+ghost use Rattle.std.specs.Prelude.{◌≡◌};
+
 use crate::lent::Lent;
-use crate::position::Position;
 use crate::text_set::TextSet;
-use bean_base::{Currency, Day, Slice};
+use bean_base::{Currency, Day, Decimal, Slice};
+use bean_lots::Position;
 
 /// What stands in a cell, lent from where it is kept.
 #[derive(Debug, Drop)]
@@ -15,4 +16,21 @@ pub enum Cell<'r> {
     Set(Lent<'r, TextSet<'r>>),
     Amount(Decimal, Currency<'r>),
     Position(Lent<'r, Position<'r>>),
+}
+
+impl<'r> Cell<'r> {
+    /// The same once more.
+    pub fn lend(&self) -> Cell<'r>
+        ensures { result ≡ self.now }
+    {
+        match self {
+            Cell::Null => Cell::Null,
+            Cell::Number(number) => Cell::Number(*number),
+            Cell::Text(text) => Cell::Text(text.lend()),
+            Cell::Day(day) => Cell::Day(*day),
+            Cell::Set(set) => Cell::Set(set.lend()),
+            Cell::Amount(number, currency) => Cell::Amount(*number, currency.lend()),
+            Cell::Position(position) => Cell::Position(position.lend()),
+        }
+    }
 }

@@ -29,4 +29,11 @@ impl<'r, T> Lent<'r, T> {
     {
         self.thing
     }
+
+    /// The same thing once more.
+    pub fn lend(&self) -> Lent<'r, T>
+        ensures { result ≡ self.now }
+    {
+        Lent { thing: self.thing }
+    }
 }

@@ -9,7 +9,10 @@
 //!     date: parse_day("2014-01-02")?,
 //!     flag: Flag::Complete,
 //!     account: parse_account("Assets:Cash")?,
-//!     position: Position { count: 10_000_000_000, currency: parse_currency("USD")? },
+//!     position: Position {
+//!         key: Key { currency: parse_currency("USD")?, lot: None },
+//!         count: 10_000_000_000,                   // 100 USD, in units of 10^-8
+//!     },
 //! })?;
 //! ledger.set_display(parse_currency("USD")?, 2)?;
 //! let account = ledger.cell(0, Column::Account);   // Cell::Text of Assets:Cash
@@ -20,8 +23,8 @@
 //!
 //! What a row has in a [`Column`] is a [`Cell`], which is lent from where the row is kept: names and
 //! texts as slices, sets and positions by reference ([`Lent`]). Contracts see what is lent as the
-//! thing itself, so a cell is the value that they speak of. A [`Decimal`] has room for each number
-//! that a query computes.
+//! thing itself, so a cell is the value that they speak of. The numbers of cells are `Decimal`s, which
+//! have room for each number that a query computes.
 //!
 //! # What may be asked
 //!
@@ -36,20 +39,16 @@
 
 mod cell;
 mod column;
-mod decimal;
 mod display;
 mod ledger;
 mod lent;
-mod position;
 mod row;
 mod text_set;
 
 pub use cell::Cell;
 pub use column::Column;
-pub use decimal::Decimal;
 pub use display::Display;
 pub use ledger::{Ledger, MOST_POSTINGS};
 pub use lent::Lent;
-pub use position::Position;
 pub use row::Row;
 pub use text_set::TextSet;

@@ -1,4 +1,6 @@
 //! Sets of texts.
+ghost use Rattle.std.specs.Prelude.{◌≡◌};
+
 use bean_base::Slice;
 use std::marker::Model;
 
@@ -14,4 +16,13 @@ impl<'a> Model for TextSet<'a> {
     ghost Value = { List (List ℕ) };
 
     ghost view = { λ s. s.texts.items };
+}
+
+impl<'a> TextSet<'a> {
+    /// The texts, in the order of their bytes.
+    pub fn as_slice(&self) -> &[Slice<'a>]
+        ensures { result.now ≡ self.now }
+    {
+        self.texts.as_slice()
+    }
 }

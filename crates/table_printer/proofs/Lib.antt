@@ -1,7 +1,8 @@
-pub mod Decimals
-pub mod Joined
-pub mod Pieces
-pub mod Seen
+pub mod DigitsFacts
+pub mod LayoutFacts
+pub mod TableFacts
+pub mod InColumn
+pub mod SetFacts
 pub mod Printable
 pub mod Written
 pub mod Limits

@@ -10,7 +10,7 @@ use Rattle.std.proofs.lemmas.Str.{chars-IsAscii, encode_ascii}
 use Rattle.unicode_width.specs.Width.{str_width}
 use Rattle.unicode_width.proofs.Rules.{str_width-printable}
 use Rattle.table_printer.specs.Table.{text_width}
-use Rattle.table_printer.specs.Values.{clean_text, shown_character}
+use Rattle.table_printer.specs.CellText.{clean_text, shown_character}
 
 abbrev pub is_printable : ℕ → Bool
 is_printable b = is_in_range 0x20 0x7E b
@@ -18,7 +18,7 @@ is_printable b = is_in_range 0x20 0x7E b
 bounds : (b : ℕ) → is_printable b ≡ true → (32 ≤ b) × (b ≤ 126)
 bounds b h = (grind (arith, nat_tests), grind (arith, nat_tests))
 
-is_ascii : (bs : List ℕ) → list_all is_printable bs ≡ true → IsAscii bs
+pub is_ascii : (bs : List ℕ) → list_all is_printable bs ≡ true → IsAscii bs
 is_ascii [] h = λ i. omega arith
 is_ascii (b ∷ bs) h = at (bounds b (and_parts _ _ h).0) (is_ascii bs (and_parts _ _ h).1)
   where

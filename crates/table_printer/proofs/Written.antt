@@ -1,6 +1,7 @@
 -- The texts of numbers and days have printable ASCII characters alone.
 use Rattle.std.proofs.Common.{◌≡◌, ℕ, ℤ, zero, suc, pos, negsuc, ◌+◌, ◌-◌, ◌/◌, ◌%◌, ◌^◌, ◌<◌, ◌≤◌, nat_eq, Bool, true, false, cond, ◌&&◌, List, [], ◌∷◌, ◌++◌, length, replicate, refl, sym, ap, ◌∙◌, arith, IsTrue, length-append}
-use Rattle.std.specs.Int.RustNames.{unsigned_abs}
+use Rattle.std.specs.Int.{w128}
+use Rattle.std.specs.Int.RustNames.{unsigned_abs, FitsSigned}
 use Rattle.std.proofs.Math.Nat.{div-le_self}
 use Rattle.std.specs.List.{list_all}
 use Rattle.std.specs.Fmt.{decimal}
@@ -8,11 +9,11 @@ use Rattle.std.proofs.lemmas.Bool.{and_parts}
 use Rattle.std.proofs.lemmas.Bool.Decides.{nat_tests}
 use Rattle.std.proofs.lemmas.Fmt.{decimal_by_steps_wide}
 use Rattle.std.proofs.lemmas.List.Folds.{list_all-append}
-use Rattle.bean_base.specs.Names.{is_currency, is_in_currency}
-use Rattle.bean_base.specs.Days.{DayValue}
-use Rattle.table_printer.specs.Digits.{digits_of, exact_decimals, decimals_of, behind_point, zeros, magnitude_text, number_text, day_text}
+use Rattle.bean_base.specs.Name.{is_currency, is_in_currency}
+use Rattle.bean_base.specs.declared.days.Day.{Day}
+use Rattle.table_printer.specs.Digits.{digits_of, exact_decimals, decimals_text, behind_point, zeros, magnitude_text, number_text, day_text}
 use Rattle.table_printer.specs.Table.{text_width}
-use Rattle.table_printer.proofs.Decimals.{length-digits_of}
+use Rattle.table_printer.proofs.DigitsFacts.{length-digits_of}
 use Rattle.table_printer.proofs.Printable.{is_printable, width_printable}
 
 abbrev Printable : List ℕ → Type 0
@@ -47,7 +48,7 @@ point : (ds : List ℕ) → Printable ds → Printable (behind_point ds)
 point [] h = refl
 point (d ∷ ds) h = before 46 (d ∷ ds) refl h
 
-decimals : (places n least : ℕ) → Printable (decimals_of places n least)
+decimals : (places n least : ℕ) → Printable (decimals_text places n least)
 decimals places n least =
     let fill : ℕ = least - length (exact_decimals places n) in
     point (exact_decimals places n ++ zeros fill) (both (exact_decimals places n) (zeros fill) (exact places n) (all_zeros fill))
@@ -55,12 +56,17 @@ decimals places n least =
 whole : (n : ℕ) → n < 10 ^ 64 → Printable (decimal n)
 whole = decimal_by_steps_wide (λ m ds. Printable ds) (λ m small. one_digit m small) (λ m ds large h. both ds ((48 + m % 10) ∷ []) h (one_digit (m % 10) (omega arith)))
 
-magnitude : (n places least : ℕ) → n < 10 ^ 20 → Printable (magnitude_text n places least)
-magnitude n places least small = both (decimal (n / 10 ^ places)) (decimals_of places (n % 10 ^ places) least) (whole (n / 10 ^ places) (let le = div-le_self n (10 ^ places) in omega arith)) (decimals places (n % 10 ^ places) least)
+magnitude : (n places least : ℕ) → n < 10 ^ 64 → Printable (magnitude_text n places least)
+magnitude n places least small = both (decimal (n / 10 ^ places)) (decimals_text places (n % 10 ^ places) least) (whole (n / 10 ^ places) (let le = div-le_self n (10 ^ places) in omega arith)) (decimals places (n % 10 ^ places) least)
 
-pub printable_number : (count : ℤ) (places least : ℕ) → unsigned_abs count < 10 ^ 20 → Printable (number_text count places least)
+pub printable_number : (count : ℤ) (places least : ℕ) → unsigned_abs count < 10 ^ 64 → Printable (number_text count places least)
 printable_number (pos n) places least small = magnitude n places least small
 printable_number (negsuc n) places least small = before 45 (magnitude_text (suc n) places least) refl (magnitude (suc n) places least small)
+
+-- each count of 128 bits has few digits
+pub bounded : (count : ℤ) → FitsSigned w128 count → unsigned_abs count < 10 ^ 64
+bounded (pos n) h = omega (arith, h.sfits)
+bounded (negsuc n) h = omega (arith, h.sfits)
 
 in_currency : (b : ℕ) → is_in_currency b ≡ true → is_printable b ≡ true
 in_currency b h = grind (arith, nat_tests)
@@ -76,18 +82,18 @@ characters name h = (and_parts _ _ (and_parts _ _ (and_parts _ _ (and_parts _ _ 
 pub printable_units : (number name : List ℕ) → Printable number → IsTrue (is_currency name) → Printable (number ++ 32 ∷ name)
 printable_units number name first h = both number (32 ∷ name) first (before 32 name refl (currency name (characters name h)))
 
-pub printable_day : (d : DayValue) → Printable (day_text d)
+pub printable_day : (d : Day) → Printable (day_text d)
 printable_day d =
-    let day : List ℕ = 45 ∷ digits_of 2 d.day in
-    let month : List ℕ = 45 ∷ (digits_of 2 d.month ++ day) in
-    both (digits_of 4 (unsigned_abs d.year)) month (digits 4 (unsigned_abs d.year))
-    (before 45 (digits_of 2 d.month ++ day) refl (both (digits_of 2 d.month) day (digits 2 d.month) (before 45 (digits_of 2 d.day) refl (digits 2 d.day))))
+    let day : List ℕ = 45 ∷ digits_of 2 d.date.day in
+    let month : List ℕ = 45 ∷ (digits_of 2 d.date.month ++ day) in
+    both (digits_of 4 (unsigned_abs d.date.year)) month (digits 4 (unsigned_abs d.date.year))
+    (before 45 (digits_of 2 d.date.month ++ day) refl (both (digits_of 2 d.date.month) day (digits 2 d.date.month) (before 45 (digits_of 2 d.date.day) refl (digits 2 d.date.day))))
 
 -- and of a day so many
-pub day_width : (d : DayValue) → text_width (day_text d) ≡ 10
+pub day_width : (d : Day) → text_width (day_text d) ≡ 10
 day_width d =
-    let day : List ℕ = digits_of 2 d.day in
-    let month : List ℕ = digits_of 2 d.month in
-    let year : List ℕ = digits_of 4 (unsigned_abs d.year) in
+    let day : List ℕ = digits_of 2 d.date.day in
+    let month : List ℕ = digits_of 2 d.date.month in
+    let year : List ℕ = digits_of 4 (unsigned_abs d.date.year) in
     width_printable (day_text d) (printable_day d)
-    ∙ omega (arith, length-append year (45 ∷ (month ++ 45 ∷ day)), length-append month (45 ∷ day), length-digits_of 4 (unsigned_abs d.year), length-digits_of 2 d.month, length-digits_of 2 d.day)
+    ∙ omega (arith, length-append year (45 ∷ (month ++ 45 ∷ day)), length-append month (45 ∷ day), length-digits_of 4 (unsigned_abs d.date.year), length-digits_of 2 d.date.month, length-digits_of 2 d.date.day)

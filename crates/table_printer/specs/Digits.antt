@@ -1,7 +1,8 @@
 -- The texts of numbers and days.
 use Rattle.std.specs.Prelude.{ℕ, ℤ, zero, suc, pos, negsuc, ◌+◌, ◌-◌, ◌/◌, ◌%◌, ◌^◌, ◌==◌, List, [], ◌∷◌, ◌++◌, length, replicate, if◌then◌else◌}
 use Rattle.std.specs.Fmt.{decimal}
-use Rattle.bean_base.specs.Days.{DayValue}
+use Rattle.bean_base.specs.Character.{dash, point}
+use Rattle.bean_base.specs.declared.days.Day.{Day}
 use Rattle.std.specs.Int.RustNames.{unsigned_abs}
 
 -- the last digits of a number, so many
@@ -20,22 +21,22 @@ zeros count = replicate count 48
 -- a point before decimals, where there are some
 abbrev pub behind_point : List ℕ → List ℕ
 behind_point [] = []
-behind_point (d ∷ ds) = 46 ∷ d ∷ ds
+behind_point (d ∷ ds) = point ∷ d ∷ ds
 
 -- the fewest decimals that are exact, but at least so many
-abbrev pub decimals_of : ℕ → ℕ → ℕ → List ℕ
-decimals_of places n least =
+abbrev pub decimals_text : ℕ → ℕ → ℕ → List ℕ
+decimals_text places n least =
     let exact = exact_decimals places n in behind_point (exact ++ zeros (least - length exact))
 
 -- the magnitude n * 10^-places
 abbrev pub magnitude_text : ℕ → ℕ → ℕ → List ℕ
-magnitude_text n places least = decimal (n / 10 ^ places) ++ decimals_of places (n % 10 ^ places) least
+magnitude_text n places least = decimal (n / 10 ^ places) ++ decimals_text places (n % 10 ^ places) least
 
 -- count * 10^-places
 abbrev pub number_text : ℤ → ℕ → ℕ → List ℕ
 number_text (pos n) places least = magnitude_text n places least
-number_text (negsuc n) places least = 45 ∷ magnitude_text (suc n) places least
+number_text (negsuc n) places least = dash ∷ magnitude_text (suc n) places least
 
 -- YYYY-MM-DD
-abbrev pub day_text : DayValue → List ℕ
-day_text d = digits_of 4 (unsigned_abs d.year) ++ 45 ∷ digits_of 2 d.month ++ 45 ∷ digits_of 2 d.day
+abbrev pub day_text : Day → List ℕ
+day_text d = digits_of 4 (unsigned_abs d.date.year) ++ dash ∷ digits_of 2 d.date.month ++ dash ∷ digits_of 2 d.date.day

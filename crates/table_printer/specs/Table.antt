@@ -2,27 +2,29 @@
 use Rattle.std.specs.Prelude.{ℕ, ◌+◌, max, Bool, true, false, List, [], ◌∷◌, ◌++◌, length, map, fold, chars, slice_get}
 use Rattle.std.specs.List.{flat_map, list_any, range_with_len}
 use Rattle.std.specs.Option.{option_map_or}
+use Rattle.bean_base.specs.Character.{line_feed}
 use Rattle.unicode_width.specs.Width.{str_width}
 use Rattle.table_printer.specs.Layout.{trimmed, joined, filled, rule_of}
-use Rattle.table_printer.specs.Values.{ShownValue, is_number, clean_text, value_text}
+use Rattle.table_printer.specs.CellText.{is_number, clean_text, cell_text}
+use Rattle.posting_table.specs.declared.cell.Cell.{Cell}
 
--- what stands in a line of the table, and whether at the right of its column
-pub record Cell : Type 0 where
+-- a text in a line of the table, and whether it stands at the right of its column
+pub record PlacedText : Type 0 where
   pub text : List ℕ
   pub stands_right : Bool
 
-abbrev pub cell_of : (List ℕ → ℕ) → ShownValue → Cell
-cell_of places value = record { text = value_text places value; stands_right = is_number value }
+abbrev pub text_of : (List ℕ → ℕ) → Cell → PlacedText
+text_of display cell = record { text = cell_text display cell; stands_right = is_number cell }
 
-abbrev pub is_number_at : ℕ → List ShownValue → Bool
+abbrev pub is_number_at : ℕ → List Cell → Bool
 is_number_at i row = option_map_or is_number (slice_get row i) false
 
 -- some row has a number in the column i
-abbrev pub has_number : ℕ → List (List ShownValue) → Bool
+abbrev pub has_number : ℕ → List (List Cell) → Bool
 has_number i rows = list_any (is_number_at i) rows
 
 -- the names of the columns from i on; a name stands right over numbers
-abbrev pub headers_from : ℕ → List (List ShownValue) → List (List ℕ) → List Cell
+abbrev pub headers_from : ℕ → List (List Cell) → List (List ℕ) → List PlacedText
 headers_from i rows [] = []
 headers_from i rows (name ∷ names) =
     record { text = clean_text name; stands_right = has_number i rows } ∷ headers_from (i + 1) rows names
@@ -32,33 +34,33 @@ abbrev pub text_width : List ℕ → ℕ
 text_width text = str_width false (chars text)
 
 -- the width of a line's cell in the column i
-abbrev pub width_at : ℕ → List Cell → ℕ
+abbrev pub width_at : ℕ → List PlacedText → ℕ
 width_at i cells = option_map_or (λ cell. text_width cell.text) (slice_get cells i) 0
 
 -- the greatest width of a column's cells, and at least 1
-abbrev pub column_width : List (List Cell) → ℕ → ℕ
+abbrev pub column_width : List (List PlacedText) → ℕ → ℕ
 column_width lines i = fold max 1 (map (width_at i) lines)
 
-abbrev pub padded : ℕ → Cell → List ℕ
+abbrev pub padded : ℕ → PlacedText → List ℕ
 padded column cell = filled cell.stands_right column (text_width cell.text) cell.text
 
-abbrev pub pieces : List ℕ → List Cell → List (List ℕ)
+abbrev pub pieces : List ℕ → List PlacedText → List (List ℕ)
 pieces [] cells = []
 pieces (width ∷ widths) [] = []
 pieces (width ∷ widths) (cell ∷ cells) = padded width cell ∷ pieces widths cells
 
 -- two spaces between columns, no spaces at the end, and a line feed
-abbrev pub line_of : List ℕ → List Cell → List ℕ
-line_of widths cells = trimmed (joined (pieces widths cells)) ++ 10 ∷ []
+abbrev pub line_of : List ℕ → List PlacedText → List ℕ
+line_of widths cells = trimmed (joined (pieces widths cells)) ++ line_feed ∷ []
 
-abbrev pub widths_of : List Cell → List (List Cell) → List ℕ
+abbrev pub widths_of : List PlacedText → List (List PlacedText) → List ℕ
 widths_of headers rows = map (column_width (headers ∷ rows)) (range_with_len 0 (length headers))
 
-abbrev pub lines_of : List Cell → List (List Cell) → List ℕ
+abbrev pub lines_of : List PlacedText → List (List PlacedText) → List ℕ
 lines_of headers rows =
     let widths = widths_of headers rows in
     line_of widths headers ++ rule_of widths ++ flat_map (line_of widths) rows
 
--- names and rows under them, where `places` are the display decimals of the currencies
-abbrev pub table_text : List (List ℕ) → List (List ShownValue) → (List ℕ → ℕ) → List ℕ
-table_text names rows places = lines_of (headers_from 0 rows names) (map (map (cell_of places)) rows)
+-- names and rows under them, where `display` has the display decimals of the currencies
+abbrev pub table_text : List (List ℕ) → List (List Cell) → (List ℕ → ℕ) → List ℕ
+table_text names rows display = lines_of (headers_from 0 rows names) (map (map (text_of display)) rows)

@@ -1,18 +1,17 @@
-//! The texts of values, and how wide they are.
-ghost use Rattle.std.specs.Prelude.{◌≡◌, ◌++◌, OnOk, IfOk};
+//! The texts of cells, and how wide they are.
+ghost use Rattle.std.specs.Prelude.{◌≡◌, ◌≤◌, ◌++◌, OnOk, IfOk, true};
 ghost use Rattle.std.specs.Int.{is_in_range};
 ghost use Rattle.std.specs.List.{list_all};
 ghost use Rattle.std.specs.String.{string_bytes};
-ghost use Rattle.posting_table.specs.Decimals.{places_of};
+ghost use Rattle.posting_table.specs.Decimals.{decimals_of};
 ghost use Rattle.table_printer.specs.Digits.{number_text};
 ghost use Rattle.table_printer.specs.Table.{text_width};
-ghost use Rattle.table_printer.specs.Values.{value_of, value_text, clean_text, shown_character};
+ghost use Rattle.table_printer.specs.CellText.{cell_text, clean_text, is_number, separator, set_text, shown_character, units_text};
 
-use crate::answer::Value;
 use crate::digits::{push_day, push_number};
-use bean_base::num::Num;
-use posting_table::display::Display;
-use posting_table::row::Position;
+use crate::positions::{position_width, push_position};
+use bean_base::{Currency, Decimal};
+use posting_table::{Cell, Display, TextSet};
 use std::alloc::{AllocError, Global};
 use unicode_width::UnicodeWidthStr;
 
@@ -20,18 +19,28 @@ use unicode_width::UnicodeWidthStr;
 #[derive(Drop)]
 pub(crate) struct Scratch {
     /// A text without control characters.
-    clean: String,
+    pub clean: String,
+    /// What a text with escapes stands for.
+    pub read: String,
     /// A text that is only measured.
-    measured: Vec<u8>,
+    pub measured: Vec<u8>,
 }
 
 impl Scratch {
     pub(crate) fn new(alloc: Global) -> Scratch {
         Scratch {
             clean: String::new(alloc),
+            read: String::new(alloc),
             measured: Vec::new(alloc),
         }
     }
+}
+
+/// Whether a cell stands at the right of its column.
+pub(crate) fn is_number(cell: &Cell<'_>) -> bool
+    ensures { result ≡ is_number cell.now }
+{
+    matches!(cell, Cell::Number(_))
 }
 
 fn shown_character(c: char) -> char
@@ -48,13 +57,42 @@ fn is_printable(text: &str) -> bool
     text.as_bytes().iter().all(|b| 32 <= *b && *b <= 126)
 }
 
+/// Adds a text with spaces in place of its control characters.
+pub(crate) fn add_clean(clean: &mut String, text: &str) -> Result<(), AllocError>
+    ensures { OnOk result (string_bytes clean.new ≡ string_bytes clean.old ++ clean_text text.now) }
+{
+    for c in text.chars() {
+        clean.push(shown_character(c))?;
+    }
+    Ok(())
+}
+
 /// A text with spaces in place of its control characters, in place of what was there.
 fn make_clean(clean: &mut String, text: &str) -> Result<(), AllocError>
     ensures { OnOk result (string_bytes clean.new ≡ clean_text text.now) }
 {
     clean.clear();
-    for c in text.chars() {
-        clean.push(shown_character(c))?;
+    add_clean(clean, text)
+}
+
+/// Adds what stands before a member of a set.
+fn add_separator(clean: &mut String, member: usize) -> Result<(), AllocError>
+    ensures { OnOk result (string_bytes clean.new ≡ string_bytes clean.old ++ separator member) }
+{
+    if member > 0 {
+        clean.push(',')?;
+    }
+    Ok(())
+}
+
+/// The text of a set, in place of what was there.
+fn make_set(clean: &mut String, set: &TextSet<'_>) -> Result<(), AllocError>
+    ensures { OnOk result (string_bytes clean.new ≡ set_text set.now) }
+{
+    clean.clear();
+    for (i, text) in set.as_slice().iter().enumerate() {
+        add_separator(clean, i)?;
+        add_clean(clean, text.text())?;
     }
     Ok(())
 }
@@ -84,80 +122,113 @@ fn push_clean(out: &mut Vec<u8>, text: &str, clean: &mut String) -> Result<usize
     Ok(clean.width())
 }
 
+/// Adds the texts of a set, and tells their width.
+fn push_set(
+    out: &mut Vec<u8>,
+    set: &TextSet<'_>,
+    clean: &mut String,
+) -> Result<usize, AllocError>
+    ensures text { OnOk result (out.new.items ≡ out.old.items ++ set_text set.now) }
+    ensures width { IfOk result (λ n. n ≡ text_width (set_text set.now)) }
+{
+    make_set(clean, set)?;
+    out.extend_from_slice(clean.as_bytes())?;
+    Ok(clean.width())
+}
+
+/// How many columns of a terminal the texts of a set take.
+fn set_width(set: &TextSet<'_>, clean: &mut String) -> Result<usize, AllocError>
+    ensures { IfOk result (λ n. n ≡ text_width (set_text set.now)) }
+{
+    make_set(clean, set)?;
+    Ok(clean.width())
+}
+
 /// Adds a number with the fewest decimals that are exact, and tells its width.
-fn push_exact(out: &mut Vec<u8>, number: Num) -> Result<usize, AllocError>
+fn push_exact(out: &mut Vec<u8>, number: Decimal) -> Result<usize, AllocError>
     ensures text { OnOk result (out.new.items
         ≡ out.old.items ++ number_text number.count number.places 0) }
     ensures width { IfOk result (λ n. n ≡ text_width (number_text number.count number.places 0)) }
 {
     let start = out.len();
-    push_number(out, number, 0)?;
+    push_number(out, number.count, number.places, 0)?;
     Ok(out.len() - start)
 }
 
-/// Adds units and their currency, and tells their width.
-fn push_position(
+/// Adds the number `count` · `10^-places` and a currency, and tells their width.
+pub(crate) fn push_units(
     out: &mut Vec<u8>,
-    position: &Position<'_>,
+    count: i128,
+    places: u8,
+    currency: &Currency<'_>,
     display: &Display<'_>,
 ) -> Result<usize, AllocError>
+    requires { places ≤ 32 }
     ensures text { OnOk result (out.new.items ≡ out.old.items
-        ++ value_text (places_of display.now) (value_of (Value.Position position.now))) }
+        ++ units_text (decimals_of display.now) count places currency.now) }
     ensures width { IfOk result (λ n. n
-        ≡ text_width (value_text (places_of display.now) (value_of (Value.Position position.now)))) }
+        ≡ text_width (units_text (decimals_of display.now) count places currency.now)) }
+    ensures printable { IfOk result (λ _. list_all (is_in_range 32 126)
+        (units_text (decimals_of display.now) count places currency.now) ≡ true) }
 {
     let start = out.len();
-    let currency = position.currency.text;
-    push_number(out, position.number, display.places(currency))?;
+    push_number(out, count, places, display.places(currency))?;
     out.push(b' ')?;
-    out.extend_from_slice(currency.as_bytes())?;
+    out.extend_from_slice(currency.text().as_bytes())?;
     Ok(out.len() - start)
 }
 
 /// How wide the text of a day is.
 const DAY_WIDTH: usize = 10;
 
-impl Value<'_> {
-    /// Adds the text, and tells how many columns of a terminal it takes.
-    pub(crate) fn push_text(
-        &self,
-        out: &mut Vec<u8>,
-        scratch: &mut Scratch,
-        display: &Display<'_>,
-    ) -> Result<usize, AllocError>
-        ensures text { OnOk result (out.new.items ≡ out.old.items
-            ++ value_text (places_of display.now) (value_of self.now)) }
-        ensures width { IfOk result (λ n. n
-            ≡ text_width (value_text (places_of display.now) (value_of self.now))) }
-    {
-        match self {
-            Value::Null => Ok(0),
-            Value::Number(number) => push_exact(out, *number),
-            Value::Text(text) => push_clean(out, text, &mut scratch.clean),
-            Value::Day(day) => {
-                push_day(out, *day)?;
-                Ok(DAY_WIDTH)
-            }
-            Value::Position(position) => push_position(out, position, display),
+/// Adds the text of a cell, and tells how many columns of a terminal it takes.
+pub(crate) fn push_cell(
+    out: &mut Vec<u8>,
+    cell: &Cell<'_>,
+    scratch: &mut Scratch,
+    display: &Display<'_>,
+) -> Result<usize, AllocError>
+    ensures text { OnOk result (out.new.items ≡ out.old.items
+        ++ cell_text (decimals_of display.now) cell.now) }
+    ensures width { IfOk result (λ n. n
+        ≡ text_width (cell_text (decimals_of display.now) cell.now)) }
+{
+    match cell {
+        Cell::Null => Ok(0),
+        Cell::Number(number) => push_exact(out, *number),
+        Cell::Text(text) => push_clean(out, text.text(), &mut scratch.clean),
+        Cell::Day(day) => {
+            push_day(out, *day)?;
+            Ok(DAY_WIDTH)
         }
+        Cell::Set(set) => push_set(out, set.get(), &mut scratch.clean),
+        Cell::Amount(number, currency) => {
+            push_units(out, number.count, number.places, currency, display)
+        }
+        Cell::Position(position) => push_position(out, position.get(), scratch, display),
     }
+}
 
-    /// How many columns of a terminal the text takes.
-    pub(crate) fn width(
-        &self,
-        scratch: &mut Scratch,
-        display: &Display<'_>,
-    ) -> Result<usize, AllocError>
-        ensures { IfOk result (λ n. n
-            ≡ text_width (value_text (places_of display.now) (value_of self.now))) }
-    {
-        scratch.measured.clear();
-        match self {
-            Value::Null => Ok(0),
-            Value::Number(number) => push_exact(&mut scratch.measured, *number),
-            Value::Text(text) => clean_width(text, &mut scratch.clean),
-            Value::Day(_) => Ok(DAY_WIDTH),
-            Value::Position(position) => push_position(&mut scratch.measured, position, display),
+/// How many columns of a terminal the text of a cell takes.
+pub(crate) fn cell_width(
+    cell: &Cell<'_>,
+    scratch: &mut Scratch,
+    display: &Display<'_>,
+) -> Result<usize, AllocError>
+    ensures { IfOk result (λ n. n
+        ≡ text_width (cell_text (decimals_of display.now) cell.now)) }
+{
+    scratch.measured.clear();
+    match cell {
+        Cell::Null => Ok(0),
+        Cell::Number(number) => push_exact(&mut scratch.measured, *number),
+        Cell::Text(text) => clean_width(text.text(), &mut scratch.clean),
+        Cell::Day(_) => Ok(DAY_WIDTH),
+        Cell::Set(set) => set_width(set.get(), &mut scratch.clean),
+        Cell::Amount(number, currency) => {
+            let measured = &mut scratch.measured;
+            push_units(measured, number.count, number.places, currency, display)
         }
+        Cell::Position(position) => position_width(position.get(), scratch, display),
     }
 }

@@ -1,12 +1,10 @@
 //! The texts of numbers and days.
-ghost use Rattle.std.specs.Prelude.{◌≡◌, ◌+◌, ◌-◌, ◌/◌, ◌%◌, ◌^◌, [], ◌∷◌, ◌++◌, OnOk, length, if◌then◌else◌};
+ghost use Rattle.std.specs.Prelude.{◌≡◌, ◌≤◌, ◌<◌, ◌+◌, ◌-◌, ◌/◌, ◌%◌, ◌^◌, [], ◌∷◌, ◌++◌, OnOk, length, if◌then◌else◌};
 ghost use Rattle.std.specs.Int.RustNames.{unsigned_abs};
-ghost use Rattle.bean_base.specs.Days.{day_value};
-ghost use Rattle.table_printer.specs.Digits.{digits_of, exact_decimals, decimals_of, number_text, day_text, zeros};
+ghost use Rattle.table_printer.specs.Digits.{digits_of, exact_decimals, decimals_text, number_text, day_text, zeros};
 
 use crate::runs::push_run;
-use bean_base::days::Day;
-use bean_base::num::Num;
+use bean_base::Day;
 use itoa::Buffer;
 use std::alloc::AllocError;
 
@@ -16,23 +14,56 @@ fn digit(number: u64) -> u8
     b'0' + (number % 10) as u8
 }
 
-/// The last `places` digits of a number.
-fn push_digits(out: &mut Vec<u8>, places: u8, number: u64) -> Result<(), AllocError>
+fn power_of_ten(places: u8) -> u128
+    requires { places ≤ 32 }
+    ensures value { result ≡ 10 ^ places }
+    ensures some { 0 < result }
+    ensures narrow { result ≤ 100000000000000000000000000000000 }
+{
+    10u128.pow(places as u32)
+}
+
+/// The last `places` digits of a number, with zeros in front where it has fewer.
+fn push_digits(out: &mut Vec<u8>, places: u8, number: u128) -> Result<(), AllocError>
+    requires few { places ≤ 32 }
+    requires small { number < 10 ^ places }
     ensures { OnOk result (out.new.items ≡ out.old.items ++ digits_of places number) }
 {
-    if places == 0 {
-        return Ok(());
+    // A one before the digits keeps the zeros in front of them.
+    let mut buffer = Buffer::new();
+    let text = buffer.format(power_of_ten(places) + number);
+    if let Some((_, digits)) = text.as_bytes().split_first() {
+        out.extend_from_slice(digits)?;
     }
-    push_digits(out, places - 1, number / 10)?;
-    out.push(b'0' + (number % 10) as u8)?;
     Ok(())
 }
 
 /// Decimals without the zeros at their end behind the first `least`: how many they are, and the
 /// number that they write.
-fn without_zeros(places: u8, decimals: u64, least: u8) -> (u8, u64)
-    ensures { digits_of result.0 result.1 ++ zeros (least - result.0)
+fn without_zeros(places: u8, decimals: u128, least: u8) -> (u8, u128)
+    requires few { places ≤ 32 }
+    requires small { decimals < 10 ^ places }
+    ensures digits { digits_of result.0 result.1 ++ zeros (least - result.0)
         ≡ exact_decimals places decimals ++ zeros (least - length (exact_decimals places decimals)) }
+    ensures few { result.0 ≤ places }
+    ensures small { result.1 < 10 ^ result.0 }
+{
+    // Most have zeros alone behind the least: one division takes them off.
+    let surplus = places.saturating_sub(least);
+    let unit = power_of_ten(surplus);
+    if decimals % unit == 0 {
+        return (places - surplus, decimals / unit);
+    }
+    zeros_taken_off(places, decimals, least)
+}
+
+/// The same, one zero after the other.
+fn zeros_taken_off(places: u8, decimals: u128, least: u8) -> (u8, u128)
+    requires { decimals < 10 ^ places }
+    ensures digits { digits_of result.0 result.1 ++ zeros (least - result.0)
+        ≡ exact_decimals places decimals ++ zeros (least - length (exact_decimals places decimals)) }
+    ensures few { result.0 ≤ places }
+    ensures small { result.1 < 10 ^ result.0 }
 {
     let mut places = places;
     let mut decimals = decimals;
@@ -53,8 +84,10 @@ fn push_if(out: &mut Vec<u8>, mark: u8, is_wanted: bool) -> Result<(), AllocErro
 }
 
 /// The point and the decimals, as few as are exact but at least so many.
-fn push_decimals(out: &mut Vec<u8>, places: u8, decimals: u64, least: u8) -> Result<(), AllocError>
-    ensures { OnOk result (out.new.items ≡ out.old.items ++ decimals_of places decimals least) }
+fn push_decimals(out: &mut Vec<u8>, places: u8, decimals: u128, least: u8) -> Result<(), AllocError>
+    requires few { places ≤ 32 }
+    requires small { decimals < 10 ^ places }
+    ensures { OnOk result (out.new.items ≡ out.old.items ++ decimals_text places decimals least) }
 {
     let (shown, digits) = without_zeros(places, decimals, least);
     push_if(out, b'.', shown.max(least) > 0)?;
@@ -64,36 +97,45 @@ fn push_decimals(out: &mut Vec<u8>, places: u8, decimals: u64, least: u8) -> Res
 }
 
 /// The whole part of a number, and the number that its decimals write, signs left off.
-fn parts_of(number: Num) -> (u64, u64)
-    ensures whole { result.0 ≡ unsigned_abs number.count / 10 ^ number.places }
-    ensures decimals { result.1 ≡ unsigned_abs number.count % 10 ^ number.places }
+fn parts_of(count: i128, places: u8) -> (u128, u128)
+    requires { places ≤ 32 }
+    ensures whole { result.0 ≡ unsigned_abs count / 10 ^ places }
+    ensures decimals { result.1 ≡ unsigned_abs count % 10 ^ places }
 {
-    let magnitude = number.count.unsigned_abs();
-    let unit = 10u64.pow(number.places as u32);
+    let magnitude = count.unsigned_abs();
     match u64::try_from(magnitude) {
-        Ok(magnitude) => (magnitude / unit, magnitude % unit),
-        Err(_) => (
-            (magnitude / unit as u128) as u64,
-            (magnitude % unit as u128) as u64,
-        ),
+        // Most fit, and 64 bits are divided much faster than 128.
+        Ok(magnitude) if places < 20 => {
+            let unit = 10u64.pow(places as u32);
+            ((magnitude / unit) as u128, (magnitude % unit) as u128)
+        }
+        _ => {
+            let unit = power_of_ten(places);
+            (magnitude / unit, magnitude % unit)
+        }
     }
 }
 
-/// A number with the fewest decimals that are exact, but at least so many.
-pub(crate) fn push_number(out: &mut Vec<u8>, number: Num, least: u8) -> Result<(), AllocError>
-    ensures { OnOk result (out.new.items
-        ≡ out.old.items ++ number_text number.count number.places least) }
+/// The number `count` · `10^-places` with the fewest decimals that are exact, but at least so many.
+pub(crate) fn push_number(
+    out: &mut Vec<u8>,
+    count: i128,
+    places: u8,
+    least: u8,
+) -> Result<(), AllocError>
+    requires { places ≤ 32 }
+    ensures { OnOk result (out.new.items ≡ out.old.items ++ number_text count places least) }
 {
-    let (whole, decimals) = parts_of(number);
-    push_if(out, b'-', number.count < 0)?;
+    let (whole, decimals) = parts_of(count, places);
+    push_if(out, b'-', count < 0)?;
     out.extend_from_slice(Buffer::new().format(whole).as_bytes())?;
-    push_decimals(out, number.places, decimals, least)?;
+    push_decimals(out, places, decimals, least)?;
     Ok(())
 }
 
 /// A day as `2014-01-31`.
 pub(crate) fn push_day(out: &mut Vec<u8>, day: Day) -> Result<(), AllocError>
-    ensures { OnOk result (out.new.items ≡ out.old.items ++ day_text (day_value day)) }
+    ensures { OnOk result (out.new.items ≡ out.old.items ++ day_text day) }
 {
     let year = day.year().unsigned_abs() as u64;
     let month = day.month() as u64;

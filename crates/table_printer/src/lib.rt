@@ -1,18 +1,21 @@
-//! The text of a table: an answer's rows under their headers, in columns as wide as a terminal
-//! shows them.
+//! The text of a table: rows of cells under the names of their columns, in columns as wide as a
+//! terminal shows them.
 #![tactic(auto)]
 
-pub mod answer;
+mod answer;
 mod cells;
-mod columns;
 mod digits;
+mod headings;
 mod lines;
 pub mod output;
-pub mod rows;
+mod positions;
+mod rows;
 mod runs;
 pub mod short_writer;
 mod table;
 pub mod writing;
 
+pub use answer::Answer;
+pub use rows::Rows;
 pub use table::print;
-pub use writing::write_table;
+pub use writing::{PrintFault, write_table};

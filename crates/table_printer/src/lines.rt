@@ -1,53 +1,54 @@
 //! The lines of a table: the header line, the rule and the rows.
 ghost use Rattle.std.specs.Prelude.{◌≡◌, ◌<◌, ◌≤◌, ◌++◌, ◌∷◌, [], List, Some, length, vec_len, map, take, drop, slice_get, OnOk};
-ghost use Rattle.posting_table.specs.Decimals.{places_of};
-ghost use Rattle.table_printer.specs.Headers.{width_of};
+ghost use Rattle.bean_base.specs.Character.{line_feed};
+ghost use Rattle.posting_table.specs.Decimals.{decimals_of};
+ghost use Rattle.table_printer.specs.Heading.{width_of};
 ghost use Rattle.table_printer.specs.Layout.{trimmed, joined, rule_of, gap};
-ghost use Rattle.table_printer.specs.Lines.{CellValue, cell_value, shown_cell};
+ghost use Rattle.table_printer.specs.Line.{placed_text};
 ghost use Rattle.table_printer.specs.Table.{padded, pieces, line_of};
+ghost use Rattle.table_printer.specs.declared.lines.Placed.{Placed};
 
-use crate::answer::Value;
-use crate::cells::Scratch;
-use crate::columns::Column;
+use crate::cells::{Scratch, cell_width, is_number, push_cell};
+use crate::headings::Heading;
 use crate::rows::Rows;
 use crate::runs::push_run;
-use posting_table::display::Display;
+use posting_table::{Cell, Display};
 use std::alloc::AllocError;
 
-/// What stands in a line in one column.
-#[derive(Clone, Copy)]
-pub(crate) struct Cell<'a> {
-    pub value: Value<'a>,
+/// A cell, and whether it stands at the right of its column.
+#[derive(Drop)]
+pub(crate) struct Placed<'a> {
+    pub cell: Cell<'a>,
     pub stands_right: bool,
 }
 
 /// A line of cells.
 pub(crate) trait Line {
     /// The cells, from left to right.
-    ghost cells: { Self → List CellValue };
+    ghost cells: { Self → List Placed };
 
     /// The cell in a column.
-    fn cell(&self, column: usize) -> Cell<'_>
+    fn cell(&self, column: usize) -> Placed<'_>
         requires { column < length (cells self.now) }
-        ensures { Some (cell_value result) ≡ slice_get (cells self.now) column };
+        ensures { Some result ≡ slice_get (cells self.now) column };
 }
 
 /// The names of the columns; a name stands right over numbers.
 #[derive(Clone, Copy)]
 pub(crate) struct HeaderLine<'c, 't> {
-    pub columns: &'c [Column<'t>],
+    pub headings: &'c [Heading<'t>],
 }
 
 impl Line for HeaderLine<'_, '_> {
-    ghost use Rattle.table_printer.specs.Lines.{header_values};
+    ghost use Rattle.table_printer.specs.Line.{header_cells};
 
-    ghost cells = { λ line. header_values line.columns.now };
+    ghost cells = { λ line. header_cells line.headings.now };
 
-    fn cell(&self, column: usize) -> Cell<'_> {
-        let column = &self.columns[column];
-        Cell {
-            value: Value::Text(column.name),
-            stands_right: column.has_numbers,
+    fn cell(&self, column: usize) -> Placed<'_> {
+        let heading = &self.headings[column];
+        Placed {
+            cell: Cell::Text(heading.name.lend()),
+            stands_right: heading.has_numbers,
         }
     }
 }
@@ -60,22 +61,20 @@ pub(crate) struct RowLine<'t, T> {
 }
 
 impl<T: Rows> Line for RowLine<'_, T> {
-    ghost use Rattle.table_printer.specs.Lines.{row_values};
-    ghost use Rattle.table_printer.specs.Values.{row_at};
+    ghost use Rattle.table_printer.specs.CellText.{row_at};
+    ghost use Rattle.table_printer.specs.Line.{row_cells};
 
-    ghost cells = { λ line. row_values (row_at (T.rows line.table.now) line.row) };
+    ghost cells = { λ line. row_cells (row_at (T.rows line.table.now) line.row) };
 
-    fn cell(&self, column: usize) -> Cell<'_> {
-        let value = self.table.value(self.row, column);
-        Cell {
-            value,
-            stands_right: value.is_number(),
-        }
+    fn cell(&self, column: usize) -> Placed<'_> {
+        let cell = self.table.cell(self.row, column);
+        let stands_right = is_number(&cell);
+        Placed { cell, stands_right }
     }
 }
 
 /// How many bytes are left without the spaces at the end.
-#[tactic(auto, using(crate::proofs::Joined::shorter, crate::proofs::Joined::stays))]
+#[tactic(auto, using(crate::proofs::LayoutFacts::shorter, crate::proofs::LayoutFacts::stays))]
 fn trimmed_len(bytes: &[u8]) -> usize
     ensures trimmed { take result bytes.now ≡ trimmed bytes.now }
     ensures inside { result ≤ length bytes.now }
@@ -100,22 +99,22 @@ fn push_gap(out: &mut Vec<u8>, column: usize) -> Result<(), AllocError>
 /// A cell, filled up to its column's width.
 fn push_padded(
     out: &mut Vec<u8>,
-    cell: Cell<'_>,
-    column: usize,
+    placed: &Placed<'_>,
+    width: usize,
     scratch: &mut Scratch,
     display: &Display<'_>,
 ) -> Result<(), AllocError>
     ensures { OnOk result (out.new.items ≡ out.old.items
-        ++ padded column (shown_cell (places_of display.now) (cell_value cell.entry))) }
+        ++ padded width (placed_text (decimals_of display.now) placed.now)) }
 {
-    if cell.stands_right {
-        let width = cell.value.width(scratch, display)?;
-        push_run(out, b' ', column.saturating_sub(width))?;
-        cell.value.push_text(out, scratch, display)?;
+    if placed.stands_right {
+        let own = cell_width(&placed.cell, scratch, display)?;
+        push_run(out, b' ', width.saturating_sub(own))?;
+        push_cell(out, &placed.cell, scratch, display)?;
         return Ok(());
     }
-    let width = cell.value.push_text(out, scratch, display)?;
-    push_run(out, b' ', column.saturating_sub(width))?;
+    let own = push_cell(out, &placed.cell, scratch, display)?;
+    push_run(out, b' ', width.saturating_sub(own))?;
     Ok(())
 }
 
@@ -123,17 +122,17 @@ fn push_padded(
 fn push_joined<L: Line>(
     out: &mut Vec<u8>,
     line: &L,
-    columns: &[Column<'_>],
+    headings: &[Heading<'_>],
     scratch: &mut Scratch,
     display: &Display<'_>,
 ) -> Result<(), AllocError>
-    requires { length (L.cells line.now) ≡ length columns.now }
-    ensures { OnOk result (out.new.items ≡ out.old.items ++ joined (pieces (map width_of columns.now)
-        (map (shown_cell (places_of display.now)) (L.cells line.now)))) }
+    requires { length (L.cells line.now) ≡ length headings.now }
+    ensures { OnOk result (out.new.items ≡ out.old.items ++ joined (pieces (map width_of headings.now)
+        (map (placed_text (decimals_of display.now)) (L.cells line.now)))) }
 {
-    for (i, column) in columns.iter().enumerate() {
+    for (i, heading) in headings.iter().enumerate() {
         push_gap(out, i)?;
-        push_padded(out, line.cell(i), column.width, scratch, display)?;
+        push_padded(out, &line.cell(i), heading.width, scratch, display)?;
     }
     Ok(())
 }
@@ -141,7 +140,7 @@ fn push_joined<L: Line>(
 /// Ends the line that begins at `start`: no spaces stand at its end.
 fn end_line(out: &mut Vec<u8>, start: usize) -> Result<(), AllocError>
     requires { start ≤ vec_len out.old }
-    ensures { OnOk result (out.new.items ≡ take start out.old.items ++ trimmed (drop start out.old.items) ++ 10 ∷ []) }
+    ensures { OnOk result (out.new.items ≡ take start out.old.items ++ trimmed (drop start out.old.items) ++ line_feed ∷ []) }
 {
     let len = trimmed_len(&out[start..]);
     out.truncate(start + len);
@@ -153,27 +152,27 @@ fn end_line(out: &mut Vec<u8>, start: usize) -> Result<(), AllocError>
 pub(crate) fn push_line<L: Line>(
     out: &mut Vec<u8>,
     line: &L,
-    columns: &[Column<'_>],
+    headings: &[Heading<'_>],
     scratch: &mut Scratch,
     display: &Display<'_>,
 ) -> Result<(), AllocError>
-    requires { length (L.cells line.now) ≡ length columns.now }
-    ensures { OnOk result (out.new.items ≡ out.old.items ++ line_of (map width_of columns.now)
-        (map (shown_cell (places_of display.now)) (L.cells line.now))) }
+    requires { length (L.cells line.now) ≡ length headings.now }
+    ensures { OnOk result (out.new.items ≡ out.old.items ++ line_of (map width_of headings.now)
+        (map (placed_text (decimals_of display.now)) (L.cells line.now))) }
 {
     let start = out.len();
-    push_joined(out, line, columns, scratch, display)?;
+    push_joined(out, line, headings, scratch, display)?;
     end_line(out, start)?;
     Ok(())
 }
 
 /// The line that rules off the header.
-pub(crate) fn push_rule(out: &mut Vec<u8>, columns: &[Column<'_>]) -> Result<(), AllocError>
-    ensures { OnOk result (out.new.items ≡ out.old.items ++ rule_of (map width_of columns.now)) }
+pub(crate) fn push_rule(out: &mut Vec<u8>, headings: &[Heading<'_>]) -> Result<(), AllocError>
+    ensures { OnOk result (out.new.items ≡ out.old.items ++ rule_of (map width_of headings.now)) }
 {
-    for (i, column) in columns.iter().enumerate() {
+    for (i, heading) in headings.iter().enumerate() {
         push_gap(out, i)?;
-        push_run(out, b'-', column.width)?;
+        push_run(out, b'-', heading.width)?;
     }
     out.push(b'\n')?;
     Ok(())

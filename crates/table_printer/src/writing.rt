@@ -1,7 +1,7 @@
 //! Writing a table to an output.
 ghost use Rattle.std.specs.Prelude.{◌≡◌, ◌≤◌, ◌<◌, length, take, All, IfOk};
 ghost use Rattle.std.specs.Io.KnownBytes.{Appends, Keeps};
-ghost use Rattle.posting_table.specs.Decimals.{places_of};
+ghost use Rattle.posting_table.specs.Decimals.{decimals_of};
 ghost use Rattle.table_printer.specs.Faults.{WritesTable};
 ghost use Rattle.table_printer.specs.Table.{table_text};
 ghost use Rattle.table_printer.specs.Writing.{Refused};
@@ -9,7 +9,7 @@ ghost use Rattle.table_printer.specs.Writing.{Refused};
 use crate::output::{NotTaken, Output};
 use crate::rows::Rows;
 use crate::table::print;
-use posting_table::display::Display;
+use posting_table::Display;
 use std::alloc::{AllocError, Global};
 use thiserror::Error;
 
@@ -40,7 +40,7 @@ pub fn write_bytes<W: Output>(out: &mut W, bytes: &[u8]) -> usize
     written
 }
 
-/// Writes the table of rows: each has as many values as there are columns. The whole text is made
+/// Writes the table of rows: each has as many cells as there are columns. The whole text is made
 /// before the first byte is handed over, so where memory lacks the output has none of it.
 pub fn write_table<T: Rows, W: Output>(
     alloc: Global,
@@ -50,7 +50,7 @@ pub fn write_table<T: Rows, W: Output>(
 ) -> Result<u64, PrintFault>
     requires { All (λ row. length row ≡ length (T.names table.now)) (T.rows table.now) }
     ensures { WritesTable W W.taken W.may_answer out.old out.new
-        (table_text (T.names table.now) (T.rows table.now) (places_of display.now)) result }
+        (table_text (T.names table.now) (T.rows table.now) (decimals_of display.now)) result }
 {
     let Ok(text) = print(alloc, table, display) else {
         return Err(PrintFault::OutOfMemory);

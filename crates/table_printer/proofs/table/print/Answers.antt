@@ -1,21 +1,21 @@
 use Rattle.std.proofs.Common.{List, ℕ, ◌++◌, map, ◌∙◌}
 use Rattle.std.specs.List.{flat_map}
-use Rattle.posting_table.specs.Decimals.{places_of}
-use Rattle.table_printer.specs.Headers.{width_of}
+use Rattle.posting_table.specs.Decimals.{decimals_of}
+use Rattle.table_printer.specs.Heading.{width_of}
 use Rattle.table_printer.specs.Layout.{rule_of}
-use Rattle.table_printer.specs.Lines.{shown_cell, header_values}
-use Rattle.table_printer.specs.Table.{Cell, cell_of, line_of}
-use Rattle.table_printer.proofs.Seen.{header_cells}
+use Rattle.table_printer.specs.Line.{placed_text, header_cells}
+use Rattle.table_printer.specs.Table.{PlacedText, text_of, line_of}
+use Rattle.table_printer.proofs.InColumn.{header_texts}
 use Rattle.table_printer.proofs.table.print.Goals as goal
 
 -- the header line, the rule and the rows, of the widths of all
 pub returns : goal.returns
 returns g c =
-    let places = places_of c.args.display.now in
-    let lines : List (List Cell) = map (map (cell_of places)) (g.T.Rows.rows c.args.table.now) in
-    let header_line = c.in_ok-push_line.ensures ∙ (λ k. c.new-out.ensures.items k ++ line_of (map width_of (c.deref-2.ensures.value k)) (map (shown_cell places) (header_values (c.deref.ensures.value k)))) in
+    let places = decimals_of c.args.display.now in
+    let lines : List (List PlacedText) = map (map (text_of places)) (g.T.Rows.rows c.args.table.now) in
+    let header_line = c.in_ok-push_line.ensures ∙ (λ k. c.new-out.ensures.items k ++ line_of (map width_of (c.deref-2.ensures.value k)) (map (placed_text places) (header_cells (c.deref.ensures.value k)))) in
     let rule = c.in_ok-push_rule.ensures ∙ (λ k. header_line k ++ rule_of (map width_of (c.deref-3.ensures.value k))) in
     let all = c.in_ok-push_rows.ensures ∙ (λ k. rule k ++ flat_map (line_of (map width_of (c.deref-4.ensures.value k))) lines) in
-    let widths = c.in_ok-columns.ensures.widths in
-    let headers = header_cells places c.in_ok-columns.columns.items ∙ c.in_ok-columns.ensures.headers in
+    let widths = c.in_ok-headings.ensures.widths in
+    let headers = header_texts places c.in_ok-headings.headings.items ∙ c.in_ok-headings.ensures.headers in
     all ∙ (λ k. (line_of (widths k) (headers k) ++ rule_of (widths k)) ++ flat_map (line_of (widths k)) lines)

@@ -1,25 +1,25 @@
 use Rattle.std.proofs.Common.{◌<◌, ◌++◌, List, ℕ, length, map, sym, ap, ◌∙◌, arith, append_assoc}
 use Rattle.std.specs.List.{flat_map}
 use Rattle.std.proofs.lemmas.List.{take_all}
-use Rattle.posting_table.specs.Decimals.{places_of}
-use Rattle.table_printer.specs.Headers.{width_of}
-use Rattle.table_printer.specs.Table.{cell_of, line_of}
-use Rattle.table_printer.specs.Values.{row_at}
-use Rattle.table_printer.proofs.Pieces.{lines_more}
-use Rattle.table_printer.proofs.Seen.{row_cells, row_is}
+use Rattle.posting_table.specs.Decimals.{decimals_of}
+use Rattle.table_printer.specs.Heading.{width_of}
+use Rattle.table_printer.specs.Table.{text_of, line_of}
+use Rattle.table_printer.specs.CellText.{row_at}
+use Rattle.table_printer.proofs.TableFacts.{lines_more}
+use Rattle.table_printer.proofs.InColumn.{row_texts, row_is}
 use Rattle.table_printer.proofs.table.push_rows.Goals as goal
 
 pub loop-row-preserved : goal.loop-row-preserved
 loop-row-preserved g c =
-    let places = places_of c.args.display.now in
-    let ws : List ℕ = map width_of c.args.columns.now in
+    let places = decimals_of c.args.display.now in
+    let ws : List ℕ = map width_of c.args.headings.now in
     let rows = g.T.Rows.rows c.args.table.now in
     let i = c.loop-row.row in
     let within : i < length rows = omega (arith, c.loop-row-test.true, c.len-row-end.ensures) in
-    c.in_ok-push_line.ensures ∙ (λ k. c.loop-row.invariant k ++ line_of ws (row_cells places (row_at rows i) k)) ∙ append_assoc c.args.out.now.items _ _
-    ∙ ap (λ l. c.args.out.now.items ++ l) (sym (lines_more (line_of ws) (map (cell_of places)) rows i (row_at rows i) within (row_is rows i within)))
+    c.in_ok-push_line.ensures ∙ (λ k. c.loop-row.invariant k ++ line_of ws (row_texts places (row_at rows i) k)) ∙ append_assoc c.args.out.now.items _ _
+    ∙ ap (λ l. c.args.out.now.items ++ l) (sym (lines_more (line_of ws) (map (text_of places)) rows i (row_at rows i) within (row_is rows i within)))
 
 pub returns : goal.returns
 returns g c =
-    c.loop-row.invariant ∙ ap (λ rows. c.args.out.now.items ++ flat_map (line_of (map width_of c.args.columns.now)) (map (map (cell_of (places_of c.args.display.now))) rows))
+    c.loop-row.invariant ∙ ap (λ rows. c.args.out.now.items ++ flat_map (line_of (map width_of c.args.headings.now)) (map (map (text_of (decimals_of c.args.display.now))) rows))
     (take_all c.loop-row.row (g.T.Rows.rows c.args.table.now) (omega (arith, c.loop-row-test.false, c.len-row-end.ensures)))

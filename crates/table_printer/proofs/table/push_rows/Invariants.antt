@@ -1,9 +1,9 @@
 use Rattle.std.proofs.Common.{◌≡◌, ◌++◌, take, map}
 use Rattle.std.specs.List.{flat_map}
-use Rattle.posting_table.specs.Decimals.{places_of}
-use Rattle.table_printer.specs.Headers.{width_of}
-use Rattle.table_printer.specs.Table.{line_of, cell_of}
+use Rattle.posting_table.specs.Decimals.{decimals_of}
+use Rattle.table_printer.specs.Heading.{width_of}
+use Rattle.table_printer.specs.Table.{line_of, text_of}
 use Rattle.table_printer.proofs.table.push_rows.Given as goal
 
 abbrev pub invariant-loop-row : goal.invariant-loop-row
-invariant-loop-row g l = l.out.items ≡ l.initial.out.items ++ flat_map (line_of (map width_of l.columns)) (map (map (cell_of (places_of l.display))) (take l.row (g.T.Rows.rows l.table)))
+invariant-loop-row g l = l.out.items ≡ l.initial.out.items ++ flat_map (line_of (map width_of l.headings)) (map (map (text_of (decimals_of l.display))) (take l.row (g.T.Rows.rows l.table)))

@@ -1,8 +1,0 @@
-use Rattle.std.proofs.Common.{◌≡◌, encode_utf8}
-use Rattle.std.specs.List.{flat_map}
-use Rattle.std.specs.String.{string_bytes}
-use Rattle.table_printer.specs.Values.{shown_character}
-use Rattle.table_printer.proofs.cells.make_clean.Given as goal
-
-abbrev pub invariant-loop-c : goal.invariant-loop-c
-invariant-loop-c l = string_bytes l.clean ≡ flat_map (λ c. encode_utf8 (shown_character c)) l.yielded

@@ -1,9 +1,0 @@
-use Rattle.std.proofs.Common.{◌≡◌}
-use Rattle.table_printer.specs.Digits.{exact_decimals}
-use Rattle.table_printer.proofs.digits.without_zeros.Given as goal
-
-abbrev pub invariant-loop-places : goal.invariant-loop-places
-invariant-loop-places l = exact_decimals l.places l.decimals ≡ exact_decimals l.fn.places l.fn.decimals
-
-abbrev pub decreases-loop-places : goal.decreases-loop-places
-decreases-loop-places l = l.places

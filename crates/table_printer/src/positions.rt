@@ -1,0 +1,146 @@
+//! The texts of positions, and how wide they are.
+ghost use Rattle.std.specs.Prelude.{◌≡◌, ◌++◌, Some, OnOk, IfOk, true};
+ghost use Rattle.std.specs.Int.{is_in_range};
+ghost use Rattle.std.specs.List.{list_all};
+ghost use Rattle.std.specs.String.{string_bytes};
+ghost use Rattle.posting_table.specs.Decimals.{decimals_of};
+ghost use Rattle.table_printer.specs.Digits.{day_text};
+ghost use Rattle.table_printer.specs.Table.{text_width};
+ghost use Rattle.table_printer.specs.CellText.{label_text, lot_text, position_text, units_text};
+
+use crate::cells::{Scratch, add_clean, push_units};
+use crate::digits::push_day;
+use bean_base::{Currency, Day, Text};
+use bean_lots::{Lot, Position};
+use posting_table::Display;
+use std::alloc::AllocError;
+use unicode_width::UnicodeWidthStr;
+
+/// The decimals of the counts of positions and costs.
+const COUNT_PLACES: u8 = 8;
+
+/// Adds printable ASCII characters.
+fn add_printable(clean: &mut String, bytes: &[u8]) -> Result<(), AllocError>
+    requires { list_all (is_in_range 32 126) bytes.now ≡ true }
+    ensures { OnOk result (string_bytes clean.new ≡ string_bytes clean.old ++ bytes.now) }
+{
+    if let Ok(text) = str::from_utf8(bytes) {
+        clean.push_str(text)?;
+    }
+    Ok(())
+}
+
+/// Adds the number `count` · `10^-8` and a currency.
+fn add_units(
+    scratch: &mut Scratch,
+    count: i128,
+    currency: &Currency<'_>,
+    display: &Display<'_>,
+) -> Result<(), AllocError>
+    ensures { OnOk result (string_bytes scratch.new.clean ≡ string_bytes scratch.old.clean
+        ++ units_text (decimals_of display.now) count COUNT_PLACES currency.now) }
+{
+    scratch.measured.clear();
+    push_units(&mut scratch.measured, count, COUNT_PLACES, currency, display)?;
+    add_printable(&mut scratch.clean, &scratch.measured)?;
+    Ok(())
+}
+
+fn add_day(scratch: &mut Scratch, day: Day) -> Result<(), AllocError>
+    ensures { OnOk result (string_bytes scratch.new.clean
+        ≡ string_bytes scratch.old.clean ++ day_text day) }
+{
+    scratch.measured.clear();
+    push_day(&mut scratch.measured, day)?;
+    add_printable(&mut scratch.clean, &scratch.measured)?;
+    Ok(())
+}
+
+/// Adds a label between quotes, where there is one.
+fn add_label(scratch: &mut Scratch, label: &Option<Text<'_>>) -> Result<(), AllocError>
+    ensures { OnOk result (string_bytes scratch.new.clean
+        ≡ string_bytes scratch.old.clean ++ label_text label.now) }
+{
+    if let Some(label) = label {
+        scratch.clean.push_str(", \"")?;
+        scratch.read.clear();
+        label.add_to(&mut scratch.read)?;
+        add_clean(&mut scratch.clean, &scratch.read)?;
+        scratch.clean.push_str("\"")?;
+    }
+    Ok(())
+}
+
+fn add_lot(scratch: &mut Scratch, lot: &Lot<'_>, display: &Display<'_>) -> Result<(), AllocError>
+    ensures { OnOk result (string_bytes scratch.new.clean
+        ≡ string_bytes scratch.old.clean ++ lot_text (decimals_of display.now) lot.now) }
+{
+    scratch.clean.push_str(" {")?;
+    add_units(scratch, lot.cost.count, &lot.cost.currency, display)?;
+    scratch.clean.push_str(", ")?;
+    add_day(scratch, lot.day)?;
+    add_label(scratch, &lot.label)?;
+    scratch.clean.push_str("}")?;
+    Ok(())
+}
+
+/// The text of a position that is held as a lot, in place of what was there.
+fn make_position(
+    scratch: &mut Scratch,
+    position: &Position<'_>,
+    lot: &Lot<'_>,
+    display: &Display<'_>,
+) -> Result<(), AllocError>
+    requires { position.now.key.lot ≡ Some lot.now }
+    ensures { OnOk result (string_bytes scratch.new.clean
+        ≡ position_text (decimals_of display.now) position.now) }
+{
+    scratch.clean.clear();
+    add_units(scratch, position.count, &position.key.currency, display)?;
+    add_lot(scratch, lot, display)?;
+    Ok(())
+}
+
+/// Adds a position, and tells its width.
+pub(crate) fn push_position(
+    out: &mut Vec<u8>,
+    position: &Position<'_>,
+    scratch: &mut Scratch,
+    display: &Display<'_>,
+) -> Result<usize, AllocError>
+    ensures text { OnOk result (out.new.items ≡ out.old.items
+        ++ position_text (decimals_of display.now) position.now) }
+    ensures width { IfOk result (λ n. n
+        ≡ text_width (position_text (decimals_of display.now) position.now)) }
+{
+    match &position.key.lot {
+        None => push_units(out, position.count, COUNT_PLACES, &position.key.currency, display),
+        Some(lot) => {
+            make_position(scratch, position, lot, display)?;
+            out.extend_from_slice(scratch.clean.as_bytes())?;
+            Ok(scratch.clean.width())
+        }
+    }
+}
+
+/// How many columns of a terminal a position takes.
+pub(crate) fn position_width(
+    position: &Position<'_>,
+    scratch: &mut Scratch,
+    display: &Display<'_>,
+) -> Result<usize, AllocError>
+    ensures { IfOk result (λ n. n
+        ≡ text_width (position_text (decimals_of display.now) position.now)) }
+{
+    match &position.key.lot {
+        None => {
+            let (count, currency) = (position.count, &position.key.currency);
+            scratch.measured.clear();
+            push_units(&mut scratch.measured, count, COUNT_PLACES, currency, display)
+        }
+        Some(lot) => {
+            make_position(scratch, position, lot, display)?;
+            Ok(scratch.clean.width())
+        }
+    }
+}
