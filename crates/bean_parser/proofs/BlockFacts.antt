@@ -1,5 +1,5 @@
 -- A block, from its first line and those under it.
-use Rattle.std.proofs.Common.{◌≡◌, ℕ, suc, arith, ◌==◌, Bool, true, false, List, [], ◌∷◌, length, map, take, drop, Option, Some, None, refl, sym, ◌∙◌, ap, subst}
+use Rattle.std.proofs.Common.{◌≡◌, ℕ, suc, arith, ◌==◌, true, false, List, [], ◌∷◌, length, map, take, drop, Some, None, sym, ◌∙◌, ap, subst}
 use Rattle.std.proofs.lemmas.Bool.Decides.{nat_tests}
 use Rattle.theory.specs.Cut.{cut_before}
 use Rattle.theory.specs.Form.{Is, IsNone}
@@ -12,7 +12,6 @@ use Rattle.bean_parser.specs.declared.directive.Posting.{Posting}
 use Rattle.bean_parser.specs.declared.ranged.Ranged.{Ranged}
 use Rattle.bean_parser.specs.Block.{Line, line_of, lines, first_line, begins_line, is_in_column_one}
 use Rattle.bean_parser.specs.Lexeme.{lexemes}
-use Rattle.bean_parser.specs.Ranged.{all_within}
 use Rattle.bean_parser.specs.Grammar.{head, ArePostings, has_lines, MayStandUnder, directive_of, Tree, HaveTree, HasTree}
 use Rattle.bean_parser.specs.Reading.{BeginsWith, ReadsPostings, ReadsBlock}
 use Rattle.bean_parser.proofs.OneTree.{same_head}
@@ -71,10 +70,6 @@ not_empty n e = absurd (grind (arith, nat_tests))
 no_postings : (under : List Token) (ps : List (Ranged Posting)) → (length under == 0) ≡ true → ArePostings (lines under) ps → ps ≡ []
 no_postings [] ps empty are = are
 no_postings (t ∷ ts) ps empty are = absurd (not_empty (length ts) empty)
-
-
-
-
 
 pub block_is : (block : List Token) (day : Ranged days.Day) (kind : DirectiveKind) (under : List Token) (line : ℕ) (postings : Ranged (List Posting)) (v : Ranged Directive) → BeginsWith block day kind under
     → (has_lines kind ≡ false → (length under == 0) ≡ true) → ReadsPostings (lines under) (Some postings) → line ≡ first_line block → v ≡ directive_of line day kind postings → ReadsBlock block (Some v)

@@ -1,6 +1,6 @@
 -- What the rules of the grammar read.
-use Rattle.std.proofs.Common.{◌≡◌, ℕ, Bool, true, false, List, [], ◌∷◌, Option, Some, None, MatchOption, refl, sym, ◌∙◌, ap, subst}
-use Rattle.theory.specs.Form.{Form, Reads, HasNone, Is, IsNone, word, made, ◌<+>◌, behind, due, either, related, pair}
+use Rattle.std.proofs.Common.{◌≡◌, ℕ, Bool, true, false, List, [], ◌∷◌, Option, Some, None, MatchOption, refl, ◌∙◌, ap, subst}
+use Rattle.theory.specs.Form.{Form, Reads, HasNone, Is, IsNone, word, made, ◌<+>◌, behind, due, pair}
 use Rattle.theory.proofs.FormFacts.{Tells, Avoids, reads_word, reads_made, reads_applied, none_first, none_next, reads_behind, none_behind, reads_due, reads_not_due, reads_left, reads_right, none_left, none_right, reads_related, none_related, is_all, none_whole, more_than_whole}
 use Rattle.bean_base.specs.declared.amounts.Amount as amounts
 use Rattle.bean_base.specs.declared.days.Day as days

@@ -1,5 +1,5 @@
 -- Lexemes are told apart by what they are and what they hold.
-use Rattle.std.proofs.Common.{◌≡◌, ℕ, Bool, true, false, List, [], ◌∷◌, refl, sym, ◌∙◌, ap}
+use Rattle.std.proofs.Common.{◌≡◌, ℕ, true, false, List, ◌∷◌, refl, ◌∙◌, ap}
 use denote.Enum.Bare.{sameb, same_false}
 use Rattle.theory.proofs.FormFacts.{IsExact}
 use Rattle.bean_lexer.specs.contracts.kind.Keyword as keyword_type
@@ -7,12 +7,10 @@ use Rattle.bean_lexer.specs.contracts.kind.Sign as sign_type
 use Rattle.bean_lexer.specs.declared.kind.Kind.{Kind}
 use Rattle.bean_lexer.specs.declared.kind.Kind.TheVariants as kind
 use Rattle.bean_lexer.specs.declared.kind.Keyword as keywords
-use Rattle.bean_lexer.specs.declared.kind.Keyword.TheVariants as word
 use Rattle.bean_lexer.specs.declared.kind.Sign as signs
-use Rattle.bean_lexer.specs.declared.kind.Sign.TheVariants as mark
-use Rattle.bean_lexer.proofs.WordSteps.{spelled, not_both}
-use Rattle.bean_lexer.proofs.OneList.{one_keyword, one_sign}
-use Rattle.bean_parser.specs.Lexeme.{Lexeme, Day, Number, Text, Account, Currency, FlagWord, Star, Bang, Txn, flag_word, plus_or_minus, lexeme_at, same_keyword, same_sign, begins_with_keyword, begins_with_sign}
+use Rattle.bean_lexer.proofs.WordFacts.{spelled, not_both}
+use Rattle.bean_lexer.proofs.OneListOfTokensFacts.{one_keyword, one_sign}
+use Rattle.bean_parser.specs.Lexeme.{Lexeme, Day, Number, Text, Account, Currency, Star, Bang, Txn, flag_word, plus_or_minus, lexeme_at, same_keyword, same_sign, begins_with_keyword, begins_with_sign}
 
 -- words and signs that are not `==` are spelled in two ways
 another_spelling : (a b : keywords.Keyword) → sameb keyword_type.the_type a b ≡ false → same_keyword a b ≡ false

@@ -8,3 +8,4 @@ pub mod BlockFacts
 pub mod BlockReaderFacts
 pub mod ParsedFacts
 pub mod OneReadingFacts
+mod Examples

@@ -2,12 +2,12 @@
 use Rattle.std.proofs.Common.{◌≡◌, ℕ, ◌⊎◌, inl, inr, List, [], ◌∷◌, Option, Some, None, refl, sym, ◌∙◌, ap, subst}
 use Rattle.bean_base.specs.declared.fault.Fault as faults
 use Rattle.bean_lexer.specs.declared.token.Token.{Token}
-use Rattle.bean_lexer.proofs.OneList.{one_list}
+use Rattle.bean_lexer.proofs.OneListOfTokensFacts.{one_list}
 use Rattle.bean_parser.specs.declared.block.Outcome.{Outcome}
 use Rattle.bean_parser.specs.declared.block.Outcome.TheVariants.{Directive, Fault}
 use Rattle.bean_parser.specs.declared.directive.Directive as directives
 use Rattle.bean_parser.specs.declared.parse.Parsed.{Parsed}
-use Rattle.bean_parser.specs.declared.ranged.Ranged.TheVariants.{Within, Outside}
+use Rattle.bean_parser.specs.declared.ranged.Ranged.TheVariants.{Within}
 use Rattle.bean_parser.specs.Block.{fault_line, blocks}
 use Rattle.bean_parser.specs.Grammar.{directive_in}
 use Rattle.bean_parser.specs.Outcome.{ReadsAs, GivesAt, Gives, BlocksGive, Nothing, ADirective, AFault}

@@ -1,6 +1,6 @@
 -- A block has at most one tree.
-use Rattle.std.proofs.Common.{◌≡◌, ℕ, List, [], ◌∷◌, refl, sym, ◌∙◌, ap}
-use Rattle.theory.specs.Form.{Is, IsUnambiguous, word, made, ◌<+>◌, behind, due, either, related, pair}
+use Rattle.std.proofs.Common.{◌≡◌, ℕ, List, [], ◌∷◌, refl, sym, ◌∙◌}
+use Rattle.theory.specs.Form.{Is, IsUnambiguous, word, made, ◌<+>◌, behind, due, pair}
 use Rattle.theory.proofs.OneReading.{one_word, one_made, one_applied, one_behind, one_due, one_either, one_related, one_value}
 use Rattle.bean_base.specs.declared.days.Day as days
 use Rattle.bean_lexer.specs.declared.kind.Keyword.TheVariants as keyword

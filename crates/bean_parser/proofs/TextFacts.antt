@@ -1,8 +1,8 @@
 -- Where a quoted text begins and ends.
-use Rattle.std.proofs.Common.{◌≡◌, ℕ, zero, suc, ◌-◌, ◌<◌, ◌≤◌, Bool, true, false, ◌&&◌, cond, nat_eq, List, [], ◌∷◌, length, get_or, IsUtf8, arith, refl, ap, ◌∙◌}
+use Rattle.std.proofs.Common.{◌≡◌, ℕ, suc, ◌-◌, ◌<◌, ◌≤◌, Bool, true, false, cond, nat_eq, List, [], ◌∷◌, length, get_or, arith, refl, ap, ◌∙◌}
 use Rattle.std.proofs.lemmas.Bool.Decides.{nat_tests}
 use Rattle.bean_lexer.specs.TokenForm.{is_text, ends_text, is_escape, is_empty}
-use Rattle.bean_lexer.proofs.Leads.{second_true}
+use Rattle.bean_lexer.proofs.FirstByteFacts.{second_true}
 
 -- a text ends with a quote
 abbrev pub EndsQuoted : List ℕ → Type 0

@@ -1,4 +1,30 @@
-//! The directives of a ledger's text.
+//! The directives of a ledger's text, and its faults.
+//!
+//! ```text
+//! let parsed = parse(alloc, "2014-01-01 open Assets:Cash\n\
+//!     2014-01-02 * \"Shop\" \"Bread\"\n  Assets:Cash  -1.50 USD\n  Expenses:Food  1.50 USD\n")?;
+//! // parsed.directives: an Open on line 1; a Transaction on line 2 with the payee Shop, the narration
+//! // Bread and two postings. parsed.faults: none.
+//! ```
+//!
+//! A block is a line with a token in the first column, with the indented lines behind it; each block
+//! gives its directive or its one fault, in reading order. The grammar, which stands in
+//! `specs/Grammar`, has at most one tree for a block, and a text says one thing.
+//!
+//! Names and texts are slices of the ledger's text: they cost no memory, and live as long as it does.
+//!
+//! # Faults
+//!
+//! Of a block, the first of these, at its first line (`F1` at its token's), in file 0:
+//!
+//! - `F1`, where it holds a token that is none of the language,
+//! - `F2`, where the grammar has no tree for it,
+//! - `F3`, where it has one, and a day that the calendar lacks stands there, or a number with more
+//!   than 12 whole digits or 8 decimals.
+//!
+//! # Cost
+//!
+//! Linear in the text. It takes the memory of what it answers, and of the tokens of the longest block.
 #![tactic(auto)]
 
 mod block;
@@ -11,3 +37,6 @@ pub mod parse;
 mod part;
 pub mod ranged;
 mod reader;
+
+pub use directive::{Directive, DirectiveKind, Open, Posting, Transaction};
+pub use parse::Parsed;

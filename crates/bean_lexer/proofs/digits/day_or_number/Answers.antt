@@ -1,5 +1,5 @@
 use Rattle.std.proofs.Common.{inl, sym, ◌∙◌}
-use Rattle.bean_lexer.proofs.DayNumber.{day_token, day_boundary, number_token}
+use Rattle.bean_lexer.proofs.DayFacts.{day_token, day_boundary, number_token}
 use Rattle.bean_lexer.proofs.digits.day_or_number.Goals as goal
 
 pub returns-then-begins_with_day-clause-token : goal.returns-then-begins_with_day-clause-token

@@ -1,5 +1,5 @@
 use Rattle.std.proofs.Common.{sym, ◌∙◌}
-use Rattle.bean_lexer.proofs.NumberSteps.{whole_starts, whole_goes_on, number_with_point, point_boundary, number_without_point}
+use Rattle.bean_lexer.proofs.NumberFacts.{whole_starts, whole_goes_on, number_with_point, point_boundary, number_without_point}
 use Rattle.bean_lexer.proofs.digits.number_len.Goals as goal
 
 pub loop-len-init : goal.loop-len-init

@@ -1,5 +1,5 @@
 use Rattle.std.proofs.Common.{◌-◌, length}
-use Rattle.bean_lexer.proofs.NumberSteps.{ReadsWhole}
+use Rattle.bean_lexer.proofs.NumberFacts.{ReadsWhole}
 use Rattle.bean_lexer.proofs.digits.number_len.Given as goal
 
 abbrev pub invariant-loop-len : goal.invariant-loop-len

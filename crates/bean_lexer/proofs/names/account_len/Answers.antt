@@ -2,8 +2,8 @@ use Rattle.std.proofs.Common.{◌≡◌, ◌+◌, ◌-◌, ◌<◌, arith, sym, 
 use Rattle.bean_lexer.specs.Lookahead.{root_len, begins_component_at}
 use Rattle.theory.specs.LongestFront.{IsLongestFront, HasNoFront}
 use Rattle.bean_base.specs.Name.{is_account}
-use Rattle.bean_lexer.proofs.AccountSteps.{names_start, names_go_on, names_end, are_names}
-use Rattle.bean_lexer.proofs.Roots.{no_root_at, no_component, account_is, root_is_long, root_colon}
+use Rattle.bean_lexer.proofs.AccountFacts.{names_start, names_go_on, names_end, are_names}
+use Rattle.bean_lexer.proofs.RootFacts.{no_root_at, no_component, account_is, root_is_long, root_colon}
 use Rattle.bean_lexer.proofs.names.account_len.Goals as goal
 use Rattle.bean_lexer.proofs.names.account_len.Goals.{then-root-eq0-via-then-root-eq0, then-root-eq0-via-else-root-eq0+then-not-begins_component_at}
 

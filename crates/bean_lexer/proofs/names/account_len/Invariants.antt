@@ -1,5 +1,5 @@
 use Rattle.std.proofs.Common.{◌-◌, length}
-use Rattle.bean_lexer.proofs.AccountSteps.{ReadsNames}
+use Rattle.bean_lexer.proofs.AccountFacts.{ReadsNames}
 use Rattle.bean_lexer.proofs.names.account_len.Given as goal
 
 abbrev pub invariant-loop-len : goal.invariant-loop-len

@@ -1,5 +1,5 @@
 use Rattle.std.proofs.Common.{inl}
-use Rattle.bean_lexer.proofs.CapitalSteps.{account_token}
+use Rattle.bean_lexer.proofs.CapitalFacts.{account_token}
 use Rattle.bean_lexer.proofs.names.account_or_currency.Goals as goal
 
 pub returns-in-Some-clause-token : goal.returns-in-Some-clause-token

@@ -1,5 +1,5 @@
 use Rattle.std.proofs.Common.{sym, ◌∙◌, subst}
-use Rattle.bean_lexer.proofs.CurrencySteps.{TrimsCurrency, trim_starts, bad_goes_on, good_end, trim_boundary}
+use Rattle.bean_lexer.proofs.CurrencyFacts.{TrimsCurrency, trim_starts, bad_goes_on, good_end, trim_boundary}
 use Rattle.bean_lexer.proofs.names.currency_len.Goals as goal
 
 pub loop-len-init : goal.loop-len-init

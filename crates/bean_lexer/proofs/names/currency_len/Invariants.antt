@@ -1,4 +1,4 @@
-use Rattle.bean_lexer.proofs.CurrencySteps.{TrimsCurrency}
+use Rattle.bean_lexer.proofs.CurrencyFacts.{TrimsCurrency}
 use Rattle.bean_lexer.proofs.names.currency_len.Given as goal
 
 abbrev pub invariant-loop-len : goal.invariant-loop-len

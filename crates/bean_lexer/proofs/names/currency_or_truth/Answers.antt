@@ -1,7 +1,7 @@
 use Rattle.std.proofs.Common.{sym, ◌∙◌, ap, inl, take}
 use Rattle.std.specs.Str.{bytes_eq}
 use Rattle.bean_lexer.specs.declared.kind.Keyword.TheVariants.{True, False}
-use Rattle.bean_lexer.proofs.CapitalSteps.{truth_token, currency_token}
+use Rattle.bean_lexer.proofs.CapitalFacts.{truth_token, currency_token}
 use Rattle.bean_lexer.proofs.names.currency_or_truth.Goals as goal
 
 pub returns-then-eq-clause-token : goal.returns-then-eq-clause-token

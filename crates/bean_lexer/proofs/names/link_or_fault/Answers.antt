@@ -1,8 +1,8 @@
 use Rattle.std.proofs.Common.{◌<◌, get_or, arith, inl, inr, refl}
 use Rattle.std.proofs.lemmas.Bool.Decides.{nat_tests}
-use Rattle.bean_lexer.proofs.Leads.{at_caret}
-use Rattle.bean_lexer.proofs.NameSteps.{named, unnamed, named_boundary, first_boundary}
-use Rattle.bean_lexer.proofs.WordSteps.{ascii_reach}
+use Rattle.bean_lexer.proofs.FirstByteFacts.{at_caret}
+use Rattle.bean_lexer.proofs.NameFacts.{named, unnamed, named_boundary, first_boundary}
+use Rattle.bean_lexer.proofs.WordFacts.{ascii_reach}
 use Rattle.bean_lexer.proofs.names.link_or_fault.Goals as goal
 
 pub returns-then-len-gt1-clause-token : goal.returns-then-len-gt1-clause-token

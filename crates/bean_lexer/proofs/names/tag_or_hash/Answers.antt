@@ -1,7 +1,7 @@
 use Rattle.std.proofs.Common.{◌<◌, get_or, arith, inl}
-use Rattle.bean_lexer.proofs.Leads.{at_hash}
-use Rattle.bean_lexer.proofs.NameSteps.{named, unnamed, named_boundary, first_boundary}
-use Rattle.bean_lexer.proofs.WordSteps.{hash_token, no_sign_past}
+use Rattle.bean_lexer.proofs.FirstByteFacts.{at_hash}
+use Rattle.bean_lexer.proofs.NameFacts.{named, unnamed, named_boundary, first_boundary}
+use Rattle.bean_lexer.proofs.WordFacts.{hash_token, no_sign_past}
 use Rattle.bean_lexer.proofs.names.tag_or_hash.Goals as goal
 
 pub returns-then-len-gt1-clause-token : goal.returns-then-len-gt1-clause-token

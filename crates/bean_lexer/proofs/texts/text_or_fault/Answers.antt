@@ -1,5 +1,5 @@
 use Rattle.std.proofs.Common.{inl, inr, sym, ◌∙◌}
-use Rattle.bean_lexer.proofs.TextSteps.{text_token, fault_token}
+use Rattle.bean_lexer.proofs.TextFacts.{text_token, fault_token}
 use Rattle.bean_lexer.proofs.texts.text_or_fault.Goals as goal
 
 pub returns-then-reach-clause-token : goal.returns-then-reach-clause-token

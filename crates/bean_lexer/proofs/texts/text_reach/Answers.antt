@@ -1,5 +1,5 @@
 use Rattle.std.proofs.Common.{◌≡◌, ◌+◌, ◌<◌, ◌&&◌, length, get_or, arith, sym, subst}
-use Rattle.bean_lexer.proofs.TextSteps.{ReadsText, text_starts, text_goes_on, text_escapes, not_plain, is_backslash, closes, unclosed_at_end, unclosed_at_backslash, after_quote}
+use Rattle.bean_lexer.proofs.TextFacts.{ReadsText, text_starts, text_goes_on, text_escapes, not_plain, is_backslash, closes, unclosed_at_end, unclosed_at_backslash, after_quote}
 use Rattle.bean_lexer.proofs.texts.text_reach.Goals as goal
 
 pub pieces-init : goal.pieces-init

@@ -1,5 +1,5 @@
 use Rattle.std.proofs.Common.{◌-◌, length}
-use Rattle.bean_lexer.proofs.TextSteps.{ReadsText}
+use Rattle.bean_lexer.proofs.TextFacts.{ReadsText}
 use Rattle.bean_lexer.proofs.texts.text_reach.Given as goal
 
 abbrev pub invariant-pieces : goal.invariant-pieces

@@ -1,5 +1,5 @@
 use Rattle.std.proofs.Common.{sym}
-use Rattle.bean_lexer.proofs.Feeds.{no_feeds_in, spans_none}
+use Rattle.bean_lexer.proofs.LineFeedFacts.{no_feeds_in, spans_none}
 use Rattle.bean_lexer.proofs.token_at.line_feeds_of.Goals as goal
 
 pub returns-in_default : goal.returns-in_default

@@ -1,4 +1,4 @@
-use Rattle.bean_lexer.proofs.OneList.{one_list}
+use Rattle.bean_lexer.proofs.OneListOfTokensFacts.{one_list}
 use Rattle.bean_lexer.proofs.token_list.a_text_has_one_list_of_tokens.Goals as goal
 
 pub returns : goal.returns

@@ -1,5 +1,5 @@
-use Rattle.bean_lexer.proofs.NameSteps.{first_boundary}
-use Rattle.bean_lexer.proofs.Boundaries.{character_boundary}
+use Rattle.bean_lexer.proofs.NameFacts.{first_boundary}
+use Rattle.bean_lexer.proofs.BoundaryFacts.{character_boundary}
 use Rattle.bean_lexer.proofs.words.character_len.Goals as goal
 
 pub returns-then-bytes-lt128-clause-boundary : goal.returns-then-bytes-lt128-clause-boundary

@@ -2,8 +2,8 @@ use Rattle.std.proofs.Common.{sym, ◌∙◌, ap, subst, length, inl, inr}
 use Rattle.std.specs.Str.{IsCharBoundary}
 use Rattle.bean_lexer.specs.Tokens.{IsLongestToken}
 use Rattle.bean_lexer.specs.declared.kind.Kind.TheVariants.{Keyword}
-use Rattle.bean_lexer.proofs.WordSteps.{key_at, key_boundary, word_token, word_fault, word_boundary, no_colon_behind}
-use Rattle.bean_lexer.proofs.NameSteps.{small_boundary}
+use Rattle.bean_lexer.proofs.WordFacts.{key_at, key_boundary, word_token, word_fault, word_boundary, no_colon_behind}
+use Rattle.bean_lexer.proofs.NameFacts.{small_boundary}
 use Rattle.bean_lexer.proofs.words.key_or_keyword.Goals as goal
 
 pub returns-then-has_colon-clause-token : goal.returns-then-has_colon-clause-token

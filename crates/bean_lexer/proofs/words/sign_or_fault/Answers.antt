@@ -1,5 +1,5 @@
 use Rattle.std.proofs.Common.{sym, ◌∙◌, inl, inr}
-use Rattle.bean_lexer.proofs.WordSteps.{doubled_token, doubled_boundary, sign_token, sign_boundary, character_fault}
+use Rattle.bean_lexer.proofs.WordFacts.{doubled_token, doubled_boundary, sign_token, sign_boundary, character_fault}
 use Rattle.bean_lexer.proofs.words.sign_or_fault.Goals as goal
 
 pub returns-in-Some-clause-token : goal.returns-in-Some-clause-token

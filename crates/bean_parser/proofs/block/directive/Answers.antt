@@ -1,8 +1,8 @@
-use Rattle.std.proofs.Common.{◌≡◌, true, false, Some, length, ◌==◌, sym, ◌∙◌, subst}
+use Rattle.std.proofs.Common.{◌≡◌, true, false, length, ◌==◌, sym, ◌∙◌, subst}
 use Rattle.bean_parser.specs.Block.{lines}
 use Rattle.bean_parser.specs.Grammar.{has_lines}
 use Rattle.bean_parser.specs.Reading.{ReadsPostings}
-use Rattle.bean_parser.proofs.BlockFacts.{lines_under, block_is, block_is_none}
+use Rattle.bean_parser.proofs.BlockFacts.{lines_under, block_is}
 use Rattle.bean_parser.proofs.block.directive.Goals.{else-not-is_empty-via-then-not-is_empty+else-not-has_lines, else-not-is_empty-via-else-not-is_empty}
 use Rattle.bean_parser.proofs.block.directive.Goals as goal
 

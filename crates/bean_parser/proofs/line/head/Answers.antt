@@ -1,4 +1,4 @@
-use Rattle.bean_parser.proofs.GrammarFacts.{head_is, no_day_head, no_kind_head, more_than_head}
+use Rattle.bean_parser.proofs.GrammarFacts.{head_is, no_day_head, no_kind_head}
 use Rattle.bean_parser.proofs.line.head.Goals as goal
 
 pub returns-in_err-day : goal.returns-in_err-day

@@ -1,4 +1,4 @@
-use Rattle.bean_parser.proofs.GrammarFacts.{posting_is, no_amount_posting, more_than_posting}
+use Rattle.bean_parser.proofs.GrammarFacts.{posting_is, no_amount_posting}
 use Rattle.bean_parser.proofs.line.posting.Goals as goal
 
 pub returns-in_err-units : goal.returns-in_err-units

@@ -1,4 +1,4 @@
-use Rattle.std.proofs.Common.{arith, ap, ◌≡◌, ◌<◌, ◌-◌, length, get_or}
+use Rattle.std.proofs.Common.{arith, ◌<◌, get_or}
 use Rattle.std.proofs.lemmas.Str.{IsCharBoundary-after_ascii}
 use Rattle.bean_parser.proofs.TextFacts.{has_quotes}
 use Rattle.bean_parser.proofs.number.between_quotes.Goals as goal

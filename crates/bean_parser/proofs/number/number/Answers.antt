@@ -1,4 +1,4 @@
-use Rattle.bean_parser.proofs.GrammarFacts.{reads_number, none_number}
+use Rattle.bean_parser.proofs.GrammarFacts.{reads_number}
 use Rattle.bean_parser.proofs.number.number.Goals as goal
 
 pub returns : goal.returns

@@ -1,4 +1,4 @@
-use Rattle.bean_parser.proofs.GrammarFacts.{reads_text_due, reads_no_text}
+use Rattle.bean_parser.proofs.GrammarFacts.{reads_no_text}
 use Rattle.bean_parser.proofs.number.text_if_due.Goals as goal
 
 pub returns-in-None : goal.returns-in-None

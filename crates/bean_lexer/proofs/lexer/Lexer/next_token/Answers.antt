@@ -5,8 +5,8 @@ use Rattle.std.specs.Str.{IsCharBoundary}
 use Rattle.std.proofs.lemmas.Str.{IsCharBoundary-start}
 use Rattle.bean_lexer.specs.Gap.{is_line_feed, gap_len, behind_gap}
 use Rattle.bean_lexer.specs.Tokens.{IsToken}
-use Rattle.bean_lexer.proofs.Boundaries.{gap_boundary}
-use Rattle.bean_lexer.proofs.TokenSteps.{IsAt, Parts, Feeds, is_behind, token_to_come}
+use Rattle.bean_lexer.proofs.BoundaryFacts.{gap_boundary}
+use Rattle.bean_lexer.proofs.TokensFacts.{IsAt, Parts, Feeds, is_behind, token_to_come}
 use Rattle.bean_lexer.proofs.lexer.Lexer.next_token.Goals as goal
 
 pub split_at-requires : goal.split_at-requires

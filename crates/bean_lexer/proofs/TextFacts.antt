@@ -11,7 +11,7 @@ use Rattle.bean_base.proofs.NumeralFacts.{drop_more}
 use Rattle.bean_lexer.specs.TokenForm.{is_text, is_escape, is_plain, is_empty, ends_text}
 use Rattle.bean_lexer.specs.Tokens.{text_reach, fault_len, goes_on_character, IsLongestToken, IsFaultToken}
 use Rattle.bean_lexer.specs.declared.kind.Kind.TheVariants as kinds
-use Rattle.bean_lexer.proofs.Leads.{at_quote, second_true}
+use Rattle.bean_lexer.proofs.FirstByteFacts.{at_quote, second_true}
 
 -- only one front ends a text
 ends_at : (t : Bool) (b : ℕ) (bs : List ℕ) (k : ℕ) → nat_eq b 34 ≡ t → k ≤ length bs →

@@ -18,10 +18,10 @@ use Rattle.bean_lexer.specs.declared.kind.Keyword.TheVariants as words
 use Rattle.bean_lexer.specs.declared.kind.Sign.{Sign}
 use Rattle.bean_lexer.specs.declared.kind.Sign.TheVariants as signs
 use Rattle.bean_lexer.specs.Gap.{is_line_feed}
-use Rattle.bean_lexer.proofs.DayNumber.{year_digits, month_digits, day_digits, mark_of, second_mark}
-use Rattle.bean_lexer.proofs.WordSteps.{spelled}
-use Rattle.bean_lexer.proofs.AccountSteps.{are_names, behind_name, begin_step, in_step, colon_step, other_step, no_begin}
-use Rattle.bean_lexer.proofs.OneList.{in_number, number_bytes, currency_parts, two_true}
+use Rattle.bean_lexer.proofs.DayFacts.{year_digits, month_digits, day_digits, mark_of, second_mark}
+use Rattle.bean_lexer.proofs.WordFacts.{spelled}
+use Rattle.bean_lexer.proofs.AccountFacts.{are_names, behind_name, begin_step, in_step, colon_step, other_step, no_begin}
+use Rattle.bean_lexer.proofs.OneListOfTokensFacts.{in_number, number_bytes, currency_parts, two_true}
 
 count_first : (b : ℕ) (bs : List ℕ) → is_line_feed b ≡ false → count_by is_line_feed bs ≡ 0 → count_by is_line_feed (b ∷ bs) ≡ 0
 count_first b bs h rest = sum_by-append (λ x. cond (is_line_feed x) 1 0) (b ∷ []) bs ∙ (λ i. (0 + cond (h i) 1 0) + rest i)

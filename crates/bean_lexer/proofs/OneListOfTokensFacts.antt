@@ -27,10 +27,10 @@ use Rattle.bean_lexer.specs.declared.kind.Keyword.TheVariants as words
 use Rattle.bean_lexer.specs.declared.kind.Sign.{Sign}
 use Rattle.bean_lexer.specs.declared.kind.Sign.TheVariants as signs
 use Rattle.bean_lexer.specs.declared.token.Token.{Token}
-use Rattle.bean_lexer.proofs.Leads.{begins, may_begin}
-use Rattle.bean_lexer.proofs.NumberSteps.{rest_of_number, whole_step}
-use Rattle.bean_lexer.proofs.TokenSteps.{token_some, no_empty}
-use Rattle.bean_lexer.proofs.WordSteps.{spelled, not_both}
+use Rattle.bean_lexer.proofs.FirstByteFacts.{begins, may_begin}
+use Rattle.bean_lexer.proofs.NumberFacts.{rest_of_number, whole_step}
+use Rattle.bean_lexer.proofs.TokensFacts.{token_some, no_empty}
+use Rattle.bean_lexer.proofs.WordFacts.{spelled, not_both}
 
 -- the kind that some bytes can only be of
 abbrev pub kind_of : List ℕ → Option Kind

@@ -16,7 +16,7 @@ use Rattle.bean_lexer.specs.declared.kind.Keyword.{Keyword}
 use Rattle.bean_lexer.specs.declared.kind.Keyword.TheVariants as words
 use Rattle.bean_lexer.specs.declared.kind.Sign.{Sign}
 use Rattle.bean_lexer.specs.declared.kind.Sign.TheVariants as signs
-use Rattle.bean_lexer.proofs.NumberSteps.{begins_with_digit}
+use Rattle.bean_lexer.proofs.NumberFacts.{begins_with_digit}
 
 pub first_true : (a b : Bool) → (a && b) ≡ true → a ≡ true
 first_true true b h = refl

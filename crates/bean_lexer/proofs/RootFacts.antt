@@ -12,7 +12,7 @@ use Rattle.std.specs.Str.{bytes_eq}
 use Rattle.bean_base.specs.Name.{is_account, is_root, is_colon}
 use Rattle.theory.specs.LongestFront.{IsLongestFront, HasNoFront}
 use Rattle.bean_lexer.specs.Lookahead.{root_len, begins_component_at}
-use Rattle.bean_lexer.proofs.AccountSteps.{NoColon, are_names, behind_root, no_names, no_root, no_colon, no_names_front, no_first}
+use Rattle.bean_lexer.proofs.AccountFacts.{NoColon, are_names, behind_root, no_names, no_root, no_colon, no_names_front, no_first}
 
 pub record RootAt (bs : List ℕ) (n : ℕ) : Type 0 where
   pub root : List ℕ

@@ -18,8 +18,8 @@ use Rattle.bean_lexer.specs.declared.kind.Keyword.{Keyword}
 use Rattle.bean_lexer.specs.declared.kind.Keyword.TheVariants as words
 use Rattle.bean_lexer.specs.declared.kind.Sign.{Sign}
 use Rattle.bean_lexer.specs.declared.kind.Sign.TheVariants as signs
-use Rattle.bean_lexer.proofs.Leads.{is_truth, head_of, head_is, none_of, at_small, at_hash, at_other, sign_head}
-use Rattle.bean_lexer.proofs.NameSteps.{within_key, no_key, key_front}
+use Rattle.bean_lexer.proofs.FirstByteFacts.{is_truth, head_of, head_is, none_of, at_small, at_hash, at_other, sign_head}
+use Rattle.bean_lexer.proofs.NameFacts.{within_key, no_key, key_front}
 
 pub not_both : (t : Bool) → (t ≡ true → ⊥) → t ≡ false
 not_both true h = absurd (h refl)

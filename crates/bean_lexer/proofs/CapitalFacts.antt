@@ -14,8 +14,8 @@ use Rattle.bean_lexer.specs.Tokens.{NoneOf, IsLongestToken}
 use Rattle.bean_lexer.specs.declared.kind.Kind.TheVariants as kinds
 use Rattle.bean_lexer.specs.declared.kind.Keyword.{Keyword}
 use Rattle.bean_lexer.specs.declared.kind.Keyword.TheVariants as words
-use Rattle.bean_lexer.proofs.Leads.{is_truth, head_of, head_is, none_of, at_capital, if_of}
-use Rattle.bean_lexer.proofs.WordSteps.{not_both, spelled}
+use Rattle.bean_lexer.proofs.FirstByteFacts.{is_truth, head_of, head_is, none_of, at_capital, if_of}
+use Rattle.bean_lexer.proofs.WordFacts.{not_both, spelled}
 
 -- truth values are written as currencies are
 truth_form : (word : Keyword) → is_truth word ≡ true → is_currency_form (keyword_spelling word) ≡ true

@@ -14,8 +14,8 @@ use Rattle.theory.specs.LongestFront.{IsLongestFront}
 use Rattle.bean_lexer.specs.Lookahead.{has_more_digits}
 use Rattle.bean_lexer.specs.Tokens.{NoneOf, IsLongestToken}
 use Rattle.bean_lexer.specs.declared.kind.Kind.TheVariants as kinds
-use Rattle.bean_lexer.proofs.Leads.{at_digit, second_true}
-use Rattle.bean_lexer.proofs.NumberSteps.{digits_front, no_more}
+use Rattle.bean_lexer.proofs.FirstByteFacts.{at_digit, second_true}
+use Rattle.bean_lexer.proofs.NumberFacts.{digits_front, no_more}
 
 day_is_ten : (xs : List ℕ) → nat_eq (length xs) 10 ≡ false → is_day_form xs ≡ false
 day_is_ten xs h = grind (arith, nat_tests)
