@@ -1,46 +1,44 @@
--- A run over a store and outputs of memory, by each way in which it ends.
-use Rattle.std.proofs.Common.{◌≡◌, ℕ, List, Some, Result, Ok, Err, inl, inr, sym, subst}
+-- A run over a store and outputs of memory is one over any.
+use Rattle.std.proofs.Common.{ℕ, List, Result, Ok, Err, inl, inr}
 use Rattle.clap.specs.Walk.{Text}
-use Rattle.table_printer.specs.ShortWriters.{AnswersShort, taken_of}
+use Rattle.table_printer.specs.ShortWriters.{AnswersShort}
+use Rattle.table_printer.specs.Writing.{TookFront}
 use Rattle.table_printer.specs.declared.short_writer.ShortWriter.{ShortWriter}
-use Rattle.table_printer.proofs.Limits.{refuses_at_limit}
-use Rattle.bq.specs.Memory.{Gives, told_of}
-use Rattle.bq.specs.MemoryRuns.{ComesTo, Says}
-use Rattle.bq.specs.Named.{RefusesWords}
-use Rattle.bq.specs.Runs.{Ends, between, ListsNamed, RunsList, TellsWhy}
-use Rattle.bq.specs.Words.{ledger_named}
+use Rattle.table_printer.proofs.Limits.{keeps_front}
+use Rattle.bq.specs.Memory.{Gives}
+use Rattle.bq.specs.MemoryRuns.{KeptFront, kept_in, in_memory}
+use Rattle.bq.specs.Runs.{Deeds, deeds, written, ListsNamed, RunsList, TellsWhy, EndsRun, Answers}
 use Rattle.bq.specs.declared.memory.MemoryStore.{MemoryStore}
 use Rattle.bq.specs.declared.refusal.Refusal.{Refusal}
 use Rattle.bq.specs.declared.refusal.Refusal.TheVariants.{Words, Unreadable, NotUtf8, TooLarge, TooManyPostings, NotWritten, OutOfMemory}
 
-abbrev pub in_memory : MemoryStore → MemoryStore → ShortWriter → ShortWriter → Ends MemoryStore ShortWriter
-in_memory = between (λ s. s.failures) (λ s. Some (told_of s)) Gives (λ w. Some (taken_of w)) AnswersShort
+took : (old new : ShortWriter) (text : List ℕ) (n : ℕ) → TookFront ShortWriter AnswersShort old new text n → KeptFront old new text n
+took old new text n h = let front = keeps_front old new text n h in record { kept = front.0; limit = front.1 }
 
-at_words : (store : MemoryStore) (out out' : ShortWriter) (words : List Text) (r : Refusal) → RefusesWords words r → out' ≡ out → ComesTo store out out' words (Err r)
-at_words store out out' words Words refused same = (refused, same)
-at_words store out out' words OutOfMemory refused same = same
-at_words store out out' words Unreadable refused same = absurd refused
-at_words store out out' words NotUtf8 refused same = absurd refused
-at_words store out out' words TooLarge refused same = absurd refused
-at_words store out out' words TooManyPostings refused same = absurd refused
-at_words store out out' words NotWritten refused same = absurd refused
+module _ (store store' : MemoryStore) (out out' : ShortWriter) where
+  abbrev any : Deeds
+  any = deeds Gives store store' (written AnswersShort out out')
 
-named : (store store' : MemoryStore) (out out' : ShortWriter) (words : List Text) (name : List ℕ) (result : Result Unit Refusal) → ledger_named words ≡ Some name → ListsNamed (in_memory store store' out out') name result → ComesTo store out out' words result
-named store store' out out' words name (Ok x) is h = (h.2.0, (name, is, (h.0, h.1.0.0, h.2.1)), h.2.2)
-named store store' out out' words name (Err Unreadable) is h = ((name, is, h.0.0.0), h.1)
-named store store' out out' words name (Err NotWritten) is h =
-    let stop = h.2.2 in (h.2.0, (name, is, (h.0, h.1.0.0, h.2.1)), (stop.0, stop.1, stop.2), refuses_at_limit out out' stop.3)
-named store store' out out' words name (Err NotUtf8) is h = ((name, is, (h.0, h.1.0.0, h.2)), h.3)
-named store store' out out' words name (Err TooLarge) is h = ((name, is, (h.0, h.1.0.0, h.2)), h.3)
-named store store' out out' words name (Err TooManyPostings) is h = ((name, is, (h.0, h.1.0.0, h.2)), h.3)
-named store store' out out' words name (Err OutOfMemory) is h = h.2
-named store store' out out' words name (Err Words) is h = absurd h
+  named : (name : List ℕ) (result : Result Unit Refusal) → ListsNamed any name result → ListsNamed (in_memory store out out') name result
+  named name (Ok x) h = (h.0, h.1.finds, (h.2.0, h.2.1, took out out' _ _ h.2.2))
+  named name (Err NotWritten) h = (h.0, h.1.finds, (h.2.0, h.2.1, (h.2.2.0, h.2.2.1, took out out' _ _ h.2.2.2)))
+  named name (Err TooManyPostings) h = (h.0, h.1.finds, h.2)
+  named name (Err TooLarge) h = (h.0, h.1.finds, h.2)
+  named name (Err NotUtf8) h = (h.0, h.1.finds, h.2)
+  named name (Err Unreadable) h = (h.0.finds, h.1)
+  named name (Err OutOfMemory) h = ((h.0.0, h.0.1.finds), h.1)
+  named name (Err Words) h = h
 
-pub comes : (store store' : MemoryStore) (out out' : ShortWriter) (words : List Text) (result : Result Unit Refusal) → RunsList (in_memory store store' out out') words result → ComesTo store out out' words result
-comes store store' out out' words result (inl h) = named store store' out out' words h.0 result h.1 h.2
-comes store store' out out' words result (inr h) =
-    subst (ComesTo store out out' words) (sym h.1) (at_words store out out' words h.0 h.2 h.4)
+  runs : (words : List Text) (result : Result Unit Refusal) → RunsList any words result → RunsList (in_memory store out out') words result
+  runs words result (inl h) = inl (h.0, h.1, named h.0 result h.2)
+  runs words result (inr h) = inr (h.0, h.1, h.2, tt, h.4)
 
-pub says : (err err' : ShortWriter) (result : Result Unit Refusal) → TellsWhy ShortWriter (λ w. Some (taken_of w)) AnswersShort err err' result → Says err err' result
-says err err' (Ok x) told = told
-says err err' (Err r) told = (told.0, told.2, λ short. refuses_at_limit err err' (told.3 short))
+  tells : (err err' : ShortWriter) (result : Result Unit Refusal) → TellsWhy (written AnswersShort err err') result → TellsWhy (kept_in err err') result
+  tells err err' (Ok x) h = h
+  tells err err' (Err r) h = (h.0, took err err' _ _ h.1)
+
+  pub ends : (err err' : ShortWriter) (words : List Text) (status : ℕ) → EndsRun any (written AnswersShort err err') words status → EndsRun (in_memory store out out') (kept_in err err') words status
+  ends err err' words status h = (h.0, runs words h.0 h.1, h.2, tells err err' h.0 h.3)
+
+  pub answers : (words : List Text) → Answers any words → Answers (in_memory store out out') words
+  answers words h = (h.0, h.1, named h.0 (Ok tt) h.2)

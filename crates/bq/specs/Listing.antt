@@ -1,5 +1,5 @@
 -- What `list` shows of a text.
-use Rattle.std.specs.Prelude.{◌≡◌, ◌<◌, ℕ, max, length, List, [], ◌∷◌, ◌++◌, map, fold, filter, codes}
+use Rattle.std.specs.Prelude.{◌≡◌, ◌<◌, ℕ, max, length, List, [], ◌∷◌, map, fold, filter, codes}
 use Rattle.std.specs.List.{flat_map}
 use Rattle.std.specs.Str.{bytes_eq}
 use Rattle.bean_base.specs.Days.{DayValue}
@@ -8,7 +8,7 @@ use Rattle.bean_parser.specs.Parsed.{IsParsed}
 use Rattle.bean_parser.specs.Values.{DirectiveValue, PostingValue, open_is, transaction_is}
 use Rattle.bean_parser.specs.declared.directive.Flag.{Flag}
 use Rattle.bean_parser.specs.declared.directive.Flag.TheVariants.{Complete, Incomplete}
-use Rattle.posting_table.specs.Rows.{RowValue, PositionValue}
+use Rattle.posting_table.specs.Rows.{RowValue}
 use Rattle.table_printer.specs.Table.{table_text}
 use Rattle.table_printer.specs.Values.{ShownValue}
 use Rattle.table_printer.specs.Values as shown

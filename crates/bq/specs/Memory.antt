@@ -1,8 +1,8 @@
 -- What a store over memory holds, gives and tells.
-use Rattle.std.specs.Prelude.{◌≡◌, ℕ, ◌+◌, ◌-◌, ◌^◌, Bool, true, false, if◌then◌else◌, nat_eq, min, List, [], ◌∷◌, map, fold, Option, Some, None, option_map, Result, Ok, Err}
+use Rattle.std.specs.Prelude.{◌≡◌, ℕ, ◌+◌, ◌-◌, ◌^◌, Bool, true, false, if◌then◌else◌, nat_eq, min, List, [], ◌∷◌, ◌++◌, ⊤, map, fold, Option, Some, None, option_map, Result, Ok, Err}
 use Rattle.std.specs.Str.{bytes_eq}
 use Rattle.std.specs.String.{string_bytes}
-use Rattle.bq.specs.Sources.{Reading, Putting}
+use Rattle.bq.specs.Sources.{Reading, Putting, readings, failures_behind}
 use Rattle.bq.specs.declared.memory.Asked.{Asked}
 use Rattle.bq.specs.declared.memory.Entry.{Entry}
 use Rattle.bq.specs.declared.memory.MemoryStore.{MemoryStore}
@@ -67,11 +67,18 @@ Counts before after =
     × (files_of after ≡ files_of before)
     × (kept_of after ≡ kept_of before)
 
--- it gives what the call finds, and fails where the call finds nothing
-abbrev pub Gives : MemoryStore → List ℕ → Result (List ℕ) SourceFault → MemoryStore → Type 0
-Gives before name (Ok bytes) after = (found_next before name ≡ Some bytes) × Counts before after
-Gives before name (Err Failed) after = (found_next before name ≡ None) × Counts before after
-Gives before name (Err OutOfMemory) after = Counts before after
+-- the answer is what its next call finds, and a failure where that finds nothing
+abbrev pub FindsNext : MemoryStore → List ℕ → Result (List ℕ) SourceFault → Type 0
+FindsNext store name (Ok bytes) = found_next store name ≡ Some bytes
+FindsNext store name (Err Failed) = found_next store name ≡ None
+FindsNext store name (Err OutOfMemory) = ⊤
+
+-- it answers so, and tells it
+pub record Gives (before : MemoryStore) (name : List ℕ) (answer : Result (List ℕ) SourceFault) (after : MemoryStore) : Type 0 where
+  pub finds : FindsNext before name answer
+  pub counts : Counts before after
+  pub told : told_of after ≡ told_of before ++ readings name answer
+  pub failures : after.failures ≡ failures_behind before.failures answer
 
 -- the call counts, and what is held changes at that name alone
 abbrev pub Takes : MemoryStore → List ℕ → List ℕ → MemoryStore → Type 0

@@ -4,7 +4,7 @@ use Rattle.clap.specs.Takes.{takes}
 use Rattle.clap.specs.Walk.{Text}
 use Rattle.bq.specs.Words.{program, ledger_named}
 use Rattle.bq.specs.declared.refusal.Refusal.{Refusal}
-use Rattle.bq.specs.declared.refusal.Refusal.TheVariants.{Words, Unreadable, NotUtf8, TooLarge, TooManyPostings, NotWritten, OutOfMemory}
+use Rattle.bq.specs.declared.refusal.Refusal.TheVariants.{Words, OutOfMemory}
 
 -- refused words, which clap doesn't take or which name no ledger, or want of memory
 abbrev pub RefusesWords : List Text → Refusal → Type 0

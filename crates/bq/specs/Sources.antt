@@ -1,5 +1,5 @@
 -- What sources and stores tell of themselves.
-use Rattle.std.specs.Prelude.{◌≡◌, ℕ, ◌+◌, List, [], ◌∷◌, ◌++◌, Option, Some, None, Result, Ok, Err, ⊤, Vec}
+use Rattle.std.specs.Prelude.{ℕ, ◌+◌, List, [], ◌∷◌, Option, Some, None, Result, Ok, Err, Vec}
 use Rattle.bq.specs.declared.store.SourceFault.{SourceFault}
 use Rattle.bq.specs.declared.store.SourceFault.TheVariants.{Failed, OutOfMemory}
 
@@ -24,20 +24,6 @@ readings name (Ok bytes) = (name, Some bytes) ∷ []
 readings name (Err Failed) = (name, None) ∷ []
 readings name (Err OutOfMemory) = []
 
-abbrev pub Tells : Option (List Reading) → Option (List Reading) → List ℕ → Result (List ℕ) SourceFault → Type 0
-Tells None new name answer = ⊤
-Tells (Some old) None name answer = ⊥
-Tells (Some old) (Some new) name answer = new ≡ old ++ readings name answer
-
 -- a file that was put
 abbrev pub Putting : Type 0
 Putting = List ℕ × List ℕ
-
-abbrev pub puttings : List ℕ → List ℕ → Result Unit SourceFault → List Putting
-puttings name bytes (Ok x) = (name, bytes) ∷ []
-puttings name bytes (Err e) = []
-
-abbrev pub Puts : Option (List Putting) → Option (List Putting) → List ℕ → List ℕ → Result Unit SourceFault → Type 0
-Puts None new name bytes r = ⊤
-Puts (Some old) None name bytes r = ⊥
-Puts (Some old) (Some new) name bytes r = new ≡ old ++ puttings name bytes r

@@ -1,7 +1,7 @@
 -- The program's words, as clap takes them.
-use Rattle.std.specs.Prelude.{List, ℕ, Option, codes, true}
+use Rattle.std.specs.Prelude.{List, Option, codes, true}
 use Rattle.std.specs.Option.{option_and_then}
-use Rattle.clap.specs.Simple.{App, Shape, new_app, new_rule, on_top, subcommand_of, with_rule, with_subcommand}
+use Rattle.clap.specs.Simple.{App, new_app, new_rule, on_top, subcommand_of, with_rule, with_subcommand}
 use Rattle.clap.specs.Walk.{Rule, Text, first_of}
 
 -- a word that has to be there

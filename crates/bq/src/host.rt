@@ -74,8 +74,6 @@ fn bytes_of<R: Files + Input + AllocGlobal>(rt: &R, name: &str) -> Result<Vec<u8
 }
 
 impl<R: Files + Input + AllocGlobal + Drop> Source for HostStore<R> {
-    ghost failures = { λ s. s.failures };
-
     ghost may_give = { λ before _ answer after. after.failures ≡ failures_behind before.failures answer };
 
     fn text(&mut self, name: &str) -> Result<Vec<u8>, SourceFault> {

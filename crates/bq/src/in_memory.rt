@@ -1,6 +1,7 @@
 //! The program over a store and outputs of memory, which tell all.
 ghost use Rattle.std.specs.Prelude.{◌≡◌, map};
-ghost use Rattle.bq.specs.MemoryRuns.{ListsHeld, EndsInMemory};
+ghost use Rattle.bq.specs.MemoryRuns.{in_memory, kept_in};
+ghost use Rattle.bq.specs.Runs.{EndsRun, Answers};
 
 use crate::memory::MemoryStore;
 use crate::run::run_words;
@@ -15,8 +16,8 @@ pub fn run_in_memory(
     out: &mut ShortWriter,
     err: &mut ShortWriter,
 ) -> u8
-    ensures ends { EndsInMemory store.old out.old out.new err.old err.new (map (λ w. w.now) words.now) result }
-    ensures answered { result ≡ 0 → ListsHeld store.old out.old out.new (map (λ w. w.now) words.now) }
+    ensures ends { EndsRun (in_memory store.old out.old out.new) (kept_in err.old err.new) (map (λ w. w.now) words.now) result }
+    ensures answered { result ≡ 0 → Answers (in_memory store.old out.old out.new) (map (λ w. w.now) words.now) }
 {
     run_words(alloc, words, store, out, err)
 }

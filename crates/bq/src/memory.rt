@@ -145,10 +145,6 @@ fn newer<'a>(name: &str, found: Option<&'a [u8]>, file: &'a Entry) -> Option<&'a
 }
 
 impl Source for MemoryStore {
-    ghost failures = { λ s. s.failures };
-
-    ghost told = { λ s. Some (told_of s) };
-
     ghost may_give = { Gives };
 
     fn text(&mut self, name: &str) -> Result<Vec<u8>, SourceFault> {
@@ -173,8 +169,6 @@ impl Source for MemoryStore {
 }
 
 impl Store for MemoryStore {
-    ghost kept = { λ s. Some (kept_of s) };
-
     ghost may_keep = { Keeps };
 
     fn put(&mut self, name: &str, bytes: &[u8]) -> Result<(), SourceFault> {

@@ -1,6 +1,6 @@
 //! What the program does with its words.
 ghost use Rattle.std.specs.Prelude.{◌≡◌, map};
-ghost use Rattle.bq.specs.Runs.{ListsText, between, ListsNamed, RunsList, TellsWhy, EndsRun, Answers};
+ghost use Rattle.bq.specs.Runs.{ListsText, written, deeds, ListsNamed, RunsList, EndsRun, Answers};
 
 use crate::listing::{LedgerFault, ledger_of};
 use crate::refusal::Refusal;
@@ -16,7 +16,7 @@ pub const LARGEST_TEXT: usize = 16_777_216;
 
 /// Writes the table of a text's postings.
 fn list_text<O: Output>(alloc: Global, text: &str, out: &mut O) -> Result<(), Refusal>
-    ensures { ListsText O O.taken O.may_answer out.old out.new text.now result }
+    ensures { ListsText (written O.may_answer out.old out.new) text.now result }
 {
     let ledger = match ledger_of(alloc, text) {
         Ok(ledger) => ledger,
@@ -38,8 +38,7 @@ fn list<S: Source, O: Output>(
     store: &mut S,
     out: &mut O,
 ) -> Result<(), Refusal>
-    ensures { ListsNamed (between S.failures S.told S.may_give O.taken O.may_answer
-        store.old store.new out.old out.new) name.now result }
+    ensures { ListsNamed (deeds S.may_give store.old store.new (written O.may_answer out.old out.new)) name.now result }
 {
     let bytes = match store.text(name) {
         Ok(bytes) => bytes,
@@ -62,8 +61,7 @@ fn run<S: Store, O: Output>(
     store: &mut S,
     out: &mut O,
 ) -> Result<(), Refusal>
-    ensures { RunsList (between S.failures S.told S.may_give O.taken O.may_answer
-        store.old store.new out.old out.new)
+    ensures { RunsList (deeds S.may_give store.old store.new (written O.may_answer out.old out.new))
         (map (λ w. w.now) words.now) result }
 {
     let name = ledger_named(alloc, words)?;
@@ -80,13 +78,10 @@ pub fn run_words<S: Store, O: Output, E: Output>(
     out: &mut O,
     err: &mut E,
 ) -> u8
-    ensures ends { EndsRun (between S.failures S.told S.may_give O.taken O.may_answer
-        store.old store.new out.old out.new)
-        (TellsWhy E E.taken E.may_answer err.old err.new)
-        (map (λ w. w.now) words.now) result }
-    ensures answered { result ≡ 0 → Answers (between S.failures S.told S.may_give O.taken O.may_answer
-        store.old store.new out.old out.new)
-        (map (λ w. w.now) words.now) }
+    ensures ends { EndsRun (deeds S.may_give store.old store.new (written O.may_answer out.old out.new))
+        (written E.may_answer err.old err.new) (map (λ w. w.now) words.now) result }
+    ensures answered { result ≡ 0
+        → Answers (deeds S.may_give store.old store.new (written O.may_answer out.old out.new)) (map (λ w. w.now) words.now) }
 {
     match run(alloc, words, store, out) {
         Ok(()) => 0,

@@ -1,6 +1,6 @@
 -- What a writer over memory with a limit does.
 use Rattle.std.specs.Prelude.{◌≡◌, ℕ, Bool, true, false, ◌-◌, ◌<◌, ◌≤◌, ◌++◌, ◌⊎◌, min, take, List, length, Result, Ok, Err}
-use Rattle.table_printer.specs.Writing.{Refused}
+use Rattle.table_printer.specs.Writing.{TookFront}
 use Rattle.table_printer.specs.declared.output.NotTaken.{NotTaken}
 use Rattle.table_printer.specs.declared.short_writer.ShortWriter.{ShortWriter}
 
@@ -37,7 +37,8 @@ AnswersShort before bytes (Err e) after =
     × (taken_of after ≡ taken_of before)
     × (limit_of after ≡ limit_of before)
 
--- one that refused bytes, and to which no memory was refused, has reached its limit
-abbrev pub RefusesAtLimit : Type 0
-RefusesAtLimit =
-    (start w : ShortWriter) → Refused ShortWriter AnswersShort start w → starved_of w ≡ false → limit_of w ≤ length (taken_of w)
+-- it has the bytes behind those that it had, and where it took a front alone and no memory was refused to it, its limit is reached
+abbrev pub KeepsFront : Type 0
+KeepsFront =
+    (start after : ShortWriter) (bytes : List ℕ) (n : ℕ) → TookFront ShortWriter AnswersShort start after bytes n
+    → (taken_of after ≡ taken_of start ++ take n bytes) × (n < length bytes → starved_of after ≡ false → limit_of after ≤ length (taken_of after))

@@ -1,6 +1,6 @@
 //! An output over memory that fails at a chosen byte.
 ghost use Rattle.std.specs.Prelude.{◌≡◌, ◌≤◌, ◌-◌, false, [], Some, length, min, IfOk};
-ghost use Rattle.table_printer.specs.ShortWriters.{AnswersShort, RefusesAtLimit, taken_of, limit_of, starved_of};
+ghost use Rattle.table_printer.specs.ShortWriters.{AnswersShort, KeepsFront, taken_of, limit_of, starved_of};
 
 use crate::output::{NotTaken, Output};
 use std::alloc::Global;
@@ -43,8 +43,6 @@ impl ShortWriter {
 }
 
 impl Output for ShortWriter {
-    ghost taken = { λ w. Some (taken_of w) };
-
     ghost may_answer = { AnswersShort };
 
     /// Takes what fits below its limit. Also fails where it can't keep that much, and remembers it.
@@ -62,7 +60,7 @@ impl Output for ShortWriter {
     }
 }
 
-/// Where it refused bytes, and not for want of memory, its limit is reached.
-pub fn refuses_at_its_limit()
-    ensures { RefusesAtLimit }
+/// It keeps what it took, and refuses only at its limit or for want of memory.
+pub fn keeps_a_front()
+    ensures { KeepsFront }
 {}

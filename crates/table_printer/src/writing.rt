@@ -1,10 +1,9 @@
 //! Writing a table to an output.
-ghost use Rattle.std.specs.Prelude.{◌≡◌, ◌≤◌, ◌<◌, length, take, All, IfOk};
-ghost use Rattle.std.specs.Io.KnownBytes.{Appends, Keeps};
+ghost use Rattle.std.specs.Prelude.{◌≡◌, length, All};
 ghost use Rattle.posting_table.specs.Decimals.{places_of};
 ghost use Rattle.table_printer.specs.Faults.{WritesTable};
 ghost use Rattle.table_printer.specs.Table.{table_text};
-ghost use Rattle.table_printer.specs.Writing.{Refused};
+ghost use Rattle.table_printer.specs.Writing.{TookFront};
 
 use crate::output::{NotTaken, Output};
 use crate::rows::Rows;
@@ -25,9 +24,7 @@ pub enum PrintFault {
 
 /// Hands bytes over until all are taken, or the output fails or takes nothing, and counts them.
 pub fn write_bytes<W: Output>(out: &mut W, bytes: &[u8]) -> usize
-    ensures within { result ≤ length bytes.now }
-    ensures taken { Appends (W.taken out.old) (W.taken out.new) (take result bytes.now) }
-    ensures refused { result < length bytes.now → Refused W W.may_answer out.old out.new }
+    ensures { TookFront W W.may_answer out.old out.new bytes.now result }
 {
     let mut written = 0;
     while written < bytes.len() {
@@ -49,7 +46,7 @@ pub fn write_table<T: Rows, W: Output>(
     out: &mut W,
 ) -> Result<u64, PrintFault>
     requires { All (λ row. length row ≡ length (T.names table.now)) (T.rows table.now) }
-    ensures { WritesTable W W.taken W.may_answer out.old out.new
+    ensures { WritesTable W W.may_answer out.old out.new
         (table_text (T.names table.now) (T.rows table.now) (places_of display.now)) result }
 {
     let Ok(text) = print(alloc, table, display) else {

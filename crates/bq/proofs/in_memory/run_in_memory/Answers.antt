@@ -1,14 +1,9 @@
 use Rattle.std.proofs.Common.{map}
-use Rattle.bq.proofs.InMemory.{comes, says}
+use Rattle.bq.proofs.InMemory.{ends, answers}
 use Rattle.bq.proofs.in_memory.run_in_memory.Goals as goal
 
 pub returns-clause-ends : goal.returns-clause-ends
-returns-clause-ends c =
-    let ends = c.run_words.ensures.ends in
-    let words = map (λ w. w.now) c.args.words.now in
-    let ran = c.run_words.new in (
-      ends.0,
-      comes c.args.store.now ran.store c.args.out.now ran.out words ends.0 ends.1,
-      ends.2,
-      says c.args.err.now ran.err ends.0 ends.3,
-    )
+returns-clause-ends c = ends _ _ _ _ _ _ (map (λ w. w.now) c.args.words.now) _ c.run_words.ensures.ends
+
+pub returns-clause-answered : goal.returns-clause-answered
+returns-clause-answered c = λ done. answers _ _ _ _ (map (λ w. w.now) c.args.words.now) (c.run_words.ensures.answered done)

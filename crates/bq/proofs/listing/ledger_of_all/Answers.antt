@@ -1,4 +1,4 @@
-use Rattle.std.proofs.Common.{◌≡◌, ℕ, ◌+◌, ◌≤◌, List, ◌++◌, ap, sym, ◌∙◌, arith, map, take, get_or, Err, length, length-append}
+use Rattle.std.proofs.Common.{◌≡◌, ◌+◌, ◌++◌, ap, sym, ◌∙◌, arith, map, take, get_or, Err, length, length-append}
 use Rattle.std.specs.List.{flat_map}
 use Rattle.bean_parser.specs.Values.{directive_value}
 use Rattle.bq.specs.Listing.{rows_in, postings_in, decimals_from}

@@ -35,8 +35,8 @@ returns-in-Err-NotWritten g c =
     let places = places_of c.display.result.now in
     let table = table_text headers (map shown_row (rows_of ledger)) places in
     let err = c.in-Err-NotWritten in
-    let refused = subst (λ fault. WritesTable _ g.O.Output.taken g.O.Output.may_answer c.args.out.now c.write_table.new.out table (Err fault)) err.field-0-is err.ensures in (
+    let refused = subst (λ fault. WritesTable _ g.O.Output.may_answer c.args.out.now c.write_table.new.out table (Err fault)) err.field-0-is err.ensures in (
       table,
       lists c.args.text.now (rows_of ledger) (decimals_of ledger) places c.in-Ok.ensures.ok c.display.ensures,
-      (err.field-0-0, refused.0, refused.1, refused.2),
+      (err.field-0-0, refused.0, refused.1),
     )

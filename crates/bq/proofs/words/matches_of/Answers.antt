@@ -1,8 +1,8 @@
-use Rattle.std.proofs.Common.{rules, ap, ap₂, refl, codes, true, map, List, ℕ, [], ◌∷◌, ◌≡◌, ◌∙◌}
+use Rattle.std.proofs.Common.{rules, ap, ap₂, refl, codes, true, map, List, ℕ, ◌≡◌, ◌∙◌}
 use Rattle.std.proofs.lemmas.Result.{IfErr-weaker, IfOk-weaker}
 use Rattle.clap.specs.Simple.{app_of_fields, is_simple, on_top, subcommand_of}
 use Rattle.clap.specs.Takes.{takes}
-use Rattle.clap.specs.Words.{App, Rule, app_of, new_app, rule_of, with_rule, with_subcommand}
+use Rattle.clap.specs.Words.{App, app_of, new_app, rule_of, with_rule, with_subcommand}
 use Rattle.clap.proofs.OnLiterals.{clap_on_literals}
 use Rattle.bq.specs.Words.{list_command, program, ledger_word}
 use Rattle.bq.proofs.words.matches_of.Goals as goal
