@@ -1,44 +1,41 @@
 -- A run over a store and outputs of memory is one over any.
-use Rattle.std.proofs.Common.{ℕ, List, Result, Ok, Err, inl, inr}
+use Rattle.std.proofs.Common.{ℕ, List, Result, Ok, Err}
 use Rattle.clap.specs.Walk.{Text}
-use Rattle.table_printer.specs.ShortWriters.{AnswersShort}
-use Rattle.table_printer.specs.Writing.{TookFront}
-use Rattle.table_printer.specs.declared.short_writer.ShortWriter.{ShortWriter}
-use Rattle.table_printer.proofs.Limits.{keeps_front}
-use Rattle.bq.specs.Memory.{Gives}
-use Rattle.bq.specs.MemoryRuns.{KeptFront, kept_in, in_memory}
-use Rattle.bq.specs.Runs.{Deeds, deeds, written, ListsNamed, RunsList, TellsWhy, EndsRun, Answers}
-use Rattle.bq.specs.declared.memory.MemoryStore.{MemoryStore}
+use Rattle.outputs.proofs.KeptFront.{keeps_front}
+use Rattle.outputs.specs.Holding.{Holding}
+use Rattle.outputs.specs.Output.{TookFront}
+use Rattle.outputs.specs.ShortWriter.{short_writer}
+use Rattle.stores.proofs.Held.{gives_what_it_holds}
+use Rattle.stores.specs.MemoryStore.{memory_source}
+use Rattle.stores.specs.Shelf.{Shelf}
+use Rattle.stores.specs.Reading.{Reading}
+use Rattle.table_printer.specs.declared.writing.PrintFault.TheVariants as print
+use Rattle.bq.specs.MemoryRun.{KeptFront, in_memory, kept_in}
+use Rattle.bq.specs.Runs.{Comes, Ends, TellsWhy, deeds, written}
 use Rattle.bq.specs.declared.refusal.Refusal.{Refusal}
-use Rattle.bq.specs.declared.refusal.Refusal.TheVariants.{Words, Unreadable, NotUtf8, TooLarge, TooManyPostings, NotWritten, OutOfMemory}
+use Rattle.bq.specs.declared.refusal.Refusal.TheVariants as refusal
 
-took : (old new : ShortWriter) (text : List ℕ) (n : ℕ) → TookFront ShortWriter AnswersShort old new text n → KeptFront old new text n
+took : (old new : Holding) (text : List ℕ) (n : ℕ) → TookFront short_writer old new text n → KeptFront old new text n
 took old new text n h = let front = keeps_front old new text n h in record { kept = front.0; limit = front.1 }
 
-module _ (store store' : MemoryStore) (out out' : ShortWriter) where
-  abbrev any : Deeds
-  any = deeds Gives store store' (written AnswersShort out out')
+tells : (old new : Holding) (result : Result Unit Refusal) → TellsWhy (written short_writer old new) result → TellsWhy (kept_in old new) result
+tells old new (Ok x) h = h
+tells old new (Err r) h = (h.0, took old new _ _ h.1)
 
-  named : (name : List ℕ) (result : Result Unit Refusal) → ListsNamed any name result → ListsNamed (in_memory store out out') name result
-  named name (Ok x) h = (h.0, h.1.finds, (h.2.0, h.2.1, took out out' _ _ h.2.2))
-  named name (Err NotWritten) h = (h.0, h.1.finds, (h.2.0, h.2.1, (h.2.2.0, h.2.2.1, took out out' _ _ h.2.2.2)))
-  named name (Err TooManyPostings) h = (h.0, h.1.finds, h.2)
-  named name (Err TooLarge) h = (h.0, h.1.finds, h.2)
-  named name (Err NotUtf8) h = (h.0, h.1.finds, h.2)
-  named name (Err Unreadable) h = (h.0.finds, h.1)
-  named name (Err OutOfMemory) h = ((h.0.0, h.0.1.finds), h.1)
-  named name (Err Words) h = h
+comes : (words : List Text) (readings : List Reading) (old new : Holding) (result : Result Unit Refusal) → Comes words readings (written short_writer old new) result → Comes words readings (kept_in old new) result
+comes words readings old new (Ok x) h = let such = h.1 in (h.0, (such.0, such.1, (such.2.0, such.2.1, took old new _ _ such.2.2)))
+comes words readings old new (Err (refusal.Print (print.NotWritten n))) h =
+    let such = h.1 in (h.0, (such.0, such.1, (such.2.0, such.2.1, (such.2.2.0, took old new _ _ such.2.2.1))))
+comes words readings old new (Err (refusal.Print print.OutOfMemory)) h = h
+comes words readings old new (Err refusal.Words) h = h
+comes words readings old new (Err (refusal.Load fault)) h = h
+comes words readings old new (Err (refusal.Book fault)) h = h
+comes words readings old new (Err refusal.OutOfMemory) h = h
 
-  runs : (words : List Text) (result : Result Unit Refusal) → RunsList any words result → RunsList (in_memory store out out') words result
-  runs words result (inl h) = inl (h.0, h.1, named h.0 result h.2)
-  runs words result (inr h) = inr (h.0, h.1, h.2, tt, h.4)
-
-  tells : (err err' : ShortWriter) (result : Result Unit Refusal) → TellsWhy (written AnswersShort err err') result → TellsWhy (kept_in err err') result
-  tells err err' (Ok x) h = h
-  tells err err' (Err r) h = (h.0, took err err' _ _ h.1)
-
-  pub ends : (err err' : ShortWriter) (words : List Text) (status : ℕ) → EndsRun any (written AnswersShort err err') words status → EndsRun (in_memory store out out') (kept_in err err') words status
-  ends err err' words status h = (h.0, runs words h.0 h.1, h.2, tells err err' h.0 h.3)
-
-  pub answers : (words : List Text) → Answers any words → Answers (in_memory store out out') words
-  answers words h = (h.0, h.1, named h.0 (Ok tt) h.2)
+pub ends : (store store' : Shelf) (out out' err err' : Holding) (words : List Text) (status : ℕ) → Ends (deeds memory_source store store' (written short_writer out out')) (written short_writer err err') words status → Ends (in_memory store store' (kept_in out out')) (kept_in err err') words status
+ends store store' out out' err err' words status h = record {
+  result = h.result;
+  runs = (h.runs.0, gives_what_it_holds store store' h.runs.0 h.runs.1, comes words h.runs.0 out out' h.result h.runs.2);
+  status_is = h.status_is;
+  tells = tells err err' h.result h.tells;
+}

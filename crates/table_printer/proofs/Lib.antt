@@ -4,4 +4,3 @@ pub mod Pieces
 pub mod Seen
 pub mod Printable
 pub mod Written
-pub mod Limits

@@ -7,10 +7,8 @@ mod cells;
 mod columns;
 mod digits;
 mod lines;
-pub mod output;
 pub mod rows;
 mod runs;
-pub mod short_writer;
 mod table;
 pub mod writing;
 
