@@ -1,46 +1,41 @@
--- A run over a store and outputs of memory, by each way in which it ends.
-use Rattle.std.proofs.Common.{◌≡◌, ℕ, List, Some, Result, Ok, Err, inl, inr, sym, subst}
+-- A run over a store and outputs of memory is one over any.
+use Rattle.std.proofs.Common.{ℕ, List, Result, Ok, Err}
 use Rattle.clap.specs.Walk.{Text}
-use Rattle.table_printer.specs.ShortWriters.{AnswersShort, taken_of}
-use Rattle.table_printer.specs.declared.short_writer.ShortWriter.{ShortWriter}
-use Rattle.table_printer.proofs.Limits.{refuses_at_limit}
-use Rattle.bq.specs.Memory.{Gives, told_of}
-use Rattle.bq.specs.MemoryRuns.{ComesTo, Says}
-use Rattle.bq.specs.Named.{RefusesWords}
-use Rattle.bq.specs.Runs.{Ends, between, ListsNamed, RunsList, TellsWhy}
-use Rattle.bq.specs.Words.{ledger_named}
-use Rattle.bq.specs.declared.memory.MemoryStore.{MemoryStore}
+use Rattle.outputs.proofs.KeptFront.{keeps_front}
+use Rattle.outputs.specs.Holding.{Holding}
+use Rattle.outputs.specs.Output.{TookFront}
+use Rattle.outputs.specs.ShortWriter.{short_writer}
+use Rattle.stores.proofs.Held.{gives_what_it_holds}
+use Rattle.stores.specs.MemoryStore.{memory_source}
+use Rattle.stores.specs.Shelf.{Shelf}
+use Rattle.stores.specs.Reading.{Reading}
+use Rattle.table_printer.specs.declared.writing.PrintFault.TheVariants as print
+use Rattle.bq.specs.MemoryRun.{KeptFront, in_memory, kept_in}
+use Rattle.bq.specs.Runs.{Comes, Ends, TellsWhy, deeds, written}
 use Rattle.bq.specs.declared.refusal.Refusal.{Refusal}
-use Rattle.bq.specs.declared.refusal.Refusal.TheVariants.{Words, Unreadable, NotUtf8, TooLarge, TooManyPostings, NotWritten, OutOfMemory}
+use Rattle.bq.specs.declared.refusal.Refusal.TheVariants as refusal
 
-abbrev pub in_memory : MemoryStore → MemoryStore → ShortWriter → ShortWriter → Ends MemoryStore ShortWriter
-in_memory = between (λ s. s.failures) (λ s. Some (told_of s)) Gives (λ w. Some (taken_of w)) AnswersShort
+took : (old new : Holding) (text : List ℕ) (n : ℕ) → TookFront short_writer old new text n → KeptFront old new text n
+took old new text n h = let front = keeps_front old new text n h in record { kept = front.0; limit = front.1 }
 
-at_words : (store : MemoryStore) (out out' : ShortWriter) (words : List Text) (r : Refusal) → RefusesWords words r → out' ≡ out → ComesTo store out out' words (Err r)
-at_words store out out' words Words refused same = (refused, same)
-at_words store out out' words OutOfMemory refused same = same
-at_words store out out' words Unreadable refused same = absurd refused
-at_words store out out' words NotUtf8 refused same = absurd refused
-at_words store out out' words TooLarge refused same = absurd refused
-at_words store out out' words TooManyPostings refused same = absurd refused
-at_words store out out' words NotWritten refused same = absurd refused
+tells : (old new : Holding) (result : Result Unit Refusal) → TellsWhy (written short_writer old new) result → TellsWhy (kept_in old new) result
+tells old new (Ok x) h = h
+tells old new (Err r) h = (h.0, took old new _ _ h.1)
 
-named : (store store' : MemoryStore) (out out' : ShortWriter) (words : List Text) (name : List ℕ) (result : Result Unit Refusal) → ledger_named words ≡ Some name → ListsNamed (in_memory store store' out out') name result → ComesTo store out out' words result
-named store store' out out' words name (Ok x) is h = (h.2.0, (name, is, (h.0, h.1.0.0, h.2.1)), h.2.2)
-named store store' out out' words name (Err Unreadable) is h = ((name, is, h.0.0.0), h.1)
-named store store' out out' words name (Err NotWritten) is h =
-    let stop = h.2.2 in (h.2.0, (name, is, (h.0, h.1.0.0, h.2.1)), (stop.0, stop.1, stop.2), refuses_at_limit out out' stop.3)
-named store store' out out' words name (Err NotUtf8) is h = ((name, is, (h.0, h.1.0.0, h.2)), h.3)
-named store store' out out' words name (Err TooLarge) is h = ((name, is, (h.0, h.1.0.0, h.2)), h.3)
-named store store' out out' words name (Err TooManyPostings) is h = ((name, is, (h.0, h.1.0.0, h.2)), h.3)
-named store store' out out' words name (Err OutOfMemory) is h = h.2
-named store store' out out' words name (Err Words) is h = absurd h
+comes : (words : List Text) (readings : List Reading) (old new : Holding) (result : Result Unit Refusal) → Comes words readings (written short_writer old new) result → Comes words readings (kept_in old new) result
+comes words readings old new (Ok x) h = let such = h.1 in (h.0, (such.0, such.1, (such.2.0, such.2.1, took old new _ _ such.2.2)))
+comes words readings old new (Err (refusal.Print (print.NotWritten n))) h =
+    let such = h.1 in (h.0, (such.0, such.1, (such.2.0, such.2.1, (such.2.2.0, took old new _ _ such.2.2.1))))
+comes words readings old new (Err (refusal.Print print.OutOfMemory)) h = h
+comes words readings old new (Err refusal.Words) h = h
+comes words readings old new (Err (refusal.Load fault)) h = h
+comes words readings old new (Err (refusal.Book fault)) h = h
+comes words readings old new (Err refusal.OutOfMemory) h = h
 
-pub comes : (store store' : MemoryStore) (out out' : ShortWriter) (words : List Text) (result : Result Unit Refusal) → RunsList (in_memory store store' out out') words result → ComesTo store out out' words result
-comes store store' out out' words result (inl h) = named store store' out out' words h.0 result h.1 h.2
-comes store store' out out' words result (inr h) =
-    subst (ComesTo store out out' words) (sym h.1) (at_words store out out' words h.0 h.2 h.4)
-
-pub says : (err err' : ShortWriter) (result : Result Unit Refusal) → TellsWhy ShortWriter (λ w. Some (taken_of w)) AnswersShort err err' result → Says err err' result
-says err err' (Ok x) told = told
-says err err' (Err r) told = (told.0, told.2, λ short. refuses_at_limit err err' (told.3 short))
+pub ends : (store store' : Shelf) (out out' err err' : Holding) (words : List Text) (status : ℕ) → Ends (deeds memory_source store store' (written short_writer out out')) (written short_writer err err') words status → Ends (in_memory store store' (kept_in out out')) (kept_in err err') words status
+ends store store' out out' err err' words status h = record {
+  result = h.result;
+  runs = (h.runs.0, gives_what_it_holds store store' h.runs.0 h.runs.1, comes words h.runs.0 out out' h.result h.runs.2);
+  status_is = h.status_is;
+  tells = tells err err' h.result h.tells;
+}

@@ -1,4 +1,4 @@
-pub mod Unique
-pub mod Rows
-pub mod Order
+pub mod OneLedger
+pub mod Outcomes
 pub mod InMemory
+pub mod Examples

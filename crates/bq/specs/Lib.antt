@@ -1,11 +1,10 @@
-pub mod Statuses
+pub mod LoadFault
+pub mod Refusal
 pub mod Words
 pub mod Named
-pub mod Sources
-pub mod Streams
-pub mod Arrangement
+pub mod Loading
 pub mod Listing
 pub mod Columns
+pub mod Causes
 pub mod Runs
-pub mod Memory
-pub mod MemoryRuns
+pub mod MemoryRun

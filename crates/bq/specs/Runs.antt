@@ -1,115 +1,77 @@
--- What the commands come to.
-use Rattle.std.specs.Prelude.{◌≡◌, ℕ, ◌<◌, ◌≤◌, ◌⊎◌, List, length, take, Option, Some, Result, Ok, Err}
-use Rattle.std.specs.Io.KnownBytes.{Appends}
-use Rattle.std.specs.Str.{IsUtf8}
-use Rattle.table_printer.specs.Writing.{Refused}
-use Rattle.table_printer.specs.declared.output.NotTaken.{NotTaken}
+-- What a run of the program comes to.
+use Rattle.std.specs.Prelude.{◌≡◌, ℕ, ◌<◌, ◌⊎◌, IsTrue, List, length, Some, Result, Ok, Err}
 use Rattle.clap.specs.Walk.{Text}
-use Rattle.bq.specs.Listing.{Lists, HasTooMany}
-use Rattle.bq.specs.Named.{RefusesWords}
-use Rattle.bq.specs.Sources.{Reading, Tells, failures_behind}
-use Rattle.bq.specs.Statuses.{status_of, line_of}
+use Rattle.outputs.specs.Output.{TookFront}
+use Rattle.outputs.specs.declared.output.Output.{Ghosts as OutputOf}
+use Rattle.stores.specs.Reading.{Reading}
+use Rattle.stores.specs.Source.{Gave}
+use Rattle.stores.specs.declared.source.Source.{Ghosts as SourceOf}
+use Rattle.table_printer.specs.declared.writing.PrintFault.TheVariants.{NotWritten}
+use Rattle.bean_book.specs.declared.postings.BookFault.TheVariants.{TooManyPostings}
+use Rattle.bq.specs.Causes.{GaveSuch, IsAnswerable, IsRefused}
+use Rattle.bq.specs.Listing.{HasTooMany, Lists}
+use Rattle.bq.specs.Refusal.{lacks_memory, line_of, status_of}
 use Rattle.bq.specs.Words.{ledger_named}
-use Rattle.bq.specs.declared.store.SourceFault.{SourceFault}
-use Rattle.bq.specs.declared.store.SourceFault.TheVariants as source
 use Rattle.bq.specs.declared.refusal.Refusal.{Refusal}
-use Rattle.bq.specs.declared.refusal.Refusal.TheVariants as refusal
+use Rattle.bq.specs.declared.refusal.Refusal.TheVariants.{Book, Print}
 
--- 16 MiB
-abbrev pub largest_text : ℕ
-largest_text = 16777216
+-- What an output took: of this text so many bytes, from the front on, and the rest refused; or nothing was offered to it.
+pub record Written : Type 1 where
+  pub took : List ℕ → ℕ → Type 0
+  pub nothing : Type 0
 
--- the output took a front of the table of the text, and refused the rest
-abbrev pub StopsShort : (O : Type 0) → (O → Option (List ℕ)) → (O → List ℕ → Result ℕ NotTaken → O → Type 0) → O → O → List ℕ → Type 0
-StopsShort O taken may_answer old new text =
-    (table : List ℕ) × Lists text table
-    × ((n : ℕ) × (n < length table) × Appends (taken old) (taken new) (take n table) × Refused O may_answer old new)
+-- What a run did: what the store was asked for, in order, with its answers, and what was written.
+pub record Deeds : Type 1 where
+  pub gave : List Reading → Type 0
+  pub out : Written
 
--- the table of the text was written, or a front of it, or the output has nothing of it
-abbrev pub ListsText : (O : Type 0) → (O → Option (List ℕ)) → (O → List ℕ → Result ℕ NotTaken → O → Type 0) → O → O → List ℕ → Result Unit Refusal → Type 0
-ListsText O taken may_answer old new text (Ok x) = (table : List ℕ) × Lists text table × Appends (taken old) (taken new) table
-ListsText O taken may_answer old new text (Err refusal.NotWritten) = StopsShort O taken may_answer old new text
-ListsText O taken may_answer old new text (Err refusal.TooManyPostings) = HasTooMany text × (new ≡ old)
-ListsText O taken may_answer old new text (Err refusal.OutOfMemory) = new ≡ old
-ListsText O taken may_answer old new text (Err refusal) = ⊥
+abbrev pub written : {O : Type 0} → OutputOf O → O → O → Written
+written o old new = record { took = TookFront o old new; nothing = new ≡ old }
 
--- What `list` does with a store and an output.
-pub record Ends (S O : Type 0) : Type 1 where
-  pub failures : S → ℕ
-  pub told : S → Option (List Reading)
-  pub may_give : S → List ℕ → Result (List ℕ) SourceFault → S → Type 0
-  pub taken : O → Option (List ℕ)
-  pub may_answer : O → List ℕ → Result ℕ NotTaken → O → Type 0
-  pub store_before : S
-  pub store_after : S
-  pub out_before : O
-  pub out_after : O
+abbrev pub deeds : {S : Type 0} → SourceOf S → S → S → Written → Deeds
+deeds s old new out = record { gave = Gave s old new; out = out }
 
-abbrev pub between : {S O : Type 0} → (S → ℕ) → (S → Option (List Reading)) → (S → List ℕ → Result (List ℕ) SourceFault → S → Type 0) → (O → Option (List ℕ)) → (O → List ℕ → Result ℕ NotTaken → O → Type 0) → S → S → O → O → Ends S O
-between failures told may_give taken may_answer store store' out out' = record {
-  failures = failures;
-  told = told;
-  may_give = may_give;
-  taken = taken;
-  may_answer = may_answer;
-  store_before = store;
-  store_after = store';
-  out_before = out;
-  out_after = out';
-}
+-- the table of the text went to the output whole, or its first n bytes did
+abbrev pub WritesTable : Written → List ℕ → Type 0
+WritesTable out text = (table : List ℕ) × Lists text table × out.took table (length table)
 
--- the store was asked for the name, once, and may answer so; it tells what it gave, where it tells that, and each failure
-abbrev pub Answered : {S O : Type 0} → Ends S O → List ℕ → Result (List ℕ) SourceFault → Type 0
-Answered ends name answer =
-    ends.may_give ends.store_before name answer ends.store_after
-    × Tells (ends.told ends.store_before) (ends.told ends.store_after) name answer
-    × (ends.failures ends.store_after ≡ failures_behind (ends.failures ends.store_before) answer)
+abbrev pub WritesFront : Written → List ℕ → ℕ → Type 0
+WritesFront out text n = (table : List ℕ) × Lists text table × ((n < length table) × out.took table n)
 
--- the store gave bytes of which this holds, and nothing was written
-abbrev pub RefusesBytes : {S O : Type 0} → Ends S O → List ℕ → (List ℕ → Type 0) → Type 0
-RefusesBytes ends name Cause = (bytes : List ℕ) × Answered ends name (Ok bytes) × Cause bytes × (ends.out_after ≡ ends.out_before)
+-- The answer of a run, given its words and what the store gave: the whole table, or a front of it, comes where nothing speaks
+-- against it; each refusal exactly where its cause is the first that holds; want of memory at any time.
+abbrev pub Comes : List Text → List Reading → Written → Result Unit Refusal → Type 0
+Comes words readings out (Ok x) = IsAnswerable words readings × GaveSuch words readings (WritesTable out)
+Comes words readings out (Err (Print (NotWritten n))) =
+    IsAnswerable words readings × GaveSuch words readings (λ text. WritesFront out text n)
+Comes words readings out (Err r) = (IsTrue (lacks_memory r) ⊎ IsRefused words readings r) × out.nothing
 
-abbrev pub ListsNamed : {S O : Type 0} → Ends S O → List ℕ → Result Unit Refusal → Type 0
-ListsNamed ends name (Ok x) =
-    (bytes : List ℕ) × Answered ends name (Ok bytes)
-    × ((table : List ℕ) × Lists bytes table × Appends (ends.taken ends.out_before) (ends.taken ends.out_after) table)
-ListsNamed ends name (Err refusal.Unreadable) = Answered ends name (Err source.Failed) × (ends.out_after ≡ ends.out_before)
-ListsNamed ends name (Err refusal.TooLarge) = RefusesBytes ends name (λ bytes. largest_text < length bytes)
-ListsNamed ends name (Err refusal.NotUtf8) = RefusesBytes ends name (λ bytes. ¬ IsUtf8 bytes)
-ListsNamed ends name (Err refusal.TooManyPostings) = RefusesBytes ends name HasTooMany
-ListsNamed {S} {O} ends name (Err refusal.NotWritten) =
-    (bytes : List ℕ) × Answered ends name (Ok bytes)
-    × StopsShort O ends.taken ends.may_answer ends.out_before ends.out_after bytes
-ListsNamed ends name (Err refusal.OutOfMemory) =
-    (answer : Result (List ℕ) SourceFault) × Answered ends name answer × (ends.out_after ≡ ends.out_before)
-ListsNamed ends name (Err refusal.Words) = ⊥
+abbrev pub Runs : Deeds → List Text → Result Unit Refusal → Type 0
+Runs run words result = (readings : List Reading) × run.gave readings × Comes words readings run.out result
 
--- the words are refused before anything is asked of the store
-abbrev pub RefusesAtWords : {S O : Type 0} → Ends S O → List Text → Result Unit Refusal → Type 0
-RefusesAtWords ends words result =
-    (r : Refusal) × (result ≡ Err r) × RefusesWords words r × (ends.store_after ≡ ends.store_before) × (ends.out_after ≡ ends.out_before)
+-- the same of a name, whatever the words that name it
+abbrev pub ListsNamed : Deeds → List ℕ → Result Unit Refusal → Type 0
+ListsNamed run name result = (words : List Text) → ledger_named words ≡ Some name → Runs run words result
 
--- the words name a ledger, and `list` does its work on that
-abbrev pub RunsList : {S O : Type 0} → Ends S O → List Text → Result Unit Refusal → Type 0
-RunsList ends words result = ((name : List ℕ) × (ledger_named words ≡ Some name) × ListsNamed ends name result) ⊎ RefusesAtWords ends words result
+-- the same of a text
+abbrev pub ListsText : Written → List ℕ → Result Unit Refusal → Type 0
+ListsText out text (Ok x) = ¬ HasTooMany text × WritesTable out text
+ListsText out text (Err (Print (NotWritten n))) = ¬ HasTooMany text × WritesFront out text n
+ListsText out text (Err (Book TooManyPostings)) = HasTooMany text × out.nothing
+ListsText out text (Err r) = IsTrue (lacks_memory r) × out.nothing
 
 abbrev pub status_of_run : Result Unit Refusal → ℕ
 status_of_run (Ok x) = 0
 status_of_run (Err r) = status_of r
 
--- the line of a refusal went to the other output, or a front of it, behind which that output refused the rest
-abbrev pub TellsWhy : (E : Type 0) → (E → Option (List ℕ)) → (E → List ℕ → Result ℕ NotTaken → E → Type 0) → E → E → Result Unit Refusal → Type 0
-TellsWhy E taken may_answer old new (Ok x) = new ≡ old
-TellsWhy E taken may_answer old new (Err r) =
-    (n : ℕ) × (n ≤ length (line_of r))
-    × Appends (taken old) (taken new) (take n (line_of r))
-    × (n < length (line_of r) → Refused E may_answer old new)
+-- the line of a refusal, or a front of it
+abbrev pub TellsWhy : Written → Result Unit Refusal → Type 0
+TellsWhy err (Ok x) = err.nothing
+TellsWhy err (Err r) = (n : ℕ) × err.took (line_of r) n
 
--- a run with this status, which tells why
-abbrev pub EndsRun : {S O : Type 0} → Ends S O → (Result Unit Refusal → Type 0) → List Text → ℕ → Type 0
-EndsRun ends Told words status =
-    (result : Result Unit Refusal) × RunsList ends words result × (status ≡ status_of_run result) × Told result
-
--- What was written is the table of the text that the words name, as the store gave it.
-abbrev pub Answers : {S O : Type 0} → Ends S O → List Text → Type 0
-Answers ends words = (name : List ℕ) × (ledger_named words ≡ Some name) × ListsNamed ends name (Ok tt)
+-- A run with this status, which tells why.
+pub record Ends (run : Deeds) (err : Written) (words : List Text) (status : ℕ) : Type 0 where
+  pub result : Result Unit Refusal
+  pub runs : Runs run words result
+  pub status_is : status ≡ status_of_run result
+  pub tells : TellsWhy err result

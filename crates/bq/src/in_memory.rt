@@ -1,11 +1,12 @@
 //! The program over a store and outputs of memory, which tell all.
-ghost use Rattle.std.specs.Prelude.{◌≡◌, map};
-ghost use Rattle.bq.specs.MemoryRuns.{ListsHeld, EndsInMemory};
+ghost use Rattle.std.specs.Prelude.{map};
+ghost use Rattle.bq.specs.MemoryRun.{in_memory, kept_in};
+ghost use Rattle.bq.specs.Runs.{Ends};
 
-use crate::memory::MemoryStore;
 use crate::run::run_words;
+use outputs::short_writer::ShortWriter;
 use std::alloc::Global;
-use table_printer::short_writer::ShortWriter;
+use stores::memory::MemoryStore;
 
 /// Runs the program on its words, as `run_words` does.
 pub fn run_in_memory(
@@ -15,8 +16,8 @@ pub fn run_in_memory(
     out: &mut ShortWriter,
     err: &mut ShortWriter,
 ) -> u8
-    ensures ends { EndsInMemory store.old out.old out.new err.old err.new (map (λ w. w.now) words.now) result }
-    ensures answered { result ≡ 0 → ListsHeld store.old out.old out.new (map (λ w. w.now) words.now) }
+    ensures { Ends (in_memory store.old store.new (kept_in out.old out.new)) (kept_in err.old err.new)
+        (map (λ w. w.now) words.now) result }
 {
     run_words(alloc, words, store, out, err)
 }

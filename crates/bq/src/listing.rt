@@ -1,158 +1,17 @@
-//! The postings of a text's transactions as a ledger.
-ghost use Rattle.std.specs.Prelude.{◌≡◌, ◌<◌, ◌≤◌, ◌+◌, ◌++◌, ◌∷◌, [], ℕ, Err, List, OnOk, IfOk, IfErr, map, filter, fold, max, length, if◌then◌else◌};
-ghost use Rattle.std.specs.Str.{bytes_eq};
-ghost use Rattle.bean_parser.specs.Values.{directive_value, posting_value};
-ghost use Rattle.bean_base.specs.Days.{day_value};
-ghost use Rattle.posting_table.specs.Rows.{row_of};
-ghost use Rattle.posting_table.specs.Ledgers.{rows_of, decimals_of};
-ghost use Rattle.bq.specs.Listing.{flag_text, postings_in, rows_in, rows_of_all, decimals_from, decimals_in, row_of_posting, IsListing, HasTooMany};
+//! The ledger of a text.
+ghost use Rattle.bq.specs.Listing.{ListsLedger};
 
-use crate::arrange::arrange;
-use bean_base::days::Day;
-use bean_parser::directive::{Directive, Flag, Posting, Transaction};
+use bean_book::postings::{BookFault, ledger_of};
+use bean_load::arrangement::arrange;
 use bean_parser::parse::parse;
-use posting_table::ledger::{Ledger, MOST_POSTINGS};
-use posting_table::row::{Position, Row};
-use std::alloc::{AllocError, Global};
-
-/// Why there is no ledger.
-#[derive(Clone, Copy, Debug, Drop, PartialEq, Eq)]
-pub enum LedgerFault {
-    TooManyPostings,
-    OutOfMemory,
-}
-
-impl From<AllocError> for LedgerFault {
-    ghost use Rattle.bq.specs.declared.listing.LedgerFault.TheVariants.{OutOfMemory};
-
-    ghost from_gives = { λ _ fault. fault ≡ OutOfMemory };
-
-    fn from(_error: AllocError) -> LedgerFault {
-        LedgerFault::OutOfMemory
-    }
-}
-
-fn flag_text(flag: Flag) -> &'static str
-    ensures { result.now ≡ flag_text flag }
-{
-    match flag {
-        Flag::Complete => "*",
-        Flag::Incomplete => "!",
-    }
-}
-
-fn row_of<'a>(day: Day, flag: Flag, posting: &Posting<'a>) -> Row<'a>
-    ensures { row_of result ≡ row_of_posting (day_value day) flag (posting_value posting.now) }
-{
-    Row {
-        date: day,
-        flag: flag_text(flag),
-        account: posting.account,
-        position: Position {
-            number: posting.units.number,
-            currency: posting.units.currency,
-        },
-    }
-}
-
-/// Shows at least the decimals that are written in a posting's number.
-fn note_decimals<'a>(ledger: &mut Ledger<'a>, posting: &Posting<'a>) -> Result<(), AllocError>
-    ensures decimals { OnOk result ((name : List ℕ) → decimals_of ledger.new name
-        ≡ (if bytes_eq posting.now.units.currency.text.now name
-        then max (decimals_of ledger.old name) posting.now.units.number.places
-        else decimals_of ledger.old name)) }
-    ensures rows { rows_of ledger.new ≡ rows_of ledger.old }
-{
-    let places = posting.units.number.places;
-    let currency = posting.units.currency;
-    if ledger.display().places(currency.text) < places {
-        ledger.set_display(currency, places)?;
-    }
-    Ok(())
-}
-
-fn push_posting<'a>(
-    ledger: &mut Ledger<'a>,
-    day: Day,
-    flag: Flag,
-    posting: &Posting<'a>,
-) -> Result<(), LedgerFault>
-    ensures rows { OnOk result (rows_of ledger.new
-        ≡ rows_of ledger.old ++ row_of_posting (day_value day) flag (posting_value posting.now) ∷ []) }
-    ensures decimals { OnOk result ((name : List ℕ) → decimals_of ledger.new name
-        ≡ decimals_from (decimals_of ledger.old name) name (posting_value posting.now ∷ [])) }
-    ensures full { result ≡ Err LedgerFault.TooManyPostings → MOST_POSTINGS ≤ length (rows_of ledger.old) }
-{
-    if ledger.len() >= MOST_POSTINGS {
-        return Err(LedgerFault::TooManyPostings);
-    }
-    note_decimals(ledger, posting)?;
-    ledger.push(row_of(day, flag, posting))?;
-    Ok(())
-}
-
-fn push_postings<'a>(
-    ledger: &mut Ledger<'a>,
-    day: Day,
-    flag: Flag,
-    postings: &[Posting<'a>],
-) -> Result<(), LedgerFault>
-    ensures rows { OnOk result (rows_of ledger.new
-        ≡ rows_of ledger.old ++ map (row_of_posting (day_value day) flag) (map posting_value postings.now)) }
-    ensures decimals { OnOk result ((name : List ℕ) → decimals_of ledger.new name
-        ≡ decimals_from (decimals_of ledger.old name) name (map posting_value postings.now)) }
-    ensures full { result ≡ Err LedgerFault.TooManyPostings
-        → MOST_POSTINGS < length (rows_of ledger.old) + length postings.now }
-{
-    for posting in postings {
-        push_posting(ledger, day, flag, posting)?;
-    }
-    Ok(())
-}
-
-fn push_directive<'a>(ledger: &mut Ledger<'a>, directive: &Directive<'a>) -> Result<(), LedgerFault>
-    ensures rows { OnOk result (rows_of ledger.new
-        ≡ rows_of ledger.old ++ rows_in (directive_value directive.now)) }
-    ensures decimals { OnOk result ((name : List ℕ) → decimals_of ledger.new name
-        ≡ decimals_from (decimals_of ledger.old name) name (postings_in (directive_value directive.now))) }
-    ensures full { result ≡ Err LedgerFault.TooManyPostings
-        → MOST_POSTINGS < length (rows_of ledger.old) + length (rows_in (directive_value directive.now)) }
-{
-    match directive {
-        Directive::Open(_) => Ok(()),
-        Directive::Transaction(transaction) => push_postings(
-            ledger,
-            transaction.day,
-            transaction.flag,
-            &transaction.postings,
-        ),
-    }
-}
-
-/// The ledger of directives that are in order.
-fn ledger_of_all<'a>(alloc: Global, directives: &[Directive<'a>]) -> Result<Ledger<'a>, LedgerFault>
-    ensures rows { IfOk result (λ l. rows_of l ≡ rows_of_all (map directive_value directives.now)) }
-    ensures decimals { IfOk result (λ l. (name : List ℕ) → decimals_of l name
-        ≡ decimals_in (map directive_value directives.now) name) }
-    ensures full { result ≡ Err LedgerFault.TooManyPostings
-        → MOST_POSTINGS < length (rows_of_all (map directive_value directives.now)) }
-{
-    let mut ledger = Ledger::new(alloc);
-    for directive in directives {
-        match push_directive(&mut ledger, directive) {
-            Ok(()) => {}
-            Err(fault) => return Err(fault),
-        }
-    }
-    Ok(ledger)
-}
+use posting_table::ledger::Ledger;
+use std::alloc::Global;
 
 /// The ledger of a text: its transactions' postings, arranged. Blocks at fault are left out.
-pub fn ledger_of<'a>(alloc: Global, text: &'a str) -> Result<Ledger<'a>, LedgerFault>
-    ensures ok { IfOk result (λ l. IsListing text.now (rows_of l) (decimals_of l)) }
-    ensures full { result ≡ Err LedgerFault.TooManyPostings → HasTooMany text.now }
+pub fn ledger_of_text<'a>(alloc: Global, text: &'a str) -> Result<Ledger<'a>, BookFault>
+    ensures { ListsLedger text.now result }
 {
     let mut parsed = parse(alloc, text)?;
     arrange(&mut parsed.directives)?;
-    ledger_of_all(alloc, &parsed.directives)
+    ledger_of(alloc, &parsed.directives)
 }

@@ -1,25 +1,56 @@
 //! Why the program gives no answer, and the status that it ends with.
-ghost use Rattle.std.specs.Prelude.{◌≡◌};
-ghost use Rattle.bq.specs.Statuses.{status_of, line_of};
+ghost use Rattle.std.specs.Prelude.{◌≡◌, ◌≤◌, None, length};
+ghost use Rattle.bq.specs.Refusal.{status_of, code_of, place_of, line_of};
+
+use crate::loading::LoadFault;
+use arrayvec::ArrayString;
+use bean_book::postings::BookFault;
+use itoa::Buffer;
+use table_printer::writing::PrintFault;
 
 /// What a user is told in one line on standard error.
 #[derive(Clone, Copy, Debug, Drop, PartialEq, Eq)]
 pub enum Refusal {
     /// The words are no command.
     Words,
-    /// The ledger can't be read.
-    Unreadable,
-    /// The ledger is not UTF-8.
-    NotUtf8,
-    /// The ledger has more than 16 MiB.
-    TooLarge,
-    /// There are more than 1,000,000 postings.
-    TooManyPostings,
-    /// The table can't be written.
-    NotWritten,
-    /// Memory lacked.
+    Load(LoadFault),
+    Book(BookFault),
+    Print(PrintFault),
     OutOfMemory,
 }
+
+impl From<LoadFault> for Refusal {
+    ghost use Rattle.bq.specs.declared.refusal.Refusal.TheVariants.{Load};
+
+    ghost from_gives = { λ fault refusal. refusal ≡ Load fault };
+
+    fn from(fault: LoadFault) -> Refusal {
+        Refusal::Load(fault)
+    }
+}
+
+impl From<BookFault> for Refusal {
+    ghost use Rattle.bq.specs.declared.refusal.Refusal.TheVariants.{Book};
+
+    ghost from_gives = { λ fault refusal. refusal ≡ Book fault };
+
+    fn from(fault: BookFault) -> Refusal {
+        Refusal::Book(fault)
+    }
+}
+
+impl From<PrintFault> for Refusal {
+    ghost use Rattle.bq.specs.declared.refusal.Refusal.TheVariants.{Print};
+
+    ghost from_gives = { λ fault refusal. refusal ≡ Print fault };
+
+    fn from(fault: PrintFault) -> Refusal {
+        Refusal::Print(fault)
+    }
+}
+
+/// Room for every line.
+const LONGEST_LINE: usize = 64;
 
 impl Refusal {
     /// 2 where input is refused, 3 where reading or writing failed, 4 where memory lacked.
@@ -27,24 +58,51 @@ impl Refusal {
         ensures { result ≡ status_of self }
     {
         match self {
-            Refusal::Words | Refusal::NotUtf8 | Refusal::TooLarge | Refusal::TooManyPostings => 2,
-            Refusal::Unreadable | Refusal::NotWritten => 3,
-            Refusal::OutOfMemory => 4,
+            Refusal::Words
+            | Refusal::Load(LoadFault::TooLarge | LoadFault::NotUtf8)
+            | Refusal::Book(BookFault::TooManyPostings) => 2,
+            Refusal::Load(LoadFault::Unreadable)
+            | Refusal::Print(PrintFault::NotWritten { .. }) => 3,
+            Refusal::Load(LoadFault::OutOfMemory)
+            | Refusal::Book(BookFault::OutOfMemory)
+            | Refusal::Print(PrintFault::OutOfMemory)
+            | Refusal::OutOfMemory => 4,
         }
     }
 
-    /// The line that tells it, with its line feed. Takes no memory.
-    pub fn line(self) -> &'static str
-        ensures { result.now ≡ line_of self }
+    /// The code of the fault.
+    pub fn code(self) -> &'static str
+        ensures is { result.now ≡ code_of self }
+        ensures short { length result.now ≤ 5 }
     {
         match self {
-            Refusal::Words => "bq: words\n",
-            Refusal::Unreadable => "bq: L1\n",
-            Refusal::NotUtf8 => "bq: L2\n",
-            Refusal::TooLarge => "bq: L3\n",
-            Refusal::TooManyPostings => "bq: B1\n",
-            Refusal::NotWritten => "bq: P1\n",
-            Refusal::OutOfMemory => "bq: M2\n",
+            Refusal::Words => "words",
+            Refusal::Load(fault) => fault.code(),
+            Refusal::Book(fault) => fault.code(),
+            Refusal::Print(fault) => fault.code(),
+            Refusal::OutOfMemory => "M2",
         }
+    }
+
+    /// The place that the fault names, in bytes. None of these faults has one.
+    pub fn place(self) -> Option<usize>
+        ensures { result ≡ place_of self }
+    {
+        None
+    }
+
+    /// The line that tells it, with its line feed. Takes no memory.
+    pub fn line(self) -> ArrayString<LONGEST_LINE>
+        ensures { result.bytes ≡ line_of self }
+    {
+        let mut line = ArrayString::new();
+        line.push_str("bq: ");
+        line.push_str(self.code());
+        if let Some(place) = self.place() {
+            line.push_str(" at ");
+            line.push_str(Buffer::new().format(place));
+        }
+        line.push_str("\n");
+        line
     }
 }

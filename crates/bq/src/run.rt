@@ -1,34 +1,26 @@
 //! What the program does with its words.
 ghost use Rattle.std.specs.Prelude.{◌≡◌, map};
-ghost use Rattle.bq.specs.Runs.{ListsText, between, ListsNamed, RunsList, TellsWhy, EndsRun, Answers};
+ghost use Rattle.bq.specs.Runs.{written, deeds, ListsText, ListsNamed, Runs, Ends};
 
-use crate::listing::{LedgerFault, ledger_of};
+use crate::listing::ledger_of_text;
+use crate::loading::{ledger_bytes, text_in};
 use crate::refusal::Refusal;
 use crate::shown::Postings;
-use crate::store::{Source, SourceFault, Store};
 use crate::words::ledger_named;
+use outputs::output::Output;
+use outputs::writing::write_bytes;
 use std::alloc::Global;
-use table_printer::output::Output;
-use table_printer::writing::{PrintFault, write_bytes, write_table};
-
-/// The most bytes of a text: 16 MiB.
-pub const LARGEST_TEXT: usize = 16_777_216;
+use stores::source::{Source, Store};
+use table_printer::writing::write_table;
 
 /// Writes the table of a text's postings.
 fn list_text<O: Output>(alloc: Global, text: &str, out: &mut O) -> Result<(), Refusal>
-    ensures { ListsText O O.taken O.may_answer out.old out.new text.now result }
+    ensures { ListsText (written O.Output out.old out.new) text.now result }
 {
-    let ledger = match ledger_of(alloc, text) {
-        Ok(ledger) => ledger,
-        Err(LedgerFault::TooManyPostings) => return Err(Refusal::TooManyPostings),
-        Err(LedgerFault::OutOfMemory) => return Err(Refusal::OutOfMemory),
-    };
+    let ledger = ledger_of_text(alloc, text)?;
     let postings = Postings { ledger: &ledger };
-    match write_table(alloc, &postings, ledger.display(), out) {
-        Ok(_) => Ok(()),
-        Err(PrintFault::NotWritten { .. }) => Err(Refusal::NotWritten),
-        Err(PrintFault::OutOfMemory) => Err(Refusal::OutOfMemory),
-    }
+    write_table(alloc, &postings, ledger.display(), out)?;
+    Ok(())
 }
 
 /// Writes the table of the postings in the text of that name.
@@ -38,20 +30,10 @@ fn list<S: Source, O: Output>(
     store: &mut S,
     out: &mut O,
 ) -> Result<(), Refusal>
-    ensures { ListsNamed (between S.failures S.told S.may_give O.taken O.may_answer
-        store.old store.new out.old out.new) name.now result }
+    ensures { ListsNamed (deeds S.Source store.old store.new (written O.Output out.old out.new)) name.now result }
 {
-    let bytes = match store.text(name) {
-        Ok(bytes) => bytes,
-        Err(SourceFault::Failed) => return Err(Refusal::Unreadable),
-        Err(SourceFault::OutOfMemory) => return Err(Refusal::OutOfMemory),
-    };
-    if bytes.len() > LARGEST_TEXT {
-        return Err(Refusal::TooLarge);
-    }
-    let Ok(text) = str::from_utf8(&bytes) else {
-        return Err(Refusal::NotUtf8);
-    };
+    let bytes = ledger_bytes(store, name)?;
+    let text = text_in(&bytes)?;
     list_text(alloc, text, out)
 }
 
@@ -62,8 +44,7 @@ fn run<S: Store, O: Output>(
     store: &mut S,
     out: &mut O,
 ) -> Result<(), Refusal>
-    ensures { RunsList (between S.failures S.told S.may_give O.taken O.may_answer
-        store.old store.new out.old out.new)
+    ensures { Runs (deeds S.Source store.old store.new (written O.Output out.old out.new))
         (map (λ w. w.now) words.now) result }
 {
     let name = ledger_named(alloc, words)?;
@@ -80,13 +61,8 @@ pub fn run_words<S: Store, O: Output, E: Output>(
     out: &mut O,
     err: &mut E,
 ) -> u8
-    ensures ends { EndsRun (between S.failures S.told S.may_give O.taken O.may_answer
-        store.old store.new out.old out.new)
-        (TellsWhy E E.taken E.may_answer err.old err.new)
-        (map (λ w. w.now) words.now) result }
-    ensures answered { result ≡ 0 → Answers (between S.failures S.told S.may_give O.taken O.may_answer
-        store.old store.new out.old out.new)
-        (map (λ w. w.now) words.now) }
+    ensures { Ends (deeds S.Source store.old store.new (written O.Output out.old out.new))
+        (written E.Output err.old err.new) (map (λ w. w.now) words.now) result }
 {
     match run(alloc, words, store, out) {
         Ok(()) => 0,

@@ -1,10 +1,10 @@
 //! The program's words.
-ghost use Rattle.std.specs.Prelude.{◌≡◌, IfOk, IfErr, Some, map, option_map, true, ◌⊎◌};
+ghost use Rattle.std.specs.Prelude.{◌≡◌, IfOk, map, option_map};
 ghost use Rattle.std.specs.Option.{option_and_then};
-ghost use Rattle.clap.specs.Words.{kind_of, takes, subcommand_of, subcommand_rows_of, first_of};
-ghost use Rattle.bq.specs.Words.{program};
-ghost use Rattle.bq.specs.Named.{NamesLedger};
 ghost use Rattle.std.specs.Prelude.{codes};
+ghost use Rattle.clap.specs.Words.{FailsBy, fault_of, first_of, subcommand_of, subcommand_rows_of};
+ghost use Rattle.bq.specs.Words.{program};
+ghost use Rattle.bq.specs.Named.{NamesLedger, IsRefusedBy};
 
 use crate::refusal::Refusal;
 use clap::error::ErrorKind;
@@ -13,8 +13,9 @@ use std::alloc::Global;
 
 /// The words as those of `bq list LEDGER`. There is no help by words: the README has it.
 fn matches_of<'a>(alloc: Global, words: &'a [&'a str]) -> Result<ArgMatches<'a>, Error>
-    ensures ok { IfOk result (λ m. subcommand_rows_of m ≡ subcommand_of program (map (λ w. w.now) words.entry.now)) }
-    ensures err { IfErr result (λ e. takes program (map (λ w. w.now) words.entry.now) ≡ true → kind_of e ≡ ErrorKind.OutOfMemory) }
+    ensures rows { IfOk result (λ m. subcommand_rows_of m
+        ≡ subcommand_of program (map (λ w. w.now) words.entry.now)) }
+    ensures faults { FailsBy (fault_of program (map (λ w. w.now) words.entry.now)) result }
 {
     let ledger = Arg::new(alloc, "LEDGER").required(true);
     let list = Command::new(alloc, "list")
@@ -42,8 +43,7 @@ fn ledger_in<'a>(matches: &ArgMatches<'a>) -> Option<&'a str>
 
 /// Whether the words are refused, or memory lacked to read them.
 fn refusal_of(error: &Error) -> Refusal
-    ensures memory { kind_of error.now ≡ ErrorKind.OutOfMemory → result ≡ Refusal.OutOfMemory }
-    ensures either { (result ≡ Refusal.Words) ⊎ (result ≡ Refusal.OutOfMemory) }
+    ensures { IsRefusedBy error.now result }
 {
     match error.kind() {
         ErrorKind::OutOfMemory => Refusal::OutOfMemory,

@@ -5,4 +5,3 @@ pub mod InColumn
 pub mod SetFacts
 pub mod Printable
 pub mod Written
-pub mod Limits

@@ -7,11 +7,9 @@ mod cells;
 mod digits;
 mod headings;
 mod lines;
-pub mod output;
 mod positions;
 mod rows;
 mod runs;
-pub mod short_writer;
 mod table;
 pub mod writing;
 

@@ -1,14 +1,13 @@
 //! Writing a table to an output.
-ghost use Rattle.std.specs.Prelude.{◌≡◌, ◌≤◌, ◌<◌, length, take, All, IfOk};
-ghost use Rattle.std.specs.Io.KnownBytes.{Appends, Keeps};
+ghost use Rattle.std.specs.Prelude.{◌≡◌, length, All};
 ghost use Rattle.posting_table.specs.Decimals.{decimals_of};
 ghost use Rattle.table_printer.specs.Faults.{WritesTable};
 ghost use Rattle.table_printer.specs.Table.{table_text};
-ghost use Rattle.table_printer.specs.Writing.{Refused};
 
-use crate::output::{NotTaken, Output};
 use crate::rows::Rows;
 use crate::table::print;
+use outputs::output::Output;
+use outputs::writing::write_bytes;
 use posting_table::Display;
 use std::alloc::{AllocError, Global};
 use thiserror::Error;
@@ -23,21 +22,18 @@ pub enum PrintFault {
     OutOfMemory,
 }
 
-/// Hands bytes over until all are taken, or the output fails or takes nothing, and counts them.
-pub fn write_bytes<W: Output>(out: &mut W, bytes: &[u8]) -> usize
-    ensures within { result ≤ length bytes.now }
-    ensures taken { Appends (W.taken out.old) (W.taken out.new) (take result bytes.now) }
-    ensures refused { result < length bytes.now → Refused W W.may_answer out.old out.new }
-{
-    let mut written = 0;
-    while written < bytes.len() {
-        match out.write(&bytes[written..]) {
-            Ok(0) => return written,
-            Ok(count) => written += count,
-            Err(NotTaken) => return written,
+impl PrintFault {
+    ghost use Rattle.table_printer.specs.Faults.{code_of};
+
+    /// The number that users see.
+    pub fn code(self) -> &'static str
+        ensures { result.now ≡ code_of self }
+    {
+        match self {
+            PrintFault::NotWritten { .. } => "P1",
+            PrintFault::OutOfMemory => "M2",
         }
     }
-    written
 }
 
 /// Writes the table of rows: each has as many cells as there are columns. The whole text is made
@@ -49,7 +45,7 @@ pub fn write_table<T: Rows, W: Output>(
     out: &mut W,
 ) -> Result<u64, PrintFault>
     requires { All (λ row. length row ≡ length (T.names table.now)) (T.rows table.now) }
-    ensures { WritesTable W W.taken W.may_answer out.old out.new
+    ensures { WritesTable W.Output out.old out.new
         (table_text (T.names table.now) (T.rows table.now) (decimals_of display.now)) result }
 {
     let Ok(text) = print(alloc, table, display) else {

@@ -1,42 +1,42 @@
-use Rattle.std.proofs.Common.{◌≡◌, refl, ℕ, List, Err, length, map, subst}
+use Rattle.std.proofs.Common.{◌≡◌, ◌∙◌, refl, sym, ℕ, List, length, map, subst}
 use Rattle.std.proofs.lemmas.List.Elements.{All-map}
+use Rattle.bean_book.specs.Booked.{IsLedgerOf}
+use Rattle.bean_parser.specs.Values.{DirectiveValue}
 use Rattle.posting_table.specs.Decimals.{places_of}
 use Rattle.posting_table.specs.Ledgers.{rows_of, decimals_of}
-use Rattle.posting_table.specs.Rows.{RowValue}
-use Rattle.table_printer.specs.Faults.{WritesTable}
+use Rattle.posting_table.specs.declared.ledger.Ledger.{Ledger}
 use Rattle.table_printer.specs.Table.{table_text}
-use Rattle.bq.specs.Listing.{IsListing, Lists, headers, shown_row}
+use Rattle.bq.specs.Listing.{headers, shown_row, table_of}
+use Rattle.bq.specs.Runs.{ListsText, written}
+use Rattle.bq.specs.declared.refusal.Refusal.TheVariants.{Print}
+use Rattle.bq.proofs.OneLedger.{not_too_many}
+use Rattle.bq.proofs.Outcomes.{converted, printed}
 use Rattle.bq.proofs.run.list_text.Goals as goal
 
--- the table of a text's listing, at display decimals that are the listing's
-lists : (text : List ℕ) (rows : List RowValue) (decimals places : List ℕ → ℕ) → IsListing text rows decimals → ((currency : List ℕ) → places currency ≡ decimals currency) → Lists text (table_text headers (map shown_row rows) places)
-lists text rows decimals places listing placed = record {
-  rows = rows;
-  decimals = decimals;
-  listing = listing;
-  is = λ k. table_text headers (map shown_row rows) (λ currency. placed currency k);
-}
+-- the table that is printed is that of the directives
+table_is : (ds : List DirectiveValue) (ledger : Ledger) (places : List ℕ → ℕ) → IsLedgerOf ds ledger → ((currency : List ℕ) → places currency ≡ decimals_of ledger currency) → table_text headers (map shown_row (rows_of ledger)) places ≡ table_of ds
+table_is ds ledger places is placed = λ k. table_text headers (map shown_row (is.rows k)) (λ currency. (placed currency ∙ is.decimals currency) k)
 
 pub write_table-requires : goal.write_table-requires
-write_table-requires g c = All-map (λ row. length row ≡ 4) shown_row (rows_of c.in-Ok.ledger) (λ k d within. refl)
+write_table-requires g c = All-map (λ row. length row ≡ 4) shown_row (rows_of c.in_ok-ledger.ledger) (λ k d within. refl)
 
-pub returns-in-Ok-write_table : goal.returns-in-Ok-write_table
-returns-in-Ok-write_table g c =
-    let ledger = c.in-Ok.ledger in
+pub returns-in_err-write_table : goal.returns-in_err-write_table
+returns-in_err-write_table g c =
+    let list = c.in_ok-ledger.ensures in
+    let fault = c.in_err-write_table.field-0.0 in
+    let out = written g.O.Output c.args.out.now c.write_table.new.out in
+    let step = c.from_residual-in_err-write_table in
+    let is = converted step.result (Print fault) step.ensures.1 in
+    let table = table_is list.0 c.in_ok-ledger.ledger (places_of c.display.result.now) list.2 c.display.ensures in
+    subst (ListsText out c.args.text.now) (sym is)
+    (printed g.O.Output c.args.out.now c.write_table.new.out c.args.text.now (not_too_many c.args.text.now list.0 list.1 list.2.held) _ (list.0, list.1, table) fault c.in_err-write_table.ensures)
+
+pub returns : goal.returns
+returns g c =
+    let list = c.in_ok-ledger.ensures in
     let places = places_of c.display.result.now in (
-      table_text headers (map shown_row (rows_of ledger)) places,
-      lists c.args.text.now (rows_of ledger) (decimals_of ledger) places c.in-Ok.ensures.ok c.display.ensures,
-      c.in-Ok-write_table.ensures.1,
-    )
-
-pub returns-in-Err-NotWritten : goal.returns-in-Err-NotWritten
-returns-in-Err-NotWritten g c =
-    let ledger = c.in-Ok.ledger in
-    let places = places_of c.display.result.now in
-    let table = table_text headers (map shown_row (rows_of ledger)) places in
-    let err = c.in-Err-NotWritten in
-    let refused = subst (λ fault. WritesTable _ g.O.Output.taken g.O.Output.may_answer c.args.out.now c.write_table.new.out table (Err fault)) err.field-0-is err.ensures in (
-      table,
-      lists c.args.text.now (rows_of ledger) (decimals_of ledger) places c.in-Ok.ensures.ok c.display.ensures,
-      (err.field-0-0, refused.0, refused.1, refused.2),
+      not_too_many c.args.text.now list.0 list.1 list.2.held,
+      (table_text headers (map shown_row (rows_of c.in_ok-ledger.ledger)) places,
+      (list.0, list.1, table_is list.0 c.in_ok-ledger.ledger places list.2 c.display.ensures),
+      c.in_ok-write_table.ensures.1),
     )

@@ -1,8 +1,9 @@
-use Rattle.std.proofs.Common.{rules, ap, ap₂, refl, codes, true, map, List, ℕ, [], ◌∷◌, ◌≡◌, ◌∙◌}
-use Rattle.std.proofs.lemmas.Result.{IfErr-weaker, IfOk-weaker}
+use Rattle.std.proofs.Common.{rules, ap, ap₂, refl, codes, true, map, List, ℕ, ◌≡◌, ◌∙◌, subst}
+use Rattle.std.proofs.lemmas.Result.{IfOk-weaker}
+use Rattle.clap.specs.Faults.{fault_of, is_simple_and_free}
+use Rattle.clap.specs.Kinds.{FailsBy}
 use Rattle.clap.specs.Simple.{app_of_fields, is_simple, on_top, subcommand_of}
-use Rattle.clap.specs.Takes.{takes}
-use Rattle.clap.specs.Words.{App, Rule, app_of, new_app, rule_of, with_rule, with_subcommand}
+use Rattle.clap.specs.Words.{App, app_of, new_app, rule_of, with_rule, with_subcommand}
 use Rattle.clap.proofs.OnLiterals.{clap_on_literals}
 use Rattle.bq.specs.Words.{list_command, program, ledger_word}
 use Rattle.bq.proofs.words.matches_of.Goals as goal
@@ -10,6 +11,10 @@ use Rattle.bq.proofs.words.matches_of.Goals as goal
 program_is_simple : is_simple program ≡ true
 unfolding clap_on_literals
 program_is_simple = refl
+
+program_is_free : is_simple_and_free program ≡ true
+unfolding clap_on_literals
+program_is_free = refl
 
 -- what was built is the program
 command_is : (c : goal.After-try_get_matches_from) → app_of c.in_ok-command.command ≡ program
@@ -24,14 +29,14 @@ command_is c =
     let top_is = ap app_of_fields c.subcommand_required.ensures ∙ ap (on_top (λ s. record s { subcommand_required = true })) no_help in
     c.in_ok-command.ensures.shape (search rules) ∙ ap₂ with_subcommand top_is (ap (λ (a : App). a.top) list_is)
 
-pub returns-clause-ok : goal.returns-clause-ok
-returns-clause-ok c =
+pub returns-clause-rows : goal.returns-clause-rows
+returns-clause-rows c =
     let parse = c.try_get_matches_from in
     let words : List (List ℕ) = map (λ w. w.now) c.args.words.now in
     IfOk-weaker parse.result _ _ (λ m h. (h (ap is_simple (command_is c) ∙ program_is_simple)).1 ∙ ap (λ a. subcommand_of a words) (command_is c)) parse.ensures.matches
 
-pub returns-clause-err : goal.returns-clause-err
-returns-clause-err c =
+pub returns-clause-faults : goal.returns-clause-faults
+returns-clause-faults c =
     let parse = c.try_get_matches_from in
     let words : List (List ℕ) = map (λ w. w.now) c.args.words.now in
-    IfErr-weaker parse.result _ _ (λ e h taken. h (ap (λ a. takes a words) (command_is c) ∙ taken)) parse.ensures.passes
+    subst (λ a. FailsBy (fault_of a words) parse.result) (command_is c) (parse.ensures.kinds (ap is_simple_and_free (command_is c) ∙ program_is_free))

@@ -1,0 +1,3 @@
+pub mod BookFault
+pub mod Flattening
+pub mod Booked

@@ -1,0 +1,5 @@
+use Rattle.bean_load.proofs.Order.{one_order}
+use Rattle.bean_load.proofs.arrangement.one_arrangement.Goals as goal
+
+pub returns : goal.returns
+returns c = one_order

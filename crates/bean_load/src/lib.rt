@@ -1,0 +1,32 @@
+//! Loading: the directives of a ledger in the order in which they are taken.
+//!
+//! The parser gives directives in the order in which they are written, and people write them as they
+//! come. [`arrange`] puts them in order.
+//!
+//! ```text
+//! let mut parsed = parse(alloc, text)?;
+//! arrange(&mut parsed.directives)?;
+//! ```
+//!
+//! # The order
+//!
+//! By day, of one day opens before transactions, and those of one day and kind in the order in which
+//! they were read. Directives have one such order, by a law: [`one_arrangement`].
+//!
+//! # Sources
+//!
+//! [`Source`] is where texts come from.
+//!
+//! # Faults
+//!
+//! None but want of memory, which leaves the directives in some order, each of them once.
+//!
+//! # Cost
+//!
+//! A stable sort: `n log n` comparisons of two numbers each, and memory for half of the directives.
+#![tactic(auto)]
+
+pub mod arrangement;
+
+pub use arrangement::{arrange, one_arrangement};
+pub use stores::source::Source;

@@ -1,7 +1,0 @@
-use Rattle.std.proofs.Common.{◌≡◌, map, drop, fold}
-use Rattle.std.specs.Option.{option_copied}
-use Rattle.bq.specs.Memory.{putting_of, newer, held}
-use Rattle.bq.proofs.memory.MemoryStore.held.Given as goal
-
-abbrev pub invariant-loop-file : goal.invariant-loop-file
-invariant-loop-file l = held l.self l.name ≡ fold (newer l.name) (option_copied l.found) (map putting_of (drop l.file-index l.self.kept.items))

@@ -1,0 +1,2 @@
+pub mod RefusalFacts
+pub mod KeptFront

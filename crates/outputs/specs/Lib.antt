@@ -1,0 +1,5 @@
+pub mod Refusals
+pub mod Output
+pub mod Holding
+pub mod ShortWriter
+pub mod Stream

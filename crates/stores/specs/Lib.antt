@@ -1,0 +1,6 @@
+pub mod Reading
+pub mod Putting
+pub mod Source
+pub mod Shelf
+pub mod Entry
+pub mod MemoryStore
