@@ -1,17 +1,14 @@
 //! The postings of transactions as a ledger.
 ghost use Rattle.std.specs.Prelude.{◌≡◌, ◌<◌, ◌≤◌, ◌+◌, ◌++◌, ◌∷◌, [], ℕ, Err, List, OnOk, map, max, length, if◌then◌else◌};
 ghost use Rattle.std.specs.Str.{bytes_eq};
-ghost use Rattle.bean_parser.specs.Values.{directive_value, posting_value};
-ghost use Rattle.bean_base.specs.Days.{day_value};
-ghost use Rattle.posting_table.specs.Rows.{row_of};
-ghost use Rattle.posting_table.specs.Ledgers.{rows_of, decimals_of};
-ghost use Rattle.bean_book.specs.Flattening.{flag_text, postings_in, rows_in, decimals_from, row_of_posting};
+ghost use Rattle.posting_table.specs.Decimals.{decimals_of};
+ghost use Rattle.bean_book.specs.Flattening.{postings_in, position_of, rows_in, decimals_from, row_of_posting};
 ghost use Rattle.bean_book.specs.Booked.{Books};
 
-use bean_base::days::Day;
-use bean_parser::directive::{Directive, Flag, Posting};
-use posting_table::ledger::{Ledger, MOST_POSTINGS};
-use posting_table::row::{Position, Row};
+use bean_base::{Amount, Day, Flag};
+use bean_lots::{Key, Position};
+use bean_parser::{Directive, DirectiveKind, Posting};
+use posting_table::{Ledger, MOST_POSTINGS, Row};
 use std::alloc::{AllocError, Global};
 
 /// Why there is no ledger.
@@ -46,41 +43,40 @@ impl From<AllocError> for BookFault {
     }
 }
 
-fn flag_text(flag: Flag) -> &'static str
-    ensures { result.now ≡ flag_text flag }
+fn position_of<'a>(units: &Amount<'a>) -> Position<'a>
+    ensures { result ≡ position_of units.now }
 {
-    match flag {
-        Flag::Complete => "*",
-        Flag::Incomplete => "!",
+    Position {
+        key: Key {
+            currency: units.currency.lend(),
+            lot: None,
+        },
+        count: units.number.scaled(8),
     }
 }
 
 fn row_of<'a>(day: Day, flag: Flag, posting: &Posting<'a>) -> Row<'a>
-    ensures { row_of result ≡ row_of_posting (day_value day) flag (posting_value posting.now) }
+    ensures { result ≡ row_of_posting day flag posting.now }
 {
     Row {
         date: day,
-        flag: flag_text(flag),
-        account: posting.account,
-        position: Position {
-            number: posting.units.number,
-            currency: posting.units.currency,
-        },
+        flag,
+        account: posting.account.lend(),
+        position: position_of(&posting.units),
     }
 }
 
 /// Shows at least the decimals that are written in a posting's number.
-fn note_decimals<'a>(ledger: &mut Ledger<'a>, posting: &Posting<'a>) -> Result<(), AllocError>
-    ensures decimals { OnOk result ((name : List ℕ) → decimals_of ledger.new name
-        ≡ (if bytes_eq posting.now.units.currency.text.now name
-        then max (decimals_of ledger.old name) posting.now.units.number.places
-        else decimals_of ledger.old name)) }
-    ensures rows { rows_of ledger.new ≡ rows_of ledger.old }
+fn note_decimals<'a>(ledger: &mut Ledger<'a>, units: &Amount<'a>) -> Result<(), AllocError>
+    ensures decimals { OnOk result ((name : List ℕ) → decimals_of ledger.new.decimals name
+        ≡ (if bytes_eq units.now.currency name
+        then max (decimals_of ledger.old.decimals name) units.now.number.places
+        else decimals_of ledger.old.decimals name)) }
+    ensures rows { ledger.new.rows ≡ ledger.old.rows }
 {
-    let places = posting.units.number.places;
-    let currency = posting.units.currency;
-    if ledger.display().places(currency.text) < places {
-        ledger.set_display(currency, places)?;
+    let places = units.number.places;
+    if ledger.display().places(&units.currency) < places {
+        ledger.set_display(units.currency.lend(), places)?;
     }
     Ok(())
 }
@@ -91,17 +87,16 @@ fn push_posting<'a>(
     flag: Flag,
     posting: &Posting<'a>,
 ) -> Result<(), BookFault>
-    ensures rows { OnOk result (rows_of ledger.new
-        ≡ rows_of ledger.old ++ row_of_posting (day_value day) flag (posting_value posting.now) ∷ []) }
-    ensures room { OnOk result (length (rows_of ledger.old) < MOST_POSTINGS) }
-    ensures decimals { OnOk result ((name : List ℕ) → decimals_of ledger.new name
-        ≡ decimals_from (decimals_of ledger.old name) name (posting_value posting.now ∷ [])) }
-    ensures full { result ≡ Err BookFault.TooManyPostings → MOST_POSTINGS ≤ length (rows_of ledger.old) }
+    ensures rows { OnOk result (ledger.new.rows ≡ ledger.old.rows ++ row_of_posting day flag posting.now ∷ []) }
+    ensures room { OnOk result (length ledger.old.rows < MOST_POSTINGS) }
+    ensures decimals { OnOk result ((name : List ℕ) → decimals_of ledger.new.decimals name
+        ≡ decimals_from (decimals_of ledger.old.decimals name) name (posting.now ∷ [])) }
+    ensures full { result ≡ Err BookFault.TooManyPostings → MOST_POSTINGS ≤ length ledger.old.rows }
 {
     if ledger.len() >= MOST_POSTINGS {
         return Err(BookFault::TooManyPostings);
     }
-    note_decimals(ledger, posting)?;
+    note_decimals(ledger, &posting.units)?;
     ledger.push(row_of(day, flag, posting))?;
     Ok(())
 }
@@ -112,14 +107,13 @@ fn push_postings<'a>(
     flag: Flag,
     postings: &[Posting<'a>],
 ) -> Result<(), BookFault>
-    requires { length (rows_of ledger.old) ≤ MOST_POSTINGS }
-    ensures rows { OnOk result (rows_of ledger.new
-        ≡ rows_of ledger.old ++ map (row_of_posting (day_value day) flag) (map posting_value postings.now)) }
-    ensures room { OnOk result (length (rows_of ledger.new) ≤ MOST_POSTINGS) }
-    ensures decimals { OnOk result ((name : List ℕ) → decimals_of ledger.new name
-        ≡ decimals_from (decimals_of ledger.old name) name (map posting_value postings.now)) }
+    requires { length ledger.old.rows ≤ MOST_POSTINGS }
+    ensures rows { OnOk result (ledger.new.rows ≡ ledger.old.rows ++ map (row_of_posting day flag) postings.now) }
+    ensures room { OnOk result (length ledger.new.rows ≤ MOST_POSTINGS) }
+    ensures decimals { OnOk result ((name : List ℕ) → decimals_of ledger.new.decimals name
+        ≡ decimals_from (decimals_of ledger.old.decimals name) name postings.now) }
     ensures full { result ≡ Err BookFault.TooManyPostings
-        → MOST_POSTINGS < length (rows_of ledger.old) + length postings.now }
+        → MOST_POSTINGS < length ledger.old.rows + length postings.now }
 {
     for posting in postings {
         push_posting(ledger, day, flag, posting)?;
@@ -128,29 +122,28 @@ fn push_postings<'a>(
 }
 
 fn push_directive<'a>(ledger: &mut Ledger<'a>, directive: &Directive<'a>) -> Result<(), BookFault>
-    requires { length (rows_of ledger.old) ≤ MOST_POSTINGS }
-    ensures rows { OnOk result (rows_of ledger.new
-        ≡ rows_of ledger.old ++ rows_in (directive_value directive.now)) }
-    ensures room { OnOk result (length (rows_of ledger.new) ≤ MOST_POSTINGS) }
-    ensures decimals { OnOk result ((name : List ℕ) → decimals_of ledger.new name
-        ≡ decimals_from (decimals_of ledger.old name) name (postings_in (directive_value directive.now))) }
+    requires { length ledger.old.rows ≤ MOST_POSTINGS }
+    ensures rows { OnOk result (ledger.new.rows ≡ ledger.old.rows ++ rows_in directive.now) }
+    ensures room { OnOk result (length ledger.new.rows ≤ MOST_POSTINGS) }
+    ensures decimals { OnOk result ((name : List ℕ) → decimals_of ledger.new.decimals name
+        ≡ decimals_from (decimals_of ledger.old.decimals name) name (postings_in directive.now)) }
     ensures full { result ≡ Err BookFault.TooManyPostings
-        → MOST_POSTINGS < length (rows_of ledger.old) + length (rows_in (directive_value directive.now)) }
+        → MOST_POSTINGS < length ledger.old.rows + length (rows_in directive.now) }
 {
-    match directive {
-        Directive::Open(_) => Ok(()),
-        Directive::Transaction(transaction) => push_postings(
+    match &directive.kind {
+        DirectiveKind::Open(_) => Ok(()),
+        DirectiveKind::Transaction(transaction) => push_postings(
             ledger,
-            transaction.day,
+            directive.day,
             transaction.flag,
-            &transaction.postings,
+            transaction.postings.as_slice(),
         ),
     }
 }
 
 /// The postings of directives that are in order, and the decimals that their currencies show.
 pub fn ledger_of<'a>(alloc: Global, directives: &[Directive<'a>]) -> Result<Ledger<'a>, BookFault>
-    ensures { Books (map directive_value directives.now) result }
+    ensures { Books directives.now result }
 {
     let mut ledger = Ledger::new(alloc);
     for directive in directives {

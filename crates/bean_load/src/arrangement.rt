@@ -1,40 +1,99 @@
 //! The order in which directives are taken.
-ghost use Rattle.std.specs.Prelude.{◌≡◌, ℕ, List, OnOk, map};
-ghost use Rattle.bean_parser.specs.Values.{DirectiveValue, directive_value};
-ghost use Rattle.bean_load.specs.Arrangement.{IsArranged, day_in, rank_in};
+ghost use Rattle.std.specs.Prelude.{◌≡◌, List, OnOk, nat_eq};
+ghost use Rattle.std.specs.Ordering.{on, nat_cmp, as_partial_cmp};
+ghost use Rattle.std.specs.Cmp.{partial_order_from_own_ties};
+ghost use Rattle.std.specs.Cmp.Rules.{comparing};
+ghost use Rattle.std.proofs.Common.{rules};
+ghost use Rattle.bean_parser.specs.declared.directive.Directive.{Directive};
+ghost use Rattle.bean_load.specs.Arrangement.{IsArranged, rank_of};
+ghost use Rattle.bean_load.specs.Rank.{rank_number};
 
-use bean_base::days::Day;
-use bean_parser::directive::Directive;
+use bean_parser::{Directive, DirectiveKind};
 use std::alloc::AllocError;
+use std::cmp::Ordering;
 
-fn day_of(directive: &Directive<'_>) -> Day
-    ensures { result ≡ day_in directive.now }
-{
-    match directive {
-        Directive::Open(open) => open.day,
-        Directive::Transaction(transaction) => transaction.day,
+/// Which directives of one day are taken first.
+#[derive(Clone, Copy, Debug, Drop)]
+pub enum Rank {
+    Open,
+    Other,
+}
+
+impl Rank {
+    fn number(self) -> u8
+        ensures { result ≡ rank_number self }
+    {
+        match self {
+            Rank::Open => 0,
+            Rank::Other => 1,
+        }
+    }
+
+    /// The rank of a kind.
+    pub fn of(kind: &DirectiveKind<'_>) -> Rank
+        ensures { result ≡ rank_of kind.now }
+    {
+        match kind {
+            DirectiveKind::Open(_) => Rank::Open,
+            DirectiveKind::Transaction(_) => Rank::Other,
+        }
     }
 }
 
-/// Of one day, opens are taken before transactions.
-fn rank(directive: &Directive<'_>) -> u8
-    ensures { result ≡ rank_in directive.now }
-{
-    match directive {
-        Directive::Open(_) => 0,
-        Directive::Transaction(_) => 1,
+// The derived order of an enum is no order of numbers to the checker, so it is written by hand.
+impl PartialEq for Rank {
+    ghost use Rattle.bean_load.specs.Rank.{rank_number};
+
+    ghost eq = { on rank_number nat_eq };
+
+    ghost laws = { Prim.search (comparing, rules) };
+
+    fn eq(&self, other: &Rank) -> bool {
+        self.number() == other.number()
+    }
+}
+
+impl Eq for Rank {
+    ghost laws = { Prim.search (comparing, rules) };
+}
+
+impl Ord for Rank {
+    ghost use Rattle.bean_load.specs.Rank.{rank_number};
+
+    ghost cmp = { on rank_number nat_cmp };
+
+    ghost total = { Prim.search (comparing, rules) };
+
+    ghost matches_partial_cmp = { Prim.search (comparing, rules) };
+
+    ghost matches_eq = { Prim.search (comparing, rules) };
+
+    fn cmp(&self, other: &Rank) -> Ordering {
+        self.number().cmp(&other.number())
+    }
+}
+
+impl PartialOrd for Rank {
+    ghost use Rattle.bean_load.specs.Rank.{rank_number};
+
+    ghost partial_cmp = { as_partial_cmp (on rank_number nat_cmp) };
+
+    ghost laws = { partial_order_from_own_ties (Prim.search (comparing, rules))
+        (Prim.search (comparing, rules)) };
+
+    fn partial_cmp(&self, other: &Rank) -> Option<Ordering> {
+        Some(self.cmp(other))
     }
 }
 
 /// By day, then opens before transactions, then in reading order.
 pub fn arrange(directives: &mut Vec<Directive<'_>>) -> Result<(), AllocError>
-    ensures { OnOk result (IsArranged (map directive_value directives.old.items)
-        (map directive_value directives.new.items)) }
+    ensures { OnOk result (IsArranged directives.old.items directives.new.items) }
 {
-    directives.sort_by_key(|directive| (day_of(directive), rank(directive)))
+    directives.sort_by_key(|directive| (directive.day, Rank::of(&directive.kind)))
 }
 
 /// Directives have one such order.
 pub fn one_arrangement()
-    ensures { (xs ys zs : List DirectiveValue) → IsArranged xs ys → IsArranged xs zs → ys ≡ zs }
+    ensures { (xs ys zs : List Directive) → IsArranged xs ys → IsArranged xs zs → ys ≡ zs }
 {}

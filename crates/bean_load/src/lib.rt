@@ -4,8 +4,8 @@
 //! come. [`arrange`] puts them in order.
 //!
 //! ```text
-//! let mut parsed = parse(alloc, text)?;
-//! arrange(&mut parsed.directives)?;
+//! let mut directives = parse(alloc, text)?.directives.into_vec();
+//! arrange(&mut directives)?;
 //! ```
 //!
 //! # The order
@@ -28,5 +28,5 @@
 
 pub mod arrangement;
 
-pub use arrangement::{arrange, one_arrangement};
+pub use arrangement::{Rank, arrange, one_arrangement};
 pub use stores::source::Source;

@@ -1,4 +1,4 @@
-use Rattle.bean_load.proofs.Order.{one_order}
+use Rattle.bean_load.proofs.ArrangementFacts.{one_order}
 use Rattle.bean_load.proofs.arrangement.one_arrangement.Goals as goal
 
 pub returns : goal.returns

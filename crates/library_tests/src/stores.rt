@@ -1,0 +1,69 @@
+//! Stores of memory.
+
+use std::alloc::Global;
+use std::test::Fail;
+use stores::memory::{Entry, MemoryStore};
+use stores::source::{Source, SourceFault, Store};
+
+/// A store with two files of one name, and one of another, which fails at that call.
+fn store_of_three(alloc: Global, fails_at: u64) -> Result<MemoryStore, Fail> {
+    let mut files = Vec::new(alloc);
+    for (name, text) in [("l", "first"), ("m", "other"), ("l", "second")] {
+        files.push(Entry {
+            name: String::from_str(alloc, name)?,
+            bytes: Vec::from_slice(alloc, text.as_bytes())?,
+        })?;
+    }
+    Ok(MemoryStore::new(alloc, files, fails_at))
+}
+
+fn gives(store: &mut MemoryStore, name: &str, text: &str) -> bool {
+    match store.text(name) {
+        Ok(bytes) => bytes.as_slice() == text.as_bytes(),
+        Err(_) => false,
+    }
+}
+
+fn fails(store: &mut MemoryStore, name: &str) -> bool {
+    matches!(store.text(name), Err(SourceFault::Failed))
+}
+
+#[test]
+fn a_put_is_read_back(rt: HostRuntime) -> Result<(), Fail> {
+    let mut store = store_of_three(rt.alloc(), 0)?;
+    assert!(rt; gives(&mut store, "l", "first"));
+    for text in ["third", "fourth"] {
+        assert!(rt; store.put("l", text.as_bytes()).is_ok());
+        assert!(rt; gives(&mut store, "l", text));
+    }
+    assert!(rt; gives(&mut store, "m", "other"));
+    assert!(rt; store.held("l") == Some(b"fourth".as_slice()));
+    assert_eq!(rt; store.told().len(), 4);
+    Ok(())
+}
+
+#[test]
+fn the_chosen_call_fails_and_no_other(rt: HostRuntime) -> Result<(), Fail> {
+    let mut store = store_of_three(rt.alloc(), 2)?;
+    assert!(rt; gives(&mut store, "l", "first"));
+    assert!(rt; fails(&mut store, "l"));
+    assert!(rt; gives(&mut store, "l", "first"));
+    Ok(())
+}
+
+#[test]
+fn a_put_at_the_chosen_call_changes_nothing(rt: HostRuntime) -> Result<(), Fail> {
+    let mut store = store_of_three(rt.alloc(), 1)?;
+    let put = store.put("l", b"third".as_slice());
+    assert!(rt; matches!(put, Err(SourceFault::Failed)));
+    assert!(rt; gives(&mut store, "l", "first"));
+    Ok(())
+}
+
+#[test]
+fn a_name_that_is_not_held_fails(rt: HostRuntime) -> Result<(), Fail> {
+    let mut store = store_of_three(rt.alloc(), 0)?;
+    assert!(rt; fails(&mut store, "n"));
+    assert!(rt; gives(&mut store, "m", "other"));
+    Ok(())
+}
