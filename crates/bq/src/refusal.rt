@@ -4,9 +4,9 @@ ghost use Rattle.bq.specs.Refusal.{status_of, code_of, place_of, line_of};
 
 use crate::loading::LoadFault;
 use arrayvec::ArrayString;
-use bean_book::postings::BookFault;
+use bean_book::BookFault;
 use itoa::Buffer;
-use table_printer::writing::PrintFault;
+use table_printer::PrintFault;
 
 /// What a user is told in one line on standard error.
 #[derive(Clone, Copy, Debug, Drop, PartialEq, Eq)]

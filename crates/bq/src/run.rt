@@ -11,7 +11,7 @@ use outputs::output::Output;
 use outputs::writing::write_bytes;
 use std::alloc::Global;
 use stores::source::{Source, Store};
-use table_printer::writing::write_table;
+use table_printer::write_table;
 
 /// Writes the table of a text's postings.
 fn list_text<O: Output>(alloc: Global, text: &str, out: &mut O) -> Result<(), Refusal>

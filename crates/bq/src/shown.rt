@@ -1,11 +1,9 @@
 //! What `list` shows of a ledger.
 ghost use Rattle.std.specs.Prelude.{◌≡◌};
-ghost use Rattle.bq.specs.Columns.{column_at, header_of};
+ghost use Rattle.bq.specs.Columns.{column_at};
 
-use posting_table::ledger::Ledger;
-use posting_table::row::Column;
-use table_printer::answer::Value;
-use table_printer::rows::Rows;
+use posting_table::{Cell, Column, Ledger};
+use table_printer::Rows;
 
 /// Date, flag, account and position of each posting, lent from the ledger.
 #[derive(Clone, Copy)]
@@ -25,39 +23,27 @@ fn column_at(number: usize) -> Column
     }
 }
 
-fn header_of(column: Column) -> &'static str
-    ensures { result.now ≡ header_of column }
-{
-    match column {
-        Column::Date => "date",
-        Column::Flag => "flag",
-        Column::Account => "account",
-        Column::Position => "position",
-    }
-}
-
 impl Rows for Postings<'_, '_> {
     ghost use Rattle.std.specs.Prelude.{map};
-    ghost use Rattle.posting_table.specs.Ledgers.{rows_of};
     ghost use Rattle.bq.specs.Listing.{headers, shown_row};
 
     ghost names = { λ _. headers };
 
-    ghost rows = { λ postings. map shown_row (rows_of postings.ledger.now) };
+    ghost rows = { λ postings. map shown_row postings.ledger.now.rows };
 
     fn columns(&self) -> usize {
         4
     }
 
     fn name(&self, column: usize) -> &str {
-        header_of(column_at(column))
+        column_at(column).name()
     }
 
     fn len(&self) -> usize {
         self.ledger.len()
     }
 
-    fn value(&self, row: usize, column: usize) -> Value<'_> {
-        Value::of_cell(self.ledger.cell(row, column_at(column)))
+    fn cell(&self, row: usize, column: usize) -> Cell<'_> {
+        self.ledger.cell(row, column_at(column))
     }
 }
