@@ -17,7 +17,7 @@ table_is : (ds : List Directive) (ledger : Ledger) (decimals : Decimals) → IsL
 table_is ds ledger decimals is same = λ k. table_text headers (map shown_row (is.rows k)) (λ currency. (ap (λ d. decimals_of d currency) same ∙ is.decimals currency) k)
 
 pub write_table-requires : goal.write_table-requires
-write_table-requires g c = All-map (λ row. length row ≡ 4) shown_row (rows_of c.in_ok-ledger.ledger) (λ k d within. refl)
+write_table-requires g c = All-map (λ row. length row ≡ 4) shown_row c.in_ok-ledger.ledger.rows (λ k d within. refl)
 
 pub returns-in_err-write_table : goal.returns-in_err-write_table
 returns-in_err-write_table g c =
