@@ -8,7 +8,11 @@ mod lots;
 #[cfg(test)]
 mod numbers;
 #[cfg(test)]
+mod outputs;
+#[cfg(test)]
 mod query_files;
+#[cfg(test)]
+mod stores;
 #[cfg(test)]
 mod tables;
 #[cfg(test)]

@@ -1,11 +1,7 @@
 //! Reductions by each method, of long and of short positions.
 
-use bean_base::days::parse_day;
-use bean_base::names::parse_currency;
-use bean_base::num::Num;
-use bean_lots::inventory::Inventory;
-use bean_lots::lot::{Cost, Key, Lot};
-use bean_lots::reduction::{LotFault, Method, Selector, reduce};
+use bean_base::{Num, parse_currency, parse_day};
+use bean_lots::{Cost, Inventory, Key, Lot, LotFault, Method, Selector, reduce};
 use std::alloc::Global;
 use std::test::Fail;
 
@@ -166,7 +162,7 @@ fn equal_days_go_by_entry(rt: HostRuntime) -> Result<(), Fail> {
     for sign in [1i8, -1] {
         let mut held = Inventory::new(alloc);
         let whole = 10 * sign as i32;
-        put(&mut held, first, whole)?;
+        put(&mut held, first.lend(), whole)?;
         put(&mut held, lot("90", "2014-01-02")?, whole)?;
         let want = -12 * sign as i32;
         let by_entry = if sign > 0 {
@@ -182,8 +178,8 @@ fn equal_days_go_by_entry(rt: HostRuntime) -> Result<(), Fail> {
             taken(alloc, &held, &any, want, Method::Lifo)?.as_str(),
             by_entry
         );
-        put(&mut held, first, -whole)?;
-        put(&mut held, first, whole)?;
+        put(&mut held, first.lend(), -whole)?;
+        put(&mut held, first.lend(), whole)?;
         let last = if sign > 0 {
             "-10@90 -2@100 "
         } else {
@@ -223,7 +219,5 @@ fn costs_are_equal_by_value(rt: HostRuntime) -> Result<(), Fail> {
         Method::Lifo,
     );
     assert_eq!(rt; none.err(), Some(LotFault::NoLotMatches));
-    let copy = held.clone()?;
-    assert_eq!(rt; copy.get(&lot("100", "2014-01-02")?), 1_500_000_000);
     Ok(())
 }

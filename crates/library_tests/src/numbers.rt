@@ -1,9 +1,8 @@
 //! The calls at values from outside, and the texts of the faults.
 
-use bean_base::days::{NotADay, parse_day};
-use bean_base::fault::FaultKind;
-use bean_base::names::{NameFault, parse_account, parse_currency};
-use bean_base::num::{Num, NumFault};
+use bean_base::{
+    FaultKind, NameFault, NotADay, Num, NumFault, parse_account, parse_currency, parse_day,
+};
 use std::test::Fail;
 
 #[test]
@@ -37,9 +36,9 @@ fn reads_names_and_days(rt: HostRuntime) -> Result<(), Fail> {
         parse_account("Assets").err(),
         Some(NameFault::NotAnAccount)
     );
-    assert_eq!(rt; parse_account("Assets:Cash")?.text, "Assets:Cash");
+    assert_eq!(rt; parse_account("Assets:Cash")?.text(), "Assets:Cash");
     assert_eq!(rt; parse_currency("usd").err(), Some(NameFault::NotACurrency));
-    assert_eq!(rt; parse_currency("USD")?.text, "USD");
+    assert_eq!(rt; parse_currency("USD")?.text(), "USD");
     assert_eq!(rt; parse_day("2014-02-30").err(), Some(NotADay));
     let day = parse_day("2014/01/31")?;
     assert_eq!(rt; day.year(), 2014);

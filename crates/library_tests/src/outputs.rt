@@ -1,12 +1,12 @@
 //! Outputs of memory, and tables that are written to them.
 
+use bean_base::{List, Slice};
 use outputs::output::Output;
 use outputs::short_writer::ShortWriter;
 use outputs::writing::write_bytes;
-use posting_table::ledger::Ledger;
+use posting_table::Ledger;
 use std::test::Fail;
-use table_printer::answer::Answer;
-use table_printer::writing::{PrintFault, write_table};
+use table_printer::{Answer, PrintFault, write_table};
 
 #[test]
 fn a_short_writer_takes_what_fits(rt: HostRuntime) -> Result<(), Fail> {
@@ -34,11 +34,11 @@ fn a_short_table_is_told_with_its_count(rt: HostRuntime) -> Result<(), Fail> {
     let alloc = rt.alloc();
     let mut headers = Vec::new(alloc);
     for name in ["date", "flag", "account", "position"] {
-        headers.push(name)?;
+        headers.push(Slice::new(name))?;
     }
     let answer = Answer {
-        headers,
-        rows: Vec::new(alloc),
+        headers: List::new(headers),
+        rows: List::new(Vec::new(alloc)),
         steps: 0,
         groups: 0,
     };
