@@ -1,4 +1,4 @@
-use Rattle.std.proofs.Common.{List, ℕ, ◌++◌, map, ◌∙◌}
+use Rattle.std.proofs.Common.{List, ◌++◌, map, ◌∙◌}
 use Rattle.std.specs.List.{flat_map}
 use Rattle.posting_table.specs.Decimals.{decimals_of}
 use Rattle.table_printer.specs.Heading.{width_of}
