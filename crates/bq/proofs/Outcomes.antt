@@ -1,5 +1,5 @@
 -- From the steps of a run to its answer.
-use Rattle.std.proofs.Common.{◌≡◌, inl, inr, ℕ, ◌<◌, ◌≤◌, List, [], ◌∷◌, length, None, Some, Result, Ok, Err, refl, sym, ap, ◌∙◌, subst, arith}
+use Rattle.std.proofs.Common.{IsTrue, ◌≡◌, ◌⊎◌, inl, inr, ℕ, ◌<◌, ◌≤◌, List, [], ◌∷◌, length, None, Some, Result, Ok, Err, refl, sym, ap, ◌∙◌, subst, arith}
 use Rattle.std.specs.Result.{IsErrAnd}
 use Rattle.std.specs.Str.{IsUtf8}
 use Rattle.bean_book.specs.declared.postings.BookFault.TheVariants as book
@@ -15,7 +15,8 @@ use Rattle.bq.specs.Causes.{GaveSuch, HasCause, IsAnswered, IsFirst, IsRefused, 
 use Rattle.bq.specs.Listing.{HasTooMany, Lists}
 use Rattle.bq.specs.Loading.{IsNoText, IsUnread}
 use Rattle.bq.specs.Named.{NameNone}
-use Rattle.bq.specs.Runs.{Comes, ListsText, Written, written}
+use Rattle.bq.specs.Runs.{Comes, ListsText, RefusesExactly, Written, written}
+use Rattle.bq.specs.Refusal.{lacks_memory}
 use Rattle.bq.specs.Words.{ledger_named}
 use Rattle.bq.specs.declared.loading.LoadFault.{LoadFault}
 use Rattle.bq.specs.declared.loading.LoadFault.TheVariants.{Unreadable, TooLarge, NotUtf8, OutOfMemory}
@@ -146,3 +147,17 @@ none_first (t ∷ rest) Cause r none (inr p) = none_first rest Cause r none.1 p.
 pub printed : {O : Type 0} (o : OutputOf O) (old new : O) (text : List ℕ) → ¬ HasTooMany text → (table : List ℕ) → Lists text table → (fault : PrintFault) → WritesTable o old new table (Err fault) → ListsText (written o old new) text (Err (refusal.Print fault))
 printed o old new text few table lists (print.NotWritten n) h = (few, (table, lists, h))
 printed o old new text few table lists print.OutOfMemory h = (refl, h)
+
+-- want of memory, or the one that is first
+is_first : (words : List Text) (readings : List Reading) (r s : Refusal) → IsTrue (lacks_memory s) ⊎ IsRefused words readings s → IsRefused words readings r → IsTrue (lacks_memory s) ⊎ (s ≡ r)
+is_first words readings r s (inl lacks) first = inl lacks
+is_first words readings r s (inr refused) first = inr (one_first order (HasCause words readings) s r refused first)
+
+pub refuses_exactly : RefusesExactly
+refuses_exactly words readings (Ok x) r due first = none_first order (HasCause words readings) r due first
+refuses_exactly words readings (Err (refusal.Print (print.NotWritten n))) r due first = absurd (none_first order (HasCause words readings) r due first)
+refuses_exactly words readings (Err (refusal.Print print.OutOfMemory)) r due first = inl refl
+refuses_exactly words readings (Err refusal.Words) r due first = is_first words readings r refusal.Words due first
+refuses_exactly words readings (Err (refusal.Load fault)) r due first = is_first words readings r (refusal.Load fault) due first
+refuses_exactly words readings (Err (refusal.Book fault)) r due first = is_first words readings r (refusal.Book fault) due first
+refuses_exactly words readings (Err refusal.OutOfMemory) r due first = inl refl

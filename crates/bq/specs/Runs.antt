@@ -1,5 +1,5 @@
 -- What a run of the program comes to.
-use Rattle.std.specs.Prelude.{◌≡◌, ℕ, ◌<◌, ◌⊎◌, IsTrue, List, length, Some, Result, Ok, Err}
+use Rattle.std.specs.Prelude.{◌≡◌, ℕ, ◌<◌, ◌⊎◌, IsErrAnd, IsTrue, List, length, Some, Result, Ok, Err}
 use Rattle.clap.specs.Walk.{Text}
 use Rattle.outputs.specs.Output.{TookFront}
 use Rattle.outputs.specs.declared.output.Output.{Ghosts as OutputOf}
@@ -38,13 +38,27 @@ WritesTable out text = (table : List ℕ) × Lists text table × out.took table 
 abbrev pub WritesFront : Written → List ℕ → ℕ → Type 0
 WritesFront out text n = (table : List ℕ) × Lists text table × ((n < length table) × out.took table n)
 
--- The answer of a run, given its words and what the store gave: the whole table, or a front of it, comes where nothing speaks
--- against it; each refusal exactly where its cause is the first that holds; want of memory at any time.
+-- which answer comes, given the words and what the store gave: a table where nothing speaks against it, a refusal where its
+-- cause is the first that holds, want of memory at any time
+abbrev pub IsDue : List Text → List Reading → Result Unit Refusal → Type 0
+IsDue words readings (Ok x) = IsAnswerable words readings
+IsDue words readings (Err (Print (NotWritten n))) = IsAnswerable words readings
+IsDue words readings (Err r) = IsTrue (lacks_memory r) ⊎ IsRefused words readings r
+
+-- what is written with it: the whole table, a front of it, or nothing
+abbrev pub Writes : List Text → List Reading → Written → Result Unit Refusal → Type 0
+Writes words readings out (Ok x) = GaveSuch words readings (WritesTable out)
+Writes words readings out (Err (Print (NotWritten n))) = GaveSuch words readings (λ text. WritesFront out text n)
+Writes words readings out (Err r) = out.nothing
+
 abbrev pub Comes : List Text → List Reading → Written → Result Unit Refusal → Type 0
-Comes words readings out (Ok x) = IsAnswerable words readings × GaveSuch words readings (WritesTable out)
-Comes words readings out (Err (Print (NotWritten n))) =
-    IsAnswerable words readings × GaveSuch words readings (λ text. WritesFront out text n)
-Comes words readings out (Err r) = (IsTrue (lacks_memory r) ⊎ IsRefused words readings r) × out.nothing
+Comes words readings out result = IsDue words readings result × Writes words readings out result
+
+-- want of memory aside, a refusal comes where its cause is the first that holds
+abbrev pub RefusesExactly : Type 0
+RefusesExactly =
+    (words : List Text) (readings : List Reading) (result : Result Unit Refusal) (r : Refusal)
+    → IsDue words readings result → IsRefused words readings r → IsErrAnd result (λ s. IsTrue (lacks_memory s) ⊎ (s ≡ r))
 
 abbrev pub Runs : Deeds → List Text → Result Unit Refusal → Type 0
 Runs run words result = (readings : List Reading) × run.gave readings × Comes words readings run.out result

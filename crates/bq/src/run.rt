@@ -1,6 +1,6 @@
 //! What the program does with its words.
 ghost use Rattle.std.specs.Prelude.{◌≡◌, map};
-ghost use Rattle.bq.specs.Runs.{written, deeds, ListsText, ListsNamed, Runs, Ends};
+ghost use Rattle.bq.specs.Runs.{written, deeds, ListsText, ListsNamed, Runs, Ends, RefusesExactly};
 
 use crate::listing::ledger_of_text;
 use crate::loading::{ledger_bytes, text_in};
@@ -73,3 +73,8 @@ pub fn run_words<S: Store, O: Output, E: Output>(
         }
     }
 }
+
+/// Want of memory aside, each refusal comes exactly where its cause is the first that holds.
+pub fn refuses_exactly()
+    ensures { RefusesExactly }
+{}

@@ -6,7 +6,7 @@ use bean_base::{
     parse_day,
 };
 use bean_lots::{Cost, Key, Lot, Position};
-use posting_table::{Cell, Column, Display, Ledger, Lent, Row};
+use posting_table::{Cell, Column, Display, Ledger, Lent, Row, TextSet};
 use std::alloc::{AllocError, Global};
 use std::test::Fail;
 use table_printer::{Answer, print};
@@ -17,11 +17,18 @@ a b     10.5  2014-01-02  -1.125 USD
            7              1.00 USD
 ";
 
-const POSITIONS: &str = "position
+const POSITIONS: &str = "cell
 -----------------------------------------
 100.00 USD
 2.5 HOOL {0.10 USD, 2014-01-02}
 -1 HOOL {120.00 USD, 2014-01-03, \"a \\ b\"}
+";
+
+const SETS: &str = "cell
+--------------
+2024,b c,naïve
+
+trip
 ";
 
 fn answer_of<'a>(
@@ -91,19 +98,18 @@ fn prints_cells_of_each_kind(rt: HostRuntime) -> Result<(), Fail> {
     Ok(())
 }
 
-fn row_of<'a>(alloc: Global, position: &'a Position<'a>) -> Result<List<Cell<'a>>, AllocError>
+fn row_of<'a>(alloc: Global, cell: Cell<'a>) -> Result<List<Cell<'a>>, AllocError>
     ensures { IfOk result (λ row. length row ≡ 1) }
 {
-    let cell = Cell::Position(Lent::new(position));
     Ok(List::new(Vec::from_array(alloc, [cell])?))
 }
 
-/// A column of positions.
+/// A column of three cells.
 fn column_of<'a>(
     alloc: Global,
-    first: &'a Position<'a>,
-    second: &'a Position<'a>,
-    third: &'a Position<'a>,
+    first: Cell<'a>,
+    second: Cell<'a>,
+    third: Cell<'a>,
 ) -> Result<Answer<'a>, AllocError>
     ensures { IfOk result (λ a. All (λ row. length row ≡ length a.headers) a.rows) }
 {
@@ -112,7 +118,7 @@ fn column_of<'a>(
     rows.push(row_of(alloc, second)?)?;
     rows.push(row_of(alloc, third)?)?;
     Ok(Answer {
-        headers: List::new(Vec::from_array(alloc, [Slice::new("position")])?),
+        headers: List::new(Vec::from_array(alloc, [Slice::new("cell")])?),
         rows: List::new(rows),
         steps: 0,
         groups: 0,
@@ -158,6 +164,9 @@ fn prints_positions_with_their_lots(rt: HostRuntime) -> Result<(), Fail> {
         Some(Text::new("a\\n\\\\ b")),
     )?;
     let (first, second, third) = (&cash, &bought, &owed);
+    let first = Cell::Position(Lent::new(first));
+    let second = Cell::Position(Lent::new(second));
+    let third = Cell::Position(Lent::new(third));
     let answer = column_of(alloc, first, second, third)?;
     let mut display = Display::new(alloc);
     display.set(usd()?, 2)?;
@@ -193,5 +202,38 @@ fn a_ledger_lends_its_cells(rt: HostRuntime) -> Result<(), Fail> {
         Cell::Position(position) => assert_eq!(rt; position.get().count, 250_000_000),
         _ => assert!(rt; false),
     }
+    Ok(())
+}
+
+fn sets_printed(
+    alloc: Global,
+    first: &TextSet<'static>,
+    second: &TextSet<'static>,
+    third: &TextSet<'static>,
+) -> Result<Vec<u8>, AllocError> {
+    let first = Cell::Set(Lent::new(first));
+    let second = Cell::Set(Lent::new(second));
+    let third = Cell::Set(Lent::new(third));
+    let answer = column_of(alloc, first, second, third)?;
+    let display = Display::new(alloc);
+    print(alloc, &answer, &display)
+}
+
+#[test]
+fn prints_sets_in_the_order_of_bytes(rt: HostRuntime) -> Result<(), Fail> {
+    let alloc = rt.alloc();
+    let many = [
+        Slice::new("naïve"),
+        Slice::new("2024"),
+        Slice::new("b\nc"),
+        Slice::new("2024"),
+    ];
+    let many = TextSet::new(Vec::from_array(alloc, many)?);
+    let none = TextSet::new(Vec::new(alloc));
+    let one = TextSet::new(Vec::from_array(alloc, [Slice::new("trip")])?);
+    assert_eq!(rt;
+        sets_printed(alloc, &many, &none, &one)?.as_slice(),
+        SETS.as_bytes()
+    );
     Ok(())
 }

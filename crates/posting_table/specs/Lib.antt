@@ -2,3 +2,4 @@ pub mod Column
 pub mod Row
 pub mod Decimals
 pub mod Ledger
+pub mod TextSet

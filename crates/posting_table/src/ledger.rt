@@ -64,8 +64,10 @@ impl<'a> Ledger<'a> {
 
     /// Sets how many decimals a currency shows.
     pub fn set_display(&mut self, currency: Currency<'a>, places: u8) -> Result<(), AllocError>
-        ensures set { OnOk result (self.new ≡ record { rows = self.old.rows;
-            decimals = map.insert self.old.decimals currency.entry places }) }
+        ensures set { OnOk result (self.new ≡ record {
+          rows = self.old.rows;
+          decimals = map.insert self.old.decimals currency.entry places;
+        }) }
         ensures unchanged { OnErr result (self.new ≡ self.old) }
     {
         self.display.set(currency, places)

@@ -24,7 +24,8 @@
 //! What a row has in a [`Column`] is a [`Cell`], which is lent from where the row is kept: names and
 //! texts as slices, sets and positions by reference ([`Lent`]). Contracts see what is lent as the
 //! thing itself, so a cell is the value that they speak of. The numbers of cells are `Decimal`s, which
-//! have room for each number that a query computes.
+//! have room for each number that a query computes. A [`TextSet`] has each of its texts once, in the
+//! order of their bytes.
 //!
 //! # What may be asked
 //!

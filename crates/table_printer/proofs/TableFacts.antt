@@ -1,12 +1,12 @@
 -- The pieces of a line, one by one.
-use Rattle.std.proofs.Common.{◌≡◌, ℕ, zero, suc, ◌+◌, ◌<◌, max, map, fold, false, List, [], ◌∷◌, ◌++◌, length, get_or, take, Some, arith, sym, ap, ◌∙◌, refl, length-take-le}
+use Rattle.std.proofs.Common.{◌≡◌, ℕ, zero, suc, ◌+◌, ◌<◌, max, map, fold, List, [], ◌∷◌, ◌++◌, length, get_or, take, Some, arith, sym, ap, ◌∙◌, refl, length-take-le}
 use Rattle.table_printer.specs.Layout.{joined, gap}
 use Rattle.std.proofs.lemmas.List.{append-nil, get_or-map, length-map, map-append, take_more}
 use Rattle.std.proofs.lemmas.Grind.{flat_map-append}
 use Rattle.std.specs.List.{flat_map, slice_get}
 use Rattle.std.proofs.lemmas.Option.{slice_get_within, get_or_from_slice_get}
 use Rattle.std.proofs.lemmas.List.Sums.{fold-append}
-use Rattle.table_printer.specs.Table.{PlacedText, text_of, padded, pieces, width_at, column_width}
+use Rattle.table_printer.specs.Table.{PlacedText, padded, pieces, width_at, column_width}
 use Rattle.table_printer.specs.Heading.{width_of}
 use Rattle.table_printer.specs.declared.headings.Heading.{Heading}
 use Rattle.table_printer.proofs.LayoutFacts.{joined_more}

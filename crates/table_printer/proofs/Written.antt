@@ -1,5 +1,5 @@
 -- The texts of numbers and days have printable ASCII characters alone.
-use Rattle.std.proofs.Common.{◌≡◌, ℕ, ℤ, zero, suc, pos, negsuc, ◌+◌, ◌-◌, ◌/◌, ◌%◌, ◌^◌, ◌<◌, ◌≤◌, nat_eq, Bool, true, false, cond, ◌&&◌, List, [], ◌∷◌, ◌++◌, length, replicate, refl, sym, ap, ◌∙◌, arith, IsTrue, length-append}
+use Rattle.std.proofs.Common.{◌≡◌, ℕ, ℤ, zero, suc, pos, negsuc, ◌+◌, ◌-◌, ◌/◌, ◌%◌, ◌^◌, ◌<◌, nat_eq, Bool, true, false, cond, ◌&&◌, List, [], ◌∷◌, ◌++◌, length, refl, ◌∙◌, arith, IsTrue, length-append}
 use Rattle.std.specs.Int.{w128}
 use Rattle.std.specs.Int.RustNames.{unsigned_abs, FitsSigned}
 use Rattle.std.proofs.Math.Nat.{div-le_self}

@@ -123,11 +123,7 @@ fn push_clean(out: &mut Vec<u8>, text: &str, clean: &mut String) -> Result<usize
 }
 
 /// Adds the texts of a set, and tells their width.
-fn push_set(
-    out: &mut Vec<u8>,
-    set: &TextSet<'_>,
-    clean: &mut String,
-) -> Result<usize, AllocError>
+fn push_set(out: &mut Vec<u8>, set: &TextSet<'_>, clean: &mut String) -> Result<usize, AllocError>
     ensures text { OnOk result (out.new.items ≡ out.old.items ++ set_text set.now) }
     ensures width { IfOk result (λ n. n ≡ text_width (set_text set.now)) }
 {

@@ -23,6 +23,26 @@ fn power_of_ten(places: u8) -> u128
     10u128.pow(places as u32)
 }
 
+/// A number before and behind its last `places` digits.
+fn split_at(number: u128, places: u8) -> (u128, u128)
+    requires { places ≤ 32 }
+    ensures before { result.0 ≡ number / 10 ^ places }
+    ensures behind { result.1 ≡ number % 10 ^ places }
+    ensures small { result.1 < 10 ^ places }
+{
+    match u64::try_from(number) {
+        // Most fit, and 64 bits are divided much faster than 128.
+        Ok(number) if places < 20 => {
+            let unit = 10u64.pow(places as u32);
+            ((number / unit) as u128, (number % unit) as u128)
+        }
+        _ => {
+            let unit = power_of_ten(places);
+            (number / unit, number % unit)
+        }
+    }
+}
+
 /// The last `places` digits of a number, with zeros in front where it has fewer.
 fn push_digits(out: &mut Vec<u8>, places: u8, number: u128) -> Result<(), AllocError>
     requires few { places ≤ 32 }
@@ -50,9 +70,9 @@ fn without_zeros(places: u8, decimals: u128, least: u8) -> (u8, u128)
 {
     // Most have zeros alone behind the least: one division takes them off.
     let surplus = places.saturating_sub(least);
-    let unit = power_of_ten(surplus);
-    if decimals % unit == 0 {
-        return (places - surplus, decimals / unit);
+    let (digits, rest) = split_at(decimals, surplus);
+    if rest == 0 {
+        return (places - surplus, digits);
     }
     zeros_taken_off(places, decimals, least)
 }
@@ -96,26 +116,6 @@ fn push_decimals(out: &mut Vec<u8>, places: u8, decimals: u128, least: u8) -> Re
     Ok(())
 }
 
-/// The whole part of a number, and the number that its decimals write, signs left off.
-fn parts_of(count: i128, places: u8) -> (u128, u128)
-    requires { places ≤ 32 }
-    ensures whole { result.0 ≡ unsigned_abs count / 10 ^ places }
-    ensures decimals { result.1 ≡ unsigned_abs count % 10 ^ places }
-{
-    let magnitude = count.unsigned_abs();
-    match u64::try_from(magnitude) {
-        // Most fit, and 64 bits are divided much faster than 128.
-        Ok(magnitude) if places < 20 => {
-            let unit = 10u64.pow(places as u32);
-            ((magnitude / unit) as u128, (magnitude % unit) as u128)
-        }
-        _ => {
-            let unit = power_of_ten(places);
-            (magnitude / unit, magnitude % unit)
-        }
-    }
-}
-
 /// The number `count` · `10^-places` with the fewest decimals that are exact, but at least so many.
 pub(crate) fn push_number(
     out: &mut Vec<u8>,
@@ -126,7 +126,7 @@ pub(crate) fn push_number(
     requires { places ≤ 32 }
     ensures { OnOk result (out.new.items ≡ out.old.items ++ number_text count places least) }
 {
-    let (whole, decimals) = parts_of(count, places);
+    let (whole, decimals) = split_at(count.unsigned_abs(), places);
     push_if(out, b'-', count < 0)?;
     out.extend_from_slice(Buffer::new().format(whole).as_bytes())?;
     push_decimals(out, places, decimals, least)?;

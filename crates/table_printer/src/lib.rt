@@ -1,5 +1,49 @@
 //! The text of a table: rows of cells under the names of their columns, in columns as wide as a
 //! terminal shows them.
+//!
+//! ```text
+//! let answer = Answer {
+//!     headers: List::new(vec![in alloc; Slice::new("account"), Slice::new("position")]?),
+//!     rows: List::new(vec![in alloc; List::new(vec![in alloc;
+//!         Cell::Text(Slice::new("Assets:Cash")),
+//!         Cell::Position(Lent::new(&cash)),
+//!     ]?)]?),
+//!     steps: 0,
+//!     groups: 0,
+//! };
+//! let table = print(alloc, &answer, ledger.display())?;
+//! // account      position
+//! // -----------  ----------
+//! // Assets:Cash  100.00 USD
+//! ```
+//!
+//! # The text
+//!
+//! A line of names, a rule of `-` as wide as each column, then a line for each row, with two spaces
+//! between columns and none at a line's end. A column is as wide as its widest name or cell by
+//! `unicode_width`, and at least 1. Numbers stand right and their names over them, all else left.
+//! Control characters become spaces.
+//!
+//! - A number has the fewest decimals that are exact.
+//! - An amount, the units of a position and what they cost have at least the decimals that their
+//!   currency shows: `100.00 USD`, `5 HOOL {120.00 USD, 2014-01-02, "a label"}`.
+//! - The texts of a set stand in the order of their bytes, with a `,` between. Null is empty.
+//!
+//! # Rows
+//!
+//! A table is printed of whatever lends rows of cells ([`Rows`]): an [`Answer`], which holds them, or
+//! a view of a ledger, which copies none. Each row has as many cells as there are names.
+//!
+//! # Faults
+//!
+//! `print` answers an error where memory lacks. [`write_table`] makes the whole text before it hands
+//! over the first byte; it answers `P1` with the count of bytes that were taken, where the output
+//! failed or took nothing, and `M2` where memory lacks, with nothing handed over.
+//!
+//! # Cost
+//!
+//! Two passes over the rows: one measures each column, one writes. The memory is that of the text,
+//! of a few buffers that every cell uses again, and of a word or two for each column.
 #![tactic(auto)]
 
 mod answer;

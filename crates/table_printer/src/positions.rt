@@ -41,7 +41,13 @@ fn add_units(
         ++ units_text (decimals_of display.now) count COUNT_PLACES currency.now) }
 {
     scratch.measured.clear();
-    push_units(&mut scratch.measured, count, COUNT_PLACES, currency, display)?;
+    push_units(
+        &mut scratch.measured,
+        count,
+        COUNT_PLACES,
+        currency,
+        display,
+    )?;
     add_printable(&mut scratch.clean, &scratch.measured)?;
     Ok(())
 }
@@ -114,7 +120,13 @@ pub(crate) fn push_position(
         ≡ text_width (position_text (decimals_of display.now) position.now)) }
 {
     match &position.key.lot {
-        None => push_units(out, position.count, COUNT_PLACES, &position.key.currency, display),
+        None => push_units(
+            out,
+            position.count,
+            COUNT_PLACES,
+            &position.key.currency,
+            display,
+        ),
         Some(lot) => {
             make_position(scratch, position, lot, display)?;
             out.extend_from_slice(scratch.clean.as_bytes())?;
@@ -136,7 +148,13 @@ pub(crate) fn position_width(
         None => {
             let (count, currency) = (position.count, &position.key.currency);
             scratch.measured.clear();
-            push_units(&mut scratch.measured, count, COUNT_PLACES, currency, display)
+            push_units(
+                &mut scratch.measured,
+                count,
+                COUNT_PLACES,
+                currency,
+                display,
+            )
         }
         Some(lot) => {
             make_position(scratch, position, lot, display)?;

@@ -42,7 +42,9 @@ pub fn print<T: Rows>(
 {
     let mut scratch = Scratch::new(alloc);
     let headings = headings(alloc, table, &mut scratch, display)?;
-    let header = HeaderLine { headings: &headings };
+    let header = HeaderLine {
+        headings: &headings,
+    };
     let mut out = Vec::new(alloc);
     push_line(&mut out, &header, &headings, &mut scratch, display)?;
     push_rule(&mut out, &headings)?;

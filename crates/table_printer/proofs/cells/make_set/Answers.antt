@@ -1,4 +1,4 @@
-use Rattle.std.proofs.Common.{◌++◌, get_or, length, take, sym, ap, ◌∙◌, arith}
+use Rattle.std.proofs.Common.{◌++◌, get_or, length, sym, ap, ◌∙◌, arith}
 use Rattle.std.proofs.lemmas.List.{take_all}
 use Rattle.table_printer.specs.CellText.{clean_text, separator, set_text}
 use Rattle.table_printer.proofs.SetFacts.{set_more}
@@ -9,11 +9,11 @@ loop-i-preserved c =
     let set = c.args.set.now in
     let i = c.loop-i.i in
     let text = c.text-item.result in
-    let many = ap length c.as_slice-text-items.ensures in
+    let many = ap length c.as_slice-text-items.ensures.texts in
     c.in_ok-add_clean.ensures ∙ (λ k. c.in_ok-add_separator.ensures k ++ clean_text (c.text.ensures k)) ∙ ap (λ l. l ++ separator i ++ clean_text text) c.loop-i.invariant
-    ∙ sym (set_more set i text (omega (arith, many, c.loop-i-test.true)) (c.text-item.is ∙ ap (λ texts. get_or texts i text) c.as_slice-text-items.ensures))
+    ∙ sym (set_more set i text (omega (arith, many, c.loop-i-test.true)) (c.text-item.is ∙ ap (λ texts. get_or texts i text) c.as_slice-text-items.ensures.texts))
 
 pub returns : goal.returns
 returns c =
-    let many = ap length c.as_slice-text-items.ensures in
+    let many = ap length c.as_slice-text-items.ensures.texts in
     c.loop-i.invariant ∙ ap set_text (take_all c.loop-i.i c.args.set.now (omega (arith, many, c.loop-i-test.false)))

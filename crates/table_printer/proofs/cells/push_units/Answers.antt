@@ -1,4 +1,4 @@
-use Rattle.std.proofs.Common.{length, ◌≡◌, ◌++◌, ◌∷◌, ap, sym, ◌∙◌, arith, length-append, append_assoc, []}
+use Rattle.std.proofs.Common.{length, ◌++◌, ◌∷◌, ap, ◌∙◌, arith, length-append, append_assoc, []}
 use Rattle.std.specs.Int.{w128}
 use Rattle.std.proofs.lemmas.Int.{to_z-of_z}
 use Rattle.posting_table.specs.Decimals.{decimals_of}

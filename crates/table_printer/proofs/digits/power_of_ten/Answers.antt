@@ -1,4 +1,4 @@
-use Rattle.std.proofs.Common.{arith, ◌∙◌}
+use Rattle.std.proofs.Common.{arith}
 use Rattle.std.proofs.Math.Nat.{one-le-pow}
 use Rattle.table_printer.proofs.DigitsFacts.{narrow}
 use Rattle.table_printer.proofs.digits.power_of_ten.Goals as goal

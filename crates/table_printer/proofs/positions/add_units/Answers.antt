@@ -1,4 +1,4 @@
-use Rattle.std.proofs.Common.{◌≡◌, ◌++◌, List, ℕ, true, ap, sym, ◌∙◌, to_z, of_z}
+use Rattle.std.proofs.Common.{◌++◌, ap, ◌∙◌, to_z, of_z}
 use Rattle.std.specs.Int.{is_in_range, w128}
 use Rattle.std.specs.List.{list_all}
 use Rattle.posting_table.specs.Decimals.{decimals_of}
