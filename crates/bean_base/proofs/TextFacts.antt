@@ -18,7 +18,6 @@ unescaped : (b : ℕ) (bs : List ℕ) → nat_eq b backslash ≡ false → read_
 unescaped b [] other = refl
 unescaped b (c ∷ bs) other = ap (λ t. cond t (escaped c ∷ read_text bs) (b ∷ read_text (c ∷ bs))) other
 
-
 abbrev place : List ℕ → ℕ
 place bs = position_or_len (λ b. nat_eq b 92) bs
 

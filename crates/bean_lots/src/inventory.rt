@@ -83,7 +83,11 @@ fn put_at(entries: &mut Vec<Position<'_>>, index: usize, count: i128)
     }
 }
 
-fn push_new<'a>(entries: &mut Vec<Position<'a>>, key: Key<'a>, count: i128) -> Result<(), AllocError>
+fn push_new<'a>(
+    entries: &mut Vec<Position<'a>>,
+    key: Key<'a>,
+    count: i128,
+) -> Result<(), AllocError>
     ensures ok { OnOk result (entries.new.items ≡ entries.old.items ++ held_as key.entry count) }
     ensures err { OnErr result (entries.new.items ≡ entries.old.items) }
 {

@@ -61,8 +61,8 @@ impl Refusal {
             Refusal::Words
             | Refusal::Load(LoadFault::TooLarge | LoadFault::NotUtf8)
             | Refusal::Book(BookFault::TooManyPostings) => 2,
-            Refusal::Load(LoadFault::Unreadable)
-            | Refusal::Print(PrintFault::NotWritten { .. }) => 3,
+            Refusal::Load(LoadFault::Unreadable) | Refusal::Print(PrintFault::NotWritten { .. }) =>
+                3,
             Refusal::Load(LoadFault::OutOfMemory)
             | Refusal::Book(BookFault::OutOfMemory)
             | Refusal::Print(PrintFault::OutOfMemory)

@@ -62,9 +62,21 @@ fn refusals_have_their_line_and_status(rt: HostRuntime) -> Result<(), Fail> {
     let alloc = rt.alloc();
     for (ended, status, line) in [
         (run_on(alloc, &["list"], b"", 0, 10_000)?, 2, "bq: words\n"),
-        (run_on(alloc, &["list", "l"], b"", 1, 10_000)?, 3, "bq: L1\n"),
-        (run_on(alloc, &["list", "m"], b"", 0, 10_000)?, 3, "bq: L1\n"),
-        (run_on(alloc, &["list", "l"], b"\xff", 0, 10_000)?, 2, "bq: L2\n"),
+        (
+            run_on(alloc, &["list", "l"], b"", 1, 10_000)?,
+            3,
+            "bq: L1\n",
+        ),
+        (
+            run_on(alloc, &["list", "m"], b"", 0, 10_000)?,
+            3,
+            "bq: L1\n",
+        ),
+        (
+            run_on(alloc, &["list", "l"], b"\xff", 0, 10_000)?,
+            2,
+            "bq: L2\n",
+        ),
     ] {
         assert_eq!(rt; ended.status, status);
         assert_eq!(rt; ended.out.taken(), b"".as_slice());

@@ -6,13 +6,13 @@ mod ledgers;
 #[cfg(test)]
 mod lots;
 #[cfg(test)]
-mod numbers;
+mod memory_stores;
 #[cfg(test)]
-mod outputs;
+mod numbers;
 #[cfg(test)]
 mod query_files;
 #[cfg(test)]
-mod stores;
+mod short_outputs;
 #[cfg(test)]
 mod tables;
 #[cfg(test)]

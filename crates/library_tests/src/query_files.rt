@@ -2,8 +2,8 @@
 
 use bean_base::{Day, Decimal};
 use query_code::{
-    Aggregate, Cause, Constant, DecodeFault, Instruction, Mode, Push, Refusal, Unary, decode, encode,
-    show,
+    Aggregate, Cause, Constant, DecodeFault, Instruction, Mode, Push, Refusal, Unary, decode,
+    encode, show,
 };
 use std::alloc::Global;
 use std::test::Fail;
@@ -41,7 +41,12 @@ fn a_file_and_back(rt: HostRuntime) -> Result<(), Fail> {
     assert_eq!(rt; parts.mode, Mode::Grouped);
     let name = parts.output.targets.as_slice().get(0).ok_or("a target")?;
     assert!(rt; name.text() == "count(*)");
-    let aggregate = parts.code.aggregates.as_slice().get(0).ok_or("an aggregate")?;
+    let aggregate = parts
+        .code
+        .aggregates
+        .as_slice()
+        .get(0)
+        .ok_or("an aggregate")?;
     assert_eq!(rt; *aggregate, Aggregate::CountRows);
     let last = parts.code.last.as_slice().get(0).ok_or("an instruction")?;
     assert_eq!(rt; *last, Instruction::Push(Push::LoadAggregate(0)));
@@ -95,7 +100,13 @@ fn entries_of_the_pool(rt: HostRuntime) -> Result<(), Fail> {
     let day = pool.get(1).ok_or("an entry")?;
     let january = Day::new(2014, 1, 31).ok().ok_or("a day")?;
     assert!(rt; matches!(day, Constant::Day(day) if *day == january));
-    let row = program.parts.code.row.as_slice().get(0).ok_or("an instruction")?;
+    let row = program
+        .parts
+        .code
+        .row
+        .as_slice()
+        .get(0)
+        .ok_or("an instruction")?;
     assert_eq!(rt; *row, Instruction::Unary(Unary::Root(2)));
     Ok(())
 }

@@ -43,20 +43,26 @@ impl Model for MemoryStore {
     ghost Value = { Shelf };
 
     ghost view = { λ s. record {
-        files = map putting_of s.files.items;
-        kept = map putting_of s.kept.items;
-        told = map reading_of s.told.items;
-        failures = s.failures;
-        calls = s.calls;
-        fails_at = s.fails_at;
+      files = map putting_of s.files.items;
+      kept = map putting_of s.kept.items;
+      told = map reading_of s.told.items;
+      failures = s.failures;
+      calls = s.calls;
+      fails_at = s.fails_at;
     } };
 }
 
 impl MemoryStore {
     /// A store with these files, which fails at that call, from 1; at none where it is 0.
     pub fn new(alloc: Global, files: Vec<Entry>, fails_at: u64) -> MemoryStore
-        ensures { result ≡ record { files = map putting_of files.items; kept = []; told = [];
-            failures = 0; calls = 0; fails_at = fails_at } }
+        ensures { result ≡ record {
+          files = map putting_of files.items;
+          kept = [];
+          told = [];
+          failures = 0;
+          calls = 0;
+          fails_at = fails_at;
+        } }
     {
         MemoryStore {
             alloc,
@@ -173,7 +179,10 @@ impl Source for MemoryStore {
         match self.found(&name, fails)? {
             Some(bytes) => {
                 let copy = Vec::from_slice(self.alloc, &bytes)?;
-                self.tell(Asked { name, bytes: Some(copy) })?;
+                self.tell(Asked {
+                    name,
+                    bytes: Some(copy),
+                })?;
                 Ok(bytes)
             }
             None => {

@@ -35,7 +35,9 @@ returns g c =
     let list = c.in_ok-ledger.ensures in
     let decimals = c.display.result.now in (
       not_too_many c.args.text.now list.0 list.1 list.2.held,
-      (table_text headers (map shown_row c.in_ok-ledger.ledger.rows) (decimals_of decimals),
-      (list.0, list.1, table_is list.0 c.in_ok-ledger.ledger decimals list.2 c.display.ensures),
-      c.in_ok-write_table.ensures.1),
+      (
+        table_text headers (map shown_row c.in_ok-ledger.ledger.rows) (decimals_of decimals),
+        (list.0, list.1, table_is list.0 c.in_ok-ledger.ledger decimals list.2 c.display.ensures),
+        c.in_ok-write_table.ensures.1,
+      ),
     )
