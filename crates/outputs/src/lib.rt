@@ -40,5 +40,3 @@ pub use output::{NotTaken, Output};
 pub use short_writer::ShortWriter;
 pub use stream::Stream;
 pub use writing::write_bytes;
-pub use stream::Stream;
-pub use writing::write_bytes;
