@@ -1,0 +1,9 @@
+//! Numbers, names, tokens and directives of worked texts, by the libraries' public calls, with ample memory.
+#![tactic(auto)]
+
+#[cfg(test)]
+mod ledgers;
+#[cfg(test)]
+mod numbers;
+#[cfg(test)]
+mod tokens;
