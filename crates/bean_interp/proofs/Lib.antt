@@ -1,0 +1,4 @@
+pub mod CountFacts
+pub mod SumsFacts
+pub mod TableFacts
+pub mod WeighingFacts

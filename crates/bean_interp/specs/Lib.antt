@@ -1,0 +1,5 @@
+pub mod Weight
+pub mod Residual
+pub mod Tolerance
+pub mod Completion
+pub mod Sums

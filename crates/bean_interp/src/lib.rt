@@ -1,0 +1,7 @@
+//! Weights.
+#![tactic(auto)]
+
+pub mod completion;
+pub mod leg;
+pub mod sums;
+pub mod weight;
