@@ -8,15 +8,15 @@ ghost use Rattle.query_code.specs.QueryFile.{text, count, day, numbers, constant
 ghost use Rattle.query_code.specs.QueryFile.{section, some_number, place_below, columns, output};
 ghost use Rattle.query_code.specs.QueryFile.{only, code};
 
-use query_code::instruction::{Binary, Instruction, Push, Unary};
-use query_code::program::{Aggregate, Code, Constant, Mode, Numbers, Output};
+use crate::fault::Fault;
 use crate::reading::{
     byte_at, count_at, day_at, decimal_at, flag_at, limit_at, places_at, some_byte_at,
     some_number_at, stopped, text_at, word_at,
 };
-use crate::fault::Fault;
-use query_code::refusal::Cause;
 use bean_base::{Day, List, Slice};
+use query_code::instruction::{Binary, Instruction, Push, Unary};
+use query_code::program::{Aggregate, Code, Constant, Mode, Numbers, Output};
+use query_code::refusal::Cause;
 use std::alloc::Global;
 
 #[tactic(auto, unfolding(query_code::specs::InstructionForm::instruction))]

@@ -9,11 +9,11 @@ ghost use Rattle.query_file.specs.Decoding.{Decodes};
 ghost use Rattle.query_code.specs.declared.program.Parts.{Parts};
 
 use crate::code_reading::{code_at, output_at};
-use query_code::program::{Mode, Parts, Program};
-use crate::reading::{byte_at, long_at, stopped, truncated};
 use crate::fault::{DecodeFault, Fault};
-use query_code::refusal::{Cause, Refusal, Stop};
+use crate::reading::{byte_at, long_at, stopped, truncated};
 use bean_base::Bounds;
+use query_code::program::{Mode, Parts, Program};
+use query_code::refusal::{Cause, Refusal, Stop};
 use std::alloc::Global;
 
 #[tactic(auto, unfolding(query_code::specs::QueryFile::bounds))]

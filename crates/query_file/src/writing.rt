@@ -7,9 +7,9 @@ ghost use Rattle.query_code.specs.QueryFile.{numbers, constant, aggregate, secti
 ghost use Rattle.query_code.specs.QueryFile.{columns, output, code, bounds, parts, file, only};
 ghost use Rattle.query_code.specs.QueryFile.{some_number, IsFile};
 
+use bean_base::{Bounds, Day, Decimal, Slice};
 use query_code::instruction::{Binary, Instruction, Push, Unary};
 use query_code::program::{Aggregate, Code, Constant, Mode, Numbers, Output, Parts, Program};
-use bean_base::{Bounds, Day, Decimal, Slice};
 use std::alloc::{AllocError, Global};
 
 fn put_byte(out: &mut Vec<u8>, number: u8) -> Result<(), AllocError>
