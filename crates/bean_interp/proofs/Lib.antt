@@ -1,4 +1,5 @@
 pub mod CountFacts
-pub mod SumsFacts
+pub mod EntryFacts
 pub mod TableFacts
 pub mod WeighingFacts
+pub mod PrecisionFacts

@@ -3,5 +3,6 @@
 
 pub mod completion;
 pub mod leg;
+pub mod precision;
 pub mod sums;
 pub mod weight;

@@ -6,7 +6,7 @@ use Rattle.bean_interp.specs.Residual.{Weighed}
 use Rattle.std.specs.Prelude.{List}
 use Rattle.bean_interp.specs.Sums.{AreNarrow, IsNarrow, added, entry_of, sum_with}
 use Rattle.bean_interp.proofs.CountFacts.{sum_is}
-use Rattle.bean_interp.proofs.SumsFacts.{narrow_insert}
+use Rattle.bean_interp.proofs.EntryFacts.{all_insert}
 use Rattle.bean_interp.proofs.sums.Sums.add.Goals as goal
 
 pub invariant_of-self-2 : goal.invariant_of-self-2
@@ -14,7 +14,7 @@ invariant_of-self-2 c =
     let sum = to_z w128 (of_z w128 (to_z w128 (of_z w128 c.of.result) +ℤ to_z w128 (of_z w128 c.args.weight.count))) in
     let small : IsNarrow sum = search rules in
     subst AreNarrow (sym c.in_ok-insert.ensures.entries)
-    (narrow_insert c.self.inside.by_currency.entries c.args.weight.currency sum c.self.invariant small)
+    (all_insert IsNarrow c.self.inside.by_currency.entries c.args.weight.currency sum c.self.invariant small)
 
 pub returns-clause-added : goal.returns-clause-added
 returns-clause-added c =
