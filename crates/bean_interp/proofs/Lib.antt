@@ -2,4 +2,5 @@ pub mod CountFacts
 pub mod EntryFacts
 pub mod TableFacts
 pub mod WeighingFacts
+pub mod DueFacts
 pub mod PrecisionFacts

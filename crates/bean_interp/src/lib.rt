@@ -2,6 +2,7 @@
 #![tactic(auto)]
 
 pub mod completion;
+mod due;
 pub mod leg;
 pub mod precision;
 pub mod sums;
