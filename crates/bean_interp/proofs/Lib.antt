@@ -2,5 +2,6 @@ pub mod CountFacts
 pub mod EntryFacts
 pub mod TableFacts
 pub mod WeighingFacts
+pub mod LackingFacts
 pub mod DueFacts
 pub mod PrecisionFacts

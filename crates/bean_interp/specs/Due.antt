@@ -19,10 +19,24 @@ abbrev pub decimals_due : Option ℕ → ℕ
 decimals_due None = 8
 decimals_due (Some d) = d
 
+-- so many counts of 10^-16, with these decimals
+abbrev pub IsAt : ℕ → ℤ → Num → Type 0
+IsAt decimals count n = (at_16 n ≡ count) × (n.places ≡ decimals)
+
+-- no number of a ledger is so many counts of 10^-16
+abbrev pub HasNone : ℤ → Type 0
+HasNone count = (n : Num) → ¬ (at_16 n ≡ count)
+
 -- so many counts of 10^-16 as a number with these decimals; no number of a ledger where it is too wide
 abbrev pub GivesAt : ℕ → ℤ → Result Num TooWide → Type 0
-GivesAt decimals count (Ok n) = (at_16 n ≡ count) × (n.places ≡ decimals)
-GivesAt decimals count (Err e) = (n : Num) → ¬ (at_16 n ≡ count)
+GivesAt decimals count (Ok n) = IsAt decimals count n
+GivesAt decimals count (Err e) = HasNone count
 
 abbrev pub GivesDue : Option ℕ → ℤ → Result Num TooWide → Type 0
 GivesDue precision r result = GivesAt (decimals_due precision) (due precision r) result
+
+abbrev pub IsDue : Option ℕ → ℤ → Num → Type 0
+IsDue precision r n = IsAt (decimals_due precision) (due precision r) n
+
+abbrev pub HasNoDue : Option ℕ → ℤ → Type 0
+HasNoDue precision r = HasNone (due precision r)
