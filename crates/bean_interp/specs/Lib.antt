@@ -4,5 +4,6 @@ pub mod Tolerance
 pub mod Lacking
 pub mod Due
 pub mod Completion
+pub mod Filling
 pub mod Scales
 pub mod Sums

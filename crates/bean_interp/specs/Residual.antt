@@ -37,9 +37,13 @@ currencies ws = fold (λ cs w. with_new cs w.0) [] ws
 abbrev pub residual : List Leg → List ℕ → ℤ
 residual legs c = sum_in (weighed legs) c
 
--- the currencies whose weights don't sum to 0, in order of first appearance
+-- its weights don't sum to 0
+abbrev pub lacks_in : List Leg → List ℕ → Bool
+lacks_in legs c = not (int_eq (residual legs c) (pos 0))
+
+-- the currencies that lack something, in order of first appearance
 abbrev pub lacking : List Leg → List (List ℕ)
-lacking legs = filter (λ c. not (int_eq (residual legs c) (pos 0))) (currencies (weighed legs))
+lacking legs = filter (lacks_in legs) (currencies (weighed legs))
 
 -- a weight below 10^28, signs left off
 abbrev pub IsLight : Leg → Type 0

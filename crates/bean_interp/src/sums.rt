@@ -1,7 +1,7 @@
 //! Sums of weights, by currency.
-ghost use Rattle.std.specs.Prelude.{◌≡◌, ◌<◌, ◌≤◌, ◌^◌, ◌+ℤ◌, [], OnOk, OnErr, Err};
+ghost use Rattle.std.specs.Prelude.{◌≡◌, ◌<◌, ◌≤◌, ◌^◌, ◌+ℤ◌, [], OnOk, Err, length, get_or};
 ghost use Rattle.std.specs.Int.RustNames.{unsigned_abs};
-ghost use Rattle.bean_interp.specs.Residual.{AreInRange, weighed};
+ghost use Rattle.bean_interp.specs.Residual.{AreInRange, Weighed, weighed};
 ghost use Rattle.bean_interp.specs.Sums.{Fits, IsNarrow, added, entry_of, sum_with, table, with_leg};
 
 use crate::completion::CompletionFault;
@@ -53,6 +53,25 @@ impl<'a> Sums<'a> {
         match self.by_currency.get(currency) {
             Some(sum) => *sum,
             None => 0,
+        }
+    }
+
+    /// How many currencies there are.
+    pub fn len(&self) -> usize
+        ensures { result ≡ length self.now }
+    {
+        self.by_currency.len()
+    }
+
+    /// The currency at an index, in order of first appearance, with its sum.
+    pub fn at(&self, index: usize) -> (&Currency<'a>, i128)
+        requires { index < length self.now }
+        ensures currency { (d : Weighed) → result.0.now ≡ (get_or self.now index d).0 }
+        ensures sum { (d : Weighed) → result.1 ≡ (get_or self.now index d).1 }
+    {
+        match self.by_currency.get_index(index) {
+            Some((currency, sum)) => (currency, *sum),
+            None => unreachable!(),
         }
     }
 
