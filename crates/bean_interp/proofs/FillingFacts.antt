@@ -13,9 +13,9 @@ use Rattle.std.specs.List.{AllByRecursion}
 use Rattle.bean_interp.specs.Completion.{Fills, gap_of}
 use Rattle.bean_interp.specs.Filling.{AreFilled, HaveNumbers, all_currencies, currency_at, gaps_in}
 use Rattle.bean_interp.specs.Scales.{GivesFill, HasNoFill, IsFill}
-use Rattle.bean_interp.specs.declared.completion.CompletionFault.{CompletionFault}
-use Rattle.bean_interp.specs.declared.completion.CompletionFault.TheVariants.{LackTooMuch, OutOfMemory, TooWide}
-use Rattle.bean_interp.specs.declared.completion.Fill.{Fill}
+use Rattle.bean_interp.specs.declared.fault.WeighFault.{WeighFault}
+use Rattle.bean_interp.specs.declared.fault.WeighFault.TheVariants.{OutOfMemory, TooWide}
+use Rattle.bean_interp.specs.declared.fill.Fill.{Fill}
 use Rattle.bean_interp.specs.declared.leg.Leg.{Leg}
 
 abbrev pub AreDue : List Leg → List Fill → Type 0
@@ -45,9 +45,8 @@ joined legs gs hs a b c first second = record {
 }
 
 -- the cause of a refusal
-pub no_fill : (legs : List Leg) (leg : ℕ) (c : List ℕ) (fault : CompletionFault) → GivesFill legs leg c (Err fault) → HasNoFill legs c
+pub no_fill : (legs : List Leg) (leg : ℕ) (c : List ℕ) (fault : WeighFault) → GivesFill legs leg c (Err fault) → HasNoFill legs c
 no_fill legs leg c TooWide gives = gives
-no_fill legs leg c LackTooMuch gives = absurd gives
 no_fill legs leg c OutOfMemory gives = absurd gives
 
 -- ---- gaps with numbers

@@ -4,7 +4,7 @@ use Rattle.std.specs.List.{AllByRecursion}
 use Rattle.bean_base.specs.declared.num.Num.{Num}
 use Rattle.bean_interp.specs.Completion.{Fills, gap_of}
 use Rattle.bean_interp.specs.Residual.{currencies, lacks_in, weighed}
-use Rattle.bean_interp.specs.declared.completion.Fill.{Fill}
+use Rattle.bean_interp.specs.declared.fill.Fill.{Fill}
 use Rattle.bean_interp.specs.declared.leg.Leg.{Leg}
 
 -- the currencies of the weights

@@ -1,8 +1,9 @@
 //! Weights.
 #![tactic(auto)]
 
-pub mod completion;
 mod due;
+pub mod fault;
+pub mod fill;
 mod lacks;
 pub mod leg;
 pub mod precision;

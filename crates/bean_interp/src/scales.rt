@@ -1,12 +1,15 @@
 //! Scales: transactions are laid on them one after the other, to be completed and to be judged.
-ghost use Rattle.std.specs.Prelude.{◌≡◌, ◌++◌, ◌∷◌, [], ℕ, List, Err, OnOk, length, ◌<◌};
+ghost use Rattle.std.specs.Prelude as prelude;
+ghost use Rattle.std.specs.Prelude.{◌≡◌, ◌∷◌, ◌<◌, [], ℕ, Err, IfOk, OnOk, length};
 
-use crate::completion::{CompletionFault, Fill};
+use crate::fault::{CompletionFault, WeighFault};
+use crate::fill::Fill;
 use crate::due::number_due;
+use crate::lacks::lack_too_much;
 use crate::leg::Leg;
 use crate::precision::Precisions;
 use crate::sums::Sums;
-use bean_base::{Amount, Currency};
+use bean_base::{Amount, Currency, List};
 use std::alloc::Global;
 
 /// What the legs of one transaction weigh together, and the decimals to which it is exact.
@@ -19,6 +22,7 @@ pub struct Scales<'a> {
 }
 
 impl<'a> Scales<'a> {
+    ghost use Rattle.bean_interp.specs.Completion.{CanBeFilled, Completes, gaps, gaps_of};
     ghost use Rattle.bean_interp.specs.Filling.{AreFilled, HaveNumbers, all_currencies, currency_at, gaps_in};
     ghost use Rattle.bean_interp.specs.Residual.{AreInRange};
     ghost use Rattle.bean_interp.specs.Scales.{AreSet, GivesFill, HasNoFill};
@@ -33,17 +37,17 @@ impl<'a> Scales<'a> {
     }
 
     /// Lays the legs of a transaction on the scales, in place of those that were there.
-    pub fn set(&mut self, legs: &[Leg<'a>]) -> Result<(), CompletionFault>
+    pub fn set(&mut self, legs: &[Leg<'a>]) -> Result<(), WeighFault>
         ensures set { OnOk result (AreSet self.new legs.now) }
-        ensures wide { result ≡ Err CompletionFault.TooWide → ¬ AreInRange legs.now }
+        ensures wide { result ≡ Err WeighFault.TooWide → ¬ AreInRange legs.now }
     {
         self.precisions.read(legs)?;
         self.sums.weigh(legs)
     }
 
     /// What a leg takes of a currency.
-    fn fill(&self, leg: usize, currency: &Currency<'a>) -> Result<Fill<'a>, CompletionFault>
-        ensures { (legs : List Leg) → AreSet self.now legs → GivesFill legs leg currency.now result }
+    fn fill(&self, leg: usize, currency: &Currency<'a>) -> Result<Fill<'a>, WeighFault>
+        ensures { (legs : prelude.List Leg) → AreSet self.now legs → GivesFill legs leg currency.now result }
     {
         match number_due(self.precisions.of(currency), self.sums.of(currency)) {
             Ok(number) => Ok(Fill {
@@ -53,7 +57,7 @@ impl<'a> Scales<'a> {
                     currency: currency.lend(),
                 },
             }),
-            Err(_) => Err(CompletionFault::TooWide),
+            Err(_) => Err(WeighFault::TooWide),
         }
     }
 
@@ -63,11 +67,11 @@ impl<'a> Scales<'a> {
         leg: usize,
         currency: &Currency<'a>,
         fills: &mut Vec<Fill<'a>>,
-    ) -> Result<(), CompletionFault>
-        ensures filled { (legs : List Leg) → AreSet self.now legs
+    ) -> Result<(), WeighFault>
+        ensures filled { (legs : prelude.List Leg) → AreSet self.now legs
             → OnOk result (AreFilled legs ((leg, currency.now) ∷ []) fills.old.items fills.new.items) }
-        ensures none { (legs : List Leg) → AreSet self.now legs
-            → result ≡ Err CompletionFault.TooWide → HasNoFill legs currency.now }
+        ensures none { (legs : prelude.List Leg) → AreSet self.now legs
+            → result ≡ Err WeighFault.TooWide → HasNoFill legs currency.now }
     {
         match self.fill(leg, currency) {
             Ok(fill) => {
@@ -84,13 +88,13 @@ impl<'a> Scales<'a> {
         leg: usize,
         index: usize,
         fills: &mut Vec<Fill<'a>>,
-    ) -> Result<(), CompletionFault>
+    ) -> Result<(), WeighFault>
         requires { index < length self.now.sums }
-        ensures filled { (legs : List Leg) (d : List ℕ) → AreSet self.now legs
+        ensures filled { (legs : prelude.List Leg) (d : prelude.List ℕ) → AreSet self.now legs
             → OnOk result (AreFilled legs (gaps_in legs leg (currency_at legs index d ∷ []))
                 fills.old.items fills.new.items) }
-        ensures none { (legs : List Leg) (d : List ℕ) → AreSet self.now legs
-            → result ≡ Err CompletionFault.TooWide
+        ensures none { (legs : prelude.List Leg) (d : prelude.List ℕ) → AreSet self.now legs
+            → result ≡ Err WeighFault.TooWide
             → ¬ HaveNumbers legs (gaps_in legs leg (currency_at legs index d ∷ [])) }
     {
         let (currency, sum) = self.sums.at(index);
@@ -105,12 +109,12 @@ impl<'a> Scales<'a> {
         &self,
         leg: usize,
         fills: &mut Vec<Fill<'a>>,
-    ) -> Result<(), CompletionFault>
-        ensures filled { (legs : List Leg) → AreSet self.now legs
+    ) -> Result<(), WeighFault>
+        ensures filled { (legs : prelude.List Leg) → AreSet self.now legs
             → OnOk result (AreFilled legs (gaps_in legs leg (all_currencies legs))
                 fills.old.items fills.new.items) }
-        ensures none { (legs : List Leg) → AreSet self.now legs
-            → result ≡ Err CompletionFault.TooWide
+        ensures none { (legs : prelude.List Leg) → AreSet self.now legs
+            → result ≡ Err WeighFault.TooWide
             → ¬ HaveNumbers legs (gaps_in legs leg (all_currencies legs)) }
     {
         for index in 0..self.sums.len() {
@@ -120,5 +124,65 @@ impl<'a> Scales<'a> {
             }
         }
         Ok(())
+    }
+
+    /// Adds what a leg of the transaction on the scales takes.
+    fn fill_leg(
+        &self,
+        number: usize,
+        leg: &Leg<'a>,
+        fills: &mut Vec<Fill<'a>>,
+    ) -> Result<(), WeighFault>
+        ensures filled { (legs : prelude.List Leg) → AreSet self.now legs
+            → OnOk result (AreFilled legs (gaps_of legs number leg.now)
+                fills.old.items fills.new.items) }
+        ensures none { (legs : prelude.List Leg) → AreSet self.now legs
+            → result ≡ Err WeighFault.TooWide
+            → ¬ HaveNumbers legs (gaps_of legs number leg.now) }
+    {
+        match leg {
+            Leg::Whole(_) => Ok(()),
+            Leg::MissingNumber(currency) => self.fill_one(number, currency, fills),
+            Leg::MissingAmount => self.fill_lacking(number, fills),
+        }
+    }
+
+    /// Adds what the legs on the scales take.
+    fn fill_all(&self, legs: &[Leg<'a>], fills: &mut Vec<Fill<'a>>) -> Result<(), WeighFault>
+        requires { AreSet self.now legs.now }
+        ensures filled { OnOk result
+            (AreFilled legs.now (gaps legs.now) fills.old.items fills.new.items) }
+        ensures none { result ≡ Err WeighFault.TooWide → ¬ CanBeFilled legs.now }
+    {
+        for number in 0..legs.len() {
+            match self.fill_leg(number, &legs[number], fills) {
+                Ok(()) => {}
+                Err(fault) => return Err(fault),
+            }
+        }
+        Ok(())
+    }
+
+    /// What the legs of a transaction take that lack something: a leg that lacks its number takes
+    /// what its currency lacks, and one that lacks its amount takes what each currency lacks, in
+    /// order of first appearance.
+    pub fn complete(
+        &mut self,
+        alloc: Global,
+        legs: &[Leg<'a>],
+    ) -> Result<List<Fill<'a>>, CompletionFault>
+        ensures { Completes legs.now result }
+    {
+        if lack_too_much(alloc, legs)? {
+            return Err(CompletionFault::LackTooMuch);
+        }
+        if let Err(fault) = self.set(legs) {
+            return Err(CompletionFault::Weighing(fault));
+        }
+        let mut fills = Vec::new(alloc);
+        match self.fill_all(legs, &mut fills) {
+            Ok(()) => Ok(List::new(fills)),
+            Err(fault) => Err(CompletionFault::Weighing(fault)),
+        }
     }
 }

@@ -4,7 +4,7 @@ ghost use Rattle.std.specs.Int.RustNames.{unsigned_abs};
 ghost use Rattle.bean_interp.specs.Residual.{AreInRange, Weighed, weighed};
 ghost use Rattle.bean_interp.specs.Sums.{Fits, IsNarrow, added, entry_of, sum_with, table, with_leg};
 
-use crate::completion::CompletionFault;
+use crate::fault::WeighFault;
 use crate::leg::Leg;
 use crate::weight::{TooWide, Weight};
 use bean_base::Currency;
@@ -76,41 +76,41 @@ impl<'a> Sums<'a> {
     }
 
     /// Adds a weight, unless the sum of its currency would be too wide.
-    fn add(&mut self, weight: Weight<'a>) -> Result<(), CompletionFault>
+    fn add(&mut self, weight: Weight<'a>) -> Result<(), WeighFault>
         ensures added { OnOk result
             (self.new ≡ added self.old weight.entry.currency weight.entry.count) }
         ensures narrow { OnOk result (IsNarrow (sum_with self.old weight.entry)) }
-        ensures wide { result ≡ Err CompletionFault.TooWide
+        ensures wide { result ≡ Err WeighFault.TooWide
             → ¬ IsNarrow (sum_with self.old weight.entry) }
     {
         let sum = self.of(&weight.currency) + weight.count;
         if sum.unsigned_abs() >= MOST {
-            return Err(CompletionFault::TooWide);
+            return Err(WeighFault::TooWide);
         }
         self.by_currency.insert(weight.currency, sum)?;
         Ok(())
     }
 
     /// Adds what a leg weighs.
-    fn add_leg(&mut self, leg: &Leg<'a>) -> Result<(), CompletionFault>
+    fn add_leg(&mut self, leg: &Leg<'a>) -> Result<(), WeighFault>
         ensures added { OnOk result (self.new ≡ with_leg self.old leg.now) }
         ensures fits { OnOk result (Fits self.old leg.now) }
-        ensures wide { result ≡ Err CompletionFault.TooWide → ¬ Fits self.old leg.now }
+        ensures wide { result ≡ Err WeighFault.TooWide → ¬ Fits self.old leg.now }
     {
         match leg {
             Leg::Whole(whole) => match whole.weight() {
                 Ok(weight) => self.add(weight),
-                Err(TooWide) => Err(CompletionFault::TooWide),
+                Err(TooWide) => Err(WeighFault::TooWide),
             },
             Leg::MissingNumber(_) | Leg::MissingAmount => Ok(()),
         }
     }
 
     /// Takes the weights of legs, in place of those that it had.
-    pub fn weigh(&mut self, legs: &[Leg<'a>]) -> Result<(), CompletionFault>
+    pub fn weigh(&mut self, legs: &[Leg<'a>]) -> Result<(), WeighFault>
         ensures table { OnOk result (self.new ≡ table (weighed legs.now)) }
         ensures in_range { OnOk result (AreInRange legs.now) }
-        ensures wide { result ≡ Err CompletionFault.TooWide → ¬ AreInRange legs.now }
+        ensures wide { result ≡ Err WeighFault.TooWide → ¬ AreInRange legs.now }
     {
         self.by_currency.clear();
         for leg in legs {
