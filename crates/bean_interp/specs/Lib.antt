@@ -3,6 +3,7 @@ pub mod Residual
 pub mod Tolerance
 pub mod Lacking
 pub mod Due
+pub mod Balance
 pub mod Completion
 pub mod Filling
 pub mod Scales

@@ -30,6 +30,17 @@ impl<'a> Model for Precisions<'a> {
     ghost invariant = { λ p. AreFew p.by_currency.entries };
 }
 
+/// Half a unit of the last decimal, in counts of `10^-16`; 0 without decimals.
+pub(crate) fn half_unit(precision: Option<u8>) -> u128
+    requires { IfSome precision (λ d. d ≤ 8) }
+    ensures { result ≡ spec.half_unit precision }
+{
+    match precision {
+        Some(decimals) => 5 * 10u128.pow(15 - decimals as u32),
+        None => 0,
+    }
+}
+
 /// The lesser of the decimals that are written and those that were.
 fn lesser(decimals: u8, least: Option<u8>) -> u8
     requires written { decimals ≤ 8 }

@@ -7,7 +7,7 @@ use crate::fill::Fill;
 use crate::due::number_due;
 use crate::lacks::lack_too_much;
 use crate::leg::Leg;
-use crate::precision::Precisions;
+use crate::precision::{Precisions, half_unit};
 use crate::sums::Sums;
 use bean_base::{Amount, Currency, List};
 use std::alloc::Global;
@@ -22,6 +22,7 @@ pub struct Scales<'a> {
 }
 
 impl<'a> Scales<'a> {
+    ghost use Rattle.bean_interp.specs.Balance.{Judges, is_balanced, is_even};
     ghost use Rattle.bean_interp.specs.Completion.{CanBeFilled, Completes, gaps, gaps_of};
     ghost use Rattle.bean_interp.specs.Filling.{AreFilled, HaveNumbers, all_currencies, currency_at, gaps_in};
     ghost use Rattle.bean_interp.specs.Residual.{AreInRange};
@@ -183,6 +184,40 @@ impl<'a> Scales<'a> {
         match self.fill_all(legs, &mut fills) {
             Ok(()) => Ok(List::new(fills)),
             Err(fault) => Err(CompletionFault::Weighing(fault)),
+        }
+    }
+
+    /// Whether the sum at an index is no more than the tolerance of its currency.
+    fn is_even_at(&self, index: usize) -> bool
+        requires { index < length self.now.sums }
+        ensures { (legs : prelude.List Leg) (d : prelude.List ℕ) → AreSet self.now legs
+            → result ≡ is_even legs (currency_at legs index d) }
+    {
+        let (currency, sum) = self.sums.at(index);
+        sum.unsigned_abs() <= half_unit(self.precisions.of(currency))
+    }
+
+    /// Whether the transaction on the scales balances.
+    fn are_even(&self) -> bool
+        ensures { (legs : prelude.List Leg) → AreSet self.now legs → result ≡ is_balanced legs }
+    {
+        for index in 0..self.sums.len() {
+            if !self.is_even_at(index) {
+                return false;
+            }
+        }
+        true
+    }
+
+    /// Whether legs balance: in each currency their weights sum to no more than its tolerance, which
+    /// is half a unit of the last decimal that is written for it, and 0 without decimals. What legs
+    /// lack is left aside.
+    pub fn balances(&mut self, legs: &[Leg<'a>]) -> Result<bool, WeighFault>
+        ensures { Judges legs.now result }
+    {
+        match self.set(legs) {
+            Ok(()) => Ok(self.are_even()),
+            Err(fault) => Err(fault),
         }
     }
 }

@@ -68,6 +68,7 @@ impl<'a> Sums<'a> {
         requires { index < length self.now }
         ensures currency { (d : Weighed) → result.0.now ≡ (get_or self.now index d).0 }
         ensures sum { (d : Weighed) → result.1 ≡ (get_or self.now index d).1 }
+        ensures bound { unsigned_abs result.1 < 10 ^ 38 }
     {
         match self.by_currency.get_index(index) {
             Some((currency, sum)) => (currency, *sum),
