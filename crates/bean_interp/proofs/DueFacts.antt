@@ -1,5 +1,5 @@
 -- Where no number of a ledger is what is due.
-use Rattle.std.proofs.Common.{◌≡◌, ℕ, ◌+◌, ◌-◌, ◌*◌, ◌^◌, ◌<◌, ◌≤◌, ℤ, pos, ◌*ℤ◌, neg_ℤ, Bool, true, false, nat_lt, refl, ap, sym, ◌∙◌, subst, arith}
+use Rattle.std.proofs.Common.{◌≡◌, ℕ, ◌+◌, ◌-◌, ◌*◌, ◌^◌, ◌<◌, ◌≤◌, ℤ, pos, ◌*ℤ◌, Bool, true, false, nat_lt, refl, ap, sym, ◌∙◌, subst, arith}
 use Rattle.std.proofs.lemmas.Grind.{common_steps}
 use Rattle.std.proofs.lemmas.Int.{unsigned_abs-mul}
 use Rattle.std.proofs.lemmas.Nat.{pow-add}
@@ -26,6 +26,7 @@ too_wide z d few never n is = by (nat_lt (unsigned_abs z) (10 ^ (12 + d))) refl
   where
     small : unsigned_abs z * 10 ^ (16 - d) < 10 ^ 28
     small = subst (λ k. k < 10 ^ 28) (ap unsigned_abs is ∙ unsigned_abs-mul z (pos (10 ^ (16 - d)))) (number_lt n)
+
     by : (b : Bool) → nat_lt (unsigned_abs z) (10 ^ (12 + d)) ≡ b → ⊥
     by true lt = never (few, grind (arith, common_steps, lt))
     by false ge =

@@ -1,5 +1,5 @@
 -- Gaps that are filled one after the other.
-use Rattle.std.proofs.Common.{◌≡◌, ◌≢◌, ◌+◌, ◌<◌, ℕ, suc, ℤ, pos, Bool, true, false, not, cond, drop, List, [], ◌∷◌, ◌++◌, map, filter, take, get_or, length, Ok, Err, refl, sym, ap, ◌∙◌, subst, append_assoc, arith}
+use Rattle.std.proofs.Common.{◌≡◌, ◌≢◌, ◌+◌, ◌<◌, ℕ, suc, ℤ, pos, Bool, true, false, not, cond, drop, List, [], ◌∷◌, ◌++◌, map, filter, take, get_or, length, Err, refl, sym, ap, ◌∙◌, subst, append_assoc, arith}
 use Rattle.std.proofs.Math.Seq.{split_at, take-suc}
 use Rattle.std.proofs.lemmas.List.Elements.{filter-append}
 use Rattle.std.proofs.lemmas.List.{append-nil, map-append}

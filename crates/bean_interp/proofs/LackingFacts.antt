@@ -127,9 +127,9 @@ with_number l new legs c are amount number updates = record {
   amount = amount ∙ are.amount ∙ sym (any_push lacks_amount legs (MissingNumber c) ∙ last_or (list_any lacks_amount legs));
   number = number ∙ or_last (list_any lacks_number legs) ∙ sym (any_push lacks_number legs (MissingNumber c));
   currencies = λ d.
-    updates d ∙ turned (bytes_eq c d) (contains bytes_eq l.currencies d)
-    ∙ (λ i. are.currencies d i || nat_list_eq_equiv.symm c d i)
-    ∙ sym (any_push (lacks_number_of d) legs (MissingNumber c));
+      updates d ∙ turned (bytes_eq c d) (contains bytes_eq l.currencies d)
+      ∙ (λ i. are.currencies d i || nat_list_eq_equiv.symm c d i)
+      ∙ sym (any_push (lacks_number_of d) legs (MissingNumber c));
 }
 
 -- the same of a leg by another name

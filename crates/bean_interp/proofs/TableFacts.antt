@@ -1,5 +1,5 @@
 -- A table of sums, with a weight more.
-use Rattle.std.proofs.Common.{◌≡◌, ◌+◌, ◌+ℤ◌, ℕ, ℤ, pos, Bool, true, false, cond, ◌||◌, List, [], ◌∷◌, ◌++◌, map, fold, reverse, unwrap_or, Some, None, refl, sym, ap, ◌∙◌, subst}
+use Rattle.std.proofs.Common.{◌≡◌, ◌+ℤ◌, ℕ, ℤ, pos, Bool, true, false, cond, ◌||◌, List, [], ◌∷◌, ◌++◌, map, reverse, unwrap_or, Some, refl, sym, ap, ◌∙◌, subst}
 use Rattle.std.proofs.Math.IntN.{+ℤ_assoc, +ℤ_idl, +ℤ_idr}
 use Rattle.std.proofs.lemmas.List.Sums.{fold-append}
 use Rattle.std.proofs.lemmas.List.{reverse-append, reverse-reverse}
@@ -76,6 +76,7 @@ insert_listed f k v (c ∷ cs) apart = by (bytes_eq k c) refl (insert_listed f k
     push : (b : Bool) → list_any (bytes_eq k) cs ≡ b → c ∷ cond b cs (cs ++ k ∷ []) ≡ cond b (c ∷ cs) ((c ∷ cs) ++ k ∷ [])
     push true is = refl
     push false is = refl
+
     by : (b : Bool) → bytes_eq k c ≡ b → insert_entry bytes_eq (listed f cs) k v ≡ listed (with_at f k v) (with_new cs k)
         → cond b ((c, v) ∷ listed f cs) ((c, f c) ∷ insert_entry bytes_eq (listed f cs) k v) ≡ listed (with_at f k v) (cond (b || list_any (bytes_eq k) cs) (c ∷ cs) ((c ∷ cs) ++ k ∷ []))
     by true same later =
@@ -134,12 +135,14 @@ absent_new cs k c none = by (list_any (bytes_eq k) cs) refl none
   where
     last : (ds : List (List ℕ)) → list_any (bytes_eq c) (ds ++ k ∷ []) ≡ false → (list_any (bytes_eq c) ds ≡ false) × (bytes_eq c k ≡ false)
     last ds is = list_any_push (bytes_eq c) ds k is
+
     there : (ds : List (List ℕ)) → list_any (bytes_eq k) ds ≡ true → list_any (bytes_eq c) ds ≡ false → bytes_eq c k ≡ false
     there ds is none = differs (bytes_eq c k) refl
       where
         differs : (b : Bool) → bytes_eq c k ≡ b → b ≡ false
         differs false is-not = refl
         differs true same = sym (subst (λ x. list_any (bytes_eq x) ds ≡ true) (sym (same_text c k (sym same))) is) ∙ none
+
     by : (b : Bool) → list_any (bytes_eq k) cs ≡ b → list_any (bytes_eq c) (cond b cs (cs ++ k ∷ [])) ≡ false → (list_any (bytes_eq c) cs ≡ false) × (bytes_eq k c ≡ false)
     by true is none = (none, nat_list_eq_equiv.symm k c ∙ there cs is none)
     by false is none = let l = last cs none in (l.0, nat_list_eq_equiv.symm k c ∙ l.1)
@@ -148,8 +151,8 @@ summed_push : (ws : List Weighed) (w : Weighed) → AreSummed ws → AreSummed (
 summed_push ws w s = record {
   apart = subst AreApart (sym (currencies_push ws w)) (apart_new (currencies ws) w.0 s.apart);
   absent = λ c none.
-    let n = absent_new (currencies ws) w.0 c (subst (λ cs. list_any (bytes_eq c) cs ≡ false) (currencies_push ws w) none) in
-    sum_push ws w c ∙ (λ i. s.absent c n.0 i +ℤ cond (n.1 i) w.1 (pos 0));
+      let n = absent_new (currencies ws) w.0 c (subst (λ cs. list_any (bytes_eq c) cs ≡ false) (currencies_push ws w) none) in
+      sum_push ws w c ∙ (λ i. s.absent c n.0 i +ℤ cond (n.1 i) w.1 (pos 0));
 }
 
 summed_reversed : (ws : List Weighed) → AreSummed (reverse ws)

@@ -1,15 +1,14 @@
 -- What weighing one leg more keeps.
-use Rattle.std.proofs.Common.{◌≡◌, ◌+◌, ◌+ℤ◌, ◌<◌, ◌≤◌, ◌^◌, ℕ, zero, suc, ℤ, pos, nat_le, Bool, true, false, cond, List, [], ◌∷◌, ◌++◌, length, take, get_or, refl, sym, ap, ◌∙◌, subst, arith, rules, ⊎_elim}
+use Rattle.std.proofs.Common.{◌≡◌, ◌+◌, ◌+ℤ◌, ◌<◌, ◌≤◌, ℕ, zero, suc, pos, nat_le, Bool, true, false, cond, List, [], ◌∷◌, ◌++◌, length, take, get_or, refl, sym, ap, ◌∙◌, subst, arith}
 use Rattle.std.proofs.Math.Seq.{take-suc}
 use Rattle.std.proofs.lemmas.Grind.{common_steps, flat_map-append}
-use Rattle.std.proofs.lemmas.List.{append-nil, take-append-le, take_all, length-append}
-use Rattle.std.specs.Int.RustNames.{unsigned_abs}
-use Rattle.std.specs.List.{AllByRecursion, flat_map}
+use Rattle.std.proofs.lemmas.List.{append-nil, take-append-le, take_all}
+use Rattle.std.specs.List.{AllByRecursion}
 use Rattle.std.specs.Str.{bytes_eq}
 use Rattle.std.specs.Cmp.Lexicographic.{nat_list_eq_equiv, same_text}
 use Rattle.std.proofs.Math.IntN.{+ℤ_idr}
-use Rattle.bean_interp.specs.Residual.{AreInRange, IsLight, Weighed, currencies, residual, sum_in, weighed, weighed_in}
-use Rattle.bean_interp.specs.Sums.{Fits, IsNarrow, added, entry_of, table, with_leg}
+use Rattle.bean_interp.specs.Residual.{AreInRange, IsLight, Weighed, residual, sum_in, weighed, weighed_in}
+use Rattle.bean_interp.specs.Sums.{Fits, IsNarrow, entry_of, table, with_leg}
 use Rattle.bean_interp.specs.Weight.{currency_of, weight_of}
 use Rattle.bean_interp.specs.declared.leg.Leg.{Leg}
 use Rattle.bean_interp.specs.declared.leg.Leg.TheVariants.{Whole, MissingNumber, MissingAmount}
@@ -37,6 +36,7 @@ narrow_with legs leg c range fits = subst IsNarrow (sym (residual_push legs leg 
   where
     before : IsNarrow (residual legs c)
     before = subst (λ ls. IsNarrow (residual ls c)) (take_all (length legs) legs (omega arith)) (range.sums (length legs) c)
+
     by : (l : Leg) → Fits (table (weighed legs)) l → IsNarrow (sum_in (weighed legs ++ weighed_in l) c)
     by (Whole w) f = subst IsNarrow (sym (sum_push (weighed legs) (currency_of w.units w.worth, weight_of w) c)) (at (bytes_eq (currency_of w.units w.worth) c) refl)
       where
@@ -99,12 +99,13 @@ no_range legs i d lt never range = never (by (get_or legs i d) (light_at legs i 
   where
     next : take (i + 1) legs ≡ take i legs ++ get_or legs i d ∷ []
     next = ap (λ n. take n legs) (succ i) ∙ take-suc legs i d lt
+
     by : (leg : Leg) → IsLight leg → ((c : List ℕ) → IsNarrow (residual (take i legs ++ leg ∷ []) c)) → Fits (table (weighed (take i legs))) leg
     by (Whole w) light narrow =
         let c = currency_of w.units w.worth in
         let ws = weighed (take i legs) in
         let here : sum_in (ws ++ (c, weight_of w) ∷ []) c ≡ entry_of (table ws) c +ℤ weight_of w =
-            sum_push ws (c, weight_of w) c ∙ (λ j. sym (entry_is ws c) j +ℤ cond (nat_list_eq_equiv.refl c j) (weight_of w) (pos 0)) in
+        sum_push ws (c, weight_of w) c ∙ (λ j. sym (entry_is ws c) j +ℤ cond (nat_list_eq_equiv.refl c j) (weight_of w) (pos 0)) in
         (light, subst IsNarrow (residual_push (take i legs) (Whole w) c ∙ here) (narrow c))
     by (MissingNumber c) light narrow = tt
     by MissingAmount light narrow = tt

@@ -1,5 +1,5 @@
 -- Scales with a transaction on them.
-use Rattle.std.specs.Prelude.{◌≡◌, ⊤, ℕ, List, Result, Ok, Err}
+use Rattle.std.specs.Prelude.{◌≡◌, ℕ, List, Result, Ok, Err}
 use Rattle.std.specs.Map.{lookup}
 use Rattle.std.specs.Str.{bytes_eq}
 use Rattle.bean_interp.specs.Completion.{Fills}
@@ -8,7 +8,7 @@ use Rattle.bean_interp.specs.Residual.{AreInRange, residual, weighed}
 use Rattle.bean_interp.specs.Sums.{table}
 use Rattle.bean_interp.specs.Tolerance.{precision}
 use Rattle.bean_interp.specs.declared.fault.WeighFault.{WeighFault}
-use Rattle.bean_interp.specs.declared.fault.WeighFault.TheVariants.{TooWide, OutOfMemory}
+use Rattle.bean_interp.specs.declared.fault.WeighFault.TheVariants.{TooWide}
 use Rattle.bean_interp.specs.declared.fill.Fill.{Fill}
 use Rattle.bean_interp.specs.declared.leg.Leg.{Leg}
 use Rattle.bean_interp.specs.declared.scales.Scales.{Scales}

@@ -1,5 +1,5 @@
 -- Sums of weights as a table.
-use Rattle.std.specs.Prelude.{◌≡◌, ◌+ℤ◌, ◌<◌, ◌^◌, ℕ, ℤ, pos, List, map, unwrap_or}
+use Rattle.std.specs.Prelude.{◌+ℤ◌, ◌<◌, ◌^◌, ℕ, ℤ, pos, List, map, unwrap_or}
 use Rattle.std.specs.Int.RustNames.{unsigned_abs}
 use Rattle.indexmap.specs.IndexMap.{insert_entry}
 use Rattle.std.specs.List.{AllByRecursion}

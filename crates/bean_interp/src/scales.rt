@@ -2,9 +2,9 @@
 ghost use Rattle.std.specs.Prelude as prelude;
 ghost use Rattle.std.specs.Prelude.{◌≡◌, ◌∷◌, ◌<◌, [], ℕ, Err, IfOk, OnOk, length};
 
+use crate::due::number_due;
 use crate::fault::{CompletionFault, WeighFault};
 use crate::fill::Fill;
-use crate::due::number_due;
 use crate::lacks::lack_too_much;
 use crate::leg::Leg;
 use crate::precision::{Precisions, half_unit};
@@ -84,16 +84,11 @@ impl<'a> Scales<'a> {
     }
 
     /// Adds what a leg takes of the currency at an index, where that lacks something.
-    fn fill_at(
-        &self,
-        leg: usize,
-        index: usize,
-        fills: &mut Vec<Fill<'a>>,
-    ) -> Result<(), WeighFault>
+    fn fill_at(&self, leg: usize, index: usize, fills: &mut Vec<Fill<'a>>) -> Result<(), WeighFault>
         requires { index < length self.now.sums }
         ensures filled { (legs : prelude.List Leg) (d : prelude.List ℕ) → AreSet self.now legs
             → OnOk result (AreFilled legs (gaps_in legs leg (currency_at legs index d ∷ []))
-                fills.old.items fills.new.items) }
+            fills.old.items fills.new.items) }
         ensures none { (legs : prelude.List Leg) (d : prelude.List ℕ) → AreSet self.now legs
             → result ≡ Err WeighFault.TooWide
             → ¬ HaveNumbers legs (gaps_in legs leg (currency_at legs index d ∷ [])) }
@@ -106,14 +101,10 @@ impl<'a> Scales<'a> {
     }
 
     /// Adds what a leg takes of each currency that lacks something, in order of first appearance.
-    fn fill_lacking(
-        &self,
-        leg: usize,
-        fills: &mut Vec<Fill<'a>>,
-    ) -> Result<(), WeighFault>
+    fn fill_lacking(&self, leg: usize, fills: &mut Vec<Fill<'a>>) -> Result<(), WeighFault>
         ensures filled { (legs : prelude.List Leg) → AreSet self.now legs
             → OnOk result (AreFilled legs (gaps_in legs leg (all_currencies legs))
-                fills.old.items fills.new.items) }
+            fills.old.items fills.new.items) }
         ensures none { (legs : prelude.List Leg) → AreSet self.now legs
             → result ≡ Err WeighFault.TooWide
             → ¬ HaveNumbers legs (gaps_in legs leg (all_currencies legs)) }
@@ -136,7 +127,7 @@ impl<'a> Scales<'a> {
     ) -> Result<(), WeighFault>
         ensures filled { (legs : prelude.List Leg) → AreSet self.now legs
             → OnOk result (AreFilled legs (gaps_of legs number leg.now)
-                fills.old.items fills.new.items) }
+            fills.old.items fills.new.items) }
         ensures none { (legs : prelude.List Leg) → AreSet self.now legs
             → result ≡ Err WeighFault.TooWide
             → ¬ HaveNumbers legs (gaps_of legs number leg.now) }

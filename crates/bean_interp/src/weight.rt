@@ -71,10 +71,7 @@ impl<'a> Whole<'a> {
                 product(number.scaled(8), price.number.scaled(8)),
                 &price.currency,
             ),
-            Worth::Total(total) => (
-                Some(self.with_sign(at_16(total.number))),
-                &total.currency,
-            ),
+            Worth::Total(total) => (Some(self.with_sign(at_16(total.number))), &total.currency),
         };
         match count {
             Some(count) => Ok(Weight {

@@ -1,4 +1,4 @@
-use Rattle.std.proofs.Common.{◌≡◌, FitsSigned, ℤ, pos, ◌*ℤ◌, ◌^◌, ◌∙◌, arith, of_z, rules, sym, subst, to_z}
+use Rattle.std.proofs.Common.{◌≡◌, FitsSigned, ℤ, pos, ◌*ℤ◌, ◌^◌, ◌∙◌, arith, rules, sym, subst}
 use Rattle.std.proofs.lemmas.Int.{to_z-of_z}
 use Rattle.std.specs.Int.{w128}
 use Rattle.bean_base.specs.Decimal.{IsLedger}

@@ -12,7 +12,7 @@ returns-then-clashes c =
     let leg = c.leg-item.result in
     let yes : c.clashes.result ≡ true = search rules in
     let here = ap (λ (l : Leg). list_any (clash l) (take i legs)) (sym c.leg-item.is)
-        ∙ sym (c.clashes.ensures (take i legs) c.loop-leg.invariant.are) ∙ yes in
+    ∙ sym (c.clashes.ensures (take i legs) c.loop-leg.invariant.are) ∙ yes in
     sym (whole_too_much legs (i + 1) (too_much_next legs i leg (omega arith) ∙ (λ k. c.loop-leg.invariant.not_yet k || here k)))
 
 pub loop-leg-preserved : goal.loop-leg-preserved
@@ -22,7 +22,7 @@ loop-leg-preserved c =
     let leg = c.leg-item.result in
     let no : c.clashes.result ≡ false = search rules in
     let here = ap (λ (l : Leg). list_any (clash l) (take i legs)) (sym c.leg-item.is)
-        ∙ sym (c.clashes.ensures (take i legs) c.loop-leg.invariant.are) ∙ no in
+    ∙ sym (c.clashes.ensures (take i legs) c.loop-leg.invariant.are) ∙ no in
     record {
       are = next_lacked c.add.new.self legs i leg (omega arith)
           (renamed c.add.new.self (take i legs) _ leg (sym c.leg-item.is) (c.in_ok-add.ensures (take i legs) c.loop-leg.invariant.are));

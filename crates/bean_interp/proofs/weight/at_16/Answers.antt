@@ -1,4 +1,4 @@
-use Rattle.std.proofs.Common.{ap, ◌∙◌, of_z, to_z, rules, ◌*ℤ◌, pos}
+use Rattle.std.proofs.Common.{ap, ◌∙◌, of_z, to_z, ◌*ℤ◌, pos}
 use Rattle.std.proofs.lemmas.Int.{to_z-of_z}
 use Rattle.std.specs.Int.{w128}
 use Rattle.bean_interp.proofs.CountFacts.{scaled_16, wide, fits_28, fits_20}

@@ -23,4 +23,4 @@ returns-in_ok-insert-in-MissingNumber c = λ legs are.
     let new : Lacks = record { has_amount = self.has_amount; has_number = true; currencies = c.insert.new.self } in
     renamed new legs c.args.leg.now (MissingNumber currency) c.in-MissingNumber.is
     (with_number self new legs currency are refl refl
-        (λ d. c.in_ok-insert-in-MissingNumber.ensures.updates.0 d ∙ (λ i. cond (bytes_eq (c.lend.ensures i) d) true (contains bytes_eq self.currencies d))))
+    (λ d. c.in_ok-insert-in-MissingNumber.ensures.updates.0 d ∙ (λ i. cond (bytes_eq (c.lend.ensures i) d) true (contains bytes_eq self.currencies d))))

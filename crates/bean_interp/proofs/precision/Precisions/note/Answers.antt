@@ -1,4 +1,4 @@
-use Rattle.std.proofs.Common.{◌≤◌, ◌∙◌, ℕ, List, Some, ap, cond, sym, subst}
+use Rattle.std.proofs.Common.{◌≤◌, ◌∙◌, Some, ap, cond, sym, subst}
 use Rattle.std.specs.Map.{lookup}
 use Rattle.std.specs.Str.{bytes_eq}
 use Rattle.bean_interp.specs.Tolerance.{lesser}

@@ -1,5 +1,5 @@
-use Rattle.std.proofs.Common.{sym, ◌∙◌, ap, arith}
-use Rattle.bean_interp.specs.Tolerance.{with_written, precision}
+use Rattle.std.proofs.Common.{sym, ◌∙◌, arith}
+use Rattle.bean_interp.specs.Tolerance.{with_written}
 use Rattle.bean_interp.proofs.PrecisionFacts.{precision_next}
 use Rattle.bean_interp.proofs.precision.Precisions.read.Goals as goal
 

@@ -1,7 +1,7 @@
-use Rattle.std.proofs.Common.{◌≡◌, ℕ, ℤ, Option, List, ap, ◌∙◌, of_z, refl, rules, subst, to_z}
+use Rattle.std.proofs.Common.{◌≡◌, ℕ, ℤ, Option, List, ap, ◌∙◌, refl, subst}
 use Rattle.std.proofs.lemmas.Int.{to_z-of_z}
 use Rattle.std.specs.Int.{w128}
-use Rattle.bean_interp.specs.Due.{GivesDue, HasNoDue, IsDue}
+use Rattle.bean_interp.specs.Due.{HasNoDue, IsDue}
 use Rattle.bean_interp.specs.Residual.{Weighed, residual, weighed}
 use Rattle.bean_interp.specs.Sums.{entry_of}
 use Rattle.bean_interp.specs.Tolerance.{precision}
@@ -14,7 +14,7 @@ returns-in-Ok c = λ legs are.
     let currency = c.args.currency.now in
     let p : c.of.result ≡ precision legs currency = c.of.ensures.is ∙ are.precisions currency in
     let r : c.of-2.result ≡ residual legs currency =
-        c.of-2.ensures.sum ∙ ap (λ (es : List Weighed). entry_of es currency) are.sums ∙ entry_is (weighed legs) currency in
+    c.of-2.ensures.sum ∙ ap (λ (es : List Weighed). entry_of es currency) are.sums ∙ entry_is (weighed legs) currency in
     let back = to_z-of_z w128 c.of-2.result (fits_38 c.of-2.result c.of-2.ensures.bound) in
     record {
       leg_is = refl;
@@ -27,6 +27,6 @@ returns-in-Err c = λ legs are.
     let currency = c.args.currency.now in
     let p : c.of.result ≡ precision legs currency = c.of.ensures.is ∙ are.precisions currency in
     let r : c.of-2.result ≡ residual legs currency =
-        c.of-2.ensures.sum ∙ ap (λ (es : List Weighed). entry_of es currency) are.sums ∙ entry_is (weighed legs) currency in
+    c.of-2.ensures.sum ∙ ap (λ (es : List Weighed). entry_of es currency) are.sums ∙ entry_is (weighed legs) currency in
     let back = to_z-of_z w128 c.of-2.result (fits_38 c.of-2.result c.of-2.ensures.bound) in
     subst (λ (o : Option ℕ). HasNoDue o (residual legs currency)) p (subst (λ (z : ℤ). HasNoDue c.of.result z) (back ∙ r) c.in-Err.ensures)

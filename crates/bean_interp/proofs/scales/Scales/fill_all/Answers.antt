@@ -1,4 +1,4 @@
-use Rattle.std.proofs.Common.{◌+◌, ◌++◌, [], ◌∙◌, ap, arith, sym, subst, take}
+use Rattle.std.proofs.Common.{◌++◌, ◌∙◌, arith, sym, subst, take}
 use Rattle.bean_interp.specs.Completion.{gaps_from, gaps_of}
 use Rattle.bean_interp.specs.Filling.{AreFilled, HaveNumbers}
 use Rattle.bean_interp.specs.declared.leg.Leg.{Leg}

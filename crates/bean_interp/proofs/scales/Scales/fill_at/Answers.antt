@@ -1,7 +1,7 @@
-use Rattle.std.proofs.Common.{◌≡◌, ◌≢◌, ◌∷◌, [], ◌∙◌, ℕ, ℤ, pos, List, ap, of_z, rules, sym, subst}
+use Rattle.std.proofs.Common.{◌≡◌, ◌∷◌, [], ◌∙◌, pos, ap, of_z, rules, sym, subst}
 use Rattle.std.specs.Int.{w128}
 use Rattle.std.specs.Prelude.{OnOk}
-use Rattle.bean_interp.specs.Filling.{AreFilled, HaveNumbers, currency_at, gaps_in}
+use Rattle.bean_interp.specs.Filling.{AreFilled, HaveNumbers, currency_at}
 use Rattle.bean_interp.specs.Residual.{residual}
 use Rattle.bean_interp.proofs.FillingFacts.{currency_there, gap_where, no_gap_where, nothing}
 use Rattle.bean_interp.proofs.scales.Scales.fill_at.Goals as goal

@@ -1,6 +1,6 @@
-use Rattle.std.proofs.Common.{◌≡◌, ◌+◌, ◌++◌, ◌∷◌, [], ◌∙◌, ap, arith, length, refl, rules, sym, subst, take}
+use Rattle.std.proofs.Common.{◌≡◌, [], ◌∙◌, ap, arith, length, sym, subst}
 use Rattle.std.proofs.lemmas.List.{length-map}
-use Rattle.bean_interp.specs.Filling.{AreFilled, HaveNumbers, all_currencies, currency_at, gaps_in}
+use Rattle.bean_interp.specs.Filling.{AreFilled, all_currencies}
 use Rattle.bean_interp.specs.Residual.{residual}
 use Rattle.bean_interp.proofs.FillingFacts.{gaps_next, joined, without_number}
 use Rattle.bean_interp.proofs.scales.Scales.fill_lacking.Goals as goal

@@ -1,10 +1,10 @@
-use Rattle.std.proofs.Common.{◌≡◌, ◌+ℤ◌, ℤ, to_z, of_z, ap, ◌∙◌, sym, subst, rules, arith}
+use Rattle.std.proofs.Common.{◌+ℤ◌, to_z, of_z, ap, ◌∙◌, sym, subst, rules}
 use Rattle.std.specs.Int.{w128}
 use Rattle.std.specs.Str.{bytes_eq}
 use Rattle.indexmap.specs.IndexMap.{insert_entry}
 use Rattle.bean_interp.specs.Residual.{Weighed}
 use Rattle.std.specs.Prelude.{List}
-use Rattle.bean_interp.specs.Sums.{AreNarrow, IsNarrow, added, entry_of, sum_with}
+use Rattle.bean_interp.specs.Sums.{AreNarrow, IsNarrow, entry_of}
 use Rattle.bean_interp.proofs.CountFacts.{sum_is}
 use Rattle.bean_interp.proofs.EntryFacts.{all_insert}
 use Rattle.bean_interp.proofs.sums.Sums.add.Goals as goal

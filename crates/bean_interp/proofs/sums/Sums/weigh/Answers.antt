@@ -18,4 +18,4 @@ returns-in-Err-clause-wide c = λ is.
     let i = c.loop-leg.leg-index in
     let leg = c.leg-item.result in
     no_range legs i leg (omega arith) (subst (λ l. ¬ Fits (table (weighed (take i legs))) l) c.leg-item.is
-        (subst (λ es. ¬ Fits es leg) c.loop-leg.invariant.table_is (c.in-Err.ensures.wide is)))
+    (subst (λ es. ¬ Fits es leg) c.loop-leg.invariant.table_is (c.in-Err.ensures.wide is)))
