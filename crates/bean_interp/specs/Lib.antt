@@ -6,5 +6,6 @@ pub mod Due
 pub mod Balance
 pub mod Completion
 pub mod Filling
+pub mod Evened
 pub mod Scales
 pub mod Sums

@@ -32,7 +32,8 @@ impl<'a> Lacks<'a> {
 
     /// Whether a leg lacks what may not lack beside these.
     fn clashes(&self, leg: &Leg<'_>) -> bool
-        ensures { (legs : List Leg) → AreLacked self.now legs → result ≡ list_any (clash leg.now) legs }
+        ensures { (legs : List Leg) → AreLacked self.now legs → result
+            ≡ list_any (clash leg.now) legs }
     {
         match leg {
             Leg::Whole(_) => false,

@@ -16,8 +16,8 @@
 //!
 //! A [`Leg`] is a posting as this crate sees it: its units and what they are worth, or what it
 //! lacks. A weight is exact, in counts of `10^-16`: units times cost; else, with a price for each
-//! unit, units times price; else, with a total price, the total with the sign of the units; else the
-//! units. A transaction balances where the weights in each currency sum to no more than its
+//! unit, units times price; else, with a total price, the total with the sign of the units; else
+//! the units. A transaction balances where the weights in each currency sum to no more than its
 //! tolerance: half a unit of the last decimal, by the least positive count of decimals that is
 //! written for units in it, and 0 where none has decimals.
 //!

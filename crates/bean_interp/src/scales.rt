@@ -1,5 +1,6 @@
 //! Scales: transactions are laid on them one after the other, to be completed and to be judged.
 ghost use Rattle.std.specs.Prelude as prelude;
+ghost use Rattle.bean_interp.specs.Evened.{CompletionBalances};
 ghost use Rattle.std.specs.Prelude.{◌≡◌, ◌∷◌, ◌<◌, [], ℕ, Err, IfOk, OnOk, length};
 
 use crate::due::number_due;
@@ -24,7 +25,8 @@ pub struct Scales<'a> {
 impl<'a> Scales<'a> {
     ghost use Rattle.bean_interp.specs.Balance.{Judges, is_balanced, is_even};
     ghost use Rattle.bean_interp.specs.Completion.{CanBeFilled, Completes, gaps, gaps_of};
-    ghost use Rattle.bean_interp.specs.Filling.{AreFilled, HaveNumbers, all_currencies, currency_at, gaps_in};
+    ghost use Rattle.bean_interp.specs.Filling.{AreFilled, HaveNumbers, all_currencies};
+    ghost use Rattle.bean_interp.specs.Filling.{currency_at, gaps_in};
     ghost use Rattle.bean_interp.specs.Residual.{AreInRange};
     ghost use Rattle.bean_interp.specs.Scales.{AreSet, GivesFill, HasNoFill};
     ghost use Rattle.bean_interp.specs.declared.leg.Leg.{Leg};
@@ -48,7 +50,8 @@ impl<'a> Scales<'a> {
 
     /// What a leg takes of a currency.
     fn fill(&self, leg: usize, currency: &Currency<'a>) -> Result<Fill<'a>, WeighFault>
-        ensures { (legs : prelude.List Leg) → AreSet self.now legs → GivesFill legs leg currency.now result }
+        ensures { (legs : prelude.List Leg) → AreSet self.now legs
+            → GivesFill legs leg currency.now result }
     {
         match number_due(self.precisions.of(currency), self.sums.of(currency)) {
             Ok(number) => Ok(Fill {
@@ -70,7 +73,8 @@ impl<'a> Scales<'a> {
         fills: &mut Vec<Fill<'a>>,
     ) -> Result<(), WeighFault>
         ensures filled { (legs : prelude.List Leg) → AreSet self.now legs
-            → OnOk result (AreFilled legs ((leg, currency.now) ∷ []) fills.old.items fills.new.items) }
+            → OnOk result (AreFilled legs ((leg, currency.now) ∷ [])
+            fills.old.items fills.new.items) }
         ensures none { (legs : prelude.List Leg) → AreSet self.now legs
             → result ≡ Err WeighFault.TooWide → HasNoFill legs currency.now }
     {
@@ -200,9 +204,9 @@ impl<'a> Scales<'a> {
         true
     }
 
-    /// Whether legs balance: in each currency their weights sum to no more than its tolerance, which
-    /// is half a unit of the last decimal that is written for it, and 0 without decimals. What legs
-    /// lack is left aside.
+    /// Whether legs balance: in each currency their weights sum to no more than its tolerance,
+    /// which is half a unit of the last decimal that is written for it, and 0 without decimals.
+    /// What legs lack is left aside.
     pub fn balances(&mut self, legs: &[Leg<'a>]) -> Result<bool, WeighFault>
         ensures { Judges legs.now result }
     {
@@ -212,3 +216,8 @@ impl<'a> Scales<'a> {
         }
     }
 }
+
+/// What completion fills in balances the transaction in every currency that was filled.
+pub fn completion_balances()
+    ensures { CompletionBalances }
+{}

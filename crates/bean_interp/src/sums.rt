@@ -2,7 +2,8 @@
 ghost use Rattle.std.specs.Prelude.{◌≡◌, ◌<◌, ◌≤◌, ◌^◌, ◌+ℤ◌, [], OnOk, Err, length, get_or};
 ghost use Rattle.std.specs.Int.RustNames.{unsigned_abs};
 ghost use Rattle.bean_interp.specs.Residual.{AreInRange, Weighed, weighed};
-ghost use Rattle.bean_interp.specs.Sums.{Fits, IsNarrow, added, entry_of, sum_with, table, with_leg};
+ghost use Rattle.bean_interp.specs.Sums.{Fits, IsNarrow, added, entry_of, sum_with, table};
+ghost use Rattle.bean_interp.specs.Sums.{with_leg};
 
 use crate::fault::WeighFault;
 use crate::leg::Leg;
