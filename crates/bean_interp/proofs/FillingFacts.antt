@@ -92,7 +92,7 @@ pub currency_there : (es : List Weighed) (legs : List Leg) (i : ℕ) (d : List �
     → get_or es i (d, residual legs d) ≡ (currency_at legs i d, residual legs (currency_at legs i d))
 currency_there es legs i d is = ap (λ (l : List Weighed). get_or l i (d, residual legs d)) is ∙ get_or-map (λ c. (c, residual legs c)) (all_currencies legs) i d
 
-unequal : (z : ℤ) → z ≢ pos 0 → int_eq z (pos 0) ≡ false
+pub unequal : (z : ℤ) → z ≢ pos 0 → int_eq z (pos 0) ≡ false
 unequal z h = by (int_eq z (pos 0)) (Decides-int_eq z (pos 0))
   where
     by : (b : Bool) → Decides b (z ≡ pos 0) → b ≡ false

@@ -3,6 +3,7 @@ pub mod EntryFacts
 pub mod TableFacts
 pub mod WeighingFacts
 pub mod FillingFacts
+pub mod BalanceFacts
 pub mod EvenedFacts
 pub mod GapFacts
 pub mod LackingFacts

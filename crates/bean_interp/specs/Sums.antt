@@ -1,9 +1,10 @@
 -- Sums of weights as a table.
-use Rattle.std.specs.Prelude.{◌+ℤ◌, ◌<◌, ◌^◌, ℕ, ℤ, pos, List, map, unwrap_or}
+use Rattle.std.specs.Prelude.{◌+ℤ◌, ◌<◌, ◌^◌, ℕ, Bool, ℤ, pos, List, map, unwrap_or}
 use Rattle.std.specs.Int.RustNames.{unsigned_abs}
 use Rattle.indexmap.specs.IndexMap.{insert_entry}
 use Rattle.std.specs.List.{AllByRecursion}
 use Rattle.std.specs.Map.{lookup}
+use Rattle.std.specs.Ordering.{int_eq}
 use Rattle.std.specs.Str.{bytes_eq}
 use Rattle.bean_interp.specs.Residual.{IsLight, Weighed, sum_in, currencies}
 use Rattle.bean_interp.specs.Weight.{currency_of, weight_of}
@@ -26,6 +27,9 @@ added es c n = insert_entry bytes_eq es c (entry_of es c +ℤ n)
 -- the sum that a weight more would come to
 abbrev pub sum_with : List Weighed → Weight → ℤ
 sum_with es w = entry_of es w.currency +ℤ w.count
+
+abbrev pub is_zero : Weighed → Bool
+is_zero e = int_eq e.1 (pos 0)
 
 abbrev pub IsNarrow : ℤ → Type 0
 IsNarrow n = unsigned_abs n < 10 ^ 38

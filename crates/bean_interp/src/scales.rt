@@ -210,10 +210,14 @@ impl<'a> Scales<'a> {
     pub fn balances(&mut self, legs: &[Leg<'a>]) -> Result<bool, WeighFault>
         ensures { Judges legs.now result }
     {
-        match self.set(legs) {
-            Ok(()) => Ok(self.are_even()),
-            Err(fault) => Err(fault),
+        if let Err(fault) = self.sums.weigh(legs) {
+            return Err(fault);
         }
+        if self.sums.are_zero() {
+            return Ok(true);
+        }
+        self.precisions.read(legs)?;
+        Ok(self.are_even())
     }
 }
 

@@ -1,8 +1,9 @@
 //! Sums of weights, by currency.
 ghost use Rattle.std.specs.Prelude.{◌≡◌, ◌<◌, ◌≤◌, ◌^◌, ◌+ℤ◌, [], OnOk, Err, length, get_or};
 ghost use Rattle.std.specs.Int.RustNames.{unsigned_abs};
+ghost use Rattle.std.specs.List.{list_all};
 ghost use Rattle.bean_interp.specs.Residual.{AreInRange, Weighed, weighed};
-ghost use Rattle.bean_interp.specs.Sums.{Fits, IsNarrow, added, entry_of, sum_with, table};
+ghost use Rattle.bean_interp.specs.Sums.{Fits, IsNarrow, added, entry_of, is_zero, sum_with, table};
 ghost use Rattle.bean_interp.specs.Sums.{with_leg};
 
 use crate::fault::WeighFault;
@@ -75,6 +76,18 @@ impl<'a> Sums<'a> {
             Some((currency, sum)) => (currency, *sum),
             None => unreachable!(),
         }
+    }
+
+    /// Whether every sum is 0.
+    pub fn are_zero(&self) -> bool
+        ensures { result ≡ list_all is_zero self.now }
+    {
+        for index in 0..self.len() {
+            if self.at(index).1 != 0 {
+                return false;
+            }
+        }
+        true
     }
 
     /// Adds a weight, unless the sum of its currency would be too wide.
