@@ -32,7 +32,10 @@ impl<'a> Scales<'a> {
     ghost use Rattle.bean_interp.specs.declared.leg.Leg.{Leg};
 
     /// Scales with nothing on them. Takes no memory.
-    pub fn new(alloc: Global) -> Scales<'a> {
+    pub fn new(alloc: Global) -> Scales<'a>
+        ensures sums { result.sums ≡ [] }
+        ensures precisions { result.precisions ≡ [] }
+    {
         Scales {
             sums: Sums::new(alloc),
             precisions: Precisions::new(alloc),
