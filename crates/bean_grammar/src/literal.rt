@@ -1,9 +1,9 @@
 //! Days and texts at the front of a list of tokens.
 ghost use Rattle.std.specs.Prelude.{◌≡◌, ◌<◌, length, MatchOption, IfSome, IsTrue, false};
-ghost use Rattle.theory.specs.Form.{HasNone, Reads, due};
+ghost use Rattle.theory.specs.Form.{Reads, due};
 ghost use Rattle.bean_base.specs.Day.{is_day_form};
 ghost use Rattle.bean_lexer.specs.TokenForm.{is_text};
-ghost use Rattle.bean_grammar.specs.Lexeme.{lexemes, begins_with_text};
+ghost use Rattle.bean_grammar.specs.Lexeme.{lexemes, begins_with_day, begins_with_text};
 ghost use Rattle.bean_grammar.specs.Literal as rule;
 
 use crate::front::{after_day, after_text};
@@ -24,7 +24,7 @@ fn day_of(written: &str) -> Ranged<Day>
 
 /// The day at the front, and what stands behind it.
 pub fn day<'t, 'a>(tokens: &'t [Token<'a>]) -> Option<(Ranged<Day>, &'t [Token<'a>])>
-    ensures read { MatchOption result (HasNone rule.day (lexemes tokens.now))
+    ensures read { MatchOption result (begins_with_day (lexemes tokens.now) ≡ false)
         (λ r. Reads rule.day (lexemes tokens.now) r.0 (lexemes r.1.now)) }
     ensures shorter { IfSome result (λ r. length r.1.now < length tokens.now) }
 {
