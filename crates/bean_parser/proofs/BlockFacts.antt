@@ -9,9 +9,9 @@ use Rattle.bean_lexer.specs.declared.token.Token.{Token}
 use Rattle.bean_parser.specs.declared.directive.DirectiveKind.{DirectiveKind}
 use Rattle.bean_parser.specs.declared.directive.Directive.{Directive}
 use Rattle.bean_parser.specs.declared.directive.Posting.{Posting}
-use Rattle.bean_parser.specs.declared.ranged.Ranged.{Ranged}
+use Rattle.bean_grammar.specs.declared.ranged.Ranged.{Ranged}
 use Rattle.bean_parser.specs.Block.{Line, line_of, lines, first_line, begins_line, is_in_column_one}
-use Rattle.bean_parser.specs.Lexeme.{lexemes}
+use Rattle.bean_grammar.specs.Lexeme.{lexemes}
 use Rattle.bean_parser.specs.Grammar.{head, ArePostings, has_lines, MayStandUnder, directive_of, Tree, HaveTree, HasTree}
 use Rattle.bean_parser.specs.Reading.{BeginsWith, ReadsPostings, ReadsBlock}
 use Rattle.bean_parser.proofs.OneTree.{same_head}

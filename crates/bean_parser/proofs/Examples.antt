@@ -1,19 +1,11 @@
 -- Worked values of the definitions.
-use Rattle.std.proofs.Common.{◌≡◌, ℕ, [], ◌∷◌, true, false, Some, None, refl, pos, negsuc}
+use Rattle.std.proofs.Common.{◌≡◌, [], ◌∷◌, true, false, Some, None, refl, pos, negsuc}
 use Rattle.std.specs.Prelude.{codes}
 use Rattle.theory.specs.Form.{Is}
 use Rattle.bean_lexer.specs.declared.kind.Keyword.TheVariants as keyword
-use Rattle.bean_parser.specs.Lexeme.{Account, Keyword}
-use Rattle.bean_parser.specs.Ranged.{all_within}
-use Rattle.bean_parser.specs.Grammar.{text_of, exact_of, words_of, opening_of, opening, posting_of}
-use Rattle.bean_parser.specs.declared.ranged.Ranged.TheVariants.{Within, Outside}
-
--- "a \"b\"" stands for a "b"
-text_with_quotes : text_of (codes "\"a \\\"b\\\"\"") ≡ codes "a \"b\""
-text_with_quotes = refl
-
-empty_text : text_of (codes "\"\"") ≡ []
-empty_text = refl
+use Rattle.bean_grammar.specs.Lexeme.{Account, Keyword}
+use Rattle.bean_parser.specs.Grammar.{exact_of, words_of, opening_of, opening, posting_of}
+use Rattle.bean_grammar.specs.declared.ranged.Ranged.TheVariants.{Outside}
 
 -- - 1,000.50
 minus_number : exact_of (Some true) (codes "1,000.50") ≡ record { count = negsuc 100049; places = 2 }
@@ -35,13 +27,6 @@ no_text = refl
 -- open Assets:Cash
 opening_line : Is opening (Keyword keyword.Open ∷ Account (codes "Assets:Cash") ∷ []) (opening_of (codes "Assets:Cash"))
 opening_line = (opening_of, codes "Assets:Cash", _, (refl, refl), (_, refl, refl), refl)
-
--- a list is in range where each of it is
-one_outside : all_within {V = ℕ} (Within 1 ∷ Outside ∷ Within 3 ∷ []) ≡ Outside
-one_outside = refl
-
-all_inside : all_within {V = ℕ} (Within 1 ∷ Within 3 ∷ []) ≡ Within (1 ∷ 3 ∷ [])
-all_inside = refl
 
 -- a number out of range leaves no posting
 no_posting : posting_of 4 (codes "Assets:Cash") Outside ≡ Outside

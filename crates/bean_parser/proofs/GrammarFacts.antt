@@ -10,42 +10,13 @@ use Rattle.bean_lexer.specs.declared.kind.Keyword.TheVariants as keyword
 use Rattle.bean_parser.specs.declared.directive.DirectiveKind.{DirectiveKind}
 use Rattle.bean_parser.specs.declared.directive.Posting.{Posting}
 use Rattle.bean_parser.specs.declared.line.PayeeAndNarration.{PayeeAndNarration}
-use Rattle.bean_parser.specs.declared.ranged.Ranged.{Ranged}
-use Rattle.bean_parser.specs.Lexeme.{Lexeme, Day, Number, Text, Account, Currency, Keyword, FlagWord, Star, Bang, Txn, flag_word, flag_of, plus_or_minus, begins_with_day, begins_with_number, begins_with_text, begins_with_account, begins_with_currency, begins_with_keyword, begins_with_flag, begins_with_plus_or_minus}
-use Rattle.bean_parser.specs.Grammar.{IsDay, day, text_of, text, Exact, exact_of, IsNumber, exact, number, amount_of, amount, words_of, words, flag, transaction_of, transaction, opening_of, opening, kind, head, posting_of, posting}
-use Rattle.bean_parser.proofs.LexemeFacts.{exact_day, exact_number, exact_text, exact_account, exact_currency, exact_flag, exact_plus_or_minus}
-use Rattle.bean_parser.proofs.RangeFacts.{one_day, one_number}
-
--- Days.
-
-pub reads_day : (ls : List Lexeme) (bs : List ℕ) (v : Ranged days.Day) (rest : List Lexeme) → ls ≡ Day bs ∷ rest → IsDay bs v → Reads day ls v rest
-reads_day ls bs v rest at is = reads_related IsDay (word Day) ls bs v rest (reads_word Day ls bs rest exact_day at) is (λ w q. one_day bs v w is q)
-
-day_told : Tells begins_with_day day
-day_told ls v rest p = ap begins_with_day p.1
-
-none_at : {V : Type 0} (begins : List Lexeme → Bool) (a : Form Lexeme V) (ls : List Lexeme) → Tells begins a → begins ls ≡ false → HasNone a ls
-none_at begins a ls told absent v after p ends = let present = told ls v after p in cc
-
-pub none_day : (ls : List Lexeme) → begins_with_day ls ≡ false → HasNone day ls
-none_day ls absent = none_at begins_with_day day ls day_told absent
-
--- Texts.
-
-pub reads_text : (ls : List Lexeme) (bs : List ℕ) (rest : List Lexeme) → ls ≡ Text bs ∷ rest → Reads text ls (text_of bs) rest
-reads_text ls bs rest at = reads_applied (made text_of) (word Text) ls text_of ls bs rest (λ ls v rest p e f. refl) (reads_made text_of ls) (reads_word Text ls bs rest exact_text at)
-
-pub text_told : Tells begins_with_text text
-text_told ls v rest p = ap begins_with_text (p.3.1 ∙ p.4)
-
-pub text_present : (ls : List Lexeme) (v : List ℕ) (rest : List Lexeme) → Reads text ls v rest → begins_with_text ls ≡ true
-text_present ls v rest r = text_told ls v rest r.read
-
-pub reads_text_due : (ls : List Lexeme) (v : List ℕ) (rest : List Lexeme) → Reads text ls v rest → Reads (due begins_with_text text) ls (Some v) rest
-reads_text_due ls v rest r = reads_due begins_with_text text ls v rest (text_present ls v rest r) r
-
-pub reads_no_text : (ls : List Lexeme) → begins_with_text ls ≡ false → Reads (due begins_with_text text) ls None ls
-reads_no_text ls absent = reads_not_due begins_with_text text ls text_told absent
+use Rattle.bean_grammar.specs.declared.ranged.Ranged.{Ranged}
+use Rattle.bean_grammar.specs.Lexeme.{Lexeme, Number, Account, Currency, Keyword, FlagWord, Star, Bang, Txn, flag_word, flag_of, plus_or_minus, begins_with_number, begins_with_text, begins_with_account, begins_with_currency, begins_with_keyword, begins_with_flag, begins_with_plus_or_minus}
+use Rattle.bean_grammar.specs.Literal.{day, text}
+use Rattle.bean_parser.specs.Grammar.{Exact, exact_of, IsNumber, exact, number, amount_of, amount, words_of, words, flag, transaction_of, transaction, opening_of, opening, kind, head, posting_of, posting}
+use Rattle.bean_grammar.proofs.LexemeFacts.{exact_number, exact_account, exact_currency, exact_flag, exact_plus_or_minus}
+use Rattle.bean_grammar.proofs.LiteralFacts.{none_at}
+use Rattle.bean_parser.proofs.RangeFacts.{one_number}
 
 -- Numbers and amounts.
 

@@ -1,6 +1,4 @@
-pub mod LexemeFacts
 pub mod RangeFacts
-pub mod TextFacts
 pub mod GrammarFacts
 pub mod OneTree
 pub mod PostingsFacts

@@ -7,7 +7,7 @@ use Rattle.bean_parser.specs.declared.block.Outcome.{Outcome}
 use Rattle.bean_parser.specs.declared.block.Outcome.TheVariants.{Directive, Fault}
 use Rattle.bean_parser.specs.declared.directive.Directive as directives
 use Rattle.bean_parser.specs.declared.parse.Parsed.{Parsed}
-use Rattle.bean_parser.specs.declared.ranged.Ranged.TheVariants.{Within}
+use Rattle.bean_grammar.specs.declared.ranged.Ranged.TheVariants.{Within}
 use Rattle.bean_parser.specs.Block.{fault_line, blocks}
 use Rattle.bean_parser.specs.Grammar.{directive_in}
 use Rattle.bean_parser.specs.Outcome.{ReadsAs, GivesAt, Gives, BlocksGive, Nothing, ADirective, AFault}

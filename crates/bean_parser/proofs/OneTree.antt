@@ -7,22 +7,15 @@ use Rattle.bean_lexer.specs.declared.kind.Keyword.TheVariants as keyword
 use Rattle.bean_lexer.specs.declared.token.Token.{Token}
 use Rattle.bean_parser.specs.declared.directive.DirectiveKind.{DirectiveKind}
 use Rattle.bean_parser.specs.declared.directive.Posting.{Posting}
-use Rattle.bean_parser.specs.declared.ranged.Ranged.{Ranged}
+use Rattle.bean_grammar.specs.declared.ranged.Ranged.{Ranged}
 use Rattle.bean_parser.specs.Block.{Line, lines}
-use Rattle.bean_parser.specs.Lexeme.{Lexeme, Day, Number, Text, Account, Currency, Keyword, flag_word, flag_of, plus_or_minus, begins_with_text, begins_with_keyword, begins_with_plus_or_minus}
-use Rattle.bean_parser.specs.Grammar.{IsDay, day, text_of, text, exact_of, IsNumber, exact, number, amount_of, amount, words_of, words, flag, transaction_of, transaction, opening_of, opening, kind, head, posting_of, posting, ArePostings, Tree, HaveTree, HasTree}
-use Rattle.bean_parser.proofs.LexemeFacts.{exact_day, exact_number, exact_text, exact_account, exact_currency, exact_flag, exact_plus_or_minus}
-use Rattle.bean_parser.proofs.RangeFacts.{one_day, one_number}
-use Rattle.bean_parser.proofs.GrammarFacts.{text_told, sign_told, opening_told, transaction_avoids}
-
-one_written_day : IsUnambiguous day
-one_written_day = one_related IsDay (word Day) one_day (one_word Day exact_day)
-
-one_text : IsUnambiguous text
-one_text = one_applied (made text_of) (word Text) (λ ls v rest p e f. refl) (one_made text_of) (one_word Text exact_text)
-
-one_text_due : IsUnambiguous (due begins_with_text text)
-one_text_due = one_due begins_with_text text text_told one_text
+use Rattle.bean_grammar.specs.Lexeme.{Lexeme, Number, Account, Currency, Keyword, flag_word, flag_of, plus_or_minus, begins_with_text, begins_with_keyword, begins_with_plus_or_minus}
+use Rattle.bean_grammar.specs.Literal.{day, text}
+use Rattle.bean_parser.specs.Grammar.{exact_of, IsNumber, exact, number, amount_of, amount, words_of, words, flag, transaction_of, transaction, opening_of, opening, kind, head, posting_of, posting, ArePostings, Tree, HaveTree, HasTree}
+use Rattle.bean_grammar.proofs.LexemeFacts.{exact_number, exact_account, exact_currency, exact_flag, exact_plus_or_minus}
+use Rattle.bean_grammar.proofs.LiteralFacts.{one_written_day, one_text_due}
+use Rattle.bean_parser.proofs.RangeFacts.{one_number}
+use Rattle.bean_parser.proofs.GrammarFacts.{sign_told, opening_told, transaction_avoids}
 
 one_words : IsUnambiguous words
 one_words =

@@ -5,13 +5,13 @@ use Rattle.theory.specs.Cut.{cut_before}
 use Rattle.theory.specs.Form.{Is, IsNone}
 use Rattle.bean_lexer.specs.declared.token.Token.{Token}
 use Rattle.bean_parser.specs.Block.{Line, line_of, lines, first_line, begins_line}
-use Rattle.bean_parser.specs.Lexeme.{lexemes}
-use Rattle.bean_parser.specs.Ranged.{ranged_map2, push_front, all_within}
+use Rattle.bean_grammar.specs.Lexeme.{lexemes}
+use Rattle.bean_grammar.specs.Ranged.{ranged_map2, push_front, all_within}
 use Rattle.bean_parser.specs.Grammar.{posting, ArePostings}
 use Rattle.bean_parser.specs.Reading.{ReadsPostings}
 use Rattle.bean_parser.specs.declared.directive.Posting.{Posting}
-use Rattle.bean_parser.specs.declared.ranged.Ranged.{Ranged}
-use Rattle.bean_parser.specs.declared.ranged.Ranged.TheVariants.{Within, Outside}
+use Rattle.bean_grammar.specs.declared.ranged.Ranged.{Ranged}
+use Rattle.bean_grammar.specs.declared.ranged.Ranged.TheVariants.{Within, Outside}
 
 -- the values are those of what was read, where all of it is in range
 abbrev pub kept : Bool → List Posting → Ranged (List Posting)

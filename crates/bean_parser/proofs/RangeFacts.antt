@@ -1,21 +1,11 @@
--- Days and numbers are told by what is written.
-use Rattle.std.proofs.Common.{◌≡◌, List, ℕ, pos, refl, sym, ◌∙◌, ap, subst}
+-- Numbers are told by what is written.
+use Rattle.std.proofs.Common.{◌≡◌, refl, sym, ◌∙◌, ap, subst}
 use Rattle.bean_base.specs.Decimal.{IsLedger}
-use Rattle.bean_base.specs.declared.days.Day.{Day}
 use Rattle.bean_base.specs.declared.num.Num.{Num}
-use Rattle.bean_base.specs.Day.{year_of, month_of, day_of}
-use Rattle.bean_base.proofs.SameFacts.{same_day, same_num}
-use Rattle.bean_parser.specs.declared.ranged.Ranged.{Ranged}
-use Rattle.bean_parser.specs.declared.ranged.Ranged.TheVariants.{Within, Outside}
-use Rattle.bean_parser.specs.Grammar.{IsDay, Exact, IsNumber}
-
--- there is one day that is written
-pub one_day : (bs : List ℕ) (v w : Ranged Day) → IsDay bs v → IsDay bs w → v ≡ w
-one_day bs (Within a) (Within b) p q =
-    ap Within (same_day (pos (year_of bs)) (pos (month_of bs)) (pos (day_of bs)) a b p.1 q.1)
-one_day bs (Within a) Outside p q = absurd (q p.0)
-one_day bs Outside (Within b) p q = absurd (p q.0)
-one_day bs Outside Outside p q = refl
+use Rattle.bean_base.proofs.SameFacts.{same_num}
+use Rattle.bean_grammar.specs.declared.ranged.Ranged.{Ranged}
+use Rattle.bean_grammar.specs.declared.ranged.Ranged.TheVariants.{Within, Outside}
+use Rattle.bean_parser.specs.Grammar.{Exact, IsNumber}
 
 in_range : (e : Exact) (n : Num) → IsNumber e (Within n) → IsLedger e.count e.places
 in_range e n p = subst (λ c. IsLedger c e.places) p.0 (subst (λ k. IsLedger n.count k) p.1 n.in_range)

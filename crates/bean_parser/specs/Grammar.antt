@@ -2,12 +2,10 @@
 --
 -- head    = day ("open" account | flag [text [text]])     flag = "*" | "!" | "txn"
 -- posting = account ["+"|"-"] number currency
-use Rattle.std.specs.Prelude.{◌≡◌, ℕ, ◌-◌, ℤ, pos, neg_ℤ, Bool, true, false, List, [], ◌∷◌, length, take, drop, Option, Some, None, Ok}
+use Rattle.std.specs.Prelude.{◌≡◌, ℕ, ℤ, pos, neg_ℤ, Bool, true, false, List, [], ◌∷◌, Option, Some, None}
 use Rattle.theory.specs.Form.{Form, Is, word, made, ◌<+>◌, behind, due, either, related, pair}
 use Rattle.bean_base.specs.Decimal.{IsLedger}
 use Rattle.bean_base.specs.Numeral.{count_of, places_of}
-use Rattle.bean_base.specs.Day.{year_of, month_of, day_of, IsDayOf, HasDay}
-use Rattle.bean_base.specs.Text.{read_text}
 use Rattle.bean_base.specs.declared.amounts.Amount as amounts
 use Rattle.bean_base.specs.declared.days.Day as days
 use Rattle.bean_base.specs.declared.flags.Flag as flags
@@ -19,30 +17,14 @@ use Rattle.bean_parser.specs.declared.directive.DirectiveKind.{DirectiveKind}
 use Rattle.bean_parser.specs.declared.directive.DirectiveKind.TheVariants as kinds
 use Rattle.bean_parser.specs.declared.directive.Directive.{Directive}
 use Rattle.bean_parser.specs.declared.line.PayeeAndNarration.{PayeeAndNarration}
-use Rattle.bean_parser.specs.declared.ranged.Ranged.{Ranged}
-use Rattle.bean_parser.specs.declared.ranged.Ranged.TheVariants.{Within, Outside}
-use Rattle.bean_parser.specs.Lexeme.{Lexeme, Day, Number, Text, Account, Currency, Keyword, flag_word, flag_of, plus_or_minus, begins_with_text, begins_with_plus_or_minus}
-use Rattle.bean_parser.specs.Ranged.{ranged_map, ranged_map2, all_within}
+use Rattle.bean_grammar.specs.declared.ranged.Ranged.{Ranged}
+use Rattle.bean_grammar.specs.declared.ranged.Ranged.TheVariants.{Within, Outside}
+use Rattle.bean_grammar.specs.Literal.{day, text}
+use Rattle.bean_grammar.specs.Lexeme.{Lexeme, Number, Account, Currency, Keyword, flag_word, flag_of, plus_or_minus, begins_with_text, begins_with_plus_or_minus}
+use Rattle.bean_grammar.specs.Ranged.{ranged_map, ranged_map2, all_within}
 use Rattle.bean_parser.specs.Block.{Line, lines, is_in_column_one}
 
--- Days, texts and numbers.
-
--- the day that is written, where the calendar has it
-abbrev pub IsDay : List ℕ → Ranged days.Day → Type 0
-IsDay bs (Within d) = HasDay (Ok d) (year_of bs) (month_of bs) (day_of bs)
-IsDay bs Outside = ¬ IsDayOf (year_of bs) (month_of bs) (day_of bs)
-
-abbrev pub day : Form Lexeme (Ranged days.Day)
-day = related IsDay (word Day)
-
-abbrev pub between_quotes : List ℕ → List ℕ
-between_quotes bs = take (length bs - 2) (drop 1 bs)
-
-abbrev pub text_of : List ℕ → List ℕ
-text_of bs = read_text (between_quotes bs)
-
-abbrev pub text : Form Lexeme (List ℕ)
-text = made text_of <+> word Text
+-- Numbers.
 
 -- A decimal number, in the range of a ledger or not.
 pub record Exact : Type 0 where

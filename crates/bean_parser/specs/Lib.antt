@@ -1,5 +1,3 @@
-pub mod Lexeme
-pub mod Ranged
 pub mod Block
 pub mod Part
 pub mod Grammar

@@ -9,7 +9,7 @@ use Rattle.bean_parser.specs.Grammar.{Tree, HasTree, directive_in}
 use Rattle.bean_parser.specs.declared.block.Outcome as outcomes
 use Rattle.bean_parser.specs.declared.block.Outcome.TheVariants.{Directive, Fault}
 use Rattle.bean_parser.specs.declared.directive.Directive as directives
-use Rattle.bean_parser.specs.declared.ranged.Ranged.TheVariants.{Within, Outside}
+use Rattle.bean_grammar.specs.declared.ranged.Ranged.TheVariants.{Within, Outside}
 
 abbrev pub fault_at : FaultKind → ℕ → faults.Fault
 fault_at kind line = record { kind = kind; file = 0; line = line }

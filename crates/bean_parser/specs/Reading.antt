@@ -4,13 +4,13 @@ use Rattle.theory.specs.Form.{Is}
 use Rattle.bean_base.specs.declared.days.Day.{Day}
 use Rattle.bean_lexer.specs.declared.token.Token.{Token}
 use Rattle.bean_parser.specs.Block.{Line, line_of, lines, first_line, is_in_column_one}
-use Rattle.bean_parser.specs.Lexeme.{lexemes}
-use Rattle.bean_parser.specs.Ranged.{all_within}
+use Rattle.bean_grammar.specs.Lexeme.{lexemes}
+use Rattle.bean_grammar.specs.Ranged.{all_within}
 use Rattle.bean_parser.specs.Grammar.{head, ArePostings, Tree, HasTree, directive_in}
 use Rattle.bean_parser.specs.declared.directive.Directive.{Directive}
 use Rattle.bean_parser.specs.declared.directive.DirectiveKind.{DirectiveKind}
 use Rattle.bean_parser.specs.declared.directive.Posting.{Posting}
-use Rattle.bean_parser.specs.declared.ranged.Ranged.{Ranged}
+use Rattle.bean_grammar.specs.declared.ranged.Ranged.{Ranged}
 
 -- a block in column one, whose first line is such a head, and what stands under it
 pub record BeginsWith (block : List Token) (day : Ranged Day) (kind : DirectiveKind) (under : List Token) : Type 0 where

@@ -11,7 +11,7 @@ ghost use Rattle.std.specs.Prelude.{count_by};
 use crate::directive::{Directive, DirectiveKind, Posting, Transaction};
 use crate::line::{head, posting};
 use crate::part::{Part, first_line, first_part};
-use crate::ranged::Ranged;
+use bean_grammar::Ranged;
 use bean_base::{Day, Fault, FaultKind, List};
 use bean_lexer::{Kind, Token};
 use std::alloc::{AllocError, Global};

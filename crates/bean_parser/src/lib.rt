@@ -29,13 +29,11 @@
 
 mod block;
 pub mod directive;
-mod front;
 pub mod grammar;
 mod line;
 mod number;
 pub mod parse;
 mod part;
-pub mod ranged;
 mod reader;
 
 pub use directive::{Directive, DirectiveKind, Open, Posting, Transaction};

@@ -1,15 +1,16 @@
 //! Lines, read whole: the first of a block, and a posting under it.
 ghost use Rattle.std.specs.Prelude.{◌≡◌, false, MatchOption};
 ghost use Rattle.theory.specs.Form.{Reads, HasNone, Is, IsNone};
-ghost use Rattle.bean_parser.specs.Lexeme.{lexemes, begins_with_flag};
+ghost use Rattle.bean_grammar.specs.Lexeme.{lexemes, begins_with_flag};
 ghost use Rattle.bean_parser.specs.Block as spec;
 ghost use Rattle.bean_parser.specs.Grammar as rule;
 
 use crate::directive::{DirectiveKind, Open, Posting, Transaction};
-use crate::front::{after_account, after_keyword, next};
-use crate::number::{amount, day, text_if_due};
+use bean_grammar::front::{after_account, after_keyword, next};
+use bean_grammar::literal::{day, text_if_due};
+use crate::number::amount;
 use crate::part::first_line;
-use crate::ranged::Ranged;
+use bean_grammar::Ranged;
 use bean_base::{Account, Amount, Day, Flag, List, Text};
 use bean_lexer::{Keyword, Kind, Sign, Token};
 use std::alloc::Global;

@@ -1,6 +1,6 @@
 use Rattle.std.proofs.Common.{ap, sym, ◌∙◌}
 use Rattle.bean_parser.specs.Block.{lines}
-use Rattle.bean_parser.specs.declared.ranged.Ranged.TheVariants.{Within}
+use Rattle.bean_grammar.specs.declared.ranged.Ranged.TheVariants.{Within}
 use Rattle.bean_parser.proofs.PostingsFacts.{kept, next_line, posting_none, posting_pushed, posting_left_out, postings_end}
 use Rattle.bean_parser.proofs.block.postings.Goals.{in-Within+in_ok-push-in-Within, in-Outside}
 use Rattle.bean_parser.proofs.block.postings.Goals as goal

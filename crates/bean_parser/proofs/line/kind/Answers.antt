@@ -1,4 +1,4 @@
-use Rattle.bean_parser.specs.Lexeme.{lexemes}
+use Rattle.bean_grammar.specs.Lexeme.{lexemes}
 use Rattle.bean_parser.proofs.GrammarFacts.{opening_kind, transaction_or_none}
 use Rattle.bean_parser.proofs.line.kind.Goals as goal
 

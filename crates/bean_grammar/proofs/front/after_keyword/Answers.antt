@@ -1,6 +1,6 @@
-use Rattle.bean_parser.proofs.LexemeFacts.{another_keyword, no_keyword}
-use Rattle.bean_parser.proofs.front.after_keyword.Goals.{in_default-via-in-Keyword+else-eq, in_default-via-in_default}
-use Rattle.bean_parser.proofs.front.after_keyword.Goals as goal
+use Rattle.bean_grammar.proofs.LexemeFacts.{another_keyword, no_keyword}
+use Rattle.bean_grammar.proofs.front.after_keyword.Goals.{in_default-via-in-Keyword+else-eq, in_default-via-in_default}
+use Rattle.bean_grammar.proofs.front.after_keyword.Goals as goal
 
 pub returns-in_default-clause-front : goal.returns-in_default-clause-front
 returns-in_default-clause-front c = elim c.in_default.branch [

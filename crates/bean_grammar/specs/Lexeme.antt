@@ -1,5 +1,5 @@
 -- What the grammar sees of a token: what it is, with what it holds, and not where it stands.
-use Rattle.std.specs.Prelude.{ℕ, Bool, true, false, List, [], ◌∷◌}
+use Rattle.std.specs.Prelude.{ℕ, ◌-◌, Bool, true, false, List, [], ◌∷◌, length, take, drop}
 use Rattle.std.specs.Str.{bytes_eq}
 use Rattle.bean_lexer.specs.TokenForm.{keyword_spelling, sign_spelling}
 use Rattle.bean_base.specs.declared.flags.Flag as flags
@@ -12,6 +12,7 @@ use Rattle.bean_lexer.specs.declared.kind.Sign as signs
 use Rattle.bean_lexer.specs.declared.kind.Sign.TheVariants as mark
 use Rattle.bean_lexer.specs.declared.token.Token.{Token}
 
+-- a tag and a link hold their names without their sign, a key its name without its colon
 pub data Lexeme : Type 0 where
   Day : List ℕ → Lexeme
   Number : List ℕ → Lexeme
@@ -31,9 +32,9 @@ lexeme_at kind.Number bs = Number bs
 lexeme_at kind.Text bs = Text bs
 lexeme_at kind.Account bs = Account bs
 lexeme_at kind.Currency bs = Currency bs
-lexeme_at kind.Tag bs = Tag bs
-lexeme_at kind.Link bs = Link bs
-lexeme_at kind.Key bs = Key bs
+lexeme_at kind.Tag bs = Tag (drop 1 bs)
+lexeme_at kind.Link bs = Link (drop 1 bs)
+lexeme_at kind.Key bs = Key (take (length bs - 1) bs)
 lexeme_at (kind.Keyword k) bs = Keyword k
 lexeme_at (kind.Sign s) bs = Sign s
 lexeme_at kind.Fault bs = Fault
@@ -64,6 +65,18 @@ begins_with_account rest = false
 abbrev pub begins_with_currency : List Lexeme → Bool
 begins_with_currency (Currency bs ∷ rest) = true
 begins_with_currency rest = false
+
+abbrev pub begins_with_tag : List Lexeme → Bool
+begins_with_tag (Tag bs ∷ rest) = true
+begins_with_tag rest = false
+
+abbrev pub begins_with_link : List Lexeme → Bool
+begins_with_link (Link bs ∷ rest) = true
+begins_with_link rest = false
+
+abbrev pub begins_with_key : List Lexeme → Bool
+begins_with_key (Key bs ∷ rest) = true
+begins_with_key rest = false
 
 -- a word, and a sign, is told by how it is spelled
 abbrev pub same_keyword : keywords.Keyword → keywords.Keyword → Bool

@@ -1,6 +1,6 @@
-use Rattle.bean_parser.proofs.LexemeFacts.{another_sign, no_sign}
-use Rattle.bean_parser.proofs.front.after_sign.Goals.{in_default-via-in-Sign+else-eq, in_default-via-in_default}
-use Rattle.bean_parser.proofs.front.after_sign.Goals as goal
+use Rattle.bean_grammar.proofs.LexemeFacts.{another_sign, no_sign}
+use Rattle.bean_grammar.proofs.front.after_sign.Goals.{in_default-via-in-Sign+else-eq, in_default-via-in_default}
+use Rattle.bean_grammar.proofs.front.after_sign.Goals as goal
 
 pub returns-in_default-clause-front : goal.returns-in_default-clause-front
 returns-in_default-clause-front c = elim c.in_default.branch [

@@ -10,7 +10,7 @@ use Rattle.bean_lexer.specs.declared.kind.Keyword as keywords
 use Rattle.bean_lexer.specs.declared.kind.Sign as signs
 use Rattle.bean_lexer.proofs.WordFacts.{spelled, not_both}
 use Rattle.bean_lexer.proofs.OneListOfTokensFacts.{one_keyword, one_sign}
-use Rattle.bean_parser.specs.Lexeme.{Lexeme, Day, Number, Text, Account, Currency, Star, Bang, Txn, flag_word, plus_or_minus, lexeme_at, same_keyword, same_sign, begins_with_keyword, begins_with_sign}
+use Rattle.bean_grammar.specs.Lexeme.{Lexeme, Day, Number, Text, Account, Currency, Star, Bang, Txn, flag_word, plus_or_minus, lexeme_at, same_keyword, same_sign, begins_with_keyword, begins_with_sign}
 
 -- words and signs that are not `==` are spelled in two ways
 another_spelling : (a b : keywords.Keyword) → sameb keyword_type.the_type a b ≡ false → same_keyword a b ≡ false

@@ -1,7 +1,7 @@
 -- Values in the range of a ledger or outside it.
 use Rattle.std.specs.Prelude.{List, [], ◌∷◌}
-use Rattle.bean_parser.specs.declared.ranged.Ranged.{Ranged}
-use Rattle.bean_parser.specs.declared.ranged.Ranged.TheVariants.{Within, Outside}
+use Rattle.bean_grammar.specs.declared.ranged.Ranged.{Ranged}
+use Rattle.bean_grammar.specs.declared.ranged.Ranged.TheVariants.{Within, Outside}
 
 -- what is made of a value is in range where the value is
 abbrev pub ranged_map : {V W : Type 0} → (V → W) → Ranged V → Ranged W

@@ -1,5 +1,5 @@
-use Rattle.bean_parser.proofs.GrammarFacts.{reads_day}
-use Rattle.bean_parser.proofs.number.day.Goals as goal
+use Rattle.bean_grammar.proofs.GrammarFacts.{reads_day}
+use Rattle.bean_grammar.proofs.literal.day.Goals as goal
 
 pub returns-clause-read : goal.returns-clause-read
 returns-clause-read c = reads_day _ _ _ _ c.in_ok-written.ensures.front c.day_of.ensures

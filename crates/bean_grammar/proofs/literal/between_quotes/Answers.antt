@@ -1,7 +1,7 @@
 use Rattle.std.proofs.Common.{arith, ◌<◌, get_or}
 use Rattle.std.proofs.lemmas.Str.{IsCharBoundary-after_ascii}
-use Rattle.bean_parser.proofs.TextFacts.{has_quotes}
-use Rattle.bean_parser.proofs.number.between_quotes.Goals as goal
+use Rattle.bean_grammar.proofs.TextFacts.{has_quotes}
+use Rattle.bean_grammar.proofs.literal.between_quotes.Goals as goal
 
 pub range-requires-clause-start_boundary : goal.range-requires-clause-start_boundary
 range-requires-clause-start_boundary c = λ _.

@@ -1,0 +1,4 @@
+pub mod LexemeFacts
+pub mod TextFacts
+pub mod LiteralFacts
+mod Examples

@@ -1,0 +1,37 @@
+//! What the lines of a ledger are made of: days, texts, number expressions, postings, metadata, tags
+//! and links, each read from the front of a list of tokens.
+//!
+//! ```text
+//! let found = tokens(alloc, "Assets:Inv  3 X {1 + 2.50 * 2 USD}")?;
+//! // posting(alloc, found.as_slice()): a posting of 3 X at a cost of 6.00 USD.
+//! ```
+//!
+//! A rule of the grammar stands in `specs/` as a form, and its reader has the same name: it gives a
+//! value exactly where a front of the tokens is of the form, and that one, with what stands behind it.
+//!
+//! # Out of range
+//!
+//! A day that the calendar lacks, and a number that is no number of the ledger, are read all the same
+//! and make what they stand in [`Ranged::Outside`], so that what has no tree comes first.
+//!
+//! # Outside the profile
+//!
+//! Forms that the language has and the books don't (total costs, prices without a number and the like)
+//! are read and kept as a mark alone.
+#![tactic(auto)]
+
+pub mod cost;
+pub mod front;
+pub mod literal;
+pub mod mark;
+pub mod metadata;
+pub mod posting;
+pub mod price;
+pub mod ranged;
+
+pub use cost::{Cost, LotParts};
+pub use mark::Mark;
+pub use metadata::{Entry, Value};
+pub use posting::{Posting, Units};
+pub use price::Price;
+pub use ranged::Ranged;
