@@ -2,16 +2,10 @@
 
 use crate::accounts::{Close, Open, Pad};
 use crate::notes::{Custom, Document, Event, Note, Query};
-use crate::numbers::{Balance, Price};
+use crate::numbers::{Balance, Commodity, Price};
 use crate::transaction::Transaction;
-use bean_base::{Currency, Day, List};
+use bean_base::{Day, List};
 use bean_grammar::Entry;
-
-/// The naming of a currency.
-#[derive(Debug, Drop)]
-pub struct Commodity<'a> {
-    pub currency: Currency<'a>,
-}
 
 /// What a directive does.
 #[derive(Debug, Drop)]

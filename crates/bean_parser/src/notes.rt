@@ -1,7 +1,17 @@
 //! Directives that note something: notes, documents, events, queries and those of other programs.
+ghost use Rattle.std.specs.Prelude.{◌≡◌, MatchOption, IfOk};
+ghost use Rattle.theory.specs.Form.{Reads, HasNone};
+ghost use Rattle.bean_grammar.specs.Lexeme.{lexemes};
+ghost use Rattle.bean_parser.specs.Head as rule;
 
+use crate::directive::DirectiveKind;
+use crate::pending::{marks, values};
 use bean_base::{Account, List, Text};
-use bean_grammar::{Mark, Value};
+use bean_grammar::front::after_account;
+use bean_grammar::literal::text;
+use bean_grammar::{Mark, Ranged, Value};
+use bean_lexer::Token;
+use std::alloc::{AllocError, Global};
 
 /// A remark on an account.
 #[derive(Debug, Drop)]
@@ -38,4 +48,93 @@ pub struct Query<'a> {
 pub struct Custom<'a> {
     pub name: Text<'a>,
     pub values: List<Value<'a>>,
+}
+
+/// What stands behind `note`, and what stands behind that.
+pub fn note<'t, 'a>(
+    tokens: &'t [Token<'a>],
+) -> Option<(Ranged<DirectiveKind<'a>>, &'t [Token<'a>])>
+    ensures { MatchOption result (HasNone rule.note (lexemes tokens.now))
+        (λ r. Reads rule.note (lexemes tokens.now) r.0 (lexemes r.1.now)) }
+{
+    let (account, rest) = after_account(tokens)?;
+    let (text, rest) = text(rest)?;
+    let note = Note { account, text };
+    Some((Ranged::Within(DirectiveKind::Note(note)), rest))
+}
+
+/// What stands behind `document`, and what stands behind that.
+pub fn document<'t, 'a>(
+    alloc: Global,
+    tokens: &'t [Token<'a>],
+) -> Result<Option<(Ranged<DirectiveKind<'a>>, &'t [Token<'a>])>, AllocError>
+    ensures { IfOk result (λ o. MatchOption o (HasNone rule.document (lexemes tokens.now))
+        (λ r. Reads rule.document (lexemes tokens.now) r.0 (lexemes r.1.now))) }
+{
+    let Some((account, rest)) = after_account(tokens) else {
+        return Ok(None);
+    };
+    let Some((name, rest)) = text(rest) else {
+        return Ok(None);
+    };
+    let (marks, rest) = marks(alloc, rest)?;
+    let document = Document {
+        account,
+        name,
+        marks,
+    };
+    Ok(Some((Ranged::Within(DirectiveKind::Document(document)), rest)))
+}
+
+/// What stands behind `event`, and what stands behind that.
+pub fn event<'t, 'a>(
+    tokens: &'t [Token<'a>],
+) -> Option<(Ranged<DirectiveKind<'a>>, &'t [Token<'a>])>
+    ensures { MatchOption result (HasNone rule.event (lexemes tokens.now))
+        (λ r. Reads rule.event (lexemes tokens.now) r.0 (lexemes r.1.now)) }
+{
+    let (name, rest) = text(tokens)?;
+    let (value, rest) = text(rest)?;
+    let event = Event { name, value };
+    Some((Ranged::Within(DirectiveKind::Event(event)), rest))
+}
+
+/// What stands behind `query`, and what stands behind that.
+pub fn query<'t, 'a>(
+    tokens: &'t [Token<'a>],
+) -> Option<(Ranged<DirectiveKind<'a>>, &'t [Token<'a>])>
+    ensures { MatchOption result (HasNone rule.query (lexemes tokens.now))
+        (λ r. Reads rule.query (lexemes tokens.now) r.0 (lexemes r.1.now)) }
+{
+    let (name, rest) = text(tokens)?;
+    let (query, rest) = text(rest)?;
+    let query = Query { name, query };
+    Some((Ranged::Within(DirectiveKind::Query(query)), rest))
+}
+
+fn custom_of<'a>(name: Text<'a>, values: Ranged<List<Value<'a>>>) -> Ranged<DirectiveKind<'a>>
+    ensures { result ≡ rule.custom_of name.entry values.entry }
+{
+    match values {
+        Ranged::Within(values) => Ranged::Within(DirectiveKind::Custom(Custom { name, values })),
+        Ranged::Outside => Ranged::Outside,
+    }
+}
+
+/// What stands behind `custom`, and what stands behind that.
+pub fn custom<'t, 'a>(
+    alloc: Global,
+    tokens: &'t [Token<'a>],
+) -> Result<Option<(Ranged<DirectiveKind<'a>>, &'t [Token<'a>])>, AllocError>
+    ensures { IfOk result (λ o. MatchOption o (HasNone rule.custom (lexemes tokens.now))
+        (λ r. Reads rule.custom (lexemes tokens.now) r.0 (lexemes r.1.now))) }
+{
+    let Some((name, rest)) = text(tokens) else {
+        return Ok(None);
+    };
+    let Some(found) = values(alloc, rest)? else {
+        return Ok(None);
+    };
+    let (values, rest) = found;
+    Ok(Some((custom_of(name, values), rest)))
 }

@@ -1,0 +1,90 @@
+//! The first line of a directive.
+ghost use Rattle.std.specs.Prelude.{◌≡◌, MatchOption, IfOk};
+ghost use Rattle.theory.specs.Form.{Reads, HasNone};
+ghost use Rattle.bean_lexer.specs.declared.kind.Sign as signs;
+ghost use Rattle.bean_grammar.specs.Lexeme as lexeme;
+ghost use Rattle.bean_grammar.specs.Lexeme.{lexemes, lexeme_of};
+ghost use Rattle.bean_parser.specs.Head as rule;
+
+use crate::accounts::{close, open, pad};
+use crate::directive::DirectiveKind;
+use crate::notes::{custom, document, event, note, query};
+use crate::numbers::{balance, commodity, price};
+use crate::transaction::transaction;
+use bean_base::{Day, Flag};
+use bean_grammar::Ranged;
+use bean_grammar::front::next;
+use bean_grammar::literal::day;
+use bean_lexer::{Keyword, Kind, Sign, Token};
+use std::alloc::{AllocError, Global};
+
+/// What stands behind a word that tells the kind, and what stands behind that.
+fn kind_behind_word<'t, 'a>(
+    alloc: Global,
+    word: Keyword,
+    tokens: &'t [Token<'a>],
+) -> Result<Option<(Ranged<DirectiveKind<'a>>, &'t [Token<'a>])>, AllocError>
+    ensures { IfOk result (λ o. MatchOption o
+        (HasNone (rule.kind_behind (lexeme.Keyword word)) (lexemes tokens.now))
+        (λ r. Reads (rule.kind_behind (lexeme.Keyword word)) (lexemes tokens.now)
+        r.0 (lexemes r.1.now))) }
+{
+    match word {
+        Keyword::Txn => Ok(Some(transaction(alloc, Flag::Complete, tokens)?)),
+        Keyword::Open => open(alloc, tokens),
+        Keyword::Close => Ok(close(tokens)),
+        Keyword::Commodity => Ok(commodity(tokens)),
+        Keyword::Balance => Ok(balance(tokens)),
+        Keyword::Pad => Ok(pad(tokens)),
+        Keyword::Note => Ok(note(tokens)),
+        Keyword::Document => document(alloc, tokens),
+        Keyword::Price => Ok(price(tokens)),
+        Keyword::Event => Ok(event(tokens)),
+        Keyword::Query => Ok(query(tokens)),
+        Keyword::Custom => custom(alloc, tokens),
+        _ => Ok(None),
+    }
+}
+
+/// What stands behind the token that tells the kind, and what stands behind that.
+fn kind_behind<'t, 'a>(
+    alloc: Global,
+    first: &Token<'a>,
+    tokens: &'t [Token<'a>],
+) -> Result<Option<(Ranged<DirectiveKind<'a>>, &'t [Token<'a>])>, AllocError>
+    ensures { IfOk result (λ o. MatchOption o
+        (HasNone (rule.kind_behind (lexeme_of first.now)) (lexemes tokens.now))
+        (λ r. Reads (rule.kind_behind (lexeme_of first.now)) (lexemes tokens.now)
+        r.0 (lexemes r.1.now))) }
+{
+    match first.kind {
+        Kind::Sign(Sign::Star) => Ok(Some(transaction(alloc, Flag::Complete, tokens)?)),
+        Kind::Sign(Sign::Bang) => Ok(Some(transaction(alloc, Flag::Incomplete, tokens)?)),
+        Kind::Keyword(word) => kind_behind_word(alloc, word, tokens),
+        _ => Ok(None),
+    }
+}
+
+/// The day and the kind of a directive that has this first line.
+pub fn head<'a>(
+    alloc: Global,
+    line: &[Token<'a>],
+) -> Result<Option<(Ranged<Day>, Ranged<DirectiveKind<'a>>)>, AllocError>
+    ensures { IfOk result (λ o. MatchOption o (rule.IsNoHead (lexemes line.now))
+        (λ r. rule.IsHead (lexemes line.now) r.0 r.1)) }
+{
+    let Some((day, rest)) = day(line) else {
+        return Ok(None);
+    };
+    let Some((first, rest)) = next(rest) else {
+        return Ok(None);
+    };
+    let Some(found) = kind_behind(alloc, first, rest)? else {
+        return Ok(None);
+    };
+    let (kind, rest) = found;
+    match next(rest) {
+        Some(_) => Ok(None),
+        None => Ok(Some((day, kind))),
+    }
+}
