@@ -120,7 +120,7 @@ pub fn after_currency<'t, 'a>(tokens: &'t [Token<'a>]) -> Option<(Currency<'a>, 
 }
 
 /// What stands behind the sign of a tag or a link.
-fn behind_sign(marked: &str) -> &str
+pub fn behind_sign(marked: &str) -> &str
     requires some { 0 < length marked.now }
     requires ascii { get_or marked.now 0 0 < 128 }
     ensures { result.now ≡ drop 1 marked.now }

@@ -20,15 +20,21 @@
 //! are read and kept as a mark alone.
 #![tactic(auto)]
 
+pub mod amount;
 pub mod cost;
+pub mod cost_part;
+pub mod entry;
+pub mod expression;
 pub mod front;
 pub mod literal;
 pub mod mark;
 pub mod metadata;
 pub mod posting;
+pub mod posting_line;
 pub mod price;
 pub mod ranged;
 
+pub use amount::AmountParts;
 pub use cost::{Cost, LotParts};
 pub use mark::Mark;
 pub use metadata::{Entry, Value};

@@ -12,7 +12,7 @@ use bean_base::{Day, Text, parse_day};
 use bean_lexer::Token;
 
 /// The day that a token writes, where the calendar has it.
-fn day_of(written: &str) -> Ranged<Day>
+pub fn day_of(written: &str) -> Ranged<Day>
     requires { IsTrue (is_day_form written.now) }
     ensures { rule.IsDay written.now result }
 {
@@ -33,7 +33,7 @@ pub fn day<'t, 'a>(tokens: &'t [Token<'a>]) -> Option<(Ranged<Day>, &'t [Token<'
 }
 
 /// What stands between the quotes of a text.
-fn between_quotes(quoted: &str) -> &str
+pub fn between_quotes(quoted: &str) -> &str
     requires { IsTrue (is_text quoted.now) }
     ensures { result.now ≡ rule.between_quotes quoted.now }
 {

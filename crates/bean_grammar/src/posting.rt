@@ -1,4 +1,6 @@
 //! Postings: the lines of a transaction that change an account.
+ghost use Rattle.std.specs.Prelude.{◌≡◌};
+ghost use Rattle.bean_grammar.specs.Posting as rule;
 
 use crate::cost::Cost;
 use crate::metadata::Entry;
@@ -28,4 +30,22 @@ pub struct Posting<'a> {
     pub line: usize,
     /// The entries that stand under it, in order.
     pub metadata: List<Entry<'a>>,
+}
+
+impl Posting<'_> {
+    /// Whether the books have no such posting: its units are a number without a currency, or have no
+    /// number before a cost or a price, or its cost or its price is outside the profile.
+    pub fn is_outside_profile(&self) -> bool
+        ensures { result ≡ rule.is_outside_profile self.now }
+    {
+        let is_left_out = matches!(self.cost, Cost::OutsideProfile)
+            || matches!(self.price, Price::OutsideProfile);
+        let is_written =
+            !matches!(self.cost, Cost::Absent) || !matches!(self.price, Price::Absent);
+        match self.units {
+            Units::NumberAlone => true,
+            Units::Amount(_) => is_left_out,
+            Units::Missing | Units::Currency(_) => is_left_out || is_written,
+        }
+    }
 }
