@@ -2,6 +2,8 @@
 use Rattle.std.specs.Prelude.{◌≡◌, ℕ, Bool, true, false, List, [], ◌∷◌, ◌++◌, ◌⊎◌}
 use Rattle.bean_base.specs.declared.days.Day as days
 use Rattle.bean_lexer.specs.declared.token.Token.{Token}
+use Rattle.bean_grammar.specs.declared.mark.Mark.{Mark}
+use Rattle.bean_grammar.specs.declared.posting.Posting.{Posting}
 use Rattle.bean_grammar.specs.declared.ranged.Ranged.{Ranged}
 use Rattle.bean_grammar.specs.declared.ranged.Ranged.TheVariants.{Within, Outside}
 use Rattle.bean_grammar.specs.Ranged.{ranged_map, ranged_map2}
@@ -27,9 +29,9 @@ abbrev pub takes_postings : Ranged DirectiveKind → Bool
 takes_postings (Within kind) = is_transaction kind
 takes_postings Outside = false
 
-abbrev pub with_body : DirectiveKind → Body → DirectiveKind
-with_body (kinds.Transaction t) b = kinds.Transaction record t { marks = t.marks ++ b.marks; postings = postings_in b }
-with_body kind b = kind
+abbrev pub with_body : DirectiveKind → List Mark → List Posting → DirectiveKind
+with_body (kinds.Transaction t) marks postings = kinds.Transaction record t { marks = t.marks ++ marks; postings = postings }
+with_body kind marks postings = kind
 
 -- What a block's first line and the lines under it write.
 pub data Tree : Type 0 where
@@ -45,9 +47,9 @@ HaveTree (l ∷ ls) (Undated line kind) = (line ≡ l.number) × IsUndated l.lex
 abbrev pub HasTree : List Token → Tree → Type 0
 HasTree block t = (is_in_column_one block ≡ true) × HaveTree (lines block) t
 
-abbrev pub directive_of : ℕ → Body → days.Day → DirectiveKind → Statement
+abbrev pub directive_of : ℕ → Body → days.Day → DirectiveKind → Directive
 directive_of line b day kind =
-    statements.Directive record { day = day; line = line; metadata = b.metadata; kind = with_body kind b }
+    record { day = day; line = line; metadata = b.metadata; kind = with_body kind b.marks (postings_in b) }
 
 abbrev pub in_body : Bool → Ranged Statement → Ranged Statement
 in_body true s = s
@@ -55,7 +57,7 @@ in_body false s = Outside
 
 -- what a head says with the lines under it, where all of it is in range
 abbrev pub dated : ℕ → Ranged days.Day → Ranged DirectiveKind → Body → Ranged Statement
-dated line day kind b = in_body b.is_in_range (ranged_map2 (directive_of line b) day kind)
+dated line day kind b = in_body b.is_in_range (ranged_map2 (λ d k. statements.Directive (directive_of line b d k)) day kind)
 
 abbrev pub undated : ℕ → Ranged UndatedKind → Ranged Statement
 undated line kind = ranged_map (λ k. statements.Undated record { line = line; kind = k }) kind

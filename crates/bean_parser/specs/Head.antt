@@ -17,10 +17,12 @@ use Rattle.bean_grammar.specs.declared.mark.Mark.{Mark}
 use Rattle.bean_grammar.specs.declared.metadata.Value.{Value}
 use Rattle.bean_grammar.specs.declared.ranged.Ranged.{Ranged}
 use Rattle.bean_grammar.specs.declared.ranged.Ranged.TheVariants.{Within, Outside}
+use Rattle.bean_grammar.specs.Expression.{expression}
 use Rattle.bean_grammar.specs.Lexeme.{Lexeme, Account, Currency, Keyword, Sign, begins_with_text, begins_with_currency, begins_with_sign}
 use Rattle.bean_grammar.specs.Literal.{day, text}
+use Rattle.bean_grammar.specs.Mark.{marks}
+use Rattle.bean_grammar.specs.Metadata.{all_values}
 use Rattle.bean_grammar.specs.Ranged.{ranged_map, ranged_map2}
-use Rattle.bean_parser.specs.Pending.{expression, values, marks}
 use Rattle.bean_parser.specs.declared.directive.DirectiveKind.{DirectiveKind}
 use Rattle.bean_parser.specs.declared.directive.DirectiveKind.TheVariants as kinds
 use Rattle.bean_parser.specs.declared.transaction.PayeeAndNarration.{PayeeAndNarration}
@@ -47,28 +49,28 @@ currencies = made listed <+> due begins_with_currency some_currencies
 abbrev pub open_of : List ℕ → List (List ℕ) → Option (List ℕ) → Ranged DirectiveKind
 open_of account currencies method = Within (kinds.Open record { account = account; currencies = currencies; method = method })
 
-abbrev pub open : Form Lexeme (Ranged DirectiveKind)
-open = made open_of <+> word Account <+> currencies <+> due begins_with_text text
+abbrev pub open_line : Form Lexeme (Ranged DirectiveKind)
+open_line = made open_of <+> word Account <+> currencies <+> due begins_with_text text
 
 abbrev pub close_of : List ℕ → Ranged DirectiveKind
 close_of account = Within (kinds.Close record { account = account })
 
-abbrev pub close : Form Lexeme (Ranged DirectiveKind)
-close = made close_of <+> word Account
+abbrev pub close_line : Form Lexeme (Ranged DirectiveKind)
+close_line = made close_of <+> word Account
 
 abbrev pub pad_of : List ℕ → List ℕ → Ranged DirectiveKind
 pad_of account source = Within (kinds.Pad record { account = account; source = source })
 
-abbrev pub pad : Form Lexeme (Ranged DirectiveKind)
-pad = made pad_of <+> word Account <+> word Account
+abbrev pub pad_line : Form Lexeme (Ranged DirectiveKind)
+pad_line = made pad_of <+> word Account <+> word Account
 
 -- Numbers.
 
 abbrev pub commodity_of : List ℕ → Ranged DirectiveKind
 commodity_of currency = Within (kinds.Commodity record { currency = currency })
 
-abbrev pub commodity : Form Lexeme (Ranged DirectiveKind)
-commodity = made commodity_of <+> word Currency
+abbrev pub commodity_line : Form Lexeme (Ranged DirectiveKind)
+commodity_line = made commodity_of <+> word Currency
 
 abbrev pub begins_with_tilde : List Lexeme → Bool
 begins_with_tilde ls = begins_with_sign sign.Tilde ls
@@ -85,47 +87,47 @@ abbrev pub balance_of : List ℕ → Ranged Num → Option (Ranged Num) → List
 balance_of account number tolerance currency =
     ranged_map2 (λ n t. kinds.Balance record { account = account; number = n; tolerance = t; currency = currency }) number (ranged_option tolerance)
 
-abbrev pub balance : Form Lexeme (Ranged DirectiveKind)
-balance = made balance_of <+> word Account <+> expression <+> due begins_with_tilde tolerance <+> word Currency
+abbrev pub balance_line : Form Lexeme (Ranged DirectiveKind)
+balance_line = made balance_of <+> word Account <+> expression <+> due begins_with_tilde tolerance <+> word Currency
 
 abbrev pub price_of : List ℕ → Ranged Num → List ℕ → Ranged DirectiveKind
 price_of currency number other =
     ranged_map (λ n. kinds.Price record { currency = currency; amount = record { number = n; currency = other } }) number
 
-abbrev pub price : Form Lexeme (Ranged DirectiveKind)
-price = made price_of <+> word Currency <+> expression <+> word Currency
+abbrev pub price_line : Form Lexeme (Ranged DirectiveKind)
+price_line = made price_of <+> word Currency <+> expression <+> word Currency
 
 -- Notes.
 
 abbrev pub note_of : List ℕ → List ℕ → Ranged DirectiveKind
 note_of account text = Within (kinds.Note record { account = account; text = text })
 
-abbrev pub note : Form Lexeme (Ranged DirectiveKind)
-note = made note_of <+> word Account <+> text
+abbrev pub note_line : Form Lexeme (Ranged DirectiveKind)
+note_line = made note_of <+> word Account <+> text
 
 abbrev pub document_of : List ℕ → List ℕ → List Mark → Ranged DirectiveKind
 document_of account name marks = Within (kinds.Document record { account = account; name = name; marks = marks })
 
-abbrev pub document : Form Lexeme (Ranged DirectiveKind)
-document = made document_of <+> word Account <+> text <+> marks
+abbrev pub document_line : Form Lexeme (Ranged DirectiveKind)
+document_line = made document_of <+> word Account <+> text <+> marks
 
 abbrev pub event_of : List ℕ → List ℕ → Ranged DirectiveKind
 event_of name value = Within (kinds.Event record { name = name; value = value })
 
-abbrev pub event : Form Lexeme (Ranged DirectiveKind)
-event = made event_of <+> text <+> text
+abbrev pub event_line : Form Lexeme (Ranged DirectiveKind)
+event_line = made event_of <+> text <+> text
 
 abbrev pub query_of : List ℕ → List ℕ → Ranged DirectiveKind
 query_of name query = Within (kinds.Query record { name = name; query = query })
 
-abbrev pub query : Form Lexeme (Ranged DirectiveKind)
-query = made query_of <+> text <+> text
+abbrev pub query_line : Form Lexeme (Ranged DirectiveKind)
+query_line = made query_of <+> text <+> text
 
 abbrev pub custom_of : List ℕ → Ranged (List Value) → Ranged DirectiveKind
 custom_of name values = ranged_map (λ vs. kinds.Custom record { name = name; values = vs }) values
 
-abbrev pub custom : Form Lexeme (Ranged DirectiveKind)
-custom = made custom_of <+> text <+> values
+abbrev pub custom_line : Form Lexeme (Ranged DirectiveKind)
+custom_line = made custom_of <+> text <+> all_values
 
 -- Transactions.
 
@@ -142,27 +144,27 @@ abbrev pub transaction_of : flags.Flag → PayeeAndNarration → List Mark → R
 transaction_of flag words marks =
     Within (kinds.Transaction record { flag = flag; payee = words.payee; narration = words.narration; marks = marks; postings = [] })
 
-abbrev pub transaction : flags.Flag → Form Lexeme (Ranged DirectiveKind)
-transaction flag = made (transaction_of flag) <+> words <+> marks
+abbrev pub transaction_line : flags.Flag → Form Lexeme (Ranged DirectiveKind)
+transaction_line flag = made (transaction_of flag) <+> words <+> marks
 
 -- First lines.
 
 -- what stands behind the lexeme that tells the kind
 abbrev pub kind_behind : Lexeme → Form Lexeme (Ranged DirectiveKind)
-kind_behind (Sign sign.Star) = transaction Complete
-kind_behind (Sign sign.Bang) = transaction Incomplete
-kind_behind (Keyword keyword.Txn) = transaction Complete
-kind_behind (Keyword keyword.Open) = open
-kind_behind (Keyword keyword.Close) = close
-kind_behind (Keyword keyword.Commodity) = commodity
-kind_behind (Keyword keyword.Balance) = balance
-kind_behind (Keyword keyword.Pad) = pad
-kind_behind (Keyword keyword.Note) = note
-kind_behind (Keyword keyword.Document) = document
-kind_behind (Keyword keyword.Price) = price
-kind_behind (Keyword keyword.Event) = event
-kind_behind (Keyword keyword.Query) = query
-kind_behind (Keyword keyword.Custom) = custom
+kind_behind (Sign sign.Star) = transaction_line Complete
+kind_behind (Sign sign.Bang) = transaction_line Incomplete
+kind_behind (Keyword keyword.Txn) = transaction_line Complete
+kind_behind (Keyword keyword.Open) = open_line
+kind_behind (Keyword keyword.Close) = close_line
+kind_behind (Keyword keyword.Commodity) = commodity_line
+kind_behind (Keyword keyword.Balance) = balance_line
+kind_behind (Keyword keyword.Pad) = pad_line
+kind_behind (Keyword keyword.Note) = note_line
+kind_behind (Keyword keyword.Document) = document_line
+kind_behind (Keyword keyword.Price) = price_line
+kind_behind (Keyword keyword.Event) = event_line
+kind_behind (Keyword keyword.Query) = query_line
+kind_behind (Keyword keyword.Custom) = custom_line
 kind_behind lexeme = nothing
 
 -- a day, and a kind that takes the rest of the line

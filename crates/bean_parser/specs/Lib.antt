@@ -1,6 +1,5 @@
 pub mod Block
 pub mod Part
-pub mod Pending
 pub mod Head
 pub mod Undated
 pub mod Under
@@ -9,5 +8,6 @@ pub mod Outcome
 pub mod Reading
 pub mod Scope
 pub mod Parsed
+pub mod Gathered
 pub mod OneReading
 pub mod BlockReader

@@ -4,10 +4,14 @@ use Rattle.bean_base.specs.declared.days.Day.{Day}
 use Rattle.bean_lexer.specs.declared.token.Token.{Token}
 use Rattle.bean_grammar.specs.declared.ranged.Ranged.{Ranged}
 use Rattle.bean_parser.specs.Block.{Line, lines}
-use Rattle.bean_parser.specs.Grammar.{Tree, HasTree, said}
+use Rattle.bean_parser.specs.Grammar.{Tree, Dated, Undated, HasTree, takes_postings, said}
 use Rattle.bean_parser.specs.Under.{IsLine, AreLines, no_lines, with_lines}
 use Rattle.bean_parser.specs.declared.under.Body.{Body}
 use Rattle.bean_parser.specs.declared.under.LineKind.{LineKind}
+use Rattle.bean_grammar.specs.Lexeme.{lexemes}
+use Rattle.bean_parser.specs.Undated.{IsUndated}
+use Rattle.bean_parser.specs.declared.directive.DirectiveKind.{DirectiveKind}
+use Rattle.bean_parser.specs.declared.undated.UndatedKind.{UndatedKind}
 use Rattle.bean_parser.specs.declared.statement.Statement.{Statement}
 
 abbrev pub ReadsLine : Bool → Line → Option LineKind → Type 0
@@ -18,6 +22,18 @@ ReadsLine in_transaction l (Some k) = IsLine in_transaction l k
 abbrev pub ReadsLines : Bool → List Line → Option Body → Type 0
 ReadsLines in_transaction ls None = (ks : List LineKind) → AreLines in_transaction ls ks → ⊥
 ReadsLines in_transaction ls (Some b) = (ks : List LineKind) × AreLines in_transaction ls ks × (b ≡ with_lines no_lines ks)
+
+-- what a block says that begins on that line with such a head, and has these lines under it
+abbrev pub ReadsDated : ℕ → Ranged Day → Ranged DirectiveKind → List Line → Option (Ranged Statement) → Type 0
+ReadsDated line day kind under None = (ks : List LineKind) → AreLines (takes_postings kind) under ks → ⊥
+ReadsDated line day kind under (Some v) =
+    (ks : List LineKind) × AreLines (takes_postings kind) under ks × (v ≡ said (Dated line day kind ks))
+
+-- what a line without a day says, with nothing under it
+abbrev pub ReadsUndated : ℕ → List Token → List Token → Option (Ranged Statement) → Type 0
+ReadsUndated line first under None = (k : Ranged UndatedKind) → IsUndated (lexemes first) k → lines under ≡ [] → ⊥
+ReadsUndated line first under (Some v) =
+    (k : Ranged UndatedKind) × IsUndated (lexemes first) k × (lines under ≡ []) × (v ≡ said (Undated line k))
 
 -- what a block's tree says, where it has one
 abbrev pub ReadsBlock : List Token → Option (Ranged Statement) → Type 0

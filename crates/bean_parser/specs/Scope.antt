@@ -52,12 +52,12 @@ is_popped p behind = is_some (pop_of (name_of p) 0 behind)
 
 -- how many pushes of the name are open behind a bound, and behind some; a pop of nothing closes nothing
 abbrev pub open_behind : PushName → ℕ → Bound → ℕ
-open_behind name open (Push p) = if same_name (name_of p) name then suc open else open
-open_behind name open (Pop n) = if same_name n name then open - 1 else open
+open_behind name count (Push p) = if same_name (name_of p) name then suc count else count
+open_behind name count (Pop n) = if same_name n name then count - 1 else count
 
 abbrev pub open_pushes : PushName → ℕ → List PlacedBound → ℕ
-open_pushes name open [] = open
-open_pushes name open (b ∷ bs) = open_pushes name (open_behind name open b.bound) bs
+open_pushes name count [] = count
+open_pushes name count (b ∷ bs) = open_pushes name (open_behind name count b.bound) bs
 
 -- a push has a pop behind it, and a pop an open push before it
 abbrev pub is_matched : List PlacedBound → Bound → List PlacedBound → Bool

@@ -11,8 +11,8 @@ use Rattle.bean_grammar.specs.declared.ranged.Ranged.{Ranged}
 use Rattle.bean_grammar.specs.declared.ranged.Ranged.TheVariants.{Within, Outside}
 use Rattle.bean_grammar.specs.Lexeme.{Lexeme, Tag, Key, Keyword, begins_with_text}
 use Rattle.bean_grammar.specs.Literal.{text}
+use Rattle.bean_grammar.specs.Metadata.{entry}
 use Rattle.bean_grammar.specs.Ranged.{ranged_map}
-use Rattle.bean_parser.specs.Pending.{entry}
 use Rattle.bean_parser.specs.declared.undated.UndatedKind.{UndatedKind}
 use Rattle.bean_parser.specs.declared.undated.UndatedKind.TheVariants as kinds
 use Rattle.bean_parser.specs.declared.undated.Bound.TheVariants as bounds

@@ -6,17 +6,18 @@ use Rattle.bean_grammar.specs.declared.metadata.Entry.{Entry}
 use Rattle.bean_grammar.specs.declared.posting.Posting.{Posting}
 use Rattle.bean_grammar.specs.declared.ranged.Ranged.{Ranged}
 use Rattle.bean_grammar.specs.declared.ranged.Ranged.TheVariants.{Within, Outside}
-use Rattle.bean_grammar.specs.Lexeme.{Lexeme}
+use Rattle.bean_grammar.specs.Mark.{some_marks}
+use Rattle.bean_grammar.specs.Metadata.{entry}
+use Rattle.bean_grammar.specs.Posting.{posting}
 use Rattle.bean_parser.specs.Block.{Line}
 use Rattle.bean_parser.specs.declared.under.Body.{Body}
 use Rattle.bean_parser.specs.declared.under.LineKind.{LineKind}
 use Rattle.bean_parser.specs.declared.under.LineKind.TheVariants as kinds
-use Rattle.bean_parser.specs.Pending.{entry, posting, marks, begins_with_mark}
 
 -- under a transaction stand entries, tags and links, and postings; under other directives entries
 abbrev pub IsLine : Bool → Line → LineKind → Type 0
 IsLine in_transaction l (kinds.Entry e) = Is entry l.lexemes e
-IsLine in_transaction l (kinds.Marks ms) = (in_transaction ≡ true) × (begins_with_mark l.lexemes ≡ true) × Is marks l.lexemes ms
+IsLine in_transaction l (kinds.Marks ms) = (in_transaction ≡ true) × Is some_marks l.lexemes ms
 IsLine in_transaction l (kinds.Posting p) = (in_transaction ≡ true) × Is (posting l.number) l.lexemes p
 
 abbrev pub AreLines : Bool → List Line → List LineKind → Type 0

@@ -50,15 +50,17 @@ fn currencies<'t, 'a>(
         (λ r. Reads rule.currencies (lexemes tokens.now) r.0 (lexemes r.1.now))) }
 {
     let mut currencies = Vec::new(alloc);
-    let Some((first, behind)) = after_currency(tokens) else {
+    let Some(found) = after_currency(tokens) else {
         return Ok(Some((List::new(currencies), tokens)));
     };
+    let (first, behind) = found;
     currencies.push(first)?;
     let mut rest = Unread { tokens: behind };
     while let Some(after) = after_sign(rest.tokens, Sign::Comma) {
-        let Some((currency, more)) = after_currency(after) else {
+        let Some(found) = after_currency(after) else {
             return Ok(None);
         };
+        let (currency, more) = found;
         currencies.push(currency)?;
         rest = Unread { tokens: more };
     }
@@ -66,16 +68,17 @@ fn currencies<'t, 'a>(
 }
 
 /// What stands behind `open`, and what stands behind that.
-pub fn open<'t, 'a>(
+pub fn open_line<'t, 'a>(
     alloc: Global,
     tokens: &'t [Token<'a>],
 ) -> Result<Option<(Ranged<DirectiveKind<'a>>, &'t [Token<'a>])>, AllocError>
-    ensures { IfOk result (λ o. MatchOption o (HasNone rule.open (lexemes tokens.now))
-        (λ r. Reads rule.open (lexemes tokens.now) r.0 (lexemes r.1.now))) }
+    ensures { IfOk result (λ o. MatchOption o (HasNone rule.open_line (lexemes tokens.now))
+        (λ r. Reads rule.open_line (lexemes tokens.now) r.0 (lexemes r.1.now))) }
 {
-    let Some((account, rest)) = after_account(tokens) else {
+    let Some(found) = after_account(tokens) else {
         return Ok(None);
     };
+    let (account, rest) = found;
     let Some(found) = currencies(alloc, rest)? else {
         return Ok(None);
     };
@@ -90,11 +93,11 @@ pub fn open<'t, 'a>(
 }
 
 /// What stands behind `close`, and what stands behind that.
-pub fn close<'t, 'a>(
+pub fn close_line<'t, 'a>(
     tokens: &'t [Token<'a>],
 ) -> Option<(Ranged<DirectiveKind<'a>>, &'t [Token<'a>])>
-    ensures { MatchOption result (HasNone rule.close (lexemes tokens.now))
-        (λ r. Reads rule.close (lexemes tokens.now) r.0 (lexemes r.1.now)) }
+    ensures { MatchOption result (HasNone rule.close_line (lexemes tokens.now))
+        (λ r. Reads rule.close_line (lexemes tokens.now) r.0 (lexemes r.1.now)) }
 {
     let (account, rest) = after_account(tokens)?;
     let close = Close { account };
@@ -102,11 +105,11 @@ pub fn close<'t, 'a>(
 }
 
 /// What stands behind `pad`, and what stands behind that.
-pub fn pad<'t, 'a>(
+pub fn pad_line<'t, 'a>(
     tokens: &'t [Token<'a>],
 ) -> Option<(Ranged<DirectiveKind<'a>>, &'t [Token<'a>])>
-    ensures { MatchOption result (HasNone rule.pad (lexemes tokens.now))
-        (λ r. Reads rule.pad (lexemes tokens.now) r.0 (lexemes r.1.now)) }
+    ensures { MatchOption result (HasNone rule.pad_line (lexemes tokens.now))
+        (λ r. Reads rule.pad_line (lexemes tokens.now) r.0 (lexemes r.1.now)) }
 {
     let (account, rest) = after_account(tokens)?;
     let (source, rest) = after_account(rest)?;

@@ -11,10 +11,10 @@ use crate::head::head;
 use crate::part::{Part, first_line, first_part};
 use crate::statement::Statement;
 use crate::transaction::Transaction;
-use crate::undated::{Undated, UndatedKind, undated};
+use crate::undated::{Undated, undated_line};
 use crate::under::{Body, all_postings, read_lines};
-use bean_base::{Day, Fault, FaultKind};
-use bean_grammar::Ranged;
+use bean_base::{Day, Fault, FaultKind, List};
+use bean_grammar::{Mark, Posting, Ranged};
 use bean_lexer::{Kind, Token};
 use std::alloc::{AllocError, Global};
 
@@ -57,27 +57,45 @@ fn takes_postings(kind: &Ranged<DirectiveKind<'_>>) -> bool
     matches!(kind, Ranged::Within(DirectiveKind::Transaction(_)))
 }
 
-/// The kind, with what the lines under it say.
+/// The kind, with the tags, links and postings that stand under it.
 fn with_body<'a>(
     kind: DirectiveKind<'a>,
-    body: Body<'a>,
+    marks: List<Mark<'a>>,
+    postings: List<Posting<'a>>,
 ) -> Result<DirectiveKind<'a>, AllocError>
-    ensures { IfOk result (λ k. k ≡ rule.with_body kind.entry body.entry) }
+    ensures { IfOk result (λ k. k ≡ rule.with_body kind.entry marks.entry postings.entry) }
 {
     match kind {
         DirectiveKind::Transaction(transaction) => {
-            let mut marks = transaction.marks;
-            marks.append(body.marks)?;
+            let mut all = transaction.marks;
+            all.append(marks)?;
             Ok(DirectiveKind::Transaction(Transaction {
                 flag: transaction.flag,
                 payee: transaction.payee,
                 narration: transaction.narration,
-                marks,
-                postings: all_postings(body.before, body.last)?,
+                marks: all,
+                postings,
             }))
         }
         other => Ok(other),
     }
+}
+
+fn directive_of<'a>(
+    line: usize,
+    body: Body<'a>,
+    day: Day,
+    kind: DirectiveKind<'a>,
+) -> Result<Directive<'a>, AllocError>
+    ensures { IfOk result (λ d. d ≡ rule.directive_of line body.entry day kind.entry) }
+{
+    let postings = all_postings(body.before, body.last)?;
+    Ok(Directive {
+        day,
+        line,
+        metadata: body.metadata,
+        kind: with_body(kind, body.marks, postings)?,
+    })
 }
 
 /// What a head says with the lines under it, where all of it is in range.
@@ -95,7 +113,8 @@ fn dated<'a>(
     let (Ranged::Within(day), Ranged::Within(kind)) = (day, kind) else {
         return Ok(Ranged::Outside);
     };
-    directive_of(line, body, day, kind)
+    let directive = directive_of(line, body, day, kind)?;
+    Ok(Ranged::Within(Statement::Directive(directive)))
 }
 
 /// What a block says whose first line is a head.
@@ -122,7 +141,7 @@ fn undated_block<'a>(
 ) -> Option<Ranged<Statement<'a>>>
     ensures { ReadsUndated line first.now under.now result }
 {
-    let kind = undated(first)?;
+    let kind = undated_line(first)?;
     if !under.is_empty() {
         return None;
     }
@@ -155,7 +174,7 @@ fn statement<'a>(
     }
 }
 
-fn fault_at(kind: FaultKind, line: usize) -> Fault
+pub fn fault_at(kind: FaultKind, line: usize) -> Fault
     ensures { result ≡ outcomes.fault_at kind line }
 {
     Fault {

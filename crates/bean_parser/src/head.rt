@@ -6,11 +6,11 @@ ghost use Rattle.bean_grammar.specs.Lexeme as lexeme;
 ghost use Rattle.bean_grammar.specs.Lexeme.{lexemes, lexeme_of};
 ghost use Rattle.bean_parser.specs.Head as rule;
 
-use crate::accounts::{close, open, pad};
+use crate::accounts::{close_line, open_line, pad_line};
 use crate::directive::DirectiveKind;
-use crate::notes::{custom, document, event, note, query};
-use crate::numbers::{balance, commodity, price};
-use crate::transaction::transaction;
+use crate::notes::{custom_line, document_line, event_line, note_line, query_line};
+use crate::numbers::{balance_line, commodity_line, price_line};
+use crate::transaction::transaction_line;
 use bean_base::{Day, Flag};
 use bean_grammar::Ranged;
 use bean_grammar::front::next;
@@ -30,18 +30,18 @@ fn kind_behind_word<'t, 'a>(
         r.0 (lexemes r.1.now))) }
 {
     match word {
-        Keyword::Txn => Ok(Some(transaction(alloc, Flag::Complete, tokens)?)),
-        Keyword::Open => open(alloc, tokens),
-        Keyword::Close => Ok(close(tokens)),
-        Keyword::Commodity => Ok(commodity(tokens)),
-        Keyword::Balance => Ok(balance(tokens)),
-        Keyword::Pad => Ok(pad(tokens)),
-        Keyword::Note => Ok(note(tokens)),
-        Keyword::Document => document(alloc, tokens),
-        Keyword::Price => Ok(price(tokens)),
-        Keyword::Event => Ok(event(tokens)),
-        Keyword::Query => Ok(query(tokens)),
-        Keyword::Custom => custom(alloc, tokens),
+        Keyword::Txn => Ok(Some(transaction_line(alloc, Flag::Complete, tokens)?)),
+        Keyword::Open => open_line(alloc, tokens),
+        Keyword::Close => Ok(close_line(tokens)),
+        Keyword::Commodity => Ok(commodity_line(tokens)),
+        Keyword::Balance => Ok(balance_line(tokens)),
+        Keyword::Pad => Ok(pad_line(tokens)),
+        Keyword::Note => Ok(note_line(tokens)),
+        Keyword::Document => document_line(alloc, tokens),
+        Keyword::Price => Ok(price_line(tokens)),
+        Keyword::Event => Ok(event_line(tokens)),
+        Keyword::Query => Ok(query_line(tokens)),
+        Keyword::Custom => custom_line(alloc, tokens),
         _ => Ok(None),
     }
 }
@@ -58,8 +58,8 @@ fn kind_behind<'t, 'a>(
         r.0 (lexemes r.1.now))) }
 {
     match first.kind {
-        Kind::Sign(Sign::Star) => Ok(Some(transaction(alloc, Flag::Complete, tokens)?)),
-        Kind::Sign(Sign::Bang) => Ok(Some(transaction(alloc, Flag::Incomplete, tokens)?)),
+        Kind::Sign(Sign::Star) => Ok(Some(transaction_line(alloc, Flag::Complete, tokens)?)),
+        Kind::Sign(Sign::Bang) => Ok(Some(transaction_line(alloc, Flag::Incomplete, tokens)?)),
         Kind::Keyword(word) => kind_behind_word(alloc, word, tokens),
         _ => Ok(None),
     }

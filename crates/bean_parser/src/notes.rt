@@ -5,10 +5,11 @@ ghost use Rattle.bean_grammar.specs.Lexeme.{lexemes};
 ghost use Rattle.bean_parser.specs.Head as rule;
 
 use crate::directive::DirectiveKind;
-use crate::pending::{marks, values};
 use bean_base::{Account, List, Text};
+use bean_grammar::entry::all_values;
 use bean_grammar::front::after_account;
 use bean_grammar::literal::text;
+use bean_grammar::mark::marks;
 use bean_grammar::{Mark, Ranged, Value};
 use bean_lexer::Token;
 use std::alloc::{AllocError, Global};
@@ -51,11 +52,11 @@ pub struct Custom<'a> {
 }
 
 /// What stands behind `note`, and what stands behind that.
-pub fn note<'t, 'a>(
+pub fn note_line<'t, 'a>(
     tokens: &'t [Token<'a>],
 ) -> Option<(Ranged<DirectiveKind<'a>>, &'t [Token<'a>])>
-    ensures { MatchOption result (HasNone rule.note (lexemes tokens.now))
-        (λ r. Reads rule.note (lexemes tokens.now) r.0 (lexemes r.1.now)) }
+    ensures { MatchOption result (HasNone rule.note_line (lexemes tokens.now))
+        (λ r. Reads rule.note_line (lexemes tokens.now) r.0 (lexemes r.1.now)) }
 {
     let (account, rest) = after_account(tokens)?;
     let (text, rest) = text(rest)?;
@@ -64,19 +65,21 @@ pub fn note<'t, 'a>(
 }
 
 /// What stands behind `document`, and what stands behind that.
-pub fn document<'t, 'a>(
+pub fn document_line<'t, 'a>(
     alloc: Global,
     tokens: &'t [Token<'a>],
 ) -> Result<Option<(Ranged<DirectiveKind<'a>>, &'t [Token<'a>])>, AllocError>
-    ensures { IfOk result (λ o. MatchOption o (HasNone rule.document (lexemes tokens.now))
-        (λ r. Reads rule.document (lexemes tokens.now) r.0 (lexemes r.1.now))) }
+    ensures { IfOk result (λ o. MatchOption o (HasNone rule.document_line (lexemes tokens.now))
+        (λ r. Reads rule.document_line (lexemes tokens.now) r.0 (lexemes r.1.now))) }
 {
-    let Some((account, rest)) = after_account(tokens) else {
+    let Some(found) = after_account(tokens) else {
         return Ok(None);
     };
-    let Some((name, rest)) = text(rest) else {
+    let (account, rest) = found;
+    let Some(found) = text(rest) else {
         return Ok(None);
     };
+    let (name, rest) = found;
     let (marks, rest) = marks(alloc, rest)?;
     let document = Document {
         account,
@@ -87,11 +90,11 @@ pub fn document<'t, 'a>(
 }
 
 /// What stands behind `event`, and what stands behind that.
-pub fn event<'t, 'a>(
+pub fn event_line<'t, 'a>(
     tokens: &'t [Token<'a>],
 ) -> Option<(Ranged<DirectiveKind<'a>>, &'t [Token<'a>])>
-    ensures { MatchOption result (HasNone rule.event (lexemes tokens.now))
-        (λ r. Reads rule.event (lexemes tokens.now) r.0 (lexemes r.1.now)) }
+    ensures { MatchOption result (HasNone rule.event_line (lexemes tokens.now))
+        (λ r. Reads rule.event_line (lexemes tokens.now) r.0 (lexemes r.1.now)) }
 {
     let (name, rest) = text(tokens)?;
     let (value, rest) = text(rest)?;
@@ -100,11 +103,11 @@ pub fn event<'t, 'a>(
 }
 
 /// What stands behind `query`, and what stands behind that.
-pub fn query<'t, 'a>(
+pub fn query_line<'t, 'a>(
     tokens: &'t [Token<'a>],
 ) -> Option<(Ranged<DirectiveKind<'a>>, &'t [Token<'a>])>
-    ensures { MatchOption result (HasNone rule.query (lexemes tokens.now))
-        (λ r. Reads rule.query (lexemes tokens.now) r.0 (lexemes r.1.now)) }
+    ensures { MatchOption result (HasNone rule.query_line (lexemes tokens.now))
+        (λ r. Reads rule.query_line (lexemes tokens.now) r.0 (lexemes r.1.now)) }
 {
     let (name, rest) = text(tokens)?;
     let (query, rest) = text(rest)?;
@@ -122,19 +125,20 @@ fn custom_of<'a>(name: Text<'a>, values: Ranged<List<Value<'a>>>) -> Ranged<Dire
 }
 
 /// What stands behind `custom`, and what stands behind that.
-pub fn custom<'t, 'a>(
+pub fn custom_line<'t, 'a>(
     alloc: Global,
     tokens: &'t [Token<'a>],
 ) -> Result<Option<(Ranged<DirectiveKind<'a>>, &'t [Token<'a>])>, AllocError>
-    ensures { IfOk result (λ o. MatchOption o (HasNone rule.custom (lexemes tokens.now))
-        (λ r. Reads rule.custom (lexemes tokens.now) r.0 (lexemes r.1.now))) }
+    ensures { IfOk result (λ o. MatchOption o (HasNone rule.custom_line (lexemes tokens.now))
+        (λ r. Reads rule.custom_line (lexemes tokens.now) r.0 (lexemes r.1.now))) }
 {
-    let Some((name, rest)) = text(tokens) else {
+    let Some(found) = text(tokens) else {
         return Ok(None);
     };
-    let Some(found) = values(alloc, rest)? else {
+    let (name, rest) = found;
+    let Some(values) = all_values(alloc, rest)? else {
         return Ok(None);
     };
-    let (values, rest) = found;
-    Ok(Some((custom_of(name, values), rest)))
+    let (_, end) = rest.split_at(rest.len());
+    Ok(Some((custom_of(name, values), end)))
 }

@@ -5,9 +5,9 @@ ghost use Rattle.bean_grammar.specs.Lexeme.{lexemes};
 ghost use Rattle.bean_parser.specs.Head as rule;
 
 use crate::directive::DirectiveKind;
-use crate::pending::expression;
 use bean_base::{Account, Amount, Currency, Num};
 use bean_grammar::Ranged;
+use bean_grammar::expression::expression;
 use bean_grammar::front::{after_account, after_currency, after_sign};
 use bean_lexer::{Sign, Token};
 
@@ -35,11 +35,11 @@ pub struct Price<'a> {
 }
 
 /// What stands behind `commodity`, and what stands behind that.
-pub fn commodity<'t, 'a>(
+pub fn commodity_line<'t, 'a>(
     tokens: &'t [Token<'a>],
 ) -> Option<(Ranged<DirectiveKind<'a>>, &'t [Token<'a>])>
-    ensures { MatchOption result (HasNone rule.commodity (lexemes tokens.now))
-        (λ r. Reads rule.commodity (lexemes tokens.now) r.0 (lexemes r.1.now)) }
+    ensures { MatchOption result (HasNone rule.commodity_line (lexemes tokens.now))
+        (λ r. Reads rule.commodity_line (lexemes tokens.now) r.0 (lexemes r.1.now)) }
 {
     let (currency, rest) = after_currency(tokens)?;
     let commodity = Commodity { currency };
@@ -94,11 +94,11 @@ fn balance_of<'a>(
 }
 
 /// What stands behind `balance`, and what stands behind that.
-pub fn balance<'t, 'a>(
+pub fn balance_line<'t, 'a>(
     tokens: &'t [Token<'a>],
 ) -> Option<(Ranged<DirectiveKind<'a>>, &'t [Token<'a>])>
-    ensures { MatchOption result (HasNone rule.balance (lexemes tokens.now))
-        (λ r. Reads rule.balance (lexemes tokens.now) r.0 (lexemes r.1.now)) }
+    ensures { MatchOption result (HasNone rule.balance_line (lexemes tokens.now))
+        (λ r. Reads rule.balance_line (lexemes tokens.now) r.0 (lexemes r.1.now)) }
 {
     let (account, rest) = after_account(tokens)?;
     let (number, rest) = expression(rest)?;
@@ -127,11 +127,11 @@ fn price_of<'a>(
 }
 
 /// What stands behind `price`, and what stands behind that.
-pub fn price<'t, 'a>(
+pub fn price_line<'t, 'a>(
     tokens: &'t [Token<'a>],
 ) -> Option<(Ranged<DirectiveKind<'a>>, &'t [Token<'a>])>
-    ensures { MatchOption result (HasNone rule.price (lexemes tokens.now))
-        (λ r. Reads rule.price (lexemes tokens.now) r.0 (lexemes r.1.now)) }
+    ensures { MatchOption result (HasNone rule.price_line (lexemes tokens.now))
+        (λ r. Reads rule.price_line (lexemes tokens.now) r.0 (lexemes r.1.now)) }
 {
     let (currency, rest) = after_currency(tokens)?;
     let (number, rest) = expression(rest)?;

@@ -72,14 +72,14 @@ fn pop_of(name: &PushName<'_>, behind: &[PlacedBound<'_>]) -> Option<usize>
 }
 
 /// How many pushes of the name are open behind a bound.
-fn open_behind(name: &PushName<'_>, open: usize, bound: &Bound<'_>) -> usize
-    requires { open < 2 ^ 64 - 1 }
-    ensures { result ≡ spec.open_behind name.now open bound.now }
+fn open_behind(name: &PushName<'_>, count: usize, bound: &Bound<'_>) -> usize
+    requires { count < 2 ^ 64 - 1 }
+    ensures { result ≡ spec.open_behind name.now count bound.now }
 {
     match bound {
-        Bound::Push(pushed) if same_name(&name_of(pushed), name) => open + 1,
-        Bound::Pop(popped) if same_name(popped, name) => open.saturating_sub(1),
-        _ => open,
+        Bound::Push(pushed) if same_name(&name_of(pushed), name) => count + 1,
+        Bound::Pop(popped) if same_name(popped, name) => count.saturating_sub(1),
+        _ => count,
     }
 }
 
@@ -87,11 +87,11 @@ fn open_behind(name: &PushName<'_>, open: usize, bound: &Bound<'_>) -> usize
 fn open_pushes(name: &PushName<'_>, bounds: &[PlacedBound<'_>]) -> usize
     ensures { result ≡ spec.open_pushes name.now 0 bounds.now }
 {
-    let mut open = 0;
+    let mut count = 0;
     for bound in bounds {
-        open = open_behind(name, open, &bound.bound);
+        count = open_behind(name, count, &bound.bound);
     }
-    open
+    count
 }
 
 /// Whether a push has its pop behind it, or a pop an open push before it.

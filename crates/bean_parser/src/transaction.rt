@@ -5,9 +5,9 @@ ghost use Rattle.bean_grammar.specs.Lexeme.{lexemes};
 ghost use Rattle.bean_parser.specs.Head as rule;
 
 use crate::directive::DirectiveKind;
-use crate::pending::marks;
 use bean_base::{Flag, List, Text};
 use bean_grammar::literal::text_if_due;
+use bean_grammar::mark::marks;
 use bean_grammar::{Mark, Posting, Ranged};
 use bean_lexer::Token;
 use std::alloc::{AllocError, Global};
@@ -62,12 +62,12 @@ fn words<'t, 'a>(tokens: &'t [Token<'a>]) -> (PayeeAndNarration<'a>, &'t [Token<
 }
 
 /// What stands behind the flag of a transaction, and what stands behind that.
-pub fn transaction<'t, 'a>(
+pub fn transaction_line<'t, 'a>(
     alloc: Global,
     flag: Flag,
     tokens: &'t [Token<'a>],
 ) -> Result<(Ranged<DirectiveKind<'a>>, &'t [Token<'a>]), AllocError>
-    ensures { IfOk result (λ r. Reads (rule.transaction flag) (lexemes tokens.now)
+    ensures { IfOk result (λ r. Reads (rule.transaction_line flag) (lexemes tokens.now)
         r.0 (lexemes r.1.now)) }
 {
     let (words, rest) = words(tokens);

@@ -5,8 +5,8 @@ ghost use Rattle.bean_grammar.specs.Lexeme as lexeme;
 ghost use Rattle.bean_grammar.specs.Lexeme.{lexemes};
 ghost use Rattle.bean_parser.specs.Undated as rule;
 
-use crate::pending::entry;
 use bean_base::{MetaKey, Tag, Text};
+use bean_grammar::entry::entry;
 use bean_grammar::front::{after_key, after_tag, next};
 use bean_grammar::literal::{text, text_if_due};
 use bean_grammar::{Entry, Ranged};
@@ -202,7 +202,7 @@ fn undated_behind<'t, 'a>(
 }
 
 /// The kind of a block without a day that is this line.
-pub fn undated<'a>(line: &[Token<'a>]) -> Option<Ranged<UndatedKind<'a>>>
+pub fn undated_line<'a>(line: &[Token<'a>]) -> Option<Ranged<UndatedKind<'a>>>
     ensures { MatchOption result (rule.IsNotUndated (lexemes line.now))
         (rule.IsUndated (lexemes line.now)) }
 {

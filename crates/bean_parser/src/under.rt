@@ -2,16 +2,18 @@
 ghost use Rattle.std.specs.Prelude.{◌≡◌, ◌++◌, ◌∷◌, [], Some, MatchOption, IfOk, OnOk};
 ghost use Rattle.theory.specs.Form.{Is, IsNone};
 ghost use Rattle.bean_grammar.specs.Lexeme.{lexemes, begins_with_key};
+ghost use Rattle.bean_grammar.specs.Mark.{begins_with_mark};
+ghost use Rattle.bean_grammar.specs.Metadata as metadata;
 ghost use Rattle.bean_parser.specs.Block.{line_of, lines};
 ghost use Rattle.bean_parser.specs.Reading.{ReadsLines, ReadsLine};
-ghost use Rattle.bean_parser.specs.Pending.{begins_with_mark};
-ghost use Rattle.bean_parser.specs.Pending as grammar;
 ghost use Rattle.bean_parser.specs.Under as rule;
 
-use crate::part::{Part, first_part};
-use crate::pending::{entry, marks, posting};
+use crate::part::{Part, first_line, first_part};
 use bean_base::List;
+use bean_grammar::entry::entry;
 use bean_grammar::front::{after_key, after_link, after_tag, next};
+use bean_grammar::mark::line_of_marks;
+use bean_grammar::posting_line::posting;
 use bean_grammar::{Entry, Mark, Posting, Ranged};
 use bean_lexer::Token;
 use std::alloc::{AllocError, Global};
@@ -57,25 +59,13 @@ fn begins_with_mark(line: &[Token<'_>]) -> bool
 
 /// The entry that a line is.
 fn entry_line<'a>(line: &[Token<'a>]) -> Option<Ranged<Entry<'a>>>
-    ensures { MatchOption result (IsNone grammar.entry (lexemes line.now))
-        (Is grammar.entry (lexemes line.now)) }
+    ensures { MatchOption result (IsNone metadata.entry (lexemes line.now))
+        (Is metadata.entry (lexemes line.now)) }
 {
     let (entry, rest) = entry(line)?;
     match next(rest) {
         Some(_) => None,
         None => Some(entry),
-    }
-}
-
-/// The tags and links that a line is.
-fn marks_line<'a>(alloc: Global, line: &[Token<'a>]) -> Result<Option<List<Mark<'a>>>, AllocError>
-    ensures { IfOk result (λ o. MatchOption o (IsNone grammar.marks (lexemes line.now))
-        (Is grammar.marks (lexemes line.now))) }
-{
-    let (marks, rest) = marks(alloc, line)?;
-    match next(rest) {
-        Some(_) => Ok(None),
-        None => Ok(Some(marks)),
     }
 }
 
@@ -88,12 +78,12 @@ fn transaction_line<'a>(
     ensures { IfOk result (ReadsLine true (line_of line.now)) }
 {
     if begins_with_mark(line) {
-        return match marks_line(alloc, line)? {
+        return match line_of_marks(alloc, line)? {
             Some(marks) => Ok(Some(LineKind::Marks(marks))),
             None => Ok(None),
         };
     }
-    match posting(alloc, line) {
+    match posting(alloc, first_line(line), line) {
         Some(posting) => Ok(Some(LineKind::Posting(posting))),
         None => Ok(None),
     }
