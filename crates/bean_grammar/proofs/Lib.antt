@@ -1,4 +1,10 @@
 pub mod LexemeFacts
 pub mod TextFacts
 pub mod LiteralFacts
+pub mod AppliedFacts
+pub mod ExactFacts
+pub mod ExpressionFacts
+pub mod AmountFacts
+pub mod PriceFacts
+pub mod CostPartFacts
 mod Examples

@@ -5,6 +5,7 @@ use Rattle.std.specs.Prelude.{ℕ, Bool, true, false, ◌&&◌, ◌||◌, not, L
 use Rattle.theory.specs.Form.{Form, word, made, ◌<+>◌, due}
 use Rattle.bean_base.specs.declared.flags.Flag as flags
 use Rattle.bean_base.specs.declared.flags.Flag.TheVariants.{Complete, Incomplete}
+use Rattle.bean_base.specs.declared.num.Num.{Num}
 use Rattle.bean_lexer.specs.declared.kind.Sign.TheVariants.{Star, Bang}
 use Rattle.bean_grammar.specs.declared.amount.AmountParts.{AmountParts}
 use Rattle.bean_grammar.specs.declared.cost.Cost as costs
@@ -34,11 +35,14 @@ begins_with_flag_sign rest = false
 abbrev pub flag_if_due : Form Lexeme (Option flags.Flag)
 flag_if_due = due begins_with_flag_sign (word flag_sign)
 
+abbrev pub units_by : Option (Ranged Num) → Option (List ℕ) → Ranged units_declared.Units
+units_by None None = Within Missing
+units_by None (Some c) = Within (Currency c)
+units_by (Some n) None = ranged_map (λ x. NumberAlone) n
+units_by (Some n) (Some c) = ranged_map (λ x. Amount record { number = x; currency = c }) n
+
 abbrev pub units_of : AmountParts → Ranged units_declared.Units
-units_of (record { number = None; currency = None }) = Within Missing
-units_of (record { number = None; currency = Some c }) = Within (Currency c)
-units_of (record { number = Some n; currency = None }) = ranged_map (λ x. NumberAlone) n
-units_of (record { number = Some n; currency = Some c }) = ranged_map (λ x. Amount record { number = x; currency = c }) n
+units_of parts = units_by parts.number parts.currency
 
 abbrev pub units : Form Lexeme (Ranged units_declared.Units)
 units = made units_of <+> amount_parts

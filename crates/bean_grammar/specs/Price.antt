@@ -1,9 +1,10 @@
 -- The prices of postings.
 --
 -- price = ("@"|"@@") [expression] [currency]     without both it is outside the profile
-use Rattle.std.specs.Prelude.{Bool, true, false, List, ◌∷◌, Option, Some, None}
+use Rattle.std.specs.Prelude.{ℕ, Bool, true, false, List, ◌∷◌, Option, Some, None}
 use Rattle.theory.specs.Form.{Form, word, made, ◌<+>◌, due}
 use Rattle.bean_base.specs.declared.amounts.Amount.{Amount}
+use Rattle.bean_base.specs.declared.num.Num.{Num}
 use Rattle.bean_lexer.specs.declared.kind.Sign.TheVariants.{At, AtAt}
 use Rattle.bean_grammar.specs.declared.amount.AmountParts.{AmountParts}
 use Rattle.bean_grammar.specs.declared.price.Price as prices
@@ -28,11 +29,13 @@ abbrev pub priced : Bool → Amount → prices.Price
 priced false amount = PerUnit amount
 priced true amount = Total amount
 
+abbrev pub price_by : Bool → Option (Ranged Num) → Option (List ℕ) → Ranged prices.Price
+price_by is_total (Some n) (Some c) = ranged_map (λ x. priced is_total record { number = x; currency = c }) n
+price_by is_total (Some n) None = ranged_map (λ x. OutsideProfile) n
+price_by is_total None c = Within OutsideProfile
+
 abbrev pub price_of : Bool → AmountParts → Ranged prices.Price
-price_of is_total (record { number = Some n; currency = Some c }) =
-    ranged_map (λ x. priced is_total record { number = x; currency = c }) n
-price_of is_total (record { number = Some n; currency = None }) = ranged_map (λ x. OutsideProfile) n
-price_of is_total (record { number = None; currency = c }) = Within OutsideProfile
+price_of is_total parts = price_by is_total parts.number parts.currency
 
 abbrev pub price : Form Lexeme (Ranged prices.Price)
 price = made price_of <+> word price_sign <+> amount_parts

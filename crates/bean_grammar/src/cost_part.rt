@@ -1,5 +1,5 @@
 //! The parts of a cost, in any order, each form of a part at most once.
-ghost use Rattle.std.specs.Prelude.{◌≡◌, Some, ◌<◌, ◌≤◌, length, MatchOption, IfSome};
+ghost use Rattle.std.specs.Prelude.{◌≡◌, Some, ◌≤◌, length, MatchOption, IfSome};
 ghost use Rattle.theory.specs.Form.{HasNone, Reads};
 ghost use Rattle.bean_grammar.specs.CostPart as rule;
 ghost use Rattle.bean_grammar.specs.Lexeme.{lexemes};
@@ -116,8 +116,9 @@ fn compound_if_due<'t, 'a>(
 }
 
 fn number_part<'t, 'a>(tokens: &'t [Token<'a>]) -> Option<(CostPart<'a>, &'t [Token<'a>])>
-    ensures { MatchOption result (HasNone rule.number_part (lexemes tokens.now))
+    ensures read { MatchOption result (HasNone rule.number_part (lexemes tokens.now))
         (λ r. Reads rule.number_part (lexemes tokens.now) r.0 (lexemes r.1.now)) }
+    ensures no_longer { IfSome result (λ r. length r.1.now ≤ length tokens.now) }
 {
     let (number, rest) = expression_if_due(tokens)?;
     let (compound, rest) = compound_if_due(rest)?;
@@ -130,7 +131,7 @@ fn number_part<'t, 'a>(tokens: &'t [Token<'a>]) -> Option<(CostPart<'a>, &'t [To
 fn part<'t, 'a>(tokens: &'t [Token<'a>]) -> Option<(CostPart<'a>, &'t [Token<'a>])>
     ensures read { MatchOption result (HasNone rule.part (lexemes tokens.now))
         (λ r. Reads rule.part (lexemes tokens.now) r.0 (lexemes r.1.now)) }
-    ensures shorter { IfSome result (λ r. length r.1.now < length tokens.now) }
+    ensures no_longer { IfSome result (λ r. length r.1.now ≤ length tokens.now) }
 {
     if let Some(found) = day(tokens) {
         let (day, rest) = found;
@@ -150,7 +151,7 @@ fn part<'t, 'a>(tokens: &'t [Token<'a>]) -> Option<(CostPart<'a>, &'t [Token<'a>
 pub fn cost_parts<'t, 'a>(tokens: &'t [Token<'a>]) -> Option<(CostParts<'a>, &'t [Token<'a>])>
     ensures read { MatchOption result (HasNone rule.cost_parts (lexemes tokens.now))
         (λ r. Reads rule.cost_parts (lexemes tokens.now) r.0 (lexemes r.1.now)) }
-    ensures shorter { IfSome result (λ r. length r.1.now < length tokens.now) }
+    ensures no_longer { IfSome result (λ r. length r.1.now ≤ length tokens.now) }
 {
     let (first, mut rest) = part(tokens)?;
     let mut parts = put(CostParts::none(), first)?;

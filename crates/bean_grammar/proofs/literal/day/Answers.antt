@@ -1,4 +1,4 @@
-use Rattle.bean_grammar.proofs.GrammarFacts.{reads_day}
+use Rattle.bean_grammar.proofs.LiteralFacts.{reads_day}
 use Rattle.bean_grammar.proofs.literal.day.Goals as goal
 
 pub returns-clause-read : goal.returns-clause-read

@@ -1,4 +1,4 @@
-use Rattle.bean_grammar.proofs.GrammarFacts.{reads_no_text}
+use Rattle.bean_grammar.proofs.LiteralFacts.{reads_no_text}
 use Rattle.bean_grammar.proofs.literal.text_if_due.Goals as goal
 
 pub returns-in-None : goal.returns-in-None
