@@ -1,1 +1,3 @@
 pub mod BlockReaderFacts
+pub mod HeadFacts
+pub mod UndatedFacts

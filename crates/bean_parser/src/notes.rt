@@ -139,6 +139,6 @@ pub fn custom_line<'t, 'a>(
     let Some(values) = all_values(alloc, rest)? else {
         return Ok(None);
     };
-    let (_, end) = rest.split_at(rest.len());
+    let (end, _) = rest.split_at(0);
     Ok(Some((custom_of(name, values), end)))
 }

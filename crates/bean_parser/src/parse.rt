@@ -3,6 +3,8 @@ ghost use Rattle.std.specs.Prelude.{◌≡◌, ◌++◌, ◌∷◌, [], List, If
 ghost use Rattle.bean_parser.specs.Parsed.{IsParsed, ComeTo, AreByLine};
 ghost use Rattle.bean_parser.specs.Gathered.{IsGathered};
 ghost use Rattle.bean_parser.specs.declared.block.Outcome.{Outcome};
+ghost use Rattle.bean_parser.specs.declared.block.Outcome.TheVariants as outcome;
+ghost use Rattle.bean_parser.specs.declared.statement.Statement.TheVariants as statement;
 
 use crate::block::{Outcome, fault_at, read_block};
 use crate::directive::Directive;
@@ -77,7 +79,7 @@ impl<'a> Gathered<'a> {
 
     /// What blocks come to that gave this.
     fn parsed(self) -> Result<Parsed<'a>, AllocError>
-        ensures { IfOk result (λ p. (os : List Outcome) → IsGathered os self → ComeTo os p) }
+        ensures { IfOk result (λ p. (os : List Outcome) → IsGathered os self.entry → ComeTo os p) }
     {
         let mut directives = self.directives;
         let mut faults = self.faults;

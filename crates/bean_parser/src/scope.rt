@@ -1,5 +1,5 @@
 //! Pushes and pops: what is given to the transactions between them.
-ghost use Rattle.std.specs.Prelude.{◌≡◌, ◌<◌, ◌≤◌, ◌++◌, [], MatchOption, IfOk, OnOk, length, take, drop};
+ghost use Rattle.std.specs.Prelude.{◌≡◌, ◌<◌, ◌-◌, ◌^◌, ◌++◌, [], OnOk};
 ghost use Rattle.bean_parser.specs.Scope as spec;
 
 use crate::block::fault_at;

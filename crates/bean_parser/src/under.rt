@@ -1,5 +1,5 @@
 //! The lines under the first one of a directive.
-ghost use Rattle.std.specs.Prelude.{◌≡◌, ◌++◌, ◌∷◌, [], Some, MatchOption, IfOk, OnOk};
+ghost use Rattle.std.specs.Prelude.{◌≡◌, true, false, MatchOption, IfOk, OnOk};
 ghost use Rattle.theory.specs.Form.{Is, IsNone};
 ghost use Rattle.bean_grammar.specs.Lexeme.{lexemes, begins_with_key};
 ghost use Rattle.bean_grammar.specs.Mark.{begins_with_mark};
@@ -112,7 +112,7 @@ fn line_kind<'a>(
 impl<'a> Body<'a> {
     /// No lines say nothing.
     fn new(alloc: Global) -> Body<'a>
-        ensures { result.entry ≡ rule.no_lines }
+        ensures { result ≡ rule.no_lines }
     {
         Body {
             metadata: List::new(Vec::new(alloc)),

@@ -1,0 +1,8 @@
+use Rattle.bean_parser.proofs.HeadFacts.{reads_tolerance, none_tolerance}
+use Rattle.bean_parser.proofs.numbers.tolerance_if_due.Goals as goal
+
+pub returns-in_err-tolerance : goal.returns-in_err-tolerance
+returns-in_err-tolerance c = rw c.from_residual.ensures (none_tolerance _ _ c.in-Some.ensures.front c.in_err-tolerance.ensures.read)
+
+pub returns : goal.returns
+returns c = reads_tolerance _ _ _ _ c.in-Some.ensures.front c.in_ok-tolerance.ensures.read
