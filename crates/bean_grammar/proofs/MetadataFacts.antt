@@ -143,13 +143,17 @@ kept_without : (b : Bool) (items : List values.Value) → with_value (kept b ite
 kept_without true items = refl
 kept_without false items = refl
 
-pub value_pushed : (ls : List Lexeme) (b : Bool) (items items' : List values.Value) (rest : List Lexeme) (v : values.Value) (more : List Lexeme)
-    → items' ≡ items ++ v ∷ [] → InValues ls (kept b items) rest → Reads value rest (Within v) more → InValues ls (kept b items') more
-value_pushed ls b items items' rest v more pushed i r =
-    subst (λ x. InValues ls (kept b x) more) (sym pushed) (subst (λ x. InValues ls x more) (kept_with b items v) (next_value ls (kept b items) rest (Within v) more i r))
+pub value_pushed : (ls : List Lexeme) (b b' : Bool) (items items' : List values.Value) (rest : List Lexeme) (found : Ranged values.Value) (v : values.Value) (more : List Lexeme)
+    → b' ≡ b → items' ≡ items ++ v ∷ [] → found ≡ Within v → InValues ls (kept b items) rest → Reads value rest found more → InValues ls (kept b' items') more
+value_pushed ls b b' items items' rest found v more same pushed is i r =
+    let next = next_value ls (kept b items) rest (Within v) more i (subst (λ x. Reads value rest x more) is r) in
+    subst (λ x. InValues ls (kept x items') more) (sym same) (subst (λ x. InValues ls (kept b x) more) (sym pushed) (subst (λ x. InValues ls x more) (kept_with b items v) next))
 
-pub value_outside : (ls : List Lexeme) (b : Bool) (items : List values.Value) (rest more : List Lexeme) → InValues ls (kept b items) rest → Reads value rest Outside more → InValues ls (kept false items) more
-value_outside ls b items rest more i r = subst (λ x. InValues ls x more) (kept_without b items) (next_value ls (kept b items) rest Outside more i r)
+pub value_left_out : (ls : List Lexeme) (b b' : Bool) (items items' : List values.Value) (rest : List Lexeme) (found : Ranged values.Value) (more : List Lexeme)
+    → b' ≡ false → found ≡ Outside → InValues ls (kept b items) rest → Reads value rest found more → InValues ls (kept b' items') more
+value_left_out ls b b' items items' rest found more out is i r =
+    let next = next_value ls (kept b items) rest Outside more i (subst (λ x. Reads value rest x more) is r) in
+    subst (λ x. InValues ls (kept x items') more) (sym out) (subst (λ x. InValues ls x more) (kept_without b items) next)
 
 pub no_next_value : (ls : List Lexeme) (vs : Ranged (List values.Value)) (rest : List Lexeme) (l : Lexeme) (more : List Lexeme) → InValues ls vs rest → rest ≡ l ∷ more → HasNone value rest → HasNone all_values ls
 no_next_value ls vs rest l more i at none = none_in_row is_more all_values value with_value ls vs rest values_end values_separate i (ap is_more at) none

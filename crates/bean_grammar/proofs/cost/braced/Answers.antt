@@ -14,19 +14,19 @@ returns-in-Some-clause-read c =
 
 pub returns-in_err-parts-clause-read : goal.returns-in_err-parts-clause-read
 returns-in_err-parts-clause-read c =
-    let open = c.in_ok-rest.ensures.front ∙ ap (λ s. Sign s ∷ lexemes c.in_ok-rest.rest.now) c.opening.ensures in
+    let opened = c.in_ok-rest.ensures.front ∙ ap (λ s. Sign s ∷ lexemes c.in_ok-rest.rest.now) c.opening.ensures in
     let absent = ap (λ s. begins_with_sign s (lexemes c.in_ok-rest.rest.now)) (sym c.closing.ensures) ∙ c.in_default.ensures.front in
-    rw c.from_residual-in_err-parts.ensures (no_parts_in_braces _ _ _ open absent c.in_err-parts.ensures.read)
+    rw c.from_residual-in_err-parts.ensures (no_parts_in_braces _ _ _ opened absent c.in_err-parts.ensures.read)
 
 pub returns-in_err-more-clause-read : goal.returns-in_err-more-clause-read
 returns-in_err-more-clause-read c =
-    let open = c.in_ok-rest.ensures.front ∙ ap (λ s. Sign s ∷ lexemes c.in_ok-rest.rest.now) c.opening.ensures in
+    let opened = c.in_ok-rest.ensures.front ∙ ap (λ s. Sign s ∷ lexemes c.in_ok-rest.rest.now) c.opening.ensures in
     let absent = ap (λ s. begins_with_sign s (lexemes c.in_ok-rest.rest.now)) (sym c.closing.ensures) ∙ c.in_default.ensures.front in
     let unshut = ap (λ s. begins_with_sign s (lexemes c.in_ok-parts.rest.now)) (sym c.closing-2.ensures) ∙ c.in_err-more.ensures.front in
-    rw c.from_residual-in_err-more.ensures (not_shut _ _ _ _ _ open absent c.in_ok-parts.ensures.read unshut)
+    rw c.from_residual-in_err-more.ensures (not_shut _ _ _ _ _ opened absent c.in_ok-parts.ensures.read unshut)
 
 pub returns-clause-read : goal.returns-clause-read
 returns-clause-read c =
-    let open = c.in_ok-rest.ensures.front ∙ ap (λ s. Sign s ∷ lexemes c.in_ok-rest.rest.now) c.opening.ensures in
+    let opened = c.in_ok-rest.ensures.front ∙ ap (λ s. Sign s ∷ lexemes c.in_ok-rest.rest.now) c.opening.ensures in
     let absent = ap (λ s. begins_with_sign s (lexemes c.in_ok-rest.rest.now)) (sym c.closing.ensures) ∙ c.in_default.ensures.front in
-    reads_full_braces _ _ _ _ _ _ open absent c.in_ok-parts.ensures.read (c.in_ok-more.ensures.front ∙ ap (λ s. Sign s ∷ lexemes c.in_ok-more.more.now) c.closing-2.ensures)
+    reads_full_braces _ _ _ _ _ _ opened absent c.in_ok-parts.ensures.read (c.in_ok-more.ensures.front ∙ ap (λ s. Sign s ∷ lexemes c.in_ok-more.more.now) c.closing-2.ensures)
