@@ -10,7 +10,7 @@ use Rattle.bean_lexer.specs.declared.kind.Keyword as keywords
 use Rattle.bean_lexer.specs.declared.kind.Sign as signs
 use Rattle.bean_lexer.proofs.WordFacts.{spelled, not_both}
 use Rattle.bean_lexer.proofs.OneListOfTokensFacts.{one_keyword, one_sign}
-use Rattle.bean_grammar.specs.Lexeme.{Lexeme, Day, Number, Text, Account, Currency, Star, Bang, Txn, flag_word, plus_or_minus, lexeme_at, same_keyword, same_sign, begins_with_keyword, begins_with_sign}
+use Rattle.bean_grammar.specs.Lexeme.{Lexeme, Day, Number, Text, Account, Currency, Tag, Link, Key, Star, Bang, Txn, flag_word, plus_or_minus, lexeme_at, same_keyword, same_sign, begins_with_keyword, begins_with_sign}
 
 -- words and signs that are not `==` are spelled in two ways
 another_spelling : (a b : keywords.Keyword) → sameb keyword_type.the_type a b ≡ false → same_keyword a b ≡ false
@@ -61,6 +61,15 @@ exact_account a b e = cc
 
 pub exact_currency : IsExact Currency
 exact_currency a b e = cc
+
+pub exact_tag : IsExact Tag
+exact_tag a b e = cc
+
+pub exact_link : IsExact Link
+exact_link a b e = cc
+
+pub exact_key : IsExact Key
+exact_key a b e = cc
 
 pub exact_flag : IsExact flag_word
 exact_flag Star Star e = refl

@@ -7,4 +7,8 @@ pub mod ExpressionFacts
 pub mod AmountFacts
 pub mod PriceFacts
 pub mod CostPartFacts
+pub mod CostFacts
+pub mod PostingFacts
+pub mod MetadataFacts
+pub mod MarkFacts
 mod Examples

@@ -2,10 +2,11 @@
 --
 -- value = text | account | day | currency | tag | "TRUE" | "FALSE" | expression [currency]
 -- entry = key [value]
-use Rattle.std.specs.Prelude.{◌≡◌, Bool, true, false, List, [], ◌∷◌, ℕ, Option, Some, None}
+use Rattle.std.specs.Prelude.{◌≡◌, Bool, true, false, List, [], ◌∷◌, ℕ, Option, Some, None, is_some}
 use Rattle.theory.specs.Form.{Form, word, made, ◌<+>◌, due, either, row, related, snoc}
 use Rattle.bean_base.specs.declared.days.Day as days
 use Rattle.bean_base.specs.declared.num.Num.{Num}
+use Rattle.bean_lexer.specs.declared.kind.Keyword as keywords
 use Rattle.bean_lexer.specs.declared.kind.Keyword.TheVariants as keyword
 use Rattle.bean_grammar.specs.declared.metadata.Value as values
 use Rattle.bean_grammar.specs.declared.metadata.Value.TheVariants as value_kind
@@ -18,6 +19,11 @@ use Rattle.bean_grammar.specs.Lexeme.{Lexeme, Day, Text, Account, Currency, Tag,
 use Rattle.bean_grammar.specs.Literal.{IsDay, text_of}
 use Rattle.bean_grammar.specs.Ranged.{ranged_map, ranged_map2}
 
+abbrev pub truth : keywords.Keyword → Option Bool
+truth keyword.True = Some true
+truth keyword.False = Some false
+truth k = None
+
 -- what one lexeme stands for
 abbrev pub IsPlain : Lexeme → Ranged values.Value → Type 0
 IsPlain (Text bs) v = v ≡ Within (value_kind.Text (text_of bs))
@@ -25,8 +31,7 @@ IsPlain (Account bs) v = v ≡ Within (value_kind.Account bs)
 IsPlain (Day bs) v = (d : Ranged days.Day) × IsDay bs d × (v ≡ ranged_map value_kind.Day d)
 IsPlain (Currency bs) v = v ≡ Within (value_kind.Currency bs)
 IsPlain (Tag bs) v = v ≡ Within (value_kind.Tag bs)
-IsPlain (Keyword keyword.True) v = v ≡ Within (value_kind.Truth true)
-IsPlain (Keyword keyword.False) v = v ≡ Within (value_kind.Truth false)
+IsPlain (Keyword k) v = (b : Bool) × (truth k ≡ Some b) × (v ≡ Within (value_kind.Truth b))
 IsPlain l v = ⊥
 
 abbrev pub is_plain : Lexeme → Bool
@@ -35,8 +40,7 @@ is_plain (Account bs) = true
 is_plain (Day bs) = true
 is_plain (Currency bs) = true
 is_plain (Tag bs) = true
-is_plain (Keyword keyword.True) = true
-is_plain (Keyword keyword.False) = true
+is_plain (Keyword k) = is_some (truth k)
 is_plain l = false
 
 abbrev pub begins_with_plain : List Lexeme → Bool

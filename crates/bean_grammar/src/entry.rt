@@ -34,6 +34,17 @@ fn day_value<'a>(day: Ranged<Day>) -> Ranged<Value<'a>>
     }
 }
 
+/// The truth value that a word is.
+fn truth(word: Keyword) -> Option<bool>
+    ensures { result ≡ rule.truth word }
+{
+    match word {
+        Keyword::True => Some(true),
+        Keyword::False => Some(false),
+        _ => None,
+    }
+}
+
 /// What the token at the front stands for by itself, and what stands behind it.
 fn plain<'t, 'a>(tokens: &'t [Token<'a>]) -> Option<(Ranged<Value<'a>>, &'t [Token<'a>])>
     ensures read { MatchOption result (begins_with_plain (lexemes tokens.now) ≡ false)
@@ -42,17 +53,18 @@ fn plain<'t, 'a>(tokens: &'t [Token<'a>]) -> Option<(Ranged<Value<'a>>, &'t [Tok
 {
     let (token, rest) = next(tokens)?;
     let text = token.text.text();
-    let value = match token.kind {
-        Kind::Text => Ranged::Within(Value::Text(Text::new(between_quotes(text)))),
-        Kind::Account => Ranged::Within(Value::Account(Account::new(text))),
-        Kind::Day => day_value(day_of(text)),
-        Kind::Currency => Ranged::Within(Value::Currency(Currency::new(text))),
-        Kind::Tag => Ranged::Within(Value::Tag(Tag::new(behind_sign(text)))),
-        Kind::Keyword(Keyword::True) => Ranged::Within(Value::Truth(true)),
-        Kind::Keyword(Keyword::False) => Ranged::Within(Value::Truth(false)),
-        _ => return None,
-    };
-    Some((value, rest))
+    match token.kind {
+        Kind::Text => {
+            let text = Text::new(between_quotes(text));
+            Some((Ranged::Within(Value::Text(text)), rest))
+        }
+        Kind::Account => Some((Ranged::Within(Value::Account(Account::new(text))), rest)),
+        Kind::Day => Some((day_value(day_of(text)), rest)),
+        Kind::Currency => Some((Ranged::Within(Value::Currency(Currency::new(text))), rest)),
+        Kind::Tag => Some((Ranged::Within(Value::Tag(Tag::new(behind_sign(text)))), rest)),
+        Kind::Keyword(word) => Some((Ranged::Within(Value::Truth(truth(word)?)), rest)),
+        _ => None,
+    }
 }
 
 fn number_value<'a>(number: Ranged<Num>, currency: Option<Currency<'a>>) -> Ranged<Value<'a>>
@@ -92,7 +104,7 @@ pub fn all_values<'a>(
     let mut values = Vec::new(alloc);
     let mut are_in_range = true;
     let mut unread = Unread { tokens };
-    while next(unread.tokens).is_some() {
+    while let Some(_) = next(unread.tokens) {
         let Some(found) = value(unread.tokens) else {
             return Ok(None);
         };
@@ -127,10 +139,10 @@ pub fn entry<'t, 'a>(tokens: &'t [Token<'a>]) -> Option<(Ranged<Entry<'a>>, &'t 
     ensures shorter { IfSome result (λ r. length r.1.now < length tokens.now) }
 {
     let (key, rest) = after_key(tokens)?;
-    if next(rest).is_none() {
+    let Some(_) = next(rest) else {
         let value = Value::Nothing;
         return Some((Ranged::Within(Entry { key, value }), rest));
-    }
+    };
     let (value, rest) = value(rest)?;
     Some((entry_of(key, value), rest))
 }

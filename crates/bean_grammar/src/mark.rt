@@ -64,9 +64,12 @@ pub fn line_of_marks<'a>(
     ensures { IfOk result (λ found. MatchOption found (IsNone rule.some_marks (lexemes line.now))
         (Is rule.some_marks (lexemes line.now))) }
 {
-    let (marks, rest) = marks(alloc, line)?;
-    if marks.as_slice().is_empty() || next(rest).is_some() {
+    let Some(_) = after_mark(line) else {
         return Ok(None);
+    };
+    let (marks, rest) = marks(alloc, line)?;
+    match next(rest) {
+        Some(_) => Ok(None),
+        None => Ok(Some(marks)),
     }
-    Ok(Some(marks))
 }
