@@ -1,7 +1,6 @@
 //! The first line of a directive.
 ghost use Rattle.std.specs.Prelude.{◌≡◌, MatchOption, IfOk};
 ghost use Rattle.theory.specs.Form.{Reads, HasNone};
-ghost use Rattle.bean_lexer.specs.declared.kind.Sign as signs;
 ghost use Rattle.bean_grammar.specs.Lexeme as lexeme;
 ghost use Rattle.bean_grammar.specs.Lexeme.{lexemes, lexeme_of};
 ghost use Rattle.bean_parser.specs.Head as rule;
@@ -46,6 +45,24 @@ fn kind_behind_word<'t, 'a>(
     }
 }
 
+/// What stands behind a sign that tells the kind, and what stands behind that.
+fn kind_behind_sign<'t, 'a>(
+    alloc: Global,
+    mark: Sign,
+    tokens: &'t [Token<'a>],
+) -> Result<Option<(Ranged<DirectiveKind<'a>>, &'t [Token<'a>])>, AllocError>
+    ensures { IfOk result (λ o. MatchOption o
+        (HasNone (rule.kind_behind (lexeme.Sign mark)) (lexemes tokens.now))
+        (λ r. Reads (rule.kind_behind (lexeme.Sign mark)) (lexemes tokens.now)
+        r.0 (lexemes r.1.now))) }
+{
+    match mark {
+        Sign::Star => Ok(Some(transaction_line(alloc, Flag::Complete, tokens)?)),
+        Sign::Bang => Ok(Some(transaction_line(alloc, Flag::Incomplete, tokens)?)),
+        _ => Ok(None),
+    }
+}
+
 /// What stands behind the token that tells the kind, and what stands behind that.
 fn kind_behind<'t, 'a>(
     alloc: Global,
@@ -58,8 +75,7 @@ fn kind_behind<'t, 'a>(
         r.0 (lexemes r.1.now))) }
 {
     match first.kind {
-        Kind::Sign(Sign::Star) => Ok(Some(transaction_line(alloc, Flag::Complete, tokens)?)),
-        Kind::Sign(Sign::Bang) => Ok(Some(transaction_line(alloc, Flag::Incomplete, tokens)?)),
+        Kind::Sign(mark) => kind_behind_sign(alloc, mark, tokens),
         Kind::Keyword(word) => kind_behind_word(alloc, word, tokens),
         _ => Ok(None),
     }
