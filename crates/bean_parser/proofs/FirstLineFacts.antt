@@ -13,7 +13,7 @@ use Rattle.bean_parser.specs.Undated.{undated_behind, IsUndated, IsNotUndated}
 use Rattle.bean_parser.specs.declared.directive.DirectiveKind.{DirectiveKind}
 use Rattle.bean_parser.specs.declared.undated.UndatedKind.{UndatedKind}
 
-kind_ends : (l : Lexeme) → (kind_behind l).goes_on [] ≡ false
+pub kind_ends : (l : Lexeme) → (kind_behind l).goes_on [] ≡ false
 kind_ends (Day bs) = refl
 kind_ends (Number bs) = refl
 kind_ends (Text bs) = refl
@@ -60,7 +60,7 @@ kind_ends (Keyword keyword.True) = refl
 kind_ends (Keyword keyword.False) = refl
 kind_ends Fault = refl
 
-undated_ends : (l : Lexeme) → (undated_behind l).goes_on [] ≡ false
+pub undated_ends : (l : Lexeme) → (undated_behind l).goes_on [] ≡ false
 undated_ends (Day bs) = refl
 undated_ends (Number bs) = refl
 undated_ends (Text bs) = refl
@@ -127,7 +127,7 @@ pub head_ends_early : (ls : List Lexeme) (d : Ranged days.Day) (mid : List Lexem
 head_ends_early ls d mid r end e k h = let b = behind_day ls d mid e k r h in not_empty b.1 b.2 (sym end ∙ b.3)
 
 -- what is behind the lexeme of a head is of its kind
-behind_kind : (ls : List Lexeme) (d : Ranged days.Day) (mid : List Lexeme) (l : Lexeme) (rest : List Lexeme) (e : Ranged days.Day) (k : Ranged DirectiveKind)
+pub behind_kind : (ls : List Lexeme) (d : Ranged days.Day) (mid : List Lexeme) (l : Lexeme) (rest : List Lexeme) (e : Ranged days.Day) (k : Ranged DirectiveKind)
     → Reads day ls d mid → mid ≡ l ∷ rest → IsHead ls e k → (d ≡ e) × Is (kind_behind l) rest k
 behind_kind ls d mid l rest e k r at h =
     let b = behind_day ls d mid e k r h in
@@ -149,7 +149,7 @@ head_is ls d mid l rest k after r at s end = (mid, l, rest, r.read, at, is_all (
 
 -- Lines without a day.
 
-behind_word : (ls : List Lexeme) (l : Lexeme) (rest : List Lexeme) (k : Ranged UndatedKind) → ls ≡ l ∷ rest → IsUndated ls k → Is (undated_behind l) rest k
+pub behind_word : (ls : List Lexeme) (l : Lexeme) (rest : List Lexeme) (k : Ranged UndatedKind) → ls ≡ l ∷ rest → IsUndated ls k → Is (undated_behind l) rest k
 behind_word ls l rest k at h =
     let same = same_list h.0 l h.1 rest (sym h.2 ∙ at) in
     subst (λ m. (undated_behind m).reads rest k []) same.0 (subst (λ m. (undated_behind h.0).reads m k []) same.1 h.3)
@@ -168,3 +168,11 @@ undated_goes_on ls l rest v after m more at s next k h =
 pub undated_is : (ls : List Lexeme) (l : Lexeme) (rest : List Lexeme) (k : Ranged UndatedKind) (after : List Lexeme)
     → ls ≡ l ∷ rest → Reads (undated_behind l) rest k after → after ≡ [] → IsUndated ls k
 undated_is ls l rest k after at s end = (l, rest, at, is_all (undated_behind l) rest k after s end)
+
+-- One reading.
+
+cannot_be_day : (bs : List ℕ) (l : Lexeme) (rest more : List Lexeme) → Day bs ∷ rest ≡ l ∷ more → (k : Ranged UndatedKind) → Is (undated_behind l) more k → ⊥
+cannot_be_day bs l rest more e k h = subst (λ m. (undated_behind m).reads more k []) (sym (same_list (Day bs) l rest more e).0) h
+
+pub dated_or_undated : (ls : List Lexeme) (d : Ranged days.Day) (k : Ranged DirectiveKind) (j : Ranged UndatedKind) → IsHead ls d k → IsUndated ls j → ⊥
+dated_or_undated ls d k j h u = cannot_be_day h.3.0 u.0 h.0 u.1 (sym h.3.1 ∙ u.2) j u.3

@@ -98,7 +98,7 @@ no_currency_price ls c mid n after at r absent = no_next priced (word Currency) 
 
 -- Tolerances and balances.
 
-tolerance_told : Tells begins_with_tilde tolerance
+pub tolerance_told : Tells begins_with_tilde tolerance
 tolerance_told ls v rest p = ap begins_with_tilde p.1
 
 pub reads_tolerance : (ls mid : List Lexeme) (n : Ranged Num) (rest : List Lexeme) → ls ≡ Sign sign.Tilde ∷ mid → Reads expression mid n rest → Reads (due begins_with_tilde tolerance) ls (Some n) rest
@@ -162,13 +162,13 @@ reads_transaction flag ls w mid ms rest r s =
 
 -- Currencies with commas between.
 
-abbrev another : Form Lexeme (List ℕ)
+abbrev pub another : Form Lexeme (List ℕ)
 another = behind (Sign sign.Comma) (word Currency)
 
-another_told : Tells begins_with_comma another
+pub another_told : Tells begins_with_comma another
 another_told ls v rest p = ap begins_with_comma p.1
 
-another_separates : Separates another
+pub another_separates : Separates another
 another_separates ls v rest p = refl
 
 begun : (ls : List Lexeme) (c : List ℕ) (rest : List Lexeme) → ls ≡ Currency c ∷ rest → InRow some_currencies another snoc ls (alone c) rest
@@ -186,7 +186,7 @@ currency_more ls cs rest after c more p at next =
     row_goes_on begins_with_comma some_currencies another snoc ls cs rest c more (row_ends begins_with_comma (word Currency) alone another snoc) another_separates another_told p
     (reads_behind (Sign sign.Comma) (word Currency) rest after c more at (reads_currency after c more next))
 
-currencies_told : Tells begins_with_currency some_currencies
+pub currencies_told : Tells begins_with_currency some_currencies
 currencies_told ls v rest p = ap begins_with_currency p.3
 
 pub currencies_end : (ls : List Lexeme) (cs : List (List ℕ)) (rest : List Lexeme) → begins_with_currency ls ≡ true → InRow some_currencies another snoc ls cs rest → begins_with_comma rest ≡ false → Reads currencies ls cs rest
@@ -207,10 +207,10 @@ no_currencies ls absent = reads_first listed (due begins_with_currency some_curr
 
 -- Opens.
 
-abbrev opened : Form Lexeme (Option (List ℕ) → Ranged DirectiveKind)
+abbrev pub opened : Form Lexeme (Option (List ℕ) → Ranged DirectiveKind)
 opened = made open_of <+> word Account <+> currencies
 
-opened_to_method : Follows opened (due begins_with_text text)
+pub opened_to_method : Follows opened (due begins_with_text text)
 opened_to_method ls None rest p e f = ap opened.goes_on p.0 ∙ e
 opened_to_method ls (Some v) rest p e f = ap opened.goes_on (p.3.1 ∙ p.4)
 

@@ -3,3 +3,7 @@ pub mod HeadFacts
 pub mod UndatedFacts
 pub mod LineFacts
 pub mod FirstLineFacts
+pub mod LinesFacts
+pub mod OneHeadFacts
+pub mod OneUndatedFacts
+pub mod BlockFacts
