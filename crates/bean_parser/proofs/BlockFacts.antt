@@ -1,6 +1,7 @@
 -- A block, from its first line and those under it.
-use Rattle.std.proofs.Common.{◌≡◌, ℕ, suc, arith, ◌==◌, true, false, List, [], ◌∷◌, length, map, take, drop, Option, Some, None, refl, sym, ◌∙◌, ap, subst}
+use Rattle.std.proofs.Common.{◌≡◌, ℕ, suc, arith, ◌==◌, true, false, List, [], ◌∷◌, length, map, take, drop, Option, Some, None, Result, Ok, Err, refl, sym, ◌∙◌, ap, subst}
 use Rattle.std.proofs.lemmas.Bool.Decides.{nat_tests}
+use Rattle.std.specs.Prelude.{IfOk}
 use Rattle.theory.specs.Cut.{cut_before}
 use Rattle.theory.specs.Form.{Is}
 use Rattle.theory.proofs.CutFacts.{first_cut, others_len}
@@ -74,3 +75,7 @@ undated_is_block block line under n None column cut number none at r = λ t h.
     let have : HaveTree (line_of line ∷ lines under) t = subst (λ ls. HaveTree ls t) (cut_lines block line under cut) h.1 in
     let found = of_line line (lines under) none t have in
     r found.0 found.1 found.2
+
+pub if_ok : {A E : Type 0} (r : Result A E) (P Q : A → Type 0) → ((x : A) → P x → Q x) → IfOk r P → IfOk r Q
+if_ok (Ok x) P Q more p = more x p
+if_ok (Err e) P Q more p = p
