@@ -7,3 +7,4 @@ pub mod LinesFacts
 pub mod OneHeadFacts
 pub mod OneUndatedFacts
 pub mod BlockFacts
+pub mod ScopeFacts

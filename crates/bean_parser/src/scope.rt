@@ -5,9 +5,9 @@ ghost use Rattle.bean_parser.specs.Scope as spec;
 use crate::block::fault_at;
 use crate::directive::{Directive, DirectiveKind};
 use crate::undated::{Bound, PushName, Pushed};
-use bean_base::{Amount, Fault, FaultKind};
-use bean_grammar::{Entry, Mark, Value};
-use std::alloc::{AllocError, Global};
+use bean_base::{Fault, FaultKind, List, Tag};
+use bean_grammar::{Entry, Mark};
+use std::alloc::AllocError;
 
 /// Where a scope begins or ends, with its place.
 #[derive(Debug, Drop)]
@@ -126,16 +126,37 @@ pub fn add_unmatched(
     Ok(())
 }
 
+/// Gives a tag to a transaction.
+fn give_tag<'a>(tag: &Tag<'a>, kind: &mut DirectiveKind<'a>) -> Result<(), AllocError>
+    ensures { OnOk result (kind.new ≡ spec.with_tag tag.now kind.old) }
+{
+    match kind {
+        DirectiveKind::Transaction(transaction) => transaction.marks.push(Mark::Tag(tag.lend())),
+        _ => Ok(()),
+    }
+}
+
+/// Gives an entry to a transaction.
+fn give_entry<'a>(
+    entry: &Entry<'a>,
+    kind: &DirectiveKind<'a>,
+    entries: &mut List<Entry<'a>>,
+) -> Result<(), AllocError>
+    ensures { OnOk result (entries.new ≡ spec.entries_with kind.now entries.old entry.now) }
+{
+    match kind {
+        DirectiveKind::Transaction(_) => entries.push(entry.lend()),
+        _ => Ok(()),
+    }
+}
+
 /// Gives what is pushed to a transaction.
 fn give<'a>(pushed: &Pushed<'a>, directive: &mut Directive<'a>) -> Result<(), AllocError>
     ensures { OnOk result (directive.new ≡ spec.with_pushed pushed.now directive.old) }
 {
-    let DirectiveKind::Transaction(transaction) = &mut directive.kind else {
-        return Ok(());
-    };
     match pushed {
-        Pushed::Tag(tag) => transaction.marks.push(Mark::Tag(tag.lend())),
-        Pushed::Entry(entry) => directive.metadata.push(entry.lend()),
+        Pushed::Tag(tag) => give_tag(tag, &mut directive.kind),
+        Pushed::Entry(entry) => give_entry(entry, &directive.kind, &mut directive.metadata),
     }
 }
 
