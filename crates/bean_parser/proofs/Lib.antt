@@ -8,3 +8,4 @@ pub mod OneHeadFacts
 pub mod OneUndatedFacts
 pub mod BlockFacts
 pub mod ScopeFacts
+pub mod GatheredFacts

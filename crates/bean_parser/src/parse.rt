@@ -62,19 +62,32 @@ impl<'a> Gathered<'a> {
         Ok(())
     }
 
+    /// Adds what a block says.
+    fn add_statement(&mut self, statement: Statement<'a>) -> Result<(), AllocError>
+        ensures { OnOk result ((os : List Outcome) → IsGathered os self.old
+            → IsGathered (os ++ outcome.Statement statement.entry ∷ []) self.new) }
+    {
+        match statement {
+            Statement::Directive(directive) => {
+                self.directives.push(directive)?;
+                Ok(())
+            }
+            Statement::Undated(undated) => self.add_undated(undated),
+        }
+    }
+
     /// Adds what a block gives.
     fn add(&mut self, outcome: Outcome<'a>) -> Result<(), AllocError>
         ensures { OnOk result ((os : List Outcome) → IsGathered os self.old
             → IsGathered (os ++ outcome.entry ∷ []) self.new) }
     {
         match outcome {
-            Outcome::Statement(Statement::Directive(directive)) => {
-                self.directives.push(directive)?;
+            Outcome::Statement(statement) => self.add_statement(statement),
+            Outcome::Fault(fault) => {
+                self.faults.push(fault)?;
+                Ok(())
             }
-            Outcome::Statement(Statement::Undated(undated)) => self.add_undated(undated)?,
-            Outcome::Fault(fault) => self.faults.push(fault)?,
         }
-        Ok(())
     }
 
     /// What blocks come to that gave this.
