@@ -2,7 +2,7 @@
 use Rattle.std.proofs.Common.{◌≡◌, ℕ, zero, suc, ◌+◌, List, [], ◌∷◌, ◌++◌, length, refl, sym, ◌∙◌, ap, subst, append_assoc, arith}
 use Rattle.std.proofs.lemmas.List.{append-nil}
 use Rattle.std.specs.List.{flat_map}
-use Rattle.bean_parser.specs.Gathered.{IsGathered}
+use Rattle.bean_parser.specs.Gathered.{IsGathered, undated_at}
 use Rattle.bean_parser.specs.Parsed.{directives_in, settings_in, faults_in, bounds_in, all_bounds}
 use Rattle.bean_base.specs.declared.fault.Fault as faults
 use Rattle.bean_base.specs.declared.fault.FaultKind.TheVariants.{Ignored}
@@ -14,7 +14,6 @@ use Rattle.bean_parser.specs.declared.statement.Statement.{Statement}
 use Rattle.bean_parser.specs.declared.statement.Statement.TheVariants as statement
 use Rattle.bean_parser.specs.declared.undated.Bound.{Bound}
 use Rattle.bean_parser.specs.declared.undated.SettingKind.{SettingKind}
-use Rattle.bean_parser.specs.declared.undated.Undated.{Undated}
 use Rattle.bean_parser.specs.declared.undated.UndatedKind.{UndatedKind}
 use Rattle.bean_parser.specs.declared.undated.UndatedKind.TheVariants as kind
 use Rattle.bean_parser.specs.declared.parse.Gathered.{Gathered}
@@ -37,6 +36,12 @@ bounds_more place (p ∷ os) o =
     ap (λ r. here ++ r) (bounds_more next os o ∙ ap (λ n. all_bounds next os ++ bounds_in n o) far)
     ∙ sym (append_assoc here (all_bounds next os) (bounds_in (place + length (directives_in p ++ flat_map directives_in os)) o))
 
+bounds_from_first : (os : List Outcome) (o : Outcome) → all_bounds 0 (os ++ o ∷ []) ≡ all_bounds 0 os ++ bounds_in (length (flat_map directives_in os)) o
+bounds_from_first os o =
+    let n = length (flat_map directives_in os) in
+    let same : 0 + n ≡ n = omega arith in
+    bounds_more 0 os o ∙ ap (λ k. all_bounds 0 os ++ bounds_in k o) same
+
 -- what a block adds
 pub record Adds (o : Outcome) (g g' : Gathered) : Type 0 where
   pub directives : g'.directives.items ≡ g.directives.items ++ directives_in o
@@ -48,7 +53,7 @@ pub gathered_more : (os : List Outcome) (o : Outcome) (g g' : Gathered) → Adds
 gathered_more os o g g' a is = record {
   directives = a.directives ∙ ap (λ x. x ++ directives_in o) is.directives ∙ sym (one_more directives_in os o);
   settings = a.settings ∙ ap (λ x. x ++ settings_in o) is.settings ∙ sym (one_more settings_in os o);
-  bounds = a.bounds ∙ (λ i. is.bounds i ++ bounds_in (length (is.directives i)) o) ∙ sym (bounds_more 0 os o);
+  bounds = a.bounds ∙ (λ i. is.bounds i ++ bounds_in (length (is.directives i)) o) ∙ sym (bounds_from_first os o);
   faults = a.faults ∙ ap (λ x. x ++ faults_in o) is.faults ∙ sym (one_more faults_in os o);
 }
 
@@ -66,23 +71,20 @@ directive_adds os s d g g' is ds ss bs fs h =
     subst (λ x. IsGathered (os ++ outcome.Statement x ∷ []) g') (sym is)
     (gathered_more os (outcome.Statement (statement.Directive d)) g g' record { directives = ds; settings = ss ∙ sym (append-nil g.settings.items); bounds = bs ∙ sym (append-nil g.bounds.items); faults = fs ∙ sym (append-nil g.faults.items) } h)
 
-abbrev of_kind : Undated → UndatedKind → Outcome
-of_kind u k = outcome.Statement (statement.Undated record u { kind = k })
+pub setting_adds : (os : List Outcome) (line : ℕ) (u : UndatedKind) (k : SettingKind) (g g' : Gathered) → u ≡ kind.Setting k → g'.directives.items ≡ g.directives.items → g'.settings.items ≡ g.settings.items ++ record { line = line; kind = k } ∷ []
+    → g'.bounds.items ≡ g.bounds.items → g'.faults.items ≡ g.faults.items → IsGathered os g → IsGathered (os ++ undated_at line u ∷ []) g'
+setting_adds os line u k g g' is ds ss bs fs h =
+    subst (λ x. IsGathered (os ++ undated_at line x ∷ []) g') (sym is)
+    (gathered_more os (undated_at line (kind.Setting k)) g g' record { directives = ds ∙ sym (append-nil g.directives.items); settings = ss; bounds = bs ∙ sym (append-nil g.bounds.items); faults = fs ∙ sym (append-nil g.faults.items) } h)
 
-pub setting_adds : (os : List Outcome) (u : Undated) (k : SettingKind) (g g' : Gathered) → u.kind ≡ kind.Setting k → g'.directives.items ≡ g.directives.items → g'.settings.items ≡ g.settings.items ++ record { line = u.line; kind = k } ∷ []
-    → g'.bounds.items ≡ g.bounds.items → g'.faults.items ≡ g.faults.items → IsGathered os g → IsGathered (os ++ outcome.Statement (statement.Undated u) ∷ []) g'
-setting_adds os u k g g' is ds ss bs fs h =
-    subst (λ x. IsGathered (os ++ of_kind u x ∷ []) g') (sym is)
-    (gathered_more os (of_kind u (kind.Setting k)) g g' record { directives = ds ∙ sym (append-nil g.directives.items); settings = ss; bounds = bs ∙ sym (append-nil g.bounds.items); faults = fs ∙ sym (append-nil g.faults.items) } h)
+pub ignored_adds : (os : List Outcome) (line : ℕ) (u : UndatedKind) (g g' : Gathered) → u ≡ kind.Ignored → g'.directives.items ≡ g.directives.items → g'.settings.items ≡ g.settings.items
+    → g'.bounds.items ≡ g.bounds.items → g'.faults.items ≡ g.faults.items ++ fault_at Ignored line ∷ [] → IsGathered os g → IsGathered (os ++ undated_at line u ∷ []) g'
+ignored_adds os line u g g' is ds ss bs fs h =
+    subst (λ x. IsGathered (os ++ undated_at line x ∷ []) g') (sym is)
+    (gathered_more os (undated_at line kind.Ignored) g g' record { directives = ds ∙ sym (append-nil g.directives.items); settings = ss ∙ sym (append-nil g.settings.items); bounds = bs ∙ sym (append-nil g.bounds.items); faults = fs } h)
 
-pub ignored_adds : (os : List Outcome) (u : Undated) (g g' : Gathered) → u.kind ≡ kind.Ignored → g'.directives.items ≡ g.directives.items → g'.settings.items ≡ g.settings.items
-    → g'.bounds.items ≡ g.bounds.items → g'.faults.items ≡ g.faults.items ++ fault_at Ignored u.line ∷ [] → IsGathered os g → IsGathered (os ++ outcome.Statement (statement.Undated u) ∷ []) g'
-ignored_adds os u g g' is ds ss bs fs h =
-    subst (λ x. IsGathered (os ++ of_kind u x ∷ []) g') (sym is)
-    (gathered_more os (of_kind u kind.Ignored) g g' record { directives = ds ∙ sym (append-nil g.directives.items); settings = ss ∙ sym (append-nil g.settings.items); bounds = bs ∙ sym (append-nil g.bounds.items); faults = fs } h)
-
-pub bound_adds : (os : List Outcome) (u : Undated) (b : Bound) (g g' : Gathered) → u.kind ≡ kind.Bound b → g'.directives.items ≡ g.directives.items → g'.settings.items ≡ g.settings.items
-    → g'.bounds.items ≡ g.bounds.items ++ record { line = u.line; place = length g.directives.items; bound = b } ∷ [] → g'.faults.items ≡ g.faults.items → IsGathered os g → IsGathered (os ++ outcome.Statement (statement.Undated u) ∷ []) g'
-bound_adds os u b g g' is ds ss bs fs h =
-    subst (λ x. IsGathered (os ++ of_kind u x ∷ []) g') (sym is)
-    (gathered_more os (of_kind u (kind.Bound b)) g g' record { directives = ds ∙ sym (append-nil g.directives.items); settings = ss ∙ sym (append-nil g.settings.items); bounds = bs; faults = fs ∙ sym (append-nil g.faults.items) } h)
+pub bound_adds : (os : List Outcome) (line : ℕ) (u : UndatedKind) (b : Bound) (g g' : Gathered) → u ≡ kind.Bound b → g'.directives.items ≡ g.directives.items → g'.settings.items ≡ g.settings.items
+    → g'.bounds.items ≡ g.bounds.items ++ record { line = line; place = length g.directives.items; bound = b } ∷ [] → g'.faults.items ≡ g.faults.items → IsGathered os g → IsGathered (os ++ undated_at line u ∷ []) g'
+bound_adds os line u b g g' is ds ss bs fs h =
+    subst (λ x. IsGathered (os ++ undated_at line x ∷ []) g') (sym is)
+    (gathered_more os (undated_at line (kind.Bound b)) g g' record { directives = ds ∙ sym (append-nil g.directives.items); settings = ss ∙ sym (append-nil g.settings.items); bounds = bs; faults = fs ∙ sym (append-nil g.faults.items) } h)

@@ -9,3 +9,4 @@ pub mod OneUndatedFacts
 pub mod BlockFacts
 pub mod ScopeFacts
 pub mod GatheredFacts
+pub mod ParsedFacts

@@ -1,17 +1,16 @@
 //! What a ledger's text says: its directives, its settings and its faults.
 ghost use Rattle.std.specs.Prelude.{◌≡◌, ◌++◌, ◌∷◌, [], List, IfOk, OnOk};
 ghost use Rattle.bean_parser.specs.Parsed.{IsParsed, ComeTo, AreByLine};
-ghost use Rattle.bean_parser.specs.Gathered.{IsGathered};
+ghost use Rattle.bean_parser.specs.Gathered.{IsGathered, undated_at};
 ghost use Rattle.bean_parser.specs.declared.block.Outcome.{Outcome};
 ghost use Rattle.bean_parser.specs.declared.block.Outcome.TheVariants as outcome;
-ghost use Rattle.bean_parser.specs.declared.statement.Statement.TheVariants as statement;
 
 use crate::block::{Outcome, fault_at, read_block};
 use crate::directive::Directive;
 use crate::reader::BlockReader;
 use crate::scope::{PlacedBound, add_unmatched, give_all};
 use crate::statement::Statement;
-use crate::undated::{Setting, Undated, UndatedKind};
+use crate::undated::{Setting, UndatedKind};
 use bean_base::{Fault, FaultKind, List};
 use std::alloc::{AllocError, Global};
 
@@ -32,6 +31,13 @@ pub struct Gathered<'a> {
     pub faults: Vec<Fault>,
 }
 
+/// Arranges faults by their lines; those of one line keep their order.
+fn sort_by_line(faults: &mut Vec<Fault>) -> Result<(), AllocError>
+    ensures { OnOk result (AreByLine faults.old.items faults.new.items) }
+{
+    faults.sort_by_key(|fault| fault.line)
+}
+
 impl<'a> Gathered<'a> {
     /// No blocks give nothing.
     fn new(alloc: Global) -> Gathered<'a>
@@ -45,13 +51,12 @@ impl<'a> Gathered<'a> {
         }
     }
 
-    /// Adds what a block without a day says.
-    fn add_undated(&mut self, undated: Undated<'a>) -> Result<(), AllocError>
+    /// Adds what a block without a day says that is written on a line.
+    fn add_undated(&mut self, line: usize, kind: UndatedKind<'a>) -> Result<(), AllocError>
         ensures { OnOk result ((os : List Outcome) → IsGathered os self.old
-            → IsGathered (os ++ outcome.Statement (statement.Undated undated.entry) ∷ []) self.new) }
+            → IsGathered (os ++ undated_at line kind.entry ∷ []) self.new) }
     {
-        let line = undated.line;
-        match undated.kind {
+        match kind {
             UndatedKind::Setting(kind) => self.settings.push(Setting { line, kind })?,
             UndatedKind::Ignored => self.faults.push(fault_at(FaultKind::Ignored, line))?,
             UndatedKind::Bound(bound) => {
@@ -72,7 +77,7 @@ impl<'a> Gathered<'a> {
                 self.directives.push(directive)?;
                 Ok(())
             }
-            Statement::Undated(undated) => self.add_undated(undated),
+            Statement::Undated(undated) => self.add_undated(undated.line, undated.kind),
         }
     }
 
@@ -98,7 +103,7 @@ impl<'a> Gathered<'a> {
         let mut faults = self.faults;
         give_all(&self.bounds, &mut directives)?;
         add_unmatched(&self.bounds, &mut faults)?;
-        faults.sort_by_key(|fault| fault.line)?;
+        sort_by_line(&mut faults)?;
         Ok(Parsed {
             directives: List::new(directives),
             settings: List::new(self.settings),
