@@ -1,5 +1,5 @@
 -- Worked values of the definitions.
-use Rattle.std.proofs.Common.{◌≡◌, ℕ, pos, negsuc, [], ◌∷◌, true, false, Some, None, refl, inl, inr}
+use Rattle.std.proofs.Common.{◌≡◌, ℕ, pos, negsuc, [], ◌∷◌, true, false, Some, None, refl, inl}
 use Rattle.std.specs.Prelude.{codes}
 use Rattle.bean_lexer.specs.declared.kind.Kind.TheVariants as kind
 use Rattle.bean_lexer.specs.declared.kind.Keyword.TheVariants as keyword
@@ -12,11 +12,11 @@ use Rattle.bean_grammar.specs.declared.price.Price.TheVariants as price_kind
 use Rattle.bean_grammar.specs.Cost.{cost_of}
 use Rattle.bean_grammar.specs.CostPart.{no_parts, number_part_of, put}
 use Rattle.bean_grammar.specs.Exact.{times, plus, minus, signed, written}
-use Rattle.bean_grammar.specs.Expression.{literal, product, factor}
+use Rattle.bean_grammar.specs.Expression.{product, factor}
 use Rattle.bean_grammar.specs.Lexeme.{Tag, Link, Key, Number, Sign, Keyword, Currency, lexeme_at}
 use Rattle.bean_grammar.specs.Mark as mark_rule
 use Rattle.bean_grammar.specs.declared.mark.Mark.TheVariants as marks
-use Rattle.bean_grammar.specs.Metadata.{all_values, entry_of, plain}
+use Rattle.bean_grammar.specs.Metadata.{all_values, entry_of}
 use Rattle.bean_grammar.specs.Posting.{is_outside_profile, posting_of, units_of}
 use Rattle.bean_grammar.specs.Price.{price_of}
 use Rattle.theory.specs.Form.{Is}
