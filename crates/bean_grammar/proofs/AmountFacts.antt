@@ -1,6 +1,6 @@
 -- How amounts are read.
-use Rattle.std.proofs.Common.{◌≡◌, ℕ, Bool, true, false, List, ◌∷◌, Option, Some, None, refl, ap}
-use Rattle.theory.specs.Form.{Form, Reads, HasNone, IsUnambiguous, word, made, ◌<+>◌, due}
+use Rattle.std.proofs.Common.{◌≡◌, ℕ, false, List, ◌∷◌, Option, Some, None, refl, ap}
+use Rattle.theory.specs.Form.{Reads, HasNone, IsUnambiguous, word, made, ◌<+>◌}
 use Rattle.theory.proofs.FormFacts.{Tells, reads_word, reads_due, reads_not_due}
 use Rattle.theory.proofs.OneReading.{one_word, one_due}
 use Rattle.bean_base.specs.declared.num.Num.{Num}

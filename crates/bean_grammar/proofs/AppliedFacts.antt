@@ -1,5 +1,5 @@
 -- Forms behind what their values are put into, where no rest carries on what stands before.
-use Rattle.std.proofs.Common.{◌≡◌, Bool, false, List, refl}
+use Rattle.std.proofs.Common.{◌≡◌, false, List, refl}
 use Rattle.theory.specs.Form.{Form, Reads, HasNone, IsUnambiguous, made, ◌<+>◌}
 use Rattle.theory.proofs.FormFacts.{reads_made, reads_applied, none_first, none_next}
 use Rattle.theory.proofs.OneReading.{one_made, one_applied}

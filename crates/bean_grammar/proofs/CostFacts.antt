@@ -1,18 +1,17 @@
 -- How costs are read.
-use Rattle.std.proofs.Common.{◌≡◌, ℕ, Bool, true, false, ◌||◌, List, [], ◌∷◌, Option, Some, None, is_some, MatchOption, refl, ◌∙◌, ap, ◌⊎◌, inl, inr}
-use Rattle.theory.specs.Form.{Form, Reads, HasNone, IsUnambiguous, made, ◌<+>◌, behind, closed, due, either}
+use Rattle.std.proofs.Common.{◌≡◌, Bool, true, false, ◌||◌, List, ◌∷◌, Option, Some, None, is_some, MatchOption, refl, ◌∙◌, ap, inl, inr}
+use Rattle.theory.specs.Form.{Form, Reads, HasNone, IsUnambiguous, made, behind, closed, due, either}
 use Rattle.theory.proofs.FormFacts.{Tells, Avoids, Stops, reads_made, reads_behind, none_behind, reads_closed, none_closed, not_closed, reads_due, reads_not_due, none_due, reads_left, reads_right, none_left, none_right}
 use Rattle.theory.proofs.OneReading.{one_made, one_behind, one_closed, one_due, one_either}
-use Rattle.bean_lexer.specs.declared.kind.Sign.TheVariants.{Star, Hash, OpenBrace, OpenBraces}
+use Rattle.bean_lexer.specs.declared.kind.Sign.TheVariants.{Star, OpenBrace, OpenBraces}
 use Rattle.bean_grammar.specs.declared.cost.Cost as costs
 use Rattle.bean_grammar.specs.declared.cost.Cost.TheVariants.{Absent}
-use Rattle.bean_grammar.specs.declared.cost_part.CostPart.{CostPart}
 use Rattle.bean_grammar.specs.declared.cost_part.CostParts.{CostParts}
 use Rattle.bean_grammar.specs.declared.ranged.Ranged.{Ranged}
 use Rattle.bean_grammar.specs.declared.ranged.Ranged.TheVariants.{Within}
 use Rattle.bean_grammar.specs.Cost.{opening, closing, cost_of, braced, cost_in, cost, begins_with_cost, cost_or_absent, cost_if_due}
 use Rattle.bean_grammar.specs.CostPart.{part, no_parts, cost_parts}
-use Rattle.bean_grammar.specs.Lexeme.{Lexeme, Sign, Currency, plus_or_minus, begins_with_sign}
+use Rattle.bean_grammar.specs.Lexeme.{Lexeme, Sign, plus_or_minus, begins_with_sign}
 use Rattle.bean_grammar.proofs.AppliedFacts.{reads_first, no_first, one_first}
 use Rattle.bean_grammar.proofs.CostPartFacts.{AvoidsNumberParts, number_part_is_avoided, one_cost_parts}
 

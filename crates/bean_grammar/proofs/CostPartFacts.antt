@@ -1,7 +1,7 @@
 -- How the parts of a cost are read.
-use Rattle.std.proofs.Common.{◌≡◌, ℕ, Bool, true, false, ◌||◌, List, [], ◌∷◌, Option, Some, None, MatchOption, refl, sym, ◌∙◌, ap, subst, ◌⊎◌, inl, inr}
-use Rattle.theory.specs.Form.{Form, Reads, HasNone, IsUnambiguous, word, made, ◌<+>◌, behind, checked, due, either, row, steps}
-use Rattle.theory.proofs.FormFacts.{Tells, Avoids, reads_made, reads_behind, none_behind, reads_checked, none_checked, not_checked, reads_due, reads_not_due, none_due, reads_left, reads_right, none_left, none_right}
+use Rattle.std.proofs.Common.{◌≡◌, ℕ, Bool, true, false, List, [], ◌∷◌, Option, Some, None, MatchOption, refl, sym, ◌∙◌, ap, subst, inl, inr}
+use Rattle.theory.specs.Form.{Form, Reads, HasNone, IsUnambiguous, made, ◌<+>◌, behind, either, steps}
+use Rattle.theory.proofs.FormFacts.{Tells, Avoids, reads_made, reads_behind, none_behind, reads_checked, none_checked, not_checked, reads_due, reads_not_due, none_due, reads_left, reads_right, none_right}
 use Rattle.theory.proofs.RowFacts.{Separates, BeginsRow, EndsItems, InRow, row_ends, row_begins, row_goes_on, row_is_read, none_in_row, no_row, lost_row}
 use Rattle.theory.proofs.OneReading.{one_made, one_behind, one_checked, one_due, one_either, one_row}
 use Rattle.bean_base.specs.declared.days.Day as days

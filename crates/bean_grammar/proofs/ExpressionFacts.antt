@@ -1,7 +1,7 @@
 -- How number expressions are read.
-use Rattle.std.proofs.Common.{◌≡◌, ℕ, zero, suc, ◌<◌, ◌-◌, Bool, true, false, ◌||◌, List, [], ◌∷◌, Option, Some, None, MatchOption, IfSome, refl, sym, ◌∙◌, ap, subst, arith, ◌⊎◌, inl, inr}
-use Rattle.theory.specs.Form.{Form, Reads, HasNone, IsUnambiguous, word, made, ◌<+>◌, behind, closed, either, row, pair, related, ending, due}
-use Rattle.theory.proofs.FormFacts.{IsExact, Follows, Tells, Avoids, Stops, reads_word, reads_made, reads_applied, none_next, none_first, reads_behind, none_behind, reads_closed, none_closed, not_closed, reads_left, reads_right, none_left, none_right, reads_related, none_related, reads_ending, none_ending, reads_due, reads_not_due, none_due}
+use Rattle.std.proofs.Common.{◌≡◌, ℕ, zero, suc, ◌<◌, ◌-◌, Bool, true, false, ◌||◌, List, ◌∷◌, Option, Some, None, MatchOption, IfSome, refl, ◌∙◌, ap, subst, arith, inl, inr}
+use Rattle.theory.specs.Form.{Form, Reads, HasNone, IsUnambiguous, word, made, ◌<+>◌, behind, closed, either, pair, ending, due}
+use Rattle.theory.proofs.FormFacts.{Tells, Avoids, Stops, reads_word, reads_made, reads_applied, none_next, reads_behind, none_behind, reads_closed, none_closed, not_closed, reads_left, reads_right, none_left, none_right, reads_related, none_related, reads_ending, none_ending, reads_due, reads_not_due, none_due}
 use Rattle.theory.proofs.RowFacts.{Separates, BeginsRow, EndsItems, row_ends}
 use Rattle.theory.proofs.OneReading.{one_word, one_made, one_applied, one_behind, one_closed, one_either, one_row, one_ending, one_related, one_due}
 use Rattle.bean_base.specs.declared.num.Num.{Num}
@@ -10,7 +10,7 @@ use Rattle.bean_grammar.specs.declared.ranged.Ranged.{Ranged}
 use Rattle.bean_grammar.specs.Ranged.{ranged_map}
 use Rattle.bean_grammar.specs.Lexeme.{Lexeme, Number, Sign, plus_or_minus, begins_with_sign, begins_with_plus_or_minus, begins_with_number}
 use Rattle.bean_grammar.specs.Exact.{Exact, exact, written, times, joined, signed}
-use Rattle.bean_grammar.specs.Expression.{product_of, sum_of, literal, signed_of, group_of, factor, product, sum, IsValued, expression, begins_with_expression}
+use Rattle.bean_grammar.specs.Expression.{literal, signed_of, group_of, factor, product, sum, IsValued, expression, begins_with_expression}
 use Rattle.bean_grammar.proofs.LexemeFacts.{exact_number, exact_plus_or_minus}
 use Rattle.bean_grammar.proofs.ExactFacts.{one_valued}
 
@@ -238,7 +238,6 @@ one_factor (suc room) =
     (one_applied (made signed) (word plus_or_minus) (λ ls v rest p e f. refl) (one_made signed) (one_word plus_or_minus exact_plus_or_minus)) (one_factor room))
     (one_either (begins_with_sign OpenParenthesis) (group_of (factor room)) literal (group_told room) literal_avoids
     (one_behind (Sign OpenParenthesis) (closed (Sign CloseParenthesis) (sum room)) (one_closed (Sign CloseParenthesis) (sum room) (sum_shut room) (one_sum_of room (one_factor room)))) one_literal)
-
 
 -- Expressions whole.
 

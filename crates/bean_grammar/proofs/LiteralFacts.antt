@@ -1,6 +1,6 @@
 -- How days and texts are read.
-use Rattle.std.proofs.Common.{◌≡◌, ℕ, Bool, true, false, List, ◌∷◌, Option, Some, None, pos, refl, sym, ◌∙◌, ap}
-use Rattle.theory.specs.Form.{Form, Reads, HasNone, IsUnambiguous, word, made, ◌<+>◌, due}
+use Rattle.std.proofs.Common.{◌≡◌, ℕ, Bool, true, false, List, ◌∷◌, Some, None, pos, refl, ◌∙◌, ap}
+use Rattle.theory.specs.Form.{Form, Reads, HasNone, IsUnambiguous, word, made, due}
 use Rattle.theory.proofs.FormFacts.{Tells, reads_word, reads_made, reads_applied, reads_due, reads_not_due, reads_related}
 use Rattle.theory.proofs.OneReading.{one_word, one_made, one_applied, one_due, one_related}
 use Rattle.bean_base.proofs.SameFacts.{same_day}

@@ -1,6 +1,6 @@
 -- How tags and links are read.
-use Rattle.std.proofs.Common.{◌≡◌, ℕ, Bool, true, false, List, [], ◌∷◌, ◌++◌, refl, sym, ◌∙◌, ap, subst}
-use Rattle.theory.specs.Form.{Form, Reads, Is, IsNone, IsUnambiguous, word, made, row, ItemsRead, steps, snoc, alone}
+use Rattle.std.proofs.Common.{◌≡◌, true, false, List, [], ◌∷◌, ◌++◌, refl, sym, ◌∙◌, ap, subst}
+use Rattle.theory.specs.Form.{Form, Reads, Is, IsNone, IsUnambiguous, made, ItemsRead, steps, snoc, alone}
 use Rattle.theory.proofs.FormFacts.{IsExact, Tells, reads_word, reads_made, is_all}
 use Rattle.theory.proofs.RowFacts.{Separates, BeginsRow, EndsItems, InRow, row_ends, row_begins, row_goes_on, row_is_read}
 use Rattle.theory.proofs.OneReading.{one_word, one_made, one_row}

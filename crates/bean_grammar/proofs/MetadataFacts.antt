@@ -1,7 +1,7 @@
 -- How values and metadata entries are read.
-use Rattle.std.proofs.Common.{◌≡◌, ℕ, Bool, true, false, List, [], ◌∷◌, ◌++◌, Option, Some, None, is_some, MatchOption, refl, sym, ◌∙◌, ap, subst, ◌⊎◌, inl, inr}
-use Rattle.theory.specs.Form.{Form, Reads, HasNone, IsUnambiguous, word, made, ◌<+>◌, due, either, row, related}
-use Rattle.theory.proofs.FormFacts.{IsExact, Tells, Avoids, reads_word, reads_related, reads_made, reads_left, reads_right, none_left, none_right, reads_due, reads_not_due, none_due}
+use Rattle.std.proofs.Common.{◌≡◌, ℕ, Bool, true, false, List, [], ◌∷◌, ◌++◌, Option, Some, None, is_some, refl, sym, ◌∙◌, ap, subst, inl, inr}
+use Rattle.theory.specs.Form.{Form, Reads, HasNone, IsUnambiguous, word, made, ◌<+>◌, due}
+use Rattle.theory.proofs.FormFacts.{IsExact, Tells, Avoids, reads_word, reads_related, reads_made, reads_left, reads_right, none_right, reads_due, reads_not_due, none_due}
 use Rattle.theory.proofs.RowFacts.{Separates, BeginsRow, EndsItems, InRow, row_ends, row_begins, row_goes_on, row_is_read, none_in_row}
 use Rattle.theory.proofs.OneReading.{one_word, one_made, one_related, one_either, one_due, one_row}
 use Rattle.bean_base.specs.declared.num.Num.{Num}

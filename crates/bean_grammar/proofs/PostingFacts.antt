@@ -1,6 +1,6 @@
 -- How postings are read.
-use Rattle.std.proofs.Common.{◌≡◌, ℕ, Bool, true, false, List, [], ◌∷◌, Option, Some, None, refl, ◌∙◌, ap, subst}
-use Rattle.theory.specs.Form.{Form, Reads, HasNone, Is, IsNone, IsUnambiguous, word, made, ◌<+>◌, due}
+use Rattle.std.proofs.Common.{◌≡◌, ℕ, true, false, List, [], ◌∷◌, Option, Some, None, refl, ◌∙◌, ap, subst}
+use Rattle.theory.specs.Form.{Form, Reads, HasNone, Is, IsNone, IsUnambiguous, word, made, ◌<+>◌}
 use Rattle.theory.proofs.FormFacts.{IsExact, Tells, reads_word, reads_due, reads_not_due, is_all, none_whole, more_than_whole}
 use Rattle.theory.proofs.OneReading.{one_word, one_due}
 use Rattle.bean_base.specs.declared.flags.Flag as flags

@@ -1,12 +1,10 @@
 -- How prices are read.
-use Rattle.std.proofs.Common.{◌≡◌, Bool, true, false, List, ◌∷◌, Option, Some, None, refl, ◌∙◌, ap}
-use Rattle.theory.specs.Form.{Form, Reads, HasNone, IsUnambiguous, word, made, ◌<+>◌, due}
+use Rattle.std.proofs.Common.{◌≡◌, Bool, true, false, List, ◌∷◌, Some, None, refl, ◌∙◌, ap}
+use Rattle.theory.specs.Form.{Reads, HasNone, IsUnambiguous, word, made, ◌<+>◌, due}
 use Rattle.theory.proofs.FormFacts.{IsExact, Tells, reads_word, reads_due, reads_not_due, none_due}
 use Rattle.theory.proofs.OneReading.{one_word, one_due}
 use Rattle.bean_grammar.specs.declared.amount.AmountParts.{AmountParts}
-use Rattle.bean_grammar.specs.declared.price.Price as prices
 use Rattle.bean_grammar.specs.declared.price.Price.TheVariants.{Absent}
-use Rattle.bean_grammar.specs.declared.ranged.Ranged.{Ranged}
 use Rattle.bean_grammar.specs.declared.ranged.Ranged.TheVariants.{Within}
 use Rattle.bean_grammar.specs.Amount.{amount_parts}
 use Rattle.bean_grammar.specs.Lexeme.{Lexeme}

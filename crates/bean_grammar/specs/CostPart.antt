@@ -1,8 +1,8 @@
 -- The parts of a cost, in any order, each form of a part at most once.
 --
 -- part = day | text | "*" | [expression] ["#" [expression]] [currency], not empty
-use Rattle.std.specs.Prelude.{Bool, true, false, ◌&&◌, List, ℕ, Option, Some, None, if◌then◌else◌}
-use Rattle.theory.specs.Form.{Form, word, made, ◌<+>◌, behind, checked, due, either, row}
+use Rattle.std.specs.Prelude.{true, ◌&&◌, List, ℕ, Option, Some, None}
+use Rattle.theory.specs.Form.{Form, made, ◌<+>◌, behind, checked, due, either, row}
 use Rattle.bean_base.specs.declared.num.Num.{Num}
 use Rattle.bean_lexer.specs.declared.kind.Sign.TheVariants.{Star, Hash, Comma}
 use Rattle.bean_grammar.specs.declared.cost_part.CostPart as parts
@@ -10,7 +10,7 @@ use Rattle.bean_grammar.specs.declared.cost_part.CostPart.TheVariants.{Amount, D
 use Rattle.bean_grammar.specs.declared.cost_part.CostParts as collected
 use Rattle.bean_grammar.specs.declared.ranged.Ranged.{Ranged}
 use Rattle.bean_grammar.specs.Amount.{amount_of, number_if_due, currency_if_due}
-use Rattle.bean_grammar.specs.Lexeme.{Lexeme, Sign, begins_with_day, begins_with_text, begins_with_sign}
+use Rattle.bean_grammar.specs.Lexeme.{Lexeme, Sign, begins_with_sign}
 use Rattle.bean_grammar.specs.Literal.{day, text}
 use Rattle.bean_grammar.specs.Ranged.{none_outside}
 

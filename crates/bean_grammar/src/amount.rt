@@ -39,9 +39,7 @@ pub fn amount<'t, 'a>(tokens: &'t [Token<'a>]) -> Option<(Ranged<Amount<'a>>, &'
 }
 
 /// The currency at the front, if there is one, and what stands behind it.
-pub fn currency_if_due<'t, 'a>(
-    tokens: &'t [Token<'a>],
-) -> (Option<Currency<'a>>, &'t [Token<'a>])
+pub fn currency_if_due<'t, 'a>(tokens: &'t [Token<'a>]) -> (Option<Currency<'a>>, &'t [Token<'a>])
     ensures read { Reads rule.currency_if_due (lexemes tokens.now)
         result.0 (lexemes result.1.now) }
     ensures no_longer { length result.1.now ≤ length tokens.now }
@@ -56,9 +54,7 @@ pub fn currency_if_due<'t, 'a>(
 }
 
 /// What is written of an amount at the front, and what stands behind it.
-pub fn amount_parts<'t, 'a>(
-    tokens: &'t [Token<'a>],
-) -> Option<(AmountParts<'a>, &'t [Token<'a>])>
+pub fn amount_parts<'t, 'a>(tokens: &'t [Token<'a>]) -> Option<(AmountParts<'a>, &'t [Token<'a>])>
     ensures read { MatchOption result (HasNone rule.amount_parts (lexemes tokens.now))
         (λ r. Reads rule.amount_parts (lexemes tokens.now) r.0 (lexemes r.1.now)) }
     ensures no_longer { IfSome result (λ r. length r.1.now ≤ length tokens.now) }

@@ -95,9 +95,10 @@ fn cost_of<'a>(is_total: bool, parts: CostParts<'a>) -> Ranged<Cost<'a>>
     }
     let is_outside_profile = is_outside_profile(is_total, &parts);
     let label = parts.label;
-    let (Ranged::Within(amount), Ranged::Within(day)) =
-        (amount_within(parts.amount), day_within(parts.day))
-    else {
+    let (Ranged::Within(amount), Ranged::Within(day)) = (
+        amount_within(parts.amount),
+        day_within(parts.day),
+    ) else {
         return Ranged::Outside;
     };
     if is_outside_profile {

@@ -61,7 +61,10 @@ fn plain<'t, 'a>(tokens: &'t [Token<'a>]) -> Option<(Ranged<Value<'a>>, &'t [Tok
         Kind::Account => Some((Ranged::Within(Value::Account(Account::new(text))), rest)),
         Kind::Day => Some((day_value(day_of(text)), rest)),
         Kind::Currency => Some((Ranged::Within(Value::Currency(Currency::new(text))), rest)),
-        Kind::Tag => Some((Ranged::Within(Value::Tag(Tag::new(behind_sign(text)))), rest)),
+        Kind::Tag => Some((
+            Ranged::Within(Value::Tag(Tag::new(behind_sign(text)))),
+            rest,
+        )),
         Kind::Keyword(word) => Some((Ranged::Within(Value::Truth(truth(word)?)), rest)),
         _ => None,
     }

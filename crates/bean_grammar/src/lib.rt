@@ -26,6 +26,7 @@ pub mod cost_part;
 pub mod entry;
 pub mod expression;
 pub mod front;
+pub mod grammar;
 pub mod literal;
 pub mod mark;
 pub mod metadata;

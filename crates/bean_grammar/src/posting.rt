@@ -40,8 +40,7 @@ impl Posting<'_> {
     {
         let is_left_out = matches!(self.cost, Cost::OutsideProfile)
             || matches!(self.price, Price::OutsideProfile);
-        let is_written =
-            !matches!(self.cost, Cost::Absent) || !matches!(self.price, Price::Absent);
+        let is_written = !matches!(self.cost, Cost::Absent) || !matches!(self.price, Price::Absent);
         match self.units {
             Units::NumberAlone => true,
             Units::Amount(_) => is_left_out,

@@ -71,8 +71,7 @@ fn posting_of<'a>(
 ) -> Ranged<Posting<'a>>
     ensures { result ≡ rule.posting_of line flag account.entry units.entry cost.entry price.entry }
 {
-    let (Ranged::Within(units), Ranged::Within(cost), Ranged::Within(price)) =
-        (units, cost, price)
+    let (Ranged::Within(units), Ranged::Within(cost), Ranged::Within(price)) = (units, cost, price)
     else {
         return Ranged::Outside;
     };
@@ -88,11 +87,7 @@ fn posting_of<'a>(
 }
 
 /// The posting that a line of that number is. It takes no memory.
-pub fn posting<'a>(
-    alloc: Global,
-    line: usize,
-    tokens: &[Token<'a>],
-) -> Option<Ranged<Posting<'a>>>
+pub fn posting<'a>(alloc: Global, line: usize, tokens: &[Token<'a>]) -> Option<Ranged<Posting<'a>>>
     ensures { MatchOption result (IsNone (rule.posting line) (lexemes tokens.now))
         (Is (rule.posting line) (lexemes tokens.now)) }
 {

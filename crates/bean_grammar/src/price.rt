@@ -59,9 +59,7 @@ fn price_of<'a>(is_total: bool, parts: AmountParts<'a>) -> Ranged<Price<'a>>
 }
 
 /// The price at the front, which is absent where none begins there, and what stands behind it.
-pub fn price_if_due<'t, 'a>(
-    tokens: &'t [Token<'a>],
-) -> Option<(Ranged<Price<'a>>, &'t [Token<'a>])>
+pub fn price_if_due<'t, 'a>(tokens: &'t [Token<'a>]) -> Option<(Ranged<Price<'a>>, &'t [Token<'a>])>
     ensures read { MatchOption result (HasNone rule.price_if_due (lexemes tokens.now))
         (λ r. Reads rule.price_if_due (lexemes tokens.now) r.0 (lexemes r.1.now)) }
     ensures no_longer { IfSome result (λ r. length r.1.now ≤ length tokens.now) }
