@@ -10,3 +10,5 @@ pub mod BlockFacts
 pub mod ScopeFacts
 pub mod GatheredFacts
 pub mod ParsedFacts
+pub mod OneTree
+pub mod OneReadingFacts

@@ -21,14 +21,14 @@ use Rattle.bean_parser.specs.declared.under.LineKind.TheVariants as kinds
 
 -- How lines begin.
 
-entry_told : Tells begins_with_key entry
+pub entry_told : Tells begins_with_key entry
 entry_told ls v rest p = ap begins_with_key (p.3.3.1 ∙ p.3.4)
 
 marked_at : (m : Mark) (rest : List Lexeme) → (begins_with_mark (written m ∷ rest) ≡ true) × (begins_with_key (written m ∷ rest) ≡ false)
 marked_at (mark.Tag t) rest = (refl, refl)
 marked_at (mark.Link l) rest = (refl, refl)
 
-marks_begin : (ls : List Lexeme) (ms : List Mark) → Is some_marks ls ms → (begins_with_mark ls ≡ true) × (begins_with_key ls ≡ false)
+pub marks_begin : (ls : List Lexeme) (ms : List Mark) → Is some_marks ls ms → (begins_with_mark ls ≡ true) × (begins_with_key ls ≡ false)
 marks_begin ls ms p =
     let at = marked_at p.0 p.2 in
     (ap begins_with_mark p.3 ∙ at.0, ap begins_with_key p.3 ∙ at.1)
@@ -39,14 +39,14 @@ flagged_begins None ls mid bs rest h at = (ap begins_with_mark (h.0 ∙ at), ap 
 flagged_begins (Some Complete) ls mid bs rest h at = (ap begins_with_mark h, ap begins_with_key h)
 flagged_begins (Some Incomplete) ls mid bs rest h at = (ap begins_with_mark h, ap begins_with_key h)
 
-posting_begins : (line : ℕ) (ls : List Lexeme) (v : Ranged Posting) → Is (posting line) ls v → (begins_with_mark ls ≡ false) × (begins_with_key ls ≡ false)
+pub posting_begins : (line : ℕ) (ls : List Lexeme) (v : Ranged Posting) → Is (posting line) ls v → (begins_with_mark ls ≡ false) × (begins_with_key ls ≡ false)
 posting_begins line ls v p =
     let named = p.3.3.3 in
     let flagged = named.3 in
     let at = flagged_begins flagged.1 flagged.2 named.2 named.1 _ flagged.4 named.4 in
     (ap begins_with_mark flagged.3.1 ∙ at.0, ap begins_with_key flagged.3.1 ∙ at.1)
 
-both : (b : Bool) → b ≡ true → b ≡ false → ⊥
+pub both : (b : Bool) → b ≡ true → b ≡ false → ⊥
 both b e f = cc
 
 -- Entries.
