@@ -29,7 +29,8 @@ closing true = CloseBraces
 -- braces that are doubled, and parts that aren't an amount, a day or a label
 abbrev pub is_outside_profile : Bool → CostParts → Bool
 is_outside_profile is_total p =
-    is_total || (is_some p.number || (is_some p.currency || (is_some p.merge || is_some p.compound)))
+    is_total
+    || (is_some p.number || (is_some p.currency || (is_some p.merge || is_some p.compound)))
 
 abbrev pub or_true : Option Bool → Bool
 or_true None = true
@@ -46,13 +47,15 @@ cost_with is_total p amount day =
 
 abbrev pub cost_of : Bool → CostParts → Ranged costs.Cost
 cost_of is_total p =
-    if others_fit p then ranged_map2 (cost_with is_total p) (option_within p.amount) (option_within p.day)
+    if others_fit p
+    then ranged_map2 (cost_with is_total p) (option_within p.amount) (option_within p.day)
     else Outside
 
 abbrev pub braced : Bool → Form Lexeme CostParts
 braced is_total =
     behind (Sign (opening is_total))
-    (either (behind (Sign (closing is_total)) (made no_parts)) (closed (Sign (closing is_total)) cost_parts))
+    (either (behind (Sign (closing is_total)) (made no_parts))
+    (closed (Sign (closing is_total)) cost_parts))
 
 abbrev pub cost_in : Bool → Form Lexeme (Ranged costs.Cost)
 cost_in is_total = made (cost_of is_total) <+> braced is_total

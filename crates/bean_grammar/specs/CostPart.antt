@@ -16,7 +16,8 @@ use Rattle.bean_grammar.specs.Ranged.{none_outside}
 
 -- what a part without a day or a text is: of the number before a `#` or without one, what stands
 -- from a `#` on, and the currency
-abbrev pub number_part_of : Option (Ranged Num) → Option (Option (Ranged Num)) → Option (List ℕ) → Option parts.CostPart
+abbrev pub number_part_of : Option (Ranged Num) → Option (Option (Ranged Num)) → Option (List ℕ)
+    → Option parts.CostPart
 number_part_of (Some n) None (Some c) = Some (Amount (amount_of n c))
 number_part_of (Some n) None None = Some (NumberAlone (none_outside (Some n)))
 number_part_of None None (Some c) = Some CurrencyAlone
@@ -30,7 +31,8 @@ abbrev pub itself : {A : Type 0} → A → A
 itself a = a
 
 abbrev pub number_part : Form Lexeme parts.CostPart
-number_part = checked itself (made number_part_of <+> number_if_due <+> compound_if_due <+> currency_if_due)
+number_part =
+    checked itself (made number_part_of <+> number_if_due <+> compound_if_due <+> currency_if_due)
 
 abbrev pub merge : Form Lexeme parts.CostPart
 merge = behind (Sign Star) (made Merge)
@@ -39,10 +41,19 @@ abbrev pub part : Form Lexeme parts.CostPart
 part = either (made Day <+> day) (either (made Label <+> text) (either merge number_part))
 
 abbrev pub no_parts : collected.CostParts
-no_parts = record { amount = None; day = None; label = None; number = None; currency = None; merge = None; compound = None }
+no_parts = record {
+  amount = None;
+  day = None;
+  label = None;
+  number = None;
+  currency = None;
+  merge = None;
+  compound = None;
+}
 
 -- put where nothing stands yet
-abbrev pub placed : {A : Type 0} → Option A → A → (Option A → collected.CostParts) → Option collected.CostParts
+abbrev pub placed : {A : Type 0} → Option A → A → (Option A → collected.CostParts)
+    → Option collected.CostParts
 placed None a set = Some (set (Some a))
 placed (Some b) a set = None
 

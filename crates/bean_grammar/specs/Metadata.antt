@@ -71,7 +71,8 @@ abbrev pub is_more : List Lexeme → Bool
 is_more [] = false
 is_more (l ∷ ls) = true
 
-abbrev pub with_value : Ranged (List values.Value) → Ranged values.Value → Ranged (List values.Value)
+abbrev pub with_value : Ranged (List values.Value) → Ranged values.Value
+    → Ranged (List values.Value)
 with_value vs v = ranged_map2 snoc vs v
 
 -- values up to the end of the line, each the longest that fits; in range where each is

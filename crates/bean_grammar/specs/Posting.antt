@@ -48,17 +48,26 @@ abbrev pub units : Form Lexeme (Ranged units_declared.Units)
 units = made units_of <+> amount_parts
 
 -- in range where its units, its cost and its price are; entries are no part of its line
-abbrev pub posting_of : ℕ → Option flags.Flag → List ℕ → Ranged units_declared.Units → Ranged costs.Cost → Ranged prices.Price
-    → Ranged postings.Posting
+abbrev pub posting_of : ℕ → Option flags.Flag → List ℕ → Ranged units_declared.Units
+    → Ranged costs.Cost → Ranged prices.Price → Ranged postings.Posting
 posting_of line flag account units cost price =
     ranged_map3
-    (λ u c p. record { flag = flag; account = account; units = u; cost = c; price = p; line = line; metadata = [] })
+    (λ u c p. record {
+      flag = flag;
+      account = account;
+      units = u;
+      cost = c;
+      price = p;
+      line = line;
+      metadata = [];
+    })
     units cost price
 
 -- a posting on a line of that number
 abbrev pub posting : ℕ → Form Lexeme (Ranged postings.Posting)
 posting line =
-    made (posting_of line) <+> flag_if_due <+> word Account <+> units <+> cost_if_due <+> price_if_due
+    made (posting_of line)
+    <+> flag_if_due <+> word Account <+> units <+> cost_if_due <+> price_if_due
 
 -- Which postings the books don't have.
 
@@ -83,4 +92,5 @@ is_written c p = true
 -- before a cost or a price
 abbrev pub is_outside_profile : postings.Posting → Bool
 is_outside_profile p =
-    is_number_alone p.units || (is_left_out p.cost p.price || (not (has_number p.units) && is_written p.cost p.price))
+    is_number_alone p.units
+    || (is_left_out p.cost p.price || (not (has_number p.units) && is_written p.cost p.price))

@@ -30,7 +30,8 @@ priced false amount = PerUnit amount
 priced true amount = Total amount
 
 abbrev pub price_by : Bool → Option (Ranged Num) → Option (List ℕ) → Ranged prices.Price
-price_by is_total (Some n) (Some c) = ranged_map (λ x. priced is_total record { number = x; currency = c }) n
+price_by is_total (Some n) (Some c) =
+    ranged_map (λ x. priced is_total record { number = x; currency = c }) n
 price_by is_total (Some n) None = ranged_map (λ x. OutsideProfile) n
 price_by is_total None c = Within OutsideProfile
 

@@ -14,7 +14,8 @@ ranged_map2 f (Within u) (Within v) = Within (f u v)
 ranged_map2 f (Within u) Outside = Outside
 ranged_map2 f Outside v = Outside
 
-abbrev pub ranged_map3 : {T U V W : Type 0} → (T → U → V → W) → Ranged T → Ranged U → Ranged V → Ranged W
+abbrev pub ranged_map3 : {T U V W : Type 0} → (T → U → V → W) → Ranged T → Ranged U → Ranged V
+    → Ranged W
 ranged_map3 f (Within t) u v = ranged_map2 (f t) u v
 ranged_map3 f Outside u v = Outside
 

@@ -33,8 +33,8 @@ pub struct Posting<'a> {
 }
 
 impl Posting<'_> {
-    /// Whether the books have no such posting: its units are a number without a currency, or have no
-    /// number before a cost or a price, or its cost or its price is outside the profile.
+    /// Whether the books have no such posting: its units are a number without a currency, or have
+    /// no number before a cost or a price, or its cost or its price is outside the profile.
     pub fn is_outside_profile(&self) -> bool
         ensures { result ≡ rule.is_outside_profile self.now }
     {
