@@ -1,7 +1,8 @@
 -- What the rules of first lines read.
 use Rattle.std.proofs.Common.{◌≡◌, ℕ, Bool, true, false, List, [], ◌∷◌, ◌++◌, Option, Some, None, MatchOption, refl, sym, ◌∙◌, ap, subst}
+use Rattle.std.specs.Prelude.{if◌then◌else◌}
 use Rattle.theory.specs.Form.{Form, Reads, HasNone, word, made, ◌<+>◌, behind, due, separated, snoc, alone}
-use Rattle.theory.proofs.FormFacts.{Tells, Follows, either_false, reads_word, reads_behind, none_behind, reads_due, reads_not_due, none_due, reads_applied, none_first, none_next}
+use Rattle.theory.proofs.FormFacts.{Tells, Follows, either_false, reads_word, reads_behind, none_behind, reads_checked, none_checked, not_checked, reads_due, reads_not_due, none_due, reads_applied, none_first, none_next}
 use Rattle.theory.proofs.RowFacts.{InRow, Separates, row_ends, row_begins, row_goes_on, row_is_read, none_in_row}
 use Rattle.bean_base.specs.declared.flags.Flag as flags
 use Rattle.bean_base.specs.declared.num.Num.{Num}
@@ -17,7 +18,7 @@ use Rattle.bean_grammar.specs.Lexeme.{Lexeme, Account, Currency, Sign, begins_wi
 use Rattle.bean_grammar.specs.Literal.{text}
 use Rattle.bean_grammar.specs.Mark.{marks}
 use Rattle.bean_grammar.specs.Metadata.{all_values}
-use Rattle.bean_parser.specs.Head.{pad_of, pad_line, tolerance, begins_with_tilde, balance_of, balance_line, price_of, price_line, note_of, note_line, document_of, document_line, event_of, event_line, query_of, query_line, custom_of, custom_line, words_of, words, transaction_of, transaction_line, listed, begins_with_comma, some_currencies, currencies, open_of, open_line}
+use Rattle.bean_parser.specs.Head.{pad_of, pad_line, is_negative, not_negative, tolerance, begins_with_tilde, balance_of, balance_line, price_of, price_line, note_of, note_line, document_of, document_line, event_of, event_line, query_of, query_line, custom_of, custom_line, words_of, words, transaction_of, transaction_line, listed, begins_with_comma, some_currencies, currencies, open_of, open_line}
 use Rattle.bean_parser.specs.declared.directive.DirectiveKind.{DirectiveKind}
 use Rattle.bean_parser.specs.declared.transaction.PayeeAndNarration.{PayeeAndNarration}
 
@@ -99,16 +100,26 @@ no_currency_price ls c mid n after at r absent = no_next priced (word Currency) 
 -- Tolerances and balances.
 
 pub tolerance_told : Tells begins_with_tilde tolerance
-tolerance_told ls v rest p = ap begins_with_tilde p.1
+tolerance_told ls v rest p = ap begins_with_tilde p.1.1
 
-pub reads_tolerance : (ls mid : List Lexeme) (n : Ranged Num) (rest : List Lexeme) → ls ≡ Sign sign.Tilde ∷ mid → Reads expression mid n rest → Reads (due begins_with_tilde tolerance) ls (Some n) rest
-reads_tolerance ls mid n rest at r = reads_due begins_with_tilde tolerance ls n rest (ap begins_with_tilde at) (reads_behind (Sign sign.Tilde) expression ls mid n rest at r)
+abbrev behind_tilde : Form Lexeme (Ranged Num)
+behind_tilde = behind (Sign sign.Tilde) expression
+
+pub reads_tolerance : (ls mid : List Lexeme) (n : Ranged Num) (rest : List Lexeme) → ls ≡ Sign sign.Tilde ∷ mid → Reads expression mid n rest → is_negative n ≡ false → Reads (due begins_with_tilde tolerance) ls (Some n) rest
+reads_tolerance ls mid n rest at r sign_is =
+    reads_due begins_with_tilde tolerance ls n rest (ap begins_with_tilde at)
+    (reads_checked not_negative behind_tilde ls n n rest (reads_behind (Sign sign.Tilde) expression ls mid n rest at r) (ap (λ b. if b then None else Some n) sign_is))
+
+pub negative_tolerance : (ls mid : List Lexeme) (n : Ranged Num) (rest : List Lexeme) → ls ≡ Sign sign.Tilde ∷ mid → Reads expression mid n rest → is_negative n ≡ true → HasNone (due begins_with_tilde tolerance) ls
+negative_tolerance ls mid n rest at r sign_is =
+    none_due begins_with_tilde tolerance ls (ap begins_with_tilde at)
+    (not_checked not_negative behind_tilde ls n rest (reads_behind (Sign sign.Tilde) expression ls mid n rest at r) (ap (λ b. if b then None else Some n) sign_is))
 
 pub reads_no_tolerance : (ls : List Lexeme) → begins_with_tilde ls ≡ false → Reads (due begins_with_tilde tolerance) ls None ls
 reads_no_tolerance ls absent = reads_not_due begins_with_tilde tolerance ls tolerance_told absent
 
 pub none_tolerance : (ls mid : List Lexeme) → ls ≡ Sign sign.Tilde ∷ mid → HasNone expression mid → HasNone (due begins_with_tilde tolerance) ls
-none_tolerance ls mid at none = none_due begins_with_tilde tolerance ls (ap begins_with_tilde at) (none_behind (Sign sign.Tilde) expression ls mid at none)
+none_tolerance ls mid at none = none_due begins_with_tilde tolerance ls (ap begins_with_tilde at) (none_checked not_negative behind_tilde ls (none_behind (Sign sign.Tilde) expression ls mid at none))
 
 abbrev balanced : Form Lexeme (Option (Ranged Num) → List ℕ → Ranged DirectiveKind)
 balanced = made balance_of <+> word Account <+> expression

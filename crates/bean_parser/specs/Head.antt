@@ -5,8 +5,8 @@
 -- balance   account expression ["~" expression] currency  price   currency expression currency
 -- event     text text    query    text text              custom  text {value}
 -- "*", "!", txn          [text [text]] {tag|link}
-use Rattle.std.specs.Prelude.{◌≡◌, ℕ, Bool, true, false, List, [], ◌∷◌, Option, Some, None}
-use Rattle.theory.specs.Form.{Form, Is, word, made, ◌<+>◌, behind, due, separated}
+use Rattle.std.specs.Prelude.{◌≡◌, ℕ, ℤ, pos, int_lt, Bool, true, false, List, [], ◌∷◌, Option, Some, None, if◌then◌else◌}
+use Rattle.theory.specs.Form.{Form, Is, word, made, ◌<+>◌, behind, checked, due, separated}
 use Rattle.bean_base.specs.declared.days.Day as days
 use Rattle.bean_base.specs.declared.flags.Flag as flags
 use Rattle.bean_base.specs.declared.flags.Flag.TheVariants.{Complete, Incomplete}
@@ -75,8 +75,16 @@ commodity_line = made commodity_of <+> word Currency
 abbrev pub begins_with_tilde : List Lexeme → Bool
 begins_with_tilde ls = begins_with_sign sign.Tilde ls
 
+abbrev pub is_negative : Ranged Num → Bool
+is_negative (Within n) = int_lt n.count (pos 0)
+is_negative Outside = false
+
+abbrev pub not_negative : Ranged Num → Option (Ranged Num)
+not_negative n = if is_negative n then None else Some n
+
+-- a number below 0 is no tolerance; one out of range is not told to be below it
 abbrev pub tolerance : Form Lexeme (Ranged Num)
-tolerance = behind (Sign sign.Tilde) expression
+tolerance = checked not_negative (behind (Sign sign.Tilde) expression)
 
 -- none is in range
 abbrev pub ranged_option : Option (Ranged Num) → Ranged (Option Num)

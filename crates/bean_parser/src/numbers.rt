@@ -46,6 +46,16 @@ pub fn commodity_line<'t, 'a>(
     Some((Ranged::Within(DirectiveKind::Commodity(commodity)), rest))
 }
 
+/// Whether a number in range is below 0.
+fn is_negative(number: &Ranged<Num>) -> bool
+    ensures { result ≡ rule.is_negative number.now }
+{
+    match number {
+        Ranged::Within(number) => number.count < 0,
+        Ranged::Outside => false,
+    }
+}
+
 /// The tolerance behind a tilde at the front, if there is one, and what stands behind it.
 fn tolerance_if_due<'t, 'a>(
     tokens: &'t [Token<'a>],
@@ -59,6 +69,9 @@ fn tolerance_if_due<'t, 'a>(
         return Some((None, tokens));
     };
     let (tolerance, rest) = expression(behind)?;
+    if is_negative(&tolerance) {
+        return None;
+    }
     Some((Some(tolerance), rest))
 }
 
