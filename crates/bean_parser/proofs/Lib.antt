@@ -12,3 +12,4 @@ pub mod GatheredFacts
 pub mod ParsedFacts
 pub mod OneTree
 pub mod OneReadingFacts
+mod Examples
