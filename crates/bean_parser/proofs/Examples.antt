@@ -6,17 +6,17 @@ use Rattle.bean_lexer.specs.declared.kind.Sign.TheVariants as sign
 use Rattle.bean_grammar.specs.declared.metadata.Value.TheVariants as value
 use Rattle.bean_grammar.specs.declared.ranged.Ranged.TheVariants.{Within, Outside}
 use Rattle.bean_grammar.specs.Lexeme.{Account, Sign}
-use Rattle.bean_parser.specs.Head.{words_of, close_of, close_line, pad_of, pad_line, kind_behind, nothing, open_of, ranged_option}
+use Rattle.bean_heads.specs.Head.{words_of, close_of, close_line, pad_of, pad_line, kind_behind, nothing, open_of, ranged_option}
 use Rattle.bean_parser.specs.Scope.{pop_of, open_pushes, unmatched}
 use Rattle.bean_parser.specs.Outcome.{fault_at}
-use Rattle.bean_parser.specs.Undated.{option_of}
+use Rattle.bean_heads.specs.Undated.{option_of}
 use Rattle.bean_parser.specs.Under.{no_lines, with_lines}
 use Rattle.bean_parser.specs.declared.scope.PlacedBound.{PlacedBound}
-use Rattle.bean_parser.specs.declared.undated.Bound.TheVariants.{Push, Pop}
-use Rattle.bean_parser.specs.declared.undated.PushName.TheVariants as names
-use Rattle.bean_parser.specs.declared.undated.Pushed.TheVariants as pushed
-use Rattle.bean_parser.specs.declared.undated.SettingKind.TheVariants as settings
-use Rattle.bean_parser.specs.declared.undated.UndatedKind.TheVariants as kinds
+use Rattle.bean_heads.specs.declared.undated.Bound.TheVariants.{Push, Pop}
+use Rattle.bean_heads.specs.declared.undated.PushName.TheVariants as names
+use Rattle.bean_heads.specs.declared.undated.Pushed.TheVariants as pushed
+use Rattle.bean_heads.specs.declared.undated.SettingKind.TheVariants as settings
+use Rattle.bean_heads.specs.declared.undated.UndatedKind.TheVariants as kinds
 use Rattle.bean_parser.specs.declared.under.LineKind.TheVariants as lines
 use Rattle.bean_base.specs.declared.fault.FaultKind.TheVariants.{UnmatchedPushOrPop}
 

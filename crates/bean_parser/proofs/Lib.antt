@@ -1,11 +1,6 @@
 pub mod BlockReaderFacts
-pub mod HeadFacts
-pub mod UndatedFacts
 pub mod LineFacts
-pub mod FirstLineFacts
 pub mod LinesFacts
-pub mod OneHeadFacts
-pub mod OneUndatedFacts
 pub mod BlockFacts
 pub mod ScopeFacts
 pub mod GatheredFacts
