@@ -3,3 +3,4 @@ pub mod UndatedFacts
 pub mod FirstLineFacts
 pub mod OneHeadFacts
 pub mod OneUndatedFacts
+mod Examples

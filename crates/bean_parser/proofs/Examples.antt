@@ -1,52 +1,17 @@
 -- Worked values of the definitions.
-use Rattle.std.proofs.Common.{◌≡◌, ℕ, [], ◌∷◌, true, false, Option, Some, None, refl, pos, negsuc}
+use Rattle.std.proofs.Common.{◌≡◌, ℕ, [], ◌∷◌, false, Option, Some, None, refl}
 use Rattle.std.specs.Prelude.{codes}
-use Rattle.theory.specs.Form.{Is}
-use Rattle.bean_lexer.specs.declared.kind.Sign.TheVariants as sign
+use Rattle.bean_base.specs.declared.fault.FaultKind.TheVariants.{UnmatchedPushOrPop}
 use Rattle.bean_grammar.specs.declared.metadata.Value.TheVariants as value
 use Rattle.bean_grammar.specs.declared.ranged.Ranged.TheVariants.{Within, Outside}
-use Rattle.bean_grammar.specs.Lexeme.{Account, Sign}
-use Rattle.bean_heads.specs.Head.{words_of, close_of, close_line, pad_of, pad_line, kind_behind, nothing, open_of, ranged_option}
-use Rattle.bean_parser.specs.Scope.{pop_of, open_pushes, unmatched}
-use Rattle.bean_parser.specs.Outcome.{fault_at}
-use Rattle.bean_heads.specs.Undated.{option_of}
-use Rattle.bean_parser.specs.Under.{no_lines, with_lines}
-use Rattle.bean_parser.specs.declared.scope.PlacedBound.{PlacedBound}
 use Rattle.bean_heads.specs.declared.undated.Bound.TheVariants.{Push, Pop}
 use Rattle.bean_heads.specs.declared.undated.PushName.TheVariants as names
 use Rattle.bean_heads.specs.declared.undated.Pushed.TheVariants as pushed
-use Rattle.bean_heads.specs.declared.undated.SettingKind.TheVariants as settings
-use Rattle.bean_heads.specs.declared.undated.UndatedKind.TheVariants as kinds
+use Rattle.bean_parser.specs.Outcome.{fault_at}
+use Rattle.bean_parser.specs.Scope.{pop_of, open_pushes, unmatched}
+use Rattle.bean_parser.specs.Under.{no_lines, with_lines}
+use Rattle.bean_parser.specs.declared.scope.PlacedBound.{PlacedBound}
 use Rattle.bean_parser.specs.declared.under.LineKind.TheVariants as lines
-use Rattle.bean_base.specs.declared.fault.FaultKind.TheVariants.{UnmatchedPushOrPop}
-
--- one text is the narration, and of two the first is the payee
-one_text : words_of (Some (codes "Bread")) None ≡ record { payee = None; narration = codes "Bread" }
-one_text = refl
-
-two_texts : words_of (Some (codes "Shop")) (Some (codes "Bread")) ≡ record { payee = Some (codes "Shop"); narration = codes "Bread" }
-two_texts = refl
-
-no_text : words_of None None ≡ record { payee = None; narration = [] }
-no_text = refl
-
--- close Assets:Cash
-closing_line : Is close_line (Account (codes "Assets:Cash") ∷ []) (close_of (codes "Assets:Cash"))
-closing_line = (close_of, codes "Assets:Cash", _, (refl, refl), refl, refl)
-
--- behind a comma there is no directive
-no_kind : kind_behind (Sign sign.Comma) ≡ nothing
-no_kind = refl
-
--- a tolerance that isn't written is in range
-no_tolerance : ranged_option None ≡ Within None
-no_tolerance = refl
-
-title : option_of (codes "title") (codes "Home") ≡ Within (kinds.Setting (settings.Title (codes "Home")))
-title = refl
-
-other_option : option_of (codes "titel") (codes "Home") ≡ Within kinds.Ignored
-other_option = refl
 
 abbrev push_at : ℕ → ℕ → PlacedBound
 push_at line place = record { line = line; place = place; bound = Push (pushed.Tag (codes "a")) }
