@@ -1,6 +1,6 @@
 -- First lines: what they are, and that they are nothing else.
-use Rattle.std.proofs.Common.{◌≡◌, ℕ, Bool, true, false, List, [], ◌∷◌, Option, Some, None, refl, sym, ◌∙◌, ap, subst}
-use Rattle.theory.specs.Form.{Form, Reads, HasNone, Is, IsNone}
+use Rattle.std.proofs.Common.{◌≡◌, ℕ, false, List, [], ◌∷◌, refl, sym, ◌∙◌, subst}
+use Rattle.theory.specs.Form.{Reads, HasNone, Is}
 use Rattle.theory.proofs.FormFacts.{is_all, none_whole, more_than_whole}
 use Rattle.bean_base.specs.declared.days.Day as days
 use Rattle.bean_lexer.specs.declared.kind.Keyword.TheVariants as keyword

@@ -1,8 +1,8 @@
 -- What the rules of first lines read.
-use Rattle.std.proofs.Common.{◌≡◌, ℕ, Bool, true, false, List, [], ◌∷◌, ◌++◌, Option, Some, None, MatchOption, refl, sym, ◌∙◌, ap, subst}
+use Rattle.std.proofs.Common.{◌≡◌, ℕ, true, false, List, [], ◌∷◌, ◌++◌, Option, Some, None, MatchOption, refl, sym, ◌∙◌, ap, subst}
 use Rattle.std.specs.Prelude.{if◌then◌else◌}
-use Rattle.theory.specs.Form.{Form, Reads, HasNone, word, made, ◌<+>◌, behind, due, separated, snoc, alone}
-use Rattle.theory.proofs.FormFacts.{Tells, Follows, either_false, reads_word, reads_behind, none_behind, reads_checked, none_checked, not_checked, reads_due, reads_not_due, none_due, reads_applied, none_first, none_next}
+use Rattle.theory.specs.Form.{Form, Reads, HasNone, word, made, ◌<+>◌, behind, due, snoc, alone}
+use Rattle.theory.proofs.FormFacts.{Tells, Follows, reads_word, reads_behind, none_behind, reads_checked, none_checked, not_checked, reads_due, reads_not_due, none_due, reads_applied, none_first}
 use Rattle.theory.proofs.RowFacts.{InRow, Separates, row_ends, row_begins, row_goes_on, row_is_read, none_in_row}
 use Rattle.bean_base.specs.declared.flags.Flag as flags
 use Rattle.bean_base.specs.declared.num.Num.{Num}
@@ -14,7 +14,7 @@ use Rattle.bean_grammar.specs.declared.mark.Mark.{Mark}
 use Rattle.bean_grammar.specs.declared.metadata.Value.{Value}
 use Rattle.bean_grammar.specs.declared.ranged.Ranged.{Ranged}
 use Rattle.bean_grammar.specs.Expression.{expression}
-use Rattle.bean_grammar.specs.Lexeme.{Lexeme, Account, Currency, Sign, begins_with_account, begins_with_text, begins_with_currency, begins_with_sign}
+use Rattle.bean_grammar.specs.Lexeme.{Lexeme, Account, Currency, Sign, begins_with_account, begins_with_text, begins_with_currency}
 use Rattle.bean_grammar.specs.Literal.{text}
 use Rattle.bean_grammar.specs.Mark.{marks}
 use Rattle.bean_grammar.specs.Metadata.{all_values}

@@ -1,6 +1,6 @@
 -- Lines without a day are read in one way.
-use Rattle.std.proofs.Common.{◌≡◌, ℕ, List, [], ◌∷◌, Option, refl}
-use Rattle.theory.specs.Form.{Form, Is, IsUnambiguous, word, made, ◌<+>◌, due}
+use Rattle.std.proofs.Common.{◌≡◌, List, refl}
+use Rattle.theory.specs.Form.{IsUnambiguous, word, made, ◌<+>◌, due}
 use Rattle.theory.proofs.OneReading.{one_word, one_value}
 use Rattle.bean_lexer.specs.declared.kind.Keyword.TheVariants as keyword
 use Rattle.bean_lexer.specs.declared.kind.Sign.TheVariants as sign

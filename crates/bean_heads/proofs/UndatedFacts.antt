@@ -1,8 +1,8 @@
 -- What the rules of lines without a day read.
-use Rattle.std.proofs.Common.{◌≡◌, ℕ, Bool, true, false, List, [], ◌∷◌, Option, Some, None, refl, sym, ◌∙◌, ap, subst}
+use Rattle.std.proofs.Common.{◌≡◌, ℕ, Bool, false, List, Option, refl, sym}
 use Rattle.std.specs.Prelude.{codes, if◌then◌else◌}
 use Rattle.std.specs.Str.{bytes_eq}
-use Rattle.theory.specs.Form.{Form, Reads, HasNone, Is, made, ◌<+>◌, due}
+use Rattle.theory.specs.Form.{Reads, HasNone, made, ◌<+>◌, due}
 use Rattle.bean_grammar.proofs.AppliedFacts.{reads_first, no_first, reads_next}
 use Rattle.bean_grammar.specs.declared.metadata.Entry.{Entry}
 use Rattle.bean_grammar.specs.declared.ranged.Ranged.{Ranged}

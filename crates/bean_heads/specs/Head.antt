@@ -5,7 +5,7 @@
 -- balance   account expression ["~" expression] currency  price   currency expression currency
 -- event     text text    query    text text              custom  text {value}
 -- "*", "!", txn          [text [text]] {tag|link}
-use Rattle.std.specs.Prelude.{◌≡◌, ℕ, ℤ, pos, int_lt, Bool, true, false, List, [], ◌∷◌, Option, Some, None, if◌then◌else◌}
+use Rattle.std.specs.Prelude.{◌≡◌, ℕ, pos, int_lt, Bool, false, List, [], ◌∷◌, Option, Some, None, if◌then◌else◌}
 use Rattle.theory.specs.Form.{Form, Is, word, made, ◌<+>◌, behind, checked, due, separated}
 use Rattle.bean_base.specs.declared.days.Day as days
 use Rattle.bean_base.specs.declared.flags.Flag as flags

@@ -2,13 +2,13 @@
 --
 -- option  text text     include text     plugin   text [text]
 -- pushtag tag           poptag  tag      pushmeta key value     popmeta key
-use Rattle.std.specs.Prelude.{◌≡◌, ℕ, Bool, true, false, List, [], ◌∷◌, Option, Some, None, codes, if◌then◌else◌}
+use Rattle.std.specs.Prelude.{◌≡◌, ℕ, false, List, ◌∷◌, Option, codes, if◌then◌else◌}
 use Rattle.std.specs.Str.{bytes_eq}
 use Rattle.theory.specs.Form.{Form, Is, word, made, ◌<+>◌, due}
 use Rattle.bean_lexer.specs.declared.kind.Keyword.TheVariants as keyword
 use Rattle.bean_grammar.specs.declared.metadata.Entry.{Entry}
 use Rattle.bean_grammar.specs.declared.ranged.Ranged.{Ranged}
-use Rattle.bean_grammar.specs.declared.ranged.Ranged.TheVariants.{Within, Outside}
+use Rattle.bean_grammar.specs.declared.ranged.Ranged.TheVariants.{Within}
 use Rattle.bean_grammar.specs.Lexeme.{Lexeme, Tag, Key, Keyword, begins_with_text}
 use Rattle.bean_grammar.specs.Literal.{text}
 use Rattle.bean_grammar.specs.Metadata.{entry}

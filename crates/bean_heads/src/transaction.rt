@@ -79,5 +79,8 @@ pub fn transaction_line<'t, 'a>(
         marks,
         postings: List::new(Vec::new(alloc)),
     };
-    Ok((Ranged::Within(DirectiveKind::Transaction(transaction)), rest))
+    Ok((
+        Ranged::Within(DirectiveKind::Transaction(transaction)),
+        rest,
+    ))
 }

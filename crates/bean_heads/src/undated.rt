@@ -86,9 +86,7 @@ fn option_of<'a>(name: Text<'a>, value: Text<'a>) -> Ranged<UndatedKind<'a>>
 }
 
 /// What stands behind `option`, and what stands behind that.
-fn option<'t, 'a>(
-    tokens: &'t [Token<'a>],
-) -> Option<(Ranged<UndatedKind<'a>>, &'t [Token<'a>])>
+fn option<'t, 'a>(tokens: &'t [Token<'a>]) -> Option<(Ranged<UndatedKind<'a>>, &'t [Token<'a>])>
     ensures { MatchOption result (HasNone rule.option (lexemes tokens.now))
         (λ r. Reads rule.option (lexemes tokens.now) r.0 (lexemes r.1.now)) }
 {
@@ -98,9 +96,7 @@ fn option<'t, 'a>(
 }
 
 /// What stands behind `include`, and what stands behind that.
-fn include<'t, 'a>(
-    tokens: &'t [Token<'a>],
-) -> Option<(Ranged<UndatedKind<'a>>, &'t [Token<'a>])>
+fn include<'t, 'a>(tokens: &'t [Token<'a>]) -> Option<(Ranged<UndatedKind<'a>>, &'t [Token<'a>])>
     ensures { MatchOption result (HasNone rule.include (lexemes tokens.now))
         (λ r. Reads rule.include (lexemes tokens.now) r.0 (lexemes r.1.now)) }
 {
@@ -110,9 +106,7 @@ fn include<'t, 'a>(
 }
 
 /// What stands behind `plugin`, and what stands behind that.
-fn plugin<'t, 'a>(
-    tokens: &'t [Token<'a>],
-) -> Option<(Ranged<UndatedKind<'a>>, &'t [Token<'a>])>
+fn plugin<'t, 'a>(tokens: &'t [Token<'a>]) -> Option<(Ranged<UndatedKind<'a>>, &'t [Token<'a>])>
     ensures { MatchOption result (HasNone rule.plugin (lexemes tokens.now))
         (λ r. Reads rule.plugin (lexemes tokens.now) r.0 (lexemes r.1.now)) }
 {
@@ -122,9 +116,7 @@ fn plugin<'t, 'a>(
 }
 
 /// What stands behind `pushtag`, and what stands behind that.
-fn push_tag<'t, 'a>(
-    tokens: &'t [Token<'a>],
-) -> Option<(Ranged<UndatedKind<'a>>, &'t [Token<'a>])>
+fn push_tag<'t, 'a>(tokens: &'t [Token<'a>]) -> Option<(Ranged<UndatedKind<'a>>, &'t [Token<'a>])>
     ensures { MatchOption result (HasNone rule.push_tag (lexemes tokens.now))
         (λ r. Reads rule.push_tag (lexemes tokens.now) r.0 (lexemes r.1.now)) }
 {
@@ -134,9 +126,7 @@ fn push_tag<'t, 'a>(
 }
 
 /// What stands behind `poptag`, and what stands behind that.
-fn pop_tag<'t, 'a>(
-    tokens: &'t [Token<'a>],
-) -> Option<(Ranged<UndatedKind<'a>>, &'t [Token<'a>])>
+fn pop_tag<'t, 'a>(tokens: &'t [Token<'a>]) -> Option<(Ranged<UndatedKind<'a>>, &'t [Token<'a>])>
     ensures { MatchOption result (HasNone rule.pop_tag (lexemes tokens.now))
         (λ r. Reads rule.pop_tag (lexemes tokens.now) r.0 (lexemes r.1.now)) }
 {
@@ -157,9 +147,7 @@ fn push_entry_of<'a>(entry: Ranged<Entry<'a>>) -> Ranged<UndatedKind<'a>>
 }
 
 /// What stands behind `pushmeta`, and what stands behind that.
-fn push_entry<'t, 'a>(
-    tokens: &'t [Token<'a>],
-) -> Option<(Ranged<UndatedKind<'a>>, &'t [Token<'a>])>
+fn push_entry<'t, 'a>(tokens: &'t [Token<'a>]) -> Option<(Ranged<UndatedKind<'a>>, &'t [Token<'a>])>
     ensures { MatchOption result (HasNone rule.push_entry (lexemes tokens.now))
         (λ r. Reads rule.push_entry (lexemes tokens.now) r.0 (lexemes r.1.now)) }
 {
@@ -168,9 +156,7 @@ fn push_entry<'t, 'a>(
 }
 
 /// What stands behind `popmeta`, and what stands behind that.
-fn pop_key<'t, 'a>(
-    tokens: &'t [Token<'a>],
-) -> Option<(Ranged<UndatedKind<'a>>, &'t [Token<'a>])>
+fn pop_key<'t, 'a>(tokens: &'t [Token<'a>]) -> Option<(Ranged<UndatedKind<'a>>, &'t [Token<'a>])>
     ensures { MatchOption result (HasNone rule.pop_key (lexemes tokens.now))
         (λ r. Reads rule.pop_key (lexemes tokens.now) r.0 (lexemes r.1.now)) }
 {

@@ -1,20 +1,18 @@
 -- A block, from its first line and those under it.
-use Rattle.std.proofs.Common.{◌≡◌, ℕ, suc, arith, ◌==◌, true, false, List, [], ◌∷◌, length, map, take, drop, Option, Some, None, Result, Ok, Err, refl, sym, ◌∙◌, ap, subst}
+use Rattle.std.proofs.Common.{◌≡◌, ℕ, suc, arith, ◌==◌, true, false, List, [], ◌∷◌, length, map, Option, Some, None, Result, Ok, Err, refl, sym, ◌∙◌, ap, subst}
 use Rattle.std.proofs.lemmas.Bool.Decides.{nat_tests}
 use Rattle.std.specs.Prelude.{IfOk}
 use Rattle.theory.specs.Cut.{cut_before}
-use Rattle.theory.specs.Form.{Is}
-use Rattle.theory.proofs.CutFacts.{first_cut, others_len}
+use Rattle.theory.proofs.CutFacts.{first_cut}
 use Rattle.bean_base.specs.declared.days.Day as days
 use Rattle.bean_lexer.specs.declared.token.Token.{Token}
 use Rattle.bean_grammar.specs.declared.ranged.Ranged.{Ranged}
-use Rattle.bean_grammar.specs.Lexeme.{Lexeme, Day, Keyword, lexemes}
-use Rattle.bean_grammar.specs.Literal.{day}
+use Rattle.bean_grammar.specs.Lexeme.{lexemes}
 use Rattle.bean_parser.specs.Block.{Line, line_of, lines, first_line, begins_line, is_in_column_one}
-use Rattle.bean_parser.specs.Grammar.{takes_postings, Tree, Dated, Undated, HaveTree, HasTree}
+use Rattle.bean_parser.specs.Grammar.{takes_postings, Tree, Dated, Undated, HaveTree}
 use Rattle.bean_heads.specs.Head.{IsHead, IsNoHead}
 use Rattle.bean_parser.specs.Reading.{ReadsDated, ReadsUndated, ReadsBlock}
-use Rattle.bean_heads.specs.Undated.{IsUndated, IsNotUndated}
+use Rattle.bean_heads.specs.Undated.{IsUndated}
 use Rattle.bean_parser.specs.Under.{AreLines}
 use Rattle.bean_heads.specs.declared.directive.DirectiveKind.{DirectiveKind}
 use Rattle.bean_parser.specs.declared.statement.Statement.{Statement}

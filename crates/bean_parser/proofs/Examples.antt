@@ -1,5 +1,5 @@
 -- Worked values of the definitions.
-use Rattle.std.proofs.Common.{◌≡◌, ℕ, [], ◌∷◌, false, Option, Some, None, refl}
+use Rattle.std.proofs.Common.{◌≡◌, ℕ, [], ◌∷◌, false, Some, None, refl}
 use Rattle.std.specs.Prelude.{codes}
 use Rattle.bean_base.specs.declared.fault.FaultKind.TheVariants.{UnmatchedPushOrPop}
 use Rattle.bean_grammar.specs.declared.metadata.Value.TheVariants as value

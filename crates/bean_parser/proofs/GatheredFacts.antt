@@ -1,5 +1,5 @@
 -- What is kept of blocks, one after the other.
-use Rattle.std.proofs.Common.{◌≡◌, ℕ, zero, suc, ◌+◌, List, [], ◌∷◌, ◌++◌, length, refl, sym, ◌∙◌, ap, subst, append_assoc, arith}
+use Rattle.std.proofs.Common.{◌≡◌, ℕ, ◌+◌, List, [], ◌∷◌, ◌++◌, length, sym, ◌∙◌, ap, subst, append_assoc, arith}
 use Rattle.std.proofs.lemmas.List.{append-nil}
 use Rattle.std.specs.List.{flat_map}
 use Rattle.bean_parser.specs.Gathered.{IsGathered, undated_at}
@@ -17,7 +17,6 @@ use Rattle.bean_heads.specs.declared.undated.SettingKind.{SettingKind}
 use Rattle.bean_heads.specs.declared.undated.UndatedKind.{UndatedKind}
 use Rattle.bean_heads.specs.declared.undated.UndatedKind.TheVariants as kind
 use Rattle.bean_parser.specs.declared.parse.Gathered.{Gathered}
-use Rattle.bean_parser.specs.declared.scope.PlacedBound.{PlacedBound}
 
 one_more : {A B : Type 0} (f : A → List B) (xs : List A) (x : A) → flat_map f (xs ++ x ∷ []) ≡ flat_map f xs ++ f x
 one_more f [] x = append-nil (f x)

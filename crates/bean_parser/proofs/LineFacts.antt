@@ -1,6 +1,6 @@
 -- What a line under a first one says, and what it doesn't.
-use Rattle.std.proofs.Common.{◌≡◌, ℕ, Bool, true, false, List, [], ◌∷◌, Option, Some, None, refl, sym, ◌∙◌, ap, subst}
-use Rattle.theory.specs.Form.{Form, Reads, HasNone, Is, IsNone, DueRead, word}
+use Rattle.std.proofs.Common.{◌≡◌, ℕ, Bool, true, false, List, [], ◌∷◌, Option, Some, None, refl, ◌∙◌, ap, subst}
+use Rattle.theory.specs.Form.{Reads, HasNone, Is, IsNone, DueRead, word}
 use Rattle.theory.proofs.FormFacts.{Tells, none_whole, more_than_whole}
 use Rattle.bean_base.specs.declared.flags.Flag as flags
 use Rattle.bean_base.specs.declared.flags.Flag.TheVariants.{Complete, Incomplete}
@@ -14,7 +14,7 @@ use Rattle.bean_grammar.specs.Lexeme.{Lexeme, Account, lexemes, begins_with_key}
 use Rattle.bean_grammar.specs.Mark.{written, begins_with_mark, some_marks}
 use Rattle.bean_grammar.specs.Metadata.{entry}
 use Rattle.bean_grammar.specs.Posting.{flag_sign, begins_with_flag_sign, posting}
-use Rattle.bean_parser.specs.Block.{Line, line_of, first_line}
+use Rattle.bean_parser.specs.Block.{line_of, first_line}
 use Rattle.bean_parser.specs.Under.{IsLine}
 use Rattle.bean_parser.specs.declared.under.LineKind.{LineKind}
 use Rattle.bean_parser.specs.declared.under.LineKind.TheVariants as kinds

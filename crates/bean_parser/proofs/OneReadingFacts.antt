@@ -1,7 +1,6 @@
 -- Blocks and texts say one thing.
-use Rattle.std.proofs.Common.{◌≡◌, ℕ, ◌⊎◌, inl, inr, List, [], ◌∷◌, ◌++◌, Option, Some, None, refl, sym, ◌∙◌, ap, subst}
+use Rattle.std.proofs.Common.{◌≡◌, ℕ, inl, inr, List, [], ◌∷◌, Option, Some, None, sym, ◌∙◌, ap, subst}
 use Rattle.std.proofs.lemmas.Cmp.{nat_cmp_total}
-use Rattle.std.specs.List.{flat_map}
 use Rattle.std.specs.Ordering.{nat_cmp}
 use Rattle.theory.proofs.ArrangementFacts.{one_by_key}
 use Rattle.bean_base.specs.declared.fault.Fault as faults
@@ -14,7 +13,7 @@ use Rattle.bean_parser.specs.declared.parse.Parsed.{Parsed}
 use Rattle.bean_parser.specs.declared.statement.Statement as statements
 use Rattle.bean_parser.specs.Block.{fault_line, blocks}
 use Rattle.bean_parser.specs.Grammar.{said}
-use Rattle.bean_parser.specs.Outcome.{ReadsAs, GivesAt, Gives, AllGive}
+use Rattle.bean_parser.specs.Outcome.{ReadsAs, GivesAt, AllGive}
 use Rattle.bean_parser.specs.Parsed.{IsParsed, ComeTo, AreByLine}
 use Rattle.bean_parser.proofs.OneTree.{one_tree}
 

@@ -1,6 +1,5 @@
 -- A block has at most one tree.
-use Rattle.std.proofs.Common.{◌≡◌, ℕ, Bool, true, false, List, [], ◌∷◌, refl, sym, ◌∙◌, ap, subst}
-use Rattle.theory.specs.Form.{Is}
+use Rattle.std.proofs.Common.{◌≡◌, Bool, List, [], ◌∷◌, refl, sym, ◌∙◌, ap, subst}
 use Rattle.theory.proofs.OneReading.{one_value}
 use Rattle.bean_lexer.specs.declared.token.Token.{Token}
 use Rattle.bean_grammar.proofs.MarkFacts.{one_some_marks}
@@ -9,11 +8,9 @@ use Rattle.bean_grammar.proofs.PostingFacts.{one_posting}
 use Rattle.bean_grammar.specs.Mark.{some_marks}
 use Rattle.bean_grammar.specs.Metadata.{entry}
 use Rattle.bean_grammar.specs.Posting.{posting}
-use Rattle.bean_grammar.specs.declared.ranged.Ranged.{Ranged}
 use Rattle.bean_parser.specs.Block.{Line, lines}
 use Rattle.bean_parser.specs.Grammar.{takes_postings, Tree, Dated, Undated, HaveTree, HasTree}
 use Rattle.bean_parser.specs.Under.{IsLine, AreLines}
-use Rattle.bean_heads.specs.declared.directive.DirectiveKind.{DirectiveKind}
 use Rattle.bean_parser.specs.declared.under.LineKind.{LineKind}
 use Rattle.bean_parser.specs.declared.under.LineKind.TheVariants as kinds
 use Rattle.bean_heads.proofs.FirstLineFacts.{dated_or_undated}

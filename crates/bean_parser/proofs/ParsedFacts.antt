@@ -1,7 +1,6 @@
 -- A text, block by block.
-use Rattle.std.proofs.Common.{◌≡◌, ℕ, true, false, List, [], ◌∷◌, ◌++◌, refl, sym, ◌∙◌, ap, subst, append_assoc}
+use Rattle.std.proofs.Common.{◌≡◌, ℕ, true, List, [], ◌∷◌, ◌++◌, refl, sym, ◌∙◌, subst, append_assoc}
 use Rattle.std.proofs.lemmas.List.{append-nil}
-use Rattle.std.specs.List.{flat_map}
 use Rattle.bean_base.specs.declared.fault.Fault as faults
 use Rattle.bean_lexer.specs.Tokens.{AreTokens}
 use Rattle.bean_lexer.specs.declared.token.Token.{Token}
@@ -9,7 +8,7 @@ use Rattle.bean_parser.specs.Block.{blocks}
 use Rattle.bean_parser.specs.BlockReader.{ToRead, TakesBlock}
 use Rattle.bean_parser.specs.Gathered.{IsGathered}
 use Rattle.bean_parser.specs.Outcome.{Gives, AllGive}
-use Rattle.bean_parser.specs.Parsed.{IsParsed, ComeTo, AreByLine, faults_in, all_bounds}
+use Rattle.bean_parser.specs.Parsed.{IsParsed, ComeTo, AreByLine}
 use Rattle.bean_parser.specs.Scope.{unmatched, with_pushes}
 use Rattle.bean_parser.specs.declared.block.Outcome.{Outcome}
 use Rattle.bean_heads.specs.declared.directive.Directive as directives

@@ -1,5 +1,5 @@
 -- What the parts of a block are read as.
-use Rattle.std.specs.Prelude.{◌≡◌, ℕ, Bool, true, List, [], ◌∷◌, Option, Some, None}
+use Rattle.std.specs.Prelude.{◌≡◌, ℕ, Bool, List, [], Option, Some, None}
 use Rattle.bean_base.specs.declared.days.Day.{Day}
 use Rattle.bean_lexer.specs.declared.token.Token.{Token}
 use Rattle.bean_grammar.specs.declared.ranged.Ranged.{Ranged}

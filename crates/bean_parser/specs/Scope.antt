@@ -1,5 +1,5 @@
 -- Pushes and pops: which pop takes a push back, and what is given to the transactions between.
-use Rattle.std.specs.Prelude.{◌≡◌, ℕ, zero, suc, ◌-◌, ◌&&◌, Bool, true, false, List, [], ◌∷◌, ◌++◌, Option, Some, None, is_some, nat_le, nat_lt, if◌then◌else◌}
+use Rattle.std.specs.Prelude.{ℕ, zero, suc, ◌-◌, ◌&&◌, Bool, true, false, List, [], ◌∷◌, ◌++◌, Option, Some, None, is_some, nat_le, nat_lt, if◌then◌else◌}
 use Rattle.std.specs.Str.{bytes_eq}
 use Rattle.bean_base.specs.declared.fault.Fault as faults
 use Rattle.bean_base.specs.declared.fault.FaultKind.TheVariants.{UnmatchedPushOrPop}

@@ -1,10 +1,8 @@
 -- The lines under a directive's first one, and what each adds to those above it.
-use Rattle.std.specs.Prelude.{◌≡◌, ℕ, Bool, true, false, List, [], ◌∷◌, ◌++◌, Option, Some, None, ◌⊎◌}
+use Rattle.std.specs.Prelude.{◌≡◌, Bool, true, false, List, [], ◌∷◌, ◌++◌, Option, Some, None}
 use Rattle.theory.specs.Form.{Is}
-use Rattle.bean_grammar.specs.declared.mark.Mark.{Mark}
 use Rattle.bean_grammar.specs.declared.metadata.Entry.{Entry}
 use Rattle.bean_grammar.specs.declared.posting.Posting.{Posting}
-use Rattle.bean_grammar.specs.declared.ranged.Ranged.{Ranged}
 use Rattle.bean_grammar.specs.declared.ranged.Ranged.TheVariants.{Within, Outside}
 use Rattle.bean_grammar.specs.Mark.{some_marks}
 use Rattle.bean_grammar.specs.Metadata.{entry}

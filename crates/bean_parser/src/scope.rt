@@ -3,10 +3,10 @@ ghost use Rattle.std.specs.Prelude.{◌≡◌, ◌<◌, ◌-◌, ◌^◌, ◌++�
 ghost use Rattle.bean_parser.specs.Scope as spec;
 
 use crate::block::fault_at;
-use bean_heads::directive::{Directive, DirectiveKind};
-use bean_heads::undated::{Bound, PushName, Pushed};
 use bean_base::{Fault, FaultKind, List, Tag};
 use bean_grammar::{Entry, Mark};
+use bean_heads::directive::{Directive, DirectiveKind};
+use bean_heads::undated::{Bound, PushName, Pushed};
 use std::alloc::AllocError;
 
 /// Where a scope begins or ends, with its place.
@@ -95,11 +95,7 @@ fn open_pushes(name: &PushName<'_>, bounds: &[PlacedBound<'_>]) -> usize
 }
 
 /// Whether a push has its pop behind it, or a pop an open push before it.
-fn is_matched(
-    before: &[PlacedBound<'_>],
-    bound: &Bound<'_>,
-    behind: &[PlacedBound<'_>],
-) -> bool
+fn is_matched(before: &[PlacedBound<'_>], bound: &Bound<'_>, behind: &[PlacedBound<'_>]) -> bool
     ensures { result ≡ spec.is_matched before.now bound.now behind.now }
 {
     match bound {
@@ -109,10 +105,7 @@ fn is_matched(
 }
 
 /// Adds F4 at each bound that isn't matched.
-pub fn add_unmatched(
-    bounds: &[PlacedBound<'_>],
-    faults: &mut Vec<Fault>,
-) -> Result<(), AllocError>
+pub fn add_unmatched(bounds: &[PlacedBound<'_>], faults: &mut Vec<Fault>) -> Result<(), AllocError>
     ensures { OnOk result (faults.new.items ≡ faults.old.items ++ spec.unmatched [] bounds.now) }
 {
     let mut i = 0;

@@ -17,7 +17,7 @@ pub loop-after-preserved : goal.loop-after-preserved
 loop-after-preserved c = (
   c.loop-after.invariant.0,
   subst (λ cs. InRow some_currencies (behind (Sign sign.Comma) (word Currency)) snoc (lexemes c.args.tokens.now) cs (lexemes c.in-Some-after_currency.found.1.now)) (sym c.in_ok-push-2.ensures.items)
-  (currency_more _ _ _ _ _ _ c.loop-after.invariant.1 c.in-Some-after_sign.ensures.front c.in-Some-after_currency.ensures.front),
+      (currency_more _ _ _ _ _ _ c.loop-after.invariant.1 c.in-Some-after_sign.ensures.front c.in-Some-after_currency.ensures.front),
 )
 
 pub returns : goal.returns

@@ -1,5 +1,5 @@
-use Rattle.bean_heads.proofs.HeadFacts.{when_some, when_none}
-use Rattle.bean_heads.proofs.FirstLineFacts.{head_without_day, head_ends_early, head_of_no_kind, head_goes_on, head_is}
+use Rattle.bean_heads.proofs.HeadFacts.{when_some}
+use Rattle.bean_heads.proofs.FirstLineFacts.{head_is}
 use Rattle.bean_heads.proofs.head.head.Goals as goal
 
 pub returns : goal.returns

@@ -1,4 +1,4 @@
-use Rattle.std.proofs.Common.{◌≡◌, ◌≤◌, length, ◌-◌}
+use Rattle.std.proofs.Common.{◌≡◌, ◌-◌}
 use Rattle.bean_parser.specs.Scope.{given_between}
 use Rattle.bean_parser.proofs.scope.give_between.Given as goal
 

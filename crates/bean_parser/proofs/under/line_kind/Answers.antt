@@ -1,4 +1,4 @@
-use Rattle.bean_parser.proofs.LineFacts.{no_line_with_key, no_other_line}
+use Rattle.bean_parser.proofs.LineFacts.{no_line_with_key}
 use Rattle.bean_parser.proofs.under.line_kind.Goals as goal
 use Rattle.std.proofs.Common.{sym, ◌∙◌}
 
