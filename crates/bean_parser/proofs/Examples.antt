@@ -1,48 +1,49 @@
 -- Worked values of the definitions.
-use Rattle.std.proofs.Common.{◌≡◌, ℕ, [], ◌∷◌, true, false, Some, None, refl, pos, negsuc}
+use Rattle.std.proofs.Common.{◌≡◌, ℕ, [], ◌∷◌, false, Some, None, refl}
 use Rattle.std.specs.Prelude.{codes}
-use Rattle.theory.specs.Form.{Is}
-use Rattle.bean_lexer.specs.declared.kind.Keyword.TheVariants as keyword
-use Rattle.bean_parser.specs.Lexeme.{Account, Keyword}
-use Rattle.bean_parser.specs.Ranged.{all_within}
-use Rattle.bean_parser.specs.Grammar.{text_of, exact_of, words_of, opening_of, opening, posting_of}
-use Rattle.bean_parser.specs.declared.ranged.Ranged.TheVariants.{Within, Outside}
+use Rattle.bean_base.specs.declared.fault.FaultKind.TheVariants.{UnmatchedPushOrPop}
+use Rattle.bean_grammar.specs.declared.metadata.Value.TheVariants as value
+use Rattle.bean_grammar.specs.declared.ranged.Ranged.TheVariants.{Within, Outside}
+use Rattle.bean_heads.specs.declared.undated.Bound.TheVariants.{Push, Pop}
+use Rattle.bean_heads.specs.declared.undated.PushName.TheVariants as names
+use Rattle.bean_heads.specs.declared.undated.Pushed.TheVariants as pushed
+use Rattle.bean_parser.specs.Outcome.{fault_at}
+use Rattle.bean_parser.specs.Scope.{pop_of, open_pushes, unmatched}
+use Rattle.bean_parser.specs.Under.{no_lines, with_lines}
+use Rattle.bean_parser.specs.declared.scope.PlacedBound.{PlacedBound}
+use Rattle.bean_parser.specs.declared.under.LineKind.TheVariants as lines
 
--- "a \"b\"" stands for a "b"
-text_with_quotes : text_of (codes "\"a \\\"b\\\"\"") ≡ codes "a \"b\""
-text_with_quotes = refl
+abbrev push_at : ℕ → ℕ → PlacedBound
+push_at line place = record { line = line; place = place; bound = Push (pushed.Tag (codes "a")) }
 
-empty_text : text_of (codes "\"\"") ≡ []
-empty_text = refl
+abbrev pop_at : ℕ → ℕ → PlacedBound
+pop_at line place = record { line = line; place = place; bound = Pop (names.Tag (codes "a")) }
 
--- - 1,000.50
-minus_number : exact_of (Some true) (codes "1,000.50") ≡ record { count = negsuc 100049; places = 2 }
-minus_number = refl
+abbrev another_pop : PlacedBound
+another_pop = record { line = 9; place = 9; bound = Pop (names.Tag (codes "b")) }
 
-plus_number : exact_of (Some false) (codes "7") ≡ record { count = pos 7; places = 0 }
-plus_number = refl
+-- of two pops the first takes the later push back, and one of another name takes neither
+outer_pop : pop_of (names.Tag (codes "a")) 0 (another_pop ∷ push_at 2 1 ∷ pop_at 3 2 ∷ pop_at 4 5 ∷ []) ≡ Some 5
+outer_pop = refl
 
--- one text is the narration, and of two the first is the payee
-one_text : words_of (Some (codes "Bread")) None ≡ record { payee = None; narration = codes "Bread" }
-one_text = refl
+inner_pop : pop_of (names.Tag (codes "a")) 0 (pop_at 3 2 ∷ pop_at 4 5 ∷ []) ≡ Some 2
+inner_pop = refl
 
-two_texts : words_of (Some (codes "Shop")) (Some (codes "Bread")) ≡ record { payee = Some (codes "Shop"); narration = codes "Bread" }
-two_texts = refl
+no_pop : pop_of (names.Tag (codes "a")) 0 (push_at 2 1 ∷ pop_at 3 2 ∷ []) ≡ None
+no_pop = refl
 
-no_text : words_of None None ≡ record { payee = None; narration = [] }
-no_text = refl
+-- a pop of nothing closes no push that comes behind it
+still_open : open_pushes (names.Tag (codes "a")) 0 (pop_at 1 0 ∷ push_at 2 0 ∷ []) ≡ 1
+still_open = refl
 
--- open Assets:Cash
-opening_line : Is opening (Keyword keyword.Open ∷ Account (codes "Assets:Cash") ∷ []) (opening_of (codes "Assets:Cash"))
-opening_line = (opening_of, codes "Assets:Cash", _, (refl, refl), (_, refl, refl), refl)
+-- a pop of nothing, and a push that is open at the end
+two_faults : unmatched [] (pop_at 1 0 ∷ push_at 2 0 ∷ pop_at 3 1 ∷ push_at 4 1 ∷ []) ≡ fault_at UnmatchedPushOrPop 1 ∷ fault_at UnmatchedPushOrPop 4 ∷ []
+two_faults = refl
 
--- a list is in range where each of it is
-one_outside : all_within {V = ℕ} (Within 1 ∷ Outside ∷ Within 3 ∷ []) ≡ Outside
-one_outside = refl
+-- what is out of range leaves the rest as it was
+outside : with_lines no_lines (lines.Entry Outside ∷ []) ≡ record no_lines { is_in_range = false }
+outside = refl
 
-all_inside : all_within {V = ℕ} (Within 1 ∷ Within 3 ∷ []) ≡ Within (1 ∷ 3 ∷ [])
-all_inside = refl
-
--- a number out of range leaves no posting
-no_posting : posting_of 4 (codes "Assets:Cash") Outside ≡ Outside
-no_posting = refl
+-- an entry without a posting above it is the directive's own
+own_entry : with_lines no_lines (lines.Entry (Within record { key = codes "k"; value = value.Nothing }) ∷ []) ≡ record no_lines { metadata = record { key = codes "k"; value = value.Nothing } ∷ [] }
+own_entry = refl

@@ -1,11 +1,10 @@
-pub mod LexemeFacts
-pub mod RangeFacts
-pub mod TextFacts
-pub mod GrammarFacts
-pub mod OneTree
-pub mod PostingsFacts
-pub mod BlockFacts
 pub mod BlockReaderFacts
+pub mod LineFacts
+pub mod LinesFacts
+pub mod BlockFacts
+pub mod ScopeFacts
+pub mod GatheredFacts
 pub mod ParsedFacts
+pub mod OneTree
 pub mod OneReadingFacts
 mod Examples

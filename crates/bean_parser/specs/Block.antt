@@ -8,7 +8,7 @@ use Rattle.bean_lexer.specs.declared.kind.Kind.TheVariants as kind
 use Rattle.bean_lexer.specs.declared.kind.Place.{Place}
 use Rattle.bean_lexer.specs.declared.kind.Place.TheVariants.{ColumnOne, Indented, Inside}
 use Rattle.bean_lexer.specs.declared.token.Token.{Token}
-use Rattle.bean_parser.specs.Lexeme.{Lexeme, lexemes}
+use Rattle.bean_grammar.specs.Lexeme.{Lexeme, lexemes}
 
 abbrev pub begins_block_at : Place → Bool
 begins_block_at ColumnOne = true

@@ -1,10 +1,11 @@
-pub mod Lexeme
-pub mod Ranged
 pub mod Block
 pub mod Part
+pub mod Under
 pub mod Grammar
 pub mod Outcome
 pub mod Reading
+pub mod Scope
 pub mod Parsed
+pub mod Gathered
 pub mod OneReading
 pub mod BlockReader

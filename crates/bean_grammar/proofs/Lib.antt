@@ -1,0 +1,14 @@
+pub mod LexemeFacts
+pub mod TextFacts
+pub mod LiteralFacts
+pub mod AppliedFacts
+pub mod ExactFacts
+pub mod ExpressionFacts
+pub mod AmountFacts
+pub mod PriceFacts
+pub mod CostPartFacts
+pub mod CostFacts
+pub mod PostingFacts
+pub mod MetadataFacts
+pub mod MarkFacts
+mod Examples

@@ -1,0 +1,12 @@
+pub mod Lexeme
+pub mod Ranged
+pub mod Literal
+pub mod Exact
+pub mod Expression
+pub mod Amount
+pub mod CostPart
+pub mod Cost
+pub mod Price
+pub mod Posting
+pub mod Metadata
+pub mod Mark

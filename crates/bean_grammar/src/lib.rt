@@ -1,0 +1,51 @@
+//! What the lines of a ledger are made of: days, texts, number expressions, postings, metadata,
+//! tags and links, each read from the front of a list of tokens.
+//!
+//! ```text
+//! let found = tokens(alloc, "Assets:Inv  3 X {1 + 2.50 * 2 USD}")?;
+//! // posting(alloc, found.as_slice()): a posting of 3 X at a cost of 6.00 USD.
+//! ```
+//!
+//! A rule of the grammar stands in `specs/` as a form, and its reader has the same name: it gives
+//! a value exactly where a front of the tokens is of the form, and that one, with what stands behind
+//! it. What is read in one way by a rule has no other reading.
+//!
+//! # Out of range
+//!
+//! A day that the calendar lacks, and a number that is no number of the ledger, are read all the
+//! same and make what they stand in [`Ranged::Outside`], so that what has no tree comes first. In an
+//! expression each part counts, partial sums and products too.
+//!
+//! # Outside the profile
+//!
+//! Forms that the language has and the books don't (total costs, prices without a number and the
+//! like) are read and kept as a mark alone.
+//!
+//! # Cost
+//!
+//! Linear in the tokens. Expressions are read to their values with no tree, and nest at most 200 deep.
+//! Only lists of tags, links and values take memory.
+#![tactic(auto)]
+
+pub mod amount;
+pub mod cost;
+pub mod cost_part;
+pub mod entry;
+pub mod expression;
+pub mod front;
+pub mod grammar;
+pub mod literal;
+pub mod mark;
+pub mod metadata;
+pub mod posting;
+pub mod posting_line;
+pub mod price;
+pub mod ranged;
+
+pub use amount::AmountParts;
+pub use cost::{Cost, LotParts};
+pub use mark::Mark;
+pub use metadata::{Entry, Value};
+pub use posting::{Posting, Units};
+pub use price::Price;
+pub use ranged::Ranged;

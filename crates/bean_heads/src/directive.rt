@@ -1,0 +1,37 @@
+//! Directives, as the grammar has them. Names and texts are slices of the ledger's text.
+
+use crate::accounts::{Close, Open, Pad};
+use crate::notes::{Custom, Document, Event, Note, Query};
+use crate::numbers::{Balance, Commodity, Price};
+use crate::transaction::Transaction;
+use bean_base::{Day, List};
+use bean_grammar::Entry;
+
+/// What a directive does.
+#[derive(Debug, Drop)]
+pub enum DirectiveKind<'a> {
+    Open(Open<'a>),
+    Close(Close<'a>),
+    Commodity(Commodity<'a>),
+    Transaction(Transaction<'a>),
+    Balance(Balance<'a>),
+    Pad(Pad<'a>),
+    Note(Note<'a>),
+    Document(Document<'a>),
+    Price(Price<'a>),
+    Event(Event<'a>),
+    Query(Query<'a>),
+    Custom(Custom<'a>),
+}
+
+/// A block of a ledger's text that begins with a day.
+#[derive(Debug, Drop)]
+pub struct Directive<'a> {
+    pub day: Day,
+    /// The line on which it begins, from 1.
+    pub line: usize,
+    /// Its own entries in the order in which they are written, then those that are pushed to it,
+    /// the latest push first. The first entry of a key stands.
+    pub metadata: List<Entry<'a>>,
+    pub kind: DirectiveKind<'a>,
+}

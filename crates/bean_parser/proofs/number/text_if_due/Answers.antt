@@ -1,5 +1,0 @@
-use Rattle.bean_parser.proofs.GrammarFacts.{reads_no_text}
-use Rattle.bean_parser.proofs.number.text_if_due.Goals as goal
-
-pub returns-in-None : goal.returns-in-None
-returns-in-None c = reads_no_text _ c.in-None.ensures.read
