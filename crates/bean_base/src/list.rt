@@ -33,6 +33,23 @@ impl<T: Drop> List<T> {
         self.items.as_slice()
     }
 
+    /// Adds an item at the end.
+    pub fn push(&mut self, item: T) -> Result<(), AllocError>
+        ensures { OnOk result (self.new ≡ self.old ++ item ∷ []) }
+    {
+        self.items.push(item)?;
+        Ok(())
+    }
+
+    /// Adds the items of another list at the end.
+    pub fn append(&mut self, others: List<T>) -> Result<(), AllocError>
+        ensures { OnOk result (self.new ≡ self.old ++ others) }
+    {
+        let mut others = others.items;
+        self.items.append(&mut others)?;
+        Ok(())
+    }
+
     /// The vector of its items.
     pub fn into_vec(self) -> Vec<T>
         ensures { result.items ≡ self }

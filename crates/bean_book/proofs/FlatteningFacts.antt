@@ -6,16 +6,24 @@ use Rattle.std.proofs.lemmas.List.{append-nil, map-append, take_more, take-appen
 use Rattle.std.proofs.lemmas.List.Elements.{filter-append}
 use Rattle.std.proofs.lemmas.List.Sums.{fold-append}
 use Rattle.std.proofs.lemmas.Grind.{flat_map-append}
-use Rattle.bean_parser.specs.declared.directive.Posting.{Posting}
-use Rattle.bean_book.specs.Flattening.{decimals_from}
+use Rattle.bean_base.specs.declared.amounts.Amount.{Amount}
+use Rattle.bean_grammar.specs.declared.posting.Posting.{Posting}
+use Rattle.bean_book.specs.Flattening.{amounts_of, decimals_from}
+
+decimals-append : (n : ℕ) (currency : List ℕ) (as' bs : List Amount)
+    → fold max n (map (λ a. a.number.places) (filter (λ a. bytes_eq a.currency currency) (as' ++ bs)))
+    ≡ fold max (fold max n (map (λ a. a.number.places) (filter (λ a. bytes_eq a.currency currency) as'))) (map (λ a. a.number.places) (filter (λ a. bytes_eq a.currency currency) bs))
+decimals-append n currency as' bs =
+    let p : Amount → Bool = λ x. bytes_eq x.currency currency in
+    let f : Amount → ℕ = λ x. x.number.places in
+    ap (λ l. fold max n (map f l)) (filter-append p as' bs) ∙ ap (fold max n) (map-append f (filter p as') (filter p bs))
+    ∙ fold-append max n (map f (filter p as')) (map f (filter p bs))
 
 -- the decimals of some postings, and then of others
 pub decimals_from-append : (n : ℕ) (currency : List ℕ) (ps qs : List Posting) → decimals_from n currency (ps ++ qs) ≡ decimals_from (decimals_from n currency ps) currency qs
 decimals_from-append n currency ps qs =
-    let p : Posting → Bool = λ x. bytes_eq x.units.currency currency in
-    let f : Posting → ℕ = λ x. x.units.number.places in
-    ap (λ l. fold max n (map f l)) (filter-append p ps qs) ∙ ap (fold max n) (map-append f (filter p ps) (filter p qs))
-    ∙ fold-append max n (map f (filter p ps)) (map f (filter p qs))
+    ap (λ l. fold max n (map (λ a. a.number.places) (filter (λ a. bytes_eq a.currency currency) l))) (flat_map-append amounts_of ps qs)
+    ∙ decimals-append n currency (flat_map amounts_of ps) (flat_map amounts_of qs)
 
 -- what comes of one more element
 pub flat_map_more : {X Z : Type 0} (f : X → List Z) (xs : List X) (i : ℕ) (d : X) → i < length xs → flat_map f (take (i + 1) xs) ≡ flat_map f (take i xs) ++ f (get_or xs i d)

@@ -2,12 +2,14 @@
 ghost use Rattle.std.specs.Prelude.{◌≡◌, ◌<◌, ◌≤◌, ◌+◌, ◌++◌, ◌∷◌, [], ℕ, Err, List, OnOk, map, max, length, if◌then◌else◌};
 ghost use Rattle.std.specs.Str.{bytes_eq};
 ghost use Rattle.posting_table.specs.Decimals.{decimals_of};
-ghost use Rattle.bean_book.specs.Flattening.{postings_in, position_of, rows_in, decimals_from, row_of_posting};
+ghost use Rattle.std.specs.List.{flat_map, list_all};
+ghost use Rattle.bean_book.specs.Flattening.{is_plain, counted, postings_in, position_of, rows_in, decimals_from, row_of_amount, rows_of_posting};
 ghost use Rattle.bean_book.specs.Booked.{Books};
 
-use bean_base::{Amount, Day, Flag};
+use bean_base::{Account, Amount, Day, Flag};
+use bean_grammar::{Cost, Posting, Price, Units};
 use bean_lots::{Key, Position};
-use bean_parser::{Directive, DirectiveKind, Posting};
+use bean_parser::{Directive, DirectiveKind};
 use posting_table::{Ledger, MOST_POSTINGS, Row};
 use std::alloc::{AllocError, Global};
 
@@ -55,15 +57,30 @@ fn position_of<'a>(units: &Amount<'a>) -> Position<'a>
     }
 }
 
-fn row_of<'a>(day: Day, flag: Flag, posting: &Posting<'a>) -> Row<'a>
-    ensures { result ≡ row_of_posting day flag posting.now }
+fn row_of<'a>(day: Day, flag: Flag, account: &Account<'a>, units: &Amount<'a>) -> Row<'a>
+    ensures { result ≡ row_of_amount day flag account.now units.now }
 {
     Row {
         date: day,
         flag,
-        account: posting.account.lend(),
-        position: position_of(&posting.units),
+        account: account.lend(),
+        position: position_of(units),
     }
+}
+
+/// Whether a posting is an amount, with neither a cost nor a price.
+fn is_plain(posting: &Posting<'_>) -> bool
+    ensures { result ≡ is_plain posting.now }
+{
+    matches!(posting.units, Units::Amount(_))
+        && matches!(posting.cost, Cost::Absent)
+        && matches!(posting.price, Price::Absent)
+}
+
+fn are_plain(postings: &[Posting<'_>]) -> bool
+    ensures { result ≡ list_all is_plain postings.now }
+{
+    postings.iter().all(is_plain)
 }
 
 /// Shows at least the decimals that are written in a posting's number.
@@ -87,17 +104,22 @@ fn push_posting<'a>(
     flag: Flag,
     posting: &Posting<'a>,
 ) -> Result<(), BookFault>
-    ensures rows { OnOk result (ledger.new.rows ≡ ledger.old.rows ++ row_of_posting day flag posting.now ∷ []) }
-    ensures room { OnOk result (length ledger.old.rows < MOST_POSTINGS) }
+    requires { length ledger.old.rows ≤ MOST_POSTINGS }
+    ensures rows { OnOk result (ledger.new.rows ≡ ledger.old.rows ++ rows_of_posting day flag posting.now) }
+    ensures room { OnOk result (length ledger.new.rows ≤ MOST_POSTINGS) }
     ensures decimals { OnOk result ((name : List ℕ) → decimals_of ledger.new.decimals name
         ≡ decimals_from (decimals_of ledger.old.decimals name) name (posting.now ∷ [])) }
-    ensures full { result ≡ Err BookFault.TooManyPostings → MOST_POSTINGS ≤ length ledger.old.rows }
+    ensures full { result ≡ Err BookFault.TooManyPostings
+        → MOST_POSTINGS < length ledger.old.rows + length (rows_of_posting day flag posting.now) }
 {
+    let Units::Amount(units) = &posting.units else {
+        return Ok(());
+    };
     if ledger.len() >= MOST_POSTINGS {
         return Err(BookFault::TooManyPostings);
     }
-    note_decimals(ledger, &posting.units)?;
-    ledger.push(row_of(day, flag, posting))?;
+    note_decimals(ledger, units)?;
+    ledger.push(row_of(day, flag, &posting.account, units))?;
     Ok(())
 }
 
@@ -108,17 +130,42 @@ fn push_postings<'a>(
     postings: &[Posting<'a>],
 ) -> Result<(), BookFault>
     requires { length ledger.old.rows ≤ MOST_POSTINGS }
-    ensures rows { OnOk result (ledger.new.rows ≡ ledger.old.rows ++ map (row_of_posting day flag) postings.now) }
+    ensures rows { OnOk result (ledger.new.rows ≡ ledger.old.rows ++ flat_map (rows_of_posting day flag) postings.now) }
     ensures room { OnOk result (length ledger.new.rows ≤ MOST_POSTINGS) }
     ensures decimals { OnOk result ((name : List ℕ) → decimals_of ledger.new.decimals name
         ≡ decimals_from (decimals_of ledger.old.decimals name) name postings.now) }
     ensures full { result ≡ Err BookFault.TooManyPostings
-        → MOST_POSTINGS < length ledger.old.rows + length postings.now }
+        → MOST_POSTINGS < length ledger.old.rows + length (flat_map (rows_of_posting day flag) postings.now) }
 {
     for posting in postings {
-        push_posting(ledger, day, flag, posting)?;
+        match push_posting(ledger, day, flag, posting) {
+            Ok(()) => {}
+            Err(fault) => return Err(fault),
+        }
     }
     Ok(())
+}
+
+/// Pushes the postings of a transaction that counts.
+fn push_transaction<'a>(
+    ledger: &mut Ledger<'a>,
+    day: Day,
+    flag: Flag,
+    postings: &[Posting<'a>],
+) -> Result<(), BookFault>
+    requires { length ledger.old.rows ≤ MOST_POSTINGS }
+    ensures rows { OnOk result (ledger.new.rows
+        ≡ ledger.old.rows ++ flat_map (rows_of_posting day flag) (counted postings.now)) }
+    ensures room { OnOk result (length ledger.new.rows ≤ MOST_POSTINGS) }
+    ensures decimals { OnOk result ((name : List ℕ) → decimals_of ledger.new.decimals name
+        ≡ decimals_from (decimals_of ledger.old.decimals name) name (counted postings.now)) }
+    ensures full { result ≡ Err BookFault.TooManyPostings → MOST_POSTINGS
+        < length ledger.old.rows + length (flat_map (rows_of_posting day flag) (counted postings.now)) }
+{
+    if !are_plain(postings) {
+        return Ok(());
+    }
+    push_postings(ledger, day, flag, postings)
 }
 
 fn push_directive<'a>(ledger: &mut Ledger<'a>, directive: &Directive<'a>) -> Result<(), BookFault>
@@ -131,13 +178,13 @@ fn push_directive<'a>(ledger: &mut Ledger<'a>, directive: &Directive<'a>) -> Res
         → MOST_POSTINGS < length ledger.old.rows + length (rows_in directive.now) }
 {
     match &directive.kind {
-        DirectiveKind::Open(_) => Ok(()),
-        DirectiveKind::Transaction(transaction) => push_postings(
+        DirectiveKind::Transaction(transaction) => push_transaction(
             ledger,
             directive.day,
             transaction.flag,
             transaction.postings.as_slice(),
         ),
+        _ => Ok(()),
     }
 }
 

@@ -1,4 +1,5 @@
 //! Metadata: entries of a key and a value.
+ghost use Rattle.std.specs.Prelude.{◌≡◌};
 
 use bean_base::{Account, Amount, Currency, Day, MetaKey, Num, Tag, Text};
 
@@ -16,9 +17,40 @@ pub enum Value<'a> {
     Amount(Amount<'a>),
 }
 
+impl<'a> Value<'a> {
+    /// The same value once more.
+    pub fn lend(&self) -> Value<'a>
+        ensures { result ≡ self.now }
+    {
+        match self {
+            Value::Nothing => Value::Nothing,
+            Value::Text(text) => Value::Text(text.lend()),
+            Value::Account(account) => Value::Account(account.lend()),
+            Value::Day(day) => Value::Day(*day),
+            Value::Currency(currency) => Value::Currency(currency.lend()),
+            Value::Tag(tag) => Value::Tag(tag.lend()),
+            Value::Truth(truth) => Value::Truth(*truth),
+            Value::Number(number) => Value::Number(*number),
+            Value::Amount(amount) => Value::Amount(amount.lend()),
+        }
+    }
+}
+
 /// A metadata entry.
 #[derive(Debug, Drop)]
 pub struct Entry<'a> {
     pub key: MetaKey<'a>,
     pub value: Value<'a>,
+}
+
+impl<'a> Entry<'a> {
+    /// The same entry once more.
+    pub fn lend(&self) -> Entry<'a>
+        ensures { result ≡ self.now }
+    {
+        Entry {
+            key: self.key.lend(),
+            value: self.value.lend(),
+        }
+    }
 }

@@ -9,12 +9,15 @@ use Rattle.bean_parser.specs.declared.directive.DirectiveKind.{DirectiveKind}
 use Rattle.bean_parser.specs.declared.directive.DirectiveKind.TheVariants as kind
 use Rattle.bean_load.specs.Rank.{rank_number}
 use Rattle.bean_load.specs.declared.arrangement.Rank.{Rank}
-use Rattle.bean_load.specs.declared.arrangement.Rank.TheVariants.{Open, Other}
+use Rattle.bean_load.specs.declared.arrangement.Rank.TheVariants.{Open, Balance, Other, Document, Close}
 
--- of one day, opens are taken before all else
+-- of one day opens are taken first, then balances, all else, documents and closes
 abbrev pub rank_of : DirectiveKind → Rank
 rank_of (kind.Open o) = Open
-rank_of (kind.Transaction t) = Other
+rank_of (kind.Balance b) = Balance
+rank_of (kind.Document d) = Document
+rank_of (kind.Close c) = Close
+rank_of k = Other
 
 -- the number of the day, and the rank of the kind
 abbrev pub Key : Type 0

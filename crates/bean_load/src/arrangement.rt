@@ -16,7 +16,10 @@ use std::cmp::Ordering;
 #[derive(Clone, Copy, Debug, Drop)]
 pub enum Rank {
     Open,
+    Balance,
     Other,
+    Document,
+    Close,
 }
 
 impl Rank {
@@ -25,7 +28,10 @@ impl Rank {
     {
         match self {
             Rank::Open => 0,
-            Rank::Other => 1,
+            Rank::Balance => 1,
+            Rank::Other => 2,
+            Rank::Document => 3,
+            Rank::Close => 4,
         }
     }
 
@@ -35,7 +41,10 @@ impl Rank {
     {
         match kind {
             DirectiveKind::Open(_) => Rank::Open,
-            DirectiveKind::Transaction(_) => Rank::Other,
+            DirectiveKind::Balance(_) => Rank::Balance,
+            DirectiveKind::Document(_) => Rank::Document,
+            DirectiveKind::Close(_) => Rank::Close,
+            _ => Rank::Other,
         }
     }
 }
@@ -86,7 +95,7 @@ impl PartialOrd for Rank {
     }
 }
 
-/// By day, then opens before transactions, then in reading order.
+/// By day, then opens, balances, all else, documents and closes, then in reading order.
 pub fn arrange(directives: &mut Vec<Directive<'_>>) -> Result<(), AllocError>
     ensures { OnOk result (IsArranged directives.old.items directives.new.items) }
 {

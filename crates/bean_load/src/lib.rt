@@ -10,8 +10,8 @@
 //!
 //! # The order
 //!
-//! By day, of one day opens before transactions, and those of one day and kind in the order in which
-//! they were read. Directives have one such order, by a law: [`one_arrangement`].
+//! By day, of one day opens, then balances, all else, documents and closes, and those of one day and
+//! rank in the order in which they were read. Directives have one such order, by a law: [`one_arrangement`].
 //!
 //! # Sources
 //!

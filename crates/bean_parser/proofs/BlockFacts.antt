@@ -1,83 +1,81 @@
 -- A block, from its first line and those under it.
-use Rattle.std.proofs.Common.{◌≡◌, ℕ, suc, arith, ◌==◌, true, false, List, [], ◌∷◌, length, map, take, drop, Some, None, sym, ◌∙◌, ap, subst}
+use Rattle.std.proofs.Common.{◌≡◌, ℕ, suc, arith, ◌==◌, true, false, List, [], ◌∷◌, length, map, take, drop, Option, Some, None, Result, Ok, Err, refl, sym, ◌∙◌, ap, subst}
 use Rattle.std.proofs.lemmas.Bool.Decides.{nat_tests}
+use Rattle.std.specs.Prelude.{IfOk}
 use Rattle.theory.specs.Cut.{cut_before}
-use Rattle.theory.specs.Form.{Is, IsNone}
+use Rattle.theory.specs.Form.{Is}
 use Rattle.theory.proofs.CutFacts.{first_cut, others_len}
 use Rattle.bean_base.specs.declared.days.Day as days
 use Rattle.bean_lexer.specs.declared.token.Token.{Token}
-use Rattle.bean_parser.specs.declared.directive.DirectiveKind.{DirectiveKind}
-use Rattle.bean_parser.specs.declared.directive.Directive.{Directive}
-use Rattle.bean_parser.specs.declared.directive.Posting.{Posting}
 use Rattle.bean_grammar.specs.declared.ranged.Ranged.{Ranged}
+use Rattle.bean_grammar.specs.Lexeme.{Lexeme, Day, Keyword, lexemes}
+use Rattle.bean_grammar.specs.Literal.{day}
 use Rattle.bean_parser.specs.Block.{Line, line_of, lines, first_line, begins_line, is_in_column_one}
-use Rattle.bean_grammar.specs.Lexeme.{lexemes}
-use Rattle.bean_parser.specs.Grammar.{head, ArePostings, has_lines, MayStandUnder, directive_of, Tree, HaveTree, HasTree}
-use Rattle.bean_parser.specs.Reading.{BeginsWith, ReadsPostings, ReadsBlock}
-use Rattle.bean_parser.proofs.OneTree.{same_head}
-
-nothing_under : (l : Line) (ls : List Line) (ps : List (Ranged Posting)) → ArePostings (l ∷ ls) ps → ps ≡ [] → ⊥
-nothing_under l ls [] h e = h
-nothing_under l ls (p ∷ ps) h e = cc
+use Rattle.bean_parser.specs.Grammar.{takes_postings, Tree, Dated, Undated, HaveTree, HasTree}
+use Rattle.bean_parser.specs.Head.{IsHead, IsNoHead}
+use Rattle.bean_parser.specs.Reading.{ReadsDated, ReadsUndated, ReadsBlock}
+use Rattle.bean_parser.specs.Undated.{IsUndated, IsNotUndated}
+use Rattle.bean_parser.specs.Under.{AreLines}
+use Rattle.bean_parser.specs.declared.directive.DirectiveKind.{DirectiveKind}
+use Rattle.bean_parser.specs.declared.statement.Statement.{Statement}
+use Rattle.bean_parser.specs.declared.under.LineKind.{LineKind}
+use Rattle.bean_parser.specs.declared.undated.UndatedKind.{UndatedKind}
+use Rattle.bean_parser.proofs.FirstLineFacts.{dated_or_undated}
+use Rattle.bean_parser.proofs.OneHeadFacts.{one_head}
 
 -- where tokens stand, lines stand
-some_under : (tokens : List Token) → (length tokens == 0) ≡ false → (ps : List (Ranged Posting)) → ArePostings (lines tokens) ps → ps ≡ [] → ⊥
-some_under [] some ps h e = cc
-some_under (t ∷ ts) some ps h e =
-    let others = others_len begins_line ts in
-    let cut = ap (map line_of) (first_cut begins_line t ts) in
-    let first = line_of (t ∷ take others ts) in
-    let rest = lines (drop others ts) in
-    let in_cut : ArePostings (first ∷ rest) ps = subst (λ ls. ArePostings ls ps) cut h in
-    nothing_under first rest ps in_cut e
-
-abbrev tree_of : ℕ → Ranged days.Day → DirectiveKind → List (Ranged Posting) → Tree
-tree_of line day kind ps = record { line = line; day = day; kind = kind; postings = ps }
-
-has_tree : (block : List Token) (day : Ranged days.Day) (kind : DirectiveKind) (under : List Token) (ps : List (Ranged Posting)) → BeginsWith block day kind under
-    → ArePostings (lines under) ps → MayStandUnder kind ps → HasTree block (tree_of (first_line block) day kind ps)
-has_tree block day kind under ps b are may =
-    let t = tree_of (first_line block) day kind ps in
-    let have : HaveTree (line_of b.line ∷ lines under) t = (sym b.number, b.is_head, are, may) in
-    (b.in_column_one, subst (λ ls. HaveTree ls t) (sym b.cut) have)
-
-no_tree : (block : List Token) (day : Ranged days.Day) (kind : DirectiveKind) (under : List Token) → BeginsWith block day kind under
-    → ((ps : List (Ranged Posting)) → ArePostings (lines under) ps → MayStandUnder kind ps → ⊥)
-    → (t : Tree) → HasTree block t → ⊥
-no_tree block day kind under b none t h =
-    let have : HaveTree (line_of b.line ∷ lines under) t = subst (λ ls. HaveTree ls t) b.cut h.1 in
-    let same : (t.day, t.kind) ≡ (day, kind) = same_head (lexemes b.line) (t.day, t.kind) (day, kind) have.1 b.is_head in
-    none t.postings have.2 (subst (λ (p : Ranged days.Day × DirectiveKind). MayStandUnder p.1 t.postings) same have.3)
-
--- a block whose first line is no head
-pub no_head : (block line under : List Token) → cut_before begins_line block ≡ line ∷ cut_before begins_line under → IsNone head (lexemes line) → (t : Tree) → HasTree block t → ⊥
-no_head block line under cut none t h =
-    let have : HaveTree (line_of line ∷ lines under) t = subst (λ ls. HaveTree ls t) (ap (map line_of) cut) h.1 in
-    none (t.day, t.kind) have.1
-
-pub begins_with : (block line under : List Token) (day : Ranged days.Day) (kind : DirectiveKind) → is_in_column_one block ≡ true → cut_before begins_line block ≡ line ∷ cut_before begins_line under
-    → first_line line ≡ first_line block → Is head (lexemes line) (day, kind) → BeginsWith block day kind under
-begins_with block line under day kind column cut number is = record { in_column_one = column; line = line; cut = ap (map line_of) cut; number = number; is_head = is }
-
--- lines stand where none may
-pub lines_under : (block : List Token) (day : Ranged days.Day) (kind : DirectiveKind) (under : List Token) → BeginsWith block day kind under
-    → (length under == 0) ≡ false → has_lines kind ≡ false → ReadsBlock block None
-lines_under block day kind under b some bare = no_tree block day kind under b (λ ps are may. some_under under some ps are (may bare))
+pub some_lines : (tokens : List Token) → (length tokens == 0) ≡ false → lines tokens ≡ [] → ⊥
+some_lines [] some e = cc
+some_lines (t ∷ ts) some e = let cut = ap (map line_of) (first_cut begins_line t ts) in cc
 
 not_empty : (n : ℕ) → (suc n == 0) ≡ true → ⊥
 not_empty n e = absurd (grind (arith, nat_tests))
 
-no_postings : (under : List Token) (ps : List (Ranged Posting)) → (length under == 0) ≡ true → ArePostings (lines under) ps → ps ≡ []
-no_postings [] ps empty are = are
-no_postings (t ∷ ts) ps empty are = absurd (not_empty (length ts) empty)
+pub no_lines_of : (tokens : List Token) → (length tokens == 0) ≡ true → lines tokens ≡ []
+no_lines_of [] empty = refl
+no_lines_of (t ∷ ts) empty = absurd (not_empty (length ts) empty)
 
-pub block_is : (block : List Token) (day : Ranged days.Day) (kind : DirectiveKind) (under : List Token) (line : ℕ) (postings : Ranged (List Posting)) (v : Ranged Directive) → BeginsWith block day kind under
-    → (has_lines kind ≡ false → (length under == 0) ≡ true) → ReadsPostings (lines under) (Some postings) → line ≡ first_line block → v ≡ directive_of line day kind postings → ReadsBlock block (Some v)
-block_is block day kind under line postings v b allowed r at is = (
-  tree_of (first_line block) day kind r.0,
-  has_tree block day kind under r.0 b r.1 (λ bare. no_postings under r.0 (allowed bare) r.1),
-  is ∙ (λ i. directive_of (at i) day kind (r.2 i)),
-)
+-- the first line of a block and those under it
+cut_lines : (block line under : List Token) → cut_before begins_line block ≡ line ∷ cut_before begins_line under → lines block ≡ line_of line ∷ lines under
+cut_lines block line under cut = ap (map line_of) cut
 
-pub block_is_none : (block : List Token) (day : Ranged days.Day) (kind : DirectiveKind) (under : List Token) → BeginsWith block day kind under → ReadsPostings (lines under) None → ReadsBlock block None
-block_is_none block day kind under b none = no_tree block day kind under b (λ ps are may. none ps are)
+-- where the first line is a head
+
+of_head : (line : List Token) (under : List Line) (d : Ranged days.Day) (k : Ranged DirectiveKind) → IsHead (lexemes line) d k → (t : Tree) → HaveTree (line_of line ∷ under) t
+    → (ks : List LineKind) × AreLines (takes_postings k) under ks
+of_head line under d k is (Dated n e j ks) h =
+    let same = one_head (lexemes line) d k e j is h.1 in
+    (ks, subst (λ x. AreLines (takes_postings x) under ks) (sym same.1) h.2)
+of_head line under d k is (Undated n j) h = absurd (dated_or_undated (lexemes line) d k j is h.1)
+
+pub dated_is : (block line under : List Token) (d : Ranged days.Day) (k : Ranged DirectiveKind) (n : ℕ) (o : Option (Ranged Statement)) → is_in_column_one block ≡ true
+    → cut_before begins_line block ≡ line ∷ cut_before begins_line under → first_line line ≡ first_line block → IsHead (lexemes line) d k → n ≡ first_line block
+    → ReadsDated n d k (lines under) o → ReadsBlock block o
+dated_is block line under d k n (Some v) column cut number is at r =
+    let have : HaveTree (line_of line ∷ lines under) (Dated n d k r.0) = (at ∙ sym number, is, r.1) in
+    (Dated n d k r.0, (column, subst (λ ls. HaveTree ls (Dated n d k r.0)) (sym (cut_lines block line under cut)) have), r.2)
+dated_is block line under d k n None column cut number is at r = λ t h.
+    let have : HaveTree (line_of line ∷ lines under) t = subst (λ ls. HaveTree ls t) (cut_lines block line under cut) h.1 in
+    let found = of_head line (lines under) d k is t have in
+    r found.0 found.1
+
+-- where it is none
+
+of_line : (line : List Token) (under : List Line) → IsNoHead (lexemes line) → (t : Tree) → HaveTree (line_of line ∷ under) t → (k : Ranged UndatedKind) × IsUndated (lexemes line) k × (under ≡ [])
+of_line line under none (Dated n e j ks) h = absurd (none e j h.1)
+of_line line under none (Undated n k) h = (k, h.1, h.2)
+
+pub undated_is_block : (block line under : List Token) (n : ℕ) (o : Option (Ranged Statement)) → is_in_column_one block ≡ true
+    → cut_before begins_line block ≡ line ∷ cut_before begins_line under → first_line line ≡ first_line block → IsNoHead (lexemes line) → n ≡ first_line block
+    → ReadsUndated n line under o → ReadsBlock block o
+undated_is_block block line under n (Some v) column cut number none at r =
+    let have : HaveTree (line_of line ∷ lines under) (Undated n r.0) = (at ∙ sym number, r.1, r.2) in
+    (Undated n r.0, (column, subst (λ ls. HaveTree ls (Undated n r.0)) (sym (cut_lines block line under cut)) have), r.3)
+undated_is_block block line under n None column cut number none at r = λ t h.
+    let have : HaveTree (line_of line ∷ lines under) t = subst (λ ls. HaveTree ls t) (cut_lines block line under cut) h.1 in
+    let found = of_line line (lines under) none t have in
+    r found.0 found.1 found.2
+
+pub if_ok : {A E : Type 0} (r : Result A E) (P Q : A → Type 0) → ((x : A) → P x → Q x) → IfOk r P → IfOk r Q
+if_ok (Ok x) P Q more p = more x p
+if_ok (Err e) P Q more p = p

@@ -1,88 +1,60 @@
 -- A block has at most one tree.
-use Rattle.std.proofs.Common.{◌≡◌, ℕ, List, [], ◌∷◌, refl, sym, ◌∙◌}
-use Rattle.theory.specs.Form.{Is, IsUnambiguous, word, made, ◌<+>◌, behind, due, pair}
-use Rattle.theory.proofs.OneReading.{one_word, one_made, one_applied, one_behind, one_due, one_either, one_related, one_value}
-use Rattle.bean_base.specs.declared.days.Day as days
-use Rattle.bean_lexer.specs.declared.kind.Keyword.TheVariants as keyword
+use Rattle.std.proofs.Common.{◌≡◌, ℕ, Bool, true, false, List, [], ◌∷◌, refl, sym, ◌∙◌, ap, subst}
+use Rattle.theory.specs.Form.{Is}
+use Rattle.theory.proofs.OneReading.{one_value}
 use Rattle.bean_lexer.specs.declared.token.Token.{Token}
-use Rattle.bean_parser.specs.declared.directive.DirectiveKind.{DirectiveKind}
-use Rattle.bean_parser.specs.declared.directive.Posting.{Posting}
+use Rattle.bean_grammar.proofs.MarkFacts.{one_some_marks}
+use Rattle.bean_grammar.proofs.MetadataFacts.{one_entry}
+use Rattle.bean_grammar.proofs.PostingFacts.{one_posting}
+use Rattle.bean_grammar.specs.Mark.{some_marks}
+use Rattle.bean_grammar.specs.Metadata.{entry}
+use Rattle.bean_grammar.specs.Posting.{posting}
 use Rattle.bean_grammar.specs.declared.ranged.Ranged.{Ranged}
 use Rattle.bean_parser.specs.Block.{Line, lines}
-use Rattle.bean_grammar.specs.Lexeme.{Lexeme, Number, Account, Currency, Keyword, flag_word, flag_of, plus_or_minus, begins_with_text, begins_with_keyword, begins_with_plus_or_minus}
-use Rattle.bean_grammar.specs.Literal.{day, text}
-use Rattle.bean_parser.specs.Grammar.{exact_of, IsNumber, exact, number, amount_of, amount, words_of, words, flag, transaction_of, transaction, opening_of, opening, kind, head, posting_of, posting, ArePostings, Tree, HaveTree, HasTree}
-use Rattle.bean_grammar.proofs.LexemeFacts.{exact_number, exact_account, exact_currency, exact_flag, exact_plus_or_minus}
-use Rattle.bean_grammar.proofs.LiteralFacts.{one_written_day, one_text_due}
-use Rattle.bean_parser.proofs.RangeFacts.{one_number}
-use Rattle.bean_parser.proofs.GrammarFacts.{sign_told, opening_told, transaction_avoids}
+use Rattle.bean_parser.specs.Grammar.{takes_postings, Tree, Dated, Undated, HaveTree, HasTree}
+use Rattle.bean_parser.specs.Under.{IsLine, AreLines}
+use Rattle.bean_parser.specs.declared.directive.DirectiveKind.{DirectiveKind}
+use Rattle.bean_parser.specs.declared.under.LineKind.{LineKind}
+use Rattle.bean_parser.specs.declared.under.LineKind.TheVariants as kinds
+use Rattle.bean_parser.proofs.FirstLineFacts.{dated_or_undated}
+use Rattle.bean_parser.proofs.LineFacts.{entry_told, marks_begin, posting_begins, both}
+use Rattle.bean_parser.proofs.OneHeadFacts.{one_head}
+use Rattle.bean_parser.proofs.OneUndatedFacts.{one_undated}
 
-one_words : IsUnambiguous words
-one_words =
-    one_applied (made words_of <+> due begins_with_text text) (due begins_with_text text) (λ ls v rest p e f. refl)
-    (one_applied (made words_of) (due begins_with_text text) (λ ls v rest p e f. refl) (one_made words_of) one_text_due) one_text_due
+-- a line says one thing
+one_line : (in_transaction : Bool) (l : Line) (k j : LineKind) → IsLine in_transaction l k → IsLine in_transaction l j → k ≡ j
+one_line in_transaction l (kinds.Entry e) (kinds.Entry f) h i = ap kinds.Entry (one_value entry l.lexemes e f one_entry refl h i)
+one_line in_transaction l (kinds.Entry e) (kinds.Marks ms) h i = absurd (both _ (entry_told l.lexemes e [] h) (marks_begin l.lexemes ms i.1).1)
+one_line in_transaction l (kinds.Entry e) (kinds.Posting p) h i = absurd (both _ (entry_told l.lexemes e [] h) (posting_begins l.number l.lexemes p i.1).1)
+one_line in_transaction l (kinds.Marks ms) (kinds.Entry e) h i = absurd (both _ (entry_told l.lexemes e [] i) (marks_begin l.lexemes ms h.1).1)
+one_line in_transaction l (kinds.Marks ms) (kinds.Marks ns) h i = ap kinds.Marks (one_value some_marks l.lexemes ms ns one_some_marks refl h.1 i.1)
+one_line in_transaction l (kinds.Marks ms) (kinds.Posting p) h i = absurd (both _ (marks_begin l.lexemes ms h.1).0 (posting_begins l.number l.lexemes p i.1).0)
+one_line in_transaction l (kinds.Posting p) (kinds.Entry e) h i = absurd (both _ (entry_told l.lexemes e [] i) (posting_begins l.number l.lexemes p h.1).1)
+one_line in_transaction l (kinds.Posting p) (kinds.Marks ms) h i = absurd (both _ (marks_begin l.lexemes ms i.1).0 (posting_begins l.number l.lexemes p h.1).0)
+one_line in_transaction l (kinds.Posting p) (kinds.Posting q) h i = ap kinds.Posting (one_value (posting l.number) l.lexemes p q (one_posting l.number) refl h.1 i.1)
 
-one_flag : IsUnambiguous flag
-one_flag = one_applied (made flag_of) (word flag_word) (λ ls v rest p e f. refl) (one_made flag_of) (one_word flag_word exact_flag)
-
-one_transaction : IsUnambiguous transaction
-one_transaction =
-    one_applied (made transaction_of <+> flag) words (λ ls v rest p e f. refl)
-    (one_applied (made transaction_of) flag (λ ls v rest p e f. refl) (one_made transaction_of) one_flag) one_words
-
-one_opening : IsUnambiguous opening
-one_opening =
-    one_applied (made opening_of) (behind (Keyword keyword.Open) (word Account)) (λ ls v rest p e f. refl) (one_made opening_of)
-    (one_behind (Keyword keyword.Open) (word Account) (one_word Account exact_account))
-
-one_kind : IsUnambiguous kind
-one_kind = one_either (begins_with_keyword keyword.Open) opening transaction opening_told transaction_avoids one_opening one_transaction
-
-one_head : IsUnambiguous head
-one_head =
-    one_applied (made pair <+> day) kind (λ ls v rest p e f. refl)
-    (one_applied (made pair) day (λ ls v rest p e f. refl) (one_made pair) one_written_day) one_kind
-
-one_exact : IsUnambiguous exact
-one_exact =
-    one_applied (made exact_of <+> due begins_with_plus_or_minus (word plus_or_minus)) (word Number) (λ ls v rest p e f. refl)
-    (one_applied (made exact_of) (due begins_with_plus_or_minus (word plus_or_minus)) (λ ls v rest p e f. refl) (one_made exact_of)
-    (one_due begins_with_plus_or_minus (word plus_or_minus) sign_told (one_word plus_or_minus exact_plus_or_minus))) (one_word Number exact_number)
-
-one_amount : IsUnambiguous amount
-one_amount =
-    one_applied (made amount_of <+> number) (word Currency) (λ ls v rest p e f. refl)
-    (one_applied (made amount_of) number (λ ls v rest p e f. refl) (one_made amount_of) (one_related IsNumber exact one_number one_exact)) (one_word Currency exact_currency)
-
-one_posting : (line : ℕ) → IsUnambiguous (posting line)
-one_posting line =
-    one_applied (made (posting_of line) <+> word Account) amount (λ ls v rest p e f. refl)
-    (one_applied (made (posting_of line)) (word Account) (λ ls v rest p e f. refl) (one_made (posting_of line)) (one_word Account exact_account)) one_amount
-
-pub same_head : (ls : List Lexeme) (v w : Ranged days.Day × DirectiveKind) → Is head ls v → Is head ls w → v ≡ w
-same_head ls v w p q = one_value head ls v w one_head refl p q
-
-same_postings : (ls : List Line) (ps qs : List (Ranged Posting)) → ArePostings ls ps → ArePostings ls qs → ps ≡ qs
-same_postings [] ps qs h k = h ∙ sym k
-same_postings (l ∷ ls) [] qs h k = absurd h
-same_postings (l ∷ ls) (p ∷ ps) [] h k = absurd k
-same_postings (l ∷ ls) (p ∷ ps) (q ∷ qs) h k =
-    let first = one_value (posting l.number) l.lexemes p q (one_posting l.number) refl h.0 k.0 in
-    let others = same_postings ls ps qs h.1 k.1 in
-    (λ i. first i ∷ others i)
-
-first_of : Tree → Ranged days.Day × DirectiveKind
-first_of t = (t.day, t.kind)
-
-same_tree : (t u : Tree) → t.line ≡ u.line → first_of t ≡ first_of u → t.postings ≡ u.postings → t ≡ u
-unfolding first_of
-same_tree t u line first postings = λ i. record { line = line i; day = (first i).0; kind = (first i).1; postings = postings i }
+same_lines : (in_transaction : Bool) (ls : List Line) (ks js : List LineKind) → AreLines in_transaction ls ks → AreLines in_transaction ls js → ks ≡ js
+same_lines in_transaction [] ks js h i = h ∙ sym i
+same_lines in_transaction (l ∷ ls) [] js h i = absurd h
+same_lines in_transaction (l ∷ ls) (k ∷ ks) [] h i = absurd i
+same_lines in_transaction (l ∷ ls) (k ∷ ks) (j ∷ js) h i =
+    let first = one_line in_transaction l k j h.0 i.0 in
+    let others = same_lines in_transaction ls ks js h.1 i.1 in
+    (λ n. first n ∷ others n)
 
 have_one : (ls : List Line) (t u : Tree) → HaveTree ls t → HaveTree ls u → t ≡ u
-unfolding first_of
-have_one [] t u h k = absurd h
-have_one (l ∷ ls) t u h k =
-    same_tree t u (h.0 ∙ sym k.0) (same_head l.lexemes (t.day, t.kind) (u.day, u.kind) h.1 k.1) (same_postings ls t.postings u.postings h.2 k.2)
+have_one [] t u h i = absurd h
+have_one (l ∷ ls) (Dated m d k ks) (Dated n e j js) h i =
+    let line = h.0 ∙ sym i.0 in
+    let head = one_head l.lexemes d k e j h.1 i.1 in
+    let under = same_lines (takes_postings k) ls ks js h.2 (subst (λ x. AreLines (takes_postings x) ls js) (sym head.1) i.2) in
+    (λ p. Dated (line p) (head.0 p) (head.1 p) (under p))
+have_one (l ∷ ls) (Dated m d k ks) (Undated n j) h i = absurd (dated_or_undated l.lexemes d k j h.1 i.1)
+have_one (l ∷ ls) (Undated n j) (Dated m d k ks) h i = absurd (dated_or_undated l.lexemes d k j i.1 h.1)
+have_one (l ∷ ls) (Undated m k) (Undated n j) h i =
+    let line = h.0 ∙ sym i.0 in
+    let kind = one_undated l.lexemes k j h.1 i.1 in
+    (λ p. Undated (line p) (kind p))
 
 pub one_tree : (block : List Token) (t u : Tree) → HasTree block t → HasTree block u → t ≡ u
-one_tree block t u h k = have_one (lines block) t u h.1 k.1
+one_tree block t u h i = have_one (lines block) t u h.1 i.1

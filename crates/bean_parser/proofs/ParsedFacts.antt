@@ -1,55 +1,57 @@
 -- A text, block by block.
-use Rattle.std.proofs.Common.{◌≡◌, ℕ, true, List, [], ◌∷◌, ◌++◌, sym, subst, append_assoc}
+use Rattle.std.proofs.Common.{◌≡◌, ℕ, true, false, List, [], ◌∷◌, ◌++◌, refl, sym, ◌∙◌, ap, subst, append_assoc}
 use Rattle.std.proofs.lemmas.List.{append-nil}
+use Rattle.std.specs.List.{flat_map}
 use Rattle.bean_base.specs.declared.fault.Fault as faults
 use Rattle.bean_lexer.specs.Tokens.{AreTokens}
 use Rattle.bean_lexer.specs.declared.token.Token.{Token}
 use Rattle.bean_parser.specs.Block.{blocks}
-use Rattle.bean_parser.specs.Outcome.{Gives, BlocksGive, Nothing, ADirective, AFault}
-use Rattle.bean_parser.specs.Parsed.{IsParsed}
 use Rattle.bean_parser.specs.BlockReader.{ToRead, TakesBlock}
-use Rattle.bean_parser.specs.declared.reader.BlockReader.{BlockReader}
-use Rattle.bean_parser.specs.declared.block.Outcome.TheVariants.{Directive, Fault}
+use Rattle.bean_parser.specs.Gathered.{IsGathered}
+use Rattle.bean_parser.specs.Outcome.{Gives, AllGive}
+use Rattle.bean_parser.specs.Parsed.{IsParsed, ComeTo, AreByLine, faults_in, all_bounds}
+use Rattle.bean_parser.specs.Scope.{unmatched, with_pushes}
+use Rattle.bean_parser.specs.declared.block.Outcome.{Outcome}
 use Rattle.bean_parser.specs.declared.directive.Directive as directives
+use Rattle.bean_parser.specs.declared.parse.Gathered.{Gathered}
+use Rattle.bean_parser.specs.declared.parse.Parsed.{Parsed}
+use Rattle.bean_parser.specs.declared.reader.BlockReader.{BlockReader}
+use Rattle.bean_parser.specs.declared.undated.Setting as settings
+
+-- what a text's blocks give begins with some outcomes
+abbrev pub Begins : List ℕ → List Outcome → Type 0
+Begins text os = (tokens : List Token) × AreTokens text tokens × AllGive (blocks tokens) os
 
 -- Some blocks are read: what the tokens give that are still to be read completes what the text gives.
-pub record InText (text : List ℕ) (reader : BlockReader) (ds : List directives.Directive) (fs : List faults.Fault) : Type 0 where
-  pub whole : (ts : List Token) → ToRead reader ts → (more : List directives.Directive) (faults : List faults.Fault) → BlocksGive (blocks ts) more faults → IsParsed text record { directives = ds ++ more; faults = fs ++ faults }
+pub record InText (text : List ℕ) (reader : BlockReader) (g : Gathered) : Type 0 where
+  pub outcomes : List Outcome
+  pub whole : (ts : List Token) → ToRead reader ts → (more : List Outcome) → AllGive (blocks ts) more → Begins text (outcomes ++ more)
+  pub gathered : IsGathered outcomes g
 
-pub text_begins : (text : List ℕ) (reader : BlockReader) → ((ts : List Token) → ToRead reader ts → AreTokens text ts) → InText text reader [] []
-text_begins text reader h = record { whole = λ ts to_read more faults give. (ts, h ts to_read, give) }
+pub text_begins : (text : List ℕ) (reader : BlockReader) (g : Gathered) → ((ts : List Token) → ToRead reader ts → AreTokens text ts) → IsGathered [] g → InText text reader g
+text_begins text reader g h none = record { outcomes = []; whole = λ ts to_read more give. (ts, h ts to_read, give); gathered = none }
 
-directive_more : (text : List ℕ) (before after : BlockReader) (ds : List directives.Directive) (fs : List faults.Fault) (block : List Token) (d : directives.Directive)
-    → InText text before ds fs → TakesBlock true before block after → Gives block (Directive d) → InText text after (ds ++ d ∷ []) fs
-directive_more text before after ds fs block d p takes gives = record {
-  whole = λ ts to_read more faults give.
+pub block_more : (text : List ℕ) (before after : BlockReader) (block : List Token) (o : Outcome) (g g' : Gathered) → InText text before g → TakesBlock true before block after → Gives block o
+    → ((os : List Outcome) → IsGathered os g → IsGathered (os ++ o ∷ []) g') → InText text after g'
+block_more text before after block o g g' p takes gives adds = record {
+  outcomes = p.outcomes ++ o ∷ [];
+  whole = λ ts to_read more give.
       let taken = takes ts to_read in
-      let next : BlocksGive (blocks (block ++ ts)) (d ∷ more) faults = subst (λ bs. BlocksGive bs (d ∷ more) faults) (sym taken.1) (ADirective block (blocks ts) d more faults gives give) in
-      subst (λ x. IsParsed text record { directives = x; faults = fs ++ faults }) (sym (append_assoc ds (d ∷ []) more)) (p.whole (block ++ ts) taken.0 (d ∷ more) faults next);
+      let next : AllGive (blocks (block ++ ts)) (o ∷ more) = subst (λ bs. AllGive bs (o ∷ more)) (sym taken.1) (gives, give) in
+      subst (Begins text) (sym (append_assoc p.outcomes (o ∷ []) more)) (p.whole (block ++ ts) taken.0 (o ∷ more) next);
+  gathered = adds p.outcomes p.gathered;
 }
 
-fault_more : (text : List ℕ) (before after : BlockReader) (ds : List directives.Directive) (fs : List faults.Fault) (block : List Token) (f : faults.Fault)
-    → InText text before ds fs → TakesBlock true before block after → Gives block (Fault f) → InText text after ds (fs ++ f ∷ [])
-fault_more text before after ds fs block f p takes gives = record {
-  whole = λ ts to_read more faults give.
-      let taken = takes ts to_read in
-      let next : BlocksGive (blocks (block ++ ts)) more (f ∷ faults) = subst (λ bs. BlocksGive bs more (f ∷ faults)) (sym taken.1) (AFault block (blocks ts) f more faults gives give) in
-      subst (λ x. IsParsed text record { directives = ds ++ more; faults = x }) (sym (append_assoc fs (f ∷ []) faults)) (p.whole (block ++ ts) taken.0 more (f ∷ faults) next);
+pub text_ends : (text : List ℕ) (reader : BlockReader) (g : Gathered) (parsed : Parsed) → InText text reader g → ToRead reader [] → ((os : List Outcome) → IsGathered os g → ComeTo os parsed) → IsParsed text parsed
+text_ends text reader g parsed p at come =
+    let all : Begins text p.outcomes = subst (Begins text) (append-nil p.outcomes) (p.whole [] at [] refl) in
+    (all.0, p.outcomes, all.1, all.2, come p.outcomes p.gathered)
+
+-- what is kept comes to what is parsed
+pub come_to : (os : List Outcome) (g : Gathered) (ds : List directives.Directive) (ss : List settings.Setting) (fs all : List faults.Fault) → IsGathered os g → ds ≡ with_pushes g.bounds.items g.directives.items
+    → ss ≡ g.settings.items → all ≡ g.faults.items ++ unmatched [] g.bounds.items → AreByLine all fs → ComeTo os record { directives = ds; settings = ss; faults = fs }
+come_to os g ds ss fs all is given same added by_line = record {
+  directives = given ∙ (λ i. with_pushes (is.bounds i) (is.directives i));
+  settings = same ∙ is.settings;
+  faults = subst (λ x. AreByLine x fs) (added ∙ (λ i. is.faults i ++ unmatched [] (is.bounds i))) by_line;
 }
-
-pub directive_pushed : (text : List ℕ) (before after : BlockReader) (ds ds' : List directives.Directive) (fs fs' : List faults.Fault) (block : List Token) (d : directives.Directive)
-    → ds' ≡ ds ++ d ∷ [] → fs' ≡ fs → InText text before ds fs → TakesBlock true before block after → Gives block (Directive d) → InText text after ds' fs'
-directive_pushed text before after ds ds' fs fs' block d pushed same p takes gives =
-    subst (InText text after ds') (sym same) (subst (λ x. InText text after x fs) (sym pushed) (directive_more text before after ds fs block d p takes gives))
-
-pub fault_pushed : (text : List ℕ) (before after : BlockReader) (ds ds' : List directives.Directive) (fs fs' : List faults.Fault) (block : List Token) (f : faults.Fault)
-    → ds' ≡ ds → fs' ≡ fs ++ f ∷ [] → InText text before ds fs → TakesBlock true before block after → Gives block (Fault f) → InText text after ds' fs'
-fault_pushed text before after ds ds' fs fs' block f same pushed p takes gives =
-    subst (InText text after ds') (sym pushed) (subst (λ x. InText text after x (fs ++ f ∷ [])) (sym same) (fault_more text before after ds fs block f p takes gives))
-
-pub text_ends : (text : List ℕ) (reader : BlockReader) (ds : List directives.Directive) (fs : List faults.Fault) → InText text reader ds fs → ToRead reader [] → IsParsed text record { directives = ds; faults = fs }
-text_ends text reader ds fs p at =
-    subst (λ x. IsParsed text record { directives = ds; faults = x }) (append-nil fs) (subst (λ x. IsParsed text record { directives = x; faults = fs ++ [] }) (append-nil ds) (p.whole [] at [] [] Nothing))
-
-pub text_is : (text : List ℕ) (reader : BlockReader) (ds ds' : List directives.Directive) (fs fs' : List faults.Fault) → InText text reader ds fs → ToRead reader [] → ds' ≡ ds → fs' ≡ fs → IsParsed text record { directives = ds'; faults = fs' }
-text_is text reader ds ds' fs fs' p at same_ds same_fs = subst (IsParsed text) (λ i. record { directives = sym same_ds i; faults = sym same_fs i }) (text_ends text reader ds fs p at)

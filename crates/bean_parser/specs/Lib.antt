@@ -1,8 +1,13 @@
 pub mod Block
 pub mod Part
+pub mod Head
+pub mod Undated
+pub mod Under
 pub mod Grammar
 pub mod Outcome
 pub mod Reading
+pub mod Scope
 pub mod Parsed
+pub mod Gathered
 pub mod OneReading
 pub mod BlockReader

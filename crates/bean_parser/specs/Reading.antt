@@ -1,31 +1,41 @@
 -- What the parts of a block are read as.
-use Rattle.std.specs.Prelude.{◌≡◌, true, List, ◌∷◌, Option, Some, None}
-use Rattle.theory.specs.Form.{Is}
+use Rattle.std.specs.Prelude.{◌≡◌, ℕ, Bool, true, List, [], ◌∷◌, Option, Some, None}
 use Rattle.bean_base.specs.declared.days.Day.{Day}
 use Rattle.bean_lexer.specs.declared.token.Token.{Token}
-use Rattle.bean_parser.specs.Block.{Line, line_of, lines, first_line, is_in_column_one}
-use Rattle.bean_grammar.specs.Lexeme.{lexemes}
-use Rattle.bean_grammar.specs.Ranged.{all_within}
-use Rattle.bean_parser.specs.Grammar.{head, ArePostings, Tree, HasTree, directive_in}
-use Rattle.bean_parser.specs.declared.directive.Directive.{Directive}
-use Rattle.bean_parser.specs.declared.directive.DirectiveKind.{DirectiveKind}
-use Rattle.bean_parser.specs.declared.directive.Posting.{Posting}
 use Rattle.bean_grammar.specs.declared.ranged.Ranged.{Ranged}
+use Rattle.bean_parser.specs.Block.{Line, lines}
+use Rattle.bean_parser.specs.Grammar.{Tree, Dated, Undated, HasTree, takes_postings, said}
+use Rattle.bean_parser.specs.Under.{IsLine, AreLines, no_lines, with_lines}
+use Rattle.bean_parser.specs.declared.under.Body.{Body}
+use Rattle.bean_parser.specs.declared.under.LineKind.{LineKind}
+use Rattle.bean_grammar.specs.Lexeme.{lexemes}
+use Rattle.bean_parser.specs.Undated.{IsUndated}
+use Rattle.bean_parser.specs.declared.directive.DirectiveKind.{DirectiveKind}
+use Rattle.bean_parser.specs.declared.undated.UndatedKind.{UndatedKind}
+use Rattle.bean_parser.specs.declared.statement.Statement.{Statement}
 
--- a block in column one, whose first line is such a head, and what stands under it
-pub record BeginsWith (block : List Token) (day : Ranged Day) (kind : DirectiveKind) (under : List Token) : Type 0 where
-  pub in_column_one : is_in_column_one block ≡ true
-  pub line : List Token
-  pub cut : lines block ≡ line_of line ∷ lines under
-  pub number : first_line line ≡ first_line block
-  pub is_head : Is head (lexemes line) (day, kind)
+abbrev pub ReadsLine : Bool → Line → Option LineKind → Type 0
+ReadsLine in_transaction l None = (k : LineKind) → IsLine in_transaction l k → ⊥
+ReadsLine in_transaction l (Some k) = IsLine in_transaction l k
 
--- the postings that all the lines are, where they are postings
-abbrev pub ReadsPostings : List Line → Option (Ranged (List Posting)) → Type 0
-ReadsPostings ls None = (ps : List (Ranged Posting)) → ArePostings ls ps → ⊥
-ReadsPostings ls (Some v) = (ps : List (Ranged Posting)) × ArePostings ls ps × (v ≡ all_within ps)
+-- what the lines under a first one say, where each is one that may stand there
+abbrev pub ReadsLines : Bool → List Line → Option Body → Type 0
+ReadsLines in_transaction ls None = (ks : List LineKind) → AreLines in_transaction ls ks → ⊥
+ReadsLines in_transaction ls (Some b) = (ks : List LineKind) × AreLines in_transaction ls ks × (b ≡ with_lines no_lines ks)
 
--- the directive of a block's tree, where it has one
-abbrev pub ReadsBlock : List Token → Option (Ranged Directive) → Type 0
+-- what a block says that begins on that line with such a head, and has these lines under it
+abbrev pub ReadsDated : ℕ → Ranged Day → Ranged DirectiveKind → List Line → Option (Ranged Statement) → Type 0
+ReadsDated line day kind under None = (ks : List LineKind) → AreLines (takes_postings kind) under ks → ⊥
+ReadsDated line day kind under (Some v) =
+    (ks : List LineKind) × AreLines (takes_postings kind) under ks × (v ≡ said (Dated line day kind ks))
+
+-- what a line without a day says, with nothing under it
+abbrev pub ReadsUndated : ℕ → List Token → List Token → Option (Ranged Statement) → Type 0
+ReadsUndated line first under None = (k : Ranged UndatedKind) → IsUndated (lexemes first) k → lines under ≡ [] → ⊥
+ReadsUndated line first under (Some v) =
+    (k : Ranged UndatedKind) × IsUndated (lexemes first) k × (lines under ≡ []) × (v ≡ said (Undated line k))
+
+-- what a block's tree says, where it has one
+abbrev pub ReadsBlock : List Token → Option (Ranged Statement) → Type 0
 ReadsBlock block None = (t : Tree) → HasTree block t → ⊥
-ReadsBlock block (Some v) = (t : Tree) × HasTree block t × (v ≡ directive_in t)
+ReadsBlock block (Some v) = (t : Tree) × HasTree block t × (v ≡ said t)

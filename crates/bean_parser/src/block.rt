@@ -2,31 +2,27 @@
 ghost use Rattle.std.specs.Prelude.{◌≡◌, MatchOption, IfOk};
 ghost use Rattle.bean_parser.specs.Block as spec;
 ghost use Rattle.bean_parser.specs.Grammar as rule;
-ghost use Rattle.bean_parser.specs.Grammar.{HasTree, Tree};
 ghost use Rattle.bean_parser.specs.Outcome as outcomes;
 ghost use Rattle.bean_parser.specs.Outcome.{Gives};
-ghost use Rattle.bean_parser.specs.Reading.{BeginsWith, ReadsPostings, ReadsBlock};
-ghost use Rattle.std.specs.Prelude.{count_by};
+ghost use Rattle.bean_parser.specs.Reading.{ReadsBlock, ReadsDated, ReadsUndated};
 
-use crate::directive::{Directive, DirectiveKind, Posting, Transaction};
-use crate::line::{head, posting};
+use crate::directive::{Directive, DirectiveKind};
+use crate::head::head;
 use crate::part::{Part, first_line, first_part};
-use bean_grammar::Ranged;
+use crate::statement::Statement;
+use crate::transaction::Transaction;
+use crate::undated::{Undated, undated_line};
+use crate::under::{Body, all_postings, read_lines};
 use bean_base::{Day, Fault, FaultKind, List};
+use bean_grammar::{Mark, Posting, Ranged};
 use bean_lexer::{Kind, Token};
 use std::alloc::{AllocError, Global};
 
 /// What a block gives.
 #[derive(Debug, Drop)]
 pub enum Outcome<'a> {
-    Directive(Directive<'a>),
+    Statement(Statement<'a>),
     Fault(Fault),
-}
-
-/// The tokens that are still to be read.
-#[derive(Clone, Copy)]
-struct Unread<'t, 'a> {
-    tokens: &'t [Token<'a>],
 }
 
 fn is_fault(kind: Kind) -> bool
@@ -54,117 +50,131 @@ fn is_in_column_one(block: &[Token<'_>]) -> bool
     }
 }
 
-/// The day and the kind of a block, and the lines under its first one.
-fn beginning<'t, 'a>(
-    alloc: Global,
-    block: &'t [Token<'a>],
-) -> Option<(Ranged<Day>, DirectiveKind<'a>, &'t [Token<'a>])>
-    ensures { MatchOption result ((t : Tree) → HasTree block.now t → ⊥)
-        (λ r. BeginsWith block.now r.0 r.1 r.2.now) }
+/// Whether postings may stand under a first line of the kind.
+fn takes_postings(kind: &Ranged<DirectiveKind<'_>>) -> bool
+    ensures { result ≡ rule.takes_postings kind.now }
 {
-    if !is_in_column_one(block) {
-        return None;
-    }
-    let (line, under) = first_part(Part::Line, block)?;
-    let (day, kind) = head(alloc, line)?;
-    Some((day, kind, under))
+    matches!(kind, Ranged::Within(DirectiveKind::Transaction(_)))
 }
 
-/// How many lines begin among the tokens.
-fn line_count(tokens: &[Token<'_>]) -> usize
-    ensures { result ≡ count_by spec.begins_line tokens.now }
-{
-    tokens
-        .iter()
-        .filter(|token| Part::Line.begins_at(token.place))
-        .count()
-}
-
-/// The postings that lines are, where all are postings.
-fn postings<'a>(
-    alloc: Global,
-    under: &[Token<'a>],
-) -> Result<Option<Ranged<List<Posting<'a>>>>, AllocError>
-    ensures { IfOk result (ReadsPostings (spec.lines under.now)) }
-{
-    let mut postings = Vec::with_capacity(alloc, line_count(under))?;
-    let mut are_in_range = true;
-    let mut rest = Unread { tokens: under };
-    while let Some((line, after)) = first_part(Part::Line, rest.tokens) {
-        let Some(found) = posting(line) else {
-            return Ok(None);
-        };
-        match found {
-            Ranged::Within(posting) => postings.push(posting)?,
-            Ranged::Outside => are_in_range = false,
-        }
-        rest = Unread { tokens: after };
-    }
-    if are_in_range {
-        Ok(Some(Ranged::Within(List::new(postings))))
-    } else {
-        Ok(Some(Ranged::Outside))
-    }
-}
-
-/// Whether lines may stand under a first line of the kind.
-fn has_lines(kind: &DirectiveKind<'_>) -> bool
-    ensures { result ≡ rule.has_lines kind.now }
-{
-    matches!(kind, DirectiveKind::Transaction(_))
-}
-
-/// The kind, with the postings that stand under it.
-fn with_postings<'a>(kind: DirectiveKind<'a>, postings: List<Posting<'a>>) -> DirectiveKind<'a>
-    ensures { result ≡ rule.with_postings kind.entry postings.entry }
+/// The kind, with the tags, links and postings that stand under it.
+fn with_body<'a>(
+    kind: DirectiveKind<'a>,
+    marks: List<Mark<'a>>,
+    postings: List<Posting<'a>>,
+) -> Result<DirectiveKind<'a>, AllocError>
+    ensures { IfOk result (λ k. k ≡ rule.with_body kind.entry marks.entry postings.entry) }
 {
     match kind {
-        DirectiveKind::Open(open) => DirectiveKind::Open(open),
-        DirectiveKind::Transaction(transaction) => DirectiveKind::Transaction(Transaction {
-            flag: transaction.flag,
-            payee: transaction.payee,
-            narration: transaction.narration,
-            postings,
-        }),
+        DirectiveKind::Transaction(transaction) => {
+            let mut all = transaction.marks;
+            all.append(marks)?;
+            Ok(DirectiveKind::Transaction(Transaction {
+                flag: transaction.flag,
+                payee: transaction.payee,
+                narration: transaction.narration,
+                marks: all,
+                postings,
+            }))
+        }
+        other => Ok(other),
     }
 }
 
 fn directive_of<'a>(
     line: usize,
-    day: Ranged<Day>,
+    body: Body<'a>,
+    day: Day,
     kind: DirectiveKind<'a>,
-    postings: Ranged<List<Posting<'a>>>,
-) -> Ranged<Directive<'a>>
-    ensures { result ≡ rule.directive_of line day kind.entry postings.entry }
+) -> Result<Directive<'a>, AllocError>
+    ensures { IfOk result (λ d. d ≡ rule.directive_of line body.entry day kind.entry) }
 {
-    let (Ranged::Within(day), Ranged::Within(postings)) = (day, postings) else {
-        return Ranged::Outside;
-    };
-    let kind = with_postings(kind, postings);
-    Ranged::Within(Directive { day, line, kind })
+    let postings = all_postings(body.before, body.last)?;
+    Ok(Directive {
+        day,
+        line,
+        metadata: body.metadata,
+        kind: with_body(kind, body.marks, postings)?,
+    })
 }
 
-/// The directive that a block without fault tokens is.
-fn directive<'a>(
-    alloc: Global,
-    block: &[Token<'a>],
-) -> Result<Option<Ranged<Directive<'a>>>, AllocError>
-    ensures { IfOk result (ReadsBlock block.now) }
+/// What a head says with the lines under it, where all of it is in range.
+fn dated<'a>(
+    line: usize,
+    day: Ranged<Day>,
+    kind: Ranged<DirectiveKind<'a>>,
+    body: Body<'a>,
+) -> Result<Ranged<Statement<'a>>, AllocError>
+    ensures { IfOk result (λ s. s ≡ rule.dated line day kind.entry body.entry) }
 {
-    let Some(found) = beginning(alloc, block) else {
-        return Ok(None);
-    };
-    let (day, kind, under) = found;
-    if !under.is_empty() && !has_lines(&kind) {
-        return Ok(None);
+    if !body.is_in_range {
+        return Ok(Ranged::Outside);
     }
-    match postings(alloc, under)? {
-        Some(postings) => Ok(Some(directive_of(first_line(block), day, kind, postings))),
+    let (Ranged::Within(day), Ranged::Within(kind)) = (day, kind) else {
+        return Ok(Ranged::Outside);
+    };
+    let directive = directive_of(line, body, day, kind)?;
+    Ok(Ranged::Within(Statement::Directive(directive)))
+}
+
+/// What a block says whose first line is a head.
+fn dated_block<'a>(
+    alloc: Global,
+    line: usize,
+    day: Ranged<Day>,
+    kind: Ranged<DirectiveKind<'a>>,
+    under: &[Token<'a>],
+) -> Result<Option<Ranged<Statement<'a>>>, AllocError>
+    ensures { IfOk result (ReadsDated line day kind.entry (spec.lines under.now)) }
+{
+    match read_lines(alloc, takes_postings(&kind), under)? {
+        Some(body) => Ok(Some(dated(line, day, kind, body)?)),
         None => Ok(None),
     }
 }
 
-fn fault_at(kind: FaultKind, line: usize) -> Fault
+/// What a block without a day says that begins with a line.
+fn undated_block<'a>(
+    line: usize,
+    first: &[Token<'a>],
+    under: &[Token<'a>],
+) -> Option<Ranged<Statement<'a>>>
+    ensures { ReadsUndated line first.now under.now result }
+{
+    let kind = undated_line(first)?;
+    if !under.is_empty() {
+        return None;
+    }
+    match kind {
+        Ranged::Within(kind) => Some(Ranged::Within(Statement::Undated(Undated { line, kind }))),
+        Ranged::Outside => Some(Ranged::Outside),
+    }
+}
+
+/// What a block without fault tokens says.
+fn statement<'a>(
+    alloc: Global,
+    block: &[Token<'a>],
+) -> Result<Option<Ranged<Statement<'a>>>, AllocError>
+    ensures { IfOk result (ReadsBlock block.now) }
+{
+    if !is_in_column_one(block) {
+        return Ok(None);
+    }
+    let Some((first, under)) = first_part(Part::Line, block) else {
+        return Ok(None);
+    };
+    let line = first_line(block);
+    match head(alloc, first)? {
+        Some(found) => {
+            let (day, kind) = found;
+            dated_block(alloc, line, day, kind, under)
+        }
+        None => Ok(undated_block(line, first, under)),
+    }
+}
+
+pub fn fault_at(kind: FaultKind, line: usize) -> Fault
     ensures { result ≡ outcomes.fault_at kind line }
 {
     Fault {
@@ -174,7 +184,7 @@ fn fault_at(kind: FaultKind, line: usize) -> Fault
     }
 }
 
-/// The directive of a block, or its first fault.
+/// What a block says, or its first fault.
 pub fn read_block<'a>(alloc: Global, block: &[Token<'a>]) -> Result<Outcome<'a>, AllocError>
     ensures { IfOk result (Gives block.now) }
 {
@@ -182,8 +192,8 @@ pub fn read_block<'a>(alloc: Global, block: &[Token<'a>]) -> Result<Outcome<'a>,
         return Ok(Outcome::Fault(fault_at(FaultKind::BadToken, line)));
     }
     let line = first_line(block);
-    match directive(alloc, block)? {
-        Some(Ranged::Within(directive)) => Ok(Outcome::Directive(directive)),
+    match statement(alloc, block)? {
+        Some(Ranged::Within(statement)) => Ok(Outcome::Statement(statement)),
         Some(Ranged::Outside) => Ok(Outcome::Fault(fault_at(FaultKind::OutOfRange, line))),
         None => Ok(Outcome::Fault(fault_at(FaultKind::NotADirective, line))),
     }

@@ -1,44 +1,37 @@
 //! Directives, as the grammar has them. Names and texts are slices of the ledger's text.
 
-use bean_base::{Account, Amount, Day, Flag, List, Text};
-
-/// A line of a transaction that changes an account.
-#[derive(Debug, Drop)]
-pub struct Posting<'a> {
-    pub account: Account<'a>,
-    pub units: Amount<'a>,
-    /// The line on which it is written, from 1.
-    pub line: usize,
-}
-
-/// The opening of an account.
-#[derive(Debug, Drop)]
-pub struct Open<'a> {
-    pub account: Account<'a>,
-}
-
-/// A change of accounts.
-#[derive(Debug, Drop)]
-pub struct Transaction<'a> {
-    pub flag: Flag,
-    pub payee: Option<Text<'a>>,
-    /// The text of no characters where none is written.
-    pub narration: Text<'a>,
-    pub postings: List<Posting<'a>>,
-}
+use crate::accounts::{Close, Open, Pad};
+use crate::notes::{Custom, Document, Event, Note, Query};
+use crate::numbers::{Balance, Commodity, Price};
+use crate::transaction::Transaction;
+use bean_base::{Day, List};
+use bean_grammar::Entry;
 
 /// What a directive does.
 #[derive(Debug, Drop)]
 pub enum DirectiveKind<'a> {
     Open(Open<'a>),
+    Close(Close<'a>),
+    Commodity(Commodity<'a>),
     Transaction(Transaction<'a>),
+    Balance(Balance<'a>),
+    Pad(Pad<'a>),
+    Note(Note<'a>),
+    Document(Document<'a>),
+    Price(Price<'a>),
+    Event(Event<'a>),
+    Query(Query<'a>),
+    Custom(Custom<'a>),
 }
 
-/// A block of a ledger's text that the grammar has.
+/// A block of a ledger's text that begins with a day.
 #[derive(Debug, Drop)]
 pub struct Directive<'a> {
     pub day: Day,
     /// The line on which it begins, from 1.
     pub line: usize,
+    /// Its own entries in the order in which they are written, then those that are pushed to it,
+    /// the latest push first. The first entry of a key stands.
+    pub metadata: List<Entry<'a>>,
     pub kind: DirectiveKind<'a>,
 }

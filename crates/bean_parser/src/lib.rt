@@ -27,14 +27,26 @@
 //! Linear in the text. It takes the memory of what it answers, and of the tokens of the longest block.
 #![tactic(auto)]
 
-mod block;
+pub mod accounts;
+pub mod block;
 pub mod directive;
 pub mod grammar;
-mod line;
-mod number;
+mod head;
+pub mod notes;
+pub mod numbers;
 pub mod parse;
 mod part;
 mod reader;
+pub mod scope;
+pub mod statement;
+pub mod transaction;
+pub mod under;
+pub mod undated;
 
-pub use directive::{Directive, DirectiveKind, Open, Posting, Transaction};
+pub use accounts::{Close, Open, Pad};
+pub use directive::{Directive, DirectiveKind};
+pub use notes::{Custom, Document, Event, Note, Query};
+pub use numbers::{Balance, Commodity, Price};
 pub use parse::Parsed;
+pub use transaction::Transaction;
+pub use undated::{Setting, SettingKind};

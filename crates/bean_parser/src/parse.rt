@@ -1,36 +1,126 @@
-//! From a ledger's text to its directives and its faults.
-ghost use Rattle.std.specs.Prelude.{IfOk};
-ghost use Rattle.bean_parser.specs.Parsed.{IsParsed};
+//! What a ledger's text says: its directives, its settings and its faults.
+ghost use Rattle.std.specs.Prelude.{◌≡◌, ◌++◌, ◌∷◌, [], List, IfOk, OnOk};
+ghost use Rattle.bean_parser.specs.Parsed.{IsParsed, ComeTo, AreByLine};
+ghost use Rattle.bean_parser.specs.Gathered.{IsGathered, undated_at};
+ghost use Rattle.bean_parser.specs.declared.block.Outcome.{Outcome};
+ghost use Rattle.bean_parser.specs.declared.block.Outcome.TheVariants as outcome;
 
-use crate::block::{Outcome, read_block};
+use crate::block::{Outcome, fault_at, read_block};
 use crate::directive::Directive;
 use crate::reader::BlockReader;
-use bean_base::{Fault, List};
+use crate::scope::{PlacedBound, add_unmatched, give_all};
+use crate::statement::Statement;
+use crate::undated::{Setting, UndatedKind};
+use bean_base::{Fault, FaultKind, List};
 use std::alloc::{AllocError, Global};
 
 /// What a ledger's text says, in reading order. The faults have file 0.
 #[derive(Debug, Drop)]
 pub struct Parsed<'a> {
     pub directives: List<Directive<'a>>,
+    pub settings: List<Setting<'a>>,
     pub faults: List<Fault>,
 }
 
-/// The directives and the faults of a ledger's text.
+/// What blocks gave so far, scopes aside.
+#[derive(Drop)]
+pub struct Gathered<'a> {
+    pub directives: Vec<Directive<'a>>,
+    pub settings: Vec<Setting<'a>>,
+    pub bounds: Vec<PlacedBound<'a>>,
+    pub faults: Vec<Fault>,
+}
+
+/// Arranges faults by their lines; those of one line keep their order.
+fn sort_by_line(faults: &mut Vec<Fault>) -> Result<(), AllocError>
+    ensures { OnOk result (AreByLine faults.old.items faults.new.items) }
+{
+    faults.sort_by_key(|fault| fault.line)
+}
+
+impl<'a> Gathered<'a> {
+    /// No blocks give nothing.
+    fn new(alloc: Global) -> Gathered<'a>
+        ensures { IsGathered [] result }
+    {
+        Gathered {
+            directives: Vec::new(alloc),
+            settings: Vec::new(alloc),
+            bounds: Vec::new(alloc),
+            faults: Vec::new(alloc),
+        }
+    }
+
+    /// Adds what a block without a day says that is written on a line.
+    fn add_undated(&mut self, line: usize, kind: UndatedKind<'a>) -> Result<(), AllocError>
+        ensures { OnOk result ((os : List Outcome) → IsGathered os self.old
+            → IsGathered (os ++ undated_at line kind.entry ∷ []) self.new) }
+    {
+        match kind {
+            UndatedKind::Setting(kind) => self.settings.push(Setting { line, kind })?,
+            UndatedKind::Ignored => self.faults.push(fault_at(FaultKind::Ignored, line))?,
+            UndatedKind::Bound(bound) => {
+                let place = self.directives.len();
+                self.bounds.push(PlacedBound { line, place, bound })?;
+            }
+        }
+        Ok(())
+    }
+
+    /// Adds what a block says.
+    fn add_statement(&mut self, statement: Statement<'a>) -> Result<(), AllocError>
+        ensures { OnOk result ((os : List Outcome) → IsGathered os self.old
+            → IsGathered (os ++ outcome.Statement statement.entry ∷ []) self.new) }
+    {
+        match statement {
+            Statement::Directive(directive) => {
+                self.directives.push(directive)?;
+                Ok(())
+            }
+            Statement::Undated(undated) => self.add_undated(undated.line, undated.kind),
+        }
+    }
+
+    /// Adds what a block gives.
+    fn add(&mut self, outcome: Outcome<'a>) -> Result<(), AllocError>
+        ensures { OnOk result ((os : List Outcome) → IsGathered os self.old
+            → IsGathered (os ++ outcome.entry ∷ []) self.new) }
+    {
+        match outcome {
+            Outcome::Statement(statement) => self.add_statement(statement),
+            Outcome::Fault(fault) => {
+                self.faults.push(fault)?;
+                Ok(())
+            }
+        }
+    }
+
+    /// What blocks come to that gave this.
+    fn parsed(self) -> Result<Parsed<'a>, AllocError>
+        ensures { IfOk result (λ p. (os : List Outcome) → IsGathered os self.entry → ComeTo os p) }
+    {
+        let mut directives = self.directives;
+        let mut faults = self.faults;
+        give_all(&self.bounds, &mut directives)?;
+        add_unmatched(&self.bounds, &mut faults)?;
+        sort_by_line(&mut faults)?;
+        Ok(Parsed {
+            directives: List::new(directives),
+            settings: List::new(self.settings),
+            faults: List::new(faults),
+        })
+    }
+}
+
+/// The directives, the settings and the faults of a ledger's text.
 pub fn parse(alloc: Global, text: &str) -> Result<Parsed<'_>, AllocError>
     ensures { IfOk result (IsParsed text.now) }
 {
-    let mut directives = Vec::new(alloc);
-    let mut faults = Vec::new(alloc);
+    let mut gathered = Gathered::new(alloc);
     let mut block = Vec::new(alloc);
     let mut reader = BlockReader::new(text);
     while reader.next_block(&mut block)? {
-        match read_block(alloc, &block)? {
-            Outcome::Directive(directive) => directives.push(directive)?,
-            Outcome::Fault(fault) => faults.push(fault)?,
-        }
+        gathered.add(read_block(alloc, &block)?)?;
     }
-    Ok(Parsed {
-        directives: List::new(directives),
-        faults: List::new(faults),
-    })
+    gathered.parsed()
 }

@@ -1,14 +1,22 @@
 //! Ledgers that are parsed whole.
 
-use bean_base::{Fault, FaultKind, Flag};
+use bean_base::{Amount, Fault, FaultKind, Flag};
+use bean_grammar::{Posting, Units};
 use bean_parser::parse::parse;
-use bean_parser::{DirectiveKind, Parsed, Posting, Transaction};
+use bean_parser::{DirectiveKind, Parsed, Transaction};
 use std::test::Fail;
 
 fn transaction_at<'p, 'a>(parsed: &'p Parsed<'a>, index: usize) -> Option<&'p Transaction<'a>> {
     match &parsed.directives.as_slice().get(index)?.kind {
         DirectiveKind::Transaction(transaction) => Some(transaction),
-        DirectiveKind::Open(_) => None,
+        _ => None,
+    }
+}
+
+fn amount_of<'p, 'a>(posting: &'p Posting<'a>) -> Option<&'p Amount<'a>> {
+    match &posting.units {
+        Units::Amount(amount) => Some(amount),
+        _ => None,
     }
 }
 
@@ -36,8 +44,9 @@ fn the_worked_ledger(rt: HostRuntime) -> Result<(), Fail> {
     assert_eq!(rt; parsed.directives.as_slice()[2].line, 3);
     let open = posting_at(&parsed, 2, 1).ok_or("a posting")?;
     assert!(rt; open.account.text() == "Equity:Open");
-    assert_eq!(rt; open.units.number.count, -10000);
-    assert_eq!(rt; open.units.number.places, 2);
+    let amount = amount_of(open).ok_or("an amount")?;
+    assert_eq!(rt; amount.number.count, -10000);
+    assert_eq!(rt; amount.number.places, 2);
     assert_eq!(rt; open.line, 5);
     Ok(())
 }
@@ -45,7 +54,7 @@ fn the_worked_ledger(rt: HostRuntime) -> Result<(), Fail> {
 #[test]
 fn good_blocks_between_bad_ones(rt: HostRuntime) -> Result<(), Fail> {
     let text =
-        "2014-01-01 open Assets:\u{c9}pargne\r\n2014-02-30 open Assets:Cash\r\n2014-01-02 ! \"A \\\"shop\\\"\" \"Bread\"\r\n  Assets:\u{c9}pargne 1,000.5 USD\r\n2014-01-03 close Assets:Cash\r\n2014-01-04 * \"x\" ?\r\n";
+        "2014-01-01 open Assets:\u{c9}pargne\r\n2014-02-30 open Assets:Cash\r\n2014-01-02 ! \"A \\\"shop\\\"\" \"Bread\"\r\n  Assets:\u{c9}pargne 1,000.5 USD\r\n2014-01-03 close Assets:Cash 1\r\n2014-01-04 * \"x\" ?\r\n";
     let parsed = parse(rt.alloc(), text)?;
     assert_eq!(rt; parsed.directives.as_slice().len(), 2);
     let shop = transaction_at(&parsed, 1).ok_or("a transaction")?;
@@ -57,14 +66,15 @@ fn good_blocks_between_bad_ones(rt: HostRuntime) -> Result<(), Fail> {
     assert_eq!(rt; words.as_str(), "A \"shop\"");
     assert!(rt; shop.narration.plain() == Some("Bread"));
     let posting = posting_at(&parsed, 1, 0).ok_or("a posting")?;
-    assert_eq!(rt; posting.units.number.count, 10005);
+    let amount = amount_of(posting).ok_or("an amount")?;
+    assert_eq!(rt; amount.number.count, 10005);
     Ok(())
 }
 
 #[test]
 fn faults_in_order(rt: HostRuntime) -> Result<(), Fail> {
     let text =
-        "2014-02-30 open Assets:Cash\n2014-01-03 close Assets:Cash\n2014-01-04 *\n  Assets:Cash ?\n";
+        "2014-02-30 open Assets:Cash\n2014-01-03 close Assets:Cash 1\n2014-01-04 *\n  Assets:Cash ?\n";
     let parsed = parse(rt.alloc(), text)?;
     assert_eq!(rt; parsed.directives.as_slice().len(), 0);
     let out_of_range = fault_at(&parsed, 0).ok_or("a fault")?;

@@ -2,6 +2,8 @@
 #![tactic(auto)]
 
 #[cfg(test)]
+mod directives;
+#[cfg(test)]
 mod expressions;
 #[cfg(test)]
 mod ledgers;

@@ -1,0 +1,12 @@
+use Rattle.std.proofs.Common.{◌≡◌, ◌≤◌, ◌++◌, ◌-◌, [], length, take, drop}
+use Rattle.bean_parser.specs.Scope.{unmatched}
+use Rattle.bean_parser.proofs.scope.add_unmatched.Given as goal
+
+abbrev pub invariant-loop-i : goal.invariant-loop-i
+invariant-loop-i l = record {
+  left : l.faults.items ++ unmatched (take l.i l.bounds) (drop l.i l.bounds) ≡ l.initial.faults.items ++ unmatched [] l.bounds;
+  inside : l.i ≤ length l.bounds;
+}
+
+abbrev pub decreases-loop-i : goal.decreases-loop-i
+decreases-loop-i l = length l.bounds - l.i
