@@ -1,6 +1,6 @@
 -- What directives come to.
 use Rattle.std.specs.Prelude.{◌≡◌, ℕ, ◌<◌, ◌≤◌, ⊤, List, length, Result, Ok, Err}
-use Rattle.bean_parser.specs.declared.directive.Directive.{Directive}
+use Rattle.bean_heads.specs.declared.directive.Directive.{Directive}
 use Rattle.posting_table.specs.Decimals.{decimals_of}
 use Rattle.posting_table.specs.Ledger.{Ledger}
 use Rattle.posting_table.specs.declared.ledger.TheConstants.{MOST_POSTINGS}

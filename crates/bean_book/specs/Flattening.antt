@@ -14,9 +14,9 @@ use Rattle.bean_grammar.specs.declared.posting.Units.TheVariants.{Amount}
 use Rattle.bean_grammar.specs.declared.price.Price.{Price}
 use Rattle.bean_grammar.specs.declared.price.Price.TheVariants as prices
 use Rattle.bean_lots.specs.declared.lot.Position.{Position}
-use Rattle.bean_parser.specs.declared.directive.Directive.{Directive}
-use Rattle.bean_parser.specs.declared.directive.DirectiveKind.{DirectiveKind}
-use Rattle.bean_parser.specs.declared.directive.DirectiveKind.TheVariants as kind
+use Rattle.bean_heads.specs.declared.directive.Directive.{Directive}
+use Rattle.bean_heads.specs.declared.directive.DirectiveKind.{DirectiveKind}
+use Rattle.bean_heads.specs.declared.directive.DirectiveKind.TheVariants as kind
 use Rattle.posting_table.specs.declared.row.Row.{Row}
 
 -- a posting that is an amount, with neither a cost nor a price

@@ -3,7 +3,7 @@ use Rattle.std.proofs.Common.{◌≡◌, List}
 use Rattle.std.specs.Cmp.{IsTotalOrder}
 use Rattle.std.proofs.lemmas.Cmp.{on_total, then_total, nat_cmp_total, int_cmp_total}
 use Rattle.theory.proofs.ArrangementFacts.{one_by_key}
-use Rattle.bean_parser.specs.declared.directive.Directive.{Directive}
+use Rattle.bean_heads.specs.declared.directive.Directive.{Directive}
 use Rattle.bean_load.specs.Arrangement.{Key, key_of, key_cmp, IsArranged}
 
 key_total : IsTotalOrder key_cmp

@@ -4,9 +4,9 @@ use Rattle.std.specs.Ordering.{int_cmp, nat_cmp, ordering_then}
 use Rattle.std.specs.declared.cmp.Ordering.{Ordering}
 use Rattle.theory.specs.Arrangement.{IsArrangedByKey}
 use Rattle.bean_base.specs.Day.{number}
-use Rattle.bean_parser.specs.declared.directive.Directive.{Directive}
-use Rattle.bean_parser.specs.declared.directive.DirectiveKind.{DirectiveKind}
-use Rattle.bean_parser.specs.declared.directive.DirectiveKind.TheVariants as kind
+use Rattle.bean_heads.specs.declared.directive.Directive.{Directive}
+use Rattle.bean_heads.specs.declared.directive.DirectiveKind.{DirectiveKind}
+use Rattle.bean_heads.specs.declared.directive.DirectiveKind.TheVariants as kind
 use Rattle.bean_load.specs.Rank.{rank_number}
 use Rattle.bean_load.specs.declared.arrangement.Rank.{Rank}
 use Rattle.bean_load.specs.declared.arrangement.Rank.TheVariants.{Open, Balance, Other, Document, Close}

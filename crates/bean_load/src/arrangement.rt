@@ -4,7 +4,7 @@ ghost use Rattle.std.specs.Ordering.{on, nat_cmp, as_partial_cmp};
 ghost use Rattle.std.specs.Cmp.{partial_order_from_own_ties};
 ghost use Rattle.std.specs.Cmp.Rules.{comparing};
 ghost use Rattle.std.proofs.Common.{rules};
-ghost use Rattle.bean_parser.specs.declared.directive.Directive.{Directive};
+ghost use Rattle.bean_heads.specs.declared.directive.Directive.{Directive};
 ghost use Rattle.bean_load.specs.Arrangement.{IsArranged, rank_of};
 ghost use Rattle.bean_load.specs.Rank.{rank_number};
 

@@ -12,16 +12,16 @@ use Rattle.bean_grammar.specs.Lexeme.{Lexeme, Day, Keyword, lexemes}
 use Rattle.bean_grammar.specs.Literal.{day}
 use Rattle.bean_parser.specs.Block.{Line, line_of, lines, first_line, begins_line, is_in_column_one}
 use Rattle.bean_parser.specs.Grammar.{takes_postings, Tree, Dated, Undated, HaveTree, HasTree}
-use Rattle.bean_parser.specs.Head.{IsHead, IsNoHead}
+use Rattle.bean_heads.specs.Head.{IsHead, IsNoHead}
 use Rattle.bean_parser.specs.Reading.{ReadsDated, ReadsUndated, ReadsBlock}
-use Rattle.bean_parser.specs.Undated.{IsUndated, IsNotUndated}
+use Rattle.bean_heads.specs.Undated.{IsUndated, IsNotUndated}
 use Rattle.bean_parser.specs.Under.{AreLines}
-use Rattle.bean_parser.specs.declared.directive.DirectiveKind.{DirectiveKind}
+use Rattle.bean_heads.specs.declared.directive.DirectiveKind.{DirectiveKind}
 use Rattle.bean_parser.specs.declared.statement.Statement.{Statement}
 use Rattle.bean_parser.specs.declared.under.LineKind.{LineKind}
-use Rattle.bean_parser.specs.declared.undated.UndatedKind.{UndatedKind}
-use Rattle.bean_parser.proofs.FirstLineFacts.{dated_or_undated}
-use Rattle.bean_parser.proofs.OneHeadFacts.{one_head}
+use Rattle.bean_heads.specs.declared.undated.UndatedKind.{UndatedKind}
+use Rattle.bean_heads.proofs.FirstLineFacts.{dated_or_undated}
+use Rattle.bean_heads.proofs.OneHeadFacts.{one_head}
 
 -- where tokens stand, lines stand
 pub some_lines : (tokens : List Token) → (length tokens == 0) ≡ false → lines tokens ≡ [] → ⊥

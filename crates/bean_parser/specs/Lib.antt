@@ -1,7 +1,5 @@
 pub mod Block
 pub mod Part
-pub mod Head
-pub mod Undated
 pub mod Under
 pub mod Grammar
 pub mod Outcome

@@ -6,12 +6,12 @@ ghost use Rattle.bean_parser.specs.Outcome as outcomes;
 ghost use Rattle.bean_parser.specs.Outcome.{Gives};
 ghost use Rattle.bean_parser.specs.Reading.{ReadsBlock, ReadsDated, ReadsUndated};
 
-use crate::directive::{Directive, DirectiveKind};
-use crate::head::head;
+use bean_heads::directive::{Directive, DirectiveKind};
+use bean_heads::head::head;
 use crate::part::{Part, first_line, first_part};
 use crate::statement::Statement;
-use crate::transaction::Transaction;
-use crate::undated::{Undated, undated_line};
+use bean_heads::transaction::Transaction;
+use bean_heads::undated::{Undated, undated_line};
 use crate::under::{Body, all_postings, read_lines};
 use bean_base::{Day, Fault, FaultKind, List};
 use bean_grammar::{Mark, Posting, Ranged};

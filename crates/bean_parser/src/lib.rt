@@ -27,26 +27,14 @@
 //! Linear in the text. It takes the memory of what it answers, and of the tokens of the longest block.
 #![tactic(auto)]
 
-pub mod accounts;
 pub mod block;
-pub mod directive;
 pub mod grammar;
-mod head;
-pub mod notes;
-pub mod numbers;
 pub mod parse;
 mod part;
 mod reader;
 pub mod scope;
 pub mod statement;
-pub mod transaction;
 pub mod under;
-pub mod undated;
 
-pub use accounts::{Close, Open, Pad};
-pub use directive::{Directive, DirectiveKind};
-pub use notes::{Custom, Document, Event, Note, Query};
-pub use numbers::{Balance, Commodity, Price};
+pub use bean_heads::{Directive, DirectiveKind, Setting, SettingKind, Transaction};
 pub use parse::Parsed;
-pub use transaction::Transaction;
-pub use undated::{Setting, SettingKind};

@@ -6,11 +6,11 @@ ghost use Rattle.bean_parser.specs.declared.block.Outcome.{Outcome};
 ghost use Rattle.bean_parser.specs.declared.block.Outcome.TheVariants as outcome;
 
 use crate::block::{Outcome, fault_at, read_block};
-use crate::directive::Directive;
+use bean_heads::directive::Directive;
 use crate::reader::BlockReader;
 use crate::scope::{PlacedBound, add_unmatched, give_all};
 use crate::statement::Statement;
-use crate::undated::{Setting, UndatedKind};
+use bean_heads::undated::{Setting, UndatedKind};
 use bean_base::{Fault, FaultKind, List};
 use std::alloc::{AllocError, Global};
 

@@ -3,8 +3,8 @@ ghost use Rattle.std.specs.Prelude.{◌≡◌, ◌<◌, ◌-◌, ◌^◌, ◌++�
 ghost use Rattle.bean_parser.specs.Scope as spec;
 
 use crate::block::fault_at;
-use crate::directive::{Directive, DirectiveKind};
-use crate::undated::{Bound, PushName, Pushed};
+use bean_heads::directive::{Directive, DirectiveKind};
+use bean_heads::undated::{Bound, PushName, Pushed};
 use bean_base::{Fault, FaultKind, List, Tag};
 use bean_grammar::{Entry, Mark};
 use std::alloc::AllocError;

@@ -1,7 +1,7 @@
 //! What a block says.
 
-use crate::directive::Directive;
-use crate::undated::Undated;
+use bean_heads::directive::Directive;
+use bean_heads::undated::Undated;
 
 /// What a block without a fault says.
 #[derive(Debug, Drop)]

@@ -3,7 +3,7 @@ use Rattle.std.proofs.Common.{◌≡◌, ℕ, ◌<◌, ◌≤◌, List, length, 
 use Rattle.bean_book.specs.Flattening.{rows_of_all}
 use Rattle.bean_load.specs.Arrangement.{IsArranged}
 use Rattle.bean_load.proofs.ArrangementFacts.{one_order}
-use Rattle.bean_parser.specs.declared.directive.Directive.{Directive}
+use Rattle.bean_heads.specs.declared.directive.Directive.{Directive}
 use Rattle.bean_parser.specs.declared.parse.Parsed.{Parsed}
 use Rattle.bean_parser.proofs.OneReadingFacts.{one_text}
 use Rattle.posting_table.specs.declared.ledger.TheConstants.{MOST_POSTINGS}

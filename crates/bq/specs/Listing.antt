@@ -6,7 +6,7 @@ use Rattle.bean_book.specs.declared.postings.BookFault.{BookFault}
 use Rattle.bean_book.specs.declared.postings.BookFault.TheVariants.{TooManyPostings, OutOfMemory}
 use Rattle.bean_load.specs.Arrangement.{IsArranged}
 use Rattle.bean_parser.specs.Parsed.{IsParsed}
-use Rattle.bean_parser.specs.declared.directive.Directive.{Directive}
+use Rattle.bean_heads.specs.declared.directive.Directive.{Directive}
 use Rattle.bean_parser.specs.declared.parse.Parsed.{Parsed}
 use Rattle.bq.specs.Columns.{shown}
 use Rattle.posting_table.specs.Column.{spelling}

@@ -1,7 +1,7 @@
 use Rattle.std.proofs.Common.{◌≡◌, ◌∙◌, ap, refl, sym, List, length, map, subst}
 use Rattle.std.proofs.lemmas.List.Elements.{All-map}
 use Rattle.bean_book.specs.Booked.{IsLedgerOf}
-use Rattle.bean_parser.specs.declared.directive.Directive.{Directive}
+use Rattle.bean_heads.specs.declared.directive.Directive.{Directive}
 use Rattle.posting_table.specs.Decimals.{Decimals, decimals_of}
 use Rattle.posting_table.specs.Ledger.{Ledger}
 use Rattle.table_printer.specs.Table.{table_text}

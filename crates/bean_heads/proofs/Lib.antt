@@ -1,0 +1,5 @@
+pub mod HeadFacts
+pub mod UndatedFacts
+pub mod FirstLineFacts
+pub mod OneHeadFacts
+pub mod OneUndatedFacts

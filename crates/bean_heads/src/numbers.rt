@@ -1,0 +1,153 @@
+//! Directives on currencies and their numbers: commodities, balances and prices.
+ghost use Rattle.std.specs.Prelude.{◌≡◌, MatchOption};
+ghost use Rattle.theory.specs.Form.{Reads, HasNone, due};
+ghost use Rattle.bean_grammar.specs.Lexeme.{lexemes};
+ghost use Rattle.bean_heads.specs.Head as rule;
+
+use crate::directive::DirectiveKind;
+use bean_base::{Account, Amount, Currency, Num};
+use bean_grammar::Ranged;
+use bean_grammar::expression::expression;
+use bean_grammar::front::{after_account, after_currency, after_sign};
+use bean_lexer::{Sign, Token};
+
+/// The naming of a currency.
+#[derive(Debug, Drop)]
+pub struct Commodity<'a> {
+    pub currency: Currency<'a>,
+}
+
+/// What an account and those below it hold of a currency when the day begins.
+#[derive(Debug, Drop)]
+pub struct Balance<'a> {
+    pub account: Account<'a>,
+    pub number: Num,
+    /// How far the account may be off, where that is written.
+    pub tolerance: Option<Num>,
+    pub currency: Currency<'a>,
+}
+
+/// What a unit of a currency costs.
+#[derive(Debug, Drop)]
+pub struct Price<'a> {
+    pub currency: Currency<'a>,
+    pub amount: Amount<'a>,
+}
+
+/// What stands behind `commodity`, and what stands behind that.
+pub fn commodity_line<'t, 'a>(
+    tokens: &'t [Token<'a>],
+) -> Option<(Ranged<DirectiveKind<'a>>, &'t [Token<'a>])>
+    ensures { MatchOption result (HasNone rule.commodity_line (lexemes tokens.now))
+        (λ r. Reads rule.commodity_line (lexemes tokens.now) r.0 (lexemes r.1.now)) }
+{
+    let (currency, rest) = after_currency(tokens)?;
+    let commodity = Commodity { currency };
+    Some((Ranged::Within(DirectiveKind::Commodity(commodity)), rest))
+}
+
+/// Whether a number in range is below 0.
+fn is_negative(number: &Ranged<Num>) -> bool
+    ensures { result ≡ rule.is_negative number.now }
+{
+    match number {
+        Ranged::Within(number) => number.count < 0,
+        Ranged::Outside => false,
+    }
+}
+
+/// The tolerance behind a tilde at the front, if there is one, and what stands behind it.
+fn tolerance_if_due<'t, 'a>(
+    tokens: &'t [Token<'a>],
+) -> Option<(Option<Ranged<Num>>, &'t [Token<'a>])>
+    ensures { MatchOption result
+        (HasNone (due rule.begins_with_tilde rule.tolerance) (lexemes tokens.now))
+        (λ r. Reads (due rule.begins_with_tilde rule.tolerance) (lexemes tokens.now)
+        r.0 (lexemes r.1.now)) }
+{
+    let Some(behind) = after_sign(tokens, Sign::Tilde) else {
+        return Some((None, tokens));
+    };
+    let (tolerance, rest) = expression(behind)?;
+    if is_negative(&tolerance) {
+        return None;
+    }
+    Some((Some(tolerance), rest))
+}
+
+/// A tolerance that is written, in range or not, or none.
+fn ranged_option(tolerance: Option<Ranged<Num>>) -> Ranged<Option<Num>>
+    ensures { result ≡ rule.ranged_option tolerance }
+{
+    match tolerance {
+        Some(Ranged::Within(tolerance)) => Ranged::Within(Some(tolerance)),
+        Some(Ranged::Outside) => Ranged::Outside,
+        None => Ranged::Within(None),
+    }
+}
+
+fn balance_of<'a>(
+    account: Account<'a>,
+    number: Ranged<Num>,
+    tolerance: Option<Ranged<Num>>,
+    currency: Currency<'a>,
+) -> Ranged<DirectiveKind<'a>>
+    ensures { result ≡ rule.balance_of account.entry number tolerance currency.entry }
+{
+    let (Ranged::Within(number), Ranged::Within(tolerance)) = (number, ranged_option(tolerance))
+    else {
+        return Ranged::Outside;
+    };
+    Ranged::Within(DirectiveKind::Balance(Balance {
+        account,
+        number,
+        tolerance,
+        currency,
+    }))
+}
+
+/// What stands behind `balance`, and what stands behind that.
+pub fn balance_line<'t, 'a>(
+    tokens: &'t [Token<'a>],
+) -> Option<(Ranged<DirectiveKind<'a>>, &'t [Token<'a>])>
+    ensures { MatchOption result (HasNone rule.balance_line (lexemes tokens.now))
+        (λ r. Reads rule.balance_line (lexemes tokens.now) r.0 (lexemes r.1.now)) }
+{
+    let (account, rest) = after_account(tokens)?;
+    let (number, rest) = expression(rest)?;
+    let (tolerance, rest) = tolerance_if_due(rest)?;
+    let (currency, rest) = after_currency(rest)?;
+    Some((balance_of(account, number, tolerance, currency), rest))
+}
+
+fn price_of<'a>(
+    currency: Currency<'a>,
+    number: Ranged<Num>,
+    other: Currency<'a>,
+) -> Ranged<DirectiveKind<'a>>
+    ensures { result ≡ rule.price_of currency.entry number other.entry }
+{
+    match number {
+        Ranged::Within(number) => Ranged::Within(DirectiveKind::Price(Price {
+            currency,
+            amount: Amount {
+                number,
+                currency: other,
+            },
+        })),
+        Ranged::Outside => Ranged::Outside,
+    }
+}
+
+/// What stands behind `price`, and what stands behind that.
+pub fn price_line<'t, 'a>(
+    tokens: &'t [Token<'a>],
+) -> Option<(Ranged<DirectiveKind<'a>>, &'t [Token<'a>])>
+    ensures { MatchOption result (HasNone rule.price_line (lexemes tokens.now))
+        (λ r. Reads rule.price_line (lexemes tokens.now) r.0 (lexemes r.1.now)) }
+{
+    let (currency, rest) = after_currency(tokens)?;
+    let (number, rest) = expression(rest)?;
+    let (other, rest) = after_currency(rest)?;
+    Some((price_of(currency, number, other), rest))
+}

@@ -1,0 +1,84 @@
+-- Worked values of the definitions.
+use Rattle.std.proofs.Common.{◌≡◌, ℕ, [], ◌∷◌, true, false, Option, Some, None, refl, pos, negsuc}
+use Rattle.std.specs.Prelude.{codes}
+use Rattle.theory.specs.Form.{Is}
+use Rattle.bean_lexer.specs.declared.kind.Sign.TheVariants as sign
+use Rattle.bean_grammar.specs.declared.metadata.Value.TheVariants as value
+use Rattle.bean_grammar.specs.declared.ranged.Ranged.TheVariants.{Within, Outside}
+use Rattle.bean_grammar.specs.Lexeme.{Account, Sign}
+use Rattle.bean_heads.specs.Head.{words_of, close_of, close_line, pad_of, pad_line, kind_behind, nothing, open_of, ranged_option}
+use Rattle.bean_parser.specs.Scope.{pop_of, open_pushes, unmatched}
+use Rattle.bean_parser.specs.Outcome.{fault_at}
+use Rattle.bean_heads.specs.Undated.{option_of}
+use Rattle.bean_parser.specs.Under.{no_lines, with_lines}
+use Rattle.bean_parser.specs.declared.scope.PlacedBound.{PlacedBound}
+use Rattle.bean_heads.specs.declared.undated.Bound.TheVariants.{Push, Pop}
+use Rattle.bean_heads.specs.declared.undated.PushName.TheVariants as names
+use Rattle.bean_heads.specs.declared.undated.Pushed.TheVariants as pushed
+use Rattle.bean_heads.specs.declared.undated.SettingKind.TheVariants as settings
+use Rattle.bean_heads.specs.declared.undated.UndatedKind.TheVariants as kinds
+use Rattle.bean_parser.specs.declared.under.LineKind.TheVariants as lines
+use Rattle.bean_base.specs.declared.fault.FaultKind.TheVariants.{UnmatchedPushOrPop}
+
+-- one text is the narration, and of two the first is the payee
+one_text : words_of (Some (codes "Bread")) None ≡ record { payee = None; narration = codes "Bread" }
+one_text = refl
+
+two_texts : words_of (Some (codes "Shop")) (Some (codes "Bread")) ≡ record { payee = Some (codes "Shop"); narration = codes "Bread" }
+two_texts = refl
+
+no_text : words_of None None ≡ record { payee = None; narration = [] }
+no_text = refl
+
+-- close Assets:Cash
+closing_line : Is close_line (Account (codes "Assets:Cash") ∷ []) (close_of (codes "Assets:Cash"))
+closing_line = (close_of, codes "Assets:Cash", _, (refl, refl), refl, refl)
+
+-- behind a comma there is no directive
+no_kind : kind_behind (Sign sign.Comma) ≡ nothing
+no_kind = refl
+
+-- a tolerance that isn't written is in range
+no_tolerance : ranged_option None ≡ Within None
+no_tolerance = refl
+
+title : option_of (codes "title") (codes "Home") ≡ Within (kinds.Setting (settings.Title (codes "Home")))
+title = refl
+
+other_option : option_of (codes "titel") (codes "Home") ≡ Within kinds.Ignored
+other_option = refl
+
+abbrev push_at : ℕ → ℕ → PlacedBound
+push_at line place = record { line = line; place = place; bound = Push (pushed.Tag (codes "a")) }
+
+abbrev pop_at : ℕ → ℕ → PlacedBound
+pop_at line place = record { line = line; place = place; bound = Pop (names.Tag (codes "a")) }
+
+abbrev another_pop : PlacedBound
+another_pop = record { line = 9; place = 9; bound = Pop (names.Tag (codes "b")) }
+
+-- of two pops the first takes the later push back, and one of another name takes neither
+outer_pop : pop_of (names.Tag (codes "a")) 0 (another_pop ∷ push_at 2 1 ∷ pop_at 3 2 ∷ pop_at 4 5 ∷ []) ≡ Some 5
+outer_pop = refl
+
+inner_pop : pop_of (names.Tag (codes "a")) 0 (pop_at 3 2 ∷ pop_at 4 5 ∷ []) ≡ Some 2
+inner_pop = refl
+
+no_pop : pop_of (names.Tag (codes "a")) 0 (push_at 2 1 ∷ pop_at 3 2 ∷ []) ≡ None
+no_pop = refl
+
+-- a pop of nothing closes no push that comes behind it
+still_open : open_pushes (names.Tag (codes "a")) 0 (pop_at 1 0 ∷ push_at 2 0 ∷ []) ≡ 1
+still_open = refl
+
+-- a pop of nothing, and a push that is open at the end
+two_faults : unmatched [] (pop_at 1 0 ∷ push_at 2 0 ∷ pop_at 3 1 ∷ push_at 4 1 ∷ []) ≡ fault_at UnmatchedPushOrPop 1 ∷ fault_at UnmatchedPushOrPop 4 ∷ []
+two_faults = refl
+
+-- what is out of range leaves the rest as it was
+outside : with_lines no_lines (lines.Entry Outside ∷ []) ≡ record no_lines { is_in_range = false }
+outside = refl
+
+-- an entry without a posting above it is the directive's own
+own_entry : with_lines no_lines (lines.Entry (Within record { key = codes "k"; value = value.Nothing }) ∷ []) ≡ record no_lines { metadata = record { key = codes "k"; value = value.Nothing } ∷ [] }
+own_entry = refl
