@@ -33,6 +33,7 @@
 #![tactic(auto)]
 
 pub mod amounts;
+pub mod apart;
 pub mod bounds;
 pub mod bytes;
 pub mod days;
@@ -50,6 +51,7 @@ pub mod span;
 pub mod texts;
 
 pub use amounts::Amount;
+pub use apart::Apart;
 pub use bounds::Bounds;
 pub use days::{Day, NotADay, parse_day};
 pub use decimal::Decimal;

@@ -1,5 +1,5 @@
 -- Forms behind what their values are put into, where no rest carries on what stands before.
-use Rattle.std.proofs.Common.{◌≡◌, false, List, refl}
+use Rattle.std.proofs.Common.{Option, Some, None, MatchOption, subst, ◌≡◌, false, List, refl}
 use Rattle.theory.specs.Form.{Form, Reads, HasNone, IsUnambiguous, made, ◌<+>◌}
 use Rattle.theory.proofs.FormFacts.{reads_made, reads_applied, none_first, none_next}
 use Rattle.theory.proofs.OneReading.{one_made, one_applied}
@@ -29,3 +29,11 @@ none_before f a ls fixed none = none_first f a ls (λ ls v rest p e g. fixed ls)
 
 pub one_next : {L V W : Type 0} (f : Form L (V → W)) (a : Form L V) → IsFixed f → IsUnambiguous f → IsUnambiguous a → IsUnambiguous (f <+> a)
 one_next f a fixed one_f one_a = one_applied f a (λ ls v rest p e g. fixed ls) one_f one_a
+
+-- what is known of an option that is there, or isn't
+
+pub when_some : {A : Type 0} (o : Option A) (v : A) (N : Type 0) (P : A → Type 0) → o ≡ Some v → MatchOption o N P → P v
+when_some o v N P e m = subst (λ o. MatchOption o N P) e m
+
+pub when_none : {A : Type 0} (o : Option A) (N : Type 0) (P : A → Type 0) → o ≡ None → MatchOption o N P → N
+when_none o N P e m = subst (λ o. MatchOption o N P) e m

@@ -1,5 +1,5 @@
 -- How costs are read.
-use Rattle.std.proofs.Common.{◌≡◌, Bool, true, false, ◌||◌, List, ◌∷◌, Option, Some, None, is_some, MatchOption, refl, ◌∙◌, ap, inl, inr}
+use Rattle.std.proofs.Common.{◌≡◌, Bool, true, false, ◌||◌, List, ◌∷◌, Option, Some, None, is_some, MatchOption, Result, Ok, Err, IfOk, refl, ◌∙◌, ap, inl, inr}
 use Rattle.theory.specs.Form.{Form, Reads, HasNone, IsUnambiguous, made, behind, closed, due, either}
 use Rattle.theory.proofs.FormFacts.{Tells, Avoids, Stops, reads_made, reads_behind, none_behind, reads_closed, none_closed, not_closed, reads_due, reads_not_due, none_due, reads_left, reads_right, none_left, none_right}
 use Rattle.theory.proofs.OneReading.{one_made, one_behind, one_closed, one_due, one_either}
@@ -146,6 +146,18 @@ pub total_or_none : {X : Type 0} (ls : List Lexeme) (found : Option (Ranged cost
 total_or_none ls (Some r) rest_of absent present reads = reads_cost ls r.0 (rest_of r.1) (reads_right (begins_with_sign OpenBrace) (cost_in false) (cost_in true) ls r.0 (rest_of r.1) lot_told absent reads)
 total_or_none ls None rest_of absent present none =
     none_cost ls (either_true (begins_with_sign OpenBrace ls) (begins_with_sign OpenBraces ls) absent present) (none_right (begins_with_sign OpenBrace) (cost_in false) (cost_in true) ls lot_told absent none)
+
+pub lot_if_ok : {X E : Type 0} (ls : List Lexeme) (result : Result (Option (Ranged costs.Cost × X)) E) (rest_of : X → List Lexeme) → begins_with_sign OpenBrace ls ≡ true
+    → IfOk result (λ found. MatchOption found (HasNone (cost_in false) ls) (λ r. Reads (cost_in false) ls r.0 (rest_of r.1)))
+    → IfOk result (λ found. MatchOption found (HasNone cost_if_due ls) (λ r. Reads cost_if_due ls r.0 (rest_of r.1)))
+lot_if_ok ls (Ok found) rest_of present h = lot_or_none ls found rest_of present h
+lot_if_ok ls (Err e) rest_of present h = h
+
+pub total_if_ok : {X E : Type 0} (ls : List Lexeme) (result : Result (Option (Ranged costs.Cost × X)) E) (rest_of : X → List Lexeme) → begins_with_sign OpenBrace ls ≡ false → begins_with_sign OpenBraces ls ≡ true
+    → IfOk result (λ found. MatchOption found (HasNone (cost_in true) ls) (λ r. Reads (cost_in true) ls r.0 (rest_of r.1)))
+    → IfOk result (λ found. MatchOption found (HasNone cost_if_due ls) (λ r. Reads cost_if_due ls r.0 (rest_of r.1)))
+total_if_ok ls (Ok found) rest_of absent present h = total_or_none ls found rest_of absent present h
+total_if_ok ls (Err e) rest_of absent present h = h
 
 pub absent_cost : (ls : List Lexeme) → begins_with_sign OpenBrace ls ≡ false → begins_with_sign OpenBraces ls ≡ false → Reads cost_if_due ls (Within Absent) ls
 absent_cost ls a b = reads_first cost_or_absent written_cost ls None ls (reads_not_due begins_with_cost cost ls cost_told (ap (λ x. x || begins_with_sign OpenBraces ls) a ∙ b))

@@ -14,7 +14,7 @@ use Rattle.bean_grammar.specs.declared.ranged.Ranged.{Ranged}
 use Rattle.bean_grammar.specs.Amount.{amount_parts}
 use Rattle.bean_grammar.specs.Cost.{cost_if_due}
 use Rattle.bean_grammar.specs.Lexeme.{Lexeme, Account, begins_with_account}
-use Rattle.bean_grammar.specs.Posting.{flag_sign, begins_with_flag_sign, flag_if_due, units_of, units, posting_of, posting}
+use Rattle.bean_grammar.specs.Posting.{flag_sign, begins_with_flag_sign, flag_if_due, units_of, units, posting_of, posted_to, posting}
 use Rattle.bean_grammar.specs.Price.{price_if_due}
 use Rattle.bean_grammar.proofs.AmountFacts.{one_amount_parts}
 use Rattle.bean_grammar.proofs.AppliedFacts.{reads_first, no_first, one_first, reads_next, no_next, none_before, one_next}
@@ -57,30 +57,27 @@ none_units ls none = no_first units_of amount_parts ls none
 abbrev flagged : ℕ → Form Lexeme (List ℕ → Ranged Units → Ranged Cost → Ranged Price → Ranged postings.Posting)
 flagged line = made (posting_of line) <+> flag_if_due
 
-abbrev posted_to : ℕ → Form Lexeme (Ranged Units → Ranged Cost → Ranged Price → Ranged postings.Posting)
-posted_to line = flagged line <+> word Account
-
-abbrev with_units : ℕ → Form Lexeme (Ranged Cost → Ranged Price → Ranged postings.Posting)
-with_units line = posted_to line <+> units
+abbrev addressed : ℕ → Form Lexeme (Ranged Units → Ranged Cost → Ranged Price → Ranged postings.Posting)
+addressed line = flagged line <+> word Account
 
 abbrev with_cost : ℕ → Form Lexeme (Ranged Price → Ranged postings.Posting)
-with_cost line = with_units line <+> cost_if_due
+with_cost line = posted_to line <+> cost_if_due
 
 account_told : Tells begins_with_account (word Account)
 account_told ls v rest p = ap begins_with_account p
 
-pub reads_posted_to : (line : ℕ) (ls : List Lexeme) (f : Option flags.Flag) (mid : List Lexeme) (bs : List ℕ) (rest : List Lexeme)
-    → Reads flag_if_due ls f mid → mid ≡ Account bs ∷ rest → Reads (posted_to line) ls (posting_of line f bs) rest
-reads_posted_to line ls f mid bs rest r at =
+pub reads_addressed : (line : ℕ) (ls : List Lexeme) (f : Option flags.Flag) (mid : List Lexeme) (bs : List ℕ) (rest : List Lexeme)
+    → Reads flag_if_due ls f mid → mid ≡ Account bs ∷ rest → Reads (addressed line) ls (posting_of line f bs) rest
+reads_addressed line ls f mid bs rest r at =
     reads_next (flagged line) (word Account) ls (posting_of line f) mid bs rest (λ rest. refl) (reads_first (posting_of line) flag_if_due ls f mid r) (reads_word Account mid bs rest exact_account at)
 
-pub reads_with_units : (line : ℕ) (ls : List Lexeme) (f : Option flags.Flag) (bs : List ℕ) (mid : List Lexeme) (u : Ranged Units) (rest : List Lexeme)
-    → Reads (posted_to line) ls (posting_of line f bs) mid → Reads units mid u rest → Reads (with_units line) ls (posting_of line f bs u) rest
-reads_with_units line ls f bs mid u rest r s = reads_next (posted_to line) units ls (posting_of line f bs) mid u rest (λ rest. refl) r s
+pub reads_posted : (line : ℕ) (ls : List Lexeme) (f : Option flags.Flag) (bs : List ℕ) (mid : List Lexeme) (u : Ranged Units) (rest : List Lexeme)
+    → Reads (addressed line) ls (posting_of line f bs) mid → Reads units mid u rest → Reads (posted_to line) ls (posting_of line f bs u) rest
+reads_posted line ls f bs mid u rest r s = reads_next (addressed line) units ls (posting_of line f bs) mid u rest (λ rest. refl) r s
 
 pub reads_with_cost : (line : ℕ) (ls : List Lexeme) (f : Option flags.Flag) (bs : List ℕ) (u : Ranged Units) (mid : List Lexeme) (c : Ranged Cost) (rest : List Lexeme)
-    → Reads (with_units line) ls (posting_of line f bs u) mid → Reads cost_if_due mid c rest → Reads (with_cost line) ls (posting_of line f bs u c) rest
-reads_with_cost line ls f bs u mid c rest r s = reads_next (with_units line) cost_if_due ls (posting_of line f bs u) mid c rest (λ rest. refl) r s
+    → Reads (posted_to line) ls (posting_of line f bs u) mid → Reads cost_if_due mid c rest → Reads (with_cost line) ls (posting_of line f bs u c) rest
+reads_with_cost line ls f bs u mid c rest r s = reads_next (posted_to line) cost_if_due ls (posting_of line f bs u) mid c rest (λ rest. refl) r s
 
 reads_posting : (line : ℕ) (ls : List Lexeme) (f : Option flags.Flag) (bs : List ℕ) (u : Ranged Units) (c : Ranged Cost) (mid : List Lexeme) (p : Ranged Price) (rest : List Lexeme)
     → Reads (with_cost line) ls (posting_of line f bs u c) mid → Reads price_if_due mid p rest → Reads (posting line) ls (posting_of line f bs u c p) rest
@@ -90,20 +87,20 @@ pub no_account_posting : (line : ℕ) (ls : List Lexeme) (f : Option flags.Flag)
 no_account_posting line ls f mid r absent =
     none_whole (posting line) ls refl
     (none_before (with_cost line) price_if_due ls (λ rest. refl)
-    (none_before (with_units line) cost_if_due ls (λ rest. refl)
-    (none_before (posted_to line) units ls (λ rest. refl)
+    (none_before (posted_to line) cost_if_due ls (λ rest. refl)
+    (none_before (addressed line) units ls (λ rest. refl)
     (no_next (flagged line) (word Account) ls (posting_of line f) mid (λ rest. refl) (reads_first (posting_of line) flag_if_due ls f mid r) (none_at begins_with_account (word Account) mid account_told absent)))))
 
-pub no_units_posting : (line : ℕ) (ls : List Lexeme) (f : Option flags.Flag) (bs : List ℕ) (mid : List Lexeme) → Reads (posted_to line) ls (posting_of line f bs) mid → HasNone units mid → IsNone (posting line) ls
+pub no_units_posting : (line : ℕ) (ls : List Lexeme) (f : Option flags.Flag) (bs : List ℕ) (mid : List Lexeme) → Reads (addressed line) ls (posting_of line f bs) mid → HasNone units mid → IsNone (posting line) ls
 no_units_posting line ls f bs mid r none =
     none_whole (posting line) ls refl
     (none_before (with_cost line) price_if_due ls (λ rest. refl)
-    (none_before (with_units line) cost_if_due ls (λ rest. refl) (no_next (posted_to line) units ls (posting_of line f bs) mid (λ rest. refl) r none)))
+    (none_before (posted_to line) cost_if_due ls (λ rest. refl) (no_next (addressed line) units ls (posting_of line f bs) mid (λ rest. refl) r none)))
 
 pub no_cost_posting : (line : ℕ) (ls : List Lexeme) (f : Option flags.Flag) (bs : List ℕ) (u : Ranged Units) (mid : List Lexeme)
-    → Reads (with_units line) ls (posting_of line f bs u) mid → HasNone cost_if_due mid → IsNone (posting line) ls
+    → Reads (posted_to line) ls (posting_of line f bs u) mid → HasNone cost_if_due mid → IsNone (posting line) ls
 no_cost_posting line ls f bs u mid r none =
-    none_whole (posting line) ls refl (none_before (with_cost line) price_if_due ls (λ rest. refl) (no_next (with_units line) cost_if_due ls (posting_of line f bs u) mid (λ rest. refl) r none))
+    none_whole (posting line) ls refl (none_before (with_cost line) price_if_due ls (λ rest. refl) (no_next (posted_to line) cost_if_due ls (posting_of line f bs u) mid (λ rest. refl) r none))
 
 pub no_price_posting : (line : ℕ) (ls : List Lexeme) (f : Option flags.Flag) (bs : List ℕ) (u : Ranged Units) (c : Ranged Cost) (mid : List Lexeme)
     → Reads (with_cost line) ls (posting_of line f bs u c) mid → HasNone price_if_due mid → IsNone (posting line) ls
@@ -123,8 +120,8 @@ more_than_posting line ls f bs u c mid p rest l more r s end =
 pub one_posting : (line : ℕ) → IsUnambiguous (posting line)
 one_posting line =
     one_next (with_cost line) price_if_due (λ rest. refl)
-    (one_next (with_units line) cost_if_due (λ rest. refl)
-    (one_next (posted_to line) units (λ rest. refl)
+    (one_next (posted_to line) cost_if_due (λ rest. refl)
+    (one_next (addressed line) units (λ rest. refl)
     (one_next (flagged line) (word Account) (λ rest. refl)
     (one_first (posting_of line) flag_if_due (one_due begins_with_flag_sign (word flag_sign) flag_told (one_word flag_sign exact_flag_sign))) (one_word Account exact_account))
     (one_first units_of amount_parts one_amount_parts)) one_cost_if_due) one_price_if_due

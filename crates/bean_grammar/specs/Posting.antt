@@ -63,11 +63,12 @@ posting_of line flag account units cost price =
     })
     units cost price
 
--- a posting on a line of that number
+-- the front of a posting on a line of that number, up to its units
+abbrev pub posted_to : ℕ → Form Lexeme (Ranged costs.Cost → Ranged prices.Price → Ranged postings.Posting)
+posted_to line = made (posting_of line) <+> flag_if_due <+> word Account <+> units
+
 abbrev pub posting : ℕ → Form Lexeme (Ranged postings.Posting)
-posting line =
-    made (posting_of line)
-    <+> flag_if_due <+> word Account <+> units <+> cost_if_due <+> price_if_due
+posting line = posted_to line <+> cost_if_due <+> price_if_due
 
 -- Which postings the books don't have.
 

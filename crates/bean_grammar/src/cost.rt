@@ -1,5 +1,5 @@
 //! The costs of postings: what a lot's braces say.
-ghost use Rattle.std.specs.Prelude.{◌≡◌, ◌<◌, ◌≤◌, length, MatchOption, IfSome};
+ghost use Rattle.std.specs.Prelude.{◌≡◌, ◌<◌, length, MatchOption, IfSome, IfOk};
 ghost use Rattle.theory.specs.Form.{HasNone, Reads};
 ghost use Rattle.bean_grammar.specs.Cost as rule;
 ghost use Rattle.bean_grammar.specs.Lexeme.{lexemes};
@@ -8,8 +8,9 @@ ghost use Rattle.bean_grammar.specs.Ranged.{option_within};
 use crate::cost_part::{CostParts, cost_parts};
 use crate::front::after_sign;
 use crate::ranged::Ranged;
-use bean_base::{Amount, Day, Text};
+use bean_base::{Amount, Apart, Day, Text};
 use bean_lexer::{Sign, Token};
+use std::alloc::{AllocError, Global};
 
 /// What braces say of a lot. Each part may be absent.
 #[derive(Debug, Drop)]
@@ -24,7 +25,7 @@ pub struct LotParts<'a> {
 #[derive(Debug, Drop)]
 pub enum Cost<'a> {
     Absent,
-    Lot(LotParts<'a>),
+    Lot(Apart<LotParts<'a>>),
     /// A total cost in doubled braces; or a part that is a number or a currency alone, `*`, or has
     /// a `#`.
     OutsideProfile,
@@ -87,11 +88,15 @@ fn day_within(day: Option<Ranged<Day>>) -> Ranged<Option<Day>>
     }
 }
 
-fn cost_of<'a>(is_total: bool, parts: CostParts<'a>) -> Ranged<Cost<'a>>
-    ensures { result ≡ rule.cost_of is_total parts.entry }
+fn cost_of<'a>(
+    alloc: Global,
+    is_total: bool,
+    parts: CostParts<'a>,
+) -> Result<Ranged<Cost<'a>>, AllocError>
+    ensures { IfOk result (λ cost. cost ≡ rule.cost_of is_total parts.entry) }
 {
     if !others_fit(&parts) {
-        return Ranged::Outside;
+        return Ok(Ranged::Outside);
     }
     let is_outside_profile = is_outside_profile(is_total, &parts);
     let label = parts.label;
@@ -99,12 +104,13 @@ fn cost_of<'a>(is_total: bool, parts: CostParts<'a>) -> Ranged<Cost<'a>>
         amount_within(parts.amount),
         day_within(parts.day),
     ) else {
-        return Ranged::Outside;
+        return Ok(Ranged::Outside);
     };
     if is_outside_profile {
-        return Ranged::Within(Cost::OutsideProfile);
+        return Ok(Ranged::Within(Cost::OutsideProfile));
     }
-    Ranged::Within(Cost::Lot(LotParts { amount, day, label }))
+    let lot = Apart::new(alloc, LotParts { amount, day, label })?;
+    Ok(Ranged::Within(Cost::Lot(lot)))
 }
 
 /// The parts in braces at the front, which are doubled where the cost is total, and what stands
@@ -128,28 +134,35 @@ fn braced<'t, 'a>(
 
 /// The cost in such braces at the front, and what stands behind it.
 fn cost_in<'t, 'a>(
+    alloc: Global,
     tokens: &'t [Token<'a>],
     is_total: bool,
-) -> Option<(Ranged<Cost<'a>>, &'t [Token<'a>])>
-    ensures read { MatchOption result (HasNone (rule.cost_in is_total) (lexemes tokens.now))
-        (λ r. Reads (rule.cost_in is_total) (lexemes tokens.now) r.0 (lexemes r.1.now)) }
-    ensures shorter { IfSome result (λ r. length r.1.now < length tokens.now) }
+) -> Result<Option<(Ranged<Cost<'a>>, &'t [Token<'a>])>, AllocError>
+    ensures { IfOk result (λ found.
+        MatchOption found (HasNone (rule.cost_in is_total) (lexemes tokens.now))
+        (λ r. Reads (rule.cost_in is_total) (lexemes tokens.now) r.0 (lexemes r.1.now))) }
 {
-    let (parts, rest) = braced(tokens, is_total)?;
-    Some((cost_of(is_total, parts), rest))
+    let Some(found) = braced(tokens, is_total) else {
+        return Ok(None);
+    };
+    let (parts, rest) = found;
+    let cost = cost_of(alloc, is_total, parts)?;
+    Ok(Some((cost, rest)))
 }
 
 /// The cost at the front, which is absent where none begins there, and what stands behind it.
-pub fn cost_if_due<'t, 'a>(tokens: &'t [Token<'a>]) -> Option<(Ranged<Cost<'a>>, &'t [Token<'a>])>
-    ensures read { MatchOption result (HasNone rule.cost_if_due (lexemes tokens.now))
-        (λ r. Reads rule.cost_if_due (lexemes tokens.now) r.0 (lexemes r.1.now)) }
-    ensures no_longer { IfSome result (λ r. length r.1.now ≤ length tokens.now) }
+pub fn cost_if_due<'t, 'a>(
+    alloc: Global,
+    tokens: &'t [Token<'a>],
+) -> Result<Option<(Ranged<Cost<'a>>, &'t [Token<'a>])>, AllocError>
+    ensures { IfOk result (λ found. MatchOption found (HasNone rule.cost_if_due (lexemes tokens.now))
+        (λ r. Reads rule.cost_if_due (lexemes tokens.now) r.0 (lexemes r.1.now))) }
 {
     if after_sign(tokens, Sign::OpenBrace).is_some() {
-        return cost_in(tokens, false);
+        return cost_in(alloc, tokens, false);
     }
     if after_sign(tokens, Sign::OpenBraces).is_some() {
-        return cost_in(tokens, true);
+        return cost_in(alloc, tokens, true);
     }
-    Some((Ranged::Within(Cost::Absent), tokens))
+    Ok(Some((Ranged::Within(Cost::Absent), tokens)))
 }

@@ -3,7 +3,7 @@ ghost use Rattle.std.specs.Prelude.{◌≡◌, Some, ◌≤◌, length, MatchOpt
 ghost use Rattle.theory.specs.Form.{HasNone, Reads};
 ghost use Rattle.bean_grammar.specs.CostPart as rule;
 ghost use Rattle.bean_grammar.specs.Lexeme.{lexemes};
-ghost use Rattle.bean_grammar.specs.Ranged.{none_outside};
+ghost use Rattle.bean_grammar.specs.Ranged as ranges;
 
 use crate::amount::{amount_of, currency_if_due};
 use crate::expression::expression_if_due;
@@ -75,7 +75,7 @@ fn put<'a>(parts: CostParts<'a>, part: CostPart<'a>) -> Option<CostParts<'a>>
 }
 
 fn none_outside(number: &Option<Ranged<Num>>) -> bool
-    ensures { result ≡ none_outside number.now }
+    ensures { result ≡ ranges.none_outside number.now }
 {
     !matches!(number, Some(Ranged::Outside))
 }

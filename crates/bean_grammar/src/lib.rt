@@ -24,7 +24,7 @@
 //! # Cost
 //!
 //! Linear in the tokens. Expressions are read to their values with no tree, and nest at most 200 deep.
-//! Only lists of tags, links and values take memory.
+//! What takes memory: a posting's lot and its price, and lists of tags, links and values.
 #![tactic(auto)]
 
 pub mod amount;

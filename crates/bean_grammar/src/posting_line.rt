@@ -1,5 +1,5 @@
 //! Lines that are postings.
-ghost use Rattle.std.specs.Prelude.{◌≡◌, ◌∷◌, ◌<◌, ◌≤◌, false, length, MatchOption, IfSome};
+ghost use Rattle.std.specs.Prelude.{◌≡◌, ◌∷◌, ◌<◌, ◌≤◌, false, length, MatchOption, IfSome, IfOk, ℕ};
 ghost use Rattle.theory.specs.Form.{HasNone, Reads, Is, IsNone};
 ghost use Rattle.bean_grammar.specs.Lexeme.{lexemes};
 ghost use Rattle.bean_grammar.specs.Posting as rule;
@@ -12,7 +12,7 @@ use crate::price::{Price, price_if_due};
 use crate::ranged::Ranged;
 use bean_base::{Account, Amount, Flag, List};
 use bean_lexer::{Kind, Sign, Token};
-use std::alloc::Global;
+use std::alloc::{AllocError, Global};
 
 fn after_flag_sign<'t, 'a>(tokens: &'t [Token<'a>]) -> Option<(Flag, &'t [Token<'a>])>
     ensures front { MatchOption result (rule.begins_with_flag_sign (lexemes tokens.now) ≡ false)
@@ -86,18 +86,51 @@ fn posting_of<'a>(
     })
 }
 
-/// The posting that a line of that number is. It takes no memory.
-pub fn posting<'a>(alloc: Global, line: usize, tokens: &[Token<'a>]) -> Option<Ranged<Posting<'a>>>
-    ensures { MatchOption result (IsNone (rule.posting line) (lexemes tokens.now))
-        (Is (rule.posting line) (lexemes tokens.now)) }
+/// The flag, the account and the units at the front, and what stands behind them.
+fn posted<'t, 'a>(
+    tokens: &'t [Token<'a>],
+) -> Option<
+    (
+        Option<Flag>,
+        Account<'a>,
+        Ranged<Units<'a>>,
+        &'t [Token<'a>],
+    ),
+>
+    ensures { (line : ℕ) → MatchOption result (IsNone (rule.posting line) (lexemes tokens.now))
+        (λ r. Reads (rule.posted_to line) (lexemes tokens.now)
+        (rule.posting_of line r.0 r.1 r.2) (lexemes r.3.now)) }
 {
     let (flag, rest) = flag_if_due(tokens);
     let (account, rest) = after_account(rest)?;
     let (units, rest) = units(rest)?;
-    let (cost, rest) = cost_if_due(rest)?;
-    let (price, rest) = price_if_due(rest)?;
+    Some((flag, account, units, rest))
+}
+
+/// The posting that a line of that number is. It takes memory for a lot and for a price alone.
+pub fn posting<'a>(
+    alloc: Global,
+    line: usize,
+    tokens: &[Token<'a>],
+) -> Result<Option<Ranged<Posting<'a>>>, AllocError>
+    ensures { IfOk result (λ found.
+        MatchOption found (IsNone (rule.posting line) (lexemes tokens.now))
+        (Is (rule.posting line) (lexemes tokens.now))) }
+{
+    let Some(found) = posted(tokens) else {
+        return Ok(None);
+    };
+    let (flag, account, units, rest) = found;
+    let Some(found) = cost_if_due(alloc, rest)? else {
+        return Ok(None);
+    };
+    let (cost, rest) = found;
+    let Some(found) = price_if_due(alloc, rest)? else {
+        return Ok(None);
+    };
+    let (price, rest) = found;
     match next(rest) {
-        Some(_) => None,
-        None => Some(posting_of(alloc, line, flag, account, units, cost, price)),
+        Some(_) => Ok(None),
+        None => Ok(Some(posting_of(alloc, line, flag, account, units, cost, price))),
     }
 }

@@ -1,5 +1,5 @@
 //! The prices of postings.
-ghost use Rattle.std.specs.Prelude.{◌≡◌, ◌∷◌, ◌<◌, ◌≤◌, false, length, MatchOption, IfSome};
+ghost use Rattle.std.specs.Prelude.{◌≡◌, ◌∷◌, ◌<◌, false, length, MatchOption, IfSome, IfOk};
 ghost use Rattle.theory.specs.Form.{HasNone, Reads};
 ghost use Rattle.bean_grammar.specs.Lexeme.{lexemes};
 ghost use Rattle.bean_grammar.specs.Price as rule;
@@ -7,17 +7,18 @@ ghost use Rattle.bean_grammar.specs.Price as rule;
 use crate::amount::{AmountParts, amount_parts};
 use crate::front::next;
 use crate::ranged::Ranged;
-use bean_base::Amount;
+use bean_base::{Amount, Apart};
 use bean_lexer::{Kind, Sign, Token};
+use std::alloc::{AllocError, Global};
 
 /// The price that is written in a posting.
 #[derive(Debug, Drop)]
 pub enum Price<'a> {
     Absent,
     /// The price of one unit, behind `@`.
-    PerUnit(Amount<'a>),
+    PerUnit(Apart<Amount<'a>>),
     /// The price of all units, behind `@@`.
-    Total(Amount<'a>),
+    Total(Apart<Amount<'a>>),
     /// A price without its number, its currency or both.
     OutsideProfile,
 }
@@ -36,37 +37,50 @@ fn after_price_sign<'t, 'a>(tokens: &'t [Token<'a>]) -> Option<(bool, &'t [Token
     }
 }
 
-fn priced<'a>(is_total: bool, amount: Amount<'a>) -> Price<'a>
-    ensures { result ≡ rule.priced is_total amount.entry }
+fn priced<'a>(alloc: Global, is_total: bool, amount: Amount<'a>) -> Result<Price<'a>, AllocError>
+    ensures { IfOk result (λ price. price ≡ rule.priced is_total amount.entry) }
 {
+    let amount = Apart::new(alloc, amount)?;
     if is_total {
-        Price::Total(amount)
+        Ok(Price::Total(amount))
     } else {
-        Price::PerUnit(amount)
+        Ok(Price::PerUnit(amount))
     }
 }
 
-fn price_of<'a>(is_total: bool, parts: AmountParts<'a>) -> Ranged<Price<'a>>
-    ensures { result ≡ rule.price_of is_total parts.entry }
+fn price_of<'a>(
+    alloc: Global,
+    is_total: bool,
+    parts: AmountParts<'a>,
+) -> Result<Ranged<Price<'a>>, AllocError>
+    ensures { IfOk result (λ price. price ≡ rule.price_of is_total parts.entry) }
 {
     match (parts.number, parts.currency) {
-        (Some(Ranged::Outside), _) => Ranged::Outside,
+        (Some(Ranged::Outside), _) => Ok(Ranged::Outside),
         (Some(Ranged::Within(number)), Some(currency)) => {
-            Ranged::Within(priced(is_total, Amount { number, currency }))
+            let price = priced(alloc, is_total, Amount { number, currency })?;
+            Ok(Ranged::Within(price))
         }
-        (_, _) => Ranged::Within(Price::OutsideProfile),
+        (_, _) => Ok(Ranged::Within(Price::OutsideProfile)),
     }
 }
 
 /// The price at the front, which is absent where none begins there, and what stands behind it.
-pub fn price_if_due<'t, 'a>(tokens: &'t [Token<'a>]) -> Option<(Ranged<Price<'a>>, &'t [Token<'a>])>
-    ensures read { MatchOption result (HasNone rule.price_if_due (lexemes tokens.now))
-        (λ r. Reads rule.price_if_due (lexemes tokens.now) r.0 (lexemes r.1.now)) }
-    ensures no_longer { IfSome result (λ r. length r.1.now ≤ length tokens.now) }
+pub fn price_if_due<'t, 'a>(
+    alloc: Global,
+    tokens: &'t [Token<'a>],
+) -> Result<Option<(Ranged<Price<'a>>, &'t [Token<'a>])>, AllocError>
+    ensures { IfOk result (λ found.
+        MatchOption found (HasNone rule.price_if_due (lexemes tokens.now))
+        (λ r. Reads rule.price_if_due (lexemes tokens.now) r.0 (lexemes r.1.now))) }
 {
     let Some((is_total, after)) = after_price_sign(tokens) else {
-        return Some((Ranged::Within(Price::Absent), tokens));
+        return Ok(Some((Ranged::Within(Price::Absent), tokens)));
     };
-    let (parts, rest) = amount_parts(after)?;
-    Some((price_of(is_total, parts), rest))
+    let Some(found) = amount_parts(after) else {
+        return Ok(None);
+    };
+    let (parts, rest) = found;
+    let price = price_of(alloc, is_total, parts)?;
+    Ok(Some((price, rest)))
 }

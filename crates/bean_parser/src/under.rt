@@ -83,7 +83,7 @@ fn transaction_line<'a>(
             None => Ok(None),
         };
     }
-    match posting(alloc, first_line(line), line) {
+    match posting(alloc, first_line(line), line)? {
         Some(posting) => Ok(Some(LineKind::Posting(posting))),
         None => Ok(None),
     }

@@ -11,7 +11,7 @@ use std::test::Fail;
 
 fn read<'a>(alloc: Global, text: &'a str) -> Result<Option<Ranged<Posting<'a>>>, AllocError> {
     let line = tokens(alloc, text)?;
-    Ok(posting(alloc, 3, line.as_slice()))
+    posting(alloc, 3, line.as_slice())
 }
 
 fn posting_of<'a>(alloc: Global, text: &'a str) -> Result<Posting<'a>, Fail> {
@@ -57,13 +57,14 @@ fn a_posting_with_all_its_parts(rt: HostRuntime) -> Result<(), Fail> {
     let Cost::Lot(lot) = &posting.cost else {
         return Err("a lot".into());
     };
+    let lot = lot.get();
     assert_eq!(rt; lot.day.ok_or("a day")?.day(), 2);
     assert!(rt; lot.label.as_ref().ok_or("a label")?.plain() == Some("a"));
     assert_eq!(rt; lot.amount.as_ref().ok_or("an amount")?.number.count, 500);
     let Price::Total(price) = &posting.price else {
         return Err("a total".into());
     };
-    assert_eq!(rt; price.number.count, 7);
+    assert_eq!(rt; price.get().number.count, 7);
     Ok(())
 }
 

@@ -1,37 +1,21 @@
-use Rattle.bean_grammar.proofs.PostingFacts.{reads_posted_to, reads_with_units, reads_with_cost, no_account_posting, no_units_posting, no_cost_posting, no_price_posting, posting_is, more_than_posting}
+use Rattle.bean_grammar.proofs.AppliedFacts.{when_some, when_none}
+use Rattle.bean_grammar.proofs.PostingFacts.{reads_with_cost, no_cost_posting, no_price_posting, posting_is, more_than_posting}
 use Rattle.bean_grammar.proofs.posting_line.posting.Goals as goal
 
-pub returns-in_err-account : goal.returns-in_err-account
-returns-in_err-account c = rw c.from_residual.ensures (no_account_posting _ _ _ _ c.flag_if_due-flag.ensures c.in_err-account.ensures.front)
+pub returns-in_default-2 : goal.returns-in_default-2
+returns-in_default-2 c = no_cost_posting c.args.line _ _ _ _ _ (c.in-Some.ensures c.args.line) (when_none _ _ _ c.in_default-2.is c.in_ok-found.ensures)
 
-pub returns-in_err-units : goal.returns-in_err-units
-returns-in_err-units c =
-    let account = reads_posted_to c.args.line _ _ _ _ _ c.flag_if_due-flag.ensures c.in_ok-account.ensures.front in
-    rw c.from_residual-in_err-units.ensures (no_units_posting _ _ _ _ _ account c.in_err-units.ensures)
+pub returns-in_default-3 : goal.returns-in_default-3
+returns-in_default-3 c =
+    let cost = reads_with_cost c.args.line _ _ _ _ _ _ _ (c.in-Some.ensures c.args.line) (when_some _ _ _ _ c.in-Some-2.is c.in_ok-found.ensures) in
+    no_price_posting _ _ _ _ _ _ _ cost (when_none _ _ _ c.in_default-3.is c.in_ok-found-2.ensures)
 
-pub returns-in_err-cost : goal.returns-in_err-cost
-returns-in_err-cost c =
-    let account = reads_posted_to c.args.line _ _ _ _ _ c.flag_if_due-flag.ensures c.in_ok-account.ensures.front in
-    let units = reads_with_units _ _ _ _ _ _ _ account c.in_ok-units.ensures in
-    rw c.from_residual-in_err-cost.ensures (no_cost_posting _ _ _ _ _ _ units c.in_err-cost.ensures.read)
+pub returns-in-Some-next : goal.returns-in-Some-next
+returns-in-Some-next c =
+    let cost = reads_with_cost c.args.line _ _ _ _ _ _ _ (c.in-Some.ensures c.args.line) (when_some _ _ _ _ c.in-Some-2.is c.in_ok-found.ensures) in
+    more_than_posting _ _ _ _ _ _ _ _ _ _ _ cost (when_some _ _ _ _ c.in-Some-3.is c.in_ok-found-2.ensures) c.in-Some-next.ensures.front
 
-pub returns-in_err-price : goal.returns-in_err-price
-returns-in_err-price c =
-    let account = reads_posted_to c.args.line _ _ _ _ _ c.flag_if_due-flag.ensures c.in_ok-account.ensures.front in
-    let units = reads_with_units _ _ _ _ _ _ _ account c.in_ok-units.ensures in
-    let cost = reads_with_cost _ _ _ _ _ _ _ _ units c.in_ok-cost.ensures.read in
-    rw c.from_residual-in_err-price.ensures (no_price_posting _ _ _ _ _ _ _ cost c.in_err-price.ensures.read)
-
-pub returns-in-Some : goal.returns-in-Some
-returns-in-Some c =
-    let account = reads_posted_to c.args.line _ _ _ _ _ c.flag_if_due-flag.ensures c.in_ok-account.ensures.front in
-    let units = reads_with_units _ _ _ _ _ _ _ account c.in_ok-units.ensures in
-    let cost = reads_with_cost _ _ _ _ _ _ _ _ units c.in_ok-cost.ensures.read in
-    more_than_posting _ _ _ _ _ _ _ _ _ _ _ cost c.in_ok-price.ensures.read c.in-Some.ensures.front
-
-pub returns-in-None : goal.returns-in-None
-returns-in-None c =
-    let account = reads_posted_to c.args.line _ _ _ _ _ c.flag_if_due-flag.ensures c.in_ok-account.ensures.front in
-    let units = reads_with_units _ _ _ _ _ _ _ account c.in_ok-units.ensures in
-    let cost = reads_with_cost _ _ _ _ _ _ _ _ units c.in_ok-cost.ensures.read in
-    rw c.posting_of.ensures (posting_is _ _ _ _ _ _ _ _ _ cost c.in_ok-price.ensures.read c.in-None.ensures.front)
+pub returns : goal.returns
+returns c =
+    let cost = reads_with_cost c.args.line _ _ _ _ _ _ _ (c.in-Some.ensures c.args.line) (when_some _ _ _ _ c.in-Some-2.is c.in_ok-found.ensures) in
+    rw c.posting_of.ensures (posting_is _ _ _ _ _ _ _ _ _ cost (when_some _ _ _ _ c.in-Some-3.is c.in_ok-found-2.ensures) c.in-None.ensures.front)

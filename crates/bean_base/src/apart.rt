@@ -1,0 +1,36 @@
+//! Values that lie apart from what holds them.
+ghost use Rattle.std.specs.Prelude.{◌≡◌, IfOk};
+
+use std::alloc::{AllocError, Global};
+use std::marker::Model;
+
+/// A value in memory of its own, so that a struct stays small that seldom has one. Contracts see the
+/// value itself.
+#[derive(Debug, Drop)]
+pub struct Apart<T> {
+    place: Box<T>,
+}
+
+impl<T> Model for Apart<T> {
+    ghost Value = { T };
+
+    ghost view = { λ a. a.place.value };
+}
+
+impl<T: Drop> Apart<T> {
+    /// The value in memory of its own.
+    pub fn new(alloc: Global, value: T) -> Result<Apart<T>, AllocError>
+        ensures { IfOk result (λ a. a ≡ value) }
+    {
+        Ok(Apart {
+            place: Box::new(alloc, value)?,
+        })
+    }
+
+    /// The value.
+    pub fn get(&self) -> &T
+        ensures { result.now ≡ self.now }
+    {
+        &self.place
+    }
+}
