@@ -1,0 +1,42 @@
+-- When values are the same.
+use Rattle.std.specs.Prelude.{ℕ, ℤ, Bool, true, false, not, ◌&&◌, nat_eq, max, List, if◌then◌else◌}
+use Rattle.std.specs.Cmp.Lexicographic.{pointwise}
+use Rattle.std.specs.List.{list_all}
+use Rattle.std.specs.Ordering.{int_eq}
+use Rattle.bean_base.specs.Day.{number}
+use Rattle.bean_base.specs.Decimal.{scaled}
+use Rattle.bean_lots.specs.Inventory.{count_of}
+use Rattle.bean_lots.specs.Lot.{same_key, same_text}
+use Rattle.bean_lots.specs.declared.lot.Position.{Position}
+use Rattle.query_values.specs.declared.bag.Bag.{Bag}
+use Rattle.query_values.specs.declared.value.Value.{Value}
+use Rattle.query_values.specs.declared.value.Value.TheVariants.{Null, Truth, Number, Text, Day, Set, Amount, Inventory}
+use Rattle.query_values.specs.declared.value.Value.TheVariants as value
+
+-- counts of 10^-p and of 10^-q that are the same number
+abbrev pub same_number : ℕ → ℤ → ℕ → ℤ → Bool
+same_number p m q n = int_eq (scaled m p (max p q)) (scaled n q (max p q))
+
+abbrev pub same_truth : Bool → Bool → Bool
+same_truth a b = if a then b else not b
+
+-- the entry's count is what the other inventory has under its key
+abbrev pub is_count_in : Bag → ℕ → Position → Bool
+is_count_in b p e = same_number p e.count b.places (count_of b.held e.key)
+
+-- the same counts under the same keys, in any order of entry
+abbrev pub same_bag : Bag → Bag → Bool
+same_bag a b = list_all (is_count_in b a.places) a.held && list_all (is_count_in a b.places) b.held
+
+-- null is the same as null; numbers, amounts and inventories are told by value, whatever their decimals
+abbrev pub same : Value → Value → Bool
+same Null Null = true
+same (Truth a) (Truth b) = same_truth a b
+same (Number p m) (Number q n) = same_number p m q n
+same (Text a) (Text b) = same_text a b
+same (Day a) (Day b) = int_eq (number a) (number b)
+same (Set a) (Set b) = pointwise same_text a b
+same (Amount p m c) (Amount q n d) = same_number p m q n && same_text c d
+same (value.Position j m) (value.Position k n) = same_key j k && int_eq m n
+same (Inventory a) (Inventory b) = same_bag a b
+same x y = false

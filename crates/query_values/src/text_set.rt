@@ -1,0 +1,48 @@
+//! Sets of texts.
+ghost use Rattle.std.specs.Prelude.{◌≡◌};
+ghost use Rattle.std.specs.Cmp.Lexicographic.{slice_cmp};
+ghost use Rattle.std.specs.List.Sorted.{IsStrictlySortedBy};
+ghost use Rattle.std.specs.Ordering.{nat_cmp};
+ghost use Rattle.query_values.specs.TextSet.{HasMembersOf};
+
+use bean_base::Slice;
+use std::marker::Model;
+
+/// Texts, each once. Its value is the list of them in the order of their bytes.
+#[derive(Debug, Drop)]
+pub struct TextSet<'a> {
+    texts: Vec<Slice<'a>>,
+}
+
+impl<'a> Model for TextSet<'a> {
+    ghost use Rattle.std.specs.Prelude.{ℕ, List};
+    ghost use Rattle.std.specs.Cmp.Lexicographic.{slice_cmp};
+    ghost use Rattle.std.specs.List.Sorted.{IsStrictlySortedBy};
+    ghost use Rattle.std.specs.Ordering.{nat_cmp};
+
+    ghost Value = { List (List ℕ) };
+
+    ghost view = { λ s. s.texts.items };
+
+    ghost invariant = { λ s. IsStrictlySortedBy (slice_cmp nat_cmp) s.texts.items };
+}
+
+impl<'a> TextSet<'a> {
+    /// The set of these texts, which may come in any order and more than once.
+    pub fn new(texts: Vec<Slice<'a>>) -> TextSet<'a>
+        ensures { HasMembersOf texts.entry.items result }
+    {
+        let mut texts = texts;
+        texts.sort_unstable();
+        texts.dedup();
+        TextSet { texts }
+    }
+
+    /// The texts, in the order of their bytes.
+    pub fn as_slice(&self) -> &[Slice<'a>]
+        ensures texts { result.now ≡ self.now }
+        ensures order { IsStrictlySortedBy (slice_cmp nat_cmp) self.now }
+    {
+        self.texts.as_slice()
+    }
+}
