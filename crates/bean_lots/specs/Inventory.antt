@@ -1,7 +1,6 @@
 -- An inventory as the list of its positions, in order of entry.
-use Rattle.std.specs.Prelude.{◌≡◌, false, List, [], ◌∷◌, ◌++◌, ℤ, pos, neg_ℤ, ◌+ℤ◌, if◌then◌else◌}
-use Rattle.std.specs.Int.{w128}
-use Rattle.std.specs.Int.RustNames.{FitsSigned}
+use Rattle.std.specs.Prelude.{◌≡◌, ◌^◌, ◌<◌, false, List, [], ◌∷◌, ◌++◌, ℤ, pos, neg_ℤ, ◌+ℤ◌, if◌then◌else◌}
+use Rattle.std.specs.Int.RustNames.{unsigned_abs}
 use Rattle.std.specs.Ordering.{int_eq}
 use Rattle.std.specs.List.{AllByRecursion}
 use Rattle.bean_lots.specs.Lot.{same_key}
@@ -27,7 +26,7 @@ abbrev pub negative_entry : Position → Position
 negative_entry e = record { key = e.key; count = neg_ℤ e.count }
 
 abbrev pub MayBeNegated : Position → Type 0
-MayBeNegated e = FitsSigned w128 (neg_ℤ e.count)
+MayBeNegated e = unsigned_abs e.count < 2 ^ 127
 
 abbrev pub DiffersFrom : Key → Position → Type 0
 DiffersFrom k e = same_key k e.key ≡ false
