@@ -1,7 +1,7 @@
 -- The operations at worked values.
-use Rattle.std.proofs.Common.{◌≡◌, ◌<◌, ◌≤◌, ◌^◌, ◌-◌, ℕ, ℤ, pos, negsuc, neg_ℤ, true, false, List, [], ◌∷◌, Option, Some, None, codes, refl, arith}
+use Rattle.std.proofs.Common.{◌≡◌, ◌<◌, ◌≤◌, ◌^◌, ◌-◌, ℕ, ℤ, pos, negsuc, neg_ℤ, true, false, List, [], ◌∷◌, Option, Some, None, codes, encode_utf8_all, refl, arith}
 use Rattle.std.specs.Str.{chars}
-use Rattle.bean_base.proofs.WorkedDays.{january_2, january_3}
+use Rattle.bean_base.proofs.WorkedDays.{january_2, january_3, january_2_number, january_3_number}
 use Rattle.bean_lots.specs.declared.lot.Cost.{Cost}
 use Rattle.bean_lots.specs.declared.lot.Lot.{Lot}
 use Rattle.bean_lots.specs.declared.lot.Key.{Key}
@@ -28,6 +28,10 @@ two op x y = checked (may_binary op x y) (binary_value op x y)
 -- the greatest count
 abbrev most : ℕ
 most = 2 ^ 127 - 1
+
+-- the bytes of a text with characters past ASCII
+abbrev utf8 : List ℕ → List ℕ
+utf8 text = encode_utf8_all text
 
 abbrev a_text : Value
 a_text = Text (codes "a")
@@ -114,7 +118,7 @@ equal_numbers : two binary.Equal (Number 2 (pos 10)) (Number 2 (pos 10)) ≡ Som
 equal_numbers = refl
 
 equal_days : two binary.Equal (Day january_2) (Day january_2) ≡ Some (Truth true)
-equal_days = refl
+equal_days = rw january_2_number refl
 
 sets_are_not_compared : two binary.Equal (Set []) (Set []) ≡ None
 sets_are_not_compared = refl
@@ -144,11 +148,11 @@ capitals_first = refl
 fronts_first : two binary.Less a_text (Text (codes "ab")) ≡ Some (Truth true)
 fronts_first = refl
 
-past_ascii_last : two binary.Greater (Text (codes "é")) (Text (codes "z")) ≡ Some (Truth true)
+past_ascii_last : two binary.Greater (Text (utf8 (codes "é"))) (Text (codes "z")) ≡ Some (Truth true)
 past_ascii_last = refl
 
 earlier_days_first : two binary.Less (Day january_2) (Day january_3) ≡ Some (Truth true)
-earlier_days_first = refl
+earlier_days_first = rw (january_2_number, january_3_number) refl
 
 -- truth
 not_null : one unary.Not Null ≡ Some (Truth true)
@@ -199,15 +203,15 @@ month_of_null : one unary.Month Null ≡ Some Null
 month_of_null = refl
 
 abbrev account : Value
-account = Text (codes "Assets:É:Cash")
+account = Text (utf8 (codes "Assets:É:Cash"))
 
-root_of_two : one (unary.Root 2) account ≡ Some (Text (codes "Assets:É"))
+root_of_two : one (unary.Root 2) account ≡ Some (Text (utf8 (codes "Assets:É")))
 root_of_two = refl
 
 root_of_many : one (unary.Root 255) account ≡ Some account
 root_of_many = refl
 
-parent : one unary.Parent account ≡ Some (Text (codes "Assets:É"))
+parent : one unary.Parent account ≡ Some (Text (utf8 (codes "Assets:É")))
 parent = refl
 
 no_parent : one unary.Parent a_text ≡ Some (Text [])

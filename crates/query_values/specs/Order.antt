@@ -1,7 +1,8 @@
 -- The order of values.
 use Rattle.std.specs.Prelude.{ℕ, Bool, true, false, not, ◌&&◌, max}
 use Rattle.std.specs.Cmp.Lexicographic.{slice_cmp}
-use Rattle.std.specs.Ordering.{Ordering, nat_cmp, int_cmp, is_lt}
+use Rattle.std.specs.declared.cmp.Ordering.{Ordering}
+use Rattle.std.specs.Ordering.{nat_cmp, int_cmp, is_lt}
 use Rattle.bean_base.specs.Day.{number}
 use Rattle.bean_base.specs.Decimal.{scaled}
 use Rattle.query_values.specs.declared.value.Value.{Value}

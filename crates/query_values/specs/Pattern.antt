@@ -1,19 +1,17 @@
 -- Patterns, and where they are found.
-use Rattle.std.specs.Prelude.{◌≡◌, ℕ, Bool, true, List, is_some}
+use Rattle.std.specs.Prelude.{ℕ, Bool, true, false, List, Option, chars, is_some, option_map}
+use Rattle.std.specs.Option.{option_map_or}
 use Rattle.regex.specs.Patterns.{Re, Config, default_config, find_str}
-use Rattle.regex.specs.Strings.{regex_pattern, regex_source, regex_config, IsReadFromSource}
-use Rattle.regex.specs.declared.string.regex.Regex.{Regex}
-use Rattle.regex_syntax.specs.declared.flags.Flags.{Flags}
+use Rattle.regex_syntax.specs.Grammar.{read}
 
--- the pattern is found somewhere in the text
-abbrev pub is_found : Re → List ℕ → Bool
-is_found pattern text = is_some (find_str pattern text 0)
-
--- read without regard to case
+-- without regard to case
 abbrev pub any_case : Config
 any_case = record default_config { flags = record default_config.flags { case_insensitive = true } }
 
--- the pattern that the text writes, read without regard to case
-abbrev pub IsPatternOf : List ℕ → Re → Type 0
-IsPatternOf text pattern =
-    (r : Regex) × (regex_source r ≡ text) × (regex_config r ≡ any_case) × IsReadFromSource r × (regex_pattern r ≡ pattern)
+-- the regular expression that a text writes, if it is one
+abbrev pub reading : List ℕ → Option Re
+reading pattern = option_map (λ r. r.0.value) (read any_case (chars pattern))
+
+-- what the pattern writes is found somewhere in the text
+abbrev pub is_found : List ℕ → List ℕ → Bool
+is_found pattern text = option_map_or (λ re. is_some (find_str re text 0)) (reading pattern) false

@@ -1,6 +1,5 @@
 -- Operations on one value, each with what it needs beside the value.
 use Rattle.std.specs.Prelude.{ℕ, List}
-use Rattle.regex.specs.Patterns.{Re}
 use Rattle.query_values.specs.declared.value.Value.{Value}
 
 -- Align: to so many decimals. Match, MatchAny: whether a text, some member of a set, has the pattern.
@@ -11,8 +10,8 @@ pub data Unary : Type 0 where
   Abs : Unary
   Not : Unary
   IsNull : Unary
-  Match : Re → Unary
-  MatchAny : Re → Unary
+  Match : (pattern : List ℕ) → Unary
+  MatchAny : (pattern : List ℕ) → Unary
   InList : List Value → Unary
   Year : Unary
   Month : Unary

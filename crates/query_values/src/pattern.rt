@@ -1,7 +1,6 @@
 //! Patterns: regular expressions that match without regard to case.
-ghost use Rattle.std.specs.Prelude.{◌≡◌, IfOk, IfErr, is_some};
-ghost use Rattle.query_values.specs.Pattern.{IsPatternOf, is_found};
-ghost use Rattle.regex.specs.Strings.{regex_pattern, matcher_pattern};
+ghost use Rattle.std.specs.Prelude.{◌≡◌, IfOk};
+ghost use Rattle.query_values.specs.Pattern.{is_found};
 
 use regex::{Matcher, Regex, RegexBuilder};
 use std::alloc::{AllocError, Global};
@@ -18,40 +17,50 @@ pub enum PatternFault {
     OutOfMemory,
 }
 
-/// A regular expression, built to be searched for without regard to case.
+/// A regular expression, built to be searched for without regard to case. Its value is the text that
+/// writes it.
 #[derive(Drop)]
 pub struct Pattern {
     regex: Regex,
 }
 
 impl Model for Pattern {
-    ghost use Rattle.regex.specs.Patterns.{Re};
-    ghost use Rattle.regex.specs.Strings.{regex_pattern};
+    ghost use Rattle.std.specs.Prelude.{◌≡◌, ℕ, List};
+    ghost use Rattle.regex.specs.Strings.{regex_config, regex_source, IsReadFromSource};
+    ghost use Rattle.query_values.specs.Pattern.{any_case};
 
-    ghost Value = { Re };
+    ghost Value = { List ℕ };
 
-    ghost view = { λ p. regex_pattern p.regex };
+    ghost view = { λ p. regex_source p.regex };
+
+    ghost invariant = { λ p. (regex_config p.regex ≡ any_case) × IsReadFromSource p.regex };
 }
 
-/// What searches for a pattern: it keeps the memory that a search needs.
+/// What searches for a pattern: it keeps the memory that a search needs. Its value is the text that
+/// writes the pattern.
 #[derive(Drop)]
 pub struct Finder<'p> {
+    regex: &'p Regex,
     matcher: Matcher<'p>,
 }
 
 impl<'p> Model for Finder<'p> {
-    ghost use Rattle.regex.specs.Patterns.{Re};
-    ghost use Rattle.regex.specs.Strings.{matcher_pattern};
+    ghost use Rattle.std.specs.Prelude.{◌≡◌, ℕ, List};
+    ghost use Rattle.regex.specs.Strings.{matcher_pattern, regex_config, regex_pattern, regex_source, IsReadFromSource};
+    ghost use Rattle.query_values.specs.Pattern.{any_case};
 
-    ghost Value = { Re };
+    ghost Value = { List ℕ };
 
-    ghost view = { λ f. matcher_pattern f.matcher };
+    ghost view = { λ f. regex_source f.regex.now };
+
+    ghost invariant = { λ f. (regex_config f.regex.now ≡ any_case)
+        × IsReadFromSource f.regex.now × (matcher_pattern f.matcher ≡ regex_pattern f.regex.now) };
 }
 
 impl Pattern {
     /// The pattern that a text writes.
     pub fn new(alloc: Global, text: &str) -> Result<Pattern, PatternFault>
-        ensures { IfOk result (IsPatternOf text.now) }
+        ensures { IfOk result (λ p. p ≡ text.now) }
     {
         match RegexBuilder::new(text).case_insensitive(true).build(alloc) {
             Ok(regex) => Ok(Pattern { regex }),
@@ -65,7 +74,10 @@ impl Pattern {
         ensures { IfOk result (λ f. f ≡ self.now) }
     {
         let matcher = self.regex.matcher(alloc)?;
-        Ok(Finder { matcher })
+        Ok(Finder {
+            regex: &self.regex,
+            matcher,
+        })
     }
 }
 
