@@ -1,17 +1,14 @@
 -- The operations at worked values.
-use Rattle.std.proofs.Common.{◌≡◌, ◌<◌, ◌≤◌, ◌^◌, ◌-◌, ℕ, ℤ, pos, negsuc, neg_ℤ, true, false, List, [], ◌∷◌, Option, Some, None, codes, encode_utf8_all, refl, arith}
+use Rattle.std.proofs.Common.{◌≡◌, ◌<◌, ◌≤◌, ◌^◌, ◌-◌, ℕ, ℤ, pos, negsuc, neg_ℤ, true, false, List, [], ◌∷◌, ◌++◌, Option, Some, None, codes, refl, arith}
 use Rattle.std.specs.Str.{chars}
 use Rattle.bean_base.proofs.WorkedDays.{january_2, january_3, january_2_number, january_3_number}
-use Rattle.bean_lots.specs.declared.lot.Cost.{Cost}
-use Rattle.bean_lots.specs.declared.lot.Lot.{Lot}
 use Rattle.bean_lots.specs.declared.lot.Key.{Key}
 use Rattle.bean_lots.specs.declared.lot.Position as entry
 use Rattle.query_values.specs.Aggregate.{aggregate_of}
-use Rattle.query_values.specs.Held.{is_held, checked}
+use Rattle.query_values.specs.Held.{checked}
 use Rattle.query_values.specs.Operand.{may_unary, may_binary}
 use Rattle.query_values.specs.Operation.{unary_value, binary_value}
 use Rattle.query_values.specs.Unary as unary
-use Rattle.query_values.specs.declared.bag.Bag.{Bag}
 use Rattle.query_values.specs.declared.operation.Aggregate.TheVariants as aggregate
 use Rattle.query_values.specs.declared.operation.Binary.{Binary}
 use Rattle.query_values.specs.declared.operation.Binary.TheVariants as binary
@@ -28,10 +25,6 @@ two op x y = checked (may_binary op x y) (binary_value op x y)
 -- the greatest count
 abbrev most : ℕ
 most = 2 ^ 127 - 1
-
--- the bytes of a text with characters past ASCII
-abbrev utf8 : List ℕ → List ℕ
-utf8 text = encode_utf8_all text
 
 abbrev a_text : Value
 a_text = Text (codes "a")
@@ -148,7 +141,7 @@ capitals_first = refl
 fronts_first : two binary.Less a_text (Text (codes "ab")) ≡ Some (Truth true)
 fronts_first = refl
 
-past_ascii_last : two binary.Greater (Text (utf8 (codes "é"))) (Text (codes "z")) ≡ Some (Truth true)
+past_ascii_last : two binary.Greater (Text (195 ∷ 169 ∷ [])) (Text (codes "z")) ≡ Some (Truth true)
 past_ascii_last = refl
 
 earlier_days_first : two binary.Less (Day january_2) (Day january_3) ≡ Some (Truth true)
@@ -202,16 +195,17 @@ year = refl
 month_of_null : one unary.Month Null ≡ Some Null
 month_of_null = refl
 
+-- Assets:É:Cash
 abbrev account : Value
-account = Text (utf8 (codes "Assets:É:Cash"))
+account = Text (codes "Assets:" ++ 195 ∷ 137 ∷ codes ":Cash")
 
-root_of_two : one (unary.Root 2) account ≡ Some (Text (utf8 (codes "Assets:É")))
+root_of_two : one (unary.Root 2) account ≡ Some (Text (codes "Assets:" ++ 195 ∷ 137 ∷ []))
 root_of_two = refl
 
 root_of_many : one (unary.Root 255) account ≡ Some account
 root_of_many = refl
 
-parent : one unary.Parent account ≡ Some (Text (utf8 (codes "Assets:É")))
+parent : one unary.Parent account ≡ Some (Text (codes "Assets:" ++ 195 ∷ 137 ∷ []))
 parent = refl
 
 no_parent : one unary.Parent a_text ≡ Some (Text [])

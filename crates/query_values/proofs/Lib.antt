@@ -1,2 +1,8 @@
 mod Examples
 pub mod TextSetFacts
+pub mod ArithmeticFacts
+pub mod MembershipFacts
+pub mod TotalFacts
+pub mod AggregateFacts
+pub mod PatternFacts
+pub mod ComponentFacts

@@ -1,9 +1,9 @@
 -- What is gathered over the values of a group. Null is left out, but where rows are counted.
-use Rattle.std.specs.Prelude.{ℕ, Bool, true, false, not, ◌&&◌, ◌||◌, ◌==◌, ℤ, pos, ◌+ℤ◌, List, [], ◌∷◌, length, filter, if◌then◌else◌}
+use Rattle.std.specs.Prelude.{ℕ, Bool, true, false, not, ◌||◌, ◌==◌, ℤ, pos, ◌+ℤ◌, List, [], ◌∷◌, length, filter, if◌then◌else◌}
 use Rattle.bean_lots.specs.Inventory.{added}
 use Rattle.bean_lots.specs.declared.lot.Key as key
 use Rattle.bean_lots.specs.declared.lot.Position as entry
-use Rattle.query_values.specs.Operand.{are_alike, is_ordered}
+use Rattle.query_values.specs.Operand.{are_in_order}
 use Rattle.query_values.specs.Operation.{whole}
 use Rattle.query_values.specs.Order.{is_null, is_less}
 use Rattle.query_values.specs.Total.{bare, total_from}
@@ -11,7 +11,7 @@ use Rattle.query_values.specs.declared.bag.Bag.{Bag}
 use Rattle.query_values.specs.declared.operation.Aggregate.{Aggregate}
 use Rattle.query_values.specs.declared.operation.Aggregate.TheVariants.{CountRows, Count, Sum, SumInventory, First, Last, Min, Max}
 use Rattle.query_values.specs.declared.value.Value.{Value}
-use Rattle.query_values.specs.declared.value.Value.TheVariants.{Null, Truth, Number, Text, Day, Set, Amount, Position, Inventory}
+use Rattle.query_values.specs.declared.value.Value.TheVariants.{Null, Number, Amount, Position, Inventory}
 
 -- the values that aren't null
 abbrev pub present : List Value → List Value
@@ -43,22 +43,17 @@ last_from x (y ∷ ys) = last_from y ys
 abbrev pub last_of : List Value → Value
 last_of xs = last_from Null xs
 
--- the least from x on: a value that is less takes its place
-abbrev pub least_from : Value → List Value → Value
-least_from x [] = x
-least_from x (y ∷ ys) = least_from (if is_less y x then y else x) ys
+-- the best from x on: a value that is better takes its place
+abbrev pub best_from : (Value → Value → Bool) → Value → List Value → Value
+best_from better x [] = x
+best_from better x (y ∷ ys) = best_from better (if better y x then y else x) ys
 
-abbrev pub greatest_from : Value → List Value → Value
-greatest_from x [] = x
-greatest_from x (y ∷ ys) = greatest_from (if is_less x y then y else x) ys
+abbrev pub best_of : (Value → Value → Bool) → List Value → Value
+best_of better [] = Null
+best_of better (x ∷ xs) = best_from better x xs
 
-abbrev pub least_of : List Value → Value
-least_of [] = Null
-least_of (x ∷ xs) = least_from x xs
-
-abbrev pub greatest_of : List Value → Value
-greatest_of [] = Null
-greatest_of (x ∷ xs) = greatest_from x xs
+abbrev pub is_greater : Value → Value → Bool
+is_greater x y = is_less y x
 
 -- over a list of values, one for each posting
 abbrev pub aggregate_of : Aggregate → List Value → Value
@@ -68,8 +63,8 @@ aggregate_of (Sum places) xs = Number places (sum_in xs)
 aggregate_of (SumInventory places) xs = Inventory (record { places = places; held = total_from [] (entries_in xs) })
 aggregate_of First xs = first_of (present xs)
 aggregate_of Last xs = last_of (present xs)
-aggregate_of Min xs = least_of (present xs)
-aggregate_of Max xs = greatest_of (present xs)
+aggregate_of Min xs = best_of is_less (present xs)
+aggregate_of Max xs = best_of is_greater (present xs)
 
 -- a count with one more
 abbrev pub counted : Value → Value
@@ -90,6 +85,9 @@ gathered (Inventory b) (Amount p n c) = Inventory (bag_with b (bare c n).key n)
 gathered (Inventory b) (Position k n) = Inventory (bag_with b k n)
 gathered t x = t
 
+abbrev pub better_of : (Value → Value → Bool) → Value → Value → Value
+better_of better t x = if is_null t || better x t then x else t
+
 -- what is gathered, with one value more
 abbrev pub with_more : Aggregate → Value → Value → Value
 with_more CountRows t x = counted t
@@ -98,8 +96,8 @@ with_more (Sum places) t x = summed t x
 with_more (SumInventory places) t x = gathered t x
 with_more First t x = if is_null t then x else t
 with_more Last t x = if is_null x then t else x
-with_more Min t x = if is_null t || is_less x t then x else t
-with_more Max t x = if is_null t || is_less t x then x else t
+with_more Min t x = better_of is_less t x
+with_more Max t x = better_of is_greater t x
 
 -- a number, an amount of so many decimals, or a position where these are 8; null is of every kind
 abbrev pub is_summand : ℕ → Value → Bool
@@ -117,6 +115,6 @@ is_entry places x = false
 abbrev pub may_take : Aggregate → Value → Value → Bool
 may_take (Sum places) t x = is_summand places x
 may_take (SumInventory places) t x = is_entry places x
-may_take Min t x = is_ordered x && are_alike t x
-may_take Max t x = is_ordered x && are_alike t x
+may_take Min t x = are_in_order x t
+may_take Max t x = are_in_order t x
 may_take a t x = true

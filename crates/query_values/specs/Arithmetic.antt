@@ -1,5 +1,5 @@
 -- Arithmetic of values, with counts of any size; of null it gives null.
-use Rattle.std.specs.Prelude.{ℕ, ◌+◌, max, ℤ, pos, neg_ℤ, ◌+ℤ◌, ◌-ℤ◌, ◌*ℤ◌}
+use Rattle.std.specs.Prelude.{ℕ, ◌+◌, max, pos, neg_ℤ, ◌+ℤ◌, ◌-ℤ◌, ◌*ℤ◌}
 use Rattle.std.specs.Int.RustNames.{unsigned_abs}
 use Rattle.bean_base.specs.Decimal.{scaled}
 use Rattle.query_values.specs.Bag.{negative_bag}

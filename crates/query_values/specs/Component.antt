@@ -1,5 +1,5 @@
 -- The components of an account's name.
-use Rattle.std.specs.Prelude.{ℕ, ◌-◌, List, [], length, take, slice_index_or, Option, Some, None}
+use Rattle.std.specs.Prelude.{ℕ, ◌+◌, ◌-◌, nat_le, List, [], ◌∷◌, if◌then◌else◌, length, take, slice_index_or, Option, Some, None}
 use Rattle.std.specs.List.{before_first, join_with_byte, slice_split}
 use Rattle.bean_base.specs.Character.{colon}
 use Rattle.bean_base.specs.Name.{is_colon}
@@ -22,6 +22,11 @@ parent_part name = let parts = components name in join_with_byte colon (take (le
 -- the last component
 abbrev pub leaf_part : List ℕ → List ℕ
 leaf_part name = let parts = components name in slice_index_or parts (length parts - 1) []
+
+-- the place of the colon behind the first n components, or the end of a name that has no more
+abbrev pub end_after : ℕ → List ℕ → ℕ
+end_after n [] = 0
+end_after n (b ∷ bs) = if is_colon b then (if nat_le n 1 then 0 else 1 + end_after (n - 1) bs) else 1 + end_after n bs
 
 -- the place of a root in the order in which reports show them, 5 for what is none
 abbrev pub rank_of : Option Root → ℕ

@@ -1,12 +1,12 @@
 -- Values that are held: at most 32 decimals, and counts of at most 2^127 - 1, signs left off.
-use Rattle.std.specs.Prelude.{ℕ, ℤ, Bool, true, ◌&&◌, nat_le, List, Option, Some, None, if◌then◌else◌}
+use Rattle.std.specs.Prelude.{Bool, true, ◌&&◌, nat_le, Option, Some, None, if◌then◌else◌}
 use Rattle.std.specs.List.{list_all}
 use Rattle.bean_base.specs.WideCount.{is_wide}
 use Rattle.bean_lots.specs.declared.lot.Position as entry
 use Rattle.query_values.specs.Total.{is_count}
 use Rattle.query_values.specs.declared.bag.Bag.{Bag}
 use Rattle.query_values.specs.declared.value.Value.{Value}
-use Rattle.query_values.specs.declared.value.Value.TheVariants.{Null, Number, Amount, Position, Inventory}
+use Rattle.query_values.specs.declared.value.Value.TheVariants.{Number, Amount, Position, Inventory}
 
 abbrev pub has_count : entry.Position → Bool
 has_count e = is_count e.count

@@ -1,6 +1,6 @@
 -- Which values an operation may be applied to. Null is of every kind, but the other operand must still
 -- be one that the operation takes.
-use Rattle.std.specs.Prelude.{ℕ, Bool, true, false, ◌&&◌, ◌||◌, ◌==◌, nat_le, List, [], map}
+use Rattle.std.specs.Prelude.{ℕ, Bool, true, false, ◌&&◌, ◌||◌, ◌==◌, nat_le, [], map}
 use Rattle.std.specs.List.{list_all}
 use Rattle.query_values.specs.Total.{adds_up, without_lot, at_cost}
 use Rattle.query_values.specs.Unary as unary

@@ -1,5 +1,5 @@
 -- Sums of positions: inventories that positions are added to, one after the other.
-use Rattle.std.specs.Prelude.{ℕ, ◌^◌, ◌<◌, Bool, true, ◌&&◌, nat_lt, List, [], ◌∷◌, map, ℤ, pos, ◌+ℤ◌, ◌*ℤ◌, Option, Some, None}
+use Rattle.std.specs.Prelude.{ℕ, ◌^◌, Bool, true, ◌&&◌, nat_lt, List, [], ◌∷◌, map, ℤ, pos, ◌+ℤ◌, ◌*ℤ◌, Option, Some, None}
 use Rattle.std.specs.Int.RustNames.{unsigned_abs}
 use Rattle.bean_lots.specs.Inventory.{added, count_of}
 use Rattle.bean_lots.specs.declared.lot.Key.{Key}
@@ -21,8 +21,11 @@ adds_up es [] = true
 adds_up es (p ∷ ps) = is_count p.count && is_count (count_of es p.key +ℤ p.count) && adds_up (added es p.key p.count) ps
 
 -- units of a currency without a lot
+abbrev pub bare_key : List ℕ → Key
+bare_key currency = record { currency = currency; lot = None }
+
 abbrev pub bare : List ℕ → ℤ → Position
-bare currency n = record { key = record { currency = currency; lot = None }; count = n }
+bare currency n = record { key = bare_key currency; count = n }
 
 -- the currency of a position's cost; without a lot, its own
 abbrev pub cost_currency : Key → List ℕ

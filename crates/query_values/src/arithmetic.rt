@@ -56,7 +56,10 @@ pub fn align<'r>(x: &Value<'_>, places: u8) -> Value<'r>
     ensures { result ≡ aligned places x.now }
 {
     match x {
-        Value::Number { places: from, count } => Value::Number {
+        Value::Number {
+            places: from,
+            count,
+        } => Value::Number {
             places,
             count: *count * power_of_ten(places - *from),
         },
@@ -64,6 +67,7 @@ pub fn align<'r>(x: &Value<'_>, places: u8) -> Value<'r>
     }
 }
 
+#[tactic(auto, using(crate::proofs::ArithmeticFacts::sum_at))]
 /// The sum of two numbers of the same decimals.
 pub fn add<'r>(a: &Value<'_>, b: &Value<'_>) -> Value<'r>
     requires applies { IsTrue (are_addable a.now b.now) }
@@ -79,6 +83,7 @@ pub fn add<'r>(a: &Value<'_>, b: &Value<'_>) -> Value<'r>
     }
 }
 
+#[tactic(auto, using(crate::proofs::ArithmeticFacts::difference_at))]
 /// The difference of two numbers of the same decimals.
 pub fn sub<'r>(a: &Value<'_>, b: &Value<'_>) -> Value<'r>
     requires applies { IsTrue (are_addable a.now b.now) }
@@ -100,7 +105,16 @@ pub fn mul<'r>(a: &Value<'_>, b: &Value<'_>) -> Value<'r>
     ensures { result ≡ product_of a.now b.now }
 {
     match (a, b) {
-        (Value::Number { places: p, count: m }, Value::Number { places: q, count: n }) => {
+        (
+            Value::Number {
+                places: p,
+                count: m,
+            },
+            Value::Number {
+                places: q,
+                count: n,
+            },
+        ) => {
             Value::Number {
                 places: *p + *q,
                 count: *m * *n,

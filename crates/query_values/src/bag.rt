@@ -1,7 +1,7 @@
 //! Inventories whose counts have any number of decimals.
-ghost use Rattle.std.specs.Prelude.{◌≡◌, ◌≤◌, [], All, IfOk, IsTrue, None, map};
+ghost use Rattle.std.specs.Prelude.{◌≡◌, ◌≤◌, [], All, IfOk, IsTrue, map};
 ghost use Rattle.bean_lots.specs.Inventory.{MayBeNegated};
-ghost use Rattle.query_values.specs.Total.{adds_up, at_cost, cost_count, cost_currency, cost_total, is_count, total_from, units_total, without_lot};
+ghost use Rattle.query_values.specs.Total.{adds_up, at_cost, bare_key, cost_count, cost_currency, cost_total, is_count, total_from, units_total, without_lot};
 
 use bean_base::Currency;
 use bean_lots::{Inventory, Key, Position};
@@ -27,8 +27,7 @@ impl Clone for Bag<'_> {
 
 /// Units of a currency without a lot.
 pub(crate) fn bare_key<'r>(currency: Currency<'r>) -> Key<'r>
-    ensures currency { result.currency ≡ currency.entry }
-    ensures lot { result.lot ≡ None }
+    ensures { result ≡ bare_key currency.entry }
 {
     Key {
         currency,

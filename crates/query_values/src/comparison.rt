@@ -38,6 +38,7 @@ pub fn equal(a: &Value<'_>, b: &Value<'_>) -> bool
     }
 }
 
+#[tactic(auto, using(crate::proofs::ArithmeticFacts::order_at))]
 /// The order of two values of a kind, numbers of the same decimals: null first, numbers by value,
 /// texts by their bytes, days by their number.
 pub fn compare(a: &Value<'_>, b: &Value<'_>) -> Ordering

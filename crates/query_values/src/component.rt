@@ -1,27 +1,40 @@
 //! The components of accounts' names, and where a root stands.
-ghost use Rattle.std.specs.Prelude.{◌≡◌, ◌<◌};
-ghost use Rattle.query_values.specs.Component.{leaf_part, parent_part, rank_of, root_part, root_rank};
+ghost use Rattle.std.specs.Prelude.{◌≡◌, ◌<◌, ◌≤◌, count_by, length, slice_index};
+ghost use Rattle.bean_base.specs.Character.{colon};
+ghost use Rattle.bean_base.specs.Name.{is_colon};
+ghost use Rattle.query_values.specs.Component.{end_after, leaf_part, parent_part, rank_of, root_part, root_rank};
 
 use bean_base::Root;
 
-/// The place of the colon behind so many components, or the end of a name that has no more.
-fn end_of(name: &[u8], components: u8) -> usize
-    requires { 0 < components }
+/// How many colons a name has.
+fn colons_in(name: &[u8]) -> usize
+    ensures { result ≡ count_by is_colon name.now }
 {
-    let mut passed = 0;
+    name.iter().filter(|b| **b == b':').count()
+}
+
+/// The place of the colon behind so many components, or the end of a name that has no more.
+#[tactic(auto, using(crate::proofs::ComponentFacts::at_colon, crate::proofs::ComponentFacts::past_colon, crate::proofs::ComponentFacts::past_other, crate::proofs::ComponentFacts::at_end))]
+fn end_of(name: &[u8], components: usize) -> usize
+    requires { 0 < components }
+    ensures place { result ≡ end_after components name.now }
+    ensures within { result ≤ length name.now }
+    ensures colon { result < length name.now → slice_index name.now result ≡ colon }
+{
+    let mut left = components;
     for (i, b) in name.iter().enumerate() {
         if *b == b':' {
-            passed += 1;
-            if passed == components {
+            if left == 1 {
                 return i;
             }
+            left -= 1;
         }
     }
     name.len()
 }
 
 /// The first components of a name, so many.
-pub(crate) fn root_of(name: &str, components: u8) -> &str
+pub(crate) fn root_of(name: &str, components: usize) -> &str
     requires { 0 < components }
     ensures { result.now ≡ root_part components name.now }
 {
@@ -32,20 +45,23 @@ pub(crate) fn root_of(name: &str, components: u8) -> &str
 pub(crate) fn parent_of(name: &str) -> &str
     ensures { result.now ≡ parent_part name.now }
 {
-    match name.rsplit_once(':') {
-        Some((parent, _)) => parent,
-        None => "",
+    let colons = colons_in(name.as_bytes());
+    if colons == 0 {
+        return "";
     }
+    root_of(name, colons)
 }
 
 /// The last component of a name.
 pub(crate) fn leaf_of(name: &str) -> &str
     ensures { result.now ≡ leaf_part name.now }
 {
-    match name.rsplit_once(':') {
-        Some((_, leaf)) => leaf,
-        None => name,
+    let colons = colons_in(name.as_bytes());
+    if colons == 0 {
+        return name;
     }
+    let end = end_of(name.as_bytes(), colons);
+    &name[end + 1..]
 }
 
 /// The place of a root among the roots, 5 for what is none.

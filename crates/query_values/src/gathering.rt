@@ -16,7 +16,7 @@ fn count_one(total: &mut Value<'_>)
     requires { IsTrue (is_held (counted total.old)) }
     ensures { total.new ≡ counted total.old }
 {
-    if let Value::Number { places, count } = total {
+    if let Value::Number { places, count } = &*total {
         *total = Value::Number {
             places: *places,
             count: *count + 1,
@@ -28,8 +28,9 @@ fn add_number(total: &mut Value<'_>, number: &Value<'_>)
     requires { IsTrue (is_held (summed total.old number.now)) }
     ensures { total.new ≡ summed total.old number.now }
 {
-    if let (Value::Number { places, count }, Value::Number { count: more, .. }) = (&*total, number)
-    {
+    if let (Value::Number { places, count }, Value::Number { count: more, .. }) = (
+        &*total, number,
+    ) {
         *total = Value::Number {
             places: *places,
             count: *count + *more,
@@ -45,7 +46,9 @@ fn add_entry<'r>(total: &mut Value<'r>, entry: &Value<'r>) -> Result<(), AllocEr
     if let Value::Inventory(bag) = total {
         match entry {
             Value::Amount {
-                count, currency, ..
+                count,
+                currency,
+                ..
             } => bag.held.add(bare_key(currency.lend()), *count)?,
             Value::Position { key, count } => bag.held.add(key.get().lend(), *count)?,
             _ => {}

@@ -64,7 +64,7 @@ pub fn root<'r>(x: &Value<'r>, components: u8) -> Value<'r>
     ensures { result ≡ unary_value (spec.Root components) x.now }
 {
     match x {
-        Value::Text(name) => Value::Text(Slice::new(root_of(name.text(), components))),
+        Value::Text(name) => Value::Text(Slice::new(root_of(name.text(), components as usize))),
         _ => Value::Null,
     }
 }

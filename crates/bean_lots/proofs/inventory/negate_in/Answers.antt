@@ -1,8 +1,7 @@
-use Rattle.std.proofs.Common.{◌≡◌, ◌∙◌, ℕ, ℤ, pos, neg_ℤ, suc, ◌<◌, ◌^◌, ◌-ℤ◌, List, length, slice_set, slice_index_or, to_z, of_z, sym, ap, subst, arith, rules, add-one}
+use Rattle.std.proofs.Common.{◌≡◌, ◌∙◌, ℕ, ℤ, pos, neg_ℤ, ◌<◌, ◌^◌, ◌-ℤ◌, List, length, slice_set, slice_index_or, to_z, of_z, sym, ap, subst, arith, add-one}
 use Rattle.std.specs.Int.{w128}
 use Rattle.std.specs.Int.RustNames.{FitsSigned, unsigned_abs}
 use Rattle.std.proofs.lemmas.Int.{ints}
-use Rattle.bean_lots.specs.declared.lot.Key.{Key}
 use Rattle.bean_lots.specs.declared.lot.Position.{Position}
 use Rattle.bean_lots.specs.Inventory.{negative_entry}
 use Rattle.bean_lots.proofs.NegativeFacts.{negative_front, next, one_more, all}

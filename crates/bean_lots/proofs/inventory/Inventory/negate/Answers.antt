@@ -1,7 +1,6 @@
-use Rattle.std.proofs.Common.{◌≡◌, List, length, map, ap, subst, sym, ◌∙◌, arith}
+use Rattle.std.proofs.Common.{◌≡◌, length, map, ap, subst, sym, ◌∙◌}
 use Rattle.std.proofs.lemmas.List.{with_items_is, length-map}
 use Rattle.bean_lots.specs.Inventory.{IsInventory, negative_entry}
-use Rattle.bean_lots.specs.declared.lot.Position.{Position}
 use Rattle.bean_lots.proofs.NegativeFacts.{negative_inventory}
 use Rattle.bean_lots.proofs.inventory.Inventory.negate.Goals as goal
 
