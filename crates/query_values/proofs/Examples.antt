@@ -1,11 +1,14 @@
 -- The operations at worked values.
 use Rattle.std.proofs.Common.{◌≡◌, ◌<◌, ◌≤◌, ◌^◌, ◌-◌, ℕ, ℤ, pos, negsuc, neg_ℤ, true, false, List, [], ◌∷◌, ◌++◌, Option, Some, None, codes, refl, arith}
 use Rattle.std.specs.Str.{chars}
+use Rattle.std.specs.declared.cmp.Ordering.TheVariants.{Less}
 use Rattle.bean_base.proofs.WorkedDays.{january_2, january_3, january_2_number, january_3_number}
 use Rattle.bean_lots.specs.declared.lot.Key.{Key}
 use Rattle.bean_lots.specs.declared.lot.Position as entry
 use Rattle.query_values.specs.Aggregate.{aggregate_of}
 use Rattle.query_values.specs.Held.{checked}
+use Rattle.query_values.specs.Equality.{same}
+use Rattle.query_values.specs.Order.{order_of}
 use Rattle.query_values.specs.Operand.{may_unary, may_binary}
 use Rattle.query_values.specs.Operation.{unary_value, binary_value}
 use Rattle.query_values.specs.Unary as unary
@@ -294,6 +297,25 @@ currency = refl
 
 currency_of_an_inventory : one unary.Currency (bag 8 []) ≡ None
 currency_of_an_inventory = refl
+
+-- the same values, whatever their decimals and the order of entries
+by_value : same (Number 1 (pos 15)) (Number 3 (pos 1500)) ≡ true
+by_value = refl
+
+other_values : same (Number 1 (pos 15)) (Number 3 (pos 15)) ≡ false
+other_values = refl
+
+in_any_order : same (bag 8 (held at_cost (pos 3) ∷ held bare (pos 1) ∷ [])) (bag 9 (held bare (pos 10) ∷ held at_cost (pos 30) ∷ [])) ≡ true
+in_any_order = rw january_2_number refl
+
+one_more_key : same (bag 8 (held bare (pos 1) ∷ [])) (bag 8 (held bare (pos 1) ∷ held at_cost (pos 3) ∷ [])) ≡ false
+one_more_key = rw january_2_number refl
+
+null_first : order_of Null (Number 0 (negsuc 5)) ≡ Less
+null_first = refl
+
+by_value_in_order : order_of (Number 1 (pos 15)) (Number 3 (pos 1501)) ≡ Less
+by_value_in_order = refl
 
 -- aggregates leave null out, but where they count rows
 abbrev inputs : List Value

@@ -3,6 +3,7 @@ pub mod TextSetFacts
 pub mod ArithmeticFacts
 pub mod MembershipFacts
 pub mod TotalFacts
+pub mod NumberFacts
 pub mod AggregateFacts
 pub mod PatternFacts
 pub mod ComponentFacts

@@ -20,13 +20,13 @@ same_number p m q n = int_eq (scaled m p (max p q)) (scaled n q (max p q))
 abbrev pub same_truth : Bool → Bool → Bool
 same_truth a b = if a then b else not b
 
--- the entry's count is what the other inventory has under its key
-abbrev pub is_count_in : Bag → ℕ → Position → Bool
-is_count_in b p e = same_number p e.count b.places (count_of b.held e.key)
+-- the same count under the entry's key
+abbrev pub agree_at : Bag → Bag → Position → Bool
+agree_at a b e = same_number a.places (count_of a.held e.key) b.places (count_of b.held e.key)
 
--- the same counts under the same keys, in any order of entry
+-- the same count under each key that either has, in any order of entry
 abbrev pub same_bag : Bag → Bag → Bool
-same_bag a b = list_all (is_count_in b a.places) a.held && list_all (is_count_in a b.places) b.held
+same_bag a b = list_all (agree_at a b) a.held && list_all (agree_at a b) b.held
 
 -- null is the same as null; numbers, amounts and inventories are told by value, whatever their decimals
 abbrev pub same : Value → Value → Bool

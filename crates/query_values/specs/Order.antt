@@ -1,5 +1,5 @@
 -- The order of values.
-use Rattle.std.specs.Prelude.{ℕ, Bool, true, false, not, ◌&&◌, max}
+use Rattle.std.specs.Prelude.{ℕ, ℤ, Bool, true, false, not, ◌&&◌, max}
 use Rattle.std.specs.Cmp.Lexicographic.{slice_cmp}
 use Rattle.std.specs.declared.cmp.Ordering.{Ordering}
 use Rattle.std.specs.Ordering.{nat_cmp, int_cmp, is_lt}
@@ -20,9 +20,13 @@ kind_rank (Amount p n c) = 6
 kind_rank (Position k n) = 7
 kind_rank (Inventory b) = 8
 
+-- how m * 10^-p stands to n * 10^-q
+abbrev pub number_order : ℕ → ℤ → ℕ → ℤ → Ordering
+number_order p m q n = int_cmp (scaled m p (max p q)) (scaled n q (max p q))
+
 -- null first, numbers by value, texts by their bytes, days by their number
 abbrev pub order_of : Value → Value → Ordering
-order_of (Number p m) (Number q n) = int_cmp (scaled m p (max p q)) (scaled n q (max p q))
+order_of (Number p m) (Number q n) = number_order p m q n
 order_of (Text a) (Text b) = slice_cmp nat_cmp a b
 order_of (Day a) (Day b) = int_cmp (number a) (number b)
 order_of x y = nat_cmp (kind_rank x) (kind_rank y)

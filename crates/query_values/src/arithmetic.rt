@@ -1,53 +1,11 @@
 //! Arithmetic of values. Of null it gives null.
-ghost use Rattle.std.specs.Prelude.{◌≡◌, ◌≤◌, ◌^◌, pos, IsTrue};
+ghost use Rattle.std.specs.Prelude.{◌≡◌, IsTrue};
 ghost use Rattle.query_values.specs.Arithmetic.{aligned, difference_of, magnitude_of, negative_of, product_of, sum_of};
 ghost use Rattle.query_values.specs.Held.{is_held};
 ghost use Rattle.query_values.specs.Operand.{are_addable, has_at_most, is_number, is_signed};
 
+use crate::number::power_of_ten;
 use crate::value::Value;
-
-/// A power of ten, looked up, since a call of `pow` would be most of the work of an alignment.
-fn power_of_ten(exponent: u8) -> i128
-    requires { exponent ≤ 32 }
-    ensures { result ≡ pos (10 ^ exponent) }
-{
-    match exponent {
-        0 => 1,
-        1 => 10,
-        2 => 100,
-        3 => 1_000,
-        4 => 10_000,
-        5 => 100_000,
-        6 => 1_000_000,
-        7 => 10_000_000,
-        8 => 100_000_000,
-        9 => 1_000_000_000,
-        10 => 10_000_000_000,
-        11 => 100_000_000_000,
-        12 => 1_000_000_000_000,
-        13 => 10_000_000_000_000,
-        14 => 100_000_000_000_000,
-        15 => 1_000_000_000_000_000,
-        16 => 10_000_000_000_000_000,
-        17 => 100_000_000_000_000_000,
-        18 => 1_000_000_000_000_000_000,
-        19 => 10_000_000_000_000_000_000,
-        20 => 100_000_000_000_000_000_000,
-        21 => 1_000_000_000_000_000_000_000,
-        22 => 10_000_000_000_000_000_000_000,
-        23 => 100_000_000_000_000_000_000_000,
-        24 => 1_000_000_000_000_000_000_000_000,
-        25 => 10_000_000_000_000_000_000_000_000,
-        26 => 100_000_000_000_000_000_000_000_000,
-        27 => 1_000_000_000_000_000_000_000_000_000,
-        28 => 10_000_000_000_000_000_000_000_000_000,
-        29 => 100_000_000_000_000_000_000_000_000_000,
-        30 => 1_000_000_000_000_000_000_000_000_000_000,
-        31 => 10_000_000_000_000_000_000_000_000_000_000,
-        32 => 100_000_000_000_000_000_000_000_000_000_000,
-        _ => unreachable!(),
-    }
-}
 
 /// The same number with so many decimals, which are at least as many as it has.
 pub fn align<'r>(x: &Value<'_>, places: u8) -> Value<'r>

@@ -1,6 +1,6 @@
 //! What is gathered over the values of a group, one input after the other.
 ghost use Rattle.std.specs.Prelude.{◌≡◌, [], ◌∷◌, ◌++◌, IsTrue, OnOk, OnErr, List};
-ghost use Rattle.query_values.specs.Aggregate.{aggregate_of, counted, gathered, may_take, summed, with_more};
+ghost use Rattle.query_values.specs.Aggregate.{aggregate_of, counted, gathered, summed, with_more};
 ghost use Rattle.query_values.specs.Held.{is_held};
 ghost use Rattle.query_values.specs.declared.operation.Aggregate.{Aggregate};
 ghost use Rattle.query_values.specs.declared.value.Value.{Value};
@@ -86,8 +86,7 @@ impl Aggregate {
 
     /// Takes one value more. Null is left out, but where rows are counted.
     pub fn add<'r>(self, total: &mut Value<'r>, value: &Value<'r>) -> Result<(), AllocError>
-        requires applies { IsTrue (may_take self total.old value.now) }
-        requires held { IsTrue (is_held (with_more self total.old value.now)) }
+        requires { IsTrue (is_held (with_more self total.old value.now)) }
         ensures ok { OnOk result (total.new ≡ with_more self total.old value.now) }
         ensures err { OnErr result (total.new ≡ total.old) }
     {

@@ -8,6 +8,7 @@ mod component;
 pub mod gathering;
 pub mod lent;
 pub mod membership;
+mod number;
 pub mod operation;
 pub mod part;
 pub mod pattern;
