@@ -4,6 +4,7 @@ pub mod ArithmeticFacts
 pub mod MembershipFacts
 pub mod TotalFacts
 pub mod NumberFacts
+pub mod NumberOrder
 pub mod AggregateFacts
 pub mod PatternFacts
 pub mod ComponentFacts
