@@ -5,6 +5,7 @@ pub mod MembershipFacts
 pub mod TotalFacts
 pub mod NumberFacts
 pub mod NumberOrder
+pub mod OrderFacts
 pub mod AggregateFacts
 pub mod PatternFacts
 pub mod ComponentFacts

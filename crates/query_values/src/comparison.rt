@@ -1,5 +1,6 @@
 //! Comparisons of values.
 ghost use Rattle.std.specs.Prelude.{◌≡◌};
+ghost use Rattle.std.specs.Cmp.{IsTotalOrder};
 ghost use Rattle.std.specs.Cmp.Lexicographic.{pointwise};
 ghost use Rattle.std.specs.List.{list_all};
 ghost use Rattle.bean_lots.specs.Lot.{same_text};
@@ -143,3 +144,8 @@ pub fn at_most(a: &Value<'_>, b: &Value<'_>) -> bool
 {
     !is_null(a) && !is_null(b) && compare(b, a) != Ordering::Less
 }
+
+/// The order of values is total.
+pub fn values_are_in_order()
+    ensures { IsTotalOrder order_of }
+{}
