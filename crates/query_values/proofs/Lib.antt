@@ -1,4 +1,5 @@
 mod Examples
+mod HoldingExamples
 pub mod TextSetFacts
 pub mod ArithmeticFacts
 pub mod MembershipFacts

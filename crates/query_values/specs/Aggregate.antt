@@ -60,7 +60,8 @@ abbrev pub aggregate_of : Aggregate → List Value → Value
 aggregate_of CountRows xs = whole (length xs)
 aggregate_of Count xs = whole (length (present xs))
 aggregate_of (Sum places) xs = Number places (sum_in xs)
-aggregate_of (SumInventory places) xs = Inventory (record { places = places; held = total_from [] (entries_in xs) })
+aggregate_of (SumInventory places) xs =
+    Inventory (record { places = places; held = total_from [] (entries_in xs) })
 aggregate_of First xs = first_of (present xs)
 aggregate_of Last xs = last_of (present xs)
 aggregate_of Min xs = best_of is_less (present xs)

@@ -13,11 +13,13 @@ aligned places x = Null
 
 -- a sum keeps the larger count of decimals
 abbrev pub sum_of : Value → Value → Value
-sum_of (Number p m) (Number q n) = Number (max p q) (scaled m p (max p q) +ℤ scaled n q (max p q))
+sum_of (Number p m) (Number q n) =
+    Number (max p q) (scaled m p (max p q) +ℤ scaled n q (max p q))
 sum_of x y = Null
 
 abbrev pub difference_of : Value → Value → Value
-difference_of (Number p m) (Number q n) = Number (max p q) (scaled m p (max p q) -ℤ scaled n q (max p q))
+difference_of (Number p m) (Number q n) =
+    Number (max p q) (scaled m p (max p q) -ℤ scaled n q (max p q))
 difference_of x y = Null
 
 -- a product has the decimals of both together

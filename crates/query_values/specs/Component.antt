@@ -26,7 +26,8 @@ leaf_part name = let parts = components name in slice_index_or parts (length par
 -- the place of the colon behind the first n components, or the end of a name that has no more
 abbrev pub end_after : ℕ → List ℕ → ℕ
 end_after n [] = 0
-end_after n (b ∷ bs) = if is_colon b then (if nat_le n 1 then 0 else 1 + end_after (n - 1) bs) else 1 + end_after n bs
+end_after n (b ∷ bs) =
+    if is_colon b then (if nat_le n 1 then 0 else 1 + end_after (n - 1) bs) else 1 + end_after n bs
 
 -- the place of a root in the order in which reports show them, 5 for what is none
 abbrev pub rank_of : Option Root → ℕ

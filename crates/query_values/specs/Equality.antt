@@ -28,7 +28,8 @@ agree_at a b e = same_number a.places (count_of a.held e.key) b.places (count_of
 abbrev pub same_bag : Bag → Bag → Bool
 same_bag a b = list_all (agree_at a b) a.held && list_all (agree_at a b) b.held
 
--- null is the same as null; numbers, amounts and inventories are told by value, whatever their decimals
+-- null is the same as null; numbers, amounts and inventories are told by value, whatever their
+-- decimals
 abbrev pub same : Value → Value → Bool
 same Null Null = true
 same (Truth a) (Truth b) = same_truth a b

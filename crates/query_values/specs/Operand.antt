@@ -1,5 +1,5 @@
--- Which values an operation may be applied to. Null is of every kind, but the other operand must still
--- be one that the operation takes.
+-- Which values an operation may be applied to. Null is of every kind, but the other operand must
+-- still be one that the operation takes.
 use Rattle.std.specs.Prelude.{ℕ, Bool, true, false, ◌&&◌, ◌||◌, ◌==◌, nat_le, [], map}
 use Rattle.std.specs.List.{list_all}
 use Rattle.query_values.specs.Total.{adds_up, without_lot, at_cost}

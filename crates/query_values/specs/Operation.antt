@@ -1,5 +1,5 @@
--- What operations give, whatever the size of counts. Comparisons but = and !=, patterns and membership
--- are false of null, NOT takes it as false, and of the others null gives null.
+-- What operations give, whatever the size of counts. Comparisons but = and !=, patterns and
+-- membership are false of null, NOT takes it as false, and of the others null gives null.
 use Rattle.std.specs.Prelude.{ℕ, Bool, false, not, pos, List, chars, length}
 use Rattle.std.specs.Int.RustNames.{unsigned_abs}
 use Rattle.std.specs.List.{list_any}

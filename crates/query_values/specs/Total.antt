@@ -18,7 +18,9 @@ total_from es (p ∷ ps) = total_from (added es p.key p.count) ps
 -- no count is too large, of a position or of a sum on the way
 abbrev pub adds_up : List Position → List Position → Bool
 adds_up es [] = true
-adds_up es (p ∷ ps) = is_count p.count && is_count (count_of es p.key +ℤ p.count) && adds_up (added es p.key p.count) ps
+adds_up es (p ∷ ps) =
+    is_count p.count && is_count (count_of es p.key +ℤ p.count)
+    && adds_up (added es p.key p.count) ps
 
 -- units of a currency without a lot
 abbrev pub bare_key : List ℕ → Key

@@ -2,8 +2,8 @@
 use Rattle.std.specs.Prelude.{ℕ, List}
 use Rattle.query_values.specs.declared.value.Value.{Value}
 
--- Align: to so many decimals. Match, MatchAny: whether a text, some member of a set, has the pattern.
--- InList: whether a value is among these. Root: so many components of an account.
+-- Align: to so many decimals. Match, MatchAny: whether a text, some member of a set, has the
+-- pattern. InList: whether a value is among these. Root: so many components of an account.
 pub data Unary : Type 0 where
   Align : (places : ℕ) → Unary
   Neg : Unary

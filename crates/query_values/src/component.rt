@@ -14,7 +14,7 @@ fn colons_in(name: &[u8]) -> usize
 }
 
 /// The place of the colon behind so many components, or the end of a name that has no more.
-#[tactic(auto, using(crate::proofs::ComponentFacts::at_colon, crate::proofs::ComponentFacts::past_colon, crate::proofs::ComponentFacts::past_other, crate::proofs::ComponentFacts::at_end))]
+#[tactic(auto, using(crate::proofs::ComponentFacts::at_colon, crate::proofs::ComponentFacts::past_colon, crate::proofs::ComponentFacts::past_other, crate::proofs::ComponentFacts::at_end,))]
 fn end_of(name: &[u8], components: usize) -> usize
     requires { 0 < components }
     ensures place { result ≡ end_after components name.now }

@@ -89,7 +89,8 @@ pub fn leaf<'r>(x: &Value<'r>) -> Value<'r>
     }
 }
 
-/// The place of an account's root: Assets 0, Liabilities 1, Equity 2, Income 3, Expenses 4, others 5.
+/// The place of an account's root: Assets 0, Liabilities 1, Equity 2, Income 3, Expenses 4, and 5
+/// for others.
 pub fn root_rank<'r>(x: &Value<'_>) -> Value<'r>
     ensures { result ≡ unary_value spec.RootRank x.now }
 {

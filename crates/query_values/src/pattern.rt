@@ -17,8 +17,8 @@ pub enum PatternFault {
     OutOfMemory,
 }
 
-/// A regular expression, built to be searched for without regard to case. Its value is the text that
-/// writes it.
+/// A regular expression, built to be searched for without regard to case. Its value is the text
+/// that writes it.
 #[derive(Drop)]
 pub struct Pattern {
     regex: Regex,
