@@ -7,6 +7,7 @@ pub mod TotalFacts
 pub mod NumberFacts
 pub mod NumberOrder
 pub mod OrderFacts
+pub mod EqualityFacts
 pub mod AggregateFacts
 pub mod PatternFacts
 pub mod ComponentFacts

@@ -1,6 +1,6 @@
 //! Comparisons of values.
 ghost use Rattle.std.specs.Prelude.{◌≡◌};
-ghost use Rattle.std.specs.Cmp.{IsTotalOrder};
+ghost use Rattle.std.specs.Cmp.{IsEquivalence, IsTotalOrder};
 ghost use Rattle.std.specs.Cmp.Lexicographic.{pointwise};
 ghost use Rattle.std.specs.List.{list_all};
 ghost use Rattle.bean_lots.specs.Lot.{same_text};
@@ -148,4 +148,9 @@ pub fn at_most(a: &Value<'_>, b: &Value<'_>) -> bool
 /// The order of values is total.
 pub fn values_are_in_order()
     ensures { IsTotalOrder order_of }
+{}
+
+/// Being the same is an equivalence.
+pub fn being_the_same_is_an_equivalence()
+    ensures { IsEquivalence same }
 {}
