@@ -2,4 +2,6 @@
 #![tactic(auto)]
 
 #[cfg(test)]
+mod completion;
+#[cfg(test)]
 mod lots;

@@ -4,8 +4,6 @@ use Rattle.std.specs.Prelude.{cond, ◌≡◌, ℕ, zero, suc, ◌<◌, ◌==◌
 use Rattle.std.specs.Int.{Width, byte_len, from_be_bytes, to_be_bytes}
 use Rattle.query_code.specs.declared.refusal.Cause.{Cause}
 use Rattle.query_code.specs.declared.refusal.Cause.TheVariants.{Truncated, BadField}
-use Rattle.query_code.specs.declared.refusal.Fault.{Fault}
-use Rattle.query_code.specs.declared.refusal.Fault.TheVariants.{OutOfMemory, Stopped}
 use Rattle.std.specs.Str.{bytes_eq}
 use Rattle.query_code.specs.declared.refusal.Stop.{Stop}
 
@@ -152,14 +150,3 @@ chosen (c ∷ cs) n = cond (n == c.tag) c.form (chosen cs n)
 -- a byte that tells the form of the rest
 abbrev pub told : {A : Type 0} → (A → ℕ) → List (Case A) → Form A
 told tag cases = mapped (λ p. p.1) (λ v. (tag v, v)) (before byte (chosen cases))
-
--- ---- what a function returned
-
--- It is what reading gives, seen by view, unless memory ran out.
-abbrev pub Fails : {Y : Type 0} → Fault → Result Y Stop → Type 0
-Fails OutOfMemory read = Unit {0}
-Fails (Stopped stop) read = read ≡ Err stop
-
-abbrev pub Gives : {X Y : Type 0} → (X → Y) → Result X Fault → Result Y Stop → Type 0
-Gives view (Ok x) read = read ≡ Ok (view x)
-Gives view (Err fault) read = Fails fault read

@@ -1,5 +1,4 @@
 pub mod ByteForm
 pub mod InstructionForm
 pub mod QueryFile
-pub mod Decoding
 pub mod Listing

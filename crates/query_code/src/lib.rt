@@ -1,38 +1,29 @@
-//! Query files: a compiled query as bytes, and the program that bytes are.
+//! The program of a compiled query: its parts, its instructions, and what its file is.
 //!
 //! ```text
-//! let program = decode(alloc, &bytes)?;       // or the first field that keeps them from being a file
-//! let again = encode(alloc, &program)?;       // the same bytes
+//! let text = show(alloc, &program)?;   // "version 1 postings 1000000 digits 20 ..", a line each
 //! ```
 //!
-//! A query file may come from a stranger. [`decode`] looks at each field in the order of the file and
-//! answers the first that fails, with its place; what it answers otherwise is a program whose file
-//! the bytes are, and no other program has that file. A count that claims more than the file holds is
-//! refused before memory is taken for it. Whether a program can be run without a fault is another
-//! question, which the verifier answers.
+//! A [`Program`] keeps the limits of a query file, so each has one; `specs/QueryFile` says which
+//! bytes it is, and where bytes that are none stop to be one. `query_file` reads and writes it.
+//! Whether a program can be run without a fault is another question, which the verifier answers.
 //!
 //! # Faults
 //!
-//! `V1` to `V6`, each with the byte where it stands ([`Cause`]): the magic, the version, a file that
-//! is cut short, bytes behind the last section, a field that can't be so, a text that isn't UTF-8.
+//! None of its own; [`Cause`] numbers what keeps bytes from being a query file (`V1` to `V6`) and a
+//! query file from being run (`V7` to `V18`).
 //!
 //! # Cost
 //!
-//! Linear in the file. The texts of a decoded program are slices of the file's bytes.
+//! Linear in the program. Its texts are slices of the query, or of the file, that it was made from.
 #![tactic(auto)]
 
-mod code_reading;
-mod decoding;
 pub mod instruction;
 mod listing;
 pub mod program;
-mod reading;
 pub mod refusal;
-mod writing;
 
-pub use decoding::{decode, one_file_each};
 pub use instruction::{Binary, Instruction, Push, Unary};
 pub use listing::show;
 pub use program::{Aggregate, Code, Constant, Mode, Numbers, Output, Parts, Program};
-pub use refusal::{Cause, DecodeFault, Refusal};
-pub use writing::encode;
+pub use refusal::{Cause, Refusal, Stop};

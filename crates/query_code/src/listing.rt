@@ -1,7 +1,9 @@
 //! Showing a program.
 ghost use Rattle.std.specs.Prelude.{◌≡◌, ◌++◌, ◌∷◌, ◌+◌, [], OnOk, IfOk, decimal};
 ghost use Rattle.bean_base.specs.Character.{line_feed};
-ghost use Rattle.query_code.specs.Listing.{name_of, operand_in, labelled, with_operand, instruction_line, lines_from, section_lines, bounds_line, grouped_line, mode_line, listing};
+ghost use Rattle.query_code.specs.Listing.{name_of, operand_in, labelled, with_operand};
+ghost use Rattle.query_code.specs.Listing.{instruction_line, lines_from, section_lines};
+ghost use Rattle.query_code.specs.Listing.{bounds_line, grouped_line, mode_line, listing};
 
 use crate::instruction::{Binary, Instruction, Push, Unary};
 use crate::program::{Code, Mode, Program};
@@ -155,7 +157,8 @@ fn push_section(
     name: &str,
     instructions: &[Instruction],
 ) -> Result<(), AllocError>
-    ensures { OnOk result (out.new.items ≡ out.old.items ++ section_lines name.now instructions.now) }
+    ensures { OnOk result
+        (out.new.items ≡ out.old.items ++ section_lines name.now instructions.now) }
 {
     push_labelled(out, name, instructions.len() as u64)?;
     end_line(out)?;
@@ -188,7 +191,8 @@ fn push_mode(out: &mut Vec<u8>, mode: Mode, code: &Code<'_>) -> Result<(), Alloc
     }
 }
 
-/// The text that shows a program: its bounds, its mode and its three sections, an instruction a line.
+/// The text that shows a program: its bounds, its mode and its three sections, an instruction a
+/// line.
 pub fn show(alloc: Global, program: &Program<'_>) -> Result<Vec<u8>, AllocError>
     ensures { IfOk result (λ text. text.items ≡ listing program.now.parts) }
 {

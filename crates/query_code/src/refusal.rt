@@ -1,8 +1,5 @@
 //! Why bytes are no query file, and why a query file is refused.
-ghost use Rattle.std.specs.Prelude.{◌≡◌};
-ghost use Rattle.query_code.specs.declared.refusal.Fault.TheVariants.{OutOfMemory};
 
-use std::alloc::{AllocError, AllocFailed};
 use thiserror::Error;
 
 /// What is wrong with a query file. The first six keep bytes from being one; the others keep a file
@@ -56,37 +53,7 @@ pub struct Refusal {
 
 /// What is wrong, and how many bytes are left where it is.
 #[derive(Clone, Copy, Debug, Drop, PartialEq, Eq)]
-pub(crate) struct Stop {
+pub struct Stop {
     pub cause: Cause,
     pub left: usize,
-}
-
-/// Why a field was not read.
-#[derive(Clone, Copy, Debug, Drop, PartialEq, Eq)]
-pub(crate) enum Fault {
-    OutOfMemory,
-    Stopped(Stop),
-}
-
-impl From<AllocError> for Fault {
-    ghost from_gives = { λ _ e. e ≡ OutOfMemory };
-
-    fn from(_error: AllocError) -> Fault {
-        Fault::OutOfMemory
-    }
-}
-
-impl<T: Drop> From<AllocFailed<T>> for Fault {
-    ghost from_gives = { λ _ e. e ≡ OutOfMemory };
-
-    fn from(_error: AllocFailed<T>) -> Fault {
-        Fault::OutOfMemory
-    }
-}
-
-/// Why bytes were not decoded.
-#[derive(Clone, Copy, Debug, Drop, PartialEq, Eq)]
-pub enum DecodeFault {
-    OutOfMemory,
-    Refused(Refusal),
 }

@@ -1,10 +1,8 @@
 //! Query files that are decoded and written again, and bytes that are none.
 
 use bean_base::{Day, Decimal};
-use query_code::{
-    Aggregate, Cause, Constant, DecodeFault, Instruction, Mode, Push, Refusal, Unary, decode,
-    encode, show,
-};
+use query_code::{Aggregate, Cause, Constant, Instruction, Mode, Push, Refusal, Unary, show};
+use query_file::{DecodeFault, decode, encode};
 use std::alloc::Global;
 use std::test::Fail;
 
@@ -135,14 +133,14 @@ fn numbers_of_a_machine(rt: HostRuntime) -> Result<(), Fail> {
 fn a_program_shown(rt: HostRuntime) -> Result<(), Fail> {
     let program = decode(rt.alloc(), &COUNT).ok().ok_or("a program")?;
     let text = show(rt.alloc(), &program)?;
-    let wanted =
-        "version 1 postings 1000000 digits 20 value-digits 28\ngrouped keys 0 aggregates 1\nfilter 1\n0 TRUE\nrow 0\nlast 1\n0 LOAD_AGG 0\n";
+    let wanted = "version 1 postings 1000000 digits 20 value-digits 28\n\
+         grouped keys 0 aggregates 1\nfilter 1\n0 TRUE\nrow 0\nlast 1\n0 LOAD_AGG 0\n";
     assert_eq!(rt; text.as_slice(), wanted.as_bytes());
     let file = with_pool(rt.alloc(), 0, &[])?;
     let plain = decode(rt.alloc(), &file).ok().ok_or("a program")?;
     let text = show(rt.alloc(), &plain)?;
-    let wanted =
-        "version 1 postings 1 digits 20 value-digits 28\nplain\nfilter 1\n0 TRUE\nrow 1\n0 ROOT 2\nlast 0\n";
+    let wanted = "version 1 postings 1 digits 20 value-digits 28\nplain\nfilter 1\n0 TRUE\nrow 1\n\
+         0 ROOT 2\nlast 0\n";
     assert_eq!(rt; text.as_slice(), wanted.as_bytes());
     Ok(())
 }

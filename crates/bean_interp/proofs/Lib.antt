@@ -1,0 +1,11 @@
+pub mod CountFacts
+pub mod EntryFacts
+pub mod TableFacts
+pub mod WeighingFacts
+pub mod FillingFacts
+pub mod BalanceFacts
+pub mod EvenedFacts
+pub mod GapFacts
+pub mod LackingFacts
+pub mod DueFacts
+pub mod PrecisionFacts

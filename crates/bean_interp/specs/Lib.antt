@@ -1,0 +1,11 @@
+pub mod Weight
+pub mod Residual
+pub mod Tolerance
+pub mod Lacking
+pub mod Due
+pub mod Balance
+pub mod Completion
+pub mod Filling
+pub mod Evened
+pub mod Scales
+pub mod Sums

@@ -1,0 +1,230 @@
+//! Scales: transactions are laid on them one after the other, to be completed and to be judged.
+ghost use Rattle.std.specs.Prelude as prelude;
+ghost use Rattle.bean_interp.specs.Evened.{CompletionBalances};
+ghost use Rattle.std.specs.Prelude.{◌≡◌, ◌∷◌, ◌<◌, [], ℕ, Err, IfOk, OnOk, length};
+
+use crate::due::number_due;
+use crate::fault::{CompletionFault, WeighFault};
+use crate::fill::Fill;
+use crate::lacks::lack_too_much;
+use crate::leg::Leg;
+use crate::precision::{Precisions, half_unit};
+use crate::sums::Sums;
+use bean_base::{Amount, Currency, List};
+use std::alloc::Global;
+
+/// What the legs of one transaction weigh together, and the decimals to which it is exact.
+///
+/// They are used again for the next transaction, so that weighing takes no memory in the long run.
+#[derive(Drop)]
+pub struct Scales<'a> {
+    pub sums: Sums<'a>,
+    pub precisions: Precisions<'a>,
+}
+
+impl<'a> Scales<'a> {
+    ghost use Rattle.bean_interp.specs.Balance.{Judges, is_balanced, is_even};
+    ghost use Rattle.bean_interp.specs.Completion.{CanBeFilled, Completes, gaps, gaps_of};
+    ghost use Rattle.bean_interp.specs.Filling.{AreFilled, HaveNumbers, all_currencies};
+    ghost use Rattle.bean_interp.specs.Filling.{currency_at, gaps_in};
+    ghost use Rattle.bean_interp.specs.Residual.{AreInRange};
+    ghost use Rattle.bean_interp.specs.Scales.{AreSet, GivesFill, HasNoFill};
+    ghost use Rattle.bean_interp.specs.declared.leg.Leg.{Leg};
+
+    /// Scales with nothing on them. Takes no memory.
+    pub fn new(alloc: Global) -> Scales<'a>
+        ensures sums { result.sums ≡ [] }
+        ensures precisions { result.precisions ≡ [] }
+    {
+        Scales {
+            sums: Sums::new(alloc),
+            precisions: Precisions::new(alloc),
+        }
+    }
+
+    /// Lays the legs of a transaction on the scales, in place of those that were there.
+    pub fn set(&mut self, legs: &[Leg<'a>]) -> Result<(), WeighFault>
+        ensures set { OnOk result (AreSet self.new legs.now) }
+        ensures wide { result ≡ Err WeighFault.TooWide → ¬ AreInRange legs.now }
+    {
+        self.precisions.read(legs)?;
+        self.sums.weigh(legs)
+    }
+
+    /// What a leg takes of a currency.
+    fn fill(&self, leg: usize, currency: &Currency<'a>) -> Result<Fill<'a>, WeighFault>
+        ensures { (legs : prelude.List Leg) → AreSet self.now legs
+            → GivesFill legs leg currency.now result }
+    {
+        match number_due(self.precisions.of(currency), self.sums.of(currency)) {
+            Ok(number) => Ok(Fill {
+                leg,
+                amount: Amount {
+                    number,
+                    currency: currency.lend(),
+                },
+            }),
+            Err(_) => Err(WeighFault::TooWide),
+        }
+    }
+
+    /// Adds what a leg takes of a currency.
+    fn fill_one(
+        &self,
+        leg: usize,
+        currency: &Currency<'a>,
+        fills: &mut Vec<Fill<'a>>,
+    ) -> Result<(), WeighFault>
+        ensures filled { (legs : prelude.List Leg) → AreSet self.now legs
+            → OnOk result (AreFilled legs ((leg, currency.now) ∷ [])
+            fills.old.items fills.new.items) }
+        ensures none { (legs : prelude.List Leg) → AreSet self.now legs
+            → result ≡ Err WeighFault.TooWide → HasNoFill legs currency.now }
+    {
+        match self.fill(leg, currency) {
+            Ok(fill) => {
+                fills.push(fill)?;
+                Ok(())
+            }
+            Err(fault) => Err(fault),
+        }
+    }
+
+    /// Adds what a leg takes of the currency at an index, where that lacks something.
+    fn fill_at(&self, leg: usize, index: usize, fills: &mut Vec<Fill<'a>>) -> Result<(), WeighFault>
+        requires { index < length self.now.sums }
+        ensures filled { (legs : prelude.List Leg) (d : prelude.List ℕ) → AreSet self.now legs
+            → OnOk result (AreFilled legs (gaps_in legs leg (currency_at legs index d ∷ []))
+            fills.old.items fills.new.items) }
+        ensures none { (legs : prelude.List Leg) (d : prelude.List ℕ) → AreSet self.now legs
+            → result ≡ Err WeighFault.TooWide
+            → ¬ HaveNumbers legs (gaps_in legs leg (currency_at legs index d ∷ [])) }
+    {
+        let (currency, sum) = self.sums.at(index);
+        if sum == 0 {
+            return Ok(());
+        }
+        self.fill_one(leg, currency, fills)
+    }
+
+    /// Adds what a leg takes of each currency that lacks something, in order of first appearance.
+    fn fill_lacking(&self, leg: usize, fills: &mut Vec<Fill<'a>>) -> Result<(), WeighFault>
+        ensures filled { (legs : prelude.List Leg) → AreSet self.now legs
+            → OnOk result (AreFilled legs (gaps_in legs leg (all_currencies legs))
+            fills.old.items fills.new.items) }
+        ensures none { (legs : prelude.List Leg) → AreSet self.now legs
+            → result ≡ Err WeighFault.TooWide
+            → ¬ HaveNumbers legs (gaps_in legs leg (all_currencies legs)) }
+    {
+        for index in 0..self.sums.len() {
+            match self.fill_at(leg, index, fills) {
+                Ok(()) => {}
+                Err(fault) => return Err(fault),
+            }
+        }
+        Ok(())
+    }
+
+    /// Adds what a leg of the transaction on the scales takes.
+    fn fill_leg(
+        &self,
+        number: usize,
+        leg: &Leg<'a>,
+        fills: &mut Vec<Fill<'a>>,
+    ) -> Result<(), WeighFault>
+        ensures filled { (legs : prelude.List Leg) → AreSet self.now legs
+            → OnOk result (AreFilled legs (gaps_of legs number leg.now)
+            fills.old.items fills.new.items) }
+        ensures none { (legs : prelude.List Leg) → AreSet self.now legs
+            → result ≡ Err WeighFault.TooWide
+            → ¬ HaveNumbers legs (gaps_of legs number leg.now) }
+    {
+        match leg {
+            Leg::Whole(_) => Ok(()),
+            Leg::MissingNumber(currency) => self.fill_one(number, currency, fills),
+            Leg::MissingAmount => self.fill_lacking(number, fills),
+        }
+    }
+
+    /// Adds what the legs on the scales take.
+    fn fill_all(&self, legs: &[Leg<'a>], fills: &mut Vec<Fill<'a>>) -> Result<(), WeighFault>
+        requires { AreSet self.now legs.now }
+        ensures filled { OnOk result
+            (AreFilled legs.now (gaps legs.now) fills.old.items fills.new.items) }
+        ensures none { result ≡ Err WeighFault.TooWide → ¬ CanBeFilled legs.now }
+    {
+        for number in 0..legs.len() {
+            match self.fill_leg(number, &legs[number], fills) {
+                Ok(()) => {}
+                Err(fault) => return Err(fault),
+            }
+        }
+        Ok(())
+    }
+
+    /// What the legs of a transaction take that lack something: a leg that lacks its number takes
+    /// what its currency lacks, and one that lacks its amount takes what each currency lacks, in
+    /// order of first appearance.
+    pub fn complete(
+        &mut self,
+        alloc: Global,
+        legs: &[Leg<'a>],
+    ) -> Result<List<Fill<'a>>, CompletionFault>
+        ensures { Completes legs.now result }
+    {
+        if lack_too_much(alloc, legs)? {
+            return Err(CompletionFault::LackTooMuch);
+        }
+        if let Err(fault) = self.set(legs) {
+            return Err(CompletionFault::Weighing(fault));
+        }
+        let mut fills = Vec::new(alloc);
+        match self.fill_all(legs, &mut fills) {
+            Ok(()) => Ok(List::new(fills)),
+            Err(fault) => Err(CompletionFault::Weighing(fault)),
+        }
+    }
+
+    /// Whether the sum at an index is no more than the tolerance of its currency.
+    fn is_even_at(&self, index: usize) -> bool
+        requires { index < length self.now.sums }
+        ensures { (legs : prelude.List Leg) (d : prelude.List ℕ) → AreSet self.now legs
+            → result ≡ is_even legs (currency_at legs index d) }
+    {
+        let (currency, sum) = self.sums.at(index);
+        sum.unsigned_abs() <= half_unit(self.precisions.of(currency))
+    }
+
+    /// Whether the transaction on the scales balances.
+    fn are_even(&self) -> bool
+        ensures { (legs : prelude.List Leg) → AreSet self.now legs → result ≡ is_balanced legs }
+    {
+        for index in 0..self.sums.len() {
+            if !self.is_even_at(index) {
+                return false;
+            }
+        }
+        true
+    }
+
+    /// Whether legs balance: in each currency their weights sum to no more than its tolerance,
+    /// which is half a unit of the last decimal that is written for it, and 0 without decimals.
+    /// What legs lack is left aside.
+    pub fn balances(&mut self, legs: &[Leg<'a>]) -> Result<bool, WeighFault>
+        ensures { Judges legs.now result }
+    {
+        if let Err(fault) = self.sums.weigh(legs) {
+            return Err(fault);
+        }
+        if self.sums.are_zero() {
+            return Ok(true);
+        }
+        self.precisions.read(legs)?;
+        Ok(self.are_even())
+    }
+}
+
+/// What completion fills in balances the transaction in every currency that was filled.
+pub fn completion_balances()
+    ensures { CompletionBalances }
+{}

@@ -1,0 +1,3 @@
+pub mod RowFacts
+pub mod Utf8Facts
+pub mod WrittenFacts

@@ -1,0 +1,484 @@
+//! Reading the lists of a query file, and the sections and the pool that they make.
+ghost use Rattle.std.specs.Prelude.{◌≡◌, List, length, Ok, IfOk};
+ghost use Rattle.query_code.specs.declared.refusal.Cause.TheVariants.{BadField};
+ghost use Rattle.query_code.specs.ByteForm.{byte, counted, read_all, such_that};
+ghost use Rattle.query_file.specs.FieldReading.{Gives};
+ghost use Rattle.query_code.specs.InstructionForm.{word, instruction};
+ghost use Rattle.query_code.specs.QueryFile.{text, count, day, numbers, constant, aggregate};
+ghost use Rattle.query_code.specs.QueryFile.{section, some_number, place_below, columns, output};
+ghost use Rattle.query_code.specs.QueryFile.{only, code};
+
+use crate::fault::Fault;
+use crate::reading::{
+    byte_at, count_at, day_at, decimal_at, flag_at, limit_at, places_at, some_byte_at,
+    some_number_at, stopped, text_at, word_at,
+};
+use bean_base::{Day, List, Slice};
+use query_code::instruction::{Binary, Instruction, Push, Unary};
+use query_code::program::{Aggregate, Code, Constant, Mode, Numbers, Output};
+use query_code::refusal::Cause;
+use std::alloc::Global;
+
+#[tactic(auto, unfolding(query_code::specs::InstructionForm::instruction))]
+pub fn instruction_at(bytes: &[u8]) -> Result<(Instruction, &[u8]), Fault>
+    ensures { Gives (λ x. (x.0, x.1.now)) result (instruction.read bytes.now) }
+{
+    let (code, rest) = byte_at(bytes)?;
+    match code {
+        0x00 => Ok((Instruction::Push(Push::True), rest)),
+        0x01 => Ok((Instruction::Push(Push::False), rest)),
+        0x02 => {
+            let (operand, rest) = word_at(rest)?;
+            Ok((Instruction::Push(Push::Const(operand)), rest))
+        }
+        0x03 => {
+            let (operand, rest) = byte_at(rest)?;
+            Ok((Instruction::Push(Push::LoadColumn(operand)), rest))
+        }
+        0x04 => {
+            let (operand, rest) = byte_at(rest)?;
+            Ok((Instruction::LoadSlot(operand), rest))
+        }
+        0x05 => {
+            let (operand, rest) = byte_at(rest)?;
+            Ok((Instruction::StoreSlot(operand), rest))
+        }
+        0x06 => {
+            let (operand, rest) = byte_at(rest)?;
+            Ok((Instruction::Push(Push::LoadKey(operand)), rest))
+        }
+        0x07 => {
+            let (operand, rest) = byte_at(rest)?;
+            Ok((Instruction::Push(Push::LoadAggregate(operand)), rest))
+        }
+        0x08 => {
+            let (operand, rest) = byte_at(rest)?;
+            Ok((Instruction::Unary(Unary::Align(operand)), rest))
+        }
+        0x10 => Ok((Instruction::Binary(Binary::Add), rest)),
+        0x11 => Ok((Instruction::Binary(Binary::Sub), rest)),
+        0x12 => Ok((Instruction::Binary(Binary::Mul), rest)),
+        0x13 => Ok((Instruction::Unary(Unary::Neg), rest)),
+        0x14 => Ok((Instruction::Unary(Unary::Abs), rest)),
+        0x20 => Ok((Instruction::Binary(Binary::Equal), rest)),
+        0x21 => Ok((Instruction::Binary(Binary::NotEqual), rest)),
+        0x22 => Ok((Instruction::Binary(Binary::Less), rest)),
+        0x23 => Ok((Instruction::Binary(Binary::AtMost), rest)),
+        0x24 => Ok((Instruction::Binary(Binary::Greater), rest)),
+        0x25 => Ok((Instruction::Binary(Binary::AtLeast), rest)),
+        0x26 => Ok((Instruction::Unary(Unary::Not), rest)),
+        0x27 => Ok((Instruction::Unary(Unary::IsNull), rest)),
+        0x30 => {
+            let (operand, rest) = word_at(rest)?;
+            Ok((Instruction::Jump(operand), rest))
+        }
+        0x31 => {
+            let (operand, rest) = word_at(rest)?;
+            Ok((Instruction::JumpIfFalse(operand), rest))
+        }
+        0x40 => {
+            let (operand, rest) = word_at(rest)?;
+            Ok((Instruction::Unary(Unary::Match(operand)), rest))
+        }
+        0x41 => {
+            let (operand, rest) = word_at(rest)?;
+            Ok((Instruction::Unary(Unary::MatchAny(operand)), rest))
+        }
+        0x42 => Ok((Instruction::Binary(Binary::InSet), rest)),
+        0x43 => {
+            let (operand, rest) = word_at(rest)?;
+            Ok((Instruction::Unary(Unary::InList(operand)), rest))
+        }
+        0x50 => Ok((Instruction::Unary(Unary::Year), rest)),
+        0x51 => Ok((Instruction::Unary(Unary::Month), rest)),
+        0x52 => Ok((Instruction::Unary(Unary::Day), rest)),
+        0x53 => {
+            let (operand, rest) = some_byte_at(rest)?;
+            Ok((Instruction::Unary(Unary::Root(operand)), rest))
+        }
+        0x54 => Ok((Instruction::Unary(Unary::Parent), rest)),
+        0x55 => Ok((Instruction::Unary(Unary::Leaf), rest)),
+        0x56 => Ok((Instruction::Unary(Unary::Length), rest)),
+        0x57 => Ok((Instruction::Unary(Unary::Units), rest)),
+        0x58 => Ok((Instruction::Unary(Unary::Cost), rest)),
+        0x59 => Ok((Instruction::Unary(Unary::Number), rest)),
+        0x5a => Ok((Instruction::Unary(Unary::Currency), rest)),
+        0x5b => {
+            let (operand, rest) = word_at(rest)?;
+            Ok((Instruction::Push(Push::Meta(operand)), rest))
+        }
+        0x5c => {
+            let (operand, rest) = word_at(rest)?;
+            Ok((Instruction::Push(Push::EntryMeta(operand)), rest))
+        }
+        0x5d => {
+            let (operand, rest) = word_at(rest)?;
+            Ok((Instruction::Push(Push::AnyMeta(operand)), rest))
+        }
+        0x5e => Ok((Instruction::Unary(Unary::RootRank), rest)),
+        _ => Err(stopped(Cause::BadField, bytes)),
+    }
+}
+
+/// So many instructions.
+#[tactic(auto, using(crate::proofs::RowFacts::in_a_row))]
+pub fn instructions_at(
+    alloc: Global,
+    len: usize,
+    bytes: &[u8],
+) -> Result<(Vec<Instruction>, &[u8]), Fault>
+    ensures read { Gives (λ x. (x.0.items, x.1.now)) result (read_all instruction len bytes.now) }
+    ensures number { IfOk result (λ x. length x.0.items ≡ len) }
+{
+    let mut items = Vec::new(alloc);
+    let mut rest = bytes;
+    for _ in 0..len {
+        let (item, after) = instruction_at(rest)?;
+        items.push(item)?;
+        rest = after;
+    }
+    Ok((items, rest))
+}
+
+/// So many texts.
+#[tactic(auto, using(crate::proofs::RowFacts::in_a_row))]
+pub fn texts_at(alloc: Global, len: usize, bytes: &[u8]) -> Result<(Vec<Slice<'_>>, &[u8]), Fault>
+    ensures read { Gives (λ x. (x.0.items, x.1.now)) result (read_all text len bytes.now) }
+    ensures number { IfOk result (λ x. length x.0.items ≡ len) }
+{
+    let mut items = Vec::new(alloc);
+    let mut rest = bytes;
+    for _ in 0..len {
+        let (item, after) = text_at(rest)?;
+        items.push(item)?;
+        rest = after;
+    }
+    Ok((items, rest))
+}
+
+/// So many counts.
+#[tactic(auto, using(crate::proofs::RowFacts::in_a_row))]
+pub fn counts_at(alloc: Global, len: usize, bytes: &[u8]) -> Result<(Vec<i128>, &[u8]), Fault>
+    ensures read { Gives (λ x. (x.0.items, x.1.now)) result (read_all count len bytes.now) }
+    ensures number { IfOk result (λ x. length x.0.items ≡ len) }
+{
+    let mut items = Vec::new(alloc);
+    let mut rest = bytes;
+    for _ in 0..len {
+        let (item, after) = count_at(rest)?;
+        items.push(item)?;
+        rest = after;
+    }
+    Ok((items, rest))
+}
+
+/// So many days.
+#[tactic(auto, using(crate::proofs::RowFacts::in_a_row))]
+pub fn days_at(alloc: Global, len: usize, bytes: &[u8]) -> Result<(Vec<Day>, &[u8]), Fault>
+    ensures read { Gives (λ x. (x.0.items, x.1.now)) result (read_all day len bytes.now) }
+    ensures number { IfOk result (λ x. length x.0.items ≡ len) }
+{
+    let mut items = Vec::new(alloc);
+    let mut rest = bytes;
+    for _ in 0..len {
+        let (item, after) = day_at(rest)?;
+        items.push(item)?;
+        rest = after;
+    }
+    Ok((items, rest))
+}
+
+#[tactic(auto, unfolding(query_code::specs::QueryFile::aggregate))]
+fn aggregate_at(bytes: &[u8]) -> Result<(Aggregate, &[u8]), Fault>
+    ensures { Gives (λ x. (x.0, x.1.now)) result (aggregate.read bytes.now) }
+{
+    let (kind, rest) = byte_at(bytes)?;
+    match kind {
+        0 => Ok((Aggregate::CountRows, rest)),
+        1 => Ok((Aggregate::Count, rest)),
+        2 => {
+            let (places, rest) = places_at(rest)?;
+            Ok((Aggregate::Sum(places), rest))
+        }
+        3 => {
+            let (places, rest) = places_at(rest)?;
+            Ok((Aggregate::SumInventory(places), rest))
+        }
+        4 => Ok((Aggregate::First, rest)),
+        5 => Ok((Aggregate::Last, rest)),
+        6 => Ok((Aggregate::Min, rest)),
+        7 => Ok((Aggregate::Max, rest)),
+        _ => Err(stopped(Cause::BadField, bytes)),
+    }
+}
+
+/// So many aggregates.
+#[tactic(auto, using(crate::proofs::RowFacts::in_a_row))]
+pub fn aggregates_at(
+    alloc: Global,
+    len: usize,
+    bytes: &[u8],
+) -> Result<(Vec<Aggregate>, &[u8]), Fault>
+    ensures read { Gives (λ x. (x.0.items, x.1.now)) result (read_all aggregate len bytes.now) }
+    ensures number { IfOk result (λ x. length x.0.items ≡ len) }
+{
+    let mut items = Vec::new(alloc);
+    let mut rest = bytes;
+    for _ in 0..len {
+        let (item, after) = aggregate_at(rest)?;
+        items.push(item)?;
+        rest = after;
+    }
+    Ok((items, rest))
+}
+
+#[tactic(auto, unfolding(query_code::specs::QueryFile::numbers))]
+fn numbers_at(alloc: Global, bytes: &[u8]) -> Result<(Numbers, &[u8]), Fault>
+    ensures { Gives (λ x. (x.0, x.1.now)) result (numbers.read bytes.now) }
+{
+    let (places, rest) = places_at(bytes)?;
+    let (count, rest) = some_number_at(rest)?;
+    let (counts, rest) = counts_at(alloc, count as usize, rest)?;
+    let counts = List::new(counts);
+    Ok((Numbers { places, counts }, rest))
+}
+
+fn some_texts_at(alloc: Global, bytes: &[u8]) -> Result<(List<Slice<'_>>, &[u8]), Fault>
+    ensures { Gives (λ x. (x.0, x.1.now)) result ((counted some_number text).read bytes.now) }
+{
+    let (count, rest) = some_number_at(bytes)?;
+    let (texts, rest) = texts_at(alloc, count as usize, rest)?;
+    Ok((List::new(texts), rest))
+}
+
+fn some_days_at(alloc: Global, bytes: &[u8]) -> Result<(List<Day>, &[u8]), Fault>
+    ensures { Gives (λ x. (x.0, x.1.now)) result ((counted some_number day).read bytes.now) }
+{
+    let (count, rest) = some_number_at(bytes)?;
+    let (days, rest) = days_at(alloc, count as usize, rest)?;
+    Ok((List::new(days), rest))
+}
+
+#[tactic(auto, unfolding(query_code::specs::QueryFile::constant))]
+fn constant_at(alloc: Global, bytes: &[u8]) -> Result<(Constant<'_>, &[u8]), Fault>
+    ensures { Gives (λ x. (x.0, x.1.now)) result (constant.read bytes.now) }
+{
+    let (kind, rest) = byte_at(bytes)?;
+    match kind {
+        1 => {
+            let (text, rest) = text_at(rest)?;
+            Ok((Constant::Text(text), rest))
+        }
+        2 => {
+            let (number, rest) = decimal_at(rest)?;
+            Ok((Constant::Number(number), rest))
+        }
+        3 => {
+            let (day, rest) = day_at(rest)?;
+            Ok((Constant::Day(day), rest))
+        }
+        4 => {
+            let (pattern, rest) = text_at(rest)?;
+            Ok((Constant::Pattern(pattern), rest))
+        }
+        5 => {
+            let (texts, rest) = some_texts_at(alloc, rest)?;
+            Ok((Constant::Texts(texts), rest))
+        }
+        6 => {
+            let (numbers, rest) = numbers_at(alloc, rest)?;
+            Ok((Constant::Numbers(numbers), rest))
+        }
+        7 => {
+            let (days, rest) = some_days_at(alloc, rest)?;
+            Ok((Constant::Days(days), rest))
+        }
+        _ => Err(stopped(Cause::BadField, bytes)),
+    }
+}
+
+/// So many entries of the pool.
+#[tactic(auto, using(crate::proofs::RowFacts::in_a_row))]
+pub fn constants_at(
+    alloc: Global,
+    len: usize,
+    bytes: &[u8],
+) -> Result<(Vec<Constant<'_>>, &[u8]), Fault>
+    ensures read { Gives (λ x. (x.0.items, x.1.now)) result (read_all constant len bytes.now) }
+    ensures number { IfOk result (λ x. length x.0.items ≡ len) }
+{
+    let mut items = Vec::new(alloc);
+    let mut rest = bytes;
+    for _ in 0..len {
+        let (item, after) = constant_at(alloc, rest)?;
+        items.push(item)?;
+        rest = after;
+    }
+    Ok((items, rest))
+}
+
+#[tactic(auto, unfolding(query_code::specs::QueryFile::place_below))]
+fn place_below_at(most: usize, bytes: &[u8]) -> Result<(u8, &[u8]), Fault>
+    ensures { Gives (λ x. (x.0, x.1.now)) result ((place_below most).read bytes.now) }
+{
+    let (place, rest) = byte_at(bytes)?;
+    if place as usize >= most {
+        return Err(stopped(Cause::BadField, bytes));
+    }
+    Ok((place, rest))
+}
+
+/// So many columns, each below the count of all.
+#[tactic(auto, using(crate::proofs::RowFacts::in_a_row))]
+pub fn order_at(
+    alloc: Global,
+    most: usize,
+    len: usize,
+    bytes: &[u8],
+) -> Result<(Vec<u8>, &[u8]), Fault>
+    ensures read { Gives (λ x. (x.0.items, x.1.now)) result
+        (read_all (place_below most) len bytes.now) }
+    ensures number { IfOk result (λ x. length x.0.items ≡ len) }
+{
+    let mut items = Vec::new(alloc);
+    let mut rest = bytes;
+    for _ in 0..len {
+        let (item, after) = place_below_at(most, rest)?;
+        items.push(item)?;
+        rest = after;
+    }
+    Ok((items, rest))
+}
+
+/// The columns of an answer: the names of those that are shown, how many are hidden, and those to
+/// order by.
+#[derive(Debug, Drop)]
+struct Columns<'a> {
+    targets: List<Slice<'a>>,
+    hidden: u8,
+    order: List<u8>,
+}
+
+#[tactic(auto, unfolding(query_code::specs::QueryFile::columns))]
+fn columns_at(alloc: Global, bytes: &[u8]) -> Result<(Columns<'_>, &[u8]), Fault>
+    ensures { Gives (λ x. ((x.0.targets, (x.0.hidden, x.0.order)), x.1.now)) result
+        (columns.read bytes.now) }
+{
+    let (count, rest) = some_byte_at(bytes)?;
+    let (targets, rest) = texts_at(alloc, count as usize, rest)?;
+    let (hidden, rest) = byte_at(rest)?;
+    let (items, rest) = byte_at(rest)?;
+    let most = count as usize + hidden as usize;
+    let (order, rest) = order_at(alloc, most, items as usize, rest)?;
+    let columns = Columns {
+        targets: List::new(targets),
+        hidden,
+        order: List::new(order),
+    };
+    Ok((columns, rest))
+}
+
+#[tactic(auto, unfolding(query_code::specs::QueryFile::output))]
+pub fn output_at(alloc: Global, bytes: &[u8]) -> Result<(Output<'_>, &[u8]), Fault>
+    ensures { Gives (λ x. (x.0, x.1.now)) result (output.read bytes.now) }
+{
+    let (is_distinct, rest) = flag_at(bytes)?;
+    let (is_descending, rest) = flag_at(rest)?;
+    let (limit, rest) = limit_at(rest)?;
+    let (columns, rest) = columns_at(alloc, rest)?;
+    let output = Output {
+        is_distinct,
+        is_descending,
+        limit,
+        targets: columns.targets,
+        hidden: columns.hidden,
+        order: columns.order,
+    };
+    Ok((output, rest))
+}
+
+/// A count, which is 0 unless the program groups.
+fn byte_if_grouped_at(mode: Mode, bytes: &[u8]) -> Result<(u8, &[u8]), Fault>
+    ensures { Gives (λ x. (x.0, x.1.now)) result ((only mode byte).read bytes.now) }
+{
+    let (number, rest) = byte_at(bytes)?;
+    if mode == Mode::Plain && number != 0 {
+        return Err(stopped(Cause::BadField, bytes));
+    }
+    Ok((number, rest))
+}
+
+/// A count, which is 0 unless the program groups.
+fn word_if_grouped_at(mode: Mode, bytes: &[u8]) -> Result<(u16, &[u8]), Fault>
+    ensures { Gives (λ x. (x.0, x.1.now)) result ((only mode word).read bytes.now) }
+{
+    let (number, rest) = word_at(bytes)?;
+    if mode == Mode::Plain && number != 0 {
+        return Err(stopped(Cause::BadField, bytes));
+    }
+    Ok((number, rest))
+}
+
+#[tactic(auto, unfolding(query_code::specs::QueryFile::section))]
+fn section_at(alloc: Global, bytes: &[u8]) -> Result<(List<Instruction>, &[u8]), Fault>
+    ensures { Gives (λ x. (x.0, x.1.now)) result (section.read bytes.now) }
+{
+    let (count, rest) = word_at(bytes)?;
+    let (instructions, rest) = instructions_at(alloc, count as usize, rest)?;
+    Ok((List::new(instructions), rest))
+}
+
+fn grouped_aggregates_at(
+    alloc: Global,
+    mode: Mode,
+    bytes: &[u8],
+) -> Result<(List<Aggregate>, &[u8]), Fault>
+    ensures { Gives (λ x. (x.0, x.1.now)) result
+        ((counted (only mode byte) aggregate).read bytes.now) }
+{
+    let (count, rest) = byte_if_grouped_at(mode, bytes)?;
+    let (aggregates, rest) = aggregates_at(alloc, count as usize, rest)?;
+    Ok((List::new(aggregates), rest))
+}
+
+fn pool_at(alloc: Global, bytes: &[u8]) -> Result<(List<Constant<'_>>, &[u8]), Fault>
+    ensures { Gives (λ x. (x.0, x.1.now)) result ((counted word constant).read bytes.now) }
+{
+    let (count, rest) = word_at(bytes)?;
+    let (pool, rest) = constants_at(alloc, count as usize, rest)?;
+    Ok((List::new(pool), rest))
+}
+
+fn grouped_section_at(
+    alloc: Global,
+    mode: Mode,
+    bytes: &[u8],
+) -> Result<(List<Instruction>, &[u8]), Fault>
+    ensures { Gives (λ x. (x.0, x.1.now)) result
+        ((counted (only mode word) instruction).read bytes.now) }
+{
+    let (count, rest) = word_if_grouped_at(mode, bytes)?;
+    let (instructions, rest) = instructions_at(alloc, count as usize, rest)?;
+    Ok((List::new(instructions), rest))
+}
+
+#[tactic(auto, unfolding(query_code::specs::QueryFile::code))]
+pub fn code_at(alloc: Global, mode: Mode, bytes: &[u8]) -> Result<(Code<'_>, &[u8]), Fault>
+    ensures { Gives (λ x. (x.0, x.1.now)) result ((code mode).read bytes.now) }
+{
+    let (keys, rest) = byte_if_grouped_at(mode, bytes)?;
+    let (aggregates, rest) = grouped_aggregates_at(alloc, mode, rest)?;
+    let (pool, rest) = pool_at(alloc, rest)?;
+    let (filter, rest) = section_at(alloc, rest)?;
+    let (row, rest) = section_at(alloc, rest)?;
+    let (last, rest) = grouped_section_at(alloc, mode, rest)?;
+    let code = Code {
+        keys,
+        aggregates,
+        pool,
+        filter,
+        row,
+        last,
+    };
+    Ok((code, rest))
+}

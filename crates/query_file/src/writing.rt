@@ -1,0 +1,471 @@
+//! Writing the file of a program.
+ghost use Rattle.std.specs.Prelude.{◌≡◌, ℕ, ◌++◌, ◌<◌, ◌^◌, length, OnOk, IfOk};
+ghost use Rattle.query_code.specs.ByteForm.{byte, counted, AllFit, all_written};
+ghost use Rattle.query_code.specs.InstructionForm.{word, instruction};
+ghost use Rattle.query_code.specs.QueryFile.{long, count, text, flag, limit, mode, decimal, day};
+ghost use Rattle.query_code.specs.QueryFile.{numbers, constant, aggregate, section, place_below};
+ghost use Rattle.query_code.specs.QueryFile.{columns, output, code, bounds, parts, file, only};
+ghost use Rattle.query_code.specs.QueryFile.{some_number, IsFile};
+
+use bean_base::{Bounds, Day, Decimal, Slice};
+use query_code::instruction::{Binary, Instruction, Push, Unary};
+use query_code::program::{Aggregate, Code, Constant, Mode, Numbers, Output, Parts, Program};
+use std::alloc::{AllocError, Global};
+
+fn put_byte(out: &mut Vec<u8>, number: u8) -> Result<(), AllocError>
+    ensures { OnOk result (out.new.items ≡ out.old.items ++ byte.written number) }
+{
+    out.push(number)?;
+    Ok(())
+}
+
+fn put_word(out: &mut Vec<u8>, number: u16) -> Result<(), AllocError>
+    ensures { OnOk result (out.new.items ≡ out.old.items ++ word.written number) }
+{
+    out.extend_from_slice(&number.to_be_bytes())
+}
+
+fn put_long(out: &mut Vec<u8>, number: u32) -> Result<(), AllocError>
+    ensures { OnOk result (out.new.items ≡ out.old.items ++ long.written number) }
+{
+    out.extend_from_slice(&number.to_be_bytes())
+}
+
+#[tactic(auto, unfolding(query_code::specs::QueryFile::count))]
+fn put_count(out: &mut Vec<u8>, number: i128) -> Result<(), AllocError>
+    ensures { OnOk result (out.new.items ≡ out.old.items ++ count.written number) }
+{
+    let bytes = number.to_be_bytes();
+    out.extend_from_slice(&bytes)
+}
+
+#[tactic(auto, unfolding(query_code::specs::QueryFile::text))]
+fn put_text(out: &mut Vec<u8>, written: &Slice<'_>) -> Result<(), AllocError>
+    requires { text.fits written.now }
+    ensures { OnOk result (out.new.items ≡ out.old.items ++ text.written written.now) }
+{
+    let bytes = written.text().as_bytes();
+    put_word(out, bytes.len() as u16)?;
+    out.extend_from_slice(bytes)
+}
+
+#[tactic(auto, unfolding(query_code::specs::QueryFile::flag))]
+fn put_flag(out: &mut Vec<u8>, value: bool) -> Result<(), AllocError>
+    ensures { OnOk result (out.new.items ≡ out.old.items ++ flag.written value) }
+{
+    put_byte(out, if value { 1 } else { 0 })
+}
+
+#[tactic(auto, unfolding(query_code::specs::QueryFile::limit))]
+fn put_limit(out: &mut Vec<u8>, most: Option<u32>) -> Result<(), AllocError>
+    ensures { OnOk result (out.new.items ≡ out.old.items ++ limit.written most) }
+{
+    match most {
+        None => put_byte(out, 0),
+        Some(number) => {
+            put_byte(out, 1)?;
+            put_long(out, number)
+        }
+    }
+}
+
+#[tactic(auto, unfolding(query_code::specs::QueryFile::mode))]
+fn put_mode(out: &mut Vec<u8>, written: Mode) -> Result<(), AllocError>
+    ensures { OnOk result (out.new.items ≡ out.old.items ++ mode.written written) }
+{
+    match written {
+        Mode::Plain => put_byte(out, 0),
+        Mode::Grouped => put_byte(out, 1),
+    }
+}
+
+#[tactic(auto, unfolding(query_code::specs::InstructionForm::instruction))]
+fn put_instruction(out: &mut Vec<u8>, step: Instruction) -> Result<(), AllocError>
+    ensures { OnOk result (out.new.items ≡ out.old.items ++ instruction.written step) }
+{
+    match step {
+        Instruction::Push(Push::True) => put_byte(out, 0x00),
+        Instruction::Push(Push::False) => put_byte(out, 0x01),
+        Instruction::Push(Push::Const(operand)) => {
+            put_byte(out, 0x02)?;
+            put_word(out, operand)
+        }
+        Instruction::Push(Push::LoadColumn(operand)) => {
+            put_byte(out, 0x03)?;
+            put_byte(out, operand)
+        }
+        Instruction::LoadSlot(operand) => {
+            put_byte(out, 0x04)?;
+            put_byte(out, operand)
+        }
+        Instruction::StoreSlot(operand) => {
+            put_byte(out, 0x05)?;
+            put_byte(out, operand)
+        }
+        Instruction::Push(Push::LoadKey(operand)) => {
+            put_byte(out, 0x06)?;
+            put_byte(out, operand)
+        }
+        Instruction::Push(Push::LoadAggregate(operand)) => {
+            put_byte(out, 0x07)?;
+            put_byte(out, operand)
+        }
+        Instruction::Unary(Unary::Align(operand)) => {
+            put_byte(out, 0x08)?;
+            put_byte(out, operand)
+        }
+        Instruction::Binary(Binary::Add) => put_byte(out, 0x10),
+        Instruction::Binary(Binary::Sub) => put_byte(out, 0x11),
+        Instruction::Binary(Binary::Mul) => put_byte(out, 0x12),
+        Instruction::Unary(Unary::Neg) => put_byte(out, 0x13),
+        Instruction::Unary(Unary::Abs) => put_byte(out, 0x14),
+        Instruction::Binary(Binary::Equal) => put_byte(out, 0x20),
+        Instruction::Binary(Binary::NotEqual) => put_byte(out, 0x21),
+        Instruction::Binary(Binary::Less) => put_byte(out, 0x22),
+        Instruction::Binary(Binary::AtMost) => put_byte(out, 0x23),
+        Instruction::Binary(Binary::Greater) => put_byte(out, 0x24),
+        Instruction::Binary(Binary::AtLeast) => put_byte(out, 0x25),
+        Instruction::Unary(Unary::Not) => put_byte(out, 0x26),
+        Instruction::Unary(Unary::IsNull) => put_byte(out, 0x27),
+        Instruction::Jump(operand) => {
+            put_byte(out, 0x30)?;
+            put_word(out, operand)
+        }
+        Instruction::JumpIfFalse(operand) => {
+            put_byte(out, 0x31)?;
+            put_word(out, operand)
+        }
+        Instruction::Unary(Unary::Match(operand)) => {
+            put_byte(out, 0x40)?;
+            put_word(out, operand)
+        }
+        Instruction::Unary(Unary::MatchAny(operand)) => {
+            put_byte(out, 0x41)?;
+            put_word(out, operand)
+        }
+        Instruction::Binary(Binary::InSet) => put_byte(out, 0x42),
+        Instruction::Unary(Unary::InList(operand)) => {
+            put_byte(out, 0x43)?;
+            put_word(out, operand)
+        }
+        Instruction::Unary(Unary::Year) => put_byte(out, 0x50),
+        Instruction::Unary(Unary::Month) => put_byte(out, 0x51),
+        Instruction::Unary(Unary::Day) => put_byte(out, 0x52),
+        Instruction::Unary(Unary::Root(operand)) => {
+            put_byte(out, 0x53)?;
+            put_byte(out, operand)
+        }
+        Instruction::Unary(Unary::Parent) => put_byte(out, 0x54),
+        Instruction::Unary(Unary::Leaf) => put_byte(out, 0x55),
+        Instruction::Unary(Unary::Length) => put_byte(out, 0x56),
+        Instruction::Unary(Unary::Units) => put_byte(out, 0x57),
+        Instruction::Unary(Unary::Cost) => put_byte(out, 0x58),
+        Instruction::Unary(Unary::Number) => put_byte(out, 0x59),
+        Instruction::Unary(Unary::Currency) => put_byte(out, 0x5a),
+        Instruction::Push(Push::Meta(operand)) => {
+            put_byte(out, 0x5b)?;
+            put_word(out, operand)
+        }
+        Instruction::Push(Push::EntryMeta(operand)) => {
+            put_byte(out, 0x5c)?;
+            put_word(out, operand)
+        }
+        Instruction::Push(Push::AnyMeta(operand)) => {
+            put_byte(out, 0x5d)?;
+            put_word(out, operand)
+        }
+        Instruction::Unary(Unary::RootRank) => put_byte(out, 0x5e),
+    }
+}
+
+/// One instruction behind the other.
+fn put_instructions(out: &mut Vec<u8>, steps: &[Instruction]) -> Result<(), AllocError>
+    ensures { OnOk result (out.new.items ≡ out.old.items ++ all_written instruction steps.now) }
+{
+    let mut rest = steps;
+    while let [first, after @ ..] = rest {
+        put_instruction(out, *first)?;
+        rest = after;
+    }
+    Ok(())
+}
+
+/// One text behind the other.
+fn put_texts(out: &mut Vec<u8>, texts: &[Slice<'_>]) -> Result<(), AllocError>
+    requires { AllFit text texts.now }
+    ensures { OnOk result (out.new.items ≡ out.old.items ++ all_written text texts.now) }
+{
+    let mut rest = texts;
+    while let [first, after @ ..] = rest {
+        put_text(out, first)?;
+        rest = after;
+    }
+    Ok(())
+}
+
+/// One count behind the other.
+fn put_counts(out: &mut Vec<u8>, counts: &[i128]) -> Result<(), AllocError>
+    ensures { OnOk result (out.new.items ≡ out.old.items ++ all_written count counts.now) }
+{
+    let mut rest = counts;
+    while let [first, after @ ..] = rest {
+        put_count(out, *first)?;
+        rest = after;
+    }
+    Ok(())
+}
+
+#[tactic(auto, unfolding(query_code::specs::QueryFile::decimal))]
+fn put_decimal(out: &mut Vec<u8>, number: Decimal) -> Result<(), AllocError>
+    ensures { OnOk result (out.new.items ≡ out.old.items ++ decimal.written number) }
+{
+    put_byte(out, number.places)?;
+    put_count(out, number.count)
+}
+
+#[tactic(auto, unfolding(query_code::specs::QueryFile::day))]
+fn put_day(out: &mut Vec<u8>, written: Day) -> Result<(), AllocError>
+    ensures { OnOk result (out.new.items ≡ out.old.items ++ day.written written) }
+{
+    put_word(out, written.year() as u16)?;
+    put_byte(out, written.month())?;
+    put_byte(out, written.day())
+}
+
+/// One day behind the other.
+fn put_days(out: &mut Vec<u8>, days: &[Day]) -> Result<(), AllocError>
+    ensures { OnOk result (out.new.items ≡ out.old.items ++ all_written day days.now) }
+{
+    let mut rest = days;
+    while let [first, after @ ..] = rest {
+        put_day(out, *first)?;
+        rest = after;
+    }
+    Ok(())
+}
+
+#[tactic(auto, unfolding(query_code::specs::QueryFile::numbers))]
+fn put_numbers(out: &mut Vec<u8>, written: &Numbers) -> Result<(), AllocError>
+    requires { numbers.fits written.now }
+    ensures { OnOk result (out.new.items ≡ out.old.items ++ numbers.written written.now) }
+{
+    let counts = written.counts.as_slice();
+    put_byte(out, written.places)?;
+    put_word(out, counts.len() as u16)?;
+    put_counts(out, counts)
+}
+
+#[tactic(auto, unfolding(query_code::specs::QueryFile::constant))]
+fn put_constant(out: &mut Vec<u8>, entry: &Constant<'_>) -> Result<(), AllocError>
+    requires { constant.fits entry.now }
+    ensures { OnOk result (out.new.items ≡ out.old.items ++ constant.written entry.now) }
+{
+    match entry {
+        Constant::Text(text) => {
+            put_byte(out, 1)?;
+            put_text(out, text)
+        }
+        Constant::Number(number) => {
+            put_byte(out, 2)?;
+            put_decimal(out, *number)
+        }
+        Constant::Day(day) => {
+            put_byte(out, 3)?;
+            put_day(out, *day)
+        }
+        Constant::Pattern(pattern) => {
+            put_byte(out, 4)?;
+            put_text(out, pattern)
+        }
+        Constant::Texts(texts) => {
+            let texts = texts.as_slice();
+            put_byte(out, 5)?;
+            put_word(out, texts.len() as u16)?;
+            put_texts(out, texts)
+        }
+        Constant::Numbers(numbers) => {
+            put_byte(out, 6)?;
+            put_numbers(out, numbers)
+        }
+        Constant::Days(days) => {
+            let days = days.as_slice();
+            put_byte(out, 7)?;
+            put_word(out, days.len() as u16)?;
+            put_days(out, days)
+        }
+    }
+}
+
+/// One entry of the pool behind the other.
+fn put_constants(out: &mut Vec<u8>, pool: &[Constant<'_>]) -> Result<(), AllocError>
+    requires { AllFit constant pool.now }
+    ensures { OnOk result (out.new.items ≡ out.old.items ++ all_written constant pool.now) }
+{
+    let mut rest = pool;
+    while let [first, after @ ..] = rest {
+        put_constant(out, first)?;
+        rest = after;
+    }
+    Ok(())
+}
+
+#[tactic(auto, unfolding(query_code::specs::QueryFile::aggregate))]
+fn put_aggregate(out: &mut Vec<u8>, written: Aggregate) -> Result<(), AllocError>
+    ensures { OnOk result (out.new.items ≡ out.old.items ++ aggregate.written written) }
+{
+    match written {
+        Aggregate::CountRows => put_byte(out, 0),
+        Aggregate::Count => put_byte(out, 1),
+        Aggregate::Sum(places) => {
+            put_byte(out, 2)?;
+            put_byte(out, places)
+        }
+        Aggregate::SumInventory(places) => {
+            put_byte(out, 3)?;
+            put_byte(out, places)
+        }
+        Aggregate::First => put_byte(out, 4),
+        Aggregate::Last => put_byte(out, 5),
+        Aggregate::Min => put_byte(out, 6),
+        Aggregate::Max => put_byte(out, 7),
+    }
+}
+
+/// One aggregate behind the other.
+fn put_aggregates(out: &mut Vec<u8>, aggregates: &[Aggregate]) -> Result<(), AllocError>
+    ensures { OnOk result (out.new.items ≡ out.old.items ++ all_written aggregate aggregates.now) }
+{
+    let mut rest = aggregates;
+    while let [first, after @ ..] = rest {
+        put_aggregate(out, *first)?;
+        rest = after;
+    }
+    Ok(())
+}
+
+#[tactic(auto, using(crate::proofs::WrittenFacts::order_written))]
+fn put_order(out: &mut Vec<u8>, order: &[u8]) -> Result<(), AllocError>
+    ensures { (most : ℕ)
+        → OnOk result (out.new.items ≡ out.old.items ++ all_written (place_below most) order.now) }
+{
+    out.extend_from_slice(order)
+}
+
+#[tactic(auto, unfolding(query_code::specs::QueryFile::columns))]
+fn put_columns(
+    out: &mut Vec<u8>,
+    targets: &[Slice<'_>],
+    hidden: u8,
+    order: &[u8],
+) -> Result<(), AllocError>
+    requires { columns.fits (targets.now, (hidden, order.now)) }
+    ensures { OnOk result
+        (out.new.items ≡ out.old.items ++ columns.written (targets.now, (hidden, order.now))) }
+{
+    put_byte(out, targets.len() as u8)?;
+    put_texts(out, targets)?;
+    put_byte(out, hidden)?;
+    put_byte(out, order.len() as u8)?;
+    put_order(out, order)
+}
+
+#[tactic(auto, unfolding(query_code::specs::QueryFile::output))]
+fn put_output(out: &mut Vec<u8>, written: &Output<'_>) -> Result<(), AllocError>
+    requires { output.fits written.now }
+    ensures { OnOk result (out.new.items ≡ out.old.items ++ output.written written.now) }
+{
+    put_flag(out, written.is_distinct)?;
+    put_flag(out, written.is_descending)?;
+    put_limit(out, written.limit)?;
+    let targets = written.targets.as_slice();
+    put_columns(out, targets, written.hidden, written.order.as_slice())
+}
+
+#[tactic(auto, unfolding(query_code::specs::QueryFile::section))]
+fn put_section(out: &mut Vec<u8>, steps: &[Instruction]) -> Result<(), AllocError>
+    requires { section.fits steps.now }
+    ensures { OnOk result (out.new.items ≡ out.old.items ++ section.written steps.now) }
+{
+    put_word(out, steps.len() as u16)?;
+    put_instructions(out, steps)
+}
+
+fn put_grouped_section(
+    out: &mut Vec<u8>,
+    mode: Mode,
+    steps: &[Instruction],
+) -> Result<(), AllocError>
+    requires { (counted (only mode word) instruction).fits steps.now }
+    ensures { OnOk result (out.new.items
+        ≡ out.old.items ++ (counted (only mode word) instruction).written steps.now) }
+{
+    let _ = mode;
+    put_word(out, steps.len() as u16)?;
+    put_instructions(out, steps)
+}
+
+fn put_grouped_aggregates(
+    out: &mut Vec<u8>,
+    mode: Mode,
+    aggregates: &[Aggregate],
+) -> Result<(), AllocError>
+    requires { (counted (only mode byte) aggregate).fits aggregates.now }
+    ensures { OnOk result (out.new.items
+        ≡ out.old.items ++ (counted (only mode byte) aggregate).written aggregates.now) }
+{
+    let _ = mode;
+    put_byte(out, aggregates.len() as u8)?;
+    put_aggregates(out, aggregates)
+}
+
+fn put_pool(out: &mut Vec<u8>, pool: &[Constant<'_>]) -> Result<(), AllocError>
+    requires { (counted word constant).fits pool.now }
+    ensures { OnOk result
+        (out.new.items ≡ out.old.items ++ (counted word constant).written pool.now) }
+{
+    put_word(out, pool.len() as u16)?;
+    put_constants(out, pool)
+}
+
+#[tactic(auto, unfolding(query_code::specs::QueryFile::code))]
+fn put_code(out: &mut Vec<u8>, mode: Mode, written: &Code<'_>) -> Result<(), AllocError>
+    requires { (code mode).fits written.now }
+    ensures { OnOk result (out.new.items ≡ out.old.items ++ (code mode).written written.now) }
+{
+    put_byte(out, written.keys)?;
+    put_grouped_aggregates(out, mode, written.aggregates.as_slice())?;
+    put_pool(out, written.pool.as_slice())?;
+    put_section(out, written.filter.as_slice())?;
+    put_section(out, written.row.as_slice())?;
+    put_grouped_section(out, mode, written.last.as_slice())
+}
+
+#[tactic(auto, unfolding(query_code::specs::QueryFile::bounds))]
+fn put_bounds(out: &mut Vec<u8>, written: Bounds) -> Result<(), AllocError>
+    ensures { OnOk result (out.new.items ≡ out.old.items ++ bounds.written written) }
+{
+    put_long(out, written.postings)?;
+    put_byte(out, written.units_digits)?;
+    put_byte(out, written.value_digits)
+}
+
+#[tactic(auto, unfolding(query_code::specs::QueryFile::parts, query_code::specs::QueryFile::file))]
+fn put_parts(out: &mut Vec<u8>, written: &Parts<'_>) -> Result<(), AllocError>
+    requires { file.fits written.now }
+    ensures { OnOk result (out.new.items ≡ out.old.items ++ file.written written.now) }
+{
+    out.extend_from_slice(b"BQLC\x00\x01")?;
+    put_bounds(out, written.bounds)?;
+    put_mode(out, written.mode)?;
+    put_output(out, &written.output)?;
+    put_code(out, written.mode, &written.code)
+}
+
+/// The file of a program.
+pub fn encode(alloc: Global, program: &Program<'_>) -> Result<Vec<u8>, AllocError>
+    ensures { IfOk result (λ bytes. IsFile bytes.items program.now.parts) }
+{
+    let mut out = Vec::new(alloc);
+    put_parts(&mut out, &program.parts)?;
+    Ok(out)
+}
