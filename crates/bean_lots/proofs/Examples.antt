@@ -1,7 +1,5 @@
 -- The definitions at worked values.
-use Rattle.std.proofs.Common.{◌≡◌, ◌<◌, ◌≤◌, ◌^◌, ℕ, ℤ, pos, negsuc, List, [], ◌∷◌, Option, Some, None, codes, refl, rules, arith}
-use Rattle.std.specs.Int.RustNames.{unsigned_abs}
-use Rattle.std.proofs.lemmas.Int.{ints}
+use Rattle.std.proofs.Common.{◌≡◌, ◌<◌, ◌≤◌, ◌^◌, ℕ, ℤ, pos, negsuc, List, [], ◌∷◌, Some, None, codes, refl, arith}
 use Rattle.bean_base.proofs.WorkedDays.{january_2, january_3, january_2_number}
 use Rattle.bean_base.specs.declared.days.Day.{Day}
 use Rattle.bean_lots.specs.declared.lot.Cost.{Cost}

@@ -1,6 +1,7 @@
 pub mod LotFacts
 pub mod SoughtFacts
 pub mod InventoryFacts
+pub mod NegativeFacts
 pub mod FillingFacts
 pub mod InTurn
 pub mod TakeFacts

@@ -7,7 +7,6 @@ use Rattle.std.specs.Option.{option_eq}
 use Rattle.bean_base.specs.Day.{number}
 use Rattle.bean_lots.specs.Lot.{same_text, same_cost}
 use Rattle.bean_lots.specs.declared.lot.Lot.{Lot}
-use Rattle.bean_lots.specs.declared.lot.Key.{Key}
 use Rattle.bean_lots.specs.declared.lot.Position.{Position}
 use Rattle.bean_base.specs.declared.days.Day.{Day}
 use Rattle.bean_lots.specs.declared.lot.Cost.{Cost}

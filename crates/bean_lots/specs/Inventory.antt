@@ -1,5 +1,6 @@
 -- An inventory as the list of its positions, in order of entry.
-use Rattle.std.specs.Prelude.{◌≡◌, false, List, [], ◌∷◌, ◌++◌, ℤ, pos, ◌+ℤ◌, if◌then◌else◌}
+use Rattle.std.specs.Prelude.{◌≡◌, ◌^◌, ◌<◌, false, List, [], ◌∷◌, ◌++◌, ℤ, pos, neg_ℤ, ◌+ℤ◌, if◌then◌else◌}
+use Rattle.std.specs.Int.RustNames.{unsigned_abs}
 use Rattle.std.specs.Ordering.{int_eq}
 use Rattle.std.specs.List.{AllByRecursion}
 use Rattle.bean_lots.specs.Lot.{same_key}
@@ -19,6 +20,13 @@ held_as k n = if int_eq n (pos 0) then [] else record { key = k; count = n } ∷
 abbrev pub added : List Position → Key → ℤ → List Position
 added [] k n = held_as k n
 added (e ∷ es) k n = if same_key k e.key then held_as e.key (e.count +ℤ n) ++ es else e ∷ added es k n
+
+-- the entry of the other sign
+abbrev pub negative_entry : Position → Position
+negative_entry e = record { key = e.key; count = neg_ℤ e.count }
+
+abbrev pub MayBeNegated : Position → Type 0
+MayBeNegated e = unsigned_abs e.count < 2 ^ 127
 
 abbrev pub DiffersFrom : Key → Position → Type 0
 DiffersFrom k e = same_key k e.key ≡ false

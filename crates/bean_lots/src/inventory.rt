@@ -1,11 +1,11 @@
 //! Inventories: what an account holds of each currency, in lots or without one.
-ghost use Rattle.std.specs.Prelude.{◌≡◌, ◌+ℤ◌, ◌<◌, ◌++◌, ◌∷◌, [], OnOk, OnErr, IsTrue, ◌↔◌, List, ℤ, pos, position, if◌then◌else◌, length, take, drop, suc, slice_index_or};
+ghost use Rattle.std.specs.Prelude.{All, map, ◌≡◌, ◌+ℤ◌, ◌<◌, ◌++◌, ◌∷◌, [], OnOk, OnErr, IsTrue, ◌↔◌, List, ℤ, pos, position, if◌then◌else◌, length, take, drop, suc, slice_index_or};
 ghost use Rattle.std.specs.Int.{w128};
 ghost use Rattle.std.specs.Int.RustNames.{FitsSigned};
 ghost use Rattle.bean_lots.specs.Lot.{same_key};
 ghost use Rattle.bean_lots.specs.declared.lot.Key.{Key};
 ghost use Rattle.bean_lots.specs.declared.lot.Position.{Position};
-ghost use Rattle.bean_lots.specs.Inventory.{count_of, held_as, added, IsInventory};
+ghost use Rattle.bean_lots.specs.Inventory.{count_of, held_as, added, negative_entry, MayBeNegated, IsInventory};
 ghost use Rattle.bean_lots.specs.Sought.{IsSought};
 
 use crate::lot::{Key, Position};
@@ -112,6 +112,15 @@ fn add_in<'a>(entries: &mut Vec<Position<'a>>, key: Key<'a>, count: i128) -> Res
     }
 }
 
+fn negate_in(entries: &mut [Position<'_>])
+    requires { All MayBeNegated entries.old }
+    ensures { entries.new ≡ map negative_entry entries.old }
+{
+    for entry in entries.iter_mut() {
+        entry.count = -entry.count;
+    }
+}
+
 impl<'a> Inventory<'a> {
     /// The inventory that holds nothing.
     pub fn new(alloc: Global) -> Inventory<'a>
@@ -139,8 +148,16 @@ impl<'a> Inventory<'a> {
         add_in(&mut self.entries, key, count)
     }
 
+    /// Changes the sign of every count. None is the least of 128 bits.
+    pub fn negate(&mut self)
+        requires { All MayBeNegated self.old }
+        ensures { self.new ≡ map negative_entry self.old }
+    {
+        negate_in(self.entries.as_mut_slice());
+    }
+
     /// The entries, in order of entry.
-    pub(crate) fn entries(&self) -> &[Position<'a>]
+    pub fn entries(&self) -> &[Position<'a>]
         ensures { result.now ≡ self.now }
     {
         self.entries.as_slice()

@@ -1,2 +1,1 @@
 pub mod DecimalsFacts
-pub mod TextSetFacts

@@ -2,4 +2,3 @@ pub mod Column
 pub mod Row
 pub mod Decimals
 pub mod Ledger
-pub mod TextSet

@@ -1,10 +1,9 @@
 //! What stands in the cells of a table.
 ghost use Rattle.std.specs.Prelude.{◌≡◌};
 
-use crate::lent::Lent;
-use crate::text_set::TextSet;
 use bean_base::{Currency, Day, Decimal, Slice};
 use bean_lots::Position;
+use query_values::{Lent, TextSet};
 
 /// What stands in a cell, lent from where it is kept.
 #[derive(Debug, Drop)]

@@ -22,10 +22,9 @@
 //! # Cells
 //!
 //! What a row has in a [`Column`] is a [`Cell`], which is lent from where the row is kept: names and
-//! texts as slices, sets and positions by reference ([`Lent`]). Contracts see what is lent as the
-//! thing itself, so a cell is the value that they speak of. The numbers of cells are `Decimal`s, which
-//! have room for each number that a query computes. A [`TextSet`] has each of its texts once, in the
-//! order of their bytes.
+//! texts as slices, sets and positions by reference (`Lent`). Contracts see what is lent as the thing
+//! itself, so a cell is the value that they speak of. The numbers of cells are `Decimal`s, which have
+//! room for each number that a query computes.
 //!
 //! # What may be asked
 //!
@@ -42,14 +41,10 @@ mod cell;
 mod column;
 mod display;
 mod ledger;
-mod lent;
 mod row;
-mod text_set;
 
 pub use cell::Cell;
 pub use column::Column;
 pub use display::Display;
 pub use ledger::{Ledger, MOST_POSTINGS};
-pub use lent::Lent;
 pub use row::Row;
-pub use text_set::TextSet;

@@ -4,9 +4,9 @@ ghost use Rattle.posting_table.specs.Row.{cell_at};
 
 use crate::cell::Cell;
 use crate::column::Column;
-use crate::lent::Lent;
 use bean_base::{Account, Day, Flag, Slice};
 use bean_lots::Position;
+use query_values::Lent;
 
 /// A booked posting, with what it has from its transaction.
 #[derive(Debug, Drop, PartialEq, Eq)]

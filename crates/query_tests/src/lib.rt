@@ -1,5 +1,8 @@
-//! Query files written and read, by the libraries' public calls, with ample memory.
+//! Query files written and read, and the values of queries, by the libraries' public calls, with
+//! ample memory.
 #![tactic(auto)]
 
 #[cfg(test)]
 mod query_files;
+#[cfg(test)]
+mod values;

@@ -11,7 +11,8 @@ ghost use Rattle.table_printer.specs.CellText.{cell_text, clean_text, is_number,
 use crate::digits::{push_day, push_number};
 use crate::positions::{position_width, push_position};
 use bean_base::{Currency, Decimal};
-use posting_table::{Cell, Display, TextSet};
+use posting_table::{Cell, Display};
+use query_values::TextSet;
 use std::alloc::{AllocError, Global};
 use unicode_width::UnicodeWidthStr;
 

@@ -6,7 +6,8 @@ use bean_base::{
     parse_day,
 };
 use bean_lots::{Cost, Key, Lot, Position};
-use posting_table::{Cell, Column, Display, Ledger, Lent, Row, TextSet};
+use posting_table::{Cell, Column, Display, Ledger, Row};
+use query_values::{Lent, TextSet};
 use std::alloc::{AllocError, Global};
 use std::test::Fail;
 use table_printer::{Answer, print};

@@ -1,5 +1,4 @@
-use Rattle.std.proofs.Common.{◌≡◌, to_z, of_z, arith}
-use Rattle.std.specs.Int.{w128}
+use Rattle.std.proofs.Common.{arith}
 use Rattle.std.proofs.lemmas.Int.{ints}
 use Rattle.bean_lots.proofs.LotFacts.{one_cost}
 use Rattle.bean_lots.proofs.lot.Cost.lend.Goals as goal

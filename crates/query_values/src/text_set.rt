@@ -3,7 +3,7 @@ ghost use Rattle.std.specs.Prelude.{◌≡◌};
 ghost use Rattle.std.specs.Cmp.Lexicographic.{slice_cmp};
 ghost use Rattle.std.specs.List.Sorted.{IsStrictlySortedBy};
 ghost use Rattle.std.specs.Ordering.{nat_cmp};
-ghost use Rattle.posting_table.specs.TextSet.{HasMembersOf};
+ghost use Rattle.query_values.specs.TextSet.{HasMembersOf};
 
 use bean_base::Slice;
 use std::marker::Model;

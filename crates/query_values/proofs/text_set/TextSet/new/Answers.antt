@@ -7,8 +7,8 @@ use Rattle.std.specs.Str.{bytes_eq}
 use Rattle.std.proofs.lemmas.List.Filters.{dedup_is}
 use Rattle.std.proofs.lemmas.List.Kept.{IsStrictlySortedBy-dedup}
 use Rattle.std.proofs.lemmas.List.Sorted.{list_any-IsPermutation}
-use Rattle.posting_table.proofs.TextSetFacts.{kept}
-use Rattle.posting_table.proofs.text_set.TextSet.new.Goals as goal
+use Rattle.query_values.proofs.TextSetFacts.{kept}
+use Rattle.query_values.proofs.text_set.TextSet.new.Goals as goal
 
 pub invariant_of-result : goal.invariant_of-result
 invariant_of-result c =

@@ -1,0 +1,6 @@
+use Rattle.query_values.proofs.TotalFacts.{IsUpTo}
+use Rattle.query_values.specs.Total.{at_cost}
+use Rattle.query_values.proofs.bag.cost_in.Given as goal
+
+abbrev pub invariant-loop-entry : goal.invariant-loop-entry
+invariant-loop-entry l = IsUpTo at_cost l.fn.entries l.held l.entry-index

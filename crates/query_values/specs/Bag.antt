@@ -1,0 +1,15 @@
+-- Inventories with their decimals, of the other sign, without their lots and at cost.
+use Rattle.std.specs.Prelude.{◌+◌, map}
+use Rattle.bean_lots.specs.Inventory.{negative_entry}
+use Rattle.query_values.specs.Total.{units_total, cost_total}
+use Rattle.query_values.specs.declared.bag.Bag.{Bag}
+
+abbrev pub negative_bag : Bag → Bag
+negative_bag b = record { places = b.places; held = map negative_entry b.held }
+
+abbrev pub bag_units : Bag → Bag
+bag_units b = record { places = b.places; held = units_total b.held }
+
+-- costs have 8 decimals of their own
+abbrev pub bag_cost : Bag → Bag
+bag_cost b = record { places = b.places + 8; held = cost_total b.held }

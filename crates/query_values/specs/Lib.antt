@@ -1,0 +1,14 @@
+pub mod TextSet
+pub mod Pattern
+pub mod Component
+pub mod Total
+pub mod Bag
+pub mod Equality
+pub mod Order
+pub mod Arithmetic
+pub mod Held
+pub mod Choice
+pub mod Unary
+pub mod Operand
+pub mod Operation
+pub mod Aggregate

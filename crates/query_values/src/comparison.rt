@@ -1,0 +1,156 @@
+//! Comparisons of values.
+ghost use Rattle.std.specs.Prelude.{◌≡◌};
+ghost use Rattle.std.specs.Cmp.{IsEquivalence, IsTotalOrder};
+ghost use Rattle.std.specs.Cmp.Lexicographic.{pointwise};
+ghost use Rattle.std.specs.List.{list_all};
+ghost use Rattle.bean_lots.specs.Lot.{same_text};
+ghost use Rattle.query_values.specs.Equality.{agree_at, same, same_bag};
+ghost use Rattle.query_values.specs.Order.{is_at_most, is_less, is_null, kind_rank, order_of};
+ghost use Rattle.query_values.specs.Operation.{is_true};
+
+use crate::bag::Bag;
+use crate::number::{number_order, same_number};
+use crate::value::Value;
+use bean_base::Slice;
+use bean_lots::Position;
+use std::cmp::Ordering;
+
+/// Whether it is null.
+pub fn is_null(x: &Value<'_>) -> bool
+    ensures { result ≡ is_null x.now }
+{
+    matches!(x, Value::Null)
+}
+
+/// Whether it is the truth value that is true.
+pub fn is_true(x: &Value<'_>) -> bool
+    ensures { result ≡ is_true x.now }
+{
+    matches!(x, Value::Truth(true))
+}
+
+/// Whether two lists have the same texts in the same order.
+fn same_texts(a: &[Slice<'_>], b: &[Slice<'_>]) -> bool
+    ensures { result ≡ pointwise same_text a.now b.now }
+{
+    a == b
+}
+
+/// Whether two inventories have the same count under the key of each of these entries.
+fn agree_at(entries: &[Position<'_>], a: &Bag<'_>, b: &Bag<'_>) -> bool
+    ensures { result ≡ list_all (agree_at a.now b.now) entries.now }
+{
+    entries.iter().all(|e| {
+        same_number(a.places, a.held.get(&e.key), b.places, b.held.get(&e.key))
+    })
+}
+
+fn same_bag(a: &Bag<'_>, b: &Bag<'_>) -> bool
+    ensures { result ≡ same_bag a.now b.now }
+{
+    agree_at(a.held.entries(), a, b) && agree_at(b.held.entries(), a, b)
+}
+
+/// Whether two values are the same. Null is the same as null; numbers, amounts and inventories are
+/// told by value, whatever their decimals.
+pub fn equal(a: &Value<'_>, b: &Value<'_>) -> bool
+    ensures { result ≡ same a.now b.now }
+{
+    match (a, b) {
+        (Value::Null, Value::Null) => true,
+        (Value::Truth(a), Value::Truth(b)) => a == b,
+        (
+            Value::Number {
+                places: p,
+                count: m,
+            },
+            Value::Number {
+                places: q,
+                count: n,
+            },
+        ) => same_number(*p, *m, *q, *n),
+        (Value::Text(a), Value::Text(b)) => a == b,
+        (Value::Day(a), Value::Day(b)) => a == b,
+        (Value::Set(a), Value::Set(b)) => same_texts(a.get().as_slice(), b.get().as_slice()),
+        (
+            Value::Amount {
+                places: p,
+                count: m,
+                currency: c,
+            },
+            Value::Amount {
+                places: q,
+                count: n,
+                currency: d,
+            },
+        ) => same_number(*p, *m, *q, *n) && c == d,
+        (Value::Position { key: j, count: m }, Value::Position { key: k, count: n }) => {
+            j.get() == k.get() && m == n
+        }
+        (Value::Inventory(a), Value::Inventory(b)) => same_bag(a, b),
+        _ => false,
+    }
+}
+
+/// The place of a value's kind among the kinds.
+fn kind_rank(x: &Value<'_>) -> u8
+    ensures { result ≡ kind_rank x.now }
+{
+    match x {
+        Value::Null => 0,
+        Value::Truth(_) => 1,
+        Value::Number { .. } => 2,
+        Value::Text(_) => 3,
+        Value::Day(_) => 4,
+        Value::Set(_) => 5,
+        Value::Amount { .. } => 6,
+        Value::Position { .. } => 7,
+        Value::Inventory(_) => 8,
+    }
+}
+
+/// The order of two values: null first, numbers by value, texts by their bytes, days by their
+/// number. Values of other kinds stand in the order of their kinds.
+pub fn compare(a: &Value<'_>, b: &Value<'_>) -> Ordering
+    ensures { result ≡ order_of a.now b.now }
+{
+    match (a, b) {
+        (
+            Value::Number {
+                places: p,
+                count: m,
+            },
+            Value::Number {
+                places: q,
+                count: n,
+            },
+        ) => number_order(*p, *m, *q, *n),
+        (Value::Text(a), Value::Text(b)) => a.cmp(b),
+        (Value::Day(a), Value::Day(b)) => a.cmp(b),
+        _ => kind_rank(a).cmp(&kind_rank(b)),
+    }
+}
+
+/// Whether neither is null, and `a` is less than `b`.
+pub fn less(a: &Value<'_>, b: &Value<'_>) -> bool
+    ensures { result ≡ is_less a.now b.now }
+{
+    !is_null(a) && !is_null(b) && compare(a, b) == Ordering::Less
+}
+
+/// Whether neither is null, and `a` is less than `b` or the same.
+pub fn at_most(a: &Value<'_>, b: &Value<'_>) -> bool
+    ensures { result ≡ is_at_most a.now b.now }
+{
+    !is_null(a) && !is_null(b) && compare(b, a) != Ordering::Less
+}
+
+/// The order of values is total.
+pub fn values_are_in_order()
+    ensures { IsTotalOrder order_of }
+{}
+
+/// Being the same is an equivalence.
+pub fn being_the_same_is_an_equivalence()
+    ensures { IsEquivalence same }
+{}

@@ -1,0 +1,68 @@
+//! The values of queries, and the operations on them.
+//!
+//! ```text
+//! let a = Value::Number { places: 2, count: 1_250 };        // 12.50
+//! let b = Value::Number { places: 2, count: 50 };
+//! let sum = arithmetic::add(&a, &b);                        // 13.00
+//! let is_less = comparison::less(&b, &a);                   // true
+//! let parent = part::parent(&Value::Text(Slice::new("Assets:Cash")));   // Assets
+//!
+//! let pattern = Pattern::new(alloc, "cash$")?;
+//! let mut finder = pattern.finder(alloc)?;                  // one for each run
+//! let is_cash = membership::matches(&account, &mut finder);
+//!
+//! let mut total = Aggregate::SumInventory(8).start(alloc);
+//! Aggregate::SumInventory(8).add(&mut total, &position)?;   // one input after the other
+//! ```
+//!
+//! # Values
+//!
+//! A [`Value`] is null, a truth value, a number, a text, a day, a set of texts, an amount, a position
+//! or an inventory. Names, texts, sets and the keys of positions are lent from where they are kept
+//! ([`Lent`]), so that a value is small and an operation on numbers or texts takes no memory; an
+//! inventory ([`Bag`]) owns its entries. A value is itself what contracts speak of: its counts and
+//! decimals have no bounds of their own, and `is_held` says which values a machine can hold.
+//!
+//! # Null
+//!
+//! Null is the same as null, and comes first. Comparisons with it but `equal`, patterns and
+//! memberships are false; arithmetic and parts of it are null.
+//!
+//! # What may be asked
+//!
+//! An operation that computes counts wants to know that its result is held: at most 32 decimals, and
+//! a count of at most `2^127 - 1`, sign left off. `align`, `add` and `sub` want numbers whose decimals
+//! fit, and `root` at least one component. For units and costs of an inventory no sum on the way may
+//! be too large. All else takes any value.
+//!
+//! # Faults
+//!
+//! `C2` ([`PatternFault`]), where a text is no regular expression or one that would be too large.
+//! Otherwise memory may lack, for patterns and for inventories alone.
+//!
+//! # Cost
+//!
+//! An operation takes a few steps; on texts it is linear in the text, on a list in the list, and on
+//! inventories each entry is looked up by going through the others.
+#![tactic(auto)]
+
+pub mod arithmetic;
+pub mod bag;
+pub mod comparison;
+mod component;
+pub mod gathering;
+pub mod lent;
+pub mod membership;
+mod number;
+pub mod operation;
+pub mod part;
+pub mod pattern;
+pub mod text_set;
+pub mod value;
+
+pub use bag::Bag;
+pub use lent::Lent;
+pub use operation::{Aggregate, Binary};
+pub use pattern::{Finder, Pattern, PatternFault};
+pub use text_set::TextSet;
+pub use value::Value;

@@ -1,0 +1,92 @@
+//! Patterns: regular expressions that match without regard to case.
+ghost use Rattle.std.specs.Prelude.{◌≡◌, IfOk};
+ghost use Rattle.query_values.specs.Pattern.{is_found};
+
+use regex::{Matcher, Regex, RegexBuilder};
+use std::alloc::{AllocError, Global};
+use std::marker::Model;
+use thiserror::Error;
+
+/// What keeps a text from being a pattern.
+#[derive(Clone, Copy, Debug, Drop, PartialEq, Eq, Error)]
+pub enum PatternFault {
+    /// It is no regular expression, or one that would be too large.
+    #[error("C2 pattern")]
+    Refused,
+    #[error("out of memory")]
+    OutOfMemory,
+}
+
+/// A regular expression, built to be searched for without regard to case. Its value is the text
+/// that writes it.
+#[derive(Drop)]
+pub struct Pattern {
+    regex: Regex,
+}
+
+impl Model for Pattern {
+    ghost use Rattle.std.specs.Prelude.{◌≡◌, ℕ, List};
+    ghost use Rattle.regex.specs.Strings.{regex_config, regex_source, IsReadFromSource};
+    ghost use Rattle.query_values.specs.Pattern.{any_case};
+
+    ghost Value = { List ℕ };
+
+    ghost view = { λ p. regex_source p.regex };
+
+    ghost invariant = { λ p. (regex_config p.regex ≡ any_case) × IsReadFromSource p.regex };
+}
+
+/// What searches for a pattern: it keeps the memory that a search needs. Its value is the text that
+/// writes the pattern.
+#[derive(Drop)]
+pub struct Finder<'p> {
+    regex: &'p Regex,
+    matcher: Matcher<'p>,
+}
+
+impl<'p> Model for Finder<'p> {
+    ghost use Rattle.std.specs.Prelude.{◌≡◌, ℕ, List};
+    ghost use Rattle.regex.specs.Strings.{matcher_pattern, regex_config, regex_pattern, regex_source, IsReadFromSource};
+    ghost use Rattle.query_values.specs.Pattern.{any_case};
+
+    ghost Value = { List ℕ };
+
+    ghost view = { λ f. regex_source f.regex.now };
+
+    ghost invariant = { λ f. (regex_config f.regex.now ≡ any_case)
+        × IsReadFromSource f.regex.now × (matcher_pattern f.matcher ≡ regex_pattern f.regex.now) };
+}
+
+impl Pattern {
+    /// The pattern that a text writes.
+    pub fn new(alloc: Global, text: &str) -> Result<Pattern, PatternFault>
+        ensures { IfOk result (λ p. p ≡ text.now) }
+    {
+        match RegexBuilder::new(text).case_insensitive(true).build(alloc) {
+            Ok(regex) => Ok(Pattern { regex }),
+            Err(regex::Error::OutOfMemory) => Err(PatternFault::OutOfMemory),
+            Err(_) => Err(PatternFault::Refused),
+        }
+    }
+
+    /// What searches for it.
+    pub fn finder(&self, alloc: Global) -> Result<Finder<'_>, AllocError>
+        ensures { IfOk result (λ f. f ≡ self.now) }
+    {
+        let matcher = self.regex.matcher(alloc)?;
+        Ok(Finder {
+            regex: &self.regex,
+            matcher,
+        })
+    }
+}
+
+impl Finder<'_> {
+    /// Whether the pattern is found somewhere in a text.
+    pub fn finds(&mut self, text: &str) -> bool
+        ensures found { result ≡ is_found self.old text.now }
+        ensures same { self.new ≡ self.old }
+    {
+        self.matcher.is_match(text)
+    }
+}
