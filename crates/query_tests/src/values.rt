@@ -2,8 +2,9 @@
 
 use bean_base::{Slice, parse_currency};
 use bean_lots::{Inventory, Key};
-use query_values::{Aggregate, Bag, Lent, Pattern, PatternFault, TextSet, Value};
-use query_values::{arithmetic, membership, part};
+use query_values::{
+    Aggregate, Bag, Lent, Pattern, PatternFault, TextSet, Value, arithmetic, membership, part,
+};
 use std::alloc::Global;
 use std::test::Fail;
 
@@ -29,10 +30,7 @@ fn number(value: &Value<'_>) -> Option<(u8, i128)> {
 fn finds(alloc: Global, pattern: &str, text: &str) -> Result<bool, Fail> {
     let pattern = Pattern::new(alloc, pattern).ok().ok_or("a pattern")?;
     let mut finder = pattern.finder(alloc)?;
-    Ok(membership::matches(
-        &Value::Text(Slice::new(text)),
-        &mut finder,
-    ))
+    Ok(membership::matches(&Value::Text(Slice::new(text)), &mut finder))
 }
 
 fn finds_member(alloc: Global, pattern: &str, set: &Value<'_>) -> Result<bool, Fail> {
