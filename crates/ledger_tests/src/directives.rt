@@ -37,7 +37,10 @@ fn accounts_and_numbers(rt: HostRuntime) -> Result<(), Fail> {
     assert!(rt; open.account.text() == "Assets:Cash");
     assert_eq!(rt; open.currencies.as_slice().len(), 2);
     assert!(rt; open.currencies.as_slice()[1].text() == "CAD");
-    assert_eq!(rt; parsed.directives.as_slice()[0].metadata.as_slice().len(), 1);
+    assert_eq!(rt;
+        parsed.directives.as_slice()[0].metadata.as_slice().len(),
+        1
+    );
     let Some(DirectiveKind::Close(_)) = kind_at(&parsed, 1) else {
         return Err(Fail::from("a close"));
     };
@@ -62,6 +65,7 @@ fn accounts_and_numbers(rt: HostRuntime) -> Result<(), Fail> {
 #[test]
 fn texts_over_lines(rt: HostRuntime) -> Result<(), Fail> {
     let parsed = parse(rt.alloc(), DATED)?;
+    assert_eq!(rt; parsed.directives.as_slice().len(), 11);
     let Some(DirectiveKind::Note(note)) = kind_at(&parsed, 5) else {
         return Err(Fail::from("a note"));
     };
@@ -90,7 +94,8 @@ fn texts_over_lines(rt: HostRuntime) -> Result<(), Fail> {
 
 #[test]
 fn settings_and_ignored_lines(rt: HostRuntime) -> Result<(), Fail> {
-    let text = "option \"title\" \"T\"\noption \"operating_currency\" \"USD\"\noption \"booking_method\" \"FIFO\"\ninclude \"b\"\nplugin \"p\" \"x\"\noption \"other\" \"x\"\n";
+    let text =
+        "option \"title\" \"T\"\noption \"operating_currency\" \"USD\"\noption \"booking_method\" \"FIFO\"\ninclude \"b\"\nplugin \"p\" \"x\"\noption \"other\" \"x\"\n";
     let parsed = parse(rt.alloc(), text)?;
     assert_eq!(rt; parsed.settings.as_slice().len(), 4);
     let SettingKind::Include(name) = &parsed.settings.as_slice()[3].kind else {
@@ -118,24 +123,35 @@ fn counts_at(parsed: &Parsed<'_>, index: usize) -> Option<(usize, usize)> {
 
 #[test]
 fn pushes_and_pops(rt: HostRuntime) -> Result<(), Fail> {
-    let text = "pushtag #a\npushmeta k: 1\n2014-01-01 * \"x\" #own\n  k: 2\n  Assets:Cash\n    p: 3\n  #late ^link\npushtag #a\n2014-01-02 *\npoptag #a\n2014-01-03 *\npoptag #a\npopmeta k:\n2014-01-04 *\npoptag #a\npushtag #open\n2014-01-05 *\n";
+    let text =
+        "pushtag #a\npushmeta k: 1\n2014-01-01 * \"x\" #own\n  k: 2\n  Assets:Cash\n    p: 3\n  #late ^link\npushtag #a\n2014-01-02 *\npoptag #a\n2014-01-03 *\npoptag #a\npopmeta k:\n2014-01-04 *\npoptag #a\npushtag #open\n2014-01-05 *\n";
     let parsed = parse(rt.alloc(), text)?;
     assert_eq!(rt; counts_at(&parsed, 0), Some((4, 2)));
     assert_eq!(rt; counts_at(&parsed, 1), Some((2, 1)));
     assert_eq!(rt; counts_at(&parsed, 2), Some((1, 1)));
     assert_eq!(rt; counts_at(&parsed, 3), Some((0, 0)));
     assert_eq!(rt; counts_at(&parsed, 4), Some((0, 0)));
+    assert_eq!(rt; parsed.directives.as_slice().len(), 5);
     let DirectiveKind::Transaction(first) = &parsed.directives.as_slice()[0].kind else {
         return Err(Fail::from("a transaction"));
     };
+    assert_eq!(rt; first.marks.as_slice().len(), 4);
+    assert_eq!(rt; first.postings.as_slice().len(), 1);
     assert!(rt; matches!(first.marks.as_slice()[2], Mark::Link(_)));
     assert_eq!(rt; first.postings.as_slice()[0].metadata.as_slice().len(), 1);
+    assert_eq!(rt;
+        parsed.directives.as_slice()[0].metadata.as_slice().len(),
+        2
+    );
     let Value::Number(own) = &parsed.directives.as_slice()[0].metadata.as_slice()[0].value else {
         return Err(Fail::from("a number"));
     };
     assert_eq!(rt; own.count, 2);
     assert_eq!(rt; parsed.faults.as_slice().len(), 2);
-    assert_eq!(rt; parsed.faults.as_slice()[0].kind, FaultKind::UnmatchedPushOrPop);
+    assert_eq!(rt;
+        parsed.faults.as_slice()[0].kind,
+        FaultKind::UnmatchedPushOrPop
+    );
     assert_eq!(rt; parsed.faults.as_slice()[0].line, 15);
     assert_eq!(rt; parsed.faults.as_slice()[1].line, 16);
     Ok(())
@@ -143,7 +159,8 @@ fn pushes_and_pops(rt: HostRuntime) -> Result<(), Fail> {
 
 #[test]
 fn near_to_directives(rt: HostRuntime) -> Result<(), Fail> {
-    let text = "2014-01-01 open Assets:Cash USD,\n2014-01-01 close\n2014-01-01 balance Assets:Cash 1 ~ -1 USD\n2014-01-01 balance Assets:Cash 1\n2014-01-01 pad Assets:Cash\n2014-01-01 note \"x\"\n2014-01-01 price USD CAD\n2014-01-01 event \"x\"\n2014-01-01 open Assets:Cash\n  Assets:Cash 1 USD\ninclude \"x\"\n  k: 1\npushtag\n  Assets:Cash 1 USD\n2014-01-01 open Assets:Cash\n  #tag\n";
+    let text =
+        "2014-01-01 open Assets:Cash USD,\n2014-01-01 close\n2014-01-01 balance Assets:Cash 1 ~ -1 USD\n2014-01-01 balance Assets:Cash 1\n2014-01-01 pad Assets:Cash\n2014-01-01 note \"x\"\n2014-01-01 price USD CAD\n2014-01-01 event \"x\"\n2014-01-01 open Assets:Cash\n  Assets:Cash 1 USD\ninclude \"x\"\n  k: 1\npushtag\n  Assets:Cash 1 USD\n2014-01-01 open Assets:Cash\n  #tag\n";
     let parsed = parse(rt.alloc(), text)?;
     assert_eq!(rt; parsed.directives.as_slice().len(), 0);
     assert_eq!(rt; parsed.settings.as_slice().len(), 0);
