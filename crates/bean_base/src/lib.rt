@@ -1,5 +1,6 @@
-//! What the books are made of: exact decimal numbers, accounts, currencies, amounts, quoted texts and
-//! days, each with the call that reads it from a text, and the faults of a ledger with their places.
+//! What the books are made of: exact decimal numbers, accounts, currencies, amounts, quoted texts
+//! and days, each with the call that reads it from a text, and the faults of a ledger with their
+//! places.
 //!
 //! ```text
 //! let usd = parse_currency("USD")?;
@@ -13,10 +14,10 @@
 //!
 //! # Slices
 //!
-//! A name or a text is a slice of the text that it was read from, and takes no memory. Contracts see
-//! its bytes, wherever they lie ([`Slice`], [`Account`], [`Currency`]), or what the text stands for
-//! ([`Text`]), so a struct or an enum of them is itself the value that contracts speak of. Such a
-//! value can't be `Copy`: `lend` gives it once more.
+//! A name or a text is a slice of the text that it was read from, and takes no memory. Contracts
+//! see its bytes, wherever they lie ([`Slice`], [`Account`], [`Currency`]), or what the text stands
+//! for ([`Text`]), so a struct or an enum of them is itself the value that contracts speak of. Such
+//! a value can't be `Copy`: `lend` gives it once more.
 //!
 //! # Faults
 //!

@@ -1,5 +1,6 @@
 //! Quoted texts: as they are written, and what they stand for.
-ghost use Rattle.std.specs.Prelude.{◌≡◌, ◌<◌, ◌≤◌, [], ◌∷◌, ◌++◌, nat_eq, length, IfSome, MatchOption, IfOk, OnOk};
+ghost use Rattle.std.specs.Prelude.{◌≡◌, ◌<◌, ◌≤◌, [], ◌∷◌, ◌++◌, nat_eq, length, IfSome};
+ghost use Rattle.std.specs.Prelude.{MatchOption, IfOk, OnOk};
 ghost use Rattle.std.specs.String.{string_bytes};
 ghost use Rattle.std.specs.List.{list_any};
 ghost use Rattle.std.specs.Cmp.Lexicographic.{pointwise, nat_list_eq_equiv};
@@ -106,8 +107,8 @@ fn split_at_escape(written: &str) -> Option<(&str, &str)>
     }
 }
 
-/// Adds what an escape stands for, and tells what is written behind it. Of an escape whose character
-/// stands for itself that character is left.
+/// Adds what an escape stands for, and tells what is written behind it. Of an escape whose
+/// character stands for itself that character is left.
 fn add_escape<'t>(out: &mut String, behind: &'t str) -> Result<&'t str, AllocError>
     ensures read { IfOk result (λ rest. string_bytes out.new ++ read_text rest.now
         ≡ string_bytes out.old ++ read_text (backslash ∷ behind.now)) }

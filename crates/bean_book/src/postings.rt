@@ -1,9 +1,11 @@
 //! The postings of transactions as a ledger.
-ghost use Rattle.std.specs.Prelude.{◌≡◌, ◌<◌, ◌≤◌, ◌+◌, ◌++◌, ◌∷◌, [], ℕ, Err, List, OnOk, map, max, length, if◌then◌else◌};
+ghost use Rattle.std.specs.Prelude.{◌≡◌, ◌<◌, ◌≤◌, ◌+◌, ◌++◌, ◌∷◌, [], ℕ, Err, List, OnOk, map};
+ghost use Rattle.std.specs.Prelude.{max, length, if◌then◌else◌};
 ghost use Rattle.std.specs.Str.{bytes_eq};
 ghost use Rattle.posting_table.specs.Decimals.{decimals_of};
 ghost use Rattle.std.specs.List.{flat_map, list_all};
-ghost use Rattle.bean_book.specs.Flattening.{is_plain, counted, postings_in, position_of, rows_in, decimals_from, row_of_amount, rows_of_posting};
+ghost use Rattle.bean_book.specs.Flattening.{is_plain, counted, postings_in, position_of, rows_in};
+ghost use Rattle.bean_book.specs.Flattening.{decimals_from, row_of_amount, rows_of_posting};
 ghost use Rattle.bean_book.specs.Booked.{Books};
 
 use bean_base::{Account, Amount, Day, Flag};
@@ -105,7 +107,8 @@ fn push_posting<'a>(
     posting: &Posting<'a>,
 ) -> Result<(), BookFault>
     requires { length ledger.old.rows ≤ MOST_POSTINGS }
-    ensures rows { OnOk result (ledger.new.rows ≡ ledger.old.rows ++ rows_of_posting day flag posting.now) }
+    ensures rows { OnOk result
+        (ledger.new.rows ≡ ledger.old.rows ++ rows_of_posting day flag posting.now) }
     ensures room { OnOk result (length ledger.new.rows ≤ MOST_POSTINGS) }
     ensures decimals { OnOk result ((name : List ℕ) → decimals_of ledger.new.decimals name
         ≡ decimals_from (decimals_of ledger.old.decimals name) name (posting.now ∷ [])) }
@@ -130,12 +133,14 @@ fn push_postings<'a>(
     postings: &[Posting<'a>],
 ) -> Result<(), BookFault>
     requires { length ledger.old.rows ≤ MOST_POSTINGS }
-    ensures rows { OnOk result (ledger.new.rows ≡ ledger.old.rows ++ flat_map (rows_of_posting day flag) postings.now) }
+    ensures rows { OnOk result
+        (ledger.new.rows ≡ ledger.old.rows ++ flat_map (rows_of_posting day flag) postings.now) }
     ensures room { OnOk result (length ledger.new.rows ≤ MOST_POSTINGS) }
     ensures decimals { OnOk result ((name : List ℕ) → decimals_of ledger.new.decimals name
         ≡ decimals_from (decimals_of ledger.old.decimals name) name postings.now) }
     ensures full { result ≡ Err BookFault.TooManyPostings
-        → MOST_POSTINGS < length ledger.old.rows + length (flat_map (rows_of_posting day flag) postings.now) }
+        → MOST_POSTINGS
+        < length ledger.old.rows + length (flat_map (rows_of_posting day flag) postings.now) }
 {
     for posting in postings {
         match push_posting(ledger, day, flag, posting) {
@@ -160,7 +165,8 @@ fn push_transaction<'a>(
     ensures decimals { OnOk result ((name : List ℕ) → decimals_of ledger.new.decimals name
         ≡ decimals_from (decimals_of ledger.old.decimals name) name (counted postings.now)) }
     ensures full { result ≡ Err BookFault.TooManyPostings → MOST_POSTINGS
-        < length ledger.old.rows + length (flat_map (rows_of_posting day flag) (counted postings.now)) }
+        < length ledger.old.rows
+        + length (flat_map (rows_of_posting day flag) (counted postings.now)) }
 {
     if !are_plain(postings) {
         return Ok(());

@@ -155,7 +155,8 @@ pub fn cost_if_due<'t, 'a>(
     alloc: Global,
     tokens: &'t [Token<'a>],
 ) -> Result<Option<(Ranged<Cost<'a>>, &'t [Token<'a>])>, AllocError>
-    ensures { IfOk result (λ found. MatchOption found (HasNone rule.cost_if_due (lexemes tokens.now))
+    ensures { IfOk result (λ found. MatchOption found
+        (HasNone rule.cost_if_due (lexemes tokens.now))
         (λ r. Reads rule.cost_if_due (lexemes tokens.now) r.0 (lexemes r.1.now))) }
 {
     if after_sign(tokens, Sign::OpenBrace).is_some() {

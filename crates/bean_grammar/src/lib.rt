@@ -6,15 +6,15 @@
 //! // posting(alloc, found.as_slice()): a posting of 3 X at a cost of 6.00 USD.
 //! ```
 //!
-//! A rule of the grammar stands in `specs/` as a form, and its reader has the same name: it gives
-//! a value exactly where a front of the tokens is of the form, and that one, with what stands behind
+//! A rule of the grammar stands in `specs/` as a form, and its reader has the same name: it gives a
+//! value exactly where a front of the tokens is of the form, and that one, with what stands behind
 //! it. What is read in one way by a rule has no other reading.
 //!
 //! # Out of range
 //!
 //! A day that the calendar lacks, and a number that is no number of the ledger, are read all the
-//! same and make what they stand in [`Ranged::Outside`], so that what has no tree comes first. In an
-//! expression each part counts, partial sums and products too.
+//! same and make what they stand in [`Ranged::Outside`], so that what has no tree comes first. In
+//! an expression each part counts, partial sums and products too.
 //!
 //! # Outside the profile
 //!
@@ -23,8 +23,8 @@
 //!
 //! # Cost
 //!
-//! Linear in the tokens. Expressions are read to their values with no tree, and nest at most 200 deep.
-//! What takes memory: a posting's lot and its price, and lists of tags, links and values.
+//! Linear in the tokens. Expressions are read to their values with no tree, and nest at most 200
+//! deep. What takes memory: a posting's lot and its price, and lists of tags, links and values.
 #![tactic(auto)]
 
 pub mod amount;

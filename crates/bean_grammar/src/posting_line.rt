@@ -1,5 +1,6 @@
 //! Lines that are postings.
-ghost use Rattle.std.specs.Prelude.{◌≡◌, ◌∷◌, ◌<◌, ◌≤◌, false, length, MatchOption, IfSome, IfOk, ℕ};
+ghost use Rattle.std.specs.Prelude.{◌≡◌, ◌∷◌, ◌<◌, ◌≤◌, false, length, MatchOption, IfSome, IfOk};
+ghost use Rattle.std.specs.Prelude.{ℕ};
 ghost use Rattle.theory.specs.Form.{HasNone, Reads, Is, IsNone};
 ghost use Rattle.bean_grammar.specs.Lexeme.{lexemes};
 ghost use Rattle.bean_grammar.specs.Posting as rule;

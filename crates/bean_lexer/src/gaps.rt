@@ -1,6 +1,7 @@
 //! What stands between tokens: white space, line feeds, comments and skipped lines.
 ghost use Rattle.std.specs.Prelude.{◌≡◌, ◌≤◌, length, take, count_by};
-ghost use Rattle.bean_lexer.specs.Gap.{is_line_feed, gap_len, behind_gap, gap_step, place_of, behind_white, spot_at};
+ghost use Rattle.bean_lexer.specs.Gap.{is_line_feed, gap_len, behind_gap, gap_step, place_of};
+ghost use Rattle.bean_lexer.specs.Gap.{behind_white, spot_at};
 
 use crate::kind::Place;
 

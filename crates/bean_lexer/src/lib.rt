@@ -1,9 +1,11 @@
-//! The tokens of a ledger's text: each the longest slice at its place that is of a kind, or a fault.
+//! The tokens of a ledger's text: each the longest slice at its place that is of a kind, or a
+//! fault.
 //!
 //! ```text
 //! let found = tokens(alloc, "2014-01-02 * \"Shop\" #home ; noon\n  Assets:Cash  -1.50 USD")?;
-//! // the day, the sign *, the text and the tag on line 1; the account, the sign -, the number and the
-//! // currency on line 2. The account's place is Indented, the day's is ColumnOne, the others' Inside.
+//! // the day, the sign *, the text and the tag on line 1; the account, the sign -, the number and
+//! // the currency on line 2. The account's place is Indented, the day's is ColumnOne, the others'
+//! // Inside.
 //!
 //! let mut lexer = Lexer::new("1 USD");
 //! let number = lexer.next_token();       // Some, of the kind Number, whose text is "1"
@@ -14,14 +16,14 @@
 //!
 //! # What stands between tokens
 //!
-//! White space, line feeds, comments (from a `;` up to its line's end), and lines that begin with `*`,
-//! `:` or `#` in the first column. A line feed within a text ends no line: the token behind that text
-//! isn't in the first column, whatever stands before it.
+//! White space, line feeds, comments (from a `;` up to its line's end), and lines that begin with
+//! `*`, `:` or `#` in the first column. A line feed within a text ends no line: the token behind
+//! that text isn't in the first column, whatever stands before it.
 //!
 //! # Faults
 //!
-//! Tokens of the kind `Fault`: a text without an end, which reaches to the end of what is read; a text
-//! with an unknown escape; a character that begins no token. The lexer goes on behind them.
+//! Tokens of the kind `Fault`: a text without an end, which reaches to the end of what is read; a
+//! text with an unknown escape; a character that begins no token. The lexer goes on behind them.
 //!
 //! # Cost
 //!

@@ -1,12 +1,14 @@
 //! Accounts, currencies, tags and links.
-ghost use Rattle.std.specs.Prelude.{◌≡◌, ℕ, ◌+◌, ◌<◌, ◌≤◌, ◌&&◌, ◌||◌, ◌==◌, false, true, nat_lt, length, slice_index, IsTrue, take, drop, MatchOption};
+ghost use Rattle.std.specs.Prelude.{◌≡◌, ℕ, ◌+◌, ◌<◌, ◌≤◌, ◌&&◌, ◌||◌, ◌==◌, false, true, nat_lt};
+ghost use Rattle.std.specs.Prelude.{length, slice_index, IsTrue, take, drop, MatchOption};
 ghost use Rattle.std.specs.List.{prefix_len};
 ghost use Rattle.std.specs.Char.{is_ascii_digit, is_ascii_uppercase};
 ghost use Rattle.std.specs.Str.{IsUtf8, IsCharBoundary};
 ghost use Rattle.bean_base.specs.Character.{hash, colon, caret};
 ghost use Rattle.bean_base.specs.Name.{is_account, begins_component, is_in_component};
 ghost use Rattle.theory.specs.LongestFront.{IsLongestFront, HasNoFront};
-ghost use Rattle.bean_lexer.specs.Lookahead.{root_len, begins_component_at, has_next_component, is_currency_form, ends_currency, has_bad_end};
+ghost use Rattle.bean_lexer.specs.Lookahead.{root_len, begins_component_at, has_next_component};
+ghost use Rattle.bean_lexer.specs.Lookahead.{is_currency_form, ends_currency, has_bad_end};
 ghost use Rattle.bean_lexer.specs.Tokens.{IsToken};
 
 use crate::classes::{InComponent, InCurrency, InName};
@@ -72,11 +74,13 @@ fn has_next_component(bytes: &[u8], at: usize) -> bool
 
 /// The length of the account at the front.
 fn account_len(bytes: &[u8]) -> Option<usize>
-    ensures account { MatchOption result (HasNoFront is_account bytes.now) (IsLongestFront is_account bytes.now) }
+    ensures account { MatchOption result (HasNoFront is_account bytes.now)
+        (IsLongestFront is_account bytes.now) }
     ensures long { MatchOption result (0 ≤ 0) (λ len. 7 < len) }
     ensures colon { MatchOption result (0 ≤ 0)
         (λ len. ((at : ℕ) × (at < len) × (slice_index bytes.now at ≡ colon))) }
-    ensures boundary { MatchOption result (0 ≤ 0) (λ len. IsUtf8 bytes.now → IsCharBoundary bytes.now len) }
+    ensures boundary { MatchOption result (0 ≤ 0)
+        (λ len. IsUtf8 bytes.now → IsCharBoundary bytes.now len) }
 {
     let root = root_len(bytes);
     if root == 0 || !begins_component_at(bytes, root) {

@@ -27,9 +27,9 @@ pub fn a_text_has_one_list_of_tokens(text: &str)
     let _ = text;
 }
 
-/// What stands between the tokens of a text: white space, line feeds, comments, and lines that begin
-/// with `*`, `:` or `#` in the first column; and a token begins at the first byte that is none of
-/// these.
+/// What stands between the tokens of a text: white space, line feeds, comments, and lines that
+/// begin with `*`, `:` or `#` in the first column; and a token begins at the first byte that is
+/// none of these.
 pub fn a_gap_is_white_space_comments_and_skipped_lines(text: &str)
     ensures { HasGaps text.now }
 {

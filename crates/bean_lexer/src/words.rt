@@ -1,12 +1,14 @@
 //! Keys, words and signs, and characters that begin no token.
-ghost use Rattle.std.specs.Prelude.{◌≡◌, ◌<◌, ◌∷◌, [], ◌+◌, if◌then◌else◌, drop, length, slice_index, IsTrue};
+ghost use Rattle.std.specs.Prelude.{◌≡◌, ◌<◌, ◌∷◌, [], ◌+◌, if◌then◌else◌, drop, length};
+ghost use Rattle.std.specs.Prelude.{slice_index, IsTrue};
 ghost use Rattle.std.specs.List.{prefix_len};
 ghost use Rattle.std.specs.Option.{IfSome};
 ghost use Rattle.std.specs.Char.{is_ascii_lowercase};
 ghost use Rattle.std.specs.Str.{IsUtf8, IsCharBoundary};
 ghost use Rattle.bean_base.specs.Character.{is_ascii};
 ghost use Rattle.bean_lexer.specs.TokenForm.{sign_spelling};
-ghost use Rattle.bean_lexer.specs.Lookahead.{begins_other, sign_of, doubled_sign_of, doubled_sign_at, keyword_at, has_colon};
+ghost use Rattle.bean_lexer.specs.Lookahead.{begins_other, sign_of, doubled_sign_of};
+ghost use Rattle.bean_lexer.specs.Lookahead.{doubled_sign_at, keyword_at, has_colon};
 ghost use Rattle.bean_lexer.specs.Tokens.{IsToken, goes_on_character};
 
 use crate::classes::{GoesOnCharacter, InKey};

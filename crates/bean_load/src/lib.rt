@@ -1,7 +1,7 @@
 //! Loading: the directives of a ledger in the order in which they are taken.
 //!
-//! The parser gives directives in the order in which they are written, and people write them as they
-//! come. [`arrange`] puts them in order.
+//! The parser gives directives in the order in which they are written, and people write them as
+//! they come. [`arrange`] puts them in order.
 //!
 //! ```text
 //! let mut directives = parse(alloc, text)?.directives.into_vec();
@@ -10,8 +10,9 @@
 //!
 //! # The order
 //!
-//! By day, of one day opens, then balances, all else, documents and closes, and those of one day and
-//! rank in the order in which they were read. Directives have one such order, by a law: [`one_arrangement`].
+//! By day, of one day opens, then balances, all else, documents and closes, and those of one day
+//! and rank in the order in which they were read. Directives have one such order, by a law:
+//! [`one_arrangement`].
 //!
 //! # Sources
 //!

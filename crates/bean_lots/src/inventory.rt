@@ -1,11 +1,14 @@
 //! Inventories: what an account holds of each currency, in lots or without one.
-ghost use Rattle.std.specs.Prelude.{All, map, ◌≡◌, ◌+ℤ◌, ◌<◌, ◌++◌, ◌∷◌, [], OnOk, OnErr, IsTrue, ◌↔◌, List, ℤ, pos, position, if◌then◌else◌, length, take, drop, suc, slice_index_or};
+ghost use Rattle.std.specs.Prelude.{All, map, ◌≡◌, ◌+ℤ◌, ◌<◌, ◌++◌, ◌∷◌, [], OnOk, OnErr, IsTrue};
+ghost use Rattle.std.specs.Prelude.{◌↔◌, List, ℤ, pos, position, if◌then◌else◌, length, take, drop};
+ghost use Rattle.std.specs.Prelude.{suc, slice_index_or};
 ghost use Rattle.std.specs.Int.{w128};
 ghost use Rattle.std.specs.Int.RustNames.{FitsSigned};
 ghost use Rattle.bean_lots.specs.Lot.{same_key};
 ghost use Rattle.bean_lots.specs.declared.lot.Key.{Key};
 ghost use Rattle.bean_lots.specs.declared.lot.Position.{Position};
-ghost use Rattle.bean_lots.specs.Inventory.{count_of, held_as, added, negative_entry, MayBeNegated, IsInventory};
+ghost use Rattle.bean_lots.specs.Inventory.{count_of, held_as, added, negative_entry, MayBeNegated};
+ghost use Rattle.bean_lots.specs.Inventory.{IsInventory};
 ghost use Rattle.bean_lots.specs.Sought.{IsSought};
 
 use crate::lot::{Key, Position};
@@ -14,8 +17,8 @@ use std::marker::Model;
 
 /// What an account holds.
 ///
-/// It is seen as the list of its positions, each with a count that isn't 0, in order of entry: a new
-/// key goes last, one that is there keeps its place, and one that comes to 0 goes.
+/// It is seen as the list of its positions, each with a count that isn't 0, in order of entry: a
+/// new key goes last, one that is there keeps its place, and one that comes to 0 goes.
 #[derive(Drop)]
 pub struct Inventory<'a> {
     entries: Vec<Position<'a>>,
@@ -74,7 +77,9 @@ fn count_in(entries: &[Position<'_>], key: &Key<'_>) -> i128
 /// Puts a count in the place of the one at an index, and takes the entry out where it is 0.
 fn put_at(entries: &mut Vec<Position<'_>>, index: usize, count: i128)
     requires { index < length entries.old.items }
-    ensures { (d : Position) → entries.new.items ≡ take index entries.old.items ++ (held_as (slice_index_or entries.old.items index d).key count ++ drop (suc index) entries.old.items) }
+    ensures { (d : Position) → entries.new.items
+        ≡ take index entries.old.items ++ (held_as (slice_index_or entries.old.items index d).key
+        count ++ drop (suc index) entries.old.items) }
 {
     if count == 0 {
         entries.remove(index);
@@ -176,5 +181,6 @@ pub fn add_keeps_an_inventory()
 
 /// An addition under a key adds to its count, and to no other.
 pub fn add_is_pointwise()
-    ensures { (es : List Position) (k q : Key) (n : ℤ) → IsInventory es → count_of (added es k n) q ≡ count_of es q +ℤ (if same_key q k then n else pos 0) }
+    ensures { (es : List Position) (k q : Key) (n : ℤ) → IsInventory es → count_of (added es k n) q
+        ≡ count_of es q +ℤ (if same_key q k then n else pos 0) }
 {}

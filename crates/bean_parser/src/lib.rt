@@ -3,13 +3,13 @@
 //! ```text
 //! let parsed = parse(alloc, "2014-01-01 open Assets:Cash\n\
 //!     2014-01-02 * \"Shop\" \"Bread\"\n  Assets:Cash  -1.50 USD\n  Expenses:Food  1.50 USD\n")?;
-//! // parsed.directives: an Open on line 1; a Transaction on line 2 with the payee Shop, the narration
-//! // Bread and two postings. parsed.settings, parsed.faults: none.
+//! // parsed.directives: an Open on line 1; a Transaction on line 2 with the payee Shop, the
+//! // narration Bread and two postings. parsed.faults: none.
 //! ```
 //!
-//! A block is a line with a token in the first column, with the indented lines behind it; each block
-//! gives its directive, its setting, its push or pop, or its one fault. The grammar, which stands in
-//! `specs/Grammar`, has at most one tree for a block, and a text says one thing.
+//! A block is a line with a token in the first column, with the indented lines behind it; each
+//! block gives its directive, its setting, its push or pop, or its one fault. The grammar, which
+//! stands in `specs/Grammar`, has at most one tree for a block, and a text says one thing.
 //!
 //! Under a transaction stand postings, metadata entries and lines of tags and links, under another
 //! directive entries alone. An entry belongs to the posting above it, or to the directive where no
@@ -18,7 +18,8 @@
 //! A push gives its tag or entry to the transactions up to its pop, behind their own; a later push
 //! gives before an earlier one. A pop takes back the latest push of its name.
 //!
-//! Names and texts are slices of the ledger's text: they cost no memory, and live as long as it does.
+//! Names and texts are slices of the ledger's text: they cost no memory, and live as long as it
+//! does.
 //!
 //! # Faults
 //!
@@ -28,13 +29,14 @@
 //! - `F2`, where the grammar has no tree for it,
 //! - `F3`, where it has one, and a day that the calendar lacks stands there, or a number with more
 //!   than 12 whole digits or 8 decimals,
-//! - `F4`, where it is a pop of nothing, or a push that is open at the text's end; it gives nothing,
+//! - `F4`, where it is a pop of nothing, or a push that is open at the text's end; it gives
+//!   nothing,
 //! - `F5`, where it is a plugin or an option that the books don't have; it is ignored.
 //!
 //! # Cost
 //!
-//! Linear in the text, but for pushes and pops: each looks at those behind it, or before it. It takes
-//! the memory of what it answers, and of the tokens of the longest block.
+//! Linear in the text, but for pushes and pops: each looks at those behind it, or before it. It
+//! takes the memory of what it answers, and of the tokens of the longest block.
 #![tactic(auto)]
 
 pub mod block;

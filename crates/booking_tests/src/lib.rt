@@ -1,4 +1,5 @@
-//! Inventories and reductions worked out by hand, by the libraries' public calls, with ample memory.
+//! Inventories and reductions worked out by hand, by the libraries' public calls, with ample
+//! memory.
 #![tactic(auto)]
 
 #[cfg(test)]

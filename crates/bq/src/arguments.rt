@@ -32,9 +32,11 @@ pub fn run_args<S: Store, O: Output, E: Output>(
     out: &mut O,
     err: &mut E,
 ) -> Result<u8, AllocError>
-    ensures ends { IfOk result (Ends (deeds S.Source store.old store.new (written O.Output out.old out.new))
+    ensures ends { IfOk result
+        (Ends (deeds S.Source store.old store.new (written O.Output out.old out.new))
         (written E.Output err.old err.new) (map string_bytes (drop 1 (into_iter_items args)))) }
-    ensures nothing { OnErr result ((store.new ≡ store.old) × (out.new ≡ out.old) × (err.new ≡ err.old)) }
+    ensures nothing { OnErr result
+        ((store.new ≡ store.old) × (out.new ≡ out.old) × (err.new ≡ err.old)) }
 {
     let words = words_behind(alloc, args)?;
     let words = slices(alloc, &words)?;

@@ -16,7 +16,8 @@ pub fn run_in_memory(
     out: &mut ShortWriter,
     err: &mut ShortWriter,
 ) -> u8
-    ensures { Ends (in_memory store.old store.new (kept_in out.old out.new)) (kept_in err.old err.new)
+    ensures { Ends (in_memory store.old store.new (kept_in out.old out.new))
+        (kept_in err.old err.new)
         (map (λ w. w.now) words.now) result }
 {
     run_words(alloc, words, store, out, err)

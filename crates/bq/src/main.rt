@@ -1,10 +1,11 @@
 //! `bq` keeps books: it reads plain text ledgers, books them and answers questions on them.
 //!
-//! `run_words` is the program over any store and any outputs, and has the promise of the whole: which
-//! answer comes for which words and which text, what is written with it, and the status. `words` reads
-//! the command, `loading` the ledger's text, `listing` makes the ledger of a text, `shown` says what
-//! `list` shows of it, `refusal` what a user is told where there is no answer. `in_memory` is the same
-//! over a store and outputs of memory, and `main` the program on the host's.
+//! `run_words` is the program over any store and any outputs, and has the promise of the whole:
+//! which answer comes for which words and which text, what is written with it, and the status.
+//! `words` reads the command, `loading` the ledger's text, `listing` makes the ledger of a text,
+//! `shown` says what `list` shows of it, `refusal` what a user is told where there is no answer.
+//! `in_memory` is the same over a store and outputs of memory, and `main` the program on the
+//! host's.
 #![tactic(auto)]
 
 mod arguments;

@@ -30,7 +30,8 @@ fn list<S: Source, O: Output>(
     store: &mut S,
     out: &mut O,
 ) -> Result<(), Refusal>
-    ensures { ListsNamed (deeds S.Source store.old store.new (written O.Output out.old out.new)) name.now result }
+    ensures { ListsNamed
+        (deeds S.Source store.old store.new (written O.Output out.old out.new)) name.now result }
 {
     let bytes = ledger_bytes(store, name)?;
     let text = text_in(&bytes)?;

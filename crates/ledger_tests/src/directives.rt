@@ -94,8 +94,9 @@ fn texts_over_lines(rt: HostRuntime) -> Result<(), Fail> {
 
 #[test]
 fn settings_and_ignored_lines(rt: HostRuntime) -> Result<(), Fail> {
-    let text =
-        "option \"title\" \"T\"\noption \"operating_currency\" \"USD\"\noption \"booking_method\" \"FIFO\"\ninclude \"b\"\nplugin \"p\" \"x\"\noption \"other\" \"x\"\n";
+    let text = "option \"title\" \"T\"\noption \"operating_currency\" \"USD\"\
+         \noption \"booking_method\" \"FIFO\"\ninclude \"b\"\nplugin \"p\" \"x\"\
+         \noption \"other\" \"x\"\n";
     let parsed = parse(rt.alloc(), text)?;
     assert_eq!(rt; parsed.settings.as_slice().len(), 4);
     let SettingKind::Include(name) = &parsed.settings.as_slice()[3].kind else {
@@ -123,8 +124,9 @@ fn counts_at(parsed: &Parsed<'_>, index: usize) -> Option<(usize, usize)> {
 
 #[test]
 fn pushes_and_pops(rt: HostRuntime) -> Result<(), Fail> {
-    let text =
-        "pushtag #a\npushmeta k: 1\n2014-01-01 * \"x\" #own\n  k: 2\n  Assets:Cash\n    p: 3\n  #late ^link\npushtag #a\n2014-01-02 *\npoptag #a\n2014-01-03 *\npoptag #a\npopmeta k:\n2014-01-04 *\npoptag #a\npushtag #open\n2014-01-05 *\n";
+    let text = "pushtag #a\npushmeta k: 1\n2014-01-01 * \"x\" #own\n  k: 2\n  Assets:Cash\n    p: 3\
+         \n  #late ^link\npushtag #a\n2014-01-02 *\npoptag #a\n2014-01-03 *\npoptag #a\
+         \npopmeta k:\n2014-01-04 *\npoptag #a\npushtag #open\n2014-01-05 *\n";
     let parsed = parse(rt.alloc(), text)?;
     assert_eq!(rt; counts_at(&parsed, 0), Some((4, 2)));
     assert_eq!(rt; counts_at(&parsed, 1), Some((2, 1)));
@@ -159,8 +161,12 @@ fn pushes_and_pops(rt: HostRuntime) -> Result<(), Fail> {
 
 #[test]
 fn near_to_directives(rt: HostRuntime) -> Result<(), Fail> {
-    let text =
-        "2014-01-01 open Assets:Cash USD,\n2014-01-01 close\n2014-01-01 balance Assets:Cash 1 ~ -1 USD\n2014-01-01 balance Assets:Cash 1\n2014-01-01 pad Assets:Cash\n2014-01-01 note \"x\"\n2014-01-01 price USD CAD\n2014-01-01 event \"x\"\n2014-01-01 open Assets:Cash\n  Assets:Cash 1 USD\ninclude \"x\"\n  k: 1\npushtag\n  Assets:Cash 1 USD\n2014-01-01 open Assets:Cash\n  #tag\n";
+    let text = "2014-01-01 open Assets:Cash USD,\n2014-01-01 close\
+         \n2014-01-01 balance Assets:Cash 1 ~ -1 USD\n2014-01-01 balance Assets:Cash 1\
+         \n2014-01-01 pad Assets:Cash\n2014-01-01 note \"x\"\n2014-01-01 price USD CAD\
+         \n2014-01-01 event \"x\"\n2014-01-01 open Assets:Cash\n  Assets:Cash 1 USD\
+         \ninclude \"x\"\n  k: 1\npushtag\n  Assets:Cash 1 USD\n2014-01-01 open Assets:Cash\
+         \n  #tag\n";
     let parsed = parse(rt.alloc(), text)?;
     assert_eq!(rt; parsed.directives.as_slice().len(), 0);
     assert_eq!(rt; parsed.settings.as_slice().len(), 0);

@@ -34,8 +34,8 @@ fn fault_at<'p>(parsed: &'p Parsed<'_>, index: usize) -> Option<&'p Fault> {
 
 #[test]
 fn the_worked_ledger(rt: HostRuntime) -> Result<(), Fail> {
-    let text =
-        "2014-01-01 open Assets:Cash\n2014-01-01 open Equity:Open\n2014-01-02 * \"Start\"\n  Assets:Cash  100.00 USD\n  Equity:Open  -100.00 USD\n";
+    let text = "2014-01-01 open Assets:Cash\n2014-01-01 open Equity:Open\n2014-01-02 * \"Start\"\
+         \n  Assets:Cash  100.00 USD\n  Equity:Open  -100.00 USD\n";
     let parsed = parse(rt.alloc(), text)?;
     assert_eq!(rt; parsed.directives.as_slice().len(), 3);
     assert_eq!(rt; parsed.faults.as_slice().len(), 0);
@@ -53,8 +53,9 @@ fn the_worked_ledger(rt: HostRuntime) -> Result<(), Fail> {
 
 #[test]
 fn good_blocks_between_bad_ones(rt: HostRuntime) -> Result<(), Fail> {
-    let text =
-        "2014-01-01 open Assets:\u{c9}pargne\r\n2014-02-30 open Assets:Cash\r\n2014-01-02 ! \"A \\\"shop\\\"\" \"Bread\"\r\n  Assets:\u{c9}pargne 1,000.5 USD\r\n2014-01-03 close Assets:Cash 1\r\n2014-01-04 * \"x\" ?\r\n";
+    let text = "2014-01-01 open Assets:\u{c9}pargne\r\n2014-02-30 open Assets:Cash\r\
+         \n2014-01-02 ! \"A \\\"shop\\\"\" \"Bread\"\r\n  Assets:\u{c9}pargne 1,000.5 USD\r\
+         \n2014-01-03 close Assets:Cash 1\r\n2014-01-04 * \"x\" ?\r\n";
     let parsed = parse(rt.alloc(), text)?;
     assert_eq!(rt; parsed.directives.as_slice().len(), 2);
     let shop = transaction_at(&parsed, 1).ok_or("a transaction")?;
@@ -73,8 +74,8 @@ fn good_blocks_between_bad_ones(rt: HostRuntime) -> Result<(), Fail> {
 
 #[test]
 fn faults_in_order(rt: HostRuntime) -> Result<(), Fail> {
-    let text =
-        "2014-02-30 open Assets:Cash\n2014-01-03 close Assets:Cash 1\n2014-01-04 *\n  Assets:Cash ?\n";
+    let text = "2014-02-30 open Assets:Cash\n2014-01-03 close Assets:Cash 1\n2014-01-04 *\
+         \n  Assets:Cash ?\n";
     let parsed = parse(rt.alloc(), text)?;
     assert_eq!(rt; parsed.directives.as_slice().len(), 0);
     let out_of_range = fault_at(&parsed, 0).ok_or("a fault")?;

@@ -1,4 +1,5 @@
-//! Numbers, names, tokens, lines and directives of worked texts, by the libraries' public calls, with ample memory.
+//! Numbers, names, tokens, lines and directives of worked texts, by the libraries' public calls,
+//! with ample memory.
 #![tactic(auto)]
 
 #[cfg(test)]

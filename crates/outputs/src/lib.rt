@@ -16,14 +16,14 @@
 //! # What is known of an output
 //!
 //! Each output says by a relation what a call of it may do, so a caller knows of its bytes what it
-//! tells: all for a `ShortWriter`, and for a `Stream` that it takes at least one byte where it doesn't
-//! fail. Of every output its refusals are counted: that `write_bytes` stops short shows in the count,
-//! whatever else the output tells.
+//! tells: all for a `ShortWriter`, and for a `Stream` that it takes at least one byte where it
+//! doesn't fail. Of every output its refusals are counted: that `write_bytes` stops short shows in
+//! the count, whatever else the output tells.
 //!
 //! # Faults
 //!
-//! There is one, [`NotTaken`]: an output failed, and took nothing of what that call offered. An output
-//! that takes none of some bytes is stopped at as if it had failed.
+//! There is one, [`NotTaken`]: an output failed, and took nothing of what that call offered. An
+//! output that takes none of some bytes is stopped at as if it had failed.
 //!
 //! # Cost
 //!

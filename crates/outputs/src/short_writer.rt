@@ -20,7 +20,12 @@ impl Model for ShortWriter {
 
     ghost Value = { Holding };
 
-    ghost view = { λ w. record { taken = w.taken.items; limit = w.limit; starved = w.starved; refusals = w.refusals } };
+    ghost view = { λ w. record {
+      taken = w.taken.items;
+      limit = w.limit;
+      starved = w.starved;
+      refusals = w.refusals;
+    } };
 }
 
 impl ShortWriter {

@@ -21,10 +21,10 @@
 //!
 //! # Cells
 //!
-//! What a row has in a [`Column`] is a [`Cell`], which is lent from where the row is kept: names and
-//! texts as slices, sets and positions by reference (`Lent`). Contracts see what is lent as the thing
-//! itself, so a cell is the value that they speak of. The numbers of cells are `Decimal`s, which have
-//! room for each number that a query computes.
+//! What a row has in a [`Column`] is a [`Cell`], which is lent from where the row is kept: names
+//! and texts as slices, sets and positions by reference (`Lent`). Contracts see what is lent as the
+//! thing itself, so a cell is the value that they speak of. The numbers of cells are `Decimal`s,
+//! which have room for each number that a query computes.
 //!
 //! # What may be asked
 //!
@@ -33,8 +33,8 @@
 //!
 //! # Cost
 //!
-//! A row is moved in and never copied. `cell` and `len` take a few steps, `push` and `set_display` a
-//! few on the average; `new` takes no memory.
+//! A row is moved in and never copied. `cell` and `len` take a few steps, `push` and `set_display`
+//! a few on the average; `new` takes no memory.
 #![tactic(auto)]
 
 mod cell;

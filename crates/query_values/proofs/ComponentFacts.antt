@@ -186,3 +186,5 @@ inside (b ∷ bs) n some h = by (is_colon b) refl (inside bs) n some h
         first true d = omega arith
         first false d = let more : 1 < n = grind (arith, nat_tests) in omega (arith, ih (n - 1) (omega arith) (omega (arith, h, one_colon b bs e)))
     by false e ih n some h = omega (arith, ih n some (omega (arith, h, no_colon b bs e)))
+
+pub ruleset of_components = (at_colon, past_colon, past_other, at_end)

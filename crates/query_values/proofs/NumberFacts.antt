@@ -98,3 +98,5 @@ down p q m n h =
     let none : p - p ≡ 0 = omega arith in
     reversed (n *ℤ pos (10 ^ (p - q))) m
     ∙ sym (ap₂ int_cmp (ap (scaled m p) most ∙ ap (λ k. m *ℤ pos (10 ^ k)) none ∙ one m) (ap (scaled n q) most))
+
+pub ruleset of_numbers = (by_one, of_nothing, by_sign, by_great_sign)

@@ -1,6 +1,7 @@
 //! Arithmetic of values. Of null it gives null.
 ghost use Rattle.std.specs.Prelude.{◌≡◌, IsTrue};
-ghost use Rattle.query_values.specs.Arithmetic.{aligned, difference_of, magnitude_of, negative_of, product_of, sum_of};
+ghost use Rattle.query_values.specs.Arithmetic.{aligned, difference_of, magnitude_of, negative_of};
+ghost use Rattle.query_values.specs.Arithmetic.{product_of, sum_of};
 ghost use Rattle.query_values.specs.Held.{is_held};
 ghost use Rattle.query_values.specs.Operand.{are_addable, has_at_most, is_number, is_signed};
 

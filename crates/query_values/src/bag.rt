@@ -1,7 +1,9 @@
 //! Inventories whose counts have any number of decimals.
 ghost use Rattle.std.specs.Prelude.{◌≡◌, ◌≤◌, [], All, IfOk, IsTrue, map};
 ghost use Rattle.bean_lots.specs.Inventory.{MayBeNegated};
-ghost use Rattle.query_values.specs.Total.{adds_up, at_cost, bare_key, cost_count, cost_currency, cost_total, is_count, total_from, units_total, without_lot};
+ghost use Rattle.query_values.specs.Total.{adds_up, at_cost, bare_key, cost_count, cost_currency};
+ghost use Rattle.query_values.specs.Total.{cost_total, is_count, total_from, units_total};
+ghost use Rattle.query_values.specs.Total.{without_lot};
 
 use bean_base::Currency;
 use bean_lots::{Inventory, Key, Position};

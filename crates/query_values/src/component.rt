@@ -2,7 +2,8 @@
 ghost use Rattle.std.specs.Prelude.{◌≡◌, ◌<◌, ◌≤◌, count_by, length, slice_index};
 ghost use Rattle.bean_base.specs.Character.{colon};
 ghost use Rattle.bean_base.specs.Name.{is_colon};
-ghost use Rattle.query_values.specs.Component.{end_after, leaf_part, parent_part, rank_of, root_part, root_rank};
+ghost use Rattle.query_values.specs.Component.{end_after, leaf_part, parent_part, rank_of};
+ghost use Rattle.query_values.specs.Component.{root_part, root_rank};
 
 use bean_base::Root;
 
@@ -14,7 +15,7 @@ fn colons_in(name: &[u8]) -> usize
 }
 
 /// The place of the colon behind so many components, or the end of a name that has no more.
-#[tactic(auto, using(crate::proofs::ComponentFacts::at_colon, crate::proofs::ComponentFacts::past_colon, crate::proofs::ComponentFacts::past_other, crate::proofs::ComponentFacts::at_end,))]
+#[tactic(auto, using(crate::proofs::ComponentFacts::of_components))]
 fn end_of(name: &[u8], components: usize) -> usize
     requires { 0 < components }
     ensures place { result ≡ end_after components name.now }

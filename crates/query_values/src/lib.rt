@@ -17,11 +17,12 @@
 //!
 //! # Values
 //!
-//! A [`Value`] is null, a truth value, a number, a text, a day, a set of texts, an amount, a position
-//! or an inventory. Names, texts, sets and the keys of positions are lent from where they are kept
-//! ([`Lent`]), so that a value is small and an operation on numbers or texts takes no memory; an
-//! inventory ([`Bag`]) owns its entries. A value is itself what contracts speak of: its counts and
-//! decimals have no bounds of their own, and `is_held` says which values a machine can hold.
+//! A [`Value`] is null, a truth value, a number, a text, a day, a set of texts, an amount, a
+//! position or an inventory. Names, texts, sets and the keys of positions are lent from where they
+//! are kept ([`Lent`]), so that a value is small and an operation on numbers or texts takes no
+//! memory; an inventory ([`Bag`]) owns its entries. A value is itself what contracts speak of: its
+//! counts and decimals have no bounds of their own, and `is_held` says which values a machine can
+//! hold.
 //!
 //! # Null
 //!
@@ -30,10 +31,10 @@
 //!
 //! # What may be asked
 //!
-//! An operation that computes counts wants to know that its result is held: at most 32 decimals, and
-//! a count of at most `2^127 - 1`, sign left off. `align`, `add` and `sub` want numbers whose decimals
-//! fit, and `root` at least one component. For units and costs of an inventory no sum on the way may
-//! be too large. All else takes any value.
+//! An operation that computes counts wants to know that its result is held: at most 32 decimals,
+//! and a count of at most `2^127 - 1`, sign left off. `align`, `add` and `sub` want numbers whose
+//! decimals fit, and `root` at least one component. For units and costs of an inventory no sum on
+//! the way may be too large. All else takes any value.
 //!
 //! # Faults
 //!

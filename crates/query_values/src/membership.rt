@@ -6,7 +6,8 @@ ghost use Rattle.std.specs.Ordering.{int_eq};
 ghost use Rattle.bean_lots.specs.Lot.{same_text};
 ghost use Rattle.query_values.specs.Operation.{has_match, has_member, is_among, is_member};
 ghost use Rattle.query_values.specs.Pattern.{is_found};
-ghost use Rattle.query_values.specs.Choice.{day_choice, has_places, number_choice, same_day, text_choice};
+ghost use Rattle.query_values.specs.Choice.{day_choice, has_places, number_choice, same_day};
+ghost use Rattle.query_values.specs.Choice.{text_choice};
 
 use crate::pattern::Finder;
 use crate::value::Value;

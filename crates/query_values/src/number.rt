@@ -57,7 +57,7 @@ pub(crate) fn power_of_ten(exponent: u8) -> i128
 
 /// How `count * 10^exponent` stands to another count. A product that passes 128 bits is beyond
 /// every count, so that its sign decides.
-#[tactic(auto, using(crate::proofs::NumberFacts::by_one, crate::proofs::NumberFacts::of_nothing, crate::proofs::NumberFacts::by_sign, crate::proofs::NumberFacts::by_great_sign,))]
+#[tactic(auto, using(crate::proofs::NumberFacts::of_numbers))]
 fn scaled_order(count: i128, exponent: u8, other: i128) -> Ordering
     ensures { result ≡ int_cmp (count *ℤ pos (10 ^ exponent)) other }
 {

@@ -46,7 +46,8 @@ pub struct Finder<'p> {
 
 impl<'p> Model for Finder<'p> {
     ghost use Rattle.std.specs.Prelude.{◌≡◌, ℕ, List};
-    ghost use Rattle.regex.specs.Strings.{matcher_pattern, regex_config, regex_pattern, regex_source, IsReadFromSource};
+    ghost use Rattle.regex.specs.Strings.{matcher_pattern, regex_config, regex_pattern};
+    ghost use Rattle.regex.specs.Strings.{regex_source, IsReadFromSource};
     ghost use Rattle.query_values.specs.Pattern.{any_case};
 
     ghost Value = { List ℕ };

@@ -53,7 +53,8 @@ fn fault_of(error: &io::Error) -> SourceFault {
 
 /// The bytes that are left, up to `most` of them. It asks for no more than that.
 pub fn read_front<T: Read + Drop>(alloc: Global, from: T, most: u64) -> io::Result<Vec<u8>>
-    ensures { IfOk result (λ bytes. IfSome (T.remaining from) (λ left. bytes.items ≡ take most left)) }
+    ensures { IfOk result
+        (λ bytes. IfSome (T.remaining from) (λ left. bytes.items ≡ take most left)) }
 {
     let mut bytes = Vec::new(alloc);
     from.take(most).read_to_end(&mut bytes)?;

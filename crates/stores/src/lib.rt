@@ -7,7 +7,8 @@
 //!
 //! - [`Source`] gives texts by their names, and [`Store`] keeps files too,
 //! - [`HostStore`] is the file system, and standard input under the name `-`,
-//! - [`MemoryStore`] holds files in memory, tells what it was asked for, and fails at a chosen call.
+//! - [`MemoryStore`] holds files in memory, tells what it was asked for, and fails at a chosen
+//!   call.
 //!
 //! # What is known of a store
 //!

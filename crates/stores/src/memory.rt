@@ -1,9 +1,11 @@
 //! A store over memory, which tells what it was asked and fails at a chosen call.
-ghost use Rattle.std.specs.Prelude.{◌≡◌, ◌++◌, ◌∷◌, [], None, OnOk, OnErr, IfOk, if◌then◌else◌, map, option_map};
+ghost use Rattle.std.specs.Prelude.{◌≡◌, ◌++◌, ◌∷◌, [], None, OnOk, OnErr, IfOk, if◌then◌else◌};
+ghost use Rattle.std.specs.Prelude.{map, option_map};
 ghost use Rattle.std.specs.Option.{option_copied};
 ghost use Rattle.std.specs.String.{string_bytes};
 ghost use Rattle.stores.specs.Entry.{reading_of, putting_of};
-ghost use Rattle.stores.specs.MemoryStore.{GivesWhatItHolds, first_in, newer, held, next_call, fails_at_next, Gives, Keeps};
+ghost use Rattle.stores.specs.MemoryStore.{GivesWhatItHolds, first_in, newer, held, next_call};
+ghost use Rattle.stores.specs.MemoryStore.{fails_at_next, Gives, Keeps};
 
 use crate::source::{Source, SourceFault, Store};
 use std::alloc::{AllocError, Global};
@@ -117,7 +119,8 @@ impl MemoryStore {
     }
 
     fn tell(&mut self, asked: Asked) -> Result<(), AllocError>
-        ensures ok { OnOk result (self.new ≡ record self.old { told = self.old.told ++ reading_of asked ∷ [] }) }
+        ensures ok { OnOk result
+            (self.new ≡ record self.old { told = self.old.told ++ reading_of asked ∷ [] }) }
         ensures err { OnErr result (self.new ≡ self.old) }
     {
         self.told.push(asked)?;
@@ -125,7 +128,8 @@ impl MemoryStore {
     }
 
     fn keep(&mut self, file: Entry) -> Result<(), AllocError>
-        ensures ok { OnOk result (self.new ≡ record self.old { kept = self.old.kept ++ putting_of file ∷ [] }) }
+        ensures ok { OnOk result
+            (self.new ≡ record self.old { kept = self.old.kept ++ putting_of file ∷ [] }) }
         ensures err { OnErr result (self.new ≡ self.old) }
     {
         self.kept.push(file)?;
@@ -152,7 +156,8 @@ fn first_of<'a>(files: &'a [Entry], name: &str) -> Option<&'a [u8]>
 
 /// The bytes of a file of that name, else what was found before it.
 fn newer<'a>(name: &str, found: Option<&'a [u8]>, file: &'a Entry) -> Option<&'a [u8]>
-    ensures { option_copied result ≡ newer name.now (option_copied found.entry) (putting_of file.now) }
+    ensures { option_copied result
+        ≡ newer name.now (option_copied found.entry) (putting_of file.now) }
 {
     if file.name.as_str() == name {
         Some(&file.bytes)

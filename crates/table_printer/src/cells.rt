@@ -6,7 +6,8 @@ ghost use Rattle.std.specs.String.{string_bytes};
 ghost use Rattle.posting_table.specs.Decimals.{decimals_of};
 ghost use Rattle.table_printer.specs.Digits.{number_text};
 ghost use Rattle.table_printer.specs.Table.{text_width};
-ghost use Rattle.table_printer.specs.CellText.{cell_text, clean_text, is_number, separator, set_text, shown_character, units_text};
+ghost use Rattle.table_printer.specs.CellText.{cell_text, clean_text, is_number, separator};
+ghost use Rattle.table_printer.specs.CellText.{set_text, shown_character, units_text};
 
 use crate::digits::{push_day, push_number};
 use crate::positions::{position_width, push_position};

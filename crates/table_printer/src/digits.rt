@@ -1,7 +1,9 @@
 //! The texts of numbers and days.
-ghost use Rattle.std.specs.Prelude.{◌≡◌, ◌≤◌, ◌<◌, ◌+◌, ◌-◌, ◌/◌, ◌%◌, ◌^◌, [], ◌∷◌, ◌++◌, OnOk, length, if◌then◌else◌};
+ghost use Rattle.std.specs.Prelude.{◌≡◌, ◌≤◌, ◌<◌, ◌+◌, ◌-◌, ◌/◌, ◌%◌, ◌^◌, [], ◌∷◌, ◌++◌, OnOk};
+ghost use Rattle.std.specs.Prelude.{length, if◌then◌else◌};
 ghost use Rattle.std.specs.Int.RustNames.{unsigned_abs};
-ghost use Rattle.table_printer.specs.Digits.{digits_of, exact_decimals, decimals_text, number_text, day_text, zeros};
+ghost use Rattle.table_printer.specs.Digits.{digits_of, exact_decimals, decimals_text, number_text};
+ghost use Rattle.table_printer.specs.Digits.{day_text, zeros};
 
 use crate::runs::push_run;
 use bean_base::Day;
@@ -64,7 +66,8 @@ fn without_zeros(places: u8, decimals: u128, least: u8) -> (u8, u128)
     requires few { places ≤ 32 }
     requires small { decimals < 10 ^ places }
     ensures digits { digits_of result.0 result.1 ++ zeros (least - result.0)
-        ≡ exact_decimals places decimals ++ zeros (least - length (exact_decimals places decimals)) }
+        ≡ exact_decimals places decimals
+        ++ zeros (least - length (exact_decimals places decimals)) }
     ensures few { result.0 ≤ places }
     ensures small { result.1 < 10 ^ result.0 }
 {
@@ -81,7 +84,8 @@ fn without_zeros(places: u8, decimals: u128, least: u8) -> (u8, u128)
 fn zeros_taken_off(places: u8, decimals: u128, least: u8) -> (u8, u128)
     requires { decimals < 10 ^ places }
     ensures digits { digits_of result.0 result.1 ++ zeros (least - result.0)
-        ≡ exact_decimals places decimals ++ zeros (least - length (exact_decimals places decimals)) }
+        ≡ exact_decimals places decimals
+        ++ zeros (least - length (exact_decimals places decimals)) }
     ensures few { result.0 ≤ places }
     ensures small { result.1 < 10 ^ result.0 }
 {

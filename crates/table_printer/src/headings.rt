@@ -1,9 +1,11 @@
 //! What stands over the columns of a table: their names, their widths, and whether numbers stand in
 //! them.
-ghost use Rattle.std.specs.Prelude.{◌≡◌, ◌<◌, ◌∷◌, length, map, slice_get, Some, IfOk, All, vec_len};
+ghost use Rattle.std.specs.Prelude.{◌≡◌, ◌<◌, ◌∷◌, length, map, slice_get, Some, IfOk, All};
+ghost use Rattle.std.specs.Prelude.{vec_len};
 ghost use Rattle.posting_table.specs.Decimals.{decimals_of};
 ghost use Rattle.table_printer.specs.Heading.{heading_text, width_of};
-ghost use Rattle.table_printer.specs.Table.{text_of, column_width, has_number, headers_from, widths_of};
+ghost use Rattle.table_printer.specs.Table.{text_of, column_width, has_number, headers_from};
+ghost use Rattle.table_printer.specs.Table.{widths_of};
 
 use crate::cells::{Scratch, cell_width, is_number};
 use crate::rows::Rows;

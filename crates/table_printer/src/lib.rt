@@ -31,14 +31,14 @@
 //!
 //! # Rows
 //!
-//! A table is printed of whatever lends rows of cells ([`Rows`]): an [`Answer`], which holds them, or
-//! a view of a ledger, which copies none. Each row has as many cells as there are names.
+//! A table is printed of whatever lends rows of cells ([`Rows`]): an [`Answer`], which holds them,
+//! or a view of a ledger, which copies none. Each row has as many cells as there are names.
 //!
 //! # Faults
 //!
-//! `print` answers an error where memory lacks. [`write_table`] makes the whole text before it hands
-//! over the first byte; it answers `P1` with the count of bytes that were taken, where the output
-//! failed or took nothing, and `M2` where memory lacks, with nothing handed over.
+//! `print` answers an error where memory lacks. [`write_table`] makes the whole text before it
+//! hands over the first byte; it answers `P1` with the count of bytes that were taken, where the
+//! output failed or took nothing, and `M2` where memory lacks, with nothing handed over.
 //!
 //! # Cost
 //!

@@ -1,5 +1,6 @@
 //! The lines of a table: the header line, the rule and the rows.
-ghost use Rattle.std.specs.Prelude.{◌≡◌, ◌<◌, ◌≤◌, ◌++◌, ◌∷◌, [], List, Some, length, vec_len, map, take, drop, slice_get, OnOk};
+ghost use Rattle.std.specs.Prelude.{◌≡◌, ◌<◌, ◌≤◌, ◌++◌, ◌∷◌, [], List, Some, length, vec_len, map};
+ghost use Rattle.std.specs.Prelude.{take, drop, slice_get, OnOk};
 ghost use Rattle.bean_base.specs.Character.{line_feed};
 ghost use Rattle.posting_table.specs.Decimals.{decimals_of};
 ghost use Rattle.table_printer.specs.Heading.{width_of};
@@ -127,7 +128,8 @@ fn push_joined<L: Line>(
     display: &Display<'_>,
 ) -> Result<(), AllocError>
     requires { length (L.cells line.now) ≡ length headings.now }
-    ensures { OnOk result (out.new.items ≡ out.old.items ++ joined (pieces (map width_of headings.now)
+    ensures { OnOk result (out.new.items
+        ≡ out.old.items ++ joined (pieces (map width_of headings.now)
         (map (placed_text (decimals_of display.now)) (L.cells line.now)))) }
 {
     for (i, heading) in headings.iter().enumerate() {
@@ -140,7 +142,8 @@ fn push_joined<L: Line>(
 /// Ends the line that begins at `start`: no spaces stand at its end.
 fn end_line(out: &mut Vec<u8>, start: usize) -> Result<(), AllocError>
     requires { start ≤ vec_len out.old }
-    ensures { OnOk result (out.new.items ≡ take start out.old.items ++ trimmed (drop start out.old.items) ++ line_feed ∷ []) }
+    ensures { OnOk result (out.new.items
+        ≡ take start out.old.items ++ trimmed (drop start out.old.items) ++ line_feed ∷ []) }
 {
     let len = trimmed_len(&out[start..]);
     out.truncate(start + len);

@@ -21,7 +21,8 @@ fn push_rows<T: Rows>(
     display: &Display<'_>,
 ) -> Result<(), AllocError>
     requires { All (λ row. length row ≡ length headings.now) (T.rows table.now) }
-    ensures { OnOk result (out.new.items ≡ out.old.items ++ flat_map (line_of (map width_of headings.now))
+    ensures { OnOk result (out.new.items
+        ≡ out.old.items ++ flat_map (line_of (map width_of headings.now))
         (map (map (text_of (decimals_of display.now))) (T.rows table.now))) }
 {
     for row in 0..table.len() {

@@ -1,5 +1,6 @@
 //! The candidates of a reduction, in the order in which they are taken.
-ghost use Rattle.std.specs.Prelude.{◌≡◌, ◌↔◌, ◌≢◌, ◌-◌, ◌++◌, ◌&&◌, OnOk, IfOk, IsTrue, IsPermutation, sum_by};
+ghost use Rattle.std.specs.Prelude.{◌≡◌, ◌↔◌, ◌≢◌, ◌-◌, ◌++◌, ◌&&◌, OnOk, IfOk, IsTrue};
+ghost use Rattle.std.specs.Prelude.{IsPermutation, sum_by};
 ghost use Rattle.bean_base.specs.Day.{number};
 ghost use Rattle.bean_lots.specs.Lot.{same_text};
 ghost use Rattle.bean_lots.specs.Candidate.{agrees, is_opposite, candidate_of, candidates};
@@ -80,7 +81,8 @@ fn push_candidate<'a>(
     want: i128,
     entry: &Position<'a>,
 ) -> Result<(), AllocError>
-    ensures { OnOk result (found.new.items ≡ found.old.items ++ candidate_of selector.now want entry.now.key.currency entry.now.key.lot entry.now.count) }
+    ensures { OnOk result (found.new.items ≡ found.old.items ++ candidate_of selector.now want
+        entry.now.key.currency entry.now.key.lot entry.now.count) }
 {
     if let Some(lot) = &entry.key.lot {
         if is_candidate(selector, want, &entry.key, lot, entry.count) {
@@ -128,8 +130,10 @@ pub(crate) fn queue_of<'a>(
     method: Method,
 ) -> Result<Vec<Candidate<'a>>, AllocError>
     requires { method ≢ Method.None }
-    ensures queue { IfOk result (λ queue. IsQueue method (candidates selector.now want entries.now) queue.items) }
-    ensures same { IfOk result (λ queue. IsPermutation (candidates selector.now want entries.now) queue.items) }
+    ensures queue { IfOk result
+        (λ queue. IsQueue method (candidates selector.now want entries.now) queue.items) }
+    ensures same { IfOk result
+        (λ queue. IsPermutation (candidates selector.now want entries.now) queue.items) }
 {
     let mut queue = candidates(alloc, entries, selector, want)?;
     arrange(method, &mut queue)?;

@@ -36,7 +36,8 @@ fn push_take<'a>(
     units: u128,
 ) -> Result<(), AllocError>
     requires { units < 10 ^ 20 }
-    ensures { OnOk result (map take_counts takes.new.items ≡ map take_counts takes.old.items ++ signed_take want (candidate.now.0, units) ∷ []) }
+    ensures { OnOk result (map take_counts takes.new.items
+        ≡ map take_counts takes.old.items ++ signed_take want (candidate.now.0, units) ∷ []) }
 {
     takes.push((candidate.lot(), number_of(want, units)))?;
     Ok(())
@@ -50,7 +51,8 @@ fn fill<'a>(
     want: i128,
 ) -> Result<Vec<(Lot<'a>, Num)>, AllocError>
     requires { unsigned_abs want < 10 ^ 20 }
-    ensures { IfOk result (λ takes. map take_counts takes.items ≡ signed_takes want (filled queue.now (unsigned_abs want))) }
+    ensures { IfOk result (λ takes. map take_counts takes.items
+        ≡ signed_takes want (filled queue.now (unsigned_abs want))) }
 {
     let mut takes = Vec::new(alloc);
     let mut rest = want.unsigned_abs();
@@ -107,5 +109,6 @@ pub fn reduce<'a>(
 
 /// There is at most one list of takes.
 pub fn one_reduction()
-    ensures { (m : Method) (cs : List (Lot × ℕ)) (want : ℕ) (ts us : List (Lot × ℕ)) → IsReduction m cs want ts → IsReduction m cs want us → ts ≡ us }
+    ensures { (m : Method) (cs : List (Lot × ℕ)) (want : ℕ) (ts us : List (Lot × ℕ))
+        → IsReduction m cs want ts → IsReduction m cs want us → ts ≡ us }
 {}
