@@ -4,7 +4,7 @@
 //! let parsed = parse(alloc, "2014-01-01 open Assets:Cash\n\
 //!     2014-01-02 * \"Shop\" \"Bread\"\n  Assets:Cash  -1.50 USD\n  Expenses:Food  1.50 USD\n")?;
 //! // parsed.directives: an Open on line 1; a Transaction on line 2 with the payee Shop, the
-//! // narration Bread and two postings. parsed.faults: none.
+//! // narration Bread and two postings. parsed.settings, parsed.faults: none.
 //! ```
 //!
 //! A block is a line with a token in the first column, with the indented lines behind it; each
