@@ -7,7 +7,9 @@ mod directives;
 mod heads;
 mod numbers;
 mod parse;
+mod postings;
 mod reader;
+mod scan;
 mod table;
 mod tokens;
 

@@ -1,6 +1,6 @@
-//! Reads the tokens of a line from the front: expressions, amounts, postings, metadata.
+//! Reads the tokens of a line from the front: expressions, amounts, metadata, tags and links.
 
-use crate::directives::{Amount, Cost, Entry, Flag, Lot, Mark, Posting, Price, Units, Value};
+use crate::directives::{Amount, Entry, Mark, Value};
 use crate::numbers::{Day, Number};
 use crate::tokens::{Kind, Sign, Token, Word};
 
@@ -19,33 +19,6 @@ pub struct Reader<'t, 'a> {
     pub is_in_range: bool,
 }
 
-/// The parts of a cost, each form of a part at most once.
-#[derive(Default)]
-struct CostParts<'a> {
-    amount: Option<Amount<'a>>,
-    day: Option<Day>,
-    label: Option<&'a str>,
-    number: Option<()>,
-    currency: Option<()>,
-    merge: Option<()>,
-    compound: Option<()>,
-}
-
-impl CostParts<'_> {
-    fn are_outside_profile(&self) -> bool {
-        [self.number, self.currency, self.merge, self.compound]
-            .iter()
-            .any(Option::is_some)
-    }
-}
-
-fn put_once<T>(place: &mut Option<T>, part: T) -> Read<()> {
-    match place.replace(part) {
-        None => Ok(()),
-        Some(_) => Err(NotOfTheGrammar),
-    }
-}
-
 impl<'t, 'a> Reader<'t, 'a> {
     pub fn new(line: &'t [Token<'a>]) -> Self {
         Reader {
@@ -62,6 +35,11 @@ impl<'t, 'a> Reader<'t, 'a> {
 
     pub fn kind(&self) -> Option<Kind> {
         self.rest.first().map(|token| token.kind)
+    }
+
+    /// The number of the line in the text.
+    pub fn line(&self) -> usize {
+        self.rest.first().map_or(0, |token| token.line)
     }
 
     pub fn next(&mut self) -> Read<&'t Token<'a>> {
@@ -120,7 +98,7 @@ impl<'t, 'a> Reader<'t, 'a> {
         Ok(&key[..key.len() - 1])
     }
 
-    fn day_of(&mut self, text: &str) -> Day {
+    pub fn day_of(&mut self, text: &str) -> Day {
         let day = Day::parse(text);
         self.is_in_range &= day.is_some();
         day.unwrap_or_default()
@@ -185,7 +163,7 @@ impl<'t, 'a> Reader<'t, 'a> {
         Ok(number.unwrap_or_default())
     }
 
-    fn number_if_any(&mut self) -> Read<Option<Number>> {
+    pub fn number_if_any(&mut self) -> Read<Option<Number>> {
         match self.kind() {
             Some(Kind::Number | Kind::Sign(Sign::Plus | Sign::Minus | Sign::OpenParenthesis)) => {
                 self.number().map(Some)
@@ -194,112 +172,9 @@ impl<'t, 'a> Reader<'t, 'a> {
         }
     }
 
-    fn amount_parts(&mut self) -> Read<(Option<Number>, Option<&'a str>)> {
+    pub fn amount_parts(&mut self) -> Read<(Option<Number>, Option<&'a str>)> {
         let number = self.number_if_any()?;
         Ok((number, self.if_any(Kind::Currency)))
-    }
-
-    // Postings.
-
-    fn flag_if_any(&mut self) -> Option<Flag> {
-        if self.is_sign(Sign::Star) {
-            Some(Flag::Complete)
-        } else if self.is_sign(Sign::Bang) {
-            Some(Flag::Incomplete)
-        } else {
-            None
-        }
-    }
-
-    pub fn posting(&mut self) -> Read<Posting<'a>> {
-        let line = self.rest.first().map_or(0, |token| token.line);
-        let flag = self.flag_if_any();
-        let account = self.account()?;
-        let units = match self.amount_parts()? {
-            (Some(number), Some(currency)) => Units::Amount(Amount { number, currency }),
-            (Some(_), None) => Units::NumberAlone,
-            (None, Some(currency)) => Units::Currency(currency),
-            (None, None) => Units::Missing,
-        };
-        let cost = self.cost_if_any()?;
-        let price = self.price_if_any()?;
-        self.end()?;
-        Ok(Posting {
-            flag,
-            account,
-            units,
-            cost,
-            price,
-            line,
-            metadata: Vec::new(),
-        })
-    }
-
-    fn cost_if_any(&mut self) -> Read<Cost<'a>> {
-        let closing = if self.is_sign(Sign::OpenBrace) {
-            Sign::CloseBrace
-        } else if self.is_sign(Sign::OpenBraces) {
-            Sign::CloseBraces
-        } else {
-            return Ok(Cost::Absent);
-        };
-        let mut parts = CostParts::default();
-        if !self.is_sign(closing) {
-            self.cost_part(&mut parts)?;
-            while self.is_sign(Sign::Comma) {
-                self.cost_part(&mut parts)?;
-            }
-            self.one(Kind::Sign(closing))?;
-        }
-        if closing == Sign::CloseBraces || parts.are_outside_profile() {
-            return Ok(Cost::OutsideProfile);
-        }
-        Ok(Cost::Lot(Box::new(Lot {
-            amount: parts.amount,
-            day: parts.day,
-            label: parts.label,
-        })))
-    }
-
-    fn cost_part(&mut self, parts: &mut CostParts<'a>) -> Read<()> {
-        if let Some(text) = self.if_any(Kind::Day) {
-            return put_once(&mut parts.day, self.day_of(text));
-        }
-        if let Some(label) = self.text_if_any() {
-            return put_once(&mut parts.label, label);
-        }
-        if self.is_sign(Sign::Star) {
-            return put_once(&mut parts.merge, ());
-        }
-        let number = self.number_if_any()?;
-        if self.is_sign(Sign::Hash) {
-            self.amount_parts()?;
-            return put_once(&mut parts.compound, ());
-        }
-        match (number, self.if_any(Kind::Currency)) {
-            (Some(number), Some(currency)) => {
-                put_once(&mut parts.amount, Amount { number, currency })
-            }
-            (Some(_), None) => put_once(&mut parts.number, ()),
-            (None, Some(_)) => put_once(&mut parts.currency, ()),
-            (None, None) => Err(NotOfTheGrammar),
-        }
-    }
-
-    fn price_if_any(&mut self) -> Read<Price<'a>> {
-        let is_total = self.is_sign(Sign::AtAt);
-        if !is_total && !self.is_sign(Sign::At) {
-            return Ok(Price::Absent);
-        }
-        let (Some(number), Some(currency)) = self.amount_parts()? else {
-            return Ok(Price::OutsideProfile);
-        };
-        let amount = Box::new(Amount { number, currency });
-        Ok(if is_total {
-            Price::Total(amount)
-        } else {
-            Price::PerUnit(amount)
-        })
     }
 
     // Metadata, tags and links.
