@@ -212,9 +212,7 @@ class Ledger:
         end = day + datetime.timedelta(365)
         return f"{day} open {name} USD, EUR\n" + entries(day, "  ", self.pick, [50, 50]) + f"{end} close {name}\n"
 
-    def push_or_pop(self, day):
-        if self.pushed:
-            return self.pop()
+    def push(self, day):
         tag = self.pick.choice(TAGS)
         push, pop = self.pick.choice([(f"pushtag #{tag}\n", f"poptag #{tag}\n"),
                                       (f'pushmeta trip: "{tag}"\n', "popmeta trip:\n")])
@@ -222,11 +220,12 @@ class Ledger:
         return push
 
     def pop(self):
-        return self.pushed.pop() if self.pushed else ""
+        """Takes back the latest push."""
+        return self.pushed.pop()
 
     def between(self, day):
         kinds = {Ledger.price: 40, Ledger.balance: 25, Ledger.note: 8, Ledger.document: 8, Ledger.event: 6,
-                 Ledger.custom: 5, Ledger.pad: 3, Ledger.opens_and_closes: 3, Ledger.query: 1, Ledger.push_or_pop: 4}
+                 Ledger.custom: 5, Ledger.pad: 3, Ledger.opens_and_closes: 3, Ledger.query: 1, Ledger.push: 2}
         kind = draw(self.pick, kinds)
         text = kind(self, day)
         if kind in (Ledger.price, Ledger.note, Ledger.event) and self.pick.randrange(10) == 0:
@@ -254,9 +253,12 @@ def ledger(postings, pick, unlisted):
         day = FIRST_DAY + datetime.timedelta(days=done * DAYS // postings)
         while pick.randrange(4) == 0:
             yield book.between(day)
+        if book.pushed and pick.randrange(12) == 0:
+            yield book.pop()
         if pick.randrange(100) == 0:
             yield f"; checked up to here on {day}\n"
         text, count = book.transaction(day)
         yield text + "\n"
         done += count
-    yield book.pop()
+    while book.pushed:
+        yield book.pop()
