@@ -8,7 +8,8 @@ from decimal import Decimal
 
 FIRST_DAY = datetime.date(2005, 1, 1)
 DAYS = 7000
-CASH = ["Assets:Bank:Checking", "Assets:Bank:Savings", "Assets:Cash", "Liabilities:Card:Blue", "Liabilities:Card:Gold"]
+CASH = ["Assets:Bank:Checking", "Assets:Bank:Savings", "Assets:Cash", "Liabilities:Card:Blue",
+        "Liabilities:Card:Gold"]
 BROKERS = ["Assets:Broker:Main", "Assets:Broker:Pension", "Assets:US:Vest", "Assets:Wallet"]
 SPENT = ["Food:Groceries", "Food:Restaurant", "Home:Rent", "Home:Power", "Car:Fuel", "Car:Repair", "Fun:Books",
          "Fun:Trips", "Kids:School", "Kids:Clothes", "Health:Chemist", "Health:Dentist", "Bank:Fees", "Tax:Income"]
@@ -17,7 +18,8 @@ GAINS, PAY, FEES = "Income:Gains", "Income:Pay:Hooli", "Expenses:Broker:Fees"
 MONEY = ["USD", "EUR", "GBP"]
 HELD = ["VTI", "GOOG", "VBMPX", "AAPL.O", "BTC"]
 NAMES = ["Market", "Baker", "Landlord", "Railway", "Book shop", "Chemist", "Town hall", "Café Zürich"]
-NOTES = ["Weekly shopping", "Rent", "Tickets", "Bread", "A gift; see the card", "The \\\"blue\\\" one", "Fee", "Two books"]
+NOTES = ["Weekly shopping", "Rent", "Tickets", "Bread", "A gift; see the card", "The \\\"blue\\\" one", "Fee",
+         "Two books"]
 TAGS = ["trip-2014", "tax", "shared", "to/check", "family"]
 
 
@@ -140,9 +142,10 @@ class Ledger:
         self.lots[place][1] = units - part
         if units == part:
             self.lots.pop(place)
-        parts = [[f"{price} USD", str(bought)], [str(bought)], [f"{price} USD"], []][draw(pick, {0: 7, 1: 1, 2: 1, 3: 1})]
+        all_parts = [f"{price} USD", str(bought)]
+        parts = pick.choices([all_parts, all_parts[1:], all_parts[:1], []], weights=[7, 1, 1, 1])[0]
         if label is not None and pick.randrange(2) == 0:
-            parts.append(f'"{label}"')
+            parts = [*parts, f'"{label}"']
         at = amount_of(pick, 2)
         return [
             (account, f"{amount(-part, currency, pick)} {{{', '.join(parts)}}} @ {number(at, pick)} USD"),
@@ -183,7 +186,8 @@ class Ledger:
     def balance(self, day):
         pick = self.pick
         tolerance = f" ~ {amount_of(pick, 4)}" if pick.randrange(3) == 0 else ""
-        return f"{day} balance {pick.choice(CASH)} {number(amount_of(pick, 2), pick)}{tolerance} {pick.choice(MONEY)}\n"
+        held = number(amount_of(pick, 2), pick)
+        return f"{day} balance {pick.choice(CASH)} {held}{tolerance} {pick.choice(MONEY)}\n"
 
     def pad(self, day):
         account = self.pick.choice(CASH)
@@ -236,9 +240,11 @@ class Ledger:
 def front(pick):
     yield 'option "title" "A ledger of lots"\noption "operating_currency" "USD"\n\n* Accounts\n\n'
     for currency in [*MONEY, *HELD]:
-        yield f'{FIRST_DAY} commodity {currency}\n  name: "{currency} of some exchange"\n  decimals: {pick.randint(0, 6)}\n'
+        entries_of = f'  name: "{currency} of some exchange"\n  decimals: {pick.randint(0, 6)}\n'
+        yield f"{FIRST_DAY} commodity {currency}\n{entries_of}"
     for account in [*CASH, *EXPENSES, GAINS, PAY, FEES]:
-        yield f"{FIRST_DAY} open {account}\n" if pick.randrange(3) else f"{FIRST_DAY} open {account} {', '.join(MONEY)}\n"
+        currencies = "" if pick.randrange(3) else f" {', '.join(MONEY)}"
+        yield f"{FIRST_DAY} open {account}{currencies}\n"
     for account in BROKERS:
         yield f'{FIRST_DAY} open {account} {",".join(HELD)} "FIFO"\n  broker: "Hooli Trust"\n'
     yield f"{FIRST_DAY} open Equity:Opening-Balances\n\n* Transactions\n\n"
