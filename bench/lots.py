@@ -12,7 +12,8 @@ CASH = ["Assets:Bank:Checking", "Assets:Bank:Savings", "Assets:Cash", "Liabiliti
         "Liabilities:Card:Gold"]
 BROKERS = ["Assets:Broker:Main", "Assets:Broker:Pension", "Assets:US:Vest", "Assets:Wallet"]
 SPENT = ["Food:Groceries", "Food:Restaurant", "Home:Rent", "Home:Power", "Car:Fuel", "Car:Repair", "Fun:Books",
-         "Fun:Trips", "Kids:School", "Kids:Clothes", "Health:Chemist", "Health:Dentist", "Bank:Fees", "Tax:Income"]
+         "Fun:Trips", "Kids:School", "Kids:Clothes", "Health:Chemist", "Health:Dentist", "Bank:Fees",
+         "Tax:Income"]
 EXPENSES = [f"Expenses:{name}" for name in SPENT]
 GAINS, PAY, FEES = "Income:Gains", "Income:Pay:Hooli", "Expenses:Broker:Fees"
 MONEY = ["USD", "EUR", "GBP"]
