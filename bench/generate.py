@@ -1,15 +1,22 @@
 #!/usr/bin/env python3
-"""Prints a plain ledger, the same one for the same words.
+"""Prints a ledger, the same one for the same words: a plain one, or one full of lots.
 
-generate.py POSTINGS SEED            so many postings
-generate.py --unlisted POSTINGS SEED the same, but each transaction is of a 31 June: it is read whole
-                                     and then left out, so that `list` has no row to print
-generate.py --opens BYTES SEED       about so many bytes of `open` lines, which give no row either
+generate.py POSTINGS SEED                 so many postings of amounts alone
+generate.py --unlisted POSTINGS SEED      the same, but each transaction is of a 31 June: it is read whole
+                                          and then left out, so that `list` has no row to print
+generate.py --missing POSTINGS SEED       the same, but the last posting of each transaction has no
+                                          amount: transactions are kept, and `list` has no row to print
+generate.py --opens BYTES SEED            about so many bytes of `open` lines, which give no row either
+generate.py --lots POSTINGS SEED          about so many postings, with lots, prices and metadata, and
+                                          every other kind of directive between them
+generate.py --lots-unlisted POSTINGS SEED the same without the transactions that `list` shows
 """
 import argparse
 import datetime
 import random
 import sys
+
+import lots
 
 FIRST_DAY = datetime.date(2005, 1, 1)
 DAYS = 7000
@@ -54,12 +61,14 @@ def first_line(day, pick):
     return " ".join([str(day), flag, *(f'"{word}"' for word in words)]) + "\n"
 
 
-def transaction(day, size, names, pick):
+def transaction(day, size, names, missing, pick):
     """A transaction whose postings are of one currency and come to 0."""
     currency = pick.choices(list(CURRENCIES), weights=[w for w, _ in CURRENCIES.values()])[0]
     places = CURRENCIES[currency][1]
     counts = [pick.randint(1, 10 ** pick.randint(3, 5)) for _ in range(size - 1)]
     lines = [f"  {pick.choice(names)}  {number(count, places)} {currency}\n" for count in [*counts, -sum(counts)]]
+    if missing:
+        lines[-1] = lines[-1].rsplit(maxsplit=2)[0] + "\n"
     return first_line(day, pick) + "".join(lines)
 
 
@@ -77,7 +86,7 @@ def size_of_next(left, pick):
     return size
 
 
-def ledger(postings, seed, unlisted):
+def ledger(postings, seed, unlisted, missing):
     pick = random.Random(seed)
     names = accounts(min(300, max(30, postings // 300)), pick)
     yield opens(names, FIRST_DAY)
@@ -85,7 +94,7 @@ def ledger(postings, seed, unlisted):
     while done < postings:
         size = size_of_next(postings - done, pick)
         day = day_at(done, postings, pick)
-        yield transaction(f"{day.year}-06-31" if unlisted else day, size, names, pick)
+        yield transaction(f"{day.year}-06-31" if unlisted else day, size, names, missing, pick)
         done += size
 
 
@@ -103,13 +112,15 @@ def main():
     words.add_argument("size", type=int, metavar="POSTINGS|BYTES")
     words.add_argument("seed", type=int)
     kinds = words.add_mutually_exclusive_group()
-    kinds.add_argument("--unlisted", action="store_true")
-    kinds.add_argument("--opens", action="store_true")
+    for kind in ["--unlisted", "--missing", "--opens", "--lots", "--lots-unlisted"]:
+        kinds.add_argument(kind, action="store_true")
     given = words.parse_args()
     if given.opens:
         sys.stdout.writelines(only_opens(given.size, given.seed))
+    elif given.lots or given.lots_unlisted:
+        sys.stdout.writelines(lots.ledger(given.size, random.Random(given.seed), given.lots_unlisted))
     else:
-        sys.stdout.writelines(ledger(given.size, given.seed, given.unlisted))
+        sys.stdout.writelines(ledger(given.size, given.seed, given.unlisted, given.missing))
 
 
 if __name__ == "__main__":
