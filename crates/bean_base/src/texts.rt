@@ -1,18 +1,21 @@
 //! Quoted texts: as they are written, and what they stand for.
 ghost use Rattle.std.specs.Prelude.{◌≡◌, ◌<◌, ◌≤◌, [], ◌∷◌, ◌++◌, nat_eq, length, IfSome};
+ghost use Rattle.std.specs.Ordering.{nat_cmp, as_partial_cmp};
 ghost use Rattle.std.specs.Prelude.{MatchOption, IfOk, OnOk};
 ghost use Rattle.std.specs.String.{string_bytes};
 ghost use Rattle.std.specs.List.{list_any};
-ghost use Rattle.std.specs.Cmp.Lexicographic.{pointwise, nat_list_eq_equiv};
+ghost use Rattle.std.specs.Cmp.Lexicographic.{pointwise, slice_cmp, nat_list_eq_equiv};
 ghost use Rattle.std.specs.Cmp;
+ghost use Rattle.std.specs.Cmp.{partial_order_from_own_ties};
 ghost use Rattle.std.specs.Hash as fed;
 ghost use Rattle.std.specs.List.{flat_map};
-ghost use Rattle.std.specs.Cmp.Rules.{hashing};
+ghost use Rattle.std.specs.Cmp.Rules.{comparing, hashing};
 ghost use Rattle.std.proofs.Common.{rules};
 ghost use Rattle.bean_base.specs.Character.{backslash};
 ghost use Rattle.bean_base.specs.Text.{escaped, read_text};
 
 use std::alloc::AllocError;
+use std::cmp::Ordering;
 use std::hash::{Hash, Hasher};
 use std::marker::Model;
 
@@ -65,9 +68,9 @@ struct Unread<'t> {
     written: &'t [u8],
 }
 
-/// Whether two written texts stand for the same.
-fn stand_for_the_same(a: &[u8], b: &[u8]) -> bool
-    ensures { result ≡ pointwise nat_eq (read_text a.now) (read_text b.now) }
+/// The order of what two written texts stand for.
+fn order_of_read(a: &[u8], b: &[u8]) -> Ordering
+    ensures { result ≡ slice_cmp nat_cmp (read_text a.now) (read_text b.now) }
 {
     let mut left = Unread { written: a };
     let mut right = Unread { written: b };
@@ -77,10 +80,14 @@ fn stand_for_the_same(a: &[u8], b: &[u8]) -> bool
                 left = Unread { written: after_x };
                 right = Unread { written: after_y };
             }
-            _ => return false,
+            Some((y, _)) => return x.cmp(&y),
+            None => return Ordering::Greater,
         }
     }
-    next_byte(right.written).is_none()
+    match next_byte(right.written) {
+        Some(_) => Ordering::Less,
+        None => Ordering::Equal,
+    }
 }
 
 fn has_escape(written: &[u8]) -> bool
@@ -192,12 +199,38 @@ impl PartialEq for Text<'_> {
     ghost laws = { Cmp.partial_equiv_from_equiv nat_list_eq_equiv };
 
     fn eq(&self, other: &Self) -> bool {
-        stand_for_the_same(self.written.as_bytes(), other.written.as_bytes())
+        order_of_read(self.written.as_bytes(), other.written.as_bytes()) == Ordering::Equal
     }
 }
 
 impl Eq for Text<'_> {
     ghost laws = { nat_list_eq_equiv };
+}
+
+/// Texts are in the order of the bytes that they stand for.
+impl Ord for Text<'_> {
+    ghost cmp = { slice_cmp nat_cmp };
+
+    ghost total = { Prim.search (comparing, rules) };
+
+    ghost matches_partial_cmp = { Prim.search (comparing, rules) };
+
+    ghost matches_eq = { Prim.search (comparing, rules) };
+
+    fn cmp(&self, other: &Self) -> Ordering {
+        order_of_read(self.written.as_bytes(), other.written.as_bytes())
+    }
+}
+
+impl PartialOrd for Text<'_> {
+    ghost partial_cmp = { as_partial_cmp (slice_cmp nat_cmp) };
+
+    ghost laws = { partial_order_from_own_ties (Prim.search (comparing, rules))
+        (Prim.search (comparing, rules)) };
+
+    fn partial_cmp(&self, other: &Self) -> Option<Ordering> {
+        Some(self.cmp(other))
+    }
 }
 
 /// It feeds each byte that it stands for, so that texts that are `==` feed the same.

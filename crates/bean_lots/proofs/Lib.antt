@@ -1,4 +1,5 @@
 pub mod LotFacts
+pub mod LotOrderFacts
 pub mod SoughtFacts
 pub mod InventoryFacts
 pub mod NegativeFacts

@@ -12,8 +12,8 @@ use Rattle.bq.specs.Columns.{shown}
 use Rattle.posting_table.specs.Column.{spelling}
 use Rattle.posting_table.specs.Ledger.{Ledger}
 use Rattle.posting_table.specs.Row.{cell_at}
-use Rattle.posting_table.specs.declared.cell.Cell.{Cell}
 use Rattle.posting_table.specs.declared.row.Row.{Row}
+use Rattle.query_values.specs.declared.value.Value.{Value}
 use Rattle.table_printer.specs.Table.{table_text}
 
 -- The directives of the text, in the order in which they are taken.
@@ -33,7 +33,7 @@ ListsLedger text (Err TooManyPostings) = HasTooMany text
 ListsLedger text (Err OutOfMemory) = ⊤
 
 -- date, flag, account and position
-abbrev pub shown_row : Row → List Cell
+abbrev pub shown_row : Row → List Value
 shown_row row = map (cell_at row) shown
 
 abbrev pub headers : List (List ℕ)

@@ -2,10 +2,10 @@
 ghost use Rattle.std.specs.Prelude.{◌≡◌};
 ghost use Rattle.bq.specs.Columns.{column_at};
 
-use posting_table::{Cell, Column, Ledger};
-use table_printer::Rows;
+use posting_table::{Column, Ledger};
+use table_printer::{Cell, Rows};
 
-/// Date, flag, account and position of each posting, lent from the ledger.
+/// Date, flag, account and position of each posting, made from what the ledger lends.
 #[derive(Clone, Copy)]
 pub struct Postings<'l, 'a> {
     pub ledger: &'l Ledger<'a>,
@@ -44,6 +44,6 @@ impl Rows for Postings<'_, '_> {
     }
 
     fn cell(&self, row: usize, column: usize) -> Cell<'_> {
-        self.ledger.cell(row, column_at(column))
+        Cell::made(self.ledger.cell(row, column_at(column)))
     }
 }

@@ -5,11 +5,11 @@ ghost use Rattle.std.specs.Option.{option_map};
 ghost use Rattle.std.specs.FinMap as map;
 ghost use Rattle.posting_table.specs.Row.{cell_at};
 
-use crate::cell::Cell;
 use crate::column::Column;
 use crate::display::Display;
 use crate::row::Row;
 use bean_base::Currency;
+use query_values::Value;
 use std::alloc::{AllocError, Global};
 use std::marker::Model;
 
@@ -90,7 +90,7 @@ impl<'a> Ledger<'a> {
     }
 
     /// What a posting has in a column, lent from its row.
-    pub fn cell(&self, row: usize, column: Column) -> Cell<'_>
+    pub fn cell(&self, row: usize, column: Column) -> Value<'_>
         requires { row < length self.now.rows }
         ensures { Some result ≡ option_map (λ r. cell_at r column) (slice_get self.now.rows row) }
     {

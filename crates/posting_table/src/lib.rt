@@ -15,16 +15,15 @@
 //!     },
 //! })?;
 //! ledger.set_display(parse_currency("USD")?, 2)?;
-//! let account = ledger.cell(0, Column::Account);   // Cell::Text of Assets:Cash
+//! let account = ledger.cell(0, Column::Account);   // Value::Text of Assets:Cash
 //! let name = Column::Account.name();               // account
 //! ```
 //!
 //! # Cells
 //!
-//! What a row has in a [`Column`] is a [`Cell`], which is lent from where the row is kept: names
-//! and texts as slices, sets and positions by reference (`Lent`). Contracts see what is lent as the
-//! thing itself, so a cell is the value that they speak of. The numbers of cells are `Decimal`s,
-//! which have room for each number that a query computes.
+//! What a row has in a [`Column`] is a `Value` of queries, lent from where the row is kept: names
+//! and texts as slices, the keys of positions by reference (`Lent`). Contracts see what is lent as
+//! the thing itself.
 //!
 //! # What may be asked
 //!
@@ -37,13 +36,11 @@
 //! a few on the average; `new` takes no memory.
 #![tactic(auto)]
 
-mod cell;
 mod column;
 mod display;
 mod ledger;
 mod row;
 
-pub use cell::Cell;
 pub use column::Column;
 pub use display::Display;
 pub use ledger::{Ledger, MOST_POSTINGS};

@@ -2,11 +2,10 @@
 ghost use Rattle.std.specs.Prelude.{◌≡◌};
 ghost use Rattle.posting_table.specs.Row.{cell_at};
 
-use crate::cell::Cell;
 use crate::column::Column;
 use bean_base::{Account, Day, Flag, Slice};
 use bean_lots::Position;
-use query_values::Lent;
+use query_values::{Lent, Value};
 
 /// A booked posting, with what it has from its transaction.
 #[derive(Debug, Drop, PartialEq, Eq)]
@@ -19,14 +18,17 @@ pub struct Row<'a> {
 
 impl<'a> Row<'a> {
     /// The row's cell in a column.
-    pub fn cell(&self, column: Column) -> Cell<'_>
+    pub fn cell(&self, column: Column) -> Value<'_>
         ensures { result ≡ cell_at self.now column }
     {
         match column {
-            Column::Date => Cell::Day(self.date),
-            Column::Flag => Cell::Text(Slice::new(self.flag.spelling())),
-            Column::Account => Cell::Text(Slice::new(self.account.text())),
-            Column::Position => Cell::Position(Lent::new(&self.position)),
+            Column::Date => Value::Day(self.date),
+            Column::Flag => Value::Text(Slice::new(self.flag.spelling())),
+            Column::Account => Value::Text(Slice::new(self.account.text())),
+            Column::Position => Value::Position {
+                key: Lent::new(&self.position.key),
+                count: self.position.count,
+            },
         }
     }
 }

@@ -1,9 +1,10 @@
 //! Comparisons of values.
-ghost use Rattle.std.specs.Prelude.{◌≡◌};
+ghost use Rattle.std.specs.Prelude.{◌≡◌, ◌&&◌};
+ghost use Rattle.std.specs.Ordering.{int_eq};
 ghost use Rattle.std.specs.Cmp.{IsEquivalence, IsTotalOrder};
 ghost use Rattle.std.specs.Cmp.Lexicographic.{pointwise};
 ghost use Rattle.std.specs.List.{list_all};
-ghost use Rattle.bean_lots.specs.Lot.{same_text};
+ghost use Rattle.bean_lots.specs.Lot.{same_key, same_text};
 ghost use Rattle.query_values.specs.Equality.{agree_at, same, same_bag};
 ghost use Rattle.query_values.specs.Order.{is_at_most, is_less, is_null, kind_rank, order_of};
 ghost use Rattle.query_values.specs.Operation.{is_true};
@@ -12,7 +13,7 @@ use crate::bag::Bag;
 use crate::number::{number_order, same_number};
 use crate::value::Value;
 use bean_base::Slice;
-use bean_lots::Position;
+use bean_lots::{Key, Position};
 use std::cmp::Ordering;
 
 /// Whether it is null.
@@ -51,6 +52,13 @@ fn same_bag(a: &Bag<'_>, b: &Bag<'_>) -> bool
     agree_at(a.held.entries(), a, b) && agree_at(b.held.entries(), a, b)
 }
 
+/// Whether two positions are the same: so many units of one key.
+fn same_position(j: &Key<'_>, m: i128, k: &Key<'_>, n: i128) -> bool
+    ensures { result ≡ (same_key j.now k.now && int_eq m n) }
+{
+    j == k && m == n
+}
+
 /// Whether two values are the same. Null is the same as null; numbers, amounts and inventories are
 /// told by value, whatever their decimals.
 pub fn equal(a: &Value<'_>, b: &Value<'_>) -> bool
@@ -85,7 +93,7 @@ pub fn equal(a: &Value<'_>, b: &Value<'_>) -> bool
             },
         ) => same_number(*p, *m, *q, *n) && c == d,
         (Value::Position { key: j, count: m }, Value::Position { key: k, count: n }) => {
-            j.get() == k.get() && m == n
+            same_position(j.get(), *m, k.get(), *n)
         }
         (Value::Inventory(a), Value::Inventory(b)) => same_bag(a, b),
         _ => false,

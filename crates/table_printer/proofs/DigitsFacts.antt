@@ -65,9 +65,13 @@ pushed_decimals before places n least shown digits same =
     ap (λ l. l ++ zeros (least - shown)) (append_assoc before point ds) ∙ append_assoc before (point ++ ds) (zeros (least - shown))
     ∙ ap (λ l. before ++ l) (append_assoc point ds (zeros (least - shown)) ∙ sym (behind_some (ds ++ zeros (least - shown)) (max shown least) all) ∙ ap behind_point same)
 
--- at most 32 places fit 128 bits, and twice that does too
-pub narrow : (places : ℕ) → places ≤ 32 → 10 ^ places ≤ 100000000000000000000000000000000
+-- at most 38 places fit 128 bits, and twice that does too
+pub narrow : (places : ℕ) → places ≤ 38 → 10 ^ places ≤ 100000000000000000000000000000000000000
 narrow places few = pow-le-pow_right {n = 10} (omega arith) few
+
+-- more places are more than 128 bits count
+pub wide : (places : ℕ) → 38 < places → 1000000000000000000000000000000000000000 ≤ 10 ^ places
+wide places many = pow-le-pow_right {n = 10} {m = 39} (omega arith) many
 
 shifted : (unit n : ℕ) → (10 * unit + n) / 10 ≡ unit + n / 10
 shifted unit n = omega arith
@@ -83,7 +87,7 @@ leading_one zero n few small =
 leading_one (suc places) n few small =
     let unit = 10 ^ places in
     let e : 10 ^ suc places ≡ 10 * unit = pow-succ' 10 places in
-    let bound = narrow (suc places) few in
+    let bound = narrow (suc places) (omega arith) in
     let whole = ap (λ u. u + n) e in
     let some : 1 ≤ unit = one-le-pow places 10 (omega arith) in
     ap decimal whole ∙ decimal_step_wide (10 * unit + n) (omega arith) (omega arith)

@@ -5,7 +5,7 @@ use Rattle.std.specs.Option.{option_map, option_map_or}
 use Rattle.std.proofs.lemmas.List.{take_more}
 use Rattle.std.proofs.lemmas.List.Folds.{list_any-append}
 use Rattle.std.proofs.lemmas.Option.{slice_get-map, slice_get_read, slice_get-get_or, slice_get_within, get_or_from_slice_get}
-use Rattle.posting_table.specs.declared.cell.Cell.{Cell}
+use Rattle.query_values.specs.declared.value.Value.{Value}
 use Rattle.table_printer.specs.Table.{PlacedText, text_of, text_width, width_at, column_width, is_number_at, has_number, headers_from}
 use Rattle.table_printer.specs.CellText.{is_number, clean_text, cell_text, row_at}
 use Rattle.table_printer.specs.Heading.{heading_text}
@@ -28,32 +28,32 @@ cell_seen rows i j row x within is_row is_x =
     sym (ap (λ l. slice_get l j) same ∙ slice_get_read row (length row) j x refl (omega arith) is_x)
 
 -- a row is what stands at its place, whatever stands behind the last
-pub row_is : (rows : List (List Cell)) (i : ℕ) → i < length rows → row_at rows i ≡ get_or rows i (row_at rows i)
+pub row_is : (rows : List (List Value)) (i : ℕ) → i < length rows → row_at rows i ≡ get_or rows i (row_at rows i)
 row_is rows i within = sym (get_or_from_slice_get rows i (row_at rows i) (row_at rows i) (slice_get-get_or rows i [] within))
 
-pub width_seen : (places : List ℕ → ℕ) (row : List Cell) (i : ℕ) (v : Cell) → Some v ≡ slice_get row i → width_at i (map (text_of places) row) ≡ text_width (cell_text places v)
+pub width_seen : (places : List ℕ → ℕ) (row : List Value) (i : ℕ) (v : Value) → Some v ≡ slice_get row i → width_at i (map (text_of places) row) ≡ text_width (cell_text places v)
 width_seen places row i v is =
     ap (λ o. option_map_or (λ cell. text_width cell.text) o 0) (slice_get-map (text_of places) row i ∙ ap (option_map (text_of places)) (sym is))
 
-pub name_width : (k : ℕ) (rows : List (List Cell)) (names : List (List ℕ)) (i : ℕ) (name : List ℕ) → Some name ≡ slice_get names i → width_at i (headers_from k rows names) ≡ text_width (clean_text name)
+pub name_width : (k : ℕ) (rows : List (List Value)) (names : List (List ℕ)) (i : ℕ) (name : List ℕ) → Some name ≡ slice_get names i → width_at i (headers_from k rows names) ≡ text_width (clean_text name)
 name_width k rows [] i name is = let within = slice_get_within [] i name (sym is) in absurd (omega arith)
 name_width k rows (n ∷ ns) zero name is = ap (λ o. text_width (clean_text (unwrap_or o n))) (sym is)
 name_width k rows (n ∷ ns) (suc i) name is = name_width (k + 1) rows ns i name is
 
 -- the name alone
-pub width_at_first : (rows : List (List Cell)) (names : List (List ℕ)) (i : ℕ) (name : List ℕ) (width : ℕ) → Some name ≡ slice_get names i → width ≡ max (text_width (clean_text name)) 1
+pub width_at_first : (rows : List (List Value)) (names : List (List ℕ)) (i : ℕ) (name : List ℕ) (width : ℕ) → Some name ≡ slice_get names i → width ≡ max (text_width (clean_text name)) 1
     → width ≡ column_width (headers_from 0 rows names ∷ []) i
 width_at_first rows names i name width is made = let w = name_width 0 rows names i name is in omega arith
 
 -- one more row
-pub width_more : (places : List ℕ → ℕ) (head : List PlacedText) (rows : List (List Cell)) (i column : ℕ) (v : Cell) (before width : ℕ) → i < length rows → Some v ≡ slice_get (row_at rows i) column
+pub width_more : (places : List ℕ → ℕ) (head : List PlacedText) (rows : List (List Value)) (i column : ℕ) (v : Value) (before width : ℕ) → i < length rows → Some v ≡ slice_get (row_at rows i) column
     → before ≡ column_width (head ∷ map (map (text_of places)) (take i rows)) column → width ≡ max before (text_width (cell_text places v))
     → width ≡ column_width (head ∷ map (map (text_of places)) (take (i + 1) rows)) column
 width_more places head rows i column v before width within is known made =
     made ∙ (λ k. max (known k) (sym (width_seen places (row_at rows i) column v is) k))
     ∙ sym (column_width_more (map (text_of places)) head rows i column (row_at rows i) within (row_is rows i within))
 
-pub numbers_more : (rows : List (List Cell)) (i column : ℕ) (v : Cell) → i < length rows → Some v ≡ slice_get (row_at rows i) column
+pub numbers_more : (rows : List (List Value)) (i column : ℕ) (v : Value) → i < length rows → Some v ≡ slice_get (row_at rows i) column
     → has_number column (take (i + 1) rows) ≡ (has_number column (take i rows) || is_number v)
 numbers_more rows i column v within is =
     ap (has_number column) (take_more rows i [] within) ∙ list_any-append (is_number_at column) (take i rows) (row_at rows i ∷ [])
@@ -64,11 +64,11 @@ numbers_more rows i column v within is =
     or_none true = refl
     or_none false = refl
 
-pub length-headers_from : (k : ℕ) (rows : List (List Cell)) (names : List (List ℕ)) → length (headers_from k rows names) ≡ length names
+pub length-headers_from : (k : ℕ) (rows : List (List Value)) (names : List (List ℕ)) → length (headers_from k rows names) ≡ length names
 length-headers_from k rows [] = refl
 length-headers_from k rows (n ∷ ns) = ap suc (length-headers_from (k + 1) rows ns)
 
-headers_more : (i : ℕ) (rows : List (List Cell)) (names : List (List ℕ)) (name : List ℕ) →
+headers_more : (i : ℕ) (rows : List (List Value)) (names : List (List ℕ)) (name : List ℕ) →
     headers_from i rows (names ++ name ∷ []) ≡ headers_from i rows names ++ record { text = clean_text name; stands_right = has_number (i + length names) rows } ∷ []
 headers_more i rows [] name = let e : i ≡ i + 0 = omega arith in ap (λ k. record { text = clean_text name; stands_right = has_number k rows } ∷ []) e
 headers_more i rows (n ∷ names) name =
@@ -77,7 +77,7 @@ headers_more i rows (n ∷ names) name =
     (headers_more (i + 1) rows names name ∙ ap (λ k. headers_from (i + 1) rows names ++ record { text = clean_text name; stands_right = has_number k rows } ∷ []) e)
 
 -- the next name
-pub next_header : (rows : List (List Cell)) (names : List (List ℕ)) (i : ℕ) (name : List ℕ) → Some name ≡ slice_get names i →
+pub next_header : (rows : List (List Value)) (names : List (List ℕ)) (i : ℕ) (name : List ℕ) → Some name ≡ slice_get names i →
     headers_from 0 rows (take (i + 1) names) ≡ headers_from 0 rows (take i names) ++ record { text = clean_text name; stands_right = has_number i rows } ∷ []
 next_header rows names i name is =
     let within = slice_get_within names i name (sym is) in
@@ -91,6 +91,6 @@ pub header_texts : (places : List ℕ → ℕ) (columns : List Heading) → map 
 header_texts places [] = refl
 header_texts places (c ∷ cs) = ap (λ l. heading_text c ∷ l) (header_texts places cs)
 
-pub row_texts : (places : List ℕ → ℕ) (row : List Cell) → map (placed_text places) (row_cells row) ≡ map (text_of places) row
+pub row_texts : (places : List ℕ → ℕ) (row : List Value) → map (placed_text places) (row_cells row) ≡ map (text_of places) row
 row_texts places [] = refl
 row_texts places (v ∷ vs) = ap (λ l. text_of places v ∷ l) (row_texts places vs)

@@ -2,6 +2,5 @@ pub mod DigitsFacts
 pub mod LayoutFacts
 pub mod TableFacts
 pub mod InColumn
-pub mod SetFacts
 pub mod Printable
 pub mod Written

@@ -1,22 +1,26 @@
 -- The texts of cells.
-use Rattle.std.specs.Prelude.{ℕ, ℤ, Bool, true, false, Option, Some, None, List, [], ◌∷◌, ◌++◌, chars, codes, encode_utf8, slice_index_or, nat_lt, if◌then◌else◌}
+use Rattle.std.specs.Prelude.{ℕ, ℤ, Bool, true, false, Option, Some, None, List, [], ◌∷◌, ◌++◌, map, chars, codes, encode_utf8, slice_index_or, if◌then◌else◌}
 use Rattle.std.specs.Char.{is_control}
 use Rattle.std.specs.List.{flat_map}
+use Rattle.theory.specs.Arrangement.{by_key, arranged_by}
+use Rattle.theory.specs.Joined.{joined}
 use Rattle.bean_base.specs.Character.{comma, space}
+use Rattle.bean_lots.specs.Lot.{key_order}
+use Rattle.bean_lots.specs.declared.lot.Key.{Key}
 use Rattle.bean_lots.specs.declared.lot.Lot.{Lot}
-use Rattle.bean_lots.specs.declared.lot.Position.{Position}
-use Rattle.posting_table.specs.declared.cell.Cell.{Cell}
-use Rattle.posting_table.specs.declared.cell.Cell.TheVariants.{Null, Number, Text, Day, Set, Amount}
-use Rattle.posting_table.specs.declared.cell.Cell.TheVariants as cell
+use Rattle.bean_lots.specs.declared.lot.Position.{Position as Entry}
+use Rattle.query_values.specs.declared.bag.Bag.{Bag}
+use Rattle.query_values.specs.declared.value.Value.{Value}
+use Rattle.query_values.specs.declared.value.Value.TheVariants.{Null, Truth, Number, Text, Day, Set, Amount, Position, Inventory}
 use Rattle.table_printer.specs.Digits.{number_text, day_text}
 
 -- numbers stand at the right of their columns
-abbrev pub is_number : Cell → Bool
-is_number (Number n) = true
+abbrev pub is_number : Value → Bool
+is_number (Number p n) = true
 is_number _ = false
 
 -- a row: none behind the last
-abbrev pub row_at : List (List Cell) → ℕ → List Cell
+abbrev pub row_at : List (List Value) → ℕ → List Value
 row_at rows i = slice_index_or rows i []
 
 -- a control character becomes a space
@@ -26,14 +30,14 @@ shown_character c = if is_control c then space else c
 abbrev pub clean_text : List ℕ → List ℕ
 clean_text bs = flat_map (λ c. encode_utf8 (shown_character c)) (chars bs)
 
--- texts with a comma between each two
-abbrev pub set_text : List (List ℕ) → List ℕ
-set_text [] = []
-set_text (t ∷ ts) = clean_text t ++ flat_map (λ u. comma ∷ clean_text u) ts
+abbrev pub truth_text : Bool → List ℕ
+truth_text b = if b then codes "TRUE" else codes "FALSE"
 
--- what stands before the member i
-abbrev pub separator : ℕ → List ℕ
-separator i = if nat_lt 0 i then comma ∷ [] else []
+abbrev pub between_members : List ℕ
+between_members = comma ∷ []
+
+abbrev pub set_text : List (List ℕ) → List ℕ
+set_text texts = joined between_members (map clean_text texts)
 
 -- a number with at least its currency's display decimals, and the currency
 abbrev pub units_text : (List ℕ → ℕ) → ℤ → ℕ → List ℕ → List ℕ
@@ -55,17 +59,38 @@ abbrev pub held_text : (List ℕ → ℕ) → List ℕ → Option Lot → List �
 held_text display units None = units
 held_text display units (Some lot) = units ++ lot_text display lot
 
+-- units of a key's currency, and its lot
+abbrev pub entry_text : (List ℕ → ℕ) → ℕ → Key → ℤ → List ℕ
+entry_text display places key count = held_text display (units_text display count places key.currency) key.lot
+
 -- the counts of positions and costs are of 10^-8
-abbrev pub position_text : (List ℕ → ℕ) → Position → List ℕ
-position_text display p = held_text display (units_text display p.count 8 p.key.currency) p.key.lot
+abbrev pub position_text : (List ℕ → ℕ) → Key → ℤ → List ℕ
+position_text display key count = entry_text display 8 key count
+
+-- by currency, then by lot, none first: by what it cost, its day and its label
+abbrev pub comes_before : Entry → Entry → Bool
+comes_before = by_key (λ entry. entry.key) key_order
+
+abbrev pub in_order : List Entry → List Entry
+in_order entries = arranged_by comes_before entries
+
+abbrev pub between_entries : List ℕ
+between_entries = codes ", "
+
+-- the entries of an inventory in the order of their keys, whatever the order in which they came
+abbrev pub bag_text : (List ℕ → ℕ) → Bag → List ℕ
+bag_text display bag =
+    joined between_entries (map (λ entry. entry_text display bag.places entry.key entry.count) (in_order bag.held))
 
 -- a number has the fewest decimals that are exact, and amounts, units and costs at least those that
 -- their currency shows
-abbrev pub cell_text : (List ℕ → ℕ) → Cell → List ℕ
+abbrev pub cell_text : (List ℕ → ℕ) → Value → List ℕ
 cell_text display Null = []
-cell_text display (Number n) = number_text n.count n.places 0
+cell_text display (Truth b) = truth_text b
+cell_text display (Number p n) = number_text n p 0
 cell_text display (Text t) = clean_text t
 cell_text display (Day d) = day_text d
 cell_text display (Set texts) = set_text texts
-cell_text display (Amount n currency) = units_text display n.count n.places currency
-cell_text display (cell.Position p) = position_text display p
+cell_text display (Amount p n currency) = units_text display n p currency
+cell_text display (Position key n) = position_text display key n
+cell_text display (Inventory bag) = bag_text display bag

@@ -1,7 +1,7 @@
 -- What stands in a line, before its texts are made.
 use Rattle.std.specs.Prelude.{ℕ, List, map}
-use Rattle.posting_table.specs.declared.cell.Cell.{Cell}
-use Rattle.posting_table.specs.declared.cell.Cell.TheVariants.{Text}
+use Rattle.query_values.specs.declared.value.Value.{Value}
+use Rattle.query_values.specs.declared.value.Value.TheVariants.{Text}
 use Rattle.table_printer.specs.CellText.{is_number, cell_text}
 use Rattle.table_printer.specs.Table.{PlacedText}
 use Rattle.table_printer.specs.declared.headings.Heading.{Heading}
@@ -16,5 +16,5 @@ abbrev pub header_cells : List Heading → List Placed
 header_cells headings = map (λ heading. record { cell = Text heading.name; stands_right = heading.has_numbers }) headings
 
 -- a row
-abbrev pub row_cells : List Cell → List Placed
-row_cells row = map (λ cell. record { cell = cell; stands_right = is_number cell }) row
+abbrev pub row_cells : List Value → List Placed
+row_cells row = map (λ value. record { cell = value; stands_right = is_number value }) row

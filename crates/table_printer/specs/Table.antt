@@ -6,25 +6,25 @@ use Rattle.bean_base.specs.Character.{line_feed}
 use Rattle.unicode_width.specs.Width.{str_width}
 use Rattle.table_printer.specs.Layout.{trimmed, joined, filled, rule_of}
 use Rattle.table_printer.specs.CellText.{is_number, clean_text, cell_text}
-use Rattle.posting_table.specs.declared.cell.Cell.{Cell}
+use Rattle.query_values.specs.declared.value.Value.{Value}
 
 -- a text in a line of the table, and whether it stands at the right of its column
 pub record PlacedText : Type 0 where
   pub text : List ℕ
   pub stands_right : Bool
 
-abbrev pub text_of : (List ℕ → ℕ) → Cell → PlacedText
-text_of display cell = record { text = cell_text display cell; stands_right = is_number cell }
+abbrev pub text_of : (List ℕ → ℕ) → Value → PlacedText
+text_of display value = record { text = cell_text display value; stands_right = is_number value }
 
-abbrev pub is_number_at : ℕ → List Cell → Bool
+abbrev pub is_number_at : ℕ → List Value → Bool
 is_number_at i row = option_map_or is_number (slice_get row i) false
 
 -- some row has a number in the column i
-abbrev pub has_number : ℕ → List (List Cell) → Bool
+abbrev pub has_number : ℕ → List (List Value) → Bool
 has_number i rows = list_any (is_number_at i) rows
 
 -- the names of the columns from i on; a name stands right over numbers
-abbrev pub headers_from : ℕ → List (List Cell) → List (List ℕ) → List PlacedText
+abbrev pub headers_from : ℕ → List (List Value) → List (List ℕ) → List PlacedText
 headers_from i rows [] = []
 headers_from i rows (name ∷ names) =
     record { text = clean_text name; stands_right = has_number i rows } ∷ headers_from (i + 1) rows names
@@ -62,5 +62,5 @@ lines_of headers rows =
     line_of widths headers ++ rule_of widths ++ flat_map (line_of widths) rows
 
 -- names and rows under them, where `display` has the display decimals of the currencies
-abbrev pub table_text : List (List ℕ) → List (List Cell) → (List ℕ → ℕ) → List ℕ
+abbrev pub table_text : List (List ℕ) → List (List Value) → (List ℕ → ℕ) → List ℕ
 table_text names rows display = lines_of (headers_from 0 rows names) (map (map (text_of display)) rows)

@@ -1,13 +1,14 @@
-//! What a query or a listing answers: named columns of cells.
+//! What a query answers: named columns of values.
+use crate::cell::Cell;
 use crate::rows::Rows;
 use bean_base::{List, Slice};
-use posting_table::Cell;
+use query_values::Value;
 
-/// Rows of cells under the names of their columns.
+/// Rows of values under the names of their columns.
 #[derive(Drop)]
 pub struct Answer<'a> {
     pub headers: List<Slice<'a>>,
-    pub rows: List<List<Cell<'a>>>,
+    pub rows: List<List<Value<'a>>>,
     /// How many instructions were executed.
     pub steps: u64,
     /// How many groups there were, or how many postings passed where nothing was grouped.
@@ -32,6 +33,6 @@ impl Rows for Answer<'_> {
     }
 
     fn cell(&self, row: usize, column: usize) -> Cell<'_> {
-        self.rows.as_slice()[row].as_slice()[column].lend()
+        Cell::kept(&self.rows.as_slice()[row].as_slice()[column])
     }
 }

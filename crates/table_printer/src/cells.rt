@@ -6,20 +6,24 @@ ghost use Rattle.std.specs.String.{string_bytes};
 ghost use Rattle.posting_table.specs.Decimals.{decimals_of};
 ghost use Rattle.table_printer.specs.Digits.{number_text};
 ghost use Rattle.table_printer.specs.Table.{text_width};
-ghost use Rattle.table_printer.specs.CellText.{cell_text, clean_text, is_number, separator};
-ghost use Rattle.table_printer.specs.CellText.{set_text, shown_character, units_text};
+ghost use Rattle.table_printer.specs.CellText.{between_members, cell_text, clean_text, is_number};
+ghost use Rattle.table_printer.specs.CellText.{set_text, shown_character, truth_text, units_text};
+ghost use Rattle.theory.specs.Joined.{gap_before};
 
+use crate::cell::Cell;
 use crate::digits::{push_day, push_number};
+use crate::inventories::{inventory_width, push_inventory};
 use crate::positions::{position_width, push_position};
-use bean_base::{Currency, Decimal};
-use posting_table::{Cell, Display};
-use query_values::TextSet;
+use bean_base::Currency;
+use posting_table::Display;
+use query_values::{TextSet, Value};
 use std::alloc::{AllocError, Global};
 use unicode_width::UnicodeWidthStr;
 
 /// Buffers that every cell uses again.
 #[derive(Drop)]
 pub(crate) struct Scratch {
+    pub alloc: Global,
     /// A text without control characters.
     pub clean: String,
     /// What a text with escapes stands for.
@@ -31,6 +35,7 @@ pub(crate) struct Scratch {
 impl Scratch {
     pub(crate) fn new(alloc: Global) -> Scratch {
         Scratch {
+            alloc,
             clean: String::new(alloc),
             read: String::new(alloc),
             measured: Vec::new(alloc),
@@ -42,7 +47,7 @@ impl Scratch {
 pub(crate) fn is_number(cell: &Cell<'_>) -> bool
     ensures { result ≡ is_number cell.now }
 {
-    matches!(cell, Cell::Number(_))
+    matches!(cell.value(), Value::Number { .. })
 }
 
 fn shown_character(c: char) -> char
@@ -79,7 +84,8 @@ fn make_clean(clean: &mut String, text: &str) -> Result<(), AllocError>
 
 /// Adds what stands before a member of a set.
 fn add_separator(clean: &mut String, member: usize) -> Result<(), AllocError>
-    ensures { OnOk result (string_bytes clean.new ≡ string_bytes clean.old ++ separator member) }
+    ensures { OnOk result (string_bytes clean.new
+        ≡ string_bytes clean.old ++ gap_before between_members member) }
 {
     if member > 0 {
         clean.push(',')?;
@@ -142,14 +148,23 @@ fn set_width(set: &TextSet<'_>, clean: &mut String) -> Result<usize, AllocError>
     Ok(clean.width())
 }
 
+/// Adds a truth value, and tells its width.
+fn push_truth(out: &mut Vec<u8>, truth: bool) -> Result<usize, AllocError>
+    ensures text { OnOk result (out.new.items ≡ out.old.items ++ truth_text truth) }
+    ensures width { IfOk result (λ n. n ≡ text_width (truth_text truth)) }
+{
+    let text = if truth { "TRUE" } else { "FALSE" };
+    out.extend_from_slice(text.as_bytes())?;
+    Ok(text.len())
+}
+
 /// Adds a number with the fewest decimals that are exact, and tells its width.
-fn push_exact(out: &mut Vec<u8>, number: Decimal) -> Result<usize, AllocError>
-    ensures text { OnOk result (out.new.items
-        ≡ out.old.items ++ number_text number.count number.places 0) }
-    ensures width { IfOk result (λ n. n ≡ text_width (number_text number.count number.places 0)) }
+fn push_exact(out: &mut Vec<u8>, count: i128, places: u8) -> Result<usize, AllocError>
+    ensures text { OnOk result (out.new.items ≡ out.old.items ++ number_text count places 0) }
+    ensures width { IfOk result (λ n. n ≡ text_width (number_text count places 0)) }
 {
     let start = out.len();
-    push_number(out, number.count, number.places, 0)?;
+    push_number(out, count, places, 0)?;
     Ok(out.len() - start)
 }
 
@@ -161,7 +176,6 @@ pub(crate) fn push_units(
     currency: &Currency<'_>,
     display: &Display<'_>,
 ) -> Result<usize, AllocError>
-    requires { places ≤ 32 }
     ensures text { OnOk result (out.new.items ≡ out.old.items
         ++ units_text (decimals_of display.now) count places currency.now) }
     ensures width { IfOk result (λ n. n
@@ -191,19 +205,23 @@ pub(crate) fn push_cell(
     ensures width { IfOk result (λ n. n
         ≡ text_width (cell_text (decimals_of display.now) cell.now)) }
 {
-    match cell {
-        Cell::Null => Ok(0),
-        Cell::Number(number) => push_exact(out, *number),
-        Cell::Text(text) => push_clean(out, text.text(), &mut scratch.clean),
-        Cell::Day(day) => {
+    match cell.value() {
+        Value::Null => Ok(0),
+        Value::Truth(truth) => push_truth(out, *truth),
+        Value::Number { places, count } => push_exact(out, *count, *places),
+        Value::Text(text) => push_clean(out, text.text(), &mut scratch.clean),
+        Value::Day(day) => {
             push_day(out, *day)?;
             Ok(DAY_WIDTH)
         }
-        Cell::Set(set) => push_set(out, set.get(), &mut scratch.clean),
-        Cell::Amount(number, currency) => {
-            push_units(out, number.count, number.places, currency, display)
-        }
-        Cell::Position(position) => push_position(out, position.get(), scratch, display),
+        Value::Set(set) => push_set(out, set.get(), &mut scratch.clean),
+        Value::Amount {
+            places,
+            count,
+            currency,
+        } => push_units(out, *count, *places, currency, display),
+        Value::Position { key, count } => push_position(out, key.get(), *count, scratch, display),
+        Value::Inventory(bag) => push_inventory(out, bag, scratch, display),
     }
 }
 
@@ -217,16 +235,19 @@ pub(crate) fn cell_width(
         ≡ text_width (cell_text (decimals_of display.now) cell.now)) }
 {
     scratch.measured.clear();
-    match cell {
-        Cell::Null => Ok(0),
-        Cell::Number(number) => push_exact(&mut scratch.measured, *number),
-        Cell::Text(text) => clean_width(text.text(), &mut scratch.clean),
-        Cell::Day(_) => Ok(DAY_WIDTH),
-        Cell::Set(set) => set_width(set.get(), &mut scratch.clean),
-        Cell::Amount(number, currency) => {
-            let measured = &mut scratch.measured;
-            push_units(measured, number.count, number.places, currency, display)
-        }
-        Cell::Position(position) => position_width(position.get(), scratch, display),
+    match cell.value() {
+        Value::Null => Ok(0),
+        Value::Truth(truth) => push_truth(&mut scratch.measured, *truth),
+        Value::Number { places, count } => push_exact(&mut scratch.measured, *count, *places),
+        Value::Text(text) => clean_width(text.text(), &mut scratch.clean),
+        Value::Day(_) => Ok(DAY_WIDTH),
+        Value::Set(set) => set_width(set.get(), &mut scratch.clean),
+        Value::Amount {
+            places,
+            count,
+            currency,
+        } => push_units(&mut scratch.measured, *count, *places, currency, display),
+        Value::Position { key, count } => position_width(key.get(), *count, scratch, display),
+        Value::Inventory(bag) => inventory_width(bag, scratch, display),
     }
 }

@@ -17,17 +17,16 @@ fn digit(number: u64) -> u8
 }
 
 fn power_of_ten(places: u8) -> u128
-    requires { places ≤ 32 }
+    requires { places ≤ 38 }
     ensures value { result ≡ 10 ^ places }
     ensures some { 0 < result }
-    ensures narrow { result ≤ 100000000000000000000000000000000 }
+    ensures narrow { result ≤ 100000000000000000000000000000000000000 }
 {
     10u128.pow(places as u32)
 }
 
 /// A number before and behind its last `places` digits.
 fn split_at(number: u128, places: u8) -> (u128, u128)
-    requires { places ≤ 32 }
     ensures before { result.0 ≡ number / 10 ^ places }
     ensures behind { result.1 ≡ number % 10 ^ places }
     ensures small { result.1 < 10 ^ places }
@@ -38,6 +37,8 @@ fn split_at(number: u128, places: u8) -> (u128, u128)
             let unit = 10u64.pow(places as u32);
             ((number / unit) as u128, (number % unit) as u128)
         }
+        // The number has fewer digits.
+        _ if places > 38 => (0, number),
         _ => {
             let unit = power_of_ten(places);
             (number / unit, number % unit)
@@ -46,7 +47,7 @@ fn split_at(number: u128, places: u8) -> (u128, u128)
 }
 
 /// The last `places` digits of a number, with zeros in front where it has fewer.
-fn push_digits(out: &mut Vec<u8>, places: u8, number: u128) -> Result<(), AllocError>
+fn push_few_digits(out: &mut Vec<u8>, places: u8, number: u128) -> Result<(), AllocError>
     requires few { places ≤ 32 }
     requires small { number < 10 ^ places }
     ensures { OnOk result (out.new.items ≡ out.old.items ++ digits_of places number) }
@@ -60,11 +61,23 @@ fn push_digits(out: &mut Vec<u8>, places: u8, number: u128) -> Result<(), AllocE
     Ok(())
 }
 
+/// The same for any count of digits; where there are many, which is rare, one after the other.
+fn push_digits(out: &mut Vec<u8>, places: u8, number: u128) -> Result<(), AllocError>
+    requires { number < 10 ^ places }
+    ensures { OnOk result (out.new.items ≡ out.old.items ++ digits_of places number) }
+{
+    if places <= 32 {
+        return push_few_digits(out, places, number);
+    }
+    push_digits(out, places - 1, number / 10)?;
+    out.push(digit((number % 10) as u64))?;
+    Ok(())
+}
+
 /// Decimals without the zeros at their end behind the first `least`: how many they are, and the
 /// number that they write.
 fn without_zeros(places: u8, decimals: u128, least: u8) -> (u8, u128)
-    requires few { places ≤ 32 }
-    requires small { decimals < 10 ^ places }
+    requires { decimals < 10 ^ places }
     ensures digits { digits_of result.0 result.1 ++ zeros (least - result.0)
         ≡ exact_decimals places decimals
         ++ zeros (least - length (exact_decimals places decimals)) }
@@ -109,8 +122,7 @@ fn push_if(out: &mut Vec<u8>, mark: u8, is_wanted: bool) -> Result<(), AllocErro
 
 /// The point and the decimals, as few as are exact but at least so many.
 fn push_decimals(out: &mut Vec<u8>, places: u8, decimals: u128, least: u8) -> Result<(), AllocError>
-    requires few { places ≤ 32 }
-    requires small { decimals < 10 ^ places }
+    requires { decimals < 10 ^ places }
     ensures { OnOk result (out.new.items ≡ out.old.items ++ decimals_text places decimals least) }
 {
     let (shown, digits) = without_zeros(places, decimals, least);
@@ -127,7 +139,6 @@ pub(crate) fn push_number(
     places: u8,
     least: u8,
 ) -> Result<(), AllocError>
-    requires { places ≤ 32 }
     ensures { OnOk result (out.new.items ≡ out.old.items ++ number_text count places least) }
 {
     let (whole, decimals) = split_at(count.unsigned_abs(), places);

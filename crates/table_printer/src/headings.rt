@@ -7,10 +7,12 @@ ghost use Rattle.table_printer.specs.Heading.{heading_text, width_of};
 ghost use Rattle.table_printer.specs.Table.{text_of, column_width, has_number, headers_from};
 ghost use Rattle.table_printer.specs.Table.{widths_of};
 
+use crate::cell::Cell;
 use crate::cells::{Scratch, cell_width, is_number};
 use crate::rows::Rows;
 use bean_base::Slice;
-use posting_table::{Cell, Display};
+use posting_table::Display;
+use query_values::Value;
 use std::alloc::{AllocError, Global};
 
 /// The head of a column, as its name and the rows make it.
@@ -38,7 +40,8 @@ fn heading_at<'t, T: Rows>(
     ensures numbers { IfOk result (λ h. h.has_numbers ≡ has_number column (T.rows table.now)) }
 {
     let name = table.name(column);
-    let mut width = cell_width(&Cell::Text(Slice::new(name)), scratch, display)?.max(1);
+    let heading = Cell::made(Value::Text(Slice::new(name)));
+    let mut width = cell_width(&heading, scratch, display)?.max(1);
     let mut has_numbers = false;
     for row in 0..table.len() {
         let cell = table.cell(row, column);

@@ -5,8 +5,8 @@
 //! let answer = Answer {
 //!     headers: List::new(vec![in alloc; Slice::new("account"), Slice::new("position")]?),
 //!     rows: List::new(vec![in alloc; List::new(vec![in alloc;
-//!         Cell::Text(Slice::new("Assets:Cash")),
-//!         Cell::Position(Lent::new(&cash)),
+//!         Value::Text(Slice::new("Assets:Cash")),
+//!         Value::Position { key: Lent::new(&dollars), count: 10_000_000_000 },
 //!     ]?)]?),
 //!     steps: 0,
 //!     groups: 0,
@@ -24,15 +24,18 @@
 //! `unicode_width`, and at least 1. Numbers stand right and their names over them, all else left.
 //! Control characters become spaces.
 //!
-//! - A number has the fewest decimals that are exact.
+//! - Null is empty, truth is `TRUE` or `FALSE`. A number has the fewest decimals that are exact.
 //! - An amount, the units of a position and what they cost have at least the decimals that their
 //!   currency shows: `100.00 USD`, `5 HOOL {120.00 USD, 2014-01-02, "a label"}`.
-//! - The texts of a set stand in the order of their bytes, with a `,` between. Null is empty.
+//! - The texts of a set stand in the order of their bytes, with a `,` between.
+//! - The entries of an inventory stand in the order of their currencies, then of their lots, none
+//!   first, with `, ` between, whatever the order in which they came.
 //!
 //! # Rows
 //!
-//! A table is printed of whatever lends rows of cells ([`Rows`]): an [`Answer`], which holds them,
-//! or a view of a ledger, which copies none. Each row has as many cells as there are names.
+//! A table is printed of whatever gives rows of cells ([`Rows`]): an [`Answer`], which keeps their
+//! values, or a view of a ledger, which makes each when it is asked for ([`Cell`]) and copies no
+//! text. Each row has as many cells as there are names.
 //!
 //! # Faults
 //!
@@ -43,13 +46,16 @@
 //! # Cost
 //!
 //! Two passes over the rows: one measures each column, one writes. The memory is that of the text,
-//! of a few buffers that every cell uses again, and of a word or two for each column.
+//! of a few buffers that every cell uses again, of a word or two for each column, and of a word for
+//! each entry of an inventory while it is written.
 #![tactic(auto)]
 
 mod answer;
+mod cell;
 mod cells;
 mod digits;
 mod headings;
+mod inventories;
 mod lines;
 mod positions;
 mod rows;
@@ -58,6 +64,7 @@ mod table;
 pub mod writing;
 
 pub use answer::Answer;
+pub use cell::Cell;
 pub use rows::Rows;
 pub use table::print;
 pub use writing::{PrintFault, write_table};

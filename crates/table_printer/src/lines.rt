@@ -9,11 +9,13 @@ ghost use Rattle.table_printer.specs.Line.{placed_text};
 ghost use Rattle.table_printer.specs.Table.{padded, pieces, line_of};
 ghost use Rattle.table_printer.specs.declared.lines.Placed.{Placed};
 
+use crate::cell::Cell;
 use crate::cells::{Scratch, cell_width, is_number, push_cell};
 use crate::headings::Heading;
 use crate::rows::Rows;
 use crate::runs::push_run;
-use posting_table::{Cell, Display};
+use posting_table::Display;
+use query_values::Value;
 use std::alloc::AllocError;
 
 /// A cell, and whether it stands at the right of its column.
@@ -48,7 +50,7 @@ impl Line for HeaderLine<'_, '_> {
     fn cell(&self, column: usize) -> Placed<'_> {
         let heading = &self.headings[column];
         Placed {
-            cell: Cell::Text(heading.name.lend()),
+            cell: Cell::made(Value::Text(heading.name.lend())),
             stands_right: heading.has_numbers,
         }
     }

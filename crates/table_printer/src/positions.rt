@@ -1,17 +1,18 @@
 //! The texts of positions, and how wide they are.
-ghost use Rattle.std.specs.Prelude.{◌≡◌, ◌++◌, Some, OnOk, IfOk, true};
+ghost use Rattle.std.specs.Prelude.{◌≡◌, ◌++◌, OnOk, IfOk, true};
 ghost use Rattle.std.specs.Int.{is_in_range};
 ghost use Rattle.std.specs.List.{list_all};
 ghost use Rattle.std.specs.String.{string_bytes};
 ghost use Rattle.posting_table.specs.Decimals.{decimals_of};
 ghost use Rattle.table_printer.specs.Digits.{day_text};
 ghost use Rattle.table_printer.specs.Table.{text_width};
-ghost use Rattle.table_printer.specs.CellText.{label_text, lot_text, position_text, units_text};
+ghost use Rattle.table_printer.specs.CellText.{entry_text, label_text, lot_text, position_text};
+ghost use Rattle.table_printer.specs.CellText.{units_text};
 
 use crate::cells::{Scratch, add_clean, push_units};
 use crate::digits::push_day;
 use bean_base::{Currency, Day, Text};
-use bean_lots::{Lot, Position};
+use bean_lots::{Key, Lot};
 use posting_table::Display;
 use std::alloc::AllocError;
 use unicode_width::UnicodeWidthStr;
@@ -30,24 +31,19 @@ fn add_printable(clean: &mut String, bytes: &[u8]) -> Result<(), AllocError>
     Ok(())
 }
 
-/// Adds the number `count` · `10^-8` and a currency.
+/// Adds the number `count` · `10^-places` and a currency.
 fn add_units(
     scratch: &mut Scratch,
     count: i128,
+    places: u8,
     currency: &Currency<'_>,
     display: &Display<'_>,
 ) -> Result<(), AllocError>
     ensures { OnOk result (string_bytes scratch.new.clean ≡ string_bytes scratch.old.clean
-        ++ units_text (decimals_of display.now) count COUNT_PLACES currency.now) }
+        ++ units_text (decimals_of display.now) count places currency.now) }
 {
     scratch.measured.clear();
-    push_units(
-        &mut scratch.measured,
-        count,
-        COUNT_PLACES,
-        currency,
-        display,
-    )?;
+    push_units(&mut scratch.measured, count, places, currency, display)?;
     add_printable(&mut scratch.clean, &scratch.measured)?;
     Ok(())
 }
@@ -82,7 +78,7 @@ fn add_lot(scratch: &mut Scratch, lot: &Lot<'_>, display: &Display<'_>) -> Resul
         ≡ string_bytes scratch.old.clean ++ lot_text (decimals_of display.now) lot.now) }
 {
     scratch.clean.push_str(" {")?;
-    add_units(scratch, lot.cost.count, &lot.cost.currency, display)?;
+    add_units(scratch, lot.cost.count, COUNT_PLACES, &lot.cost.currency, display)?;
     scratch.clean.push_str(", ")?;
     add_day(scratch, lot.day)?;
     add_label(scratch, &lot.label)?;
@@ -90,75 +86,75 @@ fn add_lot(scratch: &mut Scratch, lot: &Lot<'_>, display: &Display<'_>) -> Resul
     Ok(())
 }
 
-/// The text of a position that is held as a lot, in place of what was there.
-fn make_position(
+/// Adds units of a key, and the lot that they are held as.
+pub(crate) fn add_entry(
     scratch: &mut Scratch,
-    position: &Position<'_>,
-    lot: &Lot<'_>,
+    key: &Key<'_>,
+    count: i128,
+    places: u8,
     display: &Display<'_>,
 ) -> Result<(), AllocError>
-    requires { position.now.key.lot ≡ Some lot.now }
+    ensures { OnOk result (string_bytes scratch.new.clean ≡ string_bytes scratch.old.clean
+        ++ entry_text (decimals_of display.now) places key.now count) }
+{
+    add_units(scratch, count, places, &key.currency, display)?;
+    if let Some(lot) = &key.lot {
+        add_lot(scratch, lot, display)?;
+    }
+    Ok(())
+}
+
+/// The text of a position, in place of what was there.
+fn make_position(
+    scratch: &mut Scratch,
+    key: &Key<'_>,
+    count: i128,
+    display: &Display<'_>,
+) -> Result<(), AllocError>
     ensures { OnOk result (string_bytes scratch.new.clean
-        ≡ position_text (decimals_of display.now) position.now) }
+        ≡ position_text (decimals_of display.now) key.now count) }
 {
     scratch.clean.clear();
-    add_units(scratch, position.count, &position.key.currency, display)?;
-    add_lot(scratch, lot, display)?;
-    Ok(())
+    add_entry(scratch, key, count, COUNT_PLACES, display)
 }
 
 /// Adds a position, and tells its width.
 pub(crate) fn push_position(
     out: &mut Vec<u8>,
-    position: &Position<'_>,
+    key: &Key<'_>,
+    count: i128,
     scratch: &mut Scratch,
     display: &Display<'_>,
 ) -> Result<usize, AllocError>
     ensures text { OnOk result (out.new.items ≡ out.old.items
-        ++ position_text (decimals_of display.now) position.now) }
+        ++ position_text (decimals_of display.now) key.now count) }
     ensures width { IfOk result (λ n. n
-        ≡ text_width (position_text (decimals_of display.now) position.now)) }
+        ≡ text_width (position_text (decimals_of display.now) key.now count)) }
 {
-    match &position.key.lot {
-        None => push_units(
-            out,
-            position.count,
-            COUNT_PLACES,
-            &position.key.currency,
-            display,
-        ),
-        Some(lot) => {
-            make_position(scratch, position, lot, display)?;
-            out.extend_from_slice(scratch.clean.as_bytes())?;
-            Ok(scratch.clean.width())
-        }
+    // Most are held without a lot: their width is told without looking at characters.
+    if key.lot.is_none() {
+        return push_units(out, count, COUNT_PLACES, &key.currency, display);
     }
+    make_position(scratch, key, count, display)?;
+    out.extend_from_slice(scratch.clean.as_bytes())?;
+    Ok(scratch.clean.width())
 }
 
 /// How many columns of a terminal a position takes.
 pub(crate) fn position_width(
-    position: &Position<'_>,
+    key: &Key<'_>,
+    count: i128,
     scratch: &mut Scratch,
     display: &Display<'_>,
 ) -> Result<usize, AllocError>
     ensures { IfOk result (λ n. n
-        ≡ text_width (position_text (decimals_of display.now) position.now)) }
+        ≡ text_width (position_text (decimals_of display.now) key.now count)) }
 {
-    match &position.key.lot {
-        None => {
-            let (count, currency) = (position.count, &position.key.currency);
-            scratch.measured.clear();
-            push_units(
-                &mut scratch.measured,
-                count,
-                COUNT_PLACES,
-                currency,
-                display,
-            )
-        }
-        Some(lot) => {
-            make_position(scratch, position, lot, display)?;
-            Ok(scratch.clean.width())
-        }
+    if key.lot.is_none() {
+        let measured = &mut scratch.measured;
+        measured.clear();
+        return push_units(measured, count, COUNT_PLACES, &key.currency, display);
     }
+    make_position(scratch, key, count, display)?;
+    Ok(scratch.clean.width())
 }

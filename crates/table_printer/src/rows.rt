@@ -1,9 +1,9 @@
 //! Rows of cells under the names of their columns, wherever they are kept.
 ghost use Rattle.std.specs.Prelude.{◌≡◌, ◌<◌, ℕ, List, length, slice_get, Some};
 ghost use Rattle.table_printer.specs.CellText.{row_at};
-ghost use Rattle.posting_table.specs.declared.cell.Cell.{Cell};
+ghost use Rattle.query_values.specs.declared.value.Value.{Value};
 
-use posting_table::Cell;
+use crate::cell::Cell;
 
 /// What a table is printed of: an answer, or what lends its cells from where they are.
 pub trait Rows {
@@ -11,7 +11,7 @@ pub trait Rows {
     ghost names: { Self → List (List ℕ) };
 
     /// The rows.
-    ghost rows: { Self → List (List Cell) };
+    ghost rows: { Self → List (List Value) };
 
     /// How many columns there are.
     fn columns(&self) -> usize
@@ -26,7 +26,7 @@ pub trait Rows {
     fn len(&self) -> usize
         ensures { result ≡ length (rows self.now) };
 
-    /// What a row has in a column, lent from where it is.
+    /// What a row has in a column.
     fn cell(&self, row: usize, column: usize) -> Cell<'_>
         requires { column < length (row_at (rows self.now) row) }
         ensures { Some result ≡ slice_get (row_at (rows self.now) row) column };

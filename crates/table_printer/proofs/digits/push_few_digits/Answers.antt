@@ -2,7 +2,7 @@ use Rattle.std.proofs.Common.{◌≡◌, [], ◌∷◌, ◌++◌, ◌+◌, List,
 use Rattle.std.specs.Fmt.{decimal}
 use Rattle.table_printer.specs.Digits.{digits_of}
 use Rattle.table_printer.proofs.DigitsFacts.{leading_one}
-use Rattle.table_printer.proofs.digits.push_digits.Goals as goal
+use Rattle.table_printer.proofs.digits.push_few_digits.Goals as goal
 
 abbrev behind : List ℕ → List ℕ
 behind [] = []

@@ -1,0 +1,101 @@
+//! The texts of inventories, and how wide they are.
+ghost use Rattle.std.specs.Prelude.{◌≡◌, ◌++◌, OnOk, IfOk};
+ghost use Rattle.std.specs.String.{string_bytes};
+ghost use Rattle.posting_table.specs.Decimals.{decimals_of};
+ghost use Rattle.table_printer.specs.Table.{text_width};
+ghost use Rattle.table_printer.specs.CellText.{bag_text, between_entries, in_order};
+ghost use Rattle.theory.specs.Joined.{gap_before};
+ghost use Rattle.bean_lots.specs.Lot.{key_order};
+
+use crate::cells::Scratch;
+use crate::positions::add_entry;
+use bean_lots::Position;
+use posting_table::Display;
+use query_values::{Bag, Lent};
+use std::alloc::{AllocError, Global};
+use std::cmp::Ordering;
+use unicode_width::UnicodeWidthStr;
+
+/// The entries, lent one by one.
+fn lent<'b>(
+    alloc: Global,
+    entries: &'b [Position<'b>],
+) -> Result<Vec<Lent<'b, Position<'b>>>, AllocError>
+    ensures { IfOk result (λ v. v.items ≡ entries.now) }
+{
+    let mut lent = Vec::with_capacity(alloc, entries.len())?;
+    for entry in entries {
+        lent.push(Lent::new(entry))?;
+    }
+    Ok(lent)
+}
+
+/// Puts entries in the order of their keys.
+fn arrange(entries: &mut Vec<Lent<'_, Position<'_>>>) -> Result<(), AllocError>
+    ensures { OnOk result (entries.new.items ≡ in_order entries.old.items) }
+{
+    entries.sort_by(
+        |a: &Lent<'_, Position<'_>>, b: &Lent<'_, Position<'_>>| -> Ordering
+            ensures { result ≡ key_order a.now.key b.now.key }
+        { a.get().key.cmp(&b.get().key) },
+    )
+}
+
+/// Adds what stands before an entry.
+fn add_gap(clean: &mut String, entry: usize) -> Result<(), AllocError>
+    ensures { OnOk result (string_bytes clean.new
+        ≡ string_bytes clean.old ++ gap_before between_entries entry) }
+{
+    if entry > 0 {
+        clean.push_str(", ")?;
+    }
+    Ok(())
+}
+
+/// The text of an inventory, in place of what was there.
+fn make_inventory(
+    scratch: &mut Scratch,
+    bag: &Bag<'_>,
+    display: &Display<'_>,
+) -> Result<(), AllocError>
+    ensures { OnOk result (string_bytes scratch.new.clean
+        ≡ bag_text (decimals_of display.now) bag.now) }
+{
+    let mut entries = lent(scratch.alloc, bag.held.entries())?;
+    arrange(&mut entries)?;
+    scratch.clean.clear();
+    for (i, entry) in entries.iter().enumerate() {
+        let entry = entry.get();
+        add_gap(&mut scratch.clean, i)?;
+        add_entry(scratch, &entry.key, entry.count, bag.places, display)?;
+    }
+    Ok(())
+}
+
+/// Adds an inventory, and tells its width.
+pub(crate) fn push_inventory(
+    out: &mut Vec<u8>,
+    bag: &Bag<'_>,
+    scratch: &mut Scratch,
+    display: &Display<'_>,
+) -> Result<usize, AllocError>
+    ensures text { OnOk result (out.new.items
+        ≡ out.old.items ++ bag_text (decimals_of display.now) bag.now) }
+    ensures width { IfOk result (λ n. n ≡ text_width (bag_text (decimals_of display.now) bag.now)) }
+{
+    make_inventory(scratch, bag, display)?;
+    out.extend_from_slice(scratch.clean.as_bytes())?;
+    Ok(scratch.clean.width())
+}
+
+/// How many columns of a terminal an inventory takes.
+pub(crate) fn inventory_width(
+    bag: &Bag<'_>,
+    scratch: &mut Scratch,
+    display: &Display<'_>,
+) -> Result<usize, AllocError>
+    ensures { IfOk result (λ n. n ≡ text_width (bag_text (decimals_of display.now) bag.now)) }
+{
+    make_inventory(scratch, bag, display)?;
+    Ok(scratch.clean.width())
+}
