@@ -199,7 +199,7 @@ impl PartialEq for Text<'_> {
     ghost laws = { Cmp.partial_equiv_from_equiv nat_list_eq_equiv };
 
     fn eq(&self, other: &Self) -> bool {
-        order_of_read(self.written.as_bytes(), other.written.as_bytes()) == Ordering::Equal
+        order_of_read(self.written.as_bytes(), other.written.as_bytes()).is_eq()
     }
 }
 

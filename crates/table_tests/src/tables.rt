@@ -2,12 +2,11 @@
 ghost use Rattle.std.specs.Prelude.{◌≡◌, length, IfOk, All};
 
 use bean_base::{
-    Currency, Decimal, Flag, List, NameFault, Num, Slice, Text, parse_account, parse_currency,
-    parse_day,
+    Currency, Flag, List, NameFault, Num, Slice, Text, parse_account, parse_currency, parse_day,
 };
-use bean_lots::{Cost, Key, Lot, Position};
-use posting_table::{Cell, Column, Display, Ledger, Row};
-use query_values::{Lent, TextSet};
+use bean_lots::{Cost, Inventory, Key, Lot, Position};
+use posting_table::{Column, Display, Ledger, Row};
+use query_values::{Bag, Lent, TextSet, Value};
 use std::alloc::{AllocError, Global};
 use std::test::Fail;
 use table_printer::{Answer, print};
@@ -25,6 +24,20 @@ const POSITIONS: &str = "cell
 -1 HOOL {120.00 USD, 2014-01-03, \"a \\ b\"}
 ";
 
+const INVENTORIES: &str = "cell
+-----------------------------------------------------
+2 EUR, 1 HOOL, 3 HOOL {1 USD, 2014-01-02}, -7.125 USD
+
+TRUE
+";
+
+const LONG: &str = "                                                                             cell
+---------------------------------------------------------------------------------
+                                                                              0.5
+0.0000000000000000000000000000000000000000170141183460469231731687303715884105727
+                                                                               -1
+";
+
 const SETS: &str = "cell
 --------------
 2024,b c,naïve
@@ -35,8 +48,8 @@ trip
 fn answer_of<'a>(
     alloc: Global,
     headers: [Slice<'a>; 4],
-    first: [Cell<'a>; 4],
-    second: [Cell<'a>; 4],
+    first: [Value<'a>; 4],
+    second: [Value<'a>; 4],
 ) -> Result<Answer<'a>, AllocError>
     ensures { IfOk result (λ a. All (λ row. length row ≡ length a.headers) a.rows) }
 {
@@ -58,10 +71,6 @@ fn usd() -> Result<Currency<'static>, NameFault> {
 #[test]
 fn prints_cells_of_each_kind(rt: HostRuntime) -> Result<(), Fail> {
     let alloc = rt.alloc();
-    let cost = Decimal {
-        count: -1_125_000_000_000_000,
-        places: 15,
-    };
     let headers = [
         Slice::new("text"),
         Slice::new("number"),
@@ -69,25 +78,30 @@ fn prints_cells_of_each_kind(rt: HostRuntime) -> Result<(), Fail> {
         Slice::new("amount"),
     ];
     let first = [
-        Cell::Text(Slice::new("a\tb")),
-        Cell::Number(Decimal::of_num(Num::parse("10.50")?)),
-        Cell::Day(parse_day("2014-01-02")?),
-        Cell::Amount(cost, usd()?),
+        Value::Text(Slice::new("a\tb")),
+        Value::Number {
+            places: 2,
+            count: 1_050,
+        },
+        Value::Day(parse_day("2014-01-02")?),
+        Value::Amount {
+            places: 15,
+            count: -1_125_000_000_000_000,
+            currency: usd()?,
+        },
     ];
     let second = [
-        Cell::Null,
-        Cell::Number(Decimal {
-            count: 700_000_000_000_000_000_000_000_000_000_000,
+        Value::Null,
+        Value::Number {
             places: 32,
-        }),
-        Cell::Null,
-        Cell::Amount(
-            Decimal {
-                count: 1,
-                places: 0,
-            },
-            usd()?,
-        ),
+            count: 700_000_000_000_000_000_000_000_000_000_000,
+        },
+        Value::Null,
+        Value::Amount {
+            places: 0,
+            count: 1,
+            currency: usd()?,
+        },
     ];
     let answer = answer_of(alloc, headers, first, second)?;
     let mut display = Display::new(alloc);
@@ -99,7 +113,7 @@ fn prints_cells_of_each_kind(rt: HostRuntime) -> Result<(), Fail> {
     Ok(())
 }
 
-fn row_of<'a>(alloc: Global, cell: Cell<'a>) -> Result<List<Cell<'a>>, AllocError>
+fn row_of<'a>(alloc: Global, cell: Value<'a>) -> Result<List<Value<'a>>, AllocError>
     ensures { IfOk result (λ row. length row ≡ 1) }
 {
     Ok(List::new(Vec::from_array(alloc, [cell])?))
@@ -108,9 +122,9 @@ fn row_of<'a>(alloc: Global, cell: Cell<'a>) -> Result<List<Cell<'a>>, AllocErro
 /// A column of three cells.
 fn column_of<'a>(
     alloc: Global,
-    first: Cell<'a>,
-    second: Cell<'a>,
-    third: Cell<'a>,
+    first: Value<'a>,
+    second: Value<'a>,
+    third: Value<'a>,
 ) -> Result<Answer<'a>, AllocError>
     ensures { IfOk result (λ a. All (λ row. length row ≡ length a.headers) a.rows) }
 {
@@ -147,6 +161,13 @@ fn held(
     })
 }
 
+fn lent<'a>(position: &'a Position<'a>) -> Value<'a> {
+    Value::Position {
+        key: Lent::new(&position.key),
+        count: position.count,
+    }
+}
+
 #[test]
 fn prints_positions_with_their_lots(rt: HostRuntime) -> Result<(), Fail> {
     let alloc = rt.alloc();
@@ -164,11 +185,12 @@ fn prints_positions_with_their_lots(rt: HostRuntime) -> Result<(), Fail> {
         "2014-01-03",
         Some(Text::new("a\\n\\\\ b")),
     )?;
-    let (first, second, third) = (&cash, &bought, &owed);
-    let first = Cell::Position(Lent::new(first));
-    let second = Cell::Position(Lent::new(second));
-    let third = Cell::Position(Lent::new(third));
-    let answer = column_of(alloc, first, second, third)?;
+    let answer = column_of(
+        alloc,
+        lent(&cash),
+        lent(&bought),
+        lent(&owed),
+    )?;
     let mut display = Display::new(alloc);
     display.set(usd()?, 2)?;
     assert_eq!(rt;
@@ -176,6 +198,20 @@ fn prints_positions_with_their_lots(rt: HostRuntime) -> Result<(), Fail> {
         POSITIONS.as_bytes()
     );
     Ok(())
+}
+
+fn is_text(value: &Value<'_>, text: &str) -> bool {
+    match value {
+        Value::Text(slice) => slice.text() == text,
+        _ => false,
+    }
+}
+
+fn units_of(value: &Value<'_>) -> Option<i128> {
+    match value {
+        Value::Position { count, .. } => Some(*count),
+        _ => None,
+    }
 }
 
 #[test]
@@ -195,14 +231,8 @@ fn a_ledger_lends_its_cells(rt: HostRuntime) -> Result<(), Fail> {
     assert_eq!(rt; ledger.len(), 1);
     assert_eq!(rt; ledger.display().places(&usd()?), 4);
     assert_eq!(rt; ledger.display().places(&parse_currency("EUR")?), 0);
-    match ledger.cell(0, Column::Flag) {
-        Cell::Text(flag) => assert_eq!(rt; flag.text(), "!"),
-        _ => assert!(rt; false),
-    }
-    match ledger.cell(0, Column::Position) {
-        Cell::Position(position) => assert_eq!(rt; position.get().count, 250_000_000),
-        _ => assert!(rt; false),
-    }
+    assert!(rt; is_text(&ledger.cell(0, Column::Flag), "!"));
+    assert_eq!(rt; units_of(&ledger.cell(0, Column::Position)), Some(250_000_000));
     Ok(())
 }
 
@@ -212,9 +242,9 @@ fn sets_printed(
     second: &TextSet<'static>,
     third: &TextSet<'static>,
 ) -> Result<Vec<u8>, AllocError> {
-    let first = Cell::Set(Lent::new(first));
-    let second = Cell::Set(Lent::new(second));
-    let third = Cell::Set(Lent::new(third));
+    let first = Value::Set(Lent::new(first));
+    let second = Value::Set(Lent::new(second));
+    let third = Value::Set(Lent::new(third));
     let answer = column_of(alloc, first, second, third)?;
     let display = Display::new(alloc);
     print(alloc, &answer, &display)
@@ -236,5 +266,75 @@ fn prints_sets_in_the_order_of_bytes(rt: HostRuntime) -> Result<(), Fail> {
         sets_printed(alloc, &many, &none, &one)?.as_slice(),
         SETS.as_bytes()
     );
+    Ok(())
+}
+
+/// A position without a lot.
+fn bare(currency: &'static str, count: i128) -> Result<Position<'static>, NameFault> {
+    Ok(Position {
+        key: Key {
+            currency: parse_currency(currency)?,
+            lot: None,
+        },
+        count,
+    })
+}
+
+/// Four entries, in another order than that in which they are printed.
+fn mixed(alloc: Global) -> Result<Bag<'static>, Fail> {
+    let mut entries = Inventory::new(alloc);
+    for position in [
+        bare("USD", -712_500_000)?,
+        held(300_000_000, "1", "2014-01-02", None)?,
+        bare("HOOL", 100_000_000)?,
+        bare("EUR", 200_000_000)?,
+    ] {
+        entries.add(position.key, position.count)?;
+    }
+    Ok(Bag {
+        places: 8,
+        held: entries,
+    })
+}
+
+#[test]
+fn prints_truth_and_inventories(rt: HostRuntime) -> Result<(), Fail> {
+    let alloc = rt.alloc();
+    let none = Bag {
+        places: 8,
+        held: Inventory::new(alloc),
+    };
+    let answer = column_of(
+        alloc,
+        Value::Inventory(mixed(alloc)?),
+        Value::Inventory(none),
+        Value::Truth(true),
+    )?;
+    let display = Display::new(alloc);
+    assert_eq!(rt;
+        print(alloc, &answer, &display)?.as_slice(),
+        INVENTORIES.as_bytes()
+    );
+    Ok(())
+}
+
+#[test]
+fn prints_numbers_of_many_decimals(rt: HostRuntime) -> Result<(), Fail> {
+    let alloc = rt.alloc();
+    let half = Value::Number {
+        places: 1,
+        count: 5,
+    };
+    let long = Value::Number {
+        places: 79,
+        count: i128::MAX,
+    };
+    let whole = Value::Number {
+        places: 0,
+        count: -1,
+    };
+    let answer = column_of(alloc, half, long, whole)?;
+    let display = Display::new(alloc);
+    assert_eq!(rt; print(alloc, &answer, &display)?.as_slice(), LONG.as_bytes());
     Ok(())
 }
