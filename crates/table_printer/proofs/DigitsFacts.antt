@@ -71,7 +71,7 @@ narrow places few = pow-le-pow_right {n = 10} (omega arith) few
 
 -- more places are more than 128 bits count
 pub wide : (places : ℕ) → 38 < places → 1000000000000000000000000000000000000000 ≤ 10 ^ places
-wide places many = pow-le-pow_right {n = 10} {m = 39} (omega arith) many
+wide places many = pow-le-pow_right {n = 10} (omega arith) many
 
 shifted : (unit n : ℕ) → (10 * unit + n) / 10 ≡ unit + n / 10
 shifted unit n = omega arith

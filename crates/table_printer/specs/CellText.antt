@@ -77,10 +77,12 @@ in_order entries = arranged_by comes_before entries
 abbrev pub between_entries : List ℕ
 between_entries = codes ", "
 
+abbrev pub text_of_entry : (List ℕ → ℕ) → ℕ → Entry → List ℕ
+text_of_entry display places entry = entry_text display places entry.key entry.count
+
 -- the entries of an inventory in the order of their keys, whatever the order in which they came
 abbrev pub bag_text : (List ℕ → ℕ) → Bag → List ℕ
-bag_text display bag =
-    joined between_entries (map (λ entry. entry_text display bag.places entry.key entry.count) (in_order bag.held))
+bag_text display bag = joined between_entries (map (text_of_entry display bag.places) (in_order bag.held))
 
 -- a number has the fewest decimals that are exact, and amounts, units and costs at least those that
 -- their currency shows

@@ -19,10 +19,9 @@ pub struct Cell<'r> {
 }
 
 impl<'r> Model for Cell<'r> {
-    ghost use Rattle.query_values.specs.declared.value.Value.{Value};
-    ghost use Rattle.table_printer.specs.Cell.{value_of};
+    ghost use Rattle.table_printer.specs.Cell.{CellValue, value_of};
 
-    ghost Value = { Value };
+    ghost Value = { CellValue };
 
     ghost view = { λ c. value_of c.held };
 }

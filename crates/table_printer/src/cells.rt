@@ -148,12 +148,18 @@ fn set_width(set: &TextSet<'_>, clean: &mut String) -> Result<usize, AllocError>
     Ok(clean.width())
 }
 
+fn truth_text(truth: bool) -> &'static str
+    ensures { result.now ≡ truth_text truth }
+{
+    if truth { "TRUE" } else { "FALSE" }
+}
+
 /// Adds a truth value, and tells its width.
 fn push_truth(out: &mut Vec<u8>, truth: bool) -> Result<usize, AllocError>
     ensures text { OnOk result (out.new.items ≡ out.old.items ++ truth_text truth) }
     ensures width { IfOk result (λ n. n ≡ text_width (truth_text truth)) }
 {
-    let text = if truth { "TRUE" } else { "FALSE" };
+    let text = truth_text(truth);
     out.extend_from_slice(text.as_bytes())?;
     Ok(text.len())
 }

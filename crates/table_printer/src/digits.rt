@@ -31,14 +31,16 @@ fn split_at(number: u128, places: u8) -> (u128, u128)
     ensures behind { result.1 ≡ number % 10 ^ places }
     ensures small { result.1 < 10 ^ places }
 {
+    if places > 38 {
+        // The number has fewer digits.
+        return (0, number);
+    }
     match u64::try_from(number) {
         // Most fit, and 64 bits are divided much faster than 128.
         Ok(number) if places < 20 => {
             let unit = 10u64.pow(places as u32);
             ((number / unit) as u128, (number % unit) as u128)
         }
-        // The number has fewer digits.
-        _ if places > 38 => (0, number),
         _ => {
             let unit = power_of_ten(places);
             (number / unit, number % unit)

@@ -1,5 +1,6 @@
 use Rattle.std.proofs.Common.{◌^◌, ◌%◌, ◌<◌, sym, subst, arith}
-use Rattle.std.proofs.Math.Nat.{one-le-pow, mod-lt}
+use Rattle.std.proofs.Math.Nat.{one-le-pow, mod-lt, mod-eq_of_lt, div-eq_of_lt}
+use Rattle.table_printer.proofs.DigitsFacts.{wide}
 use Rattle.table_printer.proofs.digits.split_at.Goals as goal
 
 pub nonzero_div-result : goal.nonzero_div-result
@@ -12,3 +13,11 @@ pub returns-in-Ok-clause-small : goal.returns-in-Ok-clause-small
 returns-in-Ok-clause-small c =
     let below = mod-lt c.in-Ok.number (one-le-pow c.args.places 10 (omega arith)) in
     subst (λ u. c.in-Ok.number % u < 10 ^ c.args.places) (sym c.pow-unit.ensures) below
+
+pub returns-then-places-gt38 : goal.returns-then-places-gt38
+returns-then-places-gt38 c =
+    let fewer : c.args.number < 10 ^ c.args.places = omega (arith, wide c.args.places c.if-places-gt38.true, c.ranges.number.fits) in record {
+      before = sym (div-eq_of_lt fewer);
+      behind = sym (mod-eq_of_lt fewer);
+      small = fewer;
+    }

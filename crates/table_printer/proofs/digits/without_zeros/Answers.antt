@@ -14,7 +14,7 @@ returns-then-rest-eq0 c =
     let fits : kept ≤ least = omega (arith, c.saturating_sub-surplus.ensures) in
     let all : surplus + kept ≡ c.args.places = omega (arith, c.saturating_sub-surplus.ensures) in
     let power : 10 ^ c.args.places ≡ 10 ^ kept * 10 ^ surplus = ap (λ n. 10 ^ n) (let e : c.args.places ≡ kept + surplus = omega (arith, all) in e) ∙ pow-add 10 kept surplus in
-    let below : c.args.decimals < 10 ^ kept * 10 ^ surplus = subst (λ u. c.args.decimals < u) power c.requires.small in
+    let below : c.args.decimals < 10 ^ kept * 10 ^ surplus = subst (λ u. c.args.decimals < u) power c.requires in
     let small : c.args.decimals / 10 ^ surplus < 10 ^ kept = (div-lt_iff_lt-mul (one-le-pow surplus 10 (omega arith))).1 below in record {
       digits = ap (λ n. digits_of kept n ++ zeros (least - kept)) c.split_at-digits.ensures.before ∙ stripped surplus kept c.args.decimals least ends fits
           ∙ ap (λ p. filled least (exact_decimals p c.args.decimals)) all;

@@ -2,13 +2,14 @@ use Rattle.std.proofs.Common.{◌||◌, ◌∷◌, map, max, Some, refl, ap, sym
 use Rattle.std.proofs.lemmas.List.{take_all}
 use Rattle.posting_table.specs.Decimals.{decimals_of}
 use Rattle.table_printer.specs.Table.{text_of, column_width, has_number, headers_from, text_width}
-use Rattle.table_printer.specs.CellText.{clean_text}
+use Rattle.table_printer.specs.CellText.{cell_text, clean_text}
 use Rattle.table_printer.proofs.InColumn.{width_at_first, width_more, numbers_more}
 use Rattle.table_printer.proofs.headings.heading_at.Goals as goal
 
 pub loop-row-init : goal.loop-row-init
 loop-row-init g c = record {
-  width = width_at_first (g.T.Rows.rows c.args.table.now) (g.T.Rows.names c.args.table.now) c.args.column c.name-name.result.now c.max-width.result c.name-name.ensures (c.max-width.ensures ∙ ap (λ w. max w 1) c.in_ok-cell_width.ensures ∙ ap (λ n. max (text_width (clean_text n)) 1) c.new.ensures);
+  width = width_at_first (g.T.Rows.rows c.args.table.now) (g.T.Rows.names c.args.table.now) c.args.column c.name-name.result.now c.max-width.result c.name-name.ensures (c.max-width.ensures ∙ ap (λ w. max w 1) c.in_ok-cell_width.ensures
+      ∙ ap (λ cell. max (text_width (cell_text (decimals_of c.args.display.now) cell)) 1) c.made-heading.ensures ∙ ap (λ n. max (text_width (clean_text n)) 1) c.new.ensures);
   numbers = refl;
 }
 
