@@ -31,7 +31,8 @@ const INVENTORIES: &str = "cell
 TRUE
 ";
 
-const LONG: &str = "                                                                             cell
+const LONG: &str =
+    "                                                                             cell
 ---------------------------------------------------------------------------------
                                                                               0.5
 0.0000000000000000000000000000000000000000170141183460469231731687303715884105727
@@ -140,23 +141,27 @@ fn column_of<'a>(
     })
 }
 
-/// Units of HOOL that were bought at so many dollars.
+/// HOOL that was bought at so many dollars.
+fn bought(cost: &str, day: &str, label: Option<Text<'static>>) -> Result<Key<'static>, Fail> {
+    Ok(Key {
+        currency: parse_currency("HOOL")?,
+        lot: Some(Lot {
+            cost: Cost::new(Num::parse(cost)?, usd()?),
+            day: parse_day(day)?,
+            label,
+        }),
+    })
+}
+
+/// Units of it.
 fn held(
     count: i128,
     cost: &str,
     day: &str,
     label: Option<Text<'static>>,
 ) -> Result<Position<'static>, Fail> {
-    let lot = Lot {
-        cost: Cost::new(Num::parse(cost)?, usd()?),
-        day: parse_day(day)?,
-        label,
-    };
     Ok(Position {
-        key: Key {
-            currency: parse_currency("HOOL")?,
-            lot: Some(lot),
-        },
+        key: bought(cost, day, label)?,
         count,
     })
 }
@@ -178,19 +183,14 @@ fn prints_positions_with_their_lots(rt: HostRuntime) -> Result<(), Fail> {
         },
         count: 10_000_000_000,
     };
-    let bought = held(250_000_000, "0.1", "2014-01-02", None)?;
+    let owned = held(250_000_000, "0.1", "2014-01-02", None)?;
     let owed = held(
         -100_000_000,
         "120",
         "2014-01-03",
         Some(Text::new("a\\n\\\\ b")),
     )?;
-    let answer = column_of(
-        alloc,
-        lent(&cash),
-        lent(&bought),
-        lent(&owed),
-    )?;
+    let answer = column_of(alloc, lent(&cash), lent(&owned), lent(&owed))?;
     let mut display = Display::new(alloc);
     display.set(usd()?, 2)?;
     assert_eq!(rt;
@@ -232,7 +232,10 @@ fn a_ledger_lends_its_cells(rt: HostRuntime) -> Result<(), Fail> {
     assert_eq!(rt; ledger.display().places(&usd()?), 4);
     assert_eq!(rt; ledger.display().places(&parse_currency("EUR")?), 0);
     assert!(rt; is_text(&ledger.cell(0, Column::Flag), "!"));
-    assert_eq!(rt; units_of(&ledger.cell(0, Column::Position)), Some(250_000_000));
+    assert_eq!(rt;
+        units_of(&ledger.cell(0, Column::Position)),
+        Some(250_000_000)
+    );
     Ok(())
 }
 
@@ -269,44 +272,51 @@ fn prints_sets_in_the_order_of_bytes(rt: HostRuntime) -> Result<(), Fail> {
     Ok(())
 }
 
-/// A position without a lot.
-fn bare(currency: &'static str, count: i128) -> Result<Position<'static>, NameFault> {
-    Ok(Position {
-        key: Key {
-            currency: parse_currency(currency)?,
-            lot: None,
-        },
-        count,
+/// Adds units to an inventory.
+fn put(
+    inventory: &mut Inventory<'static>,
+    key: Key<'static>,
+    count: i128,
+) -> Result<(), AllocError> {
+    if inventory.get(&key).checked_add(count).is_some() {
+        inventory.add(key, count)?;
+    }
+    Ok(())
+}
+
+/// A currency without a lot.
+fn bare(currency: &'static str) -> Result<Key<'static>, NameFault> {
+    Ok(Key {
+        currency: parse_currency(currency)?,
+        lot: None,
     })
 }
 
-/// Four entries, in another order than that in which they are printed.
-fn mixed(alloc: Global) -> Result<Bag<'static>, Fail> {
-    let mut entries = Inventory::new(alloc);
-    for position in [
-        bare("USD", -712_500_000)?,
-        held(300_000_000, "1", "2014-01-02", None)?,
-        bare("HOOL", 100_000_000)?,
-        bare("EUR", 200_000_000)?,
-    ] {
-        entries.add(position.key, position.count)?;
-    }
-    Ok(Bag {
-        places: 8,
-        held: entries,
-    })
+/// Puts in four entries, in another order than that in which they are printed.
+fn put_four(entries: &mut Inventory<'static>) -> Result<(), Fail> {
+    put(entries, bare("USD")?, -712_500_000)?;
+    put(entries, bought("1", "2014-01-02", None)?, 300_000_000)?;
+    put(entries, bare("HOOL")?, 100_000_000)?;
+    put(entries, bare("EUR")?, 200_000_000)?;
+    Ok(())
 }
 
 #[test]
 fn prints_truth_and_inventories(rt: HostRuntime) -> Result<(), Fail> {
     let alloc = rt.alloc();
+    let mut entries = Inventory::new(alloc);
+    put_four(&mut entries)?;
+    let four = Bag {
+        places: 8,
+        held: entries,
+    };
     let none = Bag {
         places: 8,
         held: Inventory::new(alloc),
     };
     let answer = column_of(
         alloc,
-        Value::Inventory(mixed(alloc)?),
+        Value::Inventory(four),
         Value::Inventory(none),
         Value::Truth(true),
     )?;
@@ -335,6 +345,9 @@ fn prints_numbers_of_many_decimals(rt: HostRuntime) -> Result<(), Fail> {
     };
     let answer = column_of(alloc, half, long, whole)?;
     let display = Display::new(alloc);
-    assert_eq!(rt; print(alloc, &answer, &display)?.as_slice(), LONG.as_bytes());
+    assert_eq!(rt;
+        print(alloc, &answer, &display)?.as_slice(),
+        LONG.as_bytes()
+    );
     Ok(())
 }
