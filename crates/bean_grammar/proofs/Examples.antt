@@ -12,7 +12,7 @@ use Rattle.bean_grammar.specs.declared.price.Price.TheVariants as price_kind
 use Rattle.bean_grammar.specs.Cost.{cost_of}
 use Rattle.bean_grammar.specs.CostPart.{no_parts, number_part_of, put}
 use Rattle.bean_grammar.specs.Exact.{times, plus, minus, signed, written}
-use Rattle.bean_grammar.specs.Expression.{product, factor}
+use Rattle.bean_grammar.specs.Expression.{in_ledger, product, factor}
 use Rattle.bean_grammar.specs.Lexeme.{Tag, Link, Key, Number, Sign, Keyword, Currency, lexeme_at}
 use Rattle.bean_grammar.specs.Mark as mark_rule
 use Rattle.bean_grammar.specs.declared.mark.Mark.TheVariants as marks
@@ -67,7 +67,7 @@ minus_seven : signed true (written (codes "7")) ≡ Within record { count = negs
 minus_seven = refl
 
 -- 2 * 3, with no room for signs and parentheses
-two_by_three : Is (product 0) (Number (codes "2") ∷ Sign sign.Star ∷ Number (codes "3") ∷ []) (Within record { count = pos 6; places = 0 })
+two_by_three : Is (product in_ledger 0) (Number (codes "2") ∷ Sign sign.Star ∷ Number (codes "3") ∷ []) (Within record { count = pos 6; places = 0 })
 unfolding factor
 two_by_three = (written (codes "2"), written (codes "3") ∷ [], _, (written, codes "2", _, (refl, refl), refl, refl), (_, (_, refl, (written, codes "3", _, (refl, refl), refl, refl)), refl), refl)
 

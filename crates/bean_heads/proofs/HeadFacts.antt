@@ -1,8 +1,7 @@
 -- What the rules of first lines read.
-use Rattle.std.proofs.Common.{◌≡◌, ℕ, true, false, List, [], ◌∷◌, ◌++◌, Option, Some, None, MatchOption, refl, sym, ◌∙◌, ap, subst}
-use Rattle.std.specs.Prelude.{if◌then◌else◌}
+use Rattle.std.proofs.Common.{◌≡◌, ℕ, true, false, List, [], ◌∷◌, ◌++◌, Option, Some, None, MatchOption, IfSome, refl, sym, ◌∙◌, ap, subst}
 use Rattle.theory.specs.Form.{Form, Reads, HasNone, word, made, ◌<+>◌, behind, due, snoc, alone}
-use Rattle.theory.proofs.FormFacts.{Tells, Follows, reads_word, reads_behind, none_behind, reads_checked, none_checked, not_checked, reads_due, reads_not_due, none_due, reads_applied, none_first}
+use Rattle.theory.proofs.FormFacts.{Tells, Follows, reads_word, reads_behind, none_behind, reads_due, reads_not_due, none_due, reads_applied, none_first}
 use Rattle.theory.proofs.RowFacts.{InRow, Separates, row_ends, row_begins, row_goes_on, row_is_read, none_in_row}
 use Rattle.bean_base.specs.declared.flags.Flag as flags
 use Rattle.bean_base.specs.declared.num.Num.{Num}
@@ -18,7 +17,7 @@ use Rattle.bean_grammar.specs.Lexeme.{Lexeme, Account, Currency, Sign, begins_wi
 use Rattle.bean_grammar.specs.Literal.{text}
 use Rattle.bean_grammar.specs.Mark.{marks}
 use Rattle.bean_grammar.specs.Metadata.{all_values}
-use Rattle.bean_heads.specs.Head.{pad_of, pad_line, is_negative, not_negative, tolerance, begins_with_tilde, balance_of, balance_line, price_of, price_line, note_of, note_line, document_of, document_line, event_of, event_line, query_of, query_line, custom_of, custom_line, words_of, words, transaction_of, transaction_line, listed, begins_with_comma, some_currencies, currencies, open_of, open_line}
+use Rattle.bean_heads.specs.Head.{pad_of, pad_line, IsBelowZero, not_below_zero, tolerance, begins_with_tilde, balance_of, balance_line, price_of, price_line, note_of, note_line, document_of, document_line, event_of, event_line, query_of, query_line, custom_of, custom_line, words_of, words, transaction_of, transaction_line, listed, begins_with_comma, some_currencies, currencies, open_of, open_line}
 use Rattle.bean_heads.specs.declared.directive.DirectiveKind.{DirectiveKind}
 use Rattle.bean_heads.specs.declared.transaction.PayeeAndNarration.{PayeeAndNarration}
 
@@ -100,26 +99,28 @@ no_currency_price ls c mid n after at r absent = no_next priced (word Currency) 
 -- Tolerances and balances.
 
 pub tolerance_told : Tells begins_with_tilde tolerance
-tolerance_told ls v rest p = ap begins_with_tilde p.1.1
+tolerance_told ls v rest p = ap begins_with_tilde p.1
 
-abbrev behind_tilde : Form Lexeme (Ranged Num)
-behind_tilde = behind (Sign sign.Tilde) expression
+pub reads_not_below : (ls : List Lexeme) (n : Ranged Num) (rest : List Lexeme) → Reads expression ls n rest → ¬ IsBelowZero ls → Reads not_below_zero ls n rest
+reads_not_below ls n rest r fine = record {
+  read = (r.read, fine);
+  only = λ v after p ends. r.only v after p.0 ends;
+}
 
-pub reads_tolerance : (ls mid : List Lexeme) (n : Ranged Num) (rest : List Lexeme) → ls ≡ Sign sign.Tilde ∷ mid → Reads expression mid n rest → is_negative n ≡ false → Reads (due begins_with_tilde tolerance) ls (Some n) rest
-reads_tolerance ls mid n rest at r sign_is =
-    reads_due begins_with_tilde tolerance ls n rest (ap begins_with_tilde at)
-    (reads_checked not_negative behind_tilde ls n n rest (reads_behind (Sign sign.Tilde) expression ls mid n rest at r) (ap (λ b. if b then None else Some n) sign_is))
+pub reads_tolerance : (ls mid : List Lexeme) (n : Ranged Num) (rest : List Lexeme) → ls ≡ Sign sign.Tilde ∷ mid → Reads expression mid n rest → ¬ IsBelowZero mid → Reads (due begins_with_tilde tolerance) ls (Some n) rest
+reads_tolerance ls mid n rest at r fine =
+    reads_due begins_with_tilde tolerance ls n rest (ap begins_with_tilde at) (reads_behind (Sign sign.Tilde) not_below_zero ls mid n rest at (reads_not_below mid n rest r fine))
 
-pub negative_tolerance : (ls mid : List Lexeme) (n : Ranged Num) (rest : List Lexeme) → ls ≡ Sign sign.Tilde ∷ mid → Reads expression mid n rest → is_negative n ≡ true → HasNone (due begins_with_tilde tolerance) ls
-negative_tolerance ls mid n rest at r sign_is =
-    none_due begins_with_tilde tolerance ls (ap begins_with_tilde at)
-    (not_checked not_negative behind_tilde ls n rest (reads_behind (Sign sign.Tilde) expression ls mid n rest at r) (ap (λ b. if b then None else Some n) sign_is))
+pub negative_tolerance : (ls mid : List Lexeme) → ls ≡ Sign sign.Tilde ∷ mid → IsBelowZero mid → HasNone (due begins_with_tilde tolerance) ls
+negative_tolerance ls mid at below =
+    none_due begins_with_tilde tolerance ls (ap begins_with_tilde at) (none_behind (Sign sign.Tilde) not_below_zero ls mid at (λ v after p ends. p.1 below))
 
 pub reads_no_tolerance : (ls : List Lexeme) → begins_with_tilde ls ≡ false → Reads (due begins_with_tilde tolerance) ls None ls
 reads_no_tolerance ls absent = reads_not_due begins_with_tilde tolerance ls tolerance_told absent
 
 pub none_tolerance : (ls mid : List Lexeme) → ls ≡ Sign sign.Tilde ∷ mid → HasNone expression mid → HasNone (due begins_with_tilde tolerance) ls
-none_tolerance ls mid at none = none_due begins_with_tilde tolerance ls (ap begins_with_tilde at) (none_checked not_negative behind_tilde ls (none_behind (Sign sign.Tilde) expression ls mid at none))
+none_tolerance ls mid at none =
+    none_due begins_with_tilde tolerance ls (ap begins_with_tilde at) (none_behind (Sign sign.Tilde) not_below_zero ls mid at (λ v after p ends. none v after p.0 ends))
 
 abbrev balanced : Form Lexeme (Option (Ranged Num) → List ℕ → Ranged DirectiveKind)
 balanced = made balance_of <+> word Account <+> expression
@@ -250,3 +251,9 @@ when_some o v N P e m = subst (λ o. MatchOption o N P) e m
 pub when_none : {A : Type 0} (o : Option A) (N : Type 0) (P : A → Type 0) → ((v : A) → o ≡ Some v → ⊥) → MatchOption o N P → N
 when_none None N P no_value m = m
 when_none (Some v) N P no_value m = absurd (no_value v refl)
+
+pub when_present : {A : Type 0} (o : Option A) (v : A) (P : A → Type 0) → o ≡ Some v → IfSome o P → P v
+when_present o v P e m = subst (λ o. IfSome o P) e m
+
+pub when_absent : {A : Type 0} (o : Option A) (N : Type 0) (P : A → Type 0) → o ≡ None → MatchOption o N P → N
+when_absent o N P e m = subst (λ o. MatchOption o N P) e m

@@ -1,4 +1,5 @@
 pub mod HeadFacts
+pub mod WorthFacts
 pub mod UndatedFacts
 pub mod FirstLineFacts
 pub mod OneHeadFacts

@@ -1,7 +1,7 @@
 -- First lines are read in one way.
 use Rattle.std.proofs.Common.{◌≡◌, List, refl}
 use Rattle.theory.specs.Form.{IsUnambiguous, word, made, ◌<+>◌, behind, due, snoc, alone}
-use Rattle.theory.proofs.OneReading.{one_word, one_behind, one_checked, one_due, one_row, one_applied, one_value}
+use Rattle.theory.proofs.OneReading.{one_word, one_behind, one_due, one_row, one_applied, one_value}
 use Rattle.bean_base.specs.declared.days.Day as days
 use Rattle.bean_base.specs.declared.flags.Flag as flags
 use Rattle.bean_base.specs.declared.flags.Flag.TheVariants.{Complete, Incomplete}
@@ -19,18 +19,21 @@ use Rattle.bean_grammar.specs.Lexeme.{Lexeme, Day, Number, Text, Account, Curren
 use Rattle.bean_grammar.specs.Literal.{text}
 use Rattle.bean_grammar.specs.Mark.{marks}
 use Rattle.bean_grammar.specs.Metadata.{all_values}
-use Rattle.bean_heads.specs.Head.{nothing, listed, begins_with_comma, some_currencies, currencies, open_of, open_line, close_of, close_line, pad_of, pad_line, commodity_of, commodity_line, not_negative, tolerance, begins_with_tilde, balance_of, balance_line, price_of, price_line, note_of, note_line, document_of, document_line, event_of, event_line, query_of, query_line, custom_of, custom_line, words_of, words, transaction_of, transaction_line, kind_behind, IsHead}
+use Rattle.bean_heads.specs.Head.{nothing, listed, begins_with_comma, some_currencies, currencies, open_of, open_line, close_of, close_line, pad_of, pad_line, commodity_of, commodity_line, not_below_zero, tolerance, begins_with_tilde, balance_of, balance_line, price_of, price_line, note_of, note_line, document_of, document_line, event_of, event_line, query_of, query_line, custom_of, custom_line, words_of, words, transaction_of, transaction_line, kind_behind, IsHead}
 use Rattle.bean_heads.specs.declared.directive.DirectiveKind.{DirectiveKind}
 use Rattle.bean_heads.proofs.FirstLineFacts.{kind_ends, behind_kind}
-use Rattle.bean_heads.proofs.HeadFacts.{another, another_told, another_separates, currencies_told, opened, opened_to_method, tolerance_told}
+use Rattle.bean_heads.proofs.HeadFacts.{another, another_told, another_separates, currencies_told, opened, opened_to_method, tolerance_told, reads_not_below}
 
 -- Rules.
 
 one_nothing : IsUnambiguous nothing
 one_nothing ls v rest p ends = absurd p
 
+one_not_below : IsUnambiguous not_below_zero
+one_not_below ls v rest p ends = reads_not_below ls v rest (one_expression ls v rest p.0 ends) p.1
+
 one_tolerance : IsUnambiguous (due begins_with_tilde tolerance)
-one_tolerance = one_due begins_with_tilde tolerance tolerance_told (one_checked not_negative (behind (Sign sign.Tilde) expression) (one_behind (Sign sign.Tilde) expression one_expression))
+one_tolerance = one_due begins_with_tilde tolerance tolerance_told (one_behind (Sign sign.Tilde) not_below_zero one_not_below)
 
 one_some_currencies : IsUnambiguous some_currencies
 one_some_currencies =

@@ -5,8 +5,8 @@
 -- balance   account expression ["~" expression] currency  price   currency expression currency
 -- event     text text    query    text text              custom  text {value}
 -- "*", "!", txn          [text [text]] {tag|link}
-use Rattle.std.specs.Prelude.{◌≡◌, ℕ, pos, int_lt, Bool, false, List, [], ◌∷◌, Option, Some, None, if◌then◌else◌}
-use Rattle.theory.specs.Form.{Form, Is, word, made, ◌<+>◌, behind, checked, due, separated}
+use Rattle.std.specs.Prelude.{◌≡◌, ℕ, Bool, true, false, List, [], ◌∷◌, Option, Some, None}
+use Rattle.theory.specs.Form.{Form, Is, word, made, ◌<+>◌, behind, due, separated}
 use Rattle.bean_base.specs.declared.days.Day as days
 use Rattle.bean_base.specs.declared.flags.Flag as flags
 use Rattle.bean_base.specs.declared.flags.Flag.TheVariants.{Complete, Incomplete}
@@ -16,13 +16,14 @@ use Rattle.bean_lexer.specs.declared.kind.Sign.TheVariants as sign
 use Rattle.bean_grammar.specs.declared.mark.Mark.{Mark}
 use Rattle.bean_grammar.specs.declared.metadata.Value.{Value}
 use Rattle.bean_grammar.specs.declared.ranged.Ranged.{Ranged}
-use Rattle.bean_grammar.specs.declared.ranged.Ranged.TheVariants.{Within, Outside}
-use Rattle.bean_grammar.specs.Expression.{expression}
+use Rattle.bean_grammar.specs.declared.ranged.Ranged.TheVariants.{Within}
+use Rattle.bean_grammar.specs.Expression.{expression, IsWorth}
 use Rattle.bean_grammar.specs.Lexeme.{Lexeme, Account, Currency, Keyword, Sign, begins_with_text, begins_with_currency, begins_with_sign}
 use Rattle.bean_grammar.specs.Literal.{day, text}
 use Rattle.bean_grammar.specs.Mark.{marks}
 use Rattle.bean_grammar.specs.Metadata.{all_values}
 use Rattle.bean_grammar.specs.Ranged.{ranged_map, ranged_map2}
+use Rattle.exact_numbers.specs.Exact.{Exact, is_negative}
 use Rattle.bean_heads.specs.declared.directive.DirectiveKind.{DirectiveKind}
 use Rattle.bean_heads.specs.declared.directive.DirectiveKind.TheVariants as kinds
 use Rattle.bean_heads.specs.declared.transaction.PayeeAndNarration.{PayeeAndNarration}
@@ -75,16 +76,19 @@ commodity_line = made commodity_of <+> word Currency
 abbrev pub begins_with_tilde : List Lexeme → Bool
 begins_with_tilde ls = begins_with_sign sign.Tilde ls
 
-abbrev pub is_negative : Ranged Num → Bool
-is_negative (Within n) = int_lt n.count (pos 0)
-is_negative Outside = false
+-- what the expression at the front is worth, in range or not, is below 0
+abbrev pub IsBelowZero : List Lexeme → Type 0
+IsBelowZero ls = (value : Exact) × IsWorth ls value × (is_negative value ≡ true)
 
-abbrev pub not_negative : Ranged Num → Option (Ranged Num)
-not_negative n = if is_negative n then None else Some n
+abbrev pub not_below_zero : Form Lexeme (Ranged Num)
+not_below_zero = record {
+  reads = λ ls n rest. expression.reads ls n rest × ¬ IsBelowZero ls;
+  goes_on = expression.goes_on;
+}
 
--- a number below 0 is no tolerance; one out of range is not told to be below it
+-- a number below 0 is no tolerance
 abbrev pub tolerance : Form Lexeme (Ranged Num)
-tolerance = checked not_negative (behind (Sign sign.Tilde) expression)
+tolerance = behind (Sign sign.Tilde) not_below_zero
 
 -- none is in range
 abbrev pub ranged_option : Option (Ranged Num) → Ranged (Option Num)

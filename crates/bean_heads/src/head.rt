@@ -33,7 +33,7 @@ fn kind_behind_word<'t, 'a>(
         Keyword::Open => open_line(alloc, tokens),
         Keyword::Close => Ok(close_line(tokens)),
         Keyword::Commodity => Ok(commodity_line(tokens)),
-        Keyword::Balance => Ok(balance_line(tokens)),
+        Keyword::Balance => balance_line(alloc, tokens),
         Keyword::Pad => Ok(pad_line(tokens)),
         Keyword::Note => Ok(note_line(tokens)),
         Keyword::Document => document_line(alloc, tokens),

@@ -15,11 +15,13 @@
 //! # Out of range
 //!
 //! A line with a day that the calendar lacks, or with a number that is no number of the ledger, is
-//! read all the same, to [`bean_grammar::Ranged::Outside`].
+//! read all the same, to [`bean_grammar::Ranged::Outside`]. A tolerance below 0 is none, in range or
+//! not.
 //!
 //! # Cost
 //!
-//! Linear in the tokens. Lists alone take memory.
+//! Linear in the tokens. Lists alone take memory, and a tolerance, whose sign is told of its exact
+//! value.
 #![tactic(auto)]
 
 pub mod accounts;
@@ -29,6 +31,7 @@ pub mod notes;
 pub mod numbers;
 pub mod transaction;
 pub mod undated;
+mod worth;
 
 pub use accounts::{Close, Open, Pad};
 pub use directive::{Directive, DirectiveKind};

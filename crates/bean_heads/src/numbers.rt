@@ -1,15 +1,17 @@
 //! Directives on currencies and their numbers: commodities, balances and prices.
-ghost use Rattle.std.specs.Prelude.{◌≡◌, MatchOption};
+ghost use Rattle.std.specs.Prelude.{◌≡◌, IfOk, MatchOption};
 ghost use Rattle.theory.specs.Form.{Reads, HasNone, due};
 ghost use Rattle.bean_grammar.specs.Lexeme.{lexemes};
 ghost use Rattle.bean_heads.specs.Head as rule;
 
 use crate::directive::DirectiveKind;
+use crate::worth::is_below_zero;
 use bean_base::{Account, Amount, Currency, Num};
 use bean_grammar::Ranged;
 use bean_grammar::expression::expression;
 use bean_grammar::front::{after_account, after_currency, after_sign};
 use bean_lexer::{Sign, Token};
+use std::alloc::{AllocError, Global};
 
 /// The naming of a currency.
 #[derive(Debug, Drop)]
@@ -46,33 +48,27 @@ pub fn commodity_line<'t, 'a>(
     Some((Ranged::Within(DirectiveKind::Commodity(commodity)), rest))
 }
 
-/// Whether a number in range is below 0.
-fn is_negative(number: &Ranged<Num>) -> bool
-    ensures { result ≡ rule.is_negative number.now }
-{
-    match number {
-        Ranged::Within(number) => number.count < 0,
-        Ranged::Outside => false,
-    }
-}
-
 /// The tolerance behind a tilde at the front, if there is one, and what stands behind it.
 fn tolerance_if_due<'t, 'a>(
+    alloc: Global,
     tokens: &'t [Token<'a>],
-) -> Option<(Option<Ranged<Num>>, &'t [Token<'a>])>
-    ensures { MatchOption result
+) -> Result<Option<(Option<Ranged<Num>>, &'t [Token<'a>])>, AllocError>
+    ensures { IfOk result (λ found. MatchOption found
         (HasNone (due rule.begins_with_tilde rule.tolerance) (lexemes tokens.now))
         (λ r. Reads (due rule.begins_with_tilde rule.tolerance) (lexemes tokens.now)
-        r.0 (lexemes r.1.now)) }
+        r.0 (lexemes r.1.now))) }
 {
     let Some(behind) = after_sign(tokens, Sign::Tilde) else {
-        return Some((None, tokens));
+        return Ok(Some((None, tokens)));
     };
-    let (tolerance, rest) = expression(behind)?;
-    if is_negative(&tolerance) {
-        return None;
+    let Some(found) = expression(behind) else {
+        return Ok(None);
+    };
+    if is_below_zero(alloc, behind)? {
+        return Ok(None);
     }
-    Some((Some(tolerance), rest))
+    let (tolerance, rest) = found;
+    Ok(Some((Some(tolerance), rest)))
 }
 
 /// A tolerance that is written, in range or not, or none.
@@ -108,16 +104,30 @@ fn balance_of<'a>(
 
 /// What stands behind `balance`, and what stands behind that.
 pub fn balance_line<'t, 'a>(
+    alloc: Global,
     tokens: &'t [Token<'a>],
-) -> Option<(Ranged<DirectiveKind<'a>>, &'t [Token<'a>])>
-    ensures { MatchOption result (HasNone rule.balance_line (lexemes tokens.now))
-        (λ r. Reads rule.balance_line (lexemes tokens.now) r.0 (lexemes r.1.now)) }
+) -> Result<Option<(Ranged<DirectiveKind<'a>>, &'t [Token<'a>])>, AllocError>
+    ensures { IfOk result (λ found. MatchOption found
+        (HasNone rule.balance_line (lexemes tokens.now))
+        (λ r. Reads rule.balance_line (lexemes tokens.now) r.0 (lexemes r.1.now))) }
 {
-    let (account, rest) = after_account(tokens)?;
-    let (number, rest) = expression(rest)?;
-    let (tolerance, rest) = tolerance_if_due(rest)?;
-    let (currency, rest) = after_currency(rest)?;
-    Some((balance_of(account, number, tolerance, currency), rest))
+    let Some(named) = after_account(tokens) else {
+        return Ok(None);
+    };
+    let (account, rest) = named;
+    let Some(numbered) = expression(rest) else {
+        return Ok(None);
+    };
+    let (number, rest) = numbered;
+    let Some(tolerated) = tolerance_if_due(alloc, rest)? else {
+        return Ok(None);
+    };
+    let (tolerance, rest) = tolerated;
+    let Some(found) = after_currency(rest) else {
+        return Ok(None);
+    };
+    let (currency, rest) = found;
+    Ok(Some((balance_of(account, number, tolerance, currency), rest)))
 }
 
 fn price_of<'a>(

@@ -59,6 +59,11 @@ abbrev pub open_pushes : PushName → ℕ → List PlacedBound → ℕ
 open_pushes name count [] = count
 open_pushes name count (b ∷ bs) = open_pushes name (open_behind name count b.bound) bs
 
+-- how many pops of the name still take back a push before a bound, or None where it is the push that stays open
+abbrev pub pops_before : PushName → ℕ → Bound → Option ℕ
+pops_before name pops (Push p) = if same_name (name_of p) name then one_less pops else Some pops
+pops_before name pops (Pop n) = Some (if same_name n name then suc pops else pops)
+
 -- a push has a pop behind it, and a pop an open push before it
 abbrev pub is_matched : List PlacedBound → Bound → List PlacedBound → Bool
 is_matched before (Push p) behind = is_popped p behind

@@ -1,5 +1,5 @@
 //! Pushes and pops: what is given to the transactions between them.
-ghost use Rattle.std.specs.Prelude.{◌≡◌, ◌<◌, ◌-◌, ◌^◌, ◌++◌, [], OnOk};
+ghost use Rattle.std.specs.Prelude.{◌≡◌, ◌<◌, ◌-◌, ◌^◌, ◌++◌, [], nat_lt, OnOk};
 ghost use Rattle.bean_parser.specs.Scope as spec;
 
 use crate::block::fault_at;
@@ -71,27 +71,33 @@ fn pop_of(name: &PushName<'_>, behind: &[PlacedBound<'_>]) -> Option<usize>
     None
 }
 
-/// How many pushes of the name are open behind a bound.
-fn open_behind(name: &PushName<'_>, count: usize, bound: &Bound<'_>) -> usize
-    requires { count < 2 ^ 64 - 1 }
-    ensures { result ≡ spec.open_behind name.now count bound.now }
+/// How many pops of the name still take back a push before a bound, or none where it is the push
+/// that the first of them leaves open.
+fn pops_before(name: &PushName<'_>, pops: usize, bound: &Bound<'_>) -> Option<usize>
+    requires { pops < 2 ^ 64 - 1 }
+    ensures { result ≡ spec.pops_before name.now pops bound.now }
 {
     match bound {
-        Bound::Push(pushed) if same_name(&name_of(pushed), name) => count + 1,
-        Bound::Pop(popped) if same_name(popped, name) => count.saturating_sub(1),
-        _ => count,
+        Bound::Push(pushed) if same_name(&name_of(pushed), name) => one_less(pops),
+        Bound::Pop(popped) if same_name(popped, name) => Some(pops + 1),
+        _ => Some(pops),
     }
 }
 
-/// How many pushes of the name are open behind these bounds.
-fn open_pushes(name: &PushName<'_>, bounds: &[PlacedBound<'_>]) -> usize
-    ensures { result ≡ spec.open_pushes name.now 0 bounds.now }
+/// Whether a push of the name is open behind these bounds.
+fn is_open(name: &PushName<'_>, bounds: &[PlacedBound<'_>]) -> bool
+    ensures { result ≡ nat_lt 0 (spec.open_pushes name.now 0 bounds.now) }
 {
-    let mut count = 0;
-    for bound in bounds {
-        count = open_behind(name, count, &bound.bound);
+    let mut pops = 0;
+    let mut i = bounds.len();
+    while i > 0 {
+        i -= 1;
+        match pops_before(name, pops, &bounds[i].bound) {
+            Some(before) => pops = before,
+            None => return true,
+        }
     }
-    count
+    false
 }
 
 /// Whether a push has its pop behind it, or a pop an open push before it.
@@ -100,7 +106,7 @@ fn is_matched(before: &[PlacedBound<'_>], bound: &Bound<'_>, behind: &[PlacedBou
 {
     match bound {
         Bound::Push(pushed) => pop_of(&name_of(pushed), behind).is_some(),
-        Bound::Pop(name) => open_pushes(name, before) > 0,
+        Bound::Pop(name) => is_open(name, before),
     }
 }
 

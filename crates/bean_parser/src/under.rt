@@ -15,7 +15,7 @@ use bean_grammar::front::{after_key, after_link, after_tag, next};
 use bean_grammar::mark::line_of_marks;
 use bean_grammar::posting_line::posting;
 use bean_grammar::{Entry, Mark, Posting, Ranged};
-use bean_lexer::Token;
+use bean_lexer::{Kind, Token};
 use std::alloc::{AllocError, Global};
 
 /// What a line says.
@@ -110,17 +110,17 @@ fn line_kind<'a>(
 }
 
 impl<'a> Body<'a> {
-    /// No lines say nothing.
-    fn new(alloc: Global) -> Body<'a>
-        ensures { result ≡ rule.no_lines }
+    /// No lines say nothing. There is room for so many postings.
+    fn new(alloc: Global, postings: usize) -> Result<Body<'a>, AllocError>
+        ensures { IfOk result (λ body. body ≡ rule.no_lines) }
     {
-        Body {
+        Ok(Body {
             metadata: List::new(Vec::new(alloc)),
             marks: List::new(Vec::new(alloc)),
-            before: List::new(Vec::new(alloc)),
+            before: List::new(Vec::with_capacity(alloc, postings)?),
             last: None,
             is_in_range: true,
-        }
+        })
     }
 
     /// Adds an entry.
@@ -159,6 +159,19 @@ impl<'a> Body<'a> {
     }
 }
 
+/// Whether a token begins a line that may be a posting.
+fn may_begin_posting(token: &Token<'_>) -> bool {
+    Part::Line.begins_at(token.place) && !matches!(token.kind, Kind::Key | Kind::Tag | Kind::Link)
+}
+
+/// How many lines may be postings.
+fn most_postings(under: &[Token<'_>]) -> usize {
+    under
+        .iter()
+        .filter(|token| may_begin_posting(token))
+        .count()
+}
+
 /// All postings.
 pub fn all_postings<'a>(
     before: List<Posting<'a>>,
@@ -181,7 +194,7 @@ pub fn read_lines<'a>(
 ) -> Result<Option<Body<'a>>, AllocError>
     ensures { IfOk result (ReadsLines in_transaction (lines under.now)) }
 {
-    let mut body = Body::new(alloc);
+    let mut body = Body::new(alloc, most_postings(under))?;
     let mut rest = Unread { tokens: under };
     while let Some((line, after)) = first_part(Part::Line, rest.tokens) {
         let Some(kind) = line_kind(alloc, in_transaction, line)? else {

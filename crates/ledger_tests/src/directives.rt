@@ -176,3 +176,35 @@ fn near_to_directives(rt: HostRuntime) -> Result<(), Fail> {
     }
     Ok(())
 }
+
+#[test]
+fn the_sign_of_a_tolerance_is_of_its_exact_value(rt: HostRuntime) -> Result<(), Fail> {
+    let text = "2014-01-01 balance Assets:Cash 1 ~ -9,999,999,999,999 USD\
+         \n2014-01-01 balance Assets:Cash 1 ~ 9999999999999 USD\
+         \n2014-01-01 balance Assets:Cash 1 ~ 9999999999999 * 2.5 - 25000000000000.000000001 USD\
+         \n2014-01-01 balance Assets:Cash 1 ~ -9999999999999 * -9999999999999 USD\
+         \n2014-01-01 balance Assets:Cash 9999999999999 ~ -1 USD\
+         \n2014-01-01 balance Assets:Cash 1 ~ 0.000000001 - 0.000000001 USD\
+         \n2014-01-01 balance Assets:Cash 1 ~ -(0.25 - 1) USD\n";
+    let parsed = parse(rt.alloc(), text)?;
+    assert_eq!(rt; parsed.directives.as_slice().len(), 1);
+    let kinds: Vec<FaultKind> = parsed
+        .faults
+        .as_slice()
+        .iter()
+        .map(|fault| fault.kind)
+        .collect(rt.alloc())?;
+    assert_eq!(rt;
+        kinds.as_slice(),
+        [
+            FaultKind::NotADirective,
+            FaultKind::OutOfRange,
+            FaultKind::NotADirective,
+            FaultKind::OutOfRange,
+            FaultKind::NotADirective,
+            FaultKind::OutOfRange
+        ]
+        .as_slice()
+    );
+    Ok(())
+}

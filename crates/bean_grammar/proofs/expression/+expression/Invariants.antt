@@ -1,7 +1,7 @@
 use Rattle.std.proofs.Common.{◌+◌, ◌*◌, ◌<◌, ◌≡◌, false, length}
 use Rattle.theory.proofs.RowFacts.{InRow}
 use Rattle.bean_grammar.specs.Lexeme.{lexemes, begins_with_sign}
-use Rattle.bean_grammar.specs.Expression.{product, sum}
+use Rattle.bean_grammar.specs.Expression.{in_ledger, product, sum}
 use Rattle.bean_grammar.specs.Exact.{exact, times}
 use Rattle.bean_grammar.specs.Ranged.{ranged_map}
 use Rattle.bean_lexer.specs.declared.kind.Sign.TheVariants.{Star}
@@ -20,7 +20,7 @@ decreases-sum l = 3 * l.room + 2
 abbrev pub invariant-product-loop-after : goal.invariant-product-loop-after
 invariant-product-loop-after l = record {
   shorter : length l.rest < length l.tokens;
-  read : InRow (product l.room) (another_factor l.room) times (lexemes l.tokens) (ranged_map exact l.value) (lexemes l.rest);
+  read : InRow (product in_ledger l.room) (another_factor in_ledger l.room) times (lexemes l.tokens) (ranged_map exact l.value) (lexemes l.rest);
 }
 
 abbrev pub decreases-product-loop-after : goal.decreases-product-loop-after
@@ -30,7 +30,7 @@ abbrev pub invariant-sum-loop-is_minus : goal.invariant-sum-loop-is_minus
 invariant-sum-loop-is_minus l = record {
   shorter : length l.rest < length l.tokens;
   ends : begins_with_sign Star (lexemes l.rest) ≡ false;
-  read : InRow (sum l.room) (another_product l.room) with_product (lexemes l.tokens) (ranged_map exact l.value) (lexemes l.rest);
+  read : InRow (sum in_ledger l.room) (another_product in_ledger l.room) (with_product in_ledger) (lexemes l.tokens) (ranged_map exact l.value) (lexemes l.rest);
 }
 
 abbrev pub decreases-sum-loop-is_minus : goal.decreases-sum-loop-is_minus

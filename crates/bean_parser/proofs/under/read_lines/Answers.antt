@@ -1,8 +1,11 @@
 use Rattle.std.proofs.Common.{subst}
 use Rattle.bean_parser.specs.Block.{line_of}
 use Rattle.bean_parser.specs.Reading.{ReadsLine}
-use Rattle.bean_parser.proofs.LinesFacts.{line_more, line_none, lines_end, no_kind}
+use Rattle.bean_parser.proofs.LinesFacts.{lines_begin, line_more, line_none, lines_end, no_kind}
 use Rattle.bean_parser.proofs.under.read_lines.Goals as goal
+
+pub loop-line-init : goal.loop-line-init
+loop-line-init c = lines_begin _ _ _ c.in_ok-body.ensures
 
 pub loop-line-preserved : goal.loop-line-preserved
 loop-line-preserved c =
