@@ -1,11 +1,11 @@
 -- What some bytes are, computed.
 use Rattle.std.proofs.Common.{◌≡◌, ℕ, List, [], ◌∷◌, ◌++◌, Option, None, Ok, Err, codes, false, refl}
 use Rattle.std.specs.Str.{is_utf8, chars}
+use Rattle.query_values.specs.declared.operation.Aggregate.TheVariants.{CountRows}
 use Rattle.query_code.specs.declared.refusal.Cause.TheVariants.{Magic, Version, Truncated, TrailingBytes, BadField, NotUtf8}
 use Rattle.query_code.specs.declared.instruction.Push.TheVariants as push
 use Rattle.query_code.specs.declared.instruction.Instruction.TheVariants.{Push}
 use Rattle.query_code.specs.declared.program.Mode.TheVariants.{Grouped}
-use Rattle.query_code.specs.declared.program.Aggregate.TheVariants.{CountRows}
 use Rattle.query_code.specs.declared.program.Parts.{Parts}
 use Rattle.query_code.specs.ByteForm.{read_all}
 use Rattle.query_code.specs.InstructionForm.{instruction}

@@ -23,7 +23,7 @@ mod listing;
 pub mod program;
 pub mod refusal;
 
-pub use instruction::{Binary, Instruction, Push, Unary};
+pub use instruction::{Instruction, Push, Unary};
 pub use listing::show;
-pub use program::{Aggregate, Code, Constant, Mode, Numbers, Output, Parts, Program};
+pub use program::{Code, Constant, Mode, Numbers, Output, Parts, Program};
 pub use refusal::{Cause, Refusal, Stop};
