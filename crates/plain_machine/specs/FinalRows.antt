@@ -1,0 +1,61 @@
+-- The rows of an answer: in order, each once where that is asked for, and at most so many.
+use Rattle.std.specs.Prelude.{◌≡◌, ℕ, Bool, true, false, ◌||◌, List, [], ◌∷◌, ◌++◌, length, map, take, slice_index_or, Option, Some, None, if◌then◌else◌}
+use Rattle.std.specs.Cmp.Lexicographic.{slice_cmp}
+use Rattle.std.specs.List.{list_all, list_any}
+use Rattle.theory.specs.Arrangement.{IsArrangement, by_key, against_key}
+use Rattle.query_values.specs.Operand.{are_in_order}
+use Rattle.query_values.specs.Order.{order_of}
+use Rattle.query_values.specs.declared.value.Value.{Value}
+use Rattle.query_values.specs.declared.value.Value.TheVariants.{Null}
+use Rattle.query_code.specs.declared.program.Output.{Output}
+use Rattle.plain_machine.specs.Gathering.{same_values}
+
+abbrev pub column_of : List Value → ℕ → Value
+column_of row i = slice_index_or row i Null
+
+-- the values that a row is ordered by, the most important first
+abbrev pub order_values : List ℕ → List Value → List Value
+order_values order row = map (column_of row) order
+
+-- two rows have values to order by that stand in one order: each of one kind and of the same decimals
+abbrev pub have_order : List ℕ → List Value → List Value → Bool
+have_order order a b = list_all (λ i. are_in_order (column_of a i) (column_of b i)) order
+
+-- any two of the rows have
+abbrev pub are_orderable : List ℕ → List (List Value) → Bool
+are_orderable order rows = list_all (λ a. list_all (have_order order a) rows) rows
+
+-- by the first value that tells two rows apart; a descending order has null last
+abbrev pub comes_before : Output → List Value → List Value → Bool
+comes_before o = by_direction o.is_descending
+  where
+    by_direction : Bool → List Value → List Value → Bool
+    by_direction false = by_key (order_values o.order) (slice_cmp order_of)
+    by_direction true = against_key (order_values o.order) (slice_cmp order_of)
+
+-- the values that are shown
+abbrev pub shown : Output → List Value → List Value
+shown o row = take (length o.targets) row
+
+-- each row of which no same one was kept
+abbrev pub with_new : List (List Value) → List Value → List (List Value)
+with_new kept row = if list_any (same_values row) kept then kept else kept ++ row ∷ []
+
+abbrev pub each_once : List (List Value) → List (List Value) → List (List Value)
+each_once kept [] = kept
+each_once kept (row ∷ rows) = each_once (with_new kept row) rows
+
+abbrev pub once_if : Bool → List (List Value) → List (List Value)
+once_if false rows = rows
+once_if true rows = each_once [] rows
+
+abbrev pub limited : Option ℕ → List (List Value) → List (List Value)
+limited None rows = rows
+limited (Some most) rows = take most rows
+
+-- The rows that come out: in order, those that tie as they stood; what is shown of them; only the
+-- first of rows that show the same, where each is wanted once; and at most the limit.
+pub record IsFinal (o : Output) (rows final : List (List Value)) : Type 0 where
+  pub arranged : List (List Value)
+  pub in_order : IsArrangement (comes_before o) rows arranged
+  pub is : final ≡ limited o.limit (once_if o.is_distinct (map (shown o) arranged))

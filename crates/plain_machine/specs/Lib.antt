@@ -1,0 +1,9 @@
+pub mod Row
+pub mod Pool
+pub mod SectionRun
+pub mod Loading
+pub mod Gathering
+pub mod FinalRows
+pub mod PlainMachine
+pub mod WholeRun
+pub mod Alike
