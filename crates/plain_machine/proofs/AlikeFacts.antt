@@ -12,7 +12,7 @@ use Rattle.query_code.specs.declared.program.Parts.{Parts}
 use Rattle.plain_machine.specs.Alike.{group_as, kept_as, stand_as}
 use Rattle.plain_machine.specs.FinalRows.{are_orderable}
 use Rattle.plain_machine.specs.Gathering.{Keeping, Group, inputs_of, next_input, cons_if, take_each, with_input, aggregates_over, all_inputs, with_value, running_values, same_values, group_if, put}
-use Rattle.plain_machine.specs.PlainMachine.{Kept, Stand, InFilter, InRow, InLast, Done, Fault, one_truth, running_with, width_of, row_of, with_running, with_groups, with_row, grouped_with, kept_with, nothing_kept, ended, begin_last, begin_filter, begin, go_on, end_row, begin_row, judged, end_filter, go_on_last, end_last, in_filter, in_row, in_last, filter_step, row_step, last_step, step, steps, after, last_loads}
+use Rattle.plain_machine.specs.PlainMachine.{Kept, Stand, InFilter, InRow, InLast, Done, Fault, one_truth, running_with, width_of, row_of, with_running, with_groups, with_row, grouped_with, kept_with, nothing_kept, ended, begin_last, begin_filter, begin, go_on, end_row, begin_row, judged, end_filter, go_on_last, end_last, in_filter, in_row, in_last, filter_acts, row_acts, last_acts, step, steps, after, last_loads}
 use Rattle.plain_machine.specs.Loading.{value_acts}
 use Rattle.plain_machine.specs.Row.{Row}
 use Rattle.plain_machine.specs.SectionRun.{State, start, Outcome, Standing, Stopped, one_step}
@@ -121,18 +121,18 @@ module _ {X Y : Type 0} (f : X → Y) (K : Keeping X) (L : Keeping Y) (c : Carri
       if_as (stand_as f) (nat_eq q (length p.code.row)) (end_row K p rest k s.stack) (InRow r rest k q s)
       ∙ ap (λ x. cond (nat_eq q (length p.code.row)) x (InRow r rest (kept_as f k) q s)) (end_row_as rest k s.stack)
 
-  in_last_as : (g : Group X) (rest : List (Group X)) (rows : List (List Value)) (o : Outcome) → stand_as f (in_last p g rest rows o) ≡ in_last p (group_as f g) (map (group_as f) rest) rows o
+  in_last_as : (g : Group X) (rest : List (Group X)) (rows : List (List Value)) (o : Outcome) → stand_as f (in_last K p g rest rows o) ≡ in_last L p (group_as f g) (map (group_as f) rest) rows o
   in_last_as g rest rows Stopped = refl
   in_last_as g rest rows (Standing q s) =
       if_as (stand_as f) (nat_eq q (length p.code.last)) (end_last p rest rows s.stack) (InLast g rest rows q s)
       ∙ ap (λ x. cond (nat_eq q (length p.code.last)) x (InLast (group_as f g) (map (group_as f) rest) rows q s)) (go_on_last_as rest rows (row_of p.output s.stack))
 
   step_as : (s : Stand X) → stand_as f (step K p s) ≡ step L p (stand_as f s)
-  step_as (InFilter r rest k q s) = in_filter_as r rest k (filter_step p r (Standing q s))
-  step_as (InRow r rest k q s) = in_row_as r rest k (row_step p r k.running (Standing q s))
+  step_as (InFilter r rest k q s) = in_filter_as r rest k (one_step p.code.filter (filter_acts p r) (Standing q s))
+  step_as (InRow r rest k q s) = in_row_as r rest k (one_step p.code.row (row_acts p k.running r) (Standing q s))
   step_as (InLast g rest rows q s) =
-      in_last_as g rest rows (last_step K p g (Standing q s))
-      ∙ ap (λ v. in_last p (group_as f g) (map (group_as f) rest) rows (one_step p.code.last (value_acts p.code.pool (last_loads g.0 v)) (Standing q s))) (sym (c.values g.1))
+      in_last_as g rest rows (one_step p.code.last (last_acts K p g) (Standing q s))
+      ∙ ap (λ v. in_last L p (group_as f g) (map (group_as f) rest) rows (one_step p.code.last (value_acts p.code.pool (last_loads g.0 v)) (Standing q s))) (sym (c.values g.1))
   step_as (Done rows) = refl
   step_as Fault = refl
 

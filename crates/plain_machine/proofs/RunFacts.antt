@@ -7,7 +7,7 @@ use Rattle.query_code.specs.declared.program.Parts.{Parts}
 use Rattle.plain_machine.specs.FinalRows.{are_orderable}
 use Rattle.plain_machine.specs.Gathering.{Keeping, Group}
 use Rattle.plain_machine.specs.Loading.{value_acts}
-use Rattle.plain_machine.specs.PlainMachine.{Kept, Stand, InFilter, InRow, InLast, Done, Fault, filter_loads, row_loads, last_loads, one_truth, running_with, row_of, kept_with, with_running, nothing_kept, ended, begin_last, begin_filter, begin, go_on, end_row, begin_row, judged, end_filter, go_on_last, end_last, in_filter, in_row, in_last, filter_step, row_step, last_step, step, steps}
+use Rattle.plain_machine.specs.PlainMachine.{Kept, Stand, InFilter, InRow, InLast, Done, Fault, one_truth, running_with, row_of, kept_with, with_running, nothing_kept, ended, begin_last, begin_filter, begin, go_on, end_row, begin_row, judged, end_filter, go_on_last, end_last, in_filter, in_row, in_last, filter_acts, row_acts, last_acts, step, steps}
 use Rattle.plain_machine.specs.Row.{Row}
 use Rattle.plain_machine.specs.SectionRun.{Acts, State, start, Outcome, Standing, Stopped}
 use Rattle.plain_machine.specs.WholeRun.{filter_left, row_left, last_left, row_run, row_taken, behind_row, behind_rows, group_row, group_rows, orderable, rows_of, answer, stand_of, group_count, budget, is_going, Reaches}
@@ -35,7 +35,7 @@ module _ {X : Type 0} (keep : Keeping X) (p : Parts) where
       left = row_left p k.running r
 
       acts : Acts Value
-      acts = value_acts p.code.pool (row_loads p.mode k.running r)
+      acts = row_acts p k.running r
 
       lift : Outcome → Stand X
       lift = in_row keep p r rest k
@@ -76,7 +76,7 @@ module _ {X : Type 0} (keep : Keeping X) (p : Parts) where
       left = filter_left p r
 
       acts : Acts Value
-      acts = value_acts p.code.pool (filter_loads r)
+      acts = filter_acts p r
 
       lift : Outcome → Stand X
       lift = in_filter keep p r rest k
@@ -139,10 +139,10 @@ module _ {X : Type 0} (keep : Keeping X) (p : Parts) where
       left = last_left keep p g
 
       acts : Acts Value
-      acts = value_acts p.code.pool (last_loads g.0 (keep.values g.1))
+      acts = last_acts keep p g
 
       lift : Outcome → Stand X
-      lift = in_last p g rest rows
+      lift = in_last keep p g rest rows
 
       at : Bool → ℕ → State Value → Stand X
       at b q s = cond b (end_last p rest rows s.stack) (InLast g rest rows q s)

@@ -14,7 +14,7 @@ use Rattle.plain_machine.specs.FinalRows.{are_orderable}
 use Rattle.plain_machine.specs.Gathering.{Keeping, Group, all_inputs, inputs_of, put, with_value}
 use Rattle.plain_machine.specs.Loading.{Loads, cell_at, position_column, value_acts}
 use Rattle.plain_machine.specs.Row.{Row}
-use Rattle.plain_machine.specs.SectionRun.{State, start, Outcome, Standing, Stopped, one_step}
+use Rattle.plain_machine.specs.SectionRun.{Acts, State, start, Outcome, Standing, Stopped, one_step}
 
 -- What a run keeps between sections: the running inventory, the groups, and the rows that it gave.
 pub record Kept (X : Type 0) : Type 0 where
@@ -78,100 +78,108 @@ with_groups k groups = record { running = k.running; groups = groups; rows = k.r
 abbrev pub with_row : {X : Type 0} → Kept X → List Value → Kept X
 with_row k row = record { running = k.running; groups = k.groups; rows = k.rows ++ row ∷ [] }
 
--- keys, and inputs behind them
-abbrev pub grouped_with : {X : Type 0} → Keeping X → Parts → Kept X → List Value → Option (Kept X)
-grouped_with keep p k values =
-    if length values == p.code.keys + inputs_of p.code.aggregates
-    then option_map (with_groups k) (put keep k.groups (take p.code.keys values) (drop p.code.keys values))
-    else None
-
--- a row of the answer, or a member of a group
-abbrev pub kept_with : {X : Type 0} → Keeping X → Parts → Kept X → List Value → Option (Kept X)
-kept_with keep p k stack =
-    if is_grouped p.mode then grouped_with keep p k (reverse stack)
-    else option_map (with_row k) (row_of p.output stack)
-
 -- ---- from section to section
 
-abbrev pub ended : {X : Type 0} → Parts → List (List Value) → Stand X
-ended p rows = if are_orderable p.output.order rows then Done rows else Fault
+abbrev pub filter_acts : Parts → Row → Acts Value
+filter_acts p r = value_acts p.code.pool (filter_loads r)
 
--- the next group; a section without instructions leaves nothing, and a row has one value at least
-abbrev pub begin_last : {X : Type 0} → Parts → List (Group X) → List (List Value) → Stand X
-begin_last p [] rows = ended p rows
-begin_last p (g ∷ rest) rows = if length p.code.last == 0 then Fault else InLast g rest rows 0 start
+abbrev pub row_acts : Parts → Value → Row → Acts Value
+row_acts p running r = value_acts p.code.pool (row_loads p.mode running r)
 
--- the next posting; a filter without instructions leaves no truth value
-abbrev pub begin_filter : {X : Type 0} → Parts → List Row → Kept X → Stand X
-begin_filter p [] k = begin_last p k.groups k.rows
-begin_filter p (r ∷ rest) k = if length p.code.filter == 0 then Fault else InFilter r rest k 0 start
+module _ {X : Type 0} (p : Parts) where
+  -- at the end, where the rows can be ordered
+  abbrev pub ended : List (List Value) → Stand X
+  ended rows = if are_orderable p.output.order rows then Done rows else Fault
 
-abbrev pub go_on : {X : Type 0} → Parts → List Row → Option (Kept X) → Stand X
-go_on p rest None = Fault
-go_on p rest (Some k) = begin_filter p rest k
+  -- the next group; a section without instructions leaves nothing, and a row has one value at least
+  abbrev pub begin_last : List (Group X) → List (List Value) → Stand X
+  begin_last [] rows = ended rows
+  begin_last (g ∷ rest) rows = if length p.code.last == 0 then Fault else InLast g rest rows 0 start
 
-abbrev pub end_row : {X : Type 0} → Keeping X → Parts → List Row → Kept X → List Value → Stand X
-end_row keep p rest k stack = go_on p rest (kept_with keep p k stack)
+  abbrev pub go_on_last : List (Group X) → List (List Value) → Option (List Value) → Stand X
+  go_on_last rest rows None = Fault
+  go_on_last rest rows (Some row) = begin_last rest (rows ++ row ∷ [])
 
--- a row section without instructions ends at once
-abbrev pub begin_row : {X : Type 0} → Keeping X → Parts → Row → List Row → Option (Kept X) → Stand X
-begin_row keep p r rest None = Fault
-begin_row keep p r rest (Some k) =
-    if length p.code.row == 0 then end_row keep p rest k [] else InRow r rest k 0 start
+  abbrev pub end_last : List (Group X) → List (List Value) → List Value → Stand X
+  end_last rest rows stack = go_on_last rest rows (row_of p.output stack)
 
-abbrev pub judged : {X : Type 0} → Keeping X → Parts → Row → List Row → Kept X → Option Bool → Stand X
-judged keep p r rest k None = Fault
-judged keep p r rest k (Some true) =
-    begin_row keep p r rest (option_map (with_running k) (running_with k.running r))
-judged keep p r rest k (Some false) = begin_filter p rest k
+  -- the next posting; a filter without instructions leaves no truth value
+  abbrev pub begin_filter : List Row → Kept X → Stand X
+  begin_filter [] k = begin_last k.groups k.rows
+  begin_filter (r ∷ rest) k = if length p.code.filter == 0 then Fault else InFilter r rest k 0 start
 
-abbrev pub end_filter : {X : Type 0} → Keeping X → Parts → Row → List Row → Kept X → List Value → Stand X
-end_filter keep p r rest k stack = judged keep p r rest k (one_truth stack)
+  abbrev pub go_on : List Row → Option (Kept X) → Stand X
+  go_on rest None = Fault
+  go_on rest (Some k) = begin_filter rest k
 
-abbrev pub go_on_last : {X : Type 0} → Parts → List (Group X) → List (List Value) → Option (List Value) → Stand X
-go_on_last p rest rows None = Fault
-go_on_last p rest rows (Some row) = begin_last p rest (rows ++ row ∷ [])
+module _ {X : Type 0} (keep : Keeping X) (p : Parts) where
+  -- keys, and inputs behind them
+  abbrev pub grouped_with : Kept X → List Value → Option (Kept X)
+  grouped_with k values =
+      if length values == p.code.keys + inputs_of p.code.aggregates
+      then option_map (with_groups k) (put keep k.groups (take p.code.keys values) (drop p.code.keys values))
+      else None
 
-abbrev pub end_last : {X : Type 0} → Parts → List (Group X) → List (List Value) → List Value → Stand X
-end_last p rest rows stack = go_on_last p rest rows (row_of p.output stack)
+  -- a row of the answer, or a member of a group
+  abbrev pub kept_with : Kept X → List Value → Option (Kept X)
+  kept_with k stack =
+      if is_grouped p.mode then grouped_with k (reverse stack)
+      else option_map (with_row k) (row_of p.output stack)
 
--- ---- one step
+  abbrev pub end_row : List Row → Kept X → List Value → Stand X
+  end_row rest k stack = go_on p rest (kept_with k stack)
 
-abbrev pub in_filter : {X : Type 0} → Keeping X → Parts → Row → List Row → Kept X → Outcome → Stand X
-in_filter keep p r rest k Stopped = Fault
-in_filter keep p r rest k (Standing q s) =
-    if q == length p.code.filter then end_filter keep p r rest k s.stack else InFilter r rest k q s
+  -- a row section without instructions ends at once
+  abbrev pub begin_row : Row → List Row → Option (Kept X) → Stand X
+  begin_row r rest None = Fault
+  begin_row r rest (Some k) =
+      if length p.code.row == 0 then end_row rest k [] else InRow r rest k 0 start
 
-abbrev pub in_row : {X : Type 0} → Keeping X → Parts → Row → List Row → Kept X → Outcome → Stand X
-in_row keep p r rest k Stopped = Fault
-in_row keep p r rest k (Standing q s) =
-    if q == length p.code.row then end_row keep p rest k s.stack else InRow r rest k q s
+  abbrev pub judged : Row → List Row → Kept X → Option Bool → Stand X
+  judged r rest k None = Fault
+  judged r rest k (Some true) =
+      begin_row r rest (option_map (with_running k) (running_with k.running r))
+  judged r rest k (Some false) = begin_filter p rest k
 
-abbrev pub in_last : {X : Type 0} → Parts → Group X → List (Group X) → List (List Value) → Outcome → Stand X
-in_last p g rest rows Stopped = Fault
-in_last p g rest rows (Standing q s) =
-    if q == length p.code.last then end_last p rest rows s.stack else InLast g rest rows q s
+  abbrev pub end_filter : Row → List Row → Kept X → List Value → Stand X
+  end_filter r rest k stack = judged r rest k (one_truth stack)
 
-abbrev pub filter_step : Parts → Row → Outcome → Outcome
-filter_step p r = one_step p.code.filter (value_acts p.code.pool (filter_loads r))
+  -- ---- one step
 
-abbrev pub row_step : Parts → Row → Value → Outcome → Outcome
-row_step p r running = one_step p.code.row (value_acts p.code.pool (row_loads p.mode running r))
+  abbrev pub in_filter : Row → List Row → Kept X → Outcome → Stand X
+  in_filter r rest k Stopped = Fault
+  in_filter r rest k (Standing q s) =
+      if q == length p.code.filter then end_filter r rest k s.stack else InFilter r rest k q s
 
-abbrev pub last_step : {X : Type 0} → Keeping X → Parts → Group X → Outcome → Outcome
-last_step keep p g = one_step p.code.last (value_acts p.code.pool (last_loads g.0 (keep.values g.1)))
+  abbrev pub in_row : Row → List Row → Kept X → Outcome → Stand X
+  in_row r rest k Stopped = Fault
+  in_row r rest k (Standing q s) =
+      if q == length p.code.row then end_row rest k s.stack else InRow r rest k q s
 
-abbrev pub step : {X : Type 0} → Keeping X → Parts → Stand X → Stand X
-step keep p (InFilter r rest k q s) = in_filter keep p r rest k (filter_step p r (Standing q s))
-step keep p (InRow r rest k q s) = in_row keep p r rest k (row_step p r k.running (Standing q s))
-step keep p (InLast g rest rows q s) = in_last p g rest rows (last_step keep p g (Standing q s))
-step keep p (Done rows) = Done rows
-step keep p Fault = Fault
+  abbrev pub in_last : Group X → List (Group X) → List (List Value) → Outcome → Stand X
+  in_last g rest rows Stopped = Fault
+  in_last g rest rows (Standing q s) =
+      if q == length p.code.last then end_last p rest rows s.stack else InLast g rest rows q s
 
--- n steps more; at its end and at a fault it stays
-abbrev pub steps : {X : Type 0} → Keeping X → Parts → ℕ → Stand X → Stand X
-steps keep p zero s = s
-steps keep p (suc n) s = step keep p (steps keep p n s)
+  abbrev pub last_acts : Group X → Acts Value
+  last_acts g = value_acts p.code.pool (last_loads g.0 (keep.values g.1))
+
+  abbrev pub step : Stand X → Stand X
+  step (InFilter r rest k q s) =
+      in_filter r rest k (one_step p.code.filter (filter_acts p r) (Standing q s))
+  step (InRow r rest k q s) =
+      in_row r rest k (one_step p.code.row (row_acts p k.running r) (Standing q s))
+  step (InLast g rest rows q s) =
+      in_last g rest rows (one_step p.code.last (last_acts g) (Standing q s))
+  step (Done rows) = Done rows
+  step Fault = Fault
+
+  -- n steps more; at its end and at a fault it stays
+  abbrev pub steps : ℕ → Stand X → Stand X
+  steps zero s = s
+  steps (suc n) s = step (steps n s)
+
+-- ---- the whole
 
 abbrev pub nothing_kept : {X : Type 0} → Kept X
 nothing_kept = record { running = aggregate_of (SumInventory 8) []; groups = []; rows = [] }

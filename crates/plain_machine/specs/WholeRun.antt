@@ -5,59 +5,62 @@ use Rattle.query_values.specs.declared.value.Value.{Value}
 use Rattle.query_code.specs.declared.program.Parts.{Parts}
 use Rattle.plain_machine.specs.FinalRows.{are_orderable}
 use Rattle.plain_machine.specs.Gathering.{Keeping, Group}
-use Rattle.plain_machine.specs.Loading.{value_acts}
-use Rattle.plain_machine.specs.PlainMachine.{Kept, Stand, InFilter, InRow, InLast, Done, Fault, filter_loads, row_loads, last_loads, one_truth, running_with, row_of, kept_with, with_running, nothing_kept, begin, steps}
+use Rattle.plain_machine.specs.PlainMachine.{Kept, Stand, InFilter, InRow, InLast, Done, Fault, filter_acts, row_acts, last_acts, one_truth, running_with, row_of, kept_with, with_running, nothing_kept, begin, steps}
 use Rattle.plain_machine.specs.Row.{Row}
 use Rattle.plain_machine.specs.SectionRun.{left_by}
 
 abbrev pub filter_left : Parts → Row → Option (List Value)
-filter_left p r = left_by p.code.filter (value_acts p.code.pool (filter_loads r))
+filter_left p r = left_by p.code.filter (filter_acts p r)
 
 abbrev pub row_left : Parts → Value → Row → Option (List Value)
-row_left p running r = left_by p.code.row (value_acts p.code.pool (row_loads p.mode running r))
-
-abbrev pub last_left : {X : Type 0} → Keeping X → Parts → Group X → Option (List Value)
-last_left keep p g = left_by p.code.last (value_acts p.code.pool (last_loads g.0 (keep.values g.1)))
-
--- what is kept when the row section has run at a row that passed
-abbrev pub row_run : {X : Type 0} → Keeping X → Parts → Row → Kept X → Option (Kept X)
-row_run keep p r k = option_and_then (kept_with keep p k) (row_left p k.running r)
-
-abbrev pub row_taken : {X : Type 0} → Keeping X → Parts → Row → Kept X → Bool → Option (Kept X)
-row_taken keep p r k false = Some k
-row_taken keep p r k true =
-    option_and_then (row_run keep p r) (option_map (with_running k) (running_with k.running r))
-
--- what is kept behind a row
-abbrev pub behind_row : {X : Type 0} → Keeping X → Parts → Row → Kept X → Option (Kept X)
-behind_row keep p r k =
-    option_and_then (row_taken keep p r k) (option_and_then one_truth (filter_left p r))
-
--- what is kept behind all rows
-abbrev pub behind_rows : {X : Type 0} → Keeping X → Parts → List Row → Kept X → Option (Kept X)
-behind_rows keep p [] k = Some k
-behind_rows keep p (r ∷ rest) k = option_and_then (behind_rows keep p rest) (behind_row keep p r k)
-
--- the row that a group gives
-abbrev pub group_row : {X : Type 0} → Keeping X → Parts → Group X → Option (List Value)
-group_row keep p g =
-    if length p.code.last == 0 then None else option_and_then (row_of p.output) (last_left keep p g)
-
--- the rows with those of the groups
-abbrev pub group_rows : {X : Type 0} → Keeping X → Parts → List (Group X) → List (List Value) → Option (List (List Value))
-group_rows keep p [] rows = Some rows
-group_rows keep p (g ∷ rest) rows =
-    option_and_then (λ row. group_rows keep p rest (rows ++ row ∷ [])) (group_row keep p g)
+row_left p running r = left_by p.code.row (row_acts p running r)
 
 abbrev pub orderable : Parts → List (List Value) → Option (List (List Value))
 orderable p rows = if are_orderable p.output.order rows then Some rows else None
 
-abbrev pub rows_of : {X : Type 0} → Keeping X → Parts → Kept X → Option (List (List Value))
-rows_of keep p k = option_and_then (orderable p) (group_rows keep p k.groups k.rows)
+module _ {X : Type 0} (keep : Keeping X) (p : Parts) where
+  -- ---- the rows
 
--- the rows that the program gives over these rows of a ledger; none is a fault
-abbrev pub answer : {X : Type 0} → Keeping X → Parts → List Row → Option (List (List Value))
-answer keep p rows = option_and_then (rows_of keep p) (behind_rows keep p rows nothing_kept)
+  -- what is kept when the row section has run at a row that passed
+  abbrev pub row_run : Row → Kept X → Option (Kept X)
+  row_run r k = option_and_then (kept_with keep p k) (row_left p k.running r)
+
+  abbrev pub row_taken : Row → Kept X → Bool → Option (Kept X)
+  row_taken r k false = Some k
+  row_taken r k true =
+      option_and_then (row_run r) (option_map (with_running k) (running_with k.running r))
+
+  -- what is kept behind a row
+  abbrev pub behind_row : Row → Kept X → Option (Kept X)
+  behind_row r k = option_and_then (row_taken r k) (option_and_then one_truth (filter_left p r))
+
+  -- what is kept behind all rows
+  abbrev pub behind_rows : List Row → Kept X → Option (Kept X)
+  behind_rows [] k = Some k
+  behind_rows (r ∷ rest) k = option_and_then (behind_rows rest) (behind_row r k)
+
+  -- ---- the groups
+
+  abbrev pub last_left : Group X → Option (List Value)
+  last_left g = left_by p.code.last (last_acts keep p g)
+
+  -- the row that a group gives
+  abbrev pub group_row : Group X → Option (List Value)
+  group_row g =
+      if length p.code.last == 0 then None else option_and_then (row_of p.output) (last_left g)
+
+  -- the rows with those of the groups
+  abbrev pub group_rows : List (Group X) → List (List Value) → Option (List (List Value))
+  group_rows [] rows = Some rows
+  group_rows (g ∷ rest) rows =
+      option_and_then (λ row. group_rows rest (rows ++ row ∷ [])) (group_row g)
+
+  abbrev pub rows_of : Kept X → Option (List (List Value))
+  rows_of k = option_and_then (orderable p) (group_rows k.groups k.rows)
+
+  -- the rows that the program gives over these rows of a ledger; none is a fault
+  abbrev pub answer : List Row → Option (List (List Value))
+  answer rows = option_and_then rows_of (behind_rows rows nothing_kept)
 
 -- ---- how the steps come to it
 
