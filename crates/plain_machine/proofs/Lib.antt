@@ -1,5 +1,7 @@
 pub mod SectionFacts
 pub mod ReachFacts
 pub mod RunFacts
+pub mod CountFacts
 pub mod AlikeFacts
+pub mod FinalRowsFacts
 mod Examples

@@ -26,12 +26,12 @@ abbrev pub are_orderable : List ℕ → List (List Value) → Bool
 are_orderable order rows = list_all (λ a. list_all (have_order order a) rows) rows
 
 -- by the first value that tells two rows apart; a descending order has null last
+abbrev pub in_direction : Bool → List ℕ → List Value → List Value → Bool
+in_direction false order = by_key (order_values order) (slice_cmp order_of)
+in_direction true order = against_key (order_values order) (slice_cmp order_of)
+
 abbrev pub comes_before : Output → List Value → List Value → Bool
-comes_before o = by_direction o.is_descending
-  where
-    by_direction : Bool → List Value → List Value → Bool
-    by_direction false = by_key (order_values o.order) (slice_cmp order_of)
-    by_direction true = against_key (order_values o.order) (slice_cmp order_of)
+comes_before o = in_direction o.is_descending o.order
 
 -- the values that are shown
 abbrev pub shown : Output → List Value → List Value
@@ -59,3 +59,7 @@ pub record IsFinal (o : Output) (rows final : List (List Value)) : Type 0 where
   pub arranged : List (List Value)
   pub in_order : IsArrangement (comes_before o) rows arranged
   pub is : final ≡ limited o.limit (once_if o.is_distinct (map (shown o) arranged))
+
+-- the rows that come out are told by those that go in
+abbrev pub AreOne : Type 0
+AreOne = (o : Output) (rows a b : List (List Value)) → IsFinal o rows a → IsFinal o rows b → a ≡ b

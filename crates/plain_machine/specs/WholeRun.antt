@@ -98,3 +98,15 @@ ComesToItsAnswer keeping =
     → Reaches (keeping p.code.aggregates) p
     (budget p (length rows) (group_count (behind_rows (keeping p.code.aggregates) p rows nothing_kept)))
     (begin p rows) (stand_of (answer (keeping p.code.aggregates) p rows))
+
+-- An answer has no more rows than the ledger, and is reached within the budget of its own rows: one
+-- for each group, where postings are grouped.
+pub record IsReached {X : Type 0} (keep : Keeping X) (p : Parts) (ledger : List Row) (rows : List (List Value)) : Type 0 where
+  pub few : length rows ≤ length ledger
+  pub reaches : Reaches keep p (budget p (length ledger) (length rows)) (begin p ledger) (Done rows)
+
+abbrev pub AnswersAreReached : {X : Type 0} → (List Aggregate → Keeping X) → Type 0
+AnswersAreReached keeping =
+    (p : Parts) (ledger : List Row) (rows : List (List Value))
+    → answer (keeping p.code.aggregates) p ledger ≡ Some rows
+    → IsReached (keeping p.code.aggregates) p ledger rows

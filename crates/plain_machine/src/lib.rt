@@ -29,8 +29,9 @@
 #![tactic(auto)]
 
 ghost use Rattle.plain_machine.specs.Alike.{StandAlike};
+ghost use Rattle.plain_machine.specs.FinalRows.{AreOne};
 ghost use Rattle.plain_machine.specs.Gathering.{all_inputs, running_values};
-ghost use Rattle.plain_machine.specs.WholeRun.{ComesToItsAnswer};
+ghost use Rattle.plain_machine.specs.WholeRun.{AnswersAreReached, ComesToItsAnswer};
 
 /// The steps of each program come to what its sections leave, row after row and group after group,
 /// within the program's budget; or to a fault where one of them has one.
@@ -39,8 +40,19 @@ pub fn runs_come_to_their_answers()
     ensures running { ComesToItsAnswer running_values }
 {}
 
+/// An answer has no more rows than the ledger, and is reached within the budget of its own rows.
+pub fn answers_are_reached()
+    ensures inputs { AnswersAreReached all_inputs }
+    ensures running { AnswersAreReached running_values }
+{}
+
 /// A machine that keeps what is gathered so far stands where one stands that keeps all inputs,
 /// after each step.
 pub fn running_values_stand_alike()
     ensures { StandAlike }
+{}
+
+/// Rows have one order, and so one list of final rows.
+pub fn final_rows_are_one()
+    ensures { AreOne }
 {}
