@@ -2,20 +2,19 @@
 use Rattle.std.proofs.Common.{◌≡◌, ℕ, zero, suc, List, [], ◌∷◌, ◌++◌, ◌+◌, length, map, take, drop, reverse, Option, Some, None, Bool, true, false, cond, ◌&&◌, refl, sym, ap, ◌∙◌}
 use Rattle.std.specs.Prelude.{nat_eq, option_map, option_and_then}
 use Rattle.query_values.proofs.AggregateFacts.{gathered_more}
-use Rattle.query_values.specs.Aggregate.{aggregate_of, with_more, may_take}
+use Rattle.query_values.specs.Aggregate.{aggregate_of, may_take}
 use Rattle.query_values.specs.Held.{is_held}
 use Rattle.query_values.specs.declared.operation.Aggregate.{Aggregate}
-use Rattle.query_values.specs.declared.operation.Aggregate.TheVariants.{CountRows, Count, Sum, SumInventory, First, Last, Min, Max}
 use Rattle.query_values.specs.declared.value.Value.{Value}
 use Rattle.query_code.specs.QueryFile.{is_grouped}
 use Rattle.query_code.specs.declared.program.Parts.{Parts}
 use Rattle.plain_machine.specs.Alike.{group_as, kept_as, stand_as}
 use Rattle.plain_machine.specs.FinalRows.{are_orderable}
 use Rattle.plain_machine.specs.Gathering.{Keeping, Group, inputs_of, next_input, cons_if, take_each, with_input, aggregates_over, all_inputs, with_value, running_values, same_values, group_if, put}
-use Rattle.plain_machine.specs.PlainMachine.{Kept, Stand, InFilter, InRow, InLast, Done, Fault, one_truth, running_with, width_of, row_of, with_running, with_groups, with_row, grouped_with, kept_with, nothing_kept, ended, begin_last, begin_filter, begin, go_on, end_row, begin_row, judged, end_filter, go_on_last, end_last, in_filter, in_row, in_last, filter_acts, row_acts, last_acts, step, steps, after, last_loads}
+use Rattle.plain_machine.specs.PlainMachine.{Kept, Stand, InFilter, InRow, InLast, Done, Fault, one_truth, running_with, row_of, with_running, with_groups, with_row, grouped_with, kept_with, nothing_kept, ended, begin_last, begin_filter, go_on, end_row, begin_row, judged, end_filter, go_on_last, end_last, in_filter, in_row, in_last, filter_acts, row_acts, last_acts, step, after, last_loads}
 use Rattle.plain_machine.specs.Loading.{value_acts}
 use Rattle.plain_machine.specs.Row.{Row}
-use Rattle.plain_machine.specs.SectionRun.{State, start, Outcome, Standing, Stopped, one_step}
+use Rattle.plain_machine.specs.SectionRun.{start, Outcome, Standing, Stopped, one_step}
 
 -- what one keeping keeps is, as f sees it, what another keeps
 pub record Carries {X Y : Type 0} (K : Keeping X) (L : Keeping Y) (f : X → Y) : Type 0 where

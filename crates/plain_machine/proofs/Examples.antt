@@ -1,26 +1,25 @@
 -- What programs do over a few rows, computed.
-use Rattle.std.proofs.Common.{◌≡◌, ◌<◌, ◌≤◌, ◌^◌, ◌-◌, ℕ, ℤ, pos, negsuc, Bool, true, false, List, [], ◌∷◌, ◌++◌, map, replicate, Option, Some, None, codes, refl, arith}
-use Rattle.bean_base.specs.declared.decimal.Decimal.{Decimal}
+use Rattle.std.proofs.Common.{◌≡◌, ◌<◌, ◌≤◌, ◌^◌, ◌-◌, ℕ, ℤ, pos, negsuc, Bool, true, false, List, [], ◌∷◌, ◌++◌, map, replicate, Some, None, codes, refl, arith}
 use Rattle.bean_lots.specs.declared.lot.Key.{Key}
 use Rattle.query_values.specs.declared.operation.Aggregate.{Aggregate}
 use Rattle.query_values.specs.declared.operation.Aggregate.TheVariants as aggregate
 use Rattle.query_values.specs.declared.operation.Binary.TheVariants as binary
 use Rattle.query_values.specs.declared.value.Value.{Value}
-use Rattle.query_values.specs.declared.value.Value.TheVariants.{Null, Truth, Number, Text, Amount, Position, Inventory}
+use Rattle.query_values.specs.declared.value.Value.TheVariants.{Null, Truth, Number, Text, Position, Inventory}
 use Rattle.query_code.specs.declared.instruction.Push.TheVariants as push
 use Rattle.query_code.specs.declared.instruction.Unary.TheVariants as unary
 use Rattle.query_code.specs.declared.instruction.Instruction.{Instruction}
 use Rattle.query_code.specs.declared.instruction.Instruction.TheVariants.{Push, Unary, Binary, LoadSlot, StoreSlot, Jump, JumpIfFalse}
 use Rattle.query_code.specs.declared.program.Constant.{Constant}
 use Rattle.query_code.specs.declared.program.Constant.TheVariants as constant
-use Rattle.query_code.specs.declared.program.Code.{Code}
 use Rattle.query_code.specs.declared.program.Mode.TheVariants.{Plain, Grouped}
 use Rattle.query_code.specs.declared.program.Output.{Output}
 use Rattle.query_code.specs.declared.program.Parts.{Parts}
+use Rattle.query_code.proofs.WorkedProgram.{counted}
 use Rattle.plain_machine.specs.FinalRows.{are_orderable, comes_before, once_if, shown}
 use Rattle.plain_machine.specs.PlainMachine.{Done, Fault, stand_after}
 use Rattle.plain_machine.specs.Row.{Row, Entry, any_text}
-use Rattle.plain_machine.specs.WholeRun.{is_going}
+use Rattle.plain_machine.specs.WholeRun.{budget, is_going}
 
 -- ---- rows
 
@@ -157,17 +156,17 @@ balance_of_a_filter : stand_after (plain [] (Push (push.LoadColumn 19) ∷ []) l
 balance_of_a_filter = refl
 
 -- SELECT count(*)
-abbrev count_rows : Parts
-count_rows = grouped 0 (aggregate.CountRows ∷ []) [] (Push (push.LoadAggregate 0) ∷ [])
+counted_going : is_going (stand_after counted three_rows 3) ≡ true
+counted_going = refl
 
-count_rows_going : is_going (stand_after count_rows three_rows 3) ≡ true
-count_rows_going = refl
+counted_done : stand_after counted three_rows 4 ≡ Done ((Number 0 (pos 3) ∷ []) ∷ [])
+counted_done = refl
 
-count_rows_done : stand_after count_rows three_rows 4 ≡ Done ((Number 0 (pos 3) ∷ []) ∷ [])
-count_rows_done = refl
+counted_nothing : stand_after counted [] 0 ≡ Done []
+counted_nothing = refl
 
-count_no_rows : stand_after count_rows [] 0 ≡ Done []
-count_no_rows = refl
+counted_in_time : budget counted 3 1 ≡ 4
+counted_in_time = refl
 
 -- SELECT account, count(*), with the count alone: groups stand in order of first appearance
 abbrev by_account : List Aggregate → Parts

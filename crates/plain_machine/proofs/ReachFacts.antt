@@ -1,6 +1,5 @@
 -- One run behind the other.
 use Rattle.std.proofs.Common.{◌≡◌, ℕ, zero, suc, ◌+◌, ◌-◌, ◌<◌, ◌≤◌, List, length, Option, Some, None, true, refl, sym, ap, ◌∙◌, subst, ⊎_elim, arith, zero-add}
-use Rattle.std.specs.Prelude.{slice_get}
 use Rattle.std.proofs.Math.Nat.{suc-add}
 use Rattle.std.proofs.lemmas.Bool.{cases_lt}
 use Rattle.std.proofs.lemmas.Option.{slice_get_past}

@@ -1,15 +1,13 @@
 -- The steps come to what the sections leave.
-use Rattle.std.proofs.Common.{◌≡◌, ℕ, zero, suc, ◌+◌, ◌*◌, ◌<◌, ◌≤◌, List, [], ◌∷◌, ◌++◌, length, Option, Some, None, Bool, true, false, cond, refl, sym, ap, ◌∙◌, subst, arith}
+use Rattle.std.proofs.Common.{◌≡◌, ℕ, suc, ◌+◌, ◌*◌, ◌≤◌, List, [], ◌∷◌, ◌++◌, length, Option, Some, None, Bool, true, false, cond, refl, sym, ap, subst, arith}
 use Rattle.std.specs.Prelude.{nat_eq, option_map, option_and_then}
 use Rattle.query_values.specs.declared.value.Value.{Value}
-use Rattle.query_code.specs.declared.instruction.Instruction.{Instruction}
 use Rattle.query_code.specs.declared.program.Parts.{Parts}
 use Rattle.plain_machine.specs.FinalRows.{are_orderable}
 use Rattle.plain_machine.specs.Gathering.{Keeping, Group}
-use Rattle.plain_machine.specs.Loading.{value_acts}
-use Rattle.plain_machine.specs.PlainMachine.{Kept, Stand, InFilter, InRow, InLast, Done, Fault, one_truth, running_with, row_of, kept_with, with_running, nothing_kept, ended, begin_last, begin_filter, begin, go_on, end_row, begin_row, judged, end_filter, go_on_last, end_last, in_filter, in_row, in_last, filter_acts, row_acts, last_acts, step, steps}
+use Rattle.plain_machine.specs.PlainMachine.{Kept, Stand, InFilter, InRow, InLast, Done, Fault, one_truth, running_with, row_of, kept_with, with_running, nothing_kept, ended, begin_last, begin_filter, begin, go_on, end_row, begin_row, judged, end_filter, go_on_last, end_last, in_filter, in_row, in_last, filter_acts, row_acts, last_acts, step}
 use Rattle.plain_machine.specs.Row.{Row}
-use Rattle.plain_machine.specs.SectionRun.{Acts, State, start, Outcome, Standing, Stopped}
+use Rattle.plain_machine.specs.SectionRun.{Acts, State, start, Outcome}
 use Rattle.plain_machine.specs.WholeRun.{filter_left, row_left, last_left, row_run, row_taken, behind_row, behind_rows, group_row, group_rows, orderable, rows_of, answer, stand_of, group_count, budget, is_going, Reaches}
 use Rattle.plain_machine.proofs.ReachFacts.{reach_here, reach_on, reach_less, section_ends}
 use Rattle.plain_machine.proofs.SectionFacts.{above_zero, less_apart, same_number, empty_leaves}

@@ -1,12 +1,12 @@
 -- How far a section comes in so many steps.
-use Rattle.std.proofs.Common.{◌≡◌, ℕ, zero, suc, ◌+◌, ◌<◌, ◌≤◌, List, [], ◌∷◌, length, Option, Some, None, Bool, true, false, cond, leb, ltb, eqb, refl, sym, ap, ◌∙◌, subst, ⊎_elim, arith, min, true≢false}
+use Rattle.std.proofs.Common.{◌≡◌, ℕ, zero, suc, ◌+◌, ◌<◌, ◌≤◌, List, [], ◌∷◌, length, Option, Some, None, Bool, true, false, cond, leb, ltb, refl, sym, ap, ◌∙◌, subst, ⊎_elim, arith, min, true≢false}
 use Rattle.std.specs.Prelude.{slice_get, nat_eq, ◌&&◌}
 use Rattle.std.proofs.lemmas.Bool.{cases_lt, eqb-false, eqb-true, eq-eqb, ne_eqb, ltb-true, leb-true}
 use Rattle.std.proofs.lemmas.Option.{slice_get_past}
 use Rattle.query_values.specs.declared.value.Value.{Value}
 use Rattle.query_code.specs.declared.instruction.Instruction.{Instruction}
 use Rattle.query_code.specs.declared.instruction.Instruction.TheVariants.{Push, Unary, Binary, LoadSlot, StoreSlot, Jump, JumpIfFalse}
-use Rattle.plain_machine.specs.SectionRun.{Acts, State, start, effect, leads_on, has_true_top, next_place, Outcome, Standing, Stopped, moved, stepped, one_step, after_steps, stack_in, left_by}
+use Rattle.plain_machine.specs.SectionRun.{Acts, State, effect, leads_on, has_true_top, next_place, Outcome, Standing, Stopped, moved, stepped, one_step, after_steps, stack_in, left_by}
 
 pub above_zero : (n : ℕ) → nat_eq n 0 ≡ false → 0 < n
 above_zero zero h = absurd (eqb-false 0 0 h refl)

@@ -1,6 +1,5 @@
 -- Runs that keep other things of their groups and stand alike.
 use Rattle.std.specs.Prelude.{◌≡◌, ℕ, List, map}
-use Rattle.query_values.specs.declared.value.Value.{Value}
 use Rattle.query_code.specs.declared.program.Parts.{Parts}
 use Rattle.plain_machine.specs.Gathering.{Group, all_inputs, running_values, aggregates_over}
 use Rattle.plain_machine.specs.PlainMachine.{Kept, Stand, InFilter, InRow, InLast, Done, Fault, after}

@@ -1,8 +1,8 @@
 -- What the instructions of a section load, and what operations give there.
-use Rattle.std.specs.Prelude.{ℕ, ◌==◌, nat_lt, Bool, true, false, List, Option, Some, None, slice_get, option_map, option_and_then, if◌then◌else◌}
+use Rattle.std.specs.Prelude.{ℕ, ◌==◌, nat_lt, true, false, List, Option, Some, None, slice_get, option_map, option_and_then, if◌then◌else◌}
 use Rattle.query_values.specs.Held.{checked}
 use Rattle.query_values.specs.Operand.{may_unary, may_binary, is_truth}
-use Rattle.query_values.specs.Operation.{unary_value, binary_value, is_true}
+use Rattle.query_values.specs.Operation.{unary_value, binary_value}
 use Rattle.query_values.specs.declared.operation.Binary.{Binary}
 use Rattle.query_values.specs.declared.value.Value.{Value}
 use Rattle.query_values.specs.declared.value.Value.TheVariants.{Truth}

@@ -5,7 +5,7 @@ use Rattle.query_values.specs.declared.value.Value.{Value}
 use Rattle.query_code.specs.declared.program.Parts.{Parts}
 use Rattle.plain_machine.specs.FinalRows.{are_orderable}
 use Rattle.plain_machine.specs.Gathering.{Keeping, Group}
-use Rattle.plain_machine.specs.PlainMachine.{Kept, Stand, InFilter, InRow, InLast, Done, Fault, filter_acts, row_acts, last_acts, one_truth, running_with, row_of, kept_with, with_running, nothing_kept, begin, steps}
+use Rattle.plain_machine.specs.PlainMachine.{Kept, Stand, Done, Fault, filter_acts, row_acts, last_acts, one_truth, running_with, row_of, kept_with, with_running, nothing_kept, begin, steps}
 use Rattle.plain_machine.specs.Row.{Row}
 use Rattle.plain_machine.specs.SectionRun.{left_by}
 

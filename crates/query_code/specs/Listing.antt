@@ -1,6 +1,5 @@
 -- A program as it is shown.
 use Rattle.std.specs.Prelude.{ℕ, ◌+◌, List, [], ◌∷◌, ◌++◌, length, Option, Some, None, codes, decimal}
-use Rattle.std.specs.Option.{option_map_or}
 use Rattle.bean_base.specs.Character.{space, line_feed}
 use Rattle.query_values.specs.declared.operation.Binary.TheVariants as binary
 use Rattle.query_code.specs.declared.instruction.Push.TheVariants as push
