@@ -10,7 +10,8 @@ use Rattle.query_code.specs.QueryFile.{is_grouped}
 use Rattle.query_code.specs.declared.program.Parts.{Parts}
 use Rattle.plain_machine.specs.Alike.{group_as, kept_as, stand_as}
 use Rattle.plain_machine.specs.FinalRows.{are_orderable}
-use Rattle.plain_machine.specs.Gathering.{Keeping, Group, inputs_of, next_input, cons_if, take_each, with_input, aggregates_over, all_inputs, with_value, running_values, same_values, group_if, put}
+use Rattle.plain_machine.specs.Distinct.{same_values}
+use Rattle.plain_machine.specs.Gathering.{Keeping, Group, inputs_of, next_input, cons_if, take_each, with_input, aggregates_over, all_inputs, with_value, running_values, group_if, put}
 use Rattle.plain_machine.specs.PlainMachine.{Kept, Stand, InFilter, InRow, InLast, Done, Fault, one_truth, running_with, row_of, with_running, with_groups, with_row, grouped_with, kept_with, nothing_kept, ended, begin_last, begin_filter, go_on, end_row, begin_row, judged, end_filter, go_on_last, end_last, in_filter, in_row, in_last, filter_acts, row_acts, last_acts, step, after, last_loads}
 use Rattle.plain_machine.specs.Loading.{value_acts}
 use Rattle.plain_machine.specs.Row.{Row}

@@ -6,7 +6,8 @@ use Rattle.query_values.specs.declared.value.Value.{Value}
 use Rattle.query_code.specs.QueryFile.{is_grouped}
 use Rattle.query_code.specs.declared.program.Parts.{Parts}
 use Rattle.plain_machine.specs.FinalRows.{are_orderable}
-use Rattle.plain_machine.specs.Gathering.{Keeping, Group, inputs_of, cons_if, same_values, group_if, put}
+use Rattle.plain_machine.specs.Distinct.{same_values}
+use Rattle.plain_machine.specs.Gathering.{Keeping, Group, inputs_of, cons_if, group_if, put}
 use Rattle.plain_machine.specs.PlainMachine.{Kept, Done, one_truth, running_with, row_of, with_running, with_groups, with_row, grouped_with, kept_with, nothing_kept, begin}
 use Rattle.plain_machine.specs.Row.{Row}
 use Rattle.plain_machine.specs.WholeRun.{filter_left, row_left, row_run, row_taken, behind_row, behind_rows, group_row, group_rows, orderable, rows_of, answer, stand_of, group_count, budget, Reaches, IsReached}

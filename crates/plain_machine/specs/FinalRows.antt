@@ -1,14 +1,14 @@
 -- The rows of an answer: in order, each once where that is asked for, and at most so many.
-use Rattle.std.specs.Prelude.{◌≡◌, ℕ, Bool, true, false, List, [], ◌∷◌, ◌++◌, length, map, take, slice_index_or, Option, Some, None, if◌then◌else◌}
+use Rattle.std.specs.Prelude.{◌≡◌, ℕ, Bool, true, false, List, [], length, map, take, slice_index_or, Option, Some, None}
 use Rattle.std.specs.Cmp.Lexicographic.{slice_cmp}
-use Rattle.std.specs.List.{list_all, list_any}
+use Rattle.std.specs.List.{list_all}
 use Rattle.theory.specs.Arrangement.{IsArrangement, by_key, against_key}
 use Rattle.query_values.specs.Operand.{are_in_order}
 use Rattle.query_values.specs.Order.{order_of}
 use Rattle.query_values.specs.declared.value.Value.{Value}
 use Rattle.query_values.specs.declared.value.Value.TheVariants.{Null}
 use Rattle.query_code.specs.declared.program.Output.{Output}
-use Rattle.plain_machine.specs.Gathering.{same_values}
+use Rattle.plain_machine.specs.Distinct.{each_once}
 
 abbrev pub column_of : List Value → ℕ → Value
 column_of row i = slice_index_or row i Null
@@ -36,14 +36,6 @@ comes_before o = in_direction o.is_descending o.order
 -- the values that are shown
 abbrev pub shown : Output → List Value → List Value
 shown o row = take (length o.targets) row
-
--- each row of which no same one was kept
-abbrev pub with_new : List (List Value) → List Value → List (List Value)
-with_new kept row = if list_any (same_values row) kept then kept else kept ++ row ∷ []
-
-abbrev pub each_once : List (List Value) → List (List Value) → List (List Value)
-each_once kept [] = kept
-each_once kept (row ∷ rows) = each_once (with_new kept row) rows
 
 abbrev pub once_if : Bool → List (List Value) → List (List Value)
 once_if false rows = rows

@@ -1,13 +1,12 @@
 -- Groups, and what is gathered in them.
-use Rattle.std.specs.Prelude.{ℕ, ◌+◌, Bool, ◌&&◌, List, [], ◌∷◌, ◌++◌, map, Option, Some, None, option_map, option_and_then, if◌then◌else◌}
-use Rattle.std.specs.Cmp.Lexicographic.{pointwise}
+use Rattle.std.specs.Prelude.{ℕ, ◌+◌, ◌&&◌, List, [], ◌∷◌, ◌++◌, map, Option, Some, None, option_map, option_and_then, if◌then◌else◌}
 use Rattle.query_values.specs.Aggregate.{aggregate_of, with_more, may_take}
-use Rattle.query_values.specs.Equality.{same}
 use Rattle.query_values.specs.Held.{is_held, checked}
 use Rattle.query_values.specs.declared.operation.Aggregate.{Aggregate}
 use Rattle.query_values.specs.declared.operation.Aggregate.TheVariants.{CountRows}
 use Rattle.query_values.specs.declared.value.Value.{Value}
 use Rattle.query_values.specs.declared.value.Value.TheVariants.{Null}
+use Rattle.plain_machine.specs.Distinct.{same_values}
 
 -- How a group keeps what comes to it: inputs, one for each aggregate but a count of rows. None is a
 -- fault.
@@ -82,10 +81,6 @@ running_values aggregates = record {
 }
 
 -- ---- the groups, in order of first appearance
-
--- the same values, null with null
-abbrev pub same_values : List Value → List Value → Bool
-same_values = pointwise same
 
 abbrev pub group_if : {X : Type 0} → List Value → Option X → List (Group X) → Option (List (Group X))
 group_if keys x groups = option_map (λ y. (keys, y) ∷ groups) x

@@ -31,6 +31,7 @@
 ghost use Rattle.plain_machine.specs.Alike.{StandAlike};
 ghost use Rattle.plain_machine.specs.FinalRows.{AreOne};
 ghost use Rattle.plain_machine.specs.Gathering.{all_inputs, running_values};
+ghost use Rattle.plain_machine.specs.Grouping.{MakesGroups};
 ghost use Rattle.plain_machine.specs.WholeRun.{AnswersAreReached, ComesToItsAnswer};
 
 /// The steps of each program come to what its sections leave, row after row and group after group,
@@ -44,6 +45,13 @@ pub fn runs_come_to_their_answers()
 pub fn answers_are_reached()
     ensures inputs { AnswersAreReached all_inputs }
     ensures running { AnswersAreReached running_values }
+{}
+
+/// The groups are the distinct keys in order of first appearance, each with what the inputs of its
+/// members come to.
+pub fn groups_are_of_their_members()
+    ensures inputs { MakesGroups all_inputs }
+    ensures running { MakesGroups running_values }
 {}
 
 /// A machine that keeps what is gathered so far stands where one stands that keeps all inputs,
