@@ -1,12 +1,8 @@
 -- What some bytes are, computed.
-use Rattle.std.proofs.Common.{◌≡◌, ℕ, List, [], ◌∷◌, ◌++◌, Option, None, Ok, Err, codes, false, refl}
+use Rattle.std.proofs.Common.{◌≡◌, ℕ, List, [], ◌∷◌, ◌++◌, Ok, Err, codes, refl}
 use Rattle.std.specs.Str.{is_utf8, chars}
 use Rattle.query_code.specs.declared.refusal.Cause.TheVariants.{Magic, Version, Truncated, TrailingBytes, BadField, NotUtf8}
-use Rattle.query_code.specs.declared.instruction.Push.TheVariants as push
-use Rattle.query_code.specs.declared.instruction.Instruction.TheVariants.{Push}
-use Rattle.query_code.specs.declared.program.Mode.TheVariants.{Grouped}
-use Rattle.query_code.specs.declared.program.Aggregate.TheVariants.{CountRows}
-use Rattle.query_code.specs.declared.program.Parts.{Parts}
+use Rattle.query_code.proofs.WorkedProgram.{counted}
 use Rattle.query_code.specs.ByteForm.{read_all}
 use Rattle.query_code.specs.InstructionForm.{instruction}
 use Rattle.query_code.specs.QueryFile.{whole, decoded, parts, bounds, flag, limit, mode, output, columns, code, file, text, section, constant, aggregate}
@@ -22,23 +18,8 @@ count_rows =
     ++ 1 ∷ 0 ∷ 0 ∷ 0 ∷ 1 ∷ 0 ∷ 8 ∷ codes "count(*)"
     ++ 0 ∷ 0 ∷ 0 ∷ 1 ∷ 0 ∷ 0 ∷ 0 ∷ 0 ∷ 1 ∷ 0 ∷ 0 ∷ 0 ∷ 0 ∷ 1 ∷ 7 ∷ 0 ∷ []
 
-counted : Parts
-counted = record {
-  bounds = record { postings = 1000000; units_digits = 20; value_digits = 28 };
-  mode = Grouped;
-  output = record { is_distinct = false; is_descending = false; limit = None; targets = codes "count(*)" ∷ []; hidden = 0; order = [] };
-  code = record {
-    keys = 0;
-    aggregates = CountRows ∷ [];
-    pool = [];
-    filter = Push push.True ∷ [];
-    row = [];
-    last = Push (push.LoadAggregate 0) ∷ [];
-  };
-}
-
 a_file : decoded count_rows ≡ Ok counted
-unfolding front count_rows counted whole file parts bounds mode flag limit output columns text code aggregate section instruction constant read_all is_utf8 chars lib.Utf8.encode
+unfolding front count_rows whole file parts bounds mode flag limit output columns text code aggregate section instruction constant read_all is_utf8 chars lib.Utf8.encode
 a_file = refl
 
 not_a_file : decoded (65 ∷ 81 ∷ 76 ∷ 67 ∷ []) ≡ Err (record { code = Magic; place = 0 })

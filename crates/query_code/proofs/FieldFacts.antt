@@ -4,15 +4,15 @@ use Rattle.std.specs.Prelude.{◌||◌, ◌==◌, nat_lt, nat_le, codes}
 use Rattle.std.specs.Int.{w16, w32, w128, cast_signed, cast_unsigned}
 use Rattle.std.specs.Str.{is_utf8}
 use Rattle.bean_base.specs.CalendarDay as calendar
+use Rattle.query_values.specs.declared.operation.Binary.TheVariants as binary
+use Rattle.query_values.specs.declared.operation.Aggregate.TheVariants as aggregates
 use Rattle.query_code.specs.declared.refusal.Cause.TheVariants.{Magic, Version, BadField, NotUtf8}
 use Rattle.query_code.specs.declared.instruction.Push.TheVariants as push
 use Rattle.query_code.specs.declared.instruction.Unary.TheVariants as unary
-use Rattle.query_code.specs.declared.instruction.Binary.TheVariants as binary
 use Rattle.query_code.specs.declared.instruction.Instruction.{Instruction}
 use Rattle.query_code.specs.declared.instruction.Instruction.TheVariants.{Push, Unary, Binary, LoadSlot, StoreSlot, Jump, JumpIfFalse}
 use Rattle.query_code.specs.declared.program.Mode.{Mode}
 use Rattle.query_code.specs.declared.program.Mode.TheVariants.{Plain, Grouped}
-use Rattle.query_code.specs.declared.program.Aggregate.TheVariants as aggregates
 use Rattle.query_code.specs.declared.program.Constant.TheVariants as constants
 use Rattle.query_code.specs.InstructionForm.{at_least_one, word, code_of, operand_of, instruction, instructions}
 use Rattle.bean_base.specs.declared.decimal.Decimal.{Decimal}

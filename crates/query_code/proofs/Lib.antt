@@ -3,4 +3,5 @@ pub mod WideNumberFacts
 pub mod FieldFacts
 pub mod FitsFacts
 pub mod QueryFileFacts
+pub mod WorkedProgram
 mod Examples

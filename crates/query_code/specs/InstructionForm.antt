@@ -1,10 +1,10 @@
 -- How instructions are written: a code of one byte, and an operand behind it or none.
 use Rattle.std.specs.Prelude.{ℕ, Bool, ◌^◌, nat_lt, List, [], ◌∷◌}
 use Rattle.std.specs.Int.{w16}
+use Rattle.query_values.specs.declared.operation.Binary.TheVariants as binary
 use Rattle.query_code.specs.declared.refusal.Cause.TheVariants.{BadField}
 use Rattle.query_code.specs.declared.instruction.Push.TheVariants as push
 use Rattle.query_code.specs.declared.instruction.Unary.TheVariants as unary
-use Rattle.query_code.specs.declared.instruction.Binary.TheVariants as binary
 use Rattle.query_code.specs.declared.instruction.Instruction.{Instruction}
 use Rattle.query_code.specs.declared.instruction.Instruction.TheVariants.{Push, Unary, Binary, LoadSlot, StoreSlot, Jump, JumpIfFalse}
 use Rattle.query_code.specs.ByteForm.{Form, mapped, such_that, byte, number, just, Case, case, told}

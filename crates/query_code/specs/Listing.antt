@@ -1,10 +1,9 @@
 -- A program as it is shown.
 use Rattle.std.specs.Prelude.{ℕ, ◌+◌, List, [], ◌∷◌, ◌++◌, length, Option, Some, None, codes, decimal}
-use Rattle.std.specs.Option.{option_map_or}
 use Rattle.bean_base.specs.Character.{space, line_feed}
+use Rattle.query_values.specs.declared.operation.Binary.TheVariants as binary
 use Rattle.query_code.specs.declared.instruction.Push.TheVariants as push
 use Rattle.query_code.specs.declared.instruction.Unary.TheVariants as unary
-use Rattle.query_code.specs.declared.instruction.Binary.TheVariants as binary
 use Rattle.query_code.specs.declared.instruction.Instruction.{Instruction}
 use Rattle.query_code.specs.declared.instruction.Instruction.TheVariants.{Push, Unary, Binary, LoadSlot, StoreSlot, Jump, JumpIfFalse}
 use Rattle.query_code.specs.declared.program.Mode.{Mode}

@@ -8,14 +8,14 @@ use Rattle.bean_base.specs.Wide as wide
 use Rattle.bean_base.specs.declared.bounds.Bounds.{Bounds}
 use Rattle.bean_base.specs.declared.days.Day.{Day}
 use Rattle.bean_base.specs.declared.decimal.Decimal.{Decimal}
+use Rattle.query_values.specs.declared.operation.Aggregate.{Aggregate}
+use Rattle.query_values.specs.declared.operation.Aggregate.TheVariants as aggregates
 use Rattle.query_code.specs.declared.refusal.Cause.TheVariants.{Magic, Version, TrailingBytes, BadField, NotUtf8}
 use Rattle.query_code.specs.declared.refusal.Stop.{Stop}
 use Rattle.query_code.specs.declared.refusal.Refusal.{Refusal}
 use Rattle.query_code.specs.declared.instruction.Instruction.{Instruction}
 use Rattle.query_code.specs.declared.program.Mode.{Mode}
 use Rattle.query_code.specs.declared.program.Mode.TheVariants.{Plain, Grouped}
-use Rattle.query_code.specs.declared.program.Aggregate.{Aggregate}
-use Rattle.query_code.specs.declared.program.Aggregate.TheVariants as aggregates
 use Rattle.query_code.specs.declared.program.Numbers.{Numbers}
 use Rattle.query_code.specs.declared.program.Constant.{Constant}
 use Rattle.query_code.specs.declared.program.Constant.TheVariants as constants

@@ -1,5 +1,7 @@
 //! Instructions: what stands in the sections of a program.
 
+use query_values::Binary;
+
 /// An instruction that gives a value.
 #[derive(Clone, Copy, Debug, Drop, PartialEq, Eq)]
 pub enum Push {
@@ -49,21 +51,6 @@ pub enum Unary {
     Number,
     Currency,
     RootRank,
-}
-
-/// An instruction that works on two values.
-#[derive(Clone, Copy, Debug, Drop, PartialEq, Eq)]
-pub enum Binary {
-    Add,
-    Sub,
-    Mul,
-    Equal,
-    NotEqual,
-    Less,
-    AtMost,
-    Greater,
-    AtLeast,
-    InSet,
 }
 
 /// An instruction.

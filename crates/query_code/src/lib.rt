@@ -6,7 +6,9 @@
 //!
 //! A [`Program`] keeps the limits of a query file, so each has one; `specs/QueryFile` says which
 //! bytes it is, and where bytes that are none stop to be one. `query_file` reads and writes it.
-//! Whether a program can be run without a fault is another question, which the verifier answers.
+//! Operations on two values and aggregates are those of `query_values`. What a program means is told
+//! in `plain_machine`; whether it can be run without a fault is another question, which the verifier
+//! answers.
 //!
 //! # Faults
 //!
@@ -23,7 +25,7 @@ mod listing;
 pub mod program;
 pub mod refusal;
 
-pub use instruction::{Binary, Instruction, Push, Unary};
+pub use instruction::{Instruction, Push, Unary};
 pub use listing::show;
-pub use program::{Aggregate, Code, Constant, Mode, Numbers, Output, Parts, Program};
+pub use program::{Code, Constant, Mode, Numbers, Output, Parts, Program};
 pub use refusal::{Cause, Refusal, Stop};

@@ -5,10 +5,11 @@ ghost use Rattle.query_code.specs.Listing.{name_of, operand_in, labelled, with_o
 ghost use Rattle.query_code.specs.Listing.{instruction_line, lines_from, section_lines};
 ghost use Rattle.query_code.specs.Listing.{bounds_line, grouped_line, mode_line, listing};
 
-use crate::instruction::{Binary, Instruction, Push, Unary};
+use crate::instruction::{Instruction, Push, Unary};
 use crate::program::{Code, Mode, Program};
 use bean_base::Bounds;
 use itoa::Buffer;
+use query_values::Binary;
 use std::alloc::{AllocError, Global};
 
 impl Instruction {

@@ -3,29 +3,13 @@ ghost use Rattle.query_code.specs.QueryFile.{file};
 
 use crate::instruction::Instruction;
 use bean_base::{Bounds, Day, Decimal, List, Slice};
+use query_values::Aggregate;
 
 /// Whether the rows of a query are postings or groups.
 #[derive(Clone, Copy, Debug, Drop, PartialEq, Eq)]
 pub enum Mode {
     Plain,
     Grouped,
-}
-
-/// What is gathered over the postings of a group.
-#[derive(Clone, Copy, Debug, Drop, PartialEq, Eq)]
-pub enum Aggregate {
-    /// How many postings there are.
-    CountRows,
-    /// How many values there are.
-    Count,
-    /// A sum of numbers of so many decimals.
-    Sum(u8),
-    /// An inventory of amounts of so many decimals, or of positions at 8.
-    SumInventory(u8),
-    First,
-    Last,
-    Min,
-    Max,
 }
 
 /// Counts of numbers that all have so many decimals.

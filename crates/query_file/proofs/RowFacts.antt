@@ -1,6 +1,6 @@
 -- Reading fields of one form one after the other, as a loop does.
-use Rattle.std.proofs.Common.{◌≡◌, ℕ, zero, suc, ◌-◌, ◌+◌, ◌≤◌, ◌<◌, List, length, map, [], ◌∷◌, ◌++◌, Ok, Err, refl, sym, ap, ◌∙◌, append_assoc, arith}
-use Rattle.std.proofs.lemmas.List.{append-nil, map_push}
+use Rattle.std.proofs.Common.{◌≡◌, ℕ, zero, suc, ◌-◌, ◌+◌, ◌≤◌, ◌<◌, List, length, [], ◌∷◌, ◌++◌, Ok, Err, refl, sym, ap, ◌∙◌, append_assoc, arith}
+use Rattle.std.proofs.lemmas.List.{append-nil}
 use Rattle.query_file.specs.declared.fault.Fault.{Fault}
 use Rattle.query_file.specs.declared.fault.Fault.TheVariants.{OutOfMemory, Stopped}
 use Rattle.query_code.proofs.ByteFormFacts.{bind_ok, ok_is}

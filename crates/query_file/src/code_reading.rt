@@ -14,9 +14,10 @@ use crate::reading::{
     some_number_at, stopped, text_at, word_at,
 };
 use bean_base::{Day, List, Slice};
-use query_code::instruction::{Binary, Instruction, Push, Unary};
-use query_code::program::{Aggregate, Code, Constant, Mode, Numbers, Output};
+use query_code::instruction::{Instruction, Push, Unary};
+use query_code::program::{Code, Constant, Mode, Numbers, Output};
 use query_code::refusal::Cause;
+use query_values::{Aggregate, Binary};
 use std::alloc::Global;
 
 #[tactic(auto, unfolding(query_code::specs::InstructionForm::instruction))]

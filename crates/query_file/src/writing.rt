@@ -8,8 +8,9 @@ ghost use Rattle.query_code.specs.QueryFile.{columns, output, code, bounds, part
 ghost use Rattle.query_code.specs.QueryFile.{some_number, IsFile};
 
 use bean_base::{Bounds, Day, Decimal, Slice};
-use query_code::instruction::{Binary, Instruction, Push, Unary};
-use query_code::program::{Aggregate, Code, Constant, Mode, Numbers, Output, Parts, Program};
+use query_code::instruction::{Instruction, Push, Unary};
+use query_code::program::{Code, Constant, Mode, Numbers, Output, Parts, Program};
+use query_values::{Aggregate, Binary};
 use std::alloc::{AllocError, Global};
 
 fn put_byte(out: &mut Vec<u8>, number: u8) -> Result<(), AllocError>

@@ -1,0 +1,8 @@
+pub mod SectionFacts
+pub mod ReachFacts
+pub mod RunFacts
+pub mod CountFacts
+pub mod GroupingFacts
+pub mod AlikeFacts
+pub mod FinalRowsFacts
+mod Examples

@@ -1,0 +1,73 @@
+-- What the instructions of a section load, and what operations give there.
+use Rattle.std.specs.Prelude.{ℕ, ◌==◌, nat_lt, true, false, List, Option, Some, None, slice_get, option_map, option_and_then, if◌then◌else◌}
+use Rattle.query_values.specs.Held.{checked}
+use Rattle.query_values.specs.Operand.{may_unary, may_binary, is_truth}
+use Rattle.query_values.specs.Operation.{unary_value, binary_value}
+use Rattle.query_values.specs.declared.operation.Binary.{Binary}
+use Rattle.query_values.specs.declared.value.Value.{Value}
+use Rattle.query_values.specs.declared.value.Value.TheVariants.{Truth}
+use Rattle.query_code.specs.declared.instruction.Push.{Push}
+use Rattle.query_code.specs.declared.instruction.Push.TheVariants as push
+use Rattle.query_code.specs.declared.instruction.Unary.{Unary}
+use Rattle.query_code.specs.declared.program.Constant.{Constant}
+use Rattle.plain_machine.specs.Pool.{value_at, key_at, operation_of}
+use Rattle.plain_machine.specs.Row.{Row, posting_text, transaction_text, any_text}
+use Rattle.plain_machine.specs.SectionRun.{Acts}
+
+-- a posting's row, the running inventory, a group's keys and its aggregates, where they may be read
+pub record Loads : Type 0 where
+  pub row : Option Row
+  pub balance : Option Value
+  pub keys : List Value
+  pub aggregates : List Value
+
+-- how many columns there are; of one the cell is the running inventory
+abbrev pub column_count : ℕ
+column_count = 22
+
+abbrev pub balance_column : ℕ
+balance_column = 19
+
+abbrev pub position_column : ℕ
+position_column = 17
+
+abbrev pub cell_at : ℕ → Row → Option Value
+cell_at c r = if nat_lt c column_count then slice_get r.cells c else None
+
+abbrev pub column_at : Loads → ℕ → Option Value
+column_at l c = if c == balance_column then l.balance else option_and_then (cell_at c) l.row
+
+-- a text of the row's metadata, under a key of the pool
+abbrev pub text_at : Loads → (List ℕ → Row → Value) → Option (List ℕ) → Option Value
+text_at l text key = option_and_then (λ k. option_map (text k) l.row) key
+
+abbrev pub loaded : List Constant → Loads → Push → Option Value
+loaded pool l push.True = Some (Truth true)
+loaded pool l push.False = Some (Truth false)
+loaded pool l (push.Const i) = value_at pool i
+loaded pool l (push.LoadColumn c) = column_at l c
+loaded pool l (push.LoadKey k) = slice_get l.keys k
+loaded pool l (push.LoadAggregate a) = slice_get l.aggregates a
+loaded pool l (push.Meta i) = text_at l posting_text (key_at pool i)
+loaded pool l (push.EntryMeta i) = text_at l transaction_text (key_at pool i)
+loaded pool l (push.AnyMeta i) = text_at l any_text (key_at pool i)
+
+-- an operation's value where it may be applied, and what can be held
+abbrev pub push_of : List Constant → Loads → Push → Option Value
+push_of pool l op = option_and_then (checked true) (loaded pool l op)
+
+abbrev pub unary_of : List Constant → Unary → Value → Option Value
+unary_of pool op x =
+    option_and_then (λ o. checked (may_unary o x) (unary_value o x)) (operation_of pool op)
+
+abbrev pub binary_of : Binary → Value → Value → Option Value
+binary_of op x y = checked (may_binary op x y) (binary_value op x y)
+
+-- what instructions do with values
+abbrev pub value_acts : List Constant → Loads → Acts Value
+value_acts pool l = record {
+  push = push_of pool l;
+  unary = unary_of pool;
+  binary = binary_of;
+  is_test = is_truth;
+}
