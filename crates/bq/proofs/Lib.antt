@@ -1,4 +1,5 @@
 pub mod OneLedger
+pub mod ShownFacts
 pub mod Outcomes
 pub mod InMemory
 pub mod Examples

@@ -1,8 +1,11 @@
 //! What `list` shows of a ledger.
-ghost use Rattle.std.specs.Prelude.{◌≡◌};
+ghost use Rattle.std.specs.Prelude.{◌≡◌, ◌<◌, length, map, slice_get, Some};
 ghost use Rattle.bq.specs.Columns.{column_at};
+ghost use Rattle.bq.specs.Listing.{shown_row};
+ghost use Rattle.table_printer.specs.CellText.{row_at};
 
 use posting_table::{Column, Ledger};
+use query_values::Value;
 use table_printer::{Cell, Rows};
 
 /// Date, flag, account and position of each posting, made from what the ledger lends.
@@ -20,6 +23,17 @@ fn column_at(number: usize) -> Column
         1 => Column::Flag,
         2 => Column::Account,
         _ => Column::Position,
+    }
+}
+
+impl Postings<'_, '_> {
+    /// What a posting shows in a column.
+    fn value(&self, row: usize, column: usize) -> Value<'_>
+        requires { column < length (row_at (map shown_row self.now.ledger.now.rows) row) }
+        ensures { Some result
+            ≡ slice_get (row_at (map shown_row self.now.ledger.now.rows) row) column }
+    {
+        self.ledger.cell(row, column_at(column))
     }
 }
 
@@ -44,6 +58,6 @@ impl Rows for Postings<'_, '_> {
     }
 
     fn cell(&self, row: usize, column: usize) -> Cell<'_> {
-        Cell::made(self.ledger.cell(row, column_at(column)))
+        Cell::made(self.value(row, column))
     }
 }
