@@ -78,7 +78,13 @@ fn add_lot(scratch: &mut Scratch, lot: &Lot<'_>, display: &Display<'_>) -> Resul
         ≡ string_bytes scratch.old.clean ++ lot_text (decimals_of display.now) lot.now) }
 {
     scratch.clean.push_str(" {")?;
-    add_units(scratch, lot.cost.count, COUNT_PLACES, &lot.cost.currency, display)?;
+    add_units(
+        scratch,
+        lot.cost.count,
+        COUNT_PLACES,
+        &lot.cost.currency,
+        display,
+    )?;
     scratch.clean.push_str(", ")?;
     add_day(scratch, lot.day)?;
     add_label(scratch, &lot.label)?;
