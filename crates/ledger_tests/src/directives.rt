@@ -188,23 +188,13 @@ fn the_sign_of_a_tolerance_is_of_its_exact_value(rt: HostRuntime) -> Result<(), 
          \n2014-01-01 balance Assets:Cash 1 ~ -(0.25 - 1) USD\n";
     let parsed = parse(rt.alloc(), text)?;
     assert_eq!(rt; parsed.directives.as_slice().len(), 1);
-    let kinds: Vec<FaultKind> = parsed
-        .faults
-        .as_slice()
-        .iter()
-        .map(|fault| fault.kind)
-        .collect(rt.alloc())?;
-    assert_eq!(rt;
-        kinds.as_slice(),
-        [
-            FaultKind::NotADirective,
-            FaultKind::OutOfRange,
-            FaultKind::NotADirective,
-            FaultKind::OutOfRange,
-            FaultKind::NotADirective,
-            FaultKind::OutOfRange
-        ]
-        .as_slice()
-    );
+    let faults = parsed.faults.as_slice();
+    assert_eq!(rt; faults.len(), 6);
+    assert_eq!(rt; faults[0].kind, FaultKind::NotADirective);
+    assert_eq!(rt; faults[1].kind, FaultKind::OutOfRange);
+    assert_eq!(rt; faults[2].kind, FaultKind::NotADirective);
+    assert_eq!(rt; faults[3].kind, FaultKind::OutOfRange);
+    assert_eq!(rt; faults[4].kind, FaultKind::NotADirective);
+    assert_eq!(rt; faults[5].kind, FaultKind::OutOfRange);
     Ok(())
 }
