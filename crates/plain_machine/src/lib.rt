@@ -3,9 +3,8 @@
 //! A program's filter runs for each row of a ledger, its row section for each row that passes, and
 //! its last section for each group. `specs/PlainMachine` says so in single steps, one for each
 //! instruction, over values of any size; whatever can't be done is a fault. `specs/WholeRun` says
-//! the same by whole sections. The verifier shows that a program has no fault, the fast machine
-//! stands where these steps lead, and the compiler's programs give what their queries mean: each
-//! against this definition.
+//! the same by whole sections. What is said of a program is said of this machine: that it has no
+//! fault, what it costs in steps, and which rows come out.
 //!
 //! There is nothing to run here: the functions are laws, whose contracts say what holds of the
 //! definition.
@@ -26,6 +25,10 @@
 //! metadata behind the last row, a slot that is unset; a jump that doesn't lead on; decimals above
 //! 32 or a count beyond `2^127 - 1`, sign left off, in a result, in the running inventory or in
 //! what is gathered of the first inputs of a group.
+//!
+//! # Cost
+//!
+//! An instruction is a step. Grouping, and arranging the final rows, take none.
 #![tactic(auto)]
 
 ghost use Rattle.plain_machine.specs.Alike.{StandAlike};
