@@ -1,1 +1,2 @@
 pub mod ArrangementFacts
+pub mod GaveFacts

@@ -28,6 +28,18 @@
 #![tactic(auto)]
 
 pub mod arrangement;
+pub mod fault;
+pub mod following;
+pub mod gathering;
+pub mod include;
+pub mod loaded;
+pub mod placed;
+pub mod texts;
 
 pub use arrangement::{Rank, arrange, one_arrangement};
+pub use fault::LoadFault;
+pub use following::gather;
+pub use loaded::{Loaded, MethodLine, load, one_loading};
+pub use placed::Placed;
+pub use texts::{File, Part, Texts};
 pub use stores::source::Source;
