@@ -1,2 +1,9 @@
 pub mod ArrangementFacts
 pub mod GaveFacts
+pub mod LineFacts
+pub mod OneLoading
+pub mod ReadFacts
+pub mod BooksFacts
+pub mod AskingFacts
+pub mod FolderFacts
+pub mod TopFacts

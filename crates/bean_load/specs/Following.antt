@@ -7,14 +7,16 @@ use Rattle.bean_load.specs.Gathered.{Gathered, texts_of}
 use Rattle.bean_load.specs.Gathering.{Comes}
 use Rattle.bean_load.specs.Texts.{Texts}
 use Rattle.bean_load.specs.declared.fault.LoadFault.{LoadFault}
+use Rattle.bean_load.specs.declared.fault.LoadFault.TheVariants.{OutOfMemory}
 
 -- what is known at the end of a call
 abbrev pub known : {T : Type 0} → Gathered → Result T LoadFault → Result Gathered LoadFault
 known after (Ok x) = Ok after
 known after (Err fault) = Err fault
 
--- The source gave these readings, and with them at the front of those to come it comes to this.
+-- The source gave these readings, and with them at the front of those to come it comes to this; memory may lack at any time.
 abbrev pub Follows : {S T : Type 0} → SourceOf S → S → S → (List Reading → List Reading → Result Gathered LoadFault → Type 0) → Gathered → Result T LoadFault → Type 0
+Follows s old new Come after (Err OutOfMemory) = (readings : List Reading) × Gave s old new readings
 Follows s old new Come after result =
     (readings : List Reading) × Gave s old new readings × ((rest : List Reading) → Come (readings ++ rest) rest (known after result))
 
@@ -27,7 +29,7 @@ texts_in (Err fault) = Err fault
 abbrev pub IsGathered : List ℕ → List Reading → Result Texts LoadFault → Type 0
 IsGathered name readings result = (end : Result Gathered LoadFault) × Comes name readings end × (result ≡ texts_in end)
 
--- The source gave what it was asked for, and this is what it comes to.
+-- The source gave what it was asked for, and this is what it comes to; memory may lack at any time.
 abbrev pub Gathers : {S : Type 0} → SourceOf S → S → S → List ℕ → Result Texts LoadFault → Type 0
-Gathers s old new name result =
-    (readings : List Reading) × Gave s old new readings × IsGathered name readings result
+Gathers s old new name (Err OutOfMemory) = (readings : List Reading) × Gave s old new readings
+Gathers s old new name result = (readings : List Reading) × Gave s old new readings × IsGathered name readings result

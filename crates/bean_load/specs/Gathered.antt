@@ -1,6 +1,5 @@
 -- What is known while texts are gathered, and what each step adds.
-use Rattle.std.specs.Prelude.{ℕ, ◌+◌, ◌||◌, ◌==◌, Bool, List, [], ◌∷◌, ◌++◌, length, nat_le, nat_lt}
-use Rattle.std.specs.List.{list_any}
+use Rattle.std.specs.Prelude.{ℕ, ◌+◌, ◌||◌, ◌==◌, Bool, true, false, if◌then◌else◌, List, [], ◌∷◌, ◌++◌, length, nat_le, nat_lt}
 use Rattle.std.specs.Str.{bytes_eq}
 use Rattle.bean_base.specs.declared.fault.Fault.{Fault}
 use Rattle.bean_base.specs.declared.fault.FaultKind.TheVariants.{IncludeFault}
@@ -22,8 +21,12 @@ nothing = record { asked = []; read = 0; files = []; parts = []; faults = [] }
 abbrev pub texts_of : Gathered → Texts
 texts_of s = record { files = s.files; parts = s.parts; faults = s.faults }
 
+abbrev pub is_among : List ℕ → List (List ℕ) → Bool
+is_among name [] = false
+is_among name (known ∷ others) = if bytes_eq known name then true else is_among name others
+
 abbrev pub was_asked : List ℕ → Gathered → Bool
-was_asked name s = list_any (λ asked. bytes_eq asked name) s.asked
+was_asked name s = is_among name s.asked
 
 -- no text may stand deeper, or no name more may be asked
 abbrev pub is_full : ℕ → Gathered → Bool

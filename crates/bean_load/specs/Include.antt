@@ -1,6 +1,6 @@
 -- Include lines, and the names that they ask for.
-use Rattle.std.specs.Prelude.{◌≡◌, ℕ, ◌==◌, Bool, false, List, [], ◌∷◌, ◌++◌, if◌then◌else◌}
-use Rattle.std.specs.List.{flat_map, list_any}
+use Rattle.std.specs.Prelude.{◌≡◌, ℕ, ◌==◌, ◌||◌, Bool, false, List, [], ◌∷◌, ◌++◌, if◌then◌else◌}
+use Rattle.std.specs.List.{flat_map}
 use Rattle.bean_base.specs.Character.{slash}
 use Rattle.bean_heads.specs.declared.undated.Setting.{Setting}
 use Rattle.bean_heads.specs.declared.undated.SettingKind.{SettingKind}
@@ -16,10 +16,14 @@ pub record Include : Type 0 where
 abbrev pub is_slash : ℕ → Bool
 is_slash b = b == slash
 
+abbrev pub has_slash : List ℕ → Bool
+has_slash [] = false
+has_slash (b ∷ bs) = is_slash b || has_slash bs
+
 -- a name up to its last slash, with it; nothing of one without a slash
 abbrev pub folder : List ℕ → List ℕ
 folder [] = []
-folder (b ∷ bs) = if list_any is_slash (b ∷ bs) then b ∷ folder bs else []
+folder (b ∷ bs) = if has_slash (b ∷ bs) then b ∷ folder bs else []
 
 abbrev pub is_rooted : List ℕ → Bool
 is_rooted [] = false

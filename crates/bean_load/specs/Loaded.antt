@@ -1,14 +1,12 @@
 -- What the texts of a ledger say together.
 use Rattle.std.specs.Prelude.{◌≡◌, ℕ, ◌+◌, List, [], ◌∷◌, ◌++◌, Option, Some, None, fold, map}
 use Rattle.std.specs.List.{flat_map}
-use Rattle.std.specs.Ordering.{nat_cmp}
-use Rattle.theory.specs.Arrangement.{IsArrangedByKey}
 use Rattle.bean_base.specs.declared.fault.Fault.{Fault}
 use Rattle.bean_heads.specs.declared.directive.Directive.{Directive}
 use Rattle.bean_heads.specs.declared.undated.Setting.{Setting}
 use Rattle.bean_heads.specs.declared.undated.SettingKind.{SettingKind}
 use Rattle.bean_heads.specs.declared.undated.SettingKind.TheVariants as kind
-use Rattle.bean_load.specs.Arrangement.{IsArranged}
+use Rattle.bean_load.specs.Order.{AreInOrder, AreSettingsInOrder}
 use Rattle.bean_load.specs.Placed.{parts_of, placed_directive, placed_setting}
 use Rattle.bean_load.specs.Texts.{File, Texts}
 use Rattle.bean_load.specs.declared.loaded.MethodLine.{MethodLine}
@@ -69,8 +67,8 @@ pub record IsLoaded (texts : Texts) (l : Loaded) : Type 0 where
   pub parsed : List Parsed
   pub settings : List (Placed Setting)
   pub are_parsed : AreParsed texts.files parsed
-  pub in_order : IsArrangedByKey (λ s. s.part) nat_cmp (settings_in texts.parts 0 parsed) settings
-  pub directives : IsArranged (directives_in texts.parts 0 parsed) l.directives
+  pub in_order : AreSettingsInOrder (settings_in texts.parts 0 parsed) settings
+  pub directives : AreInOrder (directives_in texts.parts 0 parsed) l.directives
   pub faults : l.faults ≡ faults_in 0 parsed ++ texts.faults
   pub title : l.title ≡ title_in settings
   pub operating : l.operating ≡ flat_map (λ s. operating_of s.item.kind) settings

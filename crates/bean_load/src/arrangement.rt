@@ -7,9 +7,7 @@ ghost use Rattle.std.proofs.Common.{rules};
 ghost use Rattle.bean_heads.specs.declared.directive.Directive.{Directive};
 ghost use Rattle.bean_load.specs.Arrangement.{IsArranged, rank_of};
 ghost use Rattle.bean_load.specs.Rank.{rank_number};
-ghost use Rattle.bean_load.specs.declared.placed.Placed.{Placed};
 
-use crate::placed::Placed;
 use bean_parser::{Directive, DirectiveKind};
 use std::alloc::AllocError;
 use std::cmp::Ordering;
@@ -98,17 +96,13 @@ impl PartialOrd for Rank {
 }
 
 /// By day, then opens, balances, all else, documents and closes, then in reading order.
-pub fn arrange(directives: &mut Vec<Placed<Directive<'_>>>) -> Result<(), AllocError>
+pub fn arrange(directives: &mut Vec<Directive<'_>>) -> Result<(), AllocError>
     ensures { OnOk result (IsArranged directives.old.items directives.new.items) }
 {
-    directives.sort_by_key(|placed| {
-        let directive = &placed.item;
-        (directive.day, Rank::of(&directive.kind), placed.part)
-    })
+    directives.sort_by_key(|directive| (directive.day, Rank::of(&directive.kind)))
 }
 
 /// Directives have one such order.
 pub fn one_arrangement()
-    ensures { (xs ys zs : List (Placed Directive))
-        → IsArranged xs ys → IsArranged xs zs → ys ≡ zs }
+    ensures { (xs ys zs : List Directive) → IsArranged xs ys → IsArranged xs zs → ys ≡ zs }
 {}

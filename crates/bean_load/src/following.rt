@@ -73,10 +73,13 @@ fn follow_line<S: Source>(
             let name = include.name.clone()?;
             follow_text(source, gathering, room - 1, name, text)?;
             gathering.add_part(file, include.line)?;
+            Ok(())
         }
-        Asked::NotUtf8 | Asked::Failed => gathering.add_fault(file, include.line)?,
+        Asked::NotUtf8 | Asked::Failed => {
+            gathering.add_fault(file, include.line)?;
+            Ok(())
+        }
     }
-    Ok(())
 }
 
 /// The texts of a ledger whose top one has that name.

@@ -45,6 +45,7 @@ pub struct Gathering {
 
 impl Model for Gathering {
     ghost use Rattle.std.specs.Prelude.{map};
+    ghost use Rattle.std.specs.String.{string_bytes};
     ghost use Rattle.bean_load.specs.Gathered as spec;
 
     ghost Value = { spec.Gathered };
@@ -66,6 +67,17 @@ fn text_of(bytes: Vec<u8>) -> Asked
         Ok(text) => Asked::Text(text),
         Err(_) => Asked::NotUtf8,
     }
+}
+
+fn is_among(names: &[String], name: &str) -> bool
+    ensures { result ≡ spec.is_among name.now (map string_bytes names.now) }
+{
+    for known in names {
+        if known.as_str() == name {
+            return true;
+        }
+    }
+    false
 }
 
 impl Gathering {
@@ -98,12 +110,7 @@ impl Gathering {
     pub fn was_asked(&self, name: &str) -> bool
         ensures { result ≡ spec.was_asked name.now self.now }
     {
-        for asked in &self.asked {
-            if asked.as_str() == name {
-                return true;
-            }
-        }
-        false
+        is_among(&self.asked, name)
     }
 
     /// Whether no text may stand deeper, or no name more may be asked for.

@@ -1,6 +1,8 @@
 //! Include lines, and the names that they ask for.
-ghost use Rattle.std.specs.Prelude.{◌≡◌, ◌++◌, IfOk, OnOk};
+ghost use Rattle.std.specs.Prelude.{◌≡◌, ◌<◌, [], ◌∷◌, ◌++◌, length, IfOk, IfSome, OnOk};
+ghost use Rattle.std.specs.Prelude.{MatchOption};
 ghost use Rattle.std.specs.String.{string_bytes};
+ghost use Rattle.bean_base.specs.Character.{slash};
 ghost use Rattle.bean_load.specs.Include.{AreIncludes, folder, includes, joined};
 
 use bean_base::Text;
@@ -19,6 +21,7 @@ pub struct Include {
 }
 
 impl Model for Include {
+    ghost use Rattle.std.specs.String.{string_bytes};
     ghost use Rattle.bean_load.specs.Include as spec;
 
     ghost Value = { spec.Include };
@@ -26,13 +29,33 @@ impl Model for Include {
     ghost view = { λ i. record { line = i.line; name = string_bytes i.name } };
 }
 
+/// What stands before the first slash, and behind it.
+fn split_at_slash(name: &str) -> Option<(&str, &str)>
+    ensures parts { MatchOption result (folder name.now ≡ [])
+        (λ p. folder name.now ≡ p.0.now ++ slash ∷ folder p.1.now) }
+    ensures shorter { IfSome result (λ p. length p.1.now < length name.now) }
+{
+    match name.split_once('/') {
+        Some((before, behind)) => Some((before, behind)),
+        None => None,
+    }
+}
+
+/// What is still to be added of a name's folder.
+#[derive(Clone, Copy)]
+struct Unadded<'t> {
+    name: &'t str,
+}
+
 /// Adds the folder of a name, with its last slash.
 fn add_folder(name: &str, out: &mut String) -> Result<(), AllocError>
     ensures { OnOk result (string_bytes out.new ≡ string_bytes out.old ++ folder name.now) }
 {
-    if let Some((before, _)) = name.rsplit_once('/') {
+    let mut unadded = Unadded { name };
+    while let Some((before, behind)) = split_at_slash(unadded.name) {
         out.push_str(before)?;
         out.push('/')?;
+        unadded = Unadded { name: behind };
     }
     Ok(())
 }

@@ -33,6 +33,7 @@ pub mod following;
 pub mod gathering;
 pub mod include;
 pub mod loaded;
+pub mod order;
 pub mod placed;
 pub mod texts;
 

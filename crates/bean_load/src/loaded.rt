@@ -1,13 +1,11 @@
 //! What the texts of a ledger say together.
 ghost use Rattle.std.specs.Prelude.{◌≡◌, ◌++◌, [], ◌∷◌, List, map, length, option_map, IfOk, OnOk};
 ghost use Rattle.std.specs.List.{flat_map};
-ghost use Rattle.std.specs.Ordering.{nat_cmp};
-ghost use Rattle.theory.specs.Arrangement.{IsArrangedByKey};
 ghost use Rattle.bean_load.specs.Loaded as spec;
 ghost use Rattle.bean_load.specs.Loaded.{IsLoaded};
-ghost use Rattle.bean_load.specs.Loading.{AddsParsed, AddsSetting, AreBooks, AreRead};
+ghost use Rattle.bean_load.specs.Loading.{AddsParsed, AddsSetting, AreBooks, AreRead, HasOneLoading};
 
-use crate::arrangement::arrange;
+use crate::order::{order_directives, order_settings};
 use crate::placed::{Own, Placed, add_directives, add_settings, parts_of};
 use crate::texts::Texts;
 use bean_base::{Fault, Text};
@@ -121,14 +119,6 @@ impl<'a> Read<'a> {
     }
 }
 
-/// Arranges settings in reading order.
-fn in_order(settings: &mut Vec<Placed<Setting<'_>>>) -> Result<(), AllocError>
-    ensures { OnOk result
-        (IsArrangedByKey (λ s. s.part) nat_cmp settings.old.items settings.new.items) }
-{
-    settings.sort_by_key(|setting| setting.part)
-}
-
 /// What settings in reading order say of the books.
 #[derive(Drop)]
 pub struct Books<'a> {
@@ -180,7 +170,8 @@ fn read_all(alloc: Global, texts: &Texts) -> Result<Read<'_>, AllocError>
         settings: Vec::new(alloc),
         faults: Vec::new(alloc),
     };
-    for (number, file) in texts.files().iter().enumerate() {
+    let files = texts.files();
+    for (number, file) in files.iter().enumerate() {
         let own = parts_of(alloc, number, texts.parts())?;
         read.add(number, &own, parse(alloc, &file.text)?)?;
     }
@@ -192,8 +183,8 @@ pub fn load(alloc: Global, texts: &Texts) -> Result<Loaded<'_>, AllocError>
     ensures { IfOk result (IsLoaded texts.now) }
 {
     let mut read = read_all(alloc, texts)?;
-    arrange(&mut read.directives)?;
-    in_order(&mut read.settings)?;
+    order_directives(&mut read.directives)?;
+    order_settings(&mut read.settings)?;
     let books = books_of(alloc, &read.settings)?;
     read.faults.extend_from_slice(texts.faults())?;
     Ok(Loaded {

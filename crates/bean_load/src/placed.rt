@@ -68,7 +68,7 @@ pub fn add_directives<'a>(
     out: &mut Vec<Placed<Directive<'a>>>,
 ) -> Result<(), AllocError>
     ensures { OnOk result (out.new.items
-        ≡ out.old.items ++ map (spec.placed_directive file own.now) directives.items) }
+        ≡ out.old.items ++ map (spec.placed_directive file own.now) directives.entry.items) }
 {
     out.reserve(directives.len())?;
     for directive in directives {
@@ -89,7 +89,7 @@ pub fn add_settings<'a>(
     out: &mut Vec<Placed<Setting<'a>>>,
 ) -> Result<(), AllocError>
     ensures { OnOk result (out.new.items
-        ≡ out.old.items ++ map (spec.placed_setting file own.now) settings.items) }
+        ≡ out.old.items ++ map (spec.placed_setting file own.now) settings.entry.items) }
 {
     for setting in settings {
         out.push(Placed {

@@ -1,6 +1,5 @@
 //! The texts of a ledger.
-ghost use Rattle.std.specs.Prelude.{◌≡◌, ◌<◌, length, slice_get, option_map};
-ghost use Rattle.std.specs.String.{string_bytes};
+ghost use Rattle.std.specs.Prelude.{◌≡◌};
 
 use bean_base::Fault;
 use std::marker::Model;
@@ -14,6 +13,7 @@ pub struct File {
 }
 
 impl Model for File {
+    ghost use Rattle.std.specs.String.{string_bytes};
     ghost use Rattle.bean_load.specs.Texts as spec;
 
     ghost Value = { spec.File };
