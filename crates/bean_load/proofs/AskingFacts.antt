@@ -1,5 +1,5 @@
 -- What it comes to that a source is asked.
-use Rattle.std.proofs.Common.{◌≡◌, ℕ, true, false, List, [], ◌∷◌, Result, Ok, Err, sym, ap, ◌∙◌, subst, length}
+use Rattle.std.proofs.Common.{◌≡◌, ℕ, true, List, [], ◌∷◌, Result, Ok, Err, sym, subst, length}
 use Rattle.std.specs.Prelude.{IsErrAnd}
 use Rattle.stores.specs.Reading.{Reading}
 use Rattle.stores.specs.Source.{Gave}

@@ -1,5 +1,5 @@
 -- Folders of names.
-use Rattle.std.proofs.Common.{◌≡◌, ℕ, suc, ◌<◌, ◌+◌, ◌||◌, Bool, true, false, eqb-true, List, [], ◌∷◌, ◌++◌, length, get_or, Option, Some, None, refl, sym, ap, ◌∙◌, subst, arith, if◌then◌else◌}
+use Rattle.std.proofs.Common.{◌≡◌, ℕ, suc, ◌<◌, ◌||◌, Bool, true, false, eqb-true, List, [], ◌∷◌, ◌++◌, length, get_or, refl, ap, ◌∙◌, arith, if◌then◌else◌}
 use Rattle.bean_load.specs.Include.{folder, has_slash, is_slash}
 
 abbrev Lacks : List ℕ → Type 0

@@ -1,6 +1,5 @@
 -- What comes of include lines, by the checks that they pass.
 use Rattle.std.proofs.Common.{◌≡◌, ℕ, zero, suc, ◌-◌, arith, Bool, true, false, List, [], ◌∷◌, ◌++◌, length, Result, Ok, Err, refl, sym, ap, ◌∙◌, subst, append_assoc}
-use Rattle.std.proofs.lemmas.List.{append-nil}
 use Rattle.std.specs.Bool.{MatchBool}
 use Rattle.std.specs.Prelude.{IsErrAnd}
 use Rattle.std.specs.Str.{is_utf8}
@@ -12,13 +11,12 @@ use Rattle.stores.specs.declared.source.SourceFault.{SourceFault}
 use Rattle.stores.specs.declared.source.SourceFault.TheVariants as source
 use Rattle.stores.proofs.GaveFacts.{gave_none}
 use Rattle.bean_load.specs.Asking.{Asks, IsTold}
-use Rattle.bean_load.specs.Following.{Follows, known}
+use Rattle.bean_load.specs.Following.{Follows}
 use Rattle.bean_load.specs.Gathered.{Gathered, is_full, is_too_large, was_asked, with_asked, with_bytes, with_fault, with_file, with_part}
-use Rattle.bean_load.specs.Gathering.{AnswerComes, AsksFor, Ends, LineBy, LineComes, LinesCome, Stands, Step, TextBelow, TextBy, TextComes, Then, gone_on}
+use Rattle.bean_load.specs.Gathering.{AnswerComes, LineComes, LinesCome, Stands, TextBelow, TextComes, gone_on}
 use Rattle.bean_load.specs.Include.{AreIncludes, Include}
 use Rattle.bean_load.specs.declared.fault.LoadFault.{LoadFault}
 use Rattle.bean_load.specs.declared.fault.LoadFault.TheVariants.{Unreadable, NotUtf8, TooLarge, OutOfMemory}
-use Rattle.bean_load.specs.declared.gathering.Asked.{Asked}
 use Rattle.bean_load.specs.declared.gathering.Asked.TheVariants as asked
 use Rattle.bean_load.proofs.GaveFacts.{gave_behind}
 
@@ -143,7 +141,7 @@ line_of_text s a b c room file line before mid bytes end h k told text = (
   (line.name, Ok bytes) ∷ text.0,
   gave_more s a b c line.name bytes before mid text.0 told text.1,
   λ rest. asked_for room file line before (Ok bytes) (text.0 ++ rest) rest (gone_on file line.line end) h k
-    (stands room file line before bytes (text.0 ++ rest) rest end k told.fits told.utf8 (subst (λ z. TextComes (room - 1) line.name bytes z (text.0 ++ rest) rest end) told.known (text.2 rest))),
+      (stands room file line before bytes (text.0 ++ rest) rest end k told.fits told.utf8 (subst (λ z. TextComes (room - 1) line.name bytes z (text.0 ++ rest) rest end) told.known (text.2 rest))),
 )
 
 pub text_failed : {S : Type 0} (s : SourceOf S) (a b c : S) (room file : ℕ) (line : Include) (before mid after last : Gathered) (bytes : List ℕ) (fault : LoadFault)
@@ -175,7 +173,7 @@ told_no_text s a b room file line before mid after h k asks is = from asks.0 ask
       (line.name, Ok bytes) ∷ [],
       gave,
       λ rest. subst (λ z. LineComes room file line before ((line.name, Ok bytes) ∷ rest) rest (Ok z)) (ap (with_fault file line.line) (sym told.2) ∙ sym is)
-        (asked_for room file line before (Ok bytes) rest rest _ h k (no_text room file line before bytes rest told.0 told.1)),
+          (asked_for room file line before (Ok bytes) rest rest _ h k (no_text room file line before bytes rest told.0 told.1)),
     )
     from (Err source.Failed) gave told = absurd told
     from (Err source.OutOfMemory) gave told = absurd told
@@ -192,7 +190,7 @@ told_nothing s a b room file line before mid after h k asks is = from asks.0 ask
       (line.name, Err source.Failed) ∷ [],
       gave,
       λ rest. subst (λ z. LineComes room file line before ((line.name, Err source.Failed) ∷ rest) rest (Ok z)) (ap (with_fault file line.line) (sym told) ∙ sym is)
-        (asked_for room file line before (Err source.Failed) rest rest _ h k (refl, refl)),
+          (asked_for room file line before (Err source.Failed) rest rest _ h k (refl, refl)),
     )
     from (Err source.OutOfMemory) gave told = absurd told
 
@@ -214,7 +212,7 @@ goes_on s a b c room file lines before now after line left so_far one = (
   so_far.0 ++ one.0,
   gave_behind s a b c so_far.0 one.0 so_far.1 one.1,
   λ todo rest result comes. subst (λ rs. LinesCome room file lines before rs rest result) (sym (append_assoc so_far.0 one.0 todo))
-    (so_far.2 (one.0 ++ todo) rest result (Ok after, todo, one.2 todo, comes)),
+      (so_far.2 (one.0 ++ todo) rest result (Ok after, todo, one.2 todo, comes)),
 )
 
 lines_end : {S : Type 0} (s : SourceOf S) (a b c : S) (room file : ℕ) (lines : List Include) (before now : Gathered) (line : Include) (left : List Include) (fault : LoadFault)
@@ -225,7 +223,7 @@ lines_end s a b c room file lines before now line left fault so_far one = (
   so_far.0 ++ one.0,
   gave_behind s a b c so_far.0 one.0 so_far.1 one.1,
   λ rest. subst (λ rs. LinesCome room file lines before rs rest (Err fault)) (sym (append_assoc so_far.0 one.0 rest))
-    (so_far.2 (one.0 ++ rest) rest (Err fault) (Err fault, rest, one.2 rest, (refl, refl))),
+      (so_far.2 (one.0 ++ rest) rest (Err fault) (Err fault, rest, one.2 rest, (refl, refl))),
 )
 
 pub line_failed : {S : Type 0} (s : SourceOf S) (a b c : S) (room file : ℕ) (lines : List Include) (before now after last : Gathered) (line : Include) (left : List Include) (fault : LoadFault)

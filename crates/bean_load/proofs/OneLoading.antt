@@ -1,15 +1,15 @@
 -- Texts say one thing together.
-use Rattle.std.proofs.Common.{◌≡◌, ℕ, ◌+◌, List, [], ◌∷◌, ◌++◌, refl, sym, ap, ◌∙◌, subst}
+use Rattle.std.proofs.Common.{◌≡◌, List, [], ◌∷◌, ◌++◌, sym, ap, ◌∙◌, subst}
 use Rattle.std.specs.Cmp.{IsTotalOrder}
 use Rattle.std.specs.List.{flat_map}
 use Rattle.std.specs.Ordering.{nat_cmp}
 use Rattle.std.proofs.lemmas.Cmp.{on_total, then_total, nat_cmp_total, int_cmp_total}
 use Rattle.theory.proofs.ArrangementFacts.{one_by_key}
 use Rattle.bean_load.specs.Arrangement as one_text
-use Rattle.bean_load.specs.Loaded.{AreParsed, IsLoaded, Loaded, directives_in, settings_in, faults_in, title_in, operating_of, method_of}
+use Rattle.bean_load.specs.Loaded.{AreParsed, directives_in, settings_in, faults_in, title_in, operating_of, method_of}
 use Rattle.bean_load.specs.Loading.{HasOneLoading}
 use Rattle.bean_load.specs.Order.{AreInOrder, AreSettingsInOrder, Key, key_of, key_cmp}
-use Rattle.bean_load.specs.Texts.{File, Texts}
+use Rattle.bean_load.specs.Texts.{File}
 use Rattle.bean_load.specs.declared.placed.Placed.{Placed}
 use Rattle.bean_heads.specs.declared.directive.Directive.{Directive}
 use Rattle.bean_heads.specs.declared.undated.Setting.{Setting}

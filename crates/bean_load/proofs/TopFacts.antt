@@ -1,5 +1,5 @@
 -- What a ledger comes to, by its top text.
-use Rattle.std.proofs.Common.{◌≡◌, ℕ, true, false, List, [], ◌∷◌, ◌++◌, length, Result, Ok, Err, refl, sym, ap, ◌∙◌, subst}
+use Rattle.std.proofs.Common.{◌≡◌, ℕ, true, false, List, [], ◌∷◌, ◌++◌, length, Result, Ok, Err, refl, sym, subst}
 use Rattle.std.proofs.lemmas.List.{append-nil}
 use Rattle.std.specs.Prelude.{IsErrAnd}
 use Rattle.std.specs.Str.{is_utf8}
@@ -43,9 +43,11 @@ came : (name bytes : List ℕ) (mid : Gathered) (readings : List Reading) (end :
     → is_too_large (length bytes) nothing ≡ false → is_utf8 bytes ≡ true → mid ≡ with_bytes name bytes nothing
     → ((rest : List Reading) → TextComes DEEPEST name bytes mid (readings ++ rest) rest end) → Comes name ((name, Ok bytes) ∷ readings) end
 came name bytes mid readings end fits utf8 is come = (
-  Ok bytes, readings, refl,
+  Ok bytes,
+  readings,
+  refl,
   by_false (is_too_large (length bytes) nothing) _ _ fits (by_true (is_utf8 bytes) _ _ utf8
-    (subst (λ z. TextComes DEEPEST name bytes z readings [] end) is (subst (λ rs. TextComes DEEPEST name bytes mid rs [] end) (append-nil readings) (come [])))),
+      (subst (λ z. TextComes DEEPEST name bytes z readings [] end) is (subst (λ rs. TextComes DEEPEST name bytes mid rs [] end) (append-nil readings) (come [])))),
 )
 
 pub top_stands : {S : Type 0} (s : SourceOf S) (a b c : S) (name bytes : List ℕ) (mid after : Gathered) → Told s a b name nothing mid bytes

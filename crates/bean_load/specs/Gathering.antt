@@ -5,9 +5,8 @@ use Rattle.std.specs.Str.{is_utf8}
 use Rattle.stores.specs.Reading.{Reading}
 use Rattle.stores.specs.declared.source.SourceFault.{SourceFault}
 use Rattle.stores.specs.declared.source.SourceFault.TheVariants as source
-use Rattle.bean_load.specs.Gathered.{Gathered, is_full, is_too_large, nothing, texts_of, was_asked, with_asked, with_bytes, with_fault, with_file, with_part}
+use Rattle.bean_load.specs.Gathered.{Gathered, is_full, is_too_large, nothing, was_asked, with_asked, with_bytes, with_fault, with_file, with_part}
 use Rattle.bean_load.specs.Include.{AreIncludes, Include}
-use Rattle.bean_load.specs.Texts.{Texts}
 use Rattle.bean_load.specs.declared.fault.LoadFault.{LoadFault}
 use Rattle.bean_load.specs.declared.fault.LoadFault.TheVariants.{Unreadable, NotUtf8, TooLarge}
 use Rattle.bean_load.specs.declared.gathering.TheConstants.{DEEPEST}
@@ -52,9 +51,9 @@ LineBy Text room file line s todo rest result =
     MatchBool (was_asked line.name s) (Ends (Ok (with_fault file line.line s)) todo rest result)
     (MatchBool (is_full room s) (Ends (Err TooLarge) todo rest result)
     (AsksFor line.name todo (λ answer left. AnswerComes
-        (Ok (with_fault file line.line (with_asked line.name s)))
-        (λ bytes. Ok (with_fault file line.line (with_bytes line.name bytes s)))
-        (λ bytes. Stands Text file line bytes (with_bytes line.name bytes s)) s answer left rest result)))
+    (Ok (with_fault file line.line (with_asked line.name s)))
+    (λ bytes. Ok (with_fault file line.line (with_bytes line.name bytes s)))
+    (λ bytes. Stands Text file line bytes (with_bytes line.name bytes s)) s answer left rest result)))
 
 abbrev pub Then : Step → Result Gathered LoadFault → List Reading → List Reading → Result Gathered LoadFault → Type 0
 Then Next (Ok s) todo rest result = Next s todo rest result
@@ -90,5 +89,5 @@ TextComes room = TextBy (LineComes room)
 abbrev pub Comes : List ℕ → List Reading → Result Gathered LoadFault → Type 0
 Comes name readings result =
     AsksFor name readings (λ answer left. AnswerComes (Err Unreadable) (λ bytes. Err NotUtf8)
-        (λ bytes todo rest end. TextComes DEEPEST name bytes (with_bytes name bytes nothing) todo rest end)
-        nothing answer left [] result)
+    (λ bytes todo rest end. TextComes DEEPEST name bytes (with_bytes name bytes nothing) todo rest end)
+    nothing answer left [] result)

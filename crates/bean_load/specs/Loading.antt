@@ -1,8 +1,6 @@
 -- What is kept of texts that were read.
-use Rattle.std.specs.Prelude.{◌≡◌, ℕ, List, [], ◌∷◌, ◌++◌, map}
+use Rattle.std.specs.Prelude.{◌≡◌, ℕ, List, ◌++◌, map}
 use Rattle.std.specs.List.{flat_map}
-use Rattle.bean_base.specs.declared.fault.Fault.{Fault}
-use Rattle.bean_heads.specs.declared.directive.Directive.{Directive}
 use Rattle.bean_heads.specs.declared.undated.Setting.{Setting}
 use Rattle.bean_load.specs.Loaded.{AreParsed, IsLoaded, Loaded, directives_in, settings_in, faults_in, fault_in, title_behind, title_in, operating_of, method_of}
 use Rattle.bean_load.specs.Placed.{placed_directive, placed_setting}

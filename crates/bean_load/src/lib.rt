@@ -42,5 +42,5 @@ pub use fault::LoadFault;
 pub use following::gather;
 pub use loaded::{Loaded, MethodLine, load, one_loading};
 pub use placed::Placed;
-pub use texts::{File, Part, Texts};
 pub use stores::source::Source;
+pub use texts::{File, Part, Texts};

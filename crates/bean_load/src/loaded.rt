@@ -113,7 +113,12 @@ impl<'a> Read<'a> {
     fn add(&mut self, file: usize, own: &[Own], parsed: Parsed<'a>) -> Result<(), AllocError>
         ensures { OnOk result (AddsParsed file own.now parsed.entry self.old self.new) }
     {
-        add_directives(file, own, parsed.directives.into_vec(), &mut self.directives)?;
+        add_directives(
+            file,
+            own,
+            parsed.directives.into_vec(),
+            &mut self.directives,
+        )?;
         add_settings(file, own, parsed.settings.into_vec(), &mut self.settings)?;
         add_faults(file, parsed.faults.as_slice(), &mut self.faults)
     }

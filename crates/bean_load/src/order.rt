@@ -12,10 +12,7 @@ pub fn order_directives(directives: &mut Vec<Placed<Directive<'_>>>) -> Result<(
     ensures { OnOk result (AreInOrder directives.old.items directives.new.items) }
 {
     directives.sort_by_key(|placed| {
-        (
-            (placed.item.day, Rank::of(&placed.item.kind)),
-            placed.part,
-        )
+        ((placed.item.day, Rank::of(&placed.item.kind)), placed.part)
     })
 }
 

@@ -39,21 +39,29 @@ fn two_texts_that_include_each_other_are_read_once(rt: HostRuntime) -> Result<()
 fn names_are_joined_to_the_folder_of_the_including_text(rt: HostRuntime) -> Result<(), Fail> {
     let alloc = rt.alloc();
     let files = [
-        ("books/l", "include \"2014/a\"\ninclude \"./b\"\ninclude \"/c\"\n"),
+        (
+            "books/l",
+            "include \"2014/a\"\ninclude \"./b\"\ninclude \"/c\"\n",
+        ),
         ("books/2014/a", "include \"05/d\"\ninclude \"../b\"\n"),
         ("books/2014/05/d", "include \"e\"\n"),
     ];
     let mut store = store_of(alloc, &files, 0)?;
     let texts = gather(alloc, &mut store, "books/l")?;
-    assert!(rt; were_asked(&store, &[
-        "books/l",
-        "books/2014/a",
-        "books/2014/05/d",
-        "books/2014/05/e",
-        "books/2014/../b",
-        "books/./b",
-        "/c",
-    ]));
+    assert!(rt;
+        were_asked(
+            &store,
+            &[
+                "books/l",
+                "books/2014/a",
+                "books/2014/05/d",
+                "books/2014/05/e",
+                "books/2014/../b",
+                "books/./b",
+                "/c",
+            ]
+        )
+    );
     assert!(rt; are_texts(&texts, &["books/l", "books/2014/a", "books/2014/05/d"]));
     assert!(rt; are_faults(&texts, &[(2, 1), (1, 2), (0, 2), (0, 3)]));
     Ok(())
@@ -94,7 +102,11 @@ fn a_source_that_fails_at_a_call(rt: HostRuntime) -> Result<(), Fail> {
     ];
     let mut store = store_of(alloc, &files, 1)?;
     assert!(rt; matches!(gather(alloc, &mut store, "l"), Err(LoadFault::Unreadable)));
-    for (call, left) in [(2, ["l", "b", "c"]), (3, ["l", "a", "c"]), (4, ["l", "a", "b"])] {
+    for (call, left) in [
+        (2, ["l", "b", "c"]),
+        (3, ["l", "a", "c"]),
+        (4, ["l", "a", "b"]),
+    ] {
         let mut store = store_of(alloc, &files, call)?;
         let texts = gather(alloc, &mut store, "l")?;
         assert!(rt; were_asked(&store, &["l", "a", "b", "c"]));

@@ -42,10 +42,21 @@ fn a_text_stands_at_its_line(rt: HostRuntime) -> Result<(), Fail> {
     let texts = gather(alloc, &mut store, "l")?;
     let loaded = load(alloc, &texts)?;
     assert_eq!(rt; loaded.faults().len(), 0);
-    assert!(rt; are_places(
-        &loaded,
-        &[(0, 5), (2, 2), (0, 1), (1, 1), (2, 1), (1, 3), (0, 3), (3, 1)],
-    ));
+    assert!(rt;
+        are_places(
+            &loaded,
+            &[
+                (0, 5),
+                (2, 2),
+                (0, 1),
+                (1, 1),
+                (2, 1),
+                (1, 3),
+                (0, 3),
+                (3, 1)
+            ],
+        )
+    );
     Ok(())
 }
 

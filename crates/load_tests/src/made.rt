@@ -6,11 +6,7 @@ use std::test::Fail;
 use stores::memory::{Entry, MemoryStore};
 
 /// A store with these files, which fails at that call; at none where it is 0.
-pub fn store_of(
-    alloc: Global,
-    files: &[(&str, &str)],
-    fails_at: u64,
-) -> Result<MemoryStore, Fail> {
+pub fn store_of(alloc: Global, files: &[(&str, &str)], fails_at: u64) -> Result<MemoryStore, Fail> {
     let mut entries = Vec::new(alloc);
     for (name, text) in files {
         entries.push(Entry {

@@ -1,13 +1,13 @@
-use Rattle.std.proofs.Common.{◌≡◌, ◌+◌, ◌-◌, arith, drop, true, false, [], ◌∷◌, Ok, Err, refl, sym, ap, ◌∙◌, subst}
+use Rattle.std.proofs.Common.{◌≡◌, ◌+◌, ◌-◌, arith, drop, [], ◌∷◌, Ok, Err, sym, ap, ◌∙◌, subst}
 use Rattle.std.proofs.lemmas.Grind.{common_steps}
 use Rattle.std.specs.String.{string_bytes}
 use Rattle.bean_load.specs.Asking.{Asks}
 use Rattle.bean_load.specs.Following.{Follows}
 use Rattle.bean_load.specs.declared.gathering.Asked.TheVariants as asked
-use Rattle.bean_load.specs.Gathered.{was_asked, is_full, with_fault, with_part}
+use Rattle.bean_load.specs.Gathered.{was_asked, with_fault, with_part}
 use Rattle.bean_load.specs.Gathering.{LineComes, LinesCome, TextComes}
 use Rattle.stores.proofs.GaveFacts.{gave_none}
-use Rattle.bean_load.proofs.LineFacts.{lacking, failing, was_repeated, was_full, ask_failed, told_text, text_failed, text_stood, told_no_text, told_nothing, gave_more, Continues, begins, goes_on, line_failed, all_came, text_came}
+use Rattle.bean_load.proofs.LineFacts.{lacking, failing, was_repeated, was_full, told_text, text_failed, text_stood, gave_more, Continues, begins, goes_on, line_failed, all_came}
 use Rattle.bean_load.proofs.following.+following.Goals as goal
 
 pub follow_line-returns-in_err-add_fault : goal.follow_line-returns-in_err-add_fault

@@ -1,4 +1,4 @@
-use Rattle.std.proofs.Common.{◌≡◌, Ok, Err, sym, subst}
+use Rattle.std.proofs.Common.{Ok, Err, sym, subst}
 use Rattle.std.specs.String.{string_bytes}
 use Rattle.bean_load.specs.Asking.{Asks}
 use Rattle.bean_load.specs.Following.{Follows, Gathers}

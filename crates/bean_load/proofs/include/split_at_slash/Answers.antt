@@ -1,4 +1,4 @@
-use Rattle.std.proofs.Common.{◌≡◌, ◌+◌, ◌++◌, ◌∷◌, Some, None, length, length-append, ap, sym, ◌∙◌, arith}
+use Rattle.std.proofs.Common.{◌∷◌, Some, None, length, length-append, ap, ◌∙◌, arith}
 use Rattle.std.proofs.lemmas.Str.Pattern.{split_parts}
 use Rattle.bean_load.specs.Include.{folder}
 use Rattle.bean_load.proofs.FolderFacts.{no_folder, folder_split}

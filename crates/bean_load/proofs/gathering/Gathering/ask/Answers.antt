@@ -1,4 +1,4 @@
-use Rattle.std.proofs.Common.{◌≡◌, false, [], ◌∷◌, Ok, Err, refl, sym, ap, ◌∙◌, subst, length, arith}
+use Rattle.std.proofs.Common.{◌≡◌, false, [], ◌∷◌, Ok, Err, sym, ap, ◌∙◌, subst, length, arith}
 use Rattle.stores.proofs.GaveFacts.{gave_none, gave_one}
 use Rattle.bean_load.specs.Asking.{IsTold}
 use Rattle.bean_load.specs.declared.gathering.Asked.TheVariants.{Failed}
