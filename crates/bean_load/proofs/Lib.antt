@@ -7,3 +7,4 @@ pub mod BooksFacts
 pub mod AskingFacts
 pub mod FolderFacts
 pub mod TopFacts
+pub mod OneGathering

@@ -33,3 +33,8 @@ IsGathered name readings result = (end : Result Gathered LoadFault) × Comes nam
 abbrev pub Gathers : {S : Type 0} → SourceOf S → S → S → List ℕ → Result Texts LoadFault → Type 0
 Gathers s old new name (Err OutOfMemory) = (readings : List Reading) × Gave s old new readings
 Gathers s old new name result = (readings : List Reading) × Gave s old new readings × IsGathered name readings result
+
+-- what the source answered decides the texts, or the fault
+abbrev pub HasOneGathering : Type 0
+HasOneGathering =
+    (name : List ℕ) (readings : List Reading) (a b : Result Texts LoadFault) → IsGathered name readings a → IsGathered name readings b → a ≡ b

@@ -3,7 +3,7 @@ ghost use Rattle.std.specs.Prelude.{◌≡◌, length};
 ghost use Rattle.std.specs.String.{string_bytes};
 ghost use Rattle.bean_load.specs.Gathered as spec;
 ghost use Rattle.bean_load.specs.Gathering.{LineComes, LinesCome, TextComes};
-ghost use Rattle.bean_load.specs.Following.{Follows, Gathers};
+ghost use Rattle.bean_load.specs.Following.{Follows, Gathers, HasOneGathering};
 
 use crate::fault::LoadFault;
 use crate::gathering::{Asked, DEEPEST, Gathering};
@@ -97,3 +97,8 @@ pub fn gather<S: Source>(alloc: Global, source: &mut S, name: &str) -> Result<Te
         Asked::Failed => Err(LoadFault::Unreadable),
     }
 }
+
+/// What the source answers decides the texts, or the fault.
+pub fn one_gathering()
+    ensures { HasOneGathering }
+{}

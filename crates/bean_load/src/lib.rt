@@ -39,7 +39,7 @@ pub mod texts;
 
 pub use arrangement::{Rank, arrange, one_arrangement};
 pub use fault::LoadFault;
-pub use following::gather;
+pub use following::{gather, one_gathering};
 pub use loaded::{Loaded, MethodLine, load, one_loading};
 pub use placed::Placed;
 pub use stores::source::Source;

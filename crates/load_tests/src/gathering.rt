@@ -19,7 +19,8 @@ fn an_unreadable_text_is_a_fault_at_its_line(rt: HostRuntime) -> Result<(), Fail
     assert!(rt; are_texts(&texts, &["l", "a", "c"]));
     assert!(rt; are_faults(&texts, &[(0, 2)]));
     assert_eq!(rt; texts.faults()[0].kind, FaultKind::IncludeFault);
-    assert!(rt; texts.files()[2].text.as_str() == "option \"title\" \"c\"\n");
+    let last = &texts.files()[2];
+    assert!(rt; last.text.as_str() == "option \"title\" \"c\"\n");
     Ok(())
 }
 
