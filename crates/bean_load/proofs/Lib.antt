@@ -8,3 +8,4 @@ pub mod AskingFacts
 pub mod FolderFacts
 pub mod TopFacts
 pub mod OneGathering
+pub mod Examples
