@@ -2,11 +2,11 @@
 use Rattle.std.proofs.Common.{◌≡◌, true, false, [], ◌∷◌, Ok, Err, refl}
 use Rattle.std.specs.Prelude.{codes}
 use Rattle.stores.specs.declared.source.SourceFault.TheVariants as source
-use Rattle.bean_load.specs.Gathered.{is_full, is_too_large, nothing, was_asked, with_asked, with_fault, with_read}
+use Rattle.bean_load.specs.Gathered.{is_full, is_too_large, nothing, with_asked, with_fault, with_read}
 use Rattle.bean_load.specs.Gathering.{Comes, LineComes}
 use Rattle.bean_load.specs.Include.{joined}
 use Rattle.bean_load.specs.Placed.{part_at, parts_of}
-use Rattle.bean_load.specs.declared.fault.LoadFault.TheVariants.{Unreadable, NotUtf8, TooLarge}
+use Rattle.bean_load.specs.declared.fault.LoadFault.TheVariants.{Unreadable, TooLarge}
 
 -- names
 beside : joined (codes "books/main") (codes "2014") ≡ codes "books/2014"

@@ -41,16 +41,17 @@
 pub mod arrangement;
 pub mod fault;
 pub mod following;
-pub mod gathering;
-pub mod include;
+mod gathering;
+mod include;
 pub mod loaded;
-pub mod order;
+mod order;
 pub mod placed;
 pub mod texts;
 
 pub use arrangement::{Rank, arrange, one_arrangement};
 pub use fault::LoadFault;
 pub use following::{gather, one_gathering};
+pub use gathering::{DEEPEST, LARGEST_LEDGER, LARGEST_TEXT, MOST_NAMES};
 pub use loaded::{Loaded, MethodLine, load, one_loading};
 pub use placed::Placed;
 pub use stores::source::Source;
