@@ -3,6 +3,7 @@
 use crate::made::{are_faults, are_texts, store_of, were_asked};
 use bean_base::FaultKind;
 use bean_load::{LoadFault, gather};
+use std::alloc::Global;
 use std::test::Fail;
 
 #[test]
@@ -18,8 +19,9 @@ fn an_unreadable_text_is_a_fault_at_its_line(rt: HostRuntime) -> Result<(), Fail
     assert!(rt; were_asked(&store, &["l", "a", "b", "c"]));
     assert!(rt; are_texts(&texts, &["l", "a", "c"]));
     assert!(rt; are_faults(&texts, &[(0, 2)]));
-    assert_eq!(rt; texts.faults()[0].kind, FaultKind::IncludeFault);
-    let last = &texts.files()[2];
+    let fault = texts.faults().first().ok_or("a fault")?;
+    assert_eq!(rt; fault.kind, FaultKind::IncludeFault);
+    let last = texts.files().last().ok_or("a text")?;
     assert!(rt; last.text.as_str() == "option \"title\" \"c\"\n");
     Ok(())
 }
@@ -92,27 +94,29 @@ fn a_repeated_include_is_a_fault_whatever_was_answered(rt: HostRuntime) -> Resul
     Ok(())
 }
 
+/// A text with three include lines, and their texts.
+const FILES: [(&str, &str); 4] = [
+    ("l", "include \"a\"\ninclude \"b\"\ninclude \"c\"\n"),
+    ("a", ""),
+    ("b", ""),
+    ("c", ""),
+];
+
+/// Whether a source that fails at that call leaves these texts, with F22 at that line.
+fn leaves(alloc: Global, call: u64, line: usize, left: &[&str]) -> Result<bool, Fail> {
+    let mut store = store_of(alloc, &FILES, call)?;
+    let texts = gather(alloc, &mut store, "l")?;
+    let all = were_asked(&store, &["l", "a", "b", "c"]);
+    Ok(all && are_texts(&texts, left) && are_faults(&texts, &[(0, line)]))
+}
+
 #[test]
 fn a_source_that_fails_at_a_call(rt: HostRuntime) -> Result<(), Fail> {
     let alloc = rt.alloc();
-    let files = [
-        ("l", "include \"a\"\ninclude \"b\"\ninclude \"c\"\n"),
-        ("a", ""),
-        ("b", ""),
-        ("c", ""),
-    ];
-    let mut store = store_of(alloc, &files, 1)?;
+    let mut store = store_of(alloc, &FILES, 1)?;
     assert!(rt; matches!(gather(alloc, &mut store, "l"), Err(LoadFault::Unreadable)));
-    for (call, left) in [
-        (2, ["l", "b", "c"]),
-        (3, ["l", "a", "c"]),
-        (4, ["l", "a", "b"]),
-    ] {
-        let mut store = store_of(alloc, &files, call)?;
-        let texts = gather(alloc, &mut store, "l")?;
-        assert!(rt; were_asked(&store, &["l", "a", "b", "c"]));
-        assert!(rt; are_texts(&texts, &left));
-        assert!(rt; are_faults(&texts, &[(0, call as usize - 1)]));
-    }
+    assert!(rt; leaves(alloc, 2, 1, &["l", "b", "c"])?);
+    assert!(rt; leaves(alloc, 3, 2, &["l", "a", "c"])?);
+    assert!(rt; leaves(alloc, 4, 3, &["l", "a", "b"])?);
     Ok(())
 }
