@@ -1,1 +1,11 @@
 pub mod ArrangementFacts
+pub mod GaveFacts
+pub mod LineFacts
+pub mod OneLoading
+pub mod ReadFacts
+pub mod BooksFacts
+pub mod AskingFacts
+pub mod FolderFacts
+pub mod TopFacts
+pub mod OneGathering
+pub mod Examples

@@ -1,2 +1,13 @@
+pub mod LoadFault
+pub mod Include
+pub mod Texts
+pub mod Gathered
+pub mod Gathering
+pub mod Asking
+pub mod Following
+pub mod Placed
 pub mod Rank
 pub mod Arrangement
+pub mod Order
+pub mod Loaded
+pub mod Loading

@@ -1,33 +1,58 @@
-//! Loading: the directives of a ledger in the order in which they are taken.
-//!
-//! The parser gives directives in the order in which they are written, and people write them as
-//! they come. [`arrange`] puts them in order.
+//! Loading: the texts of a ledger, and what they say together.
 //!
 //! ```text
-//! let mut directives = parse(alloc, text)?.directives.into_vec();
-//! arrange(&mut directives)?;
+//! let texts = gather(alloc, &mut source, "books/main.beancount")?;   // it, and what it includes
+//! let loaded = load(alloc, &texts)?;
+//! // loaded.directives(): those of all texts, in the order in which they are taken
 //! ```
+//!
+//! # Texts
+//!
+//! [`gather`] asks a [`Source`] for a text and reads at the place of each include line the text
+//! that it names. A name that begins with `/` is taken as it is, any other is joined to the folder
+//! of the including text, up to its last `/`. No name is asked twice.
 //!
 //! # The order
 //!
-//! By day, of one day opens, then balances, all else, documents and closes, and those of one day
-//! and rank in the order in which they were read. Directives have one such order, by a law:
-//! [`one_arrangement`].
-//!
-//! # Sources
-//!
-//! [`Source`] is where texts come from.
+//! A text is read in [`Part`]s, and what an include line gives stands between two of them.
+//! [`load`] arranges the directives by day, of one day opens, then balances, all else, documents
+//! and closes, then by their parts in reading order, and those of one part as they are written.
+//! The texts decide all of it ([`one_loading`]), and what the source answers decides the texts
+//! ([`one_gathering`]). [`arrange`] is the same of one text's directives ([`one_arrangement`]).
 //!
 //! # Faults
 //!
-//! None but want of memory, which leaves the directives in some order, each of them once.
+//! - `L1`, where the source fails at the top text, `L2`, where that is not UTF-8,
+//! - `L3`, where a text has more than 16 MiB or all that were read more than 64 MiB, where an
+//!   include line stands 16 texts deep, or where 1,000 names were asked before its own,
+//! - `F22` at an include line whose name was asked before, where the source fails, or whose bytes
+//!   are not UTF-8. The others are read.
+//!
+//! For an include line they are looked for in this order: asked before, depth, names, failure,
+//! size, UTF-8. Want of memory may come at any time.
 //!
 //! # Cost
 //!
-//! A stable sort: `n log n` comparisons of two numbers each, and memory for half of the directives.
+//! Each text is parsed once to find its include lines and once to be loaded. An include line looks
+//! at the names that were asked, of which there are at most 1,000. The directives are moved once
+//! and sorted, which takes memory for half of them.
 #![tactic(auto)]
 
 pub mod arrangement;
+pub mod fault;
+pub mod following;
+mod gathering;
+mod include;
+pub mod loaded;
+mod order;
+pub mod placed;
+pub mod texts;
 
 pub use arrangement::{Rank, arrange, one_arrangement};
+pub use fault::LoadFault;
+pub use following::{gather, one_gathering};
+pub use gathering::{DEEPEST, LARGEST_LEDGER, LARGEST_TEXT, MOST_NAMES};
+pub use loaded::{Loaded, MethodLine, load, one_loading};
+pub use placed::Placed;
 pub use stores::source::Source;
+pub use texts::{File, Part, Texts};

@@ -1,0 +1,28 @@
+-- The order in which the directives of all texts are taken.
+use Rattle.std.specs.Prelude.{ℕ, List}
+use Rattle.std.specs.Ordering.{nat_cmp, ordering_then}
+use Rattle.std.specs.declared.cmp.Ordering.{Ordering}
+use Rattle.theory.specs.Arrangement.{IsArrangedByKey}
+use Rattle.bean_heads.specs.declared.directive.Directive.{Directive}
+use Rattle.bean_heads.specs.declared.undated.Setting.{Setting}
+use Rattle.bean_load.specs.Arrangement as one_text
+use Rattle.bean_load.specs.declared.placed.Placed.{Placed}
+
+-- day and rank, and the place in reading order
+abbrev pub Key : Type 0
+Key = one_text.Key × ℕ
+
+abbrev pub key_of : Placed Directive → Key
+key_of p = (one_text.key_of p.item, p.part)
+
+-- by day, then by rank, then by place
+abbrev pub key_cmp : Key → Key → Ordering
+key_cmp a b = ordering_then (one_text.key_cmp a.0 b.0) (nat_cmp a.1 b.1)
+
+-- ys has the directives of xs by day, rank and part of the ledger, and those that tie in their order
+abbrev pub AreInOrder : List (Placed Directive) → List (Placed Directive) → Type 0
+AreInOrder = IsArrangedByKey key_of key_cmp
+
+-- ys has the settings of xs by their parts of the ledger, and those of one part in their order
+abbrev pub AreSettingsInOrder : List (Placed Setting) → List (Placed Setting) → Type 0
+AreSettingsInOrder = IsArrangedByKey (λ s. s.part) nat_cmp

@@ -1,0 +1,104 @@
+//! Gathering the texts of a ledger: the top one, and those that include lines name.
+ghost use Rattle.std.specs.Prelude.{◌≡◌, length};
+ghost use Rattle.std.specs.String.{string_bytes};
+ghost use Rattle.bean_load.specs.Gathered as spec;
+ghost use Rattle.bean_load.specs.Gathering.{LineComes, LinesCome, TextComes};
+ghost use Rattle.bean_load.specs.Following.{Follows, Gathers, HasOneGathering};
+
+use crate::fault::LoadFault;
+use crate::gathering::{Asked, DEEPEST, Gathering};
+use crate::include::{Include, includes_of};
+use crate::texts::Texts;
+use std::alloc::Global;
+use stores::source::Source;
+
+/// Reads a text, which is the next one: the texts of its include lines, each at its line.
+#[cycle(following)]
+fn follow_text<S: Source>(
+    source: &mut S,
+    gathering: &mut Gathering,
+    room: usize,
+    name: String,
+    text: String,
+) -> Result<(), LoadFault>
+    ensures { Follows S.Source source.old source.new
+        (TextComes room (string_bytes name) (string_bytes text) gathering.old)
+        gathering.new result }
+{
+    let file = gathering.next_file();
+    let lines = includes_of(gathering.alloc(), &name, &text)?;
+    gathering.add_file(name, text)?;
+    follow_lines(source, gathering, room, file, &lines)
+}
+
+/// Reads the texts of some include lines of a text, one after the other.
+#[cycle(following)]
+fn follow_lines<S: Source>(
+    source: &mut S,
+    gathering: &mut Gathering,
+    room: usize,
+    file: usize,
+    lines: &[Include],
+) -> Result<(), LoadFault>
+    ensures { Follows S.Source source.old source.new
+        (LinesCome room file lines.now gathering.old) gathering.new result }
+{
+    for line in lines {
+        follow_line(source, gathering, room, file, line)?;
+    }
+    Ok(())
+}
+
+/// Reads the text of an include line, and those of its own include lines.
+#[cycle(following)]
+fn follow_line<S: Source>(
+    source: &mut S,
+    gathering: &mut Gathering,
+    room: usize,
+    file: usize,
+    include: &Include,
+) -> Result<(), LoadFault>
+    ensures { Follows S.Source source.old source.new
+        (LineComes room file include.now gathering.old) gathering.new result }
+{
+    if gathering.was_asked(&include.name) {
+        gathering.add_fault(file, include.line)?;
+        return Ok(());
+    }
+    if gathering.is_full(room) {
+        return Err(LoadFault::TooLarge);
+    }
+    match gathering.ask(source, &include.name)? {
+        Asked::Text(text) => {
+            let name = include.name.clone()?;
+            follow_text(source, gathering, room - 1, name, text)?;
+            gathering.add_part(file, include.line)?;
+            Ok(())
+        }
+        Asked::NotUtf8 | Asked::Failed => {
+            gathering.add_fault(file, include.line)?;
+            Ok(())
+        }
+    }
+}
+
+/// The texts of a ledger whose top one has that name.
+pub fn gather<S: Source>(alloc: Global, source: &mut S, name: &str) -> Result<Texts, LoadFault>
+    ensures { Gathers S.Source source.old source.new name.now result }
+{
+    let mut gathering = Gathering::new(alloc);
+    match gathering.ask(source, name)? {
+        Asked::Text(text) => {
+            let name = String::from_str(alloc, name)?;
+            follow_text(source, &mut gathering, DEEPEST, name, text)?;
+            Ok(gathering.texts())
+        }
+        Asked::NotUtf8 => Err(LoadFault::NotUtf8),
+        Asked::Failed => Err(LoadFault::Unreadable),
+    }
+}
+
+/// What the source answers decides the texts, or the fault.
+pub fn one_gathering()
+    ensures { HasOneGathering }
+{}

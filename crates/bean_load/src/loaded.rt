@@ -1,0 +1,207 @@
+//! What the texts of a ledger say together.
+ghost use Rattle.std.specs.Prelude.{◌≡◌, ◌++◌, [], ◌∷◌, List, map, length, option_map, IfOk, OnOk};
+ghost use Rattle.std.specs.List.{flat_map};
+ghost use Rattle.bean_load.specs.Loaded as spec;
+ghost use Rattle.bean_load.specs.Loaded.{IsLoaded};
+ghost use Rattle.bean_load.specs.Loading.{AddsParsed, AddsSetting, AreBooks, AreRead, HasOneLoading};
+
+use crate::order::{order_directives, order_settings};
+use crate::placed::{Own, Placed, add_directives, add_settings, parts_of};
+use crate::texts::Texts;
+use bean_base::{Fault, Text};
+use bean_parser::parse::parse;
+use bean_parser::{Directive, Parsed, Setting, SettingKind};
+use std::alloc::{AllocError, Global};
+use std::marker::Model;
+
+/// A line of a booking method.
+#[derive(Debug, Drop)]
+pub struct MethodLine<'a> {
+    /// The number of its text, from 0.
+    pub file: usize,
+    /// The line on which it is written, from 1.
+    pub line: usize,
+    /// The name of the method, known or not.
+    pub method: Text<'a>,
+}
+
+/// What the texts of a ledger say together, as [`load`] gives it.
+#[derive(Drop)]
+pub struct Loaded<'a> {
+    directives: Vec<Placed<Directive<'a>>>,
+    faults: Vec<Fault>,
+    title: Option<Text<'a>>,
+    operating: Vec<Text<'a>>,
+    methods: Vec<MethodLine<'a>>,
+}
+
+impl<'a> Model for Loaded<'a> {
+    ghost use Rattle.bean_load.specs.Loaded as spec;
+
+    ghost Value = { spec.Loaded };
+
+    ghost view = { λ l. record {
+      directives = l.directives.items;
+      faults = l.faults.items;
+      title = l.title;
+      operating = l.operating.items;
+      methods = l.methods.items;
+    } };
+}
+
+impl<'a> Loaded<'a> {
+    /// The directives in the order in which they are taken.
+    pub fn directives(&self) -> &[Placed<Directive<'a>>]
+        ensures { result.now ≡ self.now.directives }
+    {
+        &self.directives
+    }
+
+    /// The faults of the texts' blocks, and those of include lines.
+    pub fn faults(&self) -> &[Fault]
+        ensures { result.now ≡ self.now.faults }
+    {
+        &self.faults
+    }
+
+    /// The last title.
+    pub fn title(&self) -> Option<Text<'a>>
+        ensures { result ≡ self.now.title }
+    {
+        match &self.title {
+            Some(title) => Some(title.lend()),
+            None => None,
+        }
+    }
+
+    /// The operating currencies, in reading order.
+    pub fn operating(&self) -> &[Text<'a>]
+        ensures { result.now ≡ self.now.operating }
+    {
+        &self.operating
+    }
+
+    /// The lines of booking methods, in reading order.
+    pub fn methods(&self) -> &[MethodLine<'a>]
+        ensures { result.now ≡ self.now.methods }
+    {
+        &self.methods
+    }
+}
+
+/// What is read of texts so far.
+#[derive(Drop)]
+pub struct Read<'a> {
+    pub directives: Vec<Placed<Directive<'a>>>,
+    pub settings: Vec<Placed<Setting<'a>>>,
+    pub faults: Vec<Fault>,
+}
+
+/// Adds the faults of a text's blocks.
+fn add_faults(file: usize, faults: &[Fault], out: &mut Vec<Fault>) -> Result<(), AllocError>
+    ensures { OnOk result (out.new.items
+        ≡ out.old.items ++ map (spec.fault_in file) faults.now) }
+{
+    for fault in faults {
+        out.push(Fault { file, ..*fault })?;
+    }
+    Ok(())
+}
+
+impl<'a> Read<'a> {
+    /// Adds what the text of that number says.
+    fn add(&mut self, file: usize, own: &[Own], parsed: Parsed<'a>) -> Result<(), AllocError>
+        ensures { OnOk result (AddsParsed file own.now parsed.entry self.old self.new) }
+    {
+        add_directives(
+            file,
+            own,
+            parsed.directives.into_vec(),
+            &mut self.directives,
+        )?;
+        add_settings(file, own, parsed.settings.into_vec(), &mut self.settings)?;
+        add_faults(file, parsed.faults.as_slice(), &mut self.faults)
+    }
+}
+
+/// What settings in reading order say of the books.
+#[derive(Drop)]
+pub struct Books<'a> {
+    pub title: Option<Text<'a>>,
+    pub operating: Vec<Text<'a>>,
+    pub methods: Vec<MethodLine<'a>>,
+}
+
+impl<'a> Books<'a> {
+    /// Adds what a setting says.
+    fn add(&mut self, setting: &Placed<Setting<'a>>) -> Result<(), AllocError>
+        ensures { OnOk result (AddsSetting setting.now self.old self.new) }
+    {
+        match &setting.item.kind {
+            SettingKind::Title(title) => self.title = Some(title.lend()),
+            SettingKind::OperatingCurrency(currency) => self.operating.push(currency.lend())?,
+            SettingKind::BookingMethod(method) => self.methods.push(MethodLine {
+                file: setting.file,
+                line: setting.item.line,
+                method: method.lend(),
+            })?,
+            SettingKind::Include(_) => {}
+        }
+        Ok(())
+    }
+}
+
+/// What settings in reading order say of the books.
+fn books_of<'a>(alloc: Global, settings: &[Placed<Setting<'a>>]) -> Result<Books<'a>, AllocError>
+    ensures { IfOk result (AreBooks settings.now) }
+{
+    let mut books = Books {
+        title: None,
+        operating: Vec::new(alloc),
+        methods: Vec::new(alloc),
+    };
+    for setting in settings {
+        books.add(setting)?;
+    }
+    Ok(books)
+}
+
+/// What each of the texts says, with its places.
+fn read_all(alloc: Global, texts: &Texts) -> Result<Read<'_>, AllocError>
+    ensures { IfOk result (AreRead texts.now) }
+{
+    let mut read = Read {
+        directives: Vec::new(alloc),
+        settings: Vec::new(alloc),
+        faults: Vec::new(alloc),
+    };
+    let files = texts.files();
+    for (number, file) in files.iter().enumerate() {
+        let own = parts_of(alloc, number, texts.parts())?;
+        read.add(number, &own, parse(alloc, &file.text)?)?;
+    }
+    Ok(read)
+}
+
+/// What the texts of a ledger say together.
+pub fn load(alloc: Global, texts: &Texts) -> Result<Loaded<'_>, AllocError>
+    ensures { IfOk result (IsLoaded texts.now) }
+{
+    let mut read = read_all(alloc, texts)?;
+    order_directives(&mut read.directives)?;
+    order_settings(&mut read.settings)?;
+    let books = books_of(alloc, &read.settings)?;
+    read.faults.extend_from_slice(texts.faults())?;
+    Ok(Loaded {
+        directives: read.directives,
+        faults: read.faults,
+        title: books.title,
+        operating: books.operating,
+        methods: books.methods,
+    })
+}
+
+/// Texts say one thing together.
+pub fn one_loading()
+    ensures { HasOneLoading }
+{}

@@ -1,0 +1,24 @@
+//! The order in which the directives and the settings of all texts are taken.
+ghost use Rattle.std.specs.Prelude.{◌≡◌, List, OnOk};
+ghost use Rattle.bean_load.specs.Order.{AreInOrder, AreSettingsInOrder};
+
+use crate::arrangement::Rank;
+use crate::placed::Placed;
+use bean_parser::{Directive, Setting};
+use std::alloc::AllocError;
+
+/// By day, of one day opens, then balances, all else, documents and closes, then in reading order.
+pub fn order_directives(directives: &mut Vec<Placed<Directive<'_>>>) -> Result<(), AllocError>
+    ensures { OnOk result (AreInOrder directives.old.items directives.new.items) }
+{
+    directives.sort_by_key(|placed| {
+        ((placed.item.day, Rank::of(&placed.item.kind)), placed.part)
+    })
+}
+
+/// In reading order.
+pub fn order_settings(settings: &mut Vec<Placed<Setting<'_>>>) -> Result<(), AllocError>
+    ensures { OnOk result (AreSettingsInOrder settings.old.items settings.new.items) }
+{
+    settings.sort_by_key(|setting| setting.part)
+}

@@ -1,0 +1,11 @@
+//! Ledgers of many texts, by the library's public calls, with ample memory.
+#![tactic(auto)]
+
+#[cfg(test)]
+mod gathering;
+#[cfg(test)]
+mod limits;
+#[cfg(test)]
+mod loading;
+#[cfg(test)]
+mod made;
