@@ -176,25 +176,3 @@ fn near_to_directives(rt: HostRuntime) -> Result<(), Fail> {
     }
     Ok(())
 }
-
-#[test]
-fn the_sign_of_a_tolerance_is_of_its_exact_value(rt: HostRuntime) -> Result<(), Fail> {
-    let text = "2014-01-01 balance Assets:Cash 1 ~ -9,999,999,999,999 USD\
-         \n2014-01-01 balance Assets:Cash 1 ~ 9999999999999 USD\
-         \n2014-01-01 balance Assets:Cash 1 ~ 9999999999999 * 2.5 - 25000000000000.000000001 USD\
-         \n2014-01-01 balance Assets:Cash 1 ~ -9999999999999 * -9999999999999 USD\
-         \n2014-01-01 balance Assets:Cash 9999999999999 ~ -1 USD\
-         \n2014-01-01 balance Assets:Cash 1 ~ 0.000000001 - 0.000000001 USD\
-         \n2014-01-01 balance Assets:Cash 1 ~ -(0.25 - 1) USD\n";
-    let parsed = parse(rt.alloc(), text)?;
-    assert_eq!(rt; parsed.directives.as_slice().len(), 1);
-    let faults = parsed.faults.as_slice();
-    assert_eq!(rt; faults.len(), 6);
-    assert_eq!(rt; faults[0].kind, FaultKind::NotADirective);
-    assert_eq!(rt; faults[1].kind, FaultKind::OutOfRange);
-    assert_eq!(rt; faults[2].kind, FaultKind::NotADirective);
-    assert_eq!(rt; faults[3].kind, FaultKind::OutOfRange);
-    assert_eq!(rt; faults[4].kind, FaultKind::NotADirective);
-    assert_eq!(rt; faults[5].kind, FaultKind::OutOfRange);
-    Ok(())
-}
