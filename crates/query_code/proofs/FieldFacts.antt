@@ -14,18 +14,15 @@ use Rattle.query_code.specs.declared.instruction.Instruction.TheVariants.{Push, 
 use Rattle.query_code.specs.declared.program.Mode.{Mode}
 use Rattle.query_code.specs.declared.program.Mode.TheVariants.{Plain, Grouped}
 use Rattle.query_code.specs.declared.program.Constant.TheVariants as constants
-use Rattle.query_code.specs.InstructionForm.{at_least_one, word, code_of, operand_of, instruction, instructions}
-use Rattle.bean_base.specs.declared.decimal.Decimal.{Decimal}
+use Rattle.query_code.specs.InstructionForm.{at_least_one, some_byte, word, or_0, opcode, operand_of, bare, with_byte, with_some_byte, with_word, bare_before, with_before, operand_cases, word_cases, cases, instruction}
+use Rattle.query_values.specs.declared.decimal.Decimal.{Decimal}
 use Rattle.bean_base.proofs.DayFacts as days
-use Rattle.bean_base.proofs.WideFacts as decimals
+use Rattle.query_values.proofs.WideFacts as decimals
 use Rattle.std.proofs.lemmas.Int.{of_z-to_z}
-use Rattle.query_code.specs.ByteForm.{Form, raw, mapped, such_that, before, both, counted, byte, number, marked, just, case}
-use Rattle.query_code.specs.QueryFile.{long, wide_integer, is_count, count, text, bit_of, flag, has, or_0, limit, mode_number, mode, is_grouped, only, places, some_number, decimal_from, places_and_count, decimal, day_from, day, numbers_of, numbers, kind_of, its_text, its_number, its_day, its_texts, its_numbers, its_days, constant, constant_cases, aggregate_number, its_places, aggregate, aggregate_cases, bounds_of, bounds, place_below, columns, output, section, code, parts, file}
-use Rattle.query_code.proofs.ByteFormFacts.{IsExact, IsCase, is_case, is_just, wide16, wide32, exact_raw, exact_mapped, exact_such_that, exact_standing_for, exact_before, exact_both, exact_byte, exact_number, exact_counted, exact_marked, exact_told}
+use Rattle.query_code.specs.ByteForm.{Form, Case, raw, mapped, such_that, before, both, counted, byte, number, marked, just, case}
+use Rattle.query_code.specs.QueryFile.{long, wide_integer, is_count, count, text, bit_of, flag, has, limit, mode_number, mode, is_grouped, only, places, some_number, decimal_from, places_and_count, decimal, day_from, day, numbers_of, numbers, kind_of, its_text, its_number, its_day, its_texts, its_numbers, its_days, constant, constant_cases, aggregate_number, its_places, aggregate, aggregate_cases, bounds_of, bounds, place_below, columns, output, section, code, parts, file}
+use Rattle.query_code.proofs.ByteFormFacts.{IsExact, AreCases, is_case, is_just, wide16, wide32, exact_raw, exact_mapped, exact_such_that, exact_standing_for, exact_before, exact_both, exact_byte, exact_number, exact_counted, exact_marked, exact_told}
 use Rattle.query_code.proofs.WideNumberFacts.{wide128}
-
-abbrev pub some_byte : Form ℕ
-some_byte = such_that BadField at_least_one byte
 
 pub exact_some_byte : IsExact some_byte
 exact_some_byte = exact_such_that BadField at_least_one byte exact_byte
@@ -64,141 +61,40 @@ exact_only m a exact = exact_such_that BadField (λ n. is_grouped m || (n == 0))
 
 -- ---- instructions
 
-with_operand : (n : ℕ) (a : Form ℕ) (make : ℕ → Instruction) → ((x : ℕ) → code_of (make x) ≡ n) → ((x : ℕ) → operand_of (make x) ≡ x) → IsExact a → IsCase code_of n (mapped make operand_of a)
-with_operand n a make tells forth exact = is_case code_of n make operand_of a tells (λ x fits. forth x) exact
+-- the opcode of each is one whatever the operand, which is found again
+abbrev AreMade : List (ℕ → Instruction) → Type 0
+AreMade [] = Unit {0}
+AreMade (make ∷ makes) =
+    ((x : ℕ) → opcode (make x) ≡ opcode (make 1)) × ((x : ℕ) → operand_of (make x) ≡ x) × AreMade makes
+
+bare_are : (others : List (Case Instruction)) (is : List Instruction)
+    → AreCases opcode others → AreCases opcode (bare_before others is)
+bare_are others [] are = are
+bare_are others (i ∷ is) are = (is_just opcode i, bare_are others is are)
+
+with_are : (a : Form ℕ) (others : List (Case Instruction)) (makes : List (ℕ → Instruction))
+    → IsExact a → AreMade makes → AreCases opcode others → AreCases opcode (with_before a others makes)
+with_are a others [] exact made are = are
+with_are a others (make ∷ makes) exact made are = (
+  is_case opcode (opcode (make 1)) make operand_of a made.0 (λ x fits. made.1.0 x) exact,
+  with_are a others makes exact made.1.1 are,
+)
+
+bytes_made : AreMade with_byte
+bytes_made = Prim.search rules
+
+some_bytes_made : AreMade with_some_byte
+some_bytes_made = Prim.search rules
+
+words_made : AreMade with_word
+words_made = Prim.search rules
 
 pub exact_instruction : IsExact instruction
-unfolding instruction
-exact_instruction = exact_told code_of instructions (
-  is_just code_of (Push push.True),
-  (
-    is_just code_of (Push push.False),
-    (
-      with_operand 2 word (λ x. Push (push.Const x)) (λ x. refl) (λ x. refl) exact_word,
-      (
-        with_operand 3 byte (λ x. Push (push.LoadColumn x)) (λ x. refl) (λ x. refl) exact_byte,
-        (
-          with_operand 4 byte LoadSlot (λ x. refl) (λ x. refl) exact_byte,
-          (
-            with_operand 5 byte StoreSlot (λ x. refl) (λ x. refl) exact_byte,
-            (
-              with_operand 6 byte (λ x. Push (push.LoadKey x)) (λ x. refl) (λ x. refl) exact_byte,
-              (
-                with_operand 7 byte (λ x. Push (push.LoadAggregate x)) (λ x. refl) (λ x. refl) exact_byte,
-                (
-                  with_operand 8 byte (λ x. Unary (unary.Align x)) (λ x. refl) (λ x. refl) exact_byte,
-                  (
-                    is_just code_of (Binary binary.Add),
-                    (
-                      is_just code_of (Binary binary.Sub),
-                      (
-                        is_just code_of (Binary binary.Mul),
-                        (
-                          is_just code_of (Unary unary.Neg),
-                          (
-                            is_just code_of (Unary unary.Abs),
-                            (
-                              is_just code_of (Binary binary.Equal),
-                              (
-                                is_just code_of (Binary binary.NotEqual),
-                                (
-                                  is_just code_of (Binary binary.Less),
-                                  (
-                                    is_just code_of (Binary binary.AtMost),
-                                    (
-                                      is_just code_of (Binary binary.Greater),
-                                      (
-                                        is_just code_of (Binary binary.AtLeast),
-                                        (
-                                          is_just code_of (Unary unary.Not),
-                                          (
-                                            is_just code_of (Unary unary.IsNull),
-                                            (
-                                              with_operand 48 word Jump (λ x. refl) (λ x. refl) exact_word,
-                                              (
-                                                with_operand 49 word JumpIfFalse (λ x. refl) (λ x. refl) exact_word,
-                                                (
-                                                  with_operand 64 word (λ x. Unary (unary.Match x)) (λ x. refl) (λ x. refl) exact_word,
-                                                  (
-                                                    with_operand 65 word (λ x. Unary (unary.MatchAny x)) (λ x. refl) (λ x. refl) exact_word,
-                                                    (
-                                                      is_just code_of (Binary binary.InSet),
-                                                      (
-                                                        with_operand 67 word (λ x. Unary (unary.InList x)) (λ x. refl) (λ x. refl) exact_word,
-                                                        (
-                                                          is_just code_of (Unary unary.Year),
-                                                          (
-                                                            is_just code_of (Unary unary.Month),
-                                                            (
-                                                              is_just code_of (Unary unary.Day),
-                                                              (
-                                                                with_operand 83 some_byte (λ x. Unary (unary.Root x)) (λ x. refl) (λ x. refl) exact_some_byte,
-                                                                (
-                                                                  is_just code_of (Unary unary.Parent),
-                                                                  (
-                                                                    is_just code_of (Unary unary.Leaf),
-                                                                    (
-                                                                      is_just code_of (Unary unary.Length),
-                                                                      (
-                                                                        is_just code_of (Unary unary.Units),
-                                                                        (
-                                                                          is_just code_of (Unary unary.Cost),
-                                                                          (
-                                                                            is_just code_of (Unary unary.Number),
-                                                                            (
-                                                                              is_just code_of (Unary unary.Currency),
-                                                                              (
-                                                                                with_operand 91 word (λ x. Push (push.Meta x)) (λ x. refl) (λ x. refl) exact_word,
-                                                                                (
-                                                                                  with_operand 92 word (λ x. Push (push.EntryMeta x)) (λ x. refl) (λ x. refl) exact_word,
-                                                                                  (
-                                                                                    with_operand 93 word (λ x. Push (push.AnyMeta x)) (λ x. refl) (λ x. refl) exact_word,
-                                                                                    (
-                                                                                      is_just code_of (Unary unary.RootRank),
-                                                                                      tt,
-                                                                                    ),
-                                                                                  ),
-                                                                                ),
-                                                                              ),
-                                                                            ),
-                                                                          ),
-                                                                        ),
-                                                                      ),
-                                                                    ),
-                                                                  ),
-                                                                ),
-                                                              ),
-                                                            ),
-                                                          ),
-                                                        ),
-                                                      ),
-                                                    ),
-                                                  ),
-                                                ),
-                                              ),
-                                            ),
-                                          ),
-                                        ),
-                                      ),
-                                    ),
-                                  ),
-                                ),
-                              ),
-                            ),
-                          ),
-                        ),
-                      ),
-                    ),
-                  ),
-                ),
-              ),
-            ),
-          ),
-        ),
-      ),
-    ),
-  ),
-)
+unfolding instruction operand_cases word_cases
+exact_instruction = exact_told opcode cases (bare_are operand_cases bare
+    (with_are byte (with_before some_byte word_cases with_some_byte) with_byte exact_byte bytes_made
+    (with_are some_byte word_cases with_some_byte exact_some_byte some_bytes_made
+    (with_are word [] with_word exact_word words_made tt))))
 
 pub exact_section : IsExact section
 unfolding section

@@ -22,15 +22,14 @@ use Rattle.query_code.specs.declared.program.Constant.{Constant}
 use Rattle.query_code.specs.declared.program.Constant.TheVariants as constants
 use Rattle.query_code.specs.declared.program.Numbers.{Numbers}
 use Rattle.query_code.specs.declared.program.Parts.{Parts}
-use Rattle.query_code.specs.InstructionForm.{at_least_one, word, code_of, operand_of, instruction, instructions}
+use Rattle.query_code.specs.InstructionForm.{at_least_one, some_byte, word, or_0, opcode, operand_of, bare, with_byte, with_some_byte, with_word, bare_before, with_before, operand_cases, word_cases, cases, instruction}
 use Rattle.bean_base.specs.declared.days.Day.{Day}
-use Rattle.bean_base.specs.declared.decimal.Decimal.{Decimal}
+use Rattle.query_values.specs.declared.decimal.Decimal.{Decimal}
 use Rattle.bean_base.specs.declared.bounds.Bounds.{Bounds}
 use Rattle.query_code.specs.declared.program.Output.{Output}
 use Rattle.query_code.specs.declared.program.Code.{Code}
 use Rattle.query_code.specs.ByteForm.{Form, raw, mapped, such_that, standing_for, before, both, AllFit, row, counted, byte, number, marked, just, Case, case, chosen, told}
-use Rattle.query_code.specs.QueryFile.{long, wide_integer, is_count, count, text, bit_of, flag, has, or_0, limit, mode_number, mode, is_grouped, only, places, some_number, decimal_from, places_and_count, decimal, day_from, day, numbers_of, numbers, kind_of, its_text, its_number, its_day, its_texts, its_numbers, its_days, constant, constant_cases, aggregate_number, its_places, aggregate, aggregate_cases, bounds_of, bounds, place_below, columns, output, section, code, parts, file}
-use Rattle.query_code.proofs.FieldFacts.{some_byte}
+use Rattle.query_code.specs.QueryFile.{long, wide_integer, is_count, count, text, bit_of, flag, has, limit, mode_number, mode, is_grouped, only, places, some_number, decimal_from, places_and_count, decimal, day_from, day, numbers_of, numbers, kind_of, its_text, its_number, its_day, its_texts, its_numbers, its_days, constant, constant_cases, aggregate_number, its_places, aggregate, aggregate_cases, bounds_of, bounds, place_below, columns, output, section, code, parts, file}
 
 pub record IsSound {T : Type 0} (f : Form T) : Type 0 where
   pub prop : (v : T) → IsProp (f.fits v)
@@ -132,141 +131,23 @@ sound_mode = sound_told mode_number (case 0 (just Plain) ∷ case 1 (just Groupe
 pub instruction_set : IsSet Instruction
 instruction_set = hlevel props
 
-sound_with : (a : Form ℕ) (make : ℕ → Instruction) → IsSound a → IsSound (mapped make operand_of a)
-sound_with a make sound = sound_mapped make operand_of a instruction_set sound
+bare_sound : (others : List (Case Instruction)) (is : List Instruction)
+    → AreSound others → AreSound (bare_before others is)
+bare_sound others [] sound = sound
+bare_sound others (i ∷ is) sound = (sound_just i instruction_set, bare_sound others is sound)
+
+with_sound : (a : Form ℕ) (others : List (Case Instruction)) (makes : List (ℕ → Instruction))
+    → IsSound a → AreSound others → AreSound (with_before a others makes)
+with_sound a others [] one sound = sound
+with_sound a others (make ∷ makes) one sound =
+    (sound_mapped make operand_of a instruction_set one, with_sound a others makes one sound)
 
 sound_instruction : IsSound instruction
-unfolding instruction
-sound_instruction = sound_told code_of instructions instruction_set (
-  sound_just (Push push.True) instruction_set,
-  (
-    sound_just (Push push.False) instruction_set,
-    (
-      sound_with word (λ x. Push (push.Const x)) sound_word,
-      (
-        sound_with byte (λ x. Push (push.LoadColumn x)) sound_byte,
-        (
-          sound_with byte LoadSlot sound_byte,
-          (
-            sound_with byte StoreSlot sound_byte,
-            (
-              sound_with byte (λ x. Push (push.LoadKey x)) sound_byte,
-              (
-                sound_with byte (λ x. Push (push.LoadAggregate x)) sound_byte,
-                (
-                  sound_with byte (λ x. Unary (unary.Align x)) sound_byte,
-                  (
-                    sound_just (Binary binary.Add) instruction_set,
-                    (
-                      sound_just (Binary binary.Sub) instruction_set,
-                      (
-                        sound_just (Binary binary.Mul) instruction_set,
-                        (
-                          sound_just (Unary unary.Neg) instruction_set,
-                          (
-                            sound_just (Unary unary.Abs) instruction_set,
-                            (
-                              sound_just (Binary binary.Equal) instruction_set,
-                              (
-                                sound_just (Binary binary.NotEqual) instruction_set,
-                                (
-                                  sound_just (Binary binary.Less) instruction_set,
-                                  (
-                                    sound_just (Binary binary.AtMost) instruction_set,
-                                    (
-                                      sound_just (Binary binary.Greater) instruction_set,
-                                      (
-                                        sound_just (Binary binary.AtLeast) instruction_set,
-                                        (
-                                          sound_just (Unary unary.Not) instruction_set,
-                                          (
-                                            sound_just (Unary unary.IsNull) instruction_set,
-                                            (
-                                              sound_with word Jump sound_word,
-                                              (
-                                                sound_with word JumpIfFalse sound_word,
-                                                (
-                                                  sound_with word (λ x. Unary (unary.Match x)) sound_word,
-                                                  (
-                                                    sound_with word (λ x. Unary (unary.MatchAny x)) sound_word,
-                                                    (
-                                                      sound_just (Binary binary.InSet) instruction_set,
-                                                      (
-                                                        sound_with word (λ x. Unary (unary.InList x)) sound_word,
-                                                        (
-                                                          sound_just (Unary unary.Year) instruction_set,
-                                                          (
-                                                            sound_just (Unary unary.Month) instruction_set,
-                                                            (
-                                                              sound_just (Unary unary.Day) instruction_set,
-                                                              (
-                                                                sound_with some_byte (λ x. Unary (unary.Root x)) sound_some_byte,
-                                                                (
-                                                                  sound_just (Unary unary.Parent) instruction_set,
-                                                                  (
-                                                                    sound_just (Unary unary.Leaf) instruction_set,
-                                                                    (
-                                                                      sound_just (Unary unary.Length) instruction_set,
-                                                                      (
-                                                                        sound_just (Unary unary.Units) instruction_set,
-                                                                        (
-                                                                          sound_just (Unary unary.Cost) instruction_set,
-                                                                          (
-                                                                            sound_just (Unary unary.Number) instruction_set,
-                                                                            (
-                                                                              sound_just (Unary unary.Currency) instruction_set,
-                                                                              (
-                                                                                sound_with word (λ x. Push (push.Meta x)) sound_word,
-                                                                                (
-                                                                                  sound_with word (λ x. Push (push.EntryMeta x)) sound_word,
-                                                                                  (
-                                                                                    sound_with word (λ x. Push (push.AnyMeta x)) sound_word,
-                                                                                    (
-                                                                                      sound_just (Unary unary.RootRank) instruction_set,
-                                                                                      tt,
-                                                                                    ),
-                                                                                  ),
-                                                                                ),
-                                                                              ),
-                                                                            ),
-                                                                          ),
-                                                                        ),
-                                                                      ),
-                                                                    ),
-                                                                  ),
-                                                                ),
-                                                              ),
-                                                            ),
-                                                          ),
-                                                        ),
-                                                      ),
-                                                    ),
-                                                  ),
-                                                ),
-                                              ),
-                                            ),
-                                          ),
-                                        ),
-                                      ),
-                                    ),
-                                  ),
-                                ),
-                              ),
-                            ),
-                          ),
-                        ),
-                      ),
-                    ),
-                  ),
-                ),
-              ),
-            ),
-          ),
-        ),
-      ),
-    ),
-  ),
-)
+unfolding instruction operand_cases word_cases
+sound_instruction = sound_told opcode cases instruction_set (bare_sound operand_cases bare
+    (with_sound byte (with_before some_byte word_cases with_some_byte) with_byte sound_byte
+    (with_sound some_byte word_cases with_some_byte sound_some_byte
+    (with_sound word [] with_word sound_word tt))))
 
 day_set : IsSet Day
 day_set = hlevel (props, T_prop)

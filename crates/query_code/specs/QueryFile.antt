@@ -4,10 +4,10 @@ use Rattle.std.specs.Int.{w32, w128, cast_signed, cast_unsigned}
 use Rattle.std.specs.Int.RustNames.{unsigned_abs}
 use Rattle.std.specs.Str.{is_utf8}
 use Rattle.bean_base.specs.CalendarDay as calendar
-use Rattle.bean_base.specs.Wide as wide
+use Rattle.query_values.specs.Wide as wide
 use Rattle.bean_base.specs.declared.bounds.Bounds.{Bounds}
 use Rattle.bean_base.specs.declared.days.Day.{Day}
-use Rattle.bean_base.specs.declared.decimal.Decimal.{Decimal}
+use Rattle.query_values.specs.declared.decimal.Decimal.{Decimal}
 use Rattle.query_values.specs.declared.operation.Aggregate.{Aggregate}
 use Rattle.query_values.specs.declared.operation.Aggregate.TheVariants as aggregates
 use Rattle.query_code.specs.declared.refusal.Cause.TheVariants.{Magic, Version, TrailingBytes, BadField, NotUtf8}
@@ -22,7 +22,7 @@ use Rattle.query_code.specs.declared.program.Constant.TheVariants as constants
 use Rattle.query_code.specs.declared.program.Output.{Output}
 use Rattle.query_code.specs.declared.program.Code.{Code}
 use Rattle.query_code.specs.declared.program.Parts.{Parts}
-use Rattle.query_code.specs.InstructionForm.{at_least_one, word, instruction}
+use Rattle.query_code.specs.InstructionForm.{at_least_one, word, or_0, instruction}
 use Rattle.query_code.specs.ByteForm.{Form, ◌>>=◌, stop, raw, mapped, such_that, standing_for, before, both, counted, byte, number, marked, just, Case, case, told}
 
 -- ---- fields
@@ -55,10 +55,6 @@ flag = told bit_of (case 0 (just false) ∷ case 1 (just true) ∷ [])
 abbrev pub has : Option ℕ → ℕ
 has None = 0
 has (Some n) = 1
-
-abbrev pub or_0 : Option ℕ → ℕ
-or_0 None = 0
-or_0 (Some n) = n
 
 unfoldable pub limit : Form (Option ℕ)
 limit = told has (case 0 (just None) ∷ case 1 (mapped Some or_0 long) ∷ [])

@@ -5,9 +5,9 @@ use Rattle.std.proofs.lemmas.Grind.{common_steps}
 use Rattle.std.specs.Coded.{le_prop}
 use Rattle.std.specs.Int.RustNames.{unsigned_abs}
 use mathlib.Core.HLevel.{is_prop→PathP}
-use Rattle.bean_base.specs.declared.decimal.Decimal.{Decimal}
-use Rattle.bean_base.specs.WideCount.{is_wide}
-use Rattle.bean_base.specs.Wide.{decimal_where, decimal_of, is_narrow, is_in_range}
+use Rattle.query_values.specs.declared.decimal.Decimal.{Decimal}
+use Rattle.query_values.specs.WideCount.{is_wide}
+use Rattle.query_values.specs.Wide.{decimal_where, decimal_of, is_narrow, is_in_range}
 
 pub one_decimal : (a b : Decimal) → a.count ≡ b.count → a.places ≡ b.places → a ≡ b
 one_decimal a b count places = λ i. record {

@@ -3,8 +3,8 @@ use Rattle.std.specs.Prelude.{◌≡◌, ◌≤◌, ◌<◌, ◌^◌, ℕ, ℤ, 
 use Rattle.std.specs.Int.RustNames.{unsigned_abs}
 use Rattle.std.proofs.Common.{arith}
 use Rattle.std.proofs.lemmas.Grind.{common_steps}
-use Rattle.bean_base.specs.WideCount.{is_wide}
-use Rattle.bean_base.specs.declared.decimal.Decimal.{Decimal}
+use Rattle.query_values.specs.WideCount.{is_wide}
+use Rattle.query_values.specs.declared.decimal.Decimal.{Decimal}
 
 pub is_narrow : (places : ℕ) (count : ℤ) → is_wide places count ≡ true → places ≤ 32
 is_narrow places count is = grind (arith, common_steps)
