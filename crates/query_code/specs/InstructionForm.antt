@@ -6,7 +6,9 @@ use Rattle.query_code.specs.declared.refusal.Cause.TheVariants.{BadField}
 use Rattle.query_code.specs.declared.instruction.Push.TheVariants as push
 use Rattle.query_code.specs.declared.instruction.Unary.TheVariants as unary
 use Rattle.query_code.specs.declared.instruction.Instruction.{Instruction}
-use Rattle.query_code.specs.declared.instruction.Instruction.TheVariants.{Push, Unary, Binary, LoadSlot, StoreSlot, Jump, JumpIfFalse}
+use Rattle.query_code.specs.declared.instruction.Instruction.TheVariants.{Push, Unary, Binary}
+use Rattle.query_code.specs.declared.instruction.Instruction.TheVariants.{LoadSlot, StoreSlot, Jump}
+use Rattle.query_code.specs.declared.instruction.Instruction.TheVariants.{JumpIfFalse}
 use Rattle.query_code.specs.ByteForm.{Form, mapped, such_that, byte, number, just, Case, case, told}
 
 abbrev pub at_least_one : ℕ → Bool
@@ -129,7 +131,8 @@ bare_before others [] = others
 bare_before others (i ∷ is) = case (opcode i) (just i) ∷ bare_before others is
 
 -- of those with an operand of that form; their opcode is the same for each operand
-abbrev pub with_before : Form ℕ → List (Case Instruction) → List (ℕ → Instruction) → List (Case Instruction)
+abbrev pub with_before : Form ℕ → List (Case Instruction) → List (ℕ → Instruction)
+    → List (Case Instruction)
 with_before operand others [] = others
 with_before operand others (make ∷ makes) =
     case (opcode (make 1)) (mapped make operand_of operand) ∷ with_before operand others makes

@@ -1,5 +1,6 @@
 -- A program as it is shown.
-use Rattle.std.specs.Prelude.{ℕ, ◌+◌, List, [], ◌∷◌, ◌++◌, length, Option, Some, None, codes, decimal}
+use Rattle.std.specs.Prelude.{ℕ, ◌+◌, List, [], ◌∷◌, ◌++◌, length, Option, Some, None, codes}
+use Rattle.std.specs.Prelude.{decimal}
 use Rattle.bean_base.specs.Character.{space, line_feed}
 use Rattle.query_values.specs.declared.operation.Binary as operation
 use Rattle.query_values.specs.declared.operation.Binary.TheVariants as binary
@@ -9,7 +10,9 @@ use Rattle.query_code.specs.declared.instruction.Push.TheVariants as push
 use Rattle.query_code.specs.declared.instruction.Unary as unaries
 use Rattle.query_code.specs.declared.instruction.Unary.TheVariants as unary
 use Rattle.query_code.specs.declared.instruction.Instruction.{Instruction}
-use Rattle.query_code.specs.declared.instruction.Instruction.TheVariants.{Push, Unary, Binary, LoadSlot, StoreSlot, Jump, JumpIfFalse}
+use Rattle.query_code.specs.declared.instruction.Instruction.TheVariants.{Push, Unary, Binary}
+use Rattle.query_code.specs.declared.instruction.Instruction.TheVariants.{LoadSlot, StoreSlot, Jump}
+use Rattle.query_code.specs.declared.instruction.Instruction.TheVariants.{JumpIfFalse}
 use Rattle.query_code.specs.declared.program.Mode.{Mode}
 use Rattle.query_code.specs.declared.program.Mode.TheVariants.{Plain, Grouped}
 use Rattle.query_code.specs.declared.program.Code.{Code}
@@ -80,7 +83,8 @@ with_operand (Some n) = space ∷ decimal n
 
 -- its number, its name and its operand
 abbrev pub instruction_line : ℕ → Instruction → List ℕ
-instruction_line n i = decimal n ++ (space ∷ name_of i ++ (with_operand (operand_in i) ++ line_feed ∷ []))
+instruction_line n i =
+    decimal n ++ (space ∷ name_of i ++ (with_operand (operand_in i) ++ line_feed ∷ []))
 
 abbrev pub lines_from : ℕ → List Instruction → List ℕ
 lines_from n [] = []
@@ -92,10 +96,13 @@ section_lines name is = labelled name (length is) ++ (line_feed ∷ lines_from 0
 abbrev pub bounds_line : Bounds → List ℕ
 bounds_line b =
     labelled (codes "version 1 postings") b.postings
-    ++ (labelled (codes " digits") b.units_digits ++ (labelled (codes " value-digits") b.value_digits ++ line_feed ∷ []))
+    ++ (labelled (codes " digits") b.units_digits
+    ++ (labelled (codes " value-digits") b.value_digits ++ line_feed ∷ []))
 
 abbrev pub grouped_line : ℕ → ℕ → List ℕ
-grouped_line keys aggregates = labelled (codes "grouped keys") keys ++ (labelled (codes " aggregates") aggregates ++ line_feed ∷ [])
+grouped_line keys aggregates =
+    labelled (codes "grouped keys") keys
+    ++ (labelled (codes " aggregates") aggregates ++ line_feed ∷ [])
 
 abbrev pub mode_line : Mode → Code → List ℕ
 mode_line Plain c = codes "plain" ++ line_feed ∷ []

@@ -14,4 +14,5 @@ returns-then-is_wide c =
 pub returns-else-is_wide : goal.returns-else-is_wide
 returns-else-is_wide c =
     let count : to_z w128 (of_z w128 c.args.count) ≡ c.args.count = omega (arith, ints) in
-    missing c.args.places c.args.count (ap (is_wide c.args.places) (sym count) ∙ sym c.is_wide.ensures ∙ c.if-is_wide.false)
+    missing c.args.places c.args.count
+    (ap (is_wide c.args.places) (sym count) ∙ sym c.is_wide.ensures ∙ c.if-is_wide.false)
