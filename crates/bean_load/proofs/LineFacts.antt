@@ -9,7 +9,7 @@ use Rattle.stores.specs.Source.{Gave}
 use Rattle.stores.specs.declared.source.Source.{Ghosts as SourceOf}
 use Rattle.stores.specs.declared.source.SourceFault.{SourceFault}
 use Rattle.stores.specs.declared.source.SourceFault.TheVariants as source
-use Rattle.stores.proofs.GaveFacts.{gave_none}
+use Rattle.stores.proofs.GaveFacts.{gave_behind, gave_none}
 use Rattle.bean_load.specs.Asking.{Asks, IsTold}
 use Rattle.bean_load.specs.Following.{Follows}
 use Rattle.bean_load.specs.Gathered.{Gathered, is_full, is_too_large, was_asked, with_asked, with_bytes, with_fault, with_file, with_part}
@@ -18,7 +18,6 @@ use Rattle.bean_load.specs.Include.{AreIncludes, Include}
 use Rattle.bean_load.specs.declared.fault.LoadFault.{LoadFault}
 use Rattle.bean_load.specs.declared.fault.LoadFault.TheVariants.{Unreadable, NotUtf8, TooLarge, OutOfMemory}
 use Rattle.bean_load.specs.declared.gathering.Asked.TheVariants as asked
-use Rattle.bean_load.proofs.GaveFacts.{gave_behind}
 
 pub by_true : (b : Bool) (P Q : Type 0) → b ≡ true → P → MatchBool b P Q
 by_true b P Q is p = subst (λ (c : Bool). MatchBool c P Q) (sym is) p

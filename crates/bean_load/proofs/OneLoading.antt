@@ -5,10 +5,9 @@ use Rattle.std.specs.List.{flat_map}
 use Rattle.std.specs.Ordering.{nat_cmp}
 use Rattle.std.proofs.lemmas.Cmp.{on_total, then_total, nat_cmp_total, int_cmp_total}
 use Rattle.theory.proofs.ArrangementFacts.{one_by_key}
-use Rattle.bean_load.specs.Arrangement as one_text
 use Rattle.bean_load.specs.Loaded.{AreParsed, directives_in, settings_in, faults_in, title_in, operating_of, method_of}
 use Rattle.bean_load.specs.Loading.{HasOneLoading}
-use Rattle.bean_load.specs.Order.{AreInOrder, AreSettingsInOrder, Key, key_of, key_cmp}
+use Rattle.bean_load.specs.Order.{AreInOrder, AreSettingsInOrder, DayKey, Key, key_of, key_cmp}
 use Rattle.bean_load.specs.Texts.{File}
 use Rattle.bean_load.specs.declared.placed.Placed.{Placed}
 use Rattle.bean_heads.specs.declared.directive.Directive.{Directive}
@@ -26,7 +25,7 @@ one_parsing (f ∷ fs) (p ∷ ps) (q ∷ qs) h k =
 key_total : IsTotalOrder key_cmp
 key_total =
     then_total
-    (on_total (λ (a : Key). a.0) (then_total (on_total (λ (a : one_text.Key). a.0) int_cmp_total) (on_total (λ (a : one_text.Key). a.1) nat_cmp_total)))
+    (on_total (λ (a : Key). a.0) (then_total (on_total (λ (a : DayKey). a.0) int_cmp_total) (on_total (λ (a : DayKey). a.1) nat_cmp_total)))
     (on_total (λ (a : Key). a.1) nat_cmp_total)
 
 one_order : (xs ys zs : List (Placed Directive)) → AreInOrder xs ys → AreInOrder xs zs → ys ≡ zs

@@ -8,6 +8,7 @@ use Rattle.stores.specs.Source.{Gave}
 use Rattle.stores.specs.declared.source.Source.{Ghosts as SourceOf}
 use Rattle.table_printer.specs.declared.writing.PrintFault.TheVariants.{NotWritten}
 use Rattle.bean_book.specs.declared.postings.BookFault.TheVariants.{TooManyPostings}
+use Rattle.bean_load.specs.Texts.{Texts}
 use Rattle.bq.specs.Causes.{GaveSuch, IsAnswerable, IsRefused}
 use Rattle.bq.specs.Listing.{HasTooMany, Lists}
 use Rattle.bq.specs.Refusal.{lacks_memory, line_of, status_of}
@@ -31,12 +32,12 @@ written o old new = record { took = TookFront o old new; nothing = new ≡ old }
 abbrev pub deeds : {S : Type 0} → SourceOf S → S → S → Written → Deeds
 deeds s old new out = record { gave = Gave s old new; out = out }
 
--- the table of the text went to the output whole, or its first n bytes did
-abbrev pub WritesTable : Written → List ℕ → Type 0
-WritesTable out text = (table : List ℕ) × Lists text table × out.took table (length table)
+-- the table of the texts went to the output whole, or its first n bytes did
+abbrev pub WritesTable : Written → Texts → Type 0
+WritesTable out texts = (table : List ℕ) × Lists texts table × out.took table (length table)
 
-abbrev pub WritesFront : Written → List ℕ → ℕ → Type 0
-WritesFront out text n = (table : List ℕ) × Lists text table × ((n < length table) × out.took table n)
+abbrev pub WritesFront : Written → Texts → ℕ → Type 0
+WritesFront out texts n = (table : List ℕ) × Lists texts table × ((n < length table) × out.took table n)
 
 -- which answer comes, given the words and what the store gave: a table where nothing speaks against it, a refusal where its
 -- cause is the first that holds, want of memory at any time
@@ -48,7 +49,7 @@ IsDue words readings (Err r) = IsTrue (lacks_memory r) ⊎ IsRefused words readi
 -- what is written with it: the whole table, a front of it, or nothing
 abbrev pub Writes : List Text → List Reading → Written → Result Unit Refusal → Type 0
 Writes words readings out (Ok x) = GaveSuch words readings (WritesTable out)
-Writes words readings out (Err (Print (NotWritten n))) = GaveSuch words readings (λ text. WritesFront out text n)
+Writes words readings out (Err (Print (NotWritten n))) = GaveSuch words readings (λ texts. WritesFront out texts n)
 Writes words readings out (Err r) = out.nothing
 
 abbrev pub Comes : List Text → List Reading → Written → Result Unit Refusal → Type 0
@@ -67,12 +68,12 @@ Runs run words result = (readings : List Reading) × run.gave readings × Comes 
 abbrev pub ListsNamed : Deeds → List ℕ → Result Unit Refusal → Type 0
 ListsNamed run name result = (words : List Text) → ledger_named words ≡ Some name → Runs run words result
 
--- the same of a text
-abbrev pub ListsText : Written → List ℕ → Result Unit Refusal → Type 0
-ListsText out text (Ok x) = ¬ HasTooMany text × WritesTable out text
-ListsText out text (Err (Print (NotWritten n))) = ¬ HasTooMany text × WritesFront out text n
-ListsText out text (Err (Book TooManyPostings)) = HasTooMany text × out.nothing
-ListsText out text (Err r) = IsTrue (lacks_memory r) × out.nothing
+-- the same of texts
+abbrev pub ListsTexts : Written → Texts → Result Unit Refusal → Type 0
+ListsTexts out texts (Ok x) = ¬ HasTooMany texts × WritesTable out texts
+ListsTexts out texts (Err (Print (NotWritten n))) = ¬ HasTooMany texts × WritesFront out texts n
+ListsTexts out texts (Err (Book TooManyPostings)) = HasTooMany texts × out.nothing
+ListsTexts out texts (Err r) = IsTrue (lacks_memory r) × out.nothing
 
 abbrev pub status_of_run : Result Unit Refusal → ℕ
 status_of_run (Ok x) = 0

@@ -1,7 +1,7 @@
 use Rattle.std.proofs.Common.{rules}
 use Rattle.std.proofs.lemmas.List.Sorted.{answers_always}
 use Rattle.std.proofs.lemmas.Result.{on_ok_weaker}
-use Rattle.bean_load.specs.Arrangement.{rank_of}
+use Rattle.bean_load.specs.Rank.{rank_of}
 use Rattle.bean_load.proofs.order.order_directives.Goals as goal
 
 pub returns : goal.returns

@@ -1,15 +1,12 @@
-//! The order in which directives are taken.
-ghost use Rattle.std.specs.Prelude.{◌≡◌, List, OnOk, nat_eq};
+//! Which directives of one day are taken first.
+ghost use Rattle.std.specs.Prelude.{◌≡◌, nat_eq};
 ghost use Rattle.std.specs.Ordering.{on, nat_cmp, as_partial_cmp};
 ghost use Rattle.std.specs.Cmp.{partial_order_from_own_ties};
 ghost use Rattle.std.specs.Cmp.Rules.{comparing};
 ghost use Rattle.std.proofs.Common.{rules};
-ghost use Rattle.bean_heads.specs.declared.directive.Directive.{Directive};
-ghost use Rattle.bean_load.specs.Arrangement.{IsArranged, rank_of};
-ghost use Rattle.bean_load.specs.Rank.{rank_number};
+ghost use Rattle.bean_load.specs.Rank.{rank_number, rank_of};
 
-use bean_parser::{Directive, DirectiveKind};
-use std::alloc::AllocError;
+use bean_parser::DirectiveKind;
 use std::cmp::Ordering;
 
 /// Which directives of one day are taken first.
@@ -94,15 +91,3 @@ impl PartialOrd for Rank {
         Some(self.cmp(other))
     }
 }
-
-/// By day, then opens, balances, all else, documents and closes, then in reading order.
-pub fn arrange(directives: &mut Vec<Directive<'_>>) -> Result<(), AllocError>
-    ensures { OnOk result (IsArranged directives.old.items directives.new.items) }
-{
-    directives.sort_by_key(|directive| (directive.day, Rank::of(&directive.kind)))
-}
-
-/// Directives have one such order.
-pub fn one_arrangement()
-    ensures { (xs ys zs : List Directive) → IsArranged xs ys → IsArranged xs zs → ys ≡ zs }
-{}

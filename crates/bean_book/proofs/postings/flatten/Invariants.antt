@@ -2,7 +2,7 @@ use Rattle.std.proofs.Common.{◌≡◌, ◌≤◌, length, ℕ, List, take}
 use Rattle.posting_table.specs.Decimals.{decimals_of}
 use Rattle.posting_table.specs.declared.ledger.TheConstants.{MOST_POSTINGS}
 use Rattle.bean_book.specs.Flattening.{rows_of_all, decimals_in}
-use Rattle.bean_book.proofs.postings.ledger_of.Given as goal
+use Rattle.bean_book.proofs.postings.flatten.Given as goal
 
 abbrev pub invariant-loop-directive : goal.invariant-loop-directive
 invariant-loop-directive l = record {

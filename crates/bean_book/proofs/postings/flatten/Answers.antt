@@ -4,17 +4,18 @@ use Rattle.std.specs.FinMap.{get-empty}
 use Rattle.std.specs.Cmp.Lexicographic.{slice_cmp}
 use Rattle.std.specs.Ordering.{nat_cmp}
 use Rattle.bean_heads.specs.declared.directive.Directive.{Directive}
+use Rattle.bean_load.specs.declared.placed.Placed.{Placed}
 use Rattle.posting_table.specs.Decimals.{decimals_of}
 use Rattle.posting_table.specs.Ledger.{Ledger}
 use Rattle.bean_book.specs.Flattening.{rows_in, postings_in, decimals_from}
 use Rattle.bean_book.specs.declared.postings.BookFault.TheVariants.{TooManyPostings, OutOfMemory}
 use Rattle.bean_book.specs.declared.postings.BookFault.{BookFault}
-use Rattle.bean_book.specs.Booked.{AreTooMany, Books}
+use Rattle.bean_book.specs.Booked.{AreTooMany, Flattens}
 use Rattle.bean_book.proofs.FlatteningFacts.{decimals_from-append, flat_map_more, length-flat_map-take}
-use Rattle.bean_book.proofs.postings.ledger_of.Goals as goal
+use Rattle.bean_book.proofs.postings.flatten.Goals as goal
 
 -- B1 where it has its cause; want of memory needs none
-refused : (ds : List Directive) (fault : BookFault) → (fault ≡ TooManyPostings → AreTooMany ds) → Books ds (Err fault)
+refused : (ds : List (Placed Directive)) (fault : BookFault) → (fault ≡ TooManyPostings → AreTooMany ds) → Flattens ds (Err fault)
 refused ds TooManyPostings full = full refl
 refused ds OutOfMemory full = tt
 
