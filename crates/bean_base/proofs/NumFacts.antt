@@ -11,6 +11,9 @@ pub one_num : (a b : Num) → a.count ≡ b.count → a.places ≡ b.places → 
 one_num a b count places = λ i. record {
   count = count i;
   places = places i;
-  in_range = is_prop→PathP (λ j. IsLedger (count j) (places j)) (λ j. hlevel (le_prop, T_prop)) a.in_range b.in_range i;
-  small = is_prop→PathP (λ j. unsigned_abs (count j) < 10 ^ 20) (λ j. hlevel (le_prop, T_prop)) a.small b.small i;
+  in_range =
+      is_prop→PathP (λ j. IsLedger (count j) (places j)) (λ j. hlevel (le_prop, T_prop)) a.in_range
+      b.in_range i;
+  small = is_prop→PathP (λ j. unsigned_abs (count j)
+      < 10 ^ 20) (λ j. hlevel (le_prop, T_prop)) a.small b.small i;
 }

@@ -1,7 +1,8 @@
 -- Days for worked values, here and in the crates above, with their numbers.
 use Rattle.std.proofs.Common.{◌≡◌, ◌≤ℤ◌, ℕ, pos, refl, rules}
 use Rattle.std.specs.Int.{IsInRange}
-use Rattle.jiff_core.specs.Calendar.{IsYear, days_in_month, days_from_civil, day_count, days_of_years, days_of_months}
+use Rattle.jiff_core.specs.Calendar.{IsYear, days_in_month, days_from_civil, day_count}
+use Rattle.jiff_core.specs.Calendar.{days_of_years, days_of_months}
 use Rattle.jiff_core.specs.declared.civil.date.Date.{Date}
 use Rattle.bean_base.specs.declared.days.Day.{Day}
 use Rattle.bean_base.specs.Day.{number}
@@ -23,13 +24,29 @@ third = search rules
 
 abbrev pub january_2 : Day
 january_2 = record {
-  date = record { year = pos 2014; month = 1; day = 2; year_in = a_year; month_in = a_month; day_in = second };
+  date = record {
+    year = pos 2014;
+    month = 1;
+    day = 2;
+    year_in = a_year;
+    month_in =
+        a_month;
+    day_in = second;
+  };
   after_christ = after;
 }
 
 abbrev pub january_3 : Day
 january_3 = record {
-  date = record { year = pos 2014; month = 1; day = 3; year_in = a_year; month_in = a_month; day_in = third };
+  date = record {
+    year = pos 2014;
+    month = 1;
+    day = 3;
+    year_in = a_year;
+    month_in =
+        a_month;
+    day_in = third;
+  };
   after_christ = after;
 }
 

@@ -1,5 +1,6 @@
 -- The days that the calendar has, as their years, months and days.
-use Rattle.std.specs.Prelude.{◌≡◌, ◌≤ℤ◌, ℕ, ◌&&◌, Bool, true, false, pos, nat_le, Option, Some, None, refl}
+use Rattle.std.specs.Prelude.{◌≡◌, ◌≤ℤ◌, ℕ, ◌&&◌, Bool, true, false, pos, nat_le, Option, Some}
+use Rattle.std.specs.Prelude.{None, refl}
 use Rattle.std.specs.Int.{IsInRange}
 use Rattle.std.specs.Int.RustNames.{unsigned_abs}
 use Rattle.std.proofs.Common.{arith}
@@ -11,7 +12,9 @@ use Rattle.bean_base.specs.declared.days.Day.{Day}
 
 -- from the year 1 to 9999, and as many days in a month as the calendar has
 abbrev pub is_day : ℕ → ℕ → ℕ → Bool
-is_day y m d = nat_le 1 y && nat_le y 9999 && nat_le 1 m && nat_le m 12 && nat_le 1 d && nat_le d (days_in_month (pos y) m)
+is_day y m d =
+    nat_le 1 y && nat_le y 9999 && nat_le 1 m && nat_le m 12 && nat_le 1 d
+    && nat_le d (days_in_month (pos y) m)
 
 pub has_year : (y m d : ℕ) → is_day y m d ≡ true → IsYear (pos y)
 has_year y m d is = grind (arith, common_steps, ints)
@@ -27,7 +30,15 @@ has_day y m d is = grind (arith, common_steps)
 
 abbrev pub day_at : (y m d : ℕ) → is_day y m d ≡ true → Day
 day_at y m d is = record {
-  date = record { year = pos y; month = m; day = d; year_in = has_year y m d is; month_in = has_month y m d is; day_in = has_day y m d is };
+  date = record {
+    year = pos y;
+    month = m;
+    day = d;
+    year_in = has_year y m d is;
+    month_in =
+        has_month y m d is;
+    day_in = has_day y m d is;
+  };
   after_christ = is_after_christ y m d is;
 }
 

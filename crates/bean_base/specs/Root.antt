@@ -2,7 +2,8 @@
 use Rattle.std.specs.Prelude.{ℕ, List, Option, Some, None, codes, if◌then◌else◌}
 use Rattle.std.specs.Str.{bytes_eq}
 use Rattle.bean_base.specs.declared.roots.Root.{Root}
-use Rattle.bean_base.specs.declared.roots.Root.TheVariants.{Assets, Liabilities, Equity, Income, Expenses}
+use Rattle.bean_base.specs.declared.roots.Root.TheVariants.{Assets, Liabilities, Equity, Income}
+use Rattle.bean_base.specs.declared.roots.Root.TheVariants.{Expenses}
 
 abbrev pub spelling : Root → List ℕ
 spelling Assets = codes "Assets"

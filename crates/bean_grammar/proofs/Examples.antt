@@ -49,7 +49,8 @@ a_key : lexeme_at kind.Key (codes "place:") ≡ Key (codes "place")
 a_key = refl
 
 -- 1 + 2.50 * 2
-six : plus (written (codes "1")) (times (written (codes "2.50")) (written (codes "2"))) ≡ Within record { count = pos 600; places = 2 }
+six : plus (written (codes "1")) (times (written (codes "2.50")) (written (codes "2")))
+    ≡ Within record { count = pos 600; places = 2 }
 six = refl
 
 -- a product has the decimals of both
@@ -57,29 +58,57 @@ too_many_decimals : times (written (codes "0.00001")) (written (codes "0.00001")
 too_many_decimals = refl
 
 -- partial sums count, from left to right
-too_wide_on_the_way : minus (plus (written (codes "900000000000")) (written (codes "900000000000"))) (written (codes "900000000000")) ≡ Outside
+too_wide_on_the_way :
+    minus (plus (written (codes "900000000000")) (written (codes "900000000000")))
+    (written (codes "900000000000")) ≡ Outside
 too_wide_on_the_way = refl
 
-half_less : minus (written (codes "1.5")) (written (codes "0.25")) ≡ Within record { count = pos 125; places = 2 }
+half_less :
+    minus (written (codes "1.5")) (written (codes "0.25"))
+    ≡ Within record { count = pos 125; places = 2 }
 half_less = refl
 
 minus_seven : signed true (written (codes "7")) ≡ Within record { count = negsuc 6; places = 0 }
 minus_seven = refl
 
 -- 2 * 3, with no room for signs and parentheses
-two_by_three : Is (product in_ledger 0) (Number (codes "2") ∷ Sign sign.Star ∷ Number (codes "3") ∷ []) (Within record { count = pos 6; places = 0 })
+two_by_three :
+    Is (product in_ledger 0) (Number (codes "2") ∷ Sign sign.Star ∷ Number (codes "3") ∷ [])
+    (Within record { count = pos 6; places = 0 })
 unfolding factor
-two_by_three = (written (codes "2"), written (codes "3") ∷ [], _, (written, codes "2", _, (refl, refl), refl, refl), (_, (_, refl, (written, codes "3", _, (refl, refl), refl, refl)), refl), refl)
+two_by_three = (
+  written (codes "2"),
+  written (codes "3")
+      ∷ [],
+  _,
+  (written, codes "2", _, (refl, refl), refl, refl),
+  (_, (_, refl, (written, codes "3", _, (refl, refl), refl, refl)), refl),
+  refl,
+)
 
 -- two parts of one form, and of two forms
-two_labels : put (put (Some no_parts) (part_kind.Label (codes "a"))) (part_kind.Label (codes "b")) ≡ None
+two_labels :
+    put (put (Some no_parts) (part_kind.Label (codes "a"))) (part_kind.Label (codes "b")) ≡ None
 two_labels = refl
 
-two_forms : put (put (Some no_parts) (part_kind.Label (codes "a"))) part_kind.Merge ≡ Some record { amount = None; day = None; label = Some (codes "a"); number = None; currency = None; merge = Some true; compound = None }
+two_forms :
+    put (put (Some no_parts) (part_kind.Label (codes "a"))) part_kind.Merge
+    ≡ Some record {
+      amount = None;
+      day = None;
+      label = Some (codes "a");
+      number = None;
+      currency =
+          None;
+      merge = Some true;
+      compound = None;
+    }
 two_forms = refl
 
 -- {} is a lot, {{}} is outside the profile, and so is {*}
-empty_lot : cost_of false no_parts ≡ Within (cost_kind.Lot record { amount = None; day = None; label = None })
+empty_lot :
+    cost_of false no_parts
+    ≡ Within (cost_kind.Lot record { amount = None; day = None; label = None })
 empty_lot = refl
 
 empty_total : cost_of true no_parts ≡ Within cost_kind.OutsideProfile
@@ -106,34 +135,83 @@ no_part = refl
 no_units : units_of record { number = None; currency = None } ≡ Within units_kind.Missing
 no_units = refl
 
-currency_units : units_of record { number = None; currency = Some (codes "USD") } ≡ Within (units_kind.Currency (codes "USD"))
+currency_units :
+    units_of record { number = None; currency = Some (codes "USD") }
+    ≡ Within (units_kind.Currency (codes "USD"))
 currency_units = refl
 
-bare_price : price_of true record { number = None; currency = None } ≡ Within price_kind.OutsideProfile
+bare_price :
+    price_of true record { number = None; currency = None } ≡ Within price_kind.OutsideProfile
 bare_price = refl
 
 wide_price : price_of false record { number = Some Outside; currency = None } ≡ Outside
 wide_price = refl
 
 -- an entry with no value
-empty_entry : entry_of (codes "place") None ≡ Within record { key = codes "place"; value = value_kind.Nothing }
+empty_entry :
+    entry_of (codes "place") None
+    ≡ Within record { key = codes "place"; value = value_kind.Nothing }
 empty_entry = refl
 
 -- #a ^b
-two_marks : Is mark_rule.some_marks (Tag (codes "a") ∷ Link (codes "b") ∷ []) (marks.Tag (codes "a") ∷ marks.Link (codes "b") ∷ [])
+two_marks :
+    Is mark_rule.some_marks (Tag (codes "a") ∷ Link (codes "b") ∷ [])
+    (marks.Tag (codes "a") ∷ marks.Link (codes "b") ∷ [])
 two_marks = (marks.Tag (codes "a"), marks.Link (codes "b") ∷ [], _, refl, (_, refl, refl), refl)
 
 -- TRUE USD, two values
-two_values : Is all_values (Keyword keyword.True ∷ Currency (codes "USD") ∷ []) (Within (value_kind.Truth true ∷ value_kind.Currency (codes "USD") ∷ []))
-two_values = (Within [], Within (value_kind.Truth true) ∷ Within (value_kind.Currency (codes "USD")) ∷ [], _, (refl, refl), (_, inl (Keyword keyword.True, refl, (true, refl, refl)), (_, inl (Currency (codes "USD"), refl, refl), refl)), refl)
+two_values :
+    Is all_values (Keyword keyword.True ∷ Currency (codes "USD") ∷ [])
+    (Within (value_kind.Truth true ∷ value_kind.Currency (codes "USD") ∷ []))
+two_values = (
+  Within [],
+  Within (value_kind.Truth true) ∷ Within (value_kind.Currency (codes "USD"))
+      ∷ [],
+  _,
+  (refl, refl),
+  (
+    _,
+    inl (Keyword keyword.True, refl, (true, refl, refl)),
+    (
+      _,
+      inl
+          (Currency (codes "USD"), refl, refl),
+      refl,
+    ),
+  ),
+  refl,
+)
 
 -- an account alone before a cost
-missing_before_cost : is_outside_profile record { flag = None; account = codes "Assets:Inv"; units = units_kind.Missing; cost = cost_kind.Lot record { amount = None; day = None; label = None }; price = price_kind.Absent; line = 7; metadata = [] } ≡ true
+missing_before_cost :
+    is_outside_profile record {
+      flag = None;
+      account = codes "Assets:Inv";
+      units =
+          units_kind.Missing;
+      cost = cost_kind.Lot record { amount = None; day = None; label = None };
+      price = price_kind.Absent;
+      line = 7;
+      metadata = [];
+    } ≡ true
 missing_before_cost = refl
 
-missing_alone : is_outside_profile record { flag = None; account = codes "Assets:Inv"; units = units_kind.Missing; cost = cost_kind.Absent; price = price_kind.Absent; line = 7; metadata = [] } ≡ false
+missing_alone :
+    is_outside_profile record {
+      flag = None;
+      account = codes "Assets:Inv";
+      units =
+          units_kind.Missing;
+      cost = cost_kind.Absent;
+      price = price_kind.Absent;
+      line = 7;
+      metadata =
+          [];
+    } ≡ false
 missing_alone = refl
 
 -- a price out of range leaves no posting
-no_posting : posting_of 4 None (codes "Assets:Cash") (Within units_kind.Missing) (Within cost_kind.Absent) Outside ≡ Outside
+no_posting :
+    posting_of 4 None (codes "Assets:Cash") (Within units_kind.Missing) (Within cost_kind.Absent)
+    Outside ≡ Outside
 no_posting = refl

@@ -1,12 +1,14 @@
 -- The costs of postings.
 --
 -- cost = "{" [part {"," part}] "}" | "{{" [part {"," part}] "}}"
-use Rattle.std.specs.Prelude.{Bool, true, false, ◌&&◌, ◌||◌, List, Option, Some, None, is_some, if◌then◌else◌}
+use Rattle.std.specs.Prelude.{Bool, true, false, ◌&&◌, ◌||◌, List, Option, Some, None, is_some}
+use Rattle.std.specs.Prelude.{if◌then◌else◌}
 use Rattle.theory.specs.Form.{Form, made, ◌<+>◌, behind, closed, due, either}
 use Rattle.bean_base.specs.declared.amounts.Amount.{Amount}
 use Rattle.bean_base.specs.declared.days.Day.{Day}
 use Rattle.bean_lexer.specs.declared.kind.Sign as signs
-use Rattle.bean_lexer.specs.declared.kind.Sign.TheVariants.{OpenBrace, CloseBrace, OpenBraces, CloseBraces}
+use Rattle.bean_lexer.specs.declared.kind.Sign.TheVariants.{OpenBrace, CloseBrace, OpenBraces}
+use Rattle.bean_lexer.specs.declared.kind.Sign.TheVariants.{CloseBraces}
 use Rattle.bean_grammar.specs.declared.cost.Cost as costs
 use Rattle.bean_grammar.specs.declared.cost.Cost.TheVariants.{Absent, Lot, OutsideProfile}
 use Rattle.bean_grammar.specs.declared.cost_part.CostParts.{CostParts}

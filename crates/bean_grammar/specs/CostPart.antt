@@ -6,7 +6,9 @@ use Rattle.theory.specs.Form.{Form, made, ◌<+>◌, behind, checked, due, eithe
 use Rattle.bean_base.specs.declared.num.Num.{Num}
 use Rattle.bean_lexer.specs.declared.kind.Sign.TheVariants.{Star, Hash, Comma}
 use Rattle.bean_grammar.specs.declared.cost_part.CostPart as parts
-use Rattle.bean_grammar.specs.declared.cost_part.CostPart.TheVariants.{Amount, Day, Label, NumberAlone, CurrencyAlone, Merge, Compound}
+use Rattle.bean_grammar.specs.declared.cost_part.CostPart.TheVariants.{Amount, Day, Label}
+use Rattle.bean_grammar.specs.declared.cost_part.CostPart.TheVariants.{NumberAlone, CurrencyAlone}
+use Rattle.bean_grammar.specs.declared.cost_part.CostPart.TheVariants.{Merge, Compound}
 use Rattle.bean_grammar.specs.declared.cost_part.CostParts as collected
 use Rattle.bean_grammar.specs.declared.ranged.Ranged.{Ranged}
 use Rattle.bean_grammar.specs.Amount.{amount_of, number_if_due, currency_if_due}

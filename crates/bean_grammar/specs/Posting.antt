@@ -1,7 +1,8 @@
 -- Postings.
 --
 -- posting = ["*"|"!"] account [expression] [currency] [cost] [price]
-use Rattle.std.specs.Prelude.{ℕ, Bool, true, false, ◌&&◌, ◌||◌, not, List, [], ◌∷◌, Option, Some, None}
+use Rattle.std.specs.Prelude.{ℕ, Bool, true, false, ◌&&◌, ◌||◌, not, List, [], ◌∷◌, Option, Some}
+use Rattle.std.specs.Prelude.{None}
 use Rattle.theory.specs.Form.{Form, word, made, ◌<+>◌, due}
 use Rattle.bean_base.specs.declared.flags.Flag as flags
 use Rattle.bean_base.specs.declared.flags.Flag.TheVariants.{Complete, Incomplete}
@@ -14,7 +15,8 @@ use Rattle.bean_grammar.specs.declared.price.Price as prices
 use Rattle.bean_grammar.specs.declared.price.Price.TheVariants as price_kind
 use Rattle.bean_grammar.specs.declared.posting.Posting as postings
 use Rattle.bean_grammar.specs.declared.posting.Units as units_declared
-use Rattle.bean_grammar.specs.declared.posting.Units.TheVariants.{Missing, Currency, Amount, NumberAlone}
+use Rattle.bean_grammar.specs.declared.posting.Units.TheVariants.{Missing, Currency, Amount}
+use Rattle.bean_grammar.specs.declared.posting.Units.TheVariants.{NumberAlone}
 use Rattle.bean_grammar.specs.declared.ranged.Ranged.{Ranged}
 use Rattle.bean_grammar.specs.declared.ranged.Ranged.TheVariants.{Within}
 use Rattle.bean_grammar.specs.Amount.{amount_parts}
@@ -64,7 +66,8 @@ posting_of line flag account units cost price =
     units cost price
 
 -- the front of a posting on a line of that number, up to its units
-abbrev pub posted_to : ℕ → Form Lexeme (Ranged costs.Cost → Ranged prices.Price → Ranged postings.Posting)
+abbrev pub posted_to : ℕ
+    → Form Lexeme (Ranged costs.Cost → Ranged prices.Price → Ranged postings.Posting)
 posted_to line = made (posting_of line) <+> flag_if_due <+> word Account <+> units
 
 abbrev pub posting : ℕ → Form Lexeme (Ranged postings.Posting)

@@ -8,7 +8,8 @@ use Rattle.bean_base.specs.declared.num.Num.{Num}
 use Rattle.bean_lexer.specs.declared.kind.Sign.TheVariants.{At, AtAt}
 use Rattle.bean_grammar.specs.declared.amount.AmountParts.{AmountParts}
 use Rattle.bean_grammar.specs.declared.price.Price as prices
-use Rattle.bean_grammar.specs.declared.price.Price.TheVariants.{Absent, PerUnit, Total, OutsideProfile}
+use Rattle.bean_grammar.specs.declared.price.Price.TheVariants.{Absent, PerUnit, Total}
+use Rattle.bean_grammar.specs.declared.price.Price.TheVariants.{OutsideProfile}
 use Rattle.bean_grammar.specs.declared.ranged.Ranged.{Ranged}
 use Rattle.bean_grammar.specs.declared.ranged.Ranged.TheVariants.{Within}
 use Rattle.bean_grammar.specs.Amount.{amount_parts}

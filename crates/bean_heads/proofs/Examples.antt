@@ -5,7 +5,8 @@ use Rattle.theory.specs.Form.{Is}
 use Rattle.bean_lexer.specs.declared.kind.Sign.TheVariants as sign
 use Rattle.bean_grammar.specs.declared.ranged.Ranged.TheVariants.{Within}
 use Rattle.bean_grammar.specs.Lexeme.{Account, Sign}
-use Rattle.bean_heads.specs.Head.{words_of, close_of, close_line, kind_behind, nothing, ranged_option}
+use Rattle.bean_heads.specs.Head.{words_of, close_of, close_line, kind_behind, nothing}
+use Rattle.bean_heads.specs.Head.{ranged_option}
 use Rattle.bean_heads.specs.Undated.{option_of}
 use Rattle.bean_heads.specs.declared.undated.SettingKind.TheVariants as settings
 use Rattle.bean_heads.specs.declared.undated.UndatedKind.TheVariants as kinds
@@ -14,7 +15,9 @@ use Rattle.bean_heads.specs.declared.undated.UndatedKind.TheVariants as kinds
 one_text : words_of (Some (codes "Bread")) None ≡ record { payee = None; narration = codes "Bread" }
 one_text = refl
 
-two_texts : words_of (Some (codes "Shop")) (Some (codes "Bread")) ≡ record { payee = Some (codes "Shop"); narration = codes "Bread" }
+two_texts :
+    words_of (Some (codes "Shop")) (Some (codes "Bread"))
+    ≡ record { payee = Some (codes "Shop"); narration = codes "Bread" }
 two_texts = refl
 
 no_text : words_of None None ≡ record { payee = None; narration = [] }
@@ -32,7 +35,8 @@ no_kind = refl
 no_tolerance : ranged_option None ≡ Within None
 no_tolerance = refl
 
-title : option_of (codes "title") (codes "Home") ≡ Within (kinds.Setting (settings.Title (codes "Home")))
+title : option_of (codes "title") (codes "Home")
+    ≡ Within (kinds.Setting (settings.Title (codes "Home")))
 title = refl
 
 other_option : option_of (codes "titel") (codes "Home") ≡ Within kinds.Ignored

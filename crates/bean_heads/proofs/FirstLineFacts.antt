@@ -6,7 +6,8 @@ use Rattle.bean_base.specs.declared.days.Day as days
 use Rattle.bean_lexer.specs.declared.kind.Keyword.TheVariants as keyword
 use Rattle.bean_lexer.specs.declared.kind.Sign.TheVariants as sign
 use Rattle.bean_grammar.specs.declared.ranged.Ranged.{Ranged}
-use Rattle.bean_grammar.specs.Lexeme.{Lexeme, Day, Number, Text, Account, Currency, Tag, Link, Key, Keyword, Sign, Fault}
+use Rattle.bean_grammar.specs.Lexeme.{Lexeme, Day, Number, Text, Account, Currency, Tag, Link, Key}
+use Rattle.bean_grammar.specs.Lexeme.{Keyword, Sign, Fault}
 use Rattle.bean_grammar.specs.Literal.{day}
 use Rattle.bean_heads.specs.Head.{kind_behind, IsHead, IsNoHead}
 use Rattle.bean_heads.specs.Undated.{undated_behind, IsUndated, IsNotUndated}
@@ -116,63 +117,96 @@ not_empty l ls e = cc
 -- Heads.
 
 -- a head goes on as it was read
-behind_day : (ls : List Lexeme) (d : Ranged days.Day) (mid : List Lexeme) (e : Ranged days.Day) (k : Ranged DirectiveKind) → Reads day ls d mid → (h : IsHead ls e k)
+behind_day :
+    (ls : List Lexeme) (d : Ranged days.Day) (mid : List Lexeme) (e : Ranged days.Day)
+    (k : Ranged DirectiveKind) → Reads day ls d mid → (h : IsHead ls e k)
     → (d ≡ e) × (l : Lexeme) × (rest : List Lexeme) × (mid ≡ l ∷ rest) × Is (kind_behind l) rest k
 behind_day ls d mid e k r h = let o = r.only e h.0 h.3 refl in (o.0, h.1, h.2, o.1 ∙ h.4, h.5)
 
 pub head_without_day : (ls : List Lexeme) → HasNone day ls → IsNoHead ls
 head_without_day ls none d k h = none d h.0 h.3 refl
 
-pub head_ends_early : (ls : List Lexeme) (d : Ranged days.Day) (mid : List Lexeme) → Reads day ls d mid → mid ≡ [] → IsNoHead ls
-head_ends_early ls d mid r end e k h = let b = behind_day ls d mid e k r h in not_empty b.1 b.2 (sym end ∙ b.3)
+pub head_ends_early : (ls : List Lexeme) (d : Ranged days.Day) (mid : List Lexeme)
+    → Reads day ls d mid → mid ≡ [] → IsNoHead ls
+head_ends_early ls d mid r end e k h = let b = behind_day ls d mid e k r h in
+    not_empty b.1 b.2 (sym end ∙ b.3)
 
 -- what is behind the lexeme of a head is of its kind
-pub behind_kind : (ls : List Lexeme) (d : Ranged days.Day) (mid : List Lexeme) (l : Lexeme) (rest : List Lexeme) (e : Ranged days.Day) (k : Ranged DirectiveKind)
+pub behind_kind :
+    (ls : List Lexeme) (d : Ranged days.Day) (mid : List Lexeme) (l : Lexeme) (rest : List Lexeme)
+    (e : Ranged days.Day) (k : Ranged DirectiveKind)
     → Reads day ls d mid → mid ≡ l ∷ rest → IsHead ls e k → (d ≡ e) × Is (kind_behind l) rest k
 behind_kind ls d mid l rest e k r at h =
     let b = behind_day ls d mid e k r h in
-    let same = same_list b.1 l b.2 rest (sym b.3 ∙ at) in
-    (b.0, subst (λ m. (kind_behind m).reads rest k []) same.0 (subst (λ m. (kind_behind b.1).reads m k []) same.1 b.4))
+    let same = same_list b.1 l b.2 rest (sym b.3 ∙ at) in (
+      b.0,
+      subst (λ m. (kind_behind m).reads rest k []) same.0
+          (subst (λ m. (kind_behind b.1).reads m k []) same.1 b.4),
+    )
 
-pub head_of_no_kind : (ls : List Lexeme) (d : Ranged days.Day) (mid : List Lexeme) (l : Lexeme) (rest : List Lexeme)
+pub head_of_no_kind :
+    (ls : List Lexeme) (d : Ranged days.Day) (mid : List Lexeme) (l : Lexeme) (rest : List Lexeme)
     → Reads day ls d mid → mid ≡ l ∷ rest → HasNone (kind_behind l) rest → IsNoHead ls
-head_of_no_kind ls d mid l rest r at none e k h = none_whole (kind_behind l) rest (kind_ends l) none k (behind_kind ls d mid l rest e k r at h).1
+head_of_no_kind ls d mid l rest r at none e k h =
+    none_whole (kind_behind l) rest (kind_ends l) none k (behind_kind ls d mid l rest e k r at h).1
 
-pub head_goes_on : (ls : List Lexeme) (d : Ranged days.Day) (mid : List Lexeme) (l : Lexeme) (rest : List Lexeme) (v : Ranged DirectiveKind) (after : List Lexeme) (m : Lexeme) (more : List Lexeme)
-    → Reads day ls d mid → mid ≡ l ∷ rest → Reads (kind_behind l) rest v after → after ≡ m ∷ more → IsNoHead ls
+pub head_goes_on :
+    (ls : List Lexeme) (d : Ranged days.Day) (mid : List Lexeme) (l : Lexeme) (rest : List Lexeme)
+    (v : Ranged DirectiveKind) (after : List Lexeme) (m : Lexeme) (more : List Lexeme)
+    → Reads day ls d mid → mid ≡ l ∷ rest → Reads (kind_behind l) rest v after → after ≡ m ∷ more
+    → IsNoHead ls
 head_goes_on ls d mid l rest v after m more r at s next e k h =
-    more_than_whole (kind_behind l) rest v m more (kind_ends l) (subst (λ x. Reads (kind_behind l) rest v x) next s) k (behind_kind ls d mid l rest e k r at h).1
+    more_than_whole (kind_behind l) rest v m more (kind_ends l)
+    (subst (λ x. Reads (kind_behind l) rest v x) next s) k
+    (behind_kind ls d mid l rest e k r at h).1
 
-pub head_is : (ls : List Lexeme) (d : Ranged days.Day) (mid : List Lexeme) (l : Lexeme) (rest : List Lexeme) (k : Ranged DirectiveKind) (after : List Lexeme)
-    → Reads day ls d mid → mid ≡ l ∷ rest → Reads (kind_behind l) rest k after → after ≡ [] → IsHead ls d k
-head_is ls d mid l rest k after r at s end = (mid, l, rest, r.read, at, is_all (kind_behind l) rest k after s end)
+pub head_is :
+    (ls : List Lexeme) (d : Ranged days.Day) (mid : List Lexeme) (l : Lexeme) (rest : List Lexeme)
+    (k : Ranged DirectiveKind) (after : List Lexeme)
+    → Reads day ls d mid → mid ≡ l ∷ rest → Reads (kind_behind l) rest k after → after ≡ []
+    → IsHead ls d k
+head_is ls d mid l rest k after r at s end =
+    (mid, l, rest, r.read, at, is_all (kind_behind l) rest k after s end)
 
 -- Lines without a day.
 
-pub behind_word : (ls : List Lexeme) (l : Lexeme) (rest : List Lexeme) (k : Ranged UndatedKind) → ls ≡ l ∷ rest → IsUndated ls k → Is (undated_behind l) rest k
+pub behind_word : (ls : List Lexeme) (l : Lexeme) (rest : List Lexeme) (k : Ranged UndatedKind)
+    → ls ≡ l ∷ rest → IsUndated ls k → Is (undated_behind l) rest k
 behind_word ls l rest k at h =
     let same = same_list h.0 l h.1 rest (sym h.2 ∙ at) in
-    subst (λ m. (undated_behind m).reads rest k []) same.0 (subst (λ m. (undated_behind h.0).reads m k []) same.1 h.3)
+    subst (λ m. (undated_behind m).reads rest k []) same.0
+    (subst (λ m. (undated_behind h.0).reads m k []) same.1 h.3)
 
 pub undated_ends_early : (ls : List Lexeme) → ls ≡ [] → IsNotUndated ls
 undated_ends_early ls end k h = not_empty h.0 h.1 (sym end ∙ h.2)
 
-pub undated_of_no_kind : (ls : List Lexeme) (l : Lexeme) (rest : List Lexeme) → ls ≡ l ∷ rest → HasNone (undated_behind l) rest → IsNotUndated ls
-undated_of_no_kind ls l rest at none k h = none_whole (undated_behind l) rest (undated_ends l) none k (behind_word ls l rest k at h)
+pub undated_of_no_kind : (ls : List Lexeme) (l : Lexeme) (rest : List Lexeme) → ls ≡ l ∷ rest
+    → HasNone (undated_behind l) rest → IsNotUndated ls
+undated_of_no_kind ls l rest at none k h =
+    none_whole (undated_behind l) rest (undated_ends l) none k (behind_word ls l rest k at h)
 
-pub undated_goes_on : (ls : List Lexeme) (l : Lexeme) (rest : List Lexeme) (v : Ranged UndatedKind) (after : List Lexeme) (m : Lexeme) (more : List Lexeme)
+pub undated_goes_on :
+    (ls : List Lexeme) (l : Lexeme) (rest : List Lexeme) (v : Ranged UndatedKind)
+    (after : List Lexeme) (m : Lexeme) (more : List Lexeme)
     → ls ≡ l ∷ rest → Reads (undated_behind l) rest v after → after ≡ m ∷ more → IsNotUndated ls
 undated_goes_on ls l rest v after m more at s next k h =
-    more_than_whole (undated_behind l) rest v m more (undated_ends l) (subst (λ x. Reads (undated_behind l) rest v x) next s) k (behind_word ls l rest k at h)
+    more_than_whole (undated_behind l) rest v m more (undated_ends l)
+    (subst (λ x. Reads (undated_behind l) rest v x) next s) k (behind_word ls l rest k at h)
 
-pub undated_is : (ls : List Lexeme) (l : Lexeme) (rest : List Lexeme) (k : Ranged UndatedKind) (after : List Lexeme)
+pub undated_is :
+    (ls : List Lexeme) (l : Lexeme) (rest : List Lexeme) (k : Ranged UndatedKind)
+    (after : List Lexeme)
     → ls ≡ l ∷ rest → Reads (undated_behind l) rest k after → after ≡ [] → IsUndated ls k
 undated_is ls l rest k after at s end = (l, rest, at, is_all (undated_behind l) rest k after s end)
 
 -- One reading.
 
-cannot_be_day : (bs : List ℕ) (l : Lexeme) (rest more : List Lexeme) → Day bs ∷ rest ≡ l ∷ more → (k : Ranged UndatedKind) → Is (undated_behind l) more k → ⊥
-cannot_be_day bs l rest more e k h = subst (λ m. (undated_behind m).reads more k []) (sym (same_list (Day bs) l rest more e).0) h
+cannot_be_day : (bs : List ℕ) (l : Lexeme) (rest more : List Lexeme) → Day bs ∷ rest ≡ l ∷ more
+    → (k : Ranged UndatedKind) → Is (undated_behind l) more k → ⊥
+cannot_be_day bs l rest more e k h =
+    subst (λ m. (undated_behind m).reads more k []) (sym (same_list (Day bs) l rest more e).0) h
 
-pub dated_or_undated : (ls : List Lexeme) (d : Ranged days.Day) (k : Ranged DirectiveKind) (j : Ranged UndatedKind) → IsHead ls d k → IsUndated ls j → ⊥
+pub dated_or_undated :
+    (ls : List Lexeme) (d : Ranged days.Day) (k : Ranged DirectiveKind) (j : Ranged UndatedKind)
+    → IsHead ls d k → IsUndated ls j → ⊥
 dated_or_undated ls d k j h u = cannot_be_day h.3.0 u.0 h.0 u.1 (sym h.3.1 ∙ u.2) j u.3

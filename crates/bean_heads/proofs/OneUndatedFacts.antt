@@ -9,10 +9,14 @@ use Rattle.bean_grammar.proofs.LexemeFacts.{exact_tag, exact_key}
 use Rattle.bean_grammar.proofs.LiteralFacts.{one_text, one_text_due}
 use Rattle.bean_grammar.proofs.MetadataFacts.{one_entry}
 use Rattle.bean_grammar.specs.declared.ranged.Ranged.{Ranged}
-use Rattle.bean_grammar.specs.Lexeme.{Lexeme, Day, Number, Text, Account, Currency, Tag, Link, Key, Keyword, Sign, Fault, begins_with_text}
+use Rattle.bean_grammar.specs.Lexeme.{Lexeme, Day, Number, Text, Account, Currency, Tag, Link, Key}
+use Rattle.bean_grammar.specs.Lexeme.{Keyword, Sign, Fault, begins_with_text}
 use Rattle.bean_grammar.specs.Literal.{text}
 use Rattle.bean_grammar.specs.Metadata.{entry}
-use Rattle.bean_heads.specs.Undated.{nothing, option_of, option, include_of, include, plugin_of, plugin, push_tag_of, push_tag, pop_tag_of, pop_tag, push_entry_of, push_entry, pop_key_of, pop_key, undated_behind, IsUndated}
+use Rattle.bean_heads.specs.Undated.{nothing, option_of, option, include_of, include, plugin_of}
+use Rattle.bean_heads.specs.Undated.{plugin, push_tag_of, push_tag, pop_tag_of, pop_tag}
+use Rattle.bean_heads.specs.Undated.{push_entry_of, push_entry, pop_key_of, pop_key, undated_behind}
+use Rattle.bean_heads.specs.Undated.{IsUndated}
 use Rattle.bean_heads.specs.declared.undated.UndatedKind.{UndatedKind}
 use Rattle.bean_heads.proofs.FirstLineFacts.{undated_ends, behind_word}
 
@@ -20,13 +24,16 @@ one_nothing : IsUnambiguous nothing
 one_nothing ls v rest p ends = absurd p
 
 one_option : IsUnambiguous option
-one_option = one_next (made option_of <+> text) text (λ r. refl) (one_first option_of text one_text) one_text
+one_option =
+    one_next (made option_of <+> text) text (λ r. refl) (one_first option_of text one_text) one_text
 
 one_include : IsUnambiguous include
 one_include = one_first include_of text one_text
 
 one_plugin : IsUnambiguous plugin
-one_plugin = one_next (made plugin_of <+> text) (due begins_with_text text) (λ r. refl) (one_first plugin_of text one_text) one_text_due
+one_plugin =
+    one_next (made plugin_of <+> text) (due begins_with_text text) (λ r. refl)
+    (one_first plugin_of text one_text) one_text_due
 
 one_push_tag : IsUnambiguous push_tag
 one_push_tag = one_first push_tag_of (word Tag) (one_word Tag exact_tag)
@@ -87,5 +94,8 @@ one_undated_behind (Keyword keyword.True) = one_nothing
 one_undated_behind (Keyword keyword.False) = one_nothing
 one_undated_behind Fault = one_nothing
 
-pub one_undated : (ls : List Lexeme) (k j : Ranged UndatedKind) → IsUndated ls k → IsUndated ls j → k ≡ j
-one_undated ls k j h i = one_value (undated_behind h.0) h.1 k j (one_undated_behind h.0) (undated_ends h.0) h.3 (behind_word ls h.0 h.1 j h.2 i)
+pub one_undated : (ls : List Lexeme) (k j : Ranged UndatedKind) → IsUndated ls k → IsUndated ls j
+    → k ≡ j
+one_undated ls k j h i =
+    one_value (undated_behind h.0) h.1 k j (one_undated_behind h.0) (undated_ends h.0) h.3
+    (behind_word ls h.0 h.1 j h.2 i)

@@ -13,15 +13,26 @@ use Rattle.bean_grammar.specs.Metadata.{entry}
 use Rattle.bean_heads.specs.declared.undated.UndatedKind.{UndatedKind}
 use Rattle.bean_heads.specs.declared.undated.UndatedKind.TheVariants as kinds
 use Rattle.bean_heads.specs.declared.undated.SettingKind.TheVariants as settings
-use Rattle.bean_heads.specs.Undated.{option_of, option, plugin_of, plugin, push_entry_of, push_entry}
+use Rattle.bean_heads.specs.Undated.{option_of, option, plugin_of, plugin, push_entry_of}
+use Rattle.bean_heads.specs.Undated.{push_entry}
 
-pub reads_option : (ls : List Lexeme) (n : List ℕ) (mid : List Lexeme) (t : List ℕ) (rest : List Lexeme) → Reads text ls n mid → Reads text mid t rest → Reads option ls (option_of n t) rest
-reads_option ls n mid t rest q r = reads_next (made option_of <+> text) text ls (option_of n) mid t rest (λ r. refl) (reads_first option_of text ls n mid q) r
+pub reads_option :
+    (ls : List Lexeme) (n : List ℕ) (mid : List Lexeme) (t : List ℕ) (rest : List Lexeme)
+    → Reads text ls n mid → Reads text mid t rest → Reads option ls (option_of n t) rest
+reads_option ls n mid t rest q r =
+    reads_next (made option_of <+> text) text ls (option_of n) mid t rest (λ r. refl)
+    (reads_first option_of text ls n mid q) r
 
-pub reads_plugin : (ls : List Lexeme) (n : List ℕ) (mid : List Lexeme) (t : Option (List ℕ)) (rest : List Lexeme) → Reads text ls n mid → Reads (due begins_with_text text) mid t rest → Reads plugin ls (plugin_of n t) rest
-reads_plugin ls n mid t rest q r = reads_next (made plugin_of <+> text) (due begins_with_text text) ls (plugin_of n) mid t rest (λ r. refl) (reads_first plugin_of text ls n mid q) r
+pub reads_plugin :
+    (ls : List Lexeme) (n : List ℕ) (mid : List Lexeme) (t : Option (List ℕ)) (rest : List Lexeme)
+    → Reads text ls n mid → Reads (due begins_with_text text) mid t rest
+    → Reads plugin ls (plugin_of n t) rest
+reads_plugin ls n mid t rest q r =
+    reads_next (made plugin_of <+> text) (due begins_with_text text) ls (plugin_of n) mid t rest
+    (λ r. refl) (reads_first plugin_of text ls n mid q) r
 
-pub reads_push_entry : (ls : List Lexeme) (e : Ranged Entry) (rest : List Lexeme) → Reads entry ls e rest → Reads push_entry ls (push_entry_of e) rest
+pub reads_push_entry : (ls : List Lexeme) (e : Ranged Entry) (rest : List Lexeme)
+    → Reads entry ls e rest → Reads push_entry ls (push_entry_of e) rest
 reads_push_entry ls e rest r = reads_first push_entry_of entry ls e rest r
 
 pub none_push_entry : (ls : List Lexeme) → HasNone entry ls → HasNone push_entry ls
@@ -36,6 +47,8 @@ chosen is_title is_currency is_method value =
     else if is_method then kinds.Setting (settings.BookingMethod value)
     else kinds.Ignored)
 
-pub ignored : (name value : List ℕ) → bytes_eq name (codes "title") ≡ false → bytes_eq name (codes "operating_currency") ≡ false → bytes_eq name (codes "booking_method") ≡ false
+pub ignored : (name value : List ℕ) → bytes_eq name (codes "title") ≡ false
+    → bytes_eq name (codes "operating_currency") ≡ false
+    → bytes_eq name (codes "booking_method") ≡ false
     → Within kinds.Ignored ≡ option_of name value
 ignored name value e f g = λ i. chosen (sym e i) (sym f i) (sym g i) value

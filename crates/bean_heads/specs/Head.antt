@@ -1,6 +1,7 @@
--- The first line of a directive: a day, a word or a sign that tells the kind, and what stands behind it.
+-- The first line of a directive: a day, a word or a sign that tells the kind, and what stands
+-- behind it.
 --
--- open      account [currency {"," currency}] [text]     close   account     pad      account account
+-- open account [currency {"," currency}] [text] close account pad account account
 -- commodity currency     note     account text           document account text {tag|link}
 -- balance   account expression ["~" expression] currency  price   currency expression currency
 -- event     text text    query    text text              custom  text {value}
@@ -18,7 +19,8 @@ use Rattle.bean_grammar.specs.declared.metadata.Value.{Value}
 use Rattle.bean_grammar.specs.declared.ranged.Ranged.{Ranged}
 use Rattle.bean_grammar.specs.declared.ranged.Ranged.TheVariants.{Within}
 use Rattle.bean_grammar.specs.Expression.{expression, IsWorth}
-use Rattle.bean_grammar.specs.Lexeme.{Lexeme, Account, Currency, Keyword, Sign, begins_with_text, begins_with_currency, begins_with_sign}
+use Rattle.bean_grammar.specs.Lexeme.{Lexeme, Account, Currency, Keyword, Sign, begins_with_text}
+use Rattle.bean_grammar.specs.Lexeme.{begins_with_currency, begins_with_sign}
 use Rattle.bean_grammar.specs.Literal.{day, text}
 use Rattle.bean_grammar.specs.Mark.{marks}
 use Rattle.bean_grammar.specs.Metadata.{all_values}
@@ -48,7 +50,8 @@ abbrev pub currencies : Form Lexeme (List (List ℕ))
 currencies = made listed <+> due begins_with_currency some_currencies
 
 abbrev pub open_of : List ℕ → List (List ℕ) → Option (List ℕ) → Ranged DirectiveKind
-open_of account currencies method = Within (kinds.Open record { account = account; currencies = currencies; method = method })
+open_of account currencies method =
+    Within (kinds.Open record { account = account; currencies = currencies; method = method })
 
 abbrev pub open_line : Form Lexeme (Ranged DirectiveKind)
 open_line = made open_of <+> word Account <+> currencies <+> due begins_with_text text
@@ -97,14 +100,26 @@ ranged_option (Some n) = ranged_map (λ x. Some x) n
 
 abbrev pub balance_of : List ℕ → Ranged Num → Option (Ranged Num) → List ℕ → Ranged DirectiveKind
 balance_of account number tolerance currency =
-    ranged_map2 (λ n t. kinds.Balance record { account = account; number = n; tolerance = t; currency = currency }) number (ranged_option tolerance)
+    ranged_map2 (λ n t. kinds.Balance record {
+      account = account;
+      number = n;
+      tolerance =
+          t;
+      currency = currency;
+    }) number (ranged_option tolerance)
 
 abbrev pub balance_line : Form Lexeme (Ranged DirectiveKind)
-balance_line = made balance_of <+> word Account <+> expression <+> due begins_with_tilde tolerance <+> word Currency
+balance_line =
+    made balance_of <+> word Account <+> expression <+> due begins_with_tilde tolerance
+    <+> word Currency
 
 abbrev pub price_of : List ℕ → Ranged Num → List ℕ → Ranged DirectiveKind
 price_of currency number other =
-    ranged_map (λ n. kinds.Price record { currency = currency; amount = record { number = n; currency = other } }) number
+    ranged_map (λ n. kinds.Price record {
+      currency = currency;
+      amount =
+          record { number = n; currency = other };
+    }) number
 
 abbrev pub price_line : Form Lexeme (Ranged DirectiveKind)
 price_line = made price_of <+> word Currency <+> expression <+> word Currency
@@ -118,7 +133,8 @@ abbrev pub note_line : Form Lexeme (Ranged DirectiveKind)
 note_line = made note_of <+> word Account <+> text
 
 abbrev pub document_of : List ℕ → List ℕ → List Mark → Ranged DirectiveKind
-document_of account name marks = Within (kinds.Document record { account = account; name = name; marks = marks })
+document_of account name marks =
+    Within (kinds.Document record { account = account; name = name; marks = marks })
 
 abbrev pub document_line : Form Lexeme (Ranged DirectiveKind)
 document_line = made document_of <+> word Account <+> text <+> marks
@@ -154,7 +170,14 @@ words = made words_of <+> due begins_with_text text <+> due begins_with_text tex
 
 abbrev pub transaction_of : flags.Flag → PayeeAndNarration → List Mark → Ranged DirectiveKind
 transaction_of flag words marks =
-    Within (kinds.Transaction record { flag = flag; payee = words.payee; narration = words.narration; marks = marks; postings = [] })
+    Within (kinds.Transaction record {
+      flag = flag;
+      payee = words.payee;
+      narration =
+          words.narration;
+      marks = marks;
+      postings = [];
+    })
 
 abbrev pub transaction_line : flags.Flag → Form Lexeme (Ranged DirectiveKind)
 transaction_line flag = made (transaction_of flag) <+> words <+> marks

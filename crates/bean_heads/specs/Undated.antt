@@ -28,7 +28,8 @@ nothing = record { reads = λ ls v rest. ⊥; goes_on = λ rest. false }
 abbrev pub option_of : List ℕ → List ℕ → Ranged UndatedKind
 option_of name value =
     Within (if bytes_eq name (codes "title") then kinds.Setting (settings.Title value)
-    else if bytes_eq name (codes "operating_currency") then kinds.Setting (settings.OperatingCurrency value)
+    else if bytes_eq name (codes "operating_currency") then
+    kinds.Setting (settings.OperatingCurrency value)
     else if bytes_eq name (codes "booking_method") then kinds.Setting (settings.BookingMethod value)
     else kinds.Ignored)
 
@@ -83,7 +84,8 @@ undated_behind (Keyword keyword.PopMeta) = pop_key
 undated_behind lexeme = nothing
 
 abbrev pub IsUndated : List Lexeme → Ranged UndatedKind → Type 0
-IsUndated ls k = (l : Lexeme) × (rest : List Lexeme) × (ls ≡ l ∷ rest) × Is (undated_behind l) rest k
+IsUndated ls k = (l : Lexeme) × (rest : List Lexeme) × (ls ≡ l ∷ rest)
+    × Is (undated_behind l) rest k
 
 abbrev pub IsNotUndated : List Lexeme → Type 0
 IsNotUndated ls = (k : Ranged UndatedKind) → IsUndated ls k → ⊥

@@ -1,5 +1,6 @@
 -- How the legs that lack something are completed.
-use Rattle.std.specs.Prelude.{◌≡◌, ◌+◌, ℕ, ⊤, true, false, List, [], ◌∷◌, ◌++◌, map, Result, Ok, Err}
+use Rattle.std.specs.Prelude.{◌≡◌, ◌+◌, ℕ, ⊤, true, false, List, [], ◌∷◌, ◌++◌, map, Result, Ok}
+use Rattle.std.specs.Prelude.{Err}
 use Rattle.std.specs.List.{AllByRecursion}
 use Rattle.bean_base.specs.declared.num.Num.{Num}
 use Rattle.bean_interp.specs.Due.{IsDue}
@@ -51,5 +52,6 @@ CanBeFilled legs = AllByRecursion (λ g. (n : Num) × Fills legs g.1 n) (gaps le
 abbrev pub Completes : List Leg → Result (List Fill) CompletionFault → Type 0
 Completes legs (Ok fills) = (lack_too_much legs ≡ false) × AreInRange legs × AreFills legs fills
 Completes legs (Err LackTooMuch) = lack_too_much legs ≡ true
-Completes legs (Err (Weighing TooWide)) = (lack_too_much legs ≡ false) × ¬ (AreInRange legs × CanBeFilled legs)
+Completes legs (Err (Weighing TooWide)) =
+    (lack_too_much legs ≡ false) × ¬ (AreInRange legs × CanBeFilled legs)
 Completes legs (Err (Weighing OutOfMemory)) = ⊤

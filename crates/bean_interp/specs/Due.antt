@@ -1,5 +1,6 @@
 -- The number that is due where a sum of weights isn't 0.
-use Rattle.std.specs.Prelude.{◌≡◌, ◌-◌, ◌*ℤ◌, ◌^◌, ℕ, ℤ, pos, neg_ℤ, Option, Some, None, Result, Ok, Err}
+use Rattle.std.specs.Prelude.{◌≡◌, ◌-◌, ◌*ℤ◌, ◌^◌, ℕ, ℤ, pos, neg_ℤ, Option, Some, None, Result, Ok}
+use Rattle.std.specs.Prelude.{Err}
 use Rattle.bean_base.specs.Decimal.{rounded}
 use Rattle.bean_base.specs.declared.num.Num.{Num}
 use Rattle.bean_interp.specs.Weight.{at_16}
@@ -9,7 +10,8 @@ use Rattle.bean_interp.specs.declared.weight.TooWide.{TooWide}
 abbrev pub rounded_at : ℕ → ℤ → ℤ
 rounded_at d count = rounded count (10 ^ (16 - d)) *ℤ pos (10 ^ (16 - d))
 
--- In counts of 10^-16: minus the residual, rounded to the currency's decimals, exact where it has none.
+-- In counts of 10^-16: minus the residual, rounded to the currency's decimals, exact where it has
+-- none.
 abbrev pub due : Option ℕ → ℤ → ℤ
 due None r = neg_ℤ r
 due (Some d) r = rounded_at d (neg_ℤ r)
@@ -27,7 +29,8 @@ IsAt decimals count n = (at_16 n ≡ count) × (n.places ≡ decimals)
 abbrev pub HasNone : ℤ → Type 0
 HasNone count = (n : Num) → ¬ (at_16 n ≡ count)
 
--- so many counts of 10^-16 as a number with these decimals; no number of a ledger where it is too wide
+-- so many counts of 10^-16 as a number with these decimals; no number of a ledger where it is too
+-- wide
 abbrev pub GivesAt : ℕ → ℤ → Result Num TooWide → Type 0
 GivesAt decimals count (Ok n) = IsAt decimals count n
 GivesAt decimals count (Err e) = HasNone count

@@ -20,7 +20,8 @@ completed_residual legs fills c = sum_in (weighed legs ++ map weight_of_fill fil
 
 abbrev pub IsEvened : List Leg → List Fill → Fill → Type 0
 IsEvened legs fills f =
-    unsigned_abs (completed_residual legs fills f.amount.currency) ≤ tolerance legs f.amount.currency
+    unsigned_abs (completed_residual legs fills f.amount.currency)
+    ≤ tolerance legs f.amount.currency
 
 -- A completed transaction balances in every currency that was filled in.
 abbrev pub CompletionBalances : Type 0

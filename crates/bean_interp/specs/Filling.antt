@@ -19,7 +19,8 @@ abbrev pub gaps_in : List Leg → ℕ → List (List ℕ) → List (ℕ × List 
 gaps_in legs leg cs = map (λ c. (leg, c)) (filter (lacks_in legs) cs)
 
 -- an amount was added for each of these gaps, in their order
-pub record AreFilled (legs : List Leg) (gaps : List (ℕ × List ℕ)) (old new : List Fill) : Type 0 where
+pub record AreFilled (legs : List Leg) (gaps : List (ℕ × List ℕ)) (old new : List Fill) :
+    Type 0 where
   pub added : List Fill
   pub is : new ≡ old ++ added
   pub gaps_are : map gap_of added ≡ gaps

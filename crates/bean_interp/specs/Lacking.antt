@@ -40,4 +40,5 @@ lacks_number_of c (Whole w) = false
 pub record AreLacked (l : Lacks) (legs : List Leg) : Type 0 where
   pub amount : l.has_amount ≡ list_any lacks_amount legs
   pub number : l.has_number ≡ list_any lacks_number legs
-  pub currencies : (c : List ℕ) → contains bytes_eq l.currencies c ≡ list_any (lacks_number_of c) legs
+  pub currencies : (c : List ℕ)
+      → contains bytes_eq l.currencies c ≡ list_any (lacks_number_of c) legs

@@ -1,5 +1,6 @@
 -- What the legs of a transaction weigh together.
-use Rattle.std.specs.Prelude.{◌+ℤ◌, ◌<◌, ◌^◌, ℕ, ℤ, pos, Bool, List, [], ◌∷◌, ◌++◌, take, fold, filter, not, if◌then◌else◌}
+use Rattle.std.specs.Prelude.{◌+ℤ◌, ◌<◌, ◌^◌, ℕ, ℤ, pos, Bool, List, [], ◌∷◌, ◌++◌, take, fold}
+use Rattle.std.specs.Prelude.{filter, not, if◌then◌else◌}
 use Rattle.std.specs.List.{AllByRecursion, flat_map, list_any}
 use Rattle.std.specs.Int.RustNames.{unsigned_abs}
 use Rattle.std.specs.Ordering.{int_eq}

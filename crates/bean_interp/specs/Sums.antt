@@ -45,6 +45,7 @@ with_leg es MissingAmount = es
 
 -- the leg is light, and the sum with it is narrow
 abbrev pub Fits : List Weighed → Leg → Type 0
-Fits es (Whole w) = IsLight (Whole w) × IsNarrow (entry_of es (currency_of w.units w.worth) +ℤ weight_of w)
+Fits es (Whole w) =
+    IsLight (Whole w) × IsNarrow (entry_of es (currency_of w.units w.worth) +ℤ weight_of w)
 Fits es (MissingNumber c) = Unit {0}
 Fits es MissingAmount = Unit {0}

@@ -1,5 +1,6 @@
 -- How far from 0 a transaction's weights may be.
-use Rattle.std.specs.Prelude.{◌*◌, ◌-◌, ◌^◌, ◌≤◌, ℕ, Option, Some, None, List, [], ◌∷◌, ◌&&◌, min, nat_lt, if◌then◌else◌}
+use Rattle.std.specs.Prelude.{◌*◌, ◌-◌, ◌^◌, ◌≤◌, ℕ, Option, Some, None, List, [], ◌∷◌, ◌&&◌, min}
+use Rattle.std.specs.Prelude.{nat_lt, if◌then◌else◌}
 use Rattle.std.specs.List.{AllByRecursion}
 use Rattle.std.specs.Str.{bytes_eq}
 use Rattle.bean_interp.specs.declared.leg.Leg.{Leg}
@@ -11,7 +12,8 @@ lesser d (Some e) = min e d
 
 -- the lesser of what it was and the decimals that a leg has for its units in the currency, if any
 abbrev pub with_written : Leg → List ℕ → Option ℕ → Option ℕ
-with_written (Whole w) c least = if nat_lt 0 w.decimals && bytes_eq w.units.currency c then Some (lesser w.decimals least) else least
+with_written (Whole w) c least = if nat_lt 0 w.decimals && bytes_eq w.units.currency c then
+    Some (lesser w.decimals least) else least
 with_written (MissingNumber m) c least = least
 with_written MissingAmount c least = least
 

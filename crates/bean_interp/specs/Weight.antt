@@ -1,5 +1,6 @@
 -- What a leg weighs.
-use Rattle.std.specs.Prelude.{◌≡◌, ◌*ℤ◌, ◌≤◌, ◌^◌, ℕ, ℤ, pos, neg_ℤ, List, Result, Ok, Err, if◌then◌else◌}
+use Rattle.std.specs.Prelude.{◌≡◌, ◌*ℤ◌, ◌≤◌, ◌^◌, ℕ, ℤ, pos, neg_ℤ, List, Result, Ok, Err}
+use Rattle.std.specs.Prelude.{if◌then◌else◌}
 use Rattle.std.specs.Int.RustNames.{unsigned_abs}
 use Rattle.std.specs.Int.Signed.{lt_z}
 use Rattle.bean_base.specs.Decimal.{scaled}
@@ -21,7 +22,8 @@ at_16 n = scaled n.count n.places 16
 
 -- the count with the sign of z, 0 for 0
 abbrev pub with_sign_of : ℤ → ℤ → ℤ
-with_sign_of z count = if lt_z z (pos 0) then neg_ℤ count else if lt_z (pos 0) z then count else pos 0
+with_sign_of z count = if lt_z z (pos 0) then neg_ℤ count else if lt_z (pos 0) z then count else
+    pos 0
 
 -- in counts of 10^-16: the cost goes before a price, and a total takes the sign of the units
 abbrev pub count_of : Amount → Worth → ℤ
@@ -41,5 +43,6 @@ weight_of w = count_of w.units w.worth
 
 -- the weight, or that it is too wide, exactly where it is
 abbrev pub Weighs : Whole → Result Weight TooWide → Type 0
-Weighs w (Ok weight) = (weight.count ≡ weight_of w) × (weight.currency ≡ currency_of w.units w.worth)
+Weighs w (Ok weight) =
+    (weight.count ≡ weight_of w) × (weight.currency ≡ currency_of w.units w.worth)
 Weighs w (Err e) = 10 ^ 28 ≤ unsigned_abs (weight_of w)

@@ -84,7 +84,9 @@ two_words = refl
 gap_length : gap_len spots.Behind (codes " ; x" ++ 10 ∷ codes "* y" ++ 10 ∷ codes "  z") ≡ 11
 gap_length = refl
 
-gap_end : place_of (behind_gap spots.Behind (codes " ; x" ++ 10 ∷ codes "* y" ++ 10 ∷ codes "  z")) ≡ places.Indented
+gap_end :
+    place_of (behind_gap spots.Behind (codes " ; x" ++ 10 ∷ codes "* y" ++ 10 ∷ codes "  z"))
+    ≡ places.Indented
 gap_end = refl
 
 -- a star that is not in the first column ends a gap
@@ -94,7 +96,8 @@ no_skipped_line = refl
 skipped_at_start : gap_len spots.LineStart (codes "# y" ++ 13 ∷ 10 ∷ codes "z") ≡ 5
 skipped_at_start = refl
 
-column_one : place_of (behind_gap spots.LineStart (codes "# y" ++ 13 ∷ 10 ∷ codes "z")) ≡ places.ColumnOne
+column_one :
+    place_of (behind_gap spots.LineStart (codes "# y" ++ 13 ∷ 10 ∷ codes "z")) ≡ places.ColumnOne
 column_one = refl
 
 behind_a_token : place_of (behind_gap spots.Behind (codes "  z")) ≡ places.Inside

@@ -1,6 +1,7 @@
 -- What stands between tokens, told in the language's words: each byte by the bytes of its gap that
 -- stand before it.
-use Rattle.std.specs.Prelude.{◌≡◌, ℕ, ◌<◌, ◌≤◌, ◌==◌, ◌&&◌, ◌||◌, Bool, true, false, List, [], ◌∷◌, ◌++◌, length, take, drop, slice_index, if◌then◌else◌}
+use Rattle.std.specs.Prelude.{◌≡◌, ℕ, ◌<◌, ◌≤◌, ◌==◌, ◌&&◌, ◌||◌, Bool, true, false, List, [], ◌∷◌}
+use Rattle.std.specs.Prelude.{◌++◌, length, take, drop, slice_index, if◌then◌else◌}
 use Rattle.std.specs.List.{list_any}
 use Rattle.bean_base.specs.Character.{semicolon}
 use Rattle.bean_lexer.specs.Gap.{is_line_feed, is_white, begins_skipped, gap_from}
@@ -28,7 +29,8 @@ first_is_skipped (b ∷ bs) = begins_skipped b
 
 -- in a line that begins with * : or # in the first column
 abbrev pub is_in_skipped : Bool → List ℕ → ℕ → Bool
-is_in_skipped at_start before b = line_begins at_start before && first_is_skipped (last_line before ++ b ∷ [])
+is_in_skipped at_start before b =
+    line_begins at_start before && first_is_skipped (last_line before ++ b ∷ [])
 
 -- white space, a line feed, or a byte of a comment or of a skipped line
 abbrev pub is_between : Bool → List ℕ → ℕ → Bool

@@ -1,7 +1,9 @@
 -- What stands between tokens: white space, line feeds, comments and skipped lines.
-use Rattle.std.specs.Prelude.{ℕ, zero, suc, ◌+◌, ◌==◌, ◌&&◌, ◌||◌, Bool, true, false, List, [], ◌∷◌, drop, Option, Some, None, if◌then◌else◌}
+use Rattle.std.specs.Prelude.{ℕ, zero, suc, ◌+◌, ◌==◌, ◌&&◌, ◌||◌, Bool, true, false, List, [], ◌∷◌}
+use Rattle.std.specs.Prelude.{drop, Option, Some, None, if◌then◌else◌}
 use Rattle.std.specs.Option.{option_map_or}
-use Rattle.bean_base.specs.Character.{tab, line_feed, carriage_return, space, hash, star, colon, semicolon}
+use Rattle.bean_base.specs.Character.{tab, line_feed, carriage_return, space, hash, star, colon}
+use Rattle.bean_base.specs.Character.{semicolon}
 use Rattle.bean_lexer.specs.declared.kind.Place.{Place}
 use Rattle.bean_lexer.specs.declared.kind.Place.TheVariants as place
 use Rattle.bean_lexer.specs.declared.gaps.Spot.{Spot}
@@ -41,7 +43,8 @@ abbrev pub gap_step : Spot → ℕ → Option Spot
 gap_step at b =
     if is_line_feed b then Some spot.LineStart
     else if is_white b then Some (behind_white at)
-    else if is_comment at || (b == semicolon) || (is_line_start at && begins_skipped b) then Some spot.Comment
+    else if is_comment at || (b == semicolon) || (is_line_start at && begins_skipped b) then
+    Some spot.Comment
     else None
 
 -- how long the gap at the front is

@@ -4,7 +4,8 @@ use Rattle.std.specs.Str.{bytes_eq}
 use Rattle.bean_base.specs.Numeral.{is_number}
 use Rattle.bean_base.specs.Name.{is_account, is_currency}
 use Rattle.bean_base.specs.Day.{is_day_form}
-use Rattle.bean_lexer.specs.TokenForm.{is_text, is_tag, is_link, is_key, keyword_spelling, sign_spelling}
+use Rattle.bean_lexer.specs.TokenForm.{is_text, is_tag, is_link, is_key, keyword_spelling}
+use Rattle.bean_lexer.specs.TokenForm.{sign_spelling}
 use Rattle.bean_lexer.specs.declared.kind.Kind.{Kind}
 use Rattle.bean_lexer.specs.declared.kind.Kind.TheVariants as kind
 

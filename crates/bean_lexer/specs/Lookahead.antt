@@ -1,8 +1,11 @@
 -- What a lexer looks ahead for: the tests by which it tells a token from its first bytes.
-use Rattle.std.specs.Prelude.{ℕ, ◌+◌, ◌-◌, ◌==◌, ◌&&◌, ◌||◌, not, Bool, List, length, nat_lt, nat_le, nat_eq, slice_index, codes, Option, Some, None, if◌then◌else◌}
+use Rattle.std.specs.Prelude.{ℕ, ◌+◌, ◌-◌, ◌==◌, ◌&&◌, ◌||◌, not, Bool, List, length, nat_lt}
+use Rattle.std.specs.Prelude.{nat_le, nat_eq, slice_index, codes, Option, Some, None, if◌then◌else◌}
 use Rattle.std.specs.List.{find, list_all, starts_with}
 use Rattle.std.specs.Char.{is_ascii_digit, is_ascii_uppercase, is_ascii_lowercase}
-use Rattle.bean_base.specs.Character.{bang, quote, hash, open_parenthesis, close_parenthesis, star, plus, comma, dash, colon, at_sign, caret, open_brace, close_brace, tilde}
+use Rattle.bean_base.specs.Character.{bang, quote, hash, open_parenthesis, close_parenthesis, star}
+use Rattle.bean_base.specs.Character.{plus, comma, dash, colon, at_sign, caret, open_brace}
+use Rattle.bean_base.specs.Character.{close_brace, tilde}
 use Rattle.bean_base.specs.Name.{begins_component, is_in_currency}
 use Rattle.bean_lexer.specs.TokenForm.{keyword_spelling}
 use Rattle.bean_lexer.specs.declared.kind.TheConstants.{WORDS}
@@ -12,7 +15,9 @@ use Rattle.bean_lexer.specs.declared.kind.Sign.TheVariants as signs
 
 -- a comma and a digit stand at a place
 abbrev pub has_more_digits : List ℕ → ℕ → Bool
-has_more_digits bs at = nat_lt (at + 1) (length bs) && (slice_index bs at == comma) && is_ascii_digit (slice_index bs (at + 1))
+has_more_digits bs at =
+    nat_lt (at + 1) (length bs) && (slice_index bs at == comma)
+    && is_ascii_digit (slice_index bs (at + 1))
 
 -- the length of a root and its colon at the front, or 0
 abbrev pub root_len : List ℕ → ℕ
@@ -40,7 +45,8 @@ abbrev pub is_currency_form : List ℕ → Bool
 is_currency_form bs =
     nat_le 1 (length bs) && nat_le (length bs) 24 && list_all is_in_currency bs
     && (is_ascii_uppercase (slice_index bs 0)
-    && (is_ascii_uppercase (slice_index bs (length bs - 1)) || is_ascii_digit (slice_index bs (length bs - 1))))
+    && (is_ascii_uppercase (slice_index bs (length bs - 1))
+    || is_ascii_digit (slice_index bs (length bs - 1))))
 
 abbrev pub ends_currency : ℕ → Bool
 ends_currency b = is_ascii_uppercase b || is_ascii_digit b
@@ -56,7 +62,8 @@ keyword_at bs = find (λ word. starts_with nat_eq bs (keyword_spelling word)) WO
 -- the bytes that begin nothing but signs and faults
 abbrev pub begins_other : ℕ → Bool
 begins_other b =
-    not (is_ascii_digit b) && not (is_ascii_uppercase b) && not (is_ascii_lowercase b) && not (b == quote) && not (b == hash)
+    not (is_ascii_digit b) && not (is_ascii_uppercase b) && not (is_ascii_lowercase b)
+    && not (b == quote) && not (b == hash)
     && not (b == caret)
 
 -- the sign of one byte, but for #
@@ -84,4 +91,5 @@ doubled_sign_of b =
     else None
 
 abbrev pub doubled_sign_at : List ℕ → Option Sign
-doubled_sign_at bs = if nat_lt 1 (length bs) && (slice_index bs 1 == slice_index bs 0) then doubled_sign_of (slice_index bs 0) else None
+doubled_sign_at bs = if nat_lt 1 (length bs) && (slice_index bs 1 == slice_index bs 0) then
+    doubled_sign_of (slice_index bs 0) else None

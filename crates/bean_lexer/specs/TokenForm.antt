@@ -1,12 +1,21 @@
 -- How texts, tags, links, keys, words and signs are written.
-use Rattle.std.specs.Prelude.{ℕ, ◌-◌, ◌==◌, ◌&&◌, ◌||◌, Bool, true, false, List, [], ◌∷◌, length, take, nat_lt, slice_index, if◌then◌else◌, codes, not}
+use Rattle.std.specs.Prelude.{ℕ, ◌-◌, ◌==◌, ◌&&◌, ◌||◌, Bool, true, false, List, [], ◌∷◌, length}
+use Rattle.std.specs.Prelude.{take, nat_lt, slice_index, if◌then◌else◌, codes, not}
 use Rattle.std.specs.List.{list_all}
 use Rattle.std.specs.Char.{is_ascii_lowercase, is_ascii_alphanumeric}
-use Rattle.bean_base.specs.Character.{quote, hash, dash, point, slash, colon, backslash, caret, underscore, letter_n, letter_t}
+use Rattle.bean_base.specs.Character.{quote, hash, dash, point, slash, colon, backslash, caret}
+use Rattle.bean_base.specs.Character.{underscore, letter_n, letter_t}
 use Rattle.bean_lexer.specs.declared.kind.Keyword.{Keyword}
-use Rattle.bean_lexer.specs.declared.kind.Keyword.TheVariants.{Open, Close, Commodity, Txn, Balance, Pad, Note, Document, Price, Event, Query, Custom, Option, Include, Plugin, PushTag, PopTag, PushMeta, PopMeta, True, False}
+use Rattle.bean_lexer.specs.declared.kind.Keyword.TheVariants.{Open, Close, Commodity, Txn, Balance}
+use Rattle.bean_lexer.specs.declared.kind.Keyword.TheVariants.{Pad, Note, Document, Price, Event}
+use Rattle.bean_lexer.specs.declared.kind.Keyword.TheVariants.{Query, Custom, Option, Include}
+use Rattle.bean_lexer.specs.declared.kind.Keyword.TheVariants.{Plugin, PushTag, PopTag, PushMeta}
+use Rattle.bean_lexer.specs.declared.kind.Keyword.TheVariants.{PopMeta, True, False}
 use Rattle.bean_lexer.specs.declared.kind.Sign.{Sign}
-use Rattle.bean_lexer.specs.declared.kind.Sign.TheVariants.{Star, Bang, Comma, Plus, Minus, OpenParenthesis, CloseParenthesis, OpenBrace, CloseBrace, OpenBraces, CloseBraces, At, AtAt, Tilde, Hash}
+use Rattle.bean_lexer.specs.declared.kind.Sign.TheVariants.{Star, Bang, Comma, Plus, Minus}
+use Rattle.bean_lexer.specs.declared.kind.Sign.TheVariants.{OpenParenthesis, CloseParenthesis}
+use Rattle.bean_lexer.specs.declared.kind.Sign.TheVariants.{OpenBrace, CloseBrace, OpenBraces}
+use Rattle.bean_lexer.specs.declared.kind.Sign.TheVariants.{CloseBraces, At, AtAt, Tilde, Hash}
 
 abbrev pub is_empty : List ℕ → Bool
 is_empty [] = true
@@ -31,7 +40,8 @@ is_text (b ∷ bs) = (b == quote) && ends_text false bs
 
 -- letters, digits and - _ / .
 abbrev pub is_in_name : ℕ → Bool
-is_in_name b = is_ascii_alphanumeric b || (b == dash) || (b == underscore) || (b == slash) || (b == point)
+is_in_name b =
+    is_ascii_alphanumeric b || (b == dash) || (b == underscore) || (b == slash) || (b == point)
 
 -- a sign, and a name of one or more characters
 abbrev pub is_name_behind : ℕ → List ℕ → Bool

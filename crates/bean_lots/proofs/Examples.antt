@@ -1,5 +1,6 @@
 -- The definitions at worked values.
-use Rattle.std.proofs.Common.{◌≡◌, ◌<◌, ◌≤◌, ◌^◌, ℕ, ℤ, pos, negsuc, List, [], ◌∷◌, Some, None, codes, refl, arith}
+use Rattle.std.proofs.Common.{◌≡◌, ◌<◌, ◌≤◌, ◌^◌, ℕ, ℤ, pos, negsuc, List, [], ◌∷◌, Some, None}
+use Rattle.std.proofs.Common.{codes, refl, arith}
 use Rattle.bean_base.proofs.WorkedDays.{january_2, january_3, january_2_number}
 use Rattle.bean_base.specs.declared.days.Day.{Day}
 use Rattle.bean_lots.specs.declared.lot.Cost.{Cost}
@@ -59,13 +60,16 @@ position l count = record { key = held_as l; count = count }
 new_keys_last : both ≡ position first (pos 10) ∷ position second (pos 5) ∷ []
 new_keys_last = refl
 
-keeps_its_place : added both (held_as first) (pos 1) ≡ position first (pos 11) ∷ position second (pos 5) ∷ []
+keeps_its_place :
+    added both (held_as first) (pos 1) ≡ position first (pos 11) ∷ position second (pos 5) ∷ []
 keeps_its_place = rw january_2_number refl
 
 goes_at_zero : added both (held_as first) (negsuc 9) ≡ position second (pos 5) ∷ []
 goes_at_zero = rw january_2_number refl
 
-comes_back_last : added (added both (held_as first) (negsuc 9)) (held_as first) (pos 10) ≡ position second (pos 5) ∷ position first (pos 10) ∷ []
+comes_back_last :
+    added (added both (held_as first) (negsuc 9)) (held_as first) (pos 10)
+    ≡ position second (pos 5) ∷ position first (pos 10) ∷ []
 comes_back_last = rw january_2_number refl
 
 absent : count_of both (held_as (lot (usd 90 few_90) january_2)) ≡ pos 0
@@ -85,8 +89,12 @@ of_no_such_cost : candidates at_120 (negsuc 0) both ≡ []
 of_no_such_cost = refl
 
 -- takes
-all_of_one_before_the_next : signed_takes (negsuc 11) (filled ((first, 10) ∷ (second, 5) ∷ []) 12) ≡ (first, negsuc 9, 8) ∷ (second, negsuc 1, 8) ∷ []
+all_of_one_before_the_next :
+    signed_takes (negsuc 11) (filled ((first, 10) ∷ (second, 5) ∷ []) 12)
+    ≡ (first, negsuc 9, 8) ∷ (second, negsuc 1, 8) ∷ []
 all_of_one_before_the_next = refl
 
-of_short_positions : signed_takes (pos 12) (filled ((first, 10) ∷ (second, 5) ∷ []) 12) ≡ (first, pos 10, 8) ∷ (second, pos 2, 8) ∷ []
+of_short_positions :
+    signed_takes (pos 12) (filled ((first, 10) ∷ (second, 5) ∷ []) 12)
+    ≡ (first, pos 10, 8) ∷ (second, pos 2, 8) ∷ []
 of_short_positions = refl

@@ -11,7 +11,8 @@ use Rattle.bean_lots.specs.declared.lot.Key.{Key}
 
 cost_total : IsTotalOrder cost_order
 cost_total =
-    then_total (on_total (λ (c : Cost). c.currency) nat_list_cmp_total) (on_total (λ (c : Cost). c.count) int_cmp_total)
+    then_total (on_total (λ (c : Cost). c.currency) nat_list_cmp_total)
+    (on_total (λ (c : Cost). c.count) int_cmp_total)
 
 lot_total : IsTotalOrder lot_order
 lot_total =

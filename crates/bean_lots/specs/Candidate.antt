@@ -1,5 +1,7 @@
--- The candidates of a reduction: the lots of the currency that agree with the selector and have the opposite sign.
-use Rattle.std.specs.Prelude.{Bool, true, ◌&&◌, ◌||◌, ℕ, ℤ, pos, List, [], ◌∷◌, ◌++◌, Option, Some, None, if◌then◌else◌}
+-- The candidates of a reduction: the lots of the currency that agree with the selector and have the
+-- opposite sign.
+use Rattle.std.specs.Prelude.{Bool, true, ◌&&◌, ◌||◌, ℕ, ℤ, pos, List, [], ◌∷◌, ◌++◌, Option, Some}
+use Rattle.std.specs.Prelude.{None, if◌then◌else◌}
 use Rattle.std.specs.Int.RustNames.{unsigned_abs}
 use Rattle.std.specs.Int.Signed.{lt_z}
 use Rattle.std.specs.Ordering.{int_eq}
@@ -35,9 +37,11 @@ is_opposite want n = (lt_z want (pos 0) && lt_z (pos 0) n) || (lt_z (pos 0) want
 abbrev pub candidate_of : Selector → ℤ → List ℕ → Option Lot → ℤ → List (Lot × ℕ)
 candidate_of s want currency None n = []
 candidate_of s want currency (Some lot) n =
-    if same_text currency s.currency && agrees s lot && is_opposite want n then (lot, unsigned_abs n) ∷ [] else []
+    if same_text currency s.currency && agrees s lot && is_opposite want n then
+    (lot, unsigned_abs n) ∷ [] else []
 
 -- the candidates, in order of entry
 abbrev pub candidates : Selector → ℤ → List Position → List (Lot × ℕ)
 candidates s want [] = []
-candidates s want (e ∷ es) = candidate_of s want e.key.currency e.key.lot e.count ++ candidates s want es
+candidates s want (e ∷ es) =
+    candidate_of s want e.key.currency e.key.lot e.count ++ candidates s want es

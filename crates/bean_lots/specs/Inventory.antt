@@ -1,5 +1,6 @@
 -- An inventory as the list of its positions, in order of entry.
-use Rattle.std.specs.Prelude.{◌≡◌, ◌^◌, ◌<◌, false, List, [], ◌∷◌, ◌++◌, ℤ, pos, neg_ℤ, ◌+ℤ◌, if◌then◌else◌}
+use Rattle.std.specs.Prelude.{◌≡◌, ◌^◌, ◌<◌, false, List, [], ◌∷◌, ◌++◌, ℤ, pos, neg_ℤ, ◌+ℤ◌}
+use Rattle.std.specs.Prelude.{if◌then◌else◌}
 use Rattle.std.specs.Int.RustNames.{unsigned_abs}
 use Rattle.std.specs.Ordering.{int_eq}
 use Rattle.std.specs.List.{AllByRecursion}
@@ -16,10 +17,12 @@ count_of (e ∷ es) k = if same_key k e.key then e.count else count_of es k
 abbrev pub held_as : Key → ℤ → List Position
 held_as k n = if int_eq n (pos 0) then [] else record { key = k; count = n } ∷ []
 
--- with n more under a key: a new key goes last, one that is there keeps its place, and one that comes to 0 goes
+-- with n more under a key: a new key goes last, one that is there keeps its place, and one that
+-- comes to 0 goes
 abbrev pub added : List Position → Key → ℤ → List Position
 added [] k n = held_as k n
-added (e ∷ es) k n = if same_key k e.key then held_as e.key (e.count +ℤ n) ++ es else e ∷ added es k n
+added (e ∷ es) k n = if same_key k e.key then held_as e.key (e.count +ℤ n) ++ es else
+    e ∷ added es k n
 
 -- the entry of the other sign
 abbrev pub negative_entry : Position → Position
@@ -34,4 +37,5 @@ DiffersFrom k e = same_key k e.key ≡ false
 -- no count is 0, and no key comes twice
 abbrev pub IsInventory : List Position → Type 0
 IsInventory [] = Unit {0}
-IsInventory (e ∷ es) = (int_eq e.count (pos 0) ≡ false) × AllByRecursion (DiffersFrom e.key) es × IsInventory es
+IsInventory (e ∷ es) =
+    (int_eq e.count (pos 0) ≡ false) × AllByRecursion (DiffersFrom e.key) es × IsInventory es

@@ -17,7 +17,9 @@ same_cost a b = same_text a.currency b.currency && int_eq a.count b.count
 
 -- of one cost, one day and one label or none
 abbrev pub same_lot : Lot → Lot → Bool
-same_lot a b = same_cost a.cost b.cost && (int_eq (number a.day) (number b.day) && option_eq same_text a.label b.label)
+same_lot a b =
+    same_cost a.cost b.cost
+    && (int_eq (number a.day) (number b.day) && option_eq same_text a.label b.label)
 
 abbrev pub same_key : Key → Key → Bool
 same_key a b = same_text a.currency b.currency && option_eq same_lot a.lot b.lot

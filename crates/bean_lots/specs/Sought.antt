@@ -1,5 +1,6 @@
 -- The place where a key is sought in an inventory, and what that says.
-use Rattle.std.specs.Prelude.{◌≡◌, ◌<◌, ℕ, suc, List, ◌++◌, ℤ, pos, ◌+ℤ◌, length, take, drop, slice_index_or, Option, Some, None}
+use Rattle.std.specs.Prelude.{◌≡◌, ◌<◌, ℕ, suc, List, ◌++◌, ℤ, pos, ◌+ℤ◌, length, take, drop}
+use Rattle.std.specs.Prelude.{slice_index_or, Option, Some, None}
 use Rattle.bean_lots.specs.declared.lot.Key.{Key}
 use Rattle.bean_lots.specs.declared.lot.Position.{Position}
 use Rattle.bean_lots.specs.Inventory.{count_of, held_as, added}
@@ -8,7 +9,10 @@ use Rattle.bean_lots.specs.Inventory.{count_of, held_as, added}
 pub record IsAt (es : List Position) (k : Key) (i : ℕ) : Type 0 where
   pub below : i < length es
   pub count : (d : Position) → count_of es k ≡ (slice_index_or es i d).count
-  pub more : (d : Position) (n : ℤ) → added es k n ≡ take i es ++ (held_as (slice_index_or es i d).key ((slice_index_or es i d).count +ℤ n) ++ drop (suc i) es)
+  pub more : (d : Position) (n : ℤ)
+      → added es k n ≡ take i es
+      ++ (held_as (slice_index_or es i d).key ((slice_index_or es i d).count +ℤ n)
+      ++ drop (suc i) es)
 
 -- no entry has the key
 pub record IsAbsent (es : List Position) (k : Key) : Type 0 where

@@ -1,5 +1,6 @@
 -- What a reduction takes.
-use Rattle.std.specs.Prelude.{◌≡◌, ◌≤◌, ◌<◌, ℕ, ℤ, pos, neg_ℤ, List, map, length, sum_by, suc, slice_index_or, if◌then◌else◌}
+use Rattle.std.specs.Prelude.{◌≡◌, ◌≤◌, ◌<◌, ℕ, ℤ, pos, neg_ℤ, List, map, length, sum_by, suc}
+use Rattle.std.specs.Prelude.{slice_index_or, if◌then◌else◌}
 use Rattle.std.specs.declared.cmp.Ordering.{Ordering}
 use Rattle.std.specs.Int.Signed.{lt_z}
 use Rattle.std.specs.Ordering.{int_cmp}
@@ -25,14 +26,18 @@ units_of c = c.1
 abbrev pub IsQueue : Method → List (Lot × ℕ) → List (Lot × ℕ) → Type 0
 IsQueue m cs q = IsArrangedByKey day_of (order_of m) cs q
 
--- the first candidates of the queue are taken, each gives some of what is held of it, each but the last all of it,
+-- the first candidates of the queue are taken, each gives some of what is held of it, each but the
+-- last all of it,
 -- and together they give the want
 pub record AreTakes (q : List (Lot × ℕ)) (want : ℕ) (ts : List (Lot × ℕ)) : Type 0 where
   pub few : length ts ≤ length q
-  pub lots : (k : ℕ) (d : Lot × ℕ) → k < length ts → (slice_index_or ts k d).0 ≡ (slice_index_or q k d).0
+  pub lots : (k : ℕ) (d : Lot × ℕ) → k < length ts
+      → (slice_index_or ts k d).0 ≡ (slice_index_or q k d).0
   pub some : (k : ℕ) (d : Lot × ℕ) → k < length ts → 0 < (slice_index_or ts k d).1
-  pub held : (k : ℕ) (d : Lot × ℕ) → k < length ts → (slice_index_or ts k d).1 ≤ (slice_index_or q k d).1
-  pub whole : (k : ℕ) (d : Lot × ℕ) → suc k < length ts → (slice_index_or ts k d).1 ≡ (slice_index_or q k d).1
+  pub held : (k : ℕ) (d : Lot × ℕ) → k < length ts
+      → (slice_index_or ts k d).1 ≤ (slice_index_or q k d).1
+  pub whole : (k : ℕ) (d : Lot × ℕ) → suc k < length ts
+      → (slice_index_or ts k d).1 ≡ (slice_index_or q k d).1
   pub total : sum_by units_of ts ≡ want
 
 -- a count with the sign of the want

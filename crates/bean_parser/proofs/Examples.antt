@@ -23,7 +23,9 @@ abbrev another_pop : PlacedBound
 another_pop = record { line = 9; place = 9; bound = Pop (names.Tag (codes "b")) }
 
 -- of two pops the first takes the later push back, and one of another name takes neither
-outer_pop : pop_of (names.Tag (codes "a")) 0 (another_pop ∷ push_at 2 1 ∷ pop_at 3 2 ∷ pop_at 4 5 ∷ []) ≡ Some 5
+outer_pop :
+    pop_of (names.Tag (codes "a")) 0 (another_pop ∷ push_at 2 1 ∷ pop_at 3 2 ∷ pop_at 4 5 ∷ [])
+    ≡ Some 5
 outer_pop = refl
 
 inner_pop : pop_of (names.Tag (codes "a")) 0 (pop_at 3 2 ∷ pop_at 4 5 ∷ []) ≡ Some 2
@@ -37,7 +39,9 @@ still_open : open_pushes (names.Tag (codes "a")) 0 (pop_at 1 0 ∷ push_at 2 0 �
 still_open = refl
 
 -- a pop of nothing, and a push that is open at the end
-two_faults : unmatched [] (pop_at 1 0 ∷ push_at 2 0 ∷ pop_at 3 1 ∷ push_at 4 1 ∷ []) ≡ fault_at UnmatchedPushOrPop 1 ∷ fault_at UnmatchedPushOrPop 4 ∷ []
+two_faults :
+    unmatched [] (pop_at 1 0 ∷ push_at 2 0 ∷ pop_at 3 1 ∷ push_at 4 1 ∷ [])
+    ≡ fault_at UnmatchedPushOrPop 1 ∷ fault_at UnmatchedPushOrPop 4 ∷ []
 two_faults = refl
 
 -- what is out of range leaves the rest as it was
@@ -45,5 +49,7 @@ outside : with_lines no_lines (lines.Entry Outside ∷ []) ≡ record no_lines {
 outside = refl
 
 -- an entry without a posting above it is the directive's own
-own_entry : with_lines no_lines (lines.Entry (Within record { key = codes "k"; value = value.Nothing }) ∷ []) ≡ record no_lines { metadata = record { key = codes "k"; value = value.Nothing } ∷ [] }
+own_entry :
+    with_lines no_lines (lines.Entry (Within record { key = codes "k"; value = value.Nothing })
+    ∷ []) ≡ record no_lines { metadata = record { key = codes "k"; value = value.Nothing } ∷ [] }
 own_entry = refl

@@ -1,5 +1,6 @@
 -- What is kept of blocks, one after the other.
-use Rattle.std.proofs.Common.{◌≡◌, ℕ, ◌+◌, List, [], ◌∷◌, ◌++◌, length, sym, ◌∙◌, ap, subst, append_assoc, arith}
+use Rattle.std.proofs.Common.{◌≡◌, ℕ, ◌+◌, List, [], ◌∷◌, ◌++◌, length, sym, ◌∙◌, ap, subst}
+use Rattle.std.proofs.Common.{append_assoc, arith}
 use Rattle.std.proofs.lemmas.List.{append-nil}
 use Rattle.std.specs.List.{flat_map}
 use Rattle.bean_parser.specs.Gathered.{IsGathered, undated_at}
@@ -18,24 +19,34 @@ use Rattle.bean_heads.specs.declared.undated.UndatedKind.{UndatedKind}
 use Rattle.bean_heads.specs.declared.undated.UndatedKind.TheVariants as kind
 use Rattle.bean_parser.specs.declared.parse.Gathered.{Gathered}
 
-one_more : {A B : Type 0} (f : A → List B) (xs : List A) (x : A) → flat_map f (xs ++ x ∷ []) ≡ flat_map f xs ++ f x
+one_more : {A B : Type 0} (f : A → List B) (xs : List A) (x : A)
+    → flat_map f (xs ++ x ∷ []) ≡ flat_map f xs ++ f x
 one_more f [] x = append-nil (f x)
-one_more f (y ∷ ys) x = ap (λ r. f y ++ r) (one_more f ys x) ∙ sym (append_assoc (f y) (flat_map f ys) (f x))
+one_more f (y ∷ ys) x =
+    ap (λ r. f y ++ r) (one_more f ys x) ∙ sym (append_assoc (f y) (flat_map f ys) (f x))
 
 length_append : {A : Type 0} (xs ys : List A) → length (xs ++ ys) ≡ length xs + length ys
 length_append [] ys = omega arith
 length_append (x ∷ xs) ys = let e = length_append xs ys in omega (arith, e)
 
-bounds_more : (place : ℕ) (os : List Outcome) (o : Outcome) → all_bounds place (os ++ o ∷ []) ≡ all_bounds place os ++ bounds_in (place + length (flat_map directives_in os)) o
+bounds_more : (place : ℕ) (os : List Outcome) (o : Outcome)
+    → all_bounds place (os ++ o ∷ [])
+    ≡ all_bounds place os ++ bounds_in (place + length (flat_map directives_in os)) o
 bounds_more place [] o = append-nil (bounds_in place o) ∙ ap (λ n. bounds_in n o) (omega arith)
 bounds_more place (p ∷ os) o =
     let here = bounds_in place p in
     let next = place + length (directives_in p) in
-    let far : next + length (flat_map directives_in os) ≡ place + length (directives_in p ++ flat_map directives_in os) = omega (arith, length_append (directives_in p) (flat_map directives_in os)) in
+    let far :
+    next + length (flat_map directives_in os)
+    ≡ place + length (directives_in p ++ flat_map directives_in os) =
+    omega (arith, length_append (directives_in p) (flat_map directives_in os)) in
     ap (λ r. here ++ r) (bounds_more next os o ∙ ap (λ n. all_bounds next os ++ bounds_in n o) far)
-    ∙ sym (append_assoc here (all_bounds next os) (bounds_in (place + length (directives_in p ++ flat_map directives_in os)) o))
+    ∙ sym (append_assoc here (all_bounds next os)
+    (bounds_in (place + length (directives_in p ++ flat_map directives_in os)) o))
 
-bounds_from_first : (os : List Outcome) (o : Outcome) → all_bounds 0 (os ++ o ∷ []) ≡ all_bounds 0 os ++ bounds_in (length (flat_map directives_in os)) o
+bounds_from_first : (os : List Outcome) (o : Outcome)
+    → all_bounds 0 (os ++ o ∷ [])
+    ≡ all_bounds 0 os ++ bounds_in (length (flat_map directives_in os)) o
 bounds_from_first os o =
     let n = length (flat_map directives_in os) in
     let same : 0 + n ≡ n = omega arith in
@@ -48,42 +59,98 @@ pub record Adds (o : Outcome) (g g' : Gathered) : Type 0 where
   pub bounds : g'.bounds.items ≡ g.bounds.items ++ bounds_in (length g.directives.items) o
   pub faults : g'.faults.items ≡ g.faults.items ++ faults_in o
 
-pub gathered_more : (os : List Outcome) (o : Outcome) (g g' : Gathered) → Adds o g g' → IsGathered os g → IsGathered (os ++ o ∷ []) g'
+pub gathered_more : (os : List Outcome) (o : Outcome) (g g' : Gathered) → Adds o g g'
+    → IsGathered os g → IsGathered (os ++ o ∷ []) g'
 gathered_more os o g g' a is = record {
-  directives = a.directives ∙ ap (λ x. x ++ directives_in o) is.directives ∙ sym (one_more directives_in os o);
-  settings = a.settings ∙ ap (λ x. x ++ settings_in o) is.settings ∙ sym (one_more settings_in os o);
-  bounds = a.bounds ∙ (λ i. is.bounds i ++ bounds_in (length (is.directives i)) o) ∙ sym (bounds_from_first os o);
+  directives =
+      a.directives ∙ ap (λ x. x ++ directives_in o) is.directives
+      ∙ sym (one_more directives_in os o);
+  settings =
+      a.settings ∙ ap (λ x. x ++ settings_in o) is.settings ∙ sym (one_more settings_in os o);
+  bounds = a.bounds ∙ (λ i. is.bounds i ++ bounds_in (length (is.directives i)) o)
+      ∙ sym (bounds_from_first os o);
   faults = a.faults ∙ ap (λ x. x ++ faults_in o) is.faults ∙ sym (one_more faults_in os o);
 }
 
 -- what each kind of block adds
 
-pub fault_adds : (os : List Outcome) (o : Outcome) (f : faults.Fault) (g g' : Gathered) → o ≡ outcome.Fault f → g'.directives.items ≡ g.directives.items → g'.settings.items ≡ g.settings.items → g'.bounds.items ≡ g.bounds.items
+pub fault_adds : (os : List Outcome) (o : Outcome) (f : faults.Fault) (g g' : Gathered)
+    → o ≡ outcome.Fault f → g'.directives.items ≡ g.directives.items
+    → g'.settings.items ≡ g.settings.items → g'.bounds.items ≡ g.bounds.items
     → g'.faults.items ≡ g.faults.items ++ f ∷ [] → IsGathered os g → IsGathered (os ++ o ∷ []) g'
 fault_adds os o f g g' is ds ss bs fs h =
     subst (λ x. IsGathered (os ++ x ∷ []) g') (sym is)
-    (gathered_more os (outcome.Fault f) g g' record { directives = ds ∙ sym (append-nil g.directives.items); settings = ss ∙ sym (append-nil g.settings.items); bounds = bs ∙ sym (append-nil g.bounds.items); faults = fs } h)
+    (gathered_more os (outcome.Fault f) g g' record {
+      directives =
+          ds ∙ sym (append-nil g.directives.items);
+      settings = ss ∙ sym (append-nil g.settings.items);
+      bounds = bs ∙ sym (append-nil g.bounds.items);
+      faults = fs;
+    } h)
 
-pub directive_adds : (os : List Outcome) (s : Statement) (d : directives.Directive) (g g' : Gathered) → s ≡ statement.Directive d → g'.directives.items ≡ g.directives.items ++ d ∷ [] → g'.settings.items ≡ g.settings.items
-    → g'.bounds.items ≡ g.bounds.items → g'.faults.items ≡ g.faults.items → IsGathered os g → IsGathered (os ++ outcome.Statement s ∷ []) g'
+pub directive_adds :
+    (os : List Outcome) (s : Statement) (d : directives.Directive) (g g' : Gathered)
+    → s ≡ statement.Directive d → g'.directives.items ≡ g.directives.items ++ d ∷ []
+    → g'.settings.items ≡ g.settings.items
+    → g'.bounds.items ≡ g.bounds.items → g'.faults.items ≡ g.faults.items → IsGathered os g
+    → IsGathered (os ++ outcome.Statement s ∷ []) g'
 directive_adds os s d g g' is ds ss bs fs h =
     subst (λ x. IsGathered (os ++ outcome.Statement x ∷ []) g') (sym is)
-    (gathered_more os (outcome.Statement (statement.Directive d)) g g' record { directives = ds; settings = ss ∙ sym (append-nil g.settings.items); bounds = bs ∙ sym (append-nil g.bounds.items); faults = fs ∙ sym (append-nil g.faults.items) } h)
+    (gathered_more os (outcome.Statement (statement.Directive d)) g g' record {
+      directives =
+          ds;
+      settings = ss ∙ sym (append-nil g.settings.items);
+      bounds =
+          bs ∙ sym (append-nil g.bounds.items);
+      faults = fs ∙ sym (append-nil g.faults.items);
+    } h)
 
-pub setting_adds : (os : List Outcome) (line : ℕ) (u : UndatedKind) (k : SettingKind) (g g' : Gathered) → u ≡ kind.Setting k → g'.directives.items ≡ g.directives.items → g'.settings.items ≡ g.settings.items ++ record { line = line; kind = k } ∷ []
-    → g'.bounds.items ≡ g.bounds.items → g'.faults.items ≡ g.faults.items → IsGathered os g → IsGathered (os ++ undated_at line u ∷ []) g'
+pub setting_adds :
+    (os : List Outcome) (line : ℕ) (u : UndatedKind) (k : SettingKind) (g g' : Gathered)
+    → u ≡ kind.Setting k → g'.directives.items ≡ g.directives.items
+    → g'.settings.items ≡ g.settings.items ++ record { line = line; kind = k } ∷ []
+    → g'.bounds.items ≡ g.bounds.items → g'.faults.items ≡ g.faults.items → IsGathered os g
+    → IsGathered (os ++ undated_at line u ∷ []) g'
 setting_adds os line u k g g' is ds ss bs fs h =
     subst (λ x. IsGathered (os ++ undated_at line x ∷ []) g') (sym is)
-    (gathered_more os (undated_at line (kind.Setting k)) g g' record { directives = ds ∙ sym (append-nil g.directives.items); settings = ss; bounds = bs ∙ sym (append-nil g.bounds.items); faults = fs ∙ sym (append-nil g.faults.items) } h)
+    (gathered_more os (undated_at line (kind.Setting k)) g g' record {
+      directives =
+          ds ∙ sym (append-nil g.directives.items);
+      settings = ss;
+      bounds =
+          bs ∙ sym (append-nil g.bounds.items);
+      faults = fs ∙ sym (append-nil g.faults.items);
+    } h)
 
-pub ignored_adds : (os : List Outcome) (line : ℕ) (u : UndatedKind) (g g' : Gathered) → u ≡ kind.Ignored → g'.directives.items ≡ g.directives.items → g'.settings.items ≡ g.settings.items
-    → g'.bounds.items ≡ g.bounds.items → g'.faults.items ≡ g.faults.items ++ fault_at Ignored line ∷ [] → IsGathered os g → IsGathered (os ++ undated_at line u ∷ []) g'
+pub ignored_adds : (os : List Outcome) (line : ℕ) (u : UndatedKind) (g g' : Gathered)
+    → u ≡ kind.Ignored → g'.directives.items ≡ g.directives.items
+    → g'.settings.items ≡ g.settings.items
+    → g'.bounds.items ≡ g.bounds.items
+    → g'.faults.items ≡ g.faults.items ++ fault_at Ignored line ∷ [] → IsGathered os g
+    → IsGathered (os ++ undated_at line u ∷ []) g'
 ignored_adds os line u g g' is ds ss bs fs h =
     subst (λ x. IsGathered (os ++ undated_at line x ∷ []) g') (sym is)
-    (gathered_more os (undated_at line kind.Ignored) g g' record { directives = ds ∙ sym (append-nil g.directives.items); settings = ss ∙ sym (append-nil g.settings.items); bounds = bs ∙ sym (append-nil g.bounds.items); faults = fs } h)
+    (gathered_more os (undated_at line kind.Ignored) g g' record {
+      directives =
+          ds ∙ sym (append-nil g.directives.items);
+      settings = ss ∙ sym (append-nil g.settings.items);
+      bounds = bs ∙ sym (append-nil g.bounds.items);
+      faults = fs;
+    } h)
 
-pub bound_adds : (os : List Outcome) (line : ℕ) (u : UndatedKind) (b : Bound) (g g' : Gathered) → u ≡ kind.Bound b → g'.directives.items ≡ g.directives.items → g'.settings.items ≡ g.settings.items
-    → g'.bounds.items ≡ g.bounds.items ++ record { line = line; place = length g.directives.items; bound = b } ∷ [] → g'.faults.items ≡ g.faults.items → IsGathered os g → IsGathered (os ++ undated_at line u ∷ []) g'
+pub bound_adds : (os : List Outcome) (line : ℕ) (u : UndatedKind) (b : Bound) (g g' : Gathered)
+    → u ≡ kind.Bound b → g'.directives.items ≡ g.directives.items
+    → g'.settings.items ≡ g.settings.items
+    → g'.bounds.items ≡ g.bounds.items
+    ++ record { line = line; place = length g.directives.items; bound = b } ∷ []
+    → g'.faults.items ≡ g.faults.items → IsGathered os g
+    → IsGathered (os ++ undated_at line u ∷ []) g'
 bound_adds os line u b g g' is ds ss bs fs h =
     subst (λ x. IsGathered (os ++ undated_at line x ∷ []) g') (sym is)
-    (gathered_more os (undated_at line (kind.Bound b)) g g' record { directives = ds ∙ sym (append-nil g.directives.items); settings = ss ∙ sym (append-nil g.settings.items); bounds = bs; faults = fs ∙ sym (append-nil g.faults.items) } h)
+    (gathered_more os (undated_at line (kind.Bound b)) g g' record {
+      directives =
+          ds ∙ sym (append-nil g.directives.items);
+      settings = ss ∙ sym (append-nil g.settings.items);
+      bounds = bs;
+      faults = fs ∙ sym (append-nil g.faults.items);
+    } h)

@@ -1,5 +1,6 @@
 -- A text, block by block.
-use Rattle.std.proofs.Common.{◌≡◌, ℕ, true, List, [], ◌∷◌, ◌++◌, refl, sym, ◌∙◌, subst, append_assoc}
+use Rattle.std.proofs.Common.{◌≡◌, ℕ, true, List, [], ◌∷◌, ◌++◌, refl, sym, ◌∙◌, subst}
+use Rattle.std.proofs.Common.{append_assoc}
 use Rattle.std.proofs.lemmas.List.{append-nil}
 use Rattle.bean_base.specs.declared.fault.Fault as faults
 use Rattle.bean_lexer.specs.Tokens.{AreTokens}
@@ -21,36 +22,58 @@ use Rattle.bean_heads.specs.declared.undated.Setting as settings
 abbrev pub Begins : List ℕ → List Outcome → Type 0
 Begins text os = (tokens : List Token) × AreTokens text tokens × AllGive (blocks tokens) os
 
--- Some blocks are read: what the tokens give that are still to be read completes what the text gives.
+-- Some blocks are read: what the tokens give that are still to be read completes what the text
+-- gives.
 pub record InText (text : List ℕ) (reader : BlockReader) (g : Gathered) : Type 0 where
   pub outcomes : List Outcome
-  pub whole : (ts : List Token) → ToRead reader ts → (more : List Outcome) → AllGive (blocks ts) more → Begins text (outcomes ++ more)
+  pub whole : (ts : List Token) → ToRead reader ts → (more : List Outcome)
+      → AllGive (blocks ts) more → Begins text (outcomes ++ more)
   pub gathered : IsGathered outcomes g
 
-pub text_begins : (text : List ℕ) (reader : BlockReader) (g : Gathered) → ((ts : List Token) → ToRead reader ts → AreTokens text ts) → IsGathered [] g → InText text reader g
-text_begins text reader g h none = record { outcomes = []; whole = λ ts to_read more give. (ts, h ts to_read, give); gathered = none }
+pub text_begins : (text : List ℕ) (reader : BlockReader) (g : Gathered)
+    → ((ts : List Token) → ToRead reader ts → AreTokens text ts) → IsGathered [] g
+    → InText text reader g
+text_begins text reader g h none =
+    record {
+      outcomes = [];
+      whole = λ ts to_read more give. (ts, h ts to_read, give);
+      gathered =
+          none;
+    }
 
-pub block_more : (text : List ℕ) (before after : BlockReader) (block : List Token) (o : Outcome) (g g' : Gathered) → InText text before g → TakesBlock true before block after → Gives block o
+pub block_more :
+    (text : List ℕ) (before after : BlockReader) (block : List Token) (o : Outcome)
+    (g g' : Gathered) → InText text before g → TakesBlock true before block after → Gives block o
     → ((os : List Outcome) → IsGathered os g → IsGathered (os ++ o ∷ []) g') → InText text after g'
 block_more text before after block o g g' p takes gives adds = record {
   outcomes = p.outcomes ++ o ∷ [];
   whole = λ ts to_read more give.
       let taken = takes ts to_read in
-      let next : AllGive (blocks (block ++ ts)) (o ∷ more) = subst (λ bs. AllGive bs (o ∷ more)) (sym taken.1) (gives, give) in
-      subst (Begins text) (sym (append_assoc p.outcomes (o ∷ []) more)) (p.whole (block ++ ts) taken.0 (o ∷ more) next);
+      let next : AllGive (blocks (block ++ ts)) (o ∷ more) =
+      subst (λ bs. AllGive bs (o ∷ more)) (sym taken.1) (gives, give) in
+      subst (Begins text) (sym (append_assoc p.outcomes (o ∷ []) more))
+      (p.whole (block ++ ts) taken.0 (o ∷ more) next);
   gathered = adds p.outcomes p.gathered;
 }
 
-pub text_ends : (text : List ℕ) (reader : BlockReader) (g : Gathered) (parsed : Parsed) → InText text reader g → ToRead reader [] → ((os : List Outcome) → IsGathered os g → ComeTo os parsed) → IsParsed text parsed
+pub text_ends : (text : List ℕ) (reader : BlockReader) (g : Gathered) (parsed : Parsed)
+    → InText text reader g → ToRead reader []
+    → ((os : List Outcome) → IsGathered os g → ComeTo os parsed) → IsParsed text parsed
 text_ends text reader g parsed p at come =
-    let all : Begins text p.outcomes = subst (Begins text) (append-nil p.outcomes) (p.whole [] at [] refl) in
+    let all : Begins text p.outcomes =
+    subst (Begins text) (append-nil p.outcomes) (p.whole [] at [] refl) in
     (all.0, p.outcomes, all.1, all.2, come p.outcomes p.gathered)
 
 -- what is kept comes to what is parsed
-pub come_to : (os : List Outcome) (g : Gathered) (ds : List directives.Directive) (ss : List settings.Setting) (fs all : List faults.Fault) → IsGathered os g → ds ≡ with_pushes g.bounds.items g.directives.items
-    → ss ≡ g.settings.items → all ≡ g.faults.items ++ unmatched [] g.bounds.items → AreByLine all fs → ComeTo os record { directives = ds; settings = ss; faults = fs }
+pub come_to :
+    (os : List Outcome) (g : Gathered) (ds : List directives.Directive) (ss : List settings.Setting)
+    (fs all : List faults.Fault) → IsGathered os g
+    → ds ≡ with_pushes g.bounds.items g.directives.items
+    → ss ≡ g.settings.items → all ≡ g.faults.items ++ unmatched [] g.bounds.items → AreByLine all fs
+    → ComeTo os record { directives = ds; settings = ss; faults = fs }
 come_to os g ds ss fs all is given same added by_line = record {
   directives = given ∙ (λ i. with_pushes (is.bounds i) (is.directives i));
   settings = same ∙ is.settings;
-  faults = subst (λ x. AreByLine x fs) (added ∙ (λ i. is.faults i ++ unmatched [] (is.bounds i))) by_line;
+  faults = subst (λ x. AreByLine x fs) (added ∙ (λ i. is.faults i ++ unmatched [] (is.bounds i)))
+      by_line;
 }

@@ -30,7 +30,8 @@ takes_postings (Within kind) = is_transaction kind
 takes_postings Outside = false
 
 abbrev pub with_body : DirectiveKind → List Mark → List Posting → DirectiveKind
-with_body (kinds.Transaction t) marks postings = kinds.Transaction record t { marks = t.marks ++ marks; postings = postings }
+with_body (kinds.Transaction t) marks postings =
+    kinds.Transaction record t { marks = t.marks ++ marks; postings = postings }
 with_body kind marks postings = kind
 
 -- What a block's first line and the lines under it write.
@@ -49,7 +50,13 @@ HasTree block t = (is_in_column_one block ≡ true) × HaveTree (lines block) t
 
 abbrev pub directive_of : ℕ → Body → days.Day → DirectiveKind → Directive
 directive_of line b day kind =
-    record { day = day; line = line; metadata = b.metadata; kind = with_body kind b.marks (postings_in b) }
+    record {
+      day = day;
+      line = line;
+      metadata = b.metadata;
+      kind =
+          with_body kind b.marks (postings_in b);
+    }
 
 abbrev pub in_body : Bool → Ranged Statement → Ranged Statement
 in_body true s = s
@@ -57,7 +64,9 @@ in_body false s = Outside
 
 -- what a head says with the lines under it, where all of it is in range
 abbrev pub dated : ℕ → Ranged days.Day → Ranged DirectiveKind → Body → Ranged Statement
-dated line day kind b = in_body b.is_in_range (ranged_map2 (λ d k. statements.Directive (directive_of line b d k)) day kind)
+dated line day kind b =
+    in_body b.is_in_range
+    (ranged_map2 (λ d k. statements.Directive (directive_of line b d k)) day kind)
 
 abbrev pub undated : ℕ → Ranged UndatedKind → Ranged Statement
 undated line kind = ranged_map (λ k. statements.Undated record { line = line; kind = k }) kind

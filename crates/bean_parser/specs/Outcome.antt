@@ -2,7 +2,8 @@
 use Rattle.std.specs.Prelude.{◌≡◌, ℕ, List, [], ◌∷◌, Option, Some, None, ◌⊎◌}
 use Rattle.bean_base.specs.declared.fault.Fault as faults
 use Rattle.bean_base.specs.declared.fault.FaultKind.{FaultKind}
-use Rattle.bean_base.specs.declared.fault.FaultKind.TheVariants.{BadToken, NotADirective, OutOfRange}
+use Rattle.bean_base.specs.declared.fault.FaultKind.TheVariants.{BadToken, NotADirective}
+use Rattle.bean_base.specs.declared.fault.FaultKind.TheVariants.{OutOfRange}
 use Rattle.bean_lexer.specs.declared.token.Token.{Token}
 use Rattle.bean_grammar.specs.declared.ranged.Ranged.TheVariants.{Within, Outside}
 use Rattle.bean_parser.specs.Block.{first_line, fault_line}
@@ -13,12 +14,14 @@ use Rattle.bean_parser.specs.declared.block.Outcome.TheVariants.{Statement, Faul
 abbrev pub fault_at : FaultKind → ℕ → faults.Fault
 fault_at kind line = record { kind = kind; file = 0; line = line }
 
--- without a fault token: what its one tree says, F2 where it has none, F3 where the tree is out of range
+-- without a fault token: what its one tree says, F2 where it has none, F3 where the tree is out of
+-- range
 abbrev pub ReadsAs : List Token → outcomes.Outcome → Type 0
 ReadsAs block (Statement s) = (t : Tree) × HasTree block t × (said t ≡ Within s)
 ReadsAs block (Fault f) =
     ((f ≡ fault_at NotADirective (first_line block)) × ((t : Tree) → HasTree block t → ⊥))
-    ⊎ ((f ≡ fault_at OutOfRange (first_line block)) × ((t : Tree) × HasTree block t × (said t ≡ Outside)))
+    ⊎ ((f ≡ fault_at OutOfRange (first_line block))
+    × ((t : Tree) × HasTree block t × (said t ≡ Outside)))
 
 abbrev pub GivesAt : Option ℕ → List Token → outcomes.Outcome → Type 0
 GivesAt (Some line) block outcome = outcome ≡ Fault (fault_at BadToken line)

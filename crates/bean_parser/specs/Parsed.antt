@@ -71,4 +71,5 @@ pub record ComeTo (os : List Outcome) (p : Parsed) : Type 0 where
   pub faults : AreByLine (flat_map faults_in os ++ unmatched [] (all_bounds 0 os)) p.faults
 
 abbrev pub IsParsed : List ℕ → Parsed → Type 0
-IsParsed text p = (tokens : List Token) × (os : List Outcome) × AreTokens text tokens × AllGive (blocks tokens) os × ComeTo os p
+IsParsed text p = (tokens : List Token) × (os : List Outcome) × AreTokens text tokens
+    × AllGive (blocks tokens) os × ComeTo os p

@@ -21,19 +21,25 @@ ReadsLine in_transaction l (Some k) = IsLine in_transaction l k
 -- what the lines under a first one say, where each is one that may stand there
 abbrev pub ReadsLines : Bool → List Line → Option Body → Type 0
 ReadsLines in_transaction ls None = (ks : List LineKind) → AreLines in_transaction ls ks → ⊥
-ReadsLines in_transaction ls (Some b) = (ks : List LineKind) × AreLines in_transaction ls ks × (b ≡ with_lines no_lines ks)
+ReadsLines in_transaction ls (Some b) =
+    (ks : List LineKind) × AreLines in_transaction ls ks × (b ≡ with_lines no_lines ks)
 
 -- what a block says that begins on that line with such a head, and has these lines under it
-abbrev pub ReadsDated : ℕ → Ranged Day → Ranged DirectiveKind → List Line → Option (Ranged Statement) → Type 0
-ReadsDated line day kind under None = (ks : List LineKind) → AreLines (takes_postings kind) under ks → ⊥
+abbrev pub ReadsDated : ℕ → Ranged Day → Ranged DirectiveKind → List Line
+    → Option (Ranged Statement) → Type 0
+ReadsDated line day kind under None = (ks : List LineKind) → AreLines (takes_postings kind) under ks
+    → ⊥
 ReadsDated line day kind under (Some v) =
-    (ks : List LineKind) × AreLines (takes_postings kind) under ks × (v ≡ said (Dated line day kind ks))
+    (ks : List LineKind) × AreLines (takes_postings kind) under ks
+    × (v ≡ said (Dated line day kind ks))
 
 -- what a line without a day says, with nothing under it
 abbrev pub ReadsUndated : ℕ → List Token → List Token → Option (Ranged Statement) → Type 0
-ReadsUndated line first under None = (k : Ranged UndatedKind) → IsUndated (lexemes first) k → lines under ≡ [] → ⊥
+ReadsUndated line first under None = (k : Ranged UndatedKind) → IsUndated (lexemes first) k
+    → lines under ≡ [] → ⊥
 ReadsUndated line first under (Some v) =
-    (k : Ranged UndatedKind) × IsUndated (lexemes first) k × (lines under ≡ []) × (v ≡ said (Undated line k))
+    (k : Ranged UndatedKind) × IsUndated (lexemes first) k × (lines under ≡ [])
+    × (v ≡ said (Undated line k))
 
 -- what a block's tree says, where it has one
 abbrev pub ReadsBlock : List Token → Option (Ranged Statement) → Type 0

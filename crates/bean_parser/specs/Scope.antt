@@ -1,5 +1,6 @@
 -- Pushes and pops: which pop takes a push back, and what is given to the transactions between.
-use Rattle.std.specs.Prelude.{ℕ, zero, suc, ◌-◌, ◌&&◌, Bool, true, false, List, [], ◌∷◌, ◌++◌, Option, Some, None, is_some, nat_le, nat_lt, if◌then◌else◌}
+use Rattle.std.specs.Prelude.{ℕ, zero, suc, ◌-◌, ◌&&◌, Bool, true, false, List, [], ◌∷◌, ◌++◌}
+use Rattle.std.specs.Prelude.{Option, Some, None, is_some, nat_le, nat_lt, if◌then◌else◌}
 use Rattle.std.specs.Str.{bytes_eq}
 use Rattle.bean_base.specs.declared.fault.Fault as faults
 use Rattle.bean_base.specs.declared.fault.FaultKind.TheVariants.{UnmatchedPushOrPop}
@@ -32,7 +33,8 @@ abbrev pub one_less : ℕ → Option ℕ
 one_less zero = None
 one_less (suc n) = Some n
 
--- how many later pushes of the name are still to be taken back, or None where this is the pop of the first
+-- how many later pushes of the name are still to be taken back, or None where this is the pop of
+-- the first
 abbrev pub later_behind : PushName → ℕ → Bound → Option ℕ
 later_behind name later (Push p) = Some (if same_name (name_of p) name then suc later else later)
 later_behind name later (Pop n) = if same_name n name then one_less later else Some later
@@ -41,16 +43,19 @@ abbrev pub or_on : {A : Type 0} → Option ℕ → A → (ℕ → A) → A
 or_on None a go = a
 or_on (Some n) a go = go n
 
--- The place of the pop that takes a push of that name back, of the bounds behind it. Each later push of
+-- The place of the pop that takes a push of that name back, of the bounds behind it. Each later
+-- push of
 -- the name takes a pop of its own before.
 abbrev pub pop_of : PushName → ℕ → List PlacedBound → Option ℕ
 pop_of name later [] = None
-pop_of name later (b ∷ bs) = or_on (later_behind name later b.bound) (Some b.place) (λ n. pop_of name n bs)
+pop_of name later (b ∷ bs) =
+    or_on (later_behind name later b.bound) (Some b.place) (λ n. pop_of name n bs)
 
 abbrev pub is_popped : Pushed → List PlacedBound → Bool
 is_popped p behind = is_some (pop_of (name_of p) 0 behind)
 
--- how many pushes of the name are open behind a bound, and behind some; a pop of nothing closes nothing
+-- how many pushes of the name are open behind a bound, and behind some; a pop of nothing closes
+-- nothing
 abbrev pub open_behind : PushName → ℕ → Bound → ℕ
 open_behind name count (Push p) = if same_name (name_of p) name then suc count else count
 open_behind name count (Pop n) = if same_name n name then count - 1 else count
@@ -59,7 +64,8 @@ abbrev pub open_pushes : PushName → ℕ → List PlacedBound → ℕ
 open_pushes name count [] = count
 open_pushes name count (b ∷ bs) = open_pushes name (open_behind name count b.bound) bs
 
--- how many pops of the name still take back a push before a bound, or None where it is the push that stays open
+-- how many pops of the name still take back a push before a bound, or None where it is the push
+-- that stays open
 abbrev pub pops_before : PushName → ℕ → Bound → Option ℕ
 pops_before name pops (Push p) = if same_name (name_of p) name then one_less pops else Some pops
 pops_before name pops (Pop n) = Some (if same_name n name then suc pops else pops)
@@ -76,12 +82,14 @@ fault_unless false line = fault_at UnmatchedPushOrPop line ∷ []
 -- F4 at each bound that isn't matched
 abbrev pub unmatched : List PlacedBound → List PlacedBound → List faults.Fault
 unmatched before [] = []
-unmatched before (b ∷ bs) = fault_unless (is_matched before b.bound bs) b.line ++ unmatched (before ++ b ∷ []) bs
+unmatched before (b ∷ bs) =
+    fault_unless (is_matched before b.bound bs) b.line ++ unmatched (before ++ b ∷ []) bs
 
 -- What is pushed goes behind a transaction's own tags and entries, and to no other directive.
 
 abbrev pub with_tag : List ℕ → DirectiveKind → DirectiveKind
-with_tag tag (kinds.Transaction t) = kinds.Transaction record t { marks = t.marks ++ mark.Tag tag ∷ [] }
+with_tag tag (kinds.Transaction t) =
+    kinds.Transaction record t { marks = t.marks ++ mark.Tag tag ∷ [] }
 with_tag tag kind = kind
 
 abbrev pub entries_with : DirectiveKind → List Entry → Entry → List Entry
@@ -96,7 +104,8 @@ with_pushed (pushed.Entry e) d = record d { metadata = entries_with d.kind d.met
 abbrev pub given_between : Pushed → ℕ → ℕ → ℕ → List Directive → List Directive
 given_between p from to i [] = []
 given_between p from to i (d ∷ ds) =
-    (if nat_le from i && nat_lt i to then with_pushed p d else d) ∷ given_between p from to (suc i) ds
+    (if nat_le from i && nat_lt i to then with_pushed p d else d)
+    ∷ given_between p from to (suc i) ds
 
 abbrev pub given_up_to : Pushed → ℕ → Option ℕ → List Directive → List Directive
 given_up_to p from None ds = ds

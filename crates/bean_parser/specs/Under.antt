@@ -16,12 +16,14 @@ use Rattle.bean_parser.specs.declared.under.LineKind.TheVariants as kinds
 abbrev pub IsLine : Bool → Line → LineKind → Type 0
 IsLine in_transaction l (kinds.Entry e) = Is entry l.lexemes e
 IsLine in_transaction l (kinds.Marks ms) = (in_transaction ≡ true) × Is some_marks l.lexemes ms
-IsLine in_transaction l (kinds.Posting p) = (in_transaction ≡ true) × Is (posting l.number) l.lexemes p
+IsLine in_transaction l (kinds.Posting p) =
+    (in_transaction ≡ true) × Is (posting l.number) l.lexemes p
 
 abbrev pub AreLines : Bool → List Line → List LineKind → Type 0
 AreLines in_transaction [] ks = ks ≡ []
 AreLines in_transaction (l ∷ ls) [] = ⊥
-AreLines in_transaction (l ∷ ls) (k ∷ ks) = IsLine in_transaction l k × AreLines in_transaction ls ks
+AreLines in_transaction (l ∷ ls) (k ∷ ks) =
+    IsLine in_transaction l k × AreLines in_transaction ls ks
 
 -- What each line adds to those above it.
 

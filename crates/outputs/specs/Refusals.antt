@@ -1,5 +1,6 @@
 -- Which calls of an output are refusals, and how they are counted.
-use Rattle.std.specs.Prelude.{ℕ, ◌+◌, ◌%◌, ◌^◌, Bool, true, ◌&&◌, nat_eq, nat_lt, if◌then◌else◌, List, length, Result, Ok, Err}
+use Rattle.std.specs.Prelude.{ℕ, ◌+◌, ◌%◌, ◌^◌, Bool, true, ◌&&◌, nat_eq, nat_lt, if◌then◌else◌}
+use Rattle.std.specs.Prelude.{List, length, Result, Ok, Err}
 use Rattle.outputs.specs.declared.output.NotTaken.{NotTaken}
 
 -- a call at these bytes failed, or took none of some

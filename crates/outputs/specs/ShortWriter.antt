@@ -1,5 +1,6 @@
 -- What a writer over memory with a limit does.
-use Rattle.std.specs.Prelude.{◌≡◌, ℕ, true, false, ◌-◌, ◌<◌, ◌≤◌, ◌++◌, ◌⊎◌, min, take, List, length, Result, Ok, Err}
+use Rattle.std.specs.Prelude.{◌≡◌, ℕ, true, false, ◌-◌, ◌<◌, ◌≤◌, ◌++◌, ◌⊎◌, min, take, List}
+use Rattle.std.specs.Prelude.{length, Result, Ok, Err}
 use Rattle.outputs.specs.Holding.{Holding}
 use Rattle.outputs.specs.Output.{TookFront}
 use Rattle.outputs.specs.declared.output.NotTaken.{NotTaken}
@@ -32,8 +33,10 @@ AnswersShort before bytes (Err e) after =
 abbrev pub short_writer : OutputOf Holding
 short_writer = record { refusals = λ w. w.refusals; may_answer = AnswersShort }
 
--- it has the bytes behind those that it had, and where it took a front alone and no memory was refused to it, its limit is reached
+-- it has the bytes behind those that it had, and where it took a front alone and no memory was
+-- refused to it, its limit is reached
 abbrev pub KeepsFront : Type 0
 KeepsFront =
     (start after : Holding) (bytes : List ℕ) (n : ℕ) → TookFront short_writer start after bytes n
-    → (after.taken ≡ start.taken ++ take n bytes) × (n < length bytes → after.starved ≡ false → after.limit ≤ length after.taken)
+    → (after.taken ≡ start.taken ++ take n bytes)
+    × (n < length bytes → after.starved ≡ false → after.limit ≤ length after.taken)

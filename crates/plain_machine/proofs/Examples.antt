@@ -1,15 +1,19 @@
 -- What programs do over a few rows, computed.
-use Rattle.std.proofs.Common.{◌≡◌, ◌<◌, ◌≤◌, ◌^◌, ◌-◌, ℕ, ℤ, pos, negsuc, Bool, true, false, List, [], ◌∷◌, ◌++◌, map, replicate, Some, None, codes, refl, arith}
+use Rattle.std.proofs.Common.{◌≡◌, ◌<◌, ◌≤◌, ◌^◌, ◌-◌, ℕ, ℤ, pos, negsuc, Bool, true, false, List}
+use Rattle.std.proofs.Common.{[], ◌∷◌, ◌++◌, map, replicate, Some, None, codes, refl, arith}
 use Rattle.bean_lots.specs.declared.lot.Key.{Key}
 use Rattle.query_values.specs.declared.operation.Aggregate.{Aggregate}
 use Rattle.query_values.specs.declared.operation.Aggregate.TheVariants as aggregate
 use Rattle.query_values.specs.declared.operation.Binary.TheVariants as binary
 use Rattle.query_values.specs.declared.value.Value.{Value}
-use Rattle.query_values.specs.declared.value.Value.TheVariants.{Null, Truth, Number, Text, Position, Inventory}
+use Rattle.query_values.specs.declared.value.Value.TheVariants.{Null, Truth, Number, Text, Position}
+use Rattle.query_values.specs.declared.value.Value.TheVariants.{Inventory}
 use Rattle.query_code.specs.declared.instruction.Push.TheVariants as push
 use Rattle.query_code.specs.declared.instruction.Unary.TheVariants as unary
 use Rattle.query_code.specs.declared.instruction.Instruction.{Instruction}
-use Rattle.query_code.specs.declared.instruction.Instruction.TheVariants.{Push, Unary, Binary, LoadSlot, StoreSlot, Jump, JumpIfFalse}
+use Rattle.query_code.specs.declared.instruction.Instruction.TheVariants.{Push, Unary, Binary}
+use Rattle.query_code.specs.declared.instruction.Instruction.TheVariants.{LoadSlot, StoreSlot, Jump}
+use Rattle.query_code.specs.declared.instruction.Instruction.TheVariants.{JumpIfFalse}
 use Rattle.query_code.specs.declared.program.Constant.{Constant}
 use Rattle.query_code.specs.declared.program.Constant.TheVariants as constant
 use Rattle.query_code.specs.declared.program.Mode.TheVariants.{Plain, Grouped}
@@ -29,7 +33,8 @@ usd = record { currency = codes "USD"; lot = None }
 -- an account, and a count of 10^-8 USD
 abbrev posting : List ℕ → ℤ → Row
 posting account count = record {
-  cells = replicate 9 Null ++ Text account ∷ replicate 7 Null ++ Position usd count ∷ replicate 4 Null;
+  cells = replicate 9 Null ++ Text account ∷ replicate 7 Null ++ Position usd count
+      ∷ replicate 4 Null;
   posting_entries = [];
   transaction_entries = [];
 }
@@ -50,7 +55,15 @@ three_rows = posting cash (pos 5) ∷ posting opening (pos 1) ∷ posting cash (
 
 abbrev plain_output : List (List ℕ) → Output
 plain_output targets =
-    record { is_distinct = false; is_descending = false; limit = None; targets = targets; hidden = 0; order = [] }
+    record {
+      is_distinct = false;
+      is_descending = false;
+      limit = None;
+      targets = targets;
+      hidden =
+          0;
+      order = [];
+    }
 
 -- one column, of each posting that passes the filter
 abbrev plain : List Constant → List Instruction → List Instruction → Parts
@@ -67,7 +80,15 @@ grouped keys aggregates row last = record {
   bounds = record { postings = 1000000; units_digits = 20; value_digits = 28 };
   mode = Grouped;
   output = plain_output (codes "a" ∷ []);
-  code = record { keys = keys; aggregates = aggregates; pool = []; filter = Push push.True ∷ []; row = row; last = last };
+  code = record {
+    keys = keys;
+    aggregates = aggregates;
+    pool = [];
+    filter =
+        Push push.True ∷ [];
+    row = row;
+    last = last;
+  };
 }
 
 abbrev load_account : List Instruction
@@ -98,7 +119,8 @@ no_places : 0 ≤ 32
 no_places = omega arith
 
 abbrev whole_number : (n : ℕ) → n < 2 ^ 127 → Constant
-whole_number n fits = constant.Number (record { count = pos n; places = 0; narrow = no_places; in_range = fits })
+whole_number n fits =
+    constant.Number (record { count = pos n; places = 0; narrow = no_places; in_range = fits })
 
 most_fits : 2 ^ 127 - 1 < 2 ^ 127
 most_fits = omega arith
@@ -122,37 +144,49 @@ too_large_faults = refl
 passes_nothing : stand_after (plain [] (Push push.False ∷ []) load_account) two_rows 2 ≡ Done []
 passes_nothing = refl
 
-null_passes_nothing : stand_after (plain [] (Push (push.LoadColumn 0) ∷ []) load_account) two_rows 2 ≡ Done []
+null_passes_nothing :
+    stand_after (plain [] (Push (push.LoadColumn 0) ∷ []) load_account) two_rows 2 ≡ Done []
 null_passes_nothing = refl
 
-two_truths : stand_after (plain [] (Push push.True ∷ Push push.True ∷ []) load_account) two_rows 2 ≡ Fault
+two_truths :
+    stand_after (plain [] (Push push.True ∷ Push push.True ∷ []) load_account) two_rows 2 ≡ Fault
 two_truths = refl
 
 -- a jump leads on also where it isn't taken, to the end at most
-jumps_to_the_end : stand_after (plain [] (Push push.True ∷ Jump 2 ∷ []) load_account) (posting cash (pos 5) ∷ []) 3 ≡ Done ((Text cash ∷ []) ∷ [])
+jumps_to_the_end :
+    stand_after (plain [] (Push push.True ∷ Jump 2 ∷ []) load_account) (posting cash (pos 5) ∷ []) 3
+    ≡ Done ((Text cash ∷ []) ∷ [])
 jumps_to_the_end = refl
 
-jumps_back : stand_after (plain [] (Push push.True ∷ Push push.True ∷ JumpIfFalse 1 ∷ []) load_account) two_rows 3 ≡ Fault
+jumps_back :
+    stand_after (plain [] (Push push.True ∷ Push push.True ∷ JumpIfFalse 1 ∷ []) load_account)
+    two_rows 3 ≡ Fault
 jumps_back = refl
 
 -- slots are unset at first
-stores_and_loads : stand_after (plain [] (Push push.True ∷ StoreSlot 63 ∷ LoadSlot 63 ∷ []) load_account) (posting cash (pos 5) ∷ []) 4 ≡ Done ((Text cash ∷ []) ∷ [])
+stores_and_loads :
+    stand_after (plain [] (Push push.True ∷ StoreSlot 63 ∷ LoadSlot 63 ∷ []) load_account)
+    (posting cash (pos 5) ∷ []) 4 ≡ Done ((Text cash ∷ []) ∷ [])
 stores_and_loads = refl
 
 loads_nothing : stand_after (plain [] (LoadSlot 0 ∷ []) load_account) two_rows 1 ≡ Fault
 loads_nothing = refl
 
-no_such_slot : stand_after (plain [] (Push push.True ∷ StoreSlot 64 ∷ []) load_account) two_rows 2 ≡ Fault
+no_such_slot :
+    stand_after (plain [] (Push push.True ∷ StoreSlot 64 ∷ []) load_account) two_rows 2 ≡ Fault
 no_such_slot = refl
 
 -- the running inventory, which a filter can't read
 abbrev bag : ℤ → Value
 bag count = Inventory (record { places = 8; held = record { key = usd; count = count } ∷ [] })
 
-balances : stand_after (plain [] (Push push.True ∷ []) (Push (push.LoadColumn 19) ∷ [])) three_rows 6 ≡ Done ((bag (pos 5) ∷ []) ∷ (bag (pos 6) ∷ []) ∷ (bag (pos 4) ∷ []) ∷ [])
+balances :
+    stand_after (plain [] (Push push.True ∷ []) (Push (push.LoadColumn 19) ∷ [])) three_rows 6
+    ≡ Done ((bag (pos 5) ∷ []) ∷ (bag (pos 6) ∷ []) ∷ (bag (pos 4) ∷ []) ∷ [])
 balances = refl
 
-balance_of_a_filter : stand_after (plain [] (Push (push.LoadColumn 19) ∷ []) load_account) two_rows 1 ≡ Fault
+balance_of_a_filter :
+    stand_after (plain [] (Push (push.LoadColumn 19) ∷ []) load_account) two_rows 1 ≡ Fault
 balance_of_a_filter = refl
 
 -- SELECT count(*)
@@ -172,21 +206,30 @@ counted_in_time = refl
 abbrev by_account : List Aggregate → Parts
 by_account aggregates = grouped 1 aggregates load_account (Push (push.LoadAggregate 0) ∷ [])
 
-counted_by_account : stand_after (by_account (aggregate.CountRows ∷ [])) three_rows 8 ≡ Done ((Number 0 (pos 2) ∷ []) ∷ (Number 0 (pos 1) ∷ []) ∷ [])
+counted_by_account :
+    stand_after (by_account (aggregate.CountRows ∷ [])) three_rows 8
+    ≡ Done ((Number 0 (pos 2) ∷ []) ∷ (Number 0 (pos 1) ∷ []) ∷ [])
 counted_by_account = refl
 
 -- SELECT sum(position)
 abbrev sum_of_positions : Parts
-sum_of_positions = grouped 0 (aggregate.SumInventory 8 ∷ []) (Push (push.LoadColumn 17) ∷ []) (Push (push.LoadAggregate 0) ∷ [])
+sum_of_positions =
+    grouped 0 (aggregate.SumInventory 8 ∷ []) (Push (push.LoadColumn 17) ∷ [])
+    (Push (push.LoadAggregate 0) ∷ [])
 
 summed : stand_after sum_of_positions three_rows 7 ≡ Done ((bag (pos 4) ∷ []) ∷ [])
 summed = refl
 
 -- a sum of texts, a value more than the keys and inputs, and a column behind the last row
-sum_of_texts : stand_after (grouped 0 (aggregate.Sum 0 ∷ []) load_account (Push (push.LoadAggregate 0) ∷ [])) three_rows 2 ≡ Fault
+sum_of_texts :
+    stand_after (grouped 0 (aggregate.Sum 0 ∷ []) load_account (Push (push.LoadAggregate 0) ∷ []))
+    three_rows 2 ≡ Fault
 sum_of_texts = refl
 
-a_value_more : stand_after (grouped 0 (aggregate.CountRows ∷ []) load_account (Push (push.LoadAggregate 0) ∷ [])) three_rows 2 ≡ Fault
+a_value_more :
+    stand_after
+    (grouped 0 (aggregate.CountRows ∷ []) load_account (Push (push.LoadAggregate 0) ∷ []))
+    three_rows 2 ≡ Fault
 a_value_more = refl
 
 column_of_a_group : stand_after (grouped 1 [] load_account load_account) three_rows 7 ≡ Fault
@@ -197,22 +240,30 @@ column_of_a_group = refl
 abbrev with_entries : List Entry → List Entry → Row
 with_entries own entry = record { cells = []; posting_entries = own; transaction_entries = entry }
 
-own_text : any_text (codes "k") (with_entries ((codes "k", Some (codes "a")) ∷ []) ((codes "k", Some (codes "b")) ∷ [])) ≡ Text (codes "a")
+own_text :
+    any_text (codes "k")
+    (with_entries ((codes "k", Some (codes "a")) ∷ []) ((codes "k", Some (codes "b")) ∷ []))
+    ≡ Text (codes "a")
 own_text = refl
 
-first_entry : any_text (codes "k") (with_entries ((codes "k", None) ∷ (codes "k", Some (codes "a")) ∷ []) ((codes "k", Some (codes "b")) ∷ [])) ≡ Text (codes "b")
+first_entry :
+    any_text (codes "k")
+    (with_entries ((codes "k", None) ∷ (codes "k", Some (codes "a")) ∷ [])
+    ((codes "k", Some (codes "b")) ∷ [])) ≡ Text (codes "b")
 first_entry = refl
 
 -- ---- final rows
 
 -- null stands with any kind, other kinds don't stand with each other
-alike : are_orderable (0 ∷ []) ((Number 0 (pos 1) ∷ []) ∷ (Null ∷ []) ∷ (Number 0 (pos 2) ∷ []) ∷ []) ≡ true
+alike : are_orderable (0 ∷ [])
+    ((Number 0 (pos 1) ∷ []) ∷ (Null ∷ []) ∷ (Number 0 (pos 2) ∷ []) ∷ []) ≡ true
 alike = refl
 
 not_alike : are_orderable (0 ∷ []) ((Number 0 (pos 1) ∷ []) ∷ (Text cash ∷ []) ∷ []) ≡ false
 not_alike = refl
 
-other_decimals : are_orderable (0 ∷ []) ((Number 0 (pos 1) ∷ []) ∷ (Number 2 (pos 1) ∷ []) ∷ []) ≡ false
+other_decimals :
+    are_orderable (0 ∷ []) ((Number 0 (pos 1) ∷ []) ∷ (Number 2 (pos 1) ∷ []) ∷ []) ≡ false
 other_decimals = refl
 
 truths : are_orderable (0 ∷ []) ((Truth true ∷ []) ∷ []) ≡ false
@@ -220,7 +271,15 @@ truths = refl
 
 abbrev by_first : Bool → Output
 by_first descending =
-    record { is_distinct = true; is_descending = descending; limit = None; targets = codes "a" ∷ []; hidden = 1; order = 0 ∷ 1 ∷ [] }
+    record {
+      is_distinct = true;
+      is_descending = descending;
+      limit = None;
+      targets =
+          codes "a" ∷ [];
+      hidden = 1;
+      order = 0 ∷ 1 ∷ [];
+    }
 
 abbrev pair : ℤ → ℤ → List Value
 pair m n = Number 0 m ∷ Number 0 n ∷ []
@@ -235,5 +294,9 @@ null_is_last : comes_before (by_first true) (pair (pos 1) (pos 0)) (Null ∷ Nul
 null_is_last = refl
 
 -- rows that show the same are one, whatever they are ordered by
-kept_once : once_if true (map (shown (by_first false)) (pair (pos 1) (pos 9) ∷ pair (pos 2) (pos 0) ∷ pair (pos 1) (pos 7) ∷ [])) ≡ (Number 0 (pos 1) ∷ []) ∷ (Number 0 (pos 2) ∷ []) ∷ []
+kept_once :
+    once_if true
+    (map (shown (by_first false))
+    (pair (pos 1) (pos 9) ∷ pair (pos 2) (pos 0) ∷ pair (pos 1) (pos 7) ∷ []))
+    ≡ (Number 0 (pos 1) ∷ []) ∷ (Number 0 (pos 2) ∷ []) ∷ []
 kept_once = refl

@@ -2,7 +2,8 @@
 use Rattle.std.specs.Prelude.{◌≡◌, ℕ, List, map}
 use Rattle.query_code.specs.declared.program.Parts.{Parts}
 use Rattle.plain_machine.specs.Gathering.{Group, all_inputs, running_values, aggregates_over}
-use Rattle.plain_machine.specs.PlainMachine.{Kept, Stand, InFilter, InRow, InLast, Done, Fault, after}
+use Rattle.plain_machine.specs.PlainMachine.{Kept, Stand, InFilter, InRow, InLast, Done, Fault}
+use Rattle.plain_machine.specs.PlainMachine.{after}
 use Rattle.plain_machine.specs.Row.{Row}
 
 module _ {X Y : Type 0} (f : X → Y) where
@@ -25,4 +26,5 @@ module _ {X Y : Type 0} (f : X → Y) where
 abbrev pub StandAlike : Type 0
 StandAlike =
     (p : Parts) (rows : List Row) (n : ℕ)
-    → stand_as (aggregates_over p.code.aggregates) (after (all_inputs p.code.aggregates) p rows n) ≡ after (running_values p.code.aggregates) p rows n
+    → stand_as (aggregates_over p.code.aggregates) (after (all_inputs p.code.aggregates) p rows n)
+    ≡ after (running_values p.code.aggregates) p rows n

@@ -1,5 +1,6 @@
 -- The rows of an answer: in order, each once where that is asked for, and at most so many.
-use Rattle.std.specs.Prelude.{◌≡◌, ℕ, Bool, true, false, List, [], length, map, take, slice_index_or, Option, Some, None}
+use Rattle.std.specs.Prelude.{◌≡◌, ℕ, Bool, true, false, List, [], length, map, take}
+use Rattle.std.specs.Prelude.{slice_index_or, Option, Some, None}
 use Rattle.std.specs.Cmp.Lexicographic.{slice_cmp}
 use Rattle.std.specs.List.{list_all}
 use Rattle.theory.specs.Arrangement.{IsArrangement, by_key, against_key}
@@ -17,7 +18,8 @@ column_of row i = slice_index_or row i Null
 abbrev pub order_values : List ℕ → List Value → List Value
 order_values order row = map (column_of row) order
 
--- two rows have values to order by that stand in one order: each of one kind and of the same decimals
+-- two rows have values to order by that stand in one order: each of one kind and of the same
+-- decimals
 abbrev pub have_order : List ℕ → List Value → List Value → Bool
 have_order order a b = list_all (λ i. are_in_order (column_of a i) (column_of b i)) order
 

@@ -1,5 +1,6 @@
 -- Groups, and what is gathered in them.
-use Rattle.std.specs.Prelude.{ℕ, ◌+◌, ◌&&◌, List, [], ◌∷◌, ◌++◌, map, Option, Some, None, option_map, option_and_then, if◌then◌else◌}
+use Rattle.std.specs.Prelude.{ℕ, ◌+◌, ◌&&◌, List, [], ◌∷◌, ◌++◌, map, Option, Some, None}
+use Rattle.std.specs.Prelude.{option_map, option_and_then, if◌then◌else◌}
 use Rattle.query_values.specs.Aggregate.{aggregate_of, with_more, may_take}
 use Rattle.query_values.specs.Held.{is_held, checked}
 use Rattle.query_values.specs.declared.operation.Aggregate.{Aggregate}
@@ -38,20 +39,24 @@ abbrev pub cons_if : {A : Type 0} → Option A → Option (List A) → Option (L
 cons_if x xs = option_and_then (λ y. option_map (λ ys. y ∷ ys) xs) x
 
 -- each aggregate takes its input
-abbrev pub take_each : {X : Type 0} → (Aggregate → X → Value → Option X) → List Aggregate → List X → List Value → Option (List X)
+abbrev pub take_each : {X : Type 0} → (Aggregate → X → Value → Option X) → List Aggregate → List X
+    → List Value → Option (List X)
 take_each take [] ts [] = Some []
 take_each take [] ts (x ∷ inputs) = None
 take_each take (a ∷ aggregates) [] inputs = None
 take_each take (a ∷ aggregates) (t ∷ ts) inputs =
-    option_and_then (λ i. cons_if (take a t i.0) (take_each take aggregates ts i.1)) (next_input a inputs)
+    option_and_then (λ i. cons_if (take a t i.0) (take_each take aggregates ts i.1))
+    (next_input a inputs)
 
 -- ---- the list of the inputs
 
--- One value more, where it may be gathered behind the others, and what is gathered of all of them is
+-- One value more, where it may be gathered behind the others, and what is gathered of all of them
+-- is
 -- held: so it was over each front of them.
 abbrev pub with_input : Aggregate → List Value → Value → Option (List Value)
 with_input a xs x =
-    if may_take a (aggregate_of a xs) x && is_held (aggregate_of a (xs ++ x ∷ [])) then Some (xs ++ x ∷ [])
+    if may_take a (aggregate_of a xs) x && is_held (aggregate_of a (xs ++ x ∷ [])) then
+    Some (xs ++ x ∷ [])
     else None
 
 abbrev pub aggregates_over : List Aggregate → List (List Value) → List Value
@@ -82,11 +87,13 @@ running_values aggregates = record {
 
 -- ---- the groups, in order of first appearance
 
-abbrev pub group_if : {X : Type 0} → List Value → Option X → List (Group X) → Option (List (Group X))
+abbrev pub group_if : {X : Type 0} → List Value → Option X → List (Group X)
+    → Option (List (Group X))
 group_if keys x groups = option_map (λ y. (keys, y) ∷ groups) x
 
 -- inputs go to the group of their keys; where there is none, a new one stands behind the others
-abbrev pub put : {X : Type 0} → Keeping X → List (Group X) → List Value → List Value → Option (List (Group X))
+abbrev pub put : {X : Type 0} → Keeping X → List (Group X) → List Value → List Value
+    → Option (List (Group X))
 put keep [] keys inputs = group_if keys (keep.add keep.start inputs) []
 put keep (g ∷ groups) keys inputs =
     if same_values keys g.0 then group_if g.0 (keep.add g.1 inputs) groups

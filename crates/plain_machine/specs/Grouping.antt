@@ -26,9 +26,11 @@ abbrev pub inputs_under : List Value → List Member → List (List Value)
 inputs_under keys members = map (λ m. m.1) (filter (λ m. same_values m.0 keys) members)
 
 -- The distinct keys in order of first appearance, each with what the inputs of its members come to.
-pub record AreGroups {X : Type 0} (keep : Keeping X) (members : List Member) (groups : List (Group X)) : Type 0 where
+pub record AreGroups {X : Type 0} (keep : Keeping X) (members : List Member)
+    (groups : List (Group X)) : Type 0 where
   pub keys : map (λ g. g.0) groups ≡ each_once [] (map (λ m. m.0) members)
-  pub each : AllByRecursion (λ g. come_to keep keep.start (inputs_under g.0 members) ≡ Some g.1) groups
+  pub each :
+      AllByRecursion (λ g. come_to keep keep.start (inputs_under g.0 members) ≡ Some g.1) groups
 
 abbrev pub MakesGroups : {X : Type 0} → (List Aggregate → Keeping X) → Type 0
 MakesGroups {X} keeping =

@@ -1,5 +1,6 @@
 -- What the instructions of a section load, and what operations give there.
-use Rattle.std.specs.Prelude.{ℕ, ◌==◌, nat_lt, true, false, List, Option, Some, None, slice_get, option_map, option_and_then, if◌then◌else◌}
+use Rattle.std.specs.Prelude.{ℕ, ◌==◌, nat_lt, true, false, List, Option, Some, None, slice_get}
+use Rattle.std.specs.Prelude.{option_map, option_and_then, if◌then◌else◌}
 use Rattle.query_values.specs.Held.{checked}
 use Rattle.query_values.specs.Operand.{may_unary, may_binary, is_truth}
 use Rattle.query_values.specs.Operation.{unary_value, binary_value}

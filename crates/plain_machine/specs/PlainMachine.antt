@@ -1,6 +1,8 @@
 -- The plain machine: a program over the rows of a ledger. One instruction is one step; what happens
 -- at the end of a section belongs to the step that comes there.
-use Rattle.std.specs.Prelude.{ℕ, zero, suc, ◌+◌, ◌==◌, Bool, true, false, List, [], ◌∷◌, ◌++◌, length, take, drop, reverse, Option, Some, None, option_map, option_and_then, if◌then◌else◌}
+use Rattle.std.specs.Prelude.{ℕ, zero, suc, ◌+◌, ◌==◌, Bool, true, false, List, [], ◌∷◌, ◌++◌}
+use Rattle.std.specs.Prelude.{length, take, drop, reverse, Option, Some, None, option_map}
+use Rattle.std.specs.Prelude.{option_and_then, if◌then◌else◌}
 use Rattle.query_values.specs.Aggregate.{aggregate_of}
 use Rattle.query_values.specs.declared.operation.Aggregate.TheVariants.{SumInventory}
 use Rattle.query_values.specs.declared.value.Value.{Value}
@@ -27,7 +29,8 @@ pub record Kept (X : Type 0) : Type 0 where
 pub data Stand (X : Type 0) : Type 0 where
   InFilter : Row → (rest : List Row) → Kept X → (place : ℕ) → State Value → Stand X
   InRow : Row → (rest : List Row) → Kept X → (place : ℕ) → State Value → Stand X
-  InLast : Group X → (rest : List (Group X)) → (rows : List (List Value)) → (place : ℕ) → State Value → Stand X
+  InLast : Group X → (rest : List (Group X)) → (rows : List (List Value)) → (place : ℕ)
+      → State Value → Stand X
   Done : (rows : List (List Value)) → Stand X
   Fault : Stand X
 
@@ -59,7 +62,8 @@ one_truth stack = None
 
 -- the running inventory with the position of a row
 abbrev pub running_with : Value → Row → Option Value
-running_with running r = option_and_then (with_value (SumInventory 8) running) (cell_at position_column r)
+running_with running r =
+    option_and_then (with_value (SumInventory 8) running) (cell_at position_column r)
 
 -- how many values a row of the answer has, those to order by included
 abbrev pub width_of : Output → ℕ
@@ -117,7 +121,8 @@ module _ {X : Type 0} (keep : Keeping X) (p : Parts) where
   abbrev pub grouped_with : Kept X → List Value → Option (Kept X)
   grouped_with k values =
       if length values == p.code.keys + inputs_of p.code.aggregates
-      then option_map (with_groups k) (put keep k.groups (take p.code.keys values) (drop p.code.keys values))
+      then option_map (with_groups k)
+      (put keep k.groups (take p.code.keys values) (drop p.code.keys values))
       else None
 
   -- a row of the answer, or a member of a group

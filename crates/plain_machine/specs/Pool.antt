@@ -1,5 +1,7 @@
--- What instructions name in the pool of their program: none where no entry of that kind stands there.
-use Rattle.std.specs.Prelude.{ℕ, List, map, Option, Some, None, slice_get, option_map, option_and_then, if◌then◌else◌}
+-- What instructions name in the pool of their program: none where no entry of that kind stands
+-- there.
+use Rattle.std.specs.Prelude.{ℕ, List, map, Option, Some, None, slice_get, option_map}
+use Rattle.std.specs.Prelude.{option_and_then, if◌then◌else◌}
 use Rattle.query_values.specs.Choice.{text_choice, number_choice, day_choice}
 use Rattle.query_values.specs.Unary as operation
 use Rattle.query_values.specs.declared.value.Value.{Value}
@@ -8,7 +10,8 @@ use Rattle.query_code.specs.InstructionForm.{at_least_one}
 use Rattle.query_code.specs.declared.instruction.Unary.{Unary}
 use Rattle.query_code.specs.declared.instruction.Unary.TheVariants as unary
 use Rattle.query_code.specs.declared.program.Constant.{Constant}
-use Rattle.query_code.specs.declared.program.Constant.TheVariants.{Text, Number, Day, Pattern, Texts, Numbers, Days}
+use Rattle.query_code.specs.declared.program.Constant.TheVariants.{Text, Number, Day, Pattern}
+use Rattle.query_code.specs.declared.program.Constant.TheVariants.{Texts, Numbers, Days}
 
 -- the value that an entry is
 abbrev pub value_in : Constant → Option Value

@@ -1,12 +1,16 @@
 -- The instructions of a section, one after the other, on a stack and slots.
-use Rattle.std.specs.Prelude.{ℕ, zero, suc, ◌+◌, nat_le, nat_lt, Bool, true, false, ◌&&◌, List, [], ◌∷◌, length, replicate, slice_get, slice_set, Option, Some, None, option_map, if◌then◌else◌}
+use Rattle.std.specs.Prelude.{ℕ, zero, suc, ◌+◌, nat_le, nat_lt, Bool, true, false, ◌&&◌, List, []}
+use Rattle.std.specs.Prelude.{◌∷◌, length, replicate, slice_get, slice_set, Option, Some, None}
+use Rattle.std.specs.Prelude.{option_map, if◌then◌else◌}
 use Rattle.query_values.specs.Operation.{is_true}
 use Rattle.query_values.specs.declared.operation.Binary as binary
 use Rattle.query_values.specs.declared.value.Value.{Value}
 use Rattle.query_code.specs.declared.instruction.Push as push
 use Rattle.query_code.specs.declared.instruction.Unary as unary
 use Rattle.query_code.specs.declared.instruction.Instruction.{Instruction}
-use Rattle.query_code.specs.declared.instruction.Instruction.TheVariants.{Push, Unary, Binary, LoadSlot, StoreSlot, Jump, JumpIfFalse}
+use Rattle.query_code.specs.declared.instruction.Instruction.TheVariants.{Push, Unary, Binary}
+use Rattle.query_code.specs.declared.instruction.Instruction.TheVariants.{LoadSlot, StoreSlot, Jump}
+use Rattle.query_code.specs.declared.instruction.Instruction.TheVariants.{JumpIfFalse}
 
 -- What instructions do with values, or with what is known of values: none is a fault.
 pub record Acts (A : Type 0) : Type 0 where

@@ -1,11 +1,15 @@
 -- A run by whole sections: what each leaves, row after row, and then group after group.
-use Rattle.std.specs.Prelude.{◌≡◌, ℕ, ◌+◌, ◌*◌, ◌<◌, ◌≤◌, ◌==◌, Bool, true, false, List, [], ◌∷◌, ◌++◌, length, Option, Some, None, option_map, option_and_then, if◌then◌else◌}
+use Rattle.std.specs.Prelude.{◌≡◌, ℕ, ◌+◌, ◌*◌, ◌<◌, ◌≤◌, ◌==◌, Bool, true, false, List, [], ◌∷◌}
+use Rattle.std.specs.Prelude.{◌++◌, length, Option, Some, None, option_map, option_and_then}
+use Rattle.std.specs.Prelude.{if◌then◌else◌}
 use Rattle.query_values.specs.declared.operation.Aggregate.{Aggregate}
 use Rattle.query_values.specs.declared.value.Value.{Value}
 use Rattle.query_code.specs.declared.program.Parts.{Parts}
 use Rattle.plain_machine.specs.FinalRows.{are_orderable}
 use Rattle.plain_machine.specs.Gathering.{Keeping, Group}
-use Rattle.plain_machine.specs.PlainMachine.{Kept, Stand, Done, Fault, filter_acts, row_acts, last_acts, one_truth, running_with, row_of, kept_with, with_running, nothing_kept, begin, steps}
+use Rattle.plain_machine.specs.PlainMachine.{Kept, Stand, Done, Fault, filter_acts, row_acts}
+use Rattle.plain_machine.specs.PlainMachine.{last_acts, one_truth, running_with, row_of, kept_with}
+use Rattle.plain_machine.specs.PlainMachine.{with_running, nothing_kept, begin, steps}
 use Rattle.plain_machine.specs.Row.{Row}
 use Rattle.plain_machine.specs.SectionRun.{left_by}
 
@@ -84,7 +88,8 @@ is_going s = true
 
 -- From one stand the machine comes to another in at most n steps. Each of them is made, since it
 -- begins before an instruction.
-pub record Reaches {X : Type 0} (keep : Keeping X) (p : Parts) (n : ℕ) (s t : Stand X) : Type 0 where
+pub record Reaches {X : Type 0} (keep : Keeping X) (p : Parts) (n : ℕ) (s t : Stand X) :
+    Type 0 where
   pub count : ℕ
   pub within : count ≤ n
   pub comes : steps keep p count s ≡ t
@@ -96,12 +101,14 @@ abbrev pub ComesToItsAnswer : {X : Type 0} → (List Aggregate → Keeping X) �
 ComesToItsAnswer keeping =
     (p : Parts) (rows : List Row)
     → Reaches (keeping p.code.aggregates) p
-    (budget p (length rows) (group_count (behind_rows (keeping p.code.aggregates) p rows nothing_kept)))
+    (budget p (length rows)
+    (group_count (behind_rows (keeping p.code.aggregates) p rows nothing_kept)))
     (begin p rows) (stand_of (answer (keeping p.code.aggregates) p rows))
 
 -- An answer has no more rows than the ledger, and is reached within the budget of its own rows: one
 -- for each group, where postings are grouped.
-pub record IsReached {X : Type 0} (keep : Keeping X) (p : Parts) (ledger : List Row) (rows : List (List Value)) : Type 0 where
+pub record IsReached {X : Type 0} (keep : Keeping X) (p : Parts) (ledger : List Row)
+    (rows : List (List Value)) : Type 0 where
   pub few : length rows ≤ length ledger
   pub reaches : Reaches keep p (budget p (length ledger) (length rows)) (begin p ledger) (Done rows)
 

@@ -1,38 +1,51 @@
 -- What a map of entries has at a name.
-use Rattle.std.proofs.Common.{◌≡◌, ℕ, Bool, true, false, cond, List, [], ◌∷◌, Some, unwrap_or, refl, sym, ap, ◌∙◌, nat_eq}
+use Rattle.std.proofs.Common.{◌≡◌, ℕ, Bool, true, false, cond, List, [], ◌∷◌, Some, unwrap_or, refl}
+use Rattle.std.proofs.Common.{sym, ap, ◌∙◌, nat_eq}
 use Rattle.std.specs.Cmp.{eq_by_cmp_equiv}
 use Rattle.std.specs.Cmp.Lexicographic.{pointwise, slice_cmp, texts_ties, nat_list_cmp_total}
-use Rattle.std.specs.FinMap.{get, insert, from_entries, find, get-from_entries, get-insert, same_map, slice_cmp-IsAntisymmetric, nat_cmp-IsAntisymmetric}
+use Rattle.std.specs.FinMap.{get, insert, from_entries, find, get-from_entries, get-insert}
+use Rattle.std.specs.FinMap.{same_map, slice_cmp-IsAntisymmetric, nat_cmp-IsAntisymmetric}
 use Rattle.std.specs.Map.{lookup}
 use Rattle.std.specs.Ordering.{nat_cmp}
 use Rattle.posting_table.specs.Decimals.{Decimals, decimals_of}
 
 -- the entry that a name ties with is that which it equals
-found : (name : List ℕ) (es : List (List ℕ × ℕ)) → find (slice_cmp nat_cmp) name es ≡ lookup (pointwise nat_eq name) es
+found : (name : List ℕ) (es : List (List ℕ × ℕ))
+    → find (slice_cmp nat_cmp) name es ≡ lookup (pointwise nat_eq name) es
 found name [] = refl
 found name (e ∷ es) = λ k. cond (sym (texts_ties name e.0) k) (Some e.1) (found name es k)
 
-pub got : (name : List ℕ) (es : List (List ℕ × ℕ)) → get (from_entries {R = slice_cmp nat_cmp} es) name ≡ lookup (pointwise nat_eq name) es
+pub got : (name : List ℕ) (es : List (List ℕ × ℕ))
+    → get (from_entries {R = slice_cmp nat_cmp} es) name ≡ lookup (pointwise nat_eq name) es
 got name es = get-from_entries nat_list_cmp_total es name ∙ found name es
 
 -- entries that have the count at the name, and at all others what was there
 pub updated : (before after : List (List ℕ × ℕ)) (name : List ℕ) (count : ℕ)
-    → ((other : List ℕ) → lookup (pointwise nat_eq other) after ≡ cond (pointwise nat_eq name other) (Some count) (lookup (pointwise nat_eq other) before))
+    → ((other : List ℕ)
+    → lookup (pointwise nat_eq other) after
+    ≡ cond (pointwise nat_eq name other) (Some count) (lookup (pointwise nat_eq other) before))
     → from_entries {R = slice_cmp nat_cmp} after ≡ insert (from_entries before) name count
 updated before after name count is =
-    same_map nat_list_cmp_total (slice_cmp-IsAntisymmetric nat_cmp-IsAntisymmetric) (from_entries after) (insert (from_entries before) name count)
-    (λ other. got other after ∙ is other ∙ (λ k. cond (texts_ties name other k) (Some count) (sym (got other before) k))
-    ∙ ap (λ b. cond b (Some count) (get (from_entries {R = slice_cmp nat_cmp} before) other)) ((eq_by_cmp_equiv nat_list_cmp_total).symm name other)
+    same_map nat_list_cmp_total (slice_cmp-IsAntisymmetric nat_cmp-IsAntisymmetric)
+    (from_entries after) (insert (from_entries before) name count)
+    (λ other. got other after ∙ is other
+    ∙ (λ k. cond (texts_ties name other k) (Some count) (sym (got other before) k))
+    ∙ ap (λ b. cond b (Some count) (get (from_entries {R = slice_cmp nat_cmp} before) other))
+    ((eq_by_cmp_equiv nat_list_cmp_total).symm name other)
     ∙ sym (get-insert nat_list_cmp_total (from_entries before) name count other))
 
 -- after one currency is set
 pub decimals_of-insert : (decimals : Decimals) (currency : List ℕ) (count : ℕ) (name : List ℕ)
-    → decimals_of (insert decimals currency count) name ≡ cond (pointwise nat_eq currency name) count (decimals_of decimals name)
+    → decimals_of (insert decimals currency count) name
+    ≡ cond (pointwise nat_eq currency name) count (decimals_of decimals name)
 decimals_of-insert decimals currency count name =
     ap (λ o. unwrap_or o 0) (get-insert nat_list_cmp_total decimals currency count name)
-    ∙ ap (λ b. unwrap_or (cond b (Some count) (get decimals name)) 0) ((eq_by_cmp_equiv nat_list_cmp_total).symm name currency ∙ sym (texts_ties currency name))
+    ∙ ap (λ b. unwrap_or (cond b (Some count) (get decimals name)) 0)
+    ((eq_by_cmp_equiv nat_list_cmp_total).symm name currency ∙ sym (texts_ties currency name))
     ∙ either (pointwise nat_eq currency name)
   where
-    either : (b : Bool) → unwrap_or (cond b (Some count) (get decimals name)) 0 ≡ cond b count (decimals_of decimals name)
+    either : (b : Bool)
+        → unwrap_or (cond b (Some count) (get decimals name)) 0
+        ≡ cond b count (decimals_of decimals name)
     either true = refl
     either false = refl

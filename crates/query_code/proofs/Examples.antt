@@ -1,11 +1,13 @@
 -- What some bytes are, computed.
 use Rattle.std.proofs.Common.{◌≡◌, ℕ, List, [], ◌∷◌, ◌++◌, Ok, Err, codes, refl}
 use Rattle.std.specs.Str.{is_utf8, chars}
-use Rattle.query_code.specs.declared.refusal.Cause.TheVariants.{Magic, Version, Truncated, TrailingBytes, BadField, NotUtf8}
+use Rattle.query_code.specs.declared.refusal.Cause.TheVariants.{Magic, Version, Truncated}
+use Rattle.query_code.specs.declared.refusal.Cause.TheVariants.{TrailingBytes, BadField, NotUtf8}
 use Rattle.query_code.proofs.WorkedProgram.{counted}
 use Rattle.query_code.specs.ByteForm.{read_all}
 use Rattle.query_code.specs.InstructionForm.{instruction}
-use Rattle.query_code.specs.QueryFile.{whole, decoded, parts, bounds, flag, limit, mode, output, columns, code, file, text, section, constant, aggregate}
+use Rattle.query_code.specs.QueryFile.{whole, decoded, parts, bounds, flag, limit, mode, output}
+use Rattle.query_code.specs.QueryFile.{columns, code, file, text, section, constant, aggregate}
 
 -- up to the mode, with the bounds 1000000, 20 and 28
 front : List ℕ
@@ -19,7 +21,8 @@ count_rows =
     ++ 0 ∷ 0 ∷ 0 ∷ 1 ∷ 0 ∷ 0 ∷ 0 ∷ 0 ∷ 1 ∷ 0 ∷ 0 ∷ 0 ∷ 0 ∷ 1 ∷ 7 ∷ 0 ∷ []
 
 a_file : decoded count_rows ≡ Ok counted
-unfolding front count_rows whole file parts bounds mode flag limit output columns text code aggregate section instruction constant read_all is_utf8 chars lib.Utf8.encode
+unfolding front count_rows whole file parts bounds mode flag limit output columns text code
+    aggregate section instruction constant read_all is_utf8 chars lib.Utf8.encode
 a_file = refl
 
 not_a_file : decoded (65 ∷ 81 ∷ 76 ∷ 67 ∷ []) ≡ Err (record { code = Magic; place = 0 })
@@ -30,7 +33,8 @@ cut_magic : decoded (66 ∷ 88 ∷ []) ≡ Err (record { code = Truncated; place
 unfolding whole file parts
 cut_magic = refl
 
-other_version : decoded (66 ∷ 81 ∷ 76 ∷ 67 ∷ 0 ∷ 2 ∷ []) ≡ Err (record { code = Version; place = 4 })
+other_version :
+    decoded (66 ∷ 81 ∷ 76 ∷ 67 ∷ 0 ∷ 2 ∷ []) ≡ Err (record { code = Version; place = 4 })
 unfolding whole file parts
 other_version = refl
 
@@ -38,10 +42,14 @@ no_mode : decoded (front ++ 2 ∷ []) ≡ Err (record { code = BadField; place =
 unfolding front whole file parts bounds mode
 no_mode = refl
 
-no_text : decoded (front ++ 0 ∷ 0 ∷ 0 ∷ 0 ∷ 1 ∷ 0 ∷ 2 ∷ 255 ∷ 65 ∷ []) ≡ Err (record { code = NotUtf8; place = 19 })
-unfolding front whole file parts bounds mode flag limit output columns text read_all is_utf8 chars lib.Utf8.encode
+no_text :
+    decoded (front ++ 0 ∷ 0 ∷ 0 ∷ 0 ∷ 1 ∷ 0 ∷ 2 ∷ 255 ∷ 65 ∷ [])
+    ≡ Err (record { code = NotUtf8; place = 19 })
+unfolding front whole file parts bounds mode flag limit output columns text read_all is_utf8 chars
+    lib.Utf8.encode
 no_text = refl
 
 one_byte_more : decoded (count_rows ++ 7 ∷ []) ≡ Err (record { code = TrailingBytes; place = 43 })
-unfolding front count_rows whole file parts bounds mode flag limit output columns text code aggregate section instruction constant read_all is_utf8 chars lib.Utf8.encode
+unfolding front count_rows whole file parts bounds mode flag limit output columns text code
+    aggregate section instruction constant read_all is_utf8 chars lib.Utf8.encode
 one_byte_more = refl

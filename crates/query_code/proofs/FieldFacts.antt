@@ -1,5 +1,6 @@
 -- The form of each field, and of the file, is exact.
-use Rattle.std.proofs.Common.{◌≡◌, ℕ, ℤ, ◌+◌, ◌^◌, true, false, [], ◌∷◌, length, Some, None, refl, ap, ap₂}
+use Rattle.std.proofs.Common.{◌≡◌, ℕ, ℤ, ◌+◌, ◌^◌, true, false, [], ◌∷◌, length, Some, None, refl}
+use Rattle.std.proofs.Common.{ap, ap₂}
 use Rattle.std.specs.Prelude.{◌||◌, ◌==◌, nat_lt, nat_le, codes}
 use Rattle.std.specs.Int.{w16, w32, w128, cast_signed, cast_unsigned}
 use Rattle.std.specs.Str.{is_utf8}
@@ -10,22 +11,36 @@ use Rattle.query_code.specs.declared.refusal.Cause.TheVariants.{Magic, Version, 
 use Rattle.query_code.specs.declared.instruction.Push.TheVariants as push
 use Rattle.query_code.specs.declared.instruction.Unary.TheVariants as unary
 use Rattle.query_code.specs.declared.instruction.Instruction.{Instruction}
-use Rattle.query_code.specs.declared.instruction.Instruction.TheVariants.{Push, Unary, Binary, LoadSlot, StoreSlot, Jump, JumpIfFalse}
+use Rattle.query_code.specs.declared.instruction.Instruction.TheVariants.{Push, Unary, Binary}
+use Rattle.query_code.specs.declared.instruction.Instruction.TheVariants.{LoadSlot, StoreSlot, Jump}
+use Rattle.query_code.specs.declared.instruction.Instruction.TheVariants.{JumpIfFalse}
 use Rattle.query_code.specs.declared.program.Mode.{Mode}
 use Rattle.query_code.specs.declared.program.Mode.TheVariants.{Plain, Grouped}
 use Rattle.query_code.specs.declared.program.Constant.TheVariants as constants
-use Rattle.query_code.specs.InstructionForm.{at_least_one, word, code_of, operand_of, instruction, instructions}
-use Rattle.bean_base.specs.declared.decimal.Decimal.{Decimal}
+use Rattle.query_code.specs.InstructionForm.{at_least_one, some_byte, word, or_0, opcode}
+use Rattle.query_code.specs.InstructionForm.{operand_of, bare, with_byte, with_some_byte, with_word}
+use Rattle.query_code.specs.InstructionForm.{bare_before, with_before, operand_cases, word_cases}
+use Rattle.query_code.specs.InstructionForm.{cases, instruction}
+use Rattle.query_values.specs.declared.decimal.Decimal.{Decimal}
 use Rattle.bean_base.proofs.DayFacts as days
-use Rattle.bean_base.proofs.WideFacts as decimals
+use Rattle.query_values.proofs.WideFacts as decimals
 use Rattle.std.proofs.lemmas.Int.{of_z-to_z}
-use Rattle.query_code.specs.ByteForm.{Form, raw, mapped, such_that, before, both, counted, byte, number, marked, just, case}
-use Rattle.query_code.specs.QueryFile.{long, wide_integer, is_count, count, text, bit_of, flag, has, or_0, limit, mode_number, mode, is_grouped, only, places, some_number, decimal_from, places_and_count, decimal, day_from, day, numbers_of, numbers, kind_of, its_text, its_number, its_day, its_texts, its_numbers, its_days, constant, constant_cases, aggregate_number, its_places, aggregate, aggregate_cases, bounds_of, bounds, place_below, columns, output, section, code, parts, file}
-use Rattle.query_code.proofs.ByteFormFacts.{IsExact, IsCase, is_case, is_just, wide16, wide32, exact_raw, exact_mapped, exact_such_that, exact_standing_for, exact_before, exact_both, exact_byte, exact_number, exact_counted, exact_marked, exact_told}
+use Rattle.query_code.specs.ByteForm.{Form, Case, raw, mapped, such_that, before, both, counted}
+use Rattle.query_code.specs.ByteForm.{byte, number, marked, just, case}
+use Rattle.query_code.specs.QueryFile.{long, wide_integer, is_count, count, text, bit_of, flag, has}
+use Rattle.query_code.specs.QueryFile.{limit, mode_number, mode, is_grouped, only, places}
+use Rattle.query_code.specs.QueryFile.{some_number, decimal_from, places_and_count, decimal}
+use Rattle.query_code.specs.QueryFile.{day_from, day, numbers_of, numbers, kind_of, its_text}
+use Rattle.query_code.specs.QueryFile.{its_number, its_day, its_texts, its_numbers, its_days}
+use Rattle.query_code.specs.QueryFile.{constant, constant_cases, aggregate_number, its_places}
+use Rattle.query_code.specs.QueryFile.{aggregate, aggregate_cases, bounds_of, bounds, place_below}
+use Rattle.query_code.specs.QueryFile.{columns, output, section, code, parts, file}
+use Rattle.query_code.proofs.ByteFormFacts.{IsExact, AreCases, is_case, is_just, wide16, wide32}
+use Rattle.query_code.proofs.ByteFormFacts.{exact_raw, exact_mapped, exact_such_that}
+use Rattle.query_code.proofs.ByteFormFacts.{exact_standing_for, exact_before, exact_both}
+use Rattle.query_code.proofs.ByteFormFacts.{exact_byte, exact_number, exact_counted, exact_marked}
+use Rattle.query_code.proofs.ByteFormFacts.{exact_told}
 use Rattle.query_code.proofs.WideNumberFacts.{wide128}
-
-abbrev pub some_byte : Form ℕ
-some_byte = such_that BadField at_least_one byte
 
 pub exact_some_byte : IsExact some_byte
 exact_some_byte = exact_such_that BadField at_least_one byte exact_byte
@@ -39,166 +54,77 @@ exact_long = exact_number w32 (2 ^ 32) wide32
 pub exact_count : IsExact count
 unfolding count
 exact_count = exact_such_that BadField is_count wide_integer
-    (exact_mapped (cast_signed w128) (cast_unsigned w128) (number w128 (2 ^ 128)) (λ n lt. of_z-to_z w128 n lt) (exact_number w128 (2 ^ 128) wide128))
+    (exact_mapped (cast_signed w128) (cast_unsigned w128) (number w128 (2 ^ 128))
+    (λ n lt. of_z-to_z w128 n lt) (exact_number w128 (2 ^ 128) wide128))
 
 pub exact_text : IsExact text
 unfolding text
-exact_text = exact_mapped (λ p. p.1) (λ bs. (length bs, bs)) (before word (λ n. such_that NotUtf8 is_utf8 (raw n)))
+exact_text =
+    exact_mapped (λ p. p.1) (λ bs. (length bs, bs))
+    (before word (λ n. such_that NotUtf8 is_utf8 (raw n)))
     (λ p fits. ap (λ (n : ℕ). (n, p.1)) fits.1.0)
-    (exact_before word (λ n. such_that NotUtf8 is_utf8 (raw n)) exact_word (λ n fits. exact_such_that NotUtf8 is_utf8 (raw n) (exact_raw n)))
+    (exact_before word (λ n. such_that NotUtf8 is_utf8 (raw n)) exact_word
+    (λ n fits. exact_such_that NotUtf8 is_utf8 (raw n) (exact_raw n)))
 
 pub exact_flag : IsExact flag
 unfolding flag
-exact_flag = exact_told bit_of (case 0 (just false) ∷ case 1 (just true) ∷ []) (is_just bit_of false, (is_just bit_of true, tt))
+exact_flag =
+    exact_told bit_of (case 0 (just false) ∷ case 1 (just true) ∷ [])
+    (is_just bit_of false, (is_just bit_of true, tt))
 
 pub exact_limit : IsExact limit
 unfolding limit
-exact_limit = exact_told has (case 0 (just None) ∷ case 1 (mapped Some or_0 long) ∷ []) (is_just has None, (is_case has 1 Some or_0 long (λ n. refl) (λ n fits. refl) exact_long, tt))
+exact_limit =
+    exact_told has (case 0 (just None) ∷ case 1 (mapped Some or_0 long) ∷ [])
+    (is_just has None, (is_case has 1 Some or_0 long (λ n. refl) (λ n fits. refl) exact_long, tt))
 
 pub exact_mode : IsExact mode
 unfolding mode
-exact_mode = exact_told mode_number (case 0 (just Plain) ∷ case 1 (just Grouped) ∷ []) (is_just mode_number Plain, (is_just mode_number Grouped, tt))
+exact_mode =
+    exact_told mode_number (case 0 (just Plain) ∷ case 1 (just Grouped) ∷ [])
+    (is_just mode_number Plain, (is_just mode_number Grouped, tt))
 
 exact_only : (m : Mode) (a : Form ℕ) → IsExact a → IsExact (only m a)
 exact_only m a exact = exact_such_that BadField (λ n. is_grouped m || (n == 0)) a exact
 
 -- ---- instructions
 
-with_operand : (n : ℕ) (a : Form ℕ) (make : ℕ → Instruction) → ((x : ℕ) → code_of (make x) ≡ n) → ((x : ℕ) → operand_of (make x) ≡ x) → IsExact a → IsCase code_of n (mapped make operand_of a)
-with_operand n a make tells forth exact = is_case code_of n make operand_of a tells (λ x fits. forth x) exact
+-- the opcode of each is one whatever the operand, which is found again
+abbrev AreMade : List (ℕ → Instruction) → Type 0
+AreMade [] = Unit {0}
+AreMade (make ∷ makes) =
+    ((x : ℕ) → opcode (make x) ≡ opcode (make 1)) × ((x : ℕ) → operand_of (make x) ≡ x)
+    × AreMade makes
+
+bare_are : (others : List (Case Instruction)) (is : List Instruction)
+    → AreCases opcode others → AreCases opcode (bare_before others is)
+bare_are others [] are = are
+bare_are others (i ∷ is) are = (is_just opcode i, bare_are others is are)
+
+with_are : (a : Form ℕ) (others : List (Case Instruction)) (makes : List (ℕ → Instruction))
+    → IsExact a → AreMade makes → AreCases opcode others
+    → AreCases opcode (with_before a others makes)
+with_are a others [] exact made are = are
+with_are a others (make ∷ makes) exact made are = (
+  is_case opcode (opcode (make 1)) make operand_of a made.0 (λ x fits. made.1.0 x) exact,
+  with_are a others makes exact made.1.1 are,
+)
+
+bytes_made : AreMade with_byte
+bytes_made = Prim.search rules
+
+some_bytes_made : AreMade with_some_byte
+some_bytes_made = Prim.search rules
+
+words_made : AreMade with_word
+words_made = Prim.search rules
 
 pub exact_instruction : IsExact instruction
-unfolding instruction
-exact_instruction = exact_told code_of instructions (
-  is_just code_of (Push push.True),
-  (
-    is_just code_of (Push push.False),
-    (
-      with_operand 2 word (λ x. Push (push.Const x)) (λ x. refl) (λ x. refl) exact_word,
-      (
-        with_operand 3 byte (λ x. Push (push.LoadColumn x)) (λ x. refl) (λ x. refl) exact_byte,
-        (
-          with_operand 4 byte LoadSlot (λ x. refl) (λ x. refl) exact_byte,
-          (
-            with_operand 5 byte StoreSlot (λ x. refl) (λ x. refl) exact_byte,
-            (
-              with_operand 6 byte (λ x. Push (push.LoadKey x)) (λ x. refl) (λ x. refl) exact_byte,
-              (
-                with_operand 7 byte (λ x. Push (push.LoadAggregate x)) (λ x. refl) (λ x. refl) exact_byte,
-                (
-                  with_operand 8 byte (λ x. Unary (unary.Align x)) (λ x. refl) (λ x. refl) exact_byte,
-                  (
-                    is_just code_of (Binary binary.Add),
-                    (
-                      is_just code_of (Binary binary.Sub),
-                      (
-                        is_just code_of (Binary binary.Mul),
-                        (
-                          is_just code_of (Unary unary.Neg),
-                          (
-                            is_just code_of (Unary unary.Abs),
-                            (
-                              is_just code_of (Binary binary.Equal),
-                              (
-                                is_just code_of (Binary binary.NotEqual),
-                                (
-                                  is_just code_of (Binary binary.Less),
-                                  (
-                                    is_just code_of (Binary binary.AtMost),
-                                    (
-                                      is_just code_of (Binary binary.Greater),
-                                      (
-                                        is_just code_of (Binary binary.AtLeast),
-                                        (
-                                          is_just code_of (Unary unary.Not),
-                                          (
-                                            is_just code_of (Unary unary.IsNull),
-                                            (
-                                              with_operand 48 word Jump (λ x. refl) (λ x. refl) exact_word,
-                                              (
-                                                with_operand 49 word JumpIfFalse (λ x. refl) (λ x. refl) exact_word,
-                                                (
-                                                  with_operand 64 word (λ x. Unary (unary.Match x)) (λ x. refl) (λ x. refl) exact_word,
-                                                  (
-                                                    with_operand 65 word (λ x. Unary (unary.MatchAny x)) (λ x. refl) (λ x. refl) exact_word,
-                                                    (
-                                                      is_just code_of (Binary binary.InSet),
-                                                      (
-                                                        with_operand 67 word (λ x. Unary (unary.InList x)) (λ x. refl) (λ x. refl) exact_word,
-                                                        (
-                                                          is_just code_of (Unary unary.Year),
-                                                          (
-                                                            is_just code_of (Unary unary.Month),
-                                                            (
-                                                              is_just code_of (Unary unary.Day),
-                                                              (
-                                                                with_operand 83 some_byte (λ x. Unary (unary.Root x)) (λ x. refl) (λ x. refl) exact_some_byte,
-                                                                (
-                                                                  is_just code_of (Unary unary.Parent),
-                                                                  (
-                                                                    is_just code_of (Unary unary.Leaf),
-                                                                    (
-                                                                      is_just code_of (Unary unary.Length),
-                                                                      (
-                                                                        is_just code_of (Unary unary.Units),
-                                                                        (
-                                                                          is_just code_of (Unary unary.Cost),
-                                                                          (
-                                                                            is_just code_of (Unary unary.Number),
-                                                                            (
-                                                                              is_just code_of (Unary unary.Currency),
-                                                                              (
-                                                                                with_operand 91 word (λ x. Push (push.Meta x)) (λ x. refl) (λ x. refl) exact_word,
-                                                                                (
-                                                                                  with_operand 92 word (λ x. Push (push.EntryMeta x)) (λ x. refl) (λ x. refl) exact_word,
-                                                                                  (
-                                                                                    with_operand 93 word (λ x. Push (push.AnyMeta x)) (λ x. refl) (λ x. refl) exact_word,
-                                                                                    (
-                                                                                      is_just code_of (Unary unary.RootRank),
-                                                                                      tt,
-                                                                                    ),
-                                                                                  ),
-                                                                                ),
-                                                                              ),
-                                                                            ),
-                                                                          ),
-                                                                        ),
-                                                                      ),
-                                                                    ),
-                                                                  ),
-                                                                ),
-                                                              ),
-                                                            ),
-                                                          ),
-                                                        ),
-                                                      ),
-                                                    ),
-                                                  ),
-                                                ),
-                                              ),
-                                            ),
-                                          ),
-                                        ),
-                                      ),
-                                    ),
-                                  ),
-                                ),
-                              ),
-                            ),
-                          ),
-                        ),
-                      ),
-                    ),
-                  ),
-                ),
-              ),
-            ),
-          ),
-        ),
-      ),
-    ),
-  ),
-)
+unfolding instruction operand_cases word_cases
+exact_instruction = exact_told opcode cases (bare_are operand_cases bare
+    (with_are byte (with_before some_byte word_cases with_some_byte) with_byte exact_byte bytes_made
+    (with_are some_byte word_cases with_some_byte exact_some_byte some_bytes_made
+    (with_are word [] with_word exact_word words_made tt))))
 
 pub exact_section : IsExact section
 unfolding section
@@ -213,39 +139,50 @@ pub exact_some_number : IsExact some_number
 exact_some_number = exact_such_that BadField at_least_one word exact_word
 
 decimal_back : (p : ℕ × ℤ) (d : Decimal) → decimal_from p ≡ Some d → places_and_count d ≡ p
-decimal_back p d e = let back = decimals.parts_back p.0 p.1 d e in ap₂ (λ (n : ℕ) (z : ℤ). (n, z)) back.0 back.1
+decimal_back p d e = let back = decimals.parts_back p.0 p.1 d e in
+    ap₂ (λ (n : ℕ) (z : ℤ). (n, z)) back.0 back.1
 
 pub exact_decimal : IsExact decimal
 unfolding decimal
-exact_decimal = exact_standing_for BadField decimal_from places_and_count (both places count) decimal_back
+exact_decimal =
+    exact_standing_for BadField decimal_from places_and_count (both places count) decimal_back
     (exact_both places count exact_places exact_count)
 
 pub exact_day : IsExact day
 unfolding day
-exact_day = exact_standing_for BadField day_from calendar.parts_of (both word (both byte byte)) (λ p d e. days.parts_back p.0 p.1.0 p.1.1 d e)
+exact_day =
+    exact_standing_for BadField day_from calendar.parts_of (both word (both byte byte))
+    (λ p d e. days.parts_back p.0 p.1.0 p.1.1 d e)
     (exact_both word (both byte byte) exact_word (exact_both byte byte exact_byte exact_byte))
 
 pub exact_numbers : IsExact numbers
 unfolding numbers
-exact_numbers = exact_mapped (λ p. numbers_of p.0 p.1) (λ n. (n.places, n.counts)) (both places (counted some_number count)) (λ p fits. refl)
-    (exact_both places (counted some_number count) exact_places (exact_counted some_number count exact_some_number exact_count))
+exact_numbers =
+    exact_mapped (λ p. numbers_of p.0 p.1) (λ n. (n.places, n.counts))
+    (both places (counted some_number count)) (λ p fits. refl)
+    (exact_both places (counted some_number count) exact_places
+    (exact_counted some_number count exact_some_number exact_count))
 
 pub exact_constant : IsExact constant
 unfolding constant
 exact_constant = exact_told kind_of constant_cases (
   is_case kind_of 1 constants.Text its_text text (λ x. refl) (λ x fits. refl) exact_text,
   (
-    is_case kind_of 2 constants.Number its_number decimal (λ x. refl) (λ x fits. refl) exact_decimal,
+    is_case kind_of 2 constants.Number its_number decimal (λ x. refl) (λ x fits. refl)
+        exact_decimal,
     (
       is_case kind_of 3 constants.Day its_day day (λ x. refl) (λ x fits. refl) exact_day,
       (
         is_case kind_of 4 constants.Pattern its_text text (λ x. refl) (λ x fits. refl) exact_text,
         (
-          is_case kind_of 5 constants.Texts its_texts (counted some_number text) (λ x. refl) (λ x fits. refl) (exact_counted some_number text exact_some_number exact_text),
+          is_case kind_of 5 constants.Texts its_texts (counted some_number text) (λ x. refl)
+              (λ x fits. refl) (exact_counted some_number text exact_some_number exact_text),
           (
-            is_case kind_of 6 constants.Numbers its_numbers numbers (λ x. refl) (λ x fits. refl) exact_numbers,
+            is_case kind_of 6 constants.Numbers its_numbers numbers (λ x. refl) (λ x fits. refl)
+                exact_numbers,
             (
-              is_case kind_of 7 constants.Days its_days (counted some_number day) (λ x. refl) (λ x fits. refl) (exact_counted some_number day exact_some_number exact_day),
+              is_case kind_of 7 constants.Days its_days (counted some_number day) (λ x. refl)
+                  (λ x fits. refl) (exact_counted some_number day exact_some_number exact_day),
               tt,
             ),
           ),
@@ -262,9 +199,11 @@ exact_aggregate = exact_told aggregate_number aggregate_cases (
   (
     is_just aggregate_number aggregates.Count,
     (
-      is_case aggregate_number 2 aggregates.Sum its_places places (λ x. refl) (λ x fits. refl) exact_places,
+      is_case aggregate_number 2 aggregates.Sum its_places places (λ x. refl) (λ x fits. refl)
+          exact_places,
       (
-        is_case aggregate_number 3 aggregates.SumInventory its_places places (λ x. refl) (λ x fits. refl) exact_places,
+        is_case aggregate_number 3 aggregates.SumInventory its_places places (λ x. refl)
+            (λ x fits. refl) exact_places,
         (
           is_just aggregate_number aggregates.First,
           (
@@ -287,7 +226,10 @@ exact_aggregate = exact_told aggregate_number aggregate_cases (
 
 pub exact_bounds : IsExact bounds
 unfolding bounds
-exact_bounds = exact_mapped (λ p. bounds_of p.0 p.1.0 p.1.1) (λ b. (b.postings, (b.units_digits, b.value_digits))) (both long (both byte byte)) (λ p fits. refl)
+exact_bounds =
+    exact_mapped (λ p. bounds_of p.0 p.1.0 p.1.1)
+    (λ b. (b.postings, (b.units_digits, b.value_digits))) (both long (both byte byte))
+    (λ p fits. refl)
     (exact_both long (both byte byte) exact_long (exact_both byte byte exact_byte exact_byte))
 
 pub exact_place_below : (most : ℕ) → IsExact (place_below most)
@@ -299,25 +241,47 @@ exact_order most = exact_counted byte (place_below most) exact_byte (exact_place
 
 pub exact_columns : IsExact columns
 unfolding columns
-exact_columns = exact_before (counted some_byte text) (λ targets. before byte (λ hidden. counted byte (place_below (length targets + hidden))))
+exact_columns =
+    exact_before (counted some_byte text)
+    (λ targets. before byte (λ hidden. counted byte (place_below (length targets + hidden))))
     (exact_counted some_byte text exact_some_byte exact_text)
-    (λ targets fits. exact_before byte (λ hidden. counted byte (place_below (length targets + hidden))) exact_byte
+    (λ targets fits. exact_before byte
+    (λ hidden. counted byte (place_below (length targets + hidden))) exact_byte
     (λ hidden fits. exact_order (length targets + hidden)))
 
 pub exact_output : IsExact output
 unfolding output
 exact_output = exact_mapped
-    (λ p. record { is_distinct = p.0; is_descending = p.1.0; limit = p.1.1.0; targets = p.1.1.1.0; hidden = p.1.1.1.1.0; order = p.1.1.1.1.1 })
-    (λ o. (o.is_distinct, (o.is_descending, (o.limit, (o.targets, (o.hidden, o.order)))))) _ (λ p fits. refl)
-    (exact_both flag _ exact_flag (exact_both flag _ exact_flag (exact_both limit _ exact_limit exact_columns)))
+    (λ p. record {
+      is_distinct = p.0;
+      is_descending = p.1.0;
+      limit = p.1.1.0;
+      targets =
+          p.1.1.1.0;
+      hidden = p.1.1.1.1.0;
+      order = p.1.1.1.1.1;
+    })
+    (λ o. (o.is_distinct, (o.is_descending, (o.limit, (o.targets, (o.hidden, o.order)))))) _
+    (λ p fits. refl)
+    (exact_both flag _ exact_flag
+    (exact_both flag _ exact_flag (exact_both limit _ exact_limit exact_columns)))
 
 pub exact_code : (m : Mode) → IsExact (code m)
 unfolding code
 exact_code m = exact_mapped
-    (λ p. record { keys = p.0; aggregates = p.1.0; pool = p.1.1.0; filter = p.1.1.1.0; row = p.1.1.1.1.0; last = p.1.1.1.1.1 })
+    (λ p. record {
+      keys = p.0;
+      aggregates = p.1.0;
+      pool = p.1.1.0;
+      filter = p.1.1.1.0;
+      row =
+          p.1.1.1.1.0;
+      last = p.1.1.1.1.1;
+    })
     (λ c. (c.keys, (c.aggregates, (c.pool, (c.filter, (c.row, c.last)))))) _ (λ p fits. refl)
     (exact_both (only m byte) _ (exact_only m byte exact_byte)
-    (exact_both (counted (only m byte) aggregate) _ (exact_counted (only m byte) aggregate (exact_only m byte exact_byte) exact_aggregate)
+    (exact_both (counted (only m byte) aggregate) _
+    (exact_counted (only m byte) aggregate (exact_only m byte exact_byte) exact_aggregate)
     (exact_both (counted word constant) _ (exact_counted word constant exact_word exact_constant)
     (exact_both section _ exact_section
     (exact_both section _ exact_section
@@ -325,11 +289,16 @@ exact_code m = exact_mapped
 
 pub exact_parts : IsExact parts
 unfolding parts
-exact_parts = exact_mapped (λ p. record { bounds = p.0; mode = p.1.0; output = p.1.1.0; code = p.1.1.1 }) (λ q. (q.bounds, (q.mode, (q.output, q.code))))
+exact_parts =
+    exact_mapped (λ p. record { bounds = p.0; mode = p.1.0; output = p.1.1.0; code = p.1.1.1 })
+    (λ q. (q.bounds, (q.mode, (q.output, q.code))))
     (both bounds (before mode (λ m. both output (code m)))) (λ p fits. refl)
     (exact_both bounds (before mode (λ m. both output (code m))) exact_bounds
-    (exact_before mode (λ m. both output (code m)) exact_mode (λ m fits. exact_both output (code m) exact_output (exact_code m))))
+    (exact_before mode (λ m. both output (code m)) exact_mode
+    (λ m fits. exact_both output (code m) exact_output (exact_code m))))
 
 pub exact_file : IsExact file
 unfolding file
-exact_file = exact_marked Magic (codes "BQLC") (marked Version (0 ∷ 1 ∷ []) parts) (exact_marked Version (0 ∷ 1 ∷ []) parts exact_parts)
+exact_file =
+    exact_marked Magic (codes "BQLC") (marked Version (0 ∷ 1 ∷ []) parts)
+    (exact_marked Version (0 ∷ 1 ∷ []) parts exact_parts)

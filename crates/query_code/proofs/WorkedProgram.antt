@@ -11,7 +11,15 @@ abbrev pub counted : Parts
 counted = record {
   bounds = record { postings = 1000000; units_digits = 20; value_digits = 28 };
   mode = Grouped;
-  output = record { is_distinct = false; is_descending = false; limit = None; targets = codes "count(*)" ∷ []; hidden = 0; order = [] };
+  output = record {
+    is_distinct = false;
+    is_descending = false;
+    limit = None;
+    targets =
+        codes "count(*)" ∷ [];
+    hidden = 0;
+    order = [];
+  };
   code = record {
     keys = 0;
     aggregates = CountRows ∷ [];

@@ -1,6 +1,8 @@
 -- Forms of bytes: which values have one, how each is written, and how one is read from the front of
 -- bytes.
-use Rattle.std.specs.Prelude.{cond, ◌≡◌, ℕ, zero, suc, ◌<◌, ◌==◌, Bool, nat_lt, IsTrue, List, [], ◌∷◌, ◌++◌, length, take, drop, Option, Some, None, Result, Ok, Err, if◌then◌else◌}
+use Rattle.std.specs.Prelude.{cond, ◌≡◌, ℕ, zero, suc, ◌<◌, ◌==◌, Bool, nat_lt, IsTrue, List, []}
+use Rattle.std.specs.Prelude.{◌∷◌, ◌++◌, length, take, drop, Option, Some, None, Result, Ok, Err}
+use Rattle.std.specs.Prelude.{if◌then◌else◌}
 use Rattle.std.specs.Int.{Width, byte_len, from_be_bytes, to_be_bytes}
 use Rattle.query_code.specs.declared.refusal.Cause.{Cause}
 use Rattle.query_code.specs.declared.refusal.Cause.TheVariants.{Truncated, BadField}
@@ -37,7 +39,8 @@ raw n = record {
   read = λ bytes. if nat_lt (length bytes) n then cut_short else Ok (take n bytes, drop n bytes);
 }
 
--- What stands for another value: the form's values as they are seen; a value that is no such sight has no form.
+-- What stands for another value: the form's values as they are seen; a value that is no such sight
+-- has no form.
 abbrev pub mapped : {A B : Type 0} → (A → B) → (B → A) → Form A → Form B
 mapped to from a = record {
   fits = λ v. a.fits (from v) × (to (from v) ≡ v);
@@ -57,7 +60,8 @@ abbrev pub taken_as : {B : Type 0} → Cause → List ℕ → Option B → List 
 taken_as cause bytes None rest = stop cause bytes
 taken_as cause bytes (Some v) rest = Ok (v, rest)
 
--- What stands for another value where it stands for one; what stands for none fails at its first byte.
+-- What stands for another value where it stands for one; what stands for none fails at its first
+-- byte.
 abbrev pub standing_for : {A B : Type 0} → Cause → (A → Option B) → (B → A) → Form A → Form B
 standing_for cause to from a = record {
   fits = λ v. a.fits (from v) × (to (from v) ≡ Some v);
@@ -119,12 +123,15 @@ abbrev pub number : Width → ℕ → Form ℕ
 number w limit = record {
   fits = λ n. n < limit;
   written = to_be_bytes w;
-  read = λ bytes. if nat_lt (length bytes) (byte_len w) then cut_short else Ok (from_be_bytes w (take (byte_len w) bytes), drop (byte_len w) bytes);
+  read = λ bytes. if nat_lt (length bytes) (byte_len w) then cut_short else
+      Ok (from_be_bytes w (take (byte_len w) bytes), drop (byte_len w) bytes);
 }
 
 -- behind a mark
 abbrev pub marked : {A : Type 0} → Cause → List ℕ → Form A → Form A
-marked cause mark a = mapped (λ p. p.1) (λ v. (mark, v)) (both (such_that cause (bytes_eq mark) (raw (length mark))) a)
+marked cause mark a =
+    mapped (λ p. p.1) (λ v. (mark, v))
+    (both (such_that cause (bytes_eq mark) (raw (length mark))) a)
 
 -- ---- the front byte tells the rest
 

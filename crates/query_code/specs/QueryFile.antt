@@ -1,16 +1,19 @@
 -- A query file: what stands in it, field by field, and the program that it is the file of.
-use Rattle.std.specs.Prelude.{◌≡◌, ℕ, ℤ, ◌+◌, ◌-◌, ◌^◌, ◌||◌, ◌==◌, Bool, true, false, nat_lt, nat_le, List, [], ◌∷◌, length, codes, Option, Some, None, Result, Ok, Err, if◌then◌else◌}
+use Rattle.std.specs.Prelude.{◌≡◌, ℕ, ℤ, ◌+◌, ◌-◌, ◌^◌, ◌||◌, ◌==◌, Bool, true, false, nat_lt}
+use Rattle.std.specs.Prelude.{nat_le, List, [], ◌∷◌, length, codes, Option, Some, None, Result, Ok}
+use Rattle.std.specs.Prelude.{Err, if◌then◌else◌}
 use Rattle.std.specs.Int.{w32, w128, cast_signed, cast_unsigned}
 use Rattle.std.specs.Int.RustNames.{unsigned_abs}
 use Rattle.std.specs.Str.{is_utf8}
 use Rattle.bean_base.specs.CalendarDay as calendar
-use Rattle.bean_base.specs.Wide as wide
+use Rattle.query_values.specs.Wide as wide
 use Rattle.bean_base.specs.declared.bounds.Bounds.{Bounds}
 use Rattle.bean_base.specs.declared.days.Day.{Day}
-use Rattle.bean_base.specs.declared.decimal.Decimal.{Decimal}
+use Rattle.query_values.specs.declared.decimal.Decimal.{Decimal}
 use Rattle.query_values.specs.declared.operation.Aggregate.{Aggregate}
 use Rattle.query_values.specs.declared.operation.Aggregate.TheVariants as aggregates
-use Rattle.query_code.specs.declared.refusal.Cause.TheVariants.{Magic, Version, TrailingBytes, BadField, NotUtf8}
+use Rattle.query_code.specs.declared.refusal.Cause.TheVariants.{Magic, Version, TrailingBytes}
+use Rattle.query_code.specs.declared.refusal.Cause.TheVariants.{BadField, NotUtf8}
 use Rattle.query_code.specs.declared.refusal.Stop.{Stop}
 use Rattle.query_code.specs.declared.refusal.Refusal.{Refusal}
 use Rattle.query_code.specs.declared.instruction.Instruction.{Instruction}
@@ -22,8 +25,10 @@ use Rattle.query_code.specs.declared.program.Constant.TheVariants as constants
 use Rattle.query_code.specs.declared.program.Output.{Output}
 use Rattle.query_code.specs.declared.program.Code.{Code}
 use Rattle.query_code.specs.declared.program.Parts.{Parts}
-use Rattle.query_code.specs.InstructionForm.{at_least_one, word, instruction}
-use Rattle.query_code.specs.ByteForm.{Form, ◌>>=◌, stop, raw, mapped, such_that, standing_for, before, both, counted, byte, number, marked, just, Case, case, told}
+use Rattle.query_code.specs.InstructionForm.{at_least_one, word, or_0, instruction}
+use Rattle.query_code.specs.ByteForm.{Form, ◌>>=◌, stop, raw, mapped, such_that, standing_for}
+use Rattle.query_code.specs.ByteForm.{before, both, counted, byte, number, marked, just, Case, case}
+use Rattle.query_code.specs.ByteForm.{told}
 
 -- ---- fields
 
@@ -43,7 +48,8 @@ count = such_that BadField is_count wide_integer
 
 -- behind its length in bytes
 unfoldable pub text : Form (List ℕ)
-text = mapped (λ p. p.1) (λ bs. (length bs, bs)) (before word (λ n. such_that NotUtf8 is_utf8 (raw n)))
+text = mapped (λ p. p.1) (λ bs. (length bs, bs))
+    (before word (λ n. such_that NotUtf8 is_utf8 (raw n)))
 
 abbrev pub bit_of : Bool → ℕ
 bit_of false = 0
@@ -55,10 +61,6 @@ flag = told bit_of (case 0 (just false) ∷ case 1 (just true) ∷ [])
 abbrev pub has : Option ℕ → ℕ
 has None = 0
 has (Some n) = 1
-
-abbrev pub or_0 : Option ℕ → ℕ
-or_0 None = 0
-or_0 (Some n) = n
 
 unfoldable pub limit : Form (Option ℕ)
 limit = told has (case 0 (just None) ∷ case 1 (mapped Some or_0 long) ∷ [])
@@ -107,7 +109,9 @@ numbers_of p ns = record { places = p; counts = ns }
 
 -- of one count of decimals, one or more
 unfoldable pub numbers : Form Numbers
-numbers = mapped (λ p. numbers_of p.0 p.1) (λ n. (n.places, n.counts)) (both places (counted some_number count))
+numbers =
+    mapped (λ p. numbers_of p.0 p.1) (λ n. (n.places, n.counts))
+    (both places (counted some_number count))
 
 abbrev pub kind_of : Constant → ℕ
 kind_of (constants.Text t) = 1
@@ -198,18 +202,30 @@ abbrev pub bounds_of : ℕ → ℕ → ℕ → Bounds
 bounds_of n d e = record { postings = n; units_digits = d; value_digits = e }
 
 unfoldable pub bounds : Form Bounds
-bounds = mapped (λ p. bounds_of p.0 p.1.0 p.1.1) (λ b. (b.postings, (b.units_digits, b.value_digits))) (both long (both byte byte))
+bounds = mapped (λ p. bounds_of p.0 p.1.0 p.1.1)
+    (λ b. (b.postings, (b.units_digits, b.value_digits))) (both long (both byte byte))
 
 unfoldable pub place_below : ℕ → Form ℕ
 place_below most = such_that BadField (λ i. nat_lt i most) byte
 
--- one name or more, how many are hidden behind them, and those to order by, each below the number of all
+-- one name or more, how many are hidden behind them, and those to order by, each below the number
+-- of all
 unfoldable pub columns : Form (List (List ℕ) × (ℕ × List ℕ))
-columns = before (counted (such_that BadField at_least_one byte) text) (λ targets. before byte (λ hidden. counted byte (place_below (length targets + hidden))))
+columns =
+    before (counted (such_that BadField at_least_one byte) text)
+    (λ targets. before byte (λ hidden. counted byte (place_below (length targets + hidden))))
 
 unfoldable pub output : Form Output
 output = mapped
-    (λ p. record { is_distinct = p.0; is_descending = p.1.0; limit = p.1.1.0; targets = p.1.1.1.0; hidden = p.1.1.1.1.0; order = p.1.1.1.1.1 })
+    (λ p. record {
+      is_distinct = p.0;
+      is_descending = p.1.0;
+      limit = p.1.1.0;
+      targets =
+          p.1.1.1.0;
+      hidden = p.1.1.1.1.0;
+      order = p.1.1.1.1.1;
+    })
     (λ o. (o.is_distinct, (o.is_descending, (o.limit, (o.targets, (o.hidden, o.order))))))
     (both flag (both flag (both limit columns)))
 
@@ -218,7 +234,15 @@ section = counted word instruction
 
 unfoldable pub code : Mode → Form Code
 code m = mapped
-    (λ p. record { keys = p.0; aggregates = p.1.0; pool = p.1.1.0; filter = p.1.1.1.0; row = p.1.1.1.1.0; last = p.1.1.1.1.1 })
+    (λ p. record {
+      keys = p.0;
+      aggregates = p.1.0;
+      pool = p.1.1.0;
+      filter = p.1.1.1.0;
+      row =
+          p.1.1.1.1.0;
+      last = p.1.1.1.1.1;
+    })
     (λ c. (c.keys, (c.aggregates, (c.pool, (c.filter, (c.row, c.last))))))
     (both (only m byte)
     (both (counted (only m byte) aggregate)
@@ -228,7 +252,8 @@ code m = mapped
     (counted (only m word) instruction))))))
 
 unfoldable pub parts : Form Parts
-parts = mapped (λ p. record { bounds = p.0; mode = p.1.0; output = p.1.1.0; code = p.1.1.1 }) (λ q. (q.bounds, (q.mode, (q.output, q.code))))
+parts = mapped (λ p. record { bounds = p.0; mode = p.1.0; output = p.1.1.0; code = p.1.1.1 })
+    (λ q. (q.bounds, (q.mode, (q.output, q.code))))
     (both bounds (before mode (λ m. both output (code m))))
 
 unfoldable pub file : Form Parts

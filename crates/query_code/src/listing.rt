@@ -1,7 +1,9 @@
 //! Showing a program.
 ghost use Rattle.std.specs.Prelude.{◌≡◌, ◌++◌, ◌∷◌, ◌+◌, [], OnOk, IfOk, decimal};
 ghost use Rattle.bean_base.specs.Character.{line_feed};
-ghost use Rattle.query_code.specs.Listing.{name_of, operand_in, labelled, with_operand};
+ghost use Rattle.query_code.specs.InstructionForm.{operand_in};
+ghost use Rattle.query_code.specs.Listing.{name_of, name_of_push, name_of_unary, name_of_binary};
+ghost use Rattle.query_code.specs.Listing.{labelled, with_operand};
 ghost use Rattle.query_code.specs.Listing.{instruction_line, lines_from, section_lines};
 ghost use Rattle.query_code.specs.Listing.{bounds_line, grouped_line, mode_line, listing};
 
@@ -12,55 +14,79 @@ use itoa::Buffer;
 use query_values::Binary;
 use std::alloc::{AllocError, Global};
 
+fn name_of_push(push: Push) -> &'static str
+    ensures { result.now ≡ name_of_push push }
+{
+    match push {
+        Push::True => "TRUE",
+        Push::False => "FALSE",
+        Push::Const(_) => "CONST",
+        Push::LoadColumn(_) => "LOAD_COL",
+        Push::LoadKey(_) => "LOAD_KEY",
+        Push::LoadAggregate(_) => "LOAD_AGG",
+        Push::Meta(_) => "META",
+        Push::EntryMeta(_) => "ENTRY_META",
+        Push::AnyMeta(_) => "ANY_META",
+    }
+}
+
+fn name_of_unary(operation: Unary) -> &'static str
+    ensures { result.now ≡ name_of_unary operation }
+{
+    match operation {
+        Unary::Align(_) => "ALIGN",
+        Unary::Neg => "NEG",
+        Unary::Abs => "ABS",
+        Unary::Not => "NOT",
+        Unary::IsNull => "IS_NULL",
+        Unary::Match(_) => "MATCH",
+        Unary::MatchAny(_) => "MATCH_ANY",
+        Unary::InList(_) => "IN_LIST",
+        Unary::Year => "YEAR",
+        Unary::Month => "MONTH",
+        Unary::Day => "DAY",
+        Unary::Root(_) => "ROOT",
+        Unary::Parent => "PARENT",
+        Unary::Leaf => "LEAF",
+        Unary::Length => "LENGTH",
+        Unary::Units => "UNITS",
+        Unary::Cost => "COST",
+        Unary::Number => "NUMBER",
+        Unary::Currency => "CURRENCY",
+        Unary::RootRank => "ROOT_RANK",
+    }
+}
+
+fn name_of_binary(operation: Binary) -> &'static str
+    ensures { result.now ≡ name_of_binary operation }
+{
+    match operation {
+        Binary::Add => "ADD",
+        Binary::Sub => "SUB",
+        Binary::Mul => "MUL",
+        Binary::Equal => "EQ",
+        Binary::NotEqual => "NE",
+        Binary::Less => "LT",
+        Binary::AtMost => "LE",
+        Binary::Greater => "GT",
+        Binary::AtLeast => "GE",
+        Binary::InSet => "IN_SET",
+    }
+}
+
 impl Instruction {
     /// How the instruction is called.
     pub fn name(self) -> &'static str
         ensures { result.now ≡ name_of self }
     {
         match self {
-            Instruction::Push(Push::True) => "TRUE",
-            Instruction::Push(Push::False) => "FALSE",
-            Instruction::Push(Push::Const(_)) => "CONST",
-            Instruction::Push(Push::LoadColumn(_)) => "LOAD_COL",
+            Instruction::Push(push) => name_of_push(push),
+            Instruction::Unary(operation) => name_of_unary(operation),
+            Instruction::Binary(operation) => name_of_binary(operation),
             Instruction::LoadSlot(_) => "LOAD_SLOT",
             Instruction::StoreSlot(_) => "STORE_SLOT",
-            Instruction::Push(Push::LoadKey(_)) => "LOAD_KEY",
-            Instruction::Push(Push::LoadAggregate(_)) => "LOAD_AGG",
-            Instruction::Unary(Unary::Align(_)) => "ALIGN",
-            Instruction::Binary(Binary::Add) => "ADD",
-            Instruction::Binary(Binary::Sub) => "SUB",
-            Instruction::Binary(Binary::Mul) => "MUL",
-            Instruction::Unary(Unary::Neg) => "NEG",
-            Instruction::Unary(Unary::Abs) => "ABS",
-            Instruction::Binary(Binary::Equal) => "EQ",
-            Instruction::Binary(Binary::NotEqual) => "NE",
-            Instruction::Binary(Binary::Less) => "LT",
-            Instruction::Binary(Binary::AtMost) => "LE",
-            Instruction::Binary(Binary::Greater) => "GT",
-            Instruction::Binary(Binary::AtLeast) => "GE",
-            Instruction::Unary(Unary::Not) => "NOT",
-            Instruction::Unary(Unary::IsNull) => "IS_NULL",
             Instruction::Jump(_) => "JUMP",
             Instruction::JumpIfFalse(_) => "JUMP_IF_FALSE",
-            Instruction::Unary(Unary::Match(_)) => "MATCH",
-            Instruction::Unary(Unary::MatchAny(_)) => "MATCH_ANY",
-            Instruction::Binary(Binary::InSet) => "IN_SET",
-            Instruction::Unary(Unary::InList(_)) => "IN_LIST",
-            Instruction::Unary(Unary::Year) => "YEAR",
-            Instruction::Unary(Unary::Month) => "MONTH",
-            Instruction::Unary(Unary::Day) => "DAY",
-            Instruction::Unary(Unary::Root(_)) => "ROOT",
-            Instruction::Unary(Unary::Parent) => "PARENT",
-            Instruction::Unary(Unary::Leaf) => "LEAF",
-            Instruction::Unary(Unary::Length) => "LENGTH",
-            Instruction::Unary(Unary::Units) => "UNITS",
-            Instruction::Unary(Unary::Cost) => "COST",
-            Instruction::Unary(Unary::Number) => "NUMBER",
-            Instruction::Unary(Unary::Currency) => "CURRENCY",
-            Instruction::Push(Push::Meta(_)) => "META",
-            Instruction::Push(Push::EntryMeta(_)) => "ENTRY_META",
-            Instruction::Push(Push::AnyMeta(_)) => "ANY_META",
-            Instruction::Unary(Unary::RootRank) => "ROOT_RANK",
         }
     }
 

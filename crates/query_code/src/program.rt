@@ -2,8 +2,8 @@
 ghost use Rattle.query_code.specs.QueryFile.{file};
 
 use crate::instruction::Instruction;
-use bean_base::{Bounds, Day, Decimal, List, Slice};
-use query_values::Aggregate;
+use bean_base::{Bounds, Day, List, Slice};
+use query_values::{Aggregate, Decimal};
 
 /// Whether the rows of a query are postings or groups.
 #[derive(Clone, Copy, Debug, Drop, PartialEq, Eq)]

@@ -4,7 +4,8 @@ use Rattle.std.specs.Prelude.{OnOk, [], ◌∷◌}
 use Rattle.query_code.specs.ByteForm.{all_written}
 use Rattle.query_code.specs.QueryFile.{place_below}
 
-pub appended : {A B : Type 0} (r : Result A B) (new old bytes written : List ℕ) → new ≡ cond (is_ok r) (old ++ bytes) old → bytes ≡ written → OnOk r (new ≡ old ++ written)
+pub appended : {A B : Type 0} (r : Result A B) (new old bytes written : List ℕ)
+    → new ≡ cond (is_ok r) (old ++ bytes) old → bytes ≡ written → OnOk r (new ≡ old ++ written)
 appended (Ok x) new old bytes written e same = e ∙ ap (λ (b : List ℕ). old ++ b) same
 appended (Err x) new old bytes written e same = tt
 

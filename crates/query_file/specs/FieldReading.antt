@@ -1,4 +1,5 @@
--- What a function returned that reads a field: what reading gives, seen by view, unless memory ran out.
+-- What a function returned that reads a field: what reading gives, seen by view, unless memory ran
+-- out.
 use Rattle.std.specs.Prelude.{◌≡◌, Result, Ok, Err}
 use Rattle.query_code.specs.declared.refusal.Stop.{Stop}
 use Rattle.query_file.specs.declared.fault.Fault.{Fault}

@@ -24,6 +24,7 @@
 mod code_reading;
 mod decoding;
 pub mod fault;
+mod instruction_reading;
 mod reading;
 mod writing;
 

@@ -10,8 +10,9 @@ ghost use Rattle.query_code.specs.QueryFile.{long, count, text, flag, limit, pla
 ghost use Rattle.query_code.specs.QueryFile.{decimal, day};
 
 use crate::fault::Fault;
-use bean_base::{Day, Decimal, Slice};
+use bean_base::{Day, Slice};
 use query_code::refusal::{Cause, Stop};
+use query_values::Decimal;
 use std::alloc::Global;
 
 /// The cause at the first of these bytes.

@@ -7,10 +7,10 @@ ghost use Rattle.query_code.specs.QueryFile.{numbers, constant, aggregate, secti
 ghost use Rattle.query_code.specs.QueryFile.{columns, output, code, bounds, parts, file, only};
 ghost use Rattle.query_code.specs.QueryFile.{some_number, IsFile};
 
-use bean_base::{Bounds, Day, Decimal, Slice};
+use bean_base::{Bounds, Day, Slice};
 use query_code::instruction::{Instruction, Push, Unary};
 use query_code::program::{Code, Constant, Mode, Numbers, Output, Parts, Program};
-use query_values::{Aggregate, Binary};
+use query_values::{Aggregate, Binary, Decimal};
 use std::alloc::{AllocError, Global};
 
 fn put_byte(out: &mut Vec<u8>, number: u8) -> Result<(), AllocError>
@@ -80,102 +80,99 @@ fn put_mode(out: &mut Vec<u8>, written: Mode) -> Result<(), AllocError>
     }
 }
 
+/// An opcode with a byte behind it.
+fn put_with_byte(out: &mut Vec<u8>, opcode: u8, operand: u8) -> Result<(), AllocError>
+    ensures { OnOk result
+        (out.new.items ≡ out.old.items ++ (byte.written opcode ++ byte.written operand)) }
+{
+    put_byte(out, opcode)?;
+    put_byte(out, operand)
+}
+
+/// An opcode with two bytes behind it.
+fn put_with_word(out: &mut Vec<u8>, opcode: u8, operand: u16) -> Result<(), AllocError>
+    ensures { OnOk result
+        (out.new.items ≡ out.old.items ++ (byte.written opcode ++ word.written operand)) }
+{
+    put_byte(out, opcode)?;
+    put_word(out, operand)
+}
+
+#[tactic(auto, unfolding(query_code::specs::InstructionForm::instruction))]
+fn put_push(out: &mut Vec<u8>, push: Push) -> Result<(), AllocError>
+    ensures { OnOk result (out.new.items ≡ out.old.items ++ instruction.written (Instruction.Push push)) }
+{
+    match push {
+        Push::True => put_byte(out, 0x00),
+        Push::False => put_byte(out, 0x01),
+        Push::Const(operand) => put_with_word(out, 0x02, operand),
+        Push::LoadColumn(operand) => put_with_byte(out, 0x03, operand),
+        Push::LoadKey(operand) => put_with_byte(out, 0x06, operand),
+        Push::LoadAggregate(operand) => put_with_byte(out, 0x07, operand),
+        Push::Meta(operand) => put_with_word(out, 0x5b, operand),
+        Push::EntryMeta(operand) => put_with_word(out, 0x5c, operand),
+        Push::AnyMeta(operand) => put_with_word(out, 0x5d, operand),
+    }
+}
+
+#[tactic(auto, unfolding(query_code::specs::InstructionForm::instruction))]
+fn put_unary(out: &mut Vec<u8>, operation: Unary) -> Result<(), AllocError>
+    ensures { OnOk result (out.new.items ≡ out.old.items ++ instruction.written (Instruction.Unary operation)) }
+{
+    match operation {
+        Unary::Align(operand) => put_with_byte(out, 0x08, operand),
+        Unary::Neg => put_byte(out, 0x13),
+        Unary::Abs => put_byte(out, 0x14),
+        Unary::Not => put_byte(out, 0x26),
+        Unary::IsNull => put_byte(out, 0x27),
+        Unary::Match(operand) => put_with_word(out, 0x40, operand),
+        Unary::MatchAny(operand) => put_with_word(out, 0x41, operand),
+        Unary::InList(operand) => put_with_word(out, 0x43, operand),
+        Unary::Year => put_byte(out, 0x50),
+        Unary::Month => put_byte(out, 0x51),
+        Unary::Day => put_byte(out, 0x52),
+        Unary::Root(operand) => put_with_byte(out, 0x53, operand),
+        Unary::Parent => put_byte(out, 0x54),
+        Unary::Leaf => put_byte(out, 0x55),
+        Unary::Length => put_byte(out, 0x56),
+        Unary::Units => put_byte(out, 0x57),
+        Unary::Cost => put_byte(out, 0x58),
+        Unary::Number => put_byte(out, 0x59),
+        Unary::Currency => put_byte(out, 0x5a),
+        Unary::RootRank => put_byte(out, 0x5e),
+    }
+}
+
+#[tactic(auto, unfolding(query_code::specs::InstructionForm::instruction))]
+fn put_binary(out: &mut Vec<u8>, operation: Binary) -> Result<(), AllocError>
+    ensures { OnOk result (out.new.items ≡ out.old.items ++ instruction.written (Instruction.Binary operation)) }
+{
+    match operation {
+        Binary::Add => put_byte(out, 0x10),
+        Binary::Sub => put_byte(out, 0x11),
+        Binary::Mul => put_byte(out, 0x12),
+        Binary::Equal => put_byte(out, 0x20),
+        Binary::NotEqual => put_byte(out, 0x21),
+        Binary::Less => put_byte(out, 0x22),
+        Binary::AtMost => put_byte(out, 0x23),
+        Binary::Greater => put_byte(out, 0x24),
+        Binary::AtLeast => put_byte(out, 0x25),
+        Binary::InSet => put_byte(out, 0x42),
+    }
+}
+
 #[tactic(auto, unfolding(query_code::specs::InstructionForm::instruction))]
 fn put_instruction(out: &mut Vec<u8>, step: Instruction) -> Result<(), AllocError>
     ensures { OnOk result (out.new.items ≡ out.old.items ++ instruction.written step) }
 {
     match step {
-        Instruction::Push(Push::True) => put_byte(out, 0x00),
-        Instruction::Push(Push::False) => put_byte(out, 0x01),
-        Instruction::Push(Push::Const(operand)) => {
-            put_byte(out, 0x02)?;
-            put_word(out, operand)
-        }
-        Instruction::Push(Push::LoadColumn(operand)) => {
-            put_byte(out, 0x03)?;
-            put_byte(out, operand)
-        }
-        Instruction::LoadSlot(operand) => {
-            put_byte(out, 0x04)?;
-            put_byte(out, operand)
-        }
-        Instruction::StoreSlot(operand) => {
-            put_byte(out, 0x05)?;
-            put_byte(out, operand)
-        }
-        Instruction::Push(Push::LoadKey(operand)) => {
-            put_byte(out, 0x06)?;
-            put_byte(out, operand)
-        }
-        Instruction::Push(Push::LoadAggregate(operand)) => {
-            put_byte(out, 0x07)?;
-            put_byte(out, operand)
-        }
-        Instruction::Unary(Unary::Align(operand)) => {
-            put_byte(out, 0x08)?;
-            put_byte(out, operand)
-        }
-        Instruction::Binary(Binary::Add) => put_byte(out, 0x10),
-        Instruction::Binary(Binary::Sub) => put_byte(out, 0x11),
-        Instruction::Binary(Binary::Mul) => put_byte(out, 0x12),
-        Instruction::Unary(Unary::Neg) => put_byte(out, 0x13),
-        Instruction::Unary(Unary::Abs) => put_byte(out, 0x14),
-        Instruction::Binary(Binary::Equal) => put_byte(out, 0x20),
-        Instruction::Binary(Binary::NotEqual) => put_byte(out, 0x21),
-        Instruction::Binary(Binary::Less) => put_byte(out, 0x22),
-        Instruction::Binary(Binary::AtMost) => put_byte(out, 0x23),
-        Instruction::Binary(Binary::Greater) => put_byte(out, 0x24),
-        Instruction::Binary(Binary::AtLeast) => put_byte(out, 0x25),
-        Instruction::Unary(Unary::Not) => put_byte(out, 0x26),
-        Instruction::Unary(Unary::IsNull) => put_byte(out, 0x27),
-        Instruction::Jump(operand) => {
-            put_byte(out, 0x30)?;
-            put_word(out, operand)
-        }
-        Instruction::JumpIfFalse(operand) => {
-            put_byte(out, 0x31)?;
-            put_word(out, operand)
-        }
-        Instruction::Unary(Unary::Match(operand)) => {
-            put_byte(out, 0x40)?;
-            put_word(out, operand)
-        }
-        Instruction::Unary(Unary::MatchAny(operand)) => {
-            put_byte(out, 0x41)?;
-            put_word(out, operand)
-        }
-        Instruction::Binary(Binary::InSet) => put_byte(out, 0x42),
-        Instruction::Unary(Unary::InList(operand)) => {
-            put_byte(out, 0x43)?;
-            put_word(out, operand)
-        }
-        Instruction::Unary(Unary::Year) => put_byte(out, 0x50),
-        Instruction::Unary(Unary::Month) => put_byte(out, 0x51),
-        Instruction::Unary(Unary::Day) => put_byte(out, 0x52),
-        Instruction::Unary(Unary::Root(operand)) => {
-            put_byte(out, 0x53)?;
-            put_byte(out, operand)
-        }
-        Instruction::Unary(Unary::Parent) => put_byte(out, 0x54),
-        Instruction::Unary(Unary::Leaf) => put_byte(out, 0x55),
-        Instruction::Unary(Unary::Length) => put_byte(out, 0x56),
-        Instruction::Unary(Unary::Units) => put_byte(out, 0x57),
-        Instruction::Unary(Unary::Cost) => put_byte(out, 0x58),
-        Instruction::Unary(Unary::Number) => put_byte(out, 0x59),
-        Instruction::Unary(Unary::Currency) => put_byte(out, 0x5a),
-        Instruction::Push(Push::Meta(operand)) => {
-            put_byte(out, 0x5b)?;
-            put_word(out, operand)
-        }
-        Instruction::Push(Push::EntryMeta(operand)) => {
-            put_byte(out, 0x5c)?;
-            put_word(out, operand)
-        }
-        Instruction::Push(Push::AnyMeta(operand)) => {
-            put_byte(out, 0x5d)?;
-            put_word(out, operand)
-        }
-        Instruction::Unary(Unary::RootRank) => put_byte(out, 0x5e),
+        Instruction::Push(push) => put_push(out, push),
+        Instruction::Unary(operation) => put_unary(out, operation),
+        Instruction::Binary(operation) => put_binary(out, operation),
+        Instruction::LoadSlot(operand) => put_with_byte(out, 0x04, operand),
+        Instruction::StoreSlot(operand) => put_with_byte(out, 0x05, operand),
+        Instruction::Jump(operand) => put_with_word(out, 0x30, operand),
+        Instruction::JumpIfFalse(operand) => put_with_word(out, 0x31, operand),
     }
 }
 

@@ -1,9 +1,9 @@
 //! Query files that are decoded and written again, and bytes that are none.
 
-use bean_base::{Day, Decimal};
+use bean_base::Day;
 use query_code::{Cause, Constant, Instruction, Mode, Push, Refusal, Unary, show};
 use query_file::{DecodeFault, decode, encode};
-use query_values::Aggregate;
+use query_values::{Aggregate, Decimal};
 use std::alloc::Global;
 use std::test::Fail;
 

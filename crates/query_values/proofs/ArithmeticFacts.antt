@@ -1,5 +1,6 @@
 -- Numbers of the same decimals.
-use Rattle.std.proofs.Common.{◌≡◌, ℕ, ◌-◌, ◌^◌, max, ℤ, pos, ◌+ℤ◌, ◌-ℤ◌, ◌*ℤ◌, true, ◌==◌, sym, ap, ap₂, ◌∙◌, subst, arith}
+use Rattle.std.proofs.Common.{◌≡◌, ℕ, ◌-◌, ◌^◌, max, ℤ, pos, ◌+ℤ◌, ◌-ℤ◌, ◌*ℤ◌, true, ◌==◌, sym, ap}
+use Rattle.std.proofs.Common.{ap₂, ◌∙◌, subst, arith}
 use Rattle.std.proofs.lemmas.Bool.Decides.{nat_tests}
 use Rattle.std.proofs.lemmas.Int.{ints}
 use Rattle.std.specs.Ordering.{int_cmp, int_eq}
@@ -24,15 +25,19 @@ scaled_to_greatest m p = ap (scaled m p) (greatest p) ∙ scaled_by_none m p
 same : (p q : ℕ) → (p == q) ≡ true → p ≡ q
 same p q h = grind (arith, nat_tests)
 
-pub sum_at : (p q : ℕ) (m n : ℤ) → (p == q) ≡ true → sum_of (Number p m) (Number q n) ≡ Number p (m +ℤ n)
+pub sum_at : (p q : ℕ) (m n : ℤ) → (p == q) ≡ true
+    → sum_of (Number p m) (Number q n) ≡ Number p (m +ℤ n)
 sum_at p q m n h = subst (λ q. sum_of (Number p m) (Number q n) ≡ Number p (m +ℤ n)) (same p q h)
     (ap₂ Number (greatest p) (ap₂ ◌+ℤ◌ (scaled_to_greatest m p) (scaled_to_greatest n p)))
 
-pub difference_at : (p q : ℕ) (m n : ℤ) → (p == q) ≡ true → difference_of (Number p m) (Number q n) ≡ Number p (m -ℤ n)
-difference_at p q m n h = subst (λ q. difference_of (Number p m) (Number q n) ≡ Number p (m -ℤ n)) (same p q h)
+pub difference_at : (p q : ℕ) (m n : ℤ) → (p == q) ≡ true
+    → difference_of (Number p m) (Number q n) ≡ Number p (m -ℤ n)
+difference_at p q m n h =
+    subst (λ q. difference_of (Number p m) (Number q n) ≡ Number p (m -ℤ n)) (same p q h)
     (ap₂ Number (greatest p) (ap₂ ◌-ℤ◌ (scaled_to_greatest m p) (scaled_to_greatest n p)))
 
-pub order_at : (p q : ℕ) (m n : ℤ) → (p == q) ≡ true → order_of (Number p m) (Number q n) ≡ int_cmp m n
+pub order_at : (p q : ℕ) (m n : ℤ) → (p == q) ≡ true
+    → order_of (Number p m) (Number q n) ≡ int_cmp m n
 order_at p q m n h = subst (λ q. order_of (Number p m) (Number q n) ≡ int_cmp m n) (same p q h)
     (ap₂ int_cmp (scaled_to_greatest m p) (scaled_to_greatest n p))
 

@@ -1,5 +1,6 @@
 -- The operations at worked values.
-use Rattle.std.proofs.Common.{◌≡◌, ◌^◌, ◌-◌, ℕ, pos, negsuc, neg_ℤ, true, false, [], ◌∷◌, ◌++◌, Option, Some, None, codes, refl}
+use Rattle.std.proofs.Common.{◌≡◌, ◌^◌, ◌-◌, ℕ, pos, negsuc, neg_ℤ, true, false, [], ◌∷◌, ◌++◌}
+use Rattle.std.proofs.Common.{Option, Some, None, codes, refl}
 use Rattle.std.specs.Str.{chars}
 use Rattle.bean_base.proofs.WorkedDays.{january_2, january_3, january_2_number, january_3_number}
 use Rattle.query_values.specs.Held.{checked}
@@ -9,9 +10,11 @@ use Rattle.query_values.specs.Unary as unary
 use Rattle.query_values.specs.declared.operation.Binary.{Binary}
 use Rattle.query_values.specs.declared.operation.Binary.TheVariants as binary
 use Rattle.query_values.specs.declared.value.Value.{Value}
-use Rattle.query_values.specs.declared.value.Value.TheVariants.{Null, Truth, Number, Text, Day, Set, Amount}
+use Rattle.query_values.specs.declared.value.Value.TheVariants.{Null, Truth, Number, Text, Day, Set}
+use Rattle.query_values.specs.declared.value.Value.TheVariants.{Amount}
 
--- what a machine has of an operation: the value where the operation may be applied and the value is held
+-- what a machine has of an operation: the value where the operation may be applied and the value is
+-- held
 abbrev one : unary.Unary → Value → Option Value
 one op x = checked (may_unary op x) (unary_value op x)
 
@@ -47,10 +50,12 @@ sum_of_null_and_text = refl
 too_large_a_sum : two binary.Add (Number 0 (pos most)) (Number 0 (pos 1)) ≡ None
 too_large_a_sum = refl
 
-greatest_sum : two binary.Add (Number 0 (pos (most - 1))) (Number 0 (pos 1)) ≡ Some (Number 0 (pos most))
+greatest_sum :
+    two binary.Add (Number 0 (pos (most - 1))) (Number 0 (pos 1)) ≡ Some (Number 0 (pos most))
 greatest_sum = refl
 
-least_difference : two binary.Sub (Number 0 (pos 0)) (Number 0 (pos most)) ≡ Some (Number 0 (neg_ℤ (pos most)))
+least_difference :
+    two binary.Sub (Number 0 (pos 0)) (Number 0 (pos most)) ≡ Some (Number 0 (neg_ℤ (pos most)))
 least_difference = refl
 
 too_small_a_difference : two binary.Sub (Number 0 (neg_ℤ (pos most))) (Number 0 (pos 1)) ≡ None
@@ -175,7 +180,9 @@ null_in_set = refl
 in_no_set : two binary.InSet a_text Null ≡ Some (Truth false)
 in_no_set = refl
 
-in_list : one (unary.InList (Number 2 (pos 5) ∷ Number 2 (pos 7) ∷ [])) (Number 2 (pos 7)) ≡ Some (Truth true)
+in_list :
+    one (unary.InList (Number 2 (pos 5) ∷ Number 2 (pos 7) ∷ [])) (Number 2 (pos 7))
+    ≡ Some (Truth true)
 in_list = refl
 
 null_in_list : one (unary.InList (Number 2 (pos 5) ∷ [])) Null ≡ Some (Truth false)

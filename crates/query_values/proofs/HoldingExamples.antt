@@ -1,5 +1,6 @@
 -- Units and costs, comparisons of inventories, and what is gathered, at worked values.
-use Rattle.std.proofs.Common.{◌≡◌, ◌<◌, ◌≤◌, ◌^◌, ◌-◌, ℕ, ℤ, pos, negsuc, true, false, List, [], ◌∷◌, Option, Some, None, codes, refl, arith}
+use Rattle.std.proofs.Common.{◌≡◌, ◌<◌, ◌≤◌, ◌^◌, ◌-◌, ℕ, ℤ, pos, negsuc, true, false, List, []}
+use Rattle.std.proofs.Common.{◌∷◌, Option, Some, None, codes, refl, arith}
 use Rattle.std.specs.declared.cmp.Ordering.TheVariants.{Less}
 use Rattle.bean_base.proofs.WorkedDays.{january_2, january_2_number}
 use Rattle.bean_lots.specs.declared.lot.Key.{Key}
@@ -13,9 +14,11 @@ use Rattle.query_values.specs.Operation.{unary_value}
 use Rattle.query_values.specs.Unary as unary
 use Rattle.query_values.specs.declared.operation.Aggregate.TheVariants as aggregate
 use Rattle.query_values.specs.declared.value.Value.{Value}
-use Rattle.query_values.specs.declared.value.Value.TheVariants.{Null, Number, Text, Amount, Position, Inventory}
+use Rattle.query_values.specs.declared.value.Value.TheVariants.{Null, Number, Text, Amount}
+use Rattle.query_values.specs.declared.value.Value.TheVariants.{Position, Inventory}
 
--- what a machine has of an operation: the value where the operation may be applied and the value is held
+-- what a machine has of an operation: the value where the operation may be applied and the value is
+-- held
 abbrev one : unary.Unary → Value → Option Value
 one op x = checked (may_unary op x) (unary_value op x)
 
@@ -36,7 +39,13 @@ bare = record { currency = codes "USD"; lot = None }
 abbrev at_cost : Key
 at_cost = record {
   currency = codes "HOOL";
-  lot = Some (record { cost = record { count = pos 100; currency = codes "USD"; small = small 100 few_100 }; day = january_2; label = None });
+  lot = Some (record {
+    cost =
+        record { count = pos 100; currency = codes "USD"; small = small 100 few_100 };
+    day =
+        january_2;
+    label = None;
+  });
 }
 
 units : one unary.Units (Position at_cost (pos 10)) ≡ Some (Amount 8 (pos 10) (codes "HOOL"))
@@ -45,7 +54,8 @@ units = refl
 cost : one unary.Cost (Position at_cost (pos 10)) ≡ Some (Amount 16 (pos 1000) (codes "USD"))
 cost = refl
 
-cost_without_lot : one unary.Cost (Position bare (pos 10)) ≡ Some (Amount 16 (pos 1000000000) (codes "USD"))
+cost_without_lot :
+    one unary.Cost (Position bare (pos 10)) ≡ Some (Amount 16 (pos 1000000000) (codes "USD"))
 cost_without_lot = refl
 
 cost_of_null : one unary.Cost Null ≡ Some Null
@@ -60,13 +70,20 @@ held k n = record { key = k; count = n }
 abbrev bag : ℕ → List entry.Position → Value
 bag places es = Inventory (record { places = places; held = es })
 
-units_of_both : one unary.Units (bag 8 (held at_cost (pos 10) ∷ held bare (pos 5) ∷ [])) ≡ Some (bag 8 (held (record { currency = codes "HOOL"; lot = None }) (pos 10) ∷ held bare (pos 5) ∷ []))
+units_of_both :
+    one unary.Units (bag 8 (held at_cost (pos 10) ∷ held bare (pos 5) ∷ []))
+    ≡ Some (bag 8 (held (record { currency = codes "HOOL"; lot = None }) (pos 10)
+    ∷ held bare (pos 5) ∷ []))
 units_of_both = refl
 
-cost_of_both : one unary.Cost (bag 8 (held at_cost (pos 10) ∷ held bare (pos 5) ∷ [])) ≡ Some (bag 16 (held bare (pos 500001000) ∷ []))
+cost_of_both :
+    one unary.Cost (bag 8 (held at_cost (pos 10) ∷ held bare (pos 5) ∷ []))
+    ≡ Some (bag 16 (held bare (pos 500001000) ∷ []))
 cost_of_both = refl
 
-costs_that_cancel : one unary.Cost (bag 8 (held at_cost (pos 100000000) ∷ held bare (negsuc 99) ∷ [])) ≡ Some (bag 16 [])
+costs_that_cancel :
+    one unary.Cost (bag 8 (held at_cost (pos 100000000) ∷ held bare (negsuc 99) ∷ []))
+    ≡ Some (bag 16 [])
 costs_that_cancel = refl
 
 too_many_decimals_of_a_cost : one unary.Cost (bag 25 []) ≡ None
@@ -91,10 +108,14 @@ by_value = refl
 other_values : same (Number 1 (pos 15)) (Number 3 (pos 15)) ≡ false
 other_values = refl
 
-in_any_order : same (bag 8 (held at_cost (pos 3) ∷ held bare (pos 1) ∷ [])) (bag 9 (held bare (pos 10) ∷ held at_cost (pos 30) ∷ [])) ≡ true
+in_any_order :
+    same (bag 8 (held at_cost (pos 3) ∷ held bare (pos 1) ∷ []))
+    (bag 9 (held bare (pos 10) ∷ held at_cost (pos 30) ∷ [])) ≡ true
 in_any_order = rw january_2_number refl
 
-one_more_key : same (bag 8 (held bare (pos 1) ∷ [])) (bag 8 (held bare (pos 1) ∷ held at_cost (pos 3) ∷ [])) ≡ false
+one_more_key :
+    same (bag 8 (held bare (pos 1) ∷ [])) (bag 8 (held bare (pos 1) ∷ held at_cost (pos 3) ∷ []))
+    ≡ false
 one_more_key = rw january_2_number refl
 
 null_first : order_of Null (Number 0 (negsuc 5)) ≡ Less
@@ -134,7 +155,10 @@ greatest = refl
 least_of_nothing : aggregate_of aggregate.Min (Null ∷ []) ≡ Null
 least_of_nothing = refl
 
-inventory : aggregate_of (aggregate.SumInventory 8) (Position bare (pos 5) ∷ Null ∷ Position at_cost (pos 3) ∷ Position bare (negsuc 4) ∷ Amount 8 (pos 1) (codes "USD") ∷ [])
+inventory :
+    aggregate_of (aggregate.SumInventory 8)
+    (Position bare (pos 5) ∷ Null ∷ Position at_cost (pos 3) ∷ Position bare (negsuc 4)
+    ∷ Amount 8 (pos 1) (codes "USD") ∷ [])
     ≡ bag 8 (held at_cost (pos 3) ∷ held bare (pos 1) ∷ [])
 inventory = refl
 

@@ -1,5 +1,6 @@
 -- The order of numbers of any decimals is total.
-use Rattle.std.proofs.Common.{◌≡◌, ℕ, zero, suc, ◌+◌, ◌-◌, ◌*◌, ◌<◌, ◌≤◌, ◌^◌, max, ℤ, pos, negsuc, neg_ℤ, ◌*ℤ◌, ◌<ℤ◌, ◌≤ℤ◌, refl, sym, ap, ap₂, ◌∙◌, arith}
+use Rattle.std.proofs.Common.{◌≡◌, ℕ, zero, suc, ◌+◌, ◌-◌, ◌*◌, ◌<◌, ◌≤◌, ◌^◌, max, ℤ, pos, negsuc}
+use Rattle.std.proofs.Common.{neg_ℤ, ◌*ℤ◌, ◌<ℤ◌, ◌≤ℤ◌, refl, sym, ap, ap₂, ◌∙◌, arith}
 use Rattle.std.proofs.Math.Nat.{mul-le-mul_right, mul_assoc}
 use Rattle.std.proofs.lemmas.Cmp.{int_cmp_total}
 use Rattle.std.proofs.lemmas.Int.{ints, by_lt_z}
@@ -34,9 +35,14 @@ same x y h k = omega (arith, ints)
 -- a common factor changes no order
 scale : (x y : ℤ) (k : ℕ) → 0 < k → int_cmp (x *ℤ pos k) (y *ℤ pos k) ≡ int_cmp x y
 scale x y k some =
-    by_lt_z x y (λ l. sym (int_cmp_is (x *ℤ pos k) (y *ℤ pos k) Less (less_scaled x y k some l)) ∙ int_cmp_is x y Less l)
-    (λ above. by_lt_z y x (λ l. sym (int_cmp_is (x *ℤ pos k) (y *ℤ pos k) Greater (less_scaled y x k some l)) ∙ int_cmp_is x y Greater l)
-    (λ below. let e = same x y below above in sym (int_cmp_is (x *ℤ pos k) (y *ℤ pos k) Equal (ap (λ z. z *ℤ pos k) e)) ∙ int_cmp_is x y Equal e))
+    by_lt_z x y (λ l. sym (int_cmp_is (x *ℤ pos k) (y *ℤ pos k) Less (less_scaled x y k some l))
+    ∙ int_cmp_is x y Less l)
+    (λ above. by_lt_z y x
+    (λ l. sym (int_cmp_is (x *ℤ pos k) (y *ℤ pos k) Greater (less_scaled y x k some l))
+    ∙ int_cmp_is x y Greater l)
+    (λ below. let e = same x y below above in
+    sym (int_cmp_is (x *ℤ pos k) (y *ℤ pos k) Equal (ap (λ z. z *ℤ pos k) e))
+    ∙ int_cmp_is x y Equal e))
 
 negative_times : (x b : ℕ) → neg_ℤ (pos x) *ℤ pos b ≡ neg_ℤ (pos (x * b))
 negative_times zero b = omega (arith, ints)
@@ -44,18 +50,22 @@ negative_times (suc x) b = refl
 
 twice : (m : ℤ) (a b : ℕ) → (m *ℤ pos a) *ℤ pos b ≡ m *ℤ pos (a * b)
 twice (pos n) a b = ap pos (mul_assoc n a b)
-twice (negsuc n) a b = negative_times (suc n * a) b ∙ ap (λ x. neg_ℤ (pos x)) (mul_assoc (suc n) a b)
+twice (negsuc n) a b =
+    negative_times (suc n * a) b ∙ ap (λ x. neg_ℤ (pos x)) (mul_assoc (suc n) a b)
 
 further : (m : ℤ) (p q r : ℕ) → p ≤ q → q ≤ r → scaled m p r ≡ scaled m p q *ℤ pos (10 ^ (r - q))
 further m p q r h k =
     let sum : r - p ≡ (q - p) + (r - q) = omega arith in
-    ap (λ n. m *ℤ pos (10 ^ n)) sum ∙ ap (λ n. m *ℤ pos n) (pow-add 10 (q - p) (r - q)) ∙ sym (twice m (10 ^ (q - p)) (10 ^ (r - q)))
+    ap (λ n. m *ℤ pos (10 ^ n)) sum ∙ ap (λ n. m *ℤ pos n) (pow-add 10 (q - p) (r - q))
+    ∙ sym (twice m (10 ^ (q - p)) (10 ^ (r - q)))
 
 -- at any decimals that are enough for both
-at_common : (p q r : ℕ) (m n : ℤ) → p ≤ r → q ≤ r → number_order p m q n ≡ int_cmp (scaled m p r) (scaled n q r)
+at_common : (p q r : ℕ) (m n : ℤ) → p ≤ r → q ≤ r
+    → number_order p m q n ≡ int_cmp (scaled m p r) (scaled n q r)
 at_common p q r m n h k =
     let g = max p q in
-    sym (ap₂ int_cmp (further m p g r (omega arith) (omega arith)) (further n q g r (omega arith) (omega arith))
+    sym (ap₂ int_cmp (further m p g r (omega arith) (omega arith))
+    (further n q g r (omega arith) (omega arith))
     ∙ scale (scaled m p g) (scaled n q g) (10 ^ (r - g)) (pow_pos (r - g)))
 
 abbrev pub Number : Type 0
@@ -70,7 +80,8 @@ numbers_total = record { antisymm = flip; trans = trans; congr = congr }
     flip : (a b : Number) → order a b ≡ ordering_reverse (order b a)
     flip a b =
         let r = max a.0 b.0 in
-        at_common a.0 b.0 r a.1 b.1 (omega arith) (omega arith) ∙ int_cmp_total.antisymm (scaled a.1 a.0 r) (scaled b.1 b.0 r)
+        at_common a.0 b.0 r a.1 b.1 (omega arith) (omega arith)
+        ∙ int_cmp_total.antisymm (scaled a.1 a.0 r) (scaled b.1 b.0 r)
         ∙ ap ordering_reverse (sym (at_common b.0 a.0 r b.1 a.1 (omega arith) (omega arith)))
 
     trans : (a b c : Number) → order a b ≡ Less → order b c ≡ Less → order a c ≡ Less
@@ -78,11 +89,13 @@ numbers_total = record { antisymm = flip; trans = trans; congr = congr }
         let r = max (max a.0 b.0) c.0 in
         at_common a.0 c.0 r a.1 c.1 (omega arith) (omega arith)
         ∙ int_cmp_total.trans (scaled a.1 a.0 r) (scaled b.1 b.0 r) (scaled c.1 c.0 r)
-        (sym (at_common a.0 b.0 r a.1 b.1 (omega arith) (omega arith)) ∙ h) (sym (at_common b.0 c.0 r b.1 c.1 (omega arith) (omega arith)) ∙ k)
+        (sym (at_common a.0 b.0 r a.1 b.1 (omega arith) (omega arith)) ∙ h)
+        (sym (at_common b.0 c.0 r b.1 c.1 (omega arith) (omega arith)) ∙ k)
 
     congr : (a b c : Number) → order a b ≡ Equal → order a c ≡ order b c
     congr a b c h =
         let r = max (max a.0 b.0) c.0 in
         at_common a.0 c.0 r a.1 c.1 (omega arith) (omega arith)
-        ∙ int_cmp_total.congr (scaled a.1 a.0 r) (scaled b.1 b.0 r) (scaled c.1 c.0 r) (sym (at_common a.0 b.0 r a.1 b.1 (omega arith) (omega arith)) ∙ h)
+        ∙ int_cmp_total.congr (scaled a.1 a.0 r) (scaled b.1 b.0 r) (scaled c.1 c.0 r)
+        (sym (at_common a.0 b.0 r a.1 b.1 (omega arith) (omega arith)) ∙ h)
         ∙ sym (at_common b.0 c.0 r b.1 c.1 (omega arith) (omega arith))

@@ -10,7 +10,8 @@ use Rattle.bean_base.specs.Day.{number}
 use Rattle.query_values.proofs.NumberOrder as numbers
 use Rattle.query_values.specs.Order.{kind_rank, number_order, order_of}
 use Rattle.query_values.specs.declared.value.Value.{Value}
-use Rattle.query_values.specs.declared.value.Value.TheVariants.{Null, Truth, Number, Text, Day, Set, Amount, Position, Inventory}
+use Rattle.query_values.specs.declared.value.Value.TheVariants.{Null, Truth, Number, Text, Day, Set}
+use Rattle.query_values.specs.declared.value.Value.TheVariants.{Amount, Position, Inventory}
 
 abbrev number_in : Value → ℕ × ℤ
 number_in (Number p n) = (p, n)
@@ -26,11 +27,15 @@ day_in x = pos 0
 
 -- by kind, then by number, by text, by day
 abbrev by_parts : Value → Value → Ordering
-by_parts = then_cmp (on kind_rank nat_cmp) (then_cmp (on number_in numbers.order) (then_cmp (on text_in (slice_cmp nat_cmp)) (on day_in int_cmp)))
+by_parts =
+    then_cmp (on kind_rank nat_cmp)
+    (then_cmp (on number_in numbers.order)
+    (then_cmp (on text_in (slice_cmp nat_cmp)) (on day_in int_cmp)))
 
 parts_total : IsTotalOrder by_parts
 parts_total =
-    then_total (on_total kind_rank nat_cmp_total) (then_total (on_total number_in numbers.numbers_total)
+    then_total (on_total kind_rank nat_cmp_total)
+    (then_total (on_total number_in numbers.numbers_total)
     (then_total (on_total text_in nat_list_cmp_total) (on_total day_in int_cmp_total)))
 
 then_equal : (r : Ordering) → ordering_then r Equal ≡ r
@@ -52,7 +57,10 @@ as_parts x y = refl
 
 pub values_total : IsTotalOrder order_of
 values_total = record {
-  antisymm = λ x y. as_parts x y ∙ parts_total.antisymm x y ∙ ap ordering_reverse (sym (as_parts y x));
-  trans = λ x y z h k. as_parts x z ∙ parts_total.trans x y z (sym (as_parts x y) ∙ h) (sym (as_parts y z) ∙ k);
-  congr = λ x y z h. as_parts x z ∙ parts_total.congr x y z (sym (as_parts x y) ∙ h) ∙ sym (as_parts y z);
+  antisymm =
+      λ x y. as_parts x y ∙ parts_total.antisymm x y ∙ ap ordering_reverse (sym (as_parts y x));
+  trans = λ x y z h k. as_parts x z
+      ∙ parts_total.trans x y z (sym (as_parts x y) ∙ h) (sym (as_parts y z) ∙ k);
+  congr = λ x y z h. as_parts x z ∙ parts_total.congr x y z (sym (as_parts x y) ∙ h)
+      ∙ sym (as_parts y z);
 }

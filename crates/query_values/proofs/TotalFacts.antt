@@ -1,5 +1,8 @@
 -- Positions that are added one after the other.
-use Rattle.std.proofs.Common.{◌≡◌, ℕ, zero, suc, ◌+◌, ◌<◌, ◌^◌, ℤ, pos, neg_ℤ, ◌+ℤ◌, Bool, true, false, cond, ◌&&◌, IsTrue, List, [], ◌∷◌, ◌++◌, length, map, drop, get_or, unsigned_abs, to_z, of_z, refl, sym, ap, subst, ◌∙◌, arith, add-one, All}
+use Rattle.std.proofs.Common.{◌≡◌, ℕ, zero, suc, ◌+◌, ◌<◌, ◌^◌, ℤ, pos, neg_ℤ, ◌+ℤ◌, Bool, true}
+use Rattle.std.proofs.Common.{false, cond, ◌&&◌, IsTrue, List, [], ◌∷◌, ◌++◌, length, map, drop}
+use Rattle.std.proofs.Common.{get_or, unsigned_abs, to_z, of_z, refl, sym, ap, subst, ◌∙◌, arith}
+use Rattle.std.proofs.Common.{add-one, All}
 use Rattle.std.proofs.Math.Seq.{drop-cons}
 use Rattle.std.proofs.lemmas.Bool.Decides.{nat_tests}
 use Rattle.std.proofs.lemmas.Int.{ints}
@@ -24,18 +27,24 @@ pub record IsUpTo (f : Position → Position) (es held : List Position) (i : ℕ
   pub adds : IsTrue (adds_up held (map f (drop i es)))
   pub sum : total_from held (map f (drop i es)) ≡ total_from [] (map f es)
 
-pub record Adds (f : Position → Position) (es held : List Position) (i : ℕ) (e : Position) : Type 0 where
+pub record Adds (f : Position → Position) (es held : List Position) (i : ℕ) (e : Position) :
+    Type 0 where
   pub own : IsTrue (is_count (f e).count)
   pub more : IsTrue (is_count (count_of held (f e).key +ℤ (f e).count))
   pub next : IsUpTo f es (added held (f e).key (f e).count) (i + 1)
 
-pub one_more : (f : Position → Position) (es held : List Position) (i : ℕ) (e : Position) → i < length es → e ≡ get_or es i e → IsUpTo f es held i → Adds f es held i e
+pub one_more : (f : Position → Position) (es held : List Position) (i : ℕ) (e : Position)
+    → i < length es → e ≡ get_or es i e → IsUpTo f es held i → Adds f es held i e
 one_more f es held i e below is h =
-    let at : drop i es ≡ e ∷ drop (i + 1) es = rw add-one (drop-cons es i e below ∙ ap (λ x. x ∷ drop (suc i) es) (sym is)) in
-    let adds : IsTrue (adds_up held (f e ∷ map f (drop (i + 1) es))) = subst (λ l. IsTrue (adds_up held (map f l))) at h.adds in
+    let at : drop i es ≡ e ∷ drop (i + 1) es =
+    rw add-one (drop-cons es i e below ∙ ap (λ x. x ∷ drop (suc i) es) (sym is)) in
+    let adds : IsTrue (adds_up held (f e ∷ map f (drop (i + 1) es))) =
+    subst (λ l. IsTrue (adds_up held (map f l))) at h.adds in
     let own = is_count (f e).count in
     let more = is_count (count_of held (f e).key +ℤ (f e).count) in
-    let first = both (own && more) (adds_up (added held (f e).key (f e).count) (map f (drop (i + 1) es))) adds in
+    let first =
+    both (own && more) (adds_up (added held (f e).key (f e).count) (map f (drop (i + 1) es)))
+    adds in
     let second = both own more first.0 in
     record {
       own = second.0;
@@ -43,28 +52,39 @@ one_more f es held i e below is h =
       next = record { adds = first.1; sum = ap (λ l. total_from held (map f l)) (sym at) ∙ h.sum };
     }
 
-pub none_yet : (f : Position → Position) (es held : List Position) → held ≡ [] → IsTrue (adds_up [] (map f es)) → IsUpTo f es held 0
-none_yet f es held e h = record { adds = subst (λ l. IsTrue (adds_up l (map f es))) (sym e) h; sum = ap (λ l. total_from l (map f es)) e }
+pub none_yet : (f : Position → Position) (es held : List Position) → held ≡ []
+    → IsTrue (adds_up [] (map f es)) → IsUpTo f es held 0
+none_yet f es held e h =
+    record {
+      adds = subst (λ l. IsTrue (adds_up l (map f es))) (sym e) h;
+      sum =
+          ap (λ l. total_from l (map f es)) e;
+    }
 
 drop_all : (es : List Position) (i : ℕ) → length es ≡ i → drop i es ≡ []
 drop_all [] i e = ap (λ n. drop n []) (sym e)
 drop_all (x ∷ es) zero e = absurd (omega (arith, e))
 drop_all (x ∷ es) (suc i) e = drop_all es i (omega (arith, e))
 
-pub all : (f : Position → Position) (es held : List Position) (i : ℕ) → length es ≡ i → IsUpTo f es held i → held ≡ total_from [] (map f es)
+pub all : (f : Position → Position) (es held : List Position) (i : ℕ) → length es ≡ i
+    → IsUpTo f es held i → held ≡ total_from [] (map f es)
 all f es held i end h = ap (λ l. total_from held (map f l)) (sym (drop_all es i end)) ∙ h.sum
 
 -- a sum that is a count is one of 128 bits
-pub fits_sum : (a n : ℤ) → FitsSigned w128 n → IsTrue (is_count (a +ℤ n)) → FitsSigned w128 (a +ℤ to_z w128 (of_z w128 n))
+pub fits_sum : (a n : ℤ) → FitsSigned w128 n → IsTrue (is_count (a +ℤ n))
+    → FitsSigned w128 (a +ℤ to_z w128 (of_z w128 n))
 fits_sum a n f h = grind (arith, ints, nat_tests)
 
 nothing : (n : ℤ) → int_eq n (pos 0) ≡ true → IsTrue (is_count n)
 nothing n h = grind (arith, ints, nat_tests)
 
-held_count : (k : Key) (n : ℤ) (es : List Position) → (IsTrue (list_all has_count (held_as k n ++ es))) → IsTrue (is_count n)
+held_count : (k : Key) (n : ℤ) (es : List Position)
+    → (IsTrue (list_all has_count (held_as k n ++ es))) → IsTrue (is_count n)
 held_count k n es h = by (int_eq n (pos 0)) refl h
   where
-    by : (b : Bool) → int_eq n (pos 0) ≡ b → IsTrue (list_all has_count (cond b [] (record { key = k; count = n } ∷ []) ++ es)) → IsTrue (is_count n)
+    by : (b : Bool) → int_eq n (pos 0) ≡ b
+        → IsTrue (list_all has_count (cond b [] (record { key = k; count = n } ∷ []) ++ es))
+        → IsTrue (is_count n)
     by true z h = nothing n z
     by false z h = (both (is_count n) (list_all has_count es) h).0
 
@@ -76,21 +96,33 @@ nothing_behind [] = refl
 nothing_behind (e ∷ es) = ap (λ l. e ∷ l) (nothing_behind es)
 
 -- where no count of an inventory is too large after an addition, the sum under its key isn't
-pub within : (es : List Position) (k : Key) (n : ℤ) → IsTrue (list_all has_count (added es k n)) → IsTrue (is_count (count_of es k +ℤ n))
-within [] k n h = subst (λ m. IsTrue (is_count m)) (sym (zero_more n)) (held_count k n [] (subst (λ l. IsTrue (list_all has_count l)) (sym (nothing_behind (held_as k n))) h))
+pub within : (es : List Position) (k : Key) (n : ℤ) → IsTrue (list_all has_count (added es k n))
+    → IsTrue (is_count (count_of es k +ℤ n))
+within [] k n h =
+    subst (λ m. IsTrue (is_count m)) (sym (zero_more n))
+    (held_count k n []
+    (subst (λ l. IsTrue (list_all has_count l)) (sym (nothing_behind (held_as k n))) h))
 within (e ∷ es) k n h = by (same_key k e.key) h (within es k n)
   where
-    by : (b : Bool) → IsTrue (list_all has_count (cond b (held_as e.key (e.count +ℤ n) ++ es) (e ∷ added es k n))) → (IsTrue (list_all has_count (added es k n)) → IsTrue (is_count (count_of es k +ℤ n))) → IsTrue (is_count (cond b e.count (count_of es k) +ℤ n))
+    by : (b : Bool)
+        → IsTrue (list_all has_count
+        (cond b (held_as e.key (e.count +ℤ n) ++ es) (e ∷ added es k n)))
+        → (IsTrue (list_all has_count (added es k n)) → IsTrue (is_count (count_of es k +ℤ n)))
+        → IsTrue (is_count (cond b e.count (count_of es k) +ℤ n))
     by true h rest = held_count e.key (e.count +ℤ n) es h
     by false h rest = rest (both (has_count e) (list_all has_count (added es k n)) h).1
 
 small : (n : ℤ) → IsTrue (is_count (neg_ℤ n)) → unsigned_abs n < 2 ^ 127
 small n h = grind (arith, ints, nat_tests)
 
-negatable_each : (es : List Position) → IsTrue (list_all has_count (map negative_entry es)) → AllByRecursion MayBeNegated es
+negatable_each : (es : List Position) → IsTrue (list_all has_count (map negative_entry es))
+    → AllByRecursion MayBeNegated es
 negatable_each [] h = tt
-negatable_each (e ∷ es) h = let parts = both (is_count (neg_ℤ e.count)) (list_all has_count (map negative_entry es)) h in (small e.count parts.0, negatable_each es parts.1)
+negatable_each (e ∷ es) h = let parts =
+    both (is_count (neg_ℤ e.count)) (list_all has_count (map negative_entry es)) h in
+    (small e.count parts.0, negatable_each es parts.1)
 
 -- an inventory may change its sign where it is held then
-pub negatable : (es : List Position) → IsTrue (list_all has_count (map negative_entry es)) → All MayBeNegated es
+pub negatable : (es : List Position) → IsTrue (list_all has_count (map negative_entry es))
+    → All MayBeNegated es
 negatable es h = All-from_recursion MayBeNegated es (negatable_each es h)

@@ -1,5 +1,6 @@
 -- What is gathered over the values of a group. Null is left out, but where rows are counted.
-use Rattle.std.specs.Prelude.{ℕ, Bool, true, false, not, ◌||◌, ◌==◌, ℤ, pos, ◌+ℤ◌, List, [], ◌∷◌, length, filter, if◌then◌else◌}
+use Rattle.std.specs.Prelude.{ℕ, Bool, true, false, not, ◌||◌, ◌==◌, ℤ, pos, ◌+ℤ◌, List, [], ◌∷◌}
+use Rattle.std.specs.Prelude.{length, filter, if◌then◌else◌}
 use Rattle.bean_lots.specs.Inventory.{added}
 use Rattle.bean_lots.specs.declared.lot.Key as key
 use Rattle.bean_lots.specs.declared.lot.Position as entry
@@ -9,9 +10,12 @@ use Rattle.query_values.specs.Order.{is_null, is_less}
 use Rattle.query_values.specs.Total.{bare, total_from}
 use Rattle.query_values.specs.declared.bag.Bag.{Bag}
 use Rattle.query_values.specs.declared.operation.Aggregate.{Aggregate}
-use Rattle.query_values.specs.declared.operation.Aggregate.TheVariants.{CountRows, Count, Sum, SumInventory, First, Last, Min, Max}
+use Rattle.query_values.specs.declared.operation.Aggregate.TheVariants.{CountRows, Count, Sum}
+use Rattle.query_values.specs.declared.operation.Aggregate.TheVariants.{SumInventory, First, Last}
+use Rattle.query_values.specs.declared.operation.Aggregate.TheVariants.{Min, Max}
 use Rattle.query_values.specs.declared.value.Value.{Value}
-use Rattle.query_values.specs.declared.value.Value.TheVariants.{Null, Number, Amount, Position, Inventory}
+use Rattle.query_values.specs.declared.value.Value.TheVariants.{Null, Number, Amount, Position}
+use Rattle.query_values.specs.declared.value.Value.TheVariants.{Inventory}
 
 -- the values that aren't null
 abbrev pub present : List Value → List Value

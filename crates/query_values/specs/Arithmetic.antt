@@ -4,7 +4,8 @@ use Rattle.std.specs.Int.RustNames.{unsigned_abs}
 use Rattle.bean_base.specs.Decimal.{scaled}
 use Rattle.query_values.specs.Bag.{negative_bag}
 use Rattle.query_values.specs.declared.value.Value.{Value}
-use Rattle.query_values.specs.declared.value.Value.TheVariants.{Null, Number, Amount, Position, Inventory}
+use Rattle.query_values.specs.declared.value.Value.TheVariants.{Null, Number, Amount, Position}
+use Rattle.query_values.specs.declared.value.Value.TheVariants.{Inventory}
 
 -- the same number with so many decimals
 abbrev pub aligned : ℕ → Value → Value

@@ -1,11 +1,13 @@
 -- The components of an account's name.
-use Rattle.std.specs.Prelude.{ℕ, ◌+◌, ◌-◌, nat_le, List, [], ◌∷◌, if◌then◌else◌, length, take, slice_index_or, Option, Some, None}
+use Rattle.std.specs.Prelude.{ℕ, ◌+◌, ◌-◌, nat_le, List, [], ◌∷◌, if◌then◌else◌, length, take}
+use Rattle.std.specs.Prelude.{slice_index_or, Option, Some, None}
 use Rattle.std.specs.List.{before_first, join_with_byte, slice_split}
 use Rattle.bean_base.specs.Character.{colon}
 use Rattle.bean_base.specs.Name.{is_colon}
 use Rattle.bean_base.specs.Root.{root_of}
 use Rattle.bean_base.specs.declared.roots.Root.{Root}
-use Rattle.bean_base.specs.declared.roots.Root.TheVariants.{Assets, Liabilities, Equity, Income, Expenses}
+use Rattle.bean_base.specs.declared.roots.Root.TheVariants.{Assets, Liabilities, Equity, Income}
+use Rattle.bean_base.specs.declared.roots.Root.TheVariants.{Expenses}
 
 -- what stands between its colons: a name without a colon is one component
 abbrev pub components : List ℕ → List (List ℕ)
@@ -17,7 +19,8 @@ root_part n name = join_with_byte colon (take n (components name))
 
 -- all components but the last
 abbrev pub parent_part : List ℕ → List ℕ
-parent_part name = let parts = components name in join_with_byte colon (take (length parts - 1) parts)
+parent_part name = let parts = components name in
+    join_with_byte colon (take (length parts - 1) parts)
 
 -- the last component
 abbrev pub leaf_part : List ℕ → List ℕ

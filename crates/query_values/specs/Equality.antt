@@ -10,7 +10,8 @@ use Rattle.bean_lots.specs.Lot.{same_key, same_text}
 use Rattle.bean_lots.specs.declared.lot.Position.{Position}
 use Rattle.query_values.specs.declared.bag.Bag.{Bag}
 use Rattle.query_values.specs.declared.value.Value.{Value}
-use Rattle.query_values.specs.declared.value.Value.TheVariants.{Null, Truth, Number, Text, Day, Set, Amount, Inventory}
+use Rattle.query_values.specs.declared.value.Value.TheVariants.{Null, Truth, Number, Text, Day, Set}
+use Rattle.query_values.specs.declared.value.Value.TheVariants.{Amount, Inventory}
 use Rattle.query_values.specs.declared.value.Value.TheVariants as value
 
 -- counts of 10^-p and of 10^-q that are the same number

@@ -1,3 +1,5 @@
+pub mod WideCount
+pub mod Wide
 pub mod TextSet
 pub mod Pattern
 pub mod Component

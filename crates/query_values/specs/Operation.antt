@@ -5,7 +5,8 @@ use Rattle.std.specs.Int.RustNames.{unsigned_abs}
 use Rattle.std.specs.List.{list_any}
 use Rattle.bean_base.specs.declared.days.Day as day
 use Rattle.bean_lots.specs.Lot.{same_text}
-use Rattle.query_values.specs.Arithmetic.{aligned, sum_of, difference_of, product_of, negative_of, magnitude_of}
+use Rattle.query_values.specs.Arithmetic.{aligned, sum_of, difference_of, product_of, negative_of}
+use Rattle.query_values.specs.Arithmetic.{magnitude_of}
 use Rattle.query_values.specs.Component.{root_part, parent_part, leaf_part, root_rank}
 use Rattle.query_values.specs.Equality.{same}
 use Rattle.query_values.specs.Order.{is_null, is_less, is_at_most}
@@ -16,7 +17,8 @@ use Rattle.query_values.specs.Unary as unary
 use Rattle.query_values.specs.declared.operation.Binary.{Binary}
 use Rattle.query_values.specs.declared.operation.Binary.TheVariants as binary
 use Rattle.query_values.specs.declared.value.Value.{Value}
-use Rattle.query_values.specs.declared.value.Value.TheVariants.{Null, Truth, Number, Text, Day, Set, Amount, Position, Inventory}
+use Rattle.query_values.specs.declared.value.Value.TheVariants.{Null, Truth, Number, Text, Day, Set}
+use Rattle.query_values.specs.declared.value.Value.TheVariants.{Amount, Position, Inventory}
 
 -- a whole number
 abbrev pub whole : ℕ → Value

@@ -6,7 +6,8 @@ use Rattle.std.specs.Ordering.{nat_cmp, int_cmp, is_lt}
 use Rattle.bean_base.specs.Day.{number}
 use Rattle.bean_base.specs.Decimal.{scaled}
 use Rattle.query_values.specs.declared.value.Value.{Value}
-use Rattle.query_values.specs.declared.value.Value.TheVariants.{Null, Truth, Number, Text, Day, Set, Amount, Position, Inventory}
+use Rattle.query_values.specs.declared.value.Value.TheVariants.{Null, Truth, Number, Text, Day, Set}
+use Rattle.query_values.specs.declared.value.Value.TheVariants.{Amount, Position, Inventory}
 
 -- the kinds in a row, null first
 abbrev pub kind_rank : Value → ℕ

@@ -5,8 +5,8 @@ ghost use Rattle.query_values.specs.Arithmetic.{product_of, sum_of};
 ghost use Rattle.query_values.specs.Held.{is_held};
 ghost use Rattle.query_values.specs.Operand.{are_addable, has_at_most, is_number, is_signed};
 
-use crate::number::power_of_ten;
 use crate::value::Value;
+use bean_base::power_of_ten;
 
 /// The same number with so many decimals, which are at least as many as it has.
 pub fn align<'r>(x: &Value<'_>, places: u8) -> Value<'r>

@@ -51,6 +51,7 @@ pub mod arithmetic;
 pub mod bag;
 pub mod comparison;
 mod component;
+pub mod decimal;
 pub mod gathering;
 pub mod lent;
 pub mod membership;
@@ -62,6 +63,7 @@ pub mod text_set;
 pub mod value;
 
 pub use bag::Bag;
+pub use decimal::Decimal;
 pub use lent::Lent;
 pub use operation::{Aggregate, Binary};
 pub use pattern::{Finder, Pattern, PatternFault};

@@ -8,16 +8,24 @@ use Rattle.stores.specs.declared.source.SourceFault.{SourceFault}
 use Rattle.stores.specs.declared.source.SourceFault.TheVariants.{Failed, OutOfMemory}
 
 -- behind a call the same is found
-still : (s : Shelf) (name : List ℕ) (answer : Result (List ℕ) SourceFault) (call : ℕ) (readings : List Reading) → FindsAll (asked_of s name answer) call readings → FindsAll s call readings
+still : (s : Shelf) (name : List ℕ) (answer : Result (List ℕ) SourceFault) (call : ℕ)
+    (readings : List Reading) → FindsAll (asked_of s name answer) call readings
+    → FindsAll s call readings
 still s name answer call [] finds = tt
-still s name answer call ((n, Ok bytes) ∷ rest) finds = (finds.0, still s name answer (next_call call) rest finds.1)
-still s name answer call ((n, Err Failed) ∷ rest) finds = (finds.0, still s name answer (next_call call) rest finds.1)
-still s name answer call ((n, Err OutOfMemory) ∷ rest) finds = (finds.0, still s name answer (next_call call) rest finds.1)
+still s name answer call ((n, Ok bytes) ∷ rest) finds =
+    (finds.0, still s name answer (next_call call) rest finds.1)
+still s name answer call ((n, Err Failed) ∷ rest) finds =
+    (finds.0, still s name answer (next_call call) rest finds.1)
+still s name answer call ((n, Err OutOfMemory) ∷ rest) finds =
+    (finds.0, still s name answer (next_call call) rest finds.1)
 
-answered : (first last : Shelf) (readings : List Reading) → Answered memory_source first last readings → FindsAll first (next_call first.calls) readings
+answered : (first last : Shelf) (readings : List Reading)
+    → Answered memory_source first last readings → FindsAll first (next_call first.calls) readings
 answered _ _ _ (no_call s) = tt
 answered _ _ _ (one_more first middle last name answer rest gives more) =
-    let now = subst (λ (m : Shelf). FindsAll m (next_call m.calls) rest) gives.1 (answered middle last rest more) in
+    let now =
+    subst (λ (m : Shelf). FindsAll m (next_call m.calls) rest) gives.1
+    (answered middle last rest more) in
     (gives.0, still first name answer (next_call (next_call first.calls)) rest now)
 
 pub gives_what_it_holds : GivesWhatItHolds

@@ -1,5 +1,6 @@
 -- What a store over memory holds, gives and keeps.
-use Rattle.std.specs.Prelude.{◌≡◌, ℕ, ◌+◌, ◌-◌, ◌^◌, Bool, true, false, if◌then◌else◌, nat_eq, min, List, [], ◌∷◌, ◌++◌, ⊤, fold, Option, Some, None, Result, Ok, Err}
+use Rattle.std.specs.Prelude.{◌≡◌, ℕ, ◌+◌, ◌-◌, ◌^◌, Bool, true, false, if◌then◌else◌, nat_eq, min}
+use Rattle.std.specs.Prelude.{List, [], ◌∷◌, ◌++◌, ⊤, fold, Option, Some, None, Result, Ok, Err}
 use Rattle.std.specs.Str.{bytes_eq}
 use Rattle.stores.specs.Reading.{Reading, readings_of, failures_behind}
 use Rattle.stores.specs.Putting.{Putting, puttings_of}
@@ -18,7 +19,8 @@ first_in name (file ∷ files) = if bytes_eq file.0 name then Some file.1 else f
 abbrev pub newer : List ℕ → Option (List ℕ) → Putting → Option (List ℕ)
 newer name found file = if bytes_eq file.0 name then Some file.1 else found
 
--- the bytes under a name: those of the latest file that was put there, else of the first that was there from the start
+-- the bytes under a name: those of the latest file that was put there, else of the first that was
+-- there from the start
 abbrev pub held : Shelf → List ℕ → Option (List ℕ)
 held store name = fold (newer name) (first_in name store.files) store.kept
 
@@ -43,7 +45,8 @@ Finds store call name (Err OutOfMemory) = ⊤
 -- calls from that one on, one behind the other, answer so
 abbrev pub FindsAll : Shelf → ℕ → List Reading → Type 0
 FindsAll store call [] = ⊤
-FindsAll store call (reading ∷ rest) = Finds store call reading.0 reading.1 × FindsAll store (next_call call) rest
+FindsAll store call (reading ∷ rest) =
+    Finds store call reading.0 reading.1 × FindsAll store (next_call call) rest
 
 -- the store behind a call that asks for a text: its files stay
 abbrev pub asked_of : Shelf → List ℕ → Result (List ℕ) SourceFault → Shelf
@@ -55,7 +58,8 @@ asked_of store name answer = record store {
 
 -- it gives what its next call finds, and tells it
 abbrev pub Gives : Shelf → List ℕ → Result (List ℕ) SourceFault → Shelf → Type 0
-Gives before name answer after = Finds before (next_call before.calls) name answer × (after ≡ asked_of before name answer)
+Gives before name answer after =
+    Finds before (next_call before.calls) name answer × (after ≡ asked_of before name answer)
 
 -- the store behind a call that puts a file: what it told stays
 abbrev pub put_into : Shelf → List ℕ → List ℕ → Result Unit SourceFault → Shelf
@@ -72,10 +76,12 @@ Allows store (Err Failed) = fails_at_next store ≡ true
 Allows store (Err OutOfMemory) = ⊤
 
 abbrev pub Keeps : Shelf → List ℕ → List ℕ → Result Unit SourceFault → Shelf → Type 0
-Keeps before name bytes answer after = Allows before answer × (after ≡ put_into before name bytes answer)
+Keeps before name bytes answer after =
+    Allows before answer × (after ≡ put_into before name bytes answer)
 
 -- a text that is asked for takes nothing away of what was put
-pub gives_and_keeps : (before after : Shelf) (name : List ℕ) (answer : Result (List ℕ) SourceFault) → Gives before name answer after → Some after.kept ≡ Some before.kept
+pub gives_and_keeps : (before after : Shelf) (name : List ℕ) (answer : Result (List ℕ) SourceFault)
+    → Gives before name answer after → Some after.kept ≡ Some before.kept
 gives_and_keeps before after name answer gives = λ i. Some (gives.1 i).kept
 
 -- what it tells of itself as a source
@@ -89,4 +95,5 @@ pub record GaveHeld (old new : Shelf) (readings : List Reading) : Type 0 where
   pub counted : new.failures ≡ failures_behind_all old.failures readings
 
 abbrev pub GivesWhatItHolds : Type 0
-GivesWhatItHolds = (old new : Shelf) (readings : List Reading) → Gave memory_source old new readings → GaveHeld old new readings
+GivesWhatItHolds = (old new : Shelf) (readings : List Reading) → Gave memory_source old new readings
+    → GaveHeld old new readings

@@ -1,5 +1,6 @@
 -- What a source is asked, and what it answers.
-use Rattle.std.specs.Prelude.{◌≡◌, ℕ, ◌+◌, List, [], ◌∷◌, ◌++◌, Option, Some, None, ⊤, Result, Ok, Err, Vec}
+use Rattle.std.specs.Prelude.{◌≡◌, ℕ, ◌+◌, List, [], ◌∷◌, ◌++◌, Option, Some, None, ⊤, Result, Ok}
+use Rattle.std.specs.Prelude.{Err, Vec}
 use Rattle.stores.specs.declared.source.SourceFault.{SourceFault}
 use Rattle.stores.specs.declared.source.SourceFault.TheVariants.{Failed, OutOfMemory}
 

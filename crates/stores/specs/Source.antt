@@ -10,8 +10,11 @@ use Rattle.stores.specs.declared.source.SourceFault.{SourceFault}
 -- calls, one behind the other, each for this name and with this answer
 pub data Answered {S : Type 0} (s : SourceOf S) : S → S → List Reading → Type 0 where
   no_call : (source : S) → Answered s source source []
-  one_more : (first middle last : S) (name : List ℕ) (answer : Result (List ℕ) SourceFault) (rest : List Reading)
-      → s.may_give first name answer middle → Answered s middle last rest → Answered s first last ((name, answer) ∷ rest)
+  one_more :
+      (first middle last : S) (name : List ℕ) (answer : Result (List ℕ) SourceFault)
+      (rest : List Reading)
+      → s.may_give first name answer middle → Answered s middle last rest
+      → Answered s first last ((name, answer) ∷ rest)
 
 -- the failures behind such calls
 abbrev pub failures_behind_all : ℕ → List Reading → ℕ
@@ -21,7 +24,8 @@ failures_behind_all n readings = fold (λ n reading. failures_behind n reading.1
 abbrev pub told_of_all : List Reading → List Reading
 told_of_all readings = flat_map (λ reading. readings_of reading.0 reading.1) readings
 
--- The source was asked for these names, in this order, and answered so; each failure is counted, and what it tells is told.
+-- The source was asked for these names, in this order, and answered so; each failure is counted,
+-- and what it tells is told.
 pub record Gave {S : Type 0} (s : SourceOf S) (old new : S) (readings : List Reading) : Type 0 where
   pub answered : Answered s old new readings
   pub counted : s.failures new ≡ failures_behind_all (s.failures old) readings

@@ -1,5 +1,6 @@
 -- Texts of printable ASCII characters: they stay as they are, and are as wide as they are long.
-use Rattle.std.proofs.Common.{◌≡◌, ℕ, zero, suc, ◌≤◌, Bool, true, false, cond, List, [], ◌∷◌, ◌++◌, length, chars, encode_utf8, refl, ap, ◌∙◌, arith}
+use Rattle.std.proofs.Common.{◌≡◌, ℕ, zero, suc, ◌≤◌, Bool, true, false, cond, List, [], ◌∷◌, ◌++◌}
+use Rattle.std.proofs.Common.{length, chars, encode_utf8, refl, ap, ◌∙◌, arith}
 use Rattle.std.specs.Char.{is_control}
 use Rattle.std.specs.Int.{is_in_range}
 use Rattle.std.specs.List.{flat_map, list_all}
@@ -37,15 +38,18 @@ kept b h =
     let low = bounds b h in
     ap (λ t. encode_utf8 (cond t 32 b)) (no_control b h) ∙ encode_ascii b (omega arith)
 
-all_kept : (bs : List ℕ) → list_all is_printable bs ≡ true → flat_map (λ c. encode_utf8 (shown_character c)) bs ≡ bs
+all_kept : (bs : List ℕ) → list_all is_printable bs ≡ true
+    → flat_map (λ c. encode_utf8 (shown_character c)) bs ≡ bs
 all_kept [] h = refl
 all_kept (b ∷ bs) h = λ k. kept b (and_parts _ _ h).0 k ++ all_kept bs (and_parts _ _ h).1 k
 
 pub clean_printable : (bs : List ℕ) → list_all is_printable bs ≡ true → clean_text bs ≡ bs
-clean_printable bs h = ap (flat_map (λ c. encode_utf8 (shown_character c))) (chars_of bs h) ∙ all_kept bs h
+clean_printable bs h =
+    ap (flat_map (λ c. encode_utf8 (shown_character c))) (chars_of bs h) ∙ all_kept bs h
 
 pub width_printable : (bs : List ℕ) → list_all is_printable bs ≡ true → text_width bs ≡ length bs
 width_printable bs h = ap (str_width false) (chars_of bs h) ∙ str_width-printable false bs h
 
-pub clean_width_printable : (bs : List ℕ) → list_all is_printable bs ≡ true → text_width (clean_text bs) ≡ length bs
+pub clean_width_printable : (bs : List ℕ) → list_all is_printable bs ≡ true
+    → text_width (clean_text bs) ≡ length bs
 clean_width_printable bs h = ap text_width (clean_printable bs h) ∙ width_printable bs h

@@ -1,5 +1,6 @@
 -- The texts of cells.
-use Rattle.std.specs.Prelude.{ℕ, ℤ, Bool, true, false, Option, Some, None, List, [], ◌∷◌, ◌++◌, map, chars, codes, encode_utf8, slice_index_or, if◌then◌else◌}
+use Rattle.std.specs.Prelude.{ℕ, ℤ, Bool, true, false, Option, Some, None, List, [], ◌∷◌, ◌++◌, map}
+use Rattle.std.specs.Prelude.{chars, codes, encode_utf8, slice_index_or, if◌then◌else◌}
 use Rattle.std.specs.Char.{is_control}
 use Rattle.std.specs.List.{flat_map}
 use Rattle.theory.specs.Arrangement.{by_key, arranged_by}
@@ -11,7 +12,8 @@ use Rattle.bean_lots.specs.declared.lot.Lot.{Lot}
 use Rattle.bean_lots.specs.declared.lot.Position.{Position as Entry}
 use Rattle.query_values.specs.declared.bag.Bag.{Bag}
 use Rattle.query_values.specs.declared.value.Value.{Value}
-use Rattle.query_values.specs.declared.value.Value.TheVariants.{Null, Truth, Number, Text, Day, Set, Amount, Position, Inventory}
+use Rattle.query_values.specs.declared.value.Value.TheVariants.{Null, Truth, Number, Text, Day, Set}
+use Rattle.query_values.specs.declared.value.Value.TheVariants.{Amount, Position, Inventory}
 use Rattle.table_printer.specs.Digits.{number_text, day_text}
 
 -- numbers stand at the right of their columns
@@ -41,7 +43,8 @@ set_text texts = joined between_members (map clean_text texts)
 
 -- a number with at least its currency's display decimals, and the currency
 abbrev pub units_text : (List ℕ → ℕ) → ℤ → ℕ → List ℕ → List ℕ
-units_text display count places currency = number_text count places (display currency) ++ space ∷ currency
+units_text display count places currency =
+    number_text count places (display currency) ++ space ∷ currency
 
 -- a label between quotes, behind a comma
 abbrev pub label_text : Option (List ℕ) → List ℕ
@@ -51,7 +54,8 @@ label_text (Some label) = codes ", \"" ++ clean_text label ++ codes "\""
 -- what units cost, when they were bought, and under which label
 abbrev pub lot_text : (List ℕ → ℕ) → Lot → List ℕ
 lot_text display lot =
-    codes " {" ++ units_text display lot.cost.count 8 lot.cost.currency ++ codes ", " ++ day_text lot.day
+    codes " {" ++ units_text display lot.cost.count 8 lot.cost.currency ++ codes ", "
+    ++ day_text lot.day
     ++ label_text lot.label ++ codes "}"
 
 -- units, and the lot that they are held as
@@ -61,7 +65,8 @@ held_text display units (Some lot) = units ++ lot_text display lot
 
 -- units of a key's currency, and its lot
 abbrev pub entry_text : (List ℕ → ℕ) → ℕ → Key → ℤ → List ℕ
-entry_text display places key count = held_text display (units_text display count places key.currency) key.lot
+entry_text display places key count =
+    held_text display (units_text display count places key.currency) key.lot
 
 -- the counts of positions and costs are of 10^-8
 abbrev pub position_text : (List ℕ → ℕ) → Key → ℤ → List ℕ
@@ -82,7 +87,8 @@ text_of_entry display places entry = entry_text display places entry.key entry.c
 
 -- the entries of an inventory in the order of their keys, whatever the order in which they came
 abbrev pub bag_text : (List ℕ → ℕ) → Bag → List ℕ
-bag_text display bag = joined between_entries (map (text_of_entry display bag.places) (in_order bag.held))
+bag_text display bag =
+    joined between_entries (map (text_of_entry display bag.places) (in_order bag.held))
 
 -- a number has the fewest decimals that are exact, and amounts, units and costs at least those that
 -- their currency shows

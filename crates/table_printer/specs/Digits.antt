@@ -1,5 +1,6 @@
 -- The texts of numbers and days.
-use Rattle.std.specs.Prelude.{ℕ, ℤ, zero, suc, pos, negsuc, ◌+◌, ◌-◌, ◌/◌, ◌%◌, ◌^◌, ◌==◌, List, [], ◌∷◌, ◌++◌, length, replicate, if◌then◌else◌}
+use Rattle.std.specs.Prelude.{ℕ, ℤ, zero, suc, pos, negsuc, ◌+◌, ◌-◌, ◌/◌, ◌%◌, ◌^◌, ◌==◌, List, []}
+use Rattle.std.specs.Prelude.{◌∷◌, ◌++◌, length, replicate, if◌then◌else◌}
 use Rattle.std.specs.Fmt.{decimal}
 use Rattle.bean_base.specs.Character.{dash, point}
 use Rattle.bean_base.specs.declared.days.Day.{Day}
@@ -13,7 +14,8 @@ digits_of (suc places) n = digits_of places (n / 10) ++ (48 + n % 10) ∷ []
 -- decimals without the zeros at their end
 abbrev pub exact_decimals : ℕ → ℕ → List ℕ
 exact_decimals zero n = []
-exact_decimals (suc places) n = if n % 10 == 0 then exact_decimals places (n / 10) else digits_of (suc places) n
+exact_decimals (suc places) n = if n % 10 == 0 then exact_decimals places (n / 10) else
+    digits_of (suc places) n
 
 abbrev pub zeros : ℕ → List ℕ
 zeros count = replicate count 48
@@ -30,7 +32,8 @@ decimals_text places n least =
 
 -- the magnitude n * 10^-places
 abbrev pub magnitude_text : ℕ → ℕ → ℕ → List ℕ
-magnitude_text n places least = decimal (n / 10 ^ places) ++ decimals_text places (n % 10 ^ places) least
+magnitude_text n places least =
+    decimal (n / 10 ^ places) ++ decimals_text places (n % 10 ^ places) least
 
 -- count * 10^-places
 abbrev pub number_text : ℤ → ℕ → ℕ → List ℕ
@@ -39,4 +42,6 @@ number_text (negsuc n) places least = dash ∷ magnitude_text (suc n) places lea
 
 -- YYYY-MM-DD
 abbrev pub day_text : Day → List ℕ
-day_text d = digits_of 4 (unsigned_abs d.date.year) ++ dash ∷ digits_of 2 d.date.month ++ dash ∷ digits_of 2 d.date.day
+day_text d =
+    digits_of 4 (unsigned_abs d.date.year) ++ dash ∷ digits_of 2 d.date.month ++ dash
+    ∷ digits_of 2 d.date.day

@@ -9,11 +9,14 @@ use Rattle.table_printer.specs.declared.lines.Placed.{Placed}
 
 -- its text, where these are the display decimals of the currencies
 abbrev pub placed_text : (List ℕ → ℕ) → Placed → PlacedText
-placed_text display placed = record { text = cell_text display placed.cell; stands_right = placed.stands_right }
+placed_text display placed =
+    record { text = cell_text display placed.cell; stands_right = placed.stands_right }
 
 -- the names of columns
 abbrev pub header_cells : List Heading → List Placed
-header_cells headings = map (λ heading. record { cell = Text heading.name; stands_right = heading.has_numbers }) headings
+header_cells headings =
+    map (λ heading. record { cell = Text heading.name; stands_right = heading.has_numbers })
+    headings
 
 -- a row
 abbrev pub row_cells : List Value → List Placed

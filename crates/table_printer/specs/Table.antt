@@ -1,5 +1,6 @@
 -- The text of a table: a header line, a rule and the rows.
-use Rattle.std.specs.Prelude.{ℕ, ◌+◌, max, Bool, false, List, [], ◌∷◌, ◌++◌, length, map, fold, chars, slice_get}
+use Rattle.std.specs.Prelude.{ℕ, ◌+◌, max, Bool, false, List, [], ◌∷◌, ◌++◌, length, map, fold}
+use Rattle.std.specs.Prelude.{chars, slice_get}
 use Rattle.std.specs.List.{flat_map, list_any, range_with_len}
 use Rattle.std.specs.Option.{option_map_or}
 use Rattle.bean_base.specs.Character.{line_feed}
@@ -27,7 +28,8 @@ has_number i rows = list_any (is_number_at i) rows
 abbrev pub headers_from : ℕ → List (List Value) → List (List ℕ) → List PlacedText
 headers_from i rows [] = []
 headers_from i rows (name ∷ names) =
-    record { text = clean_text name; stands_right = has_number i rows } ∷ headers_from (i + 1) rows names
+    record { text = clean_text name; stands_right = has_number i rows }
+    ∷ headers_from (i + 1) rows names
 
 -- how many columns of a terminal a text takes
 abbrev pub text_width : List ℕ → ℕ
@@ -63,4 +65,5 @@ lines_of headers rows =
 
 -- names and rows under them, where `display` has the display decimals of the currencies
 abbrev pub table_text : List (List ℕ) → List (List Value) → (List ℕ → ℕ) → List ℕ
-table_text names rows display = lines_of (headers_from 0 rows names) (map (map (text_of display)) rows)
+table_text names rows display =
+    lines_of (headers_from 0 rows names) (map (map (text_of display)) rows)

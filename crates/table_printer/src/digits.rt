@@ -16,7 +16,7 @@ fn digit(number: u64) -> u8
     b'0' + (number % 10) as u8
 }
 
-fn power_of_ten(places: u8) -> u128
+fn unit_of(places: u8) -> u128
     requires { places ≤ 38 }
     ensures value { result ≡ 10 ^ places }
     ensures some { 0 < result }
@@ -42,7 +42,7 @@ fn split_at(number: u128, places: u8) -> (u128, u128)
             ((number / unit) as u128, (number % unit) as u128)
         }
         _ => {
-            let unit = power_of_ten(places);
+            let unit = unit_of(places);
             (number / unit, number % unit)
         }
     }
@@ -56,7 +56,7 @@ fn push_few_digits(out: &mut Vec<u8>, places: u8, number: u128) -> Result<(), Al
 {
     // A one before the digits keeps the zeros in front of them.
     let mut buffer = Buffer::new();
-    let text = buffer.format(power_of_ten(places) + number);
+    let text = buffer.format(unit_of(places) + number);
     if let Some((_, digits)) = text.as_bytes().split_first() {
         out.extend_from_slice(digits)?;
     }

@@ -1,7 +1,8 @@
 -- Forms of a grammar: what may be read at the front of a list of lexemes.
 use Rattle.std.specs.Prelude.{◌≡◌, ◌||◌, Bool, false, List, [], ◌∷◌, ◌++◌, Option, Some, None, ◌⊎◌}
 
--- Which values the fronts of lexemes may be read as, before which rests, and which rests could carry
+-- Which values the fronts of lexemes may be read as, before which rests, and which rests could
+-- carry
 -- one on.
 pub record Form (L V : Type 0) : Type 1 where
   pub reads : List L → V → List L → Type 0
@@ -56,7 +57,8 @@ OptionRead a ls (Some v) rest = a.reads ls v rest
 abbrev pub optional : {L V : Type 0} → (List L → Bool) → Form L V → Form L (Option V)
 optional begins a = record { reads = OptionRead a; goes_on = λ rest. begins rest || a.goes_on rest }
 
-abbrev pub DueRead : {L V : Type 0} → (List L → Bool) → Form L V → List L → Option V → List L → Type 0
+abbrev pub DueRead : {L V : Type 0} → (List L → Bool) → Form L V → List L → Option V → List L
+    → Type 0
 DueRead begins a ls None rest = (ls ≡ rest) × (begins rest ≡ false)
 DueRead begins a ls (Some v) rest = a.reads ls v rest
 
@@ -141,5 +143,6 @@ IsNone {L} {V} form lexemes = (v : V) → form.reads lexemes v [] → ⊥
 -- what nothing carries on is the only reading
 abbrev pub IsUnambiguous : {L V : Type 0} → Form L V → Type 0
 IsUnambiguous {L} {V} form =
-    (lexemes : List L) (v : V) (rest : List L) → form.reads lexemes v rest → form.goes_on rest ≡ false
+    (lexemes : List L) (v : V) (rest : List L) → form.reads lexemes v rest
+    → form.goes_on rest ≡ false
     → Reads form lexemes v rest

@@ -6,4 +6,5 @@ pub returns-clause-inputs : goal.returns-clause-inputs
 returns-clause-inputs c = λ p ledger rows. is_reached (all_inputs p.code.aggregates) p ledger rows
 
 pub returns-clause-running : goal.returns-clause-running
-returns-clause-running c = λ p ledger rows. is_reached (running_values p.code.aggregates) p ledger rows
+returns-clause-running c =
+    λ p ledger rows. is_reached (running_values p.code.aggregates) p ledger rows

@@ -3,7 +3,9 @@ use Rattle.plain_machine.proofs.GroupingFacts.{are_groups}
 use Rattle.plain_machine.proofs.groups_are_of_their_members.Goals as goal
 
 pub returns-clause-inputs : goal.returns-clause-inputs
-returns-clause-inputs c = λ aggregates members groups. are_groups (all_inputs aggregates) members groups
+returns-clause-inputs c =
+    λ aggregates members groups. are_groups (all_inputs aggregates) members groups
 
 pub returns-clause-running : goal.returns-clause-running
-returns-clause-running c = λ aggregates members groups. are_groups (running_values aggregates) members groups
+returns-clause-running c =
+    λ aggregates members groups. are_groups (running_values aggregates) members groups

@@ -5,7 +5,8 @@ use Rattle.bean_base.proofs.bytes.end_of_run.Given as goal
 abbrev pub invariant-loop-end : goal.invariant-loop-end
 invariant-loop-end g l = record {
   inside : l.end ≤ length l.bytes;
-  run : l.end + prefix_len g.C.ByteClass.holds (drop l.end l.bytes) ≡ l.fn.start + prefix_len g.C.ByteClass.holds (drop l.fn.start l.bytes);
+  run : l.end + prefix_len g.C.ByteClass.holds (drop l.end l.bytes)
+      ≡ l.fn.start + prefix_len g.C.ByteClass.holds (drop l.fn.start l.bytes);
 }
 
 abbrev pub decreases-loop-end : goal.decreases-loop-end

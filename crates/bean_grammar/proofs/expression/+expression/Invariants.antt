@@ -20,7 +20,8 @@ decreases-sum l = 3 * l.room + 2
 abbrev pub invariant-product-loop-after : goal.invariant-product-loop-after
 invariant-product-loop-after l = record {
   shorter : length l.rest < length l.tokens;
-  read : InRow (product in_ledger l.room) (another_factor in_ledger l.room) times (lexemes l.tokens) (ranged_map exact l.value) (lexemes l.rest);
+  read : InRow (product in_ledger l.room) (another_factor in_ledger l.room) times (lexemes l.tokens)
+      (ranged_map exact l.value) (lexemes l.rest);
 }
 
 abbrev pub decreases-product-loop-after : goal.decreases-product-loop-after
@@ -30,7 +31,8 @@ abbrev pub invariant-sum-loop-is_minus : goal.invariant-sum-loop-is_minus
 invariant-sum-loop-is_minus l = record {
   shorter : length l.rest < length l.tokens;
   ends : begins_with_sign Star (lexemes l.rest) ≡ false;
-  read : InRow (sum in_ledger l.room) (another_product in_ledger l.room) (with_product in_ledger) (lexemes l.tokens) (ranged_map exact l.value) (lexemes l.rest);
+  read : InRow (sum in_ledger l.room) (another_product in_ledger l.room) (with_product in_ledger)
+      (lexemes l.tokens) (ranged_map exact l.value) (lexemes l.rest);
 }
 
 abbrev pub decreases-sum-loop-is_minus : goal.decreases-sum-loop-is_minus

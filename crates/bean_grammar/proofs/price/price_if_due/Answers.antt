@@ -5,7 +5,10 @@ pub returns-in_default : goal.returns-in_default
 returns-in_default c = absent_price _ c.in_default.ensures.front
 
 pub returns-in_default-amount_parts : goal.returns-in_default-amount_parts
-returns-in_default-amount_parts c = none_price _ _ _ c.in-Some.ensures.front c.in_default-amount_parts.ensures.read
+returns-in_default-amount_parts c =
+    none_price _ _ _ c.in-Some.ensures.front c.in_default-amount_parts.ensures.read
 
 pub returns : goal.returns
-returns c = rw c.in_ok-price.ensures (reads_price _ _ _ _ _ c.in-Some.ensures.front c.in-Some-amount_parts.ensures.read)
+returns c =
+    rw c.in_ok-price.ensures
+    (reads_price _ _ _ _ _ c.in-Some.ensures.front c.in-Some-amount_parts.ensures.read)

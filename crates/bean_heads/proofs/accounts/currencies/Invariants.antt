@@ -9,7 +9,8 @@ use Rattle.bean_heads.proofs.accounts.currencies.Given as goal
 abbrev pub invariant-loop-after : goal.invariant-loop-after
 invariant-loop-after l =
     (begins_with_currency (lexemes l.tokens) ≡ true)
-    × InRow some_currencies (behind (Sign sign.Comma) (word Currency)) snoc (lexemes l.tokens) l.currencies.items (lexemes l.rest.tokens.now)
+    × InRow some_currencies (behind (Sign sign.Comma) (word Currency)) snoc (lexemes l.tokens)
+    l.currencies.items (lexemes l.rest.tokens.now)
 
 abbrev pub decreases-loop-after : goal.decreases-loop-after
 decreases-loop-after l = length l.rest.tokens.now

@@ -19,7 +19,8 @@ decreases-sum l = 3 * l.room + 2
 abbrev pub invariant-product-loop-after : goal.invariant-product-loop-after
 invariant-product-loop-after l = record {
   shorter : length l.rest < length l.tokens;
-  read : InRow (product exactly l.room) (another_factor exactly l.room) product_of (lexemes l.tokens) l.value (lexemes l.rest);
+  read : InRow (product exactly l.room) (another_factor exactly l.room) product_of
+      (lexemes l.tokens) l.value (lexemes l.rest);
 }
 
 abbrev pub decreases-product-loop-after : goal.decreases-product-loop-after
@@ -29,7 +30,8 @@ abbrev pub invariant-sum-loop-is_minus : goal.invariant-sum-loop-is_minus
 invariant-sum-loop-is_minus l = record {
   shorter : length l.rest < length l.tokens;
   ends : begins_with_sign Star (lexemes l.rest) ≡ false;
-  read : InRow (sum exactly l.room) (another_product exactly l.room) (with_product exactly) (lexemes l.tokens) l.value (lexemes l.rest);
+  read : InRow (sum exactly l.room) (another_product exactly l.room) (with_product exactly)
+      (lexemes l.tokens) l.value (lexemes l.rest);
 }
 
 abbrev pub decreases-sum-loop-is_minus : goal.decreases-sum-loop-is_minus

@@ -4,7 +4,9 @@ use Rattle.bean_heads.proofs.worth.is_below_zero.Goals as goal
 
 pub returns-in-Some : goal.returns-in-Some
 returns-in-Some c =
-    below_where_negative _ _ _ _ (when_some _ _ _ _ c.in-Some.is c.in_ok-value.ensures.read) (when_present _ _ _ c.in-Some.is c.in_ok-value.ensures.ends) c.is_negative.ensures
+    below_where_negative _ _ _ _ (when_some _ _ _ _ c.in-Some.is c.in_ok-value.ensures.read)
+    (when_present _ _ _ c.in-Some.is c.in_ok-value.ensures.ends) c.is_negative.ensures
 
 pub returns-in-None : goal.returns-in-None
-returns-in-None c = not_below_where_none _ (when_absent _ _ _ c.in-None.is c.in_ok-value.ensures.read)
+returns-in-None c =
+    not_below_where_none _ (when_absent _ _ _ c.in-None.is c.in_ok-value.ensures.read)

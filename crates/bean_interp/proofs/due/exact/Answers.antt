@@ -8,7 +8,8 @@ use Rattle.bean_interp.proofs.due.exact.Goals as goal
 pub returns-in_default : goal.returns-in_default
 returns-in_default c =
     let back = to_z-of_z w128 c.args.count (search rules) in
-    not_in_8 c.args.count (subst (λ k. (z : ℤ) → ¬ (z *ℤ pos (10 ^ 8) ≡ k)) back c.in_default.ensures)
+    not_in_8 c.args.count (subst (λ k. (z : ℤ)
+    → ¬ (z *ℤ pos (10 ^ 8) ≡ k)) back c.in_default.ensures)
 
 pub returns-in-Err : goal.returns-in-Err
 returns-in-Err c =

@@ -13,7 +13,8 @@ returns-then-clashes c =
     let yes : c.clashes.result ≡ true = search rules in
     let here = ap (λ (l : Leg). list_any (clash l) (take i legs)) (sym c.leg-item.is)
     ∙ sym (c.clashes.ensures (take i legs) c.loop-leg.invariant.are) ∙ yes in
-    sym (whole_too_much legs (i + 1) (too_much_next legs i leg (omega arith) ∙ (λ k. c.loop-leg.invariant.not_yet k || here k)))
+    sym (whole_too_much legs (i + 1)
+    (too_much_next legs i leg (omega arith) ∙ (λ k. c.loop-leg.invariant.not_yet k || here k)))
 
 pub loop-leg-preserved : goal.loop-leg-preserved
 loop-leg-preserved c =
@@ -25,6 +26,8 @@ loop-leg-preserved c =
     ∙ sym (c.clashes.ensures (take i legs) c.loop-leg.invariant.are) ∙ no in
     record {
       are = next_lacked c.add.new.self legs i leg (omega arith)
-          (renamed c.add.new.self (take i legs) _ leg (sym c.leg-item.is) (c.in_ok-add.ensures (take i legs) c.loop-leg.invariant.are));
-      not_yet = too_much_next legs i leg (omega arith) ∙ (λ k. c.loop-leg.invariant.not_yet k || here k);
+          (renamed c.add.new.self (take i legs) _ leg (sym c.leg-item.is)
+          (c.in_ok-add.ensures (take i legs) c.loop-leg.invariant.are));
+      not_yet =
+          too_much_next legs i leg (omega arith) ∙ (λ k. c.loop-leg.invariant.not_yet k || here k);
     }

@@ -1,20 +1,28 @@
 use Rattle.std.proofs.Common.{sym, ◌∙◌, inl, inr}
-use Rattle.bean_lexer.proofs.WordFacts.{doubled_token, doubled_boundary, sign_token, sign_boundary, character_fault}
+use Rattle.bean_lexer.proofs.WordFacts.{doubled_token, doubled_boundary, sign_token, sign_boundary}
+use Rattle.bean_lexer.proofs.WordFacts.{character_fault}
 use Rattle.bean_lexer.proofs.words.sign_or_fault.Goals as goal
 
 pub returns-in-Some-clause-token : goal.returns-in-Some-clause-token
-returns-in-Some-clause-token c = inl (doubled_token c.args.bytes.now c.in-Some.sign c.requires.other (sym c.doubled_sign_at.ensures ∙ c.in-Some.is))
+returns-in-Some-clause-token c =
+    inl (doubled_token c.args.bytes.now c.in-Some.sign c.requires.other
+    (sym c.doubled_sign_at.ensures ∙ c.in-Some.is))
 
 pub returns-in-Some-clause-boundary : goal.returns-in-Some-clause-boundary
-returns-in-Some-clause-boundary c = doubled_boundary c.args.bytes.now c.in-Some.sign (sym c.doubled_sign_at.ensures ∙ c.in-Some.is)
+returns-in-Some-clause-boundary c =
+    doubled_boundary c.args.bytes.now c.in-Some.sign (sym c.doubled_sign_at.ensures ∙ c.in-Some.is)
 
 pub returns-in-Some-sign_of-clause-token : goal.returns-in-Some-sign_of-clause-token
 returns-in-Some-sign_of-clause-token c =
-    inl (sign_token c.args.bytes.now c.in-Some-sign_of.sign c.requires.some c.requires.other (sym c.doubled_sign_at.ensures ∙ c.in_default.is) c.in-Some-sign_of.ensures.spelling)
+    inl (sign_token c.args.bytes.now c.in-Some-sign_of.sign c.requires.some c.requires.other
+    (sym c.doubled_sign_at.ensures ∙ c.in_default.is) c.in-Some-sign_of.ensures.spelling)
 
 pub returns-in-Some-sign_of-clause-boundary : goal.returns-in-Some-sign_of-clause-boundary
-returns-in-Some-sign_of-clause-boundary c = sign_boundary c.args.bytes.now c.in-Some-sign_of.sign c.requires.some c.in-Some-sign_of.ensures.spelling
+returns-in-Some-sign_of-clause-boundary c =
+    sign_boundary c.args.bytes.now c.in-Some-sign_of.sign c.requires.some
+    c.in-Some-sign_of.ensures.spelling
 
 pub returns-in-None-clause-token : goal.returns-in-None-clause-token
 returns-in-None-clause-token c =
-    inr (character_fault c.args.bytes.now c.character_len.result c.requires.some c.requires.other (sym c.sign_of.ensures.value ∙ c.in-None.is) c.character_len.ensures.len)
+    inr (character_fault c.args.bytes.now c.character_len.result c.requires.some c.requires.other
+    (sym c.sign_of.ensures.value ∙ c.in-None.is) c.character_len.ensures.len)

@@ -10,11 +10,20 @@ loop-block-preserved c =
     let before = c.loop-block.reader in
     let after = c.next_block.new.self in
     let block = c.next_block.new.block.items in
-    let takes = subst (λ some. TakesBlock some before block after) c.if-branch.true c.in_ok-next_block.ensures.block in
-    let gives = subst (λ b. Gives b c.in_ok-read_block.field-0) c.deref.ensures.value c.in_ok-read_block.ensures in
-    block_more c.args.text.now before after block _ c.loop-block.gathered _ c.loop-block.invariant takes gives c.in_ok-add.ensures
+    let takes =
+    subst (λ some. TakesBlock some before block after) c.if-branch.true
+    c.in_ok-next_block.ensures.block in
+    let gives =
+    subst (λ b. Gives b c.in_ok-read_block.field-0) c.deref.ensures.value
+    c.in_ok-read_block.ensures in
+    block_more c.args.text.now before after block _ c.loop-block.gathered _ c.loop-block.invariant
+    takes gives c.in_ok-add.ensures
 
 pub returns : goal.returns
 returns c =
-    let takes = subst (λ some. TakesBlock some c.loop-block.reader c.next_block.new.block.items c.next_block.new.self) c.if-branch.false c.in_ok-next_block.ensures.block in
-    if_ok _ _ _ (λ p come. text_ends c.args.text.now c.loop-block.reader c.loop-block.gathered p c.loop-block.invariant takes come) c.parsed.ensures
+    let takes =
+    subst (λ some. TakesBlock some c.loop-block.reader c.next_block.new.block.items
+    c.next_block.new.self) c.if-branch.false c.in_ok-next_block.ensures.block in
+    if_ok _ _ _
+    (λ p come. text_ends c.args.text.now c.loop-block.reader c.loop-block.gathered p
+    c.loop-block.invariant takes come) c.parsed.ensures

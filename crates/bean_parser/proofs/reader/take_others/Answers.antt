@@ -1,5 +1,6 @@
 use Rattle.std.proofs.Common.{sym, ◌∙◌, arith}
-use Rattle.bean_parser.proofs.BlockReaderFacts.{taking_starts, taking_more, taking_next, taking_ends}
+use Rattle.bean_parser.proofs.BlockReaderFacts.{taking_starts, taking_more, taking_next}
+use Rattle.bean_parser.proofs.BlockReaderFacts.{taking_ends}
 use Rattle.bean_parser.proofs.reader.take_others.Goals as goal
 
 pub loop-token-init : goal.loop-token-init
@@ -7,7 +8,9 @@ loop-token-init c = taking_starts c.args.lexer.now c.args.block.now.items
 
 pub returns-then-begins_at-clause-others : goal.returns-then-begins_at-clause-others
 returns-then-begins_at-clause-others c =
-    taking_next _ _ c.loop-token.lexer c.next_token.new.self c.loop-token.block.items c.in-Some.token c.loop-token.invariant c.in-Some.ensures.tokens (sym c.begins_at.ensures ∙ c.if-begins_at.true)
+    taking_next _ _ c.loop-token.lexer c.next_token.new.self c.loop-token.block.items
+    c.in-Some.token c.loop-token.invariant c.in-Some.ensures.tokens
+    (sym c.begins_at.ensures ∙ c.if-begins_at.true)
 
 pub returns-then-begins_at-clause-shorter : goal.returns-then-begins_at-clause-shorter
 returns-then-begins_at-clause-shorter c =
@@ -17,8 +20,12 @@ returns-then-begins_at-clause-shorter c =
 
 pub loop-token-preserved : goal.loop-token-preserved
 loop-token-preserved c =
-    taking_more _ _ c.loop-token.lexer c.next_token.new.self c.loop-token.block.items c.push.new.self.items c.in-Some.token c.loop-token.invariant c.in-Some.ensures.tokens
-    (sym c.begins_at.ensures ∙ c.if-begins_at.false) c.in-Some.ensures.shorter c.in_ok-push.ensures.items
+    taking_more _ _ c.loop-token.lexer c.next_token.new.self c.loop-token.block.items
+    c.push.new.self.items c.in-Some.token c.loop-token.invariant c.in-Some.ensures.tokens
+    (sym c.begins_at.ensures ∙ c.if-begins_at.false) c.in-Some.ensures.shorter
+    c.in_ok-push.ensures.items
 
 pub returns-clause-others : goal.returns-clause-others
-returns-clause-others c = taking_ends _ _ c.loop-token.lexer _ c.loop-token.block.items c.loop-token.invariant c.in_default.ensures.tokens.0
+returns-clause-others c =
+    taking_ends _ _ c.loop-token.lexer _ c.loop-token.block.items c.loop-token.invariant
+    c.in_default.ensures.tokens.0

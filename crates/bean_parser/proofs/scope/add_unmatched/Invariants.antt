@@ -4,7 +4,8 @@ use Rattle.bean_parser.proofs.scope.add_unmatched.Given as goal
 
 abbrev pub invariant-loop-i : goal.invariant-loop-i
 invariant-loop-i l = record {
-  left : l.faults.items ++ unmatched (take l.i l.bounds) (drop l.i l.bounds) ≡ l.initial.faults.items ++ unmatched [] l.bounds;
+  left : l.faults.items ++ unmatched (take l.i l.bounds) (drop l.i l.bounds)
+      ≡ l.initial.faults.items ++ unmatched [] l.bounds;
   inside : l.i ≤ length l.bounds;
 }
 

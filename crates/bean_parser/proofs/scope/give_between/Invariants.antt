@@ -3,7 +3,9 @@ use Rattle.bean_parser.specs.Scope.{given_between}
 use Rattle.bean_parser.proofs.scope.give_between.Given as goal
 
 abbrev pub invariant-loop-i : goal.invariant-loop-i
-invariant-loop-i l = given_between l.pushed l.i l.to 0 l.directives.items ≡ given_between l.pushed l.from l.to 0 l.initial.directives.items
+invariant-loop-i l =
+    given_between l.pushed l.i l.to 0 l.directives.items
+    ≡ given_between l.pushed l.from l.to 0 l.initial.directives.items
 
 abbrev pub decreases-loop-i : goal.decreases-loop-i
 decreases-loop-i l = l.to - l.i

@@ -4,4 +4,5 @@ use Rattle.query_file.proofs.RowFacts.{IsOnTheWay}
 use Rattle.query_file.proofs.code_reading.order_at.Given as goal
 
 abbrev pub invariant-loop : goal.invariant-loop
-invariant-loop l = IsOnTheWay (place_below l.most) l.items.items (l.len - l.counter) l.rest l.len l.bytes
+invariant-loop l =
+    IsOnTheWay (place_below l.most) l.items.items (l.len - l.counter) l.rest l.len l.bytes

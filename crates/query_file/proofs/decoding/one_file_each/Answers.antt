@@ -7,4 +7,5 @@ pub returns-clause-files : goal.returns-clause-files
 returns-clause-files c = λ program a b is also. is.written ∙ sym also.written
 
 pub returns-clause-programs : goal.returns-clause-programs
-returns-clause-programs c = λ bytes a b is also. ok_is a b (sym (file_is bytes a is) ∙ file_is bytes b also)
+returns-clause-programs c =
+    λ bytes a b is also. ok_is a b (sym (file_is bytes a is) ∙ file_is bytes b also)

@@ -4,7 +4,9 @@ use Rattle.query_code.specs.QueryFile.{aggregate}
 use Rattle.query_file.proofs.writing.put_aggregates.Given as goal
 
 abbrev pub invariant-loop-rest : goal.invariant-loop-rest
-invariant-loop-rest l = (l.out.items ++ all_written aggregate l.rest ≡ l.fn.out.items ++ all_written aggregate l.aggregates)
+invariant-loop-rest l =
+    (l.out.items ++ all_written aggregate l.rest
+    ≡ l.fn.out.items ++ all_written aggregate l.aggregates)
 
 abbrev pub decreases-loop-rest : goal.decreases-loop-rest
 decreases-loop-rest l = length l.rest

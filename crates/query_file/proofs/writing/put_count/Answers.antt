@@ -7,4 +7,8 @@ use Rattle.query_file.proofs.writing.put_count.Goals as goal
 
 pub returns : goal.returns
 unfolding count
-returns c = appended c.extend_from_slice.result _ c.args.out.now.items _ _ c.extend_from_slice.ensures.items (c.to_be_bytes-bytes.ensures ∙ ap (λ z. to_be_bytes w128 (cast_unsigned w128 z)) (to_z-of_z w128 c.args.number c.ranges.number))
+returns c =
+    appended c.extend_from_slice.result _ c.args.out.now.items _ _ c.extend_from_slice.ensures.items
+    (c.to_be_bytes-bytes.ensures
+    ∙ ap (λ z. to_be_bytes w128 (cast_unsigned w128 z))
+    (to_z-of_z w128 c.args.number c.ranges.number))

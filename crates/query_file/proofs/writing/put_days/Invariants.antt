@@ -4,7 +4,8 @@ use Rattle.query_code.specs.QueryFile.{day}
 use Rattle.query_file.proofs.writing.put_days.Given as goal
 
 abbrev pub invariant-loop-rest : goal.invariant-loop-rest
-invariant-loop-rest l = (l.out.items ++ all_written day l.rest ≡ l.fn.out.items ++ all_written day l.days)
+invariant-loop-rest l =
+    (l.out.items ++ all_written day l.rest ≡ l.fn.out.items ++ all_written day l.days)
 
 abbrev pub decreases-loop-rest : goal.decreases-loop-rest
 decreases-loop-rest l = length l.rest

@@ -4,7 +4,9 @@ use Rattle.query_code.specs.InstructionForm.{instruction}
 use Rattle.query_file.proofs.writing.put_instructions.Given as goal
 
 abbrev pub invariant-loop-rest : goal.invariant-loop-rest
-invariant-loop-rest l = (l.out.items ++ all_written instruction l.rest ≡ l.fn.out.items ++ all_written instruction l.steps)
+invariant-loop-rest l =
+    (l.out.items ++ all_written instruction l.rest
+    ≡ l.fn.out.items ++ all_written instruction l.steps)
 
 abbrev pub decreases-loop-rest : goal.decreases-loop-rest
 decreases-loop-rest l = length l.rest

@@ -1,4 +1,5 @@
-use Rattle.std.proofs.Common.{◌≡◌, ◌+◌, ◌+ℤ◌, IsTrue, length, ap, ap₂, subst, sym, ◌∙◌, arith, rules}
+use Rattle.std.proofs.Common.{◌≡◌, ◌+◌, ◌+ℤ◌, IsTrue, length, ap, ap₂, subst, sym, ◌∙◌, arith}
+use Rattle.std.proofs.Common.{rules}
 use Rattle.std.specs.Int.{w128}
 use Rattle.std.specs.Int.RustNames.{FitsSigned}
 use Rattle.std.proofs.lemmas.Int.{to_z-of_z}
@@ -8,26 +9,35 @@ use Rattle.query_values.proofs.TotalFacts.{IsUpTo, one_more, none_yet, all, fits
 use Rattle.query_values.proofs.bag.cost_in.Goals as goal
 
 pub loop-entry-init : goal.loop-entry-init
-loop-entry-init c = none_yet at_cost c.args.entries.now c.new-held.result c.new-held.ensures c.requires
+loop-entry-init c =
+    none_yet at_cost c.args.entries.now c.new-held.result c.new-held.ensures c.requires
 
 pub count_at_cost-count-requires : goal.count_at_cost-count-requires
 count_at_cost-count-requires c =
     let e = c.entry-item.result in
-    let adds = one_more at_cost c.args.entries.now c.loop-entry.held c.loop-entry.entry-index e c.loop-entry-test.true c.entry-item.is c.loop-entry.invariant in
+    let adds =
+    one_more at_cost c.args.entries.now c.loop-entry.held c.loop-entry.entry-index e
+    c.loop-entry-test.true c.entry-item.is c.loop-entry.invariant in
     let fits : FitsSigned w128 e.count = search rules in
-    subst (λ n. IsTrue (is_count (cost_count e.key.lot n))) (sym (to_z-of_z w128 e.count fits)) adds.own
+    subst (λ n. IsTrue (is_count (cost_count e.key.lot n))) (sym (to_z-of_z w128 e.count fits))
+    adds.own
 
 pub add-requires : goal.add-requires
 add-requires c =
     let e = c.entry-item.result in
     let held = c.loop-entry.held in
-    let adds = one_more at_cost c.args.entries.now held c.loop-entry.entry-index e c.loop-entry-test.true c.entry-item.is c.loop-entry.invariant in
+    let adds =
+    one_more at_cost c.args.entries.now held c.loop-entry.entry-index e c.loop-entry-test.true
+    c.entry-item.is c.loop-entry.invariant in
     let fits : FitsSigned w128 e.count = search rules in
     let own : FitsSigned w128 c.count_at_cost-count.result = search rules in
     let key = c.bare_key.ensures ∙ ap bare_key c.currency_at_cost.ensures in
-    let count = c.count_at_cost-count.ensures ∙ ap (cost_count e.key.lot) (to_z-of_z w128 e.count fits) in
-    let sum : IsTrue (is_count (count_of held c.bare_key.result +ℤ c.count_at_cost-count.result)) = subst (λ k. IsTrue (is_count (count_of held k +ℤ c.count_at_cost-count.result))) (sym key)
-    (subst (λ n. IsTrue (is_count (count_of held (bare_key (cost_currency e.key)) +ℤ n))) (sym count) adds.more) in
+    let count =
+    c.count_at_cost-count.ensures ∙ ap (cost_count e.key.lot) (to_z-of_z w128 e.count fits) in
+    let sum : IsTrue (is_count (count_of held c.bare_key.result +ℤ c.count_at_cost-count.result)) =
+    subst (λ k. IsTrue (is_count (count_of held k +ℤ c.count_at_cost-count.result))) (sym key)
+    (subst (λ n. IsTrue (is_count (count_of held (bare_key (cost_currency e.key)) +ℤ n)))
+    (sym count) adds.more) in
     fits_sum (count_of held c.bare_key.result) c.count_at_cost-count.result own sum
 
 pub loop-entry-preserved : goal.loop-entry-preserved
@@ -35,13 +45,21 @@ loop-entry-preserved c =
     let e = c.entry-item.result in
     let es = c.args.entries.now in
     let i = c.loop-entry.entry-index in
-    let adds = one_more at_cost es c.loop-entry.held i e c.loop-entry-test.true c.entry-item.is c.loop-entry.invariant in
+    let adds =
+    one_more at_cost es c.loop-entry.held i e c.loop-entry-test.true c.entry-item.is
+    c.loop-entry.invariant in
     let fits : FitsSigned w128 e.count = search rules in
     let own : FitsSigned w128 c.count_at_cost-count.result = search rules in
     let key = c.bare_key.ensures ∙ ap bare_key c.currency_at_cost.ensures in
-    let count = c.count_at_cost-count.ensures ∙ ap (cost_count e.key.lot) (to_z-of_z w128 e.count fits) in
-    let new = c.in_ok-add.ensures.ok ∙ ap₂ (added c.loop-entry.held) key (to_z-of_z w128 c.count_at_cost-count.result own ∙ count) in
+    let count =
+    c.count_at_cost-count.ensures ∙ ap (cost_count e.key.lot) (to_z-of_z w128 e.count fits) in
+    let new =
+    c.in_ok-add.ensures.ok
+    ∙ ap₂ (added c.loop-entry.held) key
+    (to_z-of_z w128 c.count_at_cost-count.result own ∙ count) in
     subst (λ held. IsUpTo at_cost es held (i + 1)) (sym new) adds.next
 
 pub returns : goal.returns
-returns c = let end : length c.args.entries.now ≡ c.loop-entry.entry-index = omega arith in all at_cost c.args.entries.now c.loop-entry.held c.loop-entry.entry-index end c.loop-entry.invariant
+returns c = let end : length c.args.entries.now ≡ c.loop-entry.entry-index = omega arith in
+    all at_cost c.args.entries.now c.loop-entry.held c.loop-entry.entry-index end
+    c.loop-entry.invariant

@@ -1,4 +1,5 @@
-use Rattle.std.proofs.Common.{◌≡◌, ◌+◌, ◌+ℤ◌, length, to_z, of_z, ap, ap₂, subst, sym, ◌∙◌, arith, rules}
+use Rattle.std.proofs.Common.{◌≡◌, ◌+◌, ◌+ℤ◌, length, to_z, of_z, ap, ap₂, subst, sym, ◌∙◌, arith}
+use Rattle.std.proofs.Common.{rules}
 use Rattle.std.specs.Int.{w128}
 use Rattle.std.specs.Int.RustNames.{FitsSigned}
 use Rattle.std.proofs.lemmas.Int.{to_z-of_z}
@@ -8,26 +9,36 @@ use Rattle.query_values.proofs.TotalFacts.{IsUpTo, one_more, none_yet, all, fits
 use Rattle.query_values.proofs.bag.units_in.Goals as goal
 
 pub loop-entry-init : goal.loop-entry-init
-loop-entry-init c = none_yet without_lot c.args.entries.now c.new-held.result c.new-held.ensures c.requires
+loop-entry-init c =
+    none_yet without_lot c.args.entries.now c.new-held.result c.new-held.ensures c.requires
 
 pub add-requires : goal.add-requires
 add-requires c =
     let e = c.entry-item.result in
-    let adds = one_more without_lot c.args.entries.now c.loop-entry.held c.loop-entry.entry-index e c.loop-entry-test.true c.entry-item.is c.loop-entry.invariant in
+    let adds =
+    one_more without_lot c.args.entries.now c.loop-entry.held c.loop-entry.entry-index e
+    c.loop-entry-test.true c.entry-item.is c.loop-entry.invariant in
     let fits : FitsSigned w128 e.count = search rules in
     let key = c.bare_key.ensures ∙ ap bare_key c.lend.ensures in
-    subst (λ k. FitsSigned w128 (count_of c.loop-entry.held k +ℤ to_z w128 (of_z w128 e.count))) (sym key) (fits_sum (count_of c.loop-entry.held (bare_key e.key.currency)) e.count fits adds.more)
+    subst (λ k. FitsSigned w128 (count_of c.loop-entry.held k +ℤ to_z w128 (of_z w128 e.count)))
+    (sym key)
+    (fits_sum (count_of c.loop-entry.held (bare_key e.key.currency)) e.count fits adds.more)
 
 pub loop-entry-preserved : goal.loop-entry-preserved
 loop-entry-preserved c =
     let e = c.entry-item.result in
     let es = c.args.entries.now in
     let i = c.loop-entry.entry-index in
-    let adds = one_more without_lot es c.loop-entry.held i e c.loop-entry-test.true c.entry-item.is c.loop-entry.invariant in
+    let adds =
+    one_more without_lot es c.loop-entry.held i e c.loop-entry-test.true c.entry-item.is
+    c.loop-entry.invariant in
     let fits : FitsSigned w128 e.count = search rules in
     let key = c.bare_key.ensures ∙ ap bare_key c.lend.ensures in
-    let new = c.in_ok-add.ensures.ok ∙ ap₂ (added c.loop-entry.held) key (to_z-of_z w128 e.count fits) in
+    let new =
+    c.in_ok-add.ensures.ok ∙ ap₂ (added c.loop-entry.held) key (to_z-of_z w128 e.count fits) in
     subst (λ held. IsUpTo without_lot es held (i + 1)) (sym new) adds.next
 
 pub returns : goal.returns
-returns c = let end : length c.args.entries.now ≡ c.loop-entry.entry-index = omega arith in all without_lot c.args.entries.now c.loop-entry.held c.loop-entry.entry-index end c.loop-entry.invariant
+returns c = let end : length c.args.entries.now ≡ c.loop-entry.entry-index = omega arith in
+    all without_lot c.args.entries.now c.loop-entry.held c.loop-entry.entry-index end
+    c.loop-entry.invariant

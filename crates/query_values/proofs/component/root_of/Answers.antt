@@ -9,5 +9,7 @@ returns c =
     let name = c.args.name.now in
     let end = end_after c.args.components name in
     let all : end - 0 ≡ end = omega arith in
-    c.range.ensures.value ∙ ap (slice_range name 0) (c.end_of.ensures.place ∙ ap (end_after c.args.components) c.as_bytes.ensures.value)
+    c.range.ensures.value
+    ∙ ap (slice_range name 0) (c.end_of.ensures.place
+    ∙ ap (end_after c.args.components) c.as_bytes.ensures.value)
     ∙ ap (λ n. take n name) all ∙ sym (root_at c.args.components name c.requires)

@@ -15,9 +15,13 @@ add-requires c =
     let n = c.in-Amount.count in
     let fits : FitsSigned w128 n = search rules in
     let key = c.bare_key.ensures ∙ ap bare_key c.lend.ensures in
-    let held = subst (λ x. IsTrue (is_held (gathered (Inventory b) x))) c.in-Amount.is (subst (λ t. IsTrue (is_held (gathered t c.args.entry.now))) c.in-Inventory.is c.requires) in
+    let held =
+    subst (λ x. IsTrue (is_held (gathered (Inventory b) x))) c.in-Amount.is
+    (subst (λ t. IsTrue (is_held (gathered t c.args.entry.now))) c.in-Inventory.is
+    c.requires) in
     let small = within b.held (bare_key c.in-Amount.currency) n (both _ _ held).1 in
-    subst (λ k. FitsSigned w128 (count_of b.held k +ℤ to_z w128 (of_z w128 n))) (sym key) (fits_sum (count_of b.held (bare_key c.in-Amount.currency)) n fits small)
+    subst (λ k. FitsSigned w128 (count_of b.held k +ℤ to_z w128 (of_z w128 n))) (sym key)
+    (fits_sum (count_of b.held (bare_key c.in-Amount.currency)) n fits small)
 
 pub add-requires-in-Position : goal.add-requires-in-Position
 add-requires-in-Position c =
@@ -25,6 +29,10 @@ add-requires-in-Position c =
     let n = c.in-Position.count in
     let fits : FitsSigned w128 n = search rules in
     let key = c.lend-in-Position.ensures ∙ c.get.ensures in
-    let held = subst (λ x. IsTrue (is_held (gathered (Inventory b) x))) c.in-Position.is (subst (λ t. IsTrue (is_held (gathered t c.args.entry.now))) c.in-Inventory.is c.requires) in
+    let held =
+    subst (λ x. IsTrue (is_held (gathered (Inventory b) x))) c.in-Position.is
+    (subst (λ t. IsTrue (is_held (gathered t c.args.entry.now))) c.in-Inventory.is
+    c.requires) in
     let small = within b.held c.in-Position.key n (both _ _ held).1 in
-    subst (λ k. FitsSigned w128 (count_of b.held k +ℤ to_z w128 (of_z w128 n))) (sym key) (fits_sum (count_of b.held c.in-Position.key) n fits small)
+    subst (λ k. FitsSigned w128 (count_of b.held k +ℤ to_z w128 (of_z w128 n))) (sym key)
+    (fits_sum (count_of b.held c.in-Position.key) n fits small)

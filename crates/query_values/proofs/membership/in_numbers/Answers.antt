@@ -13,10 +13,13 @@ pub returns-in-Number : goal.returns-in-Number
 returns-in-Number c =
     let places = c.args.places in
     let n = c.in-Number.count in
-    let same : (c.in-Number.places == places) ≡ true = subst (λ x. IsTrue (has_places places x)) c.in-Number.is c.requires in
+    let same : (c.in-Number.places == places) ≡ true =
+    subst (λ x. IsTrue (has_places places x)) c.in-Number.is c.requires in
     let fits : FitsSigned w128 n = search rules in
     c.has_count.ensures ∙ ap (λ m. list_any (int_eq m) c.args.counts.now) (to_z-of_z w128 n fits)
-    ∙ among_numbers c.in-Number.places places n c.args.counts.now same ∙ ap (is_among (map (number_choice places) c.args.counts.now)) (sym c.in-Number.is)
+    ∙ among_numbers c.in-Number.places places n c.args.counts.now same
+    ∙ ap (is_among (map (number_choice places) c.args.counts.now)) (sym c.in-Number.is)
 
 pub returns-in_default : goal.returns-in_default
-returns-in_default c = no_number c.args.x.now c.args.places c.args.counts.now c.in_default.not-Number
+returns-in_default c =
+    no_number c.args.x.now c.args.places c.args.counts.now c.in_default.not-Number

@@ -5,7 +5,9 @@ use Rattle.query_values.proofs.MembershipFacts.{among_texts, no_text}
 use Rattle.query_values.proofs.membership.in_texts.Goals as goal
 
 pub returns-in-Text : goal.returns-in-Text
-returns-in-Text c = c.has_text.ensures ∙ among_texts c.in-Text.text c.args.texts.now ∙ ap (is_among (map text_choice c.args.texts.now)) (sym c.in-Text.is)
+returns-in-Text c =
+    c.has_text.ensures ∙ among_texts c.in-Text.text c.args.texts.now
+    ∙ ap (is_among (map text_choice c.args.texts.now)) (sym c.in-Text.is)
 
 pub returns-in_default : goal.returns-in_default
 returns-in_default c = no_text c.args.x.now c.args.texts.now c.in_default.not-Text

@@ -4,4 +4,6 @@ use Rattle.stores.specs.MemoryStore.{first_in}
 use Rattle.stores.proofs.memory.first_of.Given as goal
 
 abbrev pub invariant-loop-file : goal.invariant-loop-file
-invariant-loop-file l = first_in l.name (map putting_of l.files) ≡ first_in l.name (map putting_of (drop l.file-index l.files))
+invariant-loop-file l =
+    first_in l.name (map putting_of l.files)
+    ≡ first_in l.name (map putting_of (drop l.file-index l.files))

@@ -12,5 +12,10 @@ loop-c-init c = sym (append-nil (string_bytes c.args.clean.now))
 
 pub returns : goal.returns
 returns c =
-    let end = YieldsList-end (YieldsList-from_chars c.args.text.now c.utf8.text cc) c.loop-c.yielded _ c.loop-c.yielded_by _ _ c.in-None.is c.next.ensures.steps in
-    c.loop-c.invariant ∙ ap (λ l. string_bytes c.args.clean.now ++ flat_map (λ (c : ℕ). encode_utf8 (shown_character c)) l) (sym (map-id c.loop-c.yielded) ∙ end.0)
+    let end =
+    YieldsList-end (YieldsList-from_chars c.args.text.now c.utf8.text cc) c.loop-c.yielded _
+    c.loop-c.yielded_by _ _ c.in-None.is c.next.ensures.steps in
+    c.loop-c.invariant
+    ∙ ap (λ l. string_bytes c.args.clean.now
+    ++ flat_map (λ (c : ℕ). encode_utf8 (shown_character c)) l)
+    (sym (map-id c.loop-c.yielded) ∙ end.0)

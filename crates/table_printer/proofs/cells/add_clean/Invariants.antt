@@ -5,4 +5,6 @@ use Rattle.table_printer.specs.CellText.{shown_character}
 use Rattle.table_printer.proofs.cells.add_clean.Given as goal
 
 abbrev pub invariant-loop-c : goal.invariant-loop-c
-invariant-loop-c l = string_bytes l.clean ≡ string_bytes l.initial.clean ++ flat_map (λ c. encode_utf8 (shown_character c)) l.yielded
+invariant-loop-c l =
+    string_bytes l.clean
+    ≡ string_bytes l.initial.clean ++ flat_map (λ c. encode_utf8 (shown_character c)) l.yielded

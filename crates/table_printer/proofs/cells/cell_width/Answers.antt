@@ -7,7 +7,11 @@ use Rattle.table_printer.proofs.Written.{day_width}
 use Rattle.table_printer.proofs.cells.cell_width.Goals as goal
 
 pub returns-in-Null : goal.returns-in-Null
-returns-in-Null c = sym (ap (λ cell. text_width (cell_text (decimals_of c.args.display.now) cell)) (sym c.value.ensures ∙ c.in-Null.is) ∙ width_printable [] refl)
+returns-in-Null c =
+    sym (ap (λ cell. text_width (cell_text (decimals_of c.args.display.now) cell))
+    (sym c.value.ensures ∙ c.in-Null.is) ∙ width_printable [] refl)
 
 pub returns-in-Day : goal.returns-in-Day
-returns-in-Day c = sym (ap (λ cell. text_width (cell_text (decimals_of c.args.display.now) cell)) (sym c.value.ensures ∙ c.in-Day.is) ∙ day_width c.in-Day.field-0)
+returns-in-Day c =
+    sym (ap (λ cell. text_width (cell_text (decimals_of c.args.display.now) cell))
+    (sym c.value.ensures ∙ c.in-Day.is) ∙ day_width c.in-Day.field-0)

@@ -12,11 +12,17 @@ loop-i-preserved c =
     let text = c.text-item.result in
     let many = ap length c.as_slice-text-items.ensures.texts in
     let gap = gap_before between_members i in
-    c.in_ok-add_clean.ensures ∙ (λ k. c.in_ok-add_separator.ensures k ++ clean_text (c.text.ensures k)) ∙ ap (λ l. (l ++ gap) ++ clean_text text) c.loop-i.invariant
+    c.in_ok-add_clean.ensures
+    ∙ (λ k. c.in_ok-add_separator.ensures k ++ clean_text (c.text.ensures k))
+    ∙ ap (λ l. (l ++ gap) ++ clean_text text) c.loop-i.invariant
     ∙ append_assoc (set_text (take i set)) gap (clean_text text)
-    ∙ sym (joined_next between_members clean_text set i text (omega (arith, many, c.loop-i-test.true)) (c.text-item.is ∙ ap (λ texts. get_or texts i text) c.as_slice-text-items.ensures.texts))
+    ∙ sym (joined_next between_members clean_text set i text
+    (omega (arith, many, c.loop-i-test.true))
+    (c.text-item.is ∙ ap (λ texts. get_or texts i text) c.as_slice-text-items.ensures.texts))
 
 pub returns : goal.returns
 returns c =
     let many = ap length c.as_slice-text-items.ensures.texts in
-    c.loop-i.invariant ∙ ap set_text (take_all c.loop-i.i c.args.set.now (omega (arith, many, c.loop-i-test.false)))
+    c.loop-i.invariant
+    ∙ ap set_text
+    (take_all c.loop-i.i c.args.set.now (omega (arith, many, c.loop-i-test.false)))

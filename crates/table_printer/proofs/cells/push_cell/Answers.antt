@@ -7,7 +7,11 @@ use Rattle.table_printer.proofs.Written.{day_width}
 use Rattle.table_printer.proofs.cells.push_cell.Goals as goal
 
 pub returns-in-Null-clause-width : goal.returns-in-Null-clause-width
-returns-in-Null-clause-width c = sym (ap (λ cell. text_width (cell_text (decimals_of c.args.display.now) cell)) (sym c.value.ensures ∙ c.in-Null.is) ∙ width_printable [] refl)
+returns-in-Null-clause-width c =
+    sym (ap (λ cell. text_width (cell_text (decimals_of c.args.display.now) cell))
+    (sym c.value.ensures ∙ c.in-Null.is) ∙ width_printable [] refl)
 
 pub returns-in_ok-push_day-in-Day-clause-width : goal.returns-in_ok-push_day-in-Day-clause-width
-returns-in_ok-push_day-in-Day-clause-width c = sym (ap (λ cell. text_width (cell_text (decimals_of c.args.display.now) cell)) (sym c.value.ensures ∙ c.in-Day.is) ∙ day_width c.in-Day.day)
+returns-in_ok-push_day-in-Day-clause-width c =
+    sym (ap (λ cell. text_width (cell_text (decimals_of c.args.display.now) cell))
+    (sym c.value.ensures ∙ c.in-Day.is) ∙ day_width c.in-Day.day)

@@ -13,22 +13,48 @@ returns-clause-text c =
     let currency = c.args.currency.now in
     let least = decimals_of c.args.display.now currency in
     let number = number_text c.args.count c.args.places least in
-    c.in_ok-extend_from_slice.ensures.items ∙ (λ k. c.in_ok-push.ensures.items k ++ (c.as_bytes.ensures.value ∙ c.text.ensures.text) k)
-    ∙ ap (λ l. (l ++ 32 ∷ []) ++ currency) (rw c.places.ensures at c.in_ok-push_number.ensures ∙ (λ k. out ++ number_text (to_z-of_z w128 c.args.count c.ranges.count k) c.args.places least))
-    ∙ ap (λ l. l ++ currency) (append_assoc out number (32 ∷ [])) ∙ append_assoc out (number ++ 32 ∷ []) currency ∙ ap (λ l. out ++ l) (append_assoc number (32 ∷ []) currency)
+    c.in_ok-extend_from_slice.ensures.items
+    ∙ (λ k. c.in_ok-push.ensures.items k ++ (c.as_bytes.ensures.value ∙ c.text.ensures.text) k)
+    ∙ ap (λ l. (l ++ 32 ∷ []) ++ currency)
+    (rw c.places.ensures at c.in_ok-push_number.ensures
+    ∙ (λ k. out ++ number_text (to_z-of_z w128 c.args.count c.ranges.count k) c.args.places least))
+    ∙ ap (λ l. l ++ currency) (append_assoc out number (32 ∷ []))
+    ∙ append_assoc out (number ++ 32 ∷ []) currency
+    ∙ ap (λ l. out ++ l) (append_assoc number (32 ∷ []) currency)
 
 pub returns-clause-width : goal.returns-clause-width
 returns-clause-width c =
     let currency = c.args.currency.now in
     let least = decimals_of c.args.display.now currency in
     let number = number_text c.args.count c.args.places least in
-    let wide = width_printable (number ++ 32 ∷ currency) (printable_units number currency (printable_number c.args.count c.args.places least (bounded c.args.count c.ranges.count)) c.text.ensures.is_currency) in
-    let sized = ap length (rw c.places.ensures at c.in_ok-push_number.ensures ∙ (λ k. c.args.out.now.items ++ number_text (to_z-of_z w128 c.args.count c.ranges.count k) c.args.places least)) in
+    let wide =
+    width_printable (number ++ 32 ∷ currency)
+    (printable_units number currency
+    (printable_number c.args.count c.args.places least (bounded c.args.count c.ranges.count))
+    c.text.ensures.is_currency) in
+    let sized =
+    ap length (rw c.places.ensures at c.in_ok-push_number.ensures
+    ∙ (λ k. c.args.out.now.items
+    ++ number_text (to_z-of_z w128 c.args.count c.ranges.count k) c.args.places least)) in
     let named = ap length (c.as_bytes.ensures.value ∙ c.text.ensures.text) in
-    omega (arith, wide, sized, named, length-append c.args.out.now.items number, length-append number (32 ∷ currency), c.in_ok-push.ensures.len, c.in_ok-extend_from_slice.ensures.len, c.len.ensures, c.len-start.ensures)
+    omega (
+      arith,
+      wide,
+      sized,
+      named,
+      length-append c.args.out.now.items number,
+      length-append
+          number (32 ∷ currency),
+      c.in_ok-push.ensures.len,
+      c.in_ok-extend_from_slice.ensures.len,
+      c.len.ensures,
+      c.len-start.ensures,
+    )
 
 pub returns-clause-printable : goal.returns-clause-printable
 returns-clause-printable c =
     let currency = c.args.currency.now in
     let least = decimals_of c.args.display.now currency in
-    printable_units (number_text c.args.count c.args.places least) currency (printable_number c.args.count c.args.places least (bounded c.args.count c.ranges.count)) c.text.ensures.is_currency
+    printable_units (number_text c.args.count c.args.places least) currency
+    (printable_number c.args.count c.args.places least (bounded c.args.count c.ranges.count))
+    c.text.ensures.is_currency

@@ -4,10 +4,12 @@ use Rattle.table_printer.proofs.DigitsFacts.{wide}
 use Rattle.table_printer.proofs.digits.split_at.Goals as goal
 
 pub nonzero_div-result : goal.nonzero_div-result
-nonzero_div-result c = let some = one-le-pow c.args.places 10 (omega arith) in omega (arith, c.pow-unit.ensures)
+nonzero_div-result c = let some = one-le-pow c.args.places 10 (omega arith) in
+    omega (arith, c.pow-unit.ensures)
 
 pub nonzero_rem-result : goal.nonzero_rem-result
-nonzero_rem-result c = let some = one-le-pow c.args.places 10 (omega arith) in omega (arith, c.pow-unit.ensures)
+nonzero_rem-result c = let some = one-le-pow c.args.places 10 (omega arith) in
+    omega (arith, c.pow-unit.ensures)
 
 pub returns-in-Ok-clause-small : goal.returns-in-Ok-clause-small
 returns-in-Ok-clause-small c =
@@ -16,7 +18,8 @@ returns-in-Ok-clause-small c =
 
 pub returns-then-places-gt38 : goal.returns-then-places-gt38
 returns-then-places-gt38 c =
-    let fewer : c.args.number < 10 ^ c.args.places = omega (arith, wide c.args.places c.if-places-gt38.true, c.ranges.number.fits) in record {
+    let fewer : c.args.number < 10 ^ c.args.places =
+    omega (arith, wide c.args.places c.if-places-gt38.true, c.ranges.number.fits) in record {
       before = sym (div-eq_of_lt fewer);
       behind = sym (mod-eq_of_lt fewer);
       small = fewer;

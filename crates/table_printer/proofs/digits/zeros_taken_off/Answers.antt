@@ -5,14 +5,17 @@ use Rattle.table_printer.proofs.digits.zeros_taken_off.Goals as goal
 
 pub returns-else-decimals-eq0 : goal.returns-else-decimals-eq0
 returns-else-decimals-eq0 c = record {
-  digits = all_exact c.loop-places.places c.loop-places.decimals c.args.least (grind (arith, nat_tests, c.if-decimals-eq0.false)) ∙ ap (filled c.args.least) c.loop-places.invariant.digits;
+  digits = all_exact c.loop-places.places c.loop-places.decimals c.args.least
+      (grind (arith, nat_tests, c.if-decimals-eq0.false))
+      ∙ ap (filled c.args.least) c.loop-places.invariant.digits;
   few = c.loop-places.invariant.few;
   small = c.loop-places.invariant.small;
 }
 
 pub returns-after-loop-places : goal.returns-after-loop-places
 returns-after-loop-places c = record {
-  digits = all_shown c.loop-places.places c.loop-places.decimals c.args.least c.loop-places-test.false ∙ ap (filled c.args.least) c.loop-places.invariant.digits;
+  digits = all_shown c.loop-places.places c.loop-places.decimals c.args.least
+      c.loop-places-test.false ∙ ap (filled c.args.least) c.loop-places.invariant.digits;
   few = c.loop-places.invariant.few;
   small = c.loop-places.invariant.small;
 }

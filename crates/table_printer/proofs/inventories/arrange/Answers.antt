@@ -13,9 +13,11 @@ pub returns : goal.returns
 returns c =
     let ranks = ranks_by key_total (λ (entry : Position). entry.key) in
     on_ok_weaker c.sort_by.result
-    (λ sorted. one_by_key (λ (entry : Position). entry.key) key_order key_total c.args.entries.now.items c.sort_by.new.self.items _
+    (λ sorted. one_by_key (λ (entry : Position). entry.key) key_order key_total
+    c.args.entries.now.items c.sort_by.new.self.items _
     (record {
       sorted = sorted comes_before ranks (answers_always _ _ _ (λ f a r g h. search rules));
-      stable = c.sort_by.ensures.stable comes_before ranks (answers_always _ _ _ (λ f a r g h. search rules));
+      stable = c.sort_by.ensures.stable comes_before ranks
+          (answers_always _ _ _ (λ f a r g h. search rules));
     }) (is_arranged comes_before ranks c.args.entries.now.items))
     c.sort_by.ensures.sorted

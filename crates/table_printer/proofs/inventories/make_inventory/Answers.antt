@@ -1,4 +1,5 @@
-use Rattle.std.proofs.Common.{◌≡◌, ◌++◌, take, map, get_or, length, sym, ap, ◌∙◌, arith, append_assoc, rules, to_z, of_z}
+use Rattle.std.proofs.Common.{◌≡◌, ◌++◌, take, map, get_or, length, sym, ap, ◌∙◌, arith}
+use Rattle.std.proofs.Common.{append_assoc, rules, to_z, of_z}
 use Rattle.std.specs.Int.{w128}
 use Rattle.std.specs.Int.RustNames.{FitsSigned}
 use Rattle.std.proofs.lemmas.Int.{to_z-of_z}
@@ -20,8 +21,12 @@ loop-i-preserved c =
     let gap = gap_before between_entries i in
     let fits : FitsSigned w128 entry.count = search rules in
     c.in_ok-add_entry.ensures
-    ∙ (λ k. c.in_ok-add_gap.ensures k ++ entry_text display places (c.get-entry.ensures k).key (to_z w128 (of_z w128 (c.get-entry.ensures k).count)))
-    ∙ ap (λ n. (string_bytes c.loop-i.scratch.clean ++ gap) ++ entry_text display places entry.key n) (to_z-of_z w128 entry.count fits)
+    ∙ (λ k. c.in_ok-add_gap.ensures k
+    ++ entry_text display places (c.get-entry.ensures k).key
+    (to_z w128 (of_z w128 (c.get-entry.ensures k).count)))
+    ∙ ap (λ n. (string_bytes c.loop-i.scratch.clean ++ gap)
+    ++ entry_text display places entry.key n) (to_z-of_z w128 entry.count fits)
     ∙ ap (λ l. (l ++ gap) ++ text_of_entry display places entry) c.loop-i.invariant
     ∙ append_assoc so_far gap (text_of_entry display places entry)
-    ∙ sym (joined_next between_entries (text_of_entry display places) entries i entry (omega (arith, c.loop-i-test.true)) c.entry-item.is)
+    ∙ sym (joined_next between_entries (text_of_entry display places) entries i entry
+    (omega (arith, c.loop-i-test.true)) c.entry-item.is)

@@ -8,4 +8,5 @@ use Rattle.table_printer.proofs.inventories.make_inventory.Given as goal
 abbrev pub invariant-loop-i : goal.invariant-loop-i
 invariant-loop-i l =
     string_bytes l.scratch.clean
-    ≡ joined between_entries (map (text_of_entry (decimals_of l.display) l.bag.places) (take l.i l.entry-items))
+    ≡ joined between_entries
+    (map (text_of_entry (decimals_of l.display) l.bag.places) (take l.i l.entry-items))

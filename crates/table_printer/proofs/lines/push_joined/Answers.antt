@@ -18,8 +18,14 @@ loop-i-preserved g c =
     let i = c.loop-i.i in
     let x = c.cell.result in
     let more = pieces_more_at shown ws cells i x (c.requires ∙ sym many) c.cell.ensures in
-    c.in_ok-push_padded.ensures ∙ (λ k. c.in_ok-push_gap.ensures k ++ padded (width_is c.args.headings.now i c.index-headings-i.result (omega arith) c.index-headings-i.is k) (shown x)) ∙ ap (λ l. (l ++ gap i) ++ padded (get_or ws i 0) (shown x)) c.loop-i.invariant
-    ∙ regroup c.args.out.now.items (joined (take i (pieces ws (map shown cells)))) (gap i) (padded (get_or ws i 0) (shown x)) ∙ ap (λ l. c.args.out.now.items ++ l) (sym more)
+    c.in_ok-push_padded.ensures
+    ∙ (λ k. c.in_ok-push_gap.ensures k
+    ++ padded
+    (width_is c.args.headings.now i c.index-headings-i.result (omega arith)
+    c.index-headings-i.is k) (shown x))
+    ∙ ap (λ l. (l ++ gap i) ++ padded (get_or ws i 0) (shown x)) c.loop-i.invariant
+    ∙ regroup c.args.out.now.items (joined (take i (pieces ws (map shown cells)))) (gap i)
+    (padded (get_or ws i 0) (shown x)) ∙ ap (λ l. c.args.out.now.items ++ l) (sym more)
 
 pub returns : goal.returns
 returns g c =
@@ -29,4 +35,6 @@ returns g c =
     let many = length-map c.args.headings.now width_of in
     let wide = length-map cells shown in
     let all = length-pieces ws (map shown cells) (wide ∙ c.requires ∙ sym many) in
-    c.loop-i.invariant ∙ ap (λ l. c.args.out.now.items ++ joined l) (take_all c.loop-i.i (pieces ws (map shown cells)) (omega arith))
+    c.loop-i.invariant
+    ∙ ap (λ l. c.args.out.now.items ++ joined l)
+    (take_all c.loop-i.i (pieces ws (map shown cells)) (omega arith))

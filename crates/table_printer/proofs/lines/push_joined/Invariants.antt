@@ -7,4 +7,9 @@ use Rattle.table_printer.specs.Table.{pieces}
 use Rattle.table_printer.proofs.lines.push_joined.Given as goal
 
 abbrev pub invariant-loop-i : goal.invariant-loop-i
-invariant-loop-i g l = l.out.items ≡ l.initial.out.items ++ joined (take l.i (pieces (map width_of l.headings) (map (placed_text (decimals_of l.display)) (g.L.Line.cells l.line))))
+invariant-loop-i g l =
+    l.out.items ≡ l.initial.out.items
+    ++ joined
+    (take l.i
+    (pieces (map width_of l.headings)
+    (map (placed_text (decimals_of l.display)) (g.L.Line.cells l.line))))

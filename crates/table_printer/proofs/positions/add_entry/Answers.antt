@@ -15,6 +15,8 @@ returns-in_ok-add_lot c =
     let units = units_text display c.args.count c.args.places key.currency in
     let made : string_bytes c.add_units.new.scratch.clean ≡ old ++ units =
     c.in_ok-add_units.ensures
-    ∙ (λ k. old ++ units_text display (to_z-of_z w128 c.args.count c.ranges.count k) c.args.places key.currency) in
+    ∙ (λ k. old
+    ++ units_text display (to_z-of_z w128 c.args.count c.ranges.count k) c.args.places
+    key.currency) in
     c.in_ok-add_lot.ensures ∙ ap (λ l. l ++ lot) made ∙ append_assoc old units lot
     ∙ ap (λ l. old ++ held_text display units l) (sym c.in-Some.is)

@@ -3,4 +3,6 @@ use Rattle.table_printer.proofs.Printable.{is_ascii}
 use Rattle.table_printer.proofs.positions.add_printable.Goals as goal
 
 pub returns-in_default : goal.returns-in_default
-returns-in_default c = absurd (c.in_default.ensures.cases.0 (IsUtf8-from_ascii c.args.bytes.now (is_ascii c.args.bytes.now c.requires)))
+returns-in_default c =
+    absurd (c.in_default.ensures.cases.0
+    (IsUtf8-from_ascii c.args.bytes.now (is_ascii c.args.bytes.now c.requires)))

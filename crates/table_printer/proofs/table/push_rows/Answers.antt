@@ -16,10 +16,18 @@ loop-row-preserved g c =
     let rows = g.T.Rows.rows c.args.table.now in
     let i = c.loop-row.row in
     let within : i < length rows = omega (arith, c.loop-row-test.true, c.len-row-end.ensures) in
-    c.in_ok-push_line.ensures ∙ (λ k. c.loop-row.invariant k ++ line_of ws (row_texts places (row_at rows i) k)) ∙ append_assoc c.args.out.now.items _ _
-    ∙ ap (λ l. c.args.out.now.items ++ l) (sym (lines_more (line_of ws) (map (text_of places)) rows i (row_at rows i) within (row_is rows i within)))
+    c.in_ok-push_line.ensures
+    ∙ (λ k. c.loop-row.invariant k ++ line_of ws (row_texts places (row_at rows i) k))
+    ∙ append_assoc c.args.out.now.items _ _
+    ∙ ap (λ l. c.args.out.now.items ++ l)
+    (sym (lines_more (line_of ws) (map (text_of places)) rows i (row_at rows i) within
+    (row_is rows i within)))
 
 pub returns : goal.returns
 returns g c =
-    c.loop-row.invariant ∙ ap (λ rows. c.args.out.now.items ++ flat_map (line_of (map width_of c.args.headings.now)) (map (map (text_of (decimals_of c.args.display.now))) rows))
-    (take_all c.loop-row.row (g.T.Rows.rows c.args.table.now) (omega (arith, c.loop-row-test.false, c.len-row-end.ensures)))
+    c.loop-row.invariant
+    ∙ ap (λ rows. c.args.out.now.items
+    ++ flat_map (line_of (map width_of c.args.headings.now))
+    (map (map (text_of (decimals_of c.args.display.now))) rows))
+    (take_all c.loop-row.row (g.T.Rows.rows c.args.table.now)
+    (omega (arith, c.loop-row-test.false, c.len-row-end.ensures)))

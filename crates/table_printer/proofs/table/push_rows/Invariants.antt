@@ -6,4 +6,7 @@ use Rattle.table_printer.specs.Table.{line_of, text_of}
 use Rattle.table_printer.proofs.table.push_rows.Given as goal
 
 abbrev pub invariant-loop-row : goal.invariant-loop-row
-invariant-loop-row g l = l.out.items ≡ l.initial.out.items ++ flat_map (line_of (map width_of l.headings)) (map (map (text_of (decimals_of l.display))) (take l.row (g.T.Rows.rows l.table)))
+invariant-loop-row g l =
+    l.out.items ≡ l.initial.out.items
+    ++ flat_map (line_of (map width_of l.headings))
+    (map (map (text_of (decimals_of l.display))) (take l.row (g.T.Rows.rows l.table)))

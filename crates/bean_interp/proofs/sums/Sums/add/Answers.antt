@@ -11,14 +11,22 @@ use Rattle.bean_interp.proofs.sums.Sums.add.Goals as goal
 
 pub invariant_of-self-2 : goal.invariant_of-self-2
 invariant_of-self-2 c =
-    let sum = to_z w128 (of_z w128 (to_z w128 (of_z w128 c.of.result) +ℤ to_z w128 (of_z w128 c.args.weight.count))) in
+    let sum =
+    to_z w128
+    (of_z w128 (to_z w128 (of_z w128 c.of.result)
+    +ℤ to_z w128 (of_z w128 c.args.weight.count))) in
     let small : IsNarrow sum = search rules in
     subst AreNarrow (sym c.in_ok-insert.ensures.entries)
-    (all_insert IsNarrow c.self.inside.by_currency.entries c.args.weight.currency sum c.self.invariant small)
+    (all_insert IsNarrow c.self.inside.by_currency.entries c.args.weight.currency sum
+    c.self.invariant small)
 
 pub returns-clause-added : goal.returns-clause-added
 returns-clause-added c =
-    let sum = sum_is c.of.result c.args.weight.count c.of.ensures.bound c.args.weight.bound ∙ ap (λ z. z +ℤ c.args.weight.count) c.of.ensures.sum in
+    let sum =
+    sum_is c.of.result c.args.weight.count c.of.ensures.bound c.args.weight.bound
+    ∙ ap (λ z. z +ℤ c.args.weight.count) c.of.ensures.sum in
     c.in_ok-insert.ensures.entries
     ∙ ap (λ z. insert_entry bytes_eq c.self.inside.by_currency.entries c.args.weight.currency z) sum
-    ∙ ap (λ (es : List Weighed). insert_entry bytes_eq es c.args.weight.currency (entry_of c.args.self.now c.args.weight.currency +ℤ c.args.weight.count)) c.self.view_is
+    ∙ ap (λ (es : List Weighed).
+    insert_entry bytes_eq es c.args.weight.currency
+    (entry_of c.args.self.now c.args.weight.currency +ℤ c.args.weight.count)) c.self.view_is

@@ -1,4 +1,5 @@
-use Rattle.std.proofs.Common.{◌≡◌, ◌≢◌, ◌+◌, ◌&&◌, [], ◌∷◌, ◌∙◌, ap, arith, get_or, of_z, pos, rules, suc, sym, take, true}
+use Rattle.std.proofs.Common.{◌≡◌, ◌≢◌, ◌+◌, ◌&&◌, [], ◌∷◌, ◌∙◌, ap, arith, get_or, of_z, pos}
+use Rattle.std.proofs.Common.{rules, suc, sym, take, true}
 use Rattle.std.proofs.Math.Seq.{take-suc}
 use Rattle.std.proofs.lemmas.List.Folds.{list_all-append, list_all_at}
 use Rattle.std.specs.Int.{w128}
@@ -15,7 +16,8 @@ none = ([], pos 0)
 pub returns-then-at-ne0 : goal.returns-then-at-ne0
 returns-then-at-ne0 c =
     let some : c.at.result.1 ≢ pos 0 = λ zero. c.if-at-ne0.true (ap (of_z w128) zero) in
-    let here = ap (λ z. int_eq z (pos 0)) (sym (c.at.ensures.sum none)) ∙ unequal c.at.result.1 some in
+    let here =
+    ap (λ z. int_eq z (pos 0)) (sym (c.at.ensures.sum none)) ∙ unequal c.at.result.1 some in
     sym (list_all_at is_zero c.args.self.now c.loop-index.index none (omega arith) here)
 
 pub loop-index-preserved : goal.loop-index-preserved

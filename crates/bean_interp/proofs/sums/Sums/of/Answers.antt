@@ -8,5 +8,7 @@ use Rattle.bean_interp.proofs.sums.Sums.of.Goals as goal
 
 pub returns-in-Some-clause-bound : goal.returns-in-Some-clause-bound
 returns-in-Some-clause-bound c =
-    let small = all_at IsNarrow c.self.inside.by_currency.entries c.args.currency.now c.in-Some.sum.now c.self.invariant (sym c.in-Some.ensures.value) in
+    let small =
+    all_at IsNarrow c.self.inside.by_currency.entries c.args.currency.now c.in-Some.sum.now
+    c.self.invariant (sym c.in-Some.ensures.value) in
     rw (to_z-of_z w128 c.in-Some.sum.now (fits_38 _ small)) small

@@ -1,4 +1,5 @@
-use Rattle.std.proofs.Common.{◌≡◌, nat_eq, false, ◌+◌, ◌<◌, length, take, arith, sym, ap, subst, ◌∙◌, refl, IsUtf8}
+use Rattle.std.proofs.Common.{◌≡◌, nat_eq, false, ◌+◌, ◌<◌, length, take, arith, sym, ap, subst}
+use Rattle.std.proofs.Common.{◌∙◌, refl, IsUtf8}
 use Rattle.std.proofs.lemmas.Bool.Decides.{nat_tests}
 use Rattle.std.specs.List.{count_by}
 use Rattle.std.specs.Str.{IsCharBoundary}
@@ -14,8 +15,11 @@ split_at-requires c =
     let rest = c.args.self.now.rest.now in
     let seen = c.as_bytes.ensures.value in
     let utf8 = subst IsUtf8 seen c.as_bytes.ensures.utf8 in
-    let gap : c.gap_at-gap.result.len ≡ 0 + gap_len c.at-spot.result rest = let l = c.gap_at-gap.ensures.len in let s = ap (gap_len c.at-spot.result) seen in omega arith in
-    subst (IsCharBoundary rest) (sym gap) (gap_boundary rest rest 0 c.at-spot.result refl (omega arith) utf8 (λ _. IsCharBoundary-start rest utf8))
+    let gap : c.gap_at-gap.result.len ≡ 0 + gap_len c.at-spot.result rest = let l =
+    c.gap_at-gap.ensures.len in let s = ap (gap_len c.at-spot.result) seen in omega arith in
+    subst (IsCharBoundary rest) (sym gap)
+    (gap_boundary rest rest 0 c.at-spot.result refl (omega arith) utf8
+    (λ _. IsCharBoundary-start rest utf8))
 
 pub invariant_of-self : goal.invariant_of-self
 invariant_of-self c =
@@ -25,19 +29,27 @@ invariant_of-self c =
     let inside = gap.inside in
     let same_length = ap length seen in
     let token_inside = c.split_at-2.ensures.back_len in
-    let at : IsAt lexer.text.now lexer.rest.now lexer.line = record { inside = lexer.inside; is_rest = lexer.is_rest; is_line = lexer.is_line } in
-    let parts : Parts lexer.rest.now c.gap_at-gap.result.len c.split_at.result.1.now c.split_at-2.result.0.now c.token_at-found.result.len c.split_at-2.result.1.now = record {
+    let at : IsAt lexer.text.now lexer.rest.now lexer.line =
+    record { inside = lexer.inside; is_rest = lexer.is_rest; is_line = lexer.is_line } in
+    let parts :
+    Parts lexer.rest.now c.gap_at-gap.result.len c.split_at.result.1.now
+    c.split_at-2.result.0.now c.token_at-found.result.len c.split_at-2.result.1.now = record {
       gap_inside = omega arith;
       behind_is = c.split_at.ensures.back;
       inside = omega arith;
       token_is = c.split_at-2.ensures.front;
       after_is = c.split_at-2.ensures.back;
     } in
-    let count : Feeds lexer.rest.now c.split_at-2.result.0.now c.gap_at-gap.result.len c.gap_at-gap.result.line_feeds c.line_feeds_of.result = record {
-      of_gap = gap.line_feeds ∙ ap (λ l. count_by is_line_feed (take c.gap_at-gap.result.len l)) seen;
+    let count :
+    Feeds lexer.rest.now c.split_at-2.result.0.now c.gap_at-gap.result.len
+    c.gap_at-gap.result.line_feeds c.line_feeds_of.result = record {
+      of_gap = gap.line_feeds
+          ∙ ap (λ l. count_by is_line_feed (take c.gap_at-gap.result.len l)) seen;
       of_token = c.line_feeds_of.ensures ∙ ap (count_by is_line_feed) c.as_bytes-3.ensures.value;
     } in
-    let next = is_behind lexer.text.now lexer.rest.now lexer.line _ _ _ c.split_at.result.1.now c.split_at-2.result.0.now _ c.split_at-2.result.1.now at parts count in
+    let next =
+    is_behind lexer.text.now lexer.rest.now lexer.line _ _ _ c.split_at.result.1.now
+    c.split_at-2.result.0.now _ c.split_at-2.result.1.now at parts count in
     record { inside = next.inside; is_rest = next.is_rest; is_line = next.is_line }
 
 pub returns-clause-tokens : goal.returns-clause-tokens
@@ -49,20 +61,32 @@ returns-clause-tokens c =
     let inside = gap.inside in
     let same_length = ap length seen in
     let token_inside = c.split_at-2.ensures.back_len in
-    let at : IsAt lexer.text.now lexer.rest.now lexer.line = record { inside = lexer.inside; is_rest = lexer.is_rest; is_line = lexer.is_line } in
-    let parts : Parts lexer.rest.now c.gap_at-gap.result.len c.split_at.result.1.now c.split_at-2.result.0.now c.token_at-found.result.len c.split_at-2.result.1.now = record {
+    let at : IsAt lexer.text.now lexer.rest.now lexer.line =
+    record { inside = lexer.inside; is_rest = lexer.is_rest; is_line = lexer.is_line } in
+    let parts :
+    Parts lexer.rest.now c.gap_at-gap.result.len c.split_at.result.1.now
+    c.split_at-2.result.0.now c.token_at-found.result.len c.split_at-2.result.1.now = record {
       gap_inside = omega arith;
       behind_is = c.split_at.ensures.back;
       inside = omega arith;
       token_is = c.split_at-2.ensures.front;
       after_is = c.split_at-2.ensures.back;
     } in
-    let count : Feeds lexer.rest.now c.split_at-2.result.0.now c.gap_at-gap.result.len c.gap_at-gap.result.line_feeds c.line_feeds_of.result = record {
-      of_gap = gap.line_feeds ∙ ap (λ l. count_by is_line_feed (take c.gap_at-gap.result.len l)) seen;
+    let count :
+    Feeds lexer.rest.now c.split_at-2.result.0.now c.gap_at-gap.result.len
+    c.gap_at-gap.result.line_feeds c.line_feeds_of.result = record {
+      of_gap = gap.line_feeds
+          ∙ ap (λ l. count_by is_line_feed (take c.gap_at-gap.result.len l)) seen;
       of_token = c.line_feeds_of.ensures ∙ ap (count_by is_line_feed) c.as_bytes-3.ensures.value;
     } in
-    let some : 0 < length c.split_at.result.1.now = let e : nat_eq (length c.split_at.result.1.now) 0 ≡ false = sym c.is_empty.ensures ∙ c.if-is_empty.false in grind (arith, nat_tests) in
+    let some : 0 < length c.split_at.result.1.now = let e :
+    nat_eq (length c.split_at.result.1.now) 0 ≡ false =
+    sym c.is_empty.ensures ∙ c.if-is_empty.false in grind (arith, nat_tests) in
     rw c.new.ensures
-    (token_to_come lexer.text.now lexer.rest.now lexer.line _ _ _ c.gap_at-gap.result.end c.split_at.result.1.now _ _ _ _ c.split_at-2.result.1.now at parts count
-    (gap.len ∙ ap (gap_len _) seen ∙ ap (λ s. gap_len s lexer.rest.now) c.at-spot.ensures) (gap.end ∙ ap (behind_gap _) seen ∙ ap (λ s. behind_gap s lexer.rest.now) c.at-spot.ensures) some (subst (λ l. IsToken l c.token_at-found.result.kind c.token_at-found.result.len) same c.token_at-found.ensures.token)
+    (token_to_come lexer.text.now lexer.rest.now lexer.line _ _ _ c.gap_at-gap.result.end
+    c.split_at.result.1.now _ _ _ _ c.split_at-2.result.1.now at parts count
+    (gap.len ∙ ap (gap_len _) seen ∙ ap (λ s. gap_len s lexer.rest.now) c.at-spot.ensures)
+    (gap.end ∙ ap (behind_gap _) seen ∙ ap (λ s. behind_gap s lexer.rest.now) c.at-spot.ensures)
+    some (subst (λ l. IsToken l c.token_at-found.result.kind c.token_at-found.result.len) same
+    c.token_at-found.ensures.token)
     c.place.ensures)

@@ -7,4 +7,5 @@ pub returns-clause-found : goal.returns-clause-found
 returns-clause-found c =
     let r = c.self.inside.regex.now in
     c.is_match.ensures.found ∙ ap (λ p. is_some (find_str p c.args.text.now 0)) c.self.invariant.2
-    ∙ found r c.args.self.now c.args.text.now c.self.view_is c.self.invariant.0 c.self.invariant.1 (λ k. (c.type_inv.text k).fits)
+    ∙ found r c.args.self.now c.args.text.now c.self.view_is c.self.invariant.0 c.self.invariant.1
+    (λ k. (c.type_inv.text k).fits)

@@ -13,11 +13,14 @@ use Rattle.query_values.proofs.text_set.TextSet.new.Goals as goal
 pub invariant_of-result : goal.invariant_of-result
 invariant_of-result c =
     let sorted = c.sort_unstable.new.self.items in
-    subst (IsStrictlySortedBy (slice_cmp nat_cmp)) (sym (dedup_is bytes_eq sorted c.dedup.new.self.items c.dedup.ensures.filtered))
+    subst (IsStrictlySortedBy (slice_cmp nat_cmp))
+    (sym (dedup_is bytes_eq sorted c.dedup.new.self.items c.dedup.ensures.filtered))
     (IsStrictlySortedBy-dedup nat_list_cmp_total texts_ties sorted c.sort_unstable.ensures.sorted)
 
 pub returns : goal.returns
 returns c = λ t.
     let sorted = c.sort_unstable.new.self.items in
-    ap (list_any (bytes_eq t)) (dedup_is bytes_eq sorted c.dedup.new.self.items c.dedup.ensures.filtered) ∙ kept t sorted
-    ∙ sym (list_any-IsPermutation (bytes_eq t) c.args.texts.items sorted c.sort_unstable.ensures.permutation)
+    ap (list_any (bytes_eq t))
+    (dedup_is bytes_eq sorted c.dedup.new.self.items c.dedup.ensures.filtered) ∙ kept t sorted
+    ∙ sym (list_any-IsPermutation (bytes_eq t) c.args.texts.items sorted
+    c.sort_unstable.ensures.permutation)

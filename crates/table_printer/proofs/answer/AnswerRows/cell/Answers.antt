@@ -7,5 +7,7 @@ returns c =
     let row = c.index-as_slice-row.result in
     let cell = c.index-as_slice-column.result in
     ap Some c.kept.ensures
-    ∙ cell_seen c.args.self.now.rows c.args.row c.args.column row cell c.requires (c.index-as_slice-row.is ∙ ap (λ rows. get_or rows c.args.row row) c.as_slice.ensures)
-    (c.index-as_slice-column.is ∙ ap (λ cells. get_or cells c.args.column cell) c.as_slice-2.ensures)
+    ∙ cell_seen c.args.self.now.rows c.args.row c.args.column row cell c.requires
+    (c.index-as_slice-row.is ∙ ap (λ rows. get_or rows c.args.row row) c.as_slice.ensures)
+    (c.index-as_slice-column.is
+    ∙ ap (λ cells. get_or cells c.args.column cell) c.as_slice-2.ensures)

@@ -1,10 +1,10 @@
 use Rattle.std.proofs.Common.{◌≡◌, ◌∙◌, ap, sym, arith, to_z, of_z}
 use Rattle.std.specs.Int.{w128}
 use Rattle.std.proofs.lemmas.Int.{ints}
-use Rattle.bean_base.specs.WideCount.{is_wide}
-use Rattle.bean_base.specs.Wide.{decimal_of}
-use Rattle.bean_base.proofs.WideFacts.{found, missing}
-use Rattle.bean_base.proofs.decimal.Decimal.new.Goals as goal
+use Rattle.query_values.specs.WideCount.{is_wide}
+use Rattle.query_values.specs.Wide.{decimal_of}
+use Rattle.query_values.proofs.WideFacts.{found, missing}
+use Rattle.query_values.proofs.decimal.Decimal.new.Goals as goal
 
 pub returns-then-is_wide : goal.returns-then-is_wide
 returns-then-is_wide c =
@@ -14,4 +14,5 @@ returns-then-is_wide c =
 pub returns-else-is_wide : goal.returns-else-is_wide
 returns-else-is_wide c =
     let count : to_z w128 (of_z w128 c.args.count) ≡ c.args.count = omega (arith, ints) in
-    missing c.args.places c.args.count (ap (is_wide c.args.places) (sym count) ∙ sym c.is_wide.ensures ∙ c.if-is_wide.false)
+    missing c.args.places c.args.count
+    (ap (is_wide c.args.places) (sym count) ∙ sym c.is_wide.ensures ∙ c.if-is_wide.false)

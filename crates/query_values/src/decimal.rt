@@ -1,10 +1,9 @@
-//! Numbers that are wider than those that a ledger writes: those of cells, of answers and of query
-//! files.
+//! Numbers that are wider than those that a ledger writes: those of queries.
 ghost use Rattle.std.specs.Prelude.{◌≡◌, ◌≤◌, ◌<◌, ◌^◌};
 ghost use Rattle.std.specs.Int.RustNames.{unsigned_abs};
-ghost use Rattle.bean_base.specs.WideCount.{is_wide};
+ghost use Rattle.query_values.specs.WideCount.{is_wide};
 
-use crate::num::Num;
+use bean_base::Num;
 
 /// `count * 10^-places`, with at most 32 places and a count of at most `2^127 - 1`, signs left off.
 #[derive(Clone, Copy, Debug, Drop, PartialEq, Eq)]
@@ -22,7 +21,7 @@ fn is_wide(count: i128, places: u8) -> bool
 }
 
 impl Decimal {
-    ghost use Rattle.bean_base.specs.Wide.{decimal_of};
+    ghost use Rattle.query_values.specs.Wide.{decimal_of};
 
     /// The number of that count and places, where it is one.
     pub fn new(count: i128, places: u8) -> Option<Decimal>

@@ -1,7 +1,7 @@
 use Rattle.std.proofs.Common.{arith}
 use Rattle.std.proofs.Math.Nat.{one-le-pow}
 use Rattle.table_printer.proofs.DigitsFacts.{narrow}
-use Rattle.table_printer.proofs.digits.power_of_ten.Goals as goal
+use Rattle.table_printer.proofs.digits.unit_of.Goals as goal
 
 pub pow-requires : goal.pow-requires
 pow-requires c = let n = narrow c.args.places c.requires in omega arith
