@@ -16,7 +16,8 @@ AreTooMany ds = MOST_POSTINGS < length (rows_of_all ds)
 
 pub record IsFlattened (ds : List (Placed Directive)) (ledger : Ledger) : Type 0 where
   pub rows : ledger.rows ≡ rows_of_all ds
-  pub decimals : (currency : List ℕ) → decimals_of ledger.decimals currency ≡ decimals_in ds currency
+  pub decimals : (currency : List ℕ)
+      → decimals_of ledger.decimals currency ≡ decimals_in ds currency
   pub held : length (rows_of_all ds) ≤ MOST_POSTINGS
 
 -- the ledger of directives, or B1 exactly where their postings are too many

@@ -1,5 +1,6 @@
 -- The rows and the decimals of directives.
-use Rattle.std.specs.Prelude.{ℕ, max, Bool, true, false, List, [], ◌∷◌, map, fold, filter, None, if◌then◌else◌}
+use Rattle.std.specs.Prelude.{ℕ, max, Bool, true, false, List, [], ◌∷◌, map, fold, filter, None}
+use Rattle.std.specs.Prelude.{if◌then◌else◌}
 use Rattle.std.specs.List.{flat_map, list_all}
 use Rattle.std.specs.Str.{bytes_eq}
 use Rattle.bean_base.specs.Decimal.{scaled}
@@ -48,10 +49,13 @@ amounts_of p = amounts_of_units p.units
 
 -- units that are held as no lot
 abbrev pub position_of : amounts.Amount → Position
-position_of a = record { key = record { currency = a.currency; lot = None }; count = scaled a.number.count a.number.places 8 }
+position_of a =
+    record { key = record { currency = a.currency; lot = None }; count =
+    scaled a.number.count a.number.places 8 }
 
 abbrev pub row_of_amount : Day → Flag → List ℕ → amounts.Amount → Row
-row_of_amount day flag account a = record { date = day; flag = flag; account = account; position = position_of a }
+row_of_amount day flag account a =
+    record { date = day; flag = flag; account = account; position = position_of a }
 
 abbrev pub rows_of_posting : Day → Flag → Posting → List Row
 rows_of_posting day flag p = map (row_of_amount day flag p.account) (amounts_of p)
@@ -70,7 +74,10 @@ rows_of_all ds = flat_map rows_in ds
 
 -- the greatest of n and the counts of decimals in the numbers written for the currency
 abbrev pub decimals_from : ℕ → List ℕ → List Posting → ℕ
-decimals_from n currency ps = fold max n (map (λ a. a.number.places) (filter (λ a. bytes_eq a.currency currency) (flat_map amounts_of ps)))
+decimals_from n currency ps =
+    fold max n
+    (map (λ a. a.number.places)
+    (filter (λ a. bytes_eq a.currency currency) (flat_map amounts_of ps)))
 
 abbrev pub decimals_in : List (Placed Directive) → List ℕ → ℕ
 decimals_in ds currency = decimals_from 0 currency (flat_map postings_in ds)

@@ -29,12 +29,14 @@ abbrev pub is_rooted : List ℕ → Bool
 is_rooted [] = false
 is_rooted (b ∷ bs) = is_slash b
 
--- a name that begins with a slash is taken as it is, any other is joined to the folder of the including text
+-- a name that begins with a slash is taken as it is, any other is joined to the folder of the
+-- including text
 abbrev pub joined : List ℕ → List ℕ → List ℕ
 joined including name = if is_rooted name then name else folder including ++ name
 
 abbrev pub include_of : List ℕ → ℕ → SettingKind → List Include
-include_of including line (kind.Include name) = record { line = line; name = joined including name } ∷ []
+include_of including line (kind.Include name) =
+    record { line = line; name = joined including name } ∷ []
 include_of including line other = []
 
 -- the include lines among the settings of a text of that name

@@ -30,7 +30,8 @@ key_of p = (day_key p.item, p.part)
 abbrev pub key_cmp : Key → Key → Ordering
 key_cmp a b = ordering_then (day_key_cmp a.0 b.0) (nat_cmp a.1 b.1)
 
--- ys has the directives of xs by day, rank and part of the ledger, and those that tie in their order
+-- ys has the directives of xs by day, rank and part of the ledger, and those that tie in their
+-- order
 abbrev pub AreInOrder : List (Placed Directive) → List (Placed Directive) → Type 0
 AreInOrder = IsArrangedByKey key_of key_cmp
 

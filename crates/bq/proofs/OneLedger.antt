@@ -8,6 +8,8 @@ use Rattle.bean_load.proofs.OneLoading.{one_loading}
 use Rattle.posting_table.specs.declared.ledger.TheConstants.{MOST_POSTINGS}
 use Rattle.bq.specs.Listing.{HasTooMany}
 
-pub not_too_many : (texts : Texts) (l : Loaded) → IsLoaded texts l → length (rows_of_all l.directives) ≤ MOST_POSTINGS → ¬ HasTooMany texts
+pub not_too_many : (texts : Texts) (l : Loaded) → IsLoaded texts l
+    → length (rows_of_all l.directives) ≤ MOST_POSTINGS → ¬ HasTooMany texts
 not_too_many texts l loaded within many =
-    let too_many = subst booked.HasTooMany (one_loading texts many.0 l many.1 loaded) many.2 in absurd (omega (arith, within, too_many))
+    let too_many = subst booked.HasTooMany (one_loading texts many.0 l many.1 loaded) many.2 in
+        absurd (omega (arith, within, too_many))

@@ -14,7 +14,8 @@ use Rattle.bq.specs.declared.refusal.Refusal.TheVariants.{Words, Load, Book}
 
 -- what the store gave comes to these texts, or to this fault, for the ledger that the words name
 abbrev pub HasGathered : List Text → List Reading → Result Texts LoadFault → Type 0
-HasGathered words readings result = (name : List ℕ) × (ledger_named words ≡ Some name) × IsGathered name readings result
+HasGathered words readings result =
+    (name : List ℕ) × (ledger_named words ≡ Some name) × IsGathered name readings result
 
 -- it gave texts of which this holds
 abbrev pub GaveSuch : List Text → List Reading → (Texts → Type 0) → Type 0

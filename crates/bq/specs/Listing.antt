@@ -33,7 +33,8 @@ headers = map spelling shown
 
 -- the table of a loaded ledger's postings
 abbrev pub table_of : Loaded → List ℕ
-table_of l = table_text headers (map shown_row (rows_of_all l.directives)) (decimals_in l.directives)
+table_of l =
+    table_text headers (map shown_row (rows_of_all l.directives)) (decimals_in l.directives)
 
 -- the table of the texts' postings
 abbrev pub Lists : Texts → List ℕ → Type 0

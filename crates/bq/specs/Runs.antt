@@ -1,5 +1,6 @@
 -- What a run of the program comes to.
-use Rattle.std.specs.Prelude.{◌≡◌, ℕ, ◌<◌, ◌⊎◌, IsErrAnd, IsTrue, List, length, Some, Result, Ok, Err}
+use Rattle.std.specs.Prelude.{◌≡◌, ℕ, ◌<◌, ◌⊎◌, IsErrAnd, IsTrue, List, length, Some, Result, Ok}
+use Rattle.std.specs.Prelude.{Err}
 use Rattle.clap.specs.Walk.{Text}
 use Rattle.outputs.specs.Output.{TookFront}
 use Rattle.outputs.specs.declared.output.Output.{Ghosts as OutputOf}
@@ -16,7 +17,8 @@ use Rattle.bq.specs.Words.{ledger_named}
 use Rattle.bq.specs.declared.refusal.Refusal.{Refusal}
 use Rattle.bq.specs.declared.refusal.Refusal.TheVariants.{Book, Print}
 
--- What an output took: of this text so many bytes, from the front on, and the rest refused; or nothing was offered to it.
+-- What an output took: of this text so many bytes, from the front on, and the rest refused; or
+-- nothing was offered to it.
 pub record Written : Type 1 where
   pub took : List ℕ → ℕ → Type 0
   pub nothing : Type 0
@@ -37,9 +39,11 @@ abbrev pub WritesTable : Written → Texts → Type 0
 WritesTable out texts = (table : List ℕ) × Lists texts table × out.took table (length table)
 
 abbrev pub WritesFront : Written → Texts → ℕ → Type 0
-WritesFront out texts n = (table : List ℕ) × Lists texts table × ((n < length table) × out.took table n)
+WritesFront out texts n =
+    (table : List ℕ) × Lists texts table × ((n < length table) × out.took table n)
 
--- which answer comes, given the words and what the store gave: a table where nothing speaks against it, a refusal where its
+-- which answer comes, given the words and what the store gave: a table where nothing speaks against
+-- it, a refusal where its
 -- cause is the first that holds, want of memory at any time
 abbrev pub IsDue : List Text → List Reading → Result Unit Refusal → Type 0
 IsDue words readings (Ok x) = IsAnswerable words readings
@@ -49,7 +53,8 @@ IsDue words readings (Err r) = IsTrue (lacks_memory r) ⊎ IsRefused words readi
 -- what is written with it: the whole table, a front of it, or nothing
 abbrev pub Writes : List Text → List Reading → Written → Result Unit Refusal → Type 0
 Writes words readings out (Ok x) = GaveSuch words readings (WritesTable out)
-Writes words readings out (Err (Print (NotWritten n))) = GaveSuch words readings (λ texts. WritesFront out texts n)
+Writes words readings out (Err (Print (NotWritten n))) =
+    GaveSuch words readings (λ texts. WritesFront out texts n)
 Writes words readings out (Err r) = out.nothing
 
 abbrev pub Comes : List Text → List Reading → Written → Result Unit Refusal → Type 0
@@ -59,14 +64,17 @@ Comes words readings out result = IsDue words readings result × Writes words re
 abbrev pub RefusesExactly : Type 0
 RefusesExactly =
     (words : List Text) (readings : List Reading) (result : Result Unit Refusal) (r : Refusal)
-    → IsDue words readings result → IsRefused words readings r → IsErrAnd result (λ s. IsTrue (lacks_memory s) ⊎ (s ≡ r))
+    → IsDue words readings result → IsRefused words readings r
+    → IsErrAnd result (λ s. IsTrue (lacks_memory s) ⊎ (s ≡ r))
 
 abbrev pub Runs : Deeds → List Text → Result Unit Refusal → Type 0
-Runs run words result = (readings : List Reading) × run.gave readings × Comes words readings run.out result
+Runs run words result =
+    (readings : List Reading) × run.gave readings × Comes words readings run.out result
 
 -- the same of a name, whatever the words that name it
 abbrev pub ListsNamed : Deeds → List ℕ → Result Unit Refusal → Type 0
-ListsNamed run name result = (words : List Text) → ledger_named words ≡ Some name → Runs run words result
+ListsNamed run name result = (words : List Text) → ledger_named words ≡ Some name
+    → Runs run words result
 
 -- the same of texts
 abbrev pub ListsTexts : Written → Texts → Result Unit Refusal → Type 0

@@ -8,5 +8,6 @@ abbrev pub invariant-loop-directive : goal.invariant-loop-directive
 invariant-loop-directive l = record {
   rows : l.ledger.rows ≡ rows_of_all (take l.directive-index l.directives);
   room : length l.ledger.rows ≤ MOST_POSTINGS;
-  decimals : (name : List ℕ) → decimals_of l.ledger.decimals name ≡ decimals_in (take l.directive-index l.directives) name;
+  decimals : (name : List ℕ)
+      → decimals_of l.ledger.decimals name ≡ decimals_in (take l.directive-index l.directives) name;
 }

@@ -13,11 +13,16 @@ use Rattle.bq.proofs.Outcomes.{converted, printed}
 use Rattle.bq.proofs.run.list_texts.Goals as goal
 
 -- the table that is printed is that of what was loaded
-table_is : (l : Loaded) (ledger : Ledger) (decimals : Decimals) → IsLedgerOf l ledger → decimals ≡ ledger.decimals → table_text headers (map shown_row ledger.rows) (decimals_of decimals) ≡ table_of l
-table_is l ledger decimals is same = λ k. table_text headers (map shown_row (is.rows k)) (λ currency. (ap (λ d. decimals_of d currency) same ∙ is.decimals currency) k)
+table_is : (l : Loaded) (ledger : Ledger) (decimals : Decimals) → IsLedgerOf l ledger
+    → decimals ≡ ledger.decimals
+    → table_text headers (map shown_row ledger.rows) (decimals_of decimals) ≡ table_of l
+table_is l ledger decimals is same =
+    λ k. table_text headers (map shown_row (is.rows k))
+    (λ currency. (ap (λ d. decimals_of d currency) same ∙ is.decimals currency) k)
 
 pub write_table-requires : goal.write_table-requires
-write_table-requires g c = All-map (λ row. length row ≡ 4) shown_row c.in_ok-ledger.ledger.rows (λ k d within. refl)
+write_table-requires g c =
+    All-map (λ row. length row ≡ 4) shown_row c.in_ok-ledger.ledger.rows (λ k d within. refl)
 
 pub returns-in_err-write_table : goal.returns-in_err-write_table
 returns-in_err-write_table g c =
@@ -26,9 +31,12 @@ returns-in_err-write_table g c =
     let out = written g.O.Output c.args.out.now c.write_table.new.out in
     let step = c.from_residual-in_err-write_table in
     let is = converted step.result (Print fault) step.ensures.1 in
-    let table = table_is list.0 c.in_ok-ledger.ledger c.display.result.now list.2 c.display.ensures in
+    let table =
+        table_is list.0 c.in_ok-ledger.ledger c.display.result.now list.2 c.display.ensures in
     subst (ListsTexts out c.args.texts.now) (sym is)
-    (printed g.O.Output c.args.out.now c.write_table.new.out c.args.texts.now (not_too_many c.args.texts.now list.0 list.1 list.2.held) _ (list.0, list.1, table) fault c.in_err-write_table.ensures)
+    (printed g.O.Output c.args.out.now c.write_table.new.out c.args.texts.now
+        (not_too_many c.args.texts.now list.0 list.1 list.2.held) _ (list.0, list.1, table) fault
+        c.in_err-write_table.ensures)
 
 pub returns : goal.returns
 returns g c =
