@@ -10,9 +10,14 @@ generate.py --opens BYTES SEED            about so many bytes of `open` lines, w
 generate.py --lots POSTINGS SEED          about so many postings, with lots, prices and metadata, and
                                           every other kind of directive between them
 generate.py --lots-unlisted POSTINGS SEED the same without the transactions that `list` shows
+
+With `--files N FOLDER` before these words, a plain ledger (`--missing` or not) stands in N files of that
+folder: main.beancount has the first of its blocks and includes the others at its end, so that the blocks
+are read in the same order.
 """
 import argparse
 import datetime
+import pathlib
 import random
 import sys
 
@@ -98,6 +103,16 @@ def ledger(postings, seed, unlisted, missing):
         done += size
 
 
+def write_files(blocks, count, folder):
+    """Writes blocks to so many files of about as many blocks each; the first includes the others."""
+    folder.mkdir(parents=True, exist_ok=True)
+    parts = ["".join(blocks[len(blocks) * i // count:len(blocks) * (i + 1) // count]) for i in range(count)]
+    names = [f"part-{number}.beancount" for number in range(1, count)]
+    includes = "".join(f'include "{name}"\n' for name in names)
+    for name, text in zip(["main.beancount", *names], [parts[0] + includes, *parts[1:]]):
+        (folder / name).write_text(text)
+
+
 def only_opens(size, seed):
     pick = random.Random(seed)
     done = 0
@@ -114,8 +129,12 @@ def main():
     kinds = words.add_mutually_exclusive_group()
     for kind in ["--unlisted", "--missing", "--opens", "--lots", "--lots-unlisted"]:
         kinds.add_argument(kind, action="store_true")
+    words.add_argument("--files", nargs=2, metavar=("N", "FOLDER"))
     given = words.parse_args()
-    if given.opens:
+    if given.files:
+        count, folder = given.files
+        write_files(list(ledger(given.size, given.seed, given.unlisted, given.missing)), int(count), pathlib.Path(folder))
+    elif given.opens:
         sys.stdout.writelines(only_opens(given.size, given.seed))
     elif given.lots or given.lots_unlisted:
         sys.stdout.writelines(lots.ledger(given.size, random.Random(given.seed), given.lots_unlisted))

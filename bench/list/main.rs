@@ -1,7 +1,8 @@
 //! Does in plain Rust what `bq list` does, to compare with.
 //!
-//! `list FILE|-` prints the table of a ledger's postings; `list --read FILE|-` only reads the ledger
-//! and prints what it found. Characters are taken to be one column wide.
+//! `list FILE|-` prints the table of the postings of a ledger, with the texts that it includes;
+//! `list --read FILE|-` only reads it and prints what it found. Characters are taken to be one column
+//! wide.
 
 mod directives;
 mod heads;
@@ -11,44 +12,30 @@ mod postings;
 mod reader;
 mod scan;
 mod table;
+mod texts;
 mod tokens;
 
-use parse::parse;
+use std::env;
 use std::io::{self, Write};
 use std::process::ExitCode;
-use std::{env, fs};
 use table::{rows, table};
+use texts::Texts;
 
-const LARGEST_TEXT: usize = 16_777_216;
 const MOST_POSTINGS: usize = 1_000_000;
 
-fn text_of(name: &str) -> io::Result<String> {
-    let text = if name == "-" {
-        io::read_to_string(io::stdin())?
-    } else {
-        fs::read_to_string(name)?
-    };
-    if text.len() > LARGEST_TEXT {
-        return Err(io::Error::other("the text has more than 16 MiB"));
-    }
-    Ok(text)
-}
-
 fn read(name: &str) -> io::Result<()> {
-    let text = text_of(name)?;
-    let parsed = parse(&text);
-    let faults = parsed.faults.len();
+    let texts = Texts::of(name)?;
     println!(
-        "{} tokens, {} directives, {faults} faults",
-        parsed.tokens,
-        parsed.directives.len()
+        "{} tokens, {} directives, {} faults",
+        texts.tokens,
+        texts.directives.len(),
+        texts.faults
     );
     Ok(())
 }
 
 fn list(name: &str) -> io::Result<()> {
-    let text = text_of(name)?;
-    let mut directives = parse(&text).directives;
+    let mut directives = Texts::of(name)?.directives;
     directives.sort_by_key(|directive| (directive.day, directive.rank()));
     let rows = rows(&directives);
     if rows.len() > MOST_POSTINGS {

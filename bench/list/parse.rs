@@ -23,7 +23,8 @@ pub struct Fault {
 #[derive(Debug, Default)]
 pub struct Parsed<'a> {
     pub directives: Vec<Directive<'a>>,
-    pub settings: Vec<Setting<'a>>,
+    /// Each with its line.
+    pub settings: Vec<(usize, Setting<'a>)>,
     pub faults: Vec<Fault>,
     pub tokens: usize,
 }
@@ -88,7 +89,7 @@ impl<'a> Parser<'a> {
     fn add_undated(&mut self, undated: Undated<'a>, line: usize) {
         let from = self.parsed.directives.len();
         match undated {
-            Undated::Setting(setting) => self.parsed.settings.push(setting),
+            Undated::Setting(setting) => self.parsed.settings.push((line, setting)),
             Undated::Push(pushed) => self.pushes.push(OpenPush { line, from, pushed }),
             Undated::Pop(name) => self.pop(name, line),
             Undated::Ignored => self.fault(FaultKind::Ignored, line),

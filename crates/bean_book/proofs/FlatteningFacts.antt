@@ -1,5 +1,6 @@
 -- Rows and decimals, posting by posting and directive by directive.
-use Rattle.std.proofs.Common.{◌≡◌, ℕ, ◌+◌, ◌<◌, ◌≤◌, max, List, [], ◌∷◌, ◌++◌, length, map, filter, fold, get_or, take, drop, length-append, Bool, ap, ◌∙◌, arith}
+use Rattle.std.proofs.Common.{◌≡◌, ℕ, ◌+◌, ◌<◌, ◌≤◌, max, List, [], ◌∷◌, ◌++◌, length, map, filter}
+use Rattle.std.proofs.Common.{fold, get_or, take, drop, length-append, Bool, ap, ◌∙◌, arith}
 use Rattle.std.specs.List.{flat_map}
 use Rattle.std.specs.Str.{bytes_eq}
 use Rattle.std.proofs.lemmas.List.{append-nil, map-append, take_more, take-append-drop}
@@ -11,29 +12,39 @@ use Rattle.bean_grammar.specs.declared.posting.Posting.{Posting}
 use Rattle.bean_book.specs.Flattening.{amounts_of, decimals_from}
 
 decimals-append : (n : ℕ) (currency : List ℕ) (as' bs : List Amount)
-    → fold max n (map (λ a. a.number.places) (filter (λ a. bytes_eq a.currency currency) (as' ++ bs)))
-    ≡ fold max (fold max n (map (λ a. a.number.places) (filter (λ a. bytes_eq a.currency currency) as'))) (map (λ a. a.number.places) (filter (λ a. bytes_eq a.currency currency) bs))
+    → fold max n
+    (map (λ a. a.number.places) (filter (λ a. bytes_eq a.currency currency) (as' ++ bs)))
+    ≡ fold max
+    (fold max n (map (λ a. a.number.places) (filter (λ a. bytes_eq a.currency currency) as')))
+    (map (λ a. a.number.places) (filter (λ a. bytes_eq a.currency currency) bs))
 decimals-append n currency as' bs =
     let p : Amount → Bool = λ x. bytes_eq x.currency currency in
     let f : Amount → ℕ = λ x. x.number.places in
-    ap (λ l. fold max n (map f l)) (filter-append p as' bs) ∙ ap (fold max n) (map-append f (filter p as') (filter p bs))
+    ap (λ l. fold max n (map f l)) (filter-append p as' bs)
+        ∙ ap (fold max n) (map-append f (filter p as') (filter p bs))
     ∙ fold-append max n (map f (filter p as')) (map f (filter p bs))
 
 -- the decimals of some postings, and then of others
-pub decimals_from-append : (n : ℕ) (currency : List ℕ) (ps qs : List Posting) → decimals_from n currency (ps ++ qs) ≡ decimals_from (decimals_from n currency ps) currency qs
+pub decimals_from-append : (n : ℕ) (currency : List ℕ) (ps qs : List Posting)
+    → decimals_from n currency (ps ++ qs) ≡ decimals_from (decimals_from n currency ps) currency qs
 decimals_from-append n currency ps qs =
-    ap (λ l. fold max n (map (λ a. a.number.places) (filter (λ a. bytes_eq a.currency currency) l))) (flat_map-append amounts_of ps qs)
+    ap (λ l. fold max n (map (λ a. a.number.places) (filter (λ a. bytes_eq a.currency currency) l)))
+        (flat_map-append amounts_of ps qs)
     ∙ decimals-append n currency (flat_map amounts_of ps) (flat_map amounts_of qs)
 
 -- what comes of one more element
-pub flat_map_more : {X Z : Type 0} (f : X → List Z) (xs : List X) (i : ℕ) (d : X) → i < length xs → flat_map f (take (i + 1) xs) ≡ flat_map f (take i xs) ++ f (get_or xs i d)
+pub flat_map_more : {X Z : Type 0} (f : X → List Z) (xs : List X) (i : ℕ) (d : X) → i < length xs
+    → flat_map f (take (i + 1) xs) ≡ flat_map f (take i xs) ++ f (get_or xs i d)
 flat_map_more f xs i d within =
     ap (flat_map f) (take_more xs i d within) ∙ flat_map-append f (take i xs) (get_or xs i d ∷ [])
     ∙ ap (λ l. flat_map f (take i xs) ++ l) (append-nil (f (get_or xs i d)))
 
 -- what comes of the first elements is no longer than what comes of all
-pub length-flat_map-take : {X Z : Type 0} (f : X → List Z) (xs : List X) (n : ℕ) → length (flat_map f (take n xs)) ≤ length (flat_map f xs)
+pub length-flat_map-take : {X Z : Type 0} (f : X → List Z) (xs : List X) (n : ℕ)
+    → length (flat_map f (take n xs)) ≤ length (flat_map f xs)
 length-flat_map-take f xs n =
     let whole = ap (λ l. length (flat_map f l)) (take-append-drop n xs) in
-    let split = ap length (flat_map-append f (take n xs) (drop n xs)) ∙ length-append (flat_map f (take n xs)) (flat_map f (drop n xs)) in
+    let split =
+        ap length (flat_map-append f (take n xs) (drop n xs))
+        ∙ length-append (flat_map f (take n xs)) (flat_map f (drop n xs)) in
     omega (arith, whole, split)

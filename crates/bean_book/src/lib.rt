@@ -1,12 +1,11 @@
 //! Booking: the postings of a ledger's transactions, as the table that is listed and queried.
 //!
-//! The directives of a ledger, arranged, are flattened: each posting of a transaction becomes a
+//! The directives of a ledger, in the order in which they are taken, are flattened: each posting of a transaction becomes a
 //! row, with the day and the flag of its transaction.
 //!
 //! ```text
-//! let mut parsed = parse(alloc, text)?;
-//! arrange(&mut parsed.directives)?;
-//! let ledger = ledger_of(alloc, &parsed.directives)?;
+//! let loaded = load(alloc, &texts)?;
+//! let ledger = ledger_of(alloc, &loaded)?;
 //! ```
 //!
 //! # Display decimals
@@ -19,7 +18,7 @@
 //!
 //! # Cost
 //!
-//! One pass. Rows hold slices of the ledger's text, and no text is copied.
+//! One pass. Rows hold slices of the ledger's texts, and no text is copied.
 #![tactic(auto)]
 
 pub mod postings;

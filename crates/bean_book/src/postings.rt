@@ -6,10 +6,11 @@ ghost use Rattle.posting_table.specs.Decimals.{decimals_of};
 ghost use Rattle.std.specs.List.{flat_map, list_all};
 ghost use Rattle.bean_book.specs.Flattening.{is_plain, counted, postings_in, position_of, rows_in};
 ghost use Rattle.bean_book.specs.Flattening.{decimals_from, row_of_amount, rows_of_posting};
-ghost use Rattle.bean_book.specs.Booked.{Books};
+ghost use Rattle.bean_book.specs.Booked.{Books, Flattens};
 
 use bean_base::{Account, Amount, Day, Flag};
 use bean_grammar::{Cost, Posting, Price, Units};
+use bean_load::{Loaded, Placed};
 use bean_lots::{Key, Position};
 use bean_parser::{Directive, DirectiveKind};
 use posting_table::{Ledger, MOST_POSTINGS, Row};
@@ -174,19 +175,22 @@ fn push_transaction<'a>(
     push_postings(ledger, day, flag, postings)
 }
 
-fn push_directive<'a>(ledger: &mut Ledger<'a>, directive: &Directive<'a>) -> Result<(), BookFault>
+fn push_directive<'a>(
+    ledger: &mut Ledger<'a>,
+    placed: &Placed<Directive<'a>>,
+) -> Result<(), BookFault>
     requires { length ledger.old.rows ≤ MOST_POSTINGS }
-    ensures rows { OnOk result (ledger.new.rows ≡ ledger.old.rows ++ rows_in directive.now) }
+    ensures rows { OnOk result (ledger.new.rows ≡ ledger.old.rows ++ rows_in placed.now) }
     ensures room { OnOk result (length ledger.new.rows ≤ MOST_POSTINGS) }
     ensures decimals { OnOk result ((name : List ℕ) → decimals_of ledger.new.decimals name
-        ≡ decimals_from (decimals_of ledger.old.decimals name) name (postings_in directive.now)) }
+        ≡ decimals_from (decimals_of ledger.old.decimals name) name (postings_in placed.now)) }
     ensures full { result ≡ Err BookFault.TooManyPostings
-        → MOST_POSTINGS < length ledger.old.rows + length (rows_in directive.now) }
+        → MOST_POSTINGS < length ledger.old.rows + length (rows_in placed.now) }
 {
-    match &directive.kind {
+    match &placed.item.kind {
         DirectiveKind::Transaction(transaction) => push_transaction(
             ledger,
-            directive.day,
+            placed.item.day,
             transaction.flag,
             transaction.postings.as_slice(),
         ),
@@ -195,8 +199,11 @@ fn push_directive<'a>(ledger: &mut Ledger<'a>, directive: &Directive<'a>) -> Res
 }
 
 /// The postings of directives that are in order, and the decimals that their currencies show.
-pub fn ledger_of<'a>(alloc: Global, directives: &[Directive<'a>]) -> Result<Ledger<'a>, BookFault>
-    ensures { Books directives.now result }
+fn flatten<'a>(
+    alloc: Global,
+    directives: &[Placed<Directive<'a>>],
+) -> Result<Ledger<'a>, BookFault>
+    ensures { Flattens directives.now result }
 {
     let mut ledger = Ledger::new(alloc);
     for directive in directives {
@@ -206,4 +213,12 @@ pub fn ledger_of<'a>(alloc: Global, directives: &[Directive<'a>]) -> Result<Ledg
         }
     }
     Ok(ledger)
+}
+
+/// The ledger of what was loaded: the postings of its directives, and the decimals that their
+/// currencies show.
+pub fn ledger_of<'a>(alloc: Global, loaded: &Loaded<'a>) -> Result<Ledger<'a>, BookFault>
+    ensures { Books loaded.now result }
+{
+    flatten(alloc, loaded.directives())
 }

@@ -2,7 +2,8 @@
 use Rattle.std.proofs.Common.{◌≡◌, true, false, [], ◌∷◌, Ok, Err, refl}
 use Rattle.std.specs.Prelude.{codes}
 use Rattle.stores.specs.declared.source.SourceFault.TheVariants as source
-use Rattle.bean_load.specs.Gathered.{is_full, is_too_large, nothing, with_asked, with_fault, with_read}
+use Rattle.bean_load.specs.Gathered.{is_full, is_too_large, nothing, with_asked, with_fault}
+use Rattle.bean_load.specs.Gathered.{with_read}
 use Rattle.bean_load.specs.Gathering.{Comes, LineComes}
 use Rattle.bean_load.specs.Include.{joined}
 use Rattle.bean_load.specs.Placed.{part_at, parts_of}
@@ -25,7 +26,8 @@ no_folder = refl
 kept : joined (codes "books/main") (codes "../a") ≡ codes "books/../a"
 kept = refl
 
--- a text of 16 MiB fits, and one of a byte more doesn't; nor does the first byte above 64 MiB of all
+-- a text of 16 MiB fits, and one of a byte more doesn't; nor does the first byte above 64 MiB of
+-- all
 largest : is_too_large 16777216 nothing ≡ false
 largest = refl
 
@@ -44,25 +46,38 @@ unreadable : Comes (codes "l") ((codes "l", Err source.Failed) ∷ []) (Err Unre
 unreadable = (Err source.Failed, [], refl, (refl, refl))
 
 -- a text that includes itself: F22 at its line, and nothing is asked
-itself : LineComes 16 0 record { line = 7; name = codes "l" } (with_asked (codes "l") nothing) [] [] (Ok (with_fault 0 7 (with_asked (codes "l") nothing)))
+itself : LineComes 16 0 record { line = 7; name =
+    codes "l" } (with_asked (codes "l") nothing) [] []
+    (Ok (with_fault 0 7 (with_asked (codes "l") nothing)))
 itself = (refl, refl)
 
 -- a name that the source doesn't have: F22 at its line
-missing : LineComes 16 0 record { line = 7; name = codes "a" } (with_asked (codes "l") nothing) ((codes "a", Err source.Failed) ∷ []) []
+missing :
+    LineComes 16 0 record { line = 7; name =
+    codes "a" } (with_asked (codes "l") nothing) ((codes "a", Err source.Failed) ∷ []) []
     (Ok (with_fault 0 7 (with_asked (codes "a") (with_asked (codes "l") nothing))))
 missing = (Err source.Failed, [], refl, (refl, refl))
 
 -- what stands 16 deep ends the load
-too_deep : LineComes 0 0 record { line = 7; name = codes "a" } (with_asked (codes "l") nothing) [] [] (Err TooLarge)
+too_deep :
+    LineComes 0 0 record { line = 7; name =
+    codes "a" } (with_asked (codes "l") nothing) [] [] (Err TooLarge)
 too_deep = (refl, refl)
 
--- the lines of a text with another at line 3: those before it stand in its first part, which is part 0 of the ledger, and
+-- the lines of a text with another at line 3: those before it stand in its first part, which is
+-- part 0 of the ledger, and
 -- those behind it in part 2
-before_line : part_at (parts_of 0 0 (record { file = 0; behind = 0 } ∷ record { file = 1; behind = 0 } ∷ record { file = 0; behind = 3 } ∷ [])) 2 ≡ 0
+before_line :
+    part_at (parts_of 0 0 (record { file = 0; behind = 0 } ∷ record { file = 1; behind = 0 }
+    ∷ record { file = 0; behind = 3 } ∷ [])) 2 ≡ 0
 before_line = refl
 
-inside : part_at (parts_of 1 0 (record { file = 0; behind = 0 } ∷ record { file = 1; behind = 0 } ∷ record { file = 0; behind = 3 } ∷ [])) 8 ≡ 1
+inside : part_at
+    (parts_of 1 0 (record { file = 0; behind = 0 } ∷ record { file = 1; behind = 0 }
+    ∷ record { file = 0; behind = 3 } ∷ [])) 8 ≡ 1
 inside = refl
 
-behind_line : part_at (parts_of 0 0 (record { file = 0; behind = 0 } ∷ record { file = 1; behind = 0 } ∷ record { file = 0; behind = 3 } ∷ [])) 4 ≡ 2
+behind_line :
+    part_at (parts_of 0 0 (record { file = 0; behind = 0 } ∷ record { file = 1; behind = 0 }
+    ∷ record { file = 0; behind = 3 } ∷ [])) 4 ≡ 2
 behind_line = refl

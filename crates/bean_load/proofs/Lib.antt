@@ -1,5 +1,3 @@
-pub mod ArrangementFacts
-pub mod GaveFacts
 pub mod LineFacts
 pub mod OneLoading
 pub mod ReadFacts

@@ -27,15 +27,21 @@ IsTextOf bytes Failed = ⊥
 
 -- an answer, and what is known behind it
 abbrev pub IsTold : List ℕ → Gathered → Result (List ℕ) SourceFault → Asked → Gathered → Type 0
-IsTold name before (Ok bytes) asked after = (is_too_large (length bytes) before ≡ false) × IsTextOf bytes asked × (after ≡ with_bytes name bytes before)
+IsTold name before (Ok bytes) asked after =
+    (is_too_large (length bytes) before ≡ false) × IsTextOf bytes asked
+    × (after ≡ with_bytes name bytes before)
 IsTold name before (Err source.Failed) Failed after = after ≡ with_asked name before
 IsTold name before _ _ after = ⊥
 
 -- The source is asked once, and what it answers is told; L3 where it gave too much.
-abbrev pub Asks : {S : Type 0} → SourceOf S → S → S → List ℕ → Gathered → Gathered → Result Asked LoadFault → Type 0
+abbrev pub Asks : {S : Type 0} → SourceOf S → S → S → List ℕ → Gathered → Gathered
+    → Result Asked LoadFault → Type 0
 Asks s old new name before after (Ok asked) =
-    (answer : Result (List ℕ) SourceFault) × Gave s old new ((name, answer) ∷ []) × IsTold name before answer asked after
+    (answer : Result (List ℕ) SourceFault) × Gave s old new ((name, answer) ∷ [])
+        × IsTold name before answer asked after
 Asks s old new name before after (Err TooLarge) =
-    (bytes : List ℕ) × Gave s old new ((name, Ok bytes) ∷ []) × (is_too_large (length bytes) before ≡ true)
-Asks s old new name before after (Err OutOfMemory) = (readings : List Reading) × Gave s old new readings
+    (bytes : List ℕ) × Gave s old new ((name, Ok bytes) ∷ [])
+        × (is_too_large (length bytes) before ≡ true)
+Asks s old new name before after (Err OutOfMemory) =
+    (readings : List Reading) × Gave s old new readings
 Asks s old new name before after (Err fault) = ⊥

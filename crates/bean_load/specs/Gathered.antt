@@ -1,10 +1,12 @@
 -- What is known while texts are gathered, and what each step adds.
-use Rattle.std.specs.Prelude.{ℕ, ◌+◌, ◌||◌, ◌==◌, Bool, true, false, if◌then◌else◌, List, [], ◌∷◌, ◌++◌, length, nat_le, nat_lt}
+use Rattle.std.specs.Prelude.{ℕ, ◌+◌, ◌||◌, ◌==◌, Bool, true, false, if◌then◌else◌, List, [], ◌∷◌}
+use Rattle.std.specs.Prelude.{◌++◌, length, nat_le, nat_lt}
 use Rattle.std.specs.Str.{bytes_eq}
 use Rattle.bean_base.specs.declared.fault.Fault.{Fault}
 use Rattle.bean_base.specs.declared.fault.FaultKind.TheVariants.{IncludeFault}
 use Rattle.bean_load.specs.Texts.{File, Texts}
-use Rattle.bean_load.specs.declared.gathering.TheConstants.{LARGEST_TEXT, LARGEST_LEDGER, MOST_NAMES}
+use Rattle.bean_load.specs.declared.gathering.TheConstants.{LARGEST_TEXT, LARGEST_LEDGER}
+use Rattle.bean_load.specs.declared.gathering.TheConstants.{MOST_NAMES}
 use Rattle.bean_load.specs.declared.texts.Part.{Part}
 
 -- The names that were asked for, how many bytes were read, and the texts so far.
@@ -49,12 +51,15 @@ with_bytes name bytes s = with_read (length bytes) (with_asked name s)
 
 -- F22 at a line
 abbrev pub with_fault : ℕ → ℕ → Gathered → Gathered
-with_fault file line s = record s { faults = s.faults ++ record { kind = IncludeFault; file = file; line = line } ∷ [] }
+with_fault file line s =
+    record s { faults = s.faults ++ record { kind = IncludeFault; file = file; line = line } ∷ [] }
 
 abbrev pub with_part : ℕ → ℕ → Gathered → Gathered
-with_part file behind s = record s { parts = s.parts ++ record { file = file; behind = behind } ∷ [] }
+with_part file behind s =
+    record s { parts = s.parts ++ record { file = file; behind = behind } ∷ [] }
 
 -- a text is read from its begin on
 abbrev pub with_file : List ℕ → List ℕ → Gathered → Gathered
 with_file name text s =
-    with_part (length s.files) 0 (record s { files = s.files ++ record { name = name; text = text } ∷ [] })
+    with_part (length s.files) 0
+        (record s { files = s.files ++ record { name = name; text = text } ∷ [] })

@@ -7,7 +7,6 @@ pub mod Asking
 pub mod Following
 pub mod Placed
 pub mod Rank
-pub mod Arrangement
 pub mod Order
 pub mod Loaded
 pub mod Loading

@@ -15,7 +15,8 @@ use Rattle.bean_load.specs.declared.texts.Part.{Part}
 use Rattle.bean_parser.specs.Parsed.{IsParsed}
 use Rattle.bean_parser.specs.declared.parse.Parsed.{Parsed}
 
--- The directives by day and rank, then in reading order; the faults; the last title, the operating currencies and the lines of
+-- The directives by day and rank, then in reading order; the faults; the last title, the operating
+-- currencies and the lines of
 -- booking methods in reading order.
 pub record Loaded : Type 0 where
   pub directives : List (Placed Directive)
@@ -34,11 +35,13 @@ AreParsed (f ∷ fs) (p ∷ ps) = IsParsed f.text p × AreParsed fs ps
 
 abbrev pub directives_in : List Part → ℕ → List Parsed → List (Placed Directive)
 directives_in parts n [] = []
-directives_in parts n (p ∷ ps) = map (placed_directive n (parts_of n 0 parts)) p.directives ++ directives_in parts (n + 1) ps
+directives_in parts n (p ∷ ps) =
+    map (placed_directive n (parts_of n 0 parts)) p.directives ++ directives_in parts (n + 1) ps
 
 abbrev pub settings_in : List Part → ℕ → List Parsed → List (Placed Setting)
 settings_in parts n [] = []
-settings_in parts n (p ∷ ps) = map (placed_setting n (parts_of n 0 parts)) p.settings ++ settings_in parts (n + 1) ps
+settings_in parts n (p ∷ ps) =
+    map (placed_setting n (parts_of n 0 parts)) p.settings ++ settings_in parts (n + 1) ps
 
 abbrev pub fault_in : ℕ → Fault → Fault
 fault_in n f = record f { file = n }

@@ -2,7 +2,9 @@
 use Rattle.std.specs.Prelude.{◌≡◌, ℕ, List, ◌++◌, map}
 use Rattle.std.specs.List.{flat_map}
 use Rattle.bean_heads.specs.declared.undated.Setting.{Setting}
-use Rattle.bean_load.specs.Loaded.{AreParsed, IsLoaded, Loaded, directives_in, settings_in, faults_in, fault_in, title_behind, title_in, operating_of, method_of}
+use Rattle.bean_load.specs.Loaded.{AreParsed, IsLoaded, Loaded, directives_in, settings_in}
+use Rattle.bean_load.specs.Loaded.{faults_in, fault_in, title_behind, title_in, operating_of}
+use Rattle.bean_load.specs.Loaded.{method_of}
 use Rattle.bean_load.specs.Placed.{placed_directive, placed_setting}
 use Rattle.bean_load.specs.Texts.{Texts}
 use Rattle.bean_load.specs.declared.loaded.Books.{Books}
@@ -13,7 +15,8 @@ use Rattle.bean_parser.specs.declared.parse.Parsed.{Parsed}
 
 -- what a text says goes behind what the texts before it say
 pub record AddsParsed (file : ℕ) (own : List Own) (p : Parsed) (old new : Read) : Type 0 where
-  pub directives : new.directives.items ≡ old.directives.items ++ map (placed_directive file own) p.directives
+  pub directives :
+      new.directives.items ≡ old.directives.items ++ map (placed_directive file own) p.directives
   pub settings : new.settings.items ≡ old.settings.items ++ map (placed_setting file own) p.settings
   pub faults : new.faults.items ≡ old.faults.items ++ map (fault_in file) p.faults
 
@@ -35,7 +38,8 @@ pub record AddsSetting (s : Placed Setting) (old new : Books) : Type 0 where
 pub record AreBooks (settings : List (Placed Setting)) (books : Books) : Type 0 where
   pub title : books.title ≡ title_in settings
   pub operating : books.operating.items ≡ flat_map (λ s. operating_of s.item.kind) settings
-  pub methods : books.methods.items ≡ flat_map (λ s. method_of s.file s.item.line s.item.kind) settings
+  pub methods :
+      books.methods.items ≡ flat_map (λ s. method_of s.file s.item.line s.item.kind) settings
 
 abbrev pub HasOneLoading : Type 0
 HasOneLoading = (texts : Texts) (a b : Loaded) → IsLoaded texts a → IsLoaded texts b → a ≡ b

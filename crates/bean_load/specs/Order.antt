@@ -1,25 +1,37 @@
 -- The order in which the directives of all texts are taken.
-use Rattle.std.specs.Prelude.{ℕ, List}
-use Rattle.std.specs.Ordering.{nat_cmp, ordering_then}
+use Rattle.std.specs.Prelude.{ℕ, ℤ, List}
+use Rattle.std.specs.Ordering.{int_cmp, nat_cmp, ordering_then}
 use Rattle.std.specs.declared.cmp.Ordering.{Ordering}
 use Rattle.theory.specs.Arrangement.{IsArrangedByKey}
+use Rattle.bean_base.specs.Day.{number}
 use Rattle.bean_heads.specs.declared.directive.Directive.{Directive}
 use Rattle.bean_heads.specs.declared.undated.Setting.{Setting}
-use Rattle.bean_load.specs.Arrangement as one_text
+use Rattle.bean_load.specs.Rank.{rank_number, rank_of}
 use Rattle.bean_load.specs.declared.placed.Placed.{Placed}
+
+-- the number of a day, and a rank
+abbrev pub DayKey : Type 0
+DayKey = ℤ × ℕ
+
+abbrev pub day_key : Directive → DayKey
+day_key d = (number d.day, rank_number (rank_of d.kind))
+
+abbrev pub day_key_cmp : DayKey → DayKey → Ordering
+day_key_cmp a b = ordering_then (int_cmp a.0 b.0) (nat_cmp a.1 b.1)
 
 -- day and rank, and the place in reading order
 abbrev pub Key : Type 0
-Key = one_text.Key × ℕ
+Key = DayKey × ℕ
 
 abbrev pub key_of : Placed Directive → Key
-key_of p = (one_text.key_of p.item, p.part)
+key_of p = (day_key p.item, p.part)
 
 -- by day, then by rank, then by place
 abbrev pub key_cmp : Key → Key → Ordering
-key_cmp a b = ordering_then (one_text.key_cmp a.0 b.0) (nat_cmp a.1 b.1)
+key_cmp a b = ordering_then (day_key_cmp a.0 b.0) (nat_cmp a.1 b.1)
 
--- ys has the directives of xs by day, rank and part of the ledger, and those that tie in their order
+-- ys has the directives of xs by day, rank and part of the ledger, and those that tie in their
+-- order
 abbrev pub AreInOrder : List (Placed Directive) → List (Placed Directive) → Type 0
 AreInOrder = IsArrangedByKey key_of key_cmp
 

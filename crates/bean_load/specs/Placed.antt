@@ -1,4 +1,5 @@
--- Places in reading order. A text is read in parts, and what an include line gives stands between two of them.
+-- Places in reading order. A text is read in parts, and what an include line gives stands between
+-- two of them.
 use Rattle.std.specs.Prelude.{ℕ, ◌+◌, ◌==◌, List, [], ◌∷◌, fold, nat_lt, if◌then◌else◌}
 use Rattle.bean_heads.specs.declared.directive.Directive.{Directive}
 use Rattle.bean_heads.specs.declared.undated.Setting.{Setting}
@@ -10,7 +11,8 @@ use Rattle.bean_load.specs.declared.texts.Part.{Part}
 abbrev pub parts_of : ℕ → ℕ → List Part → List Own
 parts_of file n [] = []
 parts_of file n (p ∷ ps) =
-    if p.file == file then record { behind = p.behind; number = n } ∷ parts_of file (n + 1) ps else parts_of file (n + 1) ps
+    if p.file == file then record { behind = p.behind; number = n } ∷ parts_of file (n + 1) ps else
+        parts_of file (n + 1) ps
 
 abbrev pub later : ℕ → ℕ → Own → ℕ
 later line number part = if nat_lt part.behind line then part.number else number

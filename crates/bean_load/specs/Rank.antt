@@ -1,7 +1,17 @@
--- Ranks are in the order of their numbers.
+-- Which directives of one day are taken first.
 use Rattle.std.specs.Prelude.{ℕ}
-use Rattle.bean_load.specs.declared.arrangement.Rank.{Rank}
-use Rattle.bean_load.specs.declared.arrangement.Rank.TheVariants.{Open, Balance, Other, Document, Close}
+use Rattle.bean_heads.specs.declared.directive.DirectiveKind.{DirectiveKind}
+use Rattle.bean_heads.specs.declared.directive.DirectiveKind.TheVariants as kind
+use Rattle.bean_load.specs.declared.rank.Rank.{Rank}
+use Rattle.bean_load.specs.declared.rank.Rank.TheVariants.{Open, Balance, Other, Document, Close}
+
+-- opens, then balances, all else, documents and closes
+abbrev pub rank_of : DirectiveKind → Rank
+rank_of (kind.Open o) = Open
+rank_of (kind.Balance b) = Balance
+rank_of (kind.Document d) = Document
+rank_of (kind.Close c) = Close
+rank_of k = Other
 
 abbrev pub rank_number : Rank → ℕ
 rank_number Open = 0

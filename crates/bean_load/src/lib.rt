@@ -18,7 +18,7 @@
 //! [`load`] arranges the directives by day, of one day opens, then balances, all else, documents
 //! and closes, then by their parts in reading order, and those of one part as they are written.
 //! The texts decide all of it ([`one_loading`]), and what the source answers decides the texts
-//! ([`one_gathering`]). [`arrange`] is the same of one text's directives ([`one_arrangement`]).
+//! ([`one_gathering`]).
 //!
 //! # Faults
 //!
@@ -33,22 +33,21 @@
 //!
 //! # Cost
 //!
-//! Each text is parsed once to find its include lines and once to be loaded. An include line looks
-//! at the names that were asked, of which there are at most 1,000. The directives are moved once
+//! The tokens of each text are read once to find its include lines, and it is parsed once to be
+//! loaded. An include line looks at the names that were asked, of which there are at most 1,000. The directives are moved once
 //! and sorted, which takes memory for half of them.
 #![tactic(auto)]
 
-pub mod arrangement;
-pub mod fault;
-pub mod following;
+mod fault;
+mod following;
 mod gathering;
 mod include;
-pub mod loaded;
+mod loaded;
 mod order;
-pub mod placed;
-pub mod texts;
+mod placed;
+mod rank;
+mod texts;
 
-pub use arrangement::{Rank, arrange, one_arrangement};
 pub use fault::LoadFault;
 pub use following::{gather, one_gathering};
 pub use gathering::{DEEPEST, LARGEST_LEDGER, LARGEST_TEXT, MOST_NAMES};

@@ -2,8 +2,8 @@
 ghost use Rattle.std.specs.Prelude.{◌≡◌, List, OnOk};
 ghost use Rattle.bean_load.specs.Order.{AreInOrder, AreSettingsInOrder};
 
-use crate::arrangement::Rank;
 use crate::placed::Placed;
+use crate::rank::Rank;
 use bean_parser::{Directive, Setting};
 use std::alloc::AllocError;
 

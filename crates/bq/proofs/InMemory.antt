@@ -15,27 +15,38 @@ use Rattle.bq.specs.Runs.{Comes, Ends, TellsWhy, deeds, written}
 use Rattle.bq.specs.declared.refusal.Refusal.{Refusal}
 use Rattle.bq.specs.declared.refusal.Refusal.TheVariants as refusal
 
-took : (old new : Holding) (text : List ℕ) (n : ℕ) → TookFront short_writer old new text n → KeptFront old new text n
-took old new text n h = let front = keeps_front old new text n h in record { kept = front.0; limit = front.1 }
+took : (old new : Holding) (text : List ℕ) (n : ℕ) → TookFront short_writer old new text n
+    → KeptFront old new text n
+took old new text n h = let front = keeps_front old new text n h in
+    record { kept = front.0; limit = front.1 }
 
-tells : (old new : Holding) (result : Result Unit Refusal) → TellsWhy (written short_writer old new) result → TellsWhy (kept_in old new) result
+tells : (old new : Holding) (result : Result Unit Refusal)
+    → TellsWhy (written short_writer old new) result → TellsWhy (kept_in old new) result
 tells old new (Ok x) h = h
 tells old new (Err r) h = (h.0, took old new _ _ h.1)
 
-comes : (words : List Text) (readings : List Reading) (old new : Holding) (result : Result Unit Refusal) → Comes words readings (written short_writer old new) result → Comes words readings (kept_in old new) result
-comes words readings old new (Ok x) h = let such = h.1 in (h.0, (such.0, such.1, (such.2.0, such.2.1, took old new _ _ such.2.2)))
+comes : (words : List Text) (readings : List Reading) (old new : Holding)
+    (result : Result Unit Refusal) → Comes words readings (written short_writer old new) result
+    → Comes words readings (kept_in old new) result
+comes words readings old new (Ok x) h = let such = h.1 in
+    (h.0, (such.0, such.1, (such.2.0, such.2.1, took old new _ _ such.2.2)))
 comes words readings old new (Err (refusal.Print (print.NotWritten n))) h =
-    let such = h.1 in (h.0, (such.0, such.1, (such.2.0, such.2.1, (such.2.2.0, took old new _ _ such.2.2.1))))
+    let such = h.1 in
+        (h.0, (such.0, such.1, (such.2.0, such.2.1, (such.2.2.0, took old new _ _ such.2.2.1))))
 comes words readings old new (Err (refusal.Print print.OutOfMemory)) h = h
 comes words readings old new (Err refusal.Words) h = h
 comes words readings old new (Err (refusal.Load fault)) h = h
 comes words readings old new (Err (refusal.Book fault)) h = h
 comes words readings old new (Err refusal.OutOfMemory) h = h
 
-pub ends : (store store' : Shelf) (out out' err err' : Holding) (words : List Text) (status : ℕ) → Ends (deeds memory_source store store' (written short_writer out out')) (written short_writer err err') words status → Ends (in_memory store store' (kept_in out out')) (kept_in err err') words status
+pub ends : (store store' : Shelf) (out out' err err' : Holding) (words : List Text) (status : ℕ)
+    → Ends (deeds memory_source store store' (written short_writer out out'))
+    (written short_writer err err') words status
+    → Ends (in_memory store store' (kept_in out out')) (kept_in err err') words status
 ends store store' out out' err err' words status h = record {
   result = h.result;
-  runs = (h.runs.0, gives_what_it_holds store store' h.runs.0 h.runs.1, comes words h.runs.0 out out' h.result h.runs.2);
+  runs = (h.runs.0, gives_what_it_holds store store' h.runs.0 h.runs.1, comes words h.runs.0 out
+      out' h.result h.runs.2);
   status_is = h.status_is;
   tells = tells err err' h.result h.tells;
 }

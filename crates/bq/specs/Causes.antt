@@ -1,32 +1,30 @@
 -- Why a run is refused.
-use Rattle.std.specs.Prelude.{◌≡◌, ◌<◌, ◌⊎◌, ℕ, ⊤, List, [], ◌∷◌, length, Some, None, Result, Ok, Err}
-use Rattle.std.specs.Str.{IsUtf8}
+use Rattle.std.specs.Prelude.{◌≡◌, ◌⊎◌, ℕ, ⊤, List, [], ◌∷◌, Some, None, Result, Ok, Err}
 use Rattle.bean_book.specs.declared.postings.BookFault.TheVariants.{TooManyPostings}
+use Rattle.bean_load.specs.Following.{IsGathered}
+use Rattle.bean_load.specs.Texts.{Texts}
+use Rattle.bean_load.specs.declared.fault.LoadFault.{LoadFault}
+use Rattle.bean_load.specs.declared.fault.LoadFault.TheVariants.{Unreadable, TooLarge, NotUtf8}
 use Rattle.clap.specs.Walk.{Text}
 use Rattle.stores.specs.Reading.{Reading}
-use Rattle.stores.specs.declared.source.SourceFault.{SourceFault}
-use Rattle.stores.specs.declared.source.SourceFault.TheVariants.{Failed}
 use Rattle.bq.specs.Listing.{HasTooMany}
 use Rattle.bq.specs.Words.{ledger_named}
-use Rattle.bq.specs.declared.loading.LoadFault.TheVariants.{Unreadable, TooLarge, NotUtf8}
-use Rattle.bq.specs.declared.loading.TheConstants.{LARGEST_TEXT}
 use Rattle.bq.specs.declared.refusal.Refusal.{Refusal}
 use Rattle.bq.specs.declared.refusal.Refusal.TheVariants.{Words, Load, Book}
 
--- the store was asked for the ledger that the words name, and answered so
-abbrev pub IsAnswered : List Text → List Reading → Result (List ℕ) SourceFault → Type 0
-IsAnswered words readings answer = (name : List ℕ) × (ledger_named words ≡ Some name) × (readings ≡ (name, answer) ∷ [])
+-- what the store gave comes to these texts, or to this fault, for the ledger that the words name
+abbrev pub HasGathered : List Text → List Reading → Result Texts LoadFault → Type 0
+HasGathered words readings result =
+    (name : List ℕ) × (ledger_named words ≡ Some name) × IsGathered name readings result
 
--- it gave bytes of which this holds
-abbrev pub GaveSuch : List Text → List Reading → (List ℕ → Type 0) → Type 0
-GaveSuch words readings Such = (bytes : List ℕ) × IsAnswered words readings (Ok bytes) × Such bytes
+-- it gave texts of which this holds
+abbrev pub GaveSuch : List Text → List Reading → (Texts → Type 0) → Type 0
+GaveSuch words readings Such = (texts : Texts) × HasGathered words readings (Ok texts) × Such texts
 
 -- the cause of each refusal, given the words and what the store gave
 abbrev pub HasCause : List Text → List Reading → Refusal → Type 0
 HasCause words readings Words = (ledger_named words ≡ None) × (readings ≡ [])
-HasCause words readings (Load Unreadable) = IsAnswered words readings (Err Failed)
-HasCause words readings (Load TooLarge) = GaveSuch words readings (λ bytes. LARGEST_TEXT < length bytes)
-HasCause words readings (Load NotUtf8) = GaveSuch words readings (λ bytes. ¬ IsUtf8 bytes)
+HasCause words readings (Load fault) = HasGathered words readings (Err fault)
 HasCause words readings (Book TooManyPostings) = GaveSuch words readings HasTooMany
 HasCause words readings _ = ⊥
 

@@ -1,8 +1,6 @@
-pub mod LoadFault
 pub mod Refusal
 pub mod Words
 pub mod Named
-pub mod Loading
 pub mod Listing
 pub mod Columns
 pub mod Causes

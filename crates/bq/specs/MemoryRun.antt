@@ -5,7 +5,8 @@ use Rattle.stores.specs.MemoryStore.{GaveHeld}
 use Rattle.stores.specs.Shelf.{Shelf}
 use Rattle.bq.specs.Runs.{Deeds, Written}
 
--- It has n more bytes, from the front of the text; not all of it only at its limit, or where memory was refused to it.
+-- It has n more bytes, from the front of the text; not all of it only at its limit, or where memory
+-- was refused to it.
 pub record KeptFront (old new : Holding) (text : List ℕ) (n : ℕ) : Type 0 where
   pub kept : new.taken ≡ old.taken ++ take n text
   pub limit : n < length text → new.starved ≡ false → new.limit ≤ length new.taken

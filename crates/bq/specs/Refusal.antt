@@ -3,10 +3,10 @@ use Rattle.std.specs.Prelude.{ℕ, Bool, true, false, List, [], ◌++◌, codes,
 use Rattle.std.specs.Fmt.{decimal}
 use Rattle.bean_book.specs.BookFault as book
 use Rattle.bean_book.specs.declared.postings.BookFault.TheVariants as books
+use Rattle.bean_load.specs.LoadFault as load
+use Rattle.bean_load.specs.declared.fault.LoadFault.TheVariants as loads
 use Rattle.table_printer.specs.Faults as print
 use Rattle.table_printer.specs.declared.writing.PrintFault.TheVariants as prints
-use Rattle.bq.specs.LoadFault as load
-use Rattle.bq.specs.declared.loading.LoadFault.TheVariants as loads
 use Rattle.bq.specs.declared.refusal.Refusal.{Refusal}
 use Rattle.bq.specs.declared.refusal.Refusal.TheVariants.{Words, Load, Book, Print, OutOfMemory}
 

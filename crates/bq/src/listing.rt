@@ -1,17 +1,15 @@
-//! The ledger of a text.
+//! The ledger of texts.
 ghost use Rattle.bq.specs.Listing.{ListsLedger};
 
 use bean_book::{BookFault, ledger_of};
-use bean_load::arrange;
-use bean_parser::parse::parse;
+use bean_load::{Texts, load};
 use posting_table::Ledger;
 use std::alloc::Global;
 
-/// The ledger of a text: its transactions' postings, arranged. Blocks at fault are left out.
-pub fn ledger_of_text<'a>(alloc: Global, text: &'a str) -> Result<Ledger<'a>, BookFault>
-    ensures { ListsLedger text.now result }
+/// The ledger of texts: their transactions' postings. Blocks at fault are left out.
+pub fn ledger_of_texts<'a>(alloc: Global, texts: &'a Texts) -> Result<Ledger<'a>, BookFault>
+    ensures { ListsLedger texts.now result }
 {
-    let mut directives = parse(alloc, text)?.directives.into_vec();
-    arrange(&mut directives)?;
-    ledger_of(alloc, &directives)
+    let loaded = load(alloc, texts)?;
+    ledger_of(alloc, &loaded)
 }

@@ -1,17 +1,15 @@
 //! `bq` keeps books: it reads plain text ledgers, books them and answers questions on them.
 //!
 //! `run_words` is the program over any store and any outputs, and has the promise of the whole:
-//! which answer comes for which words and which text, what is written with it, and the status.
-//! `words` reads the command, `loading` the ledger's text, `listing` makes the ledger of a text,
-//! `shown` says what `list` shows of it, `refusal` what a user is told where there is no answer.
-//! `in_memory` is the same over a store and outputs of memory, and `main` the program on the
-//! host's.
+//! which answer comes for which words and which texts, what is written with it, and the status.
+//! `words` reads the command, `listing` makes the ledger of texts, `shown` says what `list` shows
+//! of it, `refusal` what a user is told where there is no answer. `in_memory` is the same over a
+//! store and outputs of memory, and `main` the program on the host's.
 #![tactic(auto)]
 
 mod arguments;
 mod in_memory;
 mod listing;
-mod loading;
 mod refusal;
 mod run;
 mod shown;
@@ -20,8 +18,8 @@ mod tests;
 mod words;
 
 use crate::arguments::run_args;
-use crate::loading::LARGEST_TEXT;
 use crate::refusal::Refusal;
+use bean_load::LARGEST_TEXT;
 use outputs::stream::Stream;
 use std::process::ExitCode;
 use std::{env, io};

@@ -2,9 +2,9 @@
 ghost use Rattle.std.specs.Prelude.{◌≡◌, ◌≤◌, None, length};
 ghost use Rattle.bq.specs.Refusal.{status_of, code_of, place_of, line_of};
 
-use crate::loading::LoadFault;
 use arrayvec::ArrayString;
 use bean_book::BookFault;
+use bean_load::LoadFault;
 use itoa::Buffer;
 use table_printer::PrintFault;
 

@@ -1,29 +1,29 @@
 //! What the program does with its words.
 ghost use Rattle.std.specs.Prelude.{◌≡◌, map};
-ghost use Rattle.bq.specs.Runs.{written, deeds, ListsText, ListsNamed, Runs, Ends, RefusesExactly};
+ghost use Rattle.bq.specs.Runs.{written, deeds, ListsTexts, ListsNamed, Runs, Ends, RefusesExactly};
 
-use crate::listing::ledger_of_text;
-use crate::loading::{ledger_bytes, text_in};
+use crate::listing::ledger_of_texts;
 use crate::refusal::Refusal;
 use crate::shown::Postings;
 use crate::words::ledger_named;
+use bean_load::{Texts, gather};
 use outputs::output::Output;
 use outputs::writing::write_bytes;
 use std::alloc::Global;
 use stores::source::{Source, Store};
 use table_printer::write_table;
 
-/// Writes the table of a text's postings.
-fn list_text<O: Output>(alloc: Global, text: &str, out: &mut O) -> Result<(), Refusal>
-    ensures { ListsText (written O.Output out.old out.new) text.now result }
+/// Writes the table of texts' postings.
+fn list_texts<O: Output>(alloc: Global, texts: &Texts, out: &mut O) -> Result<(), Refusal>
+    ensures { ListsTexts (written O.Output out.old out.new) texts.now result }
 {
-    let ledger = ledger_of_text(alloc, text)?;
+    let ledger = ledger_of_texts(alloc, texts)?;
     let postings = Postings { ledger: &ledger };
     write_table(alloc, &postings, ledger.display(), out)?;
     Ok(())
 }
 
-/// Writes the table of the postings in the text of that name.
+/// Writes the table of the postings in the ledger of that name.
 fn list<S: Source, O: Output>(
     alloc: Global,
     name: &str,
@@ -33,9 +33,8 @@ fn list<S: Source, O: Output>(
     ensures { ListsNamed
         (deeds S.Source store.old store.new (written O.Output out.old out.new)) name.now result }
 {
-    let bytes = ledger_bytes(store, name)?;
-    let text = text_in(&bytes)?;
-    list_text(alloc, text, out)
+    let texts = gather(alloc, store, name)?;
+    list_texts(alloc, &texts, out)
 }
 
 /// Does what the words say.

@@ -7,7 +7,12 @@ use Rattle.bean_book.proofs.postings.push_postings.Given as goal
 
 abbrev pub invariant-loop-posting : goal.invariant-loop-posting
 invariant-loop-posting l = record {
-  rows : l.ledger.rows ≡ l.initial.ledger.rows ++ flat_map (rows_of_posting l.day l.flag) (take l.posting-index l.postings);
+  rows : l.ledger.rows
+      ≡ l.initial.ledger.rows
+      ++ flat_map (rows_of_posting l.day l.flag) (take l.posting-index l.postings);
   room : length l.ledger.rows ≤ MOST_POSTINGS;
-  decimals : (name : List ℕ) → decimals_of l.ledger.decimals name ≡ decimals_from (decimals_of l.initial.ledger.decimals name) name (take l.posting-index l.postings);
+  decimals : (name : List ℕ)
+      → decimals_of l.ledger.decimals name
+      ≡ decimals_from (decimals_of l.initial.ledger.decimals name) name
+      (take l.posting-index l.postings);
 }

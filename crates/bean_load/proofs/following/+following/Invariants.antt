@@ -13,4 +13,6 @@ decreases-follow_text g l = 3 * l.room + 2
 
 -- what comes of the lines that are left completes what came of those before them
 abbrev pub invariant-follow_lines-loop-line : goal.invariant-follow_lines-loop-line
-invariant-follow_lines-loop-line g l = Continues g.S.Source l.fn.source l.source l.room l.file l.lines l.fn.gathering (drop l.line-index l.lines) l.gathering
+invariant-follow_lines-loop-line g l =
+    Continues g.S.Source l.fn.source l.source l.room l.file l.lines l.fn.gathering
+    (drop l.line-index l.lines) l.gathering

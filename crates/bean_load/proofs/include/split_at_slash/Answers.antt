@@ -8,7 +8,9 @@ pub returns-in-Some : goal.returns-in-Some
 returns-in-Some c =
     let before = c.in-Some.before in
     let behind = c.in-Some.behind in
-    let parts = split_parts 47 c.args.name.now (Some (before, behind)) c.in-Some.ensures.cases (omega arith) in
+    let parts =
+        split_parts 47 c.args.name.now (Some (before, behind)) c.in-Some.ensures.cases
+        (omega arith) in
     let long = ap length parts.0 ∙ length-append before.now (47 ∷ behind.now) in record {
       parts = ap folder parts.0 ∙ folder_split before.now behind.now;
       shorter = omega arith;
@@ -16,6 +18,7 @@ returns-in-Some c =
 
 pub returns-in-None : goal.returns-in-None
 returns-in-None c = record {
-  parts = no_folder c.args.name.now (split_parts 47 c.args.name.now None c.in-None.ensures.cases (omega arith));
+  parts = no_folder c.args.name.now
+      (split_parts 47 c.args.name.now None c.in-None.ensures.cases (omega arith));
   shorter = tt;
 }

@@ -14,11 +14,15 @@ loop-number-preserved c =
     let new = c.add.new.self in
     let files = c.files-files.result.now in
     let p = c.in_ok-parse.field-0 in
-    let next : drop n files ≡ c.index-files-number.result ∷ drop (n + 1) files = grind (arith, common_steps) in
+    let next : drop n files ≡ c.index-files-number.result ∷ drop (n + 1) files =
+        grind (arith, common_steps) in
     one_more texts n old new c.index-files-number.result (drop (n + 1) files) p
     (subst (λ fs. IsCompleted texts n old fs) next c.loop-number.invariant)
-    (subst (λ t. IsParsed t p) (c.deref-in-loop-number.ensures ∙ ap (λ f. f.text) c.file.view_is) c.in_ok-parse.ensures)
-    (subst (λ own. AddsParsed n own p old new) (c.deref.ensures.value ∙ c.in_ok-own.ensures ∙ ap (λ parts. parts_of n 0 parts) c.parts.ensures) c.in_ok-add.ensures)
+    (subst (λ t. IsParsed t p) (c.deref-in-loop-number.ensures ∙ ap (λ f. f.text) c.file.view_is)
+        c.in_ok-parse.ensures)
+    (subst (λ own. AddsParsed n own p old new)
+        (c.deref.ensures.value ∙ c.in_ok-own.ensures
+        ∙ ap (λ parts. parts_of n 0 parts) c.parts.ensures) c.in_ok-add.ensures)
 
 pub returns : goal.returns
 returns c =
@@ -26,4 +30,5 @@ returns c =
     let n = c.loop-number.number in
     let files = c.files-files.result.now in
     let none : drop n files ≡ [] = grind (arith, common_steps) in
-    all_read texts n c.loop-number.read (subst (λ fs. IsCompleted texts n c.loop-number.read fs) none c.loop-number.invariant)
+    all_read texts n c.loop-number.read
+        (subst (λ fs. IsCompleted texts n c.loop-number.read fs) none c.loop-number.invariant)

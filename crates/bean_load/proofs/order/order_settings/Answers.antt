@@ -7,5 +7,6 @@ pub returns : goal.returns
 returns c = on_ok_weaker c.sort_by_key.result
     (λ sorted. record {
       sorted = sorted (λ s. s.part) (answers_always _ _ _ (λ f a r g h. search rules));
-      stable = c.sort_by_key.ensures.stable (λ s. s.part) (answers_always _ _ _ (λ f a r g h. search rules));
+      stable = c.sort_by_key.ensures.stable (λ s. s.part)
+          (answers_always _ _ _ (λ f a r g h. search rules));
     }) c.sort_by_key.ensures.sorted

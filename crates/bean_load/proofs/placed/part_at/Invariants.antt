@@ -5,4 +5,5 @@ use Rattle.bean_load.proofs.placed.part_at.Given as goal
 
 -- the parts that are left decide it
 abbrev pub invariant-loop-part : goal.invariant-loop-part
-invariant-loop-part l = fold (later l.line) l.number (drop l.part-index l.own) ≡ fold (later l.line) 0 l.own
+invariant-loop-part l =
+    fold (later l.line) l.number (drop l.part-index l.own) ≡ fold (later l.line) 0 l.own

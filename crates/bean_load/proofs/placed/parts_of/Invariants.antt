@@ -4,4 +4,5 @@ use Rattle.bean_load.proofs.placed.parts_of.Given as goal
 
 -- the parts among those that are left complete those that were found
 abbrev pub invariant-loop-number : goal.invariant-loop-number
-invariant-loop-number l = l.own.items ++ parts_of l.file l.number (drop l.number l.parts) ≡ parts_of l.file 0 l.parts
+invariant-loop-number l =
+    l.own.items ++ parts_of l.file l.number (drop l.number l.parts) ≡ parts_of l.file 0 l.parts

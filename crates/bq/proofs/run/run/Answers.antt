@@ -10,4 +10,5 @@ returns-in_err-name g c =
     let out = written g.O.Output c.args.out.now c.args.out.now in
     let r = c.in_err-name.field-0.0 in
     let is = converted c.from_residual.result r c.from_residual.ensures.1 in
-    ([], gave_none g.S.Source c.args.store.now, subst (Comes words [] out) (sym is) (unnamed words r c.in_err-name.ensures out refl))
+    ([], gave_none g.S.Source c.args.store.now, subst (Comes words [] out) (sym is)
+        (unnamed words r c.in_err-name.ensures out refl))
