@@ -1,0 +1,5 @@
+pub mod MassFacts
+pub mod ShapeCases
+pub mod FittingFacts
+pub mod UnaryFacts
+pub mod BinaryFacts
