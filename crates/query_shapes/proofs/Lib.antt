@@ -3,3 +3,5 @@ pub mod ShapeCases
 pub mod FittingFacts
 pub mod UnaryFacts
 pub mod BinaryFacts
+pub mod OrderFacts
+pub mod RisingFacts
