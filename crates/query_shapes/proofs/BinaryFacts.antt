@@ -200,7 +200,7 @@ truths_are P none left right both x y h k =
     (λ b. truth_cases (λ w. P (value.Truth b) w) (left b) (both b) y k) x h
 
 -- where two have an order, they may be told apart too
-are_told : (x y : Value) (s t : Shape) → LiesIn x s → LiesIn y t → rule.ordered s t ≡ Ok shape.Truth
+pub are_told : (x y : Value) (s t : Shape) → LiesIn x s → LiesIn y t → rule.ordered s t ≡ Ok shape.Truth
     → (are_in_order x y ≡ true) × (are_comparable x y ≡ true)
 are_told x y shape.Truth t h k e = absurd cc
 are_told x y shape.Text shape.Truth h k e = absurd cc

@@ -1,3 +1,4 @@
+mod Examples
 pub mod MassFacts
 pub mod ShapeCases
 pub mod FittingFacts
@@ -5,3 +6,4 @@ pub mod UnaryFacts
 pub mod BinaryFacts
 pub mod OrderFacts
 pub mod RisingFacts
+pub mod GatheringFacts

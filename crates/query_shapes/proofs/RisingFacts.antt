@@ -57,7 +57,7 @@ fitting_below s t h = by (is_held t) refl
         (sym (held_below s t h e)) h
 
 -- either both are asked for or neither
-both_if : (b : Bool) (s t : Shape) → IsBelow s t
+pub both_if : (b : Bool) (s t : Shape) → IsBelow s t
     → Under (cond b (fitting s) (Err Kind)) (cond b (fitting t) (Err Kind))
 both_if false s t h = tt
 both_if true s t h = fitting_below s t h

@@ -1,5 +1,5 @@
 -- What shapes promise of operations.
-use Rattle.std.specs.Prelude.{◌≡◌, ℕ, ◌≤◌, List, length, Option, Some, None, Result, Ok, Err}
+use Rattle.std.specs.Prelude.{◌≡◌, ℕ, ◌≤◌, true, List, length, Option, Some, None, Result, Ok, Err}
 use Rattle.std.specs.List.{AllByRecursion}
 use Rattle.query_values.specs.Aggregate.{aggregate_of, may_take}
 use Rattle.query_values.specs.Held.{checked}
@@ -7,6 +7,7 @@ use Rattle.query_values.specs.Operand.{may_unary, may_binary}
 use Rattle.query_values.specs.Operation.{unary_value, binary_value}
 use Rattle.query_values.specs.Unary as unary
 use Rattle.query_values.specs.declared.operation.Aggregate.{Aggregate}
+use Rattle.query_values.specs.declared.operation.Aggregate.TheVariants.{CountRows}
 use Rattle.query_values.specs.declared.operation.Binary.{Binary}
 use Rattle.query_values.specs.declared.value.Value.{Value}
 use Rattle.query_shapes.specs.Rules.{Ruled, unary_shape, binary_shape, aggregate_shape}
@@ -50,3 +51,19 @@ pub record AreOrdered : Type 0 where
   pub above : (s t u : Shape) → joined s t ≡ Some u → IsBelow s u × IsBelow t u
   pub least : (s t d : Shape) → IsBelow s d → IsBelow t d
       → (u : Shape) × (joined s t ≡ Some u) × IsBelow u d
+
+abbrev pub AllIn : Shape → List Value → Type 0
+AllIn s xs = AllByRecursion (λ x. LiesIn x s) xs
+
+-- What is gathered over at most n values can be held and is of the shape that is given, and each value
+-- more may be gathered; of lesser shapes, and of fewer values, a lesser shape is given.
+pub record GatherShapes : Type 0 where
+  pub rows : (n : ℕ) (xs : List Value) → length xs ≤ n
+      → Has (checked true (aggregate_of CountRows xs)) (aggregate_shape n CountRows None)
+  pub values : (a : Aggregate) (n : ℕ) (s : Shape) (xs : List Value) → length xs ≤ n → AllIn s xs
+      → Has (checked true (aggregate_of a xs)) (aggregate_shape n a (Some s))
+  pub takes : (a : Aggregate) (n : ℕ) (s t : Shape) (xs : List Value) (x : Value)
+      → aggregate_shape n a (Some s) ≡ Ok t → AllIn s xs → LiesIn x s
+      → may_take a (aggregate_of a xs) x ≡ true
+  pub monotone : (a : Aggregate) (n m : ℕ) (s t : Shape) → n ≤ m → IsBelow s t
+      → Under (aggregate_shape n a (Some s)) (aggregate_shape m a (Some t))

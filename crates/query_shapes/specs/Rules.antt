@@ -1,7 +1,7 @@
 -- Which shape an operation gives: none where an operand is of a kind or of decimals that it does not
 -- take, and none where its value might be too wide to be held.
 use Rattle.std.specs.Prelude.{ℕ, ◌+◌, ◌-◌, ◌*◌, ◌^◌, ◌==◌, ◌&&◌, Bool, true, false, max, nat_le, List}
-use Rattle.std.specs.Prelude.{Result, Ok, Err, if◌then◌else◌}
+use Rattle.std.specs.Prelude.{Option, Some, None, Result, Ok, Err, if◌then◌else◌}
 use Rattle.std.specs.List.{list_all}
 use Rattle.query_values.specs.Unary as unary
 use Rattle.query_values.specs.declared.operation.Aggregate.{Aggregate}
@@ -180,13 +180,14 @@ gathered n q s = Err Kind
 abbrev pub ranked : Shape → Ruled
 ranked s = if is_ranked s then fitting s else Err Kind
 
--- over values of a shape; rows are counted without one
-abbrev pub aggregate_shape : ℕ → Aggregate → Shape → Ruled
-aggregate_shape n aggregate.CountRows s = fitting (whole n)
-aggregate_shape n aggregate.Count s = fitting (whole n)
-aggregate_shape n (aggregate.Sum places) s = summed n places s
-aggregate_shape n (aggregate.SumInventory places) s = gathered n places s
-aggregate_shape n aggregate.First s = fitting s
-aggregate_shape n aggregate.Last s = fitting s
-aggregate_shape n aggregate.Min s = ranked s
-aggregate_shape n aggregate.Max s = ranked s
+-- over values of a shape; rows are counted without any
+abbrev pub aggregate_shape : ℕ → Aggregate → Option Shape → Ruled
+aggregate_shape n aggregate.CountRows None = fitting (whole n)
+aggregate_shape n aggregate.Count (Some s) = fitting (whole n)
+aggregate_shape n (aggregate.Sum places) (Some s) = summed n places s
+aggregate_shape n (aggregate.SumInventory places) (Some s) = gathered n places s
+aggregate_shape n aggregate.First (Some s) = fitting s
+aggregate_shape n aggregate.Last (Some s) = fitting s
+aggregate_shape n aggregate.Min (Some s) = ranked s
+aggregate_shape n aggregate.Max (Some s) = ranked s
+aggregate_shape n a s = Err Kind

@@ -14,6 +14,7 @@
 //! Where an operation gives a shape, it may be applied to all values of its operands' shapes, and
 //! its value can be held and is of that shape ([`operations_keep_shapes`]). Of lesser shapes it
 //! gives lesser ones ([`rules_are_monotone`]), and shapes have least joins ([`shapes_are_ordered`]).
+//! The same holds of what is gathered over at most so many values ([`aggregates_keep_shapes`]).
 //!
 //! # Misfits
 //!
@@ -28,9 +29,9 @@
 pub mod rules;
 pub mod shape;
 
-ghost use Rattle.query_shapes.specs.Keeping.{AreMonotone, AreOrdered, KeepShapes};
+ghost use Rattle.query_shapes.specs.Keeping.{AreMonotone, AreOrdered, GatherShapes, KeepShapes};
 
-pub use rules::binary_shape;
+pub use rules::{aggregate_shape, binary_shape};
 pub use shape::{LONGEST, Misfit, Shape, joined};
 
 /// Where an operation gives a shape, its value is there and is of that shape.
@@ -41,6 +42,11 @@ pub fn operations_keep_shapes()
 /// Of lesser shapes an operation gives lesser ones.
 pub fn rules_are_monotone()
     ensures { AreMonotone }
+{}
+
+/// What is gathered over at most so many values is of the shape that is given.
+pub fn aggregates_keep_shapes()
+    ensures { GatherShapes }
 {}
 
 /// Being below is an order, and two shapes of one kind have a least one above both.

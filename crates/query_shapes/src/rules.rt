@@ -5,7 +5,7 @@ ghost use Rattle.query_shapes.specs.Shape.{is_most};
 
 use crate::shape::{LONGEST, Misfit, Shape, fitting};
 use bean_base::power_of_ten;
-use query_values::Binary;
+use query_values::{Aggregate, Binary};
 
 /// A whole number of at most so many.
 fn whole(most: u128) -> Shape
@@ -271,5 +271,76 @@ pub fn binary_shape(op: Binary, a: Shape, b: Shape) -> Result<Shape, Misfit>
         Binary::Equal | Binary::NotEqual => compared(a, b),
         Binary::Less | Binary::AtMost | Binary::Greater | Binary::AtLeast => ordered(a, b),
         Binary::InSet => member_of(a, b),
+    }
+}
+
+/// Whether values of the shape have an order: texts, days and numbers do.
+fn is_ranked(shape: Shape) -> bool
+    ensures { result ≡ spec.is_ranked shape }
+{
+    matches!(shape, Shape::Text | Shape::Day | Shape::Number { .. })
+}
+
+/// The sum of at most so many numbers of so many decimals.
+fn summed(values: u32, places: u8, shape: Shape) -> Result<Shape, Misfit>
+    ensures { result ≡ spec.summed values places shape }
+{
+    match shape {
+        Shape::Number { places: from, most } if from == places => fitting(Shape::Number {
+            places,
+            most: product_of_most(values as u128, most),
+        }),
+        _ => Err(Misfit::Kind),
+    }
+}
+
+/// The inventory of at most so many amounts of so many decimals, or positions where these are 8.
+fn gathered(values: u32, places: u8, shape: Shape) -> Result<Shape, Misfit>
+    ensures { result ≡ spec.gathered values places shape }
+{
+    match shape {
+        Shape::Amount { places: from, most } if from == places => fitting(Shape::Inventory {
+            places,
+            units: product_of_most(values as u128, most),
+            value: 0,
+        }),
+        Shape::Position { units, value } if places == 8 => fitting(Shape::Inventory {
+            places: 8,
+            units: product_of_most(values as u128, units),
+            value: product_of_most(values as u128, value),
+        }),
+        _ => Err(Misfit::Kind),
+    }
+}
+
+/// The least or the greatest of some that have an order.
+fn ranked(shape: Shape) -> Result<Shape, Misfit>
+    ensures { result ≡ spec.ranked shape }
+{
+    if is_ranked(shape) {
+        fitting(shape)
+    } else {
+        Err(Misfit::Kind)
+    }
+}
+
+/// The shape of what is gathered over at most so many values of a shape; rows are counted without
+/// any.
+pub fn aggregate_shape(
+    values: u32,
+    aggregate: Aggregate,
+    shape: Option<Shape>,
+) -> Result<Shape, Misfit>
+    ensures { result ≡ spec.aggregate_shape values aggregate shape }
+{
+    match (aggregate, shape) {
+        (Aggregate::CountRows, None) | (Aggregate::Count, Some(_)) => fitting(whole(
+            values as u128,
+        )),
+        (Aggregate::Sum(places), Some(shape)) => summed(values, places, shape),
+        (Aggregate::SumInventory(places), Some(shape)) => gathered(values, places, shape),
+        (Aggregate::First | Aggregate::Last, Some(shape)) => fitting(shape),
+        (Aggregate::Min | Aggregate::Max, Some(shape)) => ranked(shape),
+        _ => Err(Misfit::Kind),
     }
 }
