@@ -63,6 +63,7 @@ truths_are_compared : binary_shape Equal Truth Truth ≡ Ok Truth
 truths_are_compared = refl
 
 positions_have_no_greatest : aggregate_shape 9 Max (Some position) ≡ Err Kind
+unfolding position
 positions_have_no_greatest = refl
 
 rows_are_counted : aggregate_shape (10 ^ 6) CountRows None ≡ Ok (Number 0 (10 ^ 6))
