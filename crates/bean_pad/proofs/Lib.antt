@@ -1,0 +1,2 @@
+pub mod InsertedFacts
+pub mod WaitingFacts
