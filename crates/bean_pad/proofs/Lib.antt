@@ -1,2 +1,6 @@
+pub mod WithinFacts
+pub mod BoundFacts
+pub mod NotedFacts
+pub mod OutcomeFacts
 pub mod InsertedFacts
 pub mod WaitingFacts

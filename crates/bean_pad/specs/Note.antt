@@ -32,14 +32,16 @@ waiting (step.Pad p ∷ past) account currency =
 waiting (step.Balance b ∷ past) account currency =
     if is_on account currency b then None else waiting past account currency
 
+-- what comes of a balance that is out of tolerance, off by so much
+abbrev pub note_of : ℤ → Balance → Note
+note_of difference b = record { currency = b.currency; outcome = outcome_of difference b.is_at_cost }
+
 -- what comes of a balance that is off by so much, with the number of the pad that waits for it: nothing
 -- where none waits, or within its tolerance
 abbrev pub noted_of : Option ℕ → ℤ → Balance → Option (ℕ × Note)
 noted_of None difference b = None
 noted_of (Some pad) difference b =
-    if is_out difference (tolerance_of b)
-    then Some (pad, record { currency = b.currency; outcome = outcome_of difference b.is_at_cost })
-    else None
+    if is_out difference (tolerance_of b) then Some (pad, note_of difference b) else None
 
 -- what is added to the account of the pad
 abbrev pub count_in : Option (ℕ × Note) → ℤ

@@ -1,5 +1,6 @@
 -- What accounts hold once all paddings stand, each directly behind its pad.
 use Rattle.std.specs.Prelude.{ℕ, zero, suc, ℤ, neg_ℤ, ◌-ℤ◌, Bool, List, [], ◌∷◌, ◌++◌, if◌then◌else◌}
+use Rattle.std.specs.List.{flat_map}
 use Rattle.bean_base.specs.declared.fault.Fault.{Fault}
 use Rattle.bean_base.specs.declared.fault.FaultKind.{FaultKind}
 use Rattle.bean_base.specs.declared.fault.FaultKind.TheVariants.{TooWide, BalanceFails, UnusedPad, PadAtCost}
@@ -56,14 +57,13 @@ faults_of_outcome p (outcome.Padding n) = []
 faults_of_outcome p outcome.AtCost = pad_fault PadAtCost p
 faults_of_outcome p outcome.TooWide = pad_fault TooWide p
 
-abbrev pub faults_of_notes : Pad → List Note → List Fault
-faults_of_notes p [] = []
-faults_of_notes p (n ∷ ns) = faults_of_outcome p n.outcome ++ faults_of_notes p ns
+abbrev pub faults_of_note : Pad → Note → List Fault
+faults_of_note p n = faults_of_outcome p n.outcome
 
 -- a pad that nothing came of is unused
 abbrev pub faults_by : Pad → List Note → List Fault
 faults_by p [] = pad_fault UnusedPad p
-faults_by p (n ∷ ns) = faults_of_notes p (n ∷ ns)
+faults_by p (n ∷ ns) = flat_map (faults_of_note p) (n ∷ ns)
 
 abbrev pub faults_of_pad : NotedPad → List Fault
 faults_of_pad p = faults_by p.pad p.notes

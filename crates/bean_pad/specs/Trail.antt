@@ -1,6 +1,6 @@
 -- The second way through a ledger, by its pads and balances alone: each balance keeps by how much what is
 -- written falls short of it.
-use Rattle.std.specs.Prelude.{ℕ, suc, ◌+◌, ◌<◌, ◌^◌, ℤ, ◌-ℤ◌, Bool, List, [], ◌∷◌, ◌++◌, length, sum_by, if◌then◌else◌}
+use Rattle.std.specs.Prelude.{ℕ, suc, ◌+◌, ◌<◌, ◌^◌, ℤ, ◌-ℤ◌, Bool, List, [], ◌∷◌, ◌++◌, length, if◌then◌else◌}
 use Rattle.std.specs.Int.RustNames.{unsigned_abs}
 use Rattle.std.specs.List.{AllByRecursion}
 use Rattle.bean_base.specs.declared.fault.Fault.{Fault}
@@ -60,7 +60,8 @@ failing_on ps (passed.Balance c ∷ ts) = failing_on ps ts ++ fault_with (padded
 
 -- how many notes pads have together
 abbrev pub notes_in : List NotedPad → ℕ
-notes_in ps = sum_by (λ p. length p.notes) ps
+notes_in [] = 0
+notes_in (p ∷ ps) = length p.notes + notes_in ps
 
 abbrev pub IsNear : Passed → Type 0
 IsNear passed.Pad = Unit {0}

@@ -6,7 +6,7 @@ ghost use Rattle.std.specs.List.{flat_map};
 ghost use Rattle.bean_pad.specs.Checking.{Checks, HasRoom, found_at};
 ghost use Rattle.bean_pad.specs.Held.{Units};
 ghost use Rattle.bean_pad.specs.Standing as standing;
-ghost use Rattle.bean_pad.specs.Standing.{all_inserted, faults_of_notes, faults_of_outcome};
+ghost use Rattle.bean_pad.specs.Standing.{all_inserted, faults_of_note, faults_of_outcome};
 ghost use Rattle.bean_pad.specs.Standing.{faults_of_pad, inserted, inserted_at};
 ghost use Rattle.bean_pad.specs.Sums.{AreSmall, Holds};
 ghost use Rattle.bean_pad.specs.Trail.{AreNear, IsNear, fails_with, failing_on, notes_in};
@@ -56,8 +56,10 @@ fn insert_both<'a>(
     ensures small { OnOk result (AreSmall sums.new) }
     ensures additions { OnOk result (sums.new.additions ≡ sums.old.additions + 2) }
 {
-    sums.add(&pad.account, currency, number.scaled(8))?;
-    sums.add(&pad.source, currency, number.negated().scaled(8))
+    let count = number.scaled(8);
+    sums.add(&pad.account, currency, count)?;
+    sums.add(&pad.source, currency, -count)?;
+    Ok(())
 }
 
 /// Adds what a note of a pad inserts.
@@ -112,10 +114,11 @@ fn insert_at<'a>(
         (sums.new.additions + 2 * notes_in (drop (suc number) pads.now)
         ≤ sums.old.additions + 2 * notes_in (drop number pads.now)) }
 {
-    match pads.get(number) {
-        Some(pad) => insert_all(sums, &pad.pad, pad.notes.as_slice()),
-        None => Ok(()),
-    }
+    let Some(pad) = pads.get(number) else {
+        return Ok(());
+    };
+    insert_all(sums, &pad.pad, pad.notes.as_slice())?;
+    Ok(())
 }
 
 fn push_if(faults: &mut Vec<Fault>, holds: bool, fault: Fault) -> Result<(), AllocError>
@@ -265,7 +268,7 @@ fn add_faults_of_notes(
     faults: &mut Vec<Fault>,
 ) -> Result<(), AllocError>
     ensures { OnOk result (faults.new.items
-        ≡ faults.old.items ++ faults_of_notes pad.now notes.now) }
+        ≡ faults.old.items ++ flat_map (faults_of_note pad.now) notes.now) }
 {
     for note in notes {
         add_fault(pad, note.outcome, faults)?;

@@ -94,7 +94,8 @@ fn note_at<'a>(
     ensures noted { OnOk result (pads.new.items ≡ noted_at pad note.entry pads.old.items) }
     ensures length { OnOk result (length pads.new.items ≡ length pads.old.items) }
 {
-    pads[pad].notes.push(note)
+    pads[pad].notes.push(note)?;
+    Ok(())
 }
 
 /// Notes what came of a pad, if something did.

@@ -52,6 +52,16 @@ fn unless_used(pad: Option<usize>, before: usize) -> Option<usize>
     if pad < before { None } else { Some(pad) }
 }
 
+/// What comes of a balance that is out of tolerance, off by so much.
+fn note_of<'a>(difference: i128, balance: &Balance<'a>) -> Note<'a>
+    ensures { result ≡ spec.note_of difference balance.now }
+{
+    Note {
+        currency: balance.currency.lend(),
+        outcome: Outcome::of(difference, balance.is_at_cost),
+    }
+}
+
 /// What comes of a balance that is off by so much, where that pad waits for it.
 fn noted_of<'a>(
     pad: Option<usize>,
@@ -63,14 +73,11 @@ fn noted_of<'a>(
     ensures among { (n : prelude.ℕ) → IsBelow n pad → IsAmong n result }
 {
     let pad = pad?;
-    if !is_out(difference, tolerance_of(balance)) {
-        return None;
+    if is_out(difference, tolerance_of(balance)) {
+        Some((pad, note_of(difference, balance)))
+    } else {
+        None
     }
-    let note = Note {
-        currency: balance.currency.lend(),
-        outcome: Outcome::of(difference, balance.is_at_cost),
-    };
-    Some((pad, note))
 }
 
 impl<'a> Padder<'a> {
@@ -231,8 +238,8 @@ impl<'a> Padder<'a> {
 
     /// What the pads and balances come to, of all steps.
     pub fn finish(self) -> Result<Padded<'a>, AllocError>
-        requires bounded { IsBounded self.entry }
-        requires few { steps_in self.entry ≤ 2 ^ 40 }
+        requires bounded { IsBounded self }
+        requires few { steps_in self ≤ 2 ^ 40 }
         ensures { (past : prelude.List Step) → Follows past self.entry
             → IfOk result (λ padded. IsPadded past padded) }
     {

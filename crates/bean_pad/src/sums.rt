@@ -93,7 +93,8 @@ impl<'a> Table<'a> {
         for end in 0..account.len() {
             self.add_above(account, currency, count, end)?;
         }
-        self.add_at(account, currency, count)
+        self.add_at(account, currency, count)?;
+        Ok(())
     }
 }
 
