@@ -1,8 +1,7 @@
 -- Bounds of what is kept.
-use Rattle.std.proofs.Common.{◌≡◌, ℕ, zero, suc, ℤ, ◌+ℤ◌, ◌+◌, ◌*◌, ◌^◌, ◌<◌, ◌≤◌, Bool, true, false, cond, List, [], ◌∷◌, ◌++◌, length, drop, Option, None, Some, refl, sym, ap, subst, ◌∙◌, arith, length-append, get_or}
+use Rattle.std.proofs.Common.{◌≡◌, ℕ, zero, suc, ℤ, ◌+◌, ◌*◌, ◌^◌, ◌<◌, ◌≤◌, Bool, true, false, cond, List, [], ◌∷◌, ◌++◌, length, drop, Option, None, Some, sym, ap, subst, arith, length-append, get_or}
 use Rattle.std.specs.Int.RustNames.{unsigned_abs}
-use Rattle.std.proofs.lemmas.Int.{ints}
-use Rattle.bean_pad.specs.Note.{IsBelow, noted_at, with_note, with_noted}
+use Rattle.bean_pad.specs.Note.{IsBelow, noted_at, with_noted}
 use Rattle.bean_pad.specs.Trail.{AreNear, IsNear, notes_in}
 use Rattle.bean_pad.specs.declared.check.Passed.{Passed}
 use Rattle.bean_pad.specs.declared.note.Note.{Note}

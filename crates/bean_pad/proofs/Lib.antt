@@ -1,3 +1,4 @@
+pub mod Examples
 pub mod TrailFacts
 pub mod WithinFacts
 pub mod BoundFacts

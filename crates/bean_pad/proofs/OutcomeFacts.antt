@@ -1,5 +1,5 @@
 -- The padding of a difference.
-use Rattle.std.proofs.Common.{◌≡◌, ◌<◌, ◌^◌, ◌+◌, ◌≤◌, ℕ, ℤ, Bool, true, false, arith, ap, sym, refl}
+use Rattle.std.proofs.Common.{◌≡◌, ◌<◌, ◌^◌, ℤ, Bool, true, false, arith, ap, refl}
 use Rattle.std.proofs.Math.Dec.{T_prop}
 use Rattle.std.proofs.lemmas.Grind.{common_steps}
 use Rattle.std.specs.Coded.{le_prop}
@@ -7,8 +7,7 @@ use Rattle.std.specs.Int.RustNames.{unsigned_abs}
 use mathlib.Core.HLevel.{is_prop→PathP}
 use Rattle.bean_base.specs.Decimal.{IsLedger}
 use Rattle.bean_base.specs.declared.num.Num.{Num}
-use Rattle.bean_pad.specs.Outcome.{is_narrow, padding_of, padding_where, is_ledger, is_small}
-use Rattle.bean_pad.specs.declared.note.Outcome.{Outcome}
+use Rattle.bean_pad.specs.Outcome.{is_narrow, padding_of, padding_where, is_ledger}
 use Rattle.bean_pad.specs.declared.note.Outcome.TheVariants.{Padding, TooWide}
 
 one_num : (a b : Num) → a.count ≡ b.count → a.places ≡ b.places → a ≡ b

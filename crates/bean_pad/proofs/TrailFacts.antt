@@ -1,5 +1,5 @@
 -- The second way through a ledger, by its pads and balances.
-use Rattle.std.proofs.Common.{◌≡◌, ℕ, ◌<◌, ◌+◌, ℤ, ◌+ℤ◌, ◌-ℤ◌, neg_ℤ, pos, Bool, true, false, cond, List, [], ◌∷◌, ◌++◌, length, filter, get_or, take, reverse, suc, zero, add-one, sym, ap, ◌∙◌, refl, arith}
+use Rattle.std.proofs.Common.{◌≡◌, ℕ, ◌<◌, ◌+◌, ℤ, ◌+ℤ◌, ◌-ℤ◌, neg_ℤ, Bool, true, false, cond, List, [], ◌∷◌, ◌++◌, length, filter, get_or, take, reverse, suc, zero, add-one, sym, ap, ◌∙◌, refl, arith}
 use Rattle.std.proofs.Math.IntN.{+ℤ_assoc}
 use Rattle.std.proofs.Math.Seq.{take-suc}
 use Rattle.std.proofs.lemmas.List.{append-nil, reverse-append}
@@ -17,7 +17,6 @@ use Rattle.bean_pad.specs.declared.note.Note.{Note}
 use Rattle.bean_pad.specs.declared.note.NotedPad.{NotedPad}
 use Rattle.bean_pad.specs.declared.note.Outcome.{Outcome}
 use Rattle.bean_pad.specs.declared.note.Outcome.TheVariants as outcome
-use Rattle.bean_pad.specs.declared.step.Balance.{Balance}
 use Rattle.bean_pad.specs.declared.step.Pad.{Pad}
 use Rattle.bean_pad.specs.declared.step.Step.{Step}
 use Rattle.bean_pad.specs.declared.step.Step.TheVariants as step
@@ -45,7 +44,7 @@ more_unit w u xs ys a k h = by (is_of a k u)
     by false = h
 
 more_inserted : (w : ℤ) (p : Pad) (c : List ℕ) (o : Outcome) (xs ys : List Units) (a k : List ℕ) → More w xs ys a k → More w (inserted p c o xs) (inserted p c o ys) a k
-more_inserted w p c (outcome.Padding n) xs ys a k h = 
+more_inserted w p c (outcome.Padding n) xs ys a k h =
     let first = units p.account c (at_8 n) in
     more_unit w (units p.source c (neg_ℤ (at_8 n))) (first ∷ xs) (first ∷ ys) a k (more_unit w first xs ys a k h)
 more_inserted w p c outcome.AtCost xs ys a k h = h

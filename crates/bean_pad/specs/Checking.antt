@@ -1,5 +1,5 @@
 -- What is kept while balances are checked.
-use Rattle.std.specs.Prelude.{◌≡◌, ℕ, ◌+◌, ◌*◌, ◌≤◌, List, [], ◌∷◌, drop}
+use Rattle.std.specs.Prelude.{◌≡◌, ◌+◌, ◌*◌, ◌≤◌, List, [], drop}
 use Rattle.bean_base.specs.declared.fault.Fault.{Fault}
 use Rattle.bean_pad.specs.Sums.{AreSmall, Holds}
 use Rattle.bean_pad.specs.Trail.{fault_with, notes_in, padded_on, pads_on}

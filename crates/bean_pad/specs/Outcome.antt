@@ -1,10 +1,9 @@
 -- What comes of a balance that is out of tolerance where a pad waits for it.
-use Rattle.std.specs.Prelude.{◌≡◌, ◌<◌, ◌^◌, ℕ, ℤ, pos, Bool, true, false, nat_lt, refl, if◌then◌else◌}
+use Rattle.std.specs.Prelude.{◌≡◌, ◌<◌, ◌^◌, ℤ, pos, Bool, true, false, nat_lt, refl, if◌then◌else◌}
 use Rattle.std.specs.Int.RustNames.{unsigned_abs}
 use Rattle.std.proofs.Common.{arith}
 use Rattle.std.proofs.lemmas.Grind.{common_steps}
 use Rattle.bean_base.specs.Decimal.{IsLedger}
-use Rattle.bean_base.specs.declared.num.Num.{Num}
 use Rattle.bean_pad.specs.Held.{at_8}
 use Rattle.bean_pad.specs.declared.note.Outcome.{Outcome}
 use Rattle.bean_pad.specs.declared.note.Outcome.TheVariants.{Padding, AtCost, TooWide}

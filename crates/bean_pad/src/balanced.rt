@@ -59,7 +59,8 @@ impl<'a> Balanced<'a> {
             ≡ (if bytes_eq account.now a && bytes_eq currency.now c
             then seen.pads else pads_at self.old a c)) }
     {
-        self.by_slot.insert(Slot::new(account.text(), currency), seen)?;
+        self.by_slot
+            .insert(Slot::new(account.text(), currency), seen)?;
         Ok(())
     }
 }

@@ -80,11 +80,7 @@ fn insert<'a>(sums: &mut Sums<'a>, pad: &Pad<'a>, note: &Note<'a>) -> Result<(),
 
 /// Adds what the notes of a pad insert.
 #[tactic(auto, using(crate::proofs::InsertedFacts::one_inserted))]
-fn insert_all<'a>(
-    sums: &mut Sums<'a>,
-    pad: &Pad<'a>,
-    notes: &[Note<'a>],
-) -> Result<(), AllocError>
+fn insert_all<'a>(sums: &mut Sums<'a>, pad: &Pad<'a>, notes: &[Note<'a>]) -> Result<(), AllocError>
     requires small { AreSmall sums.old }
     requires few { sums.old.additions + 2 * length notes.now < 2 ^ 42 }
     ensures holds { OnOk result ((us : List Units) → Holds us sums.old

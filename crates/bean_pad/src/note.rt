@@ -85,11 +85,7 @@ pub(crate) fn count_in(noted: &Option<(usize, Note<'_>)>) -> i128
 }
 
 /// Notes what came of the pad of that number.
-fn note_at<'a>(
-    pads: &mut Vec<NotedPad<'a>>,
-    pad: usize,
-    note: Note<'a>,
-) -> Result<(), AllocError>
+fn note_at<'a>(pads: &mut Vec<NotedPad<'a>>, pad: usize, note: Note<'a>) -> Result<(), AllocError>
     requires { pad < length pads.old.items }
     ensures noted { OnOk result (pads.new.items ≡ noted_at pad note.entry pads.old.items) }
     ensures length { OnOk result (length pads.new.items ≡ length pads.old.items) }

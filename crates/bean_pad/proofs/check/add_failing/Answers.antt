@@ -1,4 +1,4 @@
-use Rattle.std.proofs.Common.{◌∷◌, ◌++◌, append_assoc, arith, ap, reverse, subst, sym, take, ◌∙◌}
+use Rattle.std.proofs.Common.{◌++◌, append_assoc, arith, ap, reverse, subst, sym, take, ◌∙◌}
 use Rattle.bean_pad.specs.Checking.{Checks, found_at}
 use Rattle.bean_pad.specs.Trail.{failing_on}
 use Rattle.bean_pad.proofs.TrailFacts.{failing_more, one_more}

@@ -1,4 +1,4 @@
-use Rattle.std.proofs.Common.{◌∙◌, ap, sym, subst}
+use Rattle.std.proofs.Common.{sym, subst}
 use Rattle.bean_pad.specs.Standing.{all_inserted}
 use Rattle.bean_pad.specs.Sums.{Holds}
 use Rattle.bean_pad.proofs.InsertedFacts.{inserted_behind, inserted_there}

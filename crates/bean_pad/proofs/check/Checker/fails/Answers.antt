@@ -2,7 +2,6 @@ use Rattle.std.proofs.Common.{◌≡◌, ◌<◌, ◌≤◌, ◌*◌, ◌^◌, �
 use Rattle.std.specs.Int.{w128}
 use Rattle.std.specs.Int.RustNames.{unsigned_abs}
 use Rattle.std.proofs.lemmas.Int.{ints}
-use Rattle.bean_pad.specs.Held.{held}
 use Rattle.bean_pad.specs.Tolerance.{is_out}
 use Rattle.bean_pad.proofs.check.Checker.fails.Goals as goal
 

@@ -3,7 +3,7 @@ use Rattle.std.specs.Int.{w128}
 use Rattle.std.proofs.lemmas.Int.{ints}
 use Rattle.bean_pad.proofs.OutcomeFacts.{made}
 use Rattle.bean_pad.specs.Outcome.{padding_of}
-use Rattle.bean_pad.specs.declared.note.Outcome.TheVariants.{AtCost, Padding}
+use Rattle.bean_pad.specs.declared.note.Outcome.TheVariants.{AtCost}
 use Rattle.bean_pad.proofs.note.Outcome.of.Goals as goal
 
 pub returns-in-Ok : goal.returns-in-Ok

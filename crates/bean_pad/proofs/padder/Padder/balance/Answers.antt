@@ -5,11 +5,10 @@ use Rattle.std.specs.Str.{bytes_eq}
 use Rattle.std.proofs.lemmas.Int.{ints}
 use Rattle.std.proofs.lemmas.List.{reverse-append}
 use Rattle.std.proofs.lemmas.Slice.Eq.{bytes_eq-Decides}
-use Rattle.bean_pad.specs.Note.{IsBelow, count_in, noted, noted_pads, padded, pads_in, with_noted}
-use Rattle.bean_pad.specs.Sums.{number_at, padded_at, pads_at}
+use Rattle.bean_pad.specs.Note.{IsBelow, count_in, noted, padded, with_noted}
+use Rattle.bean_pad.specs.Sums.{number_at, padded_at}
 use Rattle.bean_pad.specs.Trail.{AreNear, check_of, notes_in, trail_of}
 use Rattle.bean_pad.specs.declared.check.Passed.TheVariants as passed
-use Rattle.bean_pad.specs.declared.step.Step.TheVariants as step
 use Rattle.bean_pad.proofs.BoundFacts.{grown, near_push, notes_noted}
 use Rattle.bean_pad.proofs.padder.Padder.balance.Goals as goal
 

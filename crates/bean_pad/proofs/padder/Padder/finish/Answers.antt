@@ -1,4 +1,4 @@
-use Rattle.std.proofs.Common.{◌≡◌, ◌++◌, ap, reverse, sym, ◌∙◌}
+use Rattle.std.proofs.Common.{◌++◌, ap, reverse, sym, ◌∙◌}
 use Rattle.std.proofs.lemmas.List.{reverse-reverse}
 use Rattle.std.specs.List.{flat_map}
 use Rattle.bean_pad.specs.Note.{noted_pads}

@@ -1,4 +1,4 @@
-use Rattle.std.proofs.Common.{◌≡◌, ◌≤◌, length, arith, ap, sym, subst, ◌∙◌, pos}
+use Rattle.std.proofs.Common.{◌≤◌, length, arith, ap, sym, subst}
 use Rattle.std.specs.Int.RustNames.{unsigned_abs}
 use Rattle.bean_pad.specs.Note.{IsBelow}
 use Rattle.bean_pad.specs.Trail.{AreNear, notes_in}

@@ -1,4 +1,4 @@
-use Rattle.std.proofs.Common.{◌≡◌, ◌+◌, ◌≤◌, length, arith, ap, ◌∙◌, sym, subst, cond, Some, rules}
+use Rattle.std.proofs.Common.{◌≡◌, ◌+◌, length, arith, ap, ◌∙◌, sym, subst, cond, Some, rules}
 use Rattle.std.specs.Str.{bytes_eq}
 use Rattle.bean_pad.specs.Sums.{number_at}
 use Rattle.bean_pad.specs.Trail.{AreNear, notes_in}
