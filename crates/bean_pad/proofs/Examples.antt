@@ -1,5 +1,6 @@
 -- The definitions at worked values. The latest step stands first.
-use Rattle.std.proofs.Common.{◌≡◌, ◌<◌, ◌≤◌, ◌^◌, ℕ, ℤ, pos, negsuc, Bool, true, false, List, [], ◌∷◌, map, None, Some, codes, refl, arith}
+use Rattle.std.proofs.Common.{◌≡◌, ◌<◌, ◌≤◌, ◌^◌, ℕ, ℤ, pos, negsuc, Bool, true, false, List, []}
+use Rattle.std.proofs.Common.{◌∷◌, map, None, Some, codes, refl, arith}
 use Rattle.std.specs.Int.RustNames.{unsigned_abs}
 use Rattle.bean_base.proofs.WorkedDays.{january_3}
 use Rattle.bean_base.specs.Decimal.{IsLedger}
@@ -24,7 +25,8 @@ is_small count few = omega (arith, few)
 
 -- numbers with two decimals
 abbrev cents : (count : ℤ) → unsigned_abs count ≤ 100000 → Num
-cents count few = record { count = count; places = 2; in_range = is_ledger count few; small = is_small count few }
+cents count few =
+    record { count = count; places = 2; in_range = is_ledger count few; small = is_small count few }
 
 few_30 : 3000 ≤ 100000
 few_30 = omega arith
@@ -57,10 +59,16 @@ abbrev eur : List ℕ
 eur = codes "EUR"
 
 abbrev posting : List ℕ → List ℕ → Num → Step
-posting account currency number = step.Posting record { account = account; units = record { number = number; currency = currency } }
+posting account currency number =
+    step.Posting record {
+      account = account;
+      units =
+          record { number = number; currency = currency };
+    }
 
 abbrev pad : ℕ → List ℕ → Step
-pad line account = step.Pad record { account = account; source = equity; day = january_3; file = 0; line = line }
+pad line account =
+    step.Pad record { account = account; source = equity; day = january_3; file = 0; line = line }
 
 abbrev balance : ℕ → List ℕ → List ℕ → Num → Bool → Step
 balance line account currency number is_at_cost = step.Balance record {
@@ -75,14 +83,16 @@ balance line account currency number is_at_cost = step.Balance record {
 
 -- what is padded, in counts of 10^-8, pad by pad
 abbrev paddings : List Step → List (List (List ℕ × ℤ))
-paddings past = map (λ (p : NotedPad). map (λ n. (n.currency, count_in n.outcome)) p.notes) (noted_pads past)
+paddings past =
+    map (λ (p : NotedPad). map (λ n. (n.currency, count_in n.outcome)) p.notes) (noted_pads past)
 
 abbrev faults_in : List Step → List (FaultKind × ℕ)
 faults_in past = map (λ (f : faults.Fault). (f.kind, f.line)) (faults_with (noted_pads past) past)
 
 -- 30.00 USD are held, and there is a pad
 abbrev start : List Step
-start = pad 6 cash ∷ posting equity usd (cents (negsuc 2999) few_30) ∷ posting cash usd (cents (pos 3000) few_30) ∷ []
+start = pad 6 cash ∷ posting equity usd (cents (negsuc 2999) few_30)
+    ∷ posting cash usd (cents (pos 3000) few_30) ∷ []
 
 abbrev padded : List Step
 padded = balance 7 cash usd (cents (pos 10000) few_100) false ∷ start
@@ -98,7 +108,8 @@ and_holds = refl
 abbrev second : Num → List Step
 second number = balance 8 cash usd number false ∷ padded
 
-the_second_pads_nothing : paddings (second (cents (pos 15000) few_150)) ≡ ((usd, pos 7000000000) ∷ []) ∷ []
+the_second_pads_nothing :
+    paddings (second (cents (pos 15000) few_150)) ≡ ((usd, pos 7000000000) ∷ []) ∷ []
 the_second_pads_nothing = refl
 
 the_second_fails : faults_in (second (cents (pos 15000) few_150)) ≡ (BalanceFails, 8) ∷ []
@@ -116,9 +127,12 @@ nothing_comes_of_it = refl
 
 -- one pad, two currencies
 abbrev two_currencies : List Step
-two_currencies = balance 8 cash usd (cents (pos 10000) few_100) false ∷ balance 7 cash eur (cents (pos 500) few_5) false ∷ pad 6 cash ∷ []
+two_currencies =
+    balance 8 cash usd (cents (pos 10000) few_100) false
+    ∷ balance 7 cash eur (cents (pos 500) few_5) false ∷ pad 6 cash ∷ []
 
-each_currency_is_padded : paddings two_currencies ≡ ((eur, pos 500000000) ∷ (usd, pos 10000000000) ∷ []) ∷ []
+each_currency_is_padded :
+    paddings two_currencies ≡ ((eur, pos 500000000) ∷ (usd, pos 10000000000) ∷ []) ∷ []
 each_currency_is_padded = refl
 
 both_hold : faults_in two_currencies ≡ []
@@ -138,7 +152,8 @@ the_earlier_is_unused = refl
 abbrev padded_again : List Step
 padded_again = balance 9 cash usd (cents (pos 15000) few_150) false ∷ pad 8 cash ∷ padded
 
-only_the_rest_is_padded : paddings padded_again ≡ ((usd, pos 7000000000) ∷ []) ∷ ((usd, pos 5000000000) ∷ []) ∷ []
+only_the_rest_is_padded :
+    paddings padded_again ≡ ((usd, pos 7000000000) ∷ []) ∷ ((usd, pos 5000000000) ∷ []) ∷ []
 only_the_rest_is_padded = refl
 
 -- a lot of the currency is held
@@ -153,7 +168,9 @@ a_pad_at_cost = refl
 
 -- a balance counts what the accounts below hold; what is padded on one of them counts in the end
 abbrev of_all_assets : List Step
-of_all_assets = balance 8 (codes "Assets:Bank") usd (cents (pos 3000) few_30) false ∷ posting (codes "Assets:Bank:Savings") usd (cents (pos 3000) few_30) ∷ []
+of_all_assets =
+    balance 8 (codes "Assets:Bank") usd (cents (pos 3000) few_30) false
+    ∷ posting (codes "Assets:Bank:Savings") usd (cents (pos 3000) few_30) ∷ []
 
 accounts_below_count : faults_in of_all_assets ≡ []
 accounts_below_count = refl

@@ -1,5 +1,7 @@
 -- The accounts above a name are what stands before its colons.
-use Rattle.std.proofs.Common.{◌≡◌, ℕ, suc, ℤ, ◌+ℤ◌, ◌==◌, Bool, true, false, cond, ◌&&◌, ◌||◌, List, [], ◌∷◌, length, take, nat_lt, get_or, refl, sym, ap, subst, ◌∙◌, arith}
+use Rattle.std.proofs.Common.{◌≡◌, ℕ, suc, ℤ, ◌+ℤ◌, ◌==◌, Bool, true, false, cond, ◌&&◌, ◌||◌, List}
+use Rattle.std.proofs.Common.{[], ◌∷◌, length, take, nat_lt, get_or, refl, sym, ap, subst, ◌∙◌}
+use Rattle.std.proofs.Common.{arith}
 use Rattle.std.specs.Str.{bytes_eq}
 use Rattle.std.proofs.lemmas.Bool.Decides.{nat_tests}
 use Rattle.std.proofs.lemmas.Slice.Eq.{bytes_eq-Decides}
@@ -29,26 +31,35 @@ lt_suc m n = by (nat_lt m n) refl
 pub below_is_cut : (a name : List ℕ) → is_below a name ≡ is_cut_before (length name) a name
 below_is_cut [] [] = refl
 below_is_cut [] (b ∷ bs) = ap (λ t. t && ((b == colon) && true)) (sym (zero_lt (length bs)))
-below_is_cut (x ∷ a) [] = ap (λ t. t && is_cut_at (suc (length a)) (x ∷ a) []) (sym (lt_zero (suc (length a))))
+below_is_cut (x ∷ a) [] =
+    ap (λ t. t && is_cut_at (suc (length a)) (x ∷ a) []) (sym (lt_zero (suc (length a))))
 below_is_cut (x ∷ a) (b ∷ bs) =
     ap (λ t. (b == x) && t) (below_is_cut a bs)
-    ∙ turned (b == x) (nat_lt (length a) (length bs)) (get_or bs (length a) 0 == colon) (bytes_eq (take (length a) bs) a)
-    ∙ ap (λ t. t && is_cut_at (suc (length a)) (x ∷ a) (b ∷ bs)) (sym (lt_suc (length a) (length bs)))
+    ∙ turned (b == x) (nat_lt (length a) (length bs)) (get_or bs (length a) 0 == colon)
+    (bytes_eq (take (length a) bs) a)
+    ∙ ap (λ t. t && is_cut_at (suc (length a)) (x ∷ a) (b ∷ bs))
+    (sym (lt_suc (length a) (length bs)))
 
 apart : (a name : List ℕ) → bytes_eq name a ≡ true → is_cut_before (length name) a name ≡ false
 apart a name same =
     let is : name ≡ a = (bytes_eq-Decides name a).0 same in
-    let no : nat_lt (length a) (length name) ≡ false = subst (λ n. nat_lt (length a) (length n) ≡ false) (sym is) (grind (arith, nat_tests)) in
+    let no : nat_lt (length a) (length name) ≡ false =
+    subst (λ n. nat_lt (length a) (length n) ≡ false) (sym is) (grind (arith, nat_tests)) in
     ap (λ b. b && is_cut_at (length a) a name) no
 
-joined_by : (b cut k : Bool) (x n y z : ℤ) → (b ≡ true → cut ≡ false) → y ≡ cond (cut && k) (x +ℤ n) x → z ≡ cond (b && k) (y +ℤ n) y → z ≡ cond ((b || cut) && k) (x +ℤ n) x
+joined_by : (b cut k : Bool) (x n y z : ℤ) → (b ≡ true → cut ≡ false)
+    → y ≡ cond (cut && k) (x +ℤ n) x → z ≡ cond (b && k) (y +ℤ n) y
+    → z ≡ cond ((b || cut) && k) (x +ℤ n) x
 joined_by true cut k x n y z apart first second =
     let same : y ≡ x = first ∙ ap (λ t. cond (t && k) (x +ℤ n) x) (apart refl) in
     second ∙ ap (λ y. cond k (y +ℤ n) y) same
 joined_by false cut k x n y z apart first second = second ∙ first
 
-pub joined : (a name : List ℕ) (k : Bool) (x n y z : ℤ) → y ≡ cond (is_cut_before (length name) a name && k) (x +ℤ n) x → z ≡ cond (bytes_eq name a && k) (y +ℤ n) y
+pub joined : (a name : List ℕ) (k : Bool) (x n y z : ℤ)
+    → y ≡ cond (is_cut_before (length name) a name && k) (x +ℤ n) x
+    → z ≡ cond (bytes_eq name a && k) (y +ℤ n) y
     → z ≡ cond (is_within a name && k) (x +ℤ n) x
 joined a name k x n y z first second =
-    joined_by (bytes_eq name a) (is_cut_before (length name) a name) k x n y z (apart a name) first second
+    joined_by (bytes_eq name a) (is_cut_before (length name) a name) k x n y z (apart a name) first
+    second
     ∙ ap (λ t. cond ((bytes_eq name a || t) && k) (x +ℤ n) x) (sym (below_is_cut a name))

@@ -1,5 +1,6 @@
 -- What is kept while the steps of a ledger are gone through.
-use Rattle.std.specs.Prelude.{◌≡◌, ℕ, ◌*◌, ◌≤◌, ◌^◌, List, [], ◌∷◌, Option, None, Some, length, nat_lt, reverse, if◌then◌else◌}
+use Rattle.std.specs.Prelude.{◌≡◌, ℕ, ◌*◌, ◌≤◌, ◌^◌, List, [], ◌∷◌, Option, None, Some, length}
+use Rattle.std.specs.Prelude.{nat_lt, reverse, if◌then◌else◌}
 use Rattle.std.specs.Int.RustNames.{unsigned_abs}
 use Rattle.std.specs.Str.{bytes_eq}
 use Rattle.bean_pad.specs.Held.{written}

@@ -1,5 +1,6 @@
 -- What postings add to accounts, and what accounts hold by it.
-use Rattle.std.specs.Prelude.{ℕ, suc, ℤ, pos, ◌+ℤ◌, ◌&&◌, ◌||◌, Bool, List, [], ◌∷◌, ◌++◌, filter, length, take}
+use Rattle.std.specs.Prelude.{ℕ, suc, ℤ, pos, ◌+ℤ◌, ◌&&◌, ◌||◌, Bool, List, [], ◌∷◌, ◌++◌, filter}
+use Rattle.std.specs.Prelude.{length, take}
 use Rattle.std.specs.Str.{bytes_eq}
 use Rattle.bean_base.specs.Character.{colon}
 use Rattle.bean_base.specs.Decimal.{scaled}
@@ -19,7 +20,8 @@ abbrev pub at_8 : Num → ℤ
 at_8 n = scaled n.count n.places 8
 
 abbrev pub units_of : Posting → Units
-units_of p = record { account = p.account; currency = p.units.currency; count = at_8 p.units.number }
+units_of p =
+    record { account = p.account; currency = p.units.currency; count = at_8 p.units.number }
 
 -- the name goes on behind that of the account, with a colon
 abbrev pub is_below : List ℕ → List ℕ → Bool
@@ -40,7 +42,8 @@ total (u ∷ us) = total us +ℤ u.count
 abbrev pub held : List Units → List ℕ → List ℕ → ℤ
 held us account currency = total (filter (is_of account currency) us)
 
--- what the postings of written transactions add, of all steps so far; here and everywhere the latest
+-- what the postings of written transactions add, of all steps so far; here and everywhere the
+-- latest
 -- step stands first
 abbrev pub written : List Step → List Units
 written [] = []

@@ -1,6 +1,8 @@
--- What comes of pads: in each currency the first balance on a pad's account, up to the next pad on it, uses
+-- What comes of pads: in each currency the first balance on a pad's account, up to the next pad on
+-- it, uses
 -- the pad up.
-use Rattle.std.specs.Prelude.{ℕ, zero, suc, ◌<◌, ℤ, pos, ◌+ℤ◌, ◌-ℤ◌, ◌&&◌, Bool, List, [], ◌∷◌, ◌++◌, Option, None, Some, if◌then◌else◌}
+use Rattle.std.specs.Prelude.{ℕ, zero, suc, ◌<◌, ℤ, pos, ◌+ℤ◌, ◌-ℤ◌, ◌&&◌, Bool, List, [], ◌∷◌}
+use Rattle.std.specs.Prelude.{◌++◌, Option, None, Some, if◌then◌else◌}
 use Rattle.std.specs.Str.{bytes_eq}
 use Rattle.bean_pad.specs.Held.{at_8, held, written}
 use Rattle.bean_pad.specs.Outcome as outcomes
@@ -22,8 +24,8 @@ pads_in (step.Balance b ∷ past) = pads_in past
 abbrev pub is_on : List ℕ → List ℕ → Balance → Bool
 is_on account currency b = bytes_eq b.account account && bytes_eq b.currency currency
 
--- the pad that waits for a balance on the account in the currency: the latest one on the account, unless
--- such a balance stands after it
+-- the pad that waits for a balance on the account in the currency: the latest one on the account,
+-- unless such a balance stands after it
 abbrev pub waiting : List Step → List ℕ → List ℕ → Option ℕ
 waiting [] account currency = None
 waiting (step.Posting p ∷ past) account currency = waiting past account currency
@@ -34,10 +36,11 @@ waiting (step.Balance b ∷ past) account currency =
 
 -- what comes of a balance that is out of tolerance, off by so much
 abbrev pub note_of : ℤ → Balance → Note
-note_of difference b = record { currency = b.currency; outcome = outcome_of difference b.is_at_cost }
+note_of difference b =
+    record { currency = b.currency; outcome = outcome_of difference b.is_at_cost }
 
--- what comes of a balance that is off by so much, with the number of the pad that waits for it: nothing
--- where none waits, or within its tolerance
+-- what comes of a balance that is off by so much, with the number of the pad that waits for it:
+-- nothing where none waits, or within its tolerance
 abbrev pub noted_of : Option ℕ → ℤ → Balance → Option (ℕ × Note)
 noted_of None difference b = None
 noted_of (Some pad) difference b =
@@ -48,8 +51,8 @@ abbrev pub count_in : Option (ℕ × Note) → ℤ
 count_in None = pos 0
 count_in (Some noted) = outcomes.count_in noted.1.outcome
 
--- a balance's number less what its account and those below it hold by written transactions, and less
--- what was padded on the account
+-- a balance's number less what its account and those below it hold by written transactions, and
+-- less what was padded on the account
 abbrev pub difference_with : List Step → ℤ → Balance → ℤ
 difference_with past padded b = at_8 b.number -ℤ held (written past) b.account b.currency -ℤ padded
 
@@ -61,7 +64,9 @@ padded (step.Pad p ∷ past) account currency = padded past account currency
 padded (step.Balance b ∷ past) account currency =
     if is_on account currency b
     then padded past account currency
-    +ℤ count_in (noted_of (waiting past b.account b.currency) (difference_with past (padded past b.account b.currency) b) b)
+    +ℤ count_in
+    (noted_of (waiting past b.account b.currency)
+    (difference_with past (padded past b.account b.currency) b) b)
     else padded past account currency
 
 abbrev pub difference : List Step → Balance → ℤ

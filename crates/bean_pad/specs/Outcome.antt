@@ -20,7 +20,13 @@ is_ledger count is = (omega arith, is_small count is)
 
 abbrev pub padding_where : (count : ℤ) (b : Bool) → is_narrow count ≡ b → Outcome
 padding_where count true is =
-    Padding (record { count = count; places = 8; in_range = is_ledger count is; small = is_small count is })
+    Padding (record {
+      count = count;
+      places = 8;
+      in_range = is_ledger count is;
+      small =
+          is_small count is;
+    })
 padding_where count false is = TooWide
 
 -- the difference where it is a number of a ledger

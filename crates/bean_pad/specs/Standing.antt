@@ -1,9 +1,11 @@
 -- What accounts hold once all paddings stand, each directly behind its pad.
-use Rattle.std.specs.Prelude.{ℕ, zero, suc, ℤ, neg_ℤ, ◌-ℤ◌, Bool, List, [], ◌∷◌, ◌++◌, if◌then◌else◌}
+use Rattle.std.specs.Prelude.{ℕ, zero, suc, ℤ, neg_ℤ, ◌-ℤ◌, Bool, List, [], ◌∷◌, ◌++◌}
+use Rattle.std.specs.Prelude.{if◌then◌else◌}
 use Rattle.std.specs.List.{flat_map}
 use Rattle.bean_base.specs.declared.fault.Fault.{Fault}
 use Rattle.bean_base.specs.declared.fault.FaultKind.{FaultKind}
-use Rattle.bean_base.specs.declared.fault.FaultKind.TheVariants.{TooWide, BalanceFails, UnusedPad, PadAtCost}
+use Rattle.bean_base.specs.declared.fault.FaultKind.TheVariants.{TooWide, BalanceFails, UnusedPad}
+use Rattle.bean_base.specs.declared.fault.FaultKind.TheVariants.{PadAtCost}
 use Rattle.bean_pad.specs.Held.{Units, at_8, held, units_of}
 use Rattle.bean_pad.specs.Note.{pads_in}
 use Rattle.bean_pad.specs.Tolerance.{is_out, tolerance_of}
@@ -78,4 +80,5 @@ failing ps [] = []
 failing ps (step.Posting p ∷ past) = failing ps past
 failing ps (step.Pad p ∷ past) = failing ps past
 failing ps (step.Balance b ∷ past) =
-    failing ps past ++ (if fails (standing ps past) b then fault_at BalanceFails b.file b.line ∷ [] else [])
+    failing ps past ++ (if fails (standing ps past) b then
+    fault_at BalanceFails b.file b.line ∷ [] else [])

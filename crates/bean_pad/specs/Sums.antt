@@ -1,5 +1,6 @@
 -- What is kept by account and currency.
-use Rattle.std.specs.Prelude.{◌≡◌, ℕ, ◌*◌, ◌<◌, ◌≤◌, ◌^◌, ◌==◌, ℤ, pos, ◌&&◌, Bool, List, length, nat_lt, take, slice_index, unwrap_or, Option}
+use Rattle.std.specs.Prelude.{◌≡◌, ℕ, ◌*◌, ◌<◌, ◌≤◌, ◌^◌, ◌==◌, ℤ, pos, ◌&&◌, Bool, List, length}
+use Rattle.std.specs.Prelude.{nat_lt, take, slice_index, unwrap_or, Option}
 use Rattle.std.specs.Int.RustNames.{unsigned_abs}
 use Rattle.std.specs.Option.{option_map}
 use Rattle.std.specs.Str.{bytes_eq}
@@ -20,7 +21,8 @@ same_slot a b = bytes_eq a.account b.account && bytes_eq a.currency b.currency
 
 -- the sum under an account and a currency
 abbrev pub entry_at : Table → List ℕ → List ℕ → ℤ
-entry_at t account currency = unwrap_or (get same_slot t.by_slot (record { account = account; currency = currency })) (pos 0)
+entry_at t account currency =
+    unwrap_or (get same_slot t.by_slot (record { account = account; currency = currency })) (pos 0)
 
 -- far from the machine's bounds
 abbrev pub IsFar : Table → Type 0
@@ -31,7 +33,8 @@ sum_at s account currency = entry_at s.table account currency
 
 -- so many additions can't have made a sum greater
 abbrev pub AreSmall : Sums → Type 0
-AreSmall s = (account currency : List ℕ) → unsigned_abs (sum_at s account currency) ≤ s.additions * 10 ^ 20
+AreSmall s = (account currency : List ℕ)
+    → unsigned_abs (sum_at s account currency) ≤ s.additions * 10 ^ 20
 
 -- each sum is what these units come to
 pub record Holds (us : List Units) (s : Sums) : Type 0 where
@@ -39,20 +42,24 @@ pub record Holds (us : List Units) (s : Sums) : Type 0 where
 
 -- the name up to a colon at that place is the account
 abbrev pub is_cut_at : ℕ → List ℕ → List ℕ → Bool
-is_cut_at place account name = (slice_index name place == colon) && bytes_eq (take place name) account
+is_cut_at place account name =
+    (slice_index name place == colon) && bytes_eq (take place name) account
 
 -- the name up to a colon before that place is the account
 abbrev pub is_cut_before : ℕ → List ℕ → List ℕ → Bool
-is_cut_before place account name = nat_lt (length account) place && is_cut_at (length account) account name
+is_cut_before place account name =
+    nat_lt (length account) place && is_cut_at (length account) account name
 
 -- ---- balances and pads
 
 abbrev pub seen_at : Balanced → List ℕ → List ℕ → Option Seen
-seen_at b account currency = get same_slot b.by_slot (record { account = account; currency = currency })
+seen_at b account currency =
+    get same_slot b.by_slot (record { account = account; currency = currency })
 
 -- what was padded on an account
 abbrev pub padded_at : Balanced → List ℕ → List ℕ → ℤ
-padded_at b account currency = unwrap_or (option_map (λ s. s.padded) (seen_at b account currency)) (pos 0)
+padded_at b account currency =
+    unwrap_or (option_map (λ s. s.padded) (seen_at b account currency)) (pos 0)
 
 -- how many pads stand before its latest balance
 abbrev pub pads_at : Balanced → List ℕ → List ℕ → ℕ

@@ -1,5 +1,6 @@
 -- How far a balance may be off, in counts of 10^-8.
-use Rattle.std.specs.Prelude.{ℤ, pos, neg_ℤ, ◌-◌, ◌^◌, ◌==◌, ◌||◌, Bool, Option, Some, None, if◌then◌else◌}
+use Rattle.std.specs.Prelude.{ℤ, pos, neg_ℤ, ◌-◌, ◌^◌, ◌==◌, ◌||◌, Bool, Option, Some, None}
+use Rattle.std.specs.Prelude.{if◌then◌else◌}
 use Rattle.std.specs.Int.Signed.{lt_z}
 use Rattle.bean_base.specs.declared.num.Num.{Num}
 use Rattle.bean_pad.specs.Held.{at_8}

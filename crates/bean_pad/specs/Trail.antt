@@ -1,6 +1,7 @@
--- The second way through a ledger, by its pads and balances alone: each balance keeps by how much what is
--- written falls short of it.
-use Rattle.std.specs.Prelude.{ℕ, suc, ◌+◌, ◌<◌, ◌^◌, ◌-ℤ◌, Bool, List, [], ◌∷◌, ◌++◌, length, if◌then◌else◌}
+-- The second way through a ledger, by its pads and balances alone: each balance keeps by how much
+-- what is written falls short of it.
+use Rattle.std.specs.Prelude.{ℕ, suc, ◌+◌, ◌<◌, ◌^◌, ◌-ℤ◌, Bool, List, [], ◌∷◌, ◌++◌, length}
+use Rattle.std.specs.Prelude.{if◌then◌else◌}
 use Rattle.std.specs.Int.RustNames.{unsigned_abs}
 use Rattle.std.specs.List.{AllByRecursion}
 use Rattle.bean_base.specs.declared.fault.Fault.{Fault}

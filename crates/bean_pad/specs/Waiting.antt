@@ -13,8 +13,8 @@ is_between account currency (step.Posting p) = false
 is_between account currency (step.Pad p) = bytes_eq p.account account
 is_between account currency (step.Balance b) = is_on account currency b
 
--- of the steps before a balance one is a pad of that number on the account, and neither a pad on the
--- account nor a balance on it in the currency stands after that pad
+-- of the steps before a balance one is a pad of that number on the account, and neither a pad on
+-- the account nor a balance on it in the currency stands after that pad
 pub record IsWaiting (past : List Step) (account currency : List ℕ) (number : ℕ) : Type 0 where
   pub later : List Step
   pub pad : Pad

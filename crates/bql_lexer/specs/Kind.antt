@@ -5,7 +5,10 @@ use Rattle.std.specs.Str.{str_eq_ignore_ascii_case}
 use denote.Enum.Bare.{sameb}
 use Rattle.bql_lexer.specs.contracts.kind.Kind as kind_type
 use Rattle.bql_lexer.specs.declared.kind.Kind.{Kind}
-use Rattle.bql_lexer.specs.declared.kind.Kind.TheVariants.{Name, Select, Distinct, From, Where, Group, By, Order, Asc, Desc, Limit, As, Journal, At, Balances, Or, And, Not, In, True, False, Null}
+use Rattle.bql_lexer.specs.declared.kind.Kind.TheVariants.{Name, Select, Distinct, From, Where}
+use Rattle.bql_lexer.specs.declared.kind.Kind.TheVariants.{Group, By, Order, Asc, Desc, Limit, As}
+use Rattle.bql_lexer.specs.declared.kind.Kind.TheVariants.{Journal, At, Balances, Or, And, Not, In}
+use Rattle.bql_lexer.specs.declared.kind.Kind.TheVariants.{True, False, Null}
 use Rattle.bql_lexer.specs.declared.kind.TheConstants.{WORDS}
 
 abbrev pub same_kind : Kind → Kind → Bool

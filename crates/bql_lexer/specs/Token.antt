@@ -1,8 +1,11 @@
 -- The token at the front of a text that is not empty, and what stands behind it.
-use Rattle.std.specs.Prelude.{◌≡◌, true, ℕ, ◌+◌, ◌==◌, ◌&&◌, ◌||◌, Bool, List, [], length, take, drop, nat_lt, nat_le, slice_index, Option, Some, None, if◌then◌else◌}
+use Rattle.std.specs.Prelude.{◌≡◌, true, ℕ, ◌+◌, ◌==◌, ◌&&◌, ◌||◌, Bool, List, [], length, take}
+use Rattle.std.specs.Prelude.{drop, nat_lt, nat_le, slice_index, Option, Some, None, if◌then◌else◌}
 use Rattle.std.specs.List.{prefix_len, position_or_len, before_first, after_first}
 use Rattle.std.specs.Char.{is_ascii_digit, is_ascii_alphabetic, is_ascii_alphanumeric}
-use Rattle.bean_base.specs.Character.{tab, line_feed, carriage_return, space, bang, quote, apostrophe, open_parenthesis, close_parenthesis, star, plus, comma, dash, point, slash, semicolon, underscore, tilde}
+use Rattle.bean_base.specs.Character.{tab, line_feed, carriage_return, space, bang, quote}
+use Rattle.bean_base.specs.Character.{apostrophe, open_parenthesis, close_parenthesis, star, plus}
+use Rattle.bean_base.specs.Character.{comma, dash, point, slash, semicolon, underscore, tilde}
 use Rattle.bean_base.specs.Day.{is_day_form}
 use Rattle.bql_lexer.specs.Kind.{word_kind}
 use Rattle.bql_lexer.specs.declared.found.Found.{Found}
@@ -45,7 +48,8 @@ begins_with_day bs = nat_le 10 (length bs) && (slice_index bs 4 == dash) && is_d
 -- a point and a digit stand at a place
 abbrev pub has_decimals : List ℕ → ℕ → Bool
 has_decimals bs at =
-    nat_lt (at + 1) (length bs) && (slice_index bs at == point) && is_ascii_digit (slice_index bs (at + 1))
+    nat_lt (at + 1) (length bs) && (slice_index bs at == point)
+    && is_ascii_digit (slice_index bs (at + 1))
 
 -- digits, and a point with the digits behind it
 abbrev pub whole_len : List ℕ → ℕ
@@ -78,7 +82,8 @@ quoted inner rest = record { kind = kind.Text; text = inner; rest = rest }
 abbrev pub text_or_fault : ℕ → List ℕ → Found
 text_or_fault mark bs =
     if is_closed mark (drop 1 bs)
-    then quoted (before_first (λ b. b == mark) (drop 1 bs)) (after_first (λ b. b == mark) (drop 1 bs))
+    then quoted (before_first (λ b. b == mark) (drop 1 bs))
+    (after_first (λ b. b == mark) (drop 1 bs))
     else fault bs
 
 abbrev pub equals : ℕ

@@ -5,7 +5,8 @@ use Rattle.bql_lexer.specs.declared.found.Found.{Found}
 use Rattle.bql_lexer.specs.declared.token.Token.{Token}
 
 -- the token that stands before what is left of a query of a length
-pub record IsToken (length_of_query : ℕ) (behind : List ℕ) (found : Found) (t : Token) : Type 0 where
+pub record IsToken (length_of_query : ℕ) (behind : List ℕ) (found : Found) (t : Token) :
+    Type 0 where
   pub kind : t.kind ≡ found.kind
   pub text : t.text ≡ found.text
   pub start : t.start ≡ length_of_query - length behind

@@ -63,7 +63,10 @@ fn a_pad_without_a_balance_is_unused(rt: HostRuntime) -> Result<(), Fail> {
     pad(&mut padder, 7, "Assets:Bank")?;
     balance(&mut padder, 8, "Assets:Bank", "0.01", "USD")?;
     let padded = padder.finish()?;
-    assert_eq!(rt; words(alloc, &padded)?.as_str(), "F20 unused pad 6 F20 unused pad 7 ");
+    assert_eq!(rt;
+        words(alloc, &padded)?.as_str(),
+        "F20 unused pad 6 F20 unused pad 7 "
+    );
     Ok(())
 }
 

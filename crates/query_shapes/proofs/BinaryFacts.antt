@@ -1,6 +1,7 @@
 -- Operations on two values keep shapes.
 use Rattle.std.proofs.Common.{◌≡◌, ℕ, ◌+◌, ◌-◌, ◌*◌, ◌^◌, ◌≤◌, max, ℤ, pos, ◌+ℤ◌, ◌-ℤ◌, ◌*ℤ◌, Bool}
-use Rattle.std.proofs.Common.{true, false, cond, ◌&&◌, ◌||◌, List, Ok, Err, eqb, refl, sym, ap, ◌∙◌, subst}
+use Rattle.std.proofs.Common.{true, false, cond, ◌&&◌, ◌||◌, List, Ok, Err, eqb, refl, sym, ap, ◌∙◌}
+use Rattle.std.proofs.Common.{subst}
 use Rattle.std.proofs.Common.{arith, not}
 use Rattle.std.specs.Int.RustNames.{unsigned_abs}
 use Rattle.std.proofs.Math.Nat.{mul-le-mul}
@@ -41,11 +42,13 @@ Of P p m q n =
 
 numbers : (P : Value → Value → Type 0) (p m q n : ℕ) → P value.Null value.Null
     → ((j : ℤ) → P (value.Number p j) value.Null) → ((k : ℤ) → P value.Null (value.Number q k))
-    → Of P p m q n → (x y : Value) → LiesIn x (shape.Number p m) → LiesIn y (shape.Number q n) → P x y
+    → Of P p m q n → (x y : Value) → LiesIn x (shape.Number p m) → LiesIn y (shape.Number q n)
+    → P x y
 numbers P p m q n none left right both x y h k =
     number_cases (λ z. P z y) p m
     (number_cases (λ w. P value.Null w) q n none (λ i low. right i) y k)
-    (λ i low. number_cases (λ w. P (value.Number p i) w) q n (left i) (λ j few. both i j low few) y k)
+    (λ i low. number_cases (λ w. P (value.Number p i) w) q n (left i) (λ j few. both i j low few) y
+    k)
     x h
 
 -- ---- sums and products
@@ -141,7 +144,8 @@ on_sum f lies x y (shape.Amount p m) t h k = tt
 on_sum f lies x y (shape.Position u v) t h k = tt
 on_sum f lies x y (shape.Inventory p u v) t h k = tt
 
-product_may : (p m q n : ℕ) (x y : Value) → LiesIn x (shape.Number p m) → LiesIn y (shape.Number q n)
+product_may : (p m q n : ℕ) (x y : Value) → LiesIn x (shape.Number p m)
+    → LiesIn y (shape.Number q n)
     → (is_number x && is_number y) ≡ true
 product_may p m q n x y h k =
     numbers (λ z w. (is_number z && is_number w) ≡ true) p m q n refl (λ j. refl) (λ j. refl)
@@ -200,7 +204,8 @@ truths_are P none left right both x y h k =
     (λ b. truth_cases (λ w. P (value.Truth b) w) (left b) (both b) y k) x h
 
 -- where two have an order, they may be told apart too
-pub are_told : (x y : Value) (s t : Shape) → LiesIn x s → LiesIn y t → rule.ordered s t ≡ Ok shape.Truth
+pub are_told : (x y : Value) (s t : Shape) → LiesIn x s → LiesIn y t
+    → rule.ordered s t ≡ Ok shape.Truth
     → (are_in_order x y ≡ true) × (are_comparable x y ≡ true)
 are_told x y shape.Truth t h k e = absurd cc
 are_told x y shape.Text shape.Truth h k e = absurd cc
@@ -319,8 +324,10 @@ only_compared shape.Truth shape.Day r e = only_ordered shape.Truth shape.Day r e
 only_compared shape.Truth shape.Set r e = only_ordered shape.Truth shape.Set r e
 only_compared shape.Truth (shape.Number q n) r e = only_ordered shape.Truth (shape.Number q n) r e
 only_compared shape.Truth (shape.Amount q n) r e = only_ordered shape.Truth (shape.Amount q n) r e
-only_compared shape.Truth (shape.Position w z) r e = only_ordered shape.Truth (shape.Position w z) r e
-only_compared shape.Truth (shape.Inventory q w z) r e = only_ordered shape.Truth (shape.Inventory q w z) r e
+only_compared shape.Truth (shape.Position w z) r e =
+    only_ordered shape.Truth (shape.Position w z) r e
+only_compared shape.Truth (shape.Inventory q w z) r e =
+    only_ordered shape.Truth (shape.Inventory q w z) r e
 only_compared shape.Text t r e = only_ordered shape.Text t r e
 only_compared shape.Day t r e = only_ordered shape.Day t r e
 only_compared shape.Set t r e = only_ordered shape.Set t r e
@@ -336,10 +343,14 @@ are_compared x y shape.Truth shape.Truth h k e =
 are_compared x y shape.Truth shape.Text h k e = (are_told x y shape.Truth shape.Text h k e).1
 are_compared x y shape.Truth shape.Day h k e = (are_told x y shape.Truth shape.Day h k e).1
 are_compared x y shape.Truth shape.Set h k e = (are_told x y shape.Truth shape.Set h k e).1
-are_compared x y shape.Truth (shape.Number q n) h k e = (are_told x y shape.Truth (shape.Number q n) h k e).1
-are_compared x y shape.Truth (shape.Amount q n) h k e = (are_told x y shape.Truth (shape.Amount q n) h k e).1
-are_compared x y shape.Truth (shape.Position w z) h k e = (are_told x y shape.Truth (shape.Position w z) h k e).1
-are_compared x y shape.Truth (shape.Inventory q w z) h k e = (are_told x y shape.Truth (shape.Inventory q w z) h k e).1
+are_compared x y shape.Truth (shape.Number q n) h k e =
+    (are_told x y shape.Truth (shape.Number q n) h k e).1
+are_compared x y shape.Truth (shape.Amount q n) h k e =
+    (are_told x y shape.Truth (shape.Amount q n) h k e).1
+are_compared x y shape.Truth (shape.Position w z) h k e =
+    (are_told x y shape.Truth (shape.Position w z) h k e).1
+are_compared x y shape.Truth (shape.Inventory q w z) h k e =
+    (are_told x y shape.Truth (shape.Inventory q w z) h k e).1
 are_compared x y shape.Text t h k e = (are_told x y shape.Text t h k e).1
 are_compared x y shape.Day t h k e = (are_told x y shape.Day t h k e).1
 are_compared x y shape.Set t h k e = (are_told x y shape.Set t h k e).1

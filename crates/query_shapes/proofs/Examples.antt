@@ -1,8 +1,10 @@
--- Shapes of some queries, computed at the widest bounds: 1,000,000 postings, counts of 20 digits and
+-- Shapes of some queries, computed at the widest bounds: 1,000,000 postings, counts of 20 digits
+-- and
 -- values of 28.
 use Rattle.std.proofs.Common.{◌≡◌, ◌-◌, ◌*◌, ◌^◌, ◌+◌, Some, None, Ok, Err, refl}
 use Rattle.query_values.specs.Unary as unary
-use Rattle.query_values.specs.declared.operation.Aggregate.TheVariants.{CountRows, Max, SumInventory}
+use Rattle.query_values.specs.declared.operation.Aggregate.TheVariants.{CountRows, Max}
+use Rattle.query_values.specs.declared.operation.Aggregate.TheVariants.{SumInventory}
 use Rattle.query_values.specs.declared.operation.Binary.TheVariants.{Add, Equal, Less, Mul}
 use Rattle.query_shapes.specs.Rules.{aggregate_shape, binary_shape, unary_shape}
 use Rattle.query_shapes.specs.Shape.{joined}

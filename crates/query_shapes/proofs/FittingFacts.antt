@@ -1,5 +1,6 @@
 -- What lies in a shape that fits can be held.
-use Rattle.std.proofs.Common.{◌≡◌, ℕ, ◌^◌, ◌<◌, ◌≤◌, ℤ, Bool, true, false, cond, ◌&&◌, List, Ok, Err}
+use Rattle.std.proofs.Common.{◌≡◌, ℕ, ◌^◌, ◌<◌, ◌≤◌, ℤ, Bool, true, false, cond, ◌&&◌, List, Ok}
+use Rattle.std.proofs.Common.{Err}
 use Rattle.std.proofs.Common.{Some, None, refl, sym, subst, arith}
 use Rattle.std.specs.Prelude.{nat_le, nat_lt}
 use Rattle.std.specs.Int.RustNames.{unsigned_abs}

@@ -1,6 +1,8 @@
 -- What is gathered keeps shapes.
-use Rattle.std.proofs.Common.{◌≡◌, ℕ, ◌+◌, ◌*◌, ◌^◌, ◌<◌, ◌≤◌, ℤ, pos, ◌+ℤ◌, Bool, true, false, cond, not}
-use Rattle.std.proofs.Common.{◌&&◌, List, [], ◌∷◌, length, Option, Some, None, Ok, Err, eqb, refl, sym}
+use Rattle.std.proofs.Common.{◌≡◌, ℕ, ◌+◌, ◌*◌, ◌^◌, ◌<◌, ◌≤◌, ℤ, pos, ◌+ℤ◌, Bool, true, false}
+use Rattle.std.proofs.Common.{cond, not}
+use Rattle.std.proofs.Common.{◌&&◌, List, [], ◌∷◌, length, Option, Some, None, Ok, Err, eqb, refl}
+use Rattle.std.proofs.Common.{sym}
 use Rattle.std.proofs.Common.{ap, ◌∙◌, subst, arith, suc}
 use Rattle.std.specs.Int.RustNames.{unsigned_abs}
 use Rattle.std.proofs.Math.Nat.{mul-le-mul, mul-le-mul_right}
@@ -75,8 +77,11 @@ on_sum n p (shape.Number q m) xs low all = by (eqb q p) refl
         (cond b (fitting (shape.Number q (n * m))) (Err Kind))
     by false e = tt
     by true e =
-        fits true (value.Number p (sum_in xs)) (shape.Number q (n * m)) refl
-        (sym (eqb-true q p e), few n (length xs) m (unsigned_abs (sum_in xs)) low (low_sums q m xs all))
+        fits true (value.Number p (sum_in xs)) (shape.Number q (n * m)) refl (
+          sym (eqb-true q p e),
+          few n (length xs) m (unsigned_abs (sum_in xs)) low
+              (low_sums q m xs all),
+        )
 on_sum n p shape.Truth xs low all = tt
 on_sum n p shape.Text xs low all = tt
 on_sum n p shape.Day xs low all = tt
@@ -145,7 +150,8 @@ on_inventory n p (shape.Amount q m) xs low all = by (eqb q p) refl
         let w = total_values [] (entries_in xs) in
         fits true (aggregate_of (aggregate.SumInventory p) xs) (shape.Inventory q (n * m) 0) refl (
           sym (eqb-true q p e),
-          (let f = few n (length xs) m (units_mass (entries_in xs)) low sums.0 in omega (arith, t, f)),
+          (let f = few n (length xs) m (units_mass (entries_in xs)) low sums.0 in
+              omega (arith, t, f)),
           omega (arith, w, sums.1),
         )
 on_inventory n p (shape.Position u v) xs low all = by (eqb 8 p) refl
@@ -158,10 +164,13 @@ on_inventory n p (shape.Position u v) xs low all = by (eqb 8 p) refl
         let sums = low_positions u v xs all in
         let t = total_units [] (entries_in xs) in
         let w = total_values [] (entries_in xs) in
-        fits true (aggregate_of (aggregate.SumInventory p) xs) (shape.Inventory 8 (n * u) (n * v)) refl (
+        fits true (aggregate_of (aggregate.SumInventory p) xs) (shape.Inventory 8 (n * u) (n * v))
+        refl (
           sym (eqb-true 8 p e),
-          (let f = few n (length xs) u (units_mass (entries_in xs)) low sums.0 in omega (arith, t, f)),
-          (let f = few n (length xs) v (value_mass (entries_in xs)) low sums.1 in omega (arith, w, f)),
+          (let f = few n (length xs) u (units_mass (entries_in xs)) low sums.0 in
+              omega (arith, t, f)),
+          (let f = few n (length xs) v (value_mass (entries_in xs)) low sums.1 in
+              omega (arith, w, f)),
         )
 on_inventory n p shape.Truth xs low all = tt
 on_inventory n p shape.Text xs low all = tt
@@ -195,7 +204,8 @@ lies_last s x (y ∷ ys) h all = lies_last s y ys all.0 all.1
 lies_best : (s : Shape) (better : Value → Value → Bool) (x : Value) (xs : List Value) → LiesIn x s
     → AllIn s xs → LiesIn (best_from better x xs) s
 lies_best s better x [] h all = h
-lies_best s better x (y ∷ ys) h all = lies_best s better (cond (better y x) y x) ys (by (better y x)) all.1
+lies_best s better x (y ∷ ys) h all =
+    lies_best s better (cond (better y x) y x) ys (by (better y x)) all.1
   where
     by : (b : Bool) → LiesIn (cond b y x) s
     by true = all.0
@@ -210,7 +220,8 @@ on_best : (s : Shape) (better : Value → Value → Bool) (xs : List Value) → 
     → Has (checked true (best_of better (present xs))) (rule.ranked s)
 on_best s better xs all = by (rule.is_ranked s)
   where
-    by : (b : Bool) → Has (checked true (best_of better (present xs))) (cond b (fitting s) (Err Kind))
+    by : (b : Bool)
+        → Has (checked true (best_of better (present xs))) (cond b (fitting s) (Err Kind))
     by false = tt
     by true =
         fits true (best_of better (present xs)) s refl

@@ -1,6 +1,8 @@
 -- Being below is an order, of which joins are the least.
-use Rattle.std.proofs.Common.{◌≡◌, ℕ, ◌+◌, ◌-◌, ◌*◌, ◌^◌, ◌<◌, ◌≤◌, max, Bool, true, false, cond, ◌&&◌}
-use Rattle.std.proofs.Common.{List, [], ◌∷◌, Option, Some, None, Ok, Err, eqb, refl, sym, ap, ◌∙◌, subst}
+use Rattle.std.proofs.Common.{◌≡◌, ℕ, ◌+◌, ◌-◌, ◌*◌, ◌^◌, ◌<◌, ◌≤◌, max, Bool, true, false, cond}
+use Rattle.std.proofs.Common.{◌&&◌}
+use Rattle.std.proofs.Common.{List, [], ◌∷◌, Option, Some, None, Ok, Err, eqb, refl, sym, ap, ◌∙◌}
+use Rattle.std.proofs.Common.{subst}
 use Rattle.std.proofs.Common.{arith}
 use Rattle.std.specs.Prelude.{nat_le}
 use Rattle.std.specs.List.{list_all}
@@ -72,7 +74,8 @@ below_cases P of (shape.Number p m) shape.Truth h = absurd h
 below_cases P of (shape.Number p m) shape.Text h = absurd h
 below_cases P of (shape.Number p m) shape.Day h = absurd h
 below_cases P of (shape.Number p m) shape.Set h = absurd h
-below_cases P of (shape.Number p m) (shape.Number q n) h = subst (λ (r : ℕ). P (shape.Number p m) (shape.Number r n)) h.0 (of.number p m n h.1)
+below_cases P of (shape.Number p m) (shape.Number q n) h =
+    subst (λ (r : ℕ). P (shape.Number p m) (shape.Number r n)) h.0 (of.number p m n h.1)
 below_cases P of (shape.Number p m) (shape.Amount q n) h = absurd h
 below_cases P of (shape.Number p m) (shape.Position w z) h = absurd h
 below_cases P of (shape.Number p m) (shape.Inventory q w z) h = absurd h
@@ -81,7 +84,8 @@ below_cases P of (shape.Amount p m) shape.Text h = absurd h
 below_cases P of (shape.Amount p m) shape.Day h = absurd h
 below_cases P of (shape.Amount p m) shape.Set h = absurd h
 below_cases P of (shape.Amount p m) (shape.Number q n) h = absurd h
-below_cases P of (shape.Amount p m) (shape.Amount q n) h = subst (λ (r : ℕ). P (shape.Amount p m) (shape.Amount r n)) h.0 (of.amount p m n h.1)
+below_cases P of (shape.Amount p m) (shape.Amount q n) h =
+    subst (λ (r : ℕ). P (shape.Amount p m) (shape.Amount r n)) h.0 (of.amount p m n h.1)
 below_cases P of (shape.Amount p m) (shape.Position w z) h = absurd h
 below_cases P of (shape.Amount p m) (shape.Inventory q w z) h = absurd h
 below_cases P of (shape.Position u v) shape.Truth h = absurd h
@@ -99,7 +103,9 @@ below_cases P of (shape.Inventory p u v) shape.Set h = absurd h
 below_cases P of (shape.Inventory p u v) (shape.Number q n) h = absurd h
 below_cases P of (shape.Inventory p u v) (shape.Amount q n) h = absurd h
 below_cases P of (shape.Inventory p u v) (shape.Position w z) h = absurd h
-below_cases P of (shape.Inventory p u v) (shape.Inventory q w z) h = subst (λ (r : ℕ). P (shape.Inventory p u v) (shape.Inventory r w z)) h.0 (of.inventory p u v w z h.1 h.2)
+below_cases P of (shape.Inventory p u v) (shape.Inventory q w z) h =
+    subst (λ (r : ℕ). P (shape.Inventory p u v) (shape.Inventory r w z)) h.0
+    (of.inventory p u v w z h.1 h.2)
 
 -- ---- the order
 
@@ -113,7 +119,8 @@ reflexive (shape.Amount p m) = (refl, omega arith)
 reflexive (shape.Position u v) = (omega arith, omega arith)
 reflexive (shape.Inventory p u v) = (refl, omega arith, omega arith)
 
-number_through : (p m n : ℕ) → m ≤ n → (d : Shape) → IsBelow (shape.Number p n) d → IsBelow (shape.Number p m) d
+number_through : (p m n : ℕ) → m ≤ n → (d : Shape) → IsBelow (shape.Number p n) d
+    → IsBelow (shape.Number p m) d
 number_through p m n low shape.Truth h = h
 number_through p m n low shape.Text h = h
 number_through p m n low shape.Day h = h
@@ -123,7 +130,8 @@ number_through p m n low (shape.Amount q k) h = h
 number_through p m n low (shape.Position a b) h = h
 number_through p m n low (shape.Inventory q a b) h = h
 
-amount_through : (p m n : ℕ) → m ≤ n → (d : Shape) → IsBelow (shape.Amount p n) d → IsBelow (shape.Amount p m) d
+amount_through : (p m n : ℕ) → m ≤ n → (d : Shape) → IsBelow (shape.Amount p n) d
+    → IsBelow (shape.Amount p m) d
 amount_through p m n low shape.Truth h = h
 amount_through p m n low shape.Text h = h
 amount_through p m n low shape.Day h = h
@@ -141,7 +149,8 @@ position_through u v w z low less shape.Day h = h
 position_through u v w z low less shape.Set h = h
 position_through u v w z low less (shape.Number q k) h = h
 position_through u v w z low less (shape.Amount q k) h = h
-position_through u v w z low less (shape.Position a b) h = (omega (arith, low, h.0), omega (arith, less, h.1))
+position_through u v w z low less (shape.Position a b) h =
+    (omega (arith, low, h.0), omega (arith, less, h.1))
 position_through u v w z low less (shape.Inventory q a b) h = h
 
 inventory_through : (p u v w z : ℕ) → u ≤ w → v ≤ z → (d : Shape)
@@ -153,7 +162,8 @@ inventory_through p u v w z low less shape.Set h = h
 inventory_through p u v w z low less (shape.Number q k) h = h
 inventory_through p u v w z low less (shape.Amount q k) h = h
 inventory_through p u v w z low less (shape.Position a b) h = h
-inventory_through p u v w z low less (shape.Inventory q a b) h = (h.0, omega (arith, low, h.1), omega (arith, less, h.2))
+inventory_through p u v w z low less (shape.Inventory q a b) h =
+    (h.0, omega (arith, low, h.1), omega (arith, less, h.2))
 
 pub transitive : (s t d : Shape) → IsBelow s t → IsBelow t d → IsBelow s d
 transitive s t d h =
@@ -180,8 +190,10 @@ keeps x s t lies h =
       amount = λ p m n low. amount_cases (λ y. LiesIn y (shape.Amount p n)) p m tt
           (λ j c few name. (refl, omega (arith, low, few), name));
       position = λ u v w z low less. position_cases (λ y. LiesIn y (shape.Position w z)) u v tt
-          (λ k n few cost name other. (omega (arith, low, few), omega (arith, less, cost), name, other));
-      inventory = λ p u v w z low less. inventory_cases (λ y. LiesIn y (shape.Inventory p w z)) p u v tt
+          (λ k n few cost name other.
+          (omega (arith, low, few), omega (arith, less, cost), name, other));
+      inventory =
+          λ p u v w z low less. inventory_cases (λ y. LiesIn y (shape.Inventory p w z)) p u v tt
           (λ b places units cost. (places, omega (arith, low, units), omega (arith, less, cost)));
     }) s t h x lies
 
@@ -191,7 +203,8 @@ some_is : {s d : Shape} → Some s ≡ Some d → s ≡ d
 some_is e = cc
 
 pub above : (s t d : Shape) → joined s t ≡ Some d → IsBelow s d × IsBelow t d
-above shape.Truth shape.Truth d e = subst (λ (c : Shape). IsBelow shape.Truth c × IsBelow shape.Truth c) (some_is e) (tt, tt)
+above shape.Truth shape.Truth d e =
+    subst (λ (c : Shape). IsBelow shape.Truth c × IsBelow shape.Truth c) (some_is e) (tt, tt)
 above shape.Truth shape.Text d e = absurd cc
 above shape.Truth shape.Day d e = absurd cc
 above shape.Truth shape.Set d e = absurd cc
@@ -200,7 +213,8 @@ above shape.Truth (shape.Amount q n) d e = absurd cc
 above shape.Truth (shape.Position w z) d e = absurd cc
 above shape.Truth (shape.Inventory q w z) d e = absurd cc
 above shape.Text shape.Truth d e = absurd cc
-above shape.Text shape.Text d e = subst (λ (c : Shape). IsBelow shape.Text c × IsBelow shape.Text c) (some_is e) (tt, tt)
+above shape.Text shape.Text d e =
+    subst (λ (c : Shape). IsBelow shape.Text c × IsBelow shape.Text c) (some_is e) (tt, tt)
 above shape.Text shape.Day d e = absurd cc
 above shape.Text shape.Set d e = absurd cc
 above shape.Text (shape.Number q n) d e = absurd cc
@@ -209,7 +223,8 @@ above shape.Text (shape.Position w z) d e = absurd cc
 above shape.Text (shape.Inventory q w z) d e = absurd cc
 above shape.Day shape.Truth d e = absurd cc
 above shape.Day shape.Text d e = absurd cc
-above shape.Day shape.Day d e = subst (λ (c : Shape). IsBelow shape.Day c × IsBelow shape.Day c) (some_is e) (tt, tt)
+above shape.Day shape.Day d e =
+    subst (λ (c : Shape). IsBelow shape.Day c × IsBelow shape.Day c) (some_is e) (tt, tt)
 above shape.Day shape.Set d e = absurd cc
 above shape.Day (shape.Number q n) d e = absurd cc
 above shape.Day (shape.Amount q n) d e = absurd cc
@@ -218,7 +233,8 @@ above shape.Day (shape.Inventory q w z) d e = absurd cc
 above shape.Set shape.Truth d e = absurd cc
 above shape.Set shape.Text d e = absurd cc
 above shape.Set shape.Day d e = absurd cc
-above shape.Set shape.Set d e = subst (λ (c : Shape). IsBelow shape.Set c × IsBelow shape.Set c) (some_is e) (tt, tt)
+above shape.Set shape.Set d e =
+    subst (λ (c : Shape). IsBelow shape.Set c × IsBelow shape.Set c) (some_is e) (tt, tt)
 above shape.Set (shape.Number q n) d e = absurd cc
 above shape.Set (shape.Amount q n) d e = absurd cc
 above shape.Set (shape.Position w z) d e = absurd cc
@@ -235,7 +251,8 @@ above (shape.Number p m) (shape.Number q n) d e = by (eqb p q) refl e
     by : (b : Bool) → eqb p q ≡ b → cond b (Some top) None ≡ Some d
         → IsBelow (shape.Number p m) d × IsBelow (shape.Number q n) d
     by true is e =
-        subst (λ (c : Shape). IsBelow (shape.Number p m) c × IsBelow (shape.Number q n) c) (some_is e)
+        subst (λ (c : Shape). IsBelow (shape.Number p m) c
+        × IsBelow (shape.Number q n) c) (some_is e)
         ((refl, omega arith), (sym (eqb-true p q is), omega arith))
     by false is e = absurd cc
 above (shape.Number p m) (shape.Amount q n) d e = absurd cc
@@ -254,7 +271,8 @@ above (shape.Amount p m) (shape.Amount q n) d e = by (eqb p q) refl e
     by : (b : Bool) → eqb p q ≡ b → cond b (Some top) None ≡ Some d
         → IsBelow (shape.Amount p m) d × IsBelow (shape.Amount q n) d
     by true is e =
-        subst (λ (c : Shape). IsBelow (shape.Amount p m) c × IsBelow (shape.Amount q n) c) (some_is e)
+        subst (λ (c : Shape). IsBelow (shape.Amount p m) c
+        × IsBelow (shape.Amount q n) c) (some_is e)
         ((refl, omega arith), (sym (eqb-true p q is), omega arith))
     by false is e = absurd cc
 above (shape.Amount p m) (shape.Position w z) d e = absurd cc
@@ -266,7 +284,8 @@ above (shape.Position u v) shape.Set d e = absurd cc
 above (shape.Position u v) (shape.Number q n) d e = absurd cc
 above (shape.Position u v) (shape.Amount q n) d e = absurd cc
 above (shape.Position u v) (shape.Position w z) d e =
-    subst (λ (c : Shape). IsBelow (shape.Position u v) c × IsBelow (shape.Position w z) c) (some_is e)
+    subst (λ (c : Shape). IsBelow (shape.Position u v) c
+    × IsBelow (shape.Position w z) c) (some_is e)
     ((omega arith, omega arith), (omega arith, omega arith))
 above (shape.Position u v) (shape.Inventory q w z) d e = absurd cc
 above (shape.Inventory p u v) shape.Truth d e = absurd cc

@@ -1,5 +1,6 @@
 -- Of lesser shapes the rules give lesser ones.
-use Rattle.std.proofs.Common.{◌≡◌, ℕ, ◌+◌, ◌-◌, ◌*◌, ◌^◌, ◌<◌, ◌≤◌, max, Bool, true, false, cond, ◌&&◌}
+use Rattle.std.proofs.Common.{◌≡◌, ℕ, ◌+◌, ◌-◌, ◌*◌, ◌^◌, ◌<◌, ◌≤◌, max, Bool, true, false, cond}
+use Rattle.std.proofs.Common.{◌&&◌}
 use Rattle.std.proofs.Common.{List, [], ◌∷◌, Ok, Err, eqb, refl, sym, ap, ◌∙◌, subst, arith}
 use Rattle.std.specs.Prelude.{nat_le}
 use Rattle.std.specs.List.{list_all}
@@ -38,7 +39,8 @@ held_below s t h =
       amount = λ p m n low e. let parts = and_parts (nat_le p 32) (is_most n) e in
           and_from (nat_le p 32) (is_most m) parts.0 (most_below m n low parts.1);
       position = λ u v w z low less e. let parts = and_parts (is_most w) (is_most z) e in
-          and_from (is_most u) (is_most v) (most_below u w low parts.0) (most_below v z less parts.1);
+          and_from (is_most u) (is_most v) (most_below u w low parts.0)
+          (most_below v z less parts.1);
       inventory = λ p u v w z low less e.
           let parts = and_parts (nat_le p 32) (is_most w && is_most z) e in
           let counts = and_parts (is_most w) (is_most z) parts.1 in
@@ -127,7 +129,8 @@ align q s t h =
       day = tt;
       set = tt;
       number = λ p m n low.
-          both_if (nat_le p q) (shape.Number q (m * 10 ^ (q - p))) (shape.Number q (n * 10 ^ (q - p)))
+          both_if (nat_le p q) (shape.Number q (m * 10 ^ (q - p)))
+          (shape.Number q (n * 10 ^ (q - p)))
           (refl, mul-le-mul_right (10 ^ (q - p)) low);
       amount = λ p m n low. tt;
       position = λ u v w z low less. tt;
@@ -184,7 +187,8 @@ units s t h =
       set = tt;
       number = λ p m n low. tt;
       amount = λ p m n low. tt;
-      position = λ u v w z low less. fitting_below (shape.Amount 8 u) (shape.Amount 8 w) (refl, low);
+      position =
+          λ u v w z low less. fitting_below (shape.Amount 8 u) (shape.Amount 8 w) (refl, low);
       inventory = λ p u v w z low less.
           fitting_below (shape.Inventory p u 0) (shape.Inventory p w 0) (refl, low, omega arith);
     }) s t h
@@ -202,7 +206,8 @@ costs s t h =
       number = λ p m n low. tt;
       amount = λ p m n low. tt;
       position = λ u v w z low less.
-          fitting_below (shape.Amount 16 (max v (u * 10 ^ 8))) (shape.Amount 16 (max z (w * 10 ^ 8)))
+          fitting_below (shape.Amount 16 (max v (u * 10 ^ 8)))
+          (shape.Amount 16 (max z (w * 10 ^ 8)))
           (refl, omega (arith, less, low_cost u w low));
       inventory = λ p u v w z low less.
           fitting_below (shape.Inventory (p + 8) (v + u * 10 ^ 8) 0)
@@ -219,7 +224,8 @@ numbers s t h =
       set = tt;
       number = λ p m n low. tt;
       amount = λ p m n low. fitting_below (shape.Number p m) (shape.Number p n) (refl, low);
-      position = λ u v w z low less. fitting_below (shape.Number 8 u) (shape.Number 8 w) (refl, low);
+      position =
+          λ u v w z low less. fitting_below (shape.Number 8 u) (shape.Number 8 w) (refl, low);
       inventory = λ p u v w z low less. tt;
     }) s t h
 
@@ -267,8 +273,10 @@ lists : (ys : List Value) (s t : Shape) → IsBelow s t → Rises (rule.among ys
 lists ys s t h =
     below_cases (Rises (rule.among ys)) (record {
       truth = tt;
-      text = same_truth (list_all (rule.is_like shape.Text) ys) (list_all (rule.is_like shape.Text) ys) refl;
-      day = same_truth (list_all (rule.is_like shape.Day) ys) (list_all (rule.is_like shape.Day) ys) refl;
+      text = same_truth (list_all (rule.is_like shape.Text) ys)
+          (list_all (rule.is_like shape.Text) ys) refl;
+      day = same_truth (list_all (rule.is_like shape.Day) ys) (list_all (rule.is_like shape.Day) ys)
+          refl;
       set = tt;
       number = λ p m n low.
           same_truth (list_all (rule.is_like (shape.Number p m)) ys)
@@ -308,7 +316,8 @@ RisesIn f s t = (a b : Shape) → IsBelow a b → Under (f s a) (f t b)
 
 sum_number : (p m n : ℕ) → m ≤ n → RisesIn rule.sum_of (shape.Number p m) (shape.Number p n)
 sum_number p m n low =
-    below_cases (λ a b. Under (rule.sum_of (shape.Number p m) a) (rule.sum_of (shape.Number p n) b)) (record {
+    below_cases (λ a b. Under (rule.sum_of (shape.Number p m) a) (rule.sum_of (shape.Number p n) b))
+    (record {
       truth = tt;
       text = tt;
       day = tt;
@@ -337,7 +346,9 @@ sums s t h =
 product_number : (p m n : ℕ) → m ≤ n
     → RisesIn rule.product_of (shape.Number p m) (shape.Number p n)
 product_number p m n low =
-    below_cases (λ a b. Under (rule.product_of (shape.Number p m) a) (rule.product_of (shape.Number p n) b)) (record {
+    below_cases
+    (λ a b. Under (rule.product_of (shape.Number p m) a) (rule.product_of (shape.Number p n) b))
+    (record {
       truth = tt;
       text = tt;
       day = tt;
@@ -365,7 +376,9 @@ products s t h =
 
 order_number : (p m n : ℕ) → m ≤ n → RisesIn rule.ordered (shape.Number p m) (shape.Number p n)
 order_number p m n low =
-    below_cases (λ a b. Under (rule.ordered (shape.Number p m) a) (rule.ordered (shape.Number p n) b)) (record {
+    below_cases
+    (λ a b. Under (rule.ordered (shape.Number p m) a) (rule.ordered (shape.Number p n) b))
+    (record {
       truth = tt;
       text = tt;
       day = tt;

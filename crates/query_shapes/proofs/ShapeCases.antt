@@ -74,7 +74,8 @@ number_cases P q m null one (value.Truth b) h = absurd h
 number_cases P q m null one (value.Text t) h = absurd h
 number_cases P q m null one (value.Day d) h = absurd h
 number_cases P q m null one (value.Set ts) h = absurd h
-number_cases P q m null one (value.Number p n) h = subst (λ r. P (value.Number r n)) (sym h.0) (one n h.1)
+number_cases P q m null one (value.Number p n) h =
+    subst (λ r. P (value.Number r n)) (sym h.0) (one n h.1)
 number_cases P q m null one (value.Amount p n c) h = absurd h
 number_cases P q m null one (value.Position k n) h = absurd h
 number_cases P q m null one (value.Inventory b) h = absurd h
@@ -88,7 +89,8 @@ amount_cases P q m null one (value.Text t) h = absurd h
 amount_cases P q m null one (value.Day d) h = absurd h
 amount_cases P q m null one (value.Set ts) h = absurd h
 amount_cases P q m null one (value.Number p n) h = absurd h
-amount_cases P q m null one (value.Amount p n c) h = subst (λ r. P (value.Amount r n c)) (sym h.0) (one n c h.1 h.2)
+amount_cases P q m null one (value.Amount p n c) h =
+    subst (λ r. P (value.Amount r n c)) (sym h.0) (one n c h.1 h.2)
 amount_cases P q m null one (value.Position k n) h = absurd h
 amount_cases P q m null one (value.Inventory b) h = absurd h
 
@@ -107,7 +109,8 @@ position_cases P u v null one (value.Position k n) h = one k n h.0 h.1 h.2 h.3
 position_cases P u v null one (value.Inventory b) h = absurd h
 
 pub inventory_cases : (P : Value → Type 0) (q u v : ℕ) → P value.Null
-    → ((b : Bag) → b.places ≡ q → units_mass b.held ≤ u → value_mass b.held ≤ v → P (value.Inventory b))
+    → ((b : Bag) → b.places ≡ q → units_mass b.held ≤ u → value_mass b.held ≤ v
+    → P (value.Inventory b))
     → (x : Value) → LiesIn x (shape.Inventory q u v) → P x
 inventory_cases P q u v null one value.Null h = null
 inventory_cases P q u v null one (value.Truth b) h = absurd h

@@ -1,5 +1,6 @@
 -- Operations on one value keep shapes.
-use Rattle.std.proofs.Common.{◌≡◌, ℕ, ◌-◌, ◌*◌, ◌^◌, ◌<◌, ◌≤◌, ℤ, pos, neg_ℤ, ◌*ℤ◌, Bool, true, false}
+use Rattle.std.proofs.Common.{◌≡◌, ℕ, ◌-◌, ◌*◌, ◌^◌, ◌<◌, ◌≤◌, ℤ, pos, neg_ℤ, ◌*ℤ◌, Bool, true}
+use Rattle.std.proofs.Common.{false}
 use Rattle.std.proofs.Common.{cond, ◌&&◌, List, [], ◌∷◌, length, max, Ok, Err, refl, sym, ap, ◌∙◌}
 use Rattle.std.proofs.Common.{subst, arith, not, zero, suc, ◌+◌, ◌||◌, map, Option, Some, None}
 use Rattle.std.specs.Prelude.{nat_le}
@@ -156,7 +157,8 @@ low_year : (d : day.Day) → unsigned_abs d.date.year ≤ 9999
 low_year d = omega (arith, ints, d.date.year_in.0, d.date.year_in.1)
 
 low_day : (d : day.Day) → d.date.day ≤ 31
-low_day d = let t = days_in_month_bounds d.date.year d.date.month in omega (arith, d.date.day_in.1, t.0)
+low_day d = let t = days_in_month_bounds d.date.year d.date.month in
+    omega (arith, d.date.day_in.1, t.0)
 
 -- ---- parts of accounts
 
@@ -217,7 +219,8 @@ on_length x shape.Text h =
 on_length x shape.Set h =
     fits (is_text x || is_set x) (length_of x) (rule.whole LONGEST)
     (set_cases (λ y. (is_text y || is_set y) ≡ true) refl (λ ts few short. refl) x h)
-    (set_cases (λ y. LiesIn (length_of y) (rule.whole LONGEST)) tt (λ ts few short. (refl, few)) x h)
+    (set_cases (λ y. LiesIn (length_of y) (rule.whole LONGEST)) tt (λ ts few short. (refl, few)) x
+    h)
 on_length x shape.Truth h = tt
 on_length x shape.Day h = tt
 on_length x (shape.Number q m) h = tt

@@ -42,7 +42,8 @@ pub record AreMonotone : Type 0 where
   pub binary : (op : Binary) (s t u v : Shape) → IsBelow s t → IsBelow u v
       → Under (binary_shape op s u) (binary_shape op t v)
 
--- Being below is an order, what is of a shape is of each above it, and what two join to is the least
+-- Being below is an order, what is of a shape is of each above it, and what two join to is the
+-- least
 -- above both.
 pub record AreOrdered : Type 0 where
   pub reflexive : (s : Shape) → IsBelow s s
@@ -55,7 +56,8 @@ pub record AreOrdered : Type 0 where
 abbrev pub AllIn : Shape → List Value → Type 0
 AllIn s xs = AllByRecursion (λ x. LiesIn x s) xs
 
--- What is gathered over at most n values can be held and is of the shape that is given, and each value
+-- What is gathered over at most n values can be held and is of the shape that is given, and each
+-- value
 -- more may be gathered; of lesser shapes, and of fewer values, a lesser shape is given.
 pub record GatherShapes : Type 0 where
   pub rows : (n : ℕ) (xs : List Value) → length xs ≤ n

@@ -8,5 +8,6 @@ invariant-loop-passed l = record {
   checks : Checks l.pads (reverse (take l.passed-index l.trail)) l.checker;
   room : HasRoom l.pads l.checker;
   near : l.checker.pads ≤ l.passed-index;
-  faults : l.faults.items ≡ l.initial.faults.items ++ failing_on l.pads (reverse (take l.passed-index l.trail));
+  faults : l.faults.items
+      ≡ l.initial.faults.items ++ failing_on l.pads (reverse (take l.passed-index l.trail));
 }

@@ -8,5 +8,6 @@ abbrev pub invariant-loop-note : goal.invariant-loop-note
 invariant-loop-note l = record {
   small : AreSmall l.sums;
   additions : l.sums.additions ≤ l.initial.sums.additions + 2 * l.note-index;
-  holds : (us : List Units) → Holds us l.initial.sums → Holds (all_inserted l.pad (take l.note-index l.notes) us) l.sums;
+  holds : (us : List Units) → Holds us l.initial.sums
+      → Holds (all_inserted l.pad (take l.note-index l.notes) us) l.sums;
 }

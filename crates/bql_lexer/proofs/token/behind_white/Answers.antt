@@ -6,4 +6,7 @@ use Rattle.bql_lexer.proofs.TokenFacts.{white_is_ascii}
 use Rattle.bql_lexer.proofs.token.behind_white.Goals as goal
 
 pub split_at-requires : goal.split_at-requires
-split_at-requires c = front_boundary is_white white_is_ascii c.args.text.now _ c.utf8.text (c.end_of_run.ensures.run ∙ ap (λ bs. 0 + prefix_len is_white (drop 0 bs)) c.as_bytes.ensures.value)
+split_at-requires c =
+    front_boundary is_white white_is_ascii c.args.text.now _ c.utf8.text
+    (c.end_of_run.ensures.run
+    ∙ ap (λ bs. 0 + prefix_len is_white (drop 0 bs)) c.as_bytes.ensures.value)

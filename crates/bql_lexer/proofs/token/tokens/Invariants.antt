@@ -6,7 +6,8 @@ use Rattle.bql_lexer.proofs.token.tokens.Given as goal
 abbrev pub invariant-loop-token : goal.invariant-loop-token
 invariant-loop-token g l = record {
   inside : length l.unread.text.now ≤ length l.text;
-  so_far : (ts : List Token) → TokensFrom (length l.text) l.unread.text.now ts → AreTokens l.text (l.out.items ++ ts);
+  so_far : (ts : List Token) → TokensFrom (length l.text) l.unread.text.now ts
+      → AreTokens l.text (l.out.items ++ ts);
 }
 
 abbrev pub decreases-loop-token : goal.decreases-loop-token

@@ -17,6 +17,7 @@ returns c = λ past h.
       faults =
           c.new-2.ensures ∙ c.in_ok-add_failing.ensures
           ∙ (λ i. c.in_ok-add_faults.ensures i ++ failing_on (second i) (reverse (trail i)))
-          ∙ (λ i. (c.new-faults.ensures.items i ++ flat_map faults_of_pad (first i)) ++ failing_on ps (reverse-reverse (trail_of past) i))
+          ∙ (λ i. (c.new-faults.ensures.items i ++ flat_map faults_of_pad (first i))
+          ++ failing_on ps (reverse-reverse (trail_of past) i))
           ∙ ap (λ l. flat_map faults_of_pad ps ++ l) (sym (failing_is ps past));
     }

@@ -8,7 +8,8 @@ pub returns-clause-bounded : goal.returns-clause-bounded
 returns-clause-bounded c = record {
   additions = let none = c.new.ensures.additions in omega (arith, none);
   sums = c.new.ensures.small;
-  paddings = λ a k. subst (λ n. unsigned_abs n ≤ 0) (sym (c.new-2.ensures.padded a k)) (omega arith);
+  paddings =
+      λ a k. subst (λ n. unsigned_abs n ≤ 0) (sym (c.new-2.ensures.padded a k)) (omega arith);
   numbers = λ a. subst (IsBelow (length c.new-4.result.items)) (sym (c.new-3.ensures a)) tt;
   notes = let none = ap notes_in c.new-4.ensures.items in omega (arith, none);
   trail = subst AreNear (sym c.new-5.ensures.items) tt;

@@ -6,4 +6,7 @@ use Rattle.bean_pad.proofs.sums.Table.add_up.Given as goal
 -- the counts of the accounts whose names end before the place have grown
 abbrev pub invariant-loop-end : goal.invariant-loop-end
 invariant-loop-end l =
-    (a c : List ℕ) → entry_at l.self a c ≡ cond (is_cut_before l.end a l.account && bytes_eq l.currency c) (entry_at l.initial.self a c +ℤ l.count) (entry_at l.initial.self a c)
+    (a c : List ℕ)
+    → entry_at l.self a c
+    ≡ cond (is_cut_before l.end a l.account && bytes_eq l.currency c)
+    (entry_at l.initial.self a c +ℤ l.count) (entry_at l.initial.self a c)
