@@ -43,8 +43,7 @@ abbrev pub held : List Units → List ℕ → List ℕ → ℤ
 held us account currency = total (filter (is_of account currency) us)
 
 -- what the postings of written transactions add, of all steps so far; here and everywhere the
--- latest
--- step stands first
+-- latest step stands first
 abbrev pub written : List Step → List Units
 written [] = []
 written (step.Posting p ∷ past) = units_of p ∷ written past

@@ -1,6 +1,5 @@
 -- What comes of pads: in each currency the first balance on a pad's account, up to the next pad on
--- it, uses
--- the pad up.
+-- it, uses the pad up.
 use Rattle.std.specs.Prelude.{ℕ, zero, suc, ◌<◌, ℤ, pos, ◌+ℤ◌, ◌-ℤ◌, ◌&&◌, Bool, List, [], ◌∷◌}
 use Rattle.std.specs.Prelude.{◌++◌, Option, None, Some, if◌then◌else◌}
 use Rattle.std.specs.Str.{bytes_eq}

@@ -1,6 +1,5 @@
 -- Shapes of some queries, computed at the widest bounds: 1,000,000 postings, counts of 20 digits
--- and
--- values of 28.
+-- and values of 28.
 use Rattle.std.proofs.Common.{◌≡◌, ◌-◌, ◌*◌, ◌^◌, ◌+◌, Some, None, Ok, Err, refl}
 use Rattle.query_values.specs.Unary as unary
 use Rattle.query_values.specs.declared.operation.Aggregate.TheVariants.{CountRows, Max}

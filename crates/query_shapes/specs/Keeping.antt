@@ -43,8 +43,7 @@ pub record AreMonotone : Type 0 where
       → Under (binary_shape op s u) (binary_shape op t v)
 
 -- Being below is an order, what is of a shape is of each above it, and what two join to is the
--- least
--- above both.
+-- least above both.
 pub record AreOrdered : Type 0 where
   pub reflexive : (s : Shape) → IsBelow s s
   pub transitive : (s t u : Shape) → IsBelow s t → IsBelow t u → IsBelow s u
@@ -57,8 +56,7 @@ abbrev pub AllIn : Shape → List Value → Type 0
 AllIn s xs = AllByRecursion (λ x. LiesIn x s) xs
 
 -- What is gathered over at most n values can be held and is of the shape that is given, and each
--- value
--- more may be gathered; of lesser shapes, and of fewer values, a lesser shape is given.
+-- value more may be gathered; of lesser shapes, and of fewer values, a lesser shape is given.
 pub record GatherShapes : Type 0 where
   pub rows : (n : ℕ) (xs : List Value) → length xs ≤ n
       → Has (checked true (aggregate_of CountRows xs)) (aggregate_shape n CountRows None)

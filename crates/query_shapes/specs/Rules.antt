@@ -1,6 +1,5 @@
 -- Which shape an operation gives: none where an operand is of a kind or of decimals that it does
--- not
--- take, and none where its value might be too wide to be held.
+-- not take, and none where its value might be too wide to be held.
 use Rattle.std.specs.Prelude.{ℕ, ◌+◌, ◌-◌, ◌*◌, ◌^◌, ◌==◌, ◌&&◌, Bool, true, false, max, nat_le}
 use Rattle.std.specs.Prelude.{List}
 use Rattle.std.specs.Prelude.{Option, Some, None, Result, Ok, Err, if◌then◌else◌}
