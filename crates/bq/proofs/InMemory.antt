@@ -32,7 +32,7 @@ comes words readings old new (Ok x) h = let such = h.1 in
     (h.0, (such.0, such.1, (such.2.0, such.2.1, took old new _ _ such.2.2)))
 comes words readings old new (Err (refusal.Print (print.NotWritten n))) h =
     let such = h.1 in
-        (h.0, (such.0, such.1, (such.2.0, such.2.1, (such.2.2.0, took old new _ _ such.2.2.1))))
+    (h.0, (such.0, such.1, (such.2.0, such.2.1, (such.2.2.0, took old new _ _ such.2.2.1))))
 comes words readings old new (Err (refusal.Print print.OutOfMemory)) h = h
 comes words readings old new (Err refusal.Words) h = h
 comes words readings old new (Err (refusal.Load fault)) h = h
@@ -45,8 +45,12 @@ pub ends : (store store' : Shelf) (out out' err err' : Holding) (words : List Te
     → Ends (in_memory store store' (kept_in out out')) (kept_in err err') words status
 ends store store' out out' err err' words status h = record {
   result = h.result;
-  runs = (h.runs.0, gives_what_it_holds store store' h.runs.0 h.runs.1, comes words h.runs.0 out
-      out' h.result h.runs.2);
+  runs = (
+    h.runs.0,
+    gives_what_it_holds store store' h.runs.0 h.runs.1,
+    comes words h.runs.0 out
+        out' h.result h.runs.2,
+  );
   status_is = h.status_is;
   tells = tells err err' h.result h.tells;
 }

@@ -55,8 +55,8 @@ module _ (words : List Text) (name : List ℕ) (names : ledger_named words
   unfolding ledger_in
   same_end end other is h =
       let same : h.0 ≡ name = ap ledger_in (sym h.1 ∙ names) in
-          one_gathering name readings end other is
-          (subst (λ n. IsGathered n readings other) same h.2)
+      one_gathering name readings end other is
+      (subst (λ n. IsGathered n readings other) same h.2)
 
   -- it came to a fault, and to no other
   no_other : (fault other : LoadFault) → ¬ (fault ≡ other) → IsGathered name readings (Err fault)
@@ -67,12 +67,20 @@ module _ (words : List Text) (name : List ℕ) (names : ledger_named words
       → IsTrue (lacks_memory (refusal.Load fault)) ⊎ IsRefused words readings (refusal.Load fault)
   refused Unreadable is = inr (inr (words_stand, inl ((name, names, is), refl)))
   refused TooLarge is =
-      inr (inr (words_stand, inr
-      (no_other TooLarge Unreadable (λ e. cc) is, inl ((name, names, is), refl))))
+      inr (inr (
+        words_stand,
+        inr
+            (no_other TooLarge Unreadable (λ e. cc) is, inl ((name, names, is), refl)),
+      ))
   refused NotUtf8 is =
-      inr (inr (words_stand, inr
-          (no_other NotUtf8 Unreadable (λ e. cc) is, inr
-          (no_other NotUtf8 TooLarge (λ e. cc) is, inl ((name, names, is), refl)))))
+      inr (inr (
+        words_stand,
+        inr (
+          no_other NotUtf8 Unreadable (λ e. cc) is,
+          inr
+              (no_other NotUtf8 TooLarge (λ e. cc) is, inl ((name, names, is), refl)),
+        ),
+      ))
   refused OutOfMemory is = inl refl
 
   -- it came to texts
@@ -90,15 +98,24 @@ module _ (words : List Text) (name : List ℕ) (names : ledger_named words
 
     too_many : HasTooMany texts → IsRefused words readings (refusal.Book book.TooManyPostings)
     too_many many =
-        inr (words_stand, inr
-            (no_fault Unreadable, inr
-            (no_fault TooLarge, inr (no_fault NotUtf8, inl (gave_such HasTooMany many, refl)))))
+        inr (
+          words_stand,
+          inr (
+            no_fault Unreadable,
+            inr
+                (no_fault TooLarge, inr (no_fault NotUtf8, inl (gave_such HasTooMany many, refl))),
+          ),
+        )
 
     answerable : ¬ HasTooMany texts → IsAnswerable words readings
-    answerable few =
-        (words_stand, (no_fault
+    answerable few = (
+      words_stand,
+      (
+        no_fault
             Unreadable,
-            (no_fault TooLarge, (no_fault NotUtf8, ((λ h. few (same_texts HasTooMany h)), tt)))))
+        (no_fault TooLarge, (no_fault NotUtf8, ((λ h. few (same_texts HasTooMany h)), tt))),
+      ),
+    )
 
     -- what comes of texts comes of the run
     pub listed : (out : Written) (result : Result Unit Refusal) → ListsTexts out texts result

@@ -20,9 +20,14 @@ list_command =
 abbrev pub program : App
 program =
     with_subcommand
-        (on_top (λ s. record s { no_binary_name = true; disable_help_flag =
-        true; disable_help_subcommand = true; subcommand_required = true }) (new_app (codes "bq")))
-        list_command.top
+    (on_top (λ s. record s {
+      no_binary_name = true;
+      disable_help_flag =
+          true;
+      disable_help_subcommand = true;
+      subcommand_required = true;
+    }) (new_app (codes "bq")))
+    list_command.top
 
 -- what the words say of the ledger, where clap has no fault to find with them
 abbrev pub named_by : Kinds → List Text → Option Text

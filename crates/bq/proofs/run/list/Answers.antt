@@ -12,11 +12,14 @@ returns-in_err-texts g c = λ words names.
     let is = converted c.from_residual.result (Load fault) c.from_residual.ensures.1 in
     subst (Runs (deeds s c.args.store.now c.gather.new.source out) words) (sym is)
     (ungathered s c.args.store.now c.gather.new.source words c.args.name.now names fault
-        c.in_err-texts.ensures out refl)
+    c.in_err-texts.ensures out refl)
 
 pub returns : goal.returns
 returns g c = λ words names.
     let come = c.in_ok-texts.ensures in
-    let out = written g.O.Output c.args.out.now c.list_texts.new.out in
-    (come.0, come.1, listed words c.args.name.now names come.0 c.in_ok-texts.texts come.2 out
-        c.list_texts.result c.list_texts.ensures)
+    let out = written g.O.Output c.args.out.now c.list_texts.new.out in (
+      come.0,
+      come.1,
+      listed words c.args.name.now names come.0 c.in_ok-texts.texts come.2 out
+          c.list_texts.result c.list_texts.ensures,
+    )

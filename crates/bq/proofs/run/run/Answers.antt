@@ -9,6 +9,9 @@ returns-in_err-name g c =
     let words = map (λ w. w.now) c.args.words.now in
     let out = written g.O.Output c.args.out.now c.args.out.now in
     let r = c.in_err-name.field-0.0 in
-    let is = converted c.from_residual.result r c.from_residual.ensures.1 in
-    ([], gave_none g.S.Source c.args.store.now, subst (Comes words [] out) (sym is)
-        (unnamed words r c.in_err-name.ensures out refl))
+    let is = converted c.from_residual.result r c.from_residual.ensures.1 in (
+      [],
+      gave_none g.S.Source c.args.store.now,
+      subst (Comes words [] out) (sym is)
+          (unnamed words r c.in_err-name.ensures out refl),
+    )
