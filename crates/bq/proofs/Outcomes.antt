@@ -4,7 +4,7 @@ use Rattle.std.proofs.Common.{Result, Ok, Err, refl, sym, ap, ◌∙◌, subst}
 use Rattle.std.specs.Result.{IsErrAnd}
 use Rattle.bean_book.specs.declared.postings.BookFault.TheVariants as book
 use Rattle.bean_load.specs.Following.{Gathers, IsGathered}
-use Rattle.bean_load.specs.Gathered.{nothing, texts_of}
+use Rattle.bean_load.specs.Gathered as gathered
 use Rattle.bean_load.specs.Texts.{Texts}
 use Rattle.bean_load.specs.declared.fault.LoadFault.{LoadFault}
 use Rattle.bean_load.specs.declared.fault.LoadFault.TheVariants.{Unreadable, TooLarge, NotUtf8}
@@ -39,7 +39,7 @@ ledger_in (Some name) = name
 
 texts_gathered : Result Texts LoadFault → Texts
 texts_gathered (Ok texts) = texts
-texts_gathered (Err fault) = texts_of nothing
+texts_gathered (Err fault) = gathered.texts_of gathered.nothing
 
 -- the words name a ledger, and the store gave this
 module _ (words : List Text) (name : List ℕ) (names : ledger_named words
