@@ -1,6 +1,6 @@
 -- What the source answers decides which texts a ledger has.
 use Rattle.std.proofs.Common.{◌≡◌, ℕ, zero, suc, Bool, true, false, List, [], ◌∷◌, length, Result}
-use Rattle.std.proofs.Common.{Ok, Err, sym, ap, ◌∙◌, subst}
+use Rattle.std.proofs.Common.{Ok, Err, map, sym, ap, ◌∙◌, subst}
 use Rattle.std.specs.Bool.{MatchBool}
 use Rattle.std.specs.Str.{is_utf8}
 use Rattle.stores.specs.Reading.{Reading}
@@ -11,11 +11,11 @@ use Rattle.bean_load.specs.Gathered.{Gathered, is_full, is_too_large, nothing, w
 use Rattle.bean_load.specs.Gathered.{with_asked, with_bytes, with_fault, with_file}
 use Rattle.bean_load.specs.Gathering.{AnswerComes, AsksFor, Ends, LineBy, LinesBy, Stands, Step}
 use Rattle.bean_load.specs.Gathering.{TextBelow, TextBy, TextComes, Then, gone_on}
-use Rattle.bean_load.specs.Include.{AreIncludes, Include, includes}
+use Rattle.bean_load.specs.Include.{AreIncludes, Include, include_of}
 use Rattle.bean_load.specs.declared.fault.LoadFault.{LoadFault}
 use Rattle.bean_load.specs.declared.fault.LoadFault.TheVariants.{TooLarge, Unreadable, NotUtf8}
 use Rattle.bean_load.specs.declared.gathering.TheConstants.{DEEPEST}
-use Rattle.bean_parser.proofs.OneReadingFacts.{one_text as one_reading}
+use Rattle.bean_parser.proofs.IncludesFacts.{one_list_of_includes}
 
 abbrev Are : List Reading → List Reading → Result Gathered LoadFault → Result Gathered LoadFault
     → Type 0
@@ -108,7 +108,7 @@ one_lines Line one (line ∷ lines) s todo rest others result other h k =
 one_includes : (name bytes : List ℕ) (xs ys : List Include) → AreIncludes name bytes xs
     → AreIncludes name bytes ys → xs ≡ ys
 one_includes name bytes xs ys h k =
-    h.2 ∙ ap (λ p. includes name p.settings) (one_reading bytes h.0 k.0 h.1 k.1) ∙ sym k.2
+    h.2 ∙ ap (map (include_of name)) (one_list_of_includes bytes h.0 k.0 h.1 k.1) ∙ sym k.2
 
 one_text : (Line : ℕ → Include → Step)
     → ((file : ℕ) (line : Include) (s : Gathered) → IsOne (Line file line s)) → AreOne (TextBy Line)

@@ -1,12 +1,8 @@
 -- Include lines, and the names that they ask for.
-use Rattle.std.specs.Prelude.{◌≡◌, ℕ, ◌==◌, ◌||◌, Bool, false, List, [], ◌∷◌, ◌++◌, if◌then◌else◌}
-use Rattle.std.specs.List.{flat_map}
+use Rattle.std.specs.Prelude.{◌≡◌, ℕ, ◌==◌, ◌||◌, Bool, false, List, [], ◌∷◌, ◌++◌, if◌then◌else◌, map}
 use Rattle.bean_base.specs.Character.{slash}
-use Rattle.bean_heads.specs.declared.undated.Setting.{Setting}
-use Rattle.bean_heads.specs.declared.undated.SettingKind.{SettingKind}
-use Rattle.bean_heads.specs.declared.undated.SettingKind.TheVariants as kind
-use Rattle.bean_parser.specs.Parsed.{IsParsed}
-use Rattle.bean_parser.specs.declared.parse.Parsed.{Parsed}
+use Rattle.bean_parser.specs.Includes.{AreIncludeLines}
+use Rattle.bean_parser.specs.declared.includes.IncludeLine.{IncludeLine}
 
 -- The line of an include, and the name that it asks for.
 pub record Include : Type 0 where
@@ -34,15 +30,10 @@ is_rooted (b ∷ bs) = is_slash b
 abbrev pub joined : List ℕ → List ℕ → List ℕ
 joined including name = if is_rooted name then name else folder including ++ name
 
-abbrev pub include_of : List ℕ → ℕ → SettingKind → List Include
-include_of including line (kind.Include name) =
-    record { line = line; name = joined including name } ∷ []
-include_of including line other = []
+abbrev pub include_of : List ℕ → IncludeLine → Include
+include_of including line = record { line = line.line; name = joined including line.name }
 
--- the include lines among the settings of a text of that name
-abbrev pub includes : List ℕ → List Setting → List Include
-includes including settings = flat_map (λ s. include_of including s.line s.kind) settings
-
--- the include lines of a text, in order
+-- what the include lines of a text of that name ask for, in order
 abbrev pub AreIncludes : List ℕ → List ℕ → List Include → Type 0
-AreIncludes name text found = (p : Parsed) × IsParsed text p × (found ≡ includes name p.settings)
+AreIncludes name text found =
+    (lines : List IncludeLine) × AreIncludeLines text lines × (found ≡ map (include_of name) lines)

@@ -1,13 +1,13 @@
 //! Include lines, and the names that they ask for.
-ghost use Rattle.std.specs.Prelude.{◌≡◌, ◌<◌, [], ◌∷◌, ◌++◌, length, IfOk, IfSome, OnOk};
+ghost use Rattle.std.specs.Prelude.{◌≡◌, ◌<◌, [], ◌∷◌, ◌++◌, length, map, IfOk, IfSome, OnOk};
 ghost use Rattle.std.specs.Prelude.{MatchOption};
 ghost use Rattle.std.specs.String.{string_bytes};
 ghost use Rattle.bean_base.specs.Character.{slash};
-ghost use Rattle.bean_load.specs.Include.{AreIncludes, folder, includes, joined};
+ghost use Rattle.bean_load.specs.Include.{AreIncludes, folder, include_of, joined};
 
 use bean_base::Text;
-use bean_parser::parse::parse;
-use bean_parser::{Setting, SettingKind};
+use bean_parser::IncludeLine;
+use bean_parser::includes::include_lines;
 use std::alloc::{AllocError, Global};
 use std::marker::Model;
 
@@ -75,22 +75,20 @@ fn joined(alloc: Global, including: &str, written: &Text<'_>) -> Result<String, 
     Ok(joined)
 }
 
-/// The include lines among the settings of a text of that name.
-fn includes(
+/// What the include lines of a text of that name ask for.
+fn asked_by(
     alloc: Global,
     including: &str,
-    settings: &[Setting<'_>],
+    lines: &[IncludeLine<'_>],
 ) -> Result<Vec<Include>, AllocError>
-    ensures { IfOk result (λ found. found.items ≡ includes including.now settings.now) }
+    ensures { IfOk result (λ found. found.items ≡ map (include_of including.now) lines.now) }
 {
     let mut found = Vec::new(alloc);
-    for setting in settings {
-        if let SettingKind::Include(written) = &setting.kind {
-            found.push(Include {
-                line: setting.line,
-                name: joined(alloc, including, written)?,
-            })?;
-        }
+    for line in lines {
+        found.push(Include {
+            line: line.line,
+            name: joined(alloc, including, &line.name)?,
+        })?;
     }
     Ok(found)
 }
@@ -99,6 +97,6 @@ fn includes(
 pub fn includes_of(alloc: Global, name: &str, text: &str) -> Result<Vec<Include>, AllocError>
     ensures { IfOk result (λ found. AreIncludes name.now text.now found.items) }
 {
-    let parsed = parse(alloc, text)?;
-    includes(alloc, name, parsed.settings.as_slice())
+    let lines = include_lines(alloc, text)?;
+    asked_by(alloc, name, &lines)
 }

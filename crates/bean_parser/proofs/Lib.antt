@@ -8,4 +8,5 @@ pub mod GatheredFacts
 pub mod ParsedFacts
 pub mod OneTree
 pub mod OneReadingFacts
+pub mod IncludesFacts
 mod Examples

@@ -14,7 +14,7 @@ use Rattle.bean_parser.specs.declared.parse.Parsed.{Parsed}
 use Rattle.bean_parser.specs.declared.statement.Statement as statements
 use Rattle.bean_parser.specs.Block.{fault_line, blocks}
 use Rattle.bean_parser.specs.Grammar.{said}
-use Rattle.bean_parser.specs.Outcome.{ReadsAs, GivesAt, AllGive}
+use Rattle.bean_parser.specs.Outcome.{ReadsAs, Gives, GivesAt, AllGive}
 use Rattle.bean_parser.specs.Parsed.{IsParsed, ComeTo, AreByLine}
 use Rattle.bean_parser.proofs.OneTree.{one_tree}
 
@@ -47,6 +47,9 @@ one_at : (line : Option ℕ) (block : List Token) (o p : Outcome) → GivesAt li
     → GivesAt line block p → o ≡ p
 one_at (Some line) block o p g h = g ∙ sym h
 one_at None block o p g h = one_read block o p g h
+
+pub one_outcome : (block : List Token) (o p : Outcome) → Gives block o → Gives block p → o ≡ p
+one_outcome block o p g h = one_at (fault_line block) block o p g h
 
 -- whatever the blocks give, they give nothing else
 one_giving : (blocks : List (List Token)) (os ps : List Outcome) → AllGive blocks os

@@ -8,4 +8,5 @@ pub mod Scope
 pub mod Parsed
 pub mod Gathered
 pub mod OneReading
+pub mod Includes
 pub mod BlockReader

@@ -43,6 +43,7 @@
 
 pub mod block;
 pub mod grammar;
+pub mod includes;
 pub mod parse;
 mod part;
 mod reader;
@@ -51,4 +52,5 @@ pub mod statement;
 pub mod under;
 
 pub use bean_heads::{Directive, DirectiveKind, Setting, SettingKind, Transaction};
+pub use includes::IncludeLine;
 pub use parse::Parsed;

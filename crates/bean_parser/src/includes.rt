@@ -1,0 +1,95 @@
+//! The include lines of a text, without the rest of what it says.
+ghost use Rattle.std.specs.Prelude.{◌≡◌, IfOk, OnOk};
+ghost use Rattle.bean_parser.specs.Includes as spec;
+ghost use Rattle.bean_parser.specs.Includes.{AddsInclude, AreIncludeLines, IsIncludeOf};
+
+use crate::block::{Outcome, read_block};
+use crate::reader::BlockReader;
+use crate::statement::Statement;
+use bean_base::Text;
+use bean_grammar::front::after_keyword;
+use bean_heads::{SettingKind, Undated, UndatedKind};
+use bean_lexer::{Keyword, Token};
+use std::alloc::{AllocError, Global};
+
+/// An include line.
+#[derive(Debug, Drop)]
+pub struct IncludeLine<'a> {
+    /// The line on which it is written, from 1.
+    pub line: usize,
+    /// The name that is written on it.
+    pub name: Text<'a>,
+}
+
+fn include_of_setting(line: usize, kind: SettingKind<'_>) -> Option<IncludeLine<'_>>
+    ensures { result ≡ spec.include_of_setting line kind.entry }
+{
+    match kind {
+        SettingKind::Include(name) => Some(IncludeLine { line, name }),
+        _ => None,
+    }
+}
+
+fn include_of(undated: Undated<'_>) -> Option<IncludeLine<'_>>
+    ensures { result ≡ spec.include_of undated.entry.line undated.entry.kind }
+{
+    match undated.kind {
+        UndatedKind::Setting(kind) => include_of_setting(undated.line, kind),
+        _ => None,
+    }
+}
+
+/// The include line that a block gave, if it gave one.
+fn include_in(outcome: Outcome<'_>) -> Option<IncludeLine<'_>>
+    ensures { result ≡ spec.include_in outcome.entry }
+{
+    match outcome {
+        Outcome::Statement(Statement::Undated(undated)) => include_of(undated),
+        _ => None,
+    }
+}
+
+/// The include line that a block gives, if it gives one: only one that begins with the word does.
+fn include_at<'a>(
+    alloc: Global,
+    block: &[Token<'a>],
+) -> Result<Option<IncludeLine<'a>>, AllocError>
+    ensures { IfOk result (IsIncludeOf block.now) }
+{
+    let Some(_) = after_keyword(block, Keyword::Include) else {
+        return Ok(None);
+    };
+    let outcome = read_block(alloc, block)?;
+    Ok(include_in(outcome))
+}
+
+/// Adds the include line that a block gives, if it gives one.
+fn add_include<'a>(
+    alloc: Global,
+    block: &[Token<'a>],
+    found: &mut Vec<IncludeLine<'a>>,
+) -> Result<(), AllocError>
+    ensures { OnOk result (AddsInclude block.now found.old.items found.new.items) }
+{
+    match include_at(alloc, block)? {
+        Some(include) => {
+            found.push(include)?;
+            Ok(())
+        }
+        None => Ok(()),
+    }
+}
+
+/// The include lines of a text, in order: those among the settings that its blocks give. It reads
+/// the text's tokens, and no block but those that begin with the word `include`.
+pub fn include_lines(alloc: Global, text: &str) -> Result<Vec<IncludeLine<'_>>, AllocError>
+    ensures { IfOk result (λ found. AreIncludeLines text.now found.items) }
+{
+    let mut found = Vec::new(alloc);
+    let mut block = Vec::new(alloc);
+    let mut reader = BlockReader::new(text);
+    while reader.next_block(&mut block)? {
+        add_include(alloc, &block, &mut found)?;
+    }
+    Ok(found)
+}
