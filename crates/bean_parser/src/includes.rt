@@ -33,8 +33,9 @@ fn include_of_setting(line: usize, kind: SettingKind<'_>) -> Option<IncludeLine<
 fn include_of(undated: Undated<'_>) -> Option<IncludeLine<'_>>
     ensures { result ≡ spec.include_of undated.entry.line undated.entry.kind }
 {
-    match undated.kind {
-        UndatedKind::Setting(kind) => include_of_setting(undated.line, kind),
+    let Undated { line, kind } = undated;
+    match kind {
+        UndatedKind::Setting(kind) => include_of_setting(line, kind),
         _ => None,
     }
 }
@@ -45,7 +46,8 @@ fn include_in(outcome: Outcome<'_>) -> Option<IncludeLine<'_>>
 {
     match outcome {
         Outcome::Statement(Statement::Undated(undated)) => include_of(undated),
-        _ => None,
+        Outcome::Statement(Statement::Directive(_directive)) => None,
+        Outcome::Fault(_fault) => None,
     }
 }
 

@@ -1,0 +1,26 @@
+use Rattle.std.proofs.Common.{subst}
+use Rattle.bean_parser.specs.BlockReader.{TakesBlock}
+use Rattle.bean_parser.specs.Includes.{AddsInclude}
+use Rattle.bean_parser.proofs.IncludesFacts.{one_more, ended}
+use Rattle.bean_parser.proofs.includes.include_lines.Goals as goal
+
+pub loop-block-preserved : goal.loop-block-preserved
+loop-block-preserved c =
+    let before = c.loop-block.reader in
+    let after = c.next_block.new.self in
+    let block = c.next_block.new.block.items in
+    let old = c.loop-block.found.items in
+    let new = c.add_include.new.found.items in
+    let takes =
+    subst (λ some. TakesBlock some before block after) c.if-branch.true
+    c.in_ok-next_block.ensures.block in
+    let adds =
+    subst (λ b. AddsInclude b old new) c.deref.ensures.value c.in_ok-add_include.ensures in
+    one_more c.args.text.now before after block old new c.loop-block.invariant takes adds
+
+pub returns : goal.returns
+returns c =
+    let takes =
+    subst (λ some. TakesBlock some c.loop-block.reader c.next_block.new.block.items
+        c.next_block.new.self) c.if-branch.false c.in_ok-next_block.ensures.block in
+    ended c.args.text.now c.loop-block.reader c.loop-block.found.items c.loop-block.invariant takes
