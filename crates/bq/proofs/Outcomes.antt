@@ -54,9 +54,6 @@ texts_gathered (Err fault) = texts_of nothing
 -- what the store gave comes to texts
 module _ (name : Text) (readings : List Reading) (texts : Texts)
     (are : IsGathered name readings (Ok texts)) where
-  asked : Option Request
-  asked = Some (ListLedger name)
-
   same_texts : (Such : Texts → Type 0) → GaveTexts name readings Such → Such texts
   unfolding texts_gathered
   same_texts Such h =
@@ -135,9 +132,54 @@ module _ (name : Text) (readings : List Reading) (bytes : List ℕ)
   shown text is out (Err refusal.OutOfMemory) took = absurd took
 
   -- it is no query file, or memory lacked
-  pub not_shown : (r : Refusal) → NotListed r → (out : Written) → out.nothing
-      → Comes (Some (ShowFile name)) readings out (Err r)
-    where
-      NotListed : Refusal → Type 0
-      NotListed r = ListsProgram {Z = Unit} bytes (Err r)
+  pub not_shown : {Z : Type 0} (r : Refusal) → ListsProgram {Z = Z} bytes (Err r) → (out : Written)
+      → out.nothing → Comes (Some (ShowFile name)) readings out (Err r)
   not_shown (refusal.Query q) is out nothing = (inr (bytes, comes, is), nothing)
+  not_shown refusal.Words is out nothing = (inl is, nothing)
+  not_shown (refusal.Load fault) is out nothing = (inl is, nothing)
+  not_shown (refusal.Book fault) is out nothing = (inl is, nothing)
+  not_shown (refusal.Print (print.NotWritten n)) is out nothing = cc
+  not_shown (refusal.Print print.OutOfMemory) is out nothing = (inl is, nothing)
+  not_shown refusal.OutOfMemory is out nothing = (inl is, nothing)
+
+-- there is no file
+pub unread :
+    {S Z : Type 0} (s : SourceOf S) (old new : S) (name : Text) (fault : LoadFault)
+    → ReadsFile {Z = Z} s old new name (Err fault) → (out : Written) → out.nothing
+    → Does (deeds s old new out) (Some (ShowFile name)) (Err (refusal.Load fault))
+unread s old new name Unreadable come out nothing = (come.0, come.1, (inr come.2, nothing))
+unread s old new name TooLarge come out nothing = (come.0, come.1, (inr come.2, nothing))
+unread s old new name NotUtf8 come out nothing = (come.0, come.1, (inr come.2, nothing))
+unread s old new name OutOfMemory come out nothing = (come.0, come.1, (inl refl, nothing))
+
+-- a table that wasn't written whole
+pub printed :
+    {O : Type 0} (o : OutputOf O) (old new : O) (texts : Texts) → ¬ HasTooMany texts
+    → (table : List ℕ) → Lists texts table → (fault : PrintFault)
+    → WritesTable o old new table (Err fault)
+    → ListsTexts (written o old new) texts (Err (refusal.Print fault))
+printed o old new texts few table lists (print.NotWritten n) h = (few, (table, lists, h))
+printed o old new texts few table lists print.OutOfMemory h = (refl, h)
+
+-- want of memory, or the one that has its cause
+is_due :
+    (request : Option Request) (readings : List Reading) (r s : Refusal)
+    → IsTrue (lacks_memory s) ⊎ HasCause request readings s → HasCause request readings r
+    → IsTrue (lacks_memory s) ⊎ (s ≡ r)
+is_due request readings r s (inl lacks) cause = inl lacks
+is_due request readings r s (inr has) cause = inr (causes_exclude request readings s r has cause)
+
+pub refuses_exactly : RefusesExactly
+refuses_exactly request readings (Ok x) r due cause = due r cause
+refuses_exactly request readings (Err (refusal.Print (print.NotWritten n))) r due cause =
+    absurd (due r cause)
+refuses_exactly request readings (Err (refusal.Print print.OutOfMemory)) r due cause = inl refl
+refuses_exactly request readings (Err refusal.Words) r due cause =
+    is_due request readings r refusal.Words due cause
+refuses_exactly request readings (Err (refusal.Load fault)) r due cause =
+    is_due request readings r (refusal.Load fault) due cause
+refuses_exactly request readings (Err (refusal.Book fault)) r due cause =
+    is_due request readings r (refusal.Book fault) due cause
+refuses_exactly request readings (Err (refusal.Query q)) r due cause =
+    is_due request readings r (refusal.Query q) due cause
+refuses_exactly request readings (Err refusal.OutOfMemory) r due cause = inl refl
