@@ -5,7 +5,7 @@ use Rattle.query_code.specs.declared.refusal.Cause.TheVariants.{Magic, Version, 
 use Rattle.query_code.specs.declared.refusal.Cause.TheVariants.{TrailingBytes, BadField, NotUtf8}
 use Rattle.query_code.proofs.WorkedProgram.{counted}
 use Rattle.query_code.specs.ByteForm.{read_all}
-use Rattle.query_code.specs.InstructionForm.{instruction}
+use Rattle.query_code.specs.InstructionForm.{instruction, operand_cases, word_cases}
 use Rattle.query_code.specs.QueryFile.{whole, decoded, parts, bounds, flag, limit, mode, output}
 use Rattle.query_code.specs.QueryFile.{columns, code, file, text, section, constant, aggregate}
 
@@ -22,7 +22,8 @@ count_rows =
 
 a_file : decoded count_rows ≡ Ok counted
 unfolding front count_rows whole file parts bounds mode flag limit output columns text code
-    aggregate section instruction constant read_all is_utf8 chars lib.Utf8.encode
+    aggregate section instruction operand_cases word_cases constant read_all is_utf8 chars
+    lib.Utf8.encode
 a_file = refl
 
 not_a_file : decoded (65 ∷ 81 ∷ 76 ∷ 67 ∷ []) ≡ Err (record { code = Magic; place = 0 })
@@ -51,5 +52,6 @@ no_text = refl
 
 one_byte_more : decoded (count_rows ++ 7 ∷ []) ≡ Err (record { code = TrailingBytes; place = 43 })
 unfolding front count_rows whole file parts bounds mode flag limit output columns text code
-    aggregate section instruction constant read_all is_utf8 chars lib.Utf8.encode
+    aggregate section instruction operand_cases word_cases constant read_all is_utf8 chars
+    lib.Utf8.encode
 one_byte_more = refl

@@ -1,6 +1,7 @@
 -- The form of each field, and of the file, is exact.
 use Rattle.std.proofs.Common.{◌≡◌, ℕ, ℤ, ◌+◌, ◌^◌, true, false, [], ◌∷◌, length, Some, None, refl}
 use Rattle.std.proofs.Common.{ap, ap₂}
+use Rattle.std.proofs.Common.{List, rules}
 use Rattle.std.specs.Prelude.{◌||◌, ◌==◌, nat_lt, nat_le, codes}
 use Rattle.std.specs.Int.{w16, w32, w128, cast_signed, cast_unsigned}
 use Rattle.std.specs.Str.{is_utf8}
@@ -106,8 +107,8 @@ with_are : (a : Form ℕ) (others : List (Case Instruction)) (makes : List (ℕ 
     → AreCases opcode (with_before a others makes)
 with_are a others [] exact made are = are
 with_are a others (make ∷ makes) exact made are = (
-  is_case opcode (opcode (make 1)) make operand_of a made.0 (λ x fits. made.1.0 x) exact,
-  with_are a others makes exact made.1.1 are,
+  is_case opcode (opcode (make 1)) make operand_of a made.0 (λ x fits. made.1 x) exact,
+  with_are a others makes exact made.2 are,
 )
 
 bytes_made : AreMade with_byte

@@ -69,16 +69,8 @@ fn usd() -> Result<Currency<'static>, NameFault> {
     parse_currency("USD")
 }
 
-#[test]
-fn prints_cells_of_each_kind(rt: HostRuntime) -> Result<(), Fail> {
-    let alloc = rt.alloc();
-    let headers = [
-        Slice::new("text"),
-        Slice::new("number"),
-        Slice::new("day"),
-        Slice::new("amount"),
-    ];
-    let first = [
+fn full_row() -> Result<[Value<'static>; 4], Fail> {
+    Ok([
         Value::Text(Slice::new("a\tb")),
         Value::Number {
             places: 2,
@@ -90,8 +82,11 @@ fn prints_cells_of_each_kind(rt: HostRuntime) -> Result<(), Fail> {
             count: -1_125_000_000_000_000,
             currency: usd()?,
         },
-    ];
-    let second = [
+    ])
+}
+
+fn row_with_gaps() -> Result<[Value<'static>; 4], Fail> {
+    Ok([
         Value::Null,
         Value::Number {
             places: 32,
@@ -103,8 +98,19 @@ fn prints_cells_of_each_kind(rt: HostRuntime) -> Result<(), Fail> {
             count: 1,
             currency: usd()?,
         },
+    ])
+}
+
+#[test]
+fn prints_cells_of_each_kind(rt: HostRuntime) -> Result<(), Fail> {
+    let alloc = rt.alloc();
+    let headers = [
+        Slice::new("text"),
+        Slice::new("number"),
+        Slice::new("day"),
+        Slice::new("amount"),
     ];
-    let answer = answer_of(alloc, headers, first, second)?;
+    let answer = answer_of(alloc, headers, full_row()?, row_with_gaps()?)?;
     let mut display = Display::new(alloc);
     display.set(usd()?, 2)?;
     assert_eq!(rt;
