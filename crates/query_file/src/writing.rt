@@ -98,9 +98,10 @@ fn put_with_word(out: &mut Vec<u8>, opcode: u8, operand: u16) -> Result<(), Allo
     put_word(out, operand)
 }
 
-#[tactic(auto, unfolding(query_code::specs::InstructionForm::instruction))]
+#[tactic(auto, unfolding(query_code::specs::InstructionForm::instruction, query_code::specs::InstructionForm::operand_cases, query_code::specs::InstructionForm::word_cases))]
 fn put_push(out: &mut Vec<u8>, push: Push) -> Result<(), AllocError>
-    ensures { OnOk result (out.new.items ≡ out.old.items ++ instruction.written (Instruction.Push push)) }
+    ensures { OnOk result
+        (out.new.items ≡ out.old.items ++ instruction.written (Instruction.Push push)) }
 {
     match push {
         Push::True => put_byte(out, 0x00),
@@ -115,9 +116,10 @@ fn put_push(out: &mut Vec<u8>, push: Push) -> Result<(), AllocError>
     }
 }
 
-#[tactic(auto, unfolding(query_code::specs::InstructionForm::instruction))]
+#[tactic(auto, unfolding(query_code::specs::InstructionForm::instruction, query_code::specs::InstructionForm::operand_cases, query_code::specs::InstructionForm::word_cases))]
 fn put_unary(out: &mut Vec<u8>, operation: Unary) -> Result<(), AllocError>
-    ensures { OnOk result (out.new.items ≡ out.old.items ++ instruction.written (Instruction.Unary operation)) }
+    ensures { OnOk result
+        (out.new.items ≡ out.old.items ++ instruction.written (Instruction.Unary operation)) }
 {
     match operation {
         Unary::Align(operand) => put_with_byte(out, 0x08, operand),
@@ -145,7 +147,8 @@ fn put_unary(out: &mut Vec<u8>, operation: Unary) -> Result<(), AllocError>
 
 #[tactic(auto, unfolding(query_code::specs::InstructionForm::instruction))]
 fn put_binary(out: &mut Vec<u8>, operation: Binary) -> Result<(), AllocError>
-    ensures { OnOk result (out.new.items ≡ out.old.items ++ instruction.written (Instruction.Binary operation)) }
+    ensures { OnOk result
+        (out.new.items ≡ out.old.items ++ instruction.written (Instruction.Binary operation)) }
 {
     match operation {
         Binary::Add => put_byte(out, 0x10),
@@ -161,7 +164,7 @@ fn put_binary(out: &mut Vec<u8>, operation: Binary) -> Result<(), AllocError>
     }
 }
 
-#[tactic(auto, unfolding(query_code::specs::InstructionForm::instruction))]
+#[tactic(auto, unfolding(query_code::specs::InstructionForm::instruction, query_code::specs::InstructionForm::operand_cases, query_code::specs::InstructionForm::word_cases))]
 fn put_instruction(out: &mut Vec<u8>, step: Instruction) -> Result<(), AllocError>
     ensures { OnOk result (out.new.items ≡ out.old.items ++ instruction.written step) }
 {
