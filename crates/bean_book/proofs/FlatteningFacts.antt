@@ -21,7 +21,7 @@ decimals-append n currency as' bs =
     let p : Amount → Bool = λ x. bytes_eq x.currency currency in
     let f : Amount → ℕ = λ x. x.number.places in
     ap (λ l. fold max n (map f l)) (filter-append p as' bs)
-        ∙ ap (fold max n) (map-append f (filter p as') (filter p bs))
+    ∙ ap (fold max n) (map-append f (filter p as') (filter p bs))
     ∙ fold-append max n (map f (filter p as')) (map f (filter p bs))
 
 -- the decimals of some postings, and then of others
@@ -29,7 +29,7 @@ pub decimals_from-append : (n : ℕ) (currency : List ℕ) (ps qs : List Posting
     → decimals_from n currency (ps ++ qs) ≡ decimals_from (decimals_from n currency ps) currency qs
 decimals_from-append n currency ps qs =
     ap (λ l. fold max n (map (λ a. a.number.places) (filter (λ a. bytes_eq a.currency currency) l)))
-        (flat_map-append amounts_of ps qs)
+    (flat_map-append amounts_of ps qs)
     ∙ decimals-append n currency (flat_map amounts_of ps) (flat_map amounts_of qs)
 
 -- what comes of one more element
@@ -45,6 +45,6 @@ pub length-flat_map-take : {X Z : Type 0} (f : X → List Z) (xs : List X) (n : 
 length-flat_map-take f xs n =
     let whole = ap (λ l. length (flat_map f l)) (take-append-drop n xs) in
     let split =
-        ap length (flat_map-append f (take n xs) (drop n xs))
-        ∙ length-append (flat_map f (take n xs)) (flat_map f (drop n xs)) in
+    ap length (flat_map-append f (take n xs) (drop n xs))
+    ∙ length-append (flat_map f (take n xs)) (flat_map f (drop n xs)) in
     omega (arith, whole, split)

@@ -50,8 +50,11 @@ amounts_of p = amounts_of_units p.units
 -- units that are held as no lot
 abbrev pub position_of : amounts.Amount → Position
 position_of a =
-    record { key = record { currency = a.currency; lot = None }; count =
-    scaled a.number.count a.number.places 8 }
+    record {
+      key = record { currency = a.currency; lot = None };
+      count =
+          scaled a.number.count a.number.places 8;
+    }
 
 abbrev pub row_of_amount : Day → Flag → List ℕ → amounts.Amount → Row
 row_of_amount day flag account a =

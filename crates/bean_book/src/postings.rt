@@ -199,10 +199,7 @@ fn push_directive<'a>(
 }
 
 /// The postings of directives that are in order, and the decimals that their currencies show.
-fn flatten<'a>(
-    alloc: Global,
-    directives: &[Placed<Directive<'a>>],
-) -> Result<Ledger<'a>, BookFault>
+fn flatten<'a>(alloc: Global, directives: &[Placed<Directive<'a>>]) -> Result<Ledger<'a>, BookFault>
     ensures { Flattens directives.now result }
 {
     let mut ledger = Ledger::new(alloc);

@@ -32,6 +32,6 @@ too_large s a b name before mid after bytes n NotUtf8 (Err f) gave len is adds h
 too_large s a b name before mid after bytes n OutOfMemory (Err f) gave len is adds h = absurd adds
 too_large s a b name before mid after bytes n TooLarge (Err f) gave len is adds h =
     let large : is_too_large (length bytes) before ≡ true =
-        subst (λ m. is_too_large m before
-        ≡ true) len (subst (λ z. is_too_large n z ≡ true) is adds) in
+    subst (λ m. is_too_large m before
+    ≡ true) len (subst (λ z. is_too_large n z ≡ true) is adds) in
     subst (λ f. Asks s a b name before after (Err f)) (sym h) (bytes, gave, large)

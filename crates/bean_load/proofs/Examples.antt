@@ -46,22 +46,31 @@ unreadable : Comes (codes "l") ((codes "l", Err source.Failed) ∷ []) (Err Unre
 unreadable = (Err source.Failed, [], refl, (refl, refl))
 
 -- a text that includes itself: F22 at its line, and nothing is asked
-itself : LineComes 16 0 record { line = 7; name =
-    codes "l" } (with_asked (codes "l") nothing) [] []
+itself : LineComes 16 0 record {
+  line = 7;
+  name =
+      codes "l";
+} (with_asked (codes "l") nothing) [] []
     (Ok (with_fault 0 7 (with_asked (codes "l") nothing)))
 itself = (refl, refl)
 
 -- a name that the source doesn't have: F22 at its line
 missing :
-    LineComes 16 0 record { line = 7; name =
-    codes "a" } (with_asked (codes "l") nothing) ((codes "a", Err source.Failed) ∷ []) []
+    LineComes 16 0 record {
+      line = 7;
+      name =
+          codes "a";
+    } (with_asked (codes "l") nothing) ((codes "a", Err source.Failed) ∷ []) []
     (Ok (with_fault 0 7 (with_asked (codes "a") (with_asked (codes "l") nothing))))
 missing = (Err source.Failed, [], refl, (refl, refl))
 
 -- what stands 16 deep ends the load
 too_deep :
-    LineComes 0 0 record { line = 7; name =
-    codes "a" } (with_asked (codes "l") nothing) [] [] (Err TooLarge)
+    LineComes 0 0 record {
+      line = 7;
+      name =
+          codes "a";
+    } (with_asked (codes "l") nothing) [] [] (Err TooLarge)
 too_deep = (refl, refl)
 
 -- the lines of a text with another at line 3: those before it stand in its first part, which is

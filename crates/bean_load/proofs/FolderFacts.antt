@@ -21,7 +21,7 @@ no_slash : (bs : List ℕ) → Lacks bs → has_slash bs ≡ false
 no_slash [] lacks = refl
 no_slash (b ∷ bs) lacks =
     ap (λ t. t || has_slash bs) (not_slash b (lacks 0 (omega arith)))
-        ∙ no_slash bs (λ i l. lacks (suc i) (omega arith))
+    ∙ no_slash bs (λ i l. lacks (suc i) (omega arith))
 
 slash_behind : (before behind : List ℕ) → has_slash (before ++ (47 ∷ behind)) ≡ true
 slash_behind [] behind = refl
@@ -37,4 +37,4 @@ pub folder_split : (before behind : List ℕ)
 folder_split [] behind = refl
 folder_split (b ∷ bs) behind =
     ap (λ t. if t then b ∷ folder (bs ++ (47 ∷ behind)) else []) (slash_behind (b ∷ bs) behind)
-        ∙ ap (λ rest. b ∷ rest) (folder_split bs behind)
+    ∙ ap (λ rest. b ∷ rest) (folder_split bs behind)

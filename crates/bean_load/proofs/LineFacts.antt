@@ -48,7 +48,7 @@ AnswerOf room file line s answer left rest result = AnswerComes
     (Ok (with_fault file line.line (with_asked line.name s)))
     (λ bytes. Ok (with_fault file line.line (with_bytes line.name bytes s)))
     (λ bytes. Stands (TextBelow room) file line bytes (with_bytes line.name bytes s)) s answer left
-        rest result
+    rest result
 
 asked_for :
     (room file : ℕ) (line : Include) (s : Gathered) (answer : Result (List ℕ) SourceFault)
@@ -58,7 +58,7 @@ asked_for :
     → LineComes room file line s ((line.name, answer) ∷ left) rest result
 asked_for room file line s answer left rest result h k comes =
     by_false (was_asked line.name s) _ _ h
-        (by_false (is_full room s) _ _ k (answer, left, refl, comes))
+    (by_false (is_full room s) _ _ k (answer, left, refl, comes))
 
 too_large : (room file : ℕ) (line : Include) (s : Gathered) (bytes : List ℕ) (rest : List Reading)
     → is_too_large (length bytes) s ≡ true
@@ -87,9 +87,12 @@ stands : (room file : ℕ) (line : Include) (s : Gathered) (bytes : List ℕ) (t
     → TextComes (room - 1) line.name bytes (with_bytes line.name bytes s) todo rest end
     → AnswerOf room file line s (Ok bytes) todo rest (gone_on file line.line end)
 stands room file line s bytes todo rest end full large utf8 comes =
-    by_false (is_too_large (length bytes) s) _ _ large (by_true (is_utf8 bytes) _ _ utf8
-    (end, below room line.name bytes s (with_bytes line.name bytes s) todo rest end full
-        comes, refl))
+    by_false (is_too_large (length bytes) s) _ _ large (by_true (is_utf8 bytes) _ _ utf8 (
+      end,
+      below room line.name bytes s (with_bytes line.name bytes s) todo rest end full
+          comes,
+      refl,
+    ))
 
 -- Calls.
 
@@ -124,10 +127,13 @@ pub was_repeated :
     → was_asked line.name before ≡ true → after ≡ with_fault file line.line before
     → (readings : List Reading) × Gave s a a readings
     × ((rest : List Reading) → LineComes room file line before (readings ++ rest) rest (Ok after))
-was_repeated s a room file line before after h is =
-    ([], gave_none s a, λ rest.
-        subst (λ z. LineComes room file line before rest rest (Ok z)) (sym is)
-        (repeated room file line before rest h))
+was_repeated s a room file line before after h is = (
+  [],
+  gave_none s a,
+  λ rest.
+      subst (λ z. LineComes room file line before rest rest (Ok z)) (sym is)
+      (repeated room file line before rest h),
+)
 
 pub was_full :
     {S : Type 0} (s : SourceOf S) (a : S) (room file : ℕ) (line : Include) (before : Gathered)
@@ -203,8 +209,8 @@ line_of_text s a b c room file line before mid bytes end h k told text = (
   λ rest. asked_for room file line before (Ok bytes) (text.0 ++ rest) rest
       (gone_on file line.line end) h k
       (stands room file line before bytes (text.0 ++ rest) rest end k told.fits told.utf8
-          (subst (λ z. TextComes (room - 1) line.name bytes z (text.0 ++ rest) rest end) told.known
-          (text.2 rest))),
+      (subst (λ z. TextComes (room - 1) line.name bytes z (text.0 ++ rest) rest end) told.known
+      (text.2 rest))),
 )
 
 pub text_failed :
@@ -220,9 +226,11 @@ text_failed s a b c room file line before mid after last bytes NotUtf8 h k told 
     line_of_text s a b c room file line before mid bytes (Err NotUtf8) h k told text
 text_failed s a b c room file line before mid after last bytes TooLarge h k told text =
     line_of_text s a b c room file line before mid bytes (Err TooLarge) h k told text
-text_failed s a b c room file line before mid after last bytes OutOfMemory h k told text =
-    ((line.name, Ok bytes)
-        ∷ text.0, gave_more s a b c line.name bytes before mid text.0 told text.1)
+text_failed s a b c room file line before mid after last bytes OutOfMemory h k told text = (
+  (line.name, Ok bytes)
+      ∷ text.0,
+  gave_more s a b c line.name bytes before mid text.0 told text.1,
+)
 
 pub text_stood :
     {S : Type 0} (s : SourceOf S) (a b c : S) (room file : ℕ) (line : Include)
@@ -233,10 +241,13 @@ pub text_stood :
     → last ≡ with_part file line.line after
     → Follows {T = Unit} s a c (LineComes room file line before) last (Ok tt)
 text_stood s a b c room file line before mid after last bytes h k told text is =
-    let done = line_of_text s a b c room file line before mid bytes (Ok after) h k told text in
-    (done.0, done.1, λ rest.
-        subst (λ z. LineComes room file line before (done.0 ++ rest) rest (Ok z)) (sym is)
-        (done.2 rest))
+    let done = line_of_text s a b c room file line before mid bytes (Ok after) h k told text in (
+      done.0,
+      done.1,
+      λ rest.
+          subst (λ z. LineComes room file line before (done.0 ++ rest) rest (Ok z)) (sym is)
+          (done.2 rest),
+    )
 
 pub told_no_text :
     {S : Type 0} (s : SourceOf S) (a b : S) (room file : ℕ) (line : Include)
@@ -259,7 +270,7 @@ told_no_text s a b room file line before mid after h k asks is = from asks.0 ask
           (λ z. LineComes room file line before ((line.name, Ok bytes) ∷ rest) rest (Ok z))
           (ap (with_fault file line.line) (sym told.2) ∙ sym is)
           (asked_for room file line before (Ok bytes) rest rest _ h k
-              (no_text room file line before bytes rest told.0 told.1)),
+          (no_text room file line before bytes rest told.0 told.1)),
     )
     from (Err source.Failed) gave told = absurd told
     from (Err source.OutOfMemory) gave told = absurd told

@@ -54,14 +54,14 @@ one_asked name todo N M R f h k =
 
 one_answer : (unread : Result Gathered LoadFault) (no_text : List ℕ → Result Gathered LoadFault)
     (Text : List ℕ → List Reading → List Reading → Result Gathered LoadFault
-        → Type 0) (s : Gathered) → ((bytes : List ℕ) → IsOne (Text bytes))
+    → Type 0) (s : Gathered) → ((bytes : List ℕ) → IsOne (Text bytes))
     → (answer : Result (List ℕ) SourceFault) → IsOne (AnswerComes unread no_text Text s answer)
 one_answer unread no_text Text s one (Ok bytes) todo rest others result other h k =
     one_bool (is_too_large (length bytes) s) _ _ _ _ (Are rest others result other)
-        (one_end (Err TooLarge) todo rest others result other)
+    (one_end (Err TooLarge) todo rest others result other)
     (one_bool (is_utf8 bytes) _ _ _ _ (Are rest others result other)
-        (one bytes todo rest others result other)
-        (one_end (no_text bytes) todo rest others result other)) h k
+    (one bytes todo rest others result other)
+    (one_end (no_text bytes) todo rest others result other)) h k
 one_answer unread no_text Text s one (Err source.Failed) todo rest others result other h k =
     one_end unread todo rest others result other h k
 one_answer unread no_text Text s one (Err source.OutOfMemory) todo rest others result other h k =
@@ -74,19 +74,19 @@ one_line : (Text : List ℕ → List ℕ → Step) → AreOne Text
     → (room file : ℕ) (line : Include) (s : Gathered) → IsOne (LineBy Text room file line s)
 one_line Text one room file line s todo rest others result other h k =
     one_bool (was_asked line.name s) _ _ _ _ (Are rest others result other)
-        (one_end (Ok (with_fault file line.line s)) todo rest others result other)
+    (one_end (Ok (with_fault file line.line s)) todo rest others result other)
     (one_bool (is_full room s) _ _ _ _ (Are rest others result other)
-        (one_end (Err TooLarge) todo rest others result other)
+    (one_end (Err TooLarge) todo rest others result other)
     (one_asked line.name todo _ _ (Are rest others result other) (λ answer left.
     one_answer (Ok (with_fault file line.line (with_asked line.name s)))
-        (λ bytes. Ok (with_fault file line.line (with_bytes line.name bytes s)))
+    (λ bytes. Ok (with_fault file line.line (with_bytes line.name bytes s)))
     (λ bytes. Stands Text file line bytes (with_bytes line.name bytes s)) s stands answer left rest
-        others result other))) h k
+    others result other))) h k
   where
     stands : (bytes : List ℕ) → IsOne (Stands Text file line bytes (with_bytes line.name bytes s))
     stands bytes todo rest others result other h k =
         let same =
-            one line.name bytes (with_bytes line.name bytes s) todo rest others h.0 k.0 h.1 k.1 in
+        one line.name bytes (with_bytes line.name bytes s) todo rest others h.0 k.0 h.1 k.1 in
         (same.0, h.2 ∙ ap (gone_on file line.line) same.1 ∙ sym k.2)
 
 one_then : (Next : Step) → ((s : Gathered) → IsOne (Next s)) → (mid : Result Gathered LoadFault)
@@ -103,7 +103,7 @@ one_lines Line one (line ∷ lines) s todo rest others result other h k =
     let same = one line s todo k.1 h.1 k.0 h.0 k.2 h.2 in
     one_then (LinesBy Line lines) (one_lines Line one lines) h.0 h.1 rest others result other h.3
     (subst (λ mid. Then (LinesBy Line lines) mid h.1 others other) same.1
-        (subst (λ left. Then (LinesBy Line lines) k.0 left others other) same.0 k.3))
+    (subst (λ left. Then (LinesBy Line lines) k.0 left others other) same.0 k.3))
 
 one_includes : (name bytes : List ℕ) (xs ys : List Include) → AreIncludes name bytes xs
     → AreIncludes name bytes ys → xs ≡ ys
@@ -115,16 +115,16 @@ one_text : (Line : ℕ → Include → Step)
 one_text Line one name bytes s todo rest others result other h k =
     let same = one_includes name bytes k.0 h.0 k.1 h.1 in
     one_lines (Line (length s.files)) (one (length s.files)) h.0 (with_file name bytes s) todo rest
-        others result other h.2
+    others result other h.2
     (subst (λ lines. LinesBy (Line (length s.files)) lines (with_file name bytes s) todo others
-        other) same k.2)
+    other) same k.2)
 
 one_below : (room : ℕ) → AreOne (TextBelow room)
 unfolding TextBelow
 one_below zero name bytes s todo rest others result other h k = absurd h
 one_below (suc room) name bytes s todo rest others result other h k =
     one_text (LineBy (TextBelow room) room) (one_line (TextBelow room) (one_below room) room) name
-        bytes s todo rest others result other h k
+    bytes s todo rest others result other h k
 
 one_top : (room : ℕ) → AreOne (TextComes room)
 one_top room =
@@ -134,8 +134,8 @@ pub one_gathering : HasOneGathering
 one_gathering name readings a b h k =
     let same = one_asked name readings _ _ (Are [] [] h.0 k.0) (λ answer left.
     one_answer (Err Unreadable) (λ bytes. Err NotUtf8)
-        (λ bytes todo rest end.
-        TextComes DEEPEST name bytes (with_bytes name bytes nothing) todo rest end) nothing
+    (λ bytes todo rest end.
+    TextComes DEEPEST name bytes (with_bytes name bytes nothing) todo rest end) nothing
     (λ bytes. one_top DEEPEST name bytes (with_bytes name bytes nothing)) answer left [] [] h.0 k.0)
-        h.1 k.1 in
+    h.1 k.1 in
     h.2 ∙ ap texts_in same.1 ∙ sym k.2

@@ -23,14 +23,14 @@ one_parsing (f ∷ fs) [] qs h k = absurd h
 one_parsing (f ∷ fs) (p ∷ ps) [] h k = absurd k
 one_parsing (f ∷ fs) (p ∷ ps) (q ∷ qs) h k =
     ap (λ r. r ∷ ps) (one_reading f.text p q h.0 k.0)
-        ∙ ap (λ rs. q ∷ rs) (one_parsing fs ps qs h.1 k.1)
+    ∙ ap (λ rs. q ∷ rs) (one_parsing fs ps qs h.1 k.1)
 
 key_total : IsTotalOrder key_cmp
 key_total =
     then_total
     (on_total (λ (a : Key). a.0)
-        (then_total (on_total (λ (a : DayKey). a.0) int_cmp_total)
-        (on_total (λ (a : DayKey). a.1) nat_cmp_total)))
+    (then_total (on_total (λ (a : DayKey). a.0) int_cmp_total)
+    (on_total (λ (a : DayKey). a.1) nat_cmp_total)))
     (on_total (λ (a : Key). a.1) nat_cmp_total)
 
 one_order : (xs ys zs : List (Placed Directive)) → AreInOrder xs ys → AreInOrder xs zs → ys ≡ zs
@@ -44,20 +44,26 @@ pub one_loading : HasOneLoading
 one_loading texts a b h k =
     let parsed = one_parsing texts.files h.parsed k.parsed h.are_parsed k.are_parsed in
     let settings =
-        one_settings (settings_in texts.parts 0 k.parsed) h.settings k.settings
-        (subst (λ ps. AreSettingsInOrder (settings_in texts.parts 0 ps) h.settings) parsed
-        h.in_order) k.in_order in
+    one_settings (settings_in texts.parts 0 k.parsed) h.settings k.settings
+    (subst (λ ps. AreSettingsInOrder (settings_in texts.parts 0 ps) h.settings) parsed
+    h.in_order) k.in_order in
     let directives =
-        one_order (directives_in texts.parts 0 k.parsed) a.directives b.directives
-        (subst (λ ps. AreInOrder (directives_in texts.parts 0 ps) a.directives) parsed h.directives)
-        k.directives in
+    one_order (directives_in texts.parts 0 k.parsed) a.directives b.directives
+    (subst (λ ps. AreInOrder (directives_in texts.parts 0 ps) a.directives) parsed h.directives)
+    k.directives in
     let faults : a.faults ≡ b.faults =
-        h.faults ∙ ap (λ ps. faults_in 0 ps ++ texts.faults) parsed ∙ sym k.faults in
+    h.faults ∙ ap (λ ps. faults_in 0 ps ++ texts.faults) parsed ∙ sym k.faults in
     let title : a.title ≡ b.title = h.title ∙ ap title_in settings ∙ sym k.title in
     let operating : a.operating ≡ b.operating =
-        h.operating ∙ ap (flat_map (λ s. operating_of s.item.kind)) settings ∙ sym k.operating in
+    h.operating ∙ ap (flat_map (λ s. operating_of s.item.kind)) settings ∙ sym k.operating in
     let methods : a.methods ≡ b.methods =
-        h.methods ∙ ap (flat_map (λ s. method_of s.file s.item.line s.item.kind)) settings
-        ∙ sym k.methods in
-    λ i. record { directives = directives i; faults = faults i; title = title i; operating =
-        operating i; methods = methods i }
+    h.methods ∙ ap (flat_map (λ s. method_of s.file s.item.line s.item.kind)) settings
+    ∙ sym k.methods in
+    λ i. record {
+      directives = directives i;
+      faults = faults i;
+      title = title i;
+      operating =
+          operating i;
+      methods = methods i;
+    }

@@ -38,8 +38,17 @@ top_failed s a b name mid NotUtf8 asks = absurd asks
 top_failed s a b name mid TooLarge asks = (
   (name, Ok asks.0) ∷ [],
   asks.1,
-  (Err TooLarge, (Ok asks.0, [], refl, by_true (is_too_large (length asks.0) nothing) _ _ asks.2
-      (refl, refl)), refl),
+  (
+    Err TooLarge,
+    (
+      Ok asks.0,
+      [],
+      refl,
+      by_true (is_too_large (length asks.0) nothing) _ _ asks.2
+          (refl, refl),
+    ),
+    refl,
+  ),
 )
 top_failed s a b name mid OutOfMemory asks = asks
 
@@ -64,8 +73,8 @@ came name bytes mid readings end fits utf8 is come = (
   refl,
   by_false (is_too_large (length bytes) nothing) _ _ fits (by_true (is_utf8 bytes) _ _ utf8
       (subst (λ z. TextComes DEEPEST name bytes z readings [] end) is
-          (subst (λ rs. TextComes DEEPEST name bytes mid rs [] end) (append-nil readings)
-          (come [])))),
+      (subst (λ rs. TextComes DEEPEST name bytes mid rs [] end) (append-nil readings)
+      (come [])))),
 )
 
 pub top_stands :
@@ -126,8 +135,17 @@ top_no_text s a b name mid asks = from asks.0 asks.1 asks.2
     from (Ok bytes) gave told = (
       (name, Ok bytes) ∷ [],
       gave,
-      (Err NotUtf8, (Ok bytes, [], refl, by_false (is_too_large (length bytes) nothing) _ _ told.0
-          (by_false (is_utf8 bytes) _ _ told.1 (refl, refl))), refl),
+      (
+        Err NotUtf8,
+        (
+          Ok bytes,
+          [],
+          refl,
+          by_false (is_too_large (length bytes) nothing) _ _ told.0
+              (by_false (is_utf8 bytes) _ _ told.1 (refl, refl)),
+        ),
+        refl,
+      ),
     )
     from (Err source.Failed) gave told = absurd told
     from (Err source.OutOfMemory) gave told = absurd told
@@ -139,7 +157,10 @@ top_nothing s a b name mid asks = from asks.0 asks.1 asks.2
     from : (answer : Result (List ℕ) SourceFault) → Gave s a b ((name, answer) ∷ [])
         → IsTold name nothing answer asked.Failed mid → Gathers s a b name (Err Unreadable)
     from (Ok bytes) gave told = absurd told.1
-    from (Err source.Failed) gave told =
-        ((name, Err source.Failed)
-        ∷ [], gave, (Err Unreadable, (Err source.Failed, [], refl, (refl, refl)), refl))
+    from (Err source.Failed) gave told = (
+      (name, Err source.Failed)
+          ∷ [],
+      gave,
+      (Err Unreadable, (Err source.Failed, [], refl, (refl, refl)), refl),
+    )
     from (Err source.OutOfMemory) gave told = absurd told

@@ -38,10 +38,10 @@ abbrev pub Asks : {S : Type 0} → SourceOf S → S → S → List ℕ → Gathe
     → Result Asked LoadFault → Type 0
 Asks s old new name before after (Ok asked) =
     (answer : Result (List ℕ) SourceFault) × Gave s old new ((name, answer) ∷ [])
-        × IsTold name before answer asked after
+    × IsTold name before answer asked after
 Asks s old new name before after (Err TooLarge) =
     (bytes : List ℕ) × Gave s old new ((name, Ok bytes) ∷ [])
-        × (is_too_large (length bytes) before ≡ true)
+    × (is_too_large (length bytes) before ≡ true)
 Asks s old new name before after (Err OutOfMemory) =
     (readings : List Reading) × Gave s old new readings
 Asks s old new name before after (Err fault) = ⊥

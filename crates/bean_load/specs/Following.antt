@@ -22,7 +22,7 @@ abbrev pub Follows : {S T : Type 0} → SourceOf S → S → S
 Follows s old new Come after (Err OutOfMemory) = (readings : List Reading) × Gave s old new readings
 Follows s old new Come after result =
     (readings : List Reading) × Gave s old new readings
-        × ((rest : List Reading) → Come (readings ++ rest) rest (known after result))
+    × ((rest : List Reading) → Come (readings ++ rest) rest (known after result))
 
 -- the texts of what is known
 abbrev pub texts_in : Result Gathered LoadFault → Result Texts LoadFault
@@ -44,4 +44,4 @@ Gathers s old new name result =
 abbrev pub HasOneGathering : Type 0
 HasOneGathering =
     (name : List ℕ) (readings : List Reading) (a b : Result Texts LoadFault)
-        → IsGathered name readings a → IsGathered name readings b → a ≡ b
+    → IsGathered name readings a → IsGathered name readings b → a ≡ b

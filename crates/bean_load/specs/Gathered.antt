@@ -62,4 +62,4 @@ with_part file behind s =
 abbrev pub with_file : List ℕ → List ℕ → Gathered → Gathered
 with_file name text s =
     with_part (length s.files) 0
-        (record s { files = s.files ++ record { name = name; text = text } ∷ [] })
+    (record s { files = s.files ++ record { name = name; text = text } ∷ [] })

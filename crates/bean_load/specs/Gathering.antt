@@ -36,7 +36,7 @@ abbrev pub BytesCome : (List ℕ → Result Gathered LoadFault)
 BytesCome no_text Text s bytes todo rest result =
     MatchBool (is_too_large (length bytes) s) (Ends (Err TooLarge) todo rest result)
     (MatchBool (is_utf8 bytes) (Text bytes todo rest result)
-        (Ends (no_text bytes) todo rest result))
+    (Ends (no_text bytes) todo rest result))
 
 abbrev pub AnswerComes : Result Gathered LoadFault → (List ℕ → Result Gathered LoadFault)
     → (List ℕ → List Reading → List Reading → Result Gathered LoadFault → Type 0) → Gathered
@@ -56,7 +56,7 @@ gone_on file line (Err fault) = Err fault
 abbrev pub Stands : (List ℕ → List ℕ → Step) → ℕ → Include → List ℕ → Step
 Stands Text file line bytes s todo rest result =
     (end : Result Gathered LoadFault) × Text line.name bytes s todo rest end
-        × (result ≡ gone_on file line.line end)
+    × (result ≡ gone_on file line.line end)
 
 -- what an include line comes to: F22 where its name was asked before; L3 where there is no room for
 -- it; F22 where the source
@@ -69,7 +69,7 @@ LineBy Text room file line s todo rest result =
     (Ok (with_fault file line.line (with_asked line.name s)))
     (λ bytes. Ok (with_fault file line.line (with_bytes line.name bytes s)))
     (λ bytes. Stands Text file line bytes (with_bytes line.name bytes s)) s answer left rest
-        result)))
+    result)))
 
 abbrev pub Then : Step → Result Gathered LoadFault → List Reading → List Reading
     → Result Gathered LoadFault → Type 0
@@ -81,13 +81,13 @@ abbrev pub LinesBy : (Include → Step) → List Include → Step
 LinesBy Line [] s todo rest result = Ends (Ok s) todo rest result
 LinesBy Line (line ∷ lines) s todo rest result =
     (mid : Result Gathered LoadFault) × (left : List Reading) × Line line s todo left mid
-        × Then (LinesBy Line lines) mid left rest result
+    × Then (LinesBy Line lines) mid left rest result
 
 -- a text is the next one, and its include lines come
 abbrev pub TextBy : (ℕ → Include → Step) → List ℕ → List ℕ → Step
 TextBy Line name bytes s todo rest result =
     (lines : List Include) × AreIncludes name bytes lines
-        × LinesBy (Line (length s.files)) lines (with_file name bytes s) todo rest result
+    × LinesBy (Line (length s.files)) lines (with_file name bytes s) todo rest result
 
 -- what a text comes to that stands below another: nothing stands where there is no room
 unfoldable pub TextBelow : ℕ → List ℕ → List ℕ → Step
@@ -111,5 +111,5 @@ abbrev pub Comes : List ℕ → List Reading → Result Gathered LoadFault → T
 Comes name readings result =
     AsksFor name readings (λ answer left. AnswerComes (Err Unreadable) (λ bytes. Err NotUtf8)
     (λ bytes todo rest end.
-        TextComes DEEPEST name bytes (with_bytes name bytes nothing) todo rest end)
+    TextComes DEEPEST name bytes (with_bytes name bytes nothing) todo rest end)
     nothing answer left [] result)

@@ -12,7 +12,7 @@ abbrev pub parts_of : ℕ → ℕ → List Part → List Own
 parts_of file n [] = []
 parts_of file n (p ∷ ps) =
     if p.file == file then record { behind = p.behind; number = n } ∷ parts_of file (n + 1) ps else
-        parts_of file (n + 1) ps
+    parts_of file (n + 1) ps
 
 abbrev pub later : ℕ → ℕ → Own → ℕ
 later line number part = if nat_lt part.behind line then part.number else number

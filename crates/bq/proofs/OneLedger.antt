@@ -12,4 +12,4 @@ pub not_too_many : (texts : Texts) (l : Loaded) → IsLoaded texts l
     → length (rows_of_all l.directives) ≤ MOST_POSTINGS → ¬ HasTooMany texts
 not_too_many texts l loaded within many =
     let too_many = subst booked.HasTooMany (one_loading texts many.0 l many.1 loaded) many.2 in
-        absurd (omega (arith, within, too_many))
+    absurd (omega (arith, within, too_many))

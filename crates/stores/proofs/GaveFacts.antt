@@ -54,7 +54,7 @@ answered_behind : {S : Type 0} (s : SourceOf S) (a b c : S) (xs ys : List Readin
 answered_behind s _ _ c _ ys (no_call source) more = more
 answered_behind s _ _ c _ ys (one_more first middle last name answer rest gives others) more =
     one_more first middle c name answer (rest ++ ys) gives
-        (answered_behind s middle last c rest ys others more)
+    (answered_behind s middle last c rest ys others more)
 
 counted_behind : (n : ℕ) (xs ys : List Reading)
     → failures_behind_all n (xs ++ ys) ≡ failures_behind_all (failures_behind_all n xs) ys
@@ -65,7 +65,7 @@ told_behind : (xs ys : List Reading) → told_of_all (xs ++ ys) ≡ told_of_all 
 told_behind [] ys = refl
 told_behind (x ∷ xs) ys =
     ap (λ told. readings_of x.0 x.1 ++ told) (told_behind xs ys)
-        ∙ sym (append_assoc (readings_of x.0 x.1) (told_of_all xs) (told_of_all ys))
+    ∙ sym (append_assoc (readings_of x.0 x.1) (told_of_all xs) (told_of_all ys))
 
 grows_behind : {A : Type 0} (a b c : Option (List A)) (xs ys : List A) → GrowsBy a b xs
     → GrowsBy b c ys → GrowsBy a c (xs ++ ys)

@@ -59,7 +59,7 @@ returns-in-Err c =
     let full = c.in-Err.ensures.full (ap Err fault) in
     let before = ap length c.loop-directive.invariant.rows in
     let next =
-        ap length (flat_map_more rows_in ds i item (omega arith))
-        ∙ length-append (flat_map rows_in (take i ds)) (rows_in (get_or ds i item)) in
+    ap length (flat_map_more rows_in ds i item (omega arith))
+    ∙ length-append (flat_map rows_in (take i ds)) (rows_in (get_or ds i item)) in
     let same = ap (λ d. length (rows_in d)) c.directive-item.is in
     omega (arith, full, before, next, same, length-flat_map-take rows_in ds (i + 1)))

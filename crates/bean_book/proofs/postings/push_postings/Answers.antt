@@ -13,10 +13,10 @@ returns-in-Err-clause-full c = λ refused.
     let item = c.posting-item.result in
     let full = c.in-Err.ensures.full refused in
     let before =
-        ap length c.loop-posting.invariant.rows
-        ∙ length-append c.args.ledger.now.rows (flat_map rows (take i ps)) in
+    ap length c.loop-posting.invariant.rows
+    ∙ length-append c.args.ledger.now.rows (flat_map rows (take i ps)) in
     let next =
-        ap length (flat_map_more rows ps i item (omega arith))
-        ∙ length-append (flat_map rows (take i ps)) (rows (get_or ps i item)) in
+    ap length (flat_map_more rows ps i item (omega arith))
+    ∙ length-append (flat_map rows (take i ps)) (rows (get_or ps i item)) in
     let same = ap (λ p. length (rows p)) c.posting-item.is in
     omega (arith, full, before, next, same, length-flat_map-take rows ps (i + 1))

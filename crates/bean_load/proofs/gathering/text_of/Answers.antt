@@ -19,11 +19,13 @@ no_text bytes none = by (is_utf8 bytes) refl
 
 pub returns-in-Ok : goal.returns-in-Ok
 returns-in-Ok c =
-    let is = ap (λ v. v.items) c.in-Ok.ensures.ok in
-    (is, subst (λ bs. is_utf8 bs
-        ≡ true) is
-        (∥∥₁_elim c.in-Ok.text.ok (bool_set (is_utf8 (string_bytes c.in-Ok.text)) true)
-        (λ utf8. is_utf8-from_IsUtf8 (string_bytes c.in-Ok.text) utf8)))
+    let is = ap (λ v. v.items) c.in-Ok.ensures.ok in (
+      is,
+      subst (λ bs. is_utf8 bs
+          ≡ true) is
+          (∥∥₁_elim c.in-Ok.text.ok (bool_set (is_utf8 (string_bytes c.in-Ok.text)) true)
+          (λ utf8. is_utf8-from_IsUtf8 (string_bytes c.in-Ok.text) utf8)),
+    )
 
 pub returns : goal.returns
 returns c = no_text c.args.bytes.items (λ utf8. false≢true (c.in-Err.ensures.succeeds utf8))

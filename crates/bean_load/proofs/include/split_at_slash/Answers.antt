@@ -9,8 +9,8 @@ returns-in-Some c =
     let before = c.in-Some.before in
     let behind = c.in-Some.behind in
     let parts =
-        split_parts 47 c.args.name.now (Some (before, behind)) c.in-Some.ensures.cases
-        (omega arith) in
+    split_parts 47 c.args.name.now (Some (before, behind)) c.in-Some.ensures.cases
+    (omega arith) in
     let long = ap length parts.0 ∙ length-append before.now (47 ∷ behind.now) in record {
       parts = ap folder parts.0 ∙ folder_split before.now behind.now;
       shorter = omega arith;

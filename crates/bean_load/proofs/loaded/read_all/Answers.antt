@@ -15,14 +15,14 @@ loop-number-preserved c =
     let files = c.files-files.result.now in
     let p = c.in_ok-parse.field-0 in
     let next : drop n files ≡ c.index-files-number.result ∷ drop (n + 1) files =
-        grind (arith, common_steps) in
+    grind (arith, common_steps) in
     one_more texts n old new c.index-files-number.result (drop (n + 1) files) p
     (subst (λ fs. IsCompleted texts n old fs) next c.loop-number.invariant)
     (subst (λ t. IsParsed t p) (c.deref-in-loop-number.ensures ∙ ap (λ f. f.text) c.file.view_is)
-        c.in_ok-parse.ensures)
+    c.in_ok-parse.ensures)
     (subst (λ own. AddsParsed n own p old new)
-        (c.deref.ensures.value ∙ c.in_ok-own.ensures
-        ∙ ap (λ parts. parts_of n 0 parts) c.parts.ensures) c.in_ok-add.ensures)
+    (c.deref.ensures.value ∙ c.in_ok-own.ensures
+    ∙ ap (λ parts. parts_of n 0 parts) c.parts.ensures) c.in_ok-add.ensures)
 
 pub returns : goal.returns
 returns c =
@@ -31,4 +31,4 @@ returns c =
     let files = c.files-files.result.now in
     let none : drop n files ≡ [] = grind (arith, common_steps) in
     all_read texts n c.loop-number.read
-        (subst (λ fs. IsCompleted texts n c.loop-number.read fs) none c.loop-number.invariant)
+    (subst (λ fs. IsCompleted texts n c.loop-number.read fs) none c.loop-number.invariant)

@@ -8,5 +8,5 @@ pub returns : goal.returns
 returns c =
     map_from_collect _ c.collect.ensures.ran
     (YieldsList-from_map_by _ (λ w. w.now) string_bytes
-        (YieldsList-from_slice c.args.words.now (cc)) c.map.ensures.closure
-        (λ x r q k. search rules))
+    (YieldsList-from_slice c.args.words.now (cc)) c.map.ensures.closure
+    (λ x r q k. search rules))

@@ -8,6 +8,6 @@ pub returns : goal.returns
 returns c =
     let source = c.skip.ensures.source in
     items_from_collect _ c.collect.ensures.ran
-        (YieldsList-from_skip 1
-        (YieldsList-from_vec (into_iter_items c.args.args) (ap into_iter_items source)
-        (ap into_iter_len source ∙ c.args.args.rest.ok.0)) c.skip.ensures.count)
+    (YieldsList-from_skip 1
+    (YieldsList-from_vec (into_iter_items c.args.args) (ap into_iter_items source)
+    (ap into_iter_len source ∙ c.args.args.rest.ok.0)) c.skip.ensures.count)

@@ -32,11 +32,11 @@ returns-in_err-write_table g c =
     let step = c.from_residual-in_err-write_table in
     let is = converted step.result (Print fault) step.ensures.1 in
     let table =
-        table_is list.0 c.in_ok-ledger.ledger c.display.result.now list.2 c.display.ensures in
+    table_is list.0 c.in_ok-ledger.ledger c.display.result.now list.2 c.display.ensures in
     subst (ListsTexts out c.args.texts.now) (sym is)
     (printed g.O.Output c.args.out.now c.write_table.new.out c.args.texts.now
-        (not_too_many c.args.texts.now list.0 list.1 list.2.held) _ (list.0, list.1, table) fault
-        c.in_err-write_table.ensures)
+    (not_too_many c.args.texts.now list.0 list.1 list.2.held) _ (list.0, list.1, table) fault
+    c.in_err-write_table.ensures)
 
 pub returns : goal.returns
 returns g c =

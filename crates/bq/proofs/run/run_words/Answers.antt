@@ -8,7 +8,10 @@ returns-in-Err g c =
       result = Err c.in-Err.refusal;
       runs = c.in-Err.ensures;
       status_is = c.status.ensures;
-      tells = (c.write_bytes.result, subst
-          (λ bytes. TookFront g.E.Output c.args.err.now c.write_bytes.new.out bytes
-          c.write_bytes.result) line c.write_bytes.ensures);
+      tells = (
+        c.write_bytes.result,
+        subst
+            (λ bytes. TookFront g.E.Output c.args.err.now c.write_bytes.new.out bytes
+            c.write_bytes.result) line c.write_bytes.ensures,
+      );
     }

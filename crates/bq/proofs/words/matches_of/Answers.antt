@@ -21,38 +21,38 @@ command_is : (c : goal.After-try_get_matches_from) → app_of c.in_ok-command.co
 command_is c =
     let ledger_is : rule_of c.required-ledger.result ≡ ledger_word = search rules in
     let named_list :
-        app_of c.disable_help_flag.result
-        ≡ on_top (λ s. record s { disable_help_flag = true }) (new_app (codes "list")) =
+    app_of c.disable_help_flag.result
+    ≡ on_top (λ s. record s { disable_help_flag = true }) (new_app (codes "list")) =
     ap app_of_fields c.disable_help_flag.ensures
-        ∙ ap (on_top (λ s. record s { disable_help_flag = true })) c.new-2.ensures.app in
+    ∙ ap (on_top (λ s. record s { disable_help_flag = true })) c.new-2.ensures.app in
     let list_is : app_of c.in_ok-list.list ≡ list_command =
-        c.in_ok-list.ensures.shape (search rules) ∙ ap₂ with_rule named_list ledger_is in
+    c.in_ok-list.ensures.shape (search rules) ∙ ap₂ with_rule named_list ledger_is in
     let plain =
-        ap app_of_fields c.no_binary_name.ensures
-        ∙ ap (on_top (λ s. record s { no_binary_name = true })) c.new-3.ensures.app in
+    ap app_of_fields c.no_binary_name.ensures
+    ∙ ap (on_top (λ s. record s { no_binary_name = true })) c.new-3.ensures.app in
     let no_flag =
-        ap app_of_fields c.disable_help_flag-2.ensures
-        ∙ ap (on_top (λ s. record s { disable_help_flag = true })) plain in
+    ap app_of_fields c.disable_help_flag-2.ensures
+    ∙ ap (on_top (λ s. record s { disable_help_flag = true })) plain in
     let no_help =
-        ap app_of_fields c.disable_help_subcommand.ensures
-        ∙ ap (on_top (λ s. record s { disable_help_subcommand = true })) no_flag in
+    ap app_of_fields c.disable_help_subcommand.ensures
+    ∙ ap (on_top (λ s. record s { disable_help_subcommand = true })) no_flag in
     let top_is =
-        ap app_of_fields c.subcommand_required.ensures
-        ∙ ap (on_top (λ s. record s { subcommand_required = true })) no_help in
+    ap app_of_fields c.subcommand_required.ensures
+    ∙ ap (on_top (λ s. record s { subcommand_required = true })) no_help in
     c.in_ok-command.ensures.shape (search rules)
-        ∙ ap₂ with_subcommand top_is (ap (λ (a : App). a.top) list_is)
+    ∙ ap₂ with_subcommand top_is (ap (λ (a : App). a.top) list_is)
 
 pub returns-clause-rows : goal.returns-clause-rows
 returns-clause-rows c =
     let parse = c.try_get_matches_from in
     let words : List (List ℕ) = map (λ w. w.now) c.args.words.now in
     IfOk-weaker parse.result _ _
-        (λ m h. (h (ap is_simple (command_is c) ∙ program_is_simple)).1
-        ∙ ap (λ a. subcommand_of a words) (command_is c)) parse.ensures.matches
+    (λ m h. (h (ap is_simple (command_is c) ∙ program_is_simple)).1
+    ∙ ap (λ a. subcommand_of a words) (command_is c)) parse.ensures.matches
 
 pub returns-clause-faults : goal.returns-clause-faults
 returns-clause-faults c =
     let parse = c.try_get_matches_from in
     let words : List (List ℕ) = map (λ w. w.now) c.args.words.now in
     subst (λ a. FailsBy (fault_of a words) parse.result) (command_is c)
-        (parse.ensures.kinds (ap is_simple_and_free (command_is c) ∙ program_is_free))
+    (parse.ensures.kinds (ap is_simple_and_free (command_is c) ∙ program_is_free))

@@ -9,19 +9,19 @@ use Rattle.bean_load.proofs.gathering.Gathering.ask.Goals as goal
 pub returns-in_err-add_name : goal.returns-in_err-add_name
 returns-in_err-add_name g c =
     lacking g.S.Source c.args.source.now c.args.source.now c.args.name.now c.args.self.now
-        c.add_name.new.self [] c.from_residual.result
+    c.add_name.new.self [] c.from_residual.result
     (gave_none g.S.Source c.args.source.now) c.from_residual.ensures.1
 
 pub returns-in_err-add_bytes-in-Ok : goal.returns-in_err-add_bytes-in-Ok
 returns-in_err-add_bytes-in-Ok g c =
     let told = c.in-Ok.ensures in
     too_large g.S.Source c.args.source.now c.text.new.self c.args.name.now c.args.self.now
-        c.add_name.new.self c.add_bytes.new.self c.in-Ok.bytes.items c.len.result
-        c.in_err-add_bytes-in-Ok.field-0.0 c.from_residual-in_err-add_bytes-in-Ok.result
+    c.add_name.new.self c.add_bytes.new.self c.in-Ok.bytes.items c.len.result
+    c.in_err-add_bytes-in-Ok.field-0.0 c.from_residual-in_err-add_bytes-in-Ok.result
     (gave_one g.S.Source c.args.source.now c.text.new.self c.args.name.now (Ok c.in-Ok.bytes.items)
-        told.counts told.tells told.gives)
+    told.counts told.tells told.gives)
     (omega arith) c.in_ok-add_name.ensures c.in_err-add_bytes-in-Ok.ensures
-        c.from_residual-in_err-add_bytes-in-Ok.ensures.1
+    c.from_residual-in_err-add_bytes-in-Ok.ensures.1
 
 pub returns-in_ok-add_bytes-in-Ok : goal.returns-in_ok-add_bytes-in-Ok
 returns-in_ok-add_bytes-in-Ok g c =
@@ -54,7 +54,9 @@ returns-in-Err-Failed g c =
 
 pub returns-in-Err-OutOfMemory : goal.returns-in-Err-OutOfMemory
 returns-in-Err-OutOfMemory g c =
-    let told = c.in-Err-OutOfMemory.ensures in
-    ((c.args.name.now, Err c.in-Err-OutOfMemory.field-0)
-        ∷ [], gave_one g.S.Source c.args.source.now c.text.new.self c.args.name.now
-        (Err c.in-Err-OutOfMemory.field-0) told.counts told.tells told.gives)
+    let told = c.in-Err-OutOfMemory.ensures in (
+      (c.args.name.now, Err c.in-Err-OutOfMemory.field-0)
+          ∷ [],
+      gave_one g.S.Source c.args.source.now c.text.new.self c.args.name.now
+          (Err c.in-Err-OutOfMemory.field-0) told.counts told.tells told.gives,
+    )
