@@ -37,20 +37,7 @@ top =
 
 -- list LEDGER, show FILE
 abbrev pub program : App
-<<<<<<< HEAD
 program = with_subcommand (with_subcommand top list_command.top) show_command.top
-=======
-program =
-    with_subcommand
-    (on_top (λ s. record s {
-      no_binary_name = true;
-      disable_help_flag =
-          true;
-      disable_help_subcommand = true;
-      subcommand_required = true;
-    }) (new_app (codes "bq")))
-    list_command.top
->>>>>>> files
 
 -- what a subcommand asks for, by its name and its words
 abbrev pub asked_by : Text × List Row → Option Request
