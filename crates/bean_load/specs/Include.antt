@@ -1,10 +1,6 @@
 -- Include lines, and the names that they ask for.
-<<<<<<< HEAD
-use Rattle.std.specs.Prelude.{◌≡◌, ℕ, ◌==◌, ◌||◌, Bool, false, List, [], ◌∷◌, ◌++◌, if◌then◌else◌, map}
-=======
 use Rattle.std.specs.Prelude.{◌≡◌, ℕ, ◌==◌, ◌||◌, Bool, false, List, [], ◌∷◌, ◌++◌, map}
 use Rattle.std.specs.Prelude.{if◌then◌else◌}
->>>>>>> files
 use Rattle.bean_base.specs.Character.{slash}
 use Rattle.bean_parser.specs.Includes.{AreIncludeLines}
 use Rattle.bean_parser.specs.declared.includes.IncludeLine.{IncludeLine}

@@ -239,12 +239,8 @@ pub includes_are_settings : (text : List ℕ) → IncludesAreSettings text
 includes_are_settings text p found is are =
     let same : are.0 ≡ is.0 = one_list text are.0 is.0 are.1 is.2 in
     among (blocks is.0) is.1 found is.3
-<<<<<<< HEAD
-    (subst (λ ts. AreIncludesOf (blocks ts) found) same are.2) ∙ ap includes_among (sym is.4.settings)
-=======
     (subst (λ ts. AreIncludesOf (blocks ts) found) same are.2)
     ∙ ap includes_among (sym is.4.settings)
->>>>>>> files
 
 -- Some blocks were read: the include lines of those that are still to be read complete the text's.
 

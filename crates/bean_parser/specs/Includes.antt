@@ -38,12 +38,8 @@ with_first None others = others
 -- the include lines among settings
 abbrev pub includes_among : List Setting → List IncludeLine
 includes_among [] = []
-<<<<<<< HEAD
-includes_among (s ∷ settings) = with_first (include_of_setting s.line s.kind) (includes_among settings)
-=======
 includes_among (s ∷ settings) =
     with_first (include_of_setting s.line s.kind) (includes_among settings)
->>>>>>> files
 
 -- the include line that a block gives, if it gives one
 abbrev pub IsIncludeOf : List Token → Option IncludeLine → Type 0

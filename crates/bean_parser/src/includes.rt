@@ -52,14 +52,7 @@ fn include_in(outcome: Outcome<'_>) -> Option<IncludeLine<'_>>
 }
 
 /// The include line that a block gives, if it gives one: only one that begins with the word does.
-<<<<<<< HEAD
-fn include_at<'a>(
-    alloc: Global,
-    block: &[Token<'a>],
-) -> Result<Option<IncludeLine<'a>>, AllocError>
-=======
 fn include_at<'a>(alloc: Global, block: &[Token<'a>]) -> Result<Option<IncludeLine<'a>>, AllocError>
->>>>>>> files
     ensures { IfOk result (IsIncludeOf block.now) }
 {
     let Some(_) = after_keyword(block, Keyword::Include) else {

@@ -22,9 +22,5 @@ pub returns : goal.returns
 returns c =
     let takes =
     subst (λ some. TakesBlock some c.loop-block.reader c.next_block.new.block.items
-<<<<<<< HEAD
-        c.next_block.new.self) c.if-branch.false c.in_ok-next_block.ensures.block in
-=======
     c.next_block.new.self) c.if-branch.false c.in_ok-next_block.ensures.block in
->>>>>>> files
     ended c.args.text.now c.loop-block.reader c.loop-block.found.items c.loop-block.invariant takes
