@@ -26,7 +26,6 @@ tells : (old new : Holding) (result : Result Unit Refusal)
 tells old new (Ok x) h = h
 tells old new (Err r) h = (h.0, took old new _ _ h.1)
 
-<<<<<<< HEAD
 comes :
     (request : Option Request) (readings : List Reading) (old new : Holding)
     (result : Result Unit Refusal)
@@ -42,21 +41,6 @@ comes request readings old new (Err (refusal.Load fault)) h = h
 comes request readings old new (Err (refusal.Book fault)) h = h
 comes request readings old new (Err (refusal.Query q)) h = h
 comes request readings old new (Err refusal.OutOfMemory) h = h
-=======
-comes : (words : List Text) (readings : List Reading) (old new : Holding)
-    (result : Result Unit Refusal) → Comes words readings (written short_writer old new) result
-    → Comes words readings (kept_in old new) result
-comes words readings old new (Ok x) h = let such = h.1 in
-    (h.0, (such.0, such.1, (such.2.0, such.2.1, took old new _ _ such.2.2)))
-comes words readings old new (Err (refusal.Print (print.NotWritten n))) h =
-    let such = h.1 in
-    (h.0, (such.0, such.1, (such.2.0, such.2.1, (such.2.2.0, took old new _ _ such.2.2.1))))
-comes words readings old new (Err (refusal.Print print.OutOfMemory)) h = h
-comes words readings old new (Err refusal.Words) h = h
-comes words readings old new (Err (refusal.Load fault)) h = h
-comes words readings old new (Err (refusal.Book fault)) h = h
-comes words readings old new (Err refusal.OutOfMemory) h = h
->>>>>>> files
 
 pub ends : (store store' : Shelf) (out out' err err' : Holding) (words : List Text) (status : ℕ)
     → Ends (deeds memory_source store store' (written short_writer out out'))
@@ -67,12 +51,7 @@ ends store store' out out' err err' words status h = record {
   runs = (
     h.runs.0,
     gives_what_it_holds store store' h.runs.0 h.runs.1,
-<<<<<<< HEAD
     comes (request_in words) h.runs.0 out out' h.result h.runs.2,
-=======
-    comes words h.runs.0 out
-        out' h.result h.runs.2,
->>>>>>> files
   );
   status_is = h.status_is;
   tells = tells err err' h.result h.tells;

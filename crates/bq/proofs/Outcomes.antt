@@ -70,7 +70,6 @@ module _ (name : Text) (readings : List Reading) (texts : Texts)
   answerable few (refusal.Print fault) h = h
   answerable few refusal.OutOfMemory h = h
 
-<<<<<<< HEAD
   -- what comes of texts comes of the run
   pub listed : (out : Written) (result : Result Unit Refusal) → ListsTexts out texts result
       → Comes (Some (ListLedger name)) readings out result
@@ -84,86 +83,6 @@ module _ (name : Text) (readings : List Reading) (texts : Texts)
   listed out (Err (refusal.Load fault)) h = (inl h.0, h.1)
   listed out (Err (refusal.Query q)) h = (inl h.0, h.1)
   listed out (Err refusal.OutOfMemory) h = (inl h.0, h.1)
-=======
-  same_end : (end other : Result Texts LoadFault) → IsGathered name readings end
-      → HasGathered words readings other → end ≡ other
-  unfolding ledger_in
-  same_end end other is h =
-      let same : h.0 ≡ name = ap ledger_in (sym h.1 ∙ names) in
-      one_gathering name readings end other is
-      (subst (λ n. IsGathered n readings other) same h.2)
-
-  -- it came to a fault, and to no other
-  no_other : (fault other : LoadFault) → ¬ (fault ≡ other) → IsGathered name readings (Err fault)
-      → ¬ Cause (refusal.Load other)
-  no_other fault other differ is h = let e = same_end (Err fault) (Err other) is h in differ cc
-
-  refused : (fault : LoadFault) → IsGathered name readings (Err fault)
-      → IsTrue (lacks_memory (refusal.Load fault)) ⊎ IsRefused words readings (refusal.Load fault)
-  refused Unreadable is = inr (inr (words_stand, inl ((name, names, is), refl)))
-  refused TooLarge is =
-      inr (inr (
-        words_stand,
-        inr
-            (no_other TooLarge Unreadable (λ e. cc) is, inl ((name, names, is), refl)),
-      ))
-  refused NotUtf8 is =
-      inr (inr (
-        words_stand,
-        inr (
-          no_other NotUtf8 Unreadable (λ e. cc) is,
-          inr
-              (no_other NotUtf8 TooLarge (λ e. cc) is, inl ((name, names, is), refl)),
-        ),
-      ))
-  refused OutOfMemory is = inl refl
-
-  -- it came to texts
-  module _ (texts : Texts) (are : IsGathered name readings (Ok texts)) where
-    no_fault : (fault : LoadFault) → ¬ Cause (refusal.Load fault)
-    no_fault fault h = let e = same_end (Ok texts) (Err fault) are h in cc
-
-    same_texts : (Such : Texts → Type 0) → GaveSuch words readings Such → Such texts
-    unfolding texts_gathered
-    same_texts Such h =
-        subst Such (sym (ap texts_gathered (same_end (Ok texts) (Ok h.0) are h.1))) h.2
-
-    gave_such : (Such : Texts → Type 0) → Such texts → GaveSuch words readings Such
-    gave_such Such such = (texts, (name, names, are), such)
-
-    too_many : HasTooMany texts → IsRefused words readings (refusal.Book book.TooManyPostings)
-    too_many many =
-        inr (
-          words_stand,
-          inr (
-            no_fault Unreadable,
-            inr
-                (no_fault TooLarge, inr (no_fault NotUtf8, inl (gave_such HasTooMany many, refl))),
-          ),
-        )
-
-    answerable : ¬ HasTooMany texts → IsAnswerable words readings
-    answerable few = (
-      words_stand,
-      (
-        no_fault
-            Unreadable,
-        (no_fault TooLarge, (no_fault NotUtf8, ((λ h. few (same_texts HasTooMany h)), tt))),
-      ),
-    )
-
-    -- what comes of texts comes of the run
-    pub listed : (out : Written) (result : Result Unit Refusal) → ListsTexts out texts result
-        → Comes words readings out result
-    listed out (Ok x) h = (answerable h.0, gave_such _ h.1)
-    listed out (Err (refusal.Print (print.NotWritten n))) h = (answerable h.0, gave_such _ h.1)
-    listed out (Err (refusal.Print print.OutOfMemory)) h = (inl h.0, h.1)
-    listed out (Err (refusal.Book book.TooManyPostings)) h = (inr (too_many h.0), h.1)
-    listed out (Err (refusal.Book book.OutOfMemory)) h = (inl h.0, h.1)
-    listed out (Err refusal.Words) h = (inl h.0, h.1)
-    listed out (Err (refusal.Load fault)) h = (inl h.0, h.1)
-    listed out (Err refusal.OutOfMemory) h = (inl h.0, h.1)
->>>>>>> files
 
 -- there are no texts
 pub ungathered :

@@ -12,15 +12,9 @@ returns-in_err-texts g c =
     let out = written g.O.Output c.args.out.now c.args.out.now in
     let fault = c.in_err-texts.field-0.0 in
     let is = converted c.from_residual.result (Load fault) c.from_residual.ensures.1 in
-<<<<<<< HEAD
     subst (Does (deeds s c.args.store.now c.gather.new.source out) (Some (ListLedger name)))
     (sym is)
     (ungathered s c.args.store.now c.gather.new.source name fault c.in_err-texts.ensures out refl)
-=======
-    subst (Runs (deeds s c.args.store.now c.gather.new.source out) words) (sym is)
-    (ungathered s c.args.store.now c.gather.new.source words c.args.name.now names fault
-    c.in_err-texts.ensures out refl)
->>>>>>> files
 
 pub returns : goal.returns
 returns g c =
@@ -28,11 +22,6 @@ returns g c =
     let out = written g.O.Output c.args.out.now c.list_texts.new.out in (
       come.0,
       come.1,
-<<<<<<< HEAD
       listed c.args.name.now come.0 c.in_ok-texts.texts come.2 out c.list_texts.result
           c.list_texts.ensures,
-=======
-      listed words c.args.name.now names come.0 c.in_ok-texts.texts come.2 out
-          c.list_texts.result c.list_texts.ensures,
->>>>>>> files
     )

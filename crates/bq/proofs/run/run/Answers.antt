@@ -9,19 +9,10 @@ pub returns-in_err-match : goal.returns-in_err-match
 returns-in_err-match g c =
     let words = map (λ w. w.now) c.args.words.now in
     let out = written g.O.Output c.args.out.now c.args.out.now in
-<<<<<<< HEAD
     let r = c.in_err-match.field-0.0 in
     let is = converted c.from_residual.result r c.from_residual.ensures.1 in (
       [],
       gave_none g.S.Source c.args.store.now,
       subst (Comes (request_in words) [] out) (sym is)
           (unasked words r c.in_err-match.ensures out refl),
-=======
-    let r = c.in_err-name.field-0.0 in
-    let is = converted c.from_residual.result r c.from_residual.ensures.1 in (
-      [],
-      gave_none g.S.Source c.args.store.now,
-      subst (Comes words [] out) (sym is)
-          (unnamed words r c.in_err-name.ensures out refl),
->>>>>>> files
     )
