@@ -14,6 +14,7 @@ use Rattle.query_code.specs.QueryFile.{decoded}
 use Rattle.query_code.specs.declared.program.Parts.{Parts}
 use Rattle.query_code.specs.declared.refusal.Refusal as queries
 use Rattle.stores.specs.Reading.{Reading}
+use Rattle.stores.specs.declared.source.SourceFault.{SourceFault}
 use Rattle.stores.specs.declared.source.SourceFault.TheVariants.{Failed}
 use Rattle.bq.specs.Causes.{CausesExclude, HasCause}
 use Rattle.bq.specs.Showing.{FileComes}
@@ -64,18 +65,18 @@ one_of_texts name readings r s h k =
 
 -- Of a file the same.
 
-bytes_in : List Reading → List ℕ
-bytes_in [] = []
-bytes_in (reading ∷ rest) = bytes_of reading.1
-  where
-    bytes_of : Result (List ℕ) _ → List ℕ
-    bytes_of (Ok bytes) = bytes
-    bytes_of (Err fault) = []
+answer_in : List Reading → Result (List ℕ) SourceFault
+answer_in [] = Err Failed
+answer_in (reading ∷ rest) = reading.1
+
+bytes_of : Result (List ℕ) SourceFault → List ℕ
+bytes_of (Ok bytes) = bytes
+bytes_of (Err fault) = []
 
 same_bytes : (name a b : List ℕ) (readings : List Reading) → readings ≡ (name, Ok a) ∷ []
     → readings ≡ (name, Ok b) ∷ [] → a ≡ b
-unfolding bytes_in
-same_bytes name a b readings h k = ap bytes_in (sym h ∙ k)
+unfolding answer_in bytes_of
+same_bytes name a b readings h k = ap (λ rs. bytes_of (answer_in rs)) (sym h ∙ k)
 
 both : (name a b : List ℕ) (readings : List Reading) → readings ≡ (name, Ok a) ∷ []
     → length a ≤ LARGEST_TEXT → readings ≡ (name, Ok b) ∷ [] → LARGEST_TEXT < length b → ⊥
@@ -85,7 +86,9 @@ both name a b readings h within k more =
 
 gave_and_failed : (name a : List ℕ) (readings : List Reading) → readings ≡ (name, Ok a) ∷ []
     → readings ≡ (name, Err Failed) ∷ [] → ⊥
-gave_and_failed name a readings h k = let e = sym h ∙ k in cc
+unfolding answer_in
+gave_and_failed name a readings h k =
+    let e : Ok a ≡ Err Failed = ap answer_in (sym h ∙ k) in cc
 
 pub one_file : (name : List ℕ) (readings : List Reading) (a b : Result (List ℕ) LoadFault)
     → FileComes name readings a → FileComes name readings b → a ≡ b

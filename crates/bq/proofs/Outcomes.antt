@@ -4,7 +4,7 @@ use Rattle.std.proofs.Common.{Err, Vec, refl, sym, ap, ◌∙◌, subst}
 use Rattle.std.specs.Result.{IsErrAnd}
 use Rattle.bean_book.specs.declared.postings.BookFault.TheVariants as book
 use Rattle.bean_load.specs.Following.{Gathers, IsGathered}
-use Rattle.bean_load.specs.Gathered.{nothing, texts_of}
+use Rattle.bean_load.specs.Gathered as gathered
 use Rattle.bean_load.specs.Texts.{Texts}
 use Rattle.bean_load.specs.declared.fault.LoadFault.{LoadFault}
 use Rattle.bean_load.specs.declared.fault.LoadFault.TheVariants.{Unreadable, TooLarge, NotUtf8}
@@ -49,7 +49,7 @@ unasked words (refusal.Print fault) none out nothing = absurd none
 
 texts_gathered : Result Texts LoadFault → Texts
 texts_gathered (Ok texts) = texts
-texts_gathered (Err fault) = texts_of nothing
+texts_gathered (Err fault) = gathered.texts_of gathered.nothing
 
 -- what the store gave comes to texts
 module _ (name : Text) (readings : List Reading) (texts : Texts)
@@ -132,25 +132,25 @@ module _ (name : Text) (readings : List Reading) (bytes : List ℕ)
   shown text is out (Err refusal.OutOfMemory) took = absurd took
 
   -- it is no query file, or memory lacked
-  pub not_shown : {Z : Type 0} (r : Refusal) → ListsProgram {Z = Z} bytes (Err r) → (out : Written)
+  pub not_shown : (Z : Type 0) (r : Refusal) → ListsProgram {Z = Z} bytes (Err r) → (out : Written)
       → out.nothing → Comes (Some (ShowFile name)) readings out (Err r)
-  not_shown (refusal.Query q) is out nothing = (inr (bytes, comes, is), nothing)
-  not_shown refusal.Words is out nothing = (inl is, nothing)
-  not_shown (refusal.Load fault) is out nothing = (inl is, nothing)
-  not_shown (refusal.Book fault) is out nothing = (inl is, nothing)
-  not_shown (refusal.Print (print.NotWritten n)) is out nothing = cc
-  not_shown (refusal.Print print.OutOfMemory) is out nothing = (inl is, nothing)
-  not_shown refusal.OutOfMemory is out nothing = (inl is, nothing)
+  not_shown Z (refusal.Query q) is out nothing = (inr (bytes, comes, is), nothing)
+  not_shown Z refusal.Words is out nothing = (inl is, nothing)
+  not_shown Z (refusal.Load fault) is out nothing = (inl is, nothing)
+  not_shown Z (refusal.Book fault) is out nothing = (inl is, nothing)
+  not_shown Z (refusal.Print (print.NotWritten n)) is out nothing = cc
+  not_shown Z (refusal.Print print.OutOfMemory) is out nothing = (inl is, nothing)
+  not_shown Z refusal.OutOfMemory is out nothing = (inl is, nothing)
 
 -- there is no file
 pub unread :
-    {S Z : Type 0} (s : SourceOf S) (old new : S) (name : Text) (fault : LoadFault)
+    {S : Type 0} (Z : Type 0) (s : SourceOf S) (old new : S) (name : Text) (fault : LoadFault)
     → ReadsFile {Z = Z} s old new name (Err fault) → (out : Written) → out.nothing
     → Does (deeds s old new out) (Some (ShowFile name)) (Err (refusal.Load fault))
-unread s old new name Unreadable come out nothing = (come.0, come.1, (inr come.2, nothing))
-unread s old new name TooLarge come out nothing = (come.0, come.1, (inr come.2, nothing))
-unread s old new name NotUtf8 come out nothing = (come.0, come.1, (inr come.2, nothing))
-unread s old new name OutOfMemory come out nothing = (come.0, come.1, (inl refl, nothing))
+unread Z s old new name Unreadable come out nothing = (come.0, come.1, (inr come.2, nothing))
+unread Z s old new name TooLarge come out nothing = (come.0, come.1, (inr come.2, nothing))
+unread Z s old new name NotUtf8 come out nothing = (come.0, come.1, (inr come.2, nothing))
+unread Z s old new name OutOfMemory come out nothing = (come.0, come.1, (inl refl, nothing))
 
 -- a table that wasn't written whole
 pub printed :

@@ -59,9 +59,11 @@ fn asked_by<'a>(name: &str, words: &ArgMatches<'a>) -> Option<Command<'a>>
     ensures { option_map request_of result ≡ asked_by (name.now, rows_of (found_of words.now)) }
 {
     if name == "list" {
-        return words.get_str("LEDGER").map(Command::List);
+        let ledger = words.get_str("LEDGER")?;
+        return Some(Command::List(ledger));
     }
-    words.get_str("FILE").map(Command::Show)
+    let file = words.get_str("FILE")?;
+    Some(Command::Show(file))
 }
 
 /// What the command asks for that the words name.

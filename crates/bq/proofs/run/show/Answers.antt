@@ -1,6 +1,6 @@
-use Rattle.std.proofs.Common.{Some, refl, sym, subst, ◌∙◌}
+use Rattle.std.proofs.Common.{Some, Err, refl, sym, subst}
 use Rattle.bq.specs.Runs.{Comes, Does, WritesText, deeds, written}
-use Rattle.bq.specs.Showing.{ListsProgram}
+use Rattle.bq.specs.Showing.{IsListingOf, ListsProgram}
 use Rattle.bq.specs.Words.{ShowFile}
 use Rattle.bq.specs.declared.refusal.Refusal.TheVariants.{Load}
 use Rattle.bq.proofs.Outcomes.{converted, not_shown, shown, unread}
@@ -15,7 +15,7 @@ returns-in_err-bytes g c =
     let is = converted c.from_residual.result (Load fault) c.from_residual.ensures.1 in
     subst (Does (deeds s c.args.store.now c.file_bytes.new.store out) (Some (ShowFile name)))
     (sym is)
-    (unread s c.args.store.now c.file_bytes.new.store name fault c.in_err-bytes.ensures out refl)
+    (unread _ s c.args.store.now c.file_bytes.new.store name fault c.in_err-bytes.ensures out refl)
 
 pub returns-in_err-text : goal.returns-in_err-text
 returns-in_err-text g c =
@@ -29,7 +29,9 @@ returns-in_err-text g c =
       read.0,
       read.1,
       subst (Comes (Some (ShowFile name)) read.0 out) (sym is)
-          (not_shown name read.0 bytes read.2 r c.in_err-text.ensures out refl),
+          (not_shown name read.0 bytes read.2 _ r
+          (subst (λ bs. ListsProgram bs (Err r)) c.deref.ensures.value c.in_err-text.ensures) out
+          refl),
     )
 
 pub returns : goal.returns
@@ -39,6 +41,9 @@ returns g c =
     let out = written g.O.Output c.args.out.now c.write_text.new.out in (
       read.0,
       read.1,
-      shown c.args.name.now read.0 bytes read.2 c.in_ok-text.text.items c.in_ok-text.ensures out
-          c.write_text.result c.write_text.ensures,
+      shown c.args.name.now read.0 bytes read.2 c.in_ok-text.text.items
+          (subst (λ bs. IsListingOf bs c.in_ok-text.text.items) c.deref.ensures.value
+          c.in_ok-text.ensures) out c.write_text.result
+          (subst (λ text. WritesText out text c.write_text.result) c.deref-2.ensures.value
+          c.write_text.ensures),
     )
