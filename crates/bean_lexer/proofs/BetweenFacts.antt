@@ -57,8 +57,7 @@ is_nothing [] = true
 is_nothing (b ∷ bs) = false
 
 -- what the bytes of a line so far say of it: that one is in a comment or in a skipped line, and
--- that
--- nothing stands in it
+-- that nothing stands in it
 abbrev in_note : Bool → List ℕ → Bool
 in_note begins line = list_any is_semicolon line || (begins && first_is_skipped line)
 

@@ -1,7 +1,6 @@
 -- The tokens of a text. Fronts are taken of its bytes: in a text of whole characters the longest
--- front
--- of a kind ends where a character ends, since only accounts have bytes past ASCII, and take all of
--- them.
+-- front of a kind ends where a character ends, since only accounts have bytes past ASCII, and take
+-- all of them.
 use Rattle.std.specs.Prelude.{◌≡◌, ℕ, ◌+◌, ◌-◌, ◌<◌, ◌≤◌, ◌==◌, ◌⊎◌, Bool, true, false, List, []}
 use Rattle.std.specs.Prelude.{◌∷◌, length, take, drop, count_by, nat_lt, ◌&&◌, if◌then◌else◌}
 use Rattle.std.specs.List.{prefix_len}

@@ -44,8 +44,7 @@ or_on None a go = a
 or_on (Some n) a go = go n
 
 -- The place of the pop that takes a push of that name back, of the bounds behind it. Each later
--- push of
--- the name takes a pop of its own before.
+-- push of the name takes a pop of its own before.
 abbrev pub pop_of : PushName → ℕ → List PlacedBound → Option ℕ
 pop_of name later [] = None
 pop_of name later (b ∷ bs) =

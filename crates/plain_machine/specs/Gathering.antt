@@ -51,8 +51,7 @@ take_each take (a ∷ aggregates) (t ∷ ts) inputs =
 -- ---- the list of the inputs
 
 -- One value more, where it may be gathered behind the others, and what is gathered of all of them
--- is
--- held: so it was over each front of them.
+-- is held: so it was over each front of them.
 abbrev pub with_input : Aggregate → List Value → Value → Option (List Value)
 with_input a xs x =
     if may_take a (aggregate_of a xs) x && is_held (aggregate_of a (xs ++ x ∷ [])) then

@@ -20,10 +20,9 @@ EndsItems {L} begins b whole = (rest : List L) → whole.goes_on rest ≡ false
     → (begins rest ≡ false) × (b.goes_on rest ≡ false)
 
 -- Some items are read: whatever items are read from the rest complete the whole, and each reading
--- of
--- the whole goes on so.
-pub record InRow {L V S : Type 0} (whole : Form L S) (b : Form L V) (step : S → V
-    → S) (ls : List L) (s : S) (rest : List L) : Type 0 where
+-- of the whole goes on so.
+pub record InRow {L V S : Type 0} (whole : Form L S) (b : Form L V) (step : S → V → S)
+    (ls : List L) (s : S) (rest : List L) : Type 0 where
   pub goes : (vs : List V) (after : List L) → ItemsRead b rest vs after
       → whole.reads ls (steps step s vs) after
   pub only : (t : S) (after : List L) → whole.reads ls t after → whole.goes_on after ≡ false

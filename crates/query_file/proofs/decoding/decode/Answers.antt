@@ -8,7 +8,8 @@ pub invariant_of-result : goal.invariant_of-result
 invariant_of-result c =
     record {
       has_file =
-          (is_file c.args.bytes.now _ (λ i. omega (arith, c.type_inv.bytes i)) c.in-Ok.ensures).fits;
+          (is_file c.args.bytes.now _ (λ i. omega (arith, c.type_inv.bytes i))
+          c.in-Ok.ensures).fits;
     }
 
 pub returns-in-Ok-clause-found : goal.returns-in-Ok-clause-found

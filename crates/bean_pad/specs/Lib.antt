@@ -1,0 +1,11 @@
+pub mod Held
+pub mod Tolerance
+pub mod Outcome
+pub mod Note
+pub mod Waiting
+pub mod Standing
+pub mod Padded
+pub mod Sums
+pub mod Trail
+pub mod Following
+pub mod Checking

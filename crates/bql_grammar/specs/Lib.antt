@@ -1,0 +1,11 @@
+pub mod Cause
+pub mod Column
+pub mod Function
+pub mod Tree
+pub mod Number
+pub mod Level
+pub mod Part
+pub mod Call
+pub mod Front
+pub mod Expression
+pub mod Gives

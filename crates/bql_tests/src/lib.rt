@@ -1,0 +1,5 @@
+//! Queries, by the libraries' public calls, with ample memory.
+#![tactic(auto)]
+
+#[cfg(test)]
+mod tokens;

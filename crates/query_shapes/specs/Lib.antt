@@ -1,0 +1,4 @@
+pub mod Mass
+pub mod Shape
+pub mod Rules
+pub mod Keeping
