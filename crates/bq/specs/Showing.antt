@@ -1,5 +1,5 @@
 -- What `show` reads and prints.
-use Rattle.std.specs.Prelude.{◌≡◌, ℕ, ◌<◌, ◌≤◌, IsTrue, List, [], ◌∷◌, length, Result, Ok, Err, Vec}
+use Rattle.std.specs.Prelude.{◌≡◌, ℕ, ◌<◌, ◌≤◌, IsTrue, List, [], ◌∷◌, length, Result, Ok, Err}
 use Rattle.bean_load.specs.declared.fault.LoadFault.{LoadFault}
 use Rattle.bean_load.specs.declared.fault.LoadFault.TheVariants.{Unreadable, TooLarge, OutOfMemory}
 use Rattle.bean_load.specs.declared.gathering.TheConstants.{LARGEST_TEXT}
@@ -14,7 +14,8 @@ use Rattle.bq.specs.Refusal.{lacks_memory}
 use Rattle.bq.specs.declared.refusal.Refusal.{Refusal}
 use Rattle.bq.specs.declared.refusal.Refusal.TheVariants.{Query}
 
--- the file of that name, given what the store gave: its bytes, L1 where it failed, L3 where they are too many
+-- the file of that name, given what the store gave: its bytes, L1 where it failed, L3 where they
+-- are too many
 abbrev pub FileComes : List ℕ → List Reading → Result (List ℕ) LoadFault → Type 0
 FileComes name readings (Ok bytes) =
     (readings ≡ (name, Ok bytes) ∷ []) × (length bytes ≤ LARGEST_TEXT)
@@ -24,12 +25,13 @@ FileComes name readings (Err TooLarge) =
 FileComes name readings (Err fault) = ⊥
 
 -- The store gave what it was asked for, and this is what it comes to; memory may lack at any time.
-abbrev pub ReadsFile : {S Z : Type 0} → SourceOf S → S → S → List ℕ → Result (Vec ℕ Z) LoadFault
-    → Type 0
-ReadsFile s old new name (Ok bytes) =
-    (readings : List Reading) × Gave s old new readings × FileComes name readings (Ok bytes.items)
-ReadsFile s old new name (Err OutOfMemory) = (readings : List Reading) × Gave s old new readings
-ReadsFile s old new name (Err fault) =
+abbrev pub ReadsFile : {S X : Type 0} → SourceOf S → S → S → List ℕ → (X → List ℕ)
+    → Result X LoadFault → Type 0
+ReadsFile s old new name bytes_of (Ok x) =
+    (readings : List Reading) × Gave s old new readings × FileComes name readings (Ok (bytes_of x))
+ReadsFile s old new name bytes_of (Err OutOfMemory) =
+    (readings : List Reading) × Gave s old new readings
+ReadsFile s old new name bytes_of (Err fault) =
     (readings : List Reading) × Gave s old new readings × FileComes name readings (Err fault)
 
 -- the text is the listing of the program whose file the bytes are
@@ -37,7 +39,7 @@ abbrev pub IsListingOf : List ℕ → List ℕ → Type 0
 IsListingOf bytes text = (program : Parts) × (decoded bytes ≡ Ok program) × (text ≡ listing program)
 
 -- that listing, or why the bytes are no query file
-abbrev pub ListsProgram : {Z : Type 0} → List ℕ → Result (Vec ℕ Z) Refusal → Type 0
-ListsProgram bytes (Ok text) = IsListingOf bytes text.items
-ListsProgram bytes (Err (Query refusal)) = decoded bytes ≡ Err refusal
-ListsProgram bytes (Err r) = IsTrue (lacks_memory r)
+abbrev pub ListsProgram : {X : Type 0} → List ℕ → (X → List ℕ) → Result X Refusal → Type 0
+ListsProgram bytes text_of (Ok x) = IsListingOf bytes (text_of x)
+ListsProgram bytes text_of (Err (Query refusal)) = decoded bytes ≡ Err refusal
+ListsProgram bytes text_of (Err r) = IsTrue (lacks_memory r)

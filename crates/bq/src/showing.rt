@@ -10,7 +10,8 @@ use stores::source::{Source, SourceFault};
 
 /// The bytes of the file of that name.
 pub fn file_bytes<S: Source>(store: &mut S, name: &str) -> Result<Vec<u8>, LoadFault>
-    ensures { ReadsFile S.Source store.old store.new name.now result }
+    ensures { ReadsFile S.Source store.old store.new name.now
+        (λ bytes. bytes.items) result }
 {
     let bytes = match store.text(name) {
         Ok(bytes) => bytes,
@@ -25,7 +26,7 @@ pub fn file_bytes<S: Source>(store: &mut S, name: &str) -> Result<Vec<u8>, LoadF
 
 /// The listing of the program whose file the bytes are.
 pub fn listing_of(alloc: Global, bytes: &[u8]) -> Result<Vec<u8>, Refusal>
-    ensures { ListsProgram bytes.now result }
+    ensures { ListsProgram bytes.now (λ text. text.items) result }
 {
     let program = decode(alloc, bytes)?;
     let text = show(alloc, &program)?;

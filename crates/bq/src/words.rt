@@ -3,7 +3,7 @@ ghost use Rattle.std.specs.Prelude.{◌≡◌, IfOk, map, option_map};
 ghost use Rattle.std.specs.Option.{option_and_then};
 ghost use Rattle.clap.specs.Walk.{rows_of};
 ghost use Rattle.clap.specs.Words.{FailsBy, app_of, fault_of, found_of, subcommand_of};
-ghost use Rattle.clap.specs.Words.{subcommand_rows_of};
+ghost use Rattle.clap.specs.Words.{subcommand_rows_of, with_subcommand};
 ghost use Rattle.bq.specs.Words.{asked_by, program, request_of, with_word};
 ghost use Rattle.bq.specs.Named.{AskFor, IsRefusedBy};
 
@@ -21,18 +21,21 @@ pub enum Command<'a> {
     Show(&'a str),
 }
 
-/// A command that takes one word, which has to be there.
-fn with_word<'a>(
+/// The command with one subcommand more, which takes one word that has to be there.
+fn add_subcommand<'a>(
     alloc: Global,
+    command: clap::Command<'a>,
     name: &'a str,
     word: &'a str,
 ) -> Result<clap::Command<'a>, AllocError>
-    ensures { IfOk result (λ c. app_of c ≡ with_word name.entry.now word.entry.now) }
+    ensures { IfOk result (λ c. app_of c ≡ with_subcommand (app_of command.entry)
+        (with_word name.entry.now word.entry.now).top) }
 {
     let word = Arg::new(alloc, word).required(true);
-    clap::Command::new(alloc, name)
+    let subcommand = clap::Command::new(alloc, name)
         .disable_help_flag(true)
-        .arg(word)
+        .arg(word)?;
+    command.subcommand(subcommand)
 }
 
 /// The words as those of `bq list LEDGER` or `bq show FILE`. There is no help by words: the README
@@ -42,15 +45,13 @@ fn matches_of<'a>(alloc: Global, words: &'a [&'a str]) -> Result<ArgMatches<'a>,
         ≡ subcommand_of program (map (λ w. w.now) words.entry.now)) }
     ensures faults { FailsBy (fault_of program (map (λ w. w.now) words.entry.now)) result }
 {
-    let list = with_word(alloc, "list", "LEDGER")?;
-    let show = with_word(alloc, "show", "FILE")?;
-    let command = clap::Command::new(alloc, "bq")
+    let top = clap::Command::new(alloc, "bq")
         .no_binary_name(true)
         .disable_help_flag(true)
         .disable_help_subcommand(true)
-        .subcommand_required(true)
-        .subcommand(list)?
-        .subcommand(show)?;
+        .subcommand_required(true);
+    let listing = add_subcommand(alloc, top, "list", "LEDGER")?;
+    let command = add_subcommand(alloc, listing, "show", "FILE")?;
     command.try_get_matches_from(words)
 }
 
@@ -59,11 +60,15 @@ fn asked_by<'a>(name: &str, words: &ArgMatches<'a>) -> Option<Command<'a>>
     ensures { option_map request_of result ≡ asked_by (name.now, rows_of (found_of words.now)) }
 {
     if name == "list" {
-        let ledger = words.get_str("LEDGER")?;
-        return Some(Command::List(ledger));
+        return match words.get_str("LEDGER") {
+            Some(ledger) => Some(Command::List(ledger)),
+            None => None,
+        };
     }
-    let file = words.get_str("FILE")?;
-    Some(Command::Show(file))
+    match words.get_str("FILE") {
+        Some(file) => Some(Command::Show(file)),
+        None => None,
+    }
 }
 
 /// What the command asks for that the words name.

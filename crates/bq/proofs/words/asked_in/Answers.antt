@@ -1,19 +1,30 @@
-use Rattle.std.proofs.Common.{◌≡◌, List, Option, Some, None, codes, option_map, refl, ap, ◌∙◌}
+use Rattle.std.proofs.Common.{◌≡◌, List, Option, Some, None, option_map, refl, sym, ap, ap₂, ◌∙◌}
 use Rattle.std.specs.Option.{option_and_then}
-use Rattle.clap.specs.Walk.{Row, Text, first_of}
-use Rattle.clap.specs.Words.{found_of, subcommand_rows_of}
-use Rattle.clap.proofs.WalkLemmas.{first_value-rows}
-use Rattle.bq.proofs.words.ledger_in.Goals as goal
+use Rattle.clap.specs.Walk.{Row, Text}
+use Rattle.clap.specs.Words.{found_of, rows_of, subcommand_rows_of}
+use Rattle.bq.specs.Words.{asked_by}
+use Rattle.bq.proofs.words.asked_in.Goals as goal
 
--- the second of a pair, and then a look-up in it
-through : (look : List Row → Option Text) (o : Option (Text × List Row))
-    → option_and_then look (option_map (λ p. p.1) o) ≡ option_and_then (λ p. look p.1) o
-through look (Some p) = refl
-through look None = refl
+-- a map behind a map
+after : {X Y Z : Type 0} (f : X → Y) (g : Y → Z) (o : Option X)
+    → option_map g (option_map f o) ≡ option_map (λ x. g (f x)) o
+after f g (Some x) = refl
+after f g None = refl
+
+-- a pair by its two parts
+paired : (o : Option (Text × List Row)) (name : Text) (rows : List Row)
+    → option_map (λ p. p.0) o ≡ Some name → option_map (λ p. p.1) o ≡ Some rows
+    → o ≡ Some (name, rows)
+paired (Some p) name rows first second =
+    let same_name : p.0 ≡ name = cc in
+    let same_rows : p.1 ≡ rows = cc in ap₂ (λ a b. Some (a, b)) same_name same_rows
+paired None name rows first second = cc
 
 pub returns-in-Some : goal.returns-in-Some
 returns-in-Some c =
-    let look = first_of (codes "LEDGER") in
-    c.get_str.ensures ∙ first_value-rows (found_of c.in-Some.list.now) (codes "LEDGER")
-    ∙ ap (option_and_then look) c.in-Some.ensures.rows
-    ∙ through look (subcommand_rows_of c.args.matches.now)
+    let rows = rows_of (found_of c.in-Some.words.now) in
+    let told = c.in-Some.ensures in
+    let is =
+    paired (subcommand_rows_of c.args.matches.now) c.in-Some.name.now rows
+    (after _ (λ (p : Text × List Row). p.0) _ ∙ sym told.name) (sym told.rows) in
+    c.asked_by.ensures ∙ sym (ap (option_and_then asked_by) is)

@@ -1,11 +1,11 @@
-use Rattle.std.proofs.Common.{rules, ap, ap₂, refl, codes, true, map, List, ℕ, ◌≡◌, ◌∙◌, subst}
+use Rattle.std.proofs.Common.{ap, refl, codes, true, map, List, ℕ, ◌≡◌, ◌∙◌, subst}
 use Rattle.std.proofs.lemmas.Result.{IfOk-weaker}
 use Rattle.clap.specs.Faults.{fault_of, is_simple_and_free}
 use Rattle.clap.specs.Kinds.{FailsBy}
 use Rattle.clap.specs.Simple.{app_of_fields, is_simple, on_top, subcommand_of}
 use Rattle.clap.specs.Words.{App, app_of, new_app, rule_of, with_rule, with_subcommand}
 use Rattle.clap.proofs.OnLiterals.{clap_on_literals}
-use Rattle.bq.specs.Words.{program}
+use Rattle.bq.specs.Words.{list_command, program, show_command}
 use Rattle.bq.proofs.words.matches_of.Goals as goal
 
 program_is_simple : is_simple program ≡ true
@@ -29,13 +29,11 @@ command_is c =
     ap app_of_fields c.disable_help_subcommand.ensures
     ∙ ap (on_top (λ s. record s { disable_help_subcommand = true })) no_flag in
     let top_is =
-    ap app_of_fields c.subcommand_required.ensures
+    ap app_of_fields c.subcommand_required-top.ensures
     ∙ ap (on_top (λ s. record s { subcommand_required = true })) no_help in
-    let first =
-    c.in_ok-subcommand.ensures.shape (search rules)
-    ∙ ap₂ with_subcommand top_is (ap (λ (a : App). a.top) c.in_ok-list.ensures) in
-    c.in_ok-command.ensures.shape (search rules)
-    ∙ ap₂ with_subcommand first (ap (λ (a : App). a.top) c.in_ok-show.ensures)
+    c.in_ok-command.ensures
+    ∙ ap (λ a. with_subcommand a show_command.top)
+    (c.in_ok-listing.ensures ∙ ap (λ a. with_subcommand a list_command.top) top_is)
 
 pub returns-clause-rows : goal.returns-clause-rows
 returns-clause-rows c =
