@@ -24,7 +24,7 @@ use Rattle.bq.specs.Named.{AskNothing}
 use Rattle.bq.specs.Refusal.{lacks_memory}
 use Rattle.bq.specs.Runs.{Comes, Does, ListsTexts, RefusesExactly, Runs, WritesText, Written}
 use Rattle.bq.specs.Runs.{deeds, written}
-use Rattle.bq.specs.Showing.{FileComes, IsListingOf, ListsProgram, ReadsFile}
+use Rattle.bq.specs.Showing.{FileComes, IsListingOf, ListsNone, ReadsNone}
 use Rattle.bq.specs.Words.{Request, ListLedger, ShowFile, request_in}
 use Rattle.bq.specs.declared.refusal.Refusal.{Refusal}
 use Rattle.bq.specs.declared.refusal.Refusal.TheVariants as refusal
@@ -132,27 +132,25 @@ module _ (name : Text) (readings : List Reading) (bytes : List ℕ)
   shown text is out (Err refusal.OutOfMemory) took = absurd took
 
   -- it is no query file, or memory lacked
-  pub not_shown :
-      {X : Type 0} (text_of : X → List ℕ) (r : Refusal) → ListsProgram bytes text_of (Err r)
-      → (out : Written) → out.nothing → Comes (Some (ShowFile name)) readings out (Err r)
-  not_shown text_of (refusal.Query q) is out nothing = (inr (bytes, comes, is), nothing)
-  not_shown text_of refusal.Words is out nothing = (inl is, nothing)
-  not_shown text_of (refusal.Load fault) is out nothing = (inl is, nothing)
-  not_shown text_of (refusal.Book fault) is out nothing = (inl is, nothing)
-  not_shown text_of (refusal.Print (print.NotWritten n)) is out nothing = cc
-  not_shown text_of (refusal.Print print.OutOfMemory) is out nothing = (inl is, nothing)
-  not_shown text_of refusal.OutOfMemory is out nothing = (inl is, nothing)
+  pub not_shown : (r : Refusal) → ListsNone bytes r → (out : Written) → out.nothing
+      → Comes (Some (ShowFile name)) readings out (Err r)
+  not_shown (refusal.Query q) is out nothing = (inr (bytes, comes, is), nothing)
+  not_shown refusal.Words is out nothing = (inl is, nothing)
+  not_shown (refusal.Load fault) is out nothing = (inl is, nothing)
+  not_shown (refusal.Book fault) is out nothing = (inl is, nothing)
+  not_shown (refusal.Print (print.NotWritten n)) is out nothing = cc
+  not_shown (refusal.Print print.OutOfMemory) is out nothing = (inl is, nothing)
+  not_shown refusal.OutOfMemory is out nothing = (inl is, nothing)
 
 -- there is no file
 pub unread :
-    {S X : Type 0} (s : SourceOf S) (old new : S) (name : Text) (bytes_of : X → List ℕ)
-    (fault : LoadFault) → ReadsFile s old new name bytes_of (Err fault) → (out : Written)
-    → out.nothing
+    {S : Type 0} (s : SourceOf S) (old new : S) (name : Text) (fault : LoadFault)
+    → ReadsNone s old new name fault → (out : Written) → out.nothing
     → Does (deeds s old new out) (Some (ShowFile name)) (Err (refusal.Load fault))
-unread s old new name bytes_of Unreadable come out nothing = (come.0, come.1, (inr come.2, nothing))
-unread s old new name bytes_of TooLarge come out nothing = (come.0, come.1, (inr come.2, nothing))
-unread s old new name bytes_of NotUtf8 come out nothing = (come.0, come.1, (inr come.2, nothing))
-unread s old new name bytes_of OutOfMemory come out nothing = (come.0, come.1, (inl refl, nothing))
+unread s old new name Unreadable come out nothing = (come.0, come.1, (inr come.2, nothing))
+unread s old new name TooLarge come out nothing = (come.0, come.1, (inr come.2, nothing))
+unread s old new name NotUtf8 come out nothing = (come.0, come.1, (inr come.2, nothing))
+unread s old new name OutOfMemory come out nothing = (come.0, come.1, (inl refl, nothing))
 
 -- a table that wasn't written whole
 pub printed :

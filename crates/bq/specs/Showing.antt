@@ -24,22 +24,29 @@ FileComes name readings (Err TooLarge) =
     (bytes : List ℕ) × (readings ≡ (name, Ok bytes) ∷ []) × (LARGEST_TEXT < length bytes)
 FileComes name readings (Err fault) = ⊥
 
--- The store gave what it was asked for, and this is what it comes to; memory may lack at any time.
+-- The store gave what it was asked for, and it comes to no file; memory may lack at any time.
+abbrev pub ReadsNone : {S : Type 0} → SourceOf S → S → S → List ℕ → LoadFault → Type 0
+ReadsNone s old new name OutOfMemory = (readings : List Reading) × Gave s old new readings
+ReadsNone s old new name fault =
+    (readings : List Reading) × Gave s old new readings × FileComes name readings (Err fault)
+
+-- the store gave what it was asked for, and this is what it comes to
 abbrev pub ReadsFile : {S X : Type 0} → SourceOf S → S → S → List ℕ → (X → List ℕ)
     → Result X LoadFault → Type 0
 ReadsFile s old new name bytes_of (Ok x) =
     (readings : List Reading) × Gave s old new readings × FileComes name readings (Ok (bytes_of x))
-ReadsFile s old new name bytes_of (Err OutOfMemory) =
-    (readings : List Reading) × Gave s old new readings
-ReadsFile s old new name bytes_of (Err fault) =
-    (readings : List Reading) × Gave s old new readings × FileComes name readings (Err fault)
+ReadsFile s old new name bytes_of (Err fault) = ReadsNone s old new name fault
 
 -- the text is the listing of the program whose file the bytes are
 abbrev pub IsListingOf : List ℕ → List ℕ → Type 0
 IsListingOf bytes text = (program : Parts) × (decoded bytes ≡ Ok program) × (text ≡ listing program)
 
--- that listing, or why the bytes are no query file
+-- why the bytes are no query file, or memory lacked
+abbrev pub ListsNone : List ℕ → Refusal → Type 0
+ListsNone bytes (Query refusal) = decoded bytes ≡ Err refusal
+ListsNone bytes r = IsTrue (lacks_memory r)
+
+-- that listing, or why there is none
 abbrev pub ListsProgram : {X : Type 0} → List ℕ → (X → List ℕ) → Result X Refusal → Type 0
 ListsProgram bytes text_of (Ok x) = IsListingOf bytes (text_of x)
-ListsProgram bytes text_of (Err (Query refusal)) = decoded bytes ≡ Err refusal
-ListsProgram bytes text_of (Err r) = IsTrue (lacks_memory r)
+ListsProgram bytes text_of (Err r) = ListsNone bytes r

@@ -1,6 +1,6 @@
 use Rattle.std.proofs.Common.{Some, Err, refl, sym, subst}
 use Rattle.bq.specs.Runs.{Comes, Does, WritesText, deeds, written}
-use Rattle.bq.specs.Showing.{IsListingOf, ListsProgram}
+use Rattle.bq.specs.Showing.{IsListingOf, ListsNone}
 use Rattle.bq.specs.Words.{ShowFile}
 use Rattle.bq.specs.declared.refusal.Refusal.TheVariants.{Load}
 use Rattle.bq.proofs.Outcomes.{converted, not_shown, shown, unread}
@@ -15,8 +15,7 @@ returns-in_err-bytes g c =
     let is = converted c.from_residual.result (Load fault) c.from_residual.ensures.1 in
     subst (Does (deeds s c.args.store.now c.file_bytes.new.store out) (Some (ShowFile name)))
     (sym is)
-    (unread s c.args.store.now c.file_bytes.new.store name (λ bytes. bytes.items) fault
-    c.in_err-bytes.ensures out refl)
+    (unread s c.args.store.now c.file_bytes.new.store name fault c.in_err-bytes.ensures out refl)
 
 pub returns-in_err-text : goal.returns-in_err-text
 returns-in_err-text g c =
@@ -30,8 +29,8 @@ returns-in_err-text g c =
       read.0,
       read.1,
       subst (Comes (Some (ShowFile name)) read.0 out) (sym is)
-          (not_shown name read.0 bytes read.2 (λ text. text.items) r
-          (subst (λ bs. ListsProgram bs (λ text. text.items) (Err r)) c.deref.ensures.value c.in_err-text.ensures) out
+          (not_shown name read.0 bytes read.2 r
+          (subst (λ bs. ListsNone bs r) c.deref.ensures.value c.in_err-text.ensures) out
           refl),
     )
 
