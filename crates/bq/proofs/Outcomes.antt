@@ -1,6 +1,6 @@
 -- From the steps of a run to its answer.
-use Rattle.std.proofs.Common.{IsTrue, ◌≡◌, ◌⊎◌, inl, inr, ℕ, List, [], Option, None, Some, Result, Ok}
-use Rattle.std.proofs.Common.{Err, Vec, refl, sym, ap, ◌∙◌, subst}
+use Rattle.std.proofs.Common.{IsTrue, ◌≡◌, ◌⊎◌, inl, inr, ℕ, List, [], Option, None, Some}
+use Rattle.std.proofs.Common.{Result, Ok, Err, refl, sym, ap, ◌∙◌, subst}
 use Rattle.std.specs.Result.{IsErrAnd}
 use Rattle.bean_book.specs.declared.postings.BookFault.TheVariants as book
 use Rattle.bean_load.specs.Following.{Gathers, IsGathered}

@@ -19,8 +19,9 @@ GaveTexts name readings Such = (texts : Texts) × IsGathered name readings (Ok t
 abbrev pub GaveFile : List ℕ → List Reading → (List ℕ → Type 0) → Type 0
 GaveFile name readings Such = (bytes : List ℕ) × FileComes name readings (Ok bytes) × Such bytes
 
--- The cause of each refusal, given what the words ask for and what the store gave. Each excludes the
--- others: nothing is asked where the words ask for nothing, and what the store gave comes to one end.
+-- The cause of each refusal, given what the words ask for and what the store gave. Each excludes
+-- the others: nothing is asked where the words ask for nothing, and what the store gave comes to
+-- one end.
 abbrev pub HasCause : Option Request → List Reading → Refusal → Type 0
 HasCause None readings Words = readings ≡ []
 HasCause (Some (ListLedger name)) readings (Load fault) = IsGathered name readings (Err fault)

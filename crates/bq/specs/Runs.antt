@@ -46,7 +46,8 @@ WritesFront out IsText n =
 -- the text that is due: the table of the ledger's postings, or the listing of the file's program
 abbrev pub IsAnswer : Option Request → List Reading → List ℕ → Type 0
 IsAnswer None readings text = ⊥
-IsAnswer (Some (ListLedger name)) readings text = GaveTexts name readings (λ texts. Lists texts text)
+IsAnswer (Some (ListLedger name)) readings text =
+    GaveTexts name readings (λ texts. Lists texts text)
 IsAnswer (Some (ShowFile name)) readings text =
     GaveFile name readings (λ bytes. IsListingOf bytes text)
 

@@ -32,8 +32,12 @@ show_command = with_word (codes "show") (codes "FILE")
 
 abbrev pub top : App
 top =
-    on_top (λ s. record s { no_binary_name = true; disable_help_flag = true;
-        disable_help_subcommand = true; subcommand_required = true }) (new_app (codes "bq"))
+    on_top (λ s. record s {
+      no_binary_name = true;
+      disable_help_flag = true;
+      disable_help_subcommand = true;
+      subcommand_required = true;
+    }) (new_app (codes "bq"))
 
 -- list LEDGER, show FILE
 abbrev pub program : App

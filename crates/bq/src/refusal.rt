@@ -5,9 +5,9 @@ ghost use Rattle.bq.specs.Refusal.{status_of, code_of, place_of, line_of};
 use arrayvec::ArrayString;
 use bean_book::BookFault;
 use bean_load::LoadFault;
+use itoa::Buffer;
 use query_file::DecodeFault;
 use std::alloc::AllocError;
-use itoa::Buffer;
 use table_printer::PrintFault;
 
 /// What a user is told in one line on standard error.
