@@ -1,28 +1,33 @@
 -- Worked words.
 use Rattle.std.proofs.Common.{◌≡◌, [], ◌∷◌, Some, None, codes, refl}
 use Rattle.clap.proofs.OnLiterals.{clap_on_literals}
-use Rattle.bq.specs.Words.{ledger_named}
+use Rattle.bq.specs.Words.{ListLedger, ShowFile, request_in}
 
-pub names_a_file : ledger_named (codes "list" ∷ codes "l" ∷ []) ≡ Some (codes "l")
+asks_for_a_file : request_in (codes "list" ∷ codes "l" ∷ []) ≡ Some (ListLedger (codes "l"))
 unfolding clap_on_literals
-names_a_file = refl
+asks_for_a_file = refl
 
-pub names_standard_input : ledger_named (codes "list" ∷ codes "-" ∷ []) ≡ Some (codes "-")
+asks_for_standard_input : request_in (codes "list" ∷ codes "-" ∷ [])
+    ≡ Some (ListLedger (codes "-"))
 unfolding clap_on_literals
-names_standard_input = refl
+asks_for_standard_input = refl
 
-pub no_words : ledger_named [] ≡ None
+asks_for_a_query_file : request_in (codes "show" ∷ codes "q" ∷ []) ≡ Some (ShowFile (codes "q"))
+unfolding clap_on_literals
+asks_for_a_query_file = refl
+
+no_words : request_in [] ≡ None
 unfolding clap_on_literals
 no_words = refl
 
-pub no_ledger : ledger_named (codes "list" ∷ []) ≡ None
+no_ledger : request_in (codes "list" ∷ []) ≡ None
 unfolding clap_on_literals
 no_ledger = refl
 
-pub two_ledgers : ledger_named (codes "list" ∷ codes "a" ∷ codes "b" ∷ []) ≡ None
+two_ledgers : request_in (codes "list" ∷ codes "a" ∷ codes "b" ∷ []) ≡ None
 unfolding clap_on_literals
 two_ledgers = refl
 
-pub no_help : ledger_named (codes "--help" ∷ []) ≡ None
+no_help : request_in (codes "--help" ∷ []) ≡ None
 unfolding clap_on_literals
 no_help = refl

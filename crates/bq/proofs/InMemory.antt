@@ -1,5 +1,5 @@
 -- A run over a store and outputs of memory is one over any.
-use Rattle.std.proofs.Common.{ℕ, List, Result, Ok, Err}
+use Rattle.std.proofs.Common.{ℕ, List, Option, Result, Ok, Err}
 use Rattle.clap.specs.Walk.{Text}
 use Rattle.outputs.proofs.KeptFront.{keeps_front}
 use Rattle.outputs.specs.Holding.{Holding}
@@ -12,6 +12,7 @@ use Rattle.stores.specs.Reading.{Reading}
 use Rattle.table_printer.specs.declared.writing.PrintFault.TheVariants as print
 use Rattle.bq.specs.MemoryRun.{KeptFront, in_memory, kept_in}
 use Rattle.bq.specs.Runs.{Comes, Ends, TellsWhy, deeds, written}
+use Rattle.bq.specs.Words.{Request, request_in}
 use Rattle.bq.specs.declared.refusal.Refusal.{Refusal}
 use Rattle.bq.specs.declared.refusal.Refusal.TheVariants as refusal
 
@@ -25,19 +26,21 @@ tells : (old new : Holding) (result : Result Unit Refusal)
 tells old new (Ok x) h = h
 tells old new (Err r) h = (h.0, took old new _ _ h.1)
 
-comes : (words : List Text) (readings : List Reading) (old new : Holding)
-    (result : Result Unit Refusal) → Comes words readings (written short_writer old new) result
-    → Comes words readings (kept_in old new) result
-comes words readings old new (Ok x) h = let such = h.1 in
-    (h.0, (such.0, such.1, (such.2.0, such.2.1, took old new _ _ such.2.2)))
-comes words readings old new (Err (refusal.Print (print.NotWritten n))) h =
-    let such = h.1 in
-    (h.0, (such.0, such.1, (such.2.0, such.2.1, (such.2.2.0, took old new _ _ such.2.2.1))))
-comes words readings old new (Err (refusal.Print print.OutOfMemory)) h = h
-comes words readings old new (Err refusal.Words) h = h
-comes words readings old new (Err (refusal.Load fault)) h = h
-comes words readings old new (Err (refusal.Book fault)) h = h
-comes words readings old new (Err refusal.OutOfMemory) h = h
+comes :
+    (request : Option Request) (readings : List Reading) (old new : Holding)
+    (result : Result Unit Refusal)
+    → Comes request readings (written short_writer old new) result
+    → Comes request readings (kept_in old new) result
+comes request readings old new (Ok x) h =
+    (h.0, (h.1.0, h.1.1, took old new _ _ h.1.2))
+comes request readings old new (Err (refusal.Print (print.NotWritten n))) h =
+    (h.0, (h.1.0, h.1.1, (h.1.2.0, took old new _ _ h.1.2.1)))
+comes request readings old new (Err (refusal.Print print.OutOfMemory)) h = h
+comes request readings old new (Err refusal.Words) h = h
+comes request readings old new (Err (refusal.Load fault)) h = h
+comes request readings old new (Err (refusal.Book fault)) h = h
+comes request readings old new (Err (refusal.Query q)) h = h
+comes request readings old new (Err refusal.OutOfMemory) h = h
 
 pub ends : (store store' : Shelf) (out out' err err' : Holding) (words : List Text) (status : ℕ)
     → Ends (deeds memory_source store store' (written short_writer out out'))
@@ -48,8 +51,7 @@ ends store store' out out' err err' words status h = record {
   runs = (
     h.runs.0,
     gives_what_it_holds store store' h.runs.0 h.runs.1,
-    comes words h.runs.0 out
-        out' h.result h.runs.2,
+    comes (request_in words) h.runs.0 out out' h.result h.runs.2,
   );
   status_is = h.status_is;
   tells = tells err err' h.result h.tells;

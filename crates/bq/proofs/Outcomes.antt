@@ -1,5 +1,5 @@
 -- From the steps of a run to its answer.
-use Rattle.std.proofs.Common.{IsTrue, ◌≡◌, ◌⊎◌, inl, inr, ℕ, List, [], ◌∷◌, Option, None, Some}
+use Rattle.std.proofs.Common.{IsTrue, ◌≡◌, ◌⊎◌, inl, inr, ℕ, List, [], Option, None, Some}
 use Rattle.std.proofs.Common.{Result, Ok, Err, refl, sym, ap, ◌∙◌, subst}
 use Rattle.std.specs.Result.{IsErrAnd}
 use Rattle.bean_book.specs.declared.postings.BookFault.TheVariants as book
@@ -11,21 +11,24 @@ use Rattle.bean_load.specs.declared.fault.LoadFault.TheVariants.{Unreadable, Too
 use Rattle.bean_load.specs.declared.fault.LoadFault.TheVariants.{OutOfMemory}
 use Rattle.bean_load.proofs.OneGathering.{one_gathering}
 use Rattle.clap.specs.Walk.{Text}
+use Rattle.query_code.specs.QueryFile.{decoded}
 use Rattle.stores.specs.Reading.{Reading}
 use Rattle.stores.specs.declared.source.Source.{Ghosts as SourceOf}
 use Rattle.outputs.specs.declared.output.Output.{Ghosts as OutputOf}
 use Rattle.table_printer.specs.Faults.{WritesTable}
 use Rattle.table_printer.specs.declared.writing.PrintFault.{PrintFault}
 use Rattle.table_printer.specs.declared.writing.PrintFault.TheVariants as print
-use Rattle.bq.specs.Causes.{GaveSuch, HasCause, HasGathered, IsAnswerable, IsFirst, IsRefused}
-use Rattle.bq.specs.Causes.{HaveNone, order}
+use Rattle.bq.specs.Causes.{GaveFile, GaveTexts, HasCause, IsAnswerable}
 use Rattle.bq.specs.Listing.{HasTooMany, Lists}
-use Rattle.bq.specs.Named.{NameNone}
-use Rattle.bq.specs.Runs.{Comes, ListsTexts, RefusesExactly, Runs, Written, deeds, written}
+use Rattle.bq.specs.Named.{AskNothing}
 use Rattle.bq.specs.Refusal.{lacks_memory}
-use Rattle.bq.specs.Words.{ledger_named}
+use Rattle.bq.specs.Runs.{Comes, Does, ListsTexts, RefusesExactly, Runs, WritesText, Written}
+use Rattle.bq.specs.Runs.{deeds, written}
+use Rattle.bq.specs.Showing.{FileComes, IsListingOf, ListsNone, ReadsNone}
+use Rattle.bq.specs.Words.{Request, ListLedger, ShowFile, request_in}
 use Rattle.bq.specs.declared.refusal.Refusal.{Refusal}
 use Rattle.bq.specs.declared.refusal.Refusal.TheVariants as refusal
+use Rattle.bq.proofs.Causes.{causes_exclude, one_file}
 
 -- what `?` makes of a fault
 pub converted : {X : Type 0} (result : Result X Refusal) (r : Refusal)
@@ -33,166 +36,150 @@ pub converted : {X : Type 0} (result : Result X Refusal) (r : Refusal)
 converted (Ok x) r is = absurd is
 converted (Err e) r is = ap Err is
 
-ledger_in : Option (List ℕ) → List ℕ
-ledger_in None = []
-ledger_in (Some name) = name
+-- words that ask for nothing, before anything is asked
+pub unasked : (words : List Text) (r : Refusal) → AskNothing words r → (out : Written)
+    → out.nothing → Comes (request_in words) [] out (Err r)
+unasked words refusal.Words none out nothing =
+    subst (λ q. Comes q [] out (Err refusal.Words)) (sym none) (inr refl, nothing)
+unasked words refusal.OutOfMemory none out nothing = (inl refl, nothing)
+unasked words (refusal.Load fault) none out nothing = absurd none
+unasked words (refusal.Book fault) none out nothing = absurd none
+unasked words (refusal.Query q) none out nothing = absurd none
+unasked words (refusal.Print fault) none out nothing = absurd none
 
 texts_gathered : Result Texts LoadFault → Texts
 texts_gathered (Ok texts) = texts
 texts_gathered (Err fault) = gathered.texts_of gathered.nothing
 
--- the words name a ledger, and the store gave this
-module _ (words : List Text) (name : List ℕ) (names : ledger_named words
-    ≡ Some name) (readings : List Reading) where
-  abbrev Cause : Refusal → Type 0
-  Cause = HasCause words readings
+-- what the store gave comes to texts
+module _ (name : Text) (readings : List Reading) (texts : Texts)
+    (are : IsGathered name readings (Ok texts)) where
+  same_texts : (Such : Texts → Type 0) → GaveTexts name readings Such → Such texts
+  unfolding texts_gathered
+  same_texts Such h =
+      subst Such
+      (sym (ap texts_gathered (one_gathering name readings (Ok texts) (Ok h.0) are h.1))) h.2
 
-  words_stand : ¬ Cause refusal.Words
-  words_stand h = let e : None ≡ Some name = sym h.0 ∙ names in cc
+  answerable : ¬ HasTooMany texts → IsAnswerable (Some (ListLedger name)) readings
+  answerable few refusal.Words h = h
+  answerable few (refusal.Load fault) h =
+      let e = one_gathering name readings (Ok texts) (Err fault) are h in cc
+  answerable few (refusal.Book book.TooManyPostings) h = few (same_texts HasTooMany h)
+  answerable few (refusal.Book book.OutOfMemory) h = h
+  answerable few (refusal.Query q) h = h
+  answerable few (refusal.Print fault) h = h
+  answerable few refusal.OutOfMemory h = h
 
-  same_end : (end other : Result Texts LoadFault) → IsGathered name readings end
-      → HasGathered words readings other → end ≡ other
-  unfolding ledger_in
-  same_end end other is h =
-      let same : h.0 ≡ name = ap ledger_in (sym h.1 ∙ names) in
-      one_gathering name readings end other is
-      (subst (λ n. IsGathered n readings other) same h.2)
-
-  -- it came to a fault, and to no other
-  no_other : (fault other : LoadFault) → ¬ (fault ≡ other) → IsGathered name readings (Err fault)
-      → ¬ Cause (refusal.Load other)
-  no_other fault other differ is h = let e = same_end (Err fault) (Err other) is h in differ cc
-
-  refused : (fault : LoadFault) → IsGathered name readings (Err fault)
-      → IsTrue (lacks_memory (refusal.Load fault)) ⊎ IsRefused words readings (refusal.Load fault)
-  refused Unreadable is = inr (inr (words_stand, inl ((name, names, is), refl)))
-  refused TooLarge is =
-      inr (inr (
-        words_stand,
-        inr
-            (no_other TooLarge Unreadable (λ e. cc) is, inl ((name, names, is), refl)),
-      ))
-  refused NotUtf8 is =
-      inr (inr (
-        words_stand,
-        inr (
-          no_other NotUtf8 Unreadable (λ e. cc) is,
-          inr
-              (no_other NotUtf8 TooLarge (λ e. cc) is, inl ((name, names, is), refl)),
-        ),
-      ))
-  refused OutOfMemory is = inl refl
-
-  -- it came to texts
-  module _ (texts : Texts) (are : IsGathered name readings (Ok texts)) where
-    no_fault : (fault : LoadFault) → ¬ Cause (refusal.Load fault)
-    no_fault fault h = let e = same_end (Ok texts) (Err fault) are h in cc
-
-    same_texts : (Such : Texts → Type 0) → GaveSuch words readings Such → Such texts
-    unfolding texts_gathered
-    same_texts Such h =
-        subst Such (sym (ap texts_gathered (same_end (Ok texts) (Ok h.0) are h.1))) h.2
-
-    gave_such : (Such : Texts → Type 0) → Such texts → GaveSuch words readings Such
-    gave_such Such such = (texts, (name, names, are), such)
-
-    too_many : HasTooMany texts → IsRefused words readings (refusal.Book book.TooManyPostings)
-    too_many many =
-        inr (
-          words_stand,
-          inr (
-            no_fault Unreadable,
-            inr
-                (no_fault TooLarge, inr (no_fault NotUtf8, inl (gave_such HasTooMany many, refl))),
-          ),
-        )
-
-    answerable : ¬ HasTooMany texts → IsAnswerable words readings
-    answerable few = (
-      words_stand,
-      (
-        no_fault
-            Unreadable,
-        (no_fault TooLarge, (no_fault NotUtf8, ((λ h. few (same_texts HasTooMany h)), tt))),
-      ),
-    )
-
-    -- what comes of texts comes of the run
-    pub listed : (out : Written) (result : Result Unit Refusal) → ListsTexts out texts result
-        → Comes words readings out result
-    listed out (Ok x) h = (answerable h.0, gave_such _ h.1)
-    listed out (Err (refusal.Print (print.NotWritten n))) h = (answerable h.0, gave_such _ h.1)
-    listed out (Err (refusal.Print print.OutOfMemory)) h = (inl h.0, h.1)
-    listed out (Err (refusal.Book book.TooManyPostings)) h = (inr (too_many h.0), h.1)
-    listed out (Err (refusal.Book book.OutOfMemory)) h = (inl h.0, h.1)
-    listed out (Err refusal.Words) h = (inl h.0, h.1)
-    listed out (Err (refusal.Load fault)) h = (inl h.0, h.1)
-    listed out (Err refusal.OutOfMemory) h = (inl h.0, h.1)
+  -- what comes of texts comes of the run
+  pub listed : (out : Written) (result : Result Unit Refusal) → ListsTexts out texts result
+      → Comes (Some (ListLedger name)) readings out result
+  listed out (Ok x) h = (answerable h.0, (h.1.0, (texts, are, h.1.1), h.1.2))
+  listed out (Err (refusal.Print (print.NotWritten n))) h =
+      (answerable h.0, (h.1.0, (texts, are, h.1.1), h.1.2))
+  listed out (Err (refusal.Print print.OutOfMemory)) h = (inl h.0, h.1)
+  listed out (Err (refusal.Book book.TooManyPostings)) h = (inr (texts, are, h.0), h.1)
+  listed out (Err (refusal.Book book.OutOfMemory)) h = (inl h.0, h.1)
+  listed out (Err refusal.Words) h = (inl h.0, h.1)
+  listed out (Err (refusal.Load fault)) h = (inl h.0, h.1)
+  listed out (Err (refusal.Query q)) h = (inl h.0, h.1)
+  listed out (Err refusal.OutOfMemory) h = (inl h.0, h.1)
 
 -- there are no texts
-pub ungathered : {S : Type 0} (s : SourceOf S) (old new : S) (words : List Text) (name : List ℕ)
-    → ledger_named words ≡ Some name → (fault : LoadFault)
+pub ungathered :
+    {S : Type 0} (s : SourceOf S) (old new : S) (name : Text) (fault : LoadFault)
     → Gathers s old new name (Err fault) → (out : Written) → out.nothing
-    → Runs (deeds s old new out) words (Err (refusal.Load fault))
-ungathered s old new words name names Unreadable come out nothing =
-    (come.0, come.1, (refused words name names come.0 Unreadable come.2, nothing))
-ungathered s old new words name names TooLarge come out nothing =
-    (come.0, come.1, (refused words name names come.0 TooLarge come.2, nothing))
-ungathered s old new words name names NotUtf8 come out nothing =
-    (come.0, come.1, (refused words name names come.0 NotUtf8 come.2, nothing))
-ungathered s old new words name names OutOfMemory come out nothing =
-    (come.0, come.1, (inl refl, nothing))
+    → Does (deeds s old new out) (Some (ListLedger name)) (Err (refusal.Load fault))
+ungathered s old new name Unreadable come out nothing = (come.0, come.1, (inr come.2, nothing))
+ungathered s old new name TooLarge come out nothing = (come.0, come.1, (inr come.2, nothing))
+ungathered s old new name NotUtf8 come out nothing = (come.0, come.1, (inr come.2, nothing))
+ungathered s old new name OutOfMemory come out nothing = (come.0, come.1, (inl refl, nothing))
 
--- refused words, before anything is asked
-pub unnamed : (words : List Text) (r : Refusal) → NameNone words r → (out : Written) → out.nothing
-    → Comes words [] out (Err r)
-unnamed words refusal.Words none out nothing = (inr (inl ((none, refl), refl)), nothing)
-unnamed words refusal.OutOfMemory none out nothing = (inl refl, nothing)
-unnamed words (refusal.Load fault) none out nothing = absurd none
-unnamed words (refusal.Book fault) none out nothing = absurd none
-unnamed words (refusal.Print fault) none out nothing = absurd none
+-- there is a file
+module _ (name : Text) (readings : List Reading) (bytes : List ℕ)
+    (comes : FileComes name readings (Ok bytes)) where
+  bytes_in : Result (List ℕ) LoadFault → List ℕ
+  bytes_in (Ok bytes) = bytes
+  bytes_in (Err fault) = []
 
--- the first that has a cause is one
-one_first : (rs : List Refusal) (Cause : Refusal → Type 0) (r s : Refusal) → IsFirst rs Cause r
-    → IsFirst rs Cause s → r ≡ s
-one_first [] Cause r s p q = absurd p
-one_first (t ∷ rest) Cause r s (inl p) (inl q) = p.1 ∙ sym q.1
-one_first (t ∷ rest) Cause r s (inl p) (inr q) = absurd (q.0 p.0)
-one_first (t ∷ rest) Cause r s (inr p) (inl q) = absurd (p.0 q.0)
-one_first (t ∷ rest) Cause r s (inr p) (inr q) = one_first rest Cause r s p.1 q.1
+  same_file : (Such : List ℕ → Type 0) → GaveFile name readings Such → Such bytes
+  unfolding bytes_in
+  same_file Such h =
+      subst Such (sym (ap bytes_in (one_file name readings (Ok bytes) (Ok h.0) comes h.1))) h.2
 
-none_first : (rs : List Refusal) (Cause : Refusal → Type 0) (r : Refusal) → HaveNone rs Cause
-    → IsFirst rs Cause r → ⊥
-none_first [] Cause r none p = p
-none_first (t ∷ rest) Cause r none (inl p) = none.0 p.0
-none_first (t ∷ rest) Cause r none (inr p) = none_first rest Cause r none.1 p.1
+  showable : (text : List ℕ) → IsListingOf bytes text
+      → IsAnswerable (Some (ShowFile name)) readings
+  showable text is refusal.Words h = h
+  showable text is (refusal.Load fault) h =
+      let e = one_file name readings (Ok bytes) (Err fault) comes h in cc
+  showable text is (refusal.Book fault) h = h
+  showable text is (refusal.Query q) h =
+      let e = sym is.1 ∙ same_file (λ bs. decoded bs ≡ Err q) h in cc
+  showable text is (refusal.Print fault) h = h
+  showable text is refusal.OutOfMemory h = h
+
+  -- what comes of its listing comes of the run
+  pub shown : (text : List ℕ) → IsListingOf bytes text → (out : Written)
+      (result : Result Unit Refusal) → WritesText out text result
+      → Comes (Some (ShowFile name)) readings out result
+  shown text is out (Ok x) took = (showable text is, (text, (bytes, comes, is), took))
+  shown text is out (Err (refusal.Print (print.NotWritten n))) took =
+      (showable text is, (text, (bytes, comes, is), took))
+  shown text is out (Err (refusal.Print print.OutOfMemory)) took = absurd took
+  shown text is out (Err refusal.Words) took = absurd took
+  shown text is out (Err (refusal.Load fault)) took = absurd took
+  shown text is out (Err (refusal.Book fault)) took = absurd took
+  shown text is out (Err (refusal.Query q)) took = absurd took
+  shown text is out (Err refusal.OutOfMemory) took = absurd took
+
+  -- it is no query file, or memory lacked
+  pub not_shown : (r : Refusal) → ListsNone bytes r → (out : Written) → out.nothing
+      → Comes (Some (ShowFile name)) readings out (Err r)
+  not_shown (refusal.Query q) is out nothing = (inr (bytes, comes, is), nothing)
+  not_shown refusal.Words is out nothing = (inl is, nothing)
+  not_shown (refusal.Load fault) is out nothing = (inl is, nothing)
+  not_shown (refusal.Book fault) is out nothing = (inl is, nothing)
+  not_shown (refusal.Print (print.NotWritten n)) is out nothing = cc
+  not_shown (refusal.Print print.OutOfMemory) is out nothing = (inl is, nothing)
+  not_shown refusal.OutOfMemory is out nothing = (inl is, nothing)
+
+-- there is no file
+pub unread :
+    {S : Type 0} (s : SourceOf S) (old new : S) (name : Text) (fault : LoadFault)
+    → ReadsNone s old new name fault → (out : Written) → out.nothing
+    → Does (deeds s old new out) (Some (ShowFile name)) (Err (refusal.Load fault))
+unread s old new name Unreadable come out nothing = (come.0, come.1, (inr come.2, nothing))
+unread s old new name TooLarge come out nothing = (come.0, come.1, (inr come.2, nothing))
+unread s old new name NotUtf8 come out nothing = (come.0, come.1, (inr come.2, nothing))
+unread s old new name OutOfMemory come out nothing = (come.0, come.1, (inl refl, nothing))
 
 -- a table that wasn't written whole
-pub printed : {O : Type 0} (o : OutputOf O) (old new : O) (texts : Texts) → ¬ HasTooMany texts
+pub printed :
+    {O : Type 0} (o : OutputOf O) (old new : O) (texts : Texts) → ¬ HasTooMany texts
     → (table : List ℕ) → Lists texts table → (fault : PrintFault)
     → WritesTable o old new table (Err fault)
     → ListsTexts (written o old new) texts (Err (refusal.Print fault))
 printed o old new texts few table lists (print.NotWritten n) h = (few, (table, lists, h))
 printed o old new texts few table lists print.OutOfMemory h = (refl, h)
 
--- want of memory, or the one that is first
-is_first : (words : List Text) (readings : List Reading) (r s : Refusal)
-    → IsTrue (lacks_memory s) ⊎ IsRefused words readings s → IsRefused words readings r
+-- want of memory, or the one that has its cause
+is_due :
+    (request : Option Request) (readings : List Reading) (r s : Refusal)
+    → IsTrue (lacks_memory s) ⊎ HasCause request readings s → HasCause request readings r
     → IsTrue (lacks_memory s) ⊎ (s ≡ r)
-is_first words readings r s (inl lacks) first = inl lacks
-is_first words readings r s (inr refused) first =
-    inr (one_first order (HasCause words readings) s r refused first)
+is_due request readings r s (inl lacks) cause = inl lacks
+is_due request readings r s (inr has) cause = inr (causes_exclude request readings s r has cause)
 
 pub refuses_exactly : RefusesExactly
-refuses_exactly words readings (Ok x) r due first =
-    none_first order (HasCause words readings) r due first
-refuses_exactly words readings (Err (refusal.Print (print.NotWritten n))) r due first =
-    absurd (none_first order (HasCause words readings) r due first)
-refuses_exactly words readings (Err (refusal.Print print.OutOfMemory)) r due first = inl refl
-refuses_exactly words readings (Err refusal.Words) r due first =
-    is_first words readings r refusal.Words due first
-refuses_exactly words readings (Err (refusal.Load fault)) r due first =
-    is_first words readings r (refusal.Load fault) due first
-refuses_exactly words readings (Err (refusal.Book fault)) r due first =
-    is_first words readings r (refusal.Book fault) due first
-refuses_exactly words readings (Err refusal.OutOfMemory) r due first = inl refl
+refuses_exactly request readings (Ok x) r due cause = due r cause
+refuses_exactly request readings (Err (refusal.Print (print.NotWritten n))) r due cause =
+    absurd (due r cause)
+refuses_exactly request readings (Err (refusal.Print print.OutOfMemory)) r due cause = inl refl
+refuses_exactly request readings (Err refusal.Words) r due cause =
+    is_due request readings r refusal.Words due cause
+refuses_exactly request readings (Err (refusal.Load fault)) r due cause =
+    is_due request readings r (refusal.Load fault) due cause
+refuses_exactly request readings (Err (refusal.Book fault)) r due cause =
+    is_due request readings r (refusal.Book fault) due cause
+refuses_exactly request readings (Err (refusal.Query q)) r due cause =
+    is_due request readings r (refusal.Query q) due cause
+refuses_exactly request readings (Err refusal.OutOfMemory) r due cause = inl refl

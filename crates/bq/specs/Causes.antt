@@ -1,51 +1,42 @@
 -- Why a run is refused.
-use Rattle.std.specs.Prelude.{◌≡◌, ◌⊎◌, ℕ, ⊤, List, [], ◌∷◌, Some, None, Result, Ok, Err}
+use Rattle.std.specs.Prelude.{◌≡◌, ℕ, List, [], Option, Some, None, Ok, Err}
 use Rattle.bean_book.specs.declared.postings.BookFault.TheVariants.{TooManyPostings}
 use Rattle.bean_load.specs.Following.{IsGathered}
 use Rattle.bean_load.specs.Texts.{Texts}
-use Rattle.bean_load.specs.declared.fault.LoadFault.{LoadFault}
-use Rattle.bean_load.specs.declared.fault.LoadFault.TheVariants.{Unreadable, TooLarge, NotUtf8}
-use Rattle.clap.specs.Walk.{Text}
+use Rattle.query_code.specs.QueryFile.{decoded}
 use Rattle.stores.specs.Reading.{Reading}
 use Rattle.bq.specs.Listing.{HasTooMany}
-use Rattle.bq.specs.Words.{ledger_named}
+use Rattle.bq.specs.Showing.{FileComes}
+use Rattle.bq.specs.Words.{Request, ListLedger, ShowFile}
 use Rattle.bq.specs.declared.refusal.Refusal.{Refusal}
-use Rattle.bq.specs.declared.refusal.Refusal.TheVariants.{Words, Load, Book}
+use Rattle.bq.specs.declared.refusal.Refusal.TheVariants.{Words, Load, Book, Query}
 
--- what the store gave comes to these texts, or to this fault, for the ledger that the words name
-abbrev pub HasGathered : List Text → List Reading → Result Texts LoadFault → Type 0
-HasGathered words readings result =
-    (name : List ℕ) × (ledger_named words ≡ Some name) × IsGathered name readings result
+-- what the store gave comes to texts of which this holds
+abbrev pub GaveTexts : List ℕ → List Reading → (Texts → Type 0) → Type 0
+GaveTexts name readings Such = (texts : Texts) × IsGathered name readings (Ok texts) × Such texts
 
--- it gave texts of which this holds
-abbrev pub GaveSuch : List Text → List Reading → (Texts → Type 0) → Type 0
-GaveSuch words readings Such = (texts : Texts) × HasGathered words readings (Ok texts) × Such texts
+-- it comes to a file of whose bytes this holds
+abbrev pub GaveFile : List ℕ → List Reading → (List ℕ → Type 0) → Type 0
+GaveFile name readings Such = (bytes : List ℕ) × FileComes name readings (Ok bytes) × Such bytes
 
--- the cause of each refusal, given the words and what the store gave
-abbrev pub HasCause : List Text → List Reading → Refusal → Type 0
-HasCause words readings Words = (ledger_named words ≡ None) × (readings ≡ [])
-HasCause words readings (Load fault) = HasGathered words readings (Err fault)
-HasCause words readings (Book TooManyPostings) = GaveSuch words readings HasTooMany
-HasCause words readings _ = ⊥
-
--- the order in which they are looked for
-abbrev pub order : List Refusal
-order = Words ∷ Load Unreadable ∷ Load TooLarge ∷ Load NotUtf8 ∷ Book TooManyPostings ∷ []
-
--- the first of these with a cause is r
-abbrev pub IsFirst : List Refusal → (Refusal → Type 0) → Refusal → Type 0
-IsFirst [] Cause r = ⊥
-IsFirst (s ∷ rest) Cause r = (Cause s × (r ≡ s)) ⊎ (¬ Cause s × IsFirst rest Cause r)
-
--- none of these has a cause
-abbrev pub HaveNone : List Refusal → (Refusal → Type 0) → Type 0
-HaveNone [] Cause = ⊤
-HaveNone (s ∷ rest) Cause = ¬ Cause s × HaveNone rest Cause
-
--- the run is refused, and r is why
-abbrev pub IsRefused : List Text → List Reading → Refusal → Type 0
-IsRefused words readings r = IsFirst order (HasCause words readings) r
+-- The cause of each refusal, given what the words ask for and what the store gave. Each excludes
+-- the others: nothing is asked where the words ask for nothing, and what the store gave comes to
+-- one end.
+abbrev pub HasCause : Option Request → List Reading → Refusal → Type 0
+HasCause None readings Words = readings ≡ []
+HasCause (Some (ListLedger name)) readings (Load fault) = IsGathered name readings (Err fault)
+HasCause (Some (ListLedger name)) readings (Book TooManyPostings) =
+    GaveTexts name readings HasTooMany
+HasCause (Some (ShowFile name)) readings (Load fault) = FileComes name readings (Err fault)
+HasCause (Some (ShowFile name)) readings (Query refusal) =
+    GaveFile name readings (λ bytes. decoded bytes ≡ Err refusal)
+HasCause request readings _ = ⊥
 
 -- nothing speaks against an answer
-abbrev pub IsAnswerable : List Text → List Reading → Type 0
-IsAnswerable words readings = HaveNone order (HasCause words readings)
+abbrev pub IsAnswerable : Option Request → List Reading → Type 0
+IsAnswerable request readings = (r : Refusal) → ¬ HasCause request readings r
+
+abbrev pub CausesExclude : Type 0
+CausesExclude =
+    (request : Option Request) (readings : List Reading) (r s : Refusal)
+    → HasCause request readings r → HasCause request readings s → r ≡ s

@@ -2,6 +2,7 @@ pub mod Refusal
 pub mod Words
 pub mod Named
 pub mod Listing
+pub mod Showing
 pub mod Columns
 pub mod Causes
 pub mod Runs

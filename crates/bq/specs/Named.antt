@@ -1,12 +1,13 @@
 -- What the words come to.
-use Rattle.std.specs.Prelude.{◌≡◌, List, ℕ, ⊤, Some, None, Result, Ok, Err}
+use Rattle.std.specs.Prelude.{◌≡◌, List, ⊤, Some, None, Result, Ok, Err}
 use Rattle.clap.specs.Values.{kind_of}
 use Rattle.clap.specs.Walk.{Text}
 use Rattle.clap.specs.declared.error.Error.{Error}
 use Rattle.clap.specs.declared.error.kind.ErrorKind.TheVariants as kind
-use Rattle.bq.specs.Words.{ledger_named}
+use Rattle.bq.specs.Words.{request_in, request_of}
 use Rattle.bq.specs.declared.refusal.Refusal.{Refusal}
 use Rattle.bq.specs.declared.refusal.Refusal.TheVariants.{Words, OutOfMemory}
+use Rattle.bq.specs.declared.words.Command.{Command}
 
 -- clap's error as a refusal
 abbrev pub IsRefusedBy : Error → Refusal → Type 0
@@ -14,13 +15,13 @@ IsRefusedBy error Words = ¬ (kind_of error ≡ kind.OutOfMemory)
 IsRefusedBy error OutOfMemory = ⊤
 IsRefusedBy error _ = ⊥
 
--- words are refused where they name no ledger
-abbrev pub NameNone : List Text → Refusal → Type 0
-NameNone words Words = ledger_named words ≡ None
-NameNone words OutOfMemory = ⊤
-NameNone words _ = ⊥
+-- words are refused where they ask for nothing
+abbrev pub AskNothing : List Text → Refusal → Type 0
+AskNothing words Words = request_in words ≡ None
+AskNothing words OutOfMemory = ⊤
+AskNothing words _ = ⊥
 
--- the ledger that the words name
-abbrev pub NamesLedger : {X : Type 0} → List Text → (X → List ℕ) → Result X Refusal → Type 0
-NamesLedger words text_of (Ok ledger) = ledger_named words ≡ Some (text_of ledger)
-NamesLedger words text_of (Err r) = NameNone words r
+-- what the words ask for
+abbrev pub AskFor : List Text → Result Command Refusal → Type 0
+AskFor words (Ok command) = request_in words ≡ Some (request_of command)
+AskFor words (Err r) = AskNothing words r

@@ -8,7 +8,11 @@ use Rattle.bean_load.specs.declared.fault.LoadFault.TheVariants as loads
 use Rattle.table_printer.specs.Faults as print
 use Rattle.table_printer.specs.declared.writing.PrintFault.TheVariants as prints
 use Rattle.bq.specs.declared.refusal.Refusal.{Refusal}
-use Rattle.bq.specs.declared.refusal.Refusal.TheVariants.{Words, Load, Book, Print, OutOfMemory}
+use Rattle.bq.specs.declared.refusal.Refusal.TheVariants.{Words, Load, Book, Query, Print}
+use Rattle.bq.specs.declared.refusal.Refusal.TheVariants.{OutOfMemory}
+use Rattle.query_code.specs.Cause as causes
+use Rattle.query_file.specs.declared.fault.DecodeFault.{DecodeFault}
+use Rattle.query_file.specs.declared.fault.DecodeFault.TheVariants as decoding
 
 -- 2 where input is refused, 3 where reading or writing failed, 4 where memory lacked
 abbrev pub status_of : Refusal → ℕ
@@ -19,6 +23,7 @@ status_of (Load loads.Unreadable) = 3
 status_of (Load loads.OutOfMemory) = 4
 status_of (Book books.TooManyPostings) = 2
 status_of (Book books.OutOfMemory) = 4
+status_of (Query refusal) = 2
 status_of (Print (prints.NotWritten n)) = 3
 status_of (Print prints.OutOfMemory) = 4
 status_of OutOfMemory = 4
@@ -35,12 +40,19 @@ abbrev pub code_of : Refusal → List ℕ
 code_of Words = codes "words"
 code_of (Load fault) = load.code_of fault
 code_of (Book fault) = book.code_of fault
+code_of (Query refusal) = causes.code_of refusal.code
 code_of (Print fault) = print.code_of fault
 code_of OutOfMemory = codes "M2"
 
--- no fault names a place
+-- why bytes are no query file names the byte
 abbrev pub place_of : Refusal → Option ℕ
+place_of (Query refusal) = Some refusal.place
 place_of refusal = None
+
+-- why there is no program of bytes
+abbrev pub refused_by : DecodeFault → Refusal
+refused_by (decoding.Refused refusal) = Query refusal
+refused_by decoding.OutOfMemory = OutOfMemory
 
 abbrev pub place_text : Option ℕ → List ℕ
 place_text None = []

@@ -1,6 +1,6 @@
 -- What a run of the program comes to.
-use Rattle.std.specs.Prelude.{◌≡◌, ℕ, ◌<◌, ◌⊎◌, IsErrAnd, IsTrue, List, length, Some, Result, Ok}
-use Rattle.std.specs.Prelude.{Err}
+use Rattle.std.specs.Prelude.{◌≡◌, ℕ, ◌<◌, ◌⊎◌, IsErrAnd, IsTrue, List, length, Option, Some, None}
+use Rattle.std.specs.Prelude.{Result, Ok, Err}
 use Rattle.clap.specs.Walk.{Text}
 use Rattle.outputs.specs.Output.{TookFront}
 use Rattle.outputs.specs.declared.output.Output.{Ghosts as OutputOf}
@@ -10,10 +10,11 @@ use Rattle.stores.specs.declared.source.Source.{Ghosts as SourceOf}
 use Rattle.table_printer.specs.declared.writing.PrintFault.TheVariants.{NotWritten}
 use Rattle.bean_book.specs.declared.postings.BookFault.TheVariants.{TooManyPostings}
 use Rattle.bean_load.specs.Texts.{Texts}
-use Rattle.bq.specs.Causes.{GaveSuch, IsAnswerable, IsRefused}
+use Rattle.bq.specs.Causes.{GaveFile, GaveTexts, HasCause, IsAnswerable}
 use Rattle.bq.specs.Listing.{HasTooMany, Lists}
 use Rattle.bq.specs.Refusal.{lacks_memory, line_of, status_of}
-use Rattle.bq.specs.Words.{ledger_named}
+use Rattle.bq.specs.Showing.{IsListingOf}
+use Rattle.bq.specs.Words.{Request, ListLedger, ShowFile, request_in}
 use Rattle.bq.specs.declared.refusal.Refusal.{Refusal}
 use Rattle.bq.specs.declared.refusal.Refusal.TheVariants.{Book, Print}
 
@@ -34,54 +35,68 @@ written o old new = record { took = TookFront o old new; nothing = new ≡ old }
 abbrev pub deeds : {S : Type 0} → SourceOf S → S → S → Written → Deeds
 deeds s old new out = record { gave = Gave s old new; out = out }
 
--- the table of the texts went to the output whole, or its first n bytes did
-abbrev pub WritesTable : Written → Texts → Type 0
-WritesTable out texts = (table : List ℕ) × Lists texts table × out.took table (length table)
+-- the text went to the output whole, or its first n bytes did
+abbrev pub WritesWhole : Written → (List ℕ → Type 0) → Type 0
+WritesWhole out IsText = (text : List ℕ) × IsText text × out.took text (length text)
 
-abbrev pub WritesFront : Written → Texts → ℕ → Type 0
-WritesFront out texts n =
-    (table : List ℕ) × Lists texts table × ((n < length table) × out.took table n)
+abbrev pub WritesFront : Written → (List ℕ → Type 0) → ℕ → Type 0
+WritesFront out IsText n =
+    (text : List ℕ) × IsText text × ((n < length text) × out.took text n)
 
--- which answer comes, given the words and what the store gave: a table where nothing speaks against
--- it, a refusal where its
--- cause is the first that holds, want of memory at any time
-abbrev pub IsDue : List Text → List Reading → Result Unit Refusal → Type 0
-IsDue words readings (Ok x) = IsAnswerable words readings
-IsDue words readings (Err (Print (NotWritten n))) = IsAnswerable words readings
-IsDue words readings (Err r) = IsTrue (lacks_memory r) ⊎ IsRefused words readings r
+-- the text that is due: the table of the ledger's postings, or the listing of the file's program
+abbrev pub IsAnswer : Option Request → List Reading → List ℕ → Type 0
+IsAnswer None readings text = ⊥
+IsAnswer (Some (ListLedger name)) readings text =
+    GaveTexts name readings (λ texts. Lists texts text)
+IsAnswer (Some (ShowFile name)) readings text =
+    GaveFile name readings (λ bytes. IsListingOf bytes text)
 
--- what is written with it: the whole table, a front of it, or nothing
-abbrev pub Writes : List Text → List Reading → Written → Result Unit Refusal → Type 0
-Writes words readings out (Ok x) = GaveSuch words readings (WritesTable out)
-Writes words readings out (Err (Print (NotWritten n))) =
-    GaveSuch words readings (λ texts. WritesFront out texts n)
-Writes words readings out (Err r) = out.nothing
+-- which answer comes, given what the words ask for and what the store gave: a text where nothing
+-- speaks against it, a refusal where its cause holds, want of memory at any time
+abbrev pub IsDue : Option Request → List Reading → Result Unit Refusal → Type 0
+IsDue request readings (Ok x) = IsAnswerable request readings
+IsDue request readings (Err (Print (NotWritten n))) = IsAnswerable request readings
+IsDue request readings (Err r) = IsTrue (lacks_memory r) ⊎ HasCause request readings r
 
-abbrev pub Comes : List Text → List Reading → Written → Result Unit Refusal → Type 0
-Comes words readings out result = IsDue words readings result × Writes words readings out result
+-- what is written with it: the whole text, a front of it, or nothing
+abbrev pub Writes : Option Request → List Reading → Written → Result Unit Refusal → Type 0
+Writes request readings out (Ok x) = WritesWhole out (IsAnswer request readings)
+Writes request readings out (Err (Print (NotWritten n))) =
+    WritesFront out (IsAnswer request readings) n
+Writes request readings out (Err r) = out.nothing
 
--- want of memory aside, a refusal comes where its cause is the first that holds
+abbrev pub Comes : Option Request → List Reading → Written → Result Unit Refusal → Type 0
+Comes request readings out result =
+    IsDue request readings result × Writes request readings out result
+
+-- want of memory aside, a refusal comes where its cause holds
 abbrev pub RefusesExactly : Type 0
 RefusesExactly =
-    (words : List Text) (readings : List Reading) (result : Result Unit Refusal) (r : Refusal)
-    → IsDue words readings result → IsRefused words readings r
+    (request : Option Request) (readings : List Reading) (result : Result Unit Refusal)
+    (r : Refusal) → IsDue request readings result → HasCause request readings r
     → IsErrAnd result (λ s. IsTrue (lacks_memory s) ⊎ (s ≡ r))
 
+-- what a run comes to that does what is asked for
+abbrev pub Does : Deeds → Option Request → Result Unit Refusal → Type 0
+Does run request result =
+    (readings : List Reading) × run.gave readings × Comes request readings run.out result
+
 abbrev pub Runs : Deeds → List Text → Result Unit Refusal → Type 0
-Runs run words result =
-    (readings : List Reading) × run.gave readings × Comes words readings run.out result
+Runs run words result = Does run (request_in words) result
 
--- the same of a name, whatever the words that name it
-abbrev pub ListsNamed : Deeds → List ℕ → Result Unit Refusal → Type 0
-ListsNamed run name result = (words : List Text) → ledger_named words ≡ Some name
-    → Runs run words result
-
--- the same of texts
+-- what comes of texts
 abbrev pub ListsTexts : Written → Texts → Result Unit Refusal → Type 0
-ListsTexts out texts (Ok x) = ¬ HasTooMany texts × WritesTable out texts
-ListsTexts out texts (Err (Print (NotWritten n))) = ¬ HasTooMany texts × WritesFront out texts n
+ListsTexts out texts (Ok x) = ¬ HasTooMany texts × WritesWhole out (Lists texts)
+ListsTexts out texts (Err (Print (NotWritten n))) =
+    ¬ HasTooMany texts × WritesFront out (Lists texts) n
 ListsTexts out texts (Err (Book TooManyPostings)) = HasTooMany texts × out.nothing
 ListsTexts out texts (Err r) = IsTrue (lacks_memory r) × out.nothing
+
+-- a text is written whole, or the output refuses behind a front of it
+abbrev pub WritesText : Written → List ℕ → Result Unit Refusal → Type 0
+WritesText out text (Ok x) = out.took text (length text)
+WritesText out text (Err (Print (NotWritten n))) = (n < length text) × out.took text n
+WritesText out text (Err r) = ⊥
 
 abbrev pub status_of_run : Result Unit Refusal → ℕ
 status_of_run (Ok x) = 0

@@ -6,6 +6,8 @@ use arrayvec::ArrayString;
 use bean_book::BookFault;
 use bean_load::LoadFault;
 use itoa::Buffer;
+use query_file::DecodeFault;
+use std::alloc::AllocError;
 use table_printer::PrintFault;
 
 /// What a user is told in one line on standard error.
@@ -15,6 +17,8 @@ pub enum Refusal {
     Words,
     Load(LoadFault),
     Book(BookFault),
+    /// The file is no query file.
+    Query(query_code::Refusal),
     Print(PrintFault),
     OutOfMemory,
 }
@@ -49,6 +53,29 @@ impl From<PrintFault> for Refusal {
     }
 }
 
+impl From<DecodeFault> for Refusal {
+    ghost use Rattle.bq.specs.Refusal.{refused_by};
+
+    ghost from_gives = { λ fault refusal. refusal ≡ refused_by fault };
+
+    fn from(fault: DecodeFault) -> Refusal {
+        match fault {
+            DecodeFault::Refused(refusal) => Refusal::Query(refusal),
+            DecodeFault::OutOfMemory => Refusal::OutOfMemory,
+        }
+    }
+}
+
+impl From<AllocError> for Refusal {
+    ghost use Rattle.bq.specs.declared.refusal.Refusal.TheVariants.{OutOfMemory};
+
+    ghost from_gives = { λ _ refusal. refusal ≡ OutOfMemory };
+
+    fn from(_error: AllocError) -> Refusal {
+        Refusal::OutOfMemory
+    }
+}
+
 /// Room for every line.
 const LONGEST_LINE: usize = 64;
 
@@ -60,7 +87,8 @@ impl Refusal {
         match self {
             Refusal::Words
             | Refusal::Load(LoadFault::TooLarge | LoadFault::NotUtf8)
-            | Refusal::Book(BookFault::TooManyPostings) => 2,
+            | Refusal::Book(BookFault::TooManyPostings)
+            | Refusal::Query(_) => 2,
             Refusal::Load(LoadFault::Unreadable) | Refusal::Print(PrintFault::NotWritten { .. }) =>
                 3,
             Refusal::Load(LoadFault::OutOfMemory)
@@ -79,16 +107,20 @@ impl Refusal {
             Refusal::Words => "words",
             Refusal::Load(fault) => fault.code(),
             Refusal::Book(fault) => fault.code(),
+            Refusal::Query(refusal) => refusal.code.code(),
             Refusal::Print(fault) => fault.code(),
             Refusal::OutOfMemory => "M2",
         }
     }
 
-    /// The place that the fault names, in bytes. None of these faults has one.
+    /// The place that the fault names, in bytes: that of a query file does.
     pub fn place(self) -> Option<usize>
         ensures { result ≡ place_of self }
     {
-        None
+        match self {
+            Refusal::Query(refusal) => Some(refusal.place),
+            _ => None,
+        }
     }
 
     /// The line that tells it, with its line feed. Takes no memory.

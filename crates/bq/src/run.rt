@@ -1,17 +1,21 @@
 //! What the program does with its words.
-ghost use Rattle.std.specs.Prelude.{◌≡◌, map};
-ghost use Rattle.bq.specs.Runs.{written, deeds, ListsTexts, ListsNamed, Runs, Ends, RefusesExactly};
+ghost use Rattle.std.specs.Prelude.{map, Some};
+ghost use Rattle.bq.specs.Causes.{CausesExclude};
+ghost use Rattle.bq.specs.Runs.{written, deeds, ListsTexts, WritesText, Does, Runs, Ends};
+ghost use Rattle.bq.specs.Runs.{RefusesExactly};
+ghost use Rattle.bq.specs.Words.{ListLedger, ShowFile};
 
 use crate::listing::ledger_of_texts;
 use crate::refusal::Refusal;
+use crate::showing::{file_bytes, listing_of};
 use crate::shown::Postings;
-use crate::words::ledger_named;
+use crate::words::{Command, command_in};
 use bean_load::{Texts, gather};
 use outputs::output::Output;
 use outputs::writing::write_bytes;
 use std::alloc::Global;
 use stores::source::{Source, Store};
-use table_printer::write_table;
+use table_printer::{PrintFault, write_table};
 
 /// Writes the table of texts' postings.
 fn list_texts<O: Output>(alloc: Global, texts: &Texts, out: &mut O) -> Result<(), Refusal>
@@ -30,11 +34,39 @@ fn list<S: Source, O: Output>(
     store: &mut S,
     out: &mut O,
 ) -> Result<(), Refusal>
-    ensures { ListsNamed
-        (deeds S.Source store.old store.new (written O.Output out.old out.new)) name.now result }
+    ensures { Does (deeds S.Source store.old store.new (written O.Output out.old out.new))
+        (Some (ListLedger name.now)) result }
 {
     let texts = gather(alloc, store, name)?;
     list_texts(alloc, &texts, out)
+}
+
+/// Writes a text.
+fn write_text<O: Output>(text: &[u8], out: &mut O) -> Result<(), Refusal>
+    ensures { WritesText (written O.Output out.old out.new) text.now result }
+{
+    let written = write_bytes(out, text);
+    if written < text.len() {
+        return Err(Refusal::Print(PrintFault::NotWritten {
+            written: written as u64,
+        }));
+    }
+    Ok(())
+}
+
+/// Writes the listing of the query file of that name.
+fn show<S: Source, O: Output>(
+    alloc: Global,
+    name: &str,
+    store: &mut S,
+    out: &mut O,
+) -> Result<(), Refusal>
+    ensures { Does (deeds S.Source store.old store.new (written O.Output out.old out.new))
+        (Some (ShowFile name.now)) result }
+{
+    let bytes = file_bytes(store, name)?;
+    let text = listing_of(alloc, &bytes)?;
+    write_text(&text, out)
 }
 
 /// Does what the words say.
@@ -47,8 +79,10 @@ fn run<S: Store, O: Output>(
     ensures { Runs (deeds S.Source store.old store.new (written O.Output out.old out.new))
         (map (λ w. w.now) words.now) result }
 {
-    let name = ledger_named(alloc, words)?;
-    list(alloc, name, store, out)
+    match command_in(alloc, words)? {
+        Command::List(ledger) => list(alloc, ledger, store, out),
+        Command::Show(file) => show(alloc, file, store, out),
+    }
 }
 
 /// Runs the program on its words, without its own name: the answer goes to `out`, and where there
@@ -74,7 +108,9 @@ pub fn run_words<S: Store, O: Output, E: Output>(
     }
 }
 
-/// Want of memory aside, each refusal comes exactly where its cause is the first that holds.
+/// Want of memory aside, each refusal comes exactly where its cause holds; no two causes hold at
+/// once.
 pub fn refuses_exactly()
-    ensures { RefusesExactly }
+    ensures exactly { RefusesExactly }
+    ensures one { CausesExclude }
 {}

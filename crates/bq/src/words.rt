@@ -1,42 +1,83 @@
 //! The program's words.
 ghost use Rattle.std.specs.Prelude.{◌≡◌, IfOk, map, option_map};
 ghost use Rattle.std.specs.Option.{option_and_then};
-ghost use Rattle.std.specs.Prelude.{codes};
-ghost use Rattle.clap.specs.Words.{FailsBy, fault_of, first_of, subcommand_of, subcommand_rows_of};
-ghost use Rattle.bq.specs.Words.{program};
-ghost use Rattle.bq.specs.Named.{NamesLedger, IsRefusedBy};
+ghost use Rattle.clap.specs.Walk.{rows_of};
+ghost use Rattle.clap.specs.Words.{FailsBy, app_of, fault_of, found_of, subcommand_of};
+ghost use Rattle.clap.specs.Words.{subcommand_rows_of, with_subcommand};
+ghost use Rattle.bq.specs.Words.{asked_by, program, request_of, with_word};
+ghost use Rattle.bq.specs.Named.{AskFor, IsRefusedBy};
 
 use crate::refusal::Refusal;
 use clap::error::ErrorKind;
-use clap::{Arg, ArgMatches, Command, Error};
-use std::alloc::Global;
+use clap::{Arg, ArgMatches, Error};
+use std::alloc::{AllocError, Global};
 
-/// The words as those of `bq list LEDGER`. There is no help by words: the README has it.
+/// What the words ask for.
+#[derive(Clone, Copy, Debug, Drop)]
+pub enum Command<'a> {
+    /// The table of a ledger's postings, by the ledger's name.
+    List(&'a str),
+    /// The listing of a query file, by the file's name.
+    Show(&'a str),
+}
+
+/// The command with one subcommand more, which takes one word that has to be there.
+fn add_subcommand<'a>(
+    alloc: Global,
+    command: clap::Command<'a>,
+    name: &'a str,
+    word: &'a str,
+) -> Result<clap::Command<'a>, AllocError>
+    ensures { IfOk result (λ c. app_of c ≡ with_subcommand (app_of command.entry)
+        (with_word name.entry.now word.entry.now).top) }
+{
+    let word = Arg::new(alloc, word).required(true);
+    let subcommand = clap::Command::new(alloc, name)
+        .disable_help_flag(true)
+        .arg(word)?;
+    command.subcommand(subcommand)
+}
+
+/// The words as those of `bq list LEDGER` or `bq show FILE`. There is no help by words: the README
+/// has it.
 fn matches_of<'a>(alloc: Global, words: &'a [&'a str]) -> Result<ArgMatches<'a>, Error>
     ensures rows { IfOk result (λ m. subcommand_rows_of m
         ≡ subcommand_of program (map (λ w. w.now) words.entry.now)) }
     ensures faults { FailsBy (fault_of program (map (λ w. w.now) words.entry.now)) result }
 {
-    let ledger = Arg::new(alloc, "LEDGER").required(true);
-    let list = Command::new(alloc, "list")
-        .disable_help_flag(true)
-        .arg(ledger)?;
-    let command = Command::new(alloc, "bq")
+    let top = clap::Command::new(alloc, "bq")
         .no_binary_name(true)
         .disable_help_flag(true)
         .disable_help_subcommand(true)
-        .subcommand_required(true)
-        .subcommand(list)?;
+        .subcommand_required(true);
+    let listing = add_subcommand(alloc, top, "list", "LEDGER")?;
+    let command = add_subcommand(alloc, listing, "show", "FILE")?;
     command.try_get_matches_from(words)
 }
 
-/// What the command's argument says.
-fn ledger_in<'a>(matches: &ArgMatches<'a>) -> Option<&'a str>
-    ensures { option_map (λ l. l.now) result
-        ≡ option_and_then (λ p. first_of (codes "LEDGER") p.1) (subcommand_rows_of matches.now) }
+/// What a command asks for, by its name and its word.
+fn asked_by<'a>(name: &str, words: &ArgMatches<'a>) -> Option<Command<'a>>
+    ensures { option_map request_of result ≡ asked_by (name.now, rows_of (found_of words.now)) }
+{
+    if name == "list" {
+        return match words.get_str("LEDGER") {
+            Some(ledger) => Some(Command::List(ledger)),
+            None => None,
+        };
+    }
+    match words.get_str("FILE") {
+        Some(file) => Some(Command::Show(file)),
+        None => None,
+    }
+}
+
+/// What the command asks for that the words name.
+fn asked_in<'a>(matches: &ArgMatches<'a>) -> Option<Command<'a>>
+    ensures { option_map request_of result
+        ≡ option_and_then asked_by (subcommand_rows_of matches.now) }
 {
     match matches.subcommand() {
-        Some((_, list)) => list.get_str("LEDGER"),
+        Some((name, words)) => asked_by(name, words),
         None => None,
     }
 }
@@ -51,16 +92,16 @@ fn refusal_of(error: &Error) -> Refusal
     }
 }
 
-/// The ledger that words name, as those of `bq list LEDGER` do.
-pub fn ledger_named<'a>(alloc: Global, words: &'a [&'a str]) -> Result<&'a str, Refusal>
-    ensures { NamesLedger (map (λ w. w.now) words.entry.now) (λ l. l.now) result }
+/// What the words ask for: `list LEDGER` or `show FILE`.
+pub fn command_in<'a>(alloc: Global, words: &'a [&'a str]) -> Result<Command<'a>, Refusal>
+    ensures { AskFor (map (λ w. w.now) words.entry.now) result }
 {
     let matches = match matches_of(alloc, words) {
         Ok(matches) => matches,
         Err(error) => return Err(refusal_of(&error)),
     };
-    match ledger_in(&matches) {
-        Some(ledger) => Ok(ledger),
+    match asked_in(&matches) {
+        Some(command) => Ok(command),
         None => Err(Refusal::Words),
     }
 }

@@ -2,3 +2,4 @@ pub mod ByteForm
 pub mod InstructionForm
 pub mod QueryFile
 pub mod Listing
+pub mod Cause

@@ -1,4 +1,5 @@
 //! Why bytes are no query file, and why a query file is refused.
+ghost use Rattle.std.specs.Prelude.{◌≡◌, ◌≤◌, length};
 
 use thiserror::Error;
 
@@ -42,6 +43,37 @@ pub enum Cause {
     Bounds,
     #[error("V18 unreachable")]
     Unreachable,
+}
+
+impl Cause {
+    ghost use Rattle.query_code.specs.Cause.{code_of};
+
+    /// The number that users see.
+    pub fn code(self) -> &'static str
+        ensures is { result.now ≡ code_of self }
+        ensures short { length result.now ≤ 3 }
+    {
+        match self {
+            Cause::Magic => "V1",
+            Cause::Version => "V2",
+            Cause::Truncated => "V3",
+            Cause::TrailingBytes => "V4",
+            Cause::BadField => "V5",
+            Cause::NotUtf8 => "V6",
+            Cause::JumpTarget => "V7",
+            Cause::TooFewOperands => "V8",
+            Cause::StackTooDeep => "V9",
+            Cause::Operands => "V10",
+            Cause::UnknownColumn => "V11",
+            Cause::Slot => "V12",
+            Cause::Pool => "V13",
+            Cause::TooWide => "V14",
+            Cause::SectionEnd => "V15",
+            Cause::Pattern => "V16",
+            Cause::Bounds => "V17",
+            Cause::Unreachable => "V18",
+        }
+    }
 }
 
 /// What is wrong, and at which byte of the file.

@@ -1,25 +1,27 @@
-use Rattle.std.proofs.Common.{refl, sym, subst}
-use Rattle.bq.specs.Runs.{Runs, deeds, written}
+use Rattle.std.proofs.Common.{Some, refl, sym, subst}
+use Rattle.bq.specs.Runs.{Does, deeds, written}
+use Rattle.bq.specs.Words.{ListLedger}
 use Rattle.bq.specs.declared.refusal.Refusal.TheVariants.{Load}
 use Rattle.bq.proofs.Outcomes.{converted, listed, ungathered}
 use Rattle.bq.proofs.run.list.Goals as goal
 
 pub returns-in_err-texts : goal.returns-in_err-texts
-returns-in_err-texts g c = λ words names.
+returns-in_err-texts g c =
     let s = g.S.Source in
+    let name = c.args.name.now in
     let out = written g.O.Output c.args.out.now c.args.out.now in
     let fault = c.in_err-texts.field-0.0 in
     let is = converted c.from_residual.result (Load fault) c.from_residual.ensures.1 in
-    subst (Runs (deeds s c.args.store.now c.gather.new.source out) words) (sym is)
-    (ungathered s c.args.store.now c.gather.new.source words c.args.name.now names fault
-    c.in_err-texts.ensures out refl)
+    subst (Does (deeds s c.args.store.now c.gather.new.source out) (Some (ListLedger name)))
+    (sym is)
+    (ungathered s c.args.store.now c.gather.new.source name fault c.in_err-texts.ensures out refl)
 
 pub returns : goal.returns
-returns g c = λ words names.
+returns g c =
     let come = c.in_ok-texts.ensures in
     let out = written g.O.Output c.args.out.now c.list_texts.new.out in (
       come.0,
       come.1,
-      listed words c.args.name.now names come.0 c.in_ok-texts.texts come.2 out
-          c.list_texts.result c.list_texts.ensures,
+      listed c.args.name.now come.0 c.in_ok-texts.texts come.2 out c.list_texts.result
+          c.list_texts.ensures,
     )

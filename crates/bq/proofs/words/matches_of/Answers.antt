@@ -1,11 +1,11 @@
-use Rattle.std.proofs.Common.{rules, ap, ap₂, refl, codes, true, map, List, ℕ, ◌≡◌, ◌∙◌, subst}
+use Rattle.std.proofs.Common.{ap, refl, codes, true, map, List, ℕ, ◌≡◌, ◌∙◌, subst}
 use Rattle.std.proofs.lemmas.Result.{IfOk-weaker}
 use Rattle.clap.specs.Faults.{fault_of, is_simple_and_free}
 use Rattle.clap.specs.Kinds.{FailsBy}
 use Rattle.clap.specs.Simple.{app_of_fields, is_simple, on_top, subcommand_of}
 use Rattle.clap.specs.Words.{App, app_of, new_app, rule_of, with_rule, with_subcommand}
 use Rattle.clap.proofs.OnLiterals.{clap_on_literals}
-use Rattle.bq.specs.Words.{list_command, program, ledger_word}
+use Rattle.bq.specs.Words.{list_command, program, show_command}
 use Rattle.bq.proofs.words.matches_of.Goals as goal
 
 program_is_simple : is_simple program ≡ true
@@ -19,28 +19,21 @@ program_is_free = refl
 -- what was built is the program
 command_is : (c : goal.After-try_get_matches_from) → app_of c.in_ok-command.command ≡ program
 command_is c =
-    let ledger_is : rule_of c.required-ledger.result ≡ ledger_word = search rules in
-    let named_list :
-    app_of c.disable_help_flag.result
-    ≡ on_top (λ s. record s { disable_help_flag = true }) (new_app (codes "list")) =
-    ap app_of_fields c.disable_help_flag.ensures
-    ∙ ap (on_top (λ s. record s { disable_help_flag = true })) c.new-2.ensures.app in
-    let list_is : app_of c.in_ok-list.list ≡ list_command =
-    c.in_ok-list.ensures.shape (search rules) ∙ ap₂ with_rule named_list ledger_is in
     let plain =
     ap app_of_fields c.no_binary_name.ensures
-    ∙ ap (on_top (λ s. record s { no_binary_name = true })) c.new-3.ensures.app in
+    ∙ ap (on_top (λ s. record s { no_binary_name = true })) c.new.ensures.app in
     let no_flag =
-    ap app_of_fields c.disable_help_flag-2.ensures
+    ap app_of_fields c.disable_help_flag.ensures
     ∙ ap (on_top (λ s. record s { disable_help_flag = true })) plain in
     let no_help =
     ap app_of_fields c.disable_help_subcommand.ensures
     ∙ ap (on_top (λ s. record s { disable_help_subcommand = true })) no_flag in
     let top_is =
-    ap app_of_fields c.subcommand_required.ensures
+    ap app_of_fields c.subcommand_required-top.ensures
     ∙ ap (on_top (λ s. record s { subcommand_required = true })) no_help in
-    c.in_ok-command.ensures.shape (search rules)
-    ∙ ap₂ with_subcommand top_is (ap (λ (a : App). a.top) list_is)
+    c.in_ok-command.ensures
+    ∙ ap (λ a. with_subcommand a show_command.top)
+    (c.in_ok-listing.ensures ∙ ap (λ a. with_subcommand a list_command.top) top_is)
 
 pub returns-clause-rows : goal.returns-clause-rows
 returns-clause-rows c =
