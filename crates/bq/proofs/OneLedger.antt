@@ -1,5 +1,5 @@
 -- Texts have one ledger, so they have not both a ledger and too many postings.
-use Rattle.std.proofs.Common.{ℕ, ◌<◌, ◌≤◌, length, subst, arith}
+use Rattle.std.proofs.Common.{◌≤◌, length, subst, arith}
 use Rattle.bean_book.specs.Booked as booked
 use Rattle.bean_book.specs.Flattening.{rows_of_all}
 use Rattle.bean_load.specs.Loaded.{IsLoaded, Loaded}

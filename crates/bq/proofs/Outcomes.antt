@@ -1,5 +1,5 @@
 -- From the steps of a run to its answer.
-use Rattle.std.proofs.Common.{IsTrue, ◌≡◌, ◌⊎◌, inl, inr, ℕ, List, [], Option, None, Some}
+use Rattle.std.proofs.Common.{IsTrue, ◌≡◌, ◌⊎◌, inl, inr, ℕ, List, [], Option, Some}
 use Rattle.std.proofs.Common.{Result, Ok, Err, refl, sym, ap, ◌∙◌, subst}
 use Rattle.std.specs.Result.{IsErrAnd}
 use Rattle.bean_book.specs.declared.postings.BookFault.TheVariants as book
@@ -22,7 +22,7 @@ use Rattle.bq.specs.Causes.{GaveFile, GaveTexts, HasCause, IsAnswerable}
 use Rattle.bq.specs.Listing.{HasTooMany, Lists}
 use Rattle.bq.specs.Named.{AskNothing}
 use Rattle.bq.specs.Refusal.{lacks_memory}
-use Rattle.bq.specs.Runs.{Comes, Does, ListsTexts, RefusesExactly, Runs, WritesText, Written}
+use Rattle.bq.specs.Runs.{Comes, Does, ListsTexts, RefusesExactly, WritesText, Written}
 use Rattle.bq.specs.Runs.{deeds, written}
 use Rattle.bq.specs.Showing.{FileComes, IsListingOf, ListsNone, ReadsNone}
 use Rattle.bq.specs.Words.{Request, ListLedger, ShowFile, request_in}

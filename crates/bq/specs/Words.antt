@@ -1,5 +1,5 @@
 -- The program's words, as clap takes them, and what they ask for.
-use Rattle.std.specs.Prelude.{List, [], ◌∷◌, Option, Some, None, codes, true, if◌then◌else◌}
+use Rattle.std.specs.Prelude.{List, [], ◌∷◌, Option, None, codes, true, if◌then◌else◌}
 use Rattle.std.specs.Option.{option_and_then, option_map}
 use Rattle.std.specs.Str.{bytes_eq}
 use Rattle.clap.specs.Faults.{fault_of}

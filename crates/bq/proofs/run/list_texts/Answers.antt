@@ -1,4 +1,4 @@
-use Rattle.std.proofs.Common.{◌≡◌, ◌∙◌, ap, refl, sym, List, length, map, subst}
+use Rattle.std.proofs.Common.{◌≡◌, ◌∙◌, ap, refl, sym, length, map, subst}
 use Rattle.std.proofs.lemmas.List.Elements.{All-map}
 use Rattle.bean_book.specs.Booked.{IsLedgerOf}
 use Rattle.bean_load.specs.Loaded.{Loaded}

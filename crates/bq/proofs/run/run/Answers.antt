@@ -1,6 +1,6 @@
 use Rattle.std.proofs.Common.{[], map, refl, sym, subst}
 use Rattle.stores.proofs.GaveFacts.{gave_none}
-use Rattle.bq.specs.Runs.{Comes, Does, deeds, written}
+use Rattle.bq.specs.Runs.{Comes, written}
 use Rattle.bq.specs.Words.{request_in}
 use Rattle.bq.proofs.Outcomes.{converted, unasked}
 use Rattle.bq.proofs.run.run.Goals as goal

@@ -1,4 +1,4 @@
-use Rattle.std.proofs.Common.{Some, Err, refl, sym, subst}
+use Rattle.std.proofs.Common.{Some, refl, sym, subst}
 use Rattle.bq.specs.Runs.{Comes, Does, WritesText, deeds, written}
 use Rattle.bq.specs.Showing.{IsListingOf, ListsNone}
 use Rattle.bq.specs.Words.{ShowFile}

@@ -4,7 +4,7 @@ use Rattle.std.specs.Str.{bytes_eq}
 use Rattle.clap.specs.Walk.{Row, Text, first_of, rows_of}
 use Rattle.clap.specs.Words.{found_of}
 use Rattle.clap.proofs.WalkLemmas.{first_value-rows}
-use Rattle.bq.specs.Words.{Request, ListLedger, ShowFile, asked_by}
+use Rattle.bq.specs.Words.{ListLedger, ShowFile, asked_by}
 use Rattle.bq.proofs.words.asked_by.Goals as goal
 
 -- what is asked for by a name that is "list", and by one that isn't

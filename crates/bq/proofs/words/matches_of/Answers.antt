@@ -1,9 +1,9 @@
-use Rattle.std.proofs.Common.{ap, refl, codes, true, map, List, ℕ, ◌≡◌, ◌∙◌, subst}
+use Rattle.std.proofs.Common.{ap, refl, true, map, List, ℕ, ◌≡◌, ◌∙◌, subst}
 use Rattle.std.proofs.lemmas.Result.{IfOk-weaker}
 use Rattle.clap.specs.Faults.{fault_of, is_simple_and_free}
 use Rattle.clap.specs.Kinds.{FailsBy}
 use Rattle.clap.specs.Simple.{app_of_fields, is_simple, on_top, subcommand_of}
-use Rattle.clap.specs.Words.{App, app_of, new_app, rule_of, with_rule, with_subcommand}
+use Rattle.clap.specs.Words.{app_of, with_subcommand}
 use Rattle.clap.proofs.OnLiterals.{clap_on_literals}
 use Rattle.bq.specs.Words.{list_command, program, show_command}
 use Rattle.bq.proofs.words.matches_of.Goals as goal
