@@ -1,7 +1,7 @@
 //! Query files that are decoded and written again, and bytes that are none.
 
 use bean_base::Day;
-use query_code::{Cause, Constant, Instruction, Mode, Push, Refusal, Unary, show};
+use query_code::{Cause, Constant, Instruction, Mode, Program, Push, Refusal, Unary, show};
 use query_file::{DecodeFault, decode, encode};
 use query_values::{Aggregate, Decimal};
 use std::alloc::Global;
@@ -32,39 +32,59 @@ fn at(code: Cause, place: usize) -> Option<Refusal> {
     Some(Refusal { code, place })
 }
 
+fn program_of(alloc: Global, bytes: &[u8]) -> Result<Program<'_>, Fail> {
+    Ok(decode(alloc, bytes).ok().ok_or("a program")?)
+}
+
 #[test]
 fn a_file_and_back(rt: HostRuntime) -> Result<(), Fail> {
-    let program = decode(rt.alloc(), &COUNT).ok().ok_or("a program")?;
-    let parts = &program.parts;
-    assert_eq!(rt; parts.bounds.postings, 1_000_000);
-    assert_eq!(rt; parts.mode, Mode::Grouped);
-    let name = parts.output.targets.as_slice().get(0).ok_or("a target")?;
-    assert!(rt; name.text() == "count(*)");
-    let aggregate = parts
-        .code
-        .aggregates
-        .as_slice()
-        .get(0)
-        .ok_or("an aggregate")?;
-    assert_eq!(rt; *aggregate, Aggregate::CountRows);
-    let last = parts.code.last.as_slice().get(0).ok_or("an instruction")?;
-    assert_eq!(rt; *last, Instruction::Push(Push::LoadAggregate(0)));
+    let program = program_of(rt.alloc(), &COUNT)?;
     let bytes = encode(rt.alloc(), &program)?;
     assert_eq!(rt; bytes.as_slice(), COUNT.as_slice());
     Ok(())
 }
 
 #[test]
+fn the_parts_of_a_program(rt: HostRuntime) -> Result<(), Fail> {
+    let program = program_of(rt.alloc(), &COUNT)?;
+    assert_eq!(rt; program.parts.bounds.postings, 1_000_000);
+    assert_eq!(rt; program.parts.mode, Mode::Grouped);
+    assert_eq!(rt; program.parts.output.targets.as_slice().len(), 1);
+    Ok(())
+}
+
+#[test]
+fn the_code_of_a_program(rt: HostRuntime) -> Result<(), Fail> {
+    let program = program_of(rt.alloc(), &COUNT)?;
+    let code = &program.parts.code;
+    assert_eq!(rt;
+        code.aggregates.as_slice(),
+        [Aggregate::CountRows].as_slice()
+    );
+    let last = [Instruction::Push(Push::LoadAggregate(0))];
+    assert_eq!(rt; code.last.as_slice(), last.as_slice());
+    Ok(())
+}
+
+#[test]
 fn each_refusal_with_its_place(rt: HostRuntime) -> Result<(), Fail> {
-    let alloc = rt.alloc();
-    assert_eq!(rt; refusal_with(alloc, 0, 0)?, at(Cause::Magic, 0));
-    assert_eq!(rt; refusal_with(alloc, 5, 2)?, at(Cause::Version, 4));
-    assert_eq!(rt; refusal_with(alloc, 12, 2)?, at(Cause::BadField, 12));
-    assert_eq!(rt; refusal_with(alloc, 19, 0xff)?, at(Cause::NotUtf8, 19));
-    assert_eq!(rt; refusal(alloc, &COUNT[..42]), at(Cause::Truncated, 42));
-    let mut longer = Vec::from_slice(alloc, &COUNT)?;
+    let changes = [
+        (0, 0, at(Cause::Magic, 0)),
+        (5, 2, at(Cause::Version, 4)),
+        (12, 2, at(Cause::BadField, 12)),
+        (19, 0xff, at(Cause::NotUtf8, 19)),
+    ];
+    for (place, byte, refused) in changes {
+        assert_eq!(rt; refusal_with(rt.alloc(), place, byte)?, refused);
+    }
+    Ok(())
+}
+
+#[test]
+fn bytes_behind_the_end(rt: HostRuntime) -> Result<(), Fail> {
+    let mut longer = Vec::from_slice(rt.alloc(), &COUNT)?;
     longer.push(0)?;
-    assert_eq!(rt; refusal(alloc, &longer), at(Cause::TrailingBytes, 43));
+    assert_eq!(rt; refusal(rt.alloc(), &longer), at(Cause::TrailingBytes, 43));
     Ok(())
 }
 
@@ -86,39 +106,42 @@ fn with_pool(alloc: Global, count: u8, entries: &[u8]) -> Result<Vec<u8>, Fail> 
     Ok(file)
 }
 
+/// A text, a day, texts and days.
+const ENTRIES: [u8; 24] = [
+    1, 0, 1, b'a', 3, 0x07, 0xde, 1, 31, 5, 0, 2, 0, 0, 0, 1, b'b', 7, 0, 1, 0, 1, 1, 1,
+];
+
 #[test]
 fn entries_of_the_pool(rt: HostRuntime) -> Result<(), Fail> {
-    let alloc = rt.alloc();
-    let entries = [
-        1, 0, 1, b'a', 3, 0x07, 0xde, 1, 31, 5, 0, 2, 0, 0, 0, 1, b'b', 7, 0, 1, 0, 1, 1, 1,
-    ];
-    let file = with_pool(alloc, 4, &entries)?;
-    let program = decode(alloc, &file).ok().ok_or("a program")?;
+    let file = with_pool(rt.alloc(), 4, &ENTRIES)?;
+    let program = program_of(rt.alloc(), &file)?;
     let pool = program.parts.code.pool.as_slice();
     assert_eq!(rt; pool.len(), 4);
     let day = pool.get(1).ok_or("an entry")?;
     let january = Day::new(2014, 1, 31).ok().ok_or("a day")?;
     assert!(rt; matches!(day, Constant::Day(day) if *day == january));
-    let row = program
-        .parts
-        .code
-        .row
-        .as_slice()
-        .get(0)
-        .ok_or("an instruction")?;
-    assert_eq!(rt; *row, Instruction::Unary(Unary::Root(2)));
+    Ok(())
+}
+
+#[test]
+fn a_row_section_behind_a_pool(rt: HostRuntime) -> Result<(), Fail> {
+    let file = with_pool(rt.alloc(), 4, &ENTRIES)?;
+    let program = program_of(rt.alloc(), &file)?;
+    let row = [Instruction::Unary(Unary::Root(2))];
+    assert_eq!(rt; program.parts.code.row.as_slice(), row.as_slice());
     Ok(())
 }
 
 #[test]
 fn bad_entries_of_the_pool(rt: HostRuntime) -> Result<(), Fail> {
-    let alloc = rt.alloc();
-    let no_day = with_pool(alloc, 1, &[3, 0x07, 0xde, 2, 30])?;
-    assert_eq!(rt; refusal(alloc, &no_day), at(Cause::BadField, 26));
-    let no_texts = with_pool(alloc, 1, &[5, 0, 0])?;
-    assert_eq!(rt; refusal(alloc, &no_texts), at(Cause::BadField, 26));
-    let claims_more = with_pool(alloc, 255, &[1, 0, 0])?;
-    assert_eq!(rt; refusal(alloc, &claims_more), at(Cause::BadField, 28));
+    let no_day: &[u8] = &[3, 0x07, 0xde, 2, 30];
+    let no_texts: &[u8] = &[5, 0, 0];
+    let claims_more: &[u8] = &[1, 0, 0];
+    let pools = [(1, no_day, 26), (1, no_texts, 26), (255, claims_more, 28)];
+    for (count, entries, place) in pools {
+        let file = with_pool(rt.alloc(), count, entries)?;
+        assert_eq!(rt; refusal(rt.alloc(), &file), at(Cause::BadField, place));
+    }
     Ok(())
 }
 
@@ -130,18 +153,24 @@ fn numbers_of_a_machine(rt: HostRuntime) -> Result<(), Fail> {
     Ok(())
 }
 
+fn shown(alloc: Global, bytes: &[u8]) -> Result<Vec<u8>, Fail> {
+    let program = program_of(alloc, bytes)?;
+    Ok(show(alloc, &program)?)
+}
+
 #[test]
-fn a_program_shown(rt: HostRuntime) -> Result<(), Fail> {
-    let program = decode(rt.alloc(), &COUNT).ok().ok_or("a program")?;
-    let text = show(rt.alloc(), &program)?;
+fn a_grouped_program_shown(rt: HostRuntime) -> Result<(), Fail> {
     let wanted = "version 1 postings 1000000 digits 20 value-digits 28\n\
          grouped keys 0 aggregates 1\nfilter 1\n0 TRUE\nrow 0\nlast 1\n0 LOAD_AGG 0\n";
-    assert_eq!(rt; text.as_slice(), wanted.as_bytes());
+    assert_eq!(rt; shown(rt.alloc(), &COUNT)?.as_slice(), wanted.as_bytes());
+    Ok(())
+}
+
+#[test]
+fn a_plain_program_shown(rt: HostRuntime) -> Result<(), Fail> {
     let file = with_pool(rt.alloc(), 0, &[])?;
-    let plain = decode(rt.alloc(), &file).ok().ok_or("a program")?;
-    let text = show(rt.alloc(), &plain)?;
     let wanted = "version 1 postings 1 digits 20 value-digits 28\nplain\nfilter 1\n0 TRUE\nrow 1\n\
          0 ROOT 2\nlast 0\n";
-    assert_eq!(rt; text.as_slice(), wanted.as_bytes());
+    assert_eq!(rt; shown(rt.alloc(), &file)?.as_slice(), wanted.as_bytes());
     Ok(())
 }

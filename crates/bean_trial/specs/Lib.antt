@@ -1,4 +1,0 @@
-pub mod Held
-pub mod Holdings
-pub mod Lined
-pub mod Tried

@@ -1,9 +1,0 @@
-pub mod NumberFacts
-pub mod ListFacts
-pub mod LiteralFacts
-pub mod CallFacts
-pub mod FormFacts
-pub mod ExpressionFacts
-pub mod ComparisonFacts
-pub mod AtomFacts
-pub mod ItemsFacts

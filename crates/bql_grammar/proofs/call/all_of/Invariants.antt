@@ -1,7 +1,0 @@
-use Rattle.std.proofs.Common.{◌≡◌}
-use Rattle.bql_grammar.specs.Call.{all_of}
-use Rattle.bql_grammar.specs.Part.{parts_in, trees_found}
-use Rattle.bql_grammar.proofs.call.all_of.Given as goal
-
-abbrev pub invariant-loop-part : goal.invariant-loop-part
-invariant-loop-part l = trees_found l.found ≡ all_of (parts_in l.yielded)

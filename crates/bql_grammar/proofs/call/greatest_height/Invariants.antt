@@ -1,7 +1,0 @@
-use Rattle.std.proofs.Common.{◌≡◌, take}
-use Rattle.bql_grammar.specs.Call.{greatest_height}
-use Rattle.bql_grammar.specs.Part.{parts_in}
-use Rattle.bql_grammar.proofs.call.greatest_height.Given as goal
-
-abbrev pub invariant-loop-part : goal.invariant-loop-part
-invariant-loop-part l = l.height ≡ greatest_height (parts_in (take l.part-index l.parts))
