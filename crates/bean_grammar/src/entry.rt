@@ -15,8 +15,8 @@ use crate::front::{after_key, behind_sign, next};
 use crate::literal::{between_quotes, day_of};
 use crate::metadata::{Entry, Value};
 use crate::ranged::Ranged;
-use bean_base::{Account, Amount, Currency, Day, List, MetaKey, Num, Tag, Text};
-use bean_lexer::{Keyword, Kind, Token};
+use bean_base::{Account, Amount, Currency, Day, List, Num, Text};
+use bean_lexer::{Keyword, Kind, MetaKey, Tag, Token};
 use std::alloc::{AllocError, Global};
 
 /// The tokens that are still to be read.

@@ -1,7 +1,8 @@
 //! Metadata: entries of a key and a value.
 ghost use Rattle.std.specs.Prelude.{◌≡◌};
 
-use bean_base::{Account, Amount, Currency, Day, MetaKey, Num, Tag, Text};
+use bean_base::{Account, Amount, Currency, Day, Num, Text};
+use bean_lexer::{MetaKey, Tag};
 
 /// The value of a metadata entry, or of a custom directive, which has no `Nothing`.
 #[derive(Debug, Drop)]

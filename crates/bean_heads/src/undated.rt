@@ -5,12 +5,12 @@ ghost use Rattle.bean_grammar.specs.Lexeme as lexeme;
 ghost use Rattle.bean_grammar.specs.Lexeme.{lexemes};
 ghost use Rattle.bean_heads.specs.Undated as rule;
 
-use bean_base::{MetaKey, Tag, Text};
+use bean_base::Text;
 use bean_grammar::entry::entry;
 use bean_grammar::front::{after_key, after_tag, next};
 use bean_grammar::literal::{text, text_if_due};
 use bean_grammar::{Entry, Ranged};
-use bean_lexer::{Keyword, Kind, Token};
+use bean_lexer::{Keyword, Kind, MetaKey, Tag, Token};
 
 /// What a ledger says of itself, and which other texts belong to it.
 #[derive(Debug, Drop)]

@@ -15,25 +15,6 @@ use Rattle.bean_lexer.specs.Gap.{gap_len, gap_step, is_comment}
 use Rattle.bean_lexer.specs.declared.gaps.Spot.{Spot}
 use Rattle.bean_lexer.specs.declared.gaps.Spot.TheVariants as spots
 
-run_by : (p : ℕ → Bool) → ((b : ℕ) → p b ≡ true → b < 128) → (bs : List ℕ) (start n : ℕ) → IsUtf8 bs
-    → start ≤ length bs → IsCharBoundary bs start → n ≤ prefix_len p (drop start bs)
-    → IsCharBoundary bs (start + n)
-run_by p ascii bs start zero utf8 inside at h = rw add-zero at
-run_by p ascii bs start (suc n) utf8 inside at h =
-    let within = prefix_len-le-length p (drop start bs) in
-    let l = length-drop start bs in
-    let passes = prefix_len_passes p (drop start bs) n 0 (omega arith) in
-    let e : start + suc n ≡ start + n + 1 = omega arith in
-    rw e (IsCharBoundary-after_ascii bs (start + n) utf8 (omega arith)
-    (ascii (get_or bs (start + n) 0) (ap p (sym (get_or-drop start bs n 0)) ∙ passes)))
-
--- a run of ASCII ends where a character ends
-pub run_boundary : (p : ℕ → Bool) → ((b : ℕ) → p b ≡ true → b < 128) → (bs : List ℕ) (start : ℕ)
-    → IsUtf8 bs → start ≤ length bs → IsCharBoundary bs start
-    → IsCharBoundary bs (start + prefix_len p (drop start bs))
-run_boundary p ascii bs start utf8 inside at =
-    run_by p ascii bs start (prefix_len p (drop start bs)) utf8 inside at (omega arith)
-
 -- where a token begins one is in no comment
 none_in_comment : (at : Spot) (b : ℕ) → gap_step at b ≡ None → is_comment at ≡ false
 none_in_comment spots.LineStart b h = refl

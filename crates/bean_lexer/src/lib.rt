@@ -36,6 +36,7 @@ mod found;
 mod gaps;
 pub mod kind;
 pub mod lexer;
+pub mod marks;
 mod names;
 mod texts;
 pub mod token;
@@ -45,5 +46,6 @@ mod words;
 
 pub use kind::{Keyword, Kind, Place, Sign};
 pub use lexer::Lexer;
+pub use marks::{Link, MetaKey, Tag};
 pub use token::Token;
 pub use token_list::tokens;

@@ -1,25 +1,11 @@
 -- The padding of a difference.
 use Rattle.std.proofs.Common.{◌≡◌, ◌<◌, ◌^◌, ℤ, Bool, true, false, arith, ap, refl}
-use Rattle.std.proofs.Math.Dec.{T_prop}
 use Rattle.std.proofs.lemmas.Grind.{common_steps}
-use Rattle.std.specs.Coded.{le_prop}
-use Rattle.std.specs.Int.RustNames.{unsigned_abs}
-use mathlib.Core.HLevel.{is_prop→PathP}
+use Rattle.bean_base.proofs.NumFacts.{one_num}
 use Rattle.bean_base.specs.Decimal.{IsLedger}
 use Rattle.bean_base.specs.declared.num.Num.{Num}
 use Rattle.bean_pad.specs.Outcome.{is_narrow, padding_of, padding_where, is_ledger}
 use Rattle.bean_pad.specs.declared.note.Outcome.TheVariants.{Padding, TooWide}
-
-one_num : (a b : Num) → a.count ≡ b.count → a.places ≡ b.places → a ≡ b
-one_num a b count places = λ i. record {
-  count = count i;
-  places = places i;
-  in_range =
-      is_prop→PathP (λ j. IsLedger (count j) (places j)) (λ j. hlevel (le_prop, T_prop)) a.in_range
-      b.in_range i;
-  small = is_prop→PathP (λ j. unsigned_abs (count j)
-      < 10 ^ 20) (λ j. hlevel (le_prop, T_prop)) a.small b.small i;
-}
 
 made_where : (n : Num) (d : ℤ) (b : Bool) (is : is_narrow d ≡ b) → n.count ≡ d → n.places ≡ 8
     → Padding n ≡ padding_where d b is

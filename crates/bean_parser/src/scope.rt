@@ -3,10 +3,11 @@ ghost use Rattle.std.specs.Prelude.{◌≡◌, ◌<◌, ◌-◌, ◌^◌, ◌++�
 ghost use Rattle.bean_parser.specs.Scope as spec;
 
 use crate::block::fault_at;
-use bean_base::{Fault, FaultKind, List, Tag};
+use bean_base::{Fault, FaultKind, List};
 use bean_grammar::{Entry, Mark};
 use bean_heads::directive::{Directive, DirectiveKind};
 use bean_heads::undated::{Bound, PushName, Pushed};
+use bean_lexer::Tag;
 use std::alloc::AllocError;
 
 /// Where a scope begins or ends, with its place.

@@ -1,2 +1,1 @@
-pub mod RunFacts
 pub mod TokenFacts

@@ -22,7 +22,7 @@ use Rattle.std.proofs.lemmas.Slice.Eq.{bytes_eq-Decides}
 abbrev pub AreBytes : List ℕ → Type 0
 AreBytes bytes = (i : ℕ) → get_or bytes i 0 < 256
 
-bytes_behind : (a b : List ℕ) → AreBytes (a ++ b) → AreBytes b
+pub bytes_behind : (a b : List ℕ) → AreBytes (a ++ b) → AreBytes b
 bytes_behind [] b h = h
 bytes_behind (x ∷ a) b h = bytes_behind a b (λ i. h (suc i))
 

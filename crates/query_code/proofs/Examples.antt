@@ -7,7 +7,8 @@ use Rattle.query_code.proofs.WorkedProgram.{counted}
 use Rattle.query_code.specs.ByteForm.{read_all}
 use Rattle.query_code.specs.InstructionForm.{instruction, operand_cases, word_cases}
 use Rattle.query_code.specs.QueryFile.{whole, decoded, parts, bounds, flag, limit, mode, output}
-use Rattle.query_code.specs.QueryFile.{columns, code, file, text, section, constant, aggregate}
+use Rattle.query_code.specs.TextForm.{text}
+use Rattle.query_code.specs.QueryFile.{columns, code, file, section, constant, aggregate}
 
 -- up to the mode, with the bounds 1000000, 20 and 28
 front : List ℕ

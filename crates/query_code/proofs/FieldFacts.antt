@@ -28,7 +28,8 @@ use Rattle.query_values.proofs.WideFacts as decimals
 use Rattle.std.proofs.lemmas.Int.{of_z-to_z}
 use Rattle.query_code.specs.ByteForm.{Form, Case, raw, mapped, such_that, before, both, counted}
 use Rattle.query_code.specs.ByteForm.{byte, number, marked, just, case}
-use Rattle.query_code.specs.QueryFile.{long, wide_integer, is_count, count, text, bit_of, flag, has}
+use Rattle.query_code.specs.TextForm.{text}
+use Rattle.query_code.specs.QueryFile.{long, wide_integer, is_count, count, bit_of, flag, has}
 use Rattle.query_code.specs.QueryFile.{limit, mode_number, mode, is_grouped, only, places}
 use Rattle.query_code.specs.QueryFile.{some_number, decimal_from, places_and_count, decimal}
 use Rattle.query_code.specs.QueryFile.{day_from, day, numbers_of, numbers, kind_of, its_text}

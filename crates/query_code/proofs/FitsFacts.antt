@@ -37,7 +37,8 @@ use Rattle.query_code.specs.declared.program.Code.{Code}
 use Rattle.query_code.specs.ByteForm.{Form, raw, mapped, such_that, standing_for, before, both}
 use Rattle.query_code.specs.ByteForm.{AllFit, row, counted, byte, number, marked, just, Case, case}
 use Rattle.query_code.specs.ByteForm.{chosen, told}
-use Rattle.query_code.specs.QueryFile.{long, wide_integer, is_count, count, text, bit_of, flag, has}
+use Rattle.query_code.specs.TextForm.{text}
+use Rattle.query_code.specs.QueryFile.{long, wide_integer, is_count, count, bit_of, flag, has}
 use Rattle.query_code.specs.QueryFile.{limit, mode_number, mode, is_grouped, only, places}
 use Rattle.query_code.specs.QueryFile.{some_number, decimal_from, places_and_count, decimal}
 use Rattle.query_code.specs.QueryFile.{day_from, day, numbers_of, numbers, kind_of, its_text}

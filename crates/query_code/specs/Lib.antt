@@ -1,5 +1,6 @@
 pub mod ByteForm
 pub mod InstructionForm
+pub mod TextForm
 pub mod QueryFile
 pub mod Listing
 pub mod Cause

@@ -4,7 +4,6 @@ use Rattle.std.specs.Prelude.{nat_le, List, [], ◌∷◌, length, codes, Option
 use Rattle.std.specs.Prelude.{Err, if◌then◌else◌}
 use Rattle.std.specs.Int.{w32, w128, cast_signed, cast_unsigned}
 use Rattle.std.specs.Int.RustNames.{unsigned_abs}
-use Rattle.std.specs.Str.{is_utf8}
 use Rattle.bean_base.specs.CalendarDay as calendar
 use Rattle.query_values.specs.Wide as wide
 use Rattle.bean_base.specs.declared.bounds.Bounds.{Bounds}
@@ -13,7 +12,7 @@ use Rattle.query_values.specs.declared.decimal.Decimal.{Decimal}
 use Rattle.query_values.specs.declared.operation.Aggregate.{Aggregate}
 use Rattle.query_values.specs.declared.operation.Aggregate.TheVariants as aggregates
 use Rattle.query_code.specs.declared.refusal.Cause.TheVariants.{Magic, Version, TrailingBytes}
-use Rattle.query_code.specs.declared.refusal.Cause.TheVariants.{BadField, NotUtf8}
+use Rattle.query_code.specs.declared.refusal.Cause.TheVariants.{BadField}
 use Rattle.query_code.specs.declared.refusal.Stop.{Stop}
 use Rattle.query_code.specs.declared.refusal.Refusal.{Refusal}
 use Rattle.query_code.specs.declared.instruction.Instruction.{Instruction}
@@ -26,7 +25,8 @@ use Rattle.query_code.specs.declared.program.Output.{Output}
 use Rattle.query_code.specs.declared.program.Code.{Code}
 use Rattle.query_code.specs.declared.program.Parts.{Parts}
 use Rattle.query_code.specs.InstructionForm.{at_least_one, word, or_0, instruction}
-use Rattle.query_code.specs.ByteForm.{Form, ◌>>=◌, stop, raw, mapped, such_that, standing_for}
+use Rattle.query_code.specs.TextForm.{text}
+use Rattle.query_code.specs.ByteForm.{Form, ◌>>=◌, stop, mapped, such_that, standing_for}
 use Rattle.query_code.specs.ByteForm.{before, both, counted, byte, number, marked, just, Case, case}
 use Rattle.query_code.specs.ByteForm.{told}
 
@@ -45,11 +45,6 @@ is_count z = nat_lt (unsigned_abs z) (2 ^ 127)
 
 unfoldable pub count : Form ℤ
 count = such_that BadField is_count wide_integer
-
--- behind its length in bytes
-unfoldable pub text : Form (List ℕ)
-text = mapped (λ p. p.1) (λ bs. (length bs, bs))
-    (before word (λ n. such_that NotUtf8 is_utf8 (raw n)))
 
 abbrev pub bit_of : Bool → ℕ
 bit_of false = 0

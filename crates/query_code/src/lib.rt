@@ -24,8 +24,10 @@ pub mod instruction;
 mod listing;
 pub mod program;
 pub mod refusal;
+pub mod text_list;
 
 pub use instruction::{Instruction, Push, Unary};
 pub use listing::show;
 pub use program::{Code, Constant, Mode, Numbers, Output, Parts, Program};
 pub use refusal::{Cause, Refusal, Stop};
+pub use text_list::TextList;

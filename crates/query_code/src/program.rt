@@ -2,6 +2,7 @@
 ghost use Rattle.query_code.specs.QueryFile.{file};
 
 use crate::instruction::Instruction;
+use crate::text_list::TextList;
 use bean_base::{Bounds, Day, List, Slice};
 use query_values::{Aggregate, Decimal};
 
@@ -27,7 +28,7 @@ pub enum Constant<'a> {
     Day(Day),
     /// A regular expression.
     Pattern(Slice<'a>),
-    Texts(List<Slice<'a>>),
+    Texts(TextList<'a>),
     Numbers(Numbers),
     Days(List<Day>),
 }

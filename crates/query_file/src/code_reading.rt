@@ -4,7 +4,8 @@ ghost use Rattle.query_code.specs.declared.refusal.Cause.TheVariants.{BadField};
 ghost use Rattle.query_code.specs.ByteForm.{byte, counted, read_all, such_that};
 ghost use Rattle.query_file.specs.FieldReading.{Gives};
 ghost use Rattle.query_code.specs.InstructionForm.{word, instruction};
-ghost use Rattle.query_code.specs.QueryFile.{text, count, day, numbers, constant, aggregate};
+ghost use Rattle.query_code.specs.QueryFile.{count, day, numbers, constant, aggregate};
+ghost use Rattle.query_code.specs.TextForm.{text, texts_in};
 ghost use Rattle.query_code.specs.QueryFile.{section, some_number, place_below, columns, output};
 ghost use Rattle.query_code.specs.QueryFile.{only, code};
 
@@ -15,6 +16,7 @@ use crate::reading::{
     some_number_at, stopped, text_at, word_at,
 };
 use bean_base::{Day, List, Slice};
+use query_code::TextList;
 use query_code::instruction::Instruction;
 use query_code::program::{Code, Constant, Mode, Numbers, Output};
 use query_code::refusal::Cause;
@@ -144,12 +146,28 @@ fn numbers_at(alloc: Global, bytes: &[u8]) -> Result<(Numbers, &[u8]), Fault>
     Ok((Numbers { places, counts }, rest))
 }
 
-fn some_texts_at(alloc: Global, bytes: &[u8]) -> Result<(List<Slice<'_>>, &[u8]), Fault>
+/// What stands behind so many texts.
+#[tactic(auto, using(crate::proofs::PassingFacts::passing))]
+fn behind_texts(len: usize, bytes: &[u8]) -> Result<&[u8], Fault>
+    ensures { Gives (λ rest. (texts_in len bytes.now, rest.now)) result
+        (read_all text len bytes.now) }
+{
+    let mut rest = bytes;
+    for _ in 0..len {
+        let (_, after) = text_at(rest)?;
+        rest = after;
+    }
+    Ok(rest)
+}
+
+/// A list of texts, which takes no memory: the file has it as it is kept.
+fn some_texts_at(alloc: Global, bytes: &[u8]) -> Result<(TextList<'_>, &[u8]), Fault>
     ensures { Gives (λ x. (x.0, x.1.now)) result ((counted some_number text).read bytes.now) }
 {
-    let (count, rest) = some_number_at(bytes)?;
-    let (texts, rest) = texts_at(alloc, count as usize, rest)?;
-    Ok((List::new(texts), rest))
+    let (len, rest) = some_number_at(bytes)?;
+    let after = behind_texts(len as usize, rest)?;
+    let written = &rest[..rest.len() - after.len()];
+    Ok((TextList::lent(alloc, len, written), after))
 }
 
 fn some_days_at(alloc: Global, bytes: &[u8]) -> Result<(List<Day>, &[u8]), Fault>

@@ -6,8 +6,9 @@ ghost use Rattle.query_file.specs.FieldReading.{Gives};
 ghost use Rattle.query_code.specs.InstructionForm.{word, at_least_one};
 ghost use Rattle.query_code.specs.declared.refusal.Cause.TheVariants.{Truncated, BadField};
 ghost use Rattle.query_file.specs.declared.fault.Fault.TheVariants.{Stopped};
-ghost use Rattle.query_code.specs.QueryFile.{long, count, text, flag, limit, places, some_number};
+ghost use Rattle.query_code.specs.QueryFile.{long, count, flag, limit, places, some_number};
 ghost use Rattle.query_code.specs.QueryFile.{decimal, day};
+ghost use Rattle.query_code.specs.TextForm.{text};
 
 use crate::fault::Fault;
 use bean_base::{Day, Slice};
@@ -104,7 +105,7 @@ fn as_text(bytes: &[u8]) -> Option<&str>
 }
 
 /// A text behind its length in bytes.
-#[tactic(auto, unfolding(query_code::specs::QueryFile::text))]
+#[tactic(auto, unfolding(query_code::specs::TextForm::text))]
 pub fn text_at(bytes: &[u8]) -> Result<(Slice<'_>, &[u8]), Fault>
     ensures { Gives (λ x. (x.0, x.1.now)) result (text.read bytes.now) }
 {

@@ -2,14 +2,16 @@
 ghost use Rattle.std.specs.Prelude.{◌≡◌, ℕ, ◌++◌, ◌<◌, ◌^◌, length, OnOk, IfOk};
 ghost use Rattle.query_code.specs.ByteForm.{byte, counted, AllFit, all_written};
 ghost use Rattle.query_code.specs.InstructionForm.{word, instruction};
-ghost use Rattle.query_code.specs.QueryFile.{long, count, text, flag, limit, mode, decimal, day};
+ghost use Rattle.query_code.specs.QueryFile.{long, count, flag, limit, mode, decimal, day};
 ghost use Rattle.query_code.specs.QueryFile.{numbers, constant, aggregate, section, place_below};
 ghost use Rattle.query_code.specs.QueryFile.{columns, output, code, bounds, parts, file, only};
 ghost use Rattle.query_code.specs.QueryFile.{some_number, IsFile};
+ghost use Rattle.query_code.specs.TextForm.{text};
 
 use bean_base::{Bounds, Day, Slice};
 use query_code::instruction::{Instruction, Push, Unary};
 use query_code::program::{Code, Constant, Mode, Numbers, Output, Parts, Program};
+use query_code::text_list::put_text;
 use query_values::{Aggregate, Binary, Decimal};
 use std::alloc::{AllocError, Global};
 
@@ -38,16 +40,6 @@ fn put_count(out: &mut Vec<u8>, number: i128) -> Result<(), AllocError>
 {
     let bytes = number.to_be_bytes();
     out.extend_from_slice(&bytes)
-}
-
-#[tactic(auto, unfolding(query_code::specs::QueryFile::text))]
-fn put_text(out: &mut Vec<u8>, written: &Slice<'_>) -> Result<(), AllocError>
-    requires { text.fits written.now }
-    ensures { OnOk result (out.new.items ≡ out.old.items ++ text.written written.now) }
-{
-    let bytes = written.text().as_bytes();
-    put_word(out, bytes.len() as u16)?;
-    out.extend_from_slice(bytes)
 }
 
 #[tactic(auto, unfolding(query_code::specs::QueryFile::flag))]
@@ -192,13 +184,14 @@ fn put_instructions(out: &mut Vec<u8>, steps: &[Instruction]) -> Result<(), Allo
 }
 
 /// One text behind the other.
+#[tactic(auto, unfolding(query_code::specs::TextForm::text))]
 fn put_texts(out: &mut Vec<u8>, texts: &[Slice<'_>]) -> Result<(), AllocError>
     requires { AllFit text texts.now }
     ensures { OnOk result (out.new.items ≡ out.old.items ++ all_written text texts.now) }
 {
     let mut rest = texts;
     while let [first, after @ ..] = rest {
-        put_text(out, first)?;
+        put_text(out, first.text())?;
         rest = after;
     }
     Ok(())
@@ -256,7 +249,7 @@ fn put_numbers(out: &mut Vec<u8>, written: &Numbers) -> Result<(), AllocError>
     put_counts(out, counts)
 }
 
-#[tactic(auto, unfolding(query_code::specs::QueryFile::constant))]
+#[tactic(auto, unfolding(query_code::specs::QueryFile::constant, query_code::specs::TextForm::text))]
 fn put_constant(out: &mut Vec<u8>, entry: &Constant<'_>) -> Result<(), AllocError>
     requires { constant.fits entry.now }
     ensures { OnOk result (out.new.items ≡ out.old.items ++ constant.written entry.now) }
@@ -264,7 +257,7 @@ fn put_constant(out: &mut Vec<u8>, entry: &Constant<'_>) -> Result<(), AllocErro
     match entry {
         Constant::Text(text) => {
             put_byte(out, 1)?;
-            put_text(out, text)
+            put_text(out, text.text())
         }
         Constant::Number(number) => {
             put_byte(out, 2)?;
@@ -276,13 +269,12 @@ fn put_constant(out: &mut Vec<u8>, entry: &Constant<'_>) -> Result<(), AllocErro
         }
         Constant::Pattern(pattern) => {
             put_byte(out, 4)?;
-            put_text(out, pattern)
+            put_text(out, pattern.text())
         }
         Constant::Texts(texts) => {
-            let texts = texts.as_slice();
             put_byte(out, 5)?;
-            put_word(out, texts.len() as u16)?;
-            put_texts(out, texts)
+            put_word(out, texts.len())?;
+            texts.write(out)
         }
         Constant::Numbers(numbers) => {
             put_byte(out, 6)?;

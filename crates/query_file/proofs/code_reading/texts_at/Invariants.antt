@@ -1,5 +1,5 @@
 use Rattle.std.proofs.Common.{◌-◌}
-use Rattle.query_code.specs.QueryFile.{text}
+use Rattle.query_code.specs.TextForm.{text}
 use Rattle.query_file.proofs.RowFacts.{IsOnTheWay}
 use Rattle.query_file.proofs.code_reading.texts_at.Given as goal
 

@@ -1,6 +1,6 @@
 use Rattle.std.proofs.Common.{◌≡◌, ◌++◌, length}
 use Rattle.query_code.specs.ByteForm.{all_written, AllFit}
-use Rattle.query_code.specs.QueryFile.{text}
+use Rattle.query_code.specs.TextForm.{text}
 use Rattle.query_file.proofs.writing.put_texts.Given as goal
 
 abbrev pub invariant-loop-rest : goal.invariant-loop-rest

@@ -1,7 +1,7 @@
 //! The names of tags, links and metadata entries, as slices of the text that they stand in.
 ghost use Rattle.std.specs.Prelude.{◌≡◌};
 
-use crate::slice::Slice;
+use bean_base::Slice;
 use std::marker::Model;
 
 /// A tag, by its name without the `#`.

@@ -1,0 +1,93 @@
+//! Lists of texts, kept as a query file has them.
+ghost use Rattle.std.specs.Prelude.{◌≡◌, ◌<◌, ◌+◌, ◌^◌, ◌++◌, ◌∷◌, [], length, OnOk, OnErr};
+ghost use Rattle.query_code.specs.ByteForm.{all_written};
+ghost use Rattle.query_code.specs.TextForm.{text, texts_in, AreTexts};
+
+use std::alloc::{AllocError, Global};
+use std::marker::Model;
+
+/// Texts, each kept as its length in two bytes and its own bytes: those that a file has, which are
+/// lent, and those that were added behind them. Its value is the list of them.
+#[derive(Debug, Drop)]
+pub struct TextList<'a> {
+    lent: &'a [u8],
+    added: Vec<u8>,
+    len: u16,
+    ghost are_texts: { ∥ AreTexts len (lent.now ++ added.items) ∥₁ },
+}
+
+impl<'a> Model for TextList<'a> {
+    ghost use Rattle.std.specs.Prelude.{List, ℕ, ◌++◌};
+    ghost use Rattle.query_code.specs.TextForm.{texts_in};
+
+    ghost Value = { List (List ℕ) };
+
+    ghost view = { λ t. texts_in t.len (t.lent.now ++ t.added.items) };
+}
+
+/// Writes a text behind its length in bytes. Where memory lacks, nothing is written.
+#[tactic(auto, unfolding(crate::specs::TextForm::text))]
+pub fn put_text(out: &mut Vec<u8>, added: &str) -> Result<(), AllocError>
+    requires { length added.now < 2 ^ 16 }
+    ensures ok { OnOk result (out.new.items ≡ out.old.items ++ text.written added.now) }
+    ensures err { OnErr result (out.new.items ≡ out.old.items) }
+{
+    let before = out.len();
+    out.extend_from_slice(&(added.len() as u16).to_be_bytes())?;
+    if let Err(lacks) = out.extend_from_slice(added.as_bytes()) {
+        out.truncate(before);
+        return Err(lacks);
+    }
+    Ok(())
+}
+
+impl<'a> TextList<'a> {
+    /// No texts. Takes no memory.
+    pub fn new(alloc: Global) -> TextList<'a>
+        ensures { result ≡ [] }
+    {
+        TextList {
+            lent: &[],
+            added: Vec::new(alloc),
+            len: 0,
+        }
+    }
+
+    /// So many texts, as a file has them. Takes no memory.
+    pub fn lent(alloc: Global, len: u16, written: &'a [u8]) -> TextList<'a>
+        requires { ∥ AreTexts len written.now ∥₁ }
+        ensures { result ≡ texts_in len written.now }
+    {
+        TextList {
+            lent: written,
+            added: Vec::new(alloc),
+            len,
+        }
+    }
+
+    /// How many they are.
+    pub fn len(&self) -> u16
+        ensures { result ≡ length self.now }
+    {
+        self.len
+    }
+
+    /// Adds a text at the end.
+    pub fn push(&mut self, added: &str) -> Result<(), AllocError>
+        requires short { length added.now < 2 ^ 16 }
+        requires few { length self.old + 1 < 2 ^ 16 }
+        ensures { OnOk result (self.new ≡ self.old ++ added.now ∷ []) }
+    {
+        put_text(&mut self.added, added)?;
+        self.len += 1;
+        Ok(())
+    }
+
+    /// Writes them as a file has them, one behind the other.
+    pub fn write(&self, out: &mut Vec<u8>) -> Result<(), AllocError>
+        ensures { OnOk result (out.new.items ≡ out.old.items ++ all_written text self.now) }
+    {
+        out.extend_from_slice(self.lent)?;
+        out.extend_from_slice(self.added.as_slice())
+    }
+}
