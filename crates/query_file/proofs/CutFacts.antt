@@ -2,7 +2,7 @@
 use Rattle.std.proofs.Common.{◌≡◌, ◌≤◌, ◌-◌, ◌+◌, ℕ, List, ◌++◌, length, take, Ok, arith, ap, sym}
 use Rattle.std.proofs.Common.{subst, ◌∙◌, refl}
 use Rattle.std.proofs.lemmas.List.{take_at, length-append}
-use Rattle.query_code.specs.ByteForm.{all_written, read_all}
+use Rattle.query_code.specs.ByteForm.{all_written, read_all, counted}
 use Rattle.query_code.specs.TextForm.{text, texts_in, AreTexts}
 use Rattle.query_code.specs.QueryFile.{some_number}
 use Rattle.query_code.proofs.ByteFormFacts.{AreBytes, bytes_behind}
@@ -50,3 +50,9 @@ is_read n bytes rest are read =
     (read_before n bytes (texts_in n bytes) rest are read)
     (read_are n bytes (texts_in n bytes) rest are read)
     (read_those n bytes (texts_in n bytes) rest are read) refl
+
+-- texts behind their number
+pub counted_texts : (bytes rest after : List ℕ) (n : ℕ) (ts : List (List ℕ))
+    → some_number.read bytes ≡ Ok (n, rest) → read_all text n rest ≡ Ok (ts, after)
+    → (counted some_number text).read bytes ≡ Ok (ts, after)
+counted_texts bytes rest after n ts number texts = rw (number, texts) refl
