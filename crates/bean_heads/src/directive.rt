@@ -4,21 +4,21 @@ use crate::accounts::{Close, Open, Pad};
 use crate::notes::{Custom, Document, Event, Note, Query};
 use crate::numbers::{Balance, Commodity, Price};
 use crate::transaction::Transaction;
-use bean_base::{Day, List};
+use bean_base::{Apart, Day, List};
 use bean_grammar::Entry;
 
-/// What a directive does.
+/// What a directive does. What few directives have, and is large, lies apart.
 #[derive(Debug, Drop)]
 pub enum DirectiveKind<'a> {
     Open(Open<'a>),
     Close(Close<'a>),
     Commodity(Commodity<'a>),
     Transaction(Transaction<'a>),
-    Balance(Balance<'a>),
+    Balance(Apart<Balance<'a>>),
     Pad(Pad<'a>),
     Note(Note<'a>),
     Document(Document<'a>),
-    Price(Price<'a>),
+    Price(Apart<Price<'a>>),
     Event(Event<'a>),
     Query(Query<'a>),
     Custom(Custom<'a>),

@@ -37,7 +37,7 @@ fn kind_behind_word<'t, 'a>(
         Keyword::Pad => Ok(pad_line(tokens)),
         Keyword::Note => Ok(note_line(tokens)),
         Keyword::Document => document_line(alloc, tokens),
-        Keyword::Price => Ok(price_line(tokens)),
+        Keyword::Price => price_line(alloc, tokens),
         Keyword::Event => Ok(event_line(tokens)),
         Keyword::Query => Ok(query_line(tokens)),
         Keyword::Custom => custom_line(alloc, tokens),

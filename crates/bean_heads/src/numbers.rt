@@ -6,7 +6,7 @@ ghost use Rattle.bean_heads.specs.Head as rule;
 
 use crate::directive::DirectiveKind;
 use crate::worth::is_below_zero;
-use bean_base::{Account, Amount, Currency, Num};
+use bean_base::{Account, Amount, Apart, Currency, Num};
 use bean_grammar::Ranged;
 use bean_grammar::expression::expression;
 use bean_grammar::front::{after_account, after_currency, after_sign};
@@ -83,23 +83,27 @@ fn ranged_option(tolerance: Option<Ranged<Num>>) -> Ranged<Option<Num>>
 }
 
 fn balance_of<'a>(
+    alloc: Global,
     account: Account<'a>,
     number: Ranged<Num>,
     tolerance: Option<Ranged<Num>>,
     currency: Currency<'a>,
-) -> Ranged<DirectiveKind<'a>>
-    ensures { result ≡ rule.balance_of account.entry number tolerance currency.entry }
+) -> Result<Ranged<DirectiveKind<'a>>, AllocError>
+    ensures { IfOk result
+        (λ kind. kind ≡ rule.balance_of account.entry number tolerance currency.entry) }
 {
     let (Ranged::Within(number), Ranged::Within(tolerance)) = (number, ranged_option(tolerance))
     else {
-        return Ranged::Outside;
+        return Ok(Ranged::Outside);
     };
-    Ranged::Within(DirectiveKind::Balance(Balance {
+    let balance = Balance {
         account,
         number,
         tolerance,
         currency,
-    }))
+    };
+    let balance = Apart::new(alloc, balance)?;
+    Ok(Ranged::Within(DirectiveKind::Balance(balance)))
 }
 
 /// What stands behind `balance`, and what stands behind that.
@@ -127,37 +131,50 @@ pub fn balance_line<'t, 'a>(
         return Ok(None);
     };
     let (currency, rest) = found;
-    Ok(Some((balance_of(account, number, tolerance, currency), rest)))
+    let balance = balance_of(alloc, account, number, tolerance, currency)?;
+    Ok(Some((balance, rest)))
 }
 
 fn price_of<'a>(
+    alloc: Global,
     currency: Currency<'a>,
     number: Ranged<Num>,
     other: Currency<'a>,
-) -> Ranged<DirectiveKind<'a>>
-    ensures { result ≡ rule.price_of currency.entry number other.entry }
+) -> Result<Ranged<DirectiveKind<'a>>, AllocError>
+    ensures { IfOk result (λ kind. kind ≡ rule.price_of currency.entry number other.entry) }
 {
-    match number {
-        Ranged::Within(number) => Ranged::Within(DirectiveKind::Price(Price {
-            currency,
-            amount: Amount {
-                number,
-                currency: other,
-            },
-        })),
-        Ranged::Outside => Ranged::Outside,
-    }
+    let Ranged::Within(number) = number else {
+        return Ok(Ranged::Outside);
+    };
+    let amount = Amount {
+        number,
+        currency: other,
+    };
+    let price = Apart::new(alloc, Price { currency, amount })?;
+    Ok(Ranged::Within(DirectiveKind::Price(price)))
 }
 
 /// What stands behind `price`, and what stands behind that.
 pub fn price_line<'t, 'a>(
+    alloc: Global,
     tokens: &'t [Token<'a>],
-) -> Option<(Ranged<DirectiveKind<'a>>, &'t [Token<'a>])>
-    ensures { MatchOption result (HasNone rule.price_line (lexemes tokens.now))
-        (λ r. Reads rule.price_line (lexemes tokens.now) r.0 (lexemes r.1.now)) }
+) -> Result<Option<(Ranged<DirectiveKind<'a>>, &'t [Token<'a>])>, AllocError>
+    ensures { IfOk result (λ found. MatchOption found
+        (HasNone rule.price_line (lexemes tokens.now))
+        (λ r. Reads rule.price_line (lexemes tokens.now) r.0 (lexemes r.1.now))) }
 {
-    let (currency, rest) = after_currency(tokens)?;
-    let (number, rest) = expression(rest)?;
-    let (other, rest) = after_currency(rest)?;
-    Some((price_of(currency, number, other), rest))
+    let Some(named) = after_currency(tokens) else {
+        return Ok(None);
+    };
+    let (currency, rest) = named;
+    let Some(numbered) = expression(rest) else {
+        return Ok(None);
+    };
+    let (number, rest) = numbered;
+    let Some(found) = after_currency(rest) else {
+        return Ok(None);
+    };
+    let (other, rest) = found;
+    let price = price_of(alloc, currency, number, other)?;
+    Ok(Some((price, rest)))
 }

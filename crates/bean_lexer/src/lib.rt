@@ -12,7 +12,8 @@
 //! ```
 //!
 //! A token is a slice of the text, with the place of its first byte, its line from 1, and its place
-//! in the line. A text has one list of tokens.
+//! in the line. A text has one list of tokens. What tags, links and keys name ([`Tag`], [`Link`],
+//! [`MetaKey`]) is a slice of their tokens.
 //!
 //! # What stands between tokens
 //!

@@ -44,69 +44,55 @@ fn nested(alloc: Global, depth: usize) -> Result<String, AllocError> {
     Ok(text)
 }
 
-#[test]
-fn levels_group_to_the_left(rt: HostRuntime) -> Result<(), Fail> {
-    let alloc = rt.alloc();
-    assert_eq!(rt; compute(alloc, "1 + 2.50 * 2")?, Computed::Number(600, 2));
-    assert_eq!(rt; compute(alloc, "(1 + 2.50) * 2")?, Computed::Number(700, 2));
-    assert_eq!(rt; compute(alloc, "10 - 3 - 2")?, Computed::Number(5, 0));
-    assert_eq!(rt; compute(alloc, "10 - (3 - 2)")?, Computed::Number(9, 0));
-    assert_eq!(rt;
-        compute(alloc, "- -+-1,000.5")?,
-        Computed::Number(-10005, 1)
-    );
-    assert_eq!(rt; compute(alloc, "2 * -3")?, Computed::Number(-6, 0));
-    assert_eq!(rt; compute(alloc, "2--3")?, Computed::Number(5, 0));
-    Ok(())
-}
+/// Texts with what they give.
+const COMPUTED: [(&str, Computed); 27] = [
+    // Levels group to the left.
+    ("1 + 2.50 * 2", Computed::Number(600, 2)),
+    ("(1 + 2.50) * 2", Computed::Number(700, 2)),
+    ("10 - 3 - 2", Computed::Number(5, 0)),
+    ("10 - (3 - 2)", Computed::Number(9, 0)),
+    ("- -+-1,000.5", Computed::Number(-10005, 1)),
+    ("2 * -3", Computed::Number(-6, 0)),
+    ("2--3", Computed::Number(5, 0)),
+    // A sum keeps the larger decimals, and a product adds them.
+    ("1.5 + 0.25", Computed::Number(175, 2)),
+    ("2.50 * 2.0", Computed::Number(5000, 3)),
+    ("0.0001 * 0.0001", Computed::Number(1, 8)),
+    ("0.00001 * 0.0001", Computed::Outside),
+    ("0.00001 * 0.00001", Computed::Outside),
+    // Each part of an expression is in range.
+    (
+        "900000000000 + 900000000000 - 900000000000",
+        Computed::Outside,
+    ),
+    (
+        "900000000000 + (900000000000 - 900000000000)",
+        Computed::Number(900000000000, 0),
+    ),
+    ("1000000 * 1000000 * 0", Computed::Outside),
+    ("0 * 1000000 * 1000000", Computed::Number(0, 0)),
+    ("-9999999999999 * 0", Computed::Outside),
+    (
+        "-999999999999.99999999",
+        Computed::Number(-99999999999999999999, 8),
+    ),
+    // What is no expression.
+    ("", Computed::NoTree),
+    ("+", Computed::NoTree),
+    ("1 +", Computed::NoTree),
+    ("1 * * 2", Computed::NoTree),
+    ("(1", Computed::NoTree),
+    ("1)", Computed::NoTree),
+    ("()", Computed::NoTree),
+    ("1 2", Computed::NoTree),
+    ("9999999999999 + ", Computed::NoTree),
+];
 
 #[test]
-fn sums_keep_the_larger_decimals_and_products_add_them(rt: HostRuntime) -> Result<(), Fail> {
-    let alloc = rt.alloc();
-    assert_eq!(rt; compute(alloc, "1.5 + 0.25")?, Computed::Number(175, 2));
-    assert_eq!(rt; compute(alloc, "2.50 * 2.0")?, Computed::Number(5000, 3));
-    assert_eq!(rt; compute(alloc, "0.0001 * 0.0001")?, Computed::Number(1, 8));
-    assert_eq!(rt; compute(alloc, "0.00001 * 0.0001")?, Computed::Outside);
-    assert_eq!(rt; compute(alloc, "0.00001 * 0.00001")?, Computed::Outside);
-    Ok(())
-}
-
-#[test]
-fn each_subexpression_is_in_range(rt: HostRuntime) -> Result<(), Fail> {
-    let alloc = rt.alloc();
-    assert_eq!(rt;
-        compute(alloc, "900000000000 + 900000000000 - 900000000000")?,
-        Computed::Outside
-    );
-    assert_eq!(rt;
-        compute(alloc, "900000000000 + (900000000000 - 900000000000)")?,
-        Computed::Number(900000000000, 0)
-    );
-    assert_eq!(rt; compute(alloc, "1000000 * 1000000 * 0")?, Computed::Outside);
-    assert_eq!(rt;
-        compute(alloc, "0 * 1000000 * 1000000")?,
-        Computed::Number(0, 0)
-    );
-    assert_eq!(rt; compute(alloc, "-9999999999999 * 0")?, Computed::Outside);
-    assert_eq!(rt;
-        compute(alloc, "-999999999999.99999999")?,
-        Computed::Number(-99999999999999999999, 8)
-    );
-    Ok(())
-}
-
-#[test]
-fn what_is_no_expression(rt: HostRuntime) -> Result<(), Fail> {
-    let alloc = rt.alloc();
-    assert_eq!(rt; compute(alloc, "")?, Computed::NoTree);
-    assert_eq!(rt; compute(alloc, "+")?, Computed::NoTree);
-    assert_eq!(rt; compute(alloc, "1 +")?, Computed::NoTree);
-    assert_eq!(rt; compute(alloc, "1 * * 2")?, Computed::NoTree);
-    assert_eq!(rt; compute(alloc, "(1")?, Computed::NoTree);
-    assert_eq!(rt; compute(alloc, "1)")?, Computed::NoTree);
-    assert_eq!(rt; compute(alloc, "()")?, Computed::NoTree);
-    assert_eq!(rt; compute(alloc, "1 2")?, Computed::NoTree);
-    assert_eq!(rt; compute(alloc, "9999999999999 + ")?, Computed::NoTree);
+fn computes_expressions(rt: HostRuntime) -> Result<(), Fail> {
+    for (text, result) in COMPUTED {
+        assert_eq!(rt; compute(rt.alloc(), text)?, result);
+    }
     Ok(())
 }
 
@@ -117,11 +103,16 @@ fn at_most_200_signs_and_parentheses_nest(rt: HostRuntime) -> Result<(), Fail> {
     assert_eq!(rt; compute(alloc, most.as_str())?, Computed::Number(7, 0));
     let more = nested(alloc, 201)?;
     assert_eq!(rt; compute(alloc, more.as_str())?, Computed::NoTree);
-    let mut signed = String::from_str(alloc, "-")?;
-    signed.push_str(most.as_str())?;
-    assert_eq!(rt; compute(alloc, signed.as_str())?, Computed::NoTree);
-    let mut beside = String::from_str(alloc, "-1 + ")?;
-    beside.push_str(most.as_str())?;
-    assert_eq!(rt; compute(alloc, beside.as_str())?, Computed::Number(6, 0));
+    Ok(())
+}
+
+#[test]
+fn signs_before_nested_parentheses(rt: HostRuntime) -> Result<(), Fail> {
+    let most = nested(rt.alloc(), 200)?;
+    let fronts = [("-", Computed::NoTree), ("-1 + ", Computed::Number(6, 0))];
+    for (front, result) in fronts {
+        let text = format!(in rt.alloc(); "{front}{most}")?;
+        assert_eq!(rt; compute(rt.alloc(), text.as_str())?, result);
+    }
     Ok(())
 }

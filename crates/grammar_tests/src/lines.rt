@@ -22,22 +22,22 @@ fn posting_of<'a>(alloc: Global, text: &'a str) -> Result<Posting<'a>, Fail> {
     }
 }
 
-fn is_none(alloc: Global, text: &str) -> Result<bool, AllocError> {
-    Ok(read(alloc, text)?.is_none())
+/// What a text is among postings.
+#[derive(Clone, Copy, Debug, PartialEq, Eq)]
+enum Verdict {
+    Kept,
+    OutsideProfile,
+    OutOfRange,
+    NoPosting,
 }
 
-fn is_out_of_range(alloc: Global, text: &str) -> Result<bool, AllocError> {
-    match read(alloc, text)? {
-        Some(Ranged::Outside) => Ok(true),
-        _ => Ok(false),
-    }
-}
-
-fn is_outside_profile(alloc: Global, text: &str) -> Result<bool, AllocError> {
-    match read(alloc, text)? {
-        Some(Ranged::Within(posting)) => Ok(posting.is_outside_profile()),
-        _ => Ok(false),
-    }
+fn verdict(alloc: Global, text: &str) -> Result<Verdict, AllocError> {
+    Ok(match read(alloc, text)? {
+        Some(Ranged::Within(posting)) if posting.is_outside_profile() => Verdict::OutsideProfile,
+        Some(Ranged::Within(_)) => Verdict::Kept,
+        Some(Ranged::Outside) => Verdict::OutOfRange,
+        None => Verdict::NoPosting,
+    })
 }
 
 #[test]
@@ -69,101 +69,99 @@ fn a_posting_with_all_its_parts(rt: HostRuntime) -> Result<(), Fail> {
 }
 
 #[test]
-fn postings_with_parts_that_are_not_written(rt: HostRuntime) -> Result<(), Fail> {
-    let alloc = rt.alloc();
-    let bare = posting_of(alloc, "Assets:Cash")?;
+fn a_posting_of_an_account_alone(rt: HostRuntime) -> Result<(), Fail> {
+    let bare = posting_of(rt.alloc(), "Assets:Cash")?;
     assert_eq!(rt; bare.flag, None);
     assert!(rt; matches!(bare.units, Units::Missing));
     assert!(rt; matches!(bare.cost, Cost::Absent));
     assert!(rt; matches!(bare.price, Price::Absent));
-    assert!(rt; !bare.is_outside_profile());
-    let alone = posting_of(alloc, "  * Assets:Cash USD")?;
+    Ok(())
+}
+
+#[test]
+fn postings_with_some_of_their_parts(rt: HostRuntime) -> Result<(), Fail> {
+    let alone = posting_of(rt.alloc(), "  * Assets:Cash USD")?;
     assert!(rt; matches!(alone.units, Units::Currency(_)));
-    assert!(rt; !alone.is_outside_profile());
-    let empty = posting_of(alloc, "Assets:Inv -2 X {}")?;
+    let empty = posting_of(rt.alloc(), "Assets:Inv -2 X {}")?;
     assert!(rt; matches!(empty.cost, Cost::Lot(_)));
-    assert!(rt; !empty.is_outside_profile());
-    let priced = posting_of(alloc, "Assets:Inv 2 X @ -1 USD")?;
+    let priced = posting_of(rt.alloc(), "Assets:Inv 2 X @ -1 USD")?;
     assert!(rt; matches!(priced.price, Price::PerUnit(_)));
     Ok(())
 }
 
-#[test]
-fn units_outside_the_profile(rt: HostRuntime) -> Result<(), Fail> {
-    let alloc = rt.alloc();
-    assert!(rt; is_outside_profile(alloc, "Assets:Inv 2")?);
-    assert!(rt; is_outside_profile(alloc, "Assets:Inv X {2 USD}")?);
-    assert!(rt; is_outside_profile(alloc, "Assets:Inv {2 USD}")?);
-    assert!(rt; is_outside_profile(alloc, "Assets:Inv {}")?);
-    assert!(rt; is_outside_profile(alloc, "Assets:Inv X @ 2 USD")?);
-    assert!(rt; is_outside_profile(alloc, "Assets:Inv @@ 2 USD")?);
-    assert!(rt; is_outside_profile(alloc, "Assets:Inv 2 {2 USD}")?);
-    assert!(rt; is_outside_profile(alloc, "Assets:Inv 2 X @ 3")?);
-    assert!(rt; is_outside_profile(alloc, "Assets:Inv 2 X @@ USD")?);
-    assert!(rt; is_outside_profile(alloc, "Assets:Inv 2 X @")?);
-    Ok(())
-}
+/// Texts with what they are.
+const VERDICTS: [(&str, Verdict); 52] = [
+    // Within it.
+    ("Assets:Cash", Verdict::Kept),
+    ("  * Assets:Cash USD", Verdict::Kept),
+    ("Assets:Inv -2 X {}", Verdict::Kept),
+    // Units outside the profile.
+    ("Assets:Inv 2", Verdict::OutsideProfile),
+    ("Assets:Inv X {2 USD}", Verdict::OutsideProfile),
+    ("Assets:Inv {2 USD}", Verdict::OutsideProfile),
+    ("Assets:Inv {}", Verdict::OutsideProfile),
+    ("Assets:Inv X @ 2 USD", Verdict::OutsideProfile),
+    ("Assets:Inv @@ 2 USD", Verdict::OutsideProfile),
+    ("Assets:Inv 2 {2 USD}", Verdict::OutsideProfile),
+    ("Assets:Inv 2 X @ 3", Verdict::OutsideProfile),
+    ("Assets:Inv 2 X @@ USD", Verdict::OutsideProfile),
+    ("Assets:Inv 2 X @", Verdict::OutsideProfile),
+    // Costs outside the profile.
+    ("Assets:Inv 2 X {{2 USD}}", Verdict::OutsideProfile),
+    ("Assets:Inv 2 X {{}}", Verdict::OutsideProfile),
+    ("Assets:Inv 2 X {2}", Verdict::OutsideProfile),
+    ("Assets:Inv 2 X {USD}", Verdict::OutsideProfile),
+    ("Assets:Inv 2 X {*}", Verdict::OutsideProfile),
+    ("Assets:Inv 2 X {#}", Verdict::OutsideProfile),
+    ("Assets:Inv 2 X {2 # 3 USD}", Verdict::OutsideProfile),
+    ("Assets:Inv 2 X {# 3 USD}", Verdict::OutsideProfile),
+    ("Assets:Inv 2 X {2 USD, 3}", Verdict::OutsideProfile),
+    ("Assets:Inv 2 X {2 USD, # 3 USD}", Verdict::OutsideProfile),
+    // Near to a posting.
+    ("2 X", Verdict::NoPosting),
+    ("  * ! Assets:Cash 2 X", Verdict::NoPosting),
+    ("txn Assets:Cash 2 X", Verdict::NoPosting),
+    ("Assets:Cash 2 X Y", Verdict::NoPosting),
+    ("Assets:Cash 2 TRUE", Verdict::NoPosting),
+    ("Assets:Cash 2 + X", Verdict::NoPosting),
+    ("Assets:Cash 2 X @ 2 USD {}", Verdict::NoPosting),
+    ("Assets:Cash 2 X @ 2 USD @ 2 USD", Verdict::NoPosting),
+    ("Assets:Cash 2 X #tag", Verdict::NoPosting),
+    // Near to a cost.
+    ("Assets:Cash 2 X {2 USD, 3 USD}", Verdict::NoPosting),
+    ("Assets:Cash 2 X {*, *}", Verdict::NoPosting),
+    ("Assets:Cash 2 X {1, 2}", Verdict::NoPosting),
+    ("Assets:Cash 2 X {\"a\", \"b\"}", Verdict::NoPosting),
+    (
+        "Assets:Cash 2 X {2014-01-01, 2014-01-01}",
+        Verdict::NoPosting,
+    ),
+    ("Assets:Cash 2 X {2 USD,}", Verdict::NoPosting),
+    ("Assets:Cash 2 X {,}", Verdict::NoPosting),
+    ("Assets:Cash 2 X {{2 USD}", Verdict::NoPosting),
+    ("Assets:Cash 2 X {2 USD}}", Verdict::NoPosting),
+    ("Assets:Cash 2 X {2 #5 USD}", Verdict::NoPosting),
+    // Out of range.
+    ("Assets:Cash 9999999999999 X", Verdict::OutOfRange),
+    ("Assets:Cash 9999999999999", Verdict::OutOfRange),
+    ("Assets:Cash 2 X {2014-02-30}", Verdict::OutOfRange),
+    ("Assets:Cash 2 X {9999999999999 USD}", Verdict::OutOfRange),
+    ("Assets:Cash 2 X {9999999999999}", Verdict::OutOfRange),
+    ("Assets:Cash 2 X {{9999999999999 USD}}", Verdict::OutOfRange),
+    ("Assets:Cash 2 X {2 # 9999999999999}", Verdict::OutOfRange),
+    (
+        "Assets:Cash 2 X {9999999999999 # 2, *}",
+        Verdict::OutOfRange,
+    ),
+    ("Assets:Cash 2 X @ 9999999999999", Verdict::OutOfRange),
+    ("Assets:Cash 9999999999999 X {2 USD", Verdict::NoPosting),
+];
 
 #[test]
-fn costs_outside_the_profile(rt: HostRuntime) -> Result<(), Fail> {
-    let alloc = rt.alloc();
-    assert!(rt; is_outside_profile(alloc, "Assets:Inv 2 X {{2 USD}}")?);
-    assert!(rt; is_outside_profile(alloc, "Assets:Inv 2 X {{}}")?);
-    assert!(rt; is_outside_profile(alloc, "Assets:Inv 2 X {2}")?);
-    assert!(rt; is_outside_profile(alloc, "Assets:Inv 2 X {USD}")?);
-    assert!(rt; is_outside_profile(alloc, "Assets:Inv 2 X {*}")?);
-    assert!(rt; is_outside_profile(alloc, "Assets:Inv 2 X {#}")?);
-    assert!(rt; is_outside_profile(alloc, "Assets:Inv 2 X {2 # 3 USD}")?);
-    assert!(rt; is_outside_profile(alloc, "Assets:Inv 2 X {# 3 USD}")?);
-    assert!(rt; is_outside_profile(alloc, "Assets:Inv 2 X {2 USD, 3}")?);
-    assert!(rt; is_outside_profile(alloc, "Assets:Inv 2 X {2 USD, # 3 USD}")?);
-    Ok(())
-}
-
-#[test]
-fn texts_near_to_a_posting(rt: HostRuntime) -> Result<(), Fail> {
-    let alloc = rt.alloc();
-    assert!(rt; is_none(alloc, "2 X")?);
-    assert!(rt; is_none(alloc, "  * ! Assets:Cash 2 X")?);
-    assert!(rt; is_none(alloc, "txn Assets:Cash 2 X")?);
-    assert!(rt; is_none(alloc, "Assets:Cash 2 X Y")?);
-    assert!(rt; is_none(alloc, "Assets:Cash 2 TRUE")?);
-    assert!(rt; is_none(alloc, "Assets:Cash 2 + X")?);
-    assert!(rt; is_none(alloc, "Assets:Cash 2 X @ 2 USD {}")?);
-    assert!(rt; is_none(alloc, "Assets:Cash 2 X @ 2 USD @ 2 USD")?);
-    assert!(rt; is_none(alloc, "Assets:Cash 2 X #tag")?);
-    Ok(())
-}
-
-#[test]
-fn texts_near_to_a_cost(rt: HostRuntime) -> Result<(), Fail> {
-    let alloc = rt.alloc();
-    assert!(rt; is_none(alloc, "Assets:Cash 2 X {2 USD, 3 USD}")?);
-    assert!(rt; is_none(alloc, "Assets:Cash 2 X {*, *}")?);
-    assert!(rt; is_none(alloc, "Assets:Cash 2 X {1, 2}")?);
-    assert!(rt; is_none(alloc, "Assets:Cash 2 X {\"a\", \"b\"}")?);
-    assert!(rt; is_none(alloc, "Assets:Cash 2 X {2014-01-01, 2014-01-01}")?);
-    assert!(rt; is_none(alloc, "Assets:Cash 2 X {2 USD,}")?);
-    assert!(rt; is_none(alloc, "Assets:Cash 2 X {,}")?);
-    assert!(rt; is_none(alloc, "Assets:Cash 2 X {{2 USD}")?);
-    assert!(rt; is_none(alloc, "Assets:Cash 2 X {2 USD}}")?);
-    assert!(rt; is_none(alloc, "Assets:Cash 2 X {2 #5 USD}")?);
-    Ok(())
-}
-
-#[test]
-fn postings_out_of_range(rt: HostRuntime) -> Result<(), Fail> {
-    let alloc = rt.alloc();
-    assert!(rt; is_out_of_range(alloc, "Assets:Cash 9999999999999 X")?);
-    assert!(rt; is_out_of_range(alloc, "Assets:Cash 9999999999999")?);
-    assert!(rt; is_out_of_range(alloc, "Assets:Cash 2 X {2014-02-30}")?);
-    assert!(rt; is_out_of_range(alloc, "Assets:Cash 2 X {9999999999999 USD}")?);
-    assert!(rt; is_out_of_range(alloc, "Assets:Cash 2 X {9999999999999}")?);
-    assert!(rt; is_out_of_range(alloc, "Assets:Cash 2 X {{9999999999999 USD}}")?);
-    assert!(rt; is_out_of_range(alloc, "Assets:Cash 2 X {2 # 9999999999999}")?);
-    assert!(rt; is_out_of_range(alloc, "Assets:Cash 2 X {9999999999999 # 2, *}")?);
-    assert!(rt; is_out_of_range(alloc, "Assets:Cash 2 X @ 9999999999999")?);
-    assert!(rt; is_none(alloc, "Assets:Cash 9999999999999 X {2 USD")?);
+fn texts_near_to_postings(rt: HostRuntime) -> Result<(), Fail> {
+    for (text, is) in VERDICTS {
+        assert_eq!(rt; verdict(rt.alloc(), text)?, is);
+    }
     Ok(())
 }
 
@@ -179,43 +177,59 @@ fn entry_of<'a>(alloc: Global, text: &'a str) -> Result<Option<Entry<'a>>, Alloc
     }
 }
 
+/// The kind of an entry's value, in a word.
+fn value_word(alloc: Global, text: &str) -> Result<&'static str, AllocError> {
+    let Some(entry) = entry_of(alloc, text)? else {
+        return Ok("none");
+    };
+    Ok(match entry.value {
+        Value::Nothing => "nothing",
+        Value::Text(_) => "text",
+        Value::Account(_) => "account",
+        Value::Day(_) => "day",
+        Value::Currency(_) => "currency",
+        Value::Tag(_) => "tag",
+        Value::Number(_) => "number",
+        Value::Amount(_) => "amount",
+        Value::Truth(_) => "truth",
+    })
+}
+
+/// Texts with the kind of their entry's value.
+const ENTRIES: [(&str, &str); 15] = [
+    ("a-b_C9:", "nothing"),
+    ("k: \"x\"", "text"),
+    ("k: Assets:Cash", "account"),
+    ("k: 2014-01-01", "day"),
+    ("k: USD", "currency"),
+    ("k: #trip", "tag"),
+    ("k: 1 + 1", "number"),
+    ("k: -2 USD", "amount"),
+    ("k: TRUE", "truth"),
+    ("k: ^link", "none"),
+    ("k: 2014-02-30", "none"),
+    ("k: 1 2", "none"),
+    ("k: open", "none"),
+    ("k: 1 +", "none"),
+    ("\"k\"", "none"),
+];
+
 #[test]
 fn entries_of_each_kind_of_value(rt: HostRuntime) -> Result<(), Fail> {
-    let alloc = rt.alloc();
-    let empty = entry_of(alloc, "a-b_C9:")?.ok_or("an entry")?;
-    assert!(rt; empty.key.text() == "a-b_C9");
-    assert!(rt; matches!(empty.value, Value::Nothing));
-    let text = entry_of(alloc, "k: \"x\"")?.ok_or("an entry")?;
-    assert!(rt; matches!(text.value, Value::Text(_)));
-    let account = entry_of(alloc, "k: Assets:Cash")?.ok_or("an entry")?;
-    assert!(rt; matches!(account.value, Value::Account(_)));
-    let day = entry_of(alloc, "k: 2014-01-01")?.ok_or("an entry")?;
-    assert!(rt; matches!(day.value, Value::Day(_)));
-    let currency = entry_of(alloc, "k: USD")?.ok_or("an entry")?;
-    assert!(rt; matches!(currency.value, Value::Currency(_)));
-    let tag = entry_of(alloc, "k: #trip")?.ok_or("an entry")?;
-    let Value::Tag(name) = &tag.value else {
-        return Err("a tag".into());
-    };
-    assert!(rt; name.text() == "trip");
-    let number = entry_of(alloc, "k: 1 + 1")?.ok_or("an entry")?;
-    assert!(rt; matches!(number.value, Value::Number(_)));
-    let amount = entry_of(alloc, "k: -2 USD")?.ok_or("an entry")?;
-    assert!(rt; matches!(amount.value, Value::Amount(_)));
-    let truth = entry_of(alloc, "k: TRUE")?.ok_or("an entry")?;
-    assert!(rt; matches!(truth.value, Value::Truth(true)));
+    for (text, kind) in ENTRIES {
+        assert_eq!(rt; value_word(rt.alloc(), text)?, kind);
+    }
     Ok(())
 }
 
 #[test]
-fn texts_near_to_an_entry(rt: HostRuntime) -> Result<(), Fail> {
-    let alloc = rt.alloc();
-    assert!(rt; entry_of(alloc, "k: ^link")?.is_none());
-    assert!(rt; entry_of(alloc, "k: 2014-02-30")?.is_none());
-    assert!(rt; entry_of(alloc, "k: 1 2")?.is_none());
-    assert!(rt; entry_of(alloc, "k: open")?.is_none());
-    assert!(rt; entry_of(alloc, "k: 1 +")?.is_none());
-    assert!(rt; entry_of(alloc, "\"k\"")?.is_none());
+fn names_of_an_entry(rt: HostRuntime) -> Result<(), Fail> {
+    let entry = entry_of(rt.alloc(), "a-b_C9: #trip")?.ok_or("an entry")?;
+    assert!(rt; entry.key.text() == "a-b_C9");
+    let Value::Tag(name) = &entry.value else {
+        return Err("a tag".into());
+    };
+    assert!(rt; name.text() == "trip");
     Ok(())
 }
 
@@ -227,15 +241,21 @@ fn value_count(alloc: Global, text: &str) -> Result<Option<usize>, AllocError> {
     }
 }
 
+/// Texts with the number of their values.
+const VALUES: [(&str, Option<usize>); 6] = [
+    ("", Some(0)),
+    ("1 -2 USD TRUE \"a\"", Some(3)),
+    ("1 2 USD USD", Some(3)),
+    ("ABCDEFGHIJKLMNOPQRSTUVWXY", Some(2)),
+    ("1 2 ^link", None),
+    ("1 2014-02-30 3", None),
+];
+
 #[test]
 fn values_are_each_the_longest(rt: HostRuntime) -> Result<(), Fail> {
-    let alloc = rt.alloc();
-    assert_eq!(rt; value_count(alloc, "")?, Some(0));
-    assert_eq!(rt; value_count(alloc, "1 -2 USD TRUE \"a\"")?, Some(3));
-    assert_eq!(rt; value_count(alloc, "1 2 USD USD")?, Some(3));
-    assert_eq!(rt; value_count(alloc, "ABCDEFGHIJKLMNOPQRSTUVWXY")?, Some(2));
-    assert_eq!(rt; value_count(alloc, "1 2 ^link")?, None);
-    assert_eq!(rt; value_count(alloc, "1 2014-02-30 3")?, None);
+    for (text, count) in VALUES {
+        assert_eq!(rt; value_count(rt.alloc(), text)?, count);
+    }
     Ok(())
 }
 
@@ -253,8 +273,14 @@ fn tags_and_links_with_every_sign(rt: HostRuntime) -> Result<(), Fail> {
         return Err("a link".into());
     };
     assert!(rt; link.text() == "aZ09-_/.");
-    assert!(rt; line_of_marks(alloc, tokens(alloc, "")?.as_slice())?.is_none());
-    assert!(rt; line_of_marks(alloc, tokens(alloc, "  #a 1")?.as_slice())?.is_none());
-    assert!(rt; line_of_marks(alloc, tokens(alloc, "  # a")?.as_slice())?.is_none());
+    Ok(())
+}
+
+#[test]
+fn lines_that_are_no_tags_and_links(rt: HostRuntime) -> Result<(), Fail> {
+    for text in ["", "  #a 1", "  # a"] {
+        let line = tokens(rt.alloc(), text)?;
+        assert!(rt; line_of_marks(rt.alloc(), line.as_slice())?.is_none());
+    }
     Ok(())
 }

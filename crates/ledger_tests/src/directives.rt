@@ -27,55 +27,75 @@ fn kind_at<'p, 'a>(parsed: &'p Parsed<'a>, index: usize) -> Option<&'p Directive
 }
 
 #[test]
-fn accounts_and_numbers(rt: HostRuntime) -> Result<(), Fail> {
+fn counts_of_a_page_of_directives(rt: HostRuntime) -> Result<(), Fail> {
     let parsed = parse(rt.alloc(), DATED)?;
     assert_eq!(rt; parsed.faults.as_slice().len(), 0);
     assert_eq!(rt; parsed.directives.as_slice().len(), 11);
-    let Some(DirectiveKind::Open(open)) = kind_at(&parsed, 0) else {
+    let lines = [1, 3, 4, 5, 6, 7, 10, 11, 12, 13, 14];
+    for (directive, line) in parsed.directives.as_slice().iter().zip(lines) {
+        assert_eq!(rt; directive.line, line);
+    }
+    Ok(())
+}
+
+#[test]
+fn an_open_with_all_its_parts(rt: HostRuntime) -> Result<(), Fail> {
+    let parsed = parse(rt.alloc(), DATED)?;
+    let first = parsed.directives.as_slice().first().ok_or("a directive")?;
+    assert_eq!(rt; first.metadata.as_slice().len(), 1);
+    let DirectiveKind::Open(open) = &first.kind else {
         return Err(Fail::from("an open"));
     };
     assert!(rt; open.account.text() == "Assets:Cash");
     assert_eq!(rt; open.currencies.as_slice().len(), 2);
     assert!(rt; open.currencies.as_slice()[1].text() == "CAD");
-    assert_eq!(rt;
-        parsed.directives.as_slice()[0].metadata.as_slice().len(),
-        1
-    );
-    let Some(DirectiveKind::Close(_)) = kind_at(&parsed, 1) else {
-        return Err(Fail::from("a close"));
-    };
-    let Some(DirectiveKind::Balance(balance)) = kind_at(&parsed, 3) else {
-        return Err(Fail::from("a balance"));
-    };
-    assert_eq!(rt; balance.number.count, 350);
-    let tolerance = balance.tolerance.ok_or("a tolerance")?;
-    assert_eq!(rt; tolerance.count, 1);
-    let Some(DirectiveKind::Pad(pad)) = kind_at(&parsed, 4) else {
-        return Err(Fail::from("a pad"));
-    };
-    assert!(rt; pad.source.text() == "Equity:Open");
-    let Some(DirectiveKind::Price(price)) = kind_at(&parsed, 7) else {
-        return Err(Fail::from("a price"));
-    };
-    assert_eq!(rt; price.amount.number.count, 125);
-    assert!(rt; price.amount.currency.text() == "CAD");
     Ok(())
 }
 
 #[test]
-fn texts_over_lines(rt: HostRuntime) -> Result<(), Fail> {
+fn a_balance_and_a_price(rt: HostRuntime) -> Result<(), Fail> {
     let parsed = parse(rt.alloc(), DATED)?;
-    assert_eq!(rt; parsed.directives.as_slice().len(), 11);
+    let Some(DirectiveKind::Balance(balance)) = kind_at(&parsed, 3) else {
+        return Err(Fail::from("a balance"));
+    };
+    assert_eq!(rt; balance.get().number.count, 350);
+    let tolerance = balance.get().tolerance.ok_or("a tolerance")?;
+    assert_eq!(rt; tolerance.count, 1);
+    let Some(DirectiveKind::Price(price)) = kind_at(&parsed, 7) else {
+        return Err(Fail::from("a price"));
+    };
+    assert_eq!(rt; price.get().amount.number.count, 125);
+    Ok(())
+}
+
+#[test]
+fn a_close_and_a_pad(rt: HostRuntime) -> Result<(), Fail> {
+    let parsed = parse(rt.alloc(), DATED)?;
+    assert!(rt; matches!(kind_at(&parsed, 1), Some(DirectiveKind::Close(_))));
+    let Some(DirectiveKind::Pad(pad)) = kind_at(&parsed, 4) else {
+        return Err(Fail::from("a pad"));
+    };
+    assert!(rt; pad.source.text() == "Equity:Open");
+    Ok(())
+}
+
+#[test]
+fn a_note_over_lines_and_a_document(rt: HostRuntime) -> Result<(), Fail> {
+    let parsed = parse(rt.alloc(), DATED)?;
     let Some(DirectiveKind::Note(note)) = kind_at(&parsed, 5) else {
         return Err(Fail::from("a note"));
     };
     assert!(rt; note.text.plain() == Some("a\nb\nc"));
-    assert_eq!(rt; parsed.directives.as_slice()[5].line, 7);
-    assert_eq!(rt; parsed.directives.as_slice()[6].line, 10);
     let Some(DirectiveKind::Document(document)) = kind_at(&parsed, 6) else {
         return Err(Fail::from("a document"));
     };
     assert_eq!(rt; document.marks.as_slice().len(), 2);
+    Ok(())
+}
+
+#[test]
+fn an_event_a_query_and_a_custom(rt: HostRuntime) -> Result<(), Fail> {
+    let parsed = parse(rt.alloc(), DATED)?;
     let Some(DirectiveKind::Event(event)) = kind_at(&parsed, 8) else {
         return Err(Fail::from("an event"));
     };
@@ -122,40 +142,60 @@ fn counts_at(parsed: &Parsed<'_>, index: usize) -> Option<(usize, usize)> {
     }
 }
 
+const PUSHED: &str = "pushtag #a
+pushmeta k: 1
+2014-01-01 * \"x\" #own
+  k: 2
+  Assets:Cash
+    p: 3
+  #late ^link
+pushtag #a
+2014-01-02 *
+poptag #a
+2014-01-03 *
+poptag #a
+popmeta k:
+2014-01-04 *
+poptag #a
+pushtag #open
+2014-01-05 *
+";
+
 #[test]
-fn pushes_and_pops(rt: HostRuntime) -> Result<(), Fail> {
-    let text = "pushtag #a\npushmeta k: 1\n2014-01-01 * \"x\" #own\n  k: 2\n  Assets:Cash\n    p: 3\
-         \n  #late ^link\npushtag #a\n2014-01-02 *\npoptag #a\n2014-01-03 *\npoptag #a\
-         \npopmeta k:\n2014-01-04 *\npoptag #a\npushtag #open\n2014-01-05 *\n";
-    let parsed = parse(rt.alloc(), text)?;
-    assert_eq!(rt; counts_at(&parsed, 0), Some((4, 2)));
-    assert_eq!(rt; counts_at(&parsed, 1), Some((2, 1)));
-    assert_eq!(rt; counts_at(&parsed, 2), Some((1, 1)));
-    assert_eq!(rt; counts_at(&parsed, 3), Some((0, 0)));
-    assert_eq!(rt; counts_at(&parsed, 4), Some((0, 0)));
-    assert_eq!(rt; parsed.directives.as_slice().len(), 5);
-    let DirectiveKind::Transaction(first) = &parsed.directives.as_slice()[0].kind else {
+fn what_pushes_give(rt: HostRuntime) -> Result<(), Fail> {
+    let parsed = parse(rt.alloc(), PUSHED)?;
+    let counts = [(4, 2), (2, 1), (1, 1), (0, 0), (0, 0)];
+    assert_eq!(rt; parsed.directives.as_slice().len(), counts.len());
+    for (index, count) in counts.iter().enumerate() {
+        assert_eq!(rt; counts_at(&parsed, index), Some(*count));
+    }
+    Ok(())
+}
+
+#[test]
+fn pushes_and_pops_that_do_not_match(rt: HostRuntime) -> Result<(), Fail> {
+    let parsed = parse(rt.alloc(), PUSHED)?;
+    assert_eq!(rt; parsed.faults.as_slice().len(), 2);
+    for (fault, line) in parsed.faults.as_slice().iter().zip([15, 16]) {
+        assert_eq!(rt; fault.kind, FaultKind::UnmatchedPushOrPop);
+        assert_eq!(rt; fault.line, line);
+    }
+    Ok(())
+}
+
+#[test]
+fn own_tags_and_entries_stand_first(rt: HostRuntime) -> Result<(), Fail> {
+    let parsed = parse(rt.alloc(), PUSHED)?;
+    let first = parsed.directives.as_slice().first().ok_or("a directive")?;
+    let DirectiveKind::Transaction(transaction) = &first.kind else {
         return Err(Fail::from("a transaction"));
     };
-    assert_eq!(rt; first.marks.as_slice().len(), 4);
-    assert_eq!(rt; first.postings.as_slice().len(), 1);
-    assert!(rt; matches!(first.marks.as_slice()[2], Mark::Link(_)));
-    assert_eq!(rt; first.postings.as_slice()[0].metadata.as_slice().len(), 1);
-    assert_eq!(rt;
-        parsed.directives.as_slice()[0].metadata.as_slice().len(),
-        2
-    );
-    let Value::Number(own) = &parsed.directives.as_slice()[0].metadata.as_slice()[0].value else {
-        return Err(Fail::from("a number"));
-    };
-    assert_eq!(rt; own.count, 2);
-    assert_eq!(rt; parsed.faults.as_slice().len(), 2);
-    assert_eq!(rt;
-        parsed.faults.as_slice()[0].kind,
-        FaultKind::UnmatchedPushOrPop
-    );
-    assert_eq!(rt; parsed.faults.as_slice()[0].line, 15);
-    assert_eq!(rt; parsed.faults.as_slice()[1].line, 16);
+    assert_eq!(rt; transaction.marks.as_slice().len(), 4);
+    assert!(rt; matches!(transaction.marks.as_slice()[2], Mark::Link(_)));
+    let posting = transaction.postings.as_slice().first().ok_or("a posting")?;
+    assert_eq!(rt; posting.metadata.as_slice().len(), 1);
+    let own = first.metadata.as_slice().first().ok_or("an entry")?;
+    assert!(rt; matches!(&own.value, Value::Number(own) if own.count == 2));
     Ok(())
 }
 

@@ -21,73 +21,40 @@ fn places(alloc: Global, text: &str) -> Result<Vec<Place>, AllocError> {
     tokens(alloc, text)?.iter().map(|t| t.place).collect(alloc)
 }
 
-#[test]
-fn a_number_and_a_currency(rt: HostRuntime) -> Result<(), Fail> {
-    let alloc = rt.alloc();
-    assert_eq!(rt;
-        kinds(alloc, "1 USD")?.as_slice(),
-        [Kind::Number, Kind::Currency].as_slice()
-    );
-    assert_eq!(rt; starts(alloc, "1 USD")?.as_slice(), [0, 2].as_slice());
-    Ok(())
-}
-
-#[test]
-fn names_by_their_pieces(rt: HostRuntime) -> Result<(), Fail> {
-    let alloc = rt.alloc();
-    assert_eq!(rt;
-        kinds(alloc, "Assets:Épargne:9-x")?.as_slice(),
-        [Kind::Account].as_slice()
-    );
-    assert_eq!(rt;
-        kinds(alloc, "Assets:cash")?.as_slice(),
-        [
+/// Texts with the kinds of their tokens.
+const KINDS: [(&str, &[Kind]); 8] = [
+    ("1 USD", &[Kind::Number, Kind::Currency]),
+    ("Assets:Épargne:9-x", &[Kind::Account]),
+    (
+        "Assets:cash",
+        &[
             Kind::Currency,
             Kind::Key,
             Kind::Fault,
             Kind::Fault,
             Kind::Fault,
-            Kind::Fault
-        ]
-        .as_slice()
-    );
-    assert_eq!(rt;
-        kinds(alloc, "Assets:open")?.as_slice(),
-        [Kind::Currency, Kind::Key, Kind::Keyword(Keyword::Open)].as_slice()
-    );
-    assert_eq!(rt;
-        starts(alloc, "ABCDEFGHIJKLMNOPQRSTUVWXY")?.as_slice(),
-        [0, 24].as_slice()
-    );
-    assert_eq!(rt;
-        kinds(alloc, "TRUE TRUEX FALSE. A.")?.as_slice(),
-        [
+            Kind::Fault,
+        ],
+    ),
+    (
+        "Assets:open",
+        &[Kind::Currency, Kind::Key, Kind::Keyword(Keyword::Open)],
+    ),
+    (
+        "TRUE TRUEX FALSE. A.",
+        &[
             Kind::Keyword(Keyword::True),
             Kind::Currency,
             Kind::Keyword(Keyword::False),
             Kind::Fault,
             Kind::Currency,
-            Kind::Fault
-        ]
-        .as_slice()
-    );
-    Ok(())
-}
-
-#[test]
-fn days_numbers_and_signs(rt: HostRuntime) -> Result<(), Fail> {
-    let alloc = rt.alloc();
-    assert_eq!(rt;
-        kinds(alloc, "2014-01-02 2014")?.as_slice(),
-        [Kind::Day, Kind::Number].as_slice()
-    );
-    assert_eq!(rt;
-        starts(alloc, "1,2.5,3 1,,2")?.as_slice(),
-        [0, 5, 6, 8, 9, 10, 11].as_slice()
-    );
-    assert_eq!(rt;
-        kinds(alloc, " #5 # ^a ^ @@ @ {{ {")?.as_slice(),
-        [
+            Kind::Fault,
+        ],
+    ),
+    ("2014-01-02 2014", &[Kind::Day, Kind::Number]),
+    (
+        " #5 # ^a ^ @@ @ {{ {",
+        &[
             Kind::Tag,
             Kind::Sign(Sign::Hash),
             Kind::Link,
@@ -95,29 +62,35 @@ fn days_numbers_and_signs(rt: HostRuntime) -> Result<(), Fail> {
             Kind::Sign(Sign::AtAt),
             Kind::Sign(Sign::At),
             Kind::Sign(Sign::OpenBraces),
-            Kind::Sign(Sign::OpenBrace)
-        ]
-        .as_slice()
-    );
-    assert_eq!(rt;
-        starts(alloc, "opening")?.as_slice(),
-        [0, 4, 5, 6].as_slice()
-    );
+            Kind::Sign(Sign::OpenBrace),
+        ],
+    ),
+    (r#""a\q" "b\"" "c"#, &[Kind::Fault, Kind::Text, Kind::Fault]),
+];
+
+#[test]
+fn kinds_of_tokens(rt: HostRuntime) -> Result<(), Fail> {
+    for (text, kinds_of) in KINDS {
+        assert_eq!(rt; kinds(rt.alloc(), text)?.as_slice(), kinds_of);
+    }
     Ok(())
 }
 
+/// Texts with the places of their tokens' first bytes.
+const STARTS: [(&str, &[usize]); 6] = [
+    ("1 USD", &[0, 2]),
+    ("ABCDEFGHIJKLMNOPQRSTUVWXY", &[0, 24]),
+    ("1,2.5,3 1,,2", &[0, 5, 6, 8, 9, 10, 11]),
+    ("opening", &[0, 4, 5, 6]),
+    (r#""a\q" "b\"" "c"#, &[0, 6, 12]),
+    ("éé%", &[0, 2, 4]),
+];
+
 #[test]
-fn texts_and_faults(rt: HostRuntime) -> Result<(), Fail> {
-    let alloc = rt.alloc();
-    assert_eq!(rt;
-        kinds(alloc, r#""a\q" "b\"" "c"#)?.as_slice(),
-        [Kind::Fault, Kind::Text, Kind::Fault].as_slice()
-    );
-    assert_eq!(rt;
-        starts(alloc, r#""a\q" "b\"" "c"#)?.as_slice(),
-        [0, 6, 12].as_slice()
-    );
-    assert_eq!(rt; starts(alloc, "éé%")?.as_slice(), [0, 2, 4].as_slice());
+fn first_bytes_of_tokens(rt: HostRuntime) -> Result<(), Fail> {
+    for (text, starts_of) in STARTS {
+        assert_eq!(rt; starts(rt.alloc(), text)?.as_slice(), starts_of);
+    }
     Ok(())
 }
 

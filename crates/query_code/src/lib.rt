@@ -17,7 +17,8 @@
 //!
 //! # Cost
 //!
-//! Linear in the program. Its texts are slices of the query, or of the file, that it was made from.
+//! Linear in the program. Its texts are slices of the query, or of the file, that it was made from;
+//! a [`TextList`] is lent from the file as it stands there, or keeps its texts so.
 #![tactic(auto)]
 
 pub mod instruction;

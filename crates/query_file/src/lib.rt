@@ -18,7 +18,8 @@
 //!
 //! # Cost
 //!
-//! Linear in the file. The texts of a decoded program are slices of the file's bytes.
+//! Linear in the file. The texts of a decoded program are slices of the file's bytes, and its lists
+//! of texts too, so that what a program takes beside its file is no more than the file.
 #![tactic(auto)]
 
 mod code_reading;

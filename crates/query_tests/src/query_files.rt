@@ -1,7 +1,9 @@
 //! Query files that are decoded and written again, and bytes that are none.
 
 use bean_base::Day;
-use query_code::{Cause, Constant, Instruction, Mode, Program, Push, Refusal, Unary, show};
+use query_code::{
+    Cause, Constant, Instruction, Mode, Program, Push, Refusal, TextList, Unary, show,
+};
 use query_file::{DecodeFault, decode, encode};
 use query_values::{Aggregate, Decimal};
 use std::alloc::Global;
@@ -120,6 +122,27 @@ fn entries_of_the_pool(rt: HostRuntime) -> Result<(), Fail> {
     let day = pool.get(1).ok_or("an entry")?;
     let january = Day::new(2014, 1, 31).ok().ok_or("a day")?;
     assert!(rt; matches!(day, Constant::Day(day) if *day == january));
+    Ok(())
+}
+
+#[test]
+fn a_pool_and_back(rt: HostRuntime) -> Result<(), Fail> {
+    let file = with_pool(rt.alloc(), 4, &ENTRIES)?;
+    let program = program_of(rt.alloc(), &file)?;
+    let bytes = encode(rt.alloc(), &program)?;
+    assert_eq!(rt; bytes.as_slice(), file.as_slice());
+    Ok(())
+}
+
+#[test]
+fn a_list_of_texts_grows(rt: HostRuntime) -> Result<(), Fail> {
+    let mut texts = TextList::new(rt.alloc());
+    texts.push("")?;
+    texts.push("é")?;
+    assert_eq!(rt; texts.len(), 2);
+    let mut bytes = Vec::new(rt.alloc());
+    texts.write(&mut bytes)?;
+    assert_eq!(rt; bytes.as_slice(), [0, 0, 0, 2, 0xc3, 0xa9].as_slice());
     Ok(())
 }
 

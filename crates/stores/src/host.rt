@@ -3,7 +3,7 @@ ghost use Rattle.std.specs.Prelude.{◌≡◌, IfOk, IfSome, take};
 
 use crate::source::{Source, SourceFault, Store};
 use std::alloc::Global;
-use std::fs::File;
+use std::fs::{File, OpenFile};
 use std::io::{self, Read};
 use std::marker::Model;
 use std::rt::Files;
@@ -51,14 +51,28 @@ fn fault_of(error: &io::Error) -> SourceFault {
     }
 }
 
-/// The bytes that are left, up to `most` of them. It asks for no more than that.
-pub fn read_front<T: Read + Drop>(alloc: Global, from: T, most: u64) -> io::Result<Vec<u8>>
+/// The bytes that are left, up to `most` of them. It asks for no more than that. Where as many are
+/// left as were expected, the memory that it takes is taken once.
+pub fn read_front<T: Read + Drop>(
+    alloc: Global,
+    from: T,
+    expected: u64,
+    most: u64,
+) -> io::Result<Vec<u8>>
     ensures { IfOk result
         (λ bytes. IfSome (T.remaining from) (λ left. bytes.items ≡ take most left)) }
 {
-    let mut bytes = Vec::new(alloc);
+    let mut bytes = Vec::with_capacity(alloc, expected.min(most) as usize)?;
     from.take(most).read_to_end(&mut bytes)?;
     Ok(bytes)
+}
+
+/// How many bytes a file is said to have, where that is known.
+fn expected_of<F: OpenFile>(file: &F) -> u64 {
+    match file.metadata() {
+        Ok(metadata) => metadata.len(),
+        Err(_) => 0,
+    }
 }
 
 /// The first bytes of a file, or of standard input.
@@ -68,10 +82,13 @@ fn bytes_of<R: Files + Input + AllocGlobal>(
     most: u64,
 ) -> Result<Vec<u8>, SourceFault> {
     let read = if name == "-" {
-        read_front(rt.alloc(), rt.reader(), most)
+        read_front(rt.alloc(), rt.reader(), 0, most)
     } else {
         match File::open(rt, name) {
-            Ok(file) => read_front(rt.alloc(), file, most),
+            Ok(file) => {
+                let expected = expected_of(&file);
+                read_front(rt.alloc(), file, expected, most)
+            }
             Err(error) => Err(error),
         }
     };

@@ -19,7 +19,7 @@ returns-in_default-after_currency c =
 
 pub returns : goal.returns
 returns c =
-    rw c.balance_of.ensures
+    rw c.in_ok-balance.ensures
     (reads_balance _ _ _ _ _ _ _ _ _ c.in-Some.ensures.front c.in-Some-expression.ensures.read
     (when_some _ _ _ _ c.in-Some-2.is c.in_ok-tolerated.ensures)
     c.in-Some-after_currency.ensures.front)
