@@ -1,7 +1,7 @@
 //! Booking: the postings of a ledger's transactions, as the table that is listed and queried.
 //!
-//! The directives of a ledger, in the order in which they are taken, are flattened: each posting of a transaction becomes a
-//! row, with the day and the flag of its transaction.
+//! The directives of a ledger, in the order in which they are taken, are flattened: each posting of
+//! a transaction becomes a row, with the day and the flag of its transaction.
 //!
 //! ```text
 //! let loaded = load(alloc, &texts)?;

@@ -15,8 +15,8 @@
 //! # Out of range
 //!
 //! A line with a day that the calendar lacks, or with a number that is no number of the ledger, is
-//! read all the same, to [`bean_grammar::Ranged::Outside`]. A tolerance below 0 is none, in range or
-//! not.
+//! read all the same, to [`bean_grammar::Ranged::Outside`]. A tolerance below 0 is none, in range
+//! or not.
 //!
 //! # Cost
 //!

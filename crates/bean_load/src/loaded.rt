@@ -3,7 +3,8 @@ ghost use Rattle.std.specs.Prelude.{◌≡◌, ◌++◌, [], ◌∷◌, List, ma
 ghost use Rattle.std.specs.List.{flat_map};
 ghost use Rattle.bean_load.specs.Loaded as spec;
 ghost use Rattle.bean_load.specs.Loaded.{IsLoaded};
-ghost use Rattle.bean_load.specs.Loading.{AddsParsed, AddsSetting, AreBooks, AreRead, HasOneLoading};
+ghost use Rattle.bean_load.specs.Loading.{AddsParsed, AddsSetting, AreBooks, AreRead};
+ghost use Rattle.bean_load.specs.Loading.{HasOneLoading};
 
 use crate::order::{order_directives, order_settings};
 use crate::placed::{Own, Placed, add_directives, add_settings, parts_of};

@@ -180,7 +180,8 @@ impl<'a> Checker<'a> {
         requires near { IsNear (passed.Balance check.now) }
         requires small { AreSmall self.now.inserted }
         requires few { self.now.inserted.additions < 2 ^ 42 }
-        ensures { (us : List Units) → Holds us self.now.inserted → result ≡ fails_with us check.now }
+        ensures { (us : List Units) → Holds us self.now.inserted
+            → result ≡ fails_with us check.now }
     {
         let inserted = self.inserted.get(&check.account, &check.currency);
         is_out(check.short - inserted, check.tolerance)

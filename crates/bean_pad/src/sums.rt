@@ -65,7 +65,8 @@ impl<'a> Table<'a> {
         end: usize,
     ) -> Result<(), AllocError>
         requires within { end < length account.now }
-        requires held { unsigned_abs (entry_at self.old (take end account.now) currency.now) < 2 ^ 126 }
+        requires held { unsigned_abs (entry_at self.old (take end account.now) currency.now)
+            < 2 ^ 126 }
         requires small { unsigned_abs count < 2 ^ 126 }
         ensures { OnOk result ((a c : List ℕ) → entry_at self.new a c
             ≡ (if is_cut_at end a account.now && bytes_eq currency.now c

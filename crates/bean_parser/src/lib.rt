@@ -37,8 +37,8 @@
 //!
 //! Linear in the text, but for pushes and pops: each looks at those between it and the one that it
 //! goes with, or at all behind or before it where it goes with none; and a push looks at each
-//! directive up to its pop. It takes the memory of what it answers, and of the tokens of the longest
-//! block.
+//! directive up to its pop. It takes the memory of what it answers, and of the tokens of the
+//! longest block.
 #![tactic(auto)]
 
 pub mod block;

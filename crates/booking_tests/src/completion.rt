@@ -71,7 +71,8 @@ fn legs(alloc: Global, words: &'static str) -> Result<Vec<Leg<'static>>, Fail> {
     Ok(legs)
 }
 
-/// What is filled in, in words, as `2:-100/2USD`: the leg, the count, its decimals and its currency.
+/// What is filled in, in words, as `2:-100/2USD`: the leg, the count, its decimals and its
+/// currency.
 fn fills(alloc: Global, fills: &[Fill<'_>]) -> Result<String, Fail> {
     let mut words = String::new(alloc);
     for fill in fills {

@@ -1,6 +1,6 @@
 //! The token at the front of a text.
-ghost use Rattle.std.specs.Prelude.{◌≡◌, ◌<◌, ◌+◌, ◌≤◌, ◌&&◌, ◌==◌, nat_lt, nat_le, IsTrue, length, take};
-ghost use Rattle.std.specs.Prelude.{slice_index, drop, false, MatchOption};
+ghost use Rattle.std.specs.Prelude.{◌≡◌, ◌<◌, ◌+◌, ◌≤◌, ◌&&◌, ◌==◌, nat_lt, nat_le, IsTrue};
+ghost use Rattle.std.specs.Prelude.{length, take, slice_index, drop, false, MatchOption};
 ghost use Rattle.std.specs.List.{prefix_len};
 ghost use Rattle.std.specs.Char.{is_ascii_digit};
 ghost use Rattle.std.specs.Str.{IsCharBoundary};

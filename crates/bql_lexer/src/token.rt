@@ -1,5 +1,6 @@
 //! Tokens, and the tokens of a text in order.
-ghost use Rattle.std.specs.Prelude.{◌≡◌, ◌<◌, ◌≤◌, List, [], ◌∷◌, length, MatchOption, IfSome, IfOk};
+ghost use Rattle.std.specs.Prelude.{◌≡◌, ◌<◌, ◌≤◌, List, [], ◌∷◌, length, MatchOption};
+ghost use Rattle.std.specs.Prelude.{IfSome, IfOk};
 ghost use Rattle.bql_lexer.specs.Tokens.{AreTokens, TokensFrom};
 ghost use Rattle.bql_lexer.specs.Token as spec;
 ghost use Rattle.bql_lexer.specs.declared.token.Token as token;

@@ -128,7 +128,8 @@ one_more_text n bytes t are fits =
 -- what is read is written before the rest
 pub read_before : (n : ℕ) (bytes : List ℕ) (ts : List (List ℕ)) (rest : List ℕ) → AreBytes bytes
     → read_all text n bytes ≡ Ok (ts, rest) → bytes ≡ all_written text ts ++ rest
-read_before n bytes ts rest are read = ((exact_row n text exact_text).takes bytes ts rest are read).1
+read_before n bytes ts rest are read =
+    ((exact_row n text exact_text).takes bytes ts rest are read).1
 
 pub read_are : (n : ℕ) (bytes : List ℕ) (ts : List (List ℕ)) (rest : List ℕ) → AreBytes bytes
     → read_all text n bytes ≡ Ok (ts, rest) → ∥ AreTexts n (all_written text ts) ∥₁

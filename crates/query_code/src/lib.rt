@@ -6,9 +6,9 @@
 //!
 //! A [`Program`] keeps the limits of a query file, so each has one; `specs/QueryFile` says which
 //! bytes it is, and where bytes that are none stop to be one. `query_file` reads and writes it.
-//! Operations on two values and aggregates are those of `query_values`. What a program means is told
-//! in `plain_machine`; whether it can be run without a fault is another question, which the verifier
-//! answers.
+//! Operations on two values and aggregates are those of `query_values`. What a program means is
+//! told in `plain_machine`; whether it can be run without a fault is another question, which the
+//! verifier answers.
 //!
 //! # Faults
 //!

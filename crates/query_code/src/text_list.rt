@@ -28,7 +28,7 @@ impl<'a> Model for TextList<'a> {
 /// Writes a text behind its length in bytes. Where memory lacks, nothing is written.
 #[tactic(auto, unfolding(crate::specs::TextForm::text))]
 pub fn put_text(out: &mut Vec<u8>, added: &str) -> Result<(), AllocError>
-    requires { length added.now < 2 ^ 16 }
+    requires { text.fits added.now }
     ensures ok { OnOk result (out.new.items ≡ out.old.items ++ text.written added.now) }
     ensures err { OnErr result (out.new.items ≡ out.old.items) }
 {

@@ -1,6 +1,5 @@
 -- Reading texts one after the other without keeping them, as a loop does.
-use Rattle.std.proofs.Common.{◌≡◌, ℕ, suc, ◌-◌, ◌+◌, ◌≤◌, ◌<◌, List, [], ◌∷◌, ◌++◌, Ok, Err, sym, ap}
-use Rattle.std.proofs.Common.{◌∙◌}
+use Rattle.std.proofs.Common.{◌≡◌, ℕ, ◌-◌, ◌+◌, ◌≤◌, ◌<◌, List, [], ◌∷◌, ◌++◌, Ok, sym, ap, ◌∙◌}
 use Rattle.query_file.specs.declared.fault.Fault.{Fault}
 use Rattle.query_code.specs.ByteForm.{Read, read_all}
 use Rattle.query_code.specs.TextForm.{text, texts_in, read_values}

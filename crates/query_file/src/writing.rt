@@ -184,7 +184,6 @@ fn put_instructions(out: &mut Vec<u8>, steps: &[Instruction]) -> Result<(), Allo
 }
 
 /// One text behind the other.
-#[tactic(auto, unfolding(query_code::specs::TextForm::text))]
 fn put_texts(out: &mut Vec<u8>, texts: &[Slice<'_>]) -> Result<(), AllocError>
     requires { AllFit text texts.now }
     ensures { OnOk result (out.new.items ≡ out.old.items ++ all_written text texts.now) }
@@ -249,7 +248,7 @@ fn put_numbers(out: &mut Vec<u8>, written: &Numbers) -> Result<(), AllocError>
     put_counts(out, counts)
 }
 
-#[tactic(auto, unfolding(query_code::specs::QueryFile::constant, query_code::specs::TextForm::text))]
+#[tactic(auto, unfolding(query_code::specs::QueryFile::constant))]
 fn put_constant(out: &mut Vec<u8>, entry: &Constant<'_>) -> Result<(), AllocError>
     requires { constant.fits entry.now }
     ensures { OnOk result (out.new.items ≡ out.old.items ++ constant.written entry.now) }

@@ -13,8 +13,9 @@
 //!
 //! Where an operation gives a shape, it may be applied to all values of its operands' shapes, and
 //! its value can be held and is of that shape ([`operations_keep_shapes`]). Of lesser shapes it
-//! gives lesser ones ([`rules_are_monotone`]), and shapes have least joins ([`shapes_are_ordered`]).
-//! The same holds of what is gathered over at most so many values ([`aggregates_keep_shapes`]).
+//! gives lesser ones ([`rules_are_monotone`]), and shapes have least joins
+//! ([`shapes_are_ordered`]). The same holds of what is gathered over at most so many values
+//! ([`aggregates_keep_shapes`]).
 //!
 //! # Misfits
 //!

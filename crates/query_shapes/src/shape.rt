@@ -6,8 +6,8 @@ ghost use Rattle.query_shapes.specs.Shape as spec;
 /// texts are slices of files that have no more.
 pub const LONGEST: u128 = 16_777_216;
 
-/// What is known of a value: its kind, its decimals, and the most that its counts may be, signs left
-/// off. Null is of every shape.
+/// What is known of a value: its kind, its decimals, and the most that its counts may be, signs
+/// left off. Null is of every shape.
 #[derive(Clone, Copy, Debug, Drop, PartialEq, Eq)]
 pub enum Shape {
     Truth,

@@ -4,6 +4,9 @@ use Rattle.query_code.specs.TextForm.{text, texts_in, AreTexts}
 use Rattle.query_code.proofs.TextListFacts.{number_is, one_more_are, one_more_text, fits_text}
 use Rattle.query_code.proofs.text_list.TextList.push.Goals as goal
 
+pub put_text-requires : goal.put_text-requires
+put_text-requires c = fits_text c.args.added.now c.requires.short c.utf8.added
+
 pub overflow_add-self : goal.overflow_add-self
 overflow_add-self c =
     let is = number_is c.self.inside.len _ c.self.inside.are_texts in
@@ -18,12 +21,14 @@ kept lent added new t is =
     append_assoc lent added (text.written t) ∙ ap (λ (bs : List ℕ). lent ++ bs) (sym is)
 
 pub invariant_of-self-inside-2 : goal.invariant_of-self-inside-2
-invariant_of-self-inside-2 c =
-    (subst (λ bs. ∥ AreTexts (c.self.inside.len + 1) bs ∥₁)
-    (kept c.self.inside.lent.now c.self.inside.added.items c.put_text.new.out.items
-    c.args.added.now (c.in_ok-put_text.ensures.ok))
-    (one_more_are c.self.inside.len _ c.args.added.now c.self.inside.are_texts
-    (fits_text c.args.added.now c.requires.short c.utf8.added)), tt)
+invariant_of-self-inside-2 c = (
+  subst (λ bs. ∥ AreTexts (c.self.inside.len + 1) bs ∥₁)
+      (kept c.self.inside.lent.now c.self.inside.added.items c.put_text.new.out.items
+      c.args.added.now (c.in_ok-put_text.ensures.ok))
+      (one_more_are c.self.inside.len _ c.args.added.now c.self.inside.are_texts
+      (fits_text c.args.added.now c.requires.short c.utf8.added)),
+  tt,
+)
 
 pub returns : goal.returns
 returns c =
