@@ -1,0 +1,27 @@
+//! The postings of a transaction while it is tried.
+
+use bean_base::{Account, Amount, Currency};
+use bean_lots::Lot;
+
+/// A posting as it is booked.
+#[derive(Debug, Drop)]
+pub struct Posted<'a> {
+    pub account: Account<'a>,
+    pub units: Amount<'a>,
+    /// The lot that the units are held as.
+    pub lot: Option<Lot<'a>>,
+    /// The number of the written posting among those of its transaction, from 0.
+    pub written: usize,
+}
+
+/// What comes of a written posting before its transaction is completed.
+#[derive(Debug, Drop)]
+pub enum Line<'a> {
+    /// Units as they are written, held as a lot or not.
+    Posted(Posted<'a>),
+    /// What a reduction takes of one lot.
+    Take(Posted<'a>),
+    /// A number of the currency is missing.
+    MissingNumber(Account<'a>, Currency<'a>, usize),
+    MissingAmount(Account<'a>, usize),
+}
