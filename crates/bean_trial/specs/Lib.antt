@@ -4,4 +4,5 @@ pub mod Methods
 pub mod Stock
 pub mod Lined
 pub mod Outcome
+pub mod Lines
 pub mod Tried

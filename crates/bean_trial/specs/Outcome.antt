@@ -12,9 +12,12 @@ lines_of (outcome.Line l) = l ∷ []
 lines_of (outcome.Takes ls) = ls.items
 
 -- a fault is such a one; of want of memory nothing is said
+abbrev pub StopsAt : (LineFault → Type 0) → Stop → Type 0
+StopsAt P (stop.Fault f) = P f
+StopsAt P stop.OutOfMemory = Unit {0}
+
 abbrev pub StopsWith : (Result (List Line) LineFault → Type 0) → Stop → Type 0
-StopsWith P (stop.Fault f) = P (Err f)
-StopsWith P stop.OutOfMemory = Unit {0}
+StopsWith P e = StopsAt (λ f. P (Err f)) e
 
 abbrev pub ComesOf : (Result (List Line) LineFault → Type 0) → Result Outcome Stop → Type 0
 ComesOf P (Ok o) = P (Ok (lines_of o))

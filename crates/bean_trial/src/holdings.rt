@@ -1,10 +1,12 @@
 //! What each account holds.
-ghost use Rattle.std.specs.Prelude.{◌≡◌, ◌<◌, ◌+◌, ◌^◌, [], OnOk, List, ℕ, if◌then◌else◌, false};
+ghost use Rattle.std.specs.Prelude.{◌≡◌, ◌<◌, ◌+◌, ◌^◌, [], ◌∷◌, ◌++◌, OnOk, List, ℕ, if◌then◌else◌, false};
 ghost use Rattle.std.specs.Int.RustNames.{unsigned_abs};
 ghost use Rattle.std.specs.Str.{bytes_eq};
 ghost use Rattle.bean_lots.specs.Inventory.{added};
-ghost use Rattle.bean_trial.specs.Holdings.{IsBounded, additions_in, holding};
+ghost use Rattle.bean_trial.specs.Holdings.{AreHeld, IsBounded, additions_in, holding};
+ghost use Rattle.bean_trial.specs.declared.line.Posted as spec;
 
+use crate::line::Posted;
 use bean_base::Account;
 use bean_lots::{Inventory, Key};
 use indexmap::IndexMap;
@@ -90,7 +92,7 @@ impl<'a> Holdings<'a> {
     }
 
     /// Adds to what an account holds.
-    pub fn add(
+    fn add(
         &mut self,
         alloc: Global,
         account: Account<'a>,
@@ -109,5 +111,23 @@ impl<'a> Holdings<'a> {
         self.add_to(alloc, account, key, count)?;
         self.additions += 1;
         Ok(())
+    }
+
+    /// Adds a posting to what its account holds.
+    #[tactic(auto, using(crate::proofs::HeldFacts::one_more))]
+    pub fn post(&mut self, alloc: Global, posted: &Posted<'a>) -> Result<(), AllocError>
+        requires bounded { IsBounded self.old }
+        requires few { additions_in self.old < 2 ^ 40 }
+        ensures held { OnOk result ((ps : List spec.Posted) → AreHeld ps self.old
+            → AreHeld (ps ++ posted.now ∷ []) self.new) }
+        ensures bounded { OnOk result (IsBounded self.new) }
+        ensures additions { OnOk result (additions_in self.new ≡ additions_in self.old + 1) }
+    {
+        let key = Key {
+            currency: posted.units.currency.lend(),
+            lot: posted.lend_lot(),
+        };
+        let count = posted.units.number.scaled(8);
+        self.add(alloc, posted.account.lend(), key, count)
     }
 }
