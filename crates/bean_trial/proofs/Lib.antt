@@ -4,3 +4,6 @@ pub mod HeldFacts
 pub mod LinedFacts
 pub mod CompletedFacts
 pub mod LegFacts
+pub mod OneLine
+pub mod OneFilling
+pub mod OneTrial

@@ -67,7 +67,7 @@ latest xs i x h e =
     rw add-one (take-suc xs i x h ∙ ap (λ q. take i xs ++ q ∷ []) (sym e)) in
     ap reverse more ∙ reverse-append (take i xs) (x ∷ [])
 
-reverse_twice : {X : Type 0} (xs : List X) → reverse (reverse xs) ≡ xs
+pub reverse_twice : {X : Type 0} (xs : List X) → reverse (reverse xs) ≡ xs
 reverse_twice [] = refl
 reverse_twice (x ∷ xs) =
     ap reverse (reverse-append (x ∷ []) xs) ∙ reverse-append (reverse xs) (x ∷ [])

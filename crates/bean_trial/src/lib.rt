@@ -3,6 +3,7 @@
 
 mod completed;
 pub mod holdings;
+pub mod laws;
 mod legs;
 pub mod line;
 mod lines;
