@@ -44,12 +44,13 @@ one_more_take account currency i (u ∷ ts) [] t l h one = absurd h
 one_more_take account currency i (u ∷ ts) (m ∷ ls) t l h one =
     (h.0, one_more_take account currency i ts ls t l h.1 one)
 
+pub taken_more : {X : Type 0} (xs : List X) (i : ℕ) (x : X) → i < length xs → x ≡ get_or xs i x
+    → take (i + 1) xs ≡ take i xs ++ x ∷ []
+taken_more xs i x h e = rw add-one (take-suc xs i x h ∙ ap (λ q. take i xs ++ q ∷ []) (sym e))
+
 pub mapped_more : {X Y : Type 0} (f : X → Y) (xs : List X) (i : ℕ) (x : X) → i < length xs
     → x ≡ get_or xs i x → map f (take (i + 1) xs) ≡ map f (take i xs) ++ f x ∷ []
-mapped_more f xs i x h e =
-    let more : take (i + 1) xs ≡ take i xs ++ x ∷ [] =
-    rw add-one (take-suc xs i x h ∙ ap (λ q. take i xs ++ q ∷ []) (sym e)) in
-    ap (map f) more ∙ map-append f (take i xs) (x ∷ [])
+mapped_more f xs i x h e = ap (map f) (taken_more xs i x h e) ∙ map-append f (take i xs) (x ∷ [])
 
 pub stops_more : (P Q : Result (List Line) LineFault → Type 0) (e : Stop)
     → ((r : Result (List Line) LineFault) → P r → Q r) → StopsWith P e → StopsWith Q e

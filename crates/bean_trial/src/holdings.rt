@@ -1,5 +1,6 @@
 //! What each account holds.
-ghost use Rattle.std.specs.Prelude.{◌≡◌, ◌<◌, ◌+◌, ◌^◌, [], ◌∷◌, ◌++◌, OnOk, List, ℕ, if◌then◌else◌, false};
+ghost use Rattle.std.specs.Prelude.{◌≡◌, ◌<◌, ◌≤◌, ◌+◌, ◌^◌, [], ◌∷◌, ◌++◌, OnOk, List, ℕ, length};
+ghost use Rattle.std.specs.Prelude.{if◌then◌else◌, false};
 ghost use Rattle.std.specs.Int.RustNames.{unsigned_abs};
 ghost use Rattle.std.specs.Str.{bytes_eq};
 ghost use Rattle.bean_lots.specs.Inventory.{added};
@@ -129,5 +130,21 @@ impl<'a> Holdings<'a> {
         };
         let count = posted.units.number.scaled(8);
         self.add(alloc, posted.account.lend(), key, count)
+    }
+
+    /// Adds postings, one after the other.
+    pub fn post_all(&mut self, alloc: Global, posted: &[Posted<'a>]) -> Result<(), AllocError>
+        requires bounded { IsBounded self.old }
+        requires few { additions_in self.old + length posted.now ≤ 2 ^ 40 }
+        ensures held { OnOk result ((ps : List spec.Posted) → AreHeld ps self.old
+            → AreHeld (ps ++ posted.now) self.new) }
+        ensures bounded { OnOk result (IsBounded self.new) }
+        ensures additions { OnOk result
+            (additions_in self.new ≡ additions_in self.old + length posted.now) }
+    {
+        for one in posted {
+            self.post(alloc, one)?;
+        }
+        Ok(())
     }
 }
