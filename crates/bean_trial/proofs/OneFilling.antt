@@ -1,6 +1,7 @@
 -- One thing is filled in.
 use Rattle.std.proofs.Common.{◌≡◌, ℕ, suc, ◌+◌, ◌-◌, ◌*◌, ◌/◌, ◌^◌, ◌<◌, ◌≤◌, ℤ, pos, negsuc, neg_ℤ}
-use Rattle.std.proofs.Common.{◌*ℤ◌, Bool, true, false, List, [], ◌∷◌, map, Result, Ok, Err, refl, sym, ap}
+use Rattle.std.proofs.Common.{◌*ℤ◌, Bool, true, false, List, [], ◌∷◌, map, Result, Ok, Err, refl}
+use Rattle.std.proofs.Common.{sym, ap}
 use Rattle.std.proofs.Common.{◌∙◌, subst, arith}
 use Rattle.std.specs.Int.RustNames.{unsigned_abs}
 use Rattle.std.specs.List.{AllByRecursion}
@@ -19,7 +20,8 @@ cancel : (m n u : ℕ) → 0 < u → m * u ≡ n * u → m ≡ n
 cancel m n u h e = sym (mul-div_cancel m h) ∙ ap (λ k. k / u) e ∙ mul-div_cancel n h
 
 some_product : (m u : ℕ) → 0 < u → 0 < suc m * u
-some_product m u h = let least = mul-le-mul_right {m = 1} {n = suc m} u (omega arith) in omega (arith, h, least)
+some_product m u h = let least = mul-le-mul_right {m = 1} {n =
+    suc m} u (omega arith) in omega (arith, h, least)
 
 times_injective : (a b : ℤ) (u : ℕ) → 0 < u → a *ℤ pos u ≡ b *ℤ pos u → a ≡ b
 times_injective (pos m) (pos n) u h e =
@@ -68,13 +70,15 @@ one_by_gaps legs (f ∷ fs) (g ∷ gs) e h k =
     one_number _ _ f.amount.number g.amount.number h.0
     (subst (λ c. Fills legs c g.amount.number) (sym currency) k.0) in
     let rest =
-    one_by_gaps legs fs gs (tails (gap_of f) (gap_of g) (map gap_of fs) (map gap_of gs) e) h.1 k.1 in
+    one_by_gaps legs fs gs (tails (gap_of f) (gap_of g) (map gap_of fs)
+    (map gap_of gs) e) h.1 k.1 in
     λ j. record {
       leg = ap (λ p. p.0) gap j;
       amount = record { number = number j; currency = currency j };
     } ∷ rest j
 
-pub one_filling : (legs : List Leg) (fs gs : List Fill) → AreFills legs fs → AreFills legs gs → fs ≡ gs
+pub one_filling : (legs : List Leg) (fs gs : List Fill) → AreFills legs fs → AreFills legs gs
+    → fs ≡ gs
 one_filling legs fs gs h k =
     one_by_gaps legs fs gs (h.gaps_are ∙ sym k.gaps_are) h.are_due k.are_due
 

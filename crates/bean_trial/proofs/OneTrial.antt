@@ -9,7 +9,8 @@ use Rattle.bean_interp.specs.declared.fill.Fill.{Fill}
 use Rattle.bean_interp.specs.declared.leg.Leg.{Leg}
 use Rattle.bean_trial.specs.Held.{left}
 use Rattle.bean_trial.specs.Lined.{AreLined, IsFirstFault, IsNext, Setting}
-use Rattle.bean_trial.specs.Tried.{IsCompleted, IsIncomplete, IsKept, LacksOrIsWide, Tries, completed}
+use Rattle.bean_trial.specs.Tried.{IsCompleted, IsIncomplete, IsKept, LacksOrIsWide, Tries}
+use Rattle.bean_trial.specs.Tried.{completed}
 use Rattle.bean_trial.specs.Tried.{is_outside, legs_of}
 use Rattle.bean_trial.specs.declared.line.Line.{Line}
 use Rattle.bean_trial.specs.declared.line.Posted.{Posted}
@@ -27,7 +28,8 @@ joined ls (Err f) = Err f
 abbrev Goes : Setting → Posting → ℕ → Result (List Line) LineFault
     → Result (List Line) LineFault → Type 0
 Goes s p n (Err f) r = r ≡ Err f
-Goes s p n (Ok ls) r = (new : Result (List Line) LineFault) × IsNext s ls n p new × (r ≡ joined ls new)
+Goes s p n (Ok ls) r = (new : Result (List Line) LineFault) × IsNext s ls n p new × (r
+    ≡ joined ls new)
 
 abbrev Ends : Setting → List Posting → Result (List Line) LineFault → Type 0
 Ends s [] r = r ≡ Ok []
@@ -51,7 +53,8 @@ one_end s (p ∷ ps) r t h k =
     one_next s p (length ps) h.0 r t h.2
     (subst (λ b. Goes s p (length ps) b t) before k.2)
 
-lined_ends : (s : Setting) (ps : List Posting) (ls : List Line) → AreLined s ps ls → Ends s ps (Ok ls)
+lined_ends : (s : Setting) (ps : List Posting) (ls : List Line) → AreLined s ps ls
+    → Ends s ps (Ok ls)
 lined_ends s [] ls h = ap Ok h
 lined_ends s (p ∷ ps) ls h = (Ok h.0, lined_ends s ps h.0 h.2, (Ok h.1, h.3, ap Ok h.4))
 

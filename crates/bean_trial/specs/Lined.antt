@@ -1,5 +1,6 @@
 -- What comes of the postings of a transaction, one by one.
-use Rattle.std.specs.Prelude.{◌≡◌, ◌<◌, ◌⊎◌, ℕ, ℤ, pos, ◌&&◌, Bool, true, false, List, [], ◌∷◌, ◌++◌}
+use Rattle.std.specs.Prelude.{◌≡◌, ◌<◌, ◌⊎◌, ℕ, ℤ, pos, ◌&&◌, Bool, true, false, List, [], ◌∷◌}
+use Rattle.std.specs.Prelude.{◌++◌}
 use Rattle.std.specs.Prelude.{length, reverse, Option, Some, None, Result, Ok, Err, unwrap_or}
 use Rattle.std.specs.Int.RustNames.{unsigned_abs}
 use Rattle.std.specs.Int.Signed.{lt_z}
@@ -79,7 +80,8 @@ pub record IsTakeOf (account currency : List ℕ) (i : ℕ) (t : Lot × ℤ × �
   pub written_is : p.written ≡ i
 
 abbrev pub IsTakeLine : List ℕ → List ℕ → ℕ → Lot × ℤ × ℕ → Line → Type 0
-IsTakeLine account currency i t l = (p : Posted) × (l ≡ line.Take p) × IsTakeOf account currency i t p
+IsTakeLine account currency i t l = (p : Posted) × (l ≡ line.Take p)
+    × IsTakeOf account currency i t p
 
 -- the lines of takes, in their order
 abbrev pub AreTakeLines : List ℕ → List ℕ → ℕ → List (Lot × ℤ × ℕ) → List Line → Type 0
@@ -128,7 +130,8 @@ IsAugmented head parts (Some cost) account units i n (Err f) =
 IsAugmented head parts (Some cost) account units i n (Ok ls) =
     (lt_z cost.number.count (pos 0) ≡ false)
     × (lot : Lot) × IsLotOf head parts cost lot
-    × (ls ≡ line.Posted record { account = account; units = units; lot = Some lot; written = i } ∷ [])
+    × (ls
+    ≡ line.Posted record { account = account; units = units; lot = Some lot; written = i } ∷ [])
 
 abbrev pub IsInBraces : Method → List Position → Head → LotParts → List ℕ → amounts.Amount → ℕ → ℕ
     → Result (List Line) LineFault → Type 0

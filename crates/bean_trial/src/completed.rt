@@ -16,7 +16,8 @@ fn push_fill<'a>(
     written: usize,
 ) -> Result<(), AllocError>
     ensures { OnOk result (posted.new.items ≡ posted.old.items
-        ++ (if fill.now.leg == line then spec.filled_in account.now written fill.now ∷ [] else [])) }
+        ++ (if fill.now.leg == line
+        then spec.filled_in account.now written fill.now ∷ [] else [])) }
 {
     if fill.leg == line {
         posted.push(Posted {

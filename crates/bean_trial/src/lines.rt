@@ -1,6 +1,6 @@
 //! The lines of a transaction, posting by posting.
-ghost use Rattle.std.specs.Prelude.{◌≡◌, ◌≤◌, ◌^◌, ◌++◌, ◌∷◌, [], false, List, OnOk, IfOk, IfErr, Err};
-ghost use Rattle.std.specs.Prelude.{reverse};
+ghost use Rattle.std.specs.Prelude.{◌≡◌, ◌≤◌, ◌^◌, ◌++◌, ◌∷◌, [], false, List, OnOk, IfOk, IfErr};
+ghost use Rattle.std.specs.Prelude.{Err, reverse};
 ghost use Rattle.std.specs.List.{list_any};
 ghost use Rattle.bean_grammar.specs.Posting.{is_outside_profile};
 ghost use Rattle.bean_trial.specs.Held.{takes_in};

@@ -145,8 +145,8 @@ fn reduced<'a>(
 ) -> Result<Outcome<'a>, Stop>
     requires chooses { stock.method ≢ Method.None }
     requires small { IsSmallStock stock }
-    ensures { ComesOf (IsReducedBy stock.entry.method (rest_of stock.entry) parts.now posting.now.account
-        units.now index posting.now.line) result }
+    ensures { ComesOf (IsReducedBy stock.entry.method (rest_of stock.entry) parts.now
+        posting.now.account units.now index posting.now.line) result }
 {
     let selector = selector_of(units, parts);
     match reduce_after(
@@ -212,8 +212,8 @@ fn in_braces<'a>(
     parts: &LotParts<'a>,
 ) -> Result<Outcome<'a>, Stop>
     requires { IsSmallStock stock }
-    ensures { ComesOf (IsInBraces stock.entry.method (rest_of stock.entry) head parts.now posting.now.account
-        units.now index posting.now.line) result }
+    ensures { ComesOf (IsInBraces stock.entry.method (rest_of stock.entry) head parts.now
+        posting.now.account units.now index posting.now.line) result }
 {
     if is_reduction(stock, units) {
         reduced(alloc, stock, index, posting, units, parts)
@@ -233,8 +233,8 @@ fn outcome_by_cost<'a>(
 ) -> Result<Outcome<'a>, Stop>
     requires small { IsSmallStock stock }
     requires inside { is_outside_profile posting.now ≡ false }
-    ensures { ComesOf (IsLinedByCost stock.entry.method (rest_of stock.entry) head posting.now.account units.now
-        posting.now.cost index posting.now.line) result }
+    ensures { ComesOf (IsLinedByCost stock.entry.method (rest_of stock.entry) head
+        posting.now.account units.now posting.now.cost index posting.now.line) result }
 {
     match &posting.cost {
         Cost::Absent => Ok(Outcome::Line(Line::Posted(Posted {
@@ -258,8 +258,8 @@ pub(crate) fn outcome_of<'a>(
 ) -> Result<Outcome<'a>, Stop>
     requires small { IsSmallStock stock }
     requires inside { is_outside_profile posting.now ≡ false }
-    ensures { ComesOf (IsLinedByUnits stock.entry.method (rest_of stock.entry) head posting.now.account
-        posting.now.units posting.now.cost index posting.now.line) result }
+    ensures { ComesOf (IsLinedByUnits stock.entry.method (rest_of stock.entry) head
+        posting.now.account posting.now.units posting.now.cost index posting.now.line) result }
 {
     match &posting.units {
         Units::Missing => Ok(Outcome::Line(Line::MissingAmount(posting.account.lend(), index))),

@@ -13,7 +13,10 @@ returns-clause-bounded c = record {
   counts = λ a.
       let n = c.args.self.now.additions in
       let count : to_z w128 (of_z w128 c.args.count) ≡ c.args.count = omega (arith, ints) in
-      subst (λ m. AreSmall ((m + 1) * 10 ^ 20) (holding c.add_to.new.self a)) (sym c.add_to.ensures.additions)
+      subst (λ m. AreSmall ((m + 1) * 10 ^ 20) (holding c.add_to.new.self a))
+      (sym c.add_to.ensures.additions)
       (subst (AreSmall ((n + 1) * 10 ^ 20)) (sym (c.in_ok-add_to.ensures.holding a))
-      (either (bytes_eq c.args.account a) n (holding c.args.self.now a) c.args.key _ (subst (λ m. unsigned_abs m < 10 ^ 20) (sym count) c.requires.small) (c.requires.bounded.counts a)));
+      (either (bytes_eq c.args.account a) n (holding c.args.self.now a) c.args.key _ (subst
+      (λ m. unsigned_abs m < 10 ^ 20) (sym count) c.requires.small)
+      (c.requires.bounded.counts a)));
 }

@@ -13,5 +13,7 @@ add-requires c =
     let own = holding c.args.self.now c.args.account in
     let count : to_z w128 (of_z w128 c.args.count) ≡ c.args.count = omega (arith, ints) in
     let small = count_small _ own c.args.key (c.requires.bounded.counts c.args.account) in
-    sum_fits c.args.self.now.additions (count_of c.take_out-inventory.result c.args.key) c.args.count _ c.requires.few
-    (subst (λ es. unsigned_abs (count_of es c.args.key) ≤ c.args.self.now.additions * 10 ^ 20) (sym c.take_out-inventory.ensures.taken) small) c.requires.small count
+    sum_fits c.args.self.now.additions
+    (count_of c.take_out-inventory.result c.args.key) c.args.count _ c.requires.few
+    (subst (λ es. unsigned_abs (count_of es c.args.key) ≤ c.args.self.now.additions * 10 ^ 20)
+    (sym c.take_out-inventory.ensures.taken) small) c.requires.small count
