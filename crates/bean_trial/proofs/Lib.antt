@@ -7,3 +7,4 @@ pub mod LegFacts
 pub mod OneLine
 pub mod OneFilling
 pub mod OneTrial
+mod Examples
