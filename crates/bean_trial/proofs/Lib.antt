@@ -8,3 +8,4 @@ pub mod OneLine
 pub mod OneFilling
 pub mod OneTrial
 mod Examples
+pub mod LightFacts

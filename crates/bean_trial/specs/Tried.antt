@@ -145,3 +145,12 @@ Tries s ps (Err f) =
 abbrev pub TriesOrLacks : Setting → List postings.Posting → Result (List Posted) Stop → Type 0
 TriesOrLacks s ps (Ok posted) = Tries s ps (Ok posted)
 TriesOrLacks s ps (Err e) = StopsAt (λ f. Tries s ps (Err f)) e
+
+-- ---- what is booked weighs
+
+abbrev pub booked_leg : List postings.Posting → Posted → Leg
+booked_leg ps p = leg.Whole (whole_at (slice_get ps p.written) p)
+
+-- the booked postings of a transaction as legs
+abbrev pub booked_legs : List postings.Posting → List Posted → List Leg
+booked_legs ps posted = map (booked_leg ps) posted

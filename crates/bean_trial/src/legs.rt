@@ -96,3 +96,18 @@ pub(crate) fn legs_of<'a>(
     }
     Ok(legs)
 }
+
+/// The legs that booked postings are.
+pub(crate) fn booked_legs<'a>(
+    alloc: Global,
+    postings: &[Posting<'a>],
+    posted: &[Posted<'a>],
+) -> Result<Vec<Leg<'a>>, AllocError>
+    ensures { IfOk result (λ legs. legs.items ≡ spec.booked_legs postings.now posted.now) }
+{
+    let mut legs = Vec::new(alloc);
+    for one in posted {
+        legs.push(Leg::Whole(whole(postings, one)))?;
+    }
+    Ok(legs)
+}

@@ -74,4 +74,4 @@ pub use line::{Line, Posted};
 pub use methods::Methods;
 pub use setting::Head;
 pub use stop::{LineFault, Stop};
-pub use trial::try_transaction;
+pub use trial::{balances, try_transaction};

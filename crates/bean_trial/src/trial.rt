@@ -1,7 +1,10 @@
 //! Transactions that are tried: nothing is booked until all of one is known.
-ghost use Rattle.std.specs.Prelude.{◌≡◌, ◌≤◌, ◌^◌, IfOk, IfErr, Err};
+ghost use Rattle.std.specs.Prelude.{◌≡◌, ◌≤◌, ◌^◌, IfOk, IfErr, Err, length};
 ghost use Rattle.std.specs.Prelude as prelude;
+ghost use Rattle.std.specs.List.{AllByRecursion};
+ghost use Rattle.bean_interp.specs.Balance.{is_balanced};
 ghost use Rattle.bean_interp.specs.Completion.{Completes};
+ghost use Rattle.bean_interp.specs.Residual.{IsLight};
 ghost use Rattle.bean_interp.specs.declared.leg.Leg.{Leg};
 ghost use Rattle.bean_trial.specs.Holdings.{IsBounded, additions_in};
 ghost use Rattle.bean_trial.specs.Lined.{Setting};
@@ -12,7 +15,7 @@ ghost use Rattle.bean_trial.specs.Tried.{IsCompleted, LacksOrIsWide, TriesOrLack
 
 use crate::completed::completed;
 use crate::holdings::Holdings;
-use crate::legs::legs_of;
+use crate::legs::{booked_legs, legs_of};
 use crate::line::{Line, Posted};
 use crate::lines::line_up;
 use crate::methods::Methods;
@@ -21,7 +24,7 @@ use crate::stop::{LineFault, Stop};
 use bean_base::{FaultKind, List};
 use bean_grammar::Posting;
 use bean_interp::{CompletionFault, Leg, Scales, WeighFault};
-use std::alloc::Global;
+use std::alloc::{AllocError, Global};
 
 fn are_outside_profile(postings: &[Posting<'_>]) -> bool
     ensures { result ≡ spec.is_outside postings.now }
@@ -93,5 +96,24 @@ pub fn try_transaction<'a>(
     match line_up(alloc, holdings, methods, head, postings) {
         Ok(lines) => complete(alloc, scales, head, postings, lines.as_slice()),
         Err(stop) => Err(stop),
+    }
+}
+
+/// Whether a transaction balances by the postings that it is booked as.
+pub fn balances<'a>(
+    alloc: Global,
+    scales: &mut Scales<'a>,
+    postings: &[Posting<'a>],
+    posted: &[Posted<'a>],
+) -> Result<bool, AllocError>
+    requires few { length posted.now ≤ 10 ^ 9 }
+    requires light { AllByRecursion IsLight (spec.booked_legs postings.now posted.now) }
+    ensures { IfOk result (λ b. b ≡ is_balanced (spec.booked_legs postings.now posted.now)) }
+{
+    let legs = booked_legs(alloc, postings, posted)?;
+    match scales.balances(&legs) {
+        Ok(balances) => Ok(balances),
+        Err(WeighFault::OutOfMemory) => Err(AllocError),
+        Err(WeighFault::TooWide) => unreachable!(),
     }
 }
