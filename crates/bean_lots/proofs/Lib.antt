@@ -8,4 +8,5 @@ pub mod InTurn
 pub mod TakeFacts
 pub mod ReductionFacts
 pub mod CandidateFacts
+pub mod AfterFacts
 mod Examples

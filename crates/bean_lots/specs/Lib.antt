@@ -5,3 +5,4 @@ pub mod Candidate
 pub mod Take
 pub mod Filling
 pub mod Reduction
+pub mod After

@@ -1,10 +1,12 @@
 //! Reductions: which lots are taken, and how much of each.
 ghost use Rattle.std.specs.Prelude.{◌≡◌};
 
+mod after;
 mod queue;
 mod takes;
 
 use crate::lot::{Cost, Lot};
+pub use after::{has_opposite, reduce_after};
 use bean_base::{Currency, Day, Text};
 use std::alloc::AllocError;
 pub use takes::{one_reduction, reduce};

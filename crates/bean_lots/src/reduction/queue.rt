@@ -55,7 +55,8 @@ impl<'a> Candidate<'a> {
     }
 }
 
-fn is_opposite(want: i128, count: i128) -> bool
+/// Whether what is held has the sign opposite to the want.
+pub(crate) fn is_opposite(want: i128, count: i128) -> bool
     ensures { result ≡ is_opposite want count }
 {
     want < 0 && 0 < count || 0 < want && count < 0
@@ -75,25 +76,27 @@ fn is_candidate(
     key.currency == selector.currency && selector.agrees(lot) && is_opposite(want, count)
 }
 
-fn push_candidate<'a>(
+/// Adds the candidate that an entry of that key and count is, where it is one.
+pub(crate) fn push_candidate<'a>(
     found: &mut Vec<Candidate<'a>>,
     selector: &Selector<'_>,
     want: i128,
-    entry: &Position<'a>,
+    key: &Key<'a>,
+    count: i128,
 ) -> Result<(), AllocError>
-    ensures { OnOk result (found.new.items ≡ found.old.items ++ candidate_of selector.now want
-        entry.now.key.currency entry.now.key.lot entry.now.count) }
+    ensures { OnOk result (found.new.items ≡ found.old.items
+        ++ candidate_of selector.now want key.now.currency key.now.lot count) }
 {
-    if let Some(lot) = &entry.key.lot {
-        if is_candidate(selector, want, &entry.key, lot, entry.count) {
-            found.push(Candidate::new(lot.lend(), entry.count.unsigned_abs()))?;
+    if let Some(lot) = &key.lot {
+        if is_candidate(selector, want, key, lot, count) {
+            found.push(Candidate::new(lot.lend(), count.unsigned_abs()))?;
         }
     }
     Ok(())
 }
 
 /// The candidates, in order of entry.
-fn candidates<'a>(
+pub(crate) fn candidates<'a>(
     alloc: Global,
     entries: &[Position<'a>],
     selector: &Selector<'_>,
@@ -103,13 +106,13 @@ fn candidates<'a>(
 {
     let mut found = Vec::new(alloc);
     for entry in entries {
-        push_candidate(&mut found, selector, want, entry)?;
+        push_candidate(&mut found, selector, want, &entry.key, entry.count)?;
     }
     Ok(found)
 }
 
 /// Puts candidates in the order in which they are taken.
-fn arrange(method: Method, queue: &mut Vec<Candidate<'_>>) -> Result<(), AllocError>
+pub(crate) fn arrange(method: Method, queue: &mut Vec<Candidate<'_>>) -> Result<(), AllocError>
     requires { method ≢ Method.None }
     ensures queue { OnOk result (IsQueue method queue.old.items queue.new.items) }
     ensures same { IsPermutation queue.old.items queue.new.items }
@@ -119,25 +122,6 @@ fn arrange(method: Method, queue: &mut Vec<Candidate<'_>>) -> Result<(), AllocEr
         Method::Strict | Method::Fifo => queue.sort_by_key(|c| c.day_number()),
         Method::None => unreachable!(),
     }
-}
-
-/// The candidates in the order in which they are taken.
-pub(crate) fn queue_of<'a>(
-    alloc: Global,
-    entries: &[Position<'a>],
-    selector: &Selector<'_>,
-    want: i128,
-    method: Method,
-) -> Result<Vec<Candidate<'a>>, AllocError>
-    requires { method ≢ Method.None }
-    ensures queue { IfOk result
-        (λ queue. IsQueue method (candidates selector.now want entries.now) queue.items) }
-    ensures same { IfOk result
-        (λ queue. IsPermutation (candidates selector.now want entries.now) queue.items) }
-{
-    let mut queue = candidates(alloc, entries, selector, want)?;
-    arrange(method, &mut queue)?;
-    Ok(queue)
 }
 
 /// What is left of the want once all is taken.

@@ -7,12 +7,14 @@ ghost use Rattle.bean_lots.specs.Candidate.{candidates};
 ghost use Rattle.bean_lots.specs.Take.{with_sign, signed_take, signed_takes, take_counts};
 ghost use Rattle.bean_lots.specs.Filling.{filled};
 ghost use Rattle.bean_lots.specs.Reduction.{IsReduction, Reduces};
+ghost use Rattle.bean_lots.specs.declared.lot.Position.{Position};
 ghost use Rattle.bean_lots.specs.declared.reduction.Method.{Method};
+ghost use Rattle.bean_lots.specs.declared.reduction.Selector.{Selector};
 
-use super::queue::{Candidate, judge, queue_of};
+use super::queue::{Candidate, arrange, candidates, judge};
 use super::{LotFault, Method, Selector};
 use crate::inventory::Inventory;
-use crate::lot::{Lot, Position};
+use crate::lot::Lot;
 use bean_base::Num;
 use std::alloc::{AllocError, Global};
 
@@ -67,18 +69,19 @@ fn fill<'a>(
     Ok(takes)
 }
 
-fn reduce_in<'a>(
+/// What is taken of candidates, which stand in order of entry.
+pub(crate) fn reduce_candidates<'a>(
     alloc: Global,
-    entries: &[Position<'a>],
-    selector: &Selector<'_>,
+    mut queue: Vec<Candidate<'a>>,
     want: i128,
     method: Method,
 ) -> Result<Vec<(Lot<'a>, Num)>, LotFault>
     requires small { unsigned_abs want < 10 ^ 20 }
     requires chooses { method ≢ Method.None }
-    ensures { Reduces method (candidates selector.now want entries.now) want result }
+    ensures { (s : Selector) (es : List Position) → queue.entry.items ≡ candidates s want es
+        → Reduces method (candidates s want es) want result }
 {
-    let queue = queue_of(alloc, entries, selector, want, method)?;
+    arrange(method, &mut queue)?;
     match judge(method, &queue, want.unsigned_abs()) {
         Ok(()) => Ok(fill(alloc, &queue, want)?),
         Err(fault) => Err(fault),
@@ -98,13 +101,9 @@ pub fn reduce<'a>(
     ensures { let want = scaled units.count units.places 8 in
         Reduces method (candidates selector.now want inventory.now) want result }
 {
-    reduce_in(
-        alloc,
-        inventory.entries(),
-        selector,
-        units.scaled(8),
-        method,
-    )
+    let want = units.scaled(8);
+    let found = candidates(alloc, inventory.entries(), selector, want)?;
+    reduce_candidates(alloc, found, want, method)
 }
 
 /// There is at most one list of takes.

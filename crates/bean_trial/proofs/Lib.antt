@@ -1,0 +1,11 @@
+pub mod BoundFacts
+pub mod OutcomeFacts
+pub mod HeldFacts
+pub mod LinedFacts
+pub mod CompletedFacts
+pub mod LegFacts
+pub mod OneLine
+pub mod OneFilling
+pub mod OneTrial
+mod Examples
+pub mod LightFacts

@@ -1,0 +1,16 @@
+use Rattle.std.proofs.Common.{refl, ap, Some}
+use Rattle.bean_trial.proofs.outcome.take_line.Goals as goal
+
+pub returns : goal.returns
+returns c = (
+  _,
+  refl,
+  record {
+    account_is = c.lend.ensures;
+    currency_is = c.lend-2.ensures;
+    count_is = refl;
+    places_are = refl;
+    lot_is = ap Some c.lend-3.ensures;
+    written_is = refl;
+  },
+)

@@ -1,0 +1,113 @@
+//! Transactions as their completion sees them.
+ghost use Rattle.std.specs.Prelude.{◌≡◌, slice_get, IfOk};
+ghost use Rattle.std.specs.Prelude as prelude;
+ghost use Rattle.bean_trial.specs.Tried as spec;
+ghost use Rattle.bean_trial.specs.Tried.{whole_at};
+
+use crate::line::{Line, Posted};
+use bean_base::Num;
+use bean_grammar::{Posting, Price, Units};
+use bean_interp::{Leg, Whole, Worth};
+use bean_lots::Lot;
+use std::alloc::{AllocError, Global};
+
+/// What units are worth: a cost goes before a price.
+fn worth_of<'a>(lot: &Option<Lot<'a>>, price: &Price<'a>) -> Worth<'a>
+    ensures { result ≡ spec.worth_of lot.now price.now }
+{
+    match lot {
+        Some(lot) => Worth::Cost(lot.cost.lend()),
+        None => worth_by(price),
+    }
+}
+
+/// What units without a cost are worth.
+fn worth_by<'a>(price: &Price<'a>) -> Worth<'a>
+    ensures { result ≡ spec.worth_of prelude.None price.now }
+{
+    match price {
+        Price::Absent | Price::OutsideProfile => Worth::Units,
+        Price::PerUnit(amount) => Worth::PerUnit(amount.get().lend()),
+        Price::Total(amount) => Worth::Total(amount.get().lend()),
+    }
+}
+
+/// The number that is written for units.
+fn number_in(units: &Units<'_>) -> Option<Num>
+    ensures { result ≡ spec.number_in units.now }
+{
+    match units {
+        Units::Amount(amount) => Some(amount.number),
+        _ => None,
+    }
+}
+
+fn whole_of<'a>(number: Option<Num>, worth: Worth<'a>, posted: &Posted<'a>) -> Whole<'a>
+    ensures units { result.units ≡ posted.now.units }
+    ensures decimals { result.decimals ≡ spec.decimals_of number }
+    ensures worth { result.worth ≡ worth.entry }
+{
+    Whole {
+        units: posted.units.lend(),
+        decimals: match number {
+            Some(number) => number.places,
+            None => 0,
+        },
+        worth,
+    }
+}
+
+/// A booked posting of a transaction with these written ones.
+fn whole<'a>(postings: &[Posting<'a>], posted: &Posted<'a>) -> Whole<'a>
+    ensures { result ≡ whole_at (slice_get postings.now posted.now.written) posted.now }
+{
+    match postings.get(posted.written) {
+        Some(written) => whole_of(
+            number_in(&written.units),
+            worth_of(&posted.lot, &written.price),
+            posted,
+        ),
+        None => whole_of(None, worth_of(&posted.lot, &Price::Absent), posted),
+    }
+}
+
+fn leg_of<'a>(postings: &[Posting<'a>], line: &Line<'a>) -> Leg<'a>
+    ensures { result ≡ spec.leg_of postings.now line.now }
+{
+    match line {
+        Line::Posted(posted) => Leg::Whole(whole(postings, posted)),
+        Line::Take(take) => Leg::Whole(whole(postings, take)),
+        Line::MissingNumber(_, currency, _) => Leg::MissingNumber(currency.lend()),
+        Line::MissingAmount(_, _) => Leg::MissingAmount,
+    }
+}
+
+/// The legs that lines are.
+pub(crate) fn legs_of<'a>(
+    alloc: Global,
+    postings: &[Posting<'a>],
+    lines: &[Line<'a>],
+) -> Result<Vec<Leg<'a>>, AllocError>
+    ensures { IfOk result (λ legs. legs.items ≡ spec.legs_of postings.now lines.now) }
+{
+    let mut legs = Vec::new(alloc);
+    for line in lines {
+        legs.push(leg_of(postings, line))?;
+    }
+    Ok(legs)
+}
+
+/// The legs that booked postings are.
+pub(crate) fn booked_legs<'a>(
+    alloc: Global,
+    postings: &[Posting<'a>],
+    posted: &[Posted<'a>],
+) -> Result<Vec<Leg<'a>>, AllocError>
+    ensures { IfOk result (λ legs. legs.items ≡ spec.booked_legs postings.now posted.now) }
+{
+    let mut legs = Vec::new(alloc);
+    for one in posted {
+        legs.push(Leg::Whole(whole(postings, one)))?;
+    }
+    Ok(legs)
+}

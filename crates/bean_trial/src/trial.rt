@@ -1,0 +1,119 @@
+//! Transactions that are tried: nothing is booked until all of one is known.
+ghost use Rattle.std.specs.Prelude.{◌≡◌, ◌≤◌, ◌^◌, IfOk, IfErr, Err, length};
+ghost use Rattle.std.specs.Prelude as prelude;
+ghost use Rattle.std.specs.List.{AllByRecursion};
+ghost use Rattle.bean_interp.specs.Balance.{is_balanced};
+ghost use Rattle.bean_interp.specs.Completion.{Completes};
+ghost use Rattle.bean_interp.specs.Residual.{IsLight};
+ghost use Rattle.bean_interp.specs.declared.leg.Leg.{Leg};
+ghost use Rattle.bean_trial.specs.Holdings.{IsBounded, additions_in};
+ghost use Rattle.bean_trial.specs.Lined.{Setting};
+ghost use Rattle.bean_trial.specs.Lines.{IsSettled};
+ghost use Rattle.bean_trial.specs.Outcome.{StopsAt};
+ghost use Rattle.bean_trial.specs.Tried as spec;
+ghost use Rattle.bean_trial.specs.Tried.{IsCompleted, LacksOrIsWide, TriesOrLacks};
+
+use crate::completed::completed;
+use crate::holdings::Holdings;
+use crate::legs::{booked_legs, legs_of};
+use crate::line::{Line, Posted};
+use crate::lines::line_up;
+use crate::methods::Methods;
+use crate::setting::Head;
+use crate::stop::{LineFault, Stop};
+use bean_base::{FaultKind, List};
+use bean_grammar::Posting;
+use bean_interp::{CompletionFault, Leg, Scales, WeighFault};
+use std::alloc::{AllocError, Global};
+
+fn are_outside_profile(postings: &[Posting<'_>]) -> bool
+    ensures { result ≡ spec.is_outside postings.now }
+{
+    postings.iter().any(|posting| posting.is_outside_profile())
+}
+
+/// The fault of a transaction that can't be completed.
+fn stop_of(fault: CompletionFault, line: usize) -> Stop
+    ensures { (legs : prelude.List Leg) → Completes legs (Err fault)
+        → StopsAt (LacksOrIsWide line legs) result }
+{
+    match fault {
+        CompletionFault::LackTooMuch => Stop::Fault(LineFault {
+            kind: FaultKind::SeveralMissingAmounts,
+            line,
+        }),
+        CompletionFault::Weighing(WeighFault::TooWide) => Stop::Fault(LineFault {
+            kind: FaultKind::TooWide,
+            line,
+        }),
+        CompletionFault::Weighing(WeighFault::OutOfMemory) => Stop::OutOfMemory,
+    }
+}
+
+/// The postings that lines are booked as, once what they lack is filled in.
+fn complete<'a>(
+    alloc: Global,
+    scales: &mut Scales<'a>,
+    head: Head,
+    postings: &[Posting<'a>],
+    lines: &[Line<'a>],
+) -> Result<List<Posted<'a>>, Stop>
+    ensures ok { IfOk result (IsCompleted postings.now lines.now) }
+    ensures err { IfErr result
+        (StopsAt (LacksOrIsWide head.line (spec.legs_of postings.now lines.now))) }
+{
+    let legs = legs_of(alloc, postings, lines)?;
+    match scales.complete(alloc, &legs) {
+        Ok(fills) => {
+            let posted = completed(alloc, fills.as_slice(), lines)?;
+            Ok(List::new(posted))
+        }
+        Err(fault) => Err(stop_of(fault, head.line)),
+    }
+}
+
+/// The postings that a transaction is booked as, or its first fault. Nothing that is held is
+/// changed.
+pub fn try_transaction<'a>(
+    alloc: Global,
+    holdings: &Holdings<'a>,
+    methods: &Methods<'a>,
+    scales: &mut Scales<'a>,
+    head: Head,
+    postings: &[Posting<'a>],
+) -> Result<List<Posted<'a>>, Stop>
+    requires bounded { IsBounded holdings.now }
+    requires few { additions_in holdings.now ≤ 2 ^ 40 }
+    ensures { (s : Setting) → IsSettled s holdings.now methods.now head
+        → TriesOrLacks s postings.now result }
+{
+    if are_outside_profile(postings) {
+        return Err(Stop::Fault(LineFault {
+            kind: FaultKind::OutsideProfile,
+            line: head.line,
+        }));
+    }
+    match line_up(alloc, holdings, methods, head, postings) {
+        Ok(lines) => complete(alloc, scales, head, postings, lines.as_slice()),
+        Err(stop) => Err(stop),
+    }
+}
+
+/// Whether a transaction balances by the postings that it is booked as.
+pub fn balances<'a>(
+    alloc: Global,
+    scales: &mut Scales<'a>,
+    postings: &[Posting<'a>],
+    posted: &[Posted<'a>],
+) -> Result<bool, AllocError>
+    requires few { length posted.now ≤ 10 ^ 9 }
+    requires light { AllByRecursion IsLight (spec.booked_legs postings.now posted.now) }
+    ensures { IfOk result (λ b. b ≡ is_balanced (spec.booked_legs postings.now posted.now)) }
+{
+    let legs = booked_legs(alloc, postings, posted)?;
+    match scales.balances(&legs) {
+        Ok(balances) => Ok(balances),
+        Err(WeighFault::OutOfMemory) => Err(AllocError),
+        Err(WeighFault::TooWide) => unreachable!(),
+    }
+}
