@@ -27,6 +27,13 @@ impl<T: Drop> Apart<T> {
         })
     }
 
+    /// The value, out of its memory.
+    pub fn into_inner(self) -> T
+        ensures { result ≡ self }
+    {
+        Box::into_inner(self.place)
+    }
+
     /// The value.
     pub fn get(&self) -> &T
         ensures { result.now ≡ self.now }

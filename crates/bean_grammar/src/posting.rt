@@ -5,7 +5,7 @@ ghost use Rattle.bean_grammar.specs.Posting as rule;
 use crate::cost::Cost;
 use crate::metadata::Entry;
 use crate::price::Price;
-use bean_base::{Account, Amount, Currency, Flag, List};
+use bean_base::{Account, Amount, Currency, Few, Flag};
 
 /// What a posting adds to its account, as far as it is written.
 #[derive(Debug, Drop)]
@@ -21,15 +21,16 @@ pub enum Units<'a> {
 /// A line of a transaction that changes an account.
 #[derive(Debug, Drop)]
 pub struct Posting<'a> {
-    pub flag: Option<Flag>,
-    pub account: Account<'a>,
     pub units: Units<'a>,
+    pub account: Account<'a>,
     pub cost: Cost<'a>,
     pub price: Price<'a>,
     /// The line on which it is written, from 1.
     pub line: usize,
     /// The entries that stand under it, in order.
-    pub metadata: List<Entry<'a>>,
+    pub metadata: Few<Entry<'a>>,
+    // The widest field stands first and the smallest last, so that little room is lost between them.
+    pub flag: Option<Flag>,
 }
 
 impl Posting<'_> {

@@ -11,7 +11,7 @@ use crate::front::{after_account, next};
 use crate::posting::{Posting, Units};
 use crate::price::{Price, price_if_due};
 use crate::ranged::Ranged;
-use bean_base::{Account, Amount, Flag, List};
+use bean_base::{Account, Amount, Few, Flag};
 use bean_lexer::{Kind, Sign, Token};
 use std::alloc::{AllocError, Global};
 
@@ -62,7 +62,6 @@ fn units<'t, 'a>(tokens: &'t [Token<'a>]) -> Option<(Ranged<Units<'a>>, &'t [Tok
 }
 
 fn posting_of<'a>(
-    alloc: Global,
     line: usize,
     flag: Option<Flag>,
     account: Account<'a>,
@@ -83,7 +82,7 @@ fn posting_of<'a>(
         cost,
         price,
         line,
-        metadata: List::new(Vec::new(alloc)),
+        metadata: Few::new(),
     })
 }
 
@@ -132,6 +131,6 @@ pub fn posting<'a>(
     let (price, rest) = found;
     match next(rest) {
         Some(_) => Ok(None),
-        None => Ok(Some(posting_of(alloc, line, flag, account, units, cost, price))),
+        None => Ok(Some(posting_of(line, flag, account, units, cost, price))),
     }
 }

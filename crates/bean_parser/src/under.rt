@@ -124,11 +124,11 @@ impl<'a> Body<'a> {
     }
 
     /// Adds an entry.
-    fn add_entry(&mut self, entry: Entry<'a>) -> Result<(), AllocError>
+    fn add_entry(&mut self, alloc: Global, entry: Entry<'a>) -> Result<(), AllocError>
         ensures { OnOk result (self.new ≡ rule.with_entry self.old self.old.last entry.entry) }
     {
         match &mut self.last {
-            Some(posting) => posting.metadata.push(entry),
+            Some(posting) => posting.metadata.push(alloc, entry),
             None => self.metadata.push(entry),
         }
     }
@@ -144,11 +144,11 @@ impl<'a> Body<'a> {
     }
 
     /// Adds what a line says.
-    fn add(&mut self, line: LineKind<'a>) -> Result<(), AllocError>
+    fn add(&mut self, alloc: Global, line: LineKind<'a>) -> Result<(), AllocError>
         ensures { OnOk result (self.new ≡ rule.with_line self.old line.entry) }
     {
         match line {
-            LineKind::Entry(Ranged::Within(entry)) => self.add_entry(entry),
+            LineKind::Entry(Ranged::Within(entry)) => self.add_entry(alloc, entry),
             LineKind::Marks(marks) => self.marks.append(marks),
             LineKind::Posting(Ranged::Within(posting)) => self.add_posting(posting),
             LineKind::Entry(Ranged::Outside) | LineKind::Posting(Ranged::Outside) => {
@@ -200,7 +200,7 @@ pub fn read_lines<'a>(
         let Some(kind) = line_kind(alloc, in_transaction, line)? else {
             return Ok(None);
         };
-        body.add(kind)?;
+        body.add(alloc, kind)?;
         rest = Unread { tokens: after };
     }
     Ok(Some(body))
