@@ -1,0 +1,41 @@
+-- How lists of literals are read.
+use Rattle.std.proofs.Common.{◌≡◌, ℕ, zero, suc, ◌<◌, List, Option, Some, None, refl, arith}
+use Rattle.theory.specs.Form.{Form, Reads, HasNone, made}
+use Rattle.theory.proofs.FormFacts.{reads_made}
+use Rattle.bql_lexer.specs.declared.kind.Kind.TheVariants as kind
+use Rattle.bql_lexer.specs.declared.token.Token.{Token}
+use Rattle.bql_tree.specs.Call.{listed}
+use Rattle.bql_grammar.specs.Expression.{token, then, literals, list_behind, list}
+use Rattle.bql_grammar.specs.Front.{front, of_kind}
+use Rattle.bql_tree.specs.Part.{Part}
+use Rattle.bql_grammar.proofs.FormFacts.{reads_then, none_then_first, none_then, reads_behind, none_behind, none_here, none_of_nothing}
+
+abbrev shut : Part → List Part → Form Token Part
+shut left items = then (token kind.CloseParenthesis) (λ close. made (listed left items close))
+
+abbrev opened : Part → Form Token Part
+opened left = then (token kind.OpenParenthesis) (λ opening. then literals (shut left))
+
+pub no_items : (room : ℕ) (left : Part) (ts : List Token) (word : Token) (mid : List Token) (opening : Token) (in_it : List Token) → front (of_kind kind.In) ts ≡ Some (word, mid) → front (of_kind kind.OpenParenthesis) mid ≡ Some (opening, in_it)
+    → HasNone literals in_it → HasNone (list room left) ts
+no_items zero left ts word mid opening in_it at open_at none = none_of_nothing ts
+no_items (suc room) left ts word mid opening in_it at open_at none =
+    none_behind (of_kind kind.In) (λ word. opened left) ts word mid (λ v rest. refl) at
+    (none_behind (of_kind kind.OpenParenthesis) (λ opening. then literals (shut left)) mid opening in_it (λ v rest. refl) open_at (none_then_first literals (shut left) in_it (λ rest. refl) none))
+
+pub items_not_shut : (room : ℕ) (left : Part) (ts : List Token) (word : Token) (mid : List Token) (opening : Token) (in_it : List Token) (items : List Part) (rest : List Token) → front (of_kind kind.In) ts ≡ Some (word, mid)
+    → front (of_kind kind.OpenParenthesis) mid ≡ Some (opening, in_it) → Reads literals in_it items rest → front (of_kind kind.CloseParenthesis) rest ≡ None → HasNone (list room left) ts
+items_not_shut zero left ts word mid opening in_it items rest at open_at r none = none_of_nothing ts
+items_not_shut (suc room) left ts word mid opening in_it items rest at open_at r none =
+    none_behind (of_kind kind.In) (λ word. opened left) ts word mid (λ v rest. refl) at
+    (none_behind (of_kind kind.OpenParenthesis) (λ opening. then literals (shut left)) mid opening in_it (λ v rest. refl) open_at
+    (none_then literals (shut left) in_it items rest (λ rest. refl) (λ v rest. refl) r (none_here (of_kind kind.CloseParenthesis) (λ close. made (listed left items close)) rest none)))
+
+pub list_read : (room : ℕ) (left : Part) (ts : List Token) (word : Token) (mid : List Token) (opening : Token) (in_it : List Token) (items : List Part) (rest : List Token) (close : Token) (more : List Token) → 0 < room
+    → front (of_kind kind.In) ts ≡ Some (word, mid) → front (of_kind kind.OpenParenthesis) mid ≡ Some (opening, in_it) → Reads literals in_it items rest → front (of_kind kind.CloseParenthesis) rest ≡ Some (close, more)
+    → Reads (list room left) ts (listed left items close) more
+list_read zero left ts word mid opening in_it items rest close more some at open_at r shut_at = absurd (omega (arith, some))
+list_read (suc room) left ts word mid opening in_it items rest close more some at open_at r shut_at =
+    reads_behind (of_kind kind.In) (λ word. opened left) ts word mid _ more (λ v rest. refl) at
+    (reads_behind (of_kind kind.OpenParenthesis) (λ opening. then literals (shut left)) mid opening in_it _ more (λ v rest. refl) open_at
+    (reads_then literals (shut left) in_it items rest _ more (λ rest. refl) (λ v rest. refl) r (reads_behind (of_kind kind.CloseParenthesis) (λ close. made (listed left items close)) rest close more _ more (λ v rest. refl) shut_at (reads_made (listed left items close) more))))

@@ -1,0 +1,6 @@
+pub mod LiteralFacts
+pub mod FormFacts
+pub mod ExpressionFacts
+pub mod ComparisonFacts
+pub mod AtomFacts
+pub mod ItemsFacts
