@@ -57,7 +57,7 @@ abbrev pub list_of : Form Token Part → Form Token (List Part)
 list_of a = ending (row (begins (of_kind kind.Comma)) a alone (behind_comma a) snoc)
 
 abbrev pub literal : Form Token Part
-literal = told fronts.literal
+literal = then (told fronts.literal) (λ found. made (parts.leaf found.0 found.1))
 
 abbrev pub literals : Form Token (List Part)
 literals = list_of literal

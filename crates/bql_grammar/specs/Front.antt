@@ -10,8 +10,6 @@ use Rattle.bql_lexer.specs.declared.kind.Kind.TheVariants as kind
 use Rattle.bql_lexer.specs.declared.token.Token.{Token}
 use Rattle.bql_tree.specs.Level as level_rules
 use Rattle.bql_tree.specs.Number.{number}
-use Rattle.bql_tree.specs.Part as parts
-use Rattle.bql_tree.specs.Part.{Part}
 use Rattle.bql_tree.specs.declared.level.Level.{Level}
 use Rattle.bql_tree.specs.declared.tree.Binary.{Binary}
 use Rattle.bql_tree.specs.declared.tree.Leaf as leaves
@@ -70,12 +68,8 @@ leaf_by k bs = None
 abbrev pub leaf_of : Token → Option leaves.Leaf
 leaf_of t = leaf_by t.kind t.text
 
-abbrev pub leaf_part : Token → Option leaves.Leaf → Option Part
-leaf_part t (Some l) = Some (parts.leaf t l)
-leaf_part t None = None
-
-abbrev pub literal : Token → Option Part
-literal t = leaf_part t (leaf_of t)
+abbrev pub literal : Token → Option (Token × leaves.Leaf)
+literal t = with_token t (leaf_of t)
 
 -- More than one token.
 

@@ -4,17 +4,17 @@ ghost use Rattle.bql_grammar.specs.Expression as rule;
 ghost use Rattle.bql_grammar.specs.Gives.{Gives};
 ghost use Rattle.bql_tree.specs.Part.{part_of, parts_of};
 
-use bql_tree::call::{called, is_count, listed};
 use crate::front::{
     after, after_comparison, after_literal, after_operator, after_sign, begins_with_call,
     begins_with_list,
 };
+use crate::stuck::Stuck;
+use bql_lexer::{Kind, Token};
+use bql_tree::call::{called, is_count, listed};
 use bql_tree::function::Scope;
 use bql_tree::level::Level;
-use bql_tree::part::{Part, denied, group, matched, name, rows, signed, two};
-use crate::stuck::Stuck;
+use bql_tree::part::{Part, denied, group, leaf, matched, name, rows, signed, two};
 use bql_tree::tree::Binary;
-use bql_lexer::{Kind, Token};
 use std::alloc::Global;
 
 /// How many parentheses, signs and NOTs may stand in one another.
@@ -179,8 +179,8 @@ fn atom<'t, 'a>(
     ensures read { Gives (rule.atom scope room) part_of tokens.now result }
     ensures shorter { IfOk result (λ r. length r.1.now < length tokens.now) }
 {
-    if let Some(literal) = after_literal(tokens) {
-        return Ok(literal);
+    if after_literal(tokens).is_some() {
+        return literal(alloc, tokens, room);
     }
     if after(tokens, Kind::OpenParenthesis).is_some() {
         return grouped(alloc, tokens, scope, room);
@@ -191,7 +191,8 @@ fn atom<'t, 'a>(
     let Some((token, rest)) = after(tokens, Kind::Name) else {
         return Err(Stuck::before(tokens, room));
     };
-    Ok((name(token, scope), rest))
+    let value = name(alloc, token, scope)?;
+    Ok((value, rest))
 }
 
 /// An expression in parentheses.
@@ -243,7 +244,7 @@ fn call<'t, 'a>(
         return Err(Stuck::before(behind, room));
     }
     if begins_with_count(name, inside) {
-        return counted(name, inside, room - 1);
+        return counted(alloc, name, inside, room - 1);
     }
     let found = match arguments(alloc, inside, scope, room - 1) {
         Ok(found) => found,
@@ -266,6 +267,7 @@ fn begins_with_count(name: &Token<'_>, inside: &[Token<'_>]) -> bool
 
 /// What stands behind the name and the parenthesis of `COUNT(*)`.
 fn counted<'t, 'a>(
+    alloc: Global,
     name: &Token<'a>,
     tokens: &'t [Token<'a>],
     room: usize,
@@ -279,7 +281,8 @@ fn counted<'t, 'a>(
     let Some((close, rest)) = after(rest, Kind::CloseParenthesis) else {
         return Err(Stuck::before(rest, room));
     };
-    Ok((rows(name, close), rest))
+    let value = rows(alloc, name, close)?;
+    Ok((value, rest))
 }
 
 /// What a function is called with, up to its parenthesis.
@@ -356,14 +359,14 @@ fn literals<'t, 'a>(
     ensures shorter { IfOk result (λ r. length r.1.now < length tokens.now) }
 {
     let mut parts = Vec::new(alloc);
-    let found = match literal(tokens, room) {
+    let found = match literal(alloc, tokens, room) {
         Ok(found) => found,
         Err(stuck) => return Err(stuck),
     };
     let (first, mut rest) = found;
     parts.push(first)?;
     while let Some((_, behind)) = after(rest, Kind::Comma) {
-        let found = match literal(behind, room) {
+        let found = match literal(alloc, behind, room) {
             Ok(found) => found,
             Err(stuck) => return Err(stuck),
         };
@@ -376,16 +379,18 @@ fn literals<'t, 'a>(
 
 /// A literal at the front.
 fn literal<'t, 'a>(
+    alloc: Global,
     tokens: &'t [Token<'a>],
     room: usize,
 ) -> Result<(Part<'a>, &'t [Token<'a>]), Stuck>
     ensures read { Gives rule.literal part_of tokens.now result }
     ensures shorter { IfOk result (λ r. length r.1.now < length tokens.now) }
 {
-    match after_literal(tokens) {
-        Some(found) => Ok(found),
-        None => Err(Stuck::before(tokens, room)),
-    }
+    let Some((token, value, rest)) = after_literal(tokens) else {
+        return Err(Stuck::before(tokens, room));
+    };
+    let value = leaf(alloc, token, value)?;
+    Ok((value, rest))
 }
 
 /// The expression at the front, as far as it goes, and what stands behind it. At most 200

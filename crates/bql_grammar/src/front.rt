@@ -2,14 +2,12 @@
 ghost use Rattle.std.specs.Prelude.{◌≡◌, ◌<◌, ◌∷◌, [], None, Some, length, MatchOption, IfSome};
 ghost use Rattle.bql_grammar.specs.Front as rule;
 ghost use Rattle.bql_grammar.specs.Front.{front};
-ghost use Rattle.bql_tree.specs.Part.{part_of};
 
-use bql_tree::level::{Level, comparison_of, sign_of};
-use bql_tree::number::number;
-use bql_tree::part::{Part, leaf};
-use bql_tree::tree::{Binary, Leaf};
 use bean_base::parse_day;
 use bql_lexer::{Kind, Token};
+use bql_tree::level::{Level, comparison_of, sign_of};
+use bql_tree::number::number;
+use bql_tree::tree::{Binary, Leaf};
 
 /// The first token, and what stands behind it.
 fn next<'t, 'a>(tokens: &'t [Token<'a>]) -> Option<(&'t Token<'a>, &'t [Token<'a>])>
@@ -92,15 +90,17 @@ fn literal_of<'a>(token: &Token<'a>) -> Option<Leaf<'a>>
     }
 }
 
-/// The literal at the front.
-pub fn after_literal<'t, 'a>(tokens: &'t [Token<'a>]) -> Option<(Part<'a>, &'t [Token<'a>])>
+/// The literal at the front, with its token.
+pub fn after_literal<'t, 'a>(
+    tokens: &'t [Token<'a>],
+) -> Option<(&'t Token<'a>, Leaf<'a>, &'t [Token<'a>])>
     ensures front { MatchOption result (front rule.literal tokens.now ≡ None)
-        (λ r. front rule.literal tokens.now ≡ Some (part_of r.0, r.1.now)) }
-    ensures shorter { IfSome result (λ r. length r.1.now < length tokens.now) }
+        (λ r. front rule.literal tokens.now ≡ Some ((r.0.now, r.1), r.2.now)) }
+    ensures shorter { IfSome result (λ r. length r.2.now < length tokens.now) }
 {
     let (first, rest) = next(tokens)?;
     let literal = literal_of(first)?;
-    Some((leaf(first, literal), rest))
+    Some((first, literal, rest))
 }
 
 /// Whether IN stands at the front with a list behind it: a parenthesis with a literal and then a
@@ -114,10 +114,9 @@ pub fn begins_with_list(tokens: &[Token<'_>]) -> bool
     let Some((_, rest)) = after(rest, Kind::OpenParenthesis) else {
         return false;
     };
-    let Some(found) = after_literal(rest) else {
+    let Some((_, _literal, rest)) = after_literal(rest) else {
         return false;
     };
-    let (_literal, rest) = found;
     after(rest, Kind::Comma).is_some() || after(rest, Kind::CloseParenthesis).is_some()
 }
 

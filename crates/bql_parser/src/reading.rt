@@ -135,7 +135,7 @@ fn starred<'a>(alloc: Global, star: &Token<'a>) -> Result<Vec<TargetRead<'a>>, S
             end: star.end,
             kind: Kind::Name,
         };
-        let part = bql_tree::part::name(&token, Scope::Postings);
+        let part = bql_tree::part::name(alloc, &token, Scope::Postings)?;
         let name = Slice::new(name);
         targets.push(TargetRead { name, part })?;
     }

@@ -28,7 +28,7 @@ fn target<'a>(index: usize, read: TargetRead<'a>) -> Result<Target<'a>, Cause> {
     match not_too_many(index, start, not_null(read.part.expr)) {
         Ok(expr) => Ok(Target {
             name: read.name,
-            expr,
+            expr: Box::into_inner(expr),
         }),
         Err(cause) => Err(cause),
     }
@@ -50,7 +50,7 @@ fn filter<'a>(part: Option<Part<'a>>) -> Result<Option<Expr<'a>>, QueryFault> {
         return Ok(None);
     };
     match not_null(part.expr) {
-        Ok(expr) => Ok(Some(expr)),
+        Ok(expr) => Ok(Some(Box::into_inner(expr))),
         Err(cause) => Err(fault_of(cause)),
     }
 }
@@ -89,9 +89,9 @@ fn numbered<'a>(
     }
 }
 
-fn plain<'a>(expr: Result<Expr<'a>, Cause>) -> Result<ItemKind<'a>, Cause> {
+fn plain<'a>(expr: Result<Box<Expr<'a>>, Cause>) -> Result<ItemKind<'a>, Cause> {
     match not_null(expr) {
-        Ok(expr) => Ok(ItemKind::Expr(expr)),
+        Ok(expr) => Ok(ItemKind::Expr(Box::into_inner(expr))),
         Err(cause) => Err(cause),
     }
 }
@@ -104,7 +104,7 @@ fn item_kind<'a>(targets: &[Target<'_>], part: Part<'a>) -> Result<ItemKind<'a>,
             None => plain(part.expr),
         },
         Alone::Number => match part.expr {
-            Ok(expr) => numbered(targets, part.start, expr),
+            Ok(expr) => numbered(targets, part.start, Box::into_inner(expr)),
             Err(cause) => Err(cause),
         },
         Alone::No => plain(part.expr),

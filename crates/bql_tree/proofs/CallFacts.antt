@@ -1,6 +1,6 @@
 -- What calls are made of.
 use Rattle.std.proofs.Common.{◌≡◌, ℕ, List, [], ◌∷◌, ◌++◌, map, Result, Ok, Err, refl, sym, ap, ◌∙◌}
-use Rattle.std.specs.Prelude.{Vec}
+use Rattle.std.specs.Prelude.{Box, Vec}
 use Rattle.std.specs.declared.alloc.Global.{Global}
 use Rattle.std.proofs.lemmas.List.{map-append}
 use Rattle.theory.specs.Form.{steps, snoc}
@@ -18,16 +18,16 @@ use Rattle.bql_tree.specs.declared.tree.Expr.{Expr, Row_of-Expr, end_of-Expr, mo
 ok_is : {A E : Type 0} (a b : A) → ◌≡◌ {A = Result A E} (Ok a) (Ok b) → a ≡ b
 ok_is a b e = cc
 
-pub pushed_is : (found : Result (Vec Expr Global) Cause) (next : Result Expr Cause) (exprs : Vec Expr Global) (e : Expr) (all : List Expr) (p : specs.Part)
-    → both found next ≡ Ok (exprs, e) → tree_found next ≡ not_null p.tree → all ≡ exprs.items ++ e ∷ [] → Ok (list_of_trees all) ≡ one_more (trees_found found) p
+pub pushed_is : (found : Result (Vec Expr Global) Cause) (next : Result (Box Expr Global) Cause) (exprs : Vec Expr Global) (e : Box Expr Global) (all : List Expr) (p : specs.Part)
+    → both found next ≡ Ok (exprs, e) → tree_found next ≡ not_null p.tree → all ≡ exprs.items ++ e.value ∷ [] → Ok (list_of_trees all) ≡ one_more (trees_found found) p
 pushed_is (Ok v) (Ok x) exprs e all p at is items =
     let both_are = ok_is (v, x) (exprs, e) at in
     let same = ap (λ q. q.0) both_are in
     let last = ap (λ q. q.1) both_are in
     ap (λ xs. Ok (list_of_trees xs)) items
-    ∙ ap Ok (map-append tree_of exprs.items (e ∷ []))
-    ∙ ap (λ w. Ok (map tree_of w.items ++ tree_of e ∷ [])) (sym same)
-    ∙ ap (λ y. Ok (map tree_of v.items ++ tree_of y ∷ [])) (sym last)
+    ∙ ap Ok (map-append tree_of exprs.items (e.value ∷ []))
+    ∙ ap (λ w. Ok (map tree_of w.items ++ tree_of e.value ∷ [])) (sym same)
+    ∙ ap (λ y. Ok (map tree_of v.items ++ tree_of y.value ∷ [])) (sym last)
     ∙ ap (λ r. pushed (both (trees_found (Ok v)) r)) is
 pushed_is (Ok v) (Err c) exprs e all p at is items = absurd cc
 pushed_is (Err d) (Ok x) exprs e all p at is items = absurd cc

@@ -1,5 +1,5 @@
 -- What is read of an expression.
-use Rattle.std.specs.Prelude.{ℕ, ◌+◌, max, Bool, true, false, ◌||◌, List, map, nat_lt, nat_le, Option, Some, None, Result, Ok, Err, if◌then◌else◌, Vec}
+use Rattle.std.specs.Prelude.{ℕ, ◌+◌, max, Bool, true, false, ◌||◌, List, map, nat_lt, nat_le, Option, Some, None, Result, Ok, Err, if◌then◌else◌, Box, Vec}
 use Rattle.std.specs.declared.alloc.Global.{Global}
 use Rattle.bql_lexer.specs.declared.token.Token.{Token}
 use Rattle.bql_tree.specs.Cause.{outside_profile, unknown_name, least, both}
@@ -30,12 +30,13 @@ pub record Part : Type 0 where
   pub alone : Alone
   pub tree : Result (Tree ℕ) Cause
 
-abbrev pub tree_found : Result Expr Cause → Result (Tree ℕ) Cause
-tree_found (Ok e) = Ok (tree_of e)
+abbrev pub tree_found : Result (Box Expr Global) Cause → Result (Tree ℕ) Cause
+tree_found (Ok e) = Ok (tree_of e.value)
 tree_found (Err c) = Err c
 
-abbrev pub pair_found : Result (Expr × Expr) Cause → Result (Tree ℕ × Tree ℕ) Cause
-pair_found (Ok p) = Ok (tree_of p.0, tree_of p.1)
+abbrev pub pair_found : Result (Box Expr Global × Box Expr Global) Cause
+    → Result (Tree ℕ × Tree ℕ) Cause
+pair_found (Ok p) = Ok (tree_of p.0.value, tree_of p.1.value)
 pair_found (Err c) = Err c
 
 abbrev pub list_of_trees : List Expr → List (Tree ℕ)
@@ -70,22 +71,18 @@ not_too_high start height found = if nat_le height 200 then found else too_high 
 
 -- NULL.
 
-abbrev pub null_refused : ℕ → leaves.Leaf → Trees ℕ → Result (Tree ℕ) Cause
-null_refused at leaf_kind.Null ts = Err (outside_profile at)
-null_refused at leaf ts = Ok (node at (leaf_of leaf) ts)
-
-abbrev pub tree_not_null : Tree ℕ → Result (Tree ℕ) Cause
-tree_not_null (node at (leaf_of leaf) ts) = null_refused at leaf ts
-tree_not_null t = Ok t
-
--- a NULL is refused at its own place
-abbrev pub not_null : Result (Tree ℕ) Cause → Result (Tree ℕ) Cause
-not_null (Ok t) = tree_not_null t
-not_null (Err c) = Err c
-
 abbrev pub null_at : Tree ℕ → Option ℕ
 null_at (node at (leaf_of leaf_kind.Null) ts) = Some at
 null_at t = None
+
+abbrev pub unless_null : Option ℕ → Tree ℕ → Result (Tree ℕ) Cause
+unless_null (Some at) t = Err (outside_profile at)
+unless_null None t = Ok t
+
+-- a NULL is refused at its own place
+abbrev pub not_null : Result (Tree ℕ) Cause → Result (Tree ℕ) Cause
+not_null (Ok t) = unless_null (null_at t) t
+not_null (Err c) = Err c
 
 abbrev pub with_nulls : Option ℕ → Option ℕ → Tree ℕ → Tree ℕ → Result (Tree ℕ × Tree ℕ) Cause
 with_nulls (Some at) (Some b) x y = Err (outside_profile at)

@@ -38,7 +38,7 @@ fn one_more<'a>(
 {
     match both(found, not_null(part.expr)) {
         Ok((mut exprs, next)) => {
-            exprs.push(next)?;
+            exprs.push(Box::into_inner(next))?;
             Ok(Ok(exprs))
         }
         Err(cause) => Ok(Err(cause)),
@@ -65,8 +65,10 @@ fn text_of<'a>(part: Part<'a>) -> Result<Slice<'a>, Cause>
 {
     let outside = Cause::outside_profile(part.start);
     match part.expr {
-        Ok(Expr::Leaf(_, Leaf::Text(text))) => Ok(text),
-        Ok(_expr) => Err(outside),
+        Ok(expr) => match Box::into_inner(expr) {
+            Expr::Leaf(_, Leaf::Text(text)) => Ok(text),
+            _ => Err(outside),
+        },
         Err(cause) => Err(cause.least(outside)),
     }
 }
@@ -98,10 +100,12 @@ fn components(part: Part<'_>) -> Result<u8, Cause>
 {
     let outside = Cause::outside_profile(part.start);
     match part.expr {
-        Ok(Expr::Leaf(_, Leaf::Number(n))) if n.places == 0 && 1 <= n.count && n.count <= 255 => {
-            Ok(n.count as u8)
-        }
-        Ok(_expr) => Err(outside),
+        Ok(expr) => match Box::into_inner(expr) {
+            Expr::Leaf(_, Leaf::Number(n)) if n.places == 0 && 1 <= n.count && n.count <= 255 => {
+                Ok(n.count as u8)
+            }
+            _ => Err(outside),
+        },
         Err(cause) => Err(cause.least(outside)),
     }
 }
@@ -111,13 +115,29 @@ fn root<'a>(
     start: usize,
     account: Part<'a>,
     count: Part<'a>,
-) -> Result<Result<Expr<'a>, Cause>, AllocError>
+) -> Result<Result<Box<Expr<'a>>, Cause>, AllocError>
     ensures { IfOk result (λ r. tree_found r ≡ rule.root start (part_of account.entry) (part_of count.entry)) }
 {
     match both(not_null(account.expr), components(count)) {
         Ok((account, count)) => {
-            Ok(Ok(Expr::One(start, Unary::Root(count), Box::new(alloc, account)?)))
+            Ok(Ok(Box::new(alloc, Expr::One(start, Unary::Root(count), account))?))
         }
+        Err(cause) => Ok(Err(cause)),
+    }
+}
+
+/// A function of a key or a pattern.
+fn of_text<'a>(
+    alloc: Global,
+    start: usize,
+    function: Function,
+    key: Part<'a>,
+) -> Result<Result<Box<Expr<'a>>, Cause>, AllocError>
+    ensures { IfOk result (λ r. tree_found r
+        ≡ rule.key_tree start function (rule.text_of (part_of key.entry))) }
+{
+    match text_of(key) {
+        Ok(key) => Ok(Ok(Box::new(alloc, Expr::Leaf(start, keyed(function, key)))?)),
         Err(cause) => Ok(Err(cause)),
     }
 }
@@ -128,18 +148,18 @@ fn plain<'a>(
     start: usize,
     function: Function,
     parts: Vec<Part<'a>>,
-) -> Result<Result<Expr<'a>, Cause>, AllocError>
+) -> Result<Result<Box<Expr<'a>>, Cause>, AllocError>
     ensures { IfOk result (λ r. tree_found r
         ≡ rule.plain start function (parts_of parts.entry)) }
 {
     match all_of(alloc, parts)? {
-        Ok(exprs) => Ok(Ok(Expr::Call(start, function, exprs))),
+        Ok(exprs) => Ok(Ok(Box::new(alloc, Expr::Call(start, function, exprs))?)),
         Err(cause) => Ok(Err(cause)),
     }
 }
 
 /// What stands from `start` to `end`, where it isn't too high.
-fn high<'a>(start: usize, end: usize, height: usize, expr: Result<Expr<'a>, Cause>) -> Part<'a>
+fn high<'a>(start: usize, end: usize, height: usize, expr: Result<Box<Expr<'a>>, Cause>) -> Part<'a>
     ensures { part_of result ≡ rule.high start end height (tree_found expr.entry) }
 {
     Part {
@@ -157,16 +177,13 @@ fn applied<'a>(
     start: usize,
     function: Function,
     parts: Vec<Part<'a>>,
-) -> Result<Result<Expr<'a>, Cause>, AllocError>
+) -> Result<Result<Box<Expr<'a>>, Cause>, AllocError>
     ensures { IfOk result (λ r. tree_found r ≡ rule.applied start function (parts_of parts.entry)) }
 {
     let mut parts = parts;
     if takes_key(function) && parts.len() == 1 {
         if let Some(key) = parts.pop() {
-            return Ok(match text_of(key) {
-                Ok(key) => Ok(Expr::Leaf(start, keyed(function, key))),
-                Err(cause) => Err(cause),
-            });
+            return of_text(alloc, start, function, key);
         }
     }
     if function == Function::Root && parts.len() == 2 {
@@ -182,7 +199,7 @@ fn refused<'a>(
     alloc: Global,
     cause: Cause,
     parts: Vec<Part<'a>>,
-) -> Result<Result<Expr<'a>, Cause>, AllocError>
+) -> Result<Result<Box<Expr<'a>>, Cause>, AllocError>
     ensures { IfOk result (λ r. tree_found r ≡ rule.refused cause (parts_of parts.entry)) }
 {
     match all_of(alloc, parts)? {

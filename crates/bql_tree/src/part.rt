@@ -1,12 +1,13 @@
 //! What was read of an expression.
-ghost use Rattle.std.specs.Prelude.{◌≡◌, IfOk, Result};
+ghost use Rattle.std.specs.Prelude.{◌≡◌, IfOk};
 ghost use Rattle.bql_tree.specs.Part as rule;
-ghost use Rattle.bql_tree.specs.Part.{part_of, parts_of, tree_found};
+ghost use Rattle.bql_tree.specs.Part.{part_of, tree_found};
+ghost use Rattle.bql_tree.specs.Tree.{tree_of};
 
 use crate::cause::{Cause, both};
 use crate::column::Column;
-use crate::function::{Function, Scope, is_left_out};
-use crate::tree::{Binary, Entry, Expr, Leaf, Unary};
+use crate::function::{Scope, is_left_out};
+use crate::tree::{Binary, Expr, Leaf, Unary};
 use bean_base::Slice;
 use bql_lexer::Token;
 use std::alloc::{AllocError, Global};
@@ -32,7 +33,7 @@ pub struct Part<'a> {
     /// most 201.
     pub height: usize,
     pub alone: Alone<'a>,
-    pub expr: Result<Expr<'a>, Cause>,
+    pub expr: Result<Box<Expr<'a>>, Cause>,
 }
 
 /// The height of what stands around something.
@@ -63,46 +64,61 @@ pub fn not_too_high<T: Drop>(
     }
 }
 
+/// Where a NULL stands.
+fn null_place(expr: &Expr<'_>) -> Option<usize>
+    ensures { result ≡ rule.null_at (tree_of expr.now) }
+{
+    match expr {
+        Expr::Leaf(place, Leaf::Null) => Some(*place),
+        _ => None,
+    }
+}
+
 /// An expression that may not be a NULL.
-pub fn not_null<'a>(found: Result<Expr<'a>, Cause>) -> Result<Expr<'a>, Cause>
+pub fn not_null<'a>(found: Result<Box<Expr<'a>>, Cause>) -> Result<Box<Expr<'a>>, Cause>
     ensures { tree_found result ≡ rule.not_null (tree_found found.entry) }
 {
     match found {
-        Ok(Expr::Leaf(place, Leaf::Null)) => Err(Cause::outside_profile(place)),
-        found => found,
+        Ok(expr) => match null_place(&expr) {
+            Some(place) => Err(Cause::outside_profile(place)),
+            None => Ok(expr),
+        },
+        Err(cause) => Err(cause),
     }
 }
 
 /// The sides of an equation, of which one may be NULL.
 fn equated<'a>(
-    left: Result<Expr<'a>, Cause>,
-    right: Result<Expr<'a>, Cause>,
-) -> Result<(Expr<'a>, Expr<'a>), Cause>
-    ensures { rule.pair_found result ≡ rule.equated (tree_found left.entry) (tree_found right.entry) }
+    left: Result<Box<Expr<'a>>, Cause>,
+    right: Result<Box<Expr<'a>>, Cause>,
+) -> Result<(Box<Expr<'a>>, Box<Expr<'a>>), Cause>
+    ensures { rule.pair_found result
+        ≡ rule.equated (tree_found left.entry) (tree_found right.entry) }
 {
     match (left, right) {
-        (Ok(Expr::Leaf(place, Leaf::Null)), Ok(Expr::Leaf(_, Leaf::Null))) => {
-            Err(Cause::outside_profile(place))
-        }
+        (Ok(left), Ok(right)) => match (null_place(&left), null_place(&right)) {
+            (Some(place), Some(_)) => Err(Cause::outside_profile(place)),
+            _ => Ok((left, right)),
+        },
         (left, right) => both(left, right),
     }
 }
 
 /// A token that is an expression.
-pub fn leaf<'a>(token: &Token<'a>, leaf: Leaf<'a>) -> Part<'a>
-    ensures { part_of result ≡ rule.leaf token.now leaf.entry }
+pub fn leaf<'a>(alloc: Global, token: &Token<'a>, leaf: Leaf<'a>) -> Result<Part<'a>, AllocError>
+    ensures { IfOk result (λ p. part_of p ≡ rule.leaf token.now leaf.entry) }
 {
     let alone = match leaf {
         Leaf::Number(_) | Leaf::TooWide(_) => Alone::Number,
         _ => Alone::No,
     };
-    Part {
+    Ok(Part {
         start: token.start,
         end: token.end,
         height: 1,
         alone,
-        expr: Ok(Expr::Leaf(token.start, leaf)),
-    }
+        expr: Ok(Box::new(alloc, Expr::Leaf(token.start, leaf))?),
+    })
 }
 
 /// Why a name that stands for nothing is refused.
@@ -126,33 +142,33 @@ fn column(token: &Token<'_>, scope: Scope) -> Option<Column>
 }
 
 /// A name that is an expression.
-pub fn name<'a>(token: &Token<'a>, scope: Scope) -> Part<'a>
-    ensures { part_of result ≡ rule.name scope token.now }
+pub fn name<'a>(alloc: Global, token: &Token<'a>, scope: Scope) -> Result<Part<'a>, AllocError>
+    ensures { IfOk result (λ p. part_of p ≡ rule.name scope token.now) }
 {
     let expr = match column(token, scope) {
-        Some(column) => Ok(Expr::Leaf(token.start, Leaf::Column(column))),
+        Some(column) => Ok(Box::new(alloc, Expr::Leaf(token.start, Leaf::Column(column)))?),
         None => Err(unknown(token)),
     };
-    Part {
+    Ok(Part {
         start: token.start,
         end: token.end,
         height: 1,
         alone: Alone::Name(token.text.lend()),
         expr,
-    }
+    })
 }
 
 /// `COUNT(*)`
-pub fn rows<'a>(name: &Token<'a>, close: &Token<'a>) -> Part<'a>
-    ensures { part_of result ≡ rule.rows name.now close.now }
+pub fn rows<'a>(alloc: Global, name: &Token<'a>, close: &Token<'a>) -> Result<Part<'a>, AllocError>
+    ensures { IfOk result (λ p. part_of p ≡ rule.rows name.now close.now) }
 {
-    Part {
+    Ok(Part {
         start: name.start,
         end: close.end,
         height: 1,
         alone: Alone::No,
-        expr: Ok(Expr::Leaf(name.start, Leaf::Rows)),
-    }
+        expr: Ok(Box::new(alloc, Expr::Leaf(name.start, Leaf::Rows))?),
+    })
 }
 
 /// An expression in parentheses.
@@ -177,11 +193,12 @@ fn one<'a>(
     op: Unary<'a>,
     inner: Part<'a>,
 ) -> Result<Part<'a>, AllocError>
-    ensures { IfOk result (λ p. part_of p ≡ rule.one start end op.entry (part_of inner.entry)) }
+    ensures { IfOk result (λ p. part_of p
+        ≡ rule.one start end op.entry (part_of inner.entry)) }
 {
     let height = above(inner.height);
     let expr = match not_too_high(start, height, not_null(inner.expr)) {
-        Ok(inner) => Ok(Expr::One(start, op, Box::new(alloc, inner)?)),
+        Ok(inner) => Ok(Box::new(alloc, Expr::One(start, op, inner))?),
         Err(cause) => Err(cause),
     };
     Ok(Part {
@@ -208,7 +225,8 @@ pub fn signed<'a>(
     is_minus: bool,
     inner: Part<'a>,
 ) -> Result<Part<'a>, AllocError>
-    ensures { IfOk result (λ p. part_of p ≡ rule.signed sign.now is_minus (part_of inner.entry)) }
+    ensures { IfOk result (λ p. part_of p
+        ≡ rule.signed sign.now is_minus (part_of inner.entry)) }
 {
     let (start, end) = (sign.start, inner.end);
     if is_minus {
@@ -245,10 +263,11 @@ pub fn matched<'a>(
 /// The sides of an operation.
 fn sides<'a>(
     op: Binary,
-    left: Result<Expr<'a>, Cause>,
-    right: Result<Expr<'a>, Cause>,
-) -> Result<(Expr<'a>, Expr<'a>), Cause>
-    ensures { rule.pair_found result ≡ rule.sides op (tree_found left.entry) (tree_found right.entry) }
+    left: Result<Box<Expr<'a>>, Cause>,
+    right: Result<Box<Expr<'a>>, Cause>,
+) -> Result<(Box<Expr<'a>>, Box<Expr<'a>>), Cause>
+    ensures { rule.pair_found result
+        ≡ rule.sides op (tree_found left.entry) (tree_found right.entry) }
 {
     match op {
         Binary::Equal | Binary::NotEqual => equated(left, right),
@@ -263,14 +282,13 @@ pub fn two<'a>(
     left: Part<'a>,
     right: Part<'a>,
 ) -> Result<Part<'a>, AllocError>
-    ensures { IfOk result (λ p. part_of p ≡ rule.two op (part_of left.entry) (part_of right.entry)) }
+    ensures { IfOk result (λ p. part_of p
+        ≡ rule.two op (part_of left.entry) (part_of right.entry)) }
 {
     let (start, end) = (left.start, right.end);
     let height = above(left.height.max(right.height));
     let expr = match not_too_high(start, height, sides(op, left.expr, right.expr)) {
-        Ok((left, right)) => {
-            Ok(Expr::Two(start, op, Box::new(alloc, left)?, Box::new(alloc, right)?))
-        }
+        Ok((left, right)) => Ok(Box::new(alloc, Expr::Two(start, op, left, right))?),
         Err(cause) => Err(cause),
     };
     Ok(Part {
