@@ -3,9 +3,11 @@
 -- or = and {OR and}    and = not {AND not}    not = NOT not | comparison
 -- comparison = sum [("="|"!="|"<"|"<="|">"|">=") sum | "~" text
 --              | IN "(" literal {"," literal} ")" | IN sum]
--- sum = product {("+"|"-") product}    product = unary {"*" unary}    unary = ("+"|"-") unary | atom
+-- sum = product {("+"|"-") product}    product = unary {"*" unary}
+-- unary = ("+"|"-") unary | atom
 -- atom = literal | name | name "(" ["*" | or {"," or}] ")" | "(" or ")"
-use Rattle.std.specs.Prelude.{◌≡◌, ℕ, zero, suc, ◌&&◌, ◌⊎◌, Bool, true, false, List, [], Option, Some, None, is_some}
+use Rattle.std.specs.Prelude.{◌≡◌, ℕ, zero, suc, ◌&&◌, ◌⊎◌, Bool, true, false, List, [], Option}
+use Rattle.std.specs.Prelude.{Some, None, is_some}
 use Rattle.theory.specs.Form.{Form, made, ◌<+>◌, ending, row, chain, alone, snoc}
 use Rattle.bql_lexer.specs.declared.kind.Kind.{Kind}
 use Rattle.bql_lexer.specs.declared.kind.Kind.TheVariants as kind
@@ -38,7 +40,8 @@ then {V} {W} a k = record {
 -- the first where the test says that it begins, and else the second
 abbrev pub choice : {V : Type 0} → (List Token → Bool) → Form Token V → Form Token V → Form Token V
 choice test a b = record {
-  reads = λ ts v rest. ((test ts ≡ true) × a.reads ts v rest) ⊎ ((test ts ≡ false) × b.reads ts v rest);
+  reads = λ ts v rest. ((test ts ≡ true) × a.reads ts v rest)
+      ⊎ ((test ts ≡ false) × b.reads ts v rest);
   goes_on = λ rest. false;
 }
 
@@ -47,7 +50,8 @@ nothing = record { reads = λ ts v rest. ⊥; goes_on = λ rest. false }
 
 -- operators of a level between expressions, grouped to the left
 abbrev pub chained : Level → Form Token Part → Form Token Part
-chained level a = ending (chain (begins (fronts.operator level)) (told (fronts.operator level)) a parts.two)
+chained level a = ending (chain (begins (fronts.operator level)) (told (fronts.operator level)) a
+    parts.two)
 
 abbrev pub behind_comma : Form Token Part → Form Token Part
 behind_comma a = then (token kind.Comma) (λ comma. a)
@@ -65,7 +69,8 @@ literals = list_of literal
 -- a list behind what is looked for in it
 abbrev pub list_behind : Part → Form Token Part
 list_behind left =
-    then (token kind.In) (λ word. then (token kind.OpenParenthesis) (λ opening. then literals (λ items.
+    then (token kind.In) (λ word. then (token kind.OpenParenthesis)
+    (λ opening. then literals (λ items.
     then (token kind.CloseParenthesis) (λ close. made (listed left items close)))))
 
 -- where a parenthesis, sign or NOT may still stand in the others
@@ -80,13 +85,16 @@ abbrev pub sum_of : Form Token Part → Form Token Part
 sum_of u = chained level.Sum (chained level.Product u)
 
 abbrev pub compared : Form Token Part → Part → Form Token Part
-compared s left = then (told fronts.comparison) (λ op. then s (λ right. made (parts.two op left right)))
+compared s left = then (told fronts.comparison)
+    (λ op. then s (λ right. made (parts.two op left right)))
 
 abbrev pub matched : Part → Form Token Part
-matched left = then (token kind.Tilde) (λ tilde. then (token kind.Text) (λ text. made (parts.matched left text)))
+matched left = then (token kind.Tilde)
+    (λ tilde. then (token kind.Text) (λ text. made (parts.matched left text)))
 
 abbrev pub contained : Form Token Part → Part → Form Token Part
-contained s left = then (token kind.In) (λ word. then s (λ right. made (parts.two binary.In left right)))
+contained s left = then (token kind.In)
+    (λ word. then s (λ right. made (parts.two binary.In left right)))
 
 -- what a sum is compared with, if there is something
 abbrev pub compared_if_due : ℕ → Form Token Part → Part → Form Token Part
@@ -103,7 +111,8 @@ abbrev pub denied_of : Form Token Part → Form Token Part
 denied_of n = then (token kind.Not) (λ word. then n (λ inner. made (parts.denied word inner)))
 
 abbrev pub signed_of : Form Token Part → Form Token Part
-signed_of u = then (told fronts.sign) (λ sign. then u (λ inner. made (parts.signed sign.0 sign.1 inner)))
+signed_of u = then (told fronts.sign)
+    (λ sign. then u (λ inner. made (parts.signed sign.0 sign.1 inner)))
 
 abbrev pub or_of : Form Token Part → Form Token Part
 or_of n = chained level.Or (chained level.And n)
@@ -118,7 +127,8 @@ abbrev pub arguments_of : Form Token Part → Form Token (List Part)
 arguments_of or = choice (begins (of_kind kind.CloseParenthesis)) (made []) (list_of or)
 
 abbrev pub counted : Token → Form Token Part
-counted name = then (token kind.Star) (λ star. then (token kind.CloseParenthesis) (λ close. made (parts.rows name close)))
+counted name = then (token kind.Star) (λ star. then (token kind.CloseParenthesis)
+    (λ close. made (parts.rows name close)))
 
 abbrev pub begins_with_count : Token → List Token → Bool
 begins_with_count name ts = is_count name && begins (of_kind kind.Star) ts
@@ -126,10 +136,12 @@ begins_with_count name ts = is_count name && begins (of_kind kind.Star) ts
 abbrev pub inside_call : Scope → Form Token Part → Token → Form Token Part
 inside_call scope or name =
     choice (begins_with_count name) (counted name)
-    (then (arguments_of or) (λ ps. then (token kind.CloseParenthesis) (λ close. made (called scope name ps close))))
+    (then (arguments_of or) (λ ps. then (token kind.CloseParenthesis)
+    (λ close. made (called scope name ps close))))
 
 abbrev pub call_of : Scope → Form Token Part → Form Token Part
-call_of scope or = then (token kind.Name) (λ name. then (token kind.OpenParenthesis) (λ opening. inside_call scope or name))
+call_of scope or = then (token kind.Name) (λ name. then (token kind.OpenParenthesis)
+    (λ opening. inside_call scope or name))
 
 abbrev pub name : Scope → Form Token Part
 name scope = then (token kind.Name) (λ name. made (parts.name scope name))
@@ -137,7 +149,8 @@ name scope = then (token kind.Name) (λ name. made (parts.name scope name))
 abbrev pub atom_of : Scope → Form Token Part → Form Token Part → Form Token Part
 atom_of scope group call =
     choice (begins fronts.literal) literal
-    (choice (begins (of_kind kind.OpenParenthesis)) group (choice begins_with_call call (name scope)))
+    (choice (begins (of_kind kind.OpenParenthesis)) group (choice begins_with_call call
+    (name scope)))
 
 abbrev pub unary_of : Scope → Form Token Part → Form Token Part → Form Token Part → Form Token Part
 unary_of scope sign group call = choice (begins fronts.sign) sign (atom_of scope group call)
@@ -157,7 +170,8 @@ innermost scope = record {
 }
 
 abbrev pub unary_around : Scope → Inner → Form Token Part
-unary_around scope inner = unary_of scope (signed_of inner.unary) (group_of (or_of inner.negation)) (call_of scope (or_of inner.negation))
+unary_around scope inner = unary_of scope (signed_of inner.unary) (group_of (or_of inner.negation))
+    (call_of scope (or_of inner.negation))
 
 abbrev pub around : Scope → ℕ → Inner → Inner
 around scope room inner = record {

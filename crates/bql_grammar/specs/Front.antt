@@ -1,5 +1,6 @@
 -- What stands at the front of some tokens.
-use Rattle.std.specs.Prelude.{◌≡◌, ℕ, ◌&&◌, ◌||◌, Bool, true, false, List, [], ◌∷◌, Option, Some, None, is_some, if◌then◌else◌}
+use Rattle.std.specs.Prelude.{◌≡◌, ℕ, ◌&&◌, ◌||◌, Bool, true, false, List, [], ◌∷◌, Option, Some}
+use Rattle.std.specs.Prelude.{None, is_some, if◌then◌else◌}
 use Rattle.theory.specs.Form.{Form}
 use Rattle.bean_base.specs.CalendarDay as calendar
 use Rattle.bean_base.specs.Day.{is_day_form, year_of, month_of, day_of}
@@ -85,8 +86,10 @@ ends_literal ts = begins (of_kind kind.Comma) ts || begins (of_kind kind.ClosePa
 -- IN, a parenthesis, a literal, and a comma or a closing parenthesis
 abbrev pub begins_with_list : List Token → Bool
 begins_with_list ts =
-    and_behind (λ ts. and_behind (λ ts. and_behind ends_literal (front literal ts)) (front (of_kind kind.OpenParenthesis) ts)) (front (of_kind kind.In) ts)
+    and_behind (λ ts. and_behind (λ ts. and_behind ends_literal (front literal ts))
+    (front (of_kind kind.OpenParenthesis) ts)) (front (of_kind kind.In) ts)
 
 -- a name and a parenthesis
 abbrev pub begins_with_call : List Token → Bool
-begins_with_call ts = and_behind (begins (of_kind kind.OpenParenthesis)) (front (of_kind kind.Name) ts)
+begins_with_call ts = and_behind (begins (of_kind kind.OpenParenthesis))
+    (front (of_kind kind.Name) ts)

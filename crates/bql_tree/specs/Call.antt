@@ -1,5 +1,7 @@
 -- What calls and lists stand for.
-use Rattle.std.specs.Prelude.{ℕ, ◌==◌, ◌&&◌, max, Bool, true, false, List, [], ◌∷◌, ◌++◌, ℤ, pos, negsuc, nat_le, codes, Option, Some, None, Result, Ok, Err, if◌then◌else◌}
+use Rattle.std.specs.Prelude.{ℕ, ◌==◌, ◌&&◌, max, Bool, true, false, List, [], ◌∷◌, ◌++◌, ℤ, pos}
+use Rattle.std.specs.Prelude.{negsuc, nat_le, codes, Option, Some, None, Result, Ok, Err}
+use Rattle.std.specs.Prelude.{if◌then◌else◌}
 use Rattle.std.specs.Str.{str_eq_ignore_ascii_case}
 use Rattle.theory.specs.Form.{steps}
 use Rattle.query_values.specs.declared.decimal.Decimal.{Decimal}
@@ -7,7 +9,8 @@ use Rattle.bql_lexer.specs.declared.token.Token.{Token}
 use Rattle.bql_tree.specs.Cause.{outside_profile, least, both}
 use Rattle.bql_tree.specs.Function.{known}
 use Rattle.bql_tree.specs.Part.{Part, not_null, not_too_high, above, unknown, leaf_at, one_tree}
-use Rattle.bql_tree.specs.Tree.{Operation, leaf_of, one_of, call_of, Tree, node, Trees, no_trees, trees, all_trees}
+use Rattle.bql_tree.specs.Tree.{Operation, leaf_of, one_of, call_of, Tree, node, Trees, no_trees}
+use Rattle.bql_tree.specs.Tree.{trees, all_trees}
 use Rattle.bql_tree.specs.declared.cause.Cause.{Cause}
 use Rattle.bql_tree.specs.declared.function.Function as functions
 use Rattle.bql_tree.specs.declared.function.Function.TheVariants as function
@@ -142,8 +145,10 @@ high start end height tree = record {
 
 -- a name with what it is called with
 abbrev pub called : Scope → Token → List Part → Token → Part
-called scope name ps close = high name.start close.end (above (greatest_height ps)) (call_by name ps (known scope name.text))
+called scope name ps close = high name.start close.end (above (greatest_height ps))
+    (call_by name ps (known scope name.text))
 
 -- whether an expression is one of the items of a list
 abbrev pub listed : Part → List Part → Token → Part
-listed left items close = high left.start close.end (above left.height) (plain left.start function.OneOf (left ∷ items))
+listed left items close = high left.start close.end (above left.height)
+    (plain left.start function.OneOf (left ∷ items))

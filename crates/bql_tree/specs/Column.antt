@@ -3,7 +3,12 @@ use Rattle.std.specs.Prelude.{ℕ, Bool, true, false, List, codes, Option}
 use Rattle.std.specs.List.{find}
 use Rattle.std.specs.Str.{str_eq_ignore_ascii_case}
 use Rattle.bql_tree.specs.declared.column.Column as columns
-use Rattle.bql_tree.specs.declared.column.Column.TheVariants.{Date, Year, Month, Day, Flag, Payee, Narration, Tags, Links, Account, PostingFlag, Number, Currency, CostNumber, CostCurrency, CostDate, CostLabel, Position, Weight, Balance, Lineno}
+use Rattle.bql_tree.specs.declared.column.Column.TheVariants.{Date, Year, Month, Day, Flag, Payee}
+use Rattle.bql_tree.specs.declared.column.Column.TheVariants.{Narration, Tags, Links, Account}
+use Rattle.bql_tree.specs.declared.column.Column.TheVariants.{PostingFlag, Number, Currency}
+use Rattle.bql_tree.specs.declared.column.Column.TheVariants.{CostNumber, CostCurrency, CostDate}
+use Rattle.bql_tree.specs.declared.column.Column.TheVariants.{CostLabel, Position, Weight, Balance}
+use Rattle.bql_tree.specs.declared.column.Column.TheVariants.{Lineno}
 use Rattle.bql_tree.specs.declared.column.TheConstants.{COLUMNS}
 
 abbrev pub name : columns.Column → List ℕ

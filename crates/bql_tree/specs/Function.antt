@@ -1,9 +1,14 @@
 -- The functions of the query language, their names, and the words that the profile leaves out.
-use Rattle.std.specs.Prelude.{ℕ, ◌||◌, Bool, true, false, List, [], ◌∷◌, codes, Option, Some, None, if◌then◌else◌}
+use Rattle.std.specs.Prelude.{ℕ, ◌||◌, Bool, true, false, List, [], ◌∷◌, codes, Option, Some, None}
+use Rattle.std.specs.Prelude.{if◌then◌else◌}
 use Rattle.std.specs.List.{find}
 use Rattle.std.specs.Str.{str_eq_ignore_ascii_case}
 use Rattle.bql_tree.specs.declared.function.Function as functions
-use Rattle.bql_tree.specs.declared.function.Function.TheVariants.{Root, Parent, Leaf, Length, Units, Cost, Year, Month, Day, Number, Currency, Abs, Meta, EntryMeta, AnyMeta, HasAccount, Count, Sum, First, Last, Min, Max, OneOf}
+use Rattle.bql_tree.specs.declared.function.Function.TheVariants.{Root, Parent, Leaf, Length, Units}
+use Rattle.bql_tree.specs.declared.function.Function.TheVariants.{Cost, Year, Month, Day, Number}
+use Rattle.bql_tree.specs.declared.function.Function.TheVariants.{Currency, Abs, Meta, EntryMeta}
+use Rattle.bql_tree.specs.declared.function.Function.TheVariants.{AnyMeta, HasAccount, Count, Sum}
+use Rattle.bql_tree.specs.declared.function.Function.TheVariants.{First, Last, Min, Max, OneOf}
 use Rattle.bql_tree.specs.declared.function.Scope.{Scope}
 use Rattle.bql_tree.specs.declared.function.Scope.TheVariants.{Transactions, Postings}
 use Rattle.bql_tree.specs.declared.function.TheConstants.{FUNCTIONS}
@@ -58,12 +63,15 @@ is_word bs word = str_eq_ignore_ascii_case bs word
 -- clauses that the profile leaves out
 abbrev pub is_clause_left_out : List ℕ → Bool
 is_clause_left_out bs =
-    is_word bs (codes "open") || is_word bs (codes "on") || is_word bs (codes "close") || is_word bs (codes "clear")
+    is_word bs (codes "open") || is_word bs (codes "on") || is_word bs (codes "close")
+    || is_word bs (codes "clear")
     || is_word bs (codes "having") || is_word bs (codes "pivot") || is_word bs (codes "flatten")
     || is_word bs (codes "print") || is_word bs (codes "run")
 
 -- and functions and columns
 abbrev pub is_left_out : List ℕ → Bool
 is_left_out bs =
-    is_clause_left_out bs || is_word bs (codes "safediv") || is_word bs (codes "avg") || is_word bs (codes "convert")
-    || is_word bs (codes "value") || is_word bs (codes "today") || is_word bs (codes "maxwidth") || is_word bs (codes "price")
+    is_clause_left_out bs || is_word bs (codes "safediv") || is_word bs (codes "avg")
+    || is_word bs (codes "convert")
+    || is_word bs (codes "value") || is_word bs (codes "today") || is_word bs (codes "maxwidth")
+    || is_word bs (codes "price")

@@ -1,11 +1,13 @@
 -- What is read of an expression.
-use Rattle.std.specs.Prelude.{ℕ, ◌+◌, max, Bool, true, false, ◌||◌, List, map, nat_lt, nat_le, Option, Some, None, Result, Ok, Err, if◌then◌else◌, Box, Vec}
+use Rattle.std.specs.Prelude.{ℕ, ◌+◌, max, Bool, true, false, ◌||◌, List, map, nat_lt, nat_le}
+use Rattle.std.specs.Prelude.{Option, Some, None, Result, Ok, Err, if◌then◌else◌, Box, Vec}
 use Rattle.std.specs.declared.alloc.Global.{Global}
 use Rattle.bql_lexer.specs.declared.token.Token.{Token}
 use Rattle.bql_tree.specs.Cause.{outside_profile, unknown_name, least, both}
 use Rattle.bql_tree.specs.Column as columns
 use Rattle.bql_tree.specs.Function.{is_left_out}
-use Rattle.bql_tree.specs.Tree.{Operation, leaf_of, one_of, two_of, Tree, node, Trees, no_trees, trees, all_trees, tree_of, trees_of}
+use Rattle.bql_tree.specs.Tree.{Operation, leaf_of, one_of, two_of, Tree, node, Trees, no_trees}
+use Rattle.bql_tree.specs.Tree.{trees, all_trees, tree_of, trees_of}
 use Rattle.bql_tree.specs.declared.cause.Cause.{Cause}
 use Rattle.bql_tree.specs.declared.column.Column.{Column}
 use Rattle.bql_tree.specs.declared.function.Scope.{Scope}
@@ -47,7 +49,14 @@ trees_found (Ok v) = Ok (list_of_trees v.items)
 trees_found (Err c) = Err c
 
 abbrev pub part_of : parts.Part → Part
-part_of p = record { start = p.start; end = p.end; height = p.height; alone = p.alone; tree = tree_found p.expr }
+part_of p = record {
+  start = p.start;
+  end = p.end;
+  height = p.height;
+  alone = p.alone;
+  tree =
+      tree_found p.expr;
+}
 
 abbrev pub parts_in : List parts.Part → List Part
 parts_in ps = map part_of ps
@@ -104,7 +113,14 @@ abbrev pub leaf_at : ℕ → leaves.Leaf → Tree ℕ
 leaf_at at leaf = node at (leaf_of leaf) no_trees
 
 abbrev pub leaf : Token → leaves.Leaf → Part
-leaf t l = record { start = t.start; end = t.end; height = 1; alone = alone_of l; tree = Ok (leaf_at t.start l) }
+leaf t l = record {
+  start = t.start;
+  end = t.end;
+  height = 1;
+  alone = alone_of l;
+  tree = Ok
+      (leaf_at t.start l);
+}
 
 abbrev pub unknown : Token → Cause
 unknown t = if is_left_out t.text then outside_profile t.start else unknown_name t.start
@@ -114,7 +130,8 @@ is_everywhere Postings = true
 is_everywhere Transactions = false
 
 abbrev pub column_in : Scope → Option Column → Option Column
-column_in scope (Some c) = if is_everywhere scope || columns.is_of_transaction c then Some c else None
+column_in scope (Some c) = if is_everywhere scope || columns.is_of_transaction c then Some c else
+    None
 column_in scope None = None
 
 -- FROM knows the columns of transactions alone
@@ -180,7 +197,8 @@ signed sign false inner = around sign.start inner.end inner
 abbrev pub matched : Part → Token → Part
 matched inner pattern = one inner.start pattern.end (unary.Matches pattern.text) inner
 
-abbrev pub sides : Binary → Result (Tree ℕ) Cause → Result (Tree ℕ) Cause → Result (Tree ℕ × Tree ℕ) Cause
+abbrev pub sides : Binary → Result (Tree ℕ) Cause → Result (Tree ℕ) Cause
+    → Result (Tree ℕ × Tree ℕ) Cause
 sides binary.Equal a b = equated a b
 sides binary.NotEqual a b = equated a b
 sides op a b = both (not_null a) (not_null b)

@@ -26,7 +26,8 @@ abbrev mutual
   pub tree_of : Expr → Tree ℕ
   tree_of (expr.Leaf at op) = node at (leaf_of op) no_trees
   tree_of (expr.One' at op p x) = node at (one_of op) (trees (tree_of x) no_trees)
-  tree_of (expr.Two' at op p x q y) = node at (two_of op) (trees (tree_of x) (trees (tree_of y) no_trees))
+  tree_of (expr.Two' at op p x q y) = node at (two_of op) (trees (tree_of x)
+      (trees (tree_of y) no_trees))
   tree_of (expr.Call' at f shape row) = node at (call_of f) (row_trees row)
 
   pub row_trees : {m : _} → Row_of-Expr m → Trees ℕ

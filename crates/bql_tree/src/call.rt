@@ -116,7 +116,8 @@ fn root<'a>(
     account: Part<'a>,
     count: Part<'a>,
 ) -> Result<Result<Box<Expr<'a>>, Cause>, AllocError>
-    ensures { IfOk result (λ r. tree_found r ≡ rule.root start (part_of account.entry) (part_of count.entry)) }
+    ensures { IfOk result (λ r. tree_found r
+        ≡ rule.root start (part_of account.entry) (part_of count.entry)) }
 {
     match both(not_null(account.expr), components(count)) {
         Ok((account, count)) => {
@@ -178,7 +179,8 @@ fn applied<'a>(
     function: Function,
     parts: Vec<Part<'a>>,
 ) -> Result<Result<Box<Expr<'a>>, Cause>, AllocError>
-    ensures { IfOk result (λ r. tree_found r ≡ rule.applied start function (parts_of parts.entry)) }
+    ensures { IfOk result (λ r. tree_found r
+        ≡ rule.applied start function (parts_of parts.entry)) }
 {
     let mut parts = parts;
     if takes_key(function) && parts.len() == 1 {
@@ -216,7 +218,8 @@ pub fn called<'a>(
     parts: Vec<Part<'a>>,
     close: &Token<'a>,
 ) -> Result<Part<'a>, AllocError>
-    ensures { IfOk result (λ p. part_of p ≡ rule.called scope name.now (parts_of parts.entry) close.now) }
+    ensures { IfOk result (λ p. part_of p
+        ≡ rule.called scope name.now (parts_of parts.entry) close.now) }
 {
     let height = above(greatest_height(parts.as_slice()));
     let expr = match Function::known(name.text.text(), scope) {
@@ -246,7 +249,8 @@ pub fn listed<'a>(
     items: Vec<Part<'a>>,
     close: &Token<'a>,
 ) -> Result<Part<'a>, AllocError>
-    ensures { IfOk result (λ p. part_of p ≡ rule.listed (part_of left.entry) (parts_of items.entry) close.now) }
+    ensures { IfOk result (λ p. part_of p
+        ≡ rule.listed (part_of left.entry) (parts_of items.entry) close.now) }
 {
     let start = left.start;
     let height = above(left.height);

@@ -50,7 +50,8 @@ decreases-arguments l = 16 * l.room + 13
 abbrev pub invariant-chain-loop-operator : goal.invariant-chain-loop-operator
 invariant-chain-loop-operator l = record {
   shorter : length l.rest < length l.tokens;
-  read : InRow (links l.level (operand l.level l.scope l.room)) (another l.level (operand l.level l.scope l.room)) joined l.tokens (part_of l.value) l.rest;
+  read : InRow (links l.level (operand l.level l.scope l.room))
+      (another l.level (operand l.level l.scope l.room)) joined l.tokens (part_of l.value) l.rest;
 }
 
 abbrev pub decreases-chain-loop-operator : goal.decreases-chain-loop-operator
@@ -59,7 +60,8 @@ decreases-chain-loop-operator l = length l.rest
 abbrev pub invariant-arguments-loop-behind : goal.invariant-arguments-loop-behind
 invariant-arguments-loop-behind l = record {
   shorter : length l.rest < length l.tokens;
-  read : InRow (rows (chain_at level.Or l.scope l.room)) (behind_comma (chain_at level.Or l.scope l.room)) snoc l.tokens (parts_of l.parts) l.rest;
+  read : InRow (rows (chain_at level.Or l.scope l.room))
+      (behind_comma (chain_at level.Or l.scope l.room)) snoc l.tokens (parts_of l.parts) l.rest;
 }
 
 abbrev pub decreases-arguments-loop-behind : goal.decreases-arguments-loop-behind

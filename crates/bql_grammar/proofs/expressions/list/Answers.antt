@@ -9,14 +9,22 @@ use Rattle.bql_grammar.proofs.expressions.list.Goals as goal
 pub returns-in_default-after-2-clause-read : goal.returns-in_default-after-2-clause-read
 returns-in_default-after-2-clause-read c =
     gives_none (list c.args.room (part_of c.args.left)) part_of c.args.tokens.now _
-    (items_not_shut c.args.room (part_of c.args.left) c.args.tokens.now _ _ _ _ (parts_of c.in-Ok.found.0) c.in-Ok.found.1.now c.in-Some.ensures.front c.in-Some-after.ensures.front c.in-Ok.ensures.read c.in_default-after-2.ensures.front)
+    (items_not_shut c.args.room (part_of c.args.left) c.args.tokens.now _ _ _ _
+    (parts_of c.in-Ok.found.0) c.in-Ok.found.1.now c.in-Some.ensures.front
+    c.in-Some-after.ensures.front c.in-Ok.ensures.read c.in_default-after-2.ensures.front)
 
 pub returns-clause-read : goal.returns-clause-read
 returns-clause-read c =
-    subst (λ v. Reads (list c.args.room (part_of c.args.left)) c.args.tokens.now v c.in-Some-after-2.rest.now) (sym c.in_ok-value.ensures)
-    (list_read c.args.room (part_of c.args.left) c.args.tokens.now _ _ _ _ (parts_of c.in-Ok.found.0) c.in-Ok.found.1.now _ _ (omega (arith, c.if-room-eq0.false)) c.in-Some.ensures.front c.in-Some-after.ensures.front c.in-Ok.ensures.read c.in-Some-after-2.ensures.front)
+    subst (λ v. Reads (list c.args.room (part_of c.args.left)) c.args.tokens.now v
+    c.in-Some-after-2.rest.now) (sym c.in_ok-value.ensures)
+    (list_read c.args.room (part_of c.args.left) c.args.tokens.now _ _ _ _
+    (parts_of c.in-Ok.found.0) c.in-Ok.found.1.now _ _ (omega (arith, c.if-room-eq0.false))
+    c.in-Some.ensures.front c.in-Some-after.ensures.front c.in-Ok.ensures.read
+    c.in-Some-after-2.ensures.front)
 
 pub returns-in-Err-clause-read : goal.returns-in-Err-clause-read
 returns-in-Err-clause-read c =
-    stuck_in literals (list c.args.room (part_of c.args.left)) parts_of part_of c.in-Some-after.inside.now c.args.tokens.now c.in-Err.stuck
-    (λ none. no_items c.args.room (part_of c.args.left) c.args.tokens.now _ _ _ _ c.in-Some.ensures.front c.in-Some-after.ensures.front none) c.in-Err.ensures.read
+    stuck_in literals (list c.args.room (part_of c.args.left)) parts_of part_of
+    c.in-Some-after.inside.now c.args.tokens.now c.in-Err.stuck
+    (λ none. no_items c.args.room (part_of c.args.left) c.args.tokens.now _ _ _ _
+    c.in-Some.ensures.front c.in-Some-after.ensures.front none) c.in-Err.ensures.read

@@ -7,4 +7,5 @@ use Rattle.bql_tree.proofs.call.plain.Goals as goal
 pub returns-in-Ok : goal.returns-in-Ok
 returns-in-Ok c =
     ap Ok (tree_of_call c.args.start c.args.function c.in-Ok.exprs)
-    ∙ ap (rule.call_tree c.args.start c.args.function) (ap trees_found (sym c.in-Ok.is) ∙ c.in_ok-exprs.ensures)
+    ∙ ap (rule.call_tree c.args.start c.args.function) (ap trees_found (sym c.in-Ok.is)
+    ∙ c.in_ok-exprs.ensures)
