@@ -66,8 +66,8 @@ fn text_of<'a>(part: Part<'a>) -> Result<Slice<'a>, Cause>
     let outside = Cause::outside_profile(part.start);
     match part.expr {
         Ok(expr) => match Box::into_inner(expr) {
-            Expr::Leaf(_, Leaf::Text(text)) => Ok(text),
-            _ => Err(outside),
+            Expr::Leaf(_place, Leaf::Text(text)) => Ok(text),
+            _other => Err(outside),
         },
         Err(cause) => Err(cause.least(outside)),
     }
