@@ -1,6 +1,7 @@
 -- How lists of literals are read.
-use Rattle.std.proofs.Common.{◌≡◌, ℕ, zero, suc, ◌<◌, List, Option, Some, None, refl, arith}
-use Rattle.theory.specs.Form.{Form, Reads, HasNone, made}
+use Rattle.std.proofs.Common.{◌≡◌, ℕ, zero, suc, ◌<◌, ◌++◌, ◌∷◌, [], List, Option, Some, None, refl}
+use Rattle.std.proofs.Common.{arith, ap, ◌∙◌}
+use Rattle.theory.specs.Form.{Form, Reads, HasNone, made, alone, snoc}
 use Rattle.theory.proofs.FormFacts.{reads_made}
 use Rattle.bql_lexer.specs.declared.kind.Kind.TheVariants as kind
 use Rattle.bql_lexer.specs.declared.token.Token.{Token}
@@ -9,7 +10,9 @@ use Rattle.bql_grammar.specs.Expression.{token, then, literal, counted, literals
 use Rattle.bql_grammar.specs.Front as fronts
 use Rattle.bql_grammar.specs.Front.{front, of_kind}
 use Rattle.bql_tree.specs.Part as parts
-use Rattle.bql_tree.specs.Part.{Part}
+use Rattle.bql_tree.specs.Part.{Part, part_of, parts_in}
+use Rattle.bql_tree.specs.declared.part.Part as pieces
+use Rattle.bql_tree.proofs.CallFacts.{parts_more}
 use Rattle.bql_tree.specs.declared.tree.Leaf.{Leaf}
 use Rattle.bql_grammar.proofs.FormFacts.{reads_then, none_then_first, none_then, reads_behind}
 use Rattle.bql_grammar.proofs.FormFacts.{none_behind, none_here, none_of_nothing}
@@ -38,6 +41,12 @@ counted_read name ts star mid close rest at close_at =
     ts star mid _ rest (λ v rest. refl) at
     (reads_behind (of_kind kind.CloseParenthesis) (λ close. made (parts.rows name close))
     mid close rest _ rest (λ v rest. refl) close_at (reads_made (parts.rows name close) rest))
+
+-- The first part of a list that was empty.
+pub parts_first : (ps : List pieces.Part) (p : pieces.Part) (qs : List pieces.Part) → ps ≡ []
+    → qs ≡ ps ++ p ∷ [] → parts_in qs ≡ alone (part_of p)
+parts_first ps p qs none e =
+    parts_more ps p qs e ∙ ap (λ xs. snoc (parts_in xs) (part_of p)) none
 
 -- Lists.
 

@@ -4,3 +4,4 @@ pub mod ExpressionFacts
 pub mod ComparisonFacts
 pub mod AtomFacts
 pub mod ItemsFacts
+pub mod ArgumentsFacts

@@ -386,10 +386,11 @@ fn literal<'t, 'a>(
     ensures read { Gives rule.literal part_of tokens.now result }
     ensures shorter { IfOk result (λ r. length r.1.now < length tokens.now) }
 {
-    let Some((token, value, rest)) = after_literal(tokens) else {
+    let Some(found) = after_literal(tokens) else {
         return Err(Stuck::before(tokens, room));
     };
-    let value = leaf(alloc, token, value)?;
+    let (token, found, rest) = found;
+    let value = leaf(alloc, token, found)?;
     Ok((value, rest))
 }
 

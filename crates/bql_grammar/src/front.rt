@@ -114,9 +114,10 @@ pub fn begins_with_list(tokens: &[Token<'_>]) -> bool
     let Some((_, rest)) = after(rest, Kind::OpenParenthesis) else {
         return false;
     };
-    let Some((_, _literal, rest)) = after_literal(rest) else {
+    let Some(found) = after_literal(rest) else {
         return false;
     };
+    let (_token, _literal, rest) = found;
     after(rest, Kind::Comma).is_some() || after(rest, Kind::CloseParenthesis).is_some()
 }
 
