@@ -1,5 +1,5 @@
 -- How the arguments of calls are read, and what a test of the front tells.
-use Rattle.std.proofs.Common.{◌≡◌, ℕ, Bool, false, List, [], Option, Some, None}
+use Rattle.std.proofs.Common.{◌≡◌, ℕ, false, List, [], Option, Some, None}
 use Rattle.std.proofs.Common.{is_some, MatchOption}
 use Rattle.std.proofs.Common.{Bor, refl, sym, ap}
 use Rattle.theory.specs.Form.{Form, Reads, HasNone, made, snoc}

@@ -1,16 +1,16 @@
 -- How literals, names, groups and calls are read.
-use Rattle.std.proofs.Common.{◌≡◌, ℕ, zero, suc, ◌-◌, ◌<◌, ◌&&◌, Bool, true, false, List, []}
-use Rattle.std.proofs.Common.{Option, Some, None, Result, Ok, Err, Bor, refl, sym, ◌∙◌, ap, subst}
+use Rattle.std.proofs.Common.{◌≡◌, ℕ, zero, suc, ◌-◌, ◌<◌, true, false, List}
+use Rattle.std.proofs.Common.{Some, None, Result, Bor, refl, subst}
 use Rattle.std.proofs.Common.{arith}
 use Rattle.theory.specs.Form.{Form, Reads, HasNone, made}
 use Rattle.theory.proofs.FormFacts.{reads_made}
 use Rattle.bql_lexer.specs.declared.kind.Kind.TheVariants as kind
 use Rattle.bql_lexer.specs.declared.token.Token.{Token}
 use Rattle.bql_tree.specs.Call.{called}
-use Rattle.bql_grammar.specs.Expression.{token, told, then, choice, nothing, literal, or_of}
-use Rattle.bql_grammar.specs.Expression.{negation, group_of, grouped, call_of, call, inside_call}
+use Rattle.bql_grammar.specs.Expression.{token, then, choice, literal, or_of}
+use Rattle.bql_grammar.specs.Expression.{negation, grouped, call, inside_call}
 use Rattle.bql_grammar.specs.Expression.{counted, begins_with_count, arguments_of, arguments}
-use Rattle.bql_grammar.specs.Expression.{list_of, name, atom_of, atom}
+use Rattle.bql_grammar.specs.Expression.{name, atom}
 use Rattle.bql_grammar.specs.Front as fronts
 use Rattle.bql_grammar.specs.Front.{front, begins, of_kind, begins_with_call}
 use Rattle.bql_grammar.specs.Gives.{Gives}
@@ -18,10 +18,10 @@ use Rattle.bql_tree.specs.Part as parts
 use Rattle.bql_tree.specs.Part.{Part}
 use Rattle.bql_tree.specs.declared.function.Scope.{Scope}
 use Rattle.bql_grammar.specs.declared.stuck.Stuck.{Stuck}
-use Rattle.bql_grammar.proofs.FormFacts.{IsFixed, reads_told, none_told, reads_then}
+use Rattle.bql_grammar.proofs.FormFacts.{IsFixed, reads_then}
 use Rattle.bql_grammar.proofs.FormFacts.{none_then_first, none_then, reads_behind, none_behind}
 use Rattle.bql_grammar.proofs.FormFacts.{none_here, reads_chosen, reads_other, none_chosen}
-use Rattle.bql_grammar.proofs.FormFacts.{none_other, none_of_nothing, present, absent}
+use Rattle.bql_grammar.proofs.FormFacts.{none_other, none_of_nothing}
 use Rattle.bql_grammar.proofs.ExpressionFacts.{gives_as}
 
 back : (room : ℕ) → suc room - 1 ≡ room

@@ -1,11 +1,11 @@
 -- How comparisons are read.
-use Rattle.std.proofs.Common.{◌≡◌, ℕ, zero, suc, ◌-◌, Bool, true, false, List, Option, Some, None}
-use Rattle.std.proofs.Common.{Result, Ok, Err, Bor, refl, sym, ap}
+use Rattle.std.proofs.Common.{◌≡◌, ℕ, zero, suc, true, false, List, Some, None}
+use Rattle.std.proofs.Common.{Result, Bor, refl}
 use Rattle.theory.specs.Form.{Form, Reads, HasNone, made}
 use Rattle.theory.proofs.FormFacts.{reads_made}
 use Rattle.bql_lexer.specs.declared.kind.Kind.TheVariants as kind
 use Rattle.bql_lexer.specs.declared.token.Token.{Token}
-use Rattle.bql_grammar.specs.Expression.{token, told, then, choice, compared, matched, list}
+use Rattle.bql_grammar.specs.Expression.{token, then, choice, compared, matched, list}
 use Rattle.bql_grammar.specs.Expression.{contained, compared_if_due, comparison, sum_of, unary}
 use Rattle.bql_grammar.specs.Front as fronts
 use Rattle.bql_grammar.specs.Front.{front, begins, of_kind, begins_with_list}
@@ -16,7 +16,7 @@ use Rattle.bql_tree.specs.declared.function.Scope.{Scope}
 use Rattle.bql_grammar.specs.declared.stuck.Stuck.{Stuck}
 use Rattle.bql_tree.specs.declared.tree.Binary.{Binary}
 use Rattle.bql_tree.specs.declared.tree.Binary.TheVariants as binary
-use Rattle.bql_grammar.proofs.FormFacts.{IsFixed, reads_told, none_told, reads_then}
+use Rattle.bql_grammar.proofs.FormFacts.{IsFixed, reads_then}
 use Rattle.bql_grammar.proofs.FormFacts.{none_then_first, none_then, reads_behind, none_behind}
 use Rattle.bql_grammar.proofs.FormFacts.{none_here, reads_chosen, reads_other, none_chosen}
 use Rattle.bql_grammar.proofs.FormFacts.{none_other, present, absent}

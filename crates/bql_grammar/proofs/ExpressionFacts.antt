@@ -1,8 +1,8 @@
 -- How expressions are read.
-use Rattle.std.proofs.Common.{◌≡◌, ℕ, zero, suc, ◌-◌, ◌<◌, ◌≤◌, ◌||◌, ◌&&◌, Bool, true, false, List}
-use Rattle.std.proofs.Common.{[], ◌∷◌, length, Option, Some, None, is_some, Result, Ok, Err, Bor}
+use Rattle.std.proofs.Common.{◌≡◌, ℕ, zero, suc, ◌-◌, ◌<◌, ◌||◌, Bool, false, List}
+use Rattle.std.proofs.Common.{Some, None, is_some, Result, Ok, Err, Bor}
 use Rattle.std.proofs.Common.{refl, sym, ◌∙◌, ap, subst, arith}
-use Rattle.theory.specs.Form.{Form, Reads, HasNone, made, ◌<+>◌, ending, row, chain, pair, alone}
+use Rattle.theory.specs.Form.{Form, Reads, HasNone, made, ◌<+>◌, row, chain, pair, alone}
 use Rattle.theory.specs.Form.{snoc}
 use Rattle.theory.proofs.FormFacts.{Tells, reads_made, reads_ending, none_ending, reads_applied}
 use Rattle.theory.proofs.FormFacts.{none_next}
@@ -15,9 +15,9 @@ use Rattle.bql_grammar.specs.Front.{front, begins, of_kind}
 use Rattle.bql_grammar.specs.Gives.{Gives}
 use Rattle.bql_tree.specs.Part as parts
 use Rattle.bql_tree.specs.Part.{Part}
-use Rattle.bql_grammar.specs.Expression.{told, token, then, choice, nothing, chained, behind_comma}
-use Rattle.bql_grammar.specs.Expression.{list_of, signed_of, denied_of, group_of, or_of, call_of}
-use Rattle.bql_grammar.specs.Expression.{unary_of, negation_of, comparison_of, inner, unary}
+use Rattle.bql_grammar.specs.Expression.{told, then, nothing, chained, behind_comma}
+use Rattle.bql_grammar.specs.Expression.{list_of, signed_of, denied_of}
+use Rattle.bql_grammar.specs.Expression.{unary_of, negation_of, inner, unary}
 use Rattle.bql_grammar.specs.Expression.{negation, comparison, operand, grouped, call, atom}
 use Rattle.bql_tree.specs.declared.function.Scope.{Scope}
 use Rattle.bql_tree.specs.declared.level.Level.{Level}
@@ -25,9 +25,9 @@ use Rattle.bql_tree.specs.declared.level.Level.TheVariants as levels
 use Rattle.bql_grammar.specs.declared.stuck.Stuck.{Stuck}
 use Rattle.bql_grammar.specs.declared.stuck.Stuck.TheVariants.{OutOfMemory, At}
 use Rattle.bql_tree.specs.declared.tree.Binary.{Binary}
-use Rattle.bql_grammar.proofs.FormFacts.{IsFixed, reads_told, none_told, reads_then}
-use Rattle.bql_grammar.proofs.FormFacts.{none_then_first, none_then, reads_behind, none_behind}
-use Rattle.bql_grammar.proofs.FormFacts.{none_here, reads_chosen, reads_other, none_chosen}
+use Rattle.bql_grammar.proofs.FormFacts.{IsFixed, reads_told, reads_then}
+use Rattle.bql_grammar.proofs.FormFacts.{none_then_first, reads_behind, none_behind}
+use Rattle.bql_grammar.proofs.FormFacts.{reads_chosen, reads_other, none_chosen}
 use Rattle.bql_grammar.proofs.FormFacts.{none_other, none_of_nothing, present, absent}
 
 -- Levels of nesting.

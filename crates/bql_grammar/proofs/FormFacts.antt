@@ -1,12 +1,7 @@
 -- How forms that no rest carries on are read part by part.
-use Rattle.std.proofs.Common.{◌≡◌, ℕ, zero, suc, Bool, true, false, List, [], ◌∷◌, Option, Some}
-use Rattle.std.proofs.Common.{None, is_some, MatchOption, inl, inr, refl, sym, ◌∙◌, ap, subst}
-use Rattle.theory.specs.Form.{Form, Reads, HasNone, made, row, ending, ItemsRead, chain, pair}
-use Rattle.theory.specs.Form.{◌<+>◌, alone, snoc}
-use Rattle.theory.proofs.FormFacts.{Tells, reads_made, reads_ending, none_ending, reads_applied}
-use Rattle.theory.proofs.FormFacts.{none_next}
-use Rattle.theory.proofs.RowFacts.{InRow, Separates, BeginsRow, EndsItems, row_ends, row_begins}
-use Rattle.theory.proofs.RowFacts.{row_goes_on, row_is_read, none_in_row, no_row}
+use Rattle.std.proofs.Common.{◌≡◌, Bool, true, false, List, Option, Some}
+use Rattle.std.proofs.Common.{None, is_some, inl, inr, refl, sym, ap, subst}
+use Rattle.theory.specs.Form.{Form, Reads, HasNone}
 use Rattle.bql_lexer.specs.declared.token.Token.{Token}
 use Rattle.bql_grammar.specs.Front.{front, begins}
 use Rattle.bql_grammar.specs.Expression.{told, then, choice, nothing}

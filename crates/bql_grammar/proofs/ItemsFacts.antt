@@ -1,12 +1,12 @@
 -- How lists of literals are read.
-use Rattle.std.proofs.Common.{◌≡◌, ℕ, zero, suc, ◌<◌, ◌++◌, ◌∷◌, [], List, Option, Some, None, refl}
+use Rattle.std.proofs.Common.{◌≡◌, ℕ, zero, suc, ◌<◌, ◌++◌, ◌∷◌, [], List, Some, None, refl}
 use Rattle.std.proofs.Common.{arith, ap, ◌∙◌}
 use Rattle.theory.specs.Form.{Form, Reads, HasNone, made, alone, snoc}
 use Rattle.theory.proofs.FormFacts.{reads_made}
 use Rattle.bql_lexer.specs.declared.kind.Kind.TheVariants as kind
 use Rattle.bql_lexer.specs.declared.token.Token.{Token}
 use Rattle.bql_tree.specs.Call.{listed}
-use Rattle.bql_grammar.specs.Expression.{token, then, literal, counted, literals, list_behind, list}
+use Rattle.bql_grammar.specs.Expression.{token, then, literal, counted, literals, list}
 use Rattle.bql_grammar.specs.Front as fronts
 use Rattle.bql_grammar.specs.Front.{front, of_kind}
 use Rattle.bql_tree.specs.Part as parts

@@ -1,8 +1,7 @@
 -- Literals that are days.
-use Rattle.std.proofs.Common.{◌≡◌, Bool, true, false, IsTrue, ℕ, List, Option, Some, None, Result}
-use Rattle.std.proofs.Common.{Ok, Err, refl, sym, ap, ◌∙◌}
-use Rattle.std.specs.Result.{result_ok}
-use Rattle.bean_base.specs.Day.{is_day_form, year_of, month_of, day_of, IsDayOf, ParsesDay}
+use Rattle.std.proofs.Common.{◌≡◌, Bool, true, false, IsTrue, ℕ, List, Some, None}
+use Rattle.std.proofs.Common.{Ok, Err, refl, ap}
+use Rattle.bean_base.specs.Day.{is_day_form, year_of, month_of, day_of, ParsesDay}
 use Rattle.bean_base.specs.declared.days.Day.{Day}
 use Rattle.bean_base.specs.declared.days.NotADay.{NotADay}
 use Rattle.bean_base.proofs.DayFacts.{is_day_of}

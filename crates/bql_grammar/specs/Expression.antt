@@ -7,8 +7,8 @@
 -- unary = ("+"|"-") unary | atom
 -- atom = literal | name | name "(" ["*" | or {"," or}] ")" | "(" or ")"
 use Rattle.std.specs.Prelude.{◌≡◌, ℕ, zero, suc, ◌&&◌, ◌⊎◌, Bool, true, false, List, [], Option}
-use Rattle.std.specs.Prelude.{Some, None, is_some}
-use Rattle.theory.specs.Form.{Form, made, ◌<+>◌, ending, row, chain, alone, snoc}
+use Rattle.std.specs.Prelude.{Some}
+use Rattle.theory.specs.Form.{Form, made, ending, row, chain, alone, snoc}
 use Rattle.bql_lexer.specs.declared.kind.Kind.{Kind}
 use Rattle.bql_lexer.specs.declared.kind.Kind.TheVariants as kind
 use Rattle.bql_lexer.specs.declared.token.Token.{Token}
@@ -20,7 +20,6 @@ use Rattle.bql_tree.specs.Part.{Part}
 use Rattle.bql_tree.specs.declared.function.Scope.{Scope}
 use Rattle.bql_tree.specs.declared.level.Level.{Level}
 use Rattle.bql_tree.specs.declared.level.Level.TheVariants as level
-use Rattle.bql_tree.specs.declared.tree.Binary.{Binary}
 use Rattle.bql_tree.specs.declared.tree.Binary.TheVariants as binary
 
 -- a token that is told to stand for something

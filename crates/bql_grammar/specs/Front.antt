@@ -1,7 +1,6 @@
 -- What stands at the front of some tokens.
-use Rattle.std.specs.Prelude.{◌≡◌, ℕ, ◌&&◌, ◌||◌, Bool, true, false, List, [], ◌∷◌, Option, Some}
+use Rattle.std.specs.Prelude.{ℕ, ◌||◌, Bool, true, false, List, [], ◌∷◌, Option, Some}
 use Rattle.std.specs.Prelude.{None, is_some, if◌then◌else◌}
-use Rattle.theory.specs.Form.{Form}
 use Rattle.bean_base.specs.CalendarDay as calendar
 use Rattle.bean_base.specs.Day.{is_day_form, year_of, month_of, day_of}
 use Rattle.bean_base.specs.declared.days.Day as days

@@ -1,6 +1,5 @@
 -- What a reader gives by a rule of the grammar.
 use Rattle.std.specs.Prelude.{List, Result, Ok, Err}
-use Rattle.std.specs.Prelude as prelude
 use Rattle.theory.specs.Form.{Form, Reads, HasNone}
 use Rattle.bql_lexer.specs.declared.token.Token.{Token}
 use Rattle.bql_grammar.specs.declared.stuck.Stuck.{Stuck}

@@ -9,14 +9,14 @@ use Rattle.bql_tree.specs.Call.{pushed, one_more, all_of}
 use Rattle.bql_tree.specs.Part as specs
 use Rattle.bql_tree.specs.Part.{part_of, parts_in, tree_found, trees_found, list_of_trees, not_null}
 use mathlib.Core.Former.{Count}
-use Rattle.bql_tree.specs.Tree.{call_of, Tree, node, Trees, no_trees, trees, all_trees, tree_of}
+use Rattle.bql_tree.specs.Tree.{call_of, node, trees, all_trees, tree_of}
 use Rattle.bql_tree.specs.Tree.{trees_of, row_trees}
 use Rattle.bql_tree.specs.declared.function.Function.{Function}
 use Rattle.bql_tree.specs.declared.cause.Cause.{Cause}
 use Rattle.bql_tree.specs.declared.part.Part.{Part}
 use Rattle.bql_tree.specs.declared.tree.Expr.{Expr, Row_of-Expr, end_of-Expr, more_of-Expr}
-use Rattle.bql_tree.specs.declared.tree.Expr.{items-the_row-Expr, items_hidden-the_row-Expr-0, Leaf}
-use Rattle.bql_tree.specs.declared.tree.Expr.{One', Two', Call', Call}
+use Rattle.bql_tree.specs.declared.tree.Expr.{items-the_row-Expr, items_hidden-the_row-Expr-0}
+use Rattle.bql_tree.specs.declared.tree.Expr.{Call', Call}
 
 ok_is : {A E : Type 0} (a b : A) → ◌≡◌ {A = Result A E} (Ok a) (Ok b) → a ≡ b
 ok_is a b e = cc

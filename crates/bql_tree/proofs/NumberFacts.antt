@@ -1,7 +1,7 @@
 -- Counts, digit by digit, up to a cap.
 use Rattle.std.proofs.Common.{◌⊎◌, inl, inr, ◌≡◌, ℕ, ◌+◌, ◌-◌, ◌*◌, ◌^◌, ◌<◌, ◌≤◌, ◌++◌, min, ℤ}
 use Rattle.std.proofs.Common.{pos, FitsSigned, to_z, of_z, Bool, true, false, cond, List, [], ◌∷◌}
-use Rattle.std.proofs.Common.{Option, Some, None, length, get_or, take, arith, ap, ◌∙◌, filter}
+use Rattle.std.proofs.Common.{Option, None, length, get_or, take, arith, ap, ◌∙◌, filter}
 use Rattle.std.proofs.Common.{refl}
 use Rattle.std.proofs.lemmas.Bool.Decides.{nat_tests}
 use Rattle.std.proofs.lemmas.Int.{ints, to_z-of_z, fits_signed_from_abs}

@@ -8,8 +8,8 @@ use Rattle.query_values.specs.declared.decimal.Decimal.{Decimal}
 use Rattle.bql_lexer.specs.declared.token.Token.{Token}
 use Rattle.bql_tree.specs.Cause.{outside_profile, least, both}
 use Rattle.bql_tree.specs.Function.{known}
-use Rattle.bql_tree.specs.Part.{Part, not_null, not_too_high, above, unknown, leaf_at, one_tree}
-use Rattle.bql_tree.specs.Tree.{Operation, leaf_of, one_of, call_of, Tree, node, Trees, no_trees}
+use Rattle.bql_tree.specs.Part.{Part, not_null, not_too_high, above, unknown, leaf_at}
+use Rattle.bql_tree.specs.Tree.{leaf_of, one_of, call_of, Tree, node, no_trees}
 use Rattle.bql_tree.specs.Tree.{trees, all_trees}
 use Rattle.bql_tree.specs.declared.cause.Cause.{Cause}
 use Rattle.bql_tree.specs.declared.function.Function as functions

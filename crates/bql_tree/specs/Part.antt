@@ -6,8 +6,8 @@ use Rattle.bql_lexer.specs.declared.token.Token.{Token}
 use Rattle.bql_tree.specs.Cause.{outside_profile, unknown_name, least, both}
 use Rattle.bql_tree.specs.Column as columns
 use Rattle.bql_tree.specs.Function.{is_left_out}
-use Rattle.bql_tree.specs.Tree.{Operation, leaf_of, one_of, two_of, Tree, node, Trees, no_trees}
-use Rattle.bql_tree.specs.Tree.{trees, all_trees, tree_of, trees_of}
+use Rattle.bql_tree.specs.Tree.{leaf_of, one_of, two_of, Tree, node, no_trees}
+use Rattle.bql_tree.specs.Tree.{trees, tree_of}
 use Rattle.bql_tree.specs.declared.cause.Cause.{Cause}
 use Rattle.bql_tree.specs.declared.column.Column.{Column}
 use Rattle.bql_tree.specs.declared.function.Scope.{Scope}

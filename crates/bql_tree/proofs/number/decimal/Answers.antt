@@ -1,4 +1,3 @@
-use Rattle.std.proofs.Common.{arith}
 use Rattle.bql_tree.proofs.NumberFacts.{decimal_is}
 use Rattle.bql_tree.proofs.number.decimal.Goals as goal
 
