@@ -157,17 +157,17 @@ module _ (level : Level) (a : Form Token Part) (fixed : IsFixed a) where
 
 -- Lists.
 
-abbrev pub rows : Form Token Part → Form Token (List Part)
+abbrev pub rows : {V : Type 0} → Form Token V → Form Token (List V)
 rows a = row (begins (of_kind kind.Comma)) a alone (behind_comma a) snoc
 
-module _ (a : Form Token Part) (fixed : IsFixed a) where
+module _ {V : Type 0} (a : Form Token V) (fixed : IsFixed a) where
   pub comma_told : Tells (begins (of_kind kind.Comma)) (behind_comma a)
   comma_told ls v rest p = ap is_some p.2
 
   pub rows_end : EndsItems (begins (of_kind kind.Comma)) (behind_comma a) (rows a)
   rows_end = row_ends (begins (of_kind kind.Comma)) a alone (behind_comma a) snoc
 
-  pub list_begins : (ts : List Token) (v : Part) (rest : List Token) → Reads a ts v rest
+  pub list_begins : (ts : List Token) (v : V) (rest : List Token) → Reads a ts v rest
       → InRow (rows a) (behind_comma a) snoc ts (alone v) rest
   list_begins ts v rest r = row_begins (begins (of_kind kind.Comma)) a alone
       (behind_comma a) snoc ts v rest (λ ls v rest p. fixed ls) r
@@ -176,8 +176,8 @@ module _ (a : Form Token Part) (fixed : IsFixed a) where
   no_list ts none = none_ending (rows a) ts (no_row (begins (of_kind kind.Comma)) a alone
       (behind_comma a) snoc ts (λ ls v rest p. fixed ls) none)
 
-  pub list_goes_on : (ts : List Token) (vs : List Part) (rest mid : List Token) (comma : Token)
-      (w : Part) (more : List Token)
+  pub list_goes_on : (ts : List Token) (vs : List V) (rest mid : List Token) (comma : Token)
+      (w : V) (more : List Token)
       → InRow (rows a) (behind_comma a) snoc ts vs rest → front (of_kind kind.Comma) rest
       ≡ Some (comma, mid) → Reads a mid w more → InRow (rows a) (behind_comma a) snoc ts
       (snoc vs w) more
@@ -186,7 +186,7 @@ module _ (a : Form Token Part) (fixed : IsFixed a) where
       rows_end (λ ls v rest p. refl) comma_told p (reads_behind (of_kind kind.Comma)
       (λ c. a) rest comma mid w more (λ c. fixed) at r)
 
-  pub none_in_list : (ts : List Token) (vs : List Part) (rest mid : List Token) (comma : Token)
+  pub none_in_list : (ts : List Token) (vs : List V) (rest mid : List Token) (comma : Token)
       → InRow (rows a) (behind_comma a) snoc ts vs rest → front (of_kind kind.Comma) rest
       ≡ Some (comma, mid) → HasNone a mid → HasNone (list_of a) ts
   none_in_list ts vs rest mid comma p at none =
@@ -195,7 +195,7 @@ module _ (a : Form Token Part) (fixed : IsFixed a) where
       (present (of_kind kind.Comma) rest (comma, mid) at) (none_behind (of_kind kind.Comma)
       (λ c. a) rest comma mid (λ c. fixed) at none))
 
-  pub list_is_read : (ts : List Token) (vs : List Part) (rest : List Token)
+  pub list_is_read : (ts : List Token) (vs : List V) (rest : List Token)
       → InRow (rows a) (behind_comma a) snoc ts vs rest → front (of_kind kind.Comma) rest ≡ None
       → Reads (list_of a) ts vs rest
   list_is_read ts vs rest p at =

@@ -52,11 +52,11 @@ abbrev pub chained : Level → Form Token Part → Form Token Part
 chained level a = ending (chain (begins (fronts.operator level)) (told (fronts.operator level)) a
     parts.two)
 
-abbrev pub behind_comma : Form Token Part → Form Token Part
+abbrev pub behind_comma : {V : Type 0} → Form Token V → Form Token V
 behind_comma a = then (token kind.Comma) (λ comma. a)
 
 -- one or more with commas between them
-abbrev pub list_of : Form Token Part → Form Token (List Part)
+abbrev pub list_of : {V : Type 0} → Form Token V → Form Token (List V)
 list_of a = ending (row (begins (of_kind kind.Comma)) a alone (behind_comma a) snoc)
 
 abbrev pub literal : Form Token Part

@@ -10,16 +10,28 @@ pub struct TargetRead<'a> {
     pub part: Part<'a>,
 }
 
+/// FROM and WHERE.
+#[derive(Debug, Drop)]
+pub struct FiltersRead<'a> {
+    pub from: Option<Part<'a>>,
+    pub filter: Option<Part<'a>>,
+}
+
+/// ORDER BY.
+#[derive(Debug, Drop)]
+pub struct OrderRead<'a> {
+    pub items: Vec<Part<'a>>,
+    pub descending: bool,
+}
+
 /// The clauses of SELECT.
 #[derive(Debug, Drop)]
 pub struct SelectRead<'a> {
     pub distinct: bool,
     pub targets: Vec<TargetRead<'a>>,
-    pub from: Option<Part<'a>>,
-    pub filter: Option<Part<'a>>,
+    pub filters: FiltersRead<'a>,
     pub group: Option<Vec<Part<'a>>>,
-    pub order: Vec<Part<'a>>,
-    pub descending: bool,
+    pub order: OrderRead<'a>,
     pub limit: Option<u32>,
 }
 
@@ -42,8 +54,7 @@ pub struct JournalRead<'a> {
 #[derive(Debug, Drop)]
 pub struct BalancesRead<'a> {
     pub at: Option<NameRead<'a>>,
-    pub from: Option<Part<'a>>,
-    pub filter: Option<Part<'a>>,
+    pub filters: FiltersRead<'a>,
 }
 
 /// The clauses of a query.

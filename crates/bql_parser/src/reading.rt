@@ -1,29 +1,33 @@
 //! The clauses of queries at the front of some tokens.
+ghost use Rattle.std.specs.Prelude.{◌≡◌, ◌<◌, ◌≤◌, None, Some, length, MatchOption, IfOk, IfSome};
+ghost use Rattle.theory.specs.Form.{Reads};
+ghost use Rattle.bql_grammar.specs.Front.{front};
+ghost use Rattle.bql_grammar.specs.Gives.{Gives};
+ghost use Rattle.bql_tree.specs.Part.{part_of, parts_of};
+ghost use Rattle.bql_parser.specs.Piece as piece;
+ghost use Rattle.bql_parser.specs.Grammar as rule;
+ghost use Rattle.bql_parser.specs.Read as read;
+ghost use Rattle.bql_parser.specs.Read.{same};
 
-use crate::clauses::{BalancesRead, JournalRead, NameRead, QueryRead, SelectRead, TargetRead};
+use crate::clauses::{
+    BalancesRead, FiltersRead, JournalRead, NameRead, OrderRead, QueryRead, SelectRead, TargetRead,
+};
 use bean_base::Slice;
 use bql_grammar::front::after;
 use bql_grammar::{Stuck, expression};
 use bql_lexer::{Kind, Token};
-use bql_tree::{Part, Scope};
-use std::alloc::Global;
+use bql_tree::number::number;
+use bql_tree::part::leaf;
+use bql_tree::{Column, Leaf, Part, Scope};
+use std::alloc::{AllocError, Global};
 
 /// Outside expressions nothing is deep.
 const WIDE: usize = 1;
 
-/// What stands behind a token of a kind.
-fn expect<'t, 'a>(
-    tokens: &'t [Token<'a>],
-    kind: Kind,
-) -> Result<(&'t Token<'a>, &'t [Token<'a>]), Stuck> {
-    match after(tokens, kind) {
-        Some(found) => Ok(found),
-        None => Err(Stuck::before(tokens, WIDE)),
-    }
-}
-
 /// Whether a token of a kind stands at the front, and what stands behind it.
-fn flag<'t, 'a>(tokens: &'t [Token<'a>], kind: Kind) -> (bool, &'t [Token<'a>]) {
+fn flag<'t, 'a>(tokens: &'t [Token<'a>], kind: Kind) -> (bool, &'t [Token<'a>])
+    ensures { Reads (rule.flag kind) tokens.now result.0 result.1.now }
+{
     match after(tokens, kind) {
         Some((_, rest)) => (true, rest),
         None => (false, tokens),
@@ -36,13 +40,33 @@ fn filter<'t, 'a>(
     tokens: &'t [Token<'a>],
     word: Kind,
     scope: Scope,
-) -> Result<(Option<Part<'a>>, &'t [Token<'a>]), Stuck> {
-    match after(tokens, word) {
-        Some((_, behind)) => {
-            let (part, rest) = expression(alloc, behind, scope)?;
-            Ok((Some(part), rest))
-        }
-        None => Ok((None, tokens)),
+) -> Result<(Option<Part<'a>>, &'t [Token<'a>]), Stuck>
+    ensures { Gives (rule.filter word scope) read.filter_of tokens.now result }
+{
+    let Some((_, behind)) = after(tokens, word) else {
+        return Ok((None, tokens));
+    };
+    match expression(alloc, behind, scope) {
+        Ok((part, rest)) => Ok((Some(part), rest)),
+        Err(stuck) => Err(stuck),
+    }
+}
+
+/// FROM and WHERE, where they are written.
+fn filters<'t, 'a>(
+    alloc: Global,
+    tokens: &'t [Token<'a>],
+) -> Result<(FiltersRead<'a>, &'t [Token<'a>]), Stuck>
+    ensures { Gives rule.filters read.filters_of tokens.now result }
+{
+    let found = match filter(alloc, tokens, Kind::From, Scope::Transactions) {
+        Ok(found) => found,
+        Err(stuck) => return Err(stuck),
+    };
+    let (from, rest) = found;
+    match filter(alloc, rest, Kind::Where, Scope::Postings) {
+        Ok((filter, rest)) => Ok((FiltersRead { from, filter }, rest)),
+        Err(stuck) => Err(stuck),
     }
 }
 
@@ -50,16 +74,42 @@ fn filter<'t, 'a>(
 fn items<'t, 'a>(
     alloc: Global,
     tokens: &'t [Token<'a>],
-) -> Result<(Vec<Part<'a>>, &'t [Token<'a>]), Stuck> {
+) -> Result<(Vec<Part<'a>>, &'t [Token<'a>]), Stuck>
+    ensures { Gives rule.items parts_of tokens.now result }
+{
     let mut parts = Vec::new(alloc);
-    let (first, mut rest) = expression(alloc, tokens, Scope::Postings)?;
+    let found = match expression(alloc, tokens, Scope::Postings) {
+        Ok(found) => found,
+        Err(stuck) => return Err(stuck),
+    };
+    let (first, mut rest) = found;
     parts.push(first)?;
     while let Some((_, behind)) = after(rest, Kind::Comma) {
-        let (part, more) = expression(alloc, behind, Scope::Postings)?;
+        let found = match expression(alloc, behind, Scope::Postings) {
+            Ok(found) => found,
+            Err(stuck) => return Err(stuck),
+        };
+        let (part, more) = found;
         parts.push(part)?;
         rest = more;
     }
     Ok((parts, rest))
+}
+
+/// BY and items.
+fn by_items<'t, 'a>(
+    alloc: Global,
+    tokens: &'t [Token<'a>],
+) -> Result<(Option<Vec<Part<'a>>>, &'t [Token<'a>]), Stuck>
+    ensures { Gives rule.by_items read.group_of tokens.now result }
+{
+    let Some((_, behind)) = after(tokens, Kind::By) else {
+        return Err(Stuck::before(tokens, WIDE));
+    };
+    match items(alloc, behind) {
+        Ok((parts, rest)) => Ok((Some(parts), rest)),
+        Err(stuck) => Err(stuck),
+    }
 }
 
 /// Items behind a word and BY, if they are written.
@@ -67,42 +117,67 @@ fn items_by<'t, 'a>(
     alloc: Global,
     tokens: &'t [Token<'a>],
     word: Kind,
-) -> Result<(Option<Vec<Part<'a>>>, &'t [Token<'a>]), Stuck> {
+) -> Result<(Option<Vec<Part<'a>>>, &'t [Token<'a>]), Stuck>
+    ensures { Gives (rule.items_by word) read.group_of tokens.now result }
+{
     match after(tokens, word) {
-        Some((_, behind)) => {
-            let (_, behind) = expect(behind, Kind::By)?;
-            let (parts, rest) = items(alloc, behind)?;
-            Ok((Some(parts), rest))
-        }
+        Some((_, behind)) => by_items(alloc, behind),
         None => Ok((None, tokens)),
     }
 }
 
-/// An expression's own text.
-fn own_text<'a>(text: &'a str, part: &Part<'a>) -> Slice<'a> {
-    match text.get(part.start..part.end) {
-        Some(own) => Slice::new(own),
-        None => Slice::new(""),
+/// Whether the place is a character's, or the text's end.
+fn is_cut(text: &str, at: usize) -> bool
+    ensures { result ≡ piece.is_cut text.now at }
+{
+    match text.as_bytes().get(at) {
+        Some(b) => *b < 128 || 192 <= *b,
+        None => at == text.len(),
     }
 }
 
-/// An expression and its name.
+/// What stands between two places of a text.
+fn piece(text: &str, start: usize, end: usize) -> &str
+    ensures { result.now ≡ piece.piece text.now start end }
+{
+    if start <= end && is_cut(text, start) && is_cut(text, end) {
+        &text[start..end]
+    } else {
+        ""
+    }
+}
+
+/// An expression with its name: what follows AS, or else its own text.
+fn with_name<'t, 'a>(
+    text: &'a str,
+    tokens: &'t [Token<'a>],
+    part: Part<'a>,
+) -> Result<(TargetRead<'a>, &'t [Token<'a>]), Stuck>
+    ensures { Gives (rule.with_name text.now (part_of part.entry)) read.target_of tokens.now result }
+{
+    let Some((_, behind)) = after(tokens, Kind::As) else {
+        let name = Slice::new(piece(text, part.start, part.end));
+        return Ok((TargetRead { name, part }, tokens));
+    };
+    let Some((name, rest)) = after(behind, Kind::Name) else {
+        return Err(Stuck::before(behind, WIDE));
+    };
+    let name = name.text.lend();
+    Ok((TargetRead { name, part }, rest))
+}
+
+/// A target.
 fn target<'t, 'a>(
     alloc: Global,
     text: &'a str,
     tokens: &'t [Token<'a>],
-) -> Result<(TargetRead<'a>, &'t [Token<'a>]), Stuck> {
-    let (part, rest) = expression(alloc, tokens, Scope::Postings)?;
-    match after(rest, Kind::As) {
-        Some((_, behind)) => {
-            let (name, rest) = expect(behind, Kind::Name)?;
-            let name = name.text.lend();
-            Ok((TargetRead { name, part }, rest))
-        }
-        None => {
-            let name = own_text(text, &part);
-            Ok((TargetRead { name, part }, rest))
-        }
+) -> Result<(TargetRead<'a>, &'t [Token<'a>]), Stuck>
+    ensures read { Gives (rule.target text.now) read.target_of tokens.now result }
+    ensures shorter { IfOk result (λ r. length r.1.now < length tokens.now) }
+{
+    match expression(alloc, tokens, Scope::Postings) {
+        Ok((part, rest)) => with_name(text, rest, part),
+        Err(stuck) => Err(stuck),
     }
 }
 
@@ -111,34 +186,52 @@ fn targets<'t, 'a>(
     alloc: Global,
     text: &'a str,
     tokens: &'t [Token<'a>],
-) -> Result<(Vec<TargetRead<'a>>, &'t [Token<'a>]), Stuck> {
+) -> Result<(Vec<TargetRead<'a>>, &'t [Token<'a>]), Stuck>
+    ensures { Gives (rule.targets text.now) read.targets_of tokens.now result }
+{
     let mut targets = Vec::new(alloc);
-    let (first, mut rest) = target(alloc, text, tokens)?;
+    let found = match target(alloc, text, tokens) {
+        Ok(found) => found,
+        Err(stuck) => return Err(stuck),
+    };
+    let (first, mut rest) = found;
     targets.push(first)?;
     while let Some((_, behind)) = after(rest, Kind::Comma) {
-        let (next, more) = target(alloc, text, behind)?;
+        let found = match target(alloc, text, behind) {
+            Ok(found) => found,
+            Err(stuck) => return Err(stuck),
+        };
+        let (next, more) = found;
         targets.push(next)?;
         rest = more;
     }
     Ok((targets, rest))
 }
 
-/// The names of the targets of `SELECT *`.
-const STARRED: [&str; 5] = ["date", "flag", "payee", "narration", "position"];
+/// A column that a star stands for.
+fn column_shown<'a>(
+    alloc: Global,
+    star: &Token<'a>,
+    name: &'a str,
+    column: Column,
+) -> Result<TargetRead<'a>, AllocError>
+    ensures { IfOk result (λ t. read.target_of t ≡ rule.column_shown star.now name.now column) }
+{
+    let part = leaf(alloc, star, Leaf::Column(column))?;
+    let name = Slice::new(name);
+    Ok(TargetRead { name, part })
+}
 
-fn starred<'a>(alloc: Global, star: &Token<'a>) -> Result<Vec<TargetRead<'a>>, Stuck> {
+/// What a star stands for.
+fn starred<'a>(alloc: Global, star: &Token<'a>) -> Result<Vec<TargetRead<'a>>, AllocError>
+    ensures { IfOk result (λ ts. read.targets_of ts ≡ rule.starred star.now) }
+{
     let mut targets = Vec::new(alloc);
-    for name in STARRED {
-        let token = Token {
-            text: Slice::new(name),
-            start: star.start,
-            end: star.end,
-            kind: Kind::Name,
-        };
-        let part = bql_tree::part::name(alloc, &token, Scope::Postings)?;
-        let name = Slice::new(name);
-        targets.push(TargetRead { name, part })?;
-    }
+    targets.push(column_shown(alloc, star, "date", Column::Date)?)?;
+    targets.push(column_shown(alloc, star, "flag", Column::Flag)?)?;
+    targets.push(column_shown(alloc, star, "payee", Column::Payee)?)?;
+    targets.push(column_shown(alloc, star, "narration", Column::Narration)?)?;
+    targets.push(column_shown(alloc, star, "position", Column::Position)?)?;
     Ok(targets)
 }
 
@@ -147,141 +240,79 @@ fn shown<'t, 'a>(
     alloc: Global,
     text: &'a str,
     tokens: &'t [Token<'a>],
-) -> Result<(Vec<TargetRead<'a>>, &'t [Token<'a>]), Stuck> {
-    match after(tokens, Kind::Star) {
-        Some((star, rest)) => Ok((starred(alloc, star)?, rest)),
-        None => targets(alloc, text, tokens),
-    }
-}
-
-/// How many rows are kept, from digits alone.
-fn limit_of(number: &str) -> Option<u32> {
-    if number.contains('.') {
-        return None;
-    }
-    match number.parse::<u32>() {
-        Ok(limit) => Some(limit),
-        Err(_) => None,
-    }
-}
-
-fn limit<'t, 'a>(tokens: &'t [Token<'a>]) -> Result<(Option<u32>, &'t [Token<'a>]), Stuck> {
-    let Some((_, behind)) = after(tokens, Kind::Limit) else {
-        return Ok((None, tokens));
+) -> Result<(Vec<TargetRead<'a>>, &'t [Token<'a>]), Stuck>
+    ensures { Gives (rule.shown text.now) read.targets_of tokens.now result }
+{
+    let Some((star, rest)) = after(tokens, Kind::Star) else {
+        return targets(alloc, text, tokens);
     };
-    let (number, rest) = expect(behind, Kind::Number)?;
-    match limit_of(number.text.text()) {
-        Some(limit) => Ok((Some(limit), rest)),
-        None => Err(Stuck::before(behind, WIDE)),
-    }
+    let shown = starred(alloc, star)?;
+    Ok((shown, rest))
 }
 
-/// The items of ORDER BY, and whether they descend.
+/// Whether the order descends.
+fn direction<'t, 'a>(tokens: &'t [Token<'a>]) -> (bool, &'t [Token<'a>])
+    ensures { Reads rule.direction tokens.now result.0 result.1.now }
+{
+    if let Some((_, rest)) = after(tokens, Kind::Desc) {
+        return (true, rest);
+    }
+    let (_, rest) = flag(tokens, Kind::Asc);
+    (false, rest)
+}
+
+/// ORDER BY, if it is written.
 fn order<'t, 'a>(
     alloc: Global,
     tokens: &'t [Token<'a>],
-) -> Result<(Vec<Part<'a>>, bool, &'t [Token<'a>]), Stuck> {
-    let (items, rest) = items_by(alloc, tokens, Kind::Order)?;
+) -> Result<(OrderRead<'a>, &'t [Token<'a>]), Stuck>
+    ensures { Gives rule.order read.order_of tokens.now result }
+{
+    let found = match items_by(alloc, tokens, Kind::Order) {
+        Ok(found) => found,
+        Err(stuck) => return Err(stuck),
+    };
+    let (items, rest) = found;
     let Some(items) = items else {
-        return Ok((Vec::new(alloc), false, rest));
+        let items = Vec::new(alloc);
+        let descending = false;
+        return Ok((OrderRead { items, descending }, rest));
     };
-    if let Some((_, rest)) = after(rest, Kind::Desc) {
-        return Ok((items, true, rest));
+    let (descending, rest) = direction(rest);
+    Ok((OrderRead { items, descending }, rest))
+}
+
+/// A whole number that a count of rows can be.
+fn whole_in(leaf: Leaf<'_>) -> Option<u32>
+    ensures { result ≡ piece.whole_in leaf.entry }
+{
+    match leaf {
+        Leaf::Number(n) if n.places == 0 && 0 <= n.count && n.count <= 4_294_967_295 => {
+            Some(n.count as u32)
+        }
+        _ => None,
     }
-    let (_, rest) = flag(rest, Kind::Asc);
-    Ok((items, false, rest))
 }
 
-fn select<'t, 'a>(
-    alloc: Global,
-    text: &'a str,
-    tokens: &'t [Token<'a>],
-) -> Result<(SelectRead<'a>, &'t [Token<'a>]), Stuck> {
-    let (distinct, rest) = flag(tokens, Kind::Distinct);
-    let (targets, rest) = shown(alloc, text, rest)?;
-    let (from, rest) = filter(alloc, rest, Kind::From, Scope::Transactions)?;
-    let (filter, rest) = filter(alloc, rest, Kind::Where, Scope::Postings)?;
-    let (group, rest) = items_by(alloc, rest, Kind::Group)?;
-    let (order, descending, rest) = order(alloc, rest)?;
-    let (limit, rest) = limit(rest)?;
-    let read = SelectRead {
-        distinct,
-        targets,
-        from,
-        filter,
-        group,
-        order,
-        descending,
-        limit,
-    };
-    Ok((read, rest))
+/// The whole number at the front.
+fn after_whole<'t, 'a>(tokens: &'t [Token<'a>]) -> Option<(u32, &'t [Token<'a>])>
+    ensures { MatchOption result (front piece.whole tokens.now ≡ None)
+        (λ r. front piece.whole tokens.now ≡ Some (r.0, r.1.now)) }
+{
+    let (first, rest) = after(tokens, Kind::Number)?;
+    let whole = whole_in(number(first.text.text()))?;
+    Some((whole, rest))
 }
 
-/// What AT names, if it is written.
-fn at<'t, 'a>(tokens: &'t [Token<'a>]) -> Result<(Option<NameRead<'a>>, &'t [Token<'a>]), Stuck> {
-    let Some((_, behind)) = after(tokens, Kind::At) else {
+/// LIMIT, if it is written.
+fn limit<'t, 'a>(tokens: &'t [Token<'a>]) -> Result<(Option<u32>, &'t [Token<'a>]), Stuck>
+    ensures { Gives rule.limit same tokens.now result }
+{
+    let Some((_, behind)) = after(tokens, Kind::Limit) else {
         return Ok((None, tokens));
     };
-    let (name, rest) = expect(behind, Kind::Name)?;
-    let read = NameRead {
-        start: name.start,
-        text: name.text.lend(),
+    let Some((limit, rest)) = after_whole(behind) else {
+        return Err(Stuck::before(behind, WIDE));
     };
-    Ok((Some(read), rest))
-}
-
-fn journal<'t, 'a>(
-    alloc: Global,
-    tokens: &'t [Token<'a>],
-) -> Result<(JournalRead<'a>, &'t [Token<'a>]), Stuck> {
-    let (pattern, rest) = match after(tokens, Kind::Text) {
-        Some((text, rest)) => (Some(text.text.lend()), rest),
-        None => (None, tokens),
-    };
-    let (at, rest) = at(rest)?;
-    let (from, rest) = filter(alloc, rest, Kind::From, Scope::Transactions)?;
-    Ok((JournalRead { pattern, at, from }, rest))
-}
-
-fn balances<'t, 'a>(
-    alloc: Global,
-    tokens: &'t [Token<'a>],
-) -> Result<(BalancesRead<'a>, &'t [Token<'a>]), Stuck> {
-    let (at, rest) = at(tokens)?;
-    let (from, rest) = filter(alloc, rest, Kind::From, Scope::Transactions)?;
-    let (filter, rest) = filter(alloc, rest, Kind::Where, Scope::Postings)?;
-    Ok((BalancesRead { at, from, filter }, rest))
-}
-
-fn clauses<'t, 'a>(
-    alloc: Global,
-    text: &'a str,
-    tokens: &'t [Token<'a>],
-) -> Result<(QueryRead<'a>, &'t [Token<'a>]), Stuck> {
-    if let Some((_, behind)) = after(tokens, Kind::Select) {
-        let (read, rest) = select(alloc, text, behind)?;
-        return Ok((QueryRead::Select(read), rest));
-    }
-    if let Some((_, behind)) = after(tokens, Kind::Journal) {
-        let (read, rest) = journal(alloc, behind)?;
-        return Ok((QueryRead::Journal(read), rest));
-    }
-    let (_, behind) = expect(tokens, Kind::Balances)?;
-    let (read, rest) = balances(alloc, behind)?;
-    Ok((QueryRead::Balances(read), rest))
-}
-
-/// The query that a text is.
-pub fn query<'a>(
-    alloc: Global,
-    text: &'a str,
-    tokens: &[Token<'a>],
-) -> Result<QueryRead<'a>, Stuck> {
-    let (read, rest) = clauses(alloc, text, tokens)?;
-    let (_, rest) = flag(rest, Kind::Semicolon);
-    if rest.is_empty() {
-        Ok(read)
-    } else {
-        Err(Stuck::before(rest, WIDE))
-    }
+    Ok((Some(limit), rest))
 }

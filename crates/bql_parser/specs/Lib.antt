@@ -1,0 +1,4 @@
+pub mod Clause
+pub mod Read
+pub mod Piece
+pub mod Grammar
