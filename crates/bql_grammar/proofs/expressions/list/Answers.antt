@@ -1,0 +1,30 @@
+use Rattle.std.proofs.Common.{arith, subst, sym}
+use Rattle.theory.specs.Form.{Reads}
+use Rattle.bql_grammar.specs.Expression.{literals, list}
+use Rattle.bql_tree.specs.Part.{part_of, parts_of}
+use Rattle.bql_grammar.proofs.ExpressionFacts.{stuck_in, gives_none}
+use Rattle.bql_grammar.proofs.ItemsFacts.{no_items, items_not_shut, list_read}
+use Rattle.bql_grammar.proofs.expressions.list.Goals as goal
+
+pub returns-in_default-after-2-clause-read : goal.returns-in_default-after-2-clause-read
+returns-in_default-after-2-clause-read c =
+    gives_none (list c.args.room (part_of c.args.left)) part_of c.args.tokens.now _
+    (items_not_shut c.args.room (part_of c.args.left) c.args.tokens.now _ _ _ _
+    (parts_of c.in-Ok.found.0) c.in-Ok.found.1.now c.in-Some.ensures.front
+    c.in-Some-after.ensures.front c.in-Ok.ensures.read c.in_default-after-2.ensures.front)
+
+pub returns-clause-read : goal.returns-clause-read
+returns-clause-read c =
+    subst (λ v. Reads (list c.args.room (part_of c.args.left)) c.args.tokens.now v
+    c.in-Some-after-2.rest.now) (sym c.in_ok-value.ensures)
+    (list_read c.args.room (part_of c.args.left) c.args.tokens.now _ _ _ _
+    (parts_of c.in-Ok.found.0) c.in-Ok.found.1.now _ _ (omega (arith, c.if-room-eq0.false))
+    c.in-Some.ensures.front c.in-Some-after.ensures.front c.in-Ok.ensures.read
+    c.in-Some-after-2.ensures.front)
+
+pub returns-in-Err-clause-read : goal.returns-in-Err-clause-read
+returns-in-Err-clause-read c =
+    stuck_in literals (list c.args.room (part_of c.args.left)) parts_of part_of
+    c.in-Some-after.inside.now c.args.tokens.now c.in-Err.stuck
+    (λ none. no_items c.args.room (part_of c.args.left) c.args.tokens.now _ _ _ _
+    c.in-Some.ensures.front c.in-Some-after.ensures.front none) c.in-Err.ensures.read

@@ -1,0 +1,52 @@
+-- The columns of the postings, and their names.
+use Rattle.std.specs.Prelude.{ℕ, Bool, true, false, List, codes, Option}
+use Rattle.std.specs.List.{find}
+use Rattle.std.specs.Str.{str_eq_ignore_ascii_case}
+use Rattle.bql_tree.specs.declared.column.Column as columns
+use Rattle.bql_tree.specs.declared.column.Column.TheVariants.{Date, Year, Month, Day, Flag, Payee}
+use Rattle.bql_tree.specs.declared.column.Column.TheVariants.{Narration, Tags, Links, Account}
+use Rattle.bql_tree.specs.declared.column.Column.TheVariants.{PostingFlag, Number, Currency}
+use Rattle.bql_tree.specs.declared.column.Column.TheVariants.{CostNumber, CostCurrency, CostDate}
+use Rattle.bql_tree.specs.declared.column.Column.TheVariants.{CostLabel, Position, Weight, Balance}
+use Rattle.bql_tree.specs.declared.column.Column.TheVariants.{Lineno}
+use Rattle.bql_tree.specs.declared.column.TheConstants.{COLUMNS}
+
+abbrev pub name : columns.Column → List ℕ
+name Date = codes "date"
+name Year = codes "year"
+name Month = codes "month"
+name Day = codes "day"
+name Flag = codes "flag"
+name Payee = codes "payee"
+name Narration = codes "narration"
+name Tags = codes "tags"
+name Links = codes "links"
+name Account = codes "account"
+name PostingFlag = codes "posting_flag"
+name Number = codes "number"
+name Currency = codes "currency"
+name CostNumber = codes "cost_number"
+name CostCurrency = codes "cost_currency"
+name CostDate = codes "cost_date"
+name CostLabel = codes "cost_label"
+name Position = codes "position"
+name Weight = codes "weight"
+name Balance = codes "balance"
+name Lineno = codes "lineno"
+
+-- in small or capital letters
+abbrev pub named : List ℕ → Option columns.Column
+named bs = find (λ column. str_eq_ignore_ascii_case bs (name column)) COLUMNS
+
+-- those that FROM knows
+abbrev pub is_of_transaction : columns.Column → Bool
+is_of_transaction Date = true
+is_of_transaction Year = true
+is_of_transaction Month = true
+is_of_transaction Day = true
+is_of_transaction Flag = true
+is_of_transaction Payee = true
+is_of_transaction Narration = true
+is_of_transaction Tags = true
+is_of_transaction Links = true
+is_of_transaction _ = false

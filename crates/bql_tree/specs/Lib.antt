@@ -1,0 +1,8 @@
+pub mod Cause
+pub mod Column
+pub mod Function
+pub mod Tree
+pub mod Number
+pub mod Level
+pub mod Part
+pub mod Call

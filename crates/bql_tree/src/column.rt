@@ -1,0 +1,113 @@
+//! The columns of the postings.
+ghost use Rattle.std.specs.Prelude.{◌≡◌};
+ghost use Rattle.bql_tree.specs.Column as columns;
+
+/// A column of the postings.
+#[derive(Clone, Copy, Debug, Drop, PartialEq, Eq)]
+pub enum Column {
+    Date,
+    Year,
+    Month,
+    Day,
+    Flag,
+    Payee,
+    Narration,
+    Tags,
+    Links,
+    Account,
+    PostingFlag,
+    Number,
+    Currency,
+    CostNumber,
+    CostCurrency,
+    CostDate,
+    CostLabel,
+    Position,
+    Weight,
+    Balance,
+    Lineno,
+}
+
+/// All columns, by their numbers.
+pub const COLUMNS: [Column; 21] = [
+    Column::Date,
+    Column::Year,
+    Column::Month,
+    Column::Day,
+    Column::Flag,
+    Column::Payee,
+    Column::Narration,
+    Column::Tags,
+    Column::Links,
+    Column::Account,
+    Column::PostingFlag,
+    Column::Number,
+    Column::Currency,
+    Column::CostNumber,
+    Column::CostCurrency,
+    Column::CostDate,
+    Column::CostLabel,
+    Column::Position,
+    Column::Weight,
+    Column::Balance,
+    Column::Lineno,
+];
+
+impl Column {
+    /// The name of the column in small letters.
+    pub fn name(self) -> &'static str
+        ensures { result.now ≡ columns.name self }
+    {
+        match self {
+            Column::Date => "date",
+            Column::Year => "year",
+            Column::Month => "month",
+            Column::Day => "day",
+            Column::Flag => "flag",
+            Column::Payee => "payee",
+            Column::Narration => "narration",
+            Column::Tags => "tags",
+            Column::Links => "links",
+            Column::Account => "account",
+            Column::PostingFlag => "posting_flag",
+            Column::Number => "number",
+            Column::Currency => "currency",
+            Column::CostNumber => "cost_number",
+            Column::CostCurrency => "cost_currency",
+            Column::CostDate => "cost_date",
+            Column::CostLabel => "cost_label",
+            Column::Position => "position",
+            Column::Weight => "weight",
+            Column::Balance => "balance",
+            Column::Lineno => "lineno",
+        }
+    }
+
+    /// The column of a name, in small or capital letters.
+    pub fn named(name: &str) -> Option<Column>
+        ensures { result ≡ columns.named name.now }
+    {
+        COLUMNS
+            .iter()
+            .copied()
+            .find(|column| name.eq_ignore_ascii_case(column.name()))
+    }
+
+    /// Whether the column is the transaction's, and one of those that FROM knows.
+    pub fn is_of_transaction(self) -> bool
+        ensures { result ≡ columns.is_of_transaction self }
+    {
+        matches!(
+            self,
+            Column::Date
+                | Column::Year
+                | Column::Month
+                | Column::Day
+                | Column::Flag
+                | Column::Payee
+                | Column::Narration
+                | Column::Tags
+                | Column::Links
+        )
+    }
+}
