@@ -1,0 +1,3 @@
+pub mod BoundFacts
+pub mod ListFacts
+mod Examples

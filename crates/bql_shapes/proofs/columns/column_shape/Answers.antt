@@ -1,0 +1,11 @@
+use Rattle.std.proofs.Common.{◌≡◌, ◌*◌, arith}
+use Rattle.bql_shapes.proofs.BoundFacts.{sum_fits}
+use Rattle.bql_shapes.proofs.columns.column_shape.Goals as goal
+
+pub overflow_mul-result-in-Balance : goal.overflow_mul-result-in-Balance
+overflow_mul-result-in-Balance c =
+    let fits =
+    sum_fits c.args.bounds.now.postings c.args.bounds.now.value_digits c.requires.postings
+    c.requires.value in
+    let most = c.most_of-value.ensures in
+    rw most (omega (arith, fits))

@@ -1,0 +1,198 @@
+-- The shapes of a query's columns, and those that its operations give.
+use Rattle.std.specs.Prelude.{ℕ, ◌-◌, ◌*◌, ◌^◌, ◌≤◌, ◌&&◌, Bool, true, false, max, List, [], ◌∷◌}
+use Rattle.std.specs.Prelude.{fold, Option, Some, None, Result, Ok, Err, if◌then◌else◌}
+use Rattle.std.specs.Int.RustNames.{unsigned_abs}
+use Rattle.std.specs.List.{list_all}
+use Rattle.std.specs.Result.{is_ok}
+use Rattle.bean_base.specs.declared.bounds.Bounds.{Bounds}
+use Rattle.bql_tree.specs.declared.column.Column.{Column}
+use Rattle.bql_tree.specs.declared.column.Column.TheVariants as column
+use Rattle.bql_tree.specs.declared.function.Function.{Function}
+use Rattle.bql_tree.specs.declared.function.Function.TheVariants as function
+use Rattle.bql_tree.specs.declared.tree.Binary.{Binary}
+use Rattle.bql_tree.specs.declared.tree.Binary.TheVariants as binary
+use Rattle.bql_tree.specs.declared.tree.Leaf.{Leaf}
+use Rattle.bql_tree.specs.declared.tree.Leaf.TheVariants as leaf
+use Rattle.bql_tree.specs.declared.tree.Unary.{Unary}
+use Rattle.bql_tree.specs.declared.tree.Unary.TheVariants as unary
+use Rattle.query_shapes.specs.Rules as machine
+use Rattle.query_shapes.specs.Rules.{Ruled}
+use Rattle.query_shapes.specs.declared.shape.Misfit.TheVariants.{Kind, TooWide}
+use Rattle.query_shapes.specs.declared.shape.Shape.{Shape}
+use Rattle.query_shapes.specs.declared.shape.Shape.TheVariants.{Truth, Text, Day, Set, Number}
+use Rattle.query_shapes.specs.declared.shape.Shape.TheVariants.{Amount, Position, Inventory}
+use Rattle.query_values.specs.declared.operation.Aggregate.{Aggregate}
+use Rattle.query_values.specs.declared.operation.Aggregate.TheVariants as aggregate
+use Rattle.query_values.specs.declared.operation.Binary as operation
+use Rattle.query_values.specs.declared.operation.Binary.TheVariants as operations
+
+-- bounds that a query may have
+pub record AreBounds (b : Bounds) : Type 0 where
+  pub postings : b.postings ≤ 1000000
+  pub units : b.units_digits ≤ 20
+  pub value : b.value_digits ≤ 28
+
+-- ---- columns
+
+-- the greatest count of units, and of what they are worth
+abbrev pub units_most : Bounds → ℕ
+units_most b = 10 ^ b.units_digits - 1
+
+abbrev pub value_most : Bounds → ℕ
+value_most b = 10 ^ b.value_digits - 1
+
+abbrev pub whole : ℕ → Shape
+whole most = Number 0 most
+
+abbrev pub column_shape : Bounds → Column → Shape
+column_shape b column.Date = Day
+column_shape b column.Year = whole 9999
+column_shape b column.Month = whole 12
+column_shape b column.Day = whole 31
+column_shape b column.Flag = Text
+column_shape b column.Payee = Text
+column_shape b column.Narration = Text
+column_shape b column.Tags = Set
+column_shape b column.Links = Set
+column_shape b column.Account = Text
+column_shape b column.PostingFlag = Text
+column_shape b column.Number = Number 8 (units_most b)
+column_shape b column.Currency = Text
+column_shape b column.CostNumber = Number 8 (units_most b)
+column_shape b column.CostCurrency = Text
+column_shape b column.CostDate = Day
+column_shape b column.CostLabel = Text
+column_shape b column.Position = Position (units_most b) (value_most b)
+column_shape b column.Weight = Amount 16 (value_most b)
+column_shape b column.Balance =
+    Inventory 8 (b.postings * units_most b) (b.postings * value_most b)
+column_shape b column.Lineno = whole 16777216
+
+-- ---- leaves
+
+-- a NULL has no shape of its own
+abbrev pub leaf_shape : Bounds → Leaf → Ruled
+leaf_shape b (leaf.Column c) = Ok (column_shape b c)
+leaf_shape b leaf.Null = Err Kind
+leaf_shape b (leaf.Number n) = Ok (Number n.places (unsigned_abs n.count))
+leaf_shape b (leaf.TooWide digits) = Err TooWide
+leaf_shape b (leaf.Text t) = Ok Text
+leaf_shape b (leaf.Day d) = Ok Day
+leaf_shape b (leaf.Truth t) = Ok Truth
+leaf_shape b leaf.Rows = Ok (whole b.postings)
+leaf_shape b (leaf.Meta e k) = Ok Text
+leaf_shape b (leaf.HasAccount p) = Ok Truth
+
+-- ---- operators
+
+abbrev pub unary_shape : Unary → Shape → Ruled
+unary_shape unary.Not s = machine.of_truth Truth s
+unary_shape unary.Minus s = machine.negated s
+unary_shape (unary.Matches pattern) s = machine.of_text Truth s
+unary_shape (unary.Root n) s = machine.of_text Text s
+
+abbrev pub of_truths : Shape → Shape → Ruled
+of_truths Truth Truth = Ok Truth
+of_truths s t = Err Kind
+
+abbrev pub of_both : operation.Binary → Ruled → Ruled → Ruled
+of_both op (Ok s) (Ok t) = machine.binary_shape op s t
+of_both op (Ok s) (Err e) = Err e
+of_both op (Err e) t = Err e
+
+-- what the machine gives, where two numbers are first brought to the greater count of decimals
+abbrev pub by_machine : operation.Binary → Shape → Shape → Ruled
+by_machine op (Number p m) (Number q n) =
+    of_both op (machine.aligned (max p q) (Number p m)) (machine.aligned (max p q) (Number q n))
+by_machine op s t = machine.binary_shape op s t
+
+abbrev pub binary_shape : Binary → Shape → Shape → Ruled
+binary_shape binary.Or s t = of_truths s t
+binary_shape binary.And s t = of_truths s t
+binary_shape binary.Equal s t = by_machine operations.Equal s t
+binary_shape binary.NotEqual s t = by_machine operations.NotEqual s t
+binary_shape binary.Less s t = by_machine operations.Less s t
+binary_shape binary.LessOrEqual s t = by_machine operations.AtMost s t
+binary_shape binary.Greater s t = by_machine operations.Greater s t
+binary_shape binary.GreaterOrEqual s t = by_machine operations.AtLeast s t
+binary_shape binary.In s t = machine.binary_shape operations.InSet s t
+binary_shape binary.Plus s t = by_machine operations.Add s t
+binary_shape binary.Minus s t = by_machine operations.Sub s t
+binary_shape binary.Times s t = machine.binary_shape operations.Mul s t
+
+-- ---- functions of one argument
+
+-- numbers are summed to a number, all else to an inventory
+abbrev pub sum_over : Shape → Aggregate
+sum_over (Number p m) = aggregate.Sum p
+sum_over (Amount p m) = aggregate.SumInventory p
+sum_over s = aggregate.SumInventory 8
+
+abbrev pub gathered : ℕ → Function → Shape → Ruled
+gathered n function.Count s = machine.aggregate_shape n aggregate.Count (Some s)
+gathered n function.Sum s = machine.aggregate_shape n (sum_over s) (Some s)
+gathered n function.First s = machine.aggregate_shape n aggregate.First (Some s)
+gathered n function.Last s = machine.aggregate_shape n aggregate.Last (Some s)
+gathered n function.Min s = machine.aggregate_shape n aggregate.Min (Some s)
+gathered n function.Max s = machine.aggregate_shape n aggregate.Max (Some s)
+gathered n f s = Err Kind
+
+abbrev pub of_one : ℕ → Function → Shape → Ruled
+of_one n function.Parent s = machine.of_text Text s
+of_one n function.Leaf s = machine.of_text Text s
+of_one n function.Length s = machine.length_of s
+of_one n function.Units s = machine.units_of s
+of_one n function.Cost s = machine.cost_of s
+of_one n function.Year s = machine.of_day (whole 9999) s
+of_one n function.Month s = machine.of_day (whole 12) s
+of_one n function.Day s = machine.of_day (whole 31) s
+of_one n function.Number s = machine.number_of s
+of_one n function.Currency s = machine.currency_of s
+of_one n function.Abs s = machine.magnitude_of s
+of_one n f s = gathered n f s
+
+-- ---- IN with a list
+
+-- both texts, both days or both numbers
+abbrev pub are_alike : Shape → Shape → Bool
+are_alike Text Text = true
+are_alike Day Day = true
+are_alike (Number p m) (Number q n) = true
+are_alike s t = false
+
+abbrev pub places_of : Shape → ℕ
+places_of (Number p m) = p
+places_of s = 0
+
+-- a number may be brought to so many decimals
+abbrev pub is_held_with : ℕ → Shape → Bool
+is_held_with places (Number p m) = is_ok (machine.aligned places (Number p m))
+is_held_with places s = true
+
+abbrev pub greatest_places : Shape → List Shape → ℕ
+greatest_places s ss = fold (λ most t. max most (places_of t)) (places_of s) ss
+
+-- what is looked for and the members are of one kind; numbers are brought to the greatest count of
+-- decimals
+abbrev pub one_of : Shape → List Shape → Ruled
+one_of s ss =
+    if are_alike s s && list_all (are_alike s) ss
+    then (if list_all (is_held_with (greatest_places s ss)) (s ∷ ss) then Ok Truth
+    else Err TooWide)
+    else Err Kind
+
+-- what is looked for stands first
+abbrev pub listed : List Shape → Ruled
+listed [] = Err Kind
+listed (s ∷ ss) = one_of s ss
+
+-- ---- calls
+
+abbrev pub single : ℕ → Function → List Shape → Ruled
+single n f [] = Err Kind
+single n f (s ∷ []) = of_one n f s
+single n f (s ∷ t ∷ ss) = Err Kind
+
+abbrev pub call_shape : Bounds → Function → List Shape → Ruled
+call_shape b function.OneOf ss = listed ss
+call_shape b f ss = single b.postings f ss

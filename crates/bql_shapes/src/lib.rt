@@ -1,0 +1,44 @@
+//! The shapes of a query's expressions: which shape each column has, and each operation gives.
+//!
+//! ```text
+//! let number = column_shape(&bounds, Column::Number);          // 8 decimals, below 10^20
+//! binary_shape(Binary::Times, number, number)                  // Err(Misfit::TooWide)
+//! let bounds = Bounds { units_digits: 14, ..bounds };
+//! let number = column_shape(&bounds, Column::Number);
+//! binary_shape(Binary::Times, number, number)                  // Ok: 16 decimals
+//! call_shape(&bounds, Function::Units, &[Shape::Text])         // Err(Misfit::Kind)
+//! ```
+//!
+//! # What is taken for granted
+//!
+//! Of the ledgers that a query runs on only their [`bean_base::Bounds`]: how many postings they
+//! have at most, and how wide their counts are.
+//!
+//! # One table
+//!
+//! An operation of the query language is one of the machine's (`query_shapes`), where numbers of
+//! different decimals were brought to the greater count first. So what is given a shape here can be
+//! computed there. A new function is a row in the code, and one in `specs/`.
+//!
+//! # Misfits
+//!
+//! An operand of another kind than the operation takes, or a wrong count of arguments; else a value
+//! that might be too wide to be held: a count beyond `2^127 - 1`, sign left off, or more than 32
+//! decimals.
+//!
+//! # Cost
+//!
+//! A few steps for an operation, and for a list as many as it has members. No memory.
+#![tactic(auto)]
+
+mod calls;
+mod columns;
+pub mod laws;
+mod leaves;
+mod operators;
+
+pub use calls::call_shape;
+pub use columns::column_shape;
+pub use laws::columns_are_held;
+pub use leaves::leaf_shape;
+pub use operators::{binary_shape, unary_shape};
