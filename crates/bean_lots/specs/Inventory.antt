@@ -1,10 +1,12 @@
 -- An inventory as the list of its positions, in order of entry.
-use Rattle.std.specs.Prelude.{◌≡◌, ◌^◌, ◌<◌, false, List, [], ◌∷◌, ◌++◌, ℤ, pos, neg_ℤ, ◌+ℤ◌}
+use Rattle.std.specs.Prelude.{◌≡◌, ◌^◌, ◌<◌, ◌&&◌, ℕ, Bool, false, List, [], ◌∷◌, ◌++◌, ℤ, pos}
+use Rattle.std.specs.Prelude.{neg_ℤ, ◌+ℤ◌}
 use Rattle.std.specs.Prelude.{if◌then◌else◌}
 use Rattle.std.specs.Int.RustNames.{unsigned_abs}
 use Rattle.std.specs.Ordering.{int_eq}
-use Rattle.std.specs.List.{AllByRecursion}
-use Rattle.bean_lots.specs.Lot.{same_key}
+use Rattle.std.specs.List.{AllByRecursion, list_any}
+use Rattle.std.specs.Option.{is_some}
+use Rattle.bean_lots.specs.Lot.{same_key, same_text}
 use Rattle.bean_lots.specs.declared.lot.Key.{Key}
 use Rattle.bean_lots.specs.declared.lot.Position.{Position}
 
@@ -23,6 +25,13 @@ abbrev pub added : List Position → Key → ℤ → List Position
 added [] k n = held_as k n
 added (e ∷ es) k n = if same_key k e.key then held_as e.key (e.count +ℤ n) ++ es else
     e ∷ added es k n
+
+abbrev pub is_lot_of : List ℕ → Position → Bool
+is_lot_of currency e = same_text e.key.currency currency && is_some e.key.lot
+
+-- some lot of the currency is held
+abbrev pub has_lot : List ℕ → List Position → Bool
+has_lot currency es = list_any (is_lot_of currency) es
 
 -- the entry of the other sign
 abbrev pub negative_entry : Position → Position

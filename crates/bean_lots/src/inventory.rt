@@ -8,10 +8,11 @@ ghost use Rattle.bean_lots.specs.Lot.{same_key};
 ghost use Rattle.bean_lots.specs.declared.lot.Key.{Key};
 ghost use Rattle.bean_lots.specs.declared.lot.Position.{Position};
 ghost use Rattle.bean_lots.specs.Inventory.{count_of, held_as, added, negative_entry, MayBeNegated};
-ghost use Rattle.bean_lots.specs.Inventory.{IsInventory};
+ghost use Rattle.bean_lots.specs.Inventory.{IsInventory, has_lot, is_lot_of};
 ghost use Rattle.bean_lots.specs.Sought.{IsSought};
 
 use crate::lot::{Key, Position};
+use bean_base::Currency;
 use std::alloc::{AllocError, Global};
 use std::marker::Model;
 
@@ -50,6 +51,13 @@ fn is_of(position: &Position<'_>, key: &Key<'_>) -> bool
     ensures { result ≡ same_key key.now position.now.key }
 {
     *key == position.key
+}
+
+/// Whether a position is a lot of a currency.
+fn is_lot_of(position: &Position<'_>, currency: &Currency<'_>) -> bool
+    ensures { result ≡ is_lot_of currency.now position.now }
+{
+    position.key.currency == *currency && position.key.lot.is_some()
 }
 
 fn index_of(entries: &[Position<'_>], key: &Key<'_>) -> Option<usize>
@@ -142,6 +150,13 @@ impl<'a> Inventory<'a> {
         ensures inventory { IsInventory self.now }
     {
         count_in(&self.entries, key)
+    }
+
+    /// Whether some lot of a currency is held.
+    pub fn has_lot(&self, currency: &Currency<'_>) -> bool
+        ensures { result ≡ has_lot currency.now self.now }
+    {
+        self.entries.iter().any(|entry| is_lot_of(entry, currency))
     }
 
     /// Adds to the count under a key. The caller knows that the sum fits.

@@ -1,0 +1,4 @@
+pub mod Life
+pub mod Method
+pub mod Faults
+pub mod Kept

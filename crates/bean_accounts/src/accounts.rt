@@ -1,0 +1,235 @@
+//! Accounts, as far as opens and closes came.
+ghost use Rattle.std.specs.Prelude.{◌≡◌, ◌∷◌, ◌++◌, [], OnOk, None, if◌then◌else◌};
+ghost use Rattle.std.specs.Prelude as prelude;
+ghost use Rattle.std.specs.Str.{bytes_eq};
+ghost use Rattle.std.specs.Option.{option_map};
+ghost use Rattle.bean_accounts.specs.Faults as spec;
+ghost use Rattle.bean_accounts.specs.Faults.{faults_at};
+ghost use Rattle.bean_accounts.specs.Kept.{IsKept, life_in};
+ghost use Rattle.bean_accounts.specs.Life as lives;
+ghost use Rattle.bean_accounts.specs.declared.step.Step.{Step};
+ghost use Rattle.bean_accounts.specs.declared.step.Step.TheVariants as step;
+
+use crate::life::Life;
+use crate::method::method_named;
+use bean_base::{Account, Currency, Fault, FaultKind, Text};
+use indexmap::IndexMap;
+use std::alloc::{AllocError, Global};
+
+/// Where something is written.
+#[derive(Clone, Copy, Debug, PartialEq, Eq)]
+pub struct Place {
+    /// The number of its text, from 0.
+    pub file: usize,
+    /// Its line there, from 1.
+    pub line: usize,
+}
+
+impl Place {
+    /// A fault at this place.
+    pub fn fault(self, kind: FaultKind) -> Fault
+        ensures { result ≡ spec.fault_at self kind }
+    {
+        Fault {
+            kind,
+            file: self.file,
+            line: self.line,
+        }
+    }
+}
+
+/// Adds a fault at a place, where it is one.
+fn note_if(
+    is_fault: bool,
+    kind: FaultKind,
+    at: Place,
+    faults: &mut Vec<Fault>,
+) -> Result<(), AllocError>
+    ensures { OnOk result (faults.new.items
+        ≡ faults.old.items ++ faults_at at (spec.kind_if is_fault kind)) }
+{
+    if is_fault {
+        faults.push(at.fault(kind))?;
+    }
+    Ok(())
+}
+
+/// The accounts that were opened.
+#[derive(Drop)]
+pub struct Accounts<'a> {
+    lives: IndexMap<Account<'a>, Life<'a>>,
+}
+
+impl<'a> Accounts<'a> {
+    /// Before the first open. Takes no memory.
+    pub fn new(alloc: Global) -> Accounts<'a>
+        ensures { IsKept [] result }
+    {
+        Accounts {
+            lives: IndexMap::new(alloc),
+        }
+    }
+
+    fn insert(&mut self, account: &Account<'a>, life: Life<'a>) -> Result<(), AllocError>
+        ensures { OnOk result ((a : prelude.List prelude.ℕ) → life_in self.new a
+            ≡ (if bytes_eq account.now a then prelude.Some life.entry else life_in self.old a)) }
+    {
+        self.lives.insert(account.lend(), life)?;
+        Ok(())
+    }
+
+    /// An account is opened, unless it was before.
+    pub fn open(
+        &mut self,
+        alloc: Global,
+        account: &Account<'a>,
+        currencies: &[Currency<'a>],
+    ) -> Result<(), AllocError>
+        ensures { (past : prelude.List Step) → IsKept past self.old
+            → OnOk result (IsKept (step.Open account.now currencies.now ∷ past) self.new) }
+    {
+        if self.is_opened(account) {
+            return Ok(());
+        }
+        let life = Life::new(alloc, currencies)?;
+        self.insert(account, life)
+    }
+
+    /// An account is closed, if it is open.
+    pub fn close(&mut self, account: &Account<'a>) -> Result<(), AllocError>
+        ensures { (past : prelude.List Step) → IsKept past self.old
+            → OnOk result (IsKept (step.Close account.now ∷ past) self.new) }
+    {
+        match self.lives.swap_remove(account) {
+            Some(life) => self.insert(
+                account,
+                Life {
+                    currencies: life.currencies,
+                    is_closed: true,
+                },
+            ),
+            None => Ok(()),
+        }
+    }
+
+    /// Whether an account is opened by now, closed or not.
+    pub fn is_opened(&self, account: &Account<'_>) -> bool
+        ensures { result ≡ lives.is_opened (life_in self.now account.now) }
+    {
+        self.lives.get(account).is_some()
+    }
+
+    /// Whether an account is closed by now.
+    fn is_closed(&self, account: &Account<'_>) -> bool
+        ensures { result ≡ lives.is_closed (life_in self.now account.now) }
+    {
+        match self.lives.get(account) {
+            Some(life) => life.is_closed,
+            None => false,
+        }
+    }
+
+    /// Whether an account may hold a currency.
+    fn allows(&self, account: &Account<'_>, currency: &Currency<'_>) -> bool
+        ensures { result ≡ lives.may_hold (life_in self.now account.now) currency.now }
+    {
+        match self.lives.get(account) {
+            Some(life) => life.allows(currency),
+            None => true,
+        }
+    }
+
+    /// Adds the faults of a posting: F6, F7, F8.
+    pub fn note_posting(
+        &self,
+        account: &Account<'_>,
+        currency: &Currency<'_>,
+        at: Place,
+        faults: &mut Vec<Fault>,
+    ) -> Result<(), AllocError>
+        ensures { (past : prelude.List Step) → IsKept past self.now
+            → OnOk result (faults.new.items ≡ faults.old.items
+            ++ faults_at at (spec.of_posting account.now currency.now past)) }
+    {
+        note_if(
+            !self.is_opened(account),
+            FaultKind::AccountNotOpen,
+            at,
+            faults,
+        )?;
+        note_if(
+            self.is_closed(account),
+            FaultKind::AccountClosed,
+            at,
+            faults,
+        )?;
+        note_if(
+            !self.allows(account, currency),
+            FaultKind::CurrencyNotAllowed,
+            at,
+            faults,
+        )
+    }
+
+    /// Adds the fault of what wants an account to be opened: F6.
+    pub fn note_use(
+        &self,
+        account: &Account<'_>,
+        at: Place,
+        faults: &mut Vec<Fault>,
+    ) -> Result<(), AllocError>
+        ensures { (past : prelude.List Step) → IsKept past self.now
+            → OnOk result (faults.new.items ≡ faults.old.items
+            ++ faults_at at (spec.of_use account.now past)) }
+    {
+        note_if(
+            !self.is_opened(account),
+            FaultKind::AccountNotOpen,
+            at,
+            faults,
+        )
+    }
+
+    /// Adds the fault of an open that comes now: F9, F23.
+    pub fn note_open(
+        &self,
+        account: &Account<'_>,
+        method: &Option<Text<'_>>,
+        at: Place,
+        faults: &mut Vec<Fault>,
+    ) -> Result<(), AllocError>
+        ensures { (past : prelude.List Step) → IsKept past self.now
+            → OnOk result (faults.new.items ≡ faults.old.items
+            ++ faults_at at (spec.of_open account.now method.now past)) }
+    {
+        if self.is_opened(account) {
+            return note_if(true, FaultKind::OpenedTwice, at, faults);
+        }
+        note_if(is_unknown(method), FaultKind::UnknownMethod, at, faults)
+    }
+
+    /// Adds the fault of a close that comes now: F10.
+    pub fn note_close(
+        &self,
+        account: &Account<'_>,
+        at: Place,
+        faults: &mut Vec<Fault>,
+    ) -> Result<(), AllocError>
+        ensures { (past : prelude.List Step) → IsKept past self.now
+            → OnOk result (faults.new.items ≡ faults.old.items
+            ++ faults_at at (spec.of_close account.now past)) }
+    {
+        let is_open = self.is_opened(account) && !self.is_closed(account);
+        note_if(!is_open, FaultKind::ClosedButNotOpen, at, faults)
+    }
+}
+
+/// Whether a name is given that is no method's.
+fn is_unknown(method: &Option<Text<'_>>) -> bool
+    ensures { result ≡ spec.is_unknown method.now }
+{
+    match method {
+        Some(name) => method_named(name).is_none(),
+        None => false,
+    }
+}

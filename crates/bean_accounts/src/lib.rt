@@ -1,0 +1,40 @@
+//! Accounts while a ledger is booked: which are opened, which are closed, and what they may hold.
+//!
+//! ```text
+//! // 2014-01-01 open Assets:Cash USD
+//! // 2014-03-01 close Assets:Cash
+//! let mut accounts = Accounts::new(alloc);
+//! accounts.open(alloc, &cash, &[usd])?;
+//! accounts.note_posting(&cash, &eur, at, &mut faults)?;     // F8
+//! accounts.close(&cash)?;
+//! accounts.note_posting(&cash, &usd, at, &mut faults)?;     // F7
+//! ```
+//!
+//! [`Accounts`] are told of opens and closes one after the other. The first open of an account
+//! counts, with its currencies; later ones are ignored. A close of an account that is open closes
+//! it for good, any other does nothing.
+//!
+//! # Faults
+//!
+//! - `F6`, of a posting to an account that isn't opened by then; of pads and balances likewise,
+//! - `F7`, of a posting to an account that is closed,
+//! - `F8`, of a posting of a currency that the account's open doesn't list, where it lists some,
+//! - `F9`, of an open of an account that was opened before,
+//! - `F10`, of a close of an account that isn't open,
+//! - `F23`, of a first open with the name of no method. [`method_named`] knows those there are.
+//!
+//! # Cost
+//!
+//! A look-up by the account's name for each call; a posting also looks through the currencies that
+//! the account's open lists. Memory is taken for each account, and for each currency of its open.
+#![tactic(auto)]
+
+pub mod accounts;
+pub mod life;
+pub mod method;
+pub mod step;
+
+pub use accounts::{Accounts, Place};
+pub use life::Life;
+pub use method::method_named;
+pub use step::Step;
