@@ -102,18 +102,20 @@ limit = behind_word kind.Limit (λ word. then (told whole) (λ n. made (Some n))
 
 -- Queries.
 
-abbrev pub select : List ℕ → Form Token (clause.Select Target Part Part)
-select text =
-    then (flag kind.Distinct) (λ distinct. then (shown text) (λ shown. then filters (λ filters.
-    then (items_by kind.Group) (λ group. then order (λ order. then limit (λ limit.
-    made record {
+abbrev pub behind_targets : Bool → List Target → Form Token (clause.Select Target Part Part)
+behind_targets distinct shown =
+    then filters (λ filters. then (items_by kind.Group) (λ group. then order (λ order.
+    then limit (λ limit. made record {
       distinct = distinct;
       targets = shown;
       filters = filters;
       group = group;
       order = order;
       limit = limit;
-    }))))))
+    }))))
+
+abbrev pub select : List ℕ → Form Token (clause.Select Target Part Part)
+select text = then (flag kind.Distinct) (λ distinct. then (shown text) (behind_targets distinct))
 
 abbrev pub name_at : Token → NameRead
 name_at t = record { start = t.start; text = t.text }
@@ -134,11 +136,14 @@ journal =
 abbrev pub balances : Form Token (clause.Balances NameRead Part)
 balances = then at (λ at. then filters (λ filters. made record { at = at; filters = filters }))
 
+abbrev pub fixed_clauses : Form Token Read
+fixed_clauses =
+    behind_word kind.Journal (λ word. then journal (λ j. made (journaling j)))
+    (then (token kind.Balances) (λ word. then balances (λ b. made (balancing b))))
+
 abbrev pub clauses : List ℕ → Form Token Read
 clauses text =
-    behind_word kind.Select (λ word. then (select text) (λ s. made (selecting s)))
-    (behind_word kind.Journal (λ word. then journal (λ j. made (journaling j)))
-    (then (token kind.Balances) (λ word. then balances (λ b. made (balancing b)))))
+    behind_word kind.Select (λ word. then (select text) (λ s. made (selecting s))) fixed_clauses
 
 abbrev pub query : List ℕ → Form Token Read
 query text = then (clauses text) (λ read. then (flag kind.Semicolon) (λ ends. made read))

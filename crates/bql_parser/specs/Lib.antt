@@ -2,3 +2,4 @@ pub mod Clause
 pub mod Read
 pub mod Piece
 pub mod Grammar
+pub mod Whole

@@ -2,4 +2,5 @@
 #![tactic(auto)]
 
 pub mod clauses;
+pub mod queries;
 pub mod reading;

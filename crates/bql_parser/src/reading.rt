@@ -22,10 +22,10 @@ use bql_tree::{Column, Leaf, Part, Scope};
 use std::alloc::{AllocError, Global};
 
 /// Outside expressions nothing is deep.
-const WIDE: usize = 1;
+pub const WIDE: usize = 1;
 
 /// Whether a token of a kind stands at the front, and what stands behind it.
-fn flag<'t, 'a>(tokens: &'t [Token<'a>], kind: Kind) -> (bool, &'t [Token<'a>])
+pub fn flag<'t, 'a>(tokens: &'t [Token<'a>], kind: Kind) -> (bool, &'t [Token<'a>])
     ensures { Reads (rule.flag kind) tokens.now result.0 result.1.now }
 {
     match after(tokens, kind) {
@@ -35,7 +35,7 @@ fn flag<'t, 'a>(tokens: &'t [Token<'a>], kind: Kind) -> (bool, &'t [Token<'a>])
 }
 
 /// A filter behind its word, if it is written.
-fn filter<'t, 'a>(
+pub fn filter<'t, 'a>(
     alloc: Global,
     tokens: &'t [Token<'a>],
     word: Kind,
@@ -46,14 +46,16 @@ fn filter<'t, 'a>(
     let Some((_, behind)) = after(tokens, word) else {
         return Ok((None, tokens));
     };
-    match expression(alloc, behind, scope) {
-        Ok((part, rest)) => Ok((Some(part), rest)),
-        Err(stuck) => Err(stuck),
-    }
+    let found = match expression(alloc, behind, scope) {
+        Ok(found) => found,
+        Err(stuck) => return Err(stuck),
+    };
+    let (part, rest) = found;
+    Ok((Some(part), rest))
 }
 
 /// FROM and WHERE, where they are written.
-fn filters<'t, 'a>(
+pub fn filters<'t, 'a>(
     alloc: Global,
     tokens: &'t [Token<'a>],
 ) -> Result<(FiltersRead<'a>, &'t [Token<'a>]), Stuck>
@@ -64,10 +66,12 @@ fn filters<'t, 'a>(
         Err(stuck) => return Err(stuck),
     };
     let (from, rest) = found;
-    match filter(alloc, rest, Kind::Where, Scope::Postings) {
-        Ok((filter, rest)) => Ok((FiltersRead { from, filter }, rest)),
-        Err(stuck) => Err(stuck),
-    }
+    let found = match filter(alloc, rest, Kind::Where, Scope::Postings) {
+        Ok(found) => found,
+        Err(stuck) => return Err(stuck),
+    };
+    let (filter, rest) = found;
+    Ok((FiltersRead { from, filter }, rest))
 }
 
 /// Expressions with commas between them.
@@ -106,14 +110,16 @@ fn by_items<'t, 'a>(
     let Some((_, behind)) = after(tokens, Kind::By) else {
         return Err(Stuck::before(tokens, WIDE));
     };
-    match items(alloc, behind) {
-        Ok((parts, rest)) => Ok((Some(parts), rest)),
-        Err(stuck) => Err(stuck),
-    }
+    let found = match items(alloc, behind) {
+        Ok(found) => found,
+        Err(stuck) => return Err(stuck),
+    };
+    let (parts, rest) = found;
+    Ok((Some(parts), rest))
 }
 
 /// Items behind a word and BY, if they are written.
-fn items_by<'t, 'a>(
+pub fn items_by<'t, 'a>(
     alloc: Global,
     tokens: &'t [Token<'a>],
     word: Kind,
@@ -175,10 +181,12 @@ fn target<'t, 'a>(
     ensures read { Gives (rule.target text.now) read.target_of tokens.now result }
     ensures shorter { IfOk result (λ r. length r.1.now < length tokens.now) }
 {
-    match expression(alloc, tokens, Scope::Postings) {
-        Ok((part, rest)) => with_name(text, rest, part),
-        Err(stuck) => Err(stuck),
-    }
+    let found = match expression(alloc, tokens, Scope::Postings) {
+        Ok(found) => found,
+        Err(stuck) => return Err(stuck),
+    };
+    let (part, rest) = found;
+    with_name(text, rest, part)
 }
 
 /// One or more targets.
@@ -236,7 +244,7 @@ fn starred<'a>(alloc: Global, star: &Token<'a>) -> Result<Vec<TargetRead<'a>>, A
 }
 
 /// A star or targets.
-fn shown<'t, 'a>(
+pub fn shown<'t, 'a>(
     alloc: Global,
     text: &'a str,
     tokens: &'t [Token<'a>],
@@ -262,7 +270,7 @@ fn direction<'t, 'a>(tokens: &'t [Token<'a>]) -> (bool, &'t [Token<'a>])
 }
 
 /// ORDER BY, if it is written.
-fn order<'t, 'a>(
+pub fn order<'t, 'a>(
     alloc: Global,
     tokens: &'t [Token<'a>],
 ) -> Result<(OrderRead<'a>, &'t [Token<'a>]), Stuck>
@@ -305,7 +313,7 @@ fn after_whole<'t, 'a>(tokens: &'t [Token<'a>]) -> Option<(u32, &'t [Token<'a>])
 }
 
 /// LIMIT, if it is written.
-fn limit<'t, 'a>(tokens: &'t [Token<'a>]) -> Result<(Option<u32>, &'t [Token<'a>]), Stuck>
+pub fn limit<'t, 'a>(tokens: &'t [Token<'a>]) -> Result<(Option<u32>, &'t [Token<'a>]), Stuck>
     ensures { Gives rule.limit same tokens.now result }
 {
     let Some((_, behind)) = after(tokens, Kind::Limit) else {
