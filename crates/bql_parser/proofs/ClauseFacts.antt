@@ -1,7 +1,8 @@
 -- What readers give of forms that are put together.
 use Rattle.std.proofs.Common.{◌≡◌, Bool, true, false, List, [], Option, Some, None, Result, Ok, Err}
-use Rattle.std.proofs.Common.{Bor, refl, sym, subst}
-use Rattle.theory.specs.Form.{Form, Reads, HasNone, made}
+use Rattle.std.proofs.Common.{Bor, refl, sym, subst, ap, ◌∙◌, ◌∷◌, ◌++◌, ℕ, map}
+use Rattle.std.proofs.lemmas.List.{map-append}
+use Rattle.theory.specs.Form.{Form, Reads, HasNone, made, alone, snoc}
 use Rattle.theory.proofs.FormFacts.{reads_made}
 use Rattle.bql_lexer.specs.declared.kind.Kind.{Kind}
 use Rattle.bql_lexer.specs.declared.token.Token.{Token}
@@ -14,7 +15,12 @@ use Rattle.bql_grammar.proofs.FormFacts.{none_then_first, reads_behind, none_beh
 use Rattle.bql_grammar.proofs.FormFacts.{reads_chosen, reads_other, none_chosen, none_other}
 use Rattle.bql_grammar.proofs.FormFacts.{present, absent}
 use Rattle.bql_grammar.proofs.ExpressionFacts.{gives_as, stuck_in}
-use Rattle.bql_parser.specs.Grammar.{behind_word}
+use Rattle.bql_grammar.specs.declared.stuck.Stuck.TheVariants.{OutOfMemory, At}
+use Rattle.bql_tree.specs.Part.{Part}
+use Rattle.bql_parser.specs.Grammar.{behind_word, ordered, query}
+use Rattle.bql_parser.specs.Read.{Read, read_of, target_of, targets_in}
+use Rattle.bql_parser.specs.Whole.{IsRead}
+use Rattle.bql_parser.specs.declared.clauses.TargetRead as clauses
 
 -- One behind the other: what the second gives the whole gives, and what the first lacks it lacks.
 
@@ -62,3 +68,32 @@ word_lacks k g z f ts r fixed at h =
     (absent (of_kind k) ts at) p)
     (λ none. none_other (begins (of_kind k)) (then (token k) g) z ts fixed
     (absent (of_kind k) ts at) none) h
+
+-- Targets, one more of them.
+
+pub targets_more : (ps : List clauses.TargetRead) (p : clauses.TargetRead)
+    (qs : List clauses.TargetRead) → qs ≡ ps ++ p ∷ []
+    → targets_in qs ≡ snoc (targets_in ps) (target_of p)
+targets_more ps p qs e = ap targets_in e ∙ map-append target_of ps (p ∷ [])
+
+pub targets_first : (ps : List clauses.TargetRead) (p : clauses.TargetRead)
+    (qs : List clauses.TargetRead) → ps ≡ [] → qs ≡ ps ++ p ∷ []
+    → targets_in qs ≡ alone (target_of p)
+targets_first ps p qs none e =
+    targets_more ps p qs e ∙ ap (λ xs. snoc (targets_in xs) (target_of p)) none
+
+pub ordered_ends : (found : Option (List Part)) → IsFixed (ordered found)
+ordered_ends None rest = refl
+ordered_ends (Some ps) rest = refl
+
+-- Whole queries.
+
+pub stuck_whole : (text : List ℕ) (ts : List Token) (e : Stuck)
+    → Gives (query text) read_of ts (Err e) → IsRead text ts (Err e)
+stuck_whole text ts OutOfMemory h = tt
+stuck_whole text ts (At left is_deep) none = λ v p. none v [] p refl
+
+pub ends_short : (text : List ℕ) (ts : List Token) (v : Read) (rest : List Token) (left : ℕ)
+    (deep : Bool) → Reads (query text) ts v rest → (rest ≡ [] → ⊥)
+    → IsRead text ts (Err (At left deep))
+ends_short text ts v rest left deep r more = λ w p. more (r.only w [] p refl).1

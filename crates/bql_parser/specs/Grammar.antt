@@ -33,24 +33,38 @@ behind_word k behind other = choice (begins (of_kind k)) (then (token k) behind)
 abbrev pub flag : Kind → Form Token Bool
 flag k = behind_word k (λ word. made true) (made false)
 
+abbrev pub some : {V : Type 0} → V → Form Token (Option V)
+some v = made (Some v)
+
+abbrev pub filtered : Scope → Token → Form Token (Option Part)
+filtered scope word = then (expression scope) some
+
 abbrev pub filter : Kind → Scope → Form Token (Option Part)
-filter k scope =
-    behind_word k (λ word. then (expression scope) (λ p. made (Some p))) (made None)
+filter k scope = behind_word k (filtered scope) (made None)
+
+abbrev pub in_filters : Option Part → Option Part → Form Token (clause.Filters Part)
+in_filters from passing = made record { from = from; filter = passing }
+
+abbrev pub behind_from : Option Part → Form Token (clause.Filters Part)
+behind_from from = then (filter kind.Where Postings) (in_filters from)
 
 abbrev pub filters : Form Token (clause.Filters Part)
-filters =
-    then (filter kind.From Transactions) (λ from.
-    then (filter kind.Where Postings) (λ passing.
-    made record { from = from; filter = passing }))
+filters = then (filter kind.From Transactions) behind_from
 
 abbrev pub items : Form Token (List Part)
 items = list_of (expression Postings)
 
-abbrev pub by_items : Form Token (Option (List Part))
-by_items = then (token kind.By) (λ by. then items (λ ps. made (Some ps)))
+abbrev pub items_behind : Token → Form Token (Option (List Part))
+items_behind by = then items some
+
+abbrev pub items_in : Form Token (Option (List Part))
+items_in = then (token kind.By) items_behind
+
+abbrev pub by_items : Token → Form Token (Option (List Part))
+by_items word = items_in
 
 abbrev pub items_by : Kind → Form Token (Option (List Part))
-items_by k = behind_word k (λ word. by_items) (made None)
+items_by k = behind_word k by_items (made None)
 
 -- Targets.
 
@@ -80,8 +94,11 @@ starred star =
     ∷ column_shown star (codes "narration") column.Narration
     ∷ column_shown star (codes "position") column.Position ∷ []
 
+abbrev pub all_shown : Token → Form Token (List Target)
+all_shown star = made (starred star)
+
 abbrev pub shown : List ℕ → Form Token (List Target)
-shown text = behind_word kind.Star (λ star. made (starred star)) (targets text)
+shown text = behind_word kind.Star all_shown (targets text)
 
 -- Order and limit.
 
@@ -90,8 +107,11 @@ abbrev pub direction : Form Token Bool
 direction =
     behind_word kind.Desc (λ word. made true) (then (flag kind.Asc) (λ ascends. made false))
 
+abbrev pub in_order : List Part → Bool → Form Token (clause.Order Part)
+in_order ps descending = made record { items = ps; descending = descending }
+
 abbrev pub ordered : Option (List Part) → Form Token (clause.Order Part)
-ordered (Some ps) = then direction (λ d. made record { items = ps; descending = d })
+ordered (Some ps) = then direction (in_order ps)
 ordered None = made record { items = []; descending = false }
 
 abbrev pub order : Form Token (clause.Order Part)
@@ -100,22 +120,46 @@ order = then (items_by kind.Order) ordered
 abbrev pub limit : Form Token (Option ℕ)
 limit = behind_word kind.Limit (λ word. then (told whole) (λ n. made (Some n))) (made None)
 
--- Queries.
+-- SELECT, clause by clause.
 
-abbrev pub behind_targets : Bool → List Target → Form Token (clause.Select Target Part Part)
-behind_targets distinct shown =
-    then filters (λ filters. then (items_by kind.Group) (λ group. then order (λ order.
-    then limit (λ limit. made record {
-      distinct = distinct;
-      targets = shown;
-      filters = filters;
-      group = group;
-      order = order;
-      limit = limit;
-    }))))
+abbrev pub Selected : Type 0
+Selected = clause.Select Target Part Part
 
-abbrev pub select : List ℕ → Form Token (clause.Select Target Part Part)
-select text = then (flag kind.Distinct) (λ distinct. then (shown text) (behind_targets distinct))
+abbrev pub in_select : Bool → List Target → clause.Filters Part → Option (List Part)
+    → clause.Order Part → Option ℕ → Form Token Selected
+in_select distinct shown filters group order limit = made record {
+  distinct = distinct;
+  targets = shown;
+  filters = filters;
+  group = group;
+  order = order;
+  limit = limit;
+}
+
+abbrev pub behind_order : Bool → List Target → clause.Filters Part → Option (List Part)
+    → clause.Order Part → Form Token Selected
+behind_order distinct shown filters group order =
+    then limit (in_select distinct shown filters group order)
+
+abbrev pub behind_group : Bool → List Target → clause.Filters Part → Option (List Part)
+    → Form Token Selected
+behind_group distinct shown filters group =
+    then order (behind_order distinct shown filters group)
+
+abbrev pub behind_filters : Bool → List Target → clause.Filters Part → Form Token Selected
+behind_filters distinct shown filters =
+    then (items_by kind.Group) (behind_group distinct shown filters)
+
+abbrev pub behind_targets : Bool → List Target → Form Token Selected
+behind_targets distinct shown = then filters (behind_filters distinct shown)
+
+abbrev pub behind_distinct : List ℕ → Bool → Form Token Selected
+behind_distinct text distinct = then (shown text) (behind_targets distinct)
+
+abbrev pub select : List ℕ → Form Token Selected
+select text = then (flag kind.Distinct) (behind_distinct text)
+
+-- JOURNAL and BALANCES.
 
 abbrev pub name_at : Token → NameRead
 name_at t = record { start = t.start; text = t.text }
@@ -128,22 +172,64 @@ at =
 abbrev pub pattern : Form Token (Option (List ℕ))
 pattern = behind_word kind.Text (λ text. made (Some text.text)) (made None)
 
-abbrev pub journal : Form Token (clause.Journal NameRead Part)
-journal =
-    then pattern (λ pattern. then at (λ at. then (filter kind.From Transactions) (λ from.
-    made record { pattern = pattern; at = at; from = from })))
+abbrev pub Journaled : Type 0
+Journaled = clause.Journal NameRead Part
 
-abbrev pub balances : Form Token (clause.Balances NameRead Part)
-balances = then at (λ at. then filters (λ filters. made record { at = at; filters = filters }))
+abbrev pub in_journal : Option (List ℕ) → Option NameRead → Option Part → Form Token Journaled
+in_journal pattern at from = made record { pattern = pattern; at = at; from = from }
+
+abbrev pub behind_at : Option (List ℕ) → Option NameRead → Form Token Journaled
+behind_at pattern at = then (filter kind.From Transactions) (in_journal pattern at)
+
+abbrev pub behind_pattern : Option (List ℕ) → Form Token Journaled
+behind_pattern pattern = then at (behind_at pattern)
+
+abbrev pub journal : Form Token Journaled
+journal = then pattern behind_pattern
+
+abbrev pub Balanced : Type 0
+Balanced = clause.Balances NameRead Part
+
+abbrev pub in_balances : Option NameRead → clause.Filters Part → Form Token Balanced
+in_balances at filters = made record { at = at; filters = filters }
+
+abbrev pub filters_behind : Option NameRead → Form Token Balanced
+filters_behind at = then filters (in_balances at)
+
+abbrev pub balances : Form Token Balanced
+balances = then at filters_behind
+
+-- Queries.
+
+abbrev pub made_select : Selected → Form Token Read
+made_select s = made (selecting s)
+
+abbrev pub made_journal : Journaled → Form Token Read
+made_journal j = made (journaling j)
+
+abbrev pub made_balances : Balanced → Form Token Read
+made_balances b = made (balancing b)
+
+abbrev pub a_select : List ℕ → Token → Form Token Read
+a_select text word = then (select text) made_select
+
+abbrev pub a_journal : Token → Form Token Read
+a_journal word = then journal made_journal
+
+abbrev pub some_balances : Token → Form Token Read
+some_balances word = then balances made_balances
 
 abbrev pub fixed_clauses : Form Token Read
-fixed_clauses =
-    behind_word kind.Journal (λ word. then journal (λ j. made (journaling j)))
-    (then (token kind.Balances) (λ word. then balances (λ b. made (balancing b))))
+fixed_clauses = behind_word kind.Journal a_journal (then (token kind.Balances) some_balances)
 
 abbrev pub clauses : List ℕ → Form Token Read
-clauses text =
-    behind_word kind.Select (λ word. then (select text) (λ s. made (selecting s))) fixed_clauses
+clauses text = behind_word kind.Select (a_select text) fixed_clauses
+
+abbrev pub ended : Read → Bool → Form Token Read
+ended read ends = made read
+
+abbrev pub behind_clauses : Read → Form Token Read
+behind_clauses read = then (flag kind.Semicolon) (ended read)
 
 abbrev pub query : List ℕ → Form Token Read
-query text = then (clauses text) (λ read. then (flag kind.Semicolon) (λ ends. made read))
+query text = then (clauses text) behind_clauses

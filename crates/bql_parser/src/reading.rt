@@ -105,7 +105,7 @@ fn by_items<'t, 'a>(
     alloc: Global,
     tokens: &'t [Token<'a>],
 ) -> Result<(Option<Vec<Part<'a>>>, &'t [Token<'a>]), Stuck>
-    ensures { Gives rule.by_items read.group_of tokens.now result }
+    ensures { Gives rule.items_in read.group_of tokens.now result }
 {
     let Some((_, behind)) = after(tokens, Kind::By) else {
         return Err(Stuck::before(tokens, WIDE));
@@ -269,6 +269,24 @@ fn direction<'t, 'a>(tokens: &'t [Token<'a>]) -> (bool, &'t [Token<'a>])
     (false, rest)
 }
 
+/// The order of some items, if there are any.
+fn ordered<'t, 'a>(
+    alloc: Global,
+    tokens: &'t [Token<'a>],
+    items: Option<Vec<Part<'a>>>,
+) -> (OrderRead<'a>, &'t [Token<'a>])
+    ensures { Reads (rule.ordered (read.group_of items.entry)) tokens.now (read.order_of result.0)
+        result.1.now }
+{
+    let Some(items) = items else {
+        let items = Vec::new(alloc);
+        let descending = false;
+        return (OrderRead { items, descending }, tokens);
+    };
+    let (descending, rest) = direction(tokens);
+    (OrderRead { items, descending }, rest)
+}
+
 /// ORDER BY, if it is written.
 pub fn order<'t, 'a>(
     alloc: Global,
@@ -281,13 +299,7 @@ pub fn order<'t, 'a>(
         Err(stuck) => return Err(stuck),
     };
     let (items, rest) = found;
-    let Some(items) = items else {
-        let items = Vec::new(alloc);
-        let descending = false;
-        return Ok((OrderRead { items, descending }, rest));
-    };
-    let (descending, rest) = direction(rest);
-    Ok((OrderRead { items, descending }, rest))
+    Ok(ordered(alloc, rest, items))
 }
 
 /// A whole number that a count of rows can be.

@@ -1,0 +1,78 @@
+use Rattle.std.proofs.Common.{refl, Err}
+use Rattle.theory.proofs.FormFacts.{reads_made}
+use Rattle.bql_lexer.specs.declared.kind.Kind.TheVariants as kind
+use Rattle.bql_grammar.proofs.FormFacts.{reads_then}
+use Rattle.bql_parser.specs.Grammar.{filters, items_by, order, limit, behind_filters}
+use Rattle.bql_parser.specs.Grammar.{behind_group, behind_order, in_select}
+use Rattle.bql_parser.specs.Read.{same, filters_of, group_of, order_of, targets_of, select_of}
+use Rattle.bql_parser.proofs.ClauseFacts.{stuck_first, gives_then}
+use Rattle.bql_parser.proofs.queries.behind_targets.Goals as goal
+
+pub returns-in-Err : goal.returns-in-Err
+returns-in-Err c =
+    stuck_first filters (behind_filters c.args.distinct (targets_of c.args.targets)) filters_of
+    select_of c.args.tokens.now c.in-Err.stuck (λ rest. refl) c.in-Err.ensures
+
+pub returns-in-Err-items_by : goal.returns-in-Err-items_by
+returns-in-Err-items_by c =
+    let shown = targets_of c.args.targets in
+    let fs = filters_of c.in-Ok.found.0 in
+    gives_then filters (behind_filters c.args.distinct shown) select_of c.args.tokens.now fs
+    c.in-Ok.found.1.now (Err c.in-Err-items_by.stuck) (λ rest. refl) (λ v rest. refl)
+    c.in-Ok.ensures
+    (stuck_first (items_by kind.Group) (behind_group c.args.distinct shown fs) group_of
+    select_of c.in-Ok.found.1.now c.in-Err-items_by.stuck (λ rest. refl)
+    c.in-Err-items_by.ensures)
+
+pub returns-in-Err-order : goal.returns-in-Err-order
+returns-in-Err-order c =
+    let shown = targets_of c.args.targets in
+    let fs = filters_of c.in-Ok.found.0 in
+    let group = group_of c.in-Ok-items_by.found.0 in
+    gives_then filters (behind_filters c.args.distinct shown) select_of c.args.tokens.now fs
+    c.in-Ok.found.1.now (Err c.in-Err-order.stuck) (λ rest. refl) (λ v rest. refl)
+    c.in-Ok.ensures
+    (gives_then (items_by kind.Group) (behind_group c.args.distinct shown fs) select_of
+    c.in-Ok.found.1.now group c.in-Ok-items_by.found.1.now (Err c.in-Err-order.stuck)
+    (λ rest. refl) (λ v rest. refl) c.in-Ok-items_by.ensures
+    (stuck_first order (behind_order c.args.distinct shown fs group) order_of select_of
+    c.in-Ok-items_by.found.1.now c.in-Err-order.stuck (λ rest. refl)
+    c.in-Err-order.ensures))
+
+pub returns-in-Err-limit : goal.returns-in-Err-limit
+returns-in-Err-limit c =
+    let shown = targets_of c.args.targets in
+    let fs = filters_of c.in-Ok.found.0 in
+    let group = group_of c.in-Ok-items_by.found.0 in
+    let ordered = order_of c.in-Ok-order.found.0 in
+    gives_then filters (behind_filters c.args.distinct shown) select_of c.args.tokens.now fs
+    c.in-Ok.found.1.now (Err c.in-Err-limit.stuck) (λ rest. refl) (λ v rest. refl)
+    c.in-Ok.ensures
+    (gives_then (items_by kind.Group) (behind_group c.args.distinct shown fs) select_of
+    c.in-Ok.found.1.now group c.in-Ok-items_by.found.1.now (Err c.in-Err-limit.stuck)
+    (λ rest. refl) (λ v rest. refl) c.in-Ok-items_by.ensures
+    (gives_then order (behind_order c.args.distinct shown fs group) select_of
+    c.in-Ok-items_by.found.1.now ordered c.in-Ok-order.found.1.now
+    (Err c.in-Err-limit.stuck) (λ rest. refl) (λ v rest. refl) c.in-Ok-order.ensures
+    (stuck_first limit (in_select c.args.distinct shown fs group ordered) same select_of
+    c.in-Ok-order.found.1.now c.in-Err-limit.stuck (λ rest. refl)
+    c.in-Err-limit.ensures)))
+
+pub returns : goal.returns
+returns c =
+    let shown = targets_of c.args.targets in
+    let fs = filters_of c.in-Ok.found.0 in
+    let group = group_of c.in-Ok-items_by.found.0 in
+    let ordered = order_of c.in-Ok-order.found.0 in
+    let rest = c.in-Ok-limit.found.1.now in
+    reads_then filters (behind_filters c.args.distinct shown) c.args.tokens.now fs
+    c.in-Ok.found.1.now _ rest (λ rest. refl) (λ v rest. refl) c.in-Ok.ensures
+    (reads_then (items_by kind.Group) (behind_group c.args.distinct shown fs)
+    c.in-Ok.found.1.now group c.in-Ok-items_by.found.1.now _ rest (λ rest. refl)
+    (λ v rest. refl) c.in-Ok-items_by.ensures
+    (reads_then order (behind_order c.args.distinct shown fs group)
+    c.in-Ok-items_by.found.1.now ordered c.in-Ok-order.found.1.now _ rest (λ rest. refl)
+    (λ v rest. refl) c.in-Ok-order.ensures
+    (reads_then limit (in_select c.args.distinct shown fs group ordered)
+    c.in-Ok-order.found.1.now c.in-Ok-limit.found.0 rest _ rest (λ rest. refl)
+    (λ v rest. refl) c.in-Ok-limit.ensures (reads_made _ rest))))

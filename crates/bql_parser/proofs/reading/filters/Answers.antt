@@ -1,0 +1,33 @@
+use Rattle.std.proofs.Common.{refl, Err}
+use Rattle.theory.proofs.FormFacts.{reads_made}
+use Rattle.bql_lexer.specs.declared.kind.Kind.TheVariants as kind
+use Rattle.bql_tree.specs.declared.function.Scope.TheVariants.{Transactions, Postings}
+use Rattle.bql_grammar.proofs.FormFacts.{reads_then}
+use Rattle.bql_parser.specs.Grammar.{filter, behind_from, in_filters}
+use Rattle.bql_parser.specs.Read.{filter_of, filters_of}
+use Rattle.bql_parser.proofs.ClauseFacts.{stuck_first, gives_then}
+use Rattle.bql_parser.proofs.reading.filters.Goals as goal
+
+pub returns-in-Err : goal.returns-in-Err
+returns-in-Err c =
+    stuck_first (filter kind.From Transactions) behind_from filter_of filters_of
+    c.args.tokens.now c.in-Err.stuck (λ rest. refl) c.in-Err.ensures
+
+pub returns-in-Err-filter : goal.returns-in-Err-filter
+returns-in-Err-filter c =
+    gives_then (filter kind.From Transactions) behind_from filters_of c.args.tokens.now
+    (filter_of c.in-Ok.found.0) c.in-Ok.found.1.now (Err c.in-Err-filter.stuck) (λ rest. refl)
+    (λ v rest. refl) c.in-Ok.ensures
+    (stuck_first (filter kind.Where Postings) (in_filters (filter_of c.in-Ok.found.0)) filter_of
+    filters_of c.in-Ok.found.1.now c.in-Err-filter.stuck (λ rest. refl)
+    c.in-Err-filter.ensures)
+
+pub returns : goal.returns
+returns c =
+    reads_then (filter kind.From Transactions) behind_from c.args.tokens.now
+    (filter_of c.in-Ok.found.0) c.in-Ok.found.1.now _ c.in-Ok-filter.found.1.now
+    (λ rest. refl) (λ v rest. refl) c.in-Ok.ensures
+    (reads_then (filter kind.Where Postings) (in_filters (filter_of c.in-Ok.found.0))
+    c.in-Ok.found.1.now (filter_of c.in-Ok-filter.found.0) c.in-Ok-filter.found.1.now _
+    c.in-Ok-filter.found.1.now (λ rest. refl) (λ v rest. refl) c.in-Ok-filter.ensures
+    (reads_made _ c.in-Ok-filter.found.1.now))

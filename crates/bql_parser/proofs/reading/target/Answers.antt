@@ -1,0 +1,19 @@
+use Rattle.std.proofs.Common.{refl}
+use Rattle.bql_tree.specs.Part.{part_of}
+use Rattle.bql_tree.specs.declared.function.Scope.TheVariants.{Postings}
+use Rattle.bql_grammar.specs.Expression.{expression}
+use Rattle.bql_parser.specs.Grammar.{with_name}
+use Rattle.bql_parser.specs.Read.{target_of}
+use Rattle.bql_parser.proofs.ClauseFacts.{stuck_first, gives_then}
+use Rattle.bql_parser.proofs.reading.target.Goals as goal
+
+pub returns-in-Err-clause-read : goal.returns-in-Err-clause-read
+returns-in-Err-clause-read c =
+    stuck_first (expression Postings) (with_name c.args.text.now) part_of target_of
+    c.args.tokens.now c.in-Err.stuck (λ rest. refl) c.in-Err.ensures.read
+
+pub returns-clause-read : goal.returns-clause-read
+returns-clause-read c =
+    gives_then (expression Postings) (with_name c.args.text.now) target_of c.args.tokens.now
+    (part_of c.in-Ok.found.0) c.in-Ok.found.1.now c.with_name.result (λ rest. refl)
+    (λ v rest. refl) c.in-Ok.ensures.read c.with_name.ensures
