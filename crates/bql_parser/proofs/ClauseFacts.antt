@@ -1,6 +1,7 @@
 -- What readers give of forms that are put together.
 use Rattle.std.proofs.Common.{◌≡◌, Bool, true, false, List, [], Option, Some, None, Result, Ok, Err}
-use Rattle.std.proofs.Common.{Bor, refl, sym, subst, ap, ◌∙◌, ◌∷◌, ◌++◌, ℕ, map}
+use Rattle.std.proofs.Common.{Bor, refl, sym, subst, ap, ◌∙◌, ◌∷◌, ◌++◌, ℕ, map, length}
+use Rattle.std.specs.Prelude.{◌==◌}
 use Rattle.std.proofs.lemmas.List.{map-append}
 use Rattle.theory.specs.Form.{Form, Reads, HasNone, made, alone, snoc}
 use Rattle.theory.proofs.FormFacts.{reads_made}
@@ -93,7 +94,15 @@ pub stuck_whole : (text : List ℕ) (ts : List Token) (e : Stuck)
 stuck_whole text ts OutOfMemory h = tt
 stuck_whole text ts (At left is_deep) none = λ v p. none v [] p refl
 
-pub ends_short : (text : List ℕ) (ts : List Token) (v : Read) (rest : List Token) (left : ℕ)
-    (deep : Bool) → Reads (query text) ts v rest → (rest ≡ [] → ⊥)
-    → IsRead text ts (Err (At left deep))
-ends_short text ts v rest left deep r more = λ w p. more (r.only w [] p refl).1
+pub ends_short : (text : List ℕ) (ts : List Token) (v : Read) (rest : List Token) (e : Stuck)
+    → Reads (query text) ts v rest → (rest ≡ [] → ⊥) → IsRead text ts (Err e)
+ends_short text ts v rest OutOfMemory r more = tt
+ends_short text ts v rest (At left is_deep) r more = λ w p. more (r.only w [] p refl).1
+
+pub empty_is : {A : Type 0} (xs : List A) → true ≡ (length xs == 0) → xs ≡ []
+empty_is [] e = refl
+empty_is (x ∷ xs) e = absurd cc
+
+pub not_empty : {A : Type 0} (xs : List A) → false ≡ (length xs == 0) → xs ≡ [] → ⊥
+not_empty [] e is = absurd cc
+not_empty (x ∷ xs) e is = absurd cc

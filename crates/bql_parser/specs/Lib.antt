@@ -3,3 +3,6 @@ pub mod Read
 pub mod Piece
 pub mod Grammar
 pub mod Whole
+pub mod Settled
+pub mod Answer
+pub mod Parse

@@ -1,7 +1,11 @@
-use Rattle.std.proofs.Common.{refl}
-use Rattle.bql_parser.specs.Grammar.{clauses, behind_clauses}
+use Rattle.std.proofs.Common.{refl, subst}
+use Rattle.theory.specs.Form.{Reads}
+use Rattle.theory.proofs.FormFacts.{reads_made}
+use Rattle.bql_lexer.specs.declared.kind.Kind.TheVariants as kind
+use Rattle.bql_grammar.proofs.FormFacts.{reads_then}
+use Rattle.bql_parser.specs.Grammar.{flag, clauses, behind_clauses, ended, query}
 use Rattle.bql_parser.specs.Read.{read_of}
-use Rattle.bql_parser.proofs.ClauseFacts.{stuck_first, stuck_whole}
+use Rattle.bql_parser.proofs.ClauseFacts.{stuck_first, stuck_whole, ends_short, empty_is, not_empty}
 use Rattle.bql_parser.proofs.queries.query.Goals as goal
 
 pub returns-in-Err : goal.returns-in-Err
@@ -11,7 +15,23 @@ returns-in-Err c =
     c.in-Err.stuck (λ rest. refl) c.in-Err.ensures)
 
 pub returns-then-is_empty : goal.returns-then-is_empty
-returns-then-is_empty c = ?
+returns-then-is_empty c =
+    let read = read_of c.in-Ok.found.0 in
+    let rest = c.flag.result.1.now in
+    subst (λ rest. Reads (query c.args.text.now) c.args.tokens.now read rest)
+    (empty_is rest c.if-is_empty.ensures)
+    (reads_then (clauses c.args.text.now) behind_clauses c.args.tokens.now read
+    c.in-Ok.found.1.now read rest (λ rest. refl) (λ v rest. refl) c.in-Ok.ensures
+    (reads_then (flag kind.Semicolon) (ended read) c.in-Ok.found.1.now c.flag.result.0 rest
+    read rest (λ rest. refl) (λ v rest. refl) c.flag.ensures (reads_made read rest)))
 
 pub returns : goal.returns
-returns c = ?
+returns c =
+    let read = read_of c.in-Ok.found.0 in
+    let rest = c.flag.result.1.now in
+    ends_short c.args.text.now c.args.tokens.now read rest _
+    (reads_then (clauses c.args.text.now) behind_clauses c.args.tokens.now read
+    c.in-Ok.found.1.now read rest (λ rest. refl) (λ v rest. refl) c.in-Ok.ensures
+    (reads_then (flag kind.Semicolon) (ended read) c.in-Ok.found.1.now c.flag.result.0 rest
+    read rest (λ rest. refl) (λ v rest. refl) c.flag.ensures (reads_made read rest)))
+    (not_empty rest c.if-is_empty.ensures)

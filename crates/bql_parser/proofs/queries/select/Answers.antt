@@ -8,17 +8,17 @@ use Rattle.bql_parser.proofs.queries.select.Goals as goal
 pub returns-in-Err : goal.returns-in-Err
 returns-in-Err c =
     gives_then (flag kind.Distinct) (behind_distinct c.args.text.now) select_of
-    c.args.tokens.now c.flag.result.0 c.flag.result.1.now (Err c.in-Err.stuck) (λ rest. refl)
-    (λ v rest. refl) c.flag.ensures
-    (stuck_first (shown c.args.text.now) (behind_targets c.flag.result.0) targets_of select_of
-    c.flag.result.1.now c.in-Err.stuck (λ rest. refl) c.in-Err.ensures)
+    c.args.tokens.now c.flag-distinct.result.0 c.flag-distinct.result.1.now (Err c.in-Err.stuck) (λ rest. refl)
+    (λ v rest. refl) c.flag-distinct.ensures
+    (stuck_first (shown c.args.text.now) (behind_targets c.flag-distinct.result.0) targets_of select_of
+    c.flag-distinct.result.1.now c.in-Err.stuck (λ rest. refl) c.in-Err.ensures)
 
 pub returns : goal.returns
 returns c =
     gives_then (flag kind.Distinct) (behind_distinct c.args.text.now) select_of
-    c.args.tokens.now c.flag.result.0 c.flag.result.1.now c.behind_targets.result
-    (λ rest. refl) (λ v rest. refl) c.flag.ensures
-    (gives_then (shown c.args.text.now) (behind_targets c.flag.result.0) select_of
-    c.flag.result.1.now (targets_of c.in-Ok.found.0) c.in-Ok.found.1.now
+    c.args.tokens.now c.flag-distinct.result.0 c.flag-distinct.result.1.now c.behind_targets.result
+    (λ rest. refl) (λ v rest. refl) c.flag-distinct.ensures
+    (gives_then (shown c.args.text.now) (behind_targets c.flag-distinct.result.0) select_of
+    c.flag-distinct.result.1.now (targets_of c.in-Ok.found.0) c.in-Ok.found.1.now
     c.behind_targets.result (λ rest. refl) (λ v rest. refl) c.in-Ok.ensures
     c.behind_targets.ensures)

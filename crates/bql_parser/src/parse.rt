@@ -1,0 +1,83 @@
+//! Texts of queries.
+ghost use Rattle.std.specs.Prelude.{◌≡◌, length};
+ghost use Rattle.bql_parser.specs.Parse as rule;
+ghost use Rattle.bql_parser.specs.Parse.{Parses, Stops};
+ghost use Rattle.bql_parser.specs.Settled as settled;
+
+use crate::asking::settled;
+use crate::fault::{QueryFault, fault_of};
+use crate::queries::query;
+use crate::query::Query;
+use crate::settling::refused_at;
+use bql_grammar::Stuck;
+use bql_lexer::{Kind, Token, tokens};
+use bql_tree::Cause;
+use bql_tree::function::is_left_out;
+use std::alloc::Global;
+
+/// How many bytes a query may have.
+pub const MOST_BYTES: usize = 65_535;
+
+/// Whether a token is a parenthesis, a sign or NOT.
+fn nests(token: &Token<'_>) -> bool
+    ensures { result ≡ rule.nests token.now }
+{
+    token.kind == Kind::OpenParenthesis
+        || token.kind == Kind::Plus
+        || token.kind == Kind::Minus
+        || token.kind == Kind::Not
+}
+
+/// Whether a token that can't go on is left out by the profile.
+fn is_left(token: &Token<'_>, is_deep: bool) -> bool
+    ensures { result ≡ rule.is_left is_deep token.now }
+{
+    token.kind == Kind::Slash
+        || token.kind == Kind::Name && is_left_out(token.text.text())
+        || is_deep && nests(token)
+}
+
+/// Why a text is no query whose tokens can't go on there.
+fn fault_at(text: &str, tokens: &[Token<'_>], left: usize, is_deep: bool) -> QueryFault
+    ensures { Stops text.now tokens.now result }
+{
+    match tokens.get(tokens.len().saturating_sub(left)) {
+        Some(token) if is_left(token, is_deep) => QueryFault::OutsideProfile(token.start),
+        Some(token) => QueryFault::Syntax(token.start),
+        None => QueryFault::Syntax(text.len()),
+    }
+}
+
+/// The first byte that is too many.
+fn byte_beyond(text: &str) -> Option<usize>
+    ensures { result ≡ settled.byte_beyond (length text.now) }
+{
+    if text.len() > MOST_BYTES {
+        Some(MOST_BYTES)
+    } else {
+        None
+    }
+}
+
+/// A query, unless its text is too long.
+fn answered<'a>(text: &str, found: Result<Query<'a>, Cause>) -> Result<Query<'a>, QueryFault>
+    ensures { result ≡ rule.faulted
+        (settled.refused_at (settled.byte_beyond (length text.now)) found.entry) }
+{
+    match refused_at(byte_beyond(text), found) {
+        Ok(query) => Ok(query),
+        Err(cause) => Err(fault_of(cause)),
+    }
+}
+
+/// The query that a text is.
+pub fn parse_query<'a>(alloc: Global, text: &'a str) -> Result<Query<'a>, QueryFault>
+    ensures { Parses text.now result }
+{
+    let found = tokens(alloc, text)?;
+    match query(alloc, text, found.as_slice()) {
+        Ok(read) => answered(text, settled(alloc, read)?),
+        Err(Stuck::OutOfMemory) => Err(QueryFault::OutOfMemory),
+        Err(Stuck::At { left, is_deep }) => { Err(fault_at(text, found.as_slice(), left, is_deep)) }
+    }
+}
