@@ -1,8 +1,9 @@
 -- What readers give of forms that are put together.
 use Rattle.std.proofs.Common.{◌≡◌, Bool, true, false, List, [], Option, Some, None, Result, Ok, Err}
-use Rattle.std.proofs.Common.{Bor, refl, sym, subst, ap, ◌∙◌, ◌∷◌, ◌++◌, ℕ, map, length}
+use Rattle.std.proofs.Common.{Bor, refl, sym, subst, ap, ◌∙◌, ◌∷◌, ◌++◌, ℕ, map, length, arith}
 use Rattle.std.specs.Prelude.{◌==◌}
 use Rattle.std.proofs.lemmas.List.{map-append}
+use Rattle.std.proofs.lemmas.Bool.Decides.{nat_tests}
 use Rattle.theory.specs.Form.{Form, Reads, HasNone, made, alone, snoc}
 use Rattle.theory.proofs.FormFacts.{reads_made}
 use Rattle.bql_lexer.specs.declared.kind.Kind.{Kind}
@@ -101,8 +102,8 @@ ends_short text ts v rest (At left is_deep) r more = λ w p. more (r.only w [] p
 
 pub empty_is : {A : Type 0} (xs : List A) → true ≡ (length xs == 0) → xs ≡ []
 empty_is [] e = refl
-empty_is (x ∷ xs) e = absurd cc
+empty_is (x ∷ xs) e = absurd (grind (arith, nat_tests, e))
 
 pub not_empty : {A : Type 0} (xs : List A) → false ≡ (length xs == 0) → xs ≡ [] → ⊥
-not_empty [] e is = absurd cc
+not_empty [] e is = absurd (grind (arith, nat_tests, e))
 not_empty (x ∷ xs) e is = absurd cc

@@ -1,1 +1,2 @@
 pub mod ClauseFacts
+pub mod SettlingFacts

@@ -1,5 +1,7 @@
 -- The clauses of a query, as they were read.
 use Rattle.std.specs.Prelude.{ℕ, List, map, Option, Some, None, Vec}
+use Rattle.std.specs.List.{position}
+use Rattle.std.specs.Str.{str_eq_ignore_ascii_case}
 use Rattle.std.specs.declared.alloc.Global.{Global}
 use Rattle.bql_tree.specs.Part.{Part, part_of, parts_of}
 use Rattle.bql_tree.specs.declared.part.Part as pieces
@@ -36,6 +38,11 @@ targets_in ts = map target_of ts
 
 abbrev pub targets_of : Vec targets.TargetRead Global → List Target
 targets_of v = targets_in v.items
+
+-- the first of a name, in small or capital letters
+abbrev pub first_named : List targets.TargetRead → List ℕ → Option ℕ
+first_named ts name =
+    position (λ (t : targets.TargetRead). str_eq_ignore_ascii_case t.name name) ts
 
 abbrev pub filter_of : Option pieces.Part → Option Part
 filter_of (Some p) = Some (part_of p)

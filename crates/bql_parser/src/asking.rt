@@ -1,7 +1,7 @@
 //! Queries of clauses, or the least causes for which they are refused.
 ghost use Rattle.std.specs.Prelude.{◌≡◌, IfOk};
 ghost use Rattle.bql_parser.specs.Answer as answer;
-ghost use Rattle.bql_parser.specs.Read as read;
+ghost use Rattle.bql_parser.specs.Read as views;
 ghost use Rattle.bql_parser.specs.Settled as rule;
 ghost use Rattle.bql_parser.specs.Settled.{mapped};
 
@@ -15,7 +15,7 @@ use std::alloc::{AllocError, Global};
 
 fn select<'a>(alloc: Global, read: SelectRead<'a>) -> Result<Result<Select<'a>, Cause>, AllocError>
     ensures { IfOk result (λ r. mapped answer.select_of r
-        ≡ rule.select (read.select_of read.entry)) }
+        ≡ rule.select (views.select_of read.entry)) }
 {
     let (distinct, limit) = (read.distinct, read.limit);
     let reads = read.targets;
@@ -66,7 +66,7 @@ fn at(name: Option<NameRead<'_>>) -> Result<Option<Valuation>, Cause>
 }
 
 fn journal<'a>(read: JournalRead<'a>) -> Result<Journal<'a>, Cause>
-    ensures { mapped answer.journal_of result ≡ rule.journal (read.journal_of read.entry) }
+    ensures { mapped answer.journal_of result ≡ rule.journal (views.journal_of read.entry) }
 {
     let pattern = read.pattern;
     match both(at(read.at), filter(read.from)) {
@@ -76,7 +76,7 @@ fn journal<'a>(read: JournalRead<'a>) -> Result<Journal<'a>, Cause>
 }
 
 fn balances<'a>(read: BalancesRead<'a>) -> Result<Balances<'a>, Cause>
-    ensures { mapped answer.balances_of result ≡ rule.balances (read.balances_of read.entry) }
+    ensures { mapped answer.balances_of result ≡ rule.balances (views.balances_of read.entry) }
 {
     match both(at(read.at), filters(read.filters)) {
         Ok((at, filters)) => Ok(Balances { at, filters }),
@@ -89,7 +89,7 @@ pub fn settled<'a>(
     alloc: Global,
     read: QueryRead<'a>,
 ) -> Result<Result<Query<'a>, Cause>, AllocError>
-    ensures { IfOk result (λ r. mapped answer.query_of r ≡ rule.settled (read.read_of read.entry)) }
+    ensures { IfOk result (λ r. mapped answer.query_of r ≡ rule.settled (views.read_of read.entry)) }
 {
     match read {
         QueryRead::Select(read) => match select(alloc, read)? {

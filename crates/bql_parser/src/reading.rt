@@ -6,7 +6,7 @@ ghost use Rattle.bql_grammar.specs.Gives.{Gives};
 ghost use Rattle.bql_tree.specs.Part.{part_of, parts_of};
 ghost use Rattle.bql_parser.specs.Piece as piece;
 ghost use Rattle.bql_parser.specs.Grammar as rule;
-ghost use Rattle.bql_parser.specs.Read as read;
+ghost use Rattle.bql_parser.specs.Read as views;
 ghost use Rattle.bql_parser.specs.Read.{same};
 
 use crate::clauses::{
@@ -41,7 +41,7 @@ pub fn filter<'t, 'a>(
     word: Kind,
     scope: Scope,
 ) -> Result<(Option<Part<'a>>, &'t [Token<'a>]), Stuck>
-    ensures { Gives (rule.filter word scope) read.filter_of tokens.now result }
+    ensures { Gives (rule.filter word scope) views.filter_of tokens.now result }
 {
     let Some((_, behind)) = after(tokens, word) else {
         return Ok((None, tokens));
@@ -59,7 +59,7 @@ pub fn filters<'t, 'a>(
     alloc: Global,
     tokens: &'t [Token<'a>],
 ) -> Result<(FiltersRead<'a>, &'t [Token<'a>]), Stuck>
-    ensures { Gives rule.filters read.filters_of tokens.now result }
+    ensures { Gives rule.filters views.filters_of tokens.now result }
 {
     let found = match filter(alloc, tokens, Kind::From, Scope::Transactions) {
         Ok(found) => found,
@@ -105,7 +105,7 @@ fn by_items<'t, 'a>(
     alloc: Global,
     tokens: &'t [Token<'a>],
 ) -> Result<(Option<Vec<Part<'a>>>, &'t [Token<'a>]), Stuck>
-    ensures { Gives rule.items_in read.group_of tokens.now result }
+    ensures { Gives rule.items_in views.group_of tokens.now result }
 {
     let Some((_, behind)) = after(tokens, Kind::By) else {
         return Err(Stuck::before(tokens, WIDE));
@@ -124,7 +124,7 @@ pub fn items_by<'t, 'a>(
     tokens: &'t [Token<'a>],
     word: Kind,
 ) -> Result<(Option<Vec<Part<'a>>>, &'t [Token<'a>]), Stuck>
-    ensures { Gives (rule.items_by word) read.group_of tokens.now result }
+    ensures { Gives (rule.items_by word) views.group_of tokens.now result }
 {
     match after(tokens, word) {
         Some((_, behind)) => by_items(alloc, behind),
@@ -159,7 +159,7 @@ fn with_name<'t, 'a>(
     tokens: &'t [Token<'a>],
     part: Part<'a>,
 ) -> Result<(TargetRead<'a>, &'t [Token<'a>]), Stuck>
-    ensures { Gives (rule.with_name text.now (part_of part.entry)) read.target_of tokens.now result }
+    ensures { Gives (rule.with_name text.now (part_of part.entry)) views.target_of tokens.now result }
 {
     let Some((_, behind)) = after(tokens, Kind::As) else {
         let name = Slice::new(piece(text, part.start, part.end));
@@ -178,7 +178,7 @@ fn target<'t, 'a>(
     text: &'a str,
     tokens: &'t [Token<'a>],
 ) -> Result<(TargetRead<'a>, &'t [Token<'a>]), Stuck>
-    ensures read { Gives (rule.target text.now) read.target_of tokens.now result }
+    ensures read { Gives (rule.target text.now) views.target_of tokens.now result }
     ensures shorter { IfOk result (λ r. length r.1.now < length tokens.now) }
 {
     let found = match expression(alloc, tokens, Scope::Postings) {
@@ -195,7 +195,7 @@ fn targets<'t, 'a>(
     text: &'a str,
     tokens: &'t [Token<'a>],
 ) -> Result<(Vec<TargetRead<'a>>, &'t [Token<'a>]), Stuck>
-    ensures { Gives (rule.targets text.now) read.targets_of tokens.now result }
+    ensures { Gives (rule.targets text.now) views.targets_of tokens.now result }
 {
     let mut targets = Vec::new(alloc);
     let found = match target(alloc, text, tokens) {
@@ -223,7 +223,7 @@ fn column_shown<'a>(
     name: &'a str,
     column: Column,
 ) -> Result<TargetRead<'a>, AllocError>
-    ensures { IfOk result (λ t. read.target_of t ≡ rule.column_shown star.now name.now column) }
+    ensures { IfOk result (λ t. views.target_of t ≡ rule.column_shown star.now name.now column) }
 {
     let part = leaf(alloc, star, Leaf::Column(column))?;
     let name = Slice::new(name);
@@ -232,7 +232,7 @@ fn column_shown<'a>(
 
 /// What a star stands for.
 fn starred<'a>(alloc: Global, star: &Token<'a>) -> Result<Vec<TargetRead<'a>>, AllocError>
-    ensures { IfOk result (λ ts. read.targets_of ts ≡ rule.starred star.now) }
+    ensures { IfOk result (λ ts. views.targets_of ts ≡ rule.starred star.now) }
 {
     let mut targets = Vec::new(alloc);
     targets.push(column_shown(alloc, star, "date", Column::Date)?)?;
@@ -249,7 +249,7 @@ pub fn shown<'t, 'a>(
     text: &'a str,
     tokens: &'t [Token<'a>],
 ) -> Result<(Vec<TargetRead<'a>>, &'t [Token<'a>]), Stuck>
-    ensures { Gives (rule.shown text.now) read.targets_of tokens.now result }
+    ensures { Gives (rule.shown text.now) views.targets_of tokens.now result }
 {
     let Some((star, rest)) = after(tokens, Kind::Star) else {
         return targets(alloc, text, tokens);
@@ -275,7 +275,7 @@ fn ordered<'t, 'a>(
     tokens: &'t [Token<'a>],
     items: Option<Vec<Part<'a>>>,
 ) -> (OrderRead<'a>, &'t [Token<'a>])
-    ensures { Reads (rule.ordered (read.group_of items.entry)) tokens.now (read.order_of result.0)
+    ensures { Reads (rule.ordered (views.group_of items.entry)) tokens.now (views.order_of result.0)
         result.1.now }
 {
     let Some(items) = items else {
@@ -292,7 +292,7 @@ pub fn order<'t, 'a>(
     alloc: Global,
     tokens: &'t [Token<'a>],
 ) -> Result<(OrderRead<'a>, &'t [Token<'a>]), Stuck>
-    ensures { Gives rule.order read.order_of tokens.now result }
+    ensures { Gives rule.order views.order_of tokens.now result }
 {
     let found = match items_by(alloc, tokens, Kind::Order) {
         Ok(found) => found,

@@ -5,7 +5,7 @@ ghost use Rattle.bean_base.specs.Numeral.{is_point};
 ghost use Rattle.bql_tree.specs.Part.{part_of, parts_in, parts_of, tree_found};
 ghost use Rattle.bql_tree.specs.Tree.{tree_of};
 ghost use Rattle.bql_parser.specs.Answer as answer;
-ghost use Rattle.bql_parser.specs.Read as read;
+ghost use Rattle.bql_parser.specs.Read as views;
 ghost use Rattle.bql_parser.specs.Settled as rule;
 ghost use Rattle.bql_parser.specs.Settled.{mapped};
 
@@ -36,7 +36,7 @@ pub fn refused_at<T: Drop>(place: Option<usize>, found: Result<T, Cause>) -> Res
 }
 
 fn target<'a>(read: TargetRead<'a>) -> Result<Target<'a>, Cause>
-    ensures { mapped answer.target_of result ≡ rule.target (read.target_of read.entry) }
+    ensures { mapped answer.target_of result ≡ rule.target (views.target_of read.entry) }
 {
     match not_null(read.part.expr) {
         Ok(expr) => Ok(Target {
@@ -53,7 +53,7 @@ fn one_target<'a>(
     read: TargetRead<'a>,
 ) -> Result<Result<Vec<Target<'a>>, Cause>, AllocError>
     ensures { IfOk result (λ r. mapped answer.targets_of r
-        ≡ rule.one_target (mapped answer.targets_of found.entry) (read.target_of read.entry)) }
+        ≡ rule.one_target (mapped answer.targets_of found.entry) (views.target_of read.entry)) }
 {
     match both(found, target(read)) {
         Ok((mut targets, next)) => {
@@ -66,7 +66,7 @@ fn one_target<'a>(
 
 /// Where the first target stands that is too many.
 fn target_beyond(reads: &[TargetRead<'_>]) -> Option<usize>
-    ensures { result ≡ slice_get (map rule.target_start (read.targets_in reads.now)) 255 }
+    ensures { result ≡ slice_get (map rule.target_start (views.targets_in reads.now)) 255 }
 {
     match reads.get(MOST_ITEMS) {
         Some(read) => Some(read.part.start),
@@ -80,7 +80,7 @@ fn each_target<'a>(
     reads: Vec<TargetRead<'a>>,
 ) -> Result<Result<Vec<Target<'a>>, Cause>, AllocError>
     ensures { IfOk result (λ r. mapped answer.targets_of r
-        ≡ rule.each_target (read.targets_of reads.entry)) }
+        ≡ rule.each_target (views.targets_of reads.entry)) }
 {
     let mut found = Ok(Vec::new(alloc));
     for read in reads {
@@ -94,7 +94,7 @@ pub fn targets<'a>(
     reads: Vec<TargetRead<'a>>,
 ) -> Result<Result<Vec<Target<'a>>, Cause>, AllocError>
     ensures { IfOk result (λ r. mapped answer.targets_of r
-        ≡ rule.targets (read.targets_of reads.entry)) }
+        ≡ rule.targets (views.targets_of reads.entry)) }
 {
     let beyond = target_beyond(reads.as_slice());
     let found = each_target(alloc, reads)?;
@@ -102,7 +102,7 @@ pub fn targets<'a>(
 }
 
 pub fn filter<'a>(part: Option<Part<'a>>) -> Result<Option<Box<Expr<'a>>>, Cause>
-    ensures { mapped answer.filter_of result ≡ rule.filter (read.filter_of part.entry) }
+    ensures { mapped answer.filter_of result ≡ rule.filter (views.filter_of part.entry) }
 {
     let Some(part) = part else {
         return Ok(None);
@@ -114,7 +114,7 @@ pub fn filter<'a>(part: Option<Part<'a>>) -> Result<Option<Box<Expr<'a>>>, Cause
 }
 
 pub fn filters<'a>(read: FiltersRead<'a>) -> Result<Filters<'a>, Cause>
-    ensures { mapped answer.filters_of result ≡ rule.filters (read.filters_of read.entry) }
+    ensures { mapped answer.filters_of result ≡ rule.filters (views.filters_of read.entry) }
 {
     match both(filter(read.from), filter(read.filter)) {
         Ok((from, filter)) => Ok(Filters { from, filter }),
@@ -122,13 +122,20 @@ pub fn filters<'a>(read: FiltersRead<'a>) -> Result<Filters<'a>, Cause>
     }
 }
 
-/// The first target of a name, in small or capital letters.
-fn target_named(targets: &[TargetRead<'_>], name: &str) -> Option<usize>
-    ensures { result ≡ rule.target_named (read.targets_in targets.now) name.now }
+/// The place of the first target of a name among the others.
+fn first_named(targets: &[TargetRead<'_>], name: &str) -> Option<usize>
+    ensures { result ≡ views.first_named targets.now name.now }
 {
     targets
         .iter()
         .position(|target| target.name.text().eq_ignore_ascii_case(name))
+}
+
+/// The first target of a name, in small or capital letters.
+fn target_named(targets: &[TargetRead<'_>], name: &str) -> Option<usize>
+    ensures { result ≡ rule.target_named (views.targets_in targets.now) name.now }
+{
+    first_named(targets, name)
 }
 
 /// The index of the target that a whole number from 1 is.
@@ -191,7 +198,7 @@ fn item_kind<'a>(
     found: Result<Box<Expr<'a>>, Cause>,
 ) -> Result<ItemKind<'a>, Cause>
     ensures { mapped answer.kind_of result
-        ≡ rule.kind_by (read.targets_in targets.now) place alone.entry (tree_found found.entry) }
+        ≡ rule.kind_by (views.targets_in targets.now) place alone.entry (tree_found found.entry) }
 {
     match alone {
         Alone::Name(name) => match target_named(targets, name.text()) {
@@ -208,7 +215,7 @@ fn item_kind<'a>(
 
 fn item<'a>(targets: &[TargetRead<'_>], part: Part<'a>) -> Result<Item<'a>, Cause>
     ensures { mapped answer.item_of result
-        ≡ rule.item (read.targets_in targets.now) (part_of part.entry) }
+        ≡ rule.item (views.targets_in targets.now) (part_of part.entry) }
 {
     let place = part.start;
     match item_kind(targets, place, part.alone, part.expr) {
@@ -224,7 +231,7 @@ fn one_item<'a>(
     part: Part<'a>,
 ) -> Result<Result<Vec<Item<'a>>, Cause>, AllocError>
     ensures { IfOk result (λ r. mapped answer.items_of r
-        ≡ rule.one_item (read.targets_in targets.now) (mapped answer.items_of found.entry)
+        ≡ rule.one_item (views.targets_in targets.now) (mapped answer.items_of found.entry)
         (part_of part.entry)) }
 {
     match both(found, item(targets, part)) {
@@ -243,7 +250,7 @@ fn each_item<'a>(
     parts: Vec<Part<'a>>,
 ) -> Result<Result<Vec<Item<'a>>, Cause>, AllocError>
     ensures { IfOk result (λ r. mapped answer.items_of r
-        ≡ rule.each_item (read.targets_in targets.now) (parts_of parts.entry)) }
+        ≡ rule.each_item (views.targets_in targets.now) (parts_of parts.entry)) }
 {
     let mut found = Ok(Vec::new(alloc));
     for part in parts {
@@ -268,7 +275,7 @@ fn items<'a>(
     parts: Vec<Part<'a>>,
 ) -> Result<Result<Vec<Item<'a>>, Cause>, AllocError>
     ensures { IfOk result (λ r. mapped answer.items_of r
-        ≡ rule.items (read.targets_in targets.now) (parts_of parts.entry)) }
+        ≡ rule.items (views.targets_in targets.now) (parts_of parts.entry)) }
 {
     let beyond = part_beyond(parts.as_slice());
     let found = each_item(alloc, targets, parts)?;
@@ -281,7 +288,7 @@ pub fn group<'a>(
     parts: Option<Vec<Part<'a>>>,
 ) -> Result<Result<Option<Vec<Item<'a>>>, Cause>, AllocError>
     ensures { IfOk result (λ r. mapped answer.group_of r
-        ≡ rule.group (read.targets_in targets.now) (read.group_of parts.entry)) }
+        ≡ rule.group (views.targets_in targets.now) (views.group_of parts.entry)) }
 {
     let Some(parts) = parts else {
         return Ok(Ok(None));
@@ -298,7 +305,7 @@ pub fn order<'a>(
     read: OrderRead<'a>,
 ) -> Result<Result<Order<'a>, Cause>, AllocError>
     ensures { IfOk result (λ r. mapped answer.order_of r
-        ≡ rule.order (read.targets_in targets.now) (read.order_of read.entry)) }
+        ≡ rule.order (views.targets_in targets.now) (views.order_of read.entry)) }
 {
     let descending = read.descending;
     match items(alloc, targets, read.items)? {
