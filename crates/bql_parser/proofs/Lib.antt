@@ -1,2 +1,3 @@
 pub mod ClauseFacts
 pub mod SettlingFacts
+pub mod ParseFacts

@@ -1,4 +1,4 @@
-use Rattle.std.proofs.Common.{◌<◌, length}
+use Rattle.std.proofs.Common.{length}
 use Rattle.theory.specs.Form.{snoc}
 use Rattle.theory.proofs.RowFacts.{InRow}
 use Rattle.bql_grammar.specs.Expression.{behind_comma}

@@ -1,0 +1,91 @@
+-- What is found comes to.
+use Rattle.std.proofs.Common.{◌≡◌, ℕ, Bool, List, [], Option, Some, None, Result, Ok, Err, length, refl}
+use Rattle.std.proofs.Common.{sym, ap, ◌∙◌, inl, inr, subst}
+use Rattle.theory.specs.Form.{Reads, IsNone}
+use Rattle.bql_lexer.specs.Tokens.{AreTokens}
+use Rattle.bql_lexer.specs.declared.token.Token.{Token}
+use Rattle.bql_tree.specs.Cause.{both}
+use Rattle.bql_tree.specs.declared.cause.Cause.{Cause}
+use Rattle.bql_tree.specs.declared.cause.CauseKind.{CauseKind}
+use Rattle.bql_tree.specs.declared.cause.CauseKind.TheVariants.{UnknownName, OutsideProfile}
+use Rattle.bql_grammar.specs.declared.stuck.Stuck.{Stuck}
+use Rattle.bql_grammar.specs.declared.stuck.Stuck.TheVariants.{OutOfMemory, At}
+use Rattle.bql_parser.specs.Answer.{query_of}
+use Rattle.bql_parser.specs.Grammar.{query}
+use Rattle.bql_parser.specs.Parse.{Parses, IsQuery, IsOutside, HasCause, Stops, is_cause, faulted}
+use Rattle.bql_parser.specs.Read.{Read}
+use Rattle.bql_parser.specs.Settled.{mapped, refused_at, byte_beyond, settled, answer}
+use Rattle.bql_parser.specs.Whole.{IsRead}
+use Rattle.bql_parser.specs.declared.fault.QueryFault.{QueryFault}
+use Rattle.bql_parser.specs.declared.fault.QueryFault.TheVariants as fault
+use Rattle.bql_parser.specs.declared.query.Query.{Query}
+
+-- Both of two, by views of them.
+
+abbrev each : {A B C D : Type 0} → (A → B) → (C → D) → A × C → B × D
+each f g p = (f p.0, g p.1)
+
+both_mapped : {A B C D : Type 0} (f : A → B) (g : C → D) (a : Result A Cause) (c : Result C Cause)
+    → both (mapped f a) (mapped g c) ≡ mapped (each f g) (both a c)
+both_mapped f g (Ok a) (Ok c) = refl
+both_mapped f g (Ok a) (Err d) = refl
+both_mapped f g (Err d) (Ok c) = refl
+both_mapped f g (Err d) (Err e) = refl
+
+pub all_refused : {A B C D A' B' C' D' S : Type 0} (fa : A → A') (fb : B → B') (fc : C → C')
+    (fd : D → D') (whole : ((A' × B') × C') × D' → S) (a : Result A Cause) (b : Result B Cause)
+    (c : Result C Cause) (d : Result D Cause) (a' : Result A' Cause) (b' : Result B' Cause)
+    (c' : Result C' Cause) (d' : Result D' Cause) (e : Cause) → mapped fa a ≡ a' → mapped fb b ≡ b'
+    → mapped fc c ≡ c' → mapped fd d ≡ d' → both (both (both a b) c) d ≡ Err e
+    → Err e ≡ mapped whole (both (both (both a' b') c') d')
+all_refused fa fb fc fd whole a b c d a' b' c' d' e pa pb pc pd is =
+    ap (λ r. mapped whole (mapped (each (each (each fa fb) fc) fd) r)) (sym is)
+    ∙ ap (mapped whole)
+    (sym (ap (λ r. both (both r (mapped fc c)) (mapped fd d)) (both_mapped fa fb a b)
+    ∙ ap (λ r. both r (mapped fd d)) (both_mapped (each fa fb) fc (both a b) c)
+    ∙ both_mapped (each (each fa fb) fc) fd (both (both a b) c) d))
+    ∙ ap (λ r. mapped whole (both (both (both r (mapped fb b)) (mapped fc c)) (mapped fd d))) pa
+    ∙ ap (λ r. mapped whole (both (both (both a' r) (mapped fc c)) (mapped fd d))) pb
+    ∙ ap (λ r. mapped whole (both (both (both a' b') r) (mapped fd d))) pc
+    ∙ ap (λ r. mapped whole (both (both (both a' b') c') r)) pd
+
+-- Texts of the grammar.
+
+refused_mapped : {A B : Type 0} (f : A → B) (place : Option ℕ) (found : Result A Cause)
+    → mapped f (refused_at place found) ≡ refused_at place (mapped f found)
+refused_mapped f None found = refl
+refused_mapped f (Some place) (Ok a) = refl
+refused_mapped f (Some place) (Err c) = refl
+
+has_cause : (text : List ℕ) (place : ℕ) (k : CauseKind)
+    → HasCause text record { place = place; kind = k } → Parses text (Err (is_cause k place))
+has_cause text place UnknownName h = h
+has_cause text place OutsideProfile h = inl h
+
+is_answered : (text : List ℕ) (r : Read) (found : Result Query Cause) → IsQuery text r
+    → mapped query_of found ≡ answer text r → Parses text (faulted found)
+is_answered text r (Ok q) is e = (r, is, sym e)
+is_answered text r (Err c) is e = has_cause text c.place c.kind (r, is, sym e)
+
+pub parsed : (text : List ℕ) (ts : List Token) (r : Read) (found : Result Query Cause)
+    → AreTokens text ts → Reads (query text) ts r [] → mapped query_of found ≡ settled r
+    → Parses text (faulted (refused_at (byte_beyond (length text)) found))
+parsed text ts r found tokens read e =
+    is_answered text r (refused_at (byte_beyond (length text)) found) (ts, tokens, read)
+    (refused_mapped query_of (byte_beyond (length text)) found
+    ∙ ap (refused_at (byte_beyond (length text))) e)
+
+-- Texts outside the grammar.
+pub stopped : (text : List ℕ) (ts : List Token) (e : QueryFault) → AreTokens text ts
+    → IsNone (query text) ts → Stops text ts e → Parses text (Err e)
+stopped text ts fault.OutOfMemory tokens none h = tt
+stopped text ts (fault.UnknownName place) tokens none h = absurd h
+stopped text ts (fault.OutsideProfile place) tokens none h =
+    inr (ts, record { tokens = tokens; none = none }, h)
+stopped text ts (fault.Syntax place) tokens none h =
+    (ts, record { tokens = tokens; none = none }, h)
+
+pub none_read : (text : List ℕ) (ts : List Token) (e : Stuck) (left : ℕ) (deep : Bool)
+    → e ≡ At left deep → IsRead text ts (Err e) → IsNone (query text) ts
+none_read text ts OutOfMemory left deep is h = absurd cc
+none_read text ts (At l d) left deep is h = h
