@@ -1,4 +1,4 @@
-//! The expressions of queries, read from tokens to trees.
+//! How the expressions of queries are read, from tokens to trees.
 //!
 //! ```text
 //! let found = tokens(alloc, "1 + number * 2 OR TRUE")?;
@@ -8,19 +8,20 @@
 //!
 //! A rule of the grammar stands in `specs/` as a form, and its reader has the same name. `OR` binds
 //! weakest, then `AND`, `NOT`, comparisons, sums, products and signs; operators of one level group
-//! to the left.
+//! to the left. Each reader gives what its form says of the tokens, as far as it goes, and no other
+//! reading is one; or it tells that there is none.
 //!
 //! # What is refused
 //!
 //! Where no expression stands, the reader tells the first token that can't go on ([`Stuck`]). An
 //! expression of the grammar may still name what isn't known, or what the profile leaves out: then
-//! its [`Part`] has the [`Cause`] at the least place in place of its tree, and reading goes on, so
-//! that what is no query at all is told first.
+//! its part has the cause at the least place in place of its tree, and reading goes on, so that
+//! what is no query at all is told first.
 //!
 //! # Cost
 //!
-//! Linear in the tokens, and at most 200 parentheses, signs and NOTs deep. A tree is at most 200
-//! high; what is higher is let go as soon as it is.
+//! Linear in the tokens, and at most 200 parentheses, signs and NOTs deep, those of calls and of
+//! lists among them. A tree is at most 200 high; what is higher is let go as soon as it is.
 #![tactic(auto)]
 
 pub mod expressions;

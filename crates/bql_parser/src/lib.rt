@@ -1,14 +1,48 @@
-//! Queries.
+//! Texts of queries, from bytes to what is asked.
+//!
+//! ```text
+//! let query = parse_query(alloc, "SELECT account, sum(position) AS total ORDER BY total")?;
+//! // Query::Select: the targets `account` and `total`, ordered by the target of index 1
+//! parse_query(alloc, "SELECT foo")               // QueryFault::UnknownName(7)
+//! parse_query(alloc, "SELECT number / 2")        // QueryFault::OutsideProfile(14)
+//! parse_query(alloc, "SELECT account WHERE")     // QueryFault::Syntax(20)
+//! ```
+//!
+//! A query is a SELECT, a JOURNAL or a BALANCES, with at most one `;` behind it. A target's name is
+//! what follows AS, or else its own text. An item of GROUP BY or ORDER BY that is a target's name,
+//! or a bare whole number from 1, is that target ([`ItemKind::Target`]); all names are the same in
+//! small and in capital letters.
+//!
+//! # Faults
+//!
+//! The grammar stands in `specs/Grammar`, over the tokens of the text, and what is asked in
+//! `specs/Settled`. [`parse_query`] accepts exactly the texts of the grammar that have no cause.
+//!
+//! - `Q1` ([`QueryFault::Syntax`]): the text is outside the grammar. The place is that of a token
+//!   that can't go on, or the text's end.
+//! - `Q2` ([`QueryFault::UnknownName`]): no column, function, target or valuation has the name, or
+//!   no target the number.
+//! - `Q3` ([`QueryFault::OutsideProfile`]): the language has it, and the profile leaves it out; or
+//!   it stands above a limit: 65,535 bytes, 255 targets, 255 items of GROUP BY, 255 of ORDER BY,
+//!   expressions 200 high. Of a text outside the grammar it is told where the token that can't go
+//!   on is a `/`, a word that is left out, or a parenthesis, sign or NOT inside 200 others.
+//!
+//! In a text of the grammar the least place of all causes counts, and at one place `Q2`.
+//!
+//! # Cost
+//!
+//! Linear in the text, but for items that are names, which are looked for among the targets. A
+//! query takes memory for its tokens, a box for each part of an expression, and its lists.
 #![tactic(auto)]
 
 mod asking;
-pub mod clauses;
+mod clauses;
 pub mod fault;
 pub mod parse;
-pub mod queries;
+mod queries;
 pub mod query;
-pub mod reading;
-pub mod settling;
+mod reading;
+mod settling;
 
 pub use fault::QueryFault;
 pub use parse::parse_query;

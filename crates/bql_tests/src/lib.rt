@@ -2,4 +2,6 @@
 #![tactic(auto)]
 
 #[cfg(test)]
+mod queries;
+#[cfg(test)]
 mod tokens;
