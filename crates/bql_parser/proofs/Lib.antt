@@ -1,3 +1,4 @@
 pub mod ClauseFacts
 pub mod SettlingFacts
 pub mod ParseFacts
+pub mod OneQuery

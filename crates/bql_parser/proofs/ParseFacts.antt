@@ -1,5 +1,6 @@
 -- What is found comes to.
-use Rattle.std.proofs.Common.{◌≡◌, ℕ, Bool, List, [], Option, Some, None, Result, Ok, Err, length, refl}
+use Rattle.std.proofs.Common.{◌≡◌, ℕ, Bool, List, [], Option, Some, None, Result, Ok, Err, length}
+use Rattle.std.proofs.Common.{refl}
 use Rattle.std.proofs.Common.{sym, ap, ◌∙◌, inl, inr, subst}
 use Rattle.theory.specs.Form.{Reads, IsNone}
 use Rattle.bql_lexer.specs.Tokens.{AreTokens}

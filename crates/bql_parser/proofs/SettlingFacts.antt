@@ -12,7 +12,8 @@ pub viewed_at : {A B C : Type 0} (f : A → B) (g : B → C) (xs : List A) (i : 
     → IsItemAt xs i (Some x) → Some (g (f x.now)) ≡ slice_get (map g (map f xs)) i
 viewed_at f g xs i x h =
     sym (slice_get-map g (map f xs) i ∙ ap (option_map g) (slice_get-map f xs i)
-    ∙ ap (λ o. option_map g (option_map f o)) (slice_get_read xs (length xs) i x.now refl h.3.0 h.1))
+    ∙ ap (λ o. option_map g (option_map f o)) (slice_get_read xs (length xs) i x.now refl h.3.0
+    h.1))
 
 pub none_at : {A B C : Type 0} (f : A → B) (g : B → C) (xs : List A) (i : ℕ)
     → IsItemAt xs i None → None ≡ slice_get (map g (map f xs)) i

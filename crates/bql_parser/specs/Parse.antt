@@ -1,5 +1,6 @@
 -- Texts of queries.
-use Rattle.std.specs.Prelude.{◌≡◌, ℕ, ◌||◌, ◌&&◌, Bool, true, List, [], length, Result, Ok, Err, ◌⊎◌}
+use Rattle.std.specs.Prelude.{◌≡◌, ℕ, ◌||◌, ◌&&◌, Bool, true, List, [], length, Result, Ok, Err}
+use Rattle.std.specs.Prelude.{◌⊎◌}
 use Rattle.std.specs.List.{IsAmong}
 use Rattle.theory.specs.Form.{Reads, IsNone}
 use Rattle.bql_lexer.specs.Kind.{same_kind}

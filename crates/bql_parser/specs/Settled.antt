@@ -1,6 +1,7 @@
 -- What a query asks, or the least cause for which it is refused.
 use Rattle.std.specs.Prelude.{ℕ, ℤ, pos, negsuc, zero, suc, ◌==◌, nat_lt, Bool, false, not, List}
-use Rattle.std.specs.Prelude.{[], ◌∷◌, ◌++◌, map, length, codes, Option, Some, None, Result, Ok, Err}
+use Rattle.std.specs.Prelude.{[], ◌∷◌, ◌++◌, map, length, codes, Option, Some, None, Result, Ok}
+use Rattle.std.specs.Prelude.{Err}
 use Rattle.std.specs.Prelude.{if◌then◌else◌}
 use Rattle.std.specs.List.{slice_get, position, list_any}
 use Rattle.std.specs.Str.{str_eq_ignore_ascii_case}
@@ -154,7 +155,8 @@ abbrev pub group : List read.Target → Option (List Part) → Result (Option (L
 group ts (Some ps) = mapped Some (items ts ps)
 group ts None = Ok None
 
-abbrev pub in_order : Result (List Item) Cause → clause.Order Part → Result (clause.Order Item) Cause
+abbrev pub in_order : Result (List Item) Cause → clause.Order Part
+    → Result (clause.Order Item) Cause
 in_order found o = mapped (λ is. record { items = is; descending = o.descending }) found
 
 abbrev pub order : List read.Target → clause.Order Part → Result (clause.Order Item) Cause

@@ -89,7 +89,8 @@ pub fn settled<'a>(
     alloc: Global,
     read: QueryRead<'a>,
 ) -> Result<Result<Query<'a>, Cause>, AllocError>
-    ensures { IfOk result (λ r. mapped answer.query_of r ≡ rule.settled (views.read_of read.entry)) }
+    ensures { IfOk result (λ r. mapped answer.query_of r
+        ≡ rule.settled (views.read_of read.entry)) }
 {
     match read {
         QueryRead::Select(read) => match select(alloc, read)? {

@@ -38,6 +38,7 @@
 mod asking;
 mod clauses;
 pub mod fault;
+pub mod laws;
 pub mod parse;
 mod queries;
 pub mod query;

@@ -159,7 +159,8 @@ fn with_name<'t, 'a>(
     tokens: &'t [Token<'a>],
     part: Part<'a>,
 ) -> Result<(TargetRead<'a>, &'t [Token<'a>]), Stuck>
-    ensures { Gives (rule.with_name text.now (part_of part.entry)) views.target_of tokens.now result }
+    ensures { Gives (rule.with_name text.now (part_of part.entry)) views.target_of tokens.now
+        result }
 {
     let Some((_, behind)) = after(tokens, Kind::As) else {
         let name = Slice::new(piece(text, part.start, part.end));

@@ -4,7 +4,8 @@ use Rattle.theory.proofs.RowFacts.{InRow}
 use Rattle.bql_grammar.specs.Expression.{literal, literals, behind_comma}
 use Rattle.bql_tree.specs.Part.{part_of, parts_of}
 use Rattle.bql_tree.proofs.CallFacts.{parts_more}
-use Rattle.bql_grammar.proofs.ExpressionFacts.{rows, no_list, list_begins, stuck_in, none_in_list, list_goes_on}
+use Rattle.bql_grammar.proofs.ExpressionFacts.{rows, no_list, list_begins, stuck_in, none_in_list}
+use Rattle.bql_grammar.proofs.ExpressionFacts.{list_goes_on}
 use Rattle.bql_grammar.proofs.ExpressionFacts.{list_is_read}
 use Rattle.bql_grammar.proofs.ItemsFacts.{parts_first}
 use Rattle.bql_grammar.proofs.expressions.literals.Goals as goal

@@ -8,9 +8,11 @@ use Rattle.bql_parser.proofs.queries.select.Goals as goal
 pub returns-in-Err : goal.returns-in-Err
 returns-in-Err c =
     gives_then (flag kind.Distinct) (behind_distinct c.args.text.now) select_of
-    c.args.tokens.now c.flag-distinct.result.0 c.flag-distinct.result.1.now (Err c.in-Err.stuck) (λ rest. refl)
+    c.args.tokens.now c.flag-distinct.result.0 c.flag-distinct.result.1.now (Err c.in-Err.stuck)
+    (λ rest. refl)
     (λ v rest. refl) c.flag-distinct.ensures
-    (stuck_first (shown c.args.text.now) (behind_targets c.flag-distinct.result.0) targets_of select_of
+    (stuck_first (shown c.args.text.now) (behind_targets c.flag-distinct.result.0) targets_of
+    select_of
     c.flag-distinct.result.1.now c.in-Err.stuck (λ rest. refl) c.in-Err.ensures)
 
 pub returns : goal.returns
