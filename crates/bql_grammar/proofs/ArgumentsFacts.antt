@@ -36,7 +36,7 @@ module _ (scope : Scope) (room : ℕ) where
       → HasNone (list_of or) ts → HasNone (arguments scope room) ts
   some_argument ts open_at none =
       none_other (begins (of_kind kind.CloseParenthesis)) (made []) (list_of or) ts (λ rest. refl)
-        open_at none
+      open_at none
 
   pub no_argument : (ts : List Token) → begins (of_kind kind.CloseParenthesis) ts ≡ false
       → HasNone or ts → HasNone (arguments scope room) ts
@@ -56,4 +56,4 @@ module _ (scope : Scope) (room : ℕ) where
       → Reads (arguments scope room) ts vs rest
   arguments_read ts vs rest open_at p at =
       reads_other (begins (of_kind kind.CloseParenthesis)) (made []) (list_of or) ts vs rest
-        (λ rest. refl) open_at (list_is_read or (λ rest. refl) ts vs rest p at)
+      (λ rest. refl) open_at (list_is_read or (λ rest. refl) ts vs rest p at)

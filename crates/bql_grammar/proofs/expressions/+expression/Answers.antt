@@ -33,10 +33,10 @@ pub chain-returns-in-Err-clause-read : goal.chain-returns-in-Err-clause-read
 chain-returns-in-Err-clause-read t c =
     let a = operand c.args.level c.args.scope c.args.room in
     stuck_in a (chain_at c.args.level c.args.scope c.args.room) part_of part_of c.args.tokens.now
-      c.args.tokens.now c.in-Err.stuck
-      (no_chain c.args.level a (operand_ends c.args.level c.args.scope c.args.room)
-        c.args.tokens.now)
-      c.in-Err.ensures.read
+    c.args.tokens.now c.in-Err.stuck
+    (no_chain c.args.level a (operand_ends c.args.level c.args.scope c.args.room)
+    c.args.tokens.now)
+    c.in-Err.ensures.read
 
 pub chain-loop-operator-init : goal.chain-loop-operator-init
 chain-loop-operator-init t c = record {
@@ -50,236 +50,240 @@ pub chain-returns-in-Err-operand-clause-read : goal.chain-returns-in-Err-operand
 chain-returns-in-Err-operand-clause-read t c =
     let a = operand c.args.level c.args.scope c.args.room in
     stuck_in a (chain_at c.args.level c.args.scope c.args.room) part_of part_of
-      c.in-Some.after.now c.args.tokens.now c.in-Err-operand.stuck
-      (λ none. none_in_chain c.args.level a
-        (operand_ends c.args.level c.args.scope c.args.room) c.args.tokens.now
-        (part_of c.loop-operator.value) c.loop-operator.rest.now c.in-Some.after.now
-        c.in-Some.operator c.loop-operator.invariant.read c.in-Some.ensures.front none)
-      c.in-Err-operand.ensures.read
+    c.in-Some.after.now c.args.tokens.now c.in-Err-operand.stuck
+    (λ none. none_in_chain c.args.level a
+    (operand_ends c.args.level c.args.scope c.args.room) c.args.tokens.now
+    (part_of c.loop-operator.value) c.loop-operator.rest.now c.in-Some.after.now
+    c.in-Some.operator c.loop-operator.invariant.read c.in-Some.ensures.front none)
+    c.in-Err-operand.ensures.read
 
 pub chain-loop-operator-preserved : goal.chain-loop-operator-preserved
 chain-loop-operator-preserved t c =
     let a = operand c.args.level c.args.scope c.args.room in
     record {
-      shorter = omega (arith, c.in-Some.ensures.shorter, c.in-Ok-operand.ensures.shorter,
-          c.loop-operator.invariant.shorter);
+      shorter = omega (
+        arith,
+        c.in-Some.ensures.shorter,
+        c.in-Ok-operand.ensures.shorter,
+        c.loop-operator.invariant.shorter,
+      );
       read = subst
           (λ v. InRow (links c.args.level a) (another c.args.level a) joined c.args.tokens.now v
-            c.in-Ok-operand.found.1.now)
+          c.in-Ok-operand.found.1.now)
           (sym c.in_ok-value.ensures)
           (chain_goes_on c.args.level a (operand_ends c.args.level c.args.scope c.args.room)
-            c.args.tokens.now _ _ _ _ _ _ c.loop-operator.invariant.read c.in-Some.ensures.front
-            c.in-Ok-operand.ensures.read);
+          c.args.tokens.now _ _ _ _ _ _ c.loop-operator.invariant.read c.in-Some.ensures.front
+          c.in-Ok-operand.ensures.read);
     }
 
 pub chain-returns-clause-read : goal.chain-returns-clause-read
 chain-returns-clause-read t c =
     chain_is_read c.args.level (operand c.args.level c.args.scope c.args.room)
-      (operand_ends c.args.level c.args.scope c.args.room) c.args.tokens.now _ _
-      c.loop-operator.invariant.read c.in_default.ensures.front
+    (operand_ends c.args.level c.args.scope c.args.room) c.args.tokens.now _ _
+    c.loop-operator.invariant.read c.in_default.ensures.front
 
 pub operand-returns-in-Or-clause-read : goal.operand-returns-in-Or-clause-read
 operand-returns-in-Or-clause-read t c =
     subst (λ l. Gives (operand l c.args.scope c.args.room) part_of c.args.tokens.now
-        c.chain.result)
-      (sym c.in-Or.is) c.chain.ensures.read
+    c.chain.result)
+    (sym c.in-Or.is) c.chain.ensures.read
 
 pub operand-returns-in-Sum-clause-read : goal.operand-returns-in-Sum-clause-read
 operand-returns-in-Sum-clause-read t c =
     subst (λ l. Gives (operand l c.args.scope c.args.room) part_of c.args.tokens.now
-        c.chain-in-Sum.result)
-      (sym c.in-Sum.is) c.chain-in-Sum.ensures.read
+    c.chain-in-Sum.result)
+    (sym c.in-Sum.is) c.chain-in-Sum.ensures.read
 
 -- Negations.
 
 pub negation-returns-in_default-clause-read : goal.negation-returns-in_default-clause-read
 negation-returns-in_default-clause-read t c =
     undenied c.args.scope c.args.room part_of c.args.tokens.now c.comparison.result
-      c.in_default.ensures.front c.comparison.ensures.read
+    c.in_default.ensures.front c.comparison.ensures.read
 
 pub negation-returns-then-room-eq0-clause-read : goal.negation-returns-then-room-eq0-clause-read
 negation-returns-then-room-eq0-clause-read t c =
     gives_none (negation c.args.scope c.args.room) part_of c.args.tokens.now _
-      (no_room_for_not c.args.scope c.args.room c.args.tokens.now
-        (c.in-Some.not.now, c.in-Some.behind.now) c.in-Some.ensures.front
-        (omega (arith, c.if-room-eq0.true)))
+    (no_room_for_not c.args.scope c.args.room c.args.tokens.now
+    (c.in-Some.not.now, c.in-Some.behind.now) c.in-Some.ensures.front
+    (omega (arith, c.if-room-eq0.true)))
 
 pub negation-returns-in-Err-clause-read : goal.negation-returns-in-Err-clause-read
 negation-returns-in-Err-clause-read t c =
     stuck_in (negation c.args.scope (c.args.room - 1)) (negation c.args.scope c.args.room)
-      part_of part_of c.in-Some.behind.now c.args.tokens.now c.in-Err.stuck
-      (λ none. none_behind_not c.args.scope c.args.room c.args.tokens.now _ _
-        c.in-Some.ensures.front none)
-      c.in-Err.ensures.read
+    part_of part_of c.in-Some.behind.now c.args.tokens.now c.in-Err.stuck
+    (λ none. none_behind_not c.args.scope c.args.room c.args.tokens.now _ _
+    c.in-Some.ensures.front none)
+    c.in-Err.ensures.read
 
 pub negation-returns-clause-read : goal.negation-returns-clause-read
 negation-returns-clause-read t c =
     subst (λ v. Reads (negation c.args.scope c.args.room) c.args.tokens.now v
-        c.in-Ok.found.1.now)
-      (sym c.in_ok-value.ensures)
-      (denied_read c.args.scope c.args.room c.args.tokens.now _ _ _ _ c.in-Some.ensures.front
-        (omega (arith, c.if-room-eq0.false)) c.in-Ok.ensures.read)
+    c.in-Ok.found.1.now)
+    (sym c.in_ok-value.ensures)
+    (denied_read c.args.scope c.args.room c.args.tokens.now _ _ _ _ c.in-Some.ensures.front
+    (omega (arith, c.if-room-eq0.false)) c.in-Ok.ensures.read)
 
 -- Comparisons.
 
 pub comparison-returns-in-Err-clause-read : goal.comparison-returns-in-Err-clause-read
 comparison-returns-in-Err-clause-read t c =
     stuck_in (chain_at level.Sum c.args.scope c.args.room) (comparison c.args.scope c.args.room)
-      part_of part_of c.args.tokens.now c.args.tokens.now c.in-Err.stuck
-      (no_sum c.args.scope c.args.room c.args.tokens.now) c.in-Err.ensures.read
+    part_of part_of c.args.tokens.now c.args.tokens.now c.in-Err.stuck
+    (no_sum c.args.scope c.args.room c.args.tokens.now) c.in-Err.ensures.read
 
 pub comparison-returns-in-Err-chain-clause-read : goal.comparison-returns-in-Err-chain-clause-read
 comparison-returns-in-Err-chain-clause-read t c =
     stuck_in (chain_at level.Sum c.args.scope c.args.room) (comparison c.args.scope c.args.room)
-      part_of part_of c.in-Some.behind.now c.args.tokens.now c.in-Err-chain.stuck
-      (λ none. compared_none c.args.scope c.args.room c.args.tokens.now _ _ _ _
-        c.in-Ok.ensures.read c.in-Some.ensures.front none)
-      c.in-Err-chain.ensures.read
+    part_of part_of c.in-Some.behind.now c.args.tokens.now c.in-Err-chain.stuck
+    (λ none. compared_none c.args.scope c.args.room c.args.tokens.now _ _ _ _
+    c.in-Ok.ensures.read c.in-Some.ensures.front none)
+    c.in-Err-chain.ensures.read
 
 pub comparison-returns-in-Some-clause-read : goal.comparison-returns-in-Some-clause-read
 comparison-returns-in-Some-clause-read t c =
     subst (λ v. Reads (comparison c.args.scope c.args.room) c.args.tokens.now v
-        c.in-Ok-chain.found.1.now)
-      (sym c.in_ok-value.ensures)
-      (compared_read c.args.scope c.args.room c.args.tokens.now _ _ _ _ _ _ c.in-Ok.ensures.read
-        c.in-Some.ensures.front c.in-Ok-chain.ensures.read)
+    c.in-Ok-chain.found.1.now)
+    (sym c.in_ok-value.ensures)
+    (compared_read c.args.scope c.args.room c.args.tokens.now _ _ _ _ _ _ c.in-Ok.ensures.read
+    c.in-Some.ensures.front c.in-Ok-chain.ensures.read)
 
 pub comparison-returns-in_default-after-2-clause-read :
     goal.comparison-returns-in_default-after-2-clause-read
 comparison-returns-in_default-after-2-clause-read t c =
     gives_none (comparison c.args.scope c.args.room) part_of c.args.tokens.now _
-      (matched_none c.args.scope c.args.room c.args.tokens.now _ _ _ _ c.in-Ok.ensures.read
-        c.in_default.ensures.front c.in-Some-after.ensures.front
-        c.in_default-after-2.ensures.front)
+    (matched_none c.args.scope c.args.room c.args.tokens.now _ _ _ _ c.in-Ok.ensures.read
+    c.in_default.ensures.front c.in-Some-after.ensures.front
+    c.in_default-after-2.ensures.front)
 
 pub comparison-returns-in-Some-after-clause-read :
     goal.comparison-returns-in-Some-after-clause-read
 comparison-returns-in-Some-after-clause-read t c =
     subst (λ v. Reads (comparison c.args.scope c.args.room) c.args.tokens.now v
-        c.in-Some-after-2.rest.now)
-      (sym c.in_ok-value-2.ensures)
-      (matched_read c.args.scope c.args.room c.args.tokens.now _ _ _ _ _ _ c.in-Ok.ensures.read
-        c.in_default.ensures.front c.in-Some-after.ensures.front c.in-Some-after-2.ensures.front)
+    c.in-Some-after-2.rest.now)
+    (sym c.in_ok-value-2.ensures)
+    (matched_read c.args.scope c.args.room c.args.tokens.now _ _ _ _ _ _ c.in-Ok.ensures.read
+    c.in_default.ensures.front c.in-Some-after.ensures.front c.in-Some-after-2.ensures.front)
 
 pub comparison-returns-then-begins_with_list-clause-read :
     goal.comparison-returns-then-begins_with_list-clause-read
 comparison-returns-then-begins_with_list-clause-read t c =
     listed_as c.args.scope c.args.room part_of c.args.tokens.now (part_of c.in-Ok.found.0)
-      c.in-Ok.found.1.now c.list.result c.in-Ok.ensures.read c.in_default.ensures.front
-      c.in_default-after.ensures.front (sym c.if-begins_with_list.ensures) c.list.ensures.read
+    c.in-Ok.found.1.now c.list.result c.in-Ok.ensures.read c.in_default.ensures.front
+    c.in_default-after.ensures.front (sym c.if-begins_with_list.ensures) c.list.ensures.read
 
 pub comparison-returns-in-Err-chain-2-clause-read :
     goal.comparison-returns-in-Err-chain-2-clause-read
 comparison-returns-in-Err-chain-2-clause-read t c =
     stuck_in (chain_at level.Sum c.args.scope c.args.room) (comparison c.args.scope c.args.room)
-      part_of part_of c.in-Some-after-3.behind.now c.args.tokens.now c.in-Err-chain-2.stuck
-      (λ none. contained_none c.args.scope c.args.room c.args.tokens.now _ _ _ _
-        c.in-Ok.ensures.read c.in_default.ensures.front c.in_default-after.ensures.front
-        (sym c.if-begins_with_list.ensures) c.in-Some-after-3.ensures.front none)
-      c.in-Err-chain-2.ensures.read
+    part_of part_of c.in-Some-after-3.behind.now c.args.tokens.now c.in-Err-chain-2.stuck
+    (λ none. contained_none c.args.scope c.args.room c.args.tokens.now _ _ _ _
+    c.in-Ok.ensures.read c.in_default.ensures.front c.in_default-after.ensures.front
+    (sym c.if-begins_with_list.ensures) c.in-Some-after-3.ensures.front none)
+    c.in-Err-chain-2.ensures.read
 
 pub comparison-returns-in-Some-after-3-clause-read :
     goal.comparison-returns-in-Some-after-3-clause-read
 comparison-returns-in-Some-after-3-clause-read t c =
     subst (λ v. Reads (comparison c.args.scope c.args.room) c.args.tokens.now v
-        c.in-Ok-chain-2.found.1.now)
-      (sym c.in_ok-value-3.ensures)
-      (contained_read c.args.scope c.args.room c.args.tokens.now _ _ _ _ _ _
-        c.in-Ok.ensures.read c.in_default.ensures.front c.in_default-after.ensures.front
-        (sym c.if-begins_with_list.ensures) c.in-Some-after-3.ensures.front
-        c.in-Ok-chain-2.ensures.read)
+    c.in-Ok-chain-2.found.1.now)
+    (sym c.in_ok-value-3.ensures)
+    (contained_read c.args.scope c.args.room c.args.tokens.now _ _ _ _ _ _
+    c.in-Ok.ensures.read c.in_default.ensures.front c.in_default-after.ensures.front
+    (sym c.if-begins_with_list.ensures) c.in-Some-after-3.ensures.front
+    c.in-Ok-chain-2.ensures.read)
 
 pub comparison-returns-clause-read : goal.comparison-returns-clause-read
 comparison-returns-clause-read t c =
     plain_read c.args.scope c.args.room c.args.tokens.now _ _ c.in-Ok.ensures.read
-      c.in_default.ensures.front c.in_default-after.ensures.front
-      (sym c.if-begins_with_list.ensures) c.in_default-after-3.ensures.front
+    c.in_default.ensures.front c.in_default-after.ensures.front
+    (sym c.if-begins_with_list.ensures) c.in_default-after-3.ensures.front
 
 -- Signs.
 
 pub unary-returns-in_default-clause-read : goal.unary-returns-in_default-clause-read
 unary-returns-in_default-clause-read t c =
     unsigned c.args.scope c.args.room part_of c.args.tokens.now c.atom.result
-      c.in_default.ensures.front c.atom.ensures.read
+    c.in_default.ensures.front c.atom.ensures.read
 
 pub unary-returns-then-room-eq0-clause-read : goal.unary-returns-then-room-eq0-clause-read
 unary-returns-then-room-eq0-clause-read t c =
     gives_none (unary c.args.scope c.args.room) part_of c.args.tokens.now _
-      (no_room_for_sign c.args.scope c.args.room c.args.tokens.now
-        ((c.in-Some.sign.now, c.in-Some.is_minus), c.in-Some.behind.now) c.in-Some.ensures.front
-        (omega (arith, c.if-room-eq0.true)))
+    (no_room_for_sign c.args.scope c.args.room c.args.tokens.now
+    ((c.in-Some.sign.now, c.in-Some.is_minus), c.in-Some.behind.now) c.in-Some.ensures.front
+    (omega (arith, c.if-room-eq0.true)))
 
 pub unary-returns-in-Err-clause-read : goal.unary-returns-in-Err-clause-read
 unary-returns-in-Err-clause-read t c =
     stuck_in (unary c.args.scope (c.args.room - 1)) (unary c.args.scope c.args.room)
-      part_of part_of c.in-Some.behind.now c.args.tokens.now c.in-Err.stuck
-      (λ none. none_behind_sign c.args.scope c.args.room c.args.tokens.now
-        (c.in-Some.sign.now, c.in-Some.is_minus) _ c.in-Some.ensures.front none)
-      c.in-Err.ensures.read
+    part_of part_of c.in-Some.behind.now c.args.tokens.now c.in-Err.stuck
+    (λ none. none_behind_sign c.args.scope c.args.room c.args.tokens.now
+    (c.in-Some.sign.now, c.in-Some.is_minus) _ c.in-Some.ensures.front none)
+    c.in-Err.ensures.read
 
 pub unary-returns-clause-read : goal.unary-returns-clause-read
 unary-returns-clause-read t c =
     subst (λ v. Reads (unary c.args.scope c.args.room) c.args.tokens.now v c.in-Ok.found.1.now)
-      (sym c.in_ok-value.ensures)
-      (signed_read c.args.scope c.args.room c.args.tokens.now
-        (c.in-Some.sign.now, c.in-Some.is_minus) _ _ _ c.in-Some.ensures.front
-        (omega (arith, c.if-room-eq0.false)) c.in-Ok.ensures.read)
+    (sym c.in_ok-value.ensures)
+    (signed_read c.args.scope c.args.room c.args.tokens.now
+    (c.in-Some.sign.now, c.in-Some.is_minus) _ _ _ c.in-Some.ensures.front
+    (omega (arith, c.if-room-eq0.false)) c.in-Ok.ensures.read)
 
 -- Atoms.
 
 pub atom-returns-then-is_some-clause-read : goal.atom-returns-then-is_some-clause-read
 atom-returns-then-is_some-clause-read t c =
     literal_atom c.args.scope c.args.room part_of c.args.tokens.now c.literal.result
-      (sym (literal_where fronts.literal c.args.tokens.now c.after_literal.result
-        c.after_literal.ensures.front) ∙ sym c.if-is_some.ensures)
-      c.literal.ensures.read
+    (sym (literal_where fronts.literal c.args.tokens.now c.after_literal.result
+    c.after_literal.ensures.front) ∙ sym c.if-is_some.ensures)
+    c.literal.ensures.read
 
 pub atom-returns-then-is_some-2-clause-read : goal.atom-returns-then-is_some-2-clause-read
 atom-returns-then-is_some-2-clause-read t c =
     group_atom c.args.scope c.args.room part_of c.args.tokens.now c.grouped.result
-      (sym (literal_where fronts.literal c.args.tokens.now c.after_literal.result
-        c.after_literal.ensures.front) ∙ sym c.if-is_some.ensures)
-      (sym (begins_where (of_kind kind.OpenParenthesis) c.args.tokens.now c.after.result
-        c.after.ensures.front) ∙ sym c.if-is_some-2.ensures)
-      c.grouped.ensures.read
+    (sym (literal_where fronts.literal c.args.tokens.now c.after_literal.result
+    c.after_literal.ensures.front) ∙ sym c.if-is_some.ensures)
+    (sym (begins_where (of_kind kind.OpenParenthesis) c.args.tokens.now c.after.result
+    c.after.ensures.front) ∙ sym c.if-is_some-2.ensures)
+    c.grouped.ensures.read
 
 pub atom-returns-clause-read : goal.atom-returns-clause-read
 atom-returns-clause-read t c =
     subst (λ v. Reads (atom c.args.scope c.args.room) c.args.tokens.now v c.in-Some.rest.now)
-      (sym c.in_ok-value.ensures)
-      (name_atom c.args.scope c.args.room c.args.tokens.now _ _
-        (sym (literal_where fronts.literal c.args.tokens.now c.after_literal.result
-          c.after_literal.ensures.front) ∙ sym c.if-is_some.ensures)
-        (sym (begins_where (of_kind kind.OpenParenthesis) c.args.tokens.now c.after.result
-          c.after.ensures.front) ∙ sym c.if-is_some-2.ensures)
-        (sym c.if-begins_with_call.ensures) c.in-Some.ensures.front)
+    (sym c.in_ok-value.ensures)
+    (name_atom c.args.scope c.args.room c.args.tokens.now _ _
+    (sym (literal_where fronts.literal c.args.tokens.now c.after_literal.result
+    c.after_literal.ensures.front) ∙ sym c.if-is_some.ensures)
+    (sym (begins_where (of_kind kind.OpenParenthesis) c.args.tokens.now c.after.result
+    c.after.ensures.front) ∙ sym c.if-is_some-2.ensures)
+    (sym c.if-begins_with_call.ensures) c.in-Some.ensures.front)
 
 -- Groups.
 
 pub grouped-returns-in-Err-clause-read : goal.grouped-returns-in-Err-clause-read
 grouped-returns-in-Err-clause-read t c =
     stuck_in (chain_at level.Or c.args.scope (c.args.room - 1))
-      (grouped c.args.scope c.args.room) part_of part_of c.in-Some.behind.now
-      c.args.tokens.now c.in-Err.stuck
-      (λ none. none_in_group c.args.scope c.args.room c.args.tokens.now _ _
-        c.in-Some.ensures.front none)
-      c.in-Err.ensures.read
+    (grouped c.args.scope c.args.room) part_of part_of c.in-Some.behind.now
+    c.args.tokens.now c.in-Err.stuck
+    (λ none. none_in_group c.args.scope c.args.room c.args.tokens.now _ _
+    c.in-Some.ensures.front none)
+    c.in-Err.ensures.read
 
 pub grouped-returns-in_default-after-clause-read :
     goal.grouped-returns-in_default-after-clause-read
 grouped-returns-in_default-after-clause-read t c =
     gives_none (grouped c.args.scope c.args.room) part_of c.args.tokens.now _
-      (not_shut c.args.scope c.args.room c.args.tokens.now _ _ _ _ c.in-Some.ensures.front
-        c.in-Ok.ensures.read c.in_default-after.ensures.front)
+    (not_shut c.args.scope c.args.room c.args.tokens.now _ _ _ _ c.in-Some.ensures.front
+    c.in-Ok.ensures.read c.in_default-after.ensures.front)
 
 pub grouped-returns-clause-read : goal.grouped-returns-clause-read
 grouped-returns-clause-read t c =
     subst (λ v. Reads (grouped c.args.scope c.args.room) c.args.tokens.now v
-        c.in-Some-after.rest.now)
-      (sym c.group.ensures)
-      (group_read c.args.scope c.args.room c.args.tokens.now _ _ _ _ _ _
-        (omega (arith, c.if-room-eq0.false)) c.in-Some.ensures.front c.in-Ok.ensures.read
-        c.in-Some-after.ensures.front)
+    c.in-Some-after.rest.now)
+    (sym c.group.ensures)
+    (group_read c.args.scope c.args.room c.args.tokens.now _ _ _ _ _ _
+    (omega (arith, c.if-room-eq0.false)) c.in-Some.ensures.front c.in-Ok.ensures.read
+    c.in-Some-after.ensures.front)
 
 -- Calls.
 
@@ -287,47 +291,47 @@ pub call-returns-then-begins_with_count-clause-read :
     goal.call-returns-then-begins_with_count-clause-read
 call-returns-then-begins_with_count-clause-read t c =
     counted_call c.args.scope c.args.room part_of c.args.tokens.now c.in-Some.name.now
-      c.in-Some.behind.now c.in-Some-after.field-0-0.now c.in-Some-after.inside.now
-      c.counted.result (omega (arith, c.if-room-eq0.false)) c.in-Some.ensures.front
-      c.in-Some-after.ensures.front (sym c.if-begins_with_count.ensures) c.counted.ensures.read
+    c.in-Some.behind.now c.in-Some-after.field-0-0.now c.in-Some-after.inside.now
+    c.counted.result (omega (arith, c.if-room-eq0.false)) c.in-Some.ensures.front
+    c.in-Some-after.ensures.front (sym c.if-begins_with_count.ensures) c.counted.ensures.read
 
 pub call-returns-in-Err-clause-read : goal.call-returns-in-Err-clause-read
 call-returns-in-Err-clause-read t c =
     stuck_in (arguments c.args.scope (c.args.room - 1)) (call c.args.scope c.args.room)
-      parts_of part_of c.in-Some-after.inside.now c.args.tokens.now c.in-Err.stuck
-      (λ none. no_arguments c.args.scope c.args.room c.args.tokens.now _ _ _ _
-        c.in-Some.ensures.front c.in-Some-after.ensures.front
-        (sym c.if-begins_with_count.ensures) none)
-      c.in-Err.ensures.read
+    parts_of part_of c.in-Some-after.inside.now c.args.tokens.now c.in-Err.stuck
+    (λ none. no_arguments c.args.scope c.args.room c.args.tokens.now _ _ _ _
+    c.in-Some.ensures.front c.in-Some-after.ensures.front
+    (sym c.if-begins_with_count.ensures) none)
+    c.in-Err.ensures.read
 
 pub call-returns-in_default-after-2-clause-read : goal.call-returns-in_default-after-2-clause-read
 call-returns-in_default-after-2-clause-read t c =
     gives_none (call c.args.scope c.args.room) part_of c.args.tokens.now _
-      (call_not_shut c.args.scope c.args.room c.args.tokens.now _ _ _ _
-        (parts_of c.in-Ok.found.0) c.in-Ok.found.1.now c.in-Some.ensures.front
-        c.in-Some-after.ensures.front (sym c.if-begins_with_count.ensures) c.in-Ok.ensures.read
-        c.in_default-after-2.ensures.front)
+    (call_not_shut c.args.scope c.args.room c.args.tokens.now _ _ _ _
+    (parts_of c.in-Ok.found.0) c.in-Ok.found.1.now c.in-Some.ensures.front
+    c.in-Some-after.ensures.front (sym c.if-begins_with_count.ensures) c.in-Ok.ensures.read
+    c.in_default-after-2.ensures.front)
 
 pub call-returns-clause-read : goal.call-returns-clause-read
 call-returns-clause-read t c =
     subst (λ v. Reads (call c.args.scope c.args.room) c.args.tokens.now v
-        c.in-Some-after-2.rest.now)
-      (sym c.in_ok-value.ensures)
-      (call_read c.args.scope c.args.room c.args.tokens.now _ _ _ _ (parts_of c.in-Ok.found.0)
-        c.in-Ok.found.1.now _ _ (omega (arith, c.if-room-eq0.false)) c.in-Some.ensures.front
-        c.in-Some-after.ensures.front (sym c.if-begins_with_count.ensures) c.in-Ok.ensures.read
-        c.in-Some-after-2.ensures.front)
+    c.in-Some-after-2.rest.now)
+    (sym c.in_ok-value.ensures)
+    (call_read c.args.scope c.args.room c.args.tokens.now _ _ _ _ (parts_of c.in-Ok.found.0)
+    c.in-Ok.found.1.now _ _ (omega (arith, c.if-room-eq0.false)) c.in-Some.ensures.front
+    c.in-Some-after.ensures.front (sym c.if-begins_with_count.ensures) c.in-Ok.ensures.read
+    c.in-Some-after-2.ensures.front)
 
 -- Arguments.
 
 pub arguments-returns-in-Err-clause-read : goal.arguments-returns-in-Err-clause-read
 arguments-returns-in-Err-clause-read t c =
     stuck_in (chain_at level.Or c.args.scope c.args.room) (arguments c.args.scope c.args.room)
-      part_of parts_of c.args.tokens.now c.args.tokens.now c.in-Err.stuck
-      (no_argument c.args.scope c.args.room c.args.tokens.now
-        (sym (begins_where (of_kind kind.CloseParenthesis) c.args.tokens.now c.after.result
-          c.after.ensures.front) ∙ sym c.if-is_some.ensures))
-      c.in-Err.ensures.read
+    part_of parts_of c.args.tokens.now c.args.tokens.now c.in-Err.stuck
+    (no_argument c.args.scope c.args.room c.args.tokens.now
+    (sym (begins_where (of_kind kind.CloseParenthesis) c.args.tokens.now c.after.result
+    c.after.ensures.front) ∙ sym c.if-is_some.ensures))
+    c.in-Err.ensures.read
 
 pub arguments-loop-behind-init : goal.arguments-loop-behind-init
 arguments-loop-behind-init t c =
@@ -335,39 +339,43 @@ arguments-loop-behind-init t c =
     record {
       shorter = c.in-Ok.ensures.shorter;
       read = subst (λ vs. InRow (rows or) (behind_comma or) snoc c.args.tokens.now vs
-            c.in-Ok.found.1.now)
+          c.in-Ok.found.1.now)
           (sym (parts_first c.new-parts.result.items c.in-Ok.found.0 c.push.new.self.items
-            c.new-parts.ensures.items c.in_ok-push.ensures.items))
+          c.new-parts.ensures.items c.in_ok-push.ensures.items))
           (list_begins or (λ rest. refl) c.args.tokens.now _ _ c.in-Ok.ensures.read);
     }
 
 pub arguments-returns-in-Err-chain-clause-read : goal.arguments-returns-in-Err-chain-clause-read
 arguments-returns-in-Err-chain-clause-read t c =
     stuck_in (chain_at level.Or c.args.scope c.args.room) (arguments c.args.scope c.args.room)
-      part_of parts_of c.in-Some.behind.now c.args.tokens.now c.in-Err-chain.stuck
-      (λ none. none_in_arguments c.args.scope c.args.room c.args.tokens.now _ _ _ _
-        (sym (begins_where (of_kind kind.CloseParenthesis) c.args.tokens.now c.after.result
-          c.after.ensures.front) ∙ sym c.if-is_some.ensures)
-        c.loop-behind.invariant.read c.in-Some.ensures.front none)
-      c.in-Err-chain.ensures.read
+    part_of parts_of c.in-Some.behind.now c.args.tokens.now c.in-Err-chain.stuck
+    (λ none. none_in_arguments c.args.scope c.args.room c.args.tokens.now _ _ _ _
+    (sym (begins_where (of_kind kind.CloseParenthesis) c.args.tokens.now c.after.result
+    c.after.ensures.front) ∙ sym c.if-is_some.ensures)
+    c.loop-behind.invariant.read c.in-Some.ensures.front none)
+    c.in-Err-chain.ensures.read
 
 pub arguments-loop-behind-preserved : goal.arguments-loop-behind-preserved
 arguments-loop-behind-preserved t c =
     let or = chain_at level.Or c.args.scope c.args.room in
     record {
-      shorter = omega (arith, c.in-Some.ensures.shorter, c.in-Ok-chain.ensures.shorter,
-          c.loop-behind.invariant.shorter);
+      shorter = omega (
+        arith,
+        c.in-Some.ensures.shorter,
+        c.in-Ok-chain.ensures.shorter,
+        c.loop-behind.invariant.shorter,
+      );
       read = subst (λ vs. InRow (rows or) (behind_comma or) snoc c.args.tokens.now vs
-            c.in-Ok-chain.found.1.now)
+          c.in-Ok-chain.found.1.now)
           (sym (parts_more c.loop-behind.parts.items c.in-Ok-chain.found.0
-            c.push-in-Some.new.self.items c.in_ok-push-2.ensures.items))
+          c.push-in-Some.new.self.items c.in_ok-push-2.ensures.items))
           (list_goes_on or (λ rest. refl) c.args.tokens.now _ _ _ _ _ _
-            c.loop-behind.invariant.read c.in-Some.ensures.front c.in-Ok-chain.ensures.read);
+          c.loop-behind.invariant.read c.in-Some.ensures.front c.in-Ok-chain.ensures.read);
     }
 
 pub arguments-returns-clause-read : goal.arguments-returns-clause-read
 arguments-returns-clause-read t c =
     arguments_read c.args.scope c.args.room c.args.tokens.now _ _
-      (sym (begins_where (of_kind kind.CloseParenthesis) c.args.tokens.now c.after.result
-        c.after.ensures.front) ∙ sym c.if-is_some.ensures)
-      c.loop-behind.invariant.read c.in_default.ensures.front
+    (sym (begins_where (of_kind kind.CloseParenthesis) c.args.tokens.now c.after.result
+    c.after.ensures.front) ∙ sym c.if-is_some.ensures)
+    c.loop-behind.invariant.read c.in_default.ensures.front

@@ -39,13 +39,13 @@ pub loop-behind-init : goal.loop-behind-init
 loop-behind-init c = record {
   shorter = c.in-Ok.ensures.shorter;
   read = subst (λ vs. InRow (rows literal) (behind_comma literal) snoc c.args.tokens.now vs
-        c.in-Ok.found.1.now)
+      c.in-Ok.found.1.now)
       (sym (parts_first c.new-parts.result.items c.in-Ok.found.0 c.push.new.self.items
-        c.new-parts.ensures.items c.in_ok-push.ensures.items))
+      c.new-parts.ensures.items c.in_ok-push.ensures.items))
       (list_begins literal (λ rest. refl) c.args.tokens.now _ _ c.in-Ok.ensures.read);
 }
 
 pub returns-in-Err-clause-read : goal.returns-in-Err-clause-read
 returns-in-Err-clause-read c =
     stuck_in literal literals part_of parts_of c.args.tokens.now c.args.tokens.now c.in-Err.stuck
-      (no_list literal (λ rest. refl) c.args.tokens.now) c.in-Err.ensures.read
+    (no_list literal (λ rest. refl) c.args.tokens.now) c.in-Err.ensures.read
