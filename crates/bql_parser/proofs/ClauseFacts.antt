@@ -1,19 +1,18 @@
 -- What readers give of forms that are put together.
-use Rattle.std.proofs.Common.{◌≡◌, Bool, true, false, List, [], Option, Some, None, Result, Ok, Err}
-use Rattle.std.proofs.Common.{Bor, refl, sym, subst, ap, ◌∙◌, ◌∷◌, ◌++◌, ℕ, map, length, arith}
+use Rattle.std.proofs.Common.{◌≡◌, true, false, List, [], Option, Some, None, Result, Err}
+use Rattle.std.proofs.Common.{Bor, refl, ap, ◌∙◌, ◌∷◌, ◌++◌, ℕ, length, arith}
 use Rattle.std.specs.Prelude.{◌==◌}
 use Rattle.std.proofs.lemmas.List.{map-append}
 use Rattle.std.proofs.lemmas.Bool.Decides.{nat_tests}
-use Rattle.theory.specs.Form.{Form, Reads, HasNone, made, alone, snoc}
-use Rattle.theory.proofs.FormFacts.{reads_made}
+use Rattle.theory.specs.Form.{Form, Reads, alone, snoc}
 use Rattle.bql_lexer.specs.declared.kind.Kind.{Kind}
 use Rattle.bql_lexer.specs.declared.token.Token.{Token}
-use Rattle.bql_grammar.specs.Expression.{token, told, then, choice}
+use Rattle.bql_grammar.specs.Expression.{token, told, then}
 use Rattle.bql_grammar.specs.Front.{front, begins, of_kind}
 use Rattle.bql_grammar.specs.Gives.{Gives}
 use Rattle.bql_grammar.specs.declared.stuck.Stuck.{Stuck}
-use Rattle.bql_grammar.proofs.FormFacts.{IsFixed, reads_told, none_told, reads_then, none_then}
-use Rattle.bql_grammar.proofs.FormFacts.{none_then_first, reads_behind, none_behind, none_here}
+use Rattle.bql_grammar.proofs.FormFacts.{IsFixed, reads_told, reads_then, none_then}
+use Rattle.bql_grammar.proofs.FormFacts.{none_then_first, reads_behind, none_behind}
 use Rattle.bql_grammar.proofs.FormFacts.{reads_chosen, reads_other, none_chosen, none_other}
 use Rattle.bql_grammar.proofs.FormFacts.{present, absent}
 use Rattle.bql_grammar.proofs.ExpressionFacts.{gives_as, stuck_in}

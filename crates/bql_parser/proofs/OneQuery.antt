@@ -2,7 +2,7 @@
 use Rattle.std.proofs.Common.{◌≡◌, ℕ, ◌<◌, List, [], ◌∷◌, length, refl, sym, ap, ◌∙◌, subst, arith}
 use Rattle.theory.specs.Form.{Reads}
 use Rattle.bql_lexer.specs.Token.{behind_white, token_at}
-use Rattle.bql_lexer.specs.Tokens.{IsToken, TokensFrom, AreTokens}
+use Rattle.bql_lexer.specs.Tokens.{IsToken, TokensFrom}
 use Rattle.bql_lexer.specs.declared.found.Found.{Found}
 use Rattle.bql_lexer.specs.declared.kind.Kind.{Kind}
 use Rattle.bql_lexer.specs.declared.token.Token.{Token}

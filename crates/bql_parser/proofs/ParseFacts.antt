@@ -1,7 +1,7 @@
 -- What is found comes to.
 use Rattle.std.proofs.Common.{◌≡◌, ℕ, Bool, List, [], Option, Some, None, Result, Ok, Err, length}
 use Rattle.std.proofs.Common.{refl}
-use Rattle.std.proofs.Common.{sym, ap, ◌∙◌, inl, inr, subst}
+use Rattle.std.proofs.Common.{sym, ap, ◌∙◌, inl, inr}
 use Rattle.theory.specs.Form.{Reads, IsNone}
 use Rattle.bql_lexer.specs.Tokens.{AreTokens}
 use Rattle.bql_lexer.specs.declared.token.Token.{Token}
@@ -13,7 +13,7 @@ use Rattle.bql_grammar.specs.declared.stuck.Stuck.{Stuck}
 use Rattle.bql_grammar.specs.declared.stuck.Stuck.TheVariants.{OutOfMemory, At}
 use Rattle.bql_parser.specs.Answer.{query_of}
 use Rattle.bql_parser.specs.Grammar.{query}
-use Rattle.bql_parser.specs.Parse.{Parses, IsQuery, IsOutside, HasCause, Stops, is_cause, faulted}
+use Rattle.bql_parser.specs.Parse.{Parses, IsQuery, HasCause, Stops, is_cause, faulted}
 use Rattle.bql_parser.specs.Read.{Read}
 use Rattle.bql_parser.specs.Settled.{mapped, refused_at, byte_beyond, settled, answer}
 use Rattle.bql_parser.specs.Whole.{IsRead}

@@ -1,8 +1,7 @@
 -- What the structs of a query stand for.
-use Rattle.std.specs.Prelude.{ℕ, List, map, Option, Some, None, Result, Ok, Err, Box, Vec}
+use Rattle.std.specs.Prelude.{ℕ, List, map, Option, Some, None, Box, Vec}
 use Rattle.std.specs.declared.alloc.Global.{Global}
 use Rattle.bql_tree.specs.Tree.{Tree, tree_of}
-use Rattle.bql_tree.specs.declared.cause.Cause.{Cause}
 use Rattle.bql_tree.specs.declared.tree.Expr.{Expr}
 use Rattle.bql_parser.specs.Clause as clause
 use Rattle.bql_parser.specs.Clause.{selecting, journaling, balancing}

@@ -15,7 +15,7 @@ use Rattle.bql_tree.specs.declared.cause.CauseKind.TheVariants as causes
 use Rattle.bql_parser.specs.Answer.{query_of}
 use Rattle.bql_parser.specs.Grammar.{query}
 use Rattle.bql_parser.specs.Read.{Read}
-use Rattle.bql_parser.specs.Settled.{answer, refused_at, byte_beyond}
+use Rattle.bql_parser.specs.Settled.{answer}
 use Rattle.bql_parser.specs.declared.fault.QueryFault.{QueryFault}
 use Rattle.bql_parser.specs.declared.fault.QueryFault.TheVariants as fault
 use Rattle.bql_parser.specs.declared.query.Query.{Query}

@@ -14,7 +14,6 @@ use Rattle.bql_tree.specs.Tree.{Tree, node, leaf_of}
 use Rattle.bql_tree.specs.declared.cause.Cause.{Cause}
 use Rattle.bql_tree.specs.declared.part.Alone.{Alone}
 use Rattle.bql_tree.specs.declared.part.Alone.TheVariants.{No, Name, Number}
-use Rattle.bql_tree.specs.declared.tree.Leaf as leaves
 use Rattle.bql_tree.specs.declared.tree.Leaf.TheVariants as leaf
 use Rattle.bql_parser.specs.Clause as clause
 use Rattle.bql_parser.specs.Clause.{selecting, journaling, balancing}
