@@ -10,4 +10,4 @@ returns-in_ok-new-in-Ok c =
     ap (λ e. Ok (tree_of e)) c.in_ok-new-in-Ok.ensures.ok
     ∙ ap Ok (tree_of_call c.args.start c.args.function c.in-Ok.exprs)
     ∙ ap (rule.call_tree c.args.start c.args.function)
-      (ap trees_found (sym c.in-Ok.is) ∙ c.in_ok-exprs.ensures)
+    (ap trees_found (sym c.in-Ok.is) ∙ c.in_ok-exprs.ensures)
