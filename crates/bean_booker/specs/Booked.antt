@@ -6,7 +6,7 @@ use Rattle.bean_lots.specs.declared.reduction.Method as methods
 use Rattle.bean_pad.specs.Note.{noted_pads}
 use Rattle.bean_pad.specs.Padded.{faults_with}
 use Rattle.bean_booker.specs.Method.{method_of, otherwise, unknown_in}
-use Rattle.bean_booker.specs.Stand.{LeadsTo, Stand}
+use Rattle.bean_booker.specs.Stand.{IsFull, LeadsTo, Stand}
 use Rattle.bean_booker.specs.declared.booked.Booked as declared
 
 abbrev pub method_in_ledger : Loaded → List ℕ → methods.Method
@@ -28,3 +28,8 @@ pub record IsBooked (l : Loaded) (b : declared.Booked) : Type 0 where
   pub stand : Stand
   pub leads : LeadsTo (method_in_ledger l) (reverse l.directives) stand
   pub finished : IsFinished l stand b
+
+-- the transactions that are kept have more than a million postings
+abbrev pub HasTooMany : Loaded → Type 0
+HasTooMany l =
+    (st : Stand) → LeadsTo (method_in_ledger l) (reverse l.directives) st → IsFull st

@@ -18,6 +18,7 @@ pub record IsStanding (m : List ℕ → Method) (past : List (Placed Directive))
   pub methods : (a : List ℕ) → m a ≡ method_in b.methods a
   pub accounts : accounts.IsKept (account_steps past) b.accounts
   pub held : AreHeld (postings_of st.kept) b.holdings
+  pub count : additions_in b.holdings ≡ length (postings_of st.kept)
   pub follows : Follows st.steps b.padder
   pub kept_is : b.kept.items ≡ st.kept
   pub faults_are : b.faults.items ≡ st.faults

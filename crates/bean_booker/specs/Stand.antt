@@ -1,5 +1,5 @@
 -- What was booked so far.
-use Rattle.std.specs.Prelude.{ℕ, ◌≡◌, Bool, not, List, [], ◌∷◌, ◌++◌, map, reverse, slice_get}
+use Rattle.std.specs.Prelude.{◌<◌, ℕ, ◌≡◌, Bool, not, List, [], ◌∷◌, ◌++◌, map, reverse, slice_get}
 use Rattle.std.specs.Prelude.{Option}
 use Rattle.std.specs.Prelude.{Some, None, Result, Ok, Err, length}
 use Rattle.std.specs.List.{flat_map}
@@ -165,3 +165,7 @@ abbrev pub LeadsTo : (List ℕ → Method) → List (Placed Directive) → Stand
 LeadsTo m [] new = new ≡ start
 LeadsTo m (d ∷ past) new =
     (st : Stand) × LeadsTo m past st × IsStepBy m past st d d.item.kind new
+
+-- there are more than a million booked postings
+abbrev pub IsFull : Stand → Type 0
+IsFull st = 1000000 < length (postings_of st.kept)

@@ -1,10 +1,10 @@
 //! What a ledger is booked as.
-ghost use Rattle.std.specs.Prelude.{◌≡◌, ◌≤◌, ◌^◌, ◌++◌, ℕ, IfOk, length, reverse};
+ghost use Rattle.std.specs.Prelude.{◌≡◌, ◌≢◌, ◌≤◌, ◌^◌, ◌++◌, ℕ, IfOk, length, reverse};
 ghost use Rattle.std.specs.Prelude as prelude;
-ghost use Rattle.bean_booker.specs.Booked.{IsBooked, IsFinished};
+ghost use Rattle.bean_booker.specs.Booked.{HasTooMany, IsBooked, IsFinished};
 ghost use Rattle.bean_booker.specs.Booker.{HasRoom, IsStanding};
 ghost use Rattle.bean_booker.specs.Method.{unknown_in};
-ghost use Rattle.bean_booker.specs.Stand.{LeadsTo, Stand};
+ghost use Rattle.bean_booker.specs.Stand.{IsFull, LeadsTo, Stand};
 ghost use Rattle.bean_heads.specs.declared.directive.Directive as declared;
 ghost use Rattle.bean_load.specs.declared.placed.Placed as placed;
 ghost use Rattle.bean_lots.specs.declared.reduction.Method.{Method};
@@ -46,6 +46,10 @@ fn take_all<'a>(
         → (st : Stand) × LeadsTo m (reverse directives.now) st
         × IsStanding m (reverse directives.now) st booker) }
     ensures room { IfOk result (λ booker. HasRoom (length directives.now) booker) }
+    ensures full { result ≡ prelude.Err BookFault.TooManyPostings
+        → (m : prelude.List ℕ → Method)
+        → ((a : prelude.List ℕ) → m a ≡ method_in methods.entry a) → (st : Stand)
+        → LeadsTo m (reverse directives.now) st → IsFull st }
 {
     let mut booker = Booker::new(alloc, methods);
     for number in 0..directives.len() {
@@ -82,9 +86,11 @@ fn finish<'a>(
     booker: Booker<'a>,
 ) -> Result<Booked<'a>, BookFault>
     requires room { HasRoom (2 ^ 39) booker }
-    ensures { (m : prelude.List ℕ → Method) (past : prelude.List (placed.Placed declared.Directive))
-        (st : Stand) → IsStanding m past st booker.entry
+    ensures booked { (m : prelude.List ℕ → Method)
+        (past : prelude.List (placed.Placed declared.Directive)) (st : Stand)
+        → IsStanding m past st booker.entry
         → IfOk result (IsFinished loaded.now st) }
+    ensures full { result ≢ prelude.Err BookFault.TooManyPostings }
 {
     let padded = booker.padder.finish()?;
     let faults = faults_of(alloc, loaded, &booker.faults, padded.faults.as_slice())?;
@@ -97,7 +103,8 @@ fn finish<'a>(
 
 /// What the directives of a loaded ledger are booked as.
 pub fn book_directives<'a>(alloc: Global, loaded: &Loaded<'a>) -> Result<Booked<'a>, BookFault>
-    ensures { IfOk result (IsBooked loaded.now) }
+    ensures booked { IfOk result (IsBooked loaded.now) }
+    ensures full { result ≡ prelude.Err BookFault.TooManyPostings → HasTooMany loaded.now }
 {
     let directives = loaded.directives();
     if directives.len() > MOST_DIRECTIVES {

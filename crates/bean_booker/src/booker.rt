@@ -1,10 +1,11 @@
 //! One directive after the other.
-ghost use Rattle.std.specs.Prelude.{◌≡◌, ◌≤◌, ◌+◌, ◌^◌, ◌∷◌, [], ℕ, OnOk, Ok, Result, length};
+ghost use Rattle.std.specs.Prelude.{◌≡◌, ◌≢◌, ◌<◌, ◌≤◌, ◌+◌, ◌^◌, ◌∷◌, [], ℕ, OnOk, Ok, length};
 ghost use Rattle.std.specs.Prelude as prelude;
 ghost use Rattle.std.specs.List.{AllByRecursion};
 ghost use Rattle.bean_booker.specs.Booker.{HasRoom, IsStanding, Stands};
 ghost use Rattle.bean_booker.specs.Stand.{IsStepBy, Stand, after_trial, place_of, setting_of};
-ghost use Rattle.bean_booker.specs.Stand.{start};
+ghost use Rattle.bean_booker.specs.Stand.{IsFull, start};
+ghost use Rattle.bean_trial.specs.Holdings.{additions_in};
 ghost use Rattle.bean_heads.specs.declared.directive.Directive.{Directive};
 ghost use Rattle.bean_interp.specs.Residual.{IsLight};
 ghost use Rattle.bean_load.specs.declared.placed.Placed as placed;
@@ -111,6 +112,8 @@ impl<'a> Booker<'a> {
             → OnOk result (IsStanding m past
             (after_trial past st d postings.now (Ok posted.entry)) self.new) }
         ensures room { OnOk result (HasRoom number self.new) }
+        ensures full { result ≡ prelude.Err BookFault.TooManyPostings
+            → 1000000 < additions_in self.old.holdings + length posted.entry }
     {
         let booked = posted.as_slice();
         if booked.len() > MOST_POSTINGS - self.holdings.additions() {
@@ -150,6 +153,7 @@ impl<'a> Booker<'a> {
             → OnOk result (IsStanding m past (after_trial past st d ps (prelude.Err fault))
             self.new) }
         ensures room { OnOk result (HasRoom number self.new) }
+        ensures full { result ≢ prelude.Err BookFault.TooManyPostings }
     {
         self.faults.push(Fault {
             kind: fault.kind,
@@ -176,6 +180,12 @@ impl<'a> Booker<'a> {
             × Tries (setting_of m st directive.now) postings.now r
             × IsStanding m past (after_trial past st directive.now postings.now r) self.new) }
         ensures room { OnOk result (HasRoom number self.new) }
+        ensures full { result ≡ prelude.Err BookFault.TooManyPostings
+            → (m : prelude.List ℕ → Method) (past : prelude.List (placed.Placed Directive))
+            (st : Stand) → IsStanding m past st self.old
+            → (r : prelude.Result (prelude.List Posted) trials.LineFault)
+            → Tries (setting_of m st directive.now) postings.now r
+            → IsFull (after_trial past st directive.now postings.now r) }
     {
         let at = place_of(directive);
         let head = Head {
@@ -212,6 +222,10 @@ impl<'a> Booker<'a> {
             × IsStepBy m past st directive.now directive.now.item.kind new
             × IsStanding m (directive.now ∷ past) new self.new) }
         ensures room { OnOk result (HasRoom (number + 1) self.new) }
+        ensures full { result ≡ prelude.Err BookFault.TooManyPostings
+            → (m : prelude.List ℕ → Method) (past : prelude.List (placed.Placed Directive))
+            (st : Stand) → IsStanding m past st self.old → (new : Stand)
+            → IsStepBy m past st directive.now directive.now.item.kind new → IsFull new }
     {
         let at = place_of(directive);
         match &directive.item.kind {

@@ -6,8 +6,8 @@ use Rattle.bean_booker.specs.Method as spec
 use Rattle.bean_booker.specs.Stand.{LeadsTo}
 use Rattle.bean_booker.proofs.booked.book_directives.Goals as goal
 
-pub returns-in-Ok : goal.returns-in-Ok
-returns-in-Ok c =
+pub returns-in-Ok-clause-booked : goal.returns-in-Ok-clause-booked
+returns-in-Ok-clause-booked c =
     let l = c.args.loaded.now in
     let m = method_in_ledger l in
     let ds = c.directives-directives.ensures in
@@ -20,4 +20,4 @@ returns-in-Ok c =
       stand = led.0;
       leads = subst (λ ds. LeadsTo m (reverse ds) led.0) ds led.1;
       finished = finished;
-    }) (c.finish.ensures m (reverse c.directives-directives.result.now) led.0 led.2)
+    }) (c.finish.ensures.booked m (reverse c.directives-directives.result.now) led.0 led.2)

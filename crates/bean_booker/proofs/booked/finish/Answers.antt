@@ -2,8 +2,8 @@ use Rattle.std.proofs.Common.{◌≡◌, ◌++◌, ◌∙◌, ap, refl}
 use Rattle.bean_booker.specs.Method.{unknown_in}
 use Rattle.bean_booker.proofs.booked.finish.Goals as goal
 
-pub returns : goal.returns
-returns c = λ m past st is.
+pub returns-clause-booked : goal.returns-clause-booked
+returns-clause-booked c = λ m past st is.
     let padded = c.in_ok-padded.ensures st.steps is.follows in
     let own = c.deref.ensures.value ∙ is.faults_are in
     let pads = c.as_slice.ensures ∙ padded.faults in

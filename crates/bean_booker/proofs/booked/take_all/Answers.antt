@@ -1,7 +1,8 @@
-use Rattle.std.proofs.Common.{◌≡◌, ◌∷◌, ℕ, List, reverse, take, arith, refl, sym, subst}
+use Rattle.std.proofs.Common.{◌≡◌, ℕ, List, Err, reverse, take, ap, arith, refl, sym, subst}
 use Rattle.std.proofs.lemmas.List.{take_all}
 use Rattle.bean_trial.proofs.LinedFacts.{before_length, latest}
 use Rattle.bean_trial.specs.Methods.{method_in}
+use Rattle.bean_booker.proofs.FullFacts.{fault_of, full_for_good}
 use Rattle.bean_booker.specs.Booker.{IsStanding}
 use Rattle.bean_booker.specs.Stand.{LeadsTo, Stand, start}
 use Rattle.bean_booker.proofs.booked.take_all.Goals as goal
@@ -52,3 +53,13 @@ loop-number-init c = record {
   room = c.new-booker.ensures.room;
   leads = λ m methods. (start, refl, c.new-booker.ensures.standing m methods);
 }
+
+pub returns-in-Err-clause-full : goal.returns-in-Err-clause-full
+returns-in-Err-clause-full c = λ is_full m methods st all.
+    let ds = c.args.directives.now in
+    let i = c.loop-number.number in
+    let led = c.loop-number.invariant.leads m methods in
+    let full =
+    c.in-Err.ensures.full (ap Err (ap fault_of is_full)) m (reverse (take i ds)) led.0 led.2 in
+    full_for_good m ds i c.index-directives-number.result led.0 st (omega arith)
+    c.index-directives-number.is led.1 full all

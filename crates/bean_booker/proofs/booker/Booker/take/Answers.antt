@@ -45,6 +45,7 @@ returns-in_ok-take_open-in-Open-clause-standing c = λ m past st is count.
             subst (λ k. IsKept (account_step k ++ steps) c.take_open.new.accounts)
             (sym c.in-Open.is) (done.kept steps is.accounts);
         held = is.held;
+        count = is.count;
         follows = is.follows;
         kept_is = is.kept_is;
         faults_are =
@@ -70,6 +71,7 @@ returns-in_ok-take_close-in-Close-clause-standing c = λ m past st is count.
             subst (λ k. IsKept (account_step k ++ steps) c.take_close.new.accounts)
             (sym c.in-Close.is) (done.kept steps is.accounts);
         held = is.held;
+        count = is.count;
         follows = is.follows;
         kept_is = is.kept_is;
         faults_are =
@@ -97,6 +99,7 @@ returns-in_ok-take_pad-in-Pad-clause-standing c = λ m past st is count.
             subst (λ k. IsKept (account_step k ++ steps) c.args.self.now.accounts)
             (sym c.in-Pad.is) is.accounts;
         held = is.held;
+        count = is.count;
         follows =
             subst (λ at. Follows (step.Pad (pad_at d.item.day at p) ∷ st.steps)
             c.take_pad.new.padder) at (done.follows st.steps is.follows);
@@ -128,6 +131,7 @@ returns-in_ok-take_balance-in-Balance-clause-standing c = λ m past st is count.
             subst (λ k. IsKept (account_step k ++ steps) c.args.self.now.accounts)
             (sym c.in-Balance.is) is.accounts;
         held = is.held;
+        count = is.count;
         follows =
             subst (λ at. Follows (step.Balance (balance_at at b cost) ∷ st.steps)
             c.take_balance.new.padder) at

@@ -1,10 +1,11 @@
-use Rattle.std.proofs.Common.{◌≡◌, Ok, Err, subst}
+use Rattle.std.proofs.Common.{◌≡◌, ◌+◌, ◌<◌, Ok, Err, length, subst}
 use Rattle.std.proofs.lemmas.Result.{on_ok_weaker}
 use Rattle.bean_trial.proofs.LightFacts.{kept_light}
 use Rattle.bean_trial.specs.Outcome.{StopsAt}
 use Rattle.bean_trial.specs.Tried.{Tries}
 use Rattle.bean_booker.specs.Stand.{setting_of}
 use Rattle.bean_booker.proofs.TakeFacts.{reweighed, settled}
+use Rattle.bean_booker.proofs.FullFacts.{full_kept}
 use Rattle.bean_booker.proofs.booker.Booker.transaction.Goals as goal
 
 pub keep-requires-clause-light : goal.keep-requires-clause-light
@@ -38,3 +39,13 @@ returns-in-Err-Fault-clause-standing c = λ m past st is count.
     on_ok_weaker c.drop_with.result (λ standing. (Err c.in-Err-Fault.fault, tries, standing))
     (c.drop_with.ensures.standing m past st d ps (reweighed m past st c.args.self.now _ is)
     c.place_of-at.ensures)
+
+pub returns-in-Ok-clause-full : goal.returns-in-Ok-clause-full
+returns-in-Ok-clause-full c = λ is_full m past st is r tries.
+    let d = c.args.directive.now in
+    let ps = c.args.postings.now in
+    let own =
+    c.in-Ok.ensures (setting_of m st d)
+    (settled m past st d c.args.self.now c.place_of-at.result is c.place_of-at.ensures) in
+    full_kept m past st d ps c.in-Ok.posted r own tries
+    (subst (λ n. 1000000 < n + length c.in-Ok.posted) is.count (c.keep.ensures.full is_full))
