@@ -1,8 +1,7 @@
 -- One more of a list that is gone through.
-use Rattle.std.proofs.Common.{◌≡◌, ℕ, suc, ◌+◌, ◌-◌, ◌<◌, List, [], ◌∷◌, ◌++◌, append_assoc, length}
+use Rattle.std.proofs.Common.{◌≡◌, ℕ, suc, ◌+◌, ◌<◌, List, [], ◌∷◌, ◌++◌, append_assoc, length}
 use Rattle.std.proofs.Common.{get_or}
-use Rattle.std.proofs.Common.{take, drop, map, reverse, fold, refl, sym, ap, ◌∙◌, add-one, arith}
-use Rattle.std.proofs.Common.{subst}
+use Rattle.std.proofs.Common.{take, drop, map, reverse, fold, sym, ap, ◌∙◌, add-one}
 use Rattle.std.proofs.Math.Seq.{take-suc, drop-cons}
 use Rattle.std.proofs.lemmas.Grind.{flat_map-append}
 use Rattle.std.proofs.lemmas.List.{append-nil, map-append, reverse-append}

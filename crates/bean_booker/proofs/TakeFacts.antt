@@ -1,8 +1,6 @@
 -- One more directive.
-use Rattle.std.proofs.Common.{◌≡◌, ◌⊎◌, ℕ, ◌+◌, ◌<◌, List, [], ◌∷◌, ◌++◌, append_assoc, length}
-use Rattle.std.proofs.Common.{get_or, take}
-use Rattle.std.proofs.Common.{reverse, refl, sym, ap, ◌∙◌, subst}
-use Rattle.bean_accounts.specs.Faults.{faults_at, of_close, of_open, of_use}
+use Rattle.std.proofs.Common.{◌≡◌, ℕ, List, [], ◌∷◌, ◌++◌}
+use Rattle.std.proofs.Common.{refl, sym, ap, ◌∙◌, subst}
 use Rattle.bean_accounts.specs.Kept.{IsKept}
 use Rattle.bean_accounts.specs.declared.accounts.Place.{Place}
 use Rattle.bean_heads.specs.declared.accounts.Close as closes
@@ -17,9 +15,8 @@ use Rattle.bean_interp.specs.declared.scales.Scales.{Scales}
 use Rattle.bean_load.specs.declared.placed.Placed.{Placed}
 use Rattle.bean_lots.specs.declared.reduction.Method.{Method}
 use Rattle.bean_trial.specs.Lines.{IsSettled}
-use Rattle.bean_trial.specs.declared.setting.Head.{Head}
 use Rattle.bean_booker.specs.Booker.{IsStanding}
-use Rattle.bean_booker.specs.Stand.{IsStepBy, LeadsTo, Stand, account_step, account_steps, place_of}
+use Rattle.bean_booker.specs.Stand.{IsStepBy, Stand, account_step, account_steps, place_of}
 use Rattle.bean_booker.specs.Stand.{setting_of}
 use Rattle.bean_booker.specs.declared.booker.Booker.{Booker}
 

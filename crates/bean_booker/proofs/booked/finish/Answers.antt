@@ -1,4 +1,4 @@
-use Rattle.std.proofs.Common.{◌≡◌, ◌++◌, ◌∙◌, ap, refl}
+use Rattle.std.proofs.Common.{◌++◌, ◌∙◌}
 use Rattle.bean_booker.specs.Method.{unknown_in}
 use Rattle.bean_booker.proofs.booked.finish.Goals as goal
 

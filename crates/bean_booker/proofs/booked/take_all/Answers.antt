@@ -1,4 +1,4 @@
-use Rattle.std.proofs.Common.{◌≡◌, ℕ, List, Err, reverse, take, ap, arith, refl, sym, subst}
+use Rattle.std.proofs.Common.{Err, reverse, take, ap, arith, refl, sym, subst}
 use Rattle.std.proofs.lemmas.List.{take_all}
 use Rattle.bean_trial.proofs.LinedFacts.{before_length, latest}
 use Rattle.bean_trial.specs.Methods.{method_in}

@@ -1,4 +1,4 @@
-use Rattle.std.proofs.Common.{◌≡◌, ◌+◌, drop, fold, arith, ap, sym, ◌∙◌}
+use Rattle.std.proofs.Common.{◌+◌, drop, fold, arith, ap, sym, ◌∙◌}
 use Rattle.std.proofs.lemmas.List.{drop_all}
 use Rattle.bean_booker.specs.Method as spec
 use Rattle.bean_booker.proofs.StepFacts.{folded}

@@ -1,4 +1,4 @@
-use Rattle.std.proofs.Common.{◌≡◌, ◌+◌, ◌++◌, ◌∷◌, map, reverse, take, arith, ap, sym, subst}
+use Rattle.std.proofs.Common.{◌++◌, map, reverse, take, arith, sym, subst}
 use Rattle.bean_booker.specs.Stand as spec
 use Rattle.bean_pad.specs.Following.{Follows}
 use Rattle.bean_booker.proofs.StepFacts.{flat_more, latest_mapped}

@@ -1,4 +1,4 @@
-use Rattle.std.proofs.Common.{◌≡◌, ◌++◌, ◌∷◌, append_assoc, ap, sym, ◌∙◌, refl, subst}
+use Rattle.std.proofs.Common.{◌++◌, ◌∷◌, append_assoc, ap, sym, ◌∙◌, refl, subst}
 use Rattle.std.proofs.lemmas.Result.{on_ok_weaker}
 use Rattle.bean_accounts.specs.Faults.{faults_at, of_close, of_open, of_use}
 use Rattle.bean_accounts.specs.Kept.{IsKept}
@@ -11,7 +11,7 @@ use Rattle.bean_trial.specs.Tried.{Tries}
 use Rattle.bean_booker.specs.Stand.{IsStepBy, account_step, account_steps, after_trial, balance_at}
 use Rattle.bean_booker.specs.Stand.{pad_at, place_of, postings_of, setting_of, with_faults}
 use Rattle.bean_booker.specs.Stand.{with_step}
-use Rattle.bean_booker.proofs.TakeFacts.{later, stepped, other}
+use Rattle.bean_booker.proofs.TakeFacts.{stepped}
 use Rattle.bean_booker.proofs.booker.Booker.take.Goals as goal
 
 pub returns-in-Transaction-clause-standing : goal.returns-in-Transaction-clause-standing

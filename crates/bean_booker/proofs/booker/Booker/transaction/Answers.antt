@@ -1,4 +1,4 @@
-use Rattle.std.proofs.Common.{◌≡◌, ◌+◌, ◌<◌, Ok, Err, length, subst}
+use Rattle.std.proofs.Common.{◌+◌, ◌<◌, Ok, Err, length, subst}
 use Rattle.std.proofs.lemmas.Result.{on_ok_weaker}
 use Rattle.bean_trial.proofs.LightFacts.{kept_light}
 use Rattle.bean_trial.specs.Outcome.{StopsAt}
