@@ -52,9 +52,9 @@
 //! # Cost
 //!
 //! A look-up in the account for each posting, and for each one in braces what a reduction costs in
-//! [`bean_lots`]. A posting that lacks something looks through all that is filled in. [`Holdings`] keep an inventory for each account, and count their additions: each
-//! sum is at most `10^20` times that count, which is below `2^40`. No contract shows how they are
-//! kept.
+//! [`bean_lots`]. A posting that lacks something looks through all that is filled in. [`Holdings`]
+//! keep an inventory for each account, and count their additions: each sum is at most `10^20` times
+//! that count, which is below `2^40`. No contract shows how they are kept.
 #![tactic(auto)]
 
 mod completed;
