@@ -7,12 +7,11 @@ use Rattle.std.specs.Ordering.{int_eq}
 use Rattle.std.specs.Str.{bytes_eq}
 use Rattle.std.proofs.lemmas.Slice.Eq.{bytes_eq-Decides}
 use Rattle.std.proofs.lemmas.Int.{ints}
-use Rattle.bean_lots.specs.Inventory.{added, count_of, held_as}
+use Rattle.bean_lots.specs.Inventory.{added, held_as}
 use Rattle.bean_lots.specs.Lot.{same_key}
 use Rattle.bean_lots.specs.declared.lot.Key.{Key}
 use Rattle.bean_lots.specs.declared.lot.Position.{Position}
 use Rattle.bean_lots.specs.After.{AreSmall}
-use Rattle.bean_lots.proofs.AfterFacts.{count_small}
 use Rattle.bean_trial.specs.Holdings.{IsBounded, holding}
 use Rattle.bean_trial.specs.declared.holdings.Holdings.{Holdings}
 

@@ -6,7 +6,6 @@ use Rattle.bean_base.proofs.WorkedDays.{january_2, january_3, january_2_number}
 use Rattle.bean_base.specs.Decimal.{IsLedger}
 use Rattle.bean_base.specs.declared.amounts.Amount.{Amount}
 use Rattle.bean_base.specs.declared.days.Day.{Day}
-use Rattle.bean_base.specs.declared.num.Num.{Num}
 use Rattle.bean_interp.specs.declared.fill.Fill.{Fill}
 use Rattle.bean_lots.specs.declared.lot.Cost.{Cost}
 use Rattle.bean_lots.specs.declared.lot.Lot.{Lot}

@@ -5,7 +5,7 @@ use mathlib.Core.HLevel.{is_prop→PathP}
 use Rattle.bean_base.specs.declared.num.Num.{Num}
 use Rattle.bean_grammar.specs.declared.price.Price.{Price}
 use Rattle.bean_interp.specs.declared.leg.Whole.{Whole}
-use Rattle.bean_trial.specs.Tried.{decimals_of, few_decimals, whole_of, worth_of}
+use Rattle.bean_trial.specs.Tried.{decimals_of, whole_of, worth_of}
 use Rattle.bean_trial.specs.declared.line.Posted.{Posted}
 
 one_whole : (a b : Whole) → a.units ≡ b.units → a.decimals ≡ b.decimals → a.worth ≡ b.worth → a ≡ b

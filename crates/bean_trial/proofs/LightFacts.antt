@@ -1,7 +1,7 @@
 -- What a kept transaction is booked as is light, and so in range where it isn't very long.
-use Rattle.std.proofs.Common.{◌≡◌, ℕ, suc, zero, ◌+◌, ◌*◌, ◌^◌, ◌<◌, ◌≤◌, ◌==◌, ℤ, pos, ◌+ℤ◌, Bool}
+use Rattle.std.proofs.Common.{◌≡◌, ℕ, suc, zero, ◌+◌, ◌*◌, ◌^◌, ◌<◌, ◌≤◌, ◌==◌, ℤ, ◌+ℤ◌, Bool}
 use Rattle.std.proofs.Common.{true, false, cond, not, ◌&&◌, ◌||◌, List, [], ◌∷◌, ◌++◌, append_assoc}
-use Rattle.std.proofs.Common.{length, map, filter, take, reverse, get_or, slice_get, Option, Some}
+use Rattle.std.proofs.Common.{length, map, filter, take, reverse, slice_get, Option, Some}
 use Rattle.std.proofs.Common.{None}
 use Rattle.std.proofs.Common.{Result, Ok, Err, refl, sym, ap, ◌∙◌, subst, arith}
 use Rattle.std.proofs.Math.Seq.{get_or-append_seam}
@@ -9,7 +9,7 @@ use Rattle.std.proofs.lemmas.Int.{ints}
 use Rattle.std.proofs.lemmas.List.{append-nil, length-append, length-reverse, reverse-append}
 use Rattle.std.proofs.lemmas.Option.{slice_get-get_or}
 use Rattle.std.specs.Int.RustNames.{unsigned_abs}
-use Rattle.std.specs.List.{AllByRecursion, list_any}
+use Rattle.std.specs.List.{AllByRecursion}
 use Rattle.std.specs.Str.{bytes_eq}
 use Rattle.bean_base.specs.declared.amounts.Amount as amounts
 use Rattle.bean_grammar.specs.Posting.{has_number, is_left_out, is_number_alone, is_outside_profile}
@@ -23,7 +23,7 @@ use Rattle.bean_grammar.specs.declared.posting.Units.TheVariants.{NumberAlone}
 use Rattle.bean_grammar.specs.declared.price.Price.{Price}
 use Rattle.bean_grammar.specs.declared.price.Price.TheVariants as price_kind
 use Rattle.bean_interp.proofs.DueFacts.{number_lt}
-use Rattle.bean_interp.specs.Residual.{AreInRange, IsLight, residual, sum_in, weighed}
+use Rattle.bean_interp.specs.Residual.{AreInRange, IsLight, sum_in, weighed}
 use Rattle.bean_interp.specs.Weight.{currency_of, weight_of}
 use Rattle.bean_interp.specs.declared.fill.Fill.{Fill}
 use Rattle.bean_interp.specs.declared.leg.Leg.{Leg}
@@ -35,8 +35,8 @@ use Rattle.bean_lots.specs.declared.reduction.Method.{Method}
 use Rattle.bean_trial.specs.Held.{at_8, left}
 use Rattle.bean_trial.specs.Lined.{AreLined, AreTakeLines, IsAugmented, IsLinedByCost}
 use Rattle.bean_trial.specs.Lined.{IsLinedByUnits}
-use Rattle.bean_trial.specs.Lined.{IsNext, Setting, is_reduction}
-use Rattle.bean_trial.specs.Tried.{IsKept, Tries, booked_leg, booked_legs, filled_at, filled_in}
+use Rattle.bean_trial.specs.Lined.{Setting, is_reduction}
+use Rattle.bean_trial.specs.Tried.{Tries, booked_leg, booked_legs, filled_at, filled_in}
 use Rattle.bean_trial.specs.Tried.{is_outside, leg_of, legs_of, posts_at, posts_from, whole_at}
 use Rattle.bean_trial.specs.Tried.{whole_of}
 use Rattle.bean_trial.specs.Tried.{number_in}

@@ -12,7 +12,7 @@ use Rattle.bean_grammar.specs.declared.posting.Posting.{Posting}
 use Rattle.bean_lots.specs.After.{after}
 use Rattle.bean_lots.specs.declared.lot.Position.{Position}
 use Rattle.bean_lots.specs.declared.reduction.Method.{Method}
-use Rattle.bean_trial.specs.Held.{held, left, takes_in}
+use Rattle.bean_trial.specs.Held.{held, left}
 use Rattle.bean_trial.specs.Holdings.{holding}
 use Rattle.bean_trial.specs.Lined.{AreLined, IsFirstFault, IsLinedByUnits, IsNext, Setting}
 use Rattle.bean_trial.specs.Lines.{IsKeeping, IsSettled}
@@ -24,7 +24,6 @@ use Rattle.bean_trial.specs.declared.lines.Lines.{Lines}
 use Rattle.bean_trial.specs.declared.methods.Methods.{Methods}
 use Rattle.bean_trial.specs.declared.outcome.Outcome.{Outcome}
 use Rattle.bean_trial.specs.declared.setting.Head.{Head}
-use Rattle.bean_trial.specs.declared.stop.LineFault.{LineFault}
 use Rattle.bean_trial.specs.declared.stop.Stop.{Stop}
 use Rattle.bean_trial.specs.declared.stop.Stop.TheVariants as stop
 

@@ -1,6 +1,6 @@
 -- One thing is filled in.
-use Rattle.std.proofs.Common.{◌≡◌, ℕ, suc, ◌+◌, ◌-◌, ◌*◌, ◌/◌, ◌^◌, ◌<◌, ◌≤◌, ℤ, pos, negsuc, neg_ℤ}
-use Rattle.std.proofs.Common.{◌*ℤ◌, Bool, true, false, List, [], ◌∷◌, map, Result, Ok, Err, refl}
+use Rattle.std.proofs.Common.{◌≡◌, ℕ, suc, ◌-◌, ◌*◌, ◌/◌, ◌^◌, ◌<◌, ℤ, pos, negsuc, neg_ℤ}
+use Rattle.std.proofs.Common.{◌*ℤ◌, List, [], ◌∷◌, map, refl}
 use Rattle.std.proofs.Common.{sym, ap}
 use Rattle.std.proofs.Common.{◌∙◌, subst, arith}
 use Rattle.std.specs.Int.RustNames.{unsigned_abs}
@@ -11,7 +11,7 @@ use Rattle.std.proofs.lemmas.Int.{ints}
 use Rattle.bean_base.proofs.NumFacts.{one_num}
 use Rattle.bean_base.proofs.PowerFacts.{pow_pos}
 use Rattle.bean_base.specs.declared.num.Num.{Num}
-use Rattle.bean_interp.specs.Completion.{AreFills, CanBeFilled, Fills, gap_of, gaps}
+use Rattle.bean_interp.specs.Completion.{AreFills, CanBeFilled, Fills, gap_of}
 use Rattle.bean_interp.specs.Due.{IsAt}
 use Rattle.bean_interp.specs.declared.fill.Fill.{Fill}
 use Rattle.bean_interp.specs.declared.leg.Leg.{Leg}

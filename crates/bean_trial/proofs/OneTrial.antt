@@ -1,5 +1,5 @@
 -- One thing comes of a transaction.
-use Rattle.std.proofs.Common.{◌≡◌, ◌⊎◌, inl, inr, ℕ, Bool, true, false, List, [], ◌∷◌, ◌++◌, length}
+use Rattle.std.proofs.Common.{◌≡◌, ◌⊎◌, inl, inr, ℕ, List, [], ◌∷◌, ◌++◌, length}
 use Rattle.std.proofs.Common.{append_assoc, reverse, Result, Ok, Err, refl, sym, ap, ◌∙◌, subst}
 use Rattle.std.proofs.lemmas.List.{reverse-append}
 use Rattle.bean_grammar.specs.declared.posting.Posting.{Posting}
@@ -9,7 +9,7 @@ use Rattle.bean_interp.specs.declared.fill.Fill.{Fill}
 use Rattle.bean_interp.specs.declared.leg.Leg.{Leg}
 use Rattle.bean_trial.specs.Held.{left}
 use Rattle.bean_trial.specs.Lined.{AreLined, IsFirstFault, IsNext, Setting}
-use Rattle.bean_trial.specs.Tried.{IsCompleted, IsIncomplete, IsKept, LacksOrIsWide, Tries}
+use Rattle.bean_trial.specs.Tried.{IsCompleted, IsIncomplete, LacksOrIsWide, Tries}
 use Rattle.bean_trial.specs.Tried.{completed}
 use Rattle.bean_trial.specs.Tried.{is_outside, legs_of}
 use Rattle.bean_trial.specs.declared.line.Line.{Line}

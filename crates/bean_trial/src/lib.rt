@@ -46,14 +46,15 @@
 //! - `F11`, where too much is lacking to be filled in,
 //! - `F17`, where a weight, a sum of weights or what is filled in is too wide.
 //!
-//! One thing comes of a transaction: its postings or its fault, by a law of this crate.
+//! One thing comes of a transaction: its postings or its fault, by a law of this crate. Whether one
+//! that is kept balances is told by [`balances`].
 //!
 //! # Cost
 //!
 //! A look-up in the account for each posting, and for each one in braces what a reduction costs in
-//! [`bean_lots`]. [`Holdings`] keep an inventory for each account, and count their additions: each
-//! sum is at most `10^20` times that count, which is below `2^40`. No contract shows how they are
-//! kept.
+//! [`bean_lots`]. A posting that lacks something looks through all that is filled in. [`Holdings`]
+//! keep an inventory for each account, and count their additions: each sum is at most `10^20` times
+//! that count, which is below `2^40`. No contract shows how they are kept.
 #![tactic(auto)]
 
 mod completed;

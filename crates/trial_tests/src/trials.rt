@@ -122,9 +122,11 @@ const TEXTS: [(&str, &str); 12] = [
     ),
     (
         "2014-01-02 * \"Buy\"\n  Assets:B  5 X {1 USD}\n  Assets:C  -5 USD\n\
-        2014-01-03 * \"Turned\"\n  Assets:B  -5 X {}\n  Assets:B  -2 X {3 USD}\n  Assets:C  11 USD\n",
+        2014-01-03 * \"Turned\"\n  Assets:B  -5 X {}\n  Assets:B  -2 X {3 USD}\n\
+        \x20 Assets:C  11 USD\n",
         "Assets:B 5/0 X {100000000 USD}; Assets:C -5/0 USD; \
-        Assets:B -500000000/8 X {100000000 USD}; Assets:B -2/0 X {300000000 USD}; Assets:C 11/0 USD; ",
+        Assets:B -500000000/8 X {100000000 USD}; Assets:B -2/0 X {300000000 USD}; \
+        Assets:C 11/0 USD; ",
     ),
 ];
 

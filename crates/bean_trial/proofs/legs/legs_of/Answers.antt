@@ -1,4 +1,4 @@
-use Rattle.std.proofs.Common.{arith, ap, sym, ◌∙◌, ◌++◌, ◌∷◌, [], map, take}
+use Rattle.std.proofs.Common.{arith, sym, ◌∙◌, ◌++◌, ◌∷◌, []}
 use Rattle.bean_trial.specs.Tried as spec
 use Rattle.bean_trial.proofs.OutcomeFacts.{mapped_more}
 use Rattle.bean_trial.proofs.legs.legs_of.Goals as goal

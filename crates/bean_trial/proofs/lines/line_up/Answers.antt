@@ -1,4 +1,4 @@
-use Rattle.std.proofs.Common.{◌≡◌, reverse, take, arith, subst, Err}
+use Rattle.std.proofs.Common.{reverse, arith, subst}
 use Rattle.std.proofs.lemmas.List.{take_all}
 use Rattle.bean_grammar.specs.Posting.{is_outside_profile}
 use Rattle.bean_trial.specs.Lined.{AreLined}

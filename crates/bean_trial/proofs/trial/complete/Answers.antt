@@ -1,6 +1,5 @@
-use Rattle.std.proofs.Common.{sym, subst, ◌∙◌, Err}
+use Rattle.std.proofs.Common.{subst, ◌∙◌, Err}
 use Rattle.bean_interp.specs.Completion.{Completes}
-use Rattle.bean_trial.specs.Outcome.{StopsAt}
 use Rattle.bean_trial.specs.Tried as spec
 use Rattle.bean_trial.specs.Tried.{LacksOrIsWide}
 use Rattle.bean_trial.proofs.trial.complete.Goals as goal

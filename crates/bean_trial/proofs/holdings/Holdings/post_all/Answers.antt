@@ -1,4 +1,4 @@
-use Rattle.std.proofs.Common.{◌≡◌, ◌+◌, ◌++◌, ◌∷◌, [], append_assoc, take, arith, ap, sym, ◌∙◌}
+use Rattle.std.proofs.Common.{◌++◌, ◌∷◌, [], append_assoc, take, arith, ap, sym, ◌∙◌}
 use Rattle.std.proofs.Common.{subst}
 use Rattle.bean_trial.specs.Holdings.{AreHeld}
 use Rattle.bean_trial.proofs.OutcomeFacts.{taken_more}

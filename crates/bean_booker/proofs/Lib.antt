@@ -1,0 +1,4 @@
+pub mod StepFacts
+pub mod TakeFacts
+pub mod OneBooking
+pub mod FullFacts

@@ -1,0 +1,39 @@
+-- One more of a list that is gone through.
+use Rattle.std.proofs.Common.{◌≡◌, ℕ, suc, ◌+◌, ◌<◌, List, [], ◌∷◌, ◌++◌, append_assoc, length}
+use Rattle.std.proofs.Common.{get_or}
+use Rattle.std.proofs.Common.{take, drop, map, reverse, fold, sym, ap, ◌∙◌, add-one}
+use Rattle.std.proofs.Math.Seq.{take-suc, drop-cons}
+use Rattle.std.proofs.lemmas.Grind.{flat_map-append}
+use Rattle.std.proofs.lemmas.List.{append-nil, map-append, reverse-append}
+use Rattle.std.specs.List.{flat_map}
+
+pub taken_more : {X : Type 0} (xs : List X) (i : ℕ) (x : X) → i < length xs → x ≡ get_or xs i x
+    → take (i + 1) xs ≡ take i xs ++ x ∷ []
+taken_more xs i x h e = rw add-one (take-suc xs i x h ∙ ap (λ q. take i xs ++ q ∷ []) (sym e))
+
+pub left_at : {X : Type 0} (xs : List X) (i : ℕ) (x : X) → i < length xs → x ≡ get_or xs i x
+    → drop i xs ≡ x ∷ drop (i + 1) xs
+left_at xs i x h e = rw add-one (drop-cons xs i x h ∙ ap (λ q. q ∷ drop (suc i) xs) (sym e))
+
+pub folded : {X Y : Type 0} (f : Y → X → Y) (y : Y) (xs : List X) (i : ℕ) (x : X) → i < length xs
+    → x ≡ get_or xs i x → fold f (f y x) (drop (i + 1) xs) ≡ fold f y (drop i xs)
+folded f y xs i x h e = sym (ap (fold f y) (left_at xs i x h e))
+
+pub flat_more : {X Y : Type 0} (f : X
+    → List Y) (xs : List X) (i : ℕ) (x : X) (before old new : List Y)
+    → i < length xs → x ≡ get_or xs i x → old ≡ before ++ flat_map f (take i xs)
+    → new ≡ old ++ f x → new ≡ before ++ flat_map f (take (i + 1) xs)
+flat_more f xs i x before old new h e o n =
+    n ∙ ap (λ l. l ++ f x) o ∙ append_assoc before (flat_map f (take i xs)) (f x)
+    ∙ ap (λ l. before ++ l)
+    (sym (ap (flat_map f) (taken_more xs i x h e)
+    ∙ flat_map-append f (take i xs) (x ∷ [])
+    ∙ ap (λ l. flat_map f (take i xs) ++ l) (append-nil (f x))))
+
+pub latest_mapped : {X Y : Type 0} (f : X → Y) (xs : List X) (i : ℕ) (x : X) → i < length xs
+    → x ≡ get_or xs i x
+    → reverse (map f (take (i + 1) xs)) ≡ f x ∷ reverse (map f (take i xs))
+latest_mapped f xs i x h e =
+    ap (λ l. reverse (map f l)) (taken_more xs i x h e)
+    ∙ ap reverse (map-append f (take i xs) (x ∷ []))
+    ∙ reverse-append (map f (take i xs)) (f x ∷ [])

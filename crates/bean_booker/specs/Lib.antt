@@ -1,0 +1,4 @@
+pub mod Method
+pub mod Stand
+pub mod Booker
+pub mod Booked

@@ -1,0 +1,107 @@
+//! The booked postings of a transaction.
+ghost use Rattle.std.specs.Prelude.{◌≡◌, ◌<◌, ◌≤◌, ◌+◌, ◌^◌, ◌∷◌, ◌++◌, OnOk, length, map, not};
+ghost use Rattle.std.specs.Prelude.{reverse, slice_get};
+ghost use Rattle.std.specs.Prelude as prelude;
+ghost use Rattle.std.specs.List.{AllByRecursion, flat_map};
+ghost use Rattle.bean_accounts.specs.Faults.{faults_at, kind_if};
+ghost use Rattle.bean_accounts.specs.Kept.{IsKept};
+ghost use Rattle.bean_accounts.specs.declared.step.Step as lives;
+ghost use Rattle.bean_booker.specs.Stand as spec;
+ghost use Rattle.bean_interp.specs.Balance.{is_balanced};
+ghost use Rattle.bean_interp.specs.Residual.{IsLight};
+ghost use Rattle.bean_pad.specs.Following.{Follows, IsBounded, steps_in};
+ghost use Rattle.bean_pad.specs.declared.step.Step.{Step};
+ghost use Rattle.bean_trial.specs.Tried.{booked_legs};
+
+use crate::steps::posting_of;
+use bean_accounts::{Accounts, Place};
+use bean_base::{Fault, FaultKind};
+use bean_grammar::Posting;
+use bean_interp::Scales;
+use bean_pad::Padder;
+use bean_trial::{Posted, balances};
+use std::alloc::{AllocError, Global};
+
+/// The place of a posting of a transaction at a place.
+fn place_in(at: Place, postings: &[Posting<'_>], written: usize) -> Place
+    ensures { result ≡ spec.place_in at (slice_get postings.now written) }
+{
+    match postings.get(written) {
+        Some(posting) => Place {
+            file: at.file,
+            line: posting.line,
+        },
+        None => at,
+    }
+}
+
+/// Adds the faults of a booked posting, and shows it to pads and balances.
+fn take_posting<'a>(
+    accounts: &Accounts<'a>,
+    padder: &mut Padder<'a>,
+    faults: &mut Vec<Fault>,
+    at: Place,
+    postings: &[Posting<'a>],
+    posted: &Posted<'a>,
+) -> Result<(), AllocError>
+    requires near { IsBounded padder.old }
+    requires few { steps_in padder.old < 2 ^ 40 }
+    ensures faults { (past : prelude.List lives.Step) → IsKept past accounts.now
+        → OnOk result (faults.new.items ≡ faults.old.items
+        ++ spec.posted_faults past at postings.now posted.now) }
+    ensures follows { OnOk result ((past : prelude.List Step) → Follows past padder.old
+        → Follows (spec.posting_step posted.now ∷ past) padder.new) }
+    ensures near { OnOk result (IsBounded padder.new) }
+    ensures steps { OnOk result (steps_in padder.new ≡ steps_in padder.old + 1) }
+{
+    let at = place_in(at, postings, posted.written);
+    accounts.note_posting(&posted.account, &posted.units.currency, at, faults)?;
+    padder.post(&posting_of(posted))
+}
+
+/// The same of all booked postings of a transaction.
+pub(crate) fn take_postings<'a>(
+    accounts: &Accounts<'a>,
+    padder: &mut Padder<'a>,
+    faults: &mut Vec<Fault>,
+    at: Place,
+    postings: &[Posting<'a>],
+    posted: &[Posted<'a>],
+) -> Result<(), AllocError>
+    requires near { IsBounded padder.old }
+    requires few { steps_in padder.old + length posted.now ≤ 2 ^ 40 }
+    ensures faults { (past : prelude.List lives.Step) → IsKept past accounts.now
+        → OnOk result (faults.new.items ≡ faults.old.items
+        ++ flat_map (spec.posted_faults past at postings.now) posted.now) }
+    ensures follows { OnOk result ((past : prelude.List Step) → Follows past padder.old
+        → Follows (reverse (map spec.posting_step posted.now) ++ past) padder.new) }
+    ensures near { OnOk result (IsBounded padder.new) }
+    ensures steps { OnOk result
+        (steps_in padder.new ≡ steps_in padder.old + length posted.now) }
+{
+    for one in posted {
+        take_posting(accounts, padder, faults, at, postings, one)?;
+    }
+    Ok(())
+}
+
+/// Adds F18 where a transaction doesn't balance.
+pub(crate) fn note_balance<'a>(
+    alloc: Global,
+    scales: &mut Scales<'a>,
+    faults: &mut Vec<Fault>,
+    at: Place,
+    postings: &[Posting<'a>],
+    posted: &[Posted<'a>],
+) -> Result<(), AllocError>
+    requires few { length posted.now ≤ 10 ^ 9 }
+    requires light { AllByRecursion IsLight (booked_legs postings.now posted.now) }
+    ensures { OnOk result (faults.new.items ≡ faults.old.items ++ faults_at at
+        (kind_if (not (is_balanced (booked_legs postings.now posted.now)))
+        FaultKind.Unbalanced)) }
+{
+    if !balances(alloc, scales, postings, posted)? {
+        faults.push(at.fault(FaultKind::Unbalanced))?;
+    }
+    Ok(())
+}
