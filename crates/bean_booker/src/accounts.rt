@@ -14,7 +14,7 @@ ghost use Rattle.bean_trial.specs.Holdings.{holding};
 
 use crate::steps::{balance_of, pad_of};
 use bean_accounts::{Accounts, Place};
-use bean_base::{Day, Fault};
+use bean_base::{Apart, Day, Fault};
 use bean_heads::{Balance, Close, Open, Pad};
 use bean_lots::Inventory;
 use bean_pad::Padder;
@@ -99,7 +99,7 @@ pub(crate) fn take_balance<'a>(
     padder: &mut Padder<'a>,
     faults: &mut Vec<Fault>,
     at: Place,
-    balance: &Balance<'a>,
+    balance: &Apart<Balance<'a>>,
 ) -> Result<(), AllocError>
     requires near { IsBounded padder.old }
     requires few { steps_in padder.old < 2 ^ 40 }
@@ -113,6 +113,7 @@ pub(crate) fn take_balance<'a>(
     ensures near { OnOk result (IsBounded padder.new) }
     ensures steps { OnOk result (steps_in padder.new ≡ steps_in padder.old + 1) }
 {
+    let balance = balance.get();
     accounts.note_use(&balance.account, at, faults)?;
     let is_at_cost = is_at_cost(alloc, holdings, balance);
     padder.balance(&balance_of(at, balance, is_at_cost))
