@@ -31,7 +31,7 @@ enum Verdict {
     NoPosting,
 }
 
-fn verdict(alloc: Global, text: &str) -> Result<Verdict, AllocError> {
+fn judged(alloc: Global, text: &str) -> Result<Verdict, AllocError> {
     Ok(match read(alloc, text)? {
         Some(Ranged::Within(posting)) if posting.is_outside_profile() => Verdict::OutsideProfile,
         Some(Ranged::Within(_)) => Verdict::Kept,
@@ -160,7 +160,7 @@ const VERDICTS: [(&str, Verdict); 52] = [
 #[test]
 fn texts_near_to_postings(rt: HostRuntime) -> Result<(), Fail> {
     for (text, is) in VERDICTS {
-        assert_eq!(rt; verdict(rt.alloc(), text)?, is);
+        assert_eq!(rt; judged(rt.alloc(), text)?, is);
     }
     Ok(())
 }
