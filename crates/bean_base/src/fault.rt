@@ -1,12 +1,14 @@
 //! What can be wrong in a ledger, and where.
+ghost use Rattle.std.specs.Prelude.{◌≡◌};
+ghost use Rattle.bean_base.specs.Fault.{number_of};
 
 use thiserror::Error;
 
 /// What is wrong, with its number.
-#[derive(Clone, Copy, Debug, Drop, PartialEq, Eq, PartialOrd, Ord, Error)]
+#[derive(Clone, Copy, Debug, Drop, PartialEq, Eq, Error)]
 pub enum FaultKind {
     #[error("F1 bad token")]
-    BadToken,
+    BadToken = 1,
     #[error("F2 not a directive")]
     NotADirective,
     #[error("F3 value out of range")]
@@ -51,6 +53,15 @@ pub enum FaultKind {
     IncludeFault,
     #[error("F23 unknown method")]
     UnknownMethod,
+}
+
+impl FaultKind {
+    /// Its number, from 1.
+    pub fn number(self) -> u8
+        ensures { result ≡ number_of self }
+    {
+        self as u8
+    }
 }
 
 /// A fault of a ledger, in a file that is counted in reading order from 0, at a line from 1.

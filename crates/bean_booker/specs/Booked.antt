@@ -1,12 +1,12 @@
 -- What a loaded ledger is booked as.
-use Rattle.std.specs.Prelude.{◌≡◌, ℕ, List, ◌++◌, reverse}
+use Rattle.std.specs.Prelude.{◌≡◌, ◌≤◌, ℕ, List, ◌++◌, length, reverse}
 use Rattle.bean_base.specs.declared.fault.Fault.{Fault}
 use Rattle.bean_load.specs.Loaded.{Loaded}
 use Rattle.bean_lots.specs.declared.reduction.Method as methods
 use Rattle.bean_pad.specs.Note.{noted_pads}
 use Rattle.bean_pad.specs.Padded.{faults_with}
 use Rattle.bean_booker.specs.Method.{method_of, otherwise, unknown_in}
-use Rattle.bean_booker.specs.Stand.{IsFull, LeadsTo, Stand}
+use Rattle.bean_booker.specs.Stand.{IsFull, LeadsTo, Stand, postings_of}
 use Rattle.bean_booker.specs.declared.booked.Booked as declared
 
 abbrev pub method_in_ledger : Loaded → List ℕ → methods.Method
@@ -24,9 +24,11 @@ pub record IsFinished (l : Loaded) (st : Stand) (b : declared.Booked) : Type 0 w
   pub pads_are : b.pads ≡ noted_pads st.steps
   pub faults_are : b.faults ≡ faults_of l st
 
+-- the transactions that are kept have at most a million postings
 pub record IsBooked (l : Loaded) (b : declared.Booked) : Type 0 where
   pub stand : Stand
   pub leads : LeadsTo (method_in_ledger l) (reverse l.directives) stand
+  pub few : length (postings_of stand.kept) ≤ 1000000
   pub finished : IsFinished l stand b
 
 -- the transactions that are kept have more than a million postings

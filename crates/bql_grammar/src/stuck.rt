@@ -1,4 +1,5 @@
 //! Where the tokens of a text leave the grammar.
+ghost use Rattle.std.specs.Prelude.{◌≡◌, ◌==◌, length};
 
 use bql_lexer::Token;
 use std::alloc::{AllocError, AllocFailed};
@@ -36,7 +37,9 @@ impl From<AllocError> for Stuck {
 impl Stuck {
     /// The first of some tokens can't go on, where so many parentheses, signs and NOTs may still
     /// stand in one another.
-    pub fn before(tokens: &[Token<'_>], room: usize) -> Stuck {
+    pub fn before(tokens: &[Token<'_>], room: usize) -> Stuck
+        ensures { result ≡ Stuck.At (length tokens.now) (room == 0) }
+    {
         Stuck::At {
             left: tokens.len(),
             is_deep: room == 0,

@@ -1,7 +1,6 @@
 mod Examples
 mod HoldingExamples
 pub mod WideFacts
-pub mod TextSetFacts
 pub mod ArithmeticFacts
 pub mod MembershipFacts
 pub mod TotalFacts

@@ -1,8 +1,9 @@
 -- Sets of texts.
-use Rattle.std.specs.Prelude.{◌≡◌, ℕ, List}
-use Rattle.std.specs.List.{list_any}
-use Rattle.std.specs.Str.{bytes_eq}
+use Rattle.std.specs.Prelude.{ℕ, List}
+use Rattle.std.specs.Cmp.Lexicographic.{slice_cmp}
+use Rattle.std.specs.Ordering.{nat_cmp}
+use Rattle.theory.specs.Once.{once_in_order}
 
--- the same texts are among both
-abbrev pub HasMembersOf : List (List ℕ) → List (List ℕ) → Type 0
-HasMembersOf texts set = (t : List ℕ) → list_any (bytes_eq t) set ≡ list_any (bytes_eq t) texts
+-- the texts in the order of their bytes, each once
+abbrev pub set_of : List (List ℕ) → List (List ℕ)
+set_of texts = once_in_order (slice_cmp nat_cmp) texts

@@ -3,7 +3,7 @@ ghost use Rattle.std.specs.Prelude.{◌≡◌};
 ghost use Rattle.std.specs.Cmp.Lexicographic.{slice_cmp};
 ghost use Rattle.std.specs.List.Sorted.{IsStrictlySortedBy};
 ghost use Rattle.std.specs.Ordering.{nat_cmp};
-ghost use Rattle.query_values.specs.TextSet.{HasMembersOf};
+ghost use Rattle.query_values.specs.TextSet.{set_of};
 
 use bean_base::Slice;
 use std::marker::Model;
@@ -30,7 +30,7 @@ impl<'a> Model for TextSet<'a> {
 impl<'a> TextSet<'a> {
     /// The set of these texts, which may come in any order and more than once.
     pub fn new(texts: Vec<Slice<'a>>) -> TextSet<'a>
-        ensures { HasMembersOf texts.entry.items result }
+        ensures { result ≡ set_of texts.entry.items }
     {
         let mut texts = texts;
         texts.sort_unstable();

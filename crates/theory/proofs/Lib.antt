@@ -6,4 +6,5 @@ pub mod ArrangementFacts
 pub mod ArrangedFacts
 pub mod CutFacts
 pub mod JoinedFacts
+pub mod OnceFacts
 mod Examples

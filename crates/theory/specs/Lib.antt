@@ -3,3 +3,4 @@ pub mod LongestFront
 pub mod Arrangement
 pub mod Cut
 pub mod Joined
+pub mod Once
