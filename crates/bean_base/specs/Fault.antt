@@ -1,5 +1,5 @@
--- The numbers of faults.
-use Rattle.std.specs.Prelude.{ℕ}
+-- The numbers of faults, and what they say.
+use Rattle.std.specs.Prelude.{ℕ, List, codes}
 use Rattle.bean_base.specs.declared.fault.FaultKind.{FaultKind}
 use Rattle.bean_base.specs.declared.fault.FaultKind.TheVariants.{BadToken, NotADirective}
 use Rattle.bean_base.specs.declared.fault.FaultKind.TheVariants.{OutOfRange, UnmatchedPushOrPop}
@@ -37,3 +37,28 @@ number_of UnusedPad = 20
 number_of PadAtCost = 21
 number_of IncludeFault = 22
 number_of UnknownMethod = 23
+
+abbrev pub text_of : FaultKind → List ℕ
+text_of BadToken = codes "F1 bad token"
+text_of NotADirective = codes "F2 not a directive"
+text_of OutOfRange = codes "F3 value out of range"
+text_of UnmatchedPushOrPop = codes "F4 push and pop do not match"
+text_of Ignored = codes "F5 ignored"
+text_of AccountNotOpen = codes "F6 account not open"
+text_of AccountClosed = codes "F7 account closed"
+text_of CurrencyNotAllowed = codes "F8 currency not allowed"
+text_of OpenedTwice = codes "F9 opened twice"
+text_of ClosedButNotOpen = codes "F10 closed but not open"
+text_of SeveralMissingAmounts = codes "F11 several missing amounts"
+text_of OutsideProfile = codes "F12 outside the profile"
+text_of NoLotMatches = codes "F13 no lot matches"
+text_of AmbiguousLots = codes "F14 ambiguous lots"
+text_of NotEnoughUnits = codes "F15 not enough units"
+text_of NegativeCost = codes "F16 negative cost"
+text_of TooWide = codes "F17 too wide"
+text_of Unbalanced = codes "F18 unbalanced"
+text_of BalanceFails = codes "F19 balance fails"
+text_of UnusedPad = codes "F20 unused pad"
+text_of PadAtCost = codes "F21 pad at cost"
+text_of IncludeFault = codes "F22 include fault"
+text_of UnknownMethod = codes "F23 unknown method"

@@ -1,4 +1,3 @@
-pub mod DigitsFacts
 pub mod LayoutFacts
 pub mod TableFacts
 pub mod InColumn

@@ -13,10 +13,10 @@ use Rattle.std.proofs.lemmas.Fmt.{decimal_by_steps_wide}
 use Rattle.std.proofs.lemmas.List.Folds.{list_all-append}
 use Rattle.bean_base.specs.Name.{is_currency, is_in_currency}
 use Rattle.bean_base.specs.declared.days.Day.{Day}
-use Rattle.table_printer.specs.Digits.{digits_of, exact_decimals, decimals_text, behind_point}
-use Rattle.table_printer.specs.Digits.{zeros, magnitude_text, number_text, day_text}
+use Rattle.number_texts.specs.Digits.{digits_of, exact_decimals, decimals_text, behind_point}
+use Rattle.number_texts.specs.Digits.{zeros, magnitude_text, number_text, day_text}
 use Rattle.table_printer.specs.Table.{text_width}
-use Rattle.table_printer.proofs.DigitsFacts.{length-digits_of}
+use Rattle.number_texts.proofs.DigitsFacts.{length-digits_of}
 use Rattle.table_printer.proofs.Printable.{is_printable, width_printable}
 
 abbrev Printable : List ℕ → Type 0

@@ -14,7 +14,7 @@ use Rattle.query_values.specs.declared.bag.Bag.{Bag}
 use Rattle.query_values.specs.declared.value.Value.{Value}
 use Rattle.query_values.specs.declared.value.Value.TheVariants.{Null, Truth, Number, Text, Day, Set}
 use Rattle.query_values.specs.declared.value.Value.TheVariants.{Amount, Position, Inventory}
-use Rattle.table_printer.specs.Digits.{number_text, day_text}
+use Rattle.number_texts.specs.Digits.{number_text, day_text}
 
 -- numbers stand at the right of their columns
 abbrev pub is_number : Value → Bool

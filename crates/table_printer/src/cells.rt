@@ -4,14 +4,14 @@ ghost use Rattle.std.specs.Int.{is_in_range};
 ghost use Rattle.std.specs.List.{list_all};
 ghost use Rattle.std.specs.String.{string_bytes};
 ghost use Rattle.posting_table.specs.Decimals.{decimals_of};
-ghost use Rattle.table_printer.specs.Digits.{number_text};
+ghost use Rattle.number_texts.specs.Digits.{number_text};
 ghost use Rattle.table_printer.specs.Table.{text_width};
 ghost use Rattle.table_printer.specs.CellText.{between_members, cell_text, clean_text, is_number};
 ghost use Rattle.table_printer.specs.CellText.{set_text, shown_character, truth_text, units_text};
 ghost use Rattle.theory.specs.Joined.{gap_before};
 
 use crate::cell::Cell;
-use crate::digits::{push_day, push_number};
+use number_texts::{push_day, push_number};
 use crate::inventories::{inventory_width, push_inventory};
 use crate::positions::{position_width, push_position};
 use bean_base::Currency;

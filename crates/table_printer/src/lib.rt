@@ -53,13 +53,11 @@
 mod answer;
 mod cell;
 mod cells;
-mod digits;
 mod headings;
 mod inventories;
 mod lines;
 mod positions;
 mod rows;
-mod runs;
 mod table;
 pub mod writing;
 

@@ -13,7 +13,7 @@ use crate::cell::Cell;
 use crate::cells::{Scratch, cell_width, is_number, push_cell};
 use crate::headings::Heading;
 use crate::rows::Rows;
-use crate::runs::push_run;
+use number_texts::push_run;
 use posting_table::Display;
 use query_values::Value;
 use std::alloc::AllocError;

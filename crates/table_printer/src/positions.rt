@@ -4,13 +4,13 @@ ghost use Rattle.std.specs.Int.{is_in_range};
 ghost use Rattle.std.specs.List.{list_all};
 ghost use Rattle.std.specs.String.{string_bytes};
 ghost use Rattle.posting_table.specs.Decimals.{decimals_of};
-ghost use Rattle.table_printer.specs.Digits.{day_text};
+ghost use Rattle.number_texts.specs.Digits.{day_text};
 ghost use Rattle.table_printer.specs.Table.{text_width};
 ghost use Rattle.table_printer.specs.CellText.{entry_text, label_text, lot_text, position_text};
 ghost use Rattle.table_printer.specs.CellText.{units_text};
 
 use crate::cells::{Scratch, add_clean, push_units};
-use crate::digits::push_day;
+use number_texts::push_day;
 use bean_base::{Currency, Day, Text};
 use bean_lots::{Key, Lot};
 use posting_table::Display;

@@ -100,11 +100,13 @@ module _ {X : Type 0} (R : X → X → Ordering) (o : IsTotalOrder R)
       twice : (a b : Bool) → (a || b) ≡ (a || (a || b))
       twice true b = refl
       twice false b = refl
+
       swap : (a b c : Bool) → (a || (b || c)) ≡ (b || (a || c))
       swap true true c = refl
       swap true false c = refl
       swap false true c = refl
       swap false false c = refl
+
       by : (list_any (λ w. is_eq (R t w)) (put_once R x ys)
           ≡ list_any (λ w. is_eq (R t w)) (x ∷ ys))
           → (c : Ordering) → R x y ≡ c

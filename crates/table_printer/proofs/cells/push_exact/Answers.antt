@@ -1,7 +1,7 @@
 use Rattle.std.proofs.Common.{length, ◌++◌, ap, ◌∙◌, arith, length-append}
 use Rattle.std.specs.Int.{w128}
 use Rattle.std.proofs.lemmas.Int.{to_z-of_z}
-use Rattle.table_printer.specs.Digits.{number_text}
+use Rattle.number_texts.specs.Digits.{number_text}
 use Rattle.table_printer.proofs.Printable.{width_printable}
 use Rattle.table_printer.proofs.Written.{bounded, printable_number}
 use Rattle.table_printer.proofs.cells.push_exact.Goals as goal

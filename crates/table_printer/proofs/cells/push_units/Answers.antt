@@ -2,7 +2,7 @@ use Rattle.std.proofs.Common.{length, ◌++◌, ◌∷◌, ap, ◌∙◌, arith,
 use Rattle.std.specs.Int.{w128}
 use Rattle.std.proofs.lemmas.Int.{to_z-of_z}
 use Rattle.posting_table.specs.Decimals.{decimals_of}
-use Rattle.table_printer.specs.Digits.{number_text}
+use Rattle.number_texts.specs.Digits.{number_text}
 use Rattle.table_printer.proofs.Printable.{width_printable}
 use Rattle.table_printer.proofs.Written.{bounded, printable_number, printable_units}
 use Rattle.table_printer.proofs.cells.push_units.Goals as goal

@@ -4,7 +4,7 @@ use Rattle.std.specs.Int.RustNames.{FitsSigned}
 use Rattle.std.specs.String.{string_bytes}
 use Rattle.std.proofs.lemmas.Int.{to_z-of_z}
 use Rattle.posting_table.specs.Decimals.{decimals_of}
-use Rattle.table_printer.specs.Digits.{day_text}
+use Rattle.number_texts.specs.Digits.{day_text}
 use Rattle.table_printer.specs.CellText.{label_text, units_text}
 use Rattle.table_printer.proofs.positions.add_lot.Goals as goal
 

@@ -1,0 +1,51 @@
+-- What is booked, in the order of the directives.
+use Rattle.std.specs.Prelude.{ℕ, ◌+◌, ◌==◌, List, [], ◌∷◌, ◌++◌, drop, if◌then◌else◌}
+use Rattle.bean_booker.specs.declared.kept.Kept.{Kept}
+use Rattle.bean_heads.specs.declared.directive.Directive.{Directive}
+use Rattle.bean_heads.specs.declared.directive.DirectiveKind.{DirectiveKind}
+use Rattle.bean_heads.specs.declared.directive.DirectiveKind.TheVariants as kind
+use Rattle.bean_heads.specs.declared.transaction.Transaction.{Transaction}
+use Rattle.bean_load.specs.declared.placed.Placed.{Placed}
+use Rattle.bean_pad.specs.declared.note.NotedPad.{NotedPad}
+use Rattle.bean_trial.specs.declared.line.Posted.{Posted}
+
+-- a transaction that is kept, with the postings that it is booked as; or a pad, with what comes of
+-- it
+pub data Booking : Type 0 where
+  transaction : Directive → Transaction → List Posted → Booking
+  padding : NotedPad → Booking
+
+-- the first of those that are kept, where it is the nth directive
+abbrev pub kept_at : ℕ → Directive → Transaction → List Kept → List Booking
+kept_at n d t [] = []
+kept_at n d t (k ∷ ks) = if k.directive == n then transaction d t k.postings ∷ [] else []
+
+abbrev pub behind_kept : ℕ → List Kept → List Kept
+behind_kept n [] = []
+behind_kept n (k ∷ ks) = if k.directive == n then ks else k ∷ ks
+
+abbrev pub noted_at : List NotedPad → List Booking
+noted_at [] = []
+noted_at (p ∷ ps) = padding p ∷ []
+
+-- what is booked of the nth directive
+abbrev pub booking_of : ℕ → Directive → DirectiveKind → List Kept → List NotedPad → List Booking
+booking_of n d (kind.Transaction t) ks ps = kept_at n d t ks
+booking_of n d (kind.Pad p) ks ps = noted_at ps
+booking_of n d other ks ps = []
+
+abbrev pub kept_behind : ℕ → DirectiveKind → List Kept → List Kept
+kept_behind n (kind.Transaction t) ks = behind_kept n ks
+kept_behind n other ks = ks
+
+abbrev pub pads_behind : DirectiveKind → List NotedPad → List NotedPad
+pads_behind (kind.Pad p) ps = drop 1 ps
+pads_behind other ps = ps
+
+-- what is booked of the directives from the nth on, of which these transactions are kept, and these
+-- are the pads
+abbrev pub bookings : ℕ → List (Placed Directive) → List Kept → List NotedPad → List Booking
+bookings n [] ks ps = []
+bookings n (d ∷ ds) ks ps =
+    booking_of n d.item d.item.kind ks ps
+    ++ bookings (n + 1) ds (kept_behind n d.item.kind ks) (pads_behind d.item.kind ps)

@@ -1,0 +1,169 @@
+//! The texts of numbers and days.
+ghost use Rattle.std.specs.Prelude.{◌≡◌, ◌≤◌, ◌<◌, ◌+◌, ◌-◌, ◌/◌, ◌%◌, ◌^◌, [], ◌∷◌, ◌++◌, OnOk};
+ghost use Rattle.std.specs.Prelude.{length, if◌then◌else◌};
+ghost use Rattle.std.specs.Int.RustNames.{unsigned_abs};
+ghost use Rattle.number_texts.specs.Digits.{digits_of, exact_decimals, decimals_text, number_text};
+ghost use Rattle.number_texts.specs.Digits.{day_text, zeros};
+
+use crate::runs::push_run;
+use bean_base::Day;
+use itoa::Buffer;
+use std::alloc::AllocError;
+
+fn digit(number: u64) -> u8
+    ensures { result ≡ 48 + number % 10 }
+{
+    b'0' + (number % 10) as u8
+}
+
+fn unit_of(places: u8) -> u128
+    requires { places ≤ 38 }
+    ensures value { result ≡ 10 ^ places }
+    ensures some { 0 < result }
+    ensures narrow { result ≤ 100000000000000000000000000000000000000 }
+{
+    10u128.pow(places as u32)
+}
+
+/// A number before and behind its last `places` digits.
+fn split_at(number: u128, places: u8) -> (u128, u128)
+    ensures before { result.0 ≡ number / 10 ^ places }
+    ensures behind { result.1 ≡ number % 10 ^ places }
+    ensures small { result.1 < 10 ^ places }
+{
+    if places > 38 {
+        // The number has fewer digits.
+        return (0, number);
+    }
+    match u64::try_from(number) {
+        // Most fit, and 64 bits are divided much faster than 128.
+        Ok(number) if places < 20 => {
+            let unit = 10u64.pow(places as u32);
+            ((number / unit) as u128, (number % unit) as u128)
+        }
+        _ => {
+            let unit = unit_of(places);
+            (number / unit, number % unit)
+        }
+    }
+}
+
+/// The last `places` digits of a number, with zeros in front where it has fewer.
+fn push_few_digits(out: &mut Vec<u8>, places: u8, number: u128) -> Result<(), AllocError>
+    requires few { places ≤ 32 }
+    requires small { number < 10 ^ places }
+    ensures { OnOk result (out.new.items ≡ out.old.items ++ digits_of places number) }
+{
+    // A one before the digits keeps the zeros in front of them.
+    let mut buffer = Buffer::new();
+    let text = buffer.format(unit_of(places) + number);
+    if let Some((_, digits)) = text.as_bytes().split_first() {
+        out.extend_from_slice(digits)?;
+    }
+    Ok(())
+}
+
+/// The same for any count of digits; where there are many, which is rare, one after the other.
+fn push_digits(out: &mut Vec<u8>, places: u8, number: u128) -> Result<(), AllocError>
+    requires { number < 10 ^ places }
+    ensures { OnOk result (out.new.items ≡ out.old.items ++ digits_of places number) }
+{
+    if places <= 32 {
+        return push_few_digits(out, places, number);
+    }
+    push_digits(out, places - 1, number / 10)?;
+    out.push(digit((number % 10) as u64))?;
+    Ok(())
+}
+
+/// Decimals without the zeros at their end behind the first `least`: how many they are, and the
+/// number that they write.
+fn without_zeros(places: u8, decimals: u128, least: u8) -> (u8, u128)
+    requires { decimals < 10 ^ places }
+    ensures digits { digits_of result.0 result.1 ++ zeros (least - result.0)
+        ≡ exact_decimals places decimals
+        ++ zeros (least - length (exact_decimals places decimals)) }
+    ensures few { result.0 ≤ places }
+    ensures small { result.1 < 10 ^ result.0 }
+{
+    // Most have zeros alone behind the least: one division takes them off.
+    let surplus = places.saturating_sub(least);
+    let (digits, rest) = split_at(decimals, surplus);
+    if rest == 0 {
+        return (places - surplus, digits);
+    }
+    zeros_taken_off(places, decimals, least)
+}
+
+/// The same, one zero after the other.
+fn zeros_taken_off(places: u8, decimals: u128, least: u8) -> (u8, u128)
+    requires { decimals < 10 ^ places }
+    ensures digits { digits_of result.0 result.1 ++ zeros (least - result.0)
+        ≡ exact_decimals places decimals
+        ++ zeros (least - length (exact_decimals places decimals)) }
+    ensures few { result.0 ≤ places }
+    ensures small { result.1 < 10 ^ result.0 }
+{
+    let mut places = places;
+    let mut decimals = decimals;
+    while places > least && decimals % 10 == 0 {
+        places -= 1;
+        decimals /= 10;
+    }
+    (places, decimals)
+}
+
+fn push_if(out: &mut Vec<u8>, mark: u8, is_wanted: bool) -> Result<(), AllocError>
+    ensures { OnOk result (out.new.items ≡ out.old.items ++ (if is_wanted then mark ∷ [] else [])) }
+{
+    if is_wanted {
+        out.push(mark)?;
+    }
+    Ok(())
+}
+
+/// The point and the decimals, as few as are exact but at least so many.
+fn push_decimals(out: &mut Vec<u8>, places: u8, decimals: u128, least: u8) -> Result<(), AllocError>
+    requires { decimals < 10 ^ places }
+    ensures { OnOk result (out.new.items ≡ out.old.items ++ decimals_text places decimals least) }
+{
+    let (shown, digits) = without_zeros(places, decimals, least);
+    push_if(out, b'.', shown.max(least) > 0)?;
+    push_digits(out, shown, digits)?;
+    push_run(out, b'0', least.saturating_sub(shown) as usize)?;
+    Ok(())
+}
+
+/// The number `count` · `10^-places` with the fewest decimals that are exact, but at least so many.
+pub fn push_number(out: &mut Vec<u8>, count: i128, places: u8, least: u8) -> Result<(), AllocError>
+    ensures { OnOk result (out.new.items ≡ out.old.items ++ number_text count places least) }
+{
+    let (whole, decimals) = split_at(count.unsigned_abs(), places);
+    push_if(out, b'-', count < 0)?;
+    out.extend_from_slice(Buffer::new().format(whole).as_bytes())?;
+    push_decimals(out, places, decimals, least)?;
+    Ok(())
+}
+
+/// A day as `2014-01-31`.
+pub fn push_day(out: &mut Vec<u8>, day: Day) -> Result<(), AllocError>
+    ensures { OnOk result (out.new.items ≡ out.old.items ++ day_text day) }
+{
+    let year = day.year().unsigned_abs() as u64;
+    let month = day.month() as u64;
+    let day = day.day() as u64;
+    let text = [
+        digit(year / 10 / 10 / 10),
+        digit(year / 10 / 10),
+        digit(year / 10),
+        digit(year),
+        b'-',
+        digit(month / 10),
+        digit(month),
+        b'-',
+        digit(day / 10),
+        digit(day),
+    ];
+    out.extend_from_slice(&text)?;
+    Ok(())
+}

@@ -1,0 +1,24 @@
+//! The texts of numbers and days, as tables and metadata show them.
+//!
+//! ```text
+//! push_number(&mut out, -1050, 2, 0)?;   // -10.5
+//! push_number(&mut out, -1050, 2, 2)?;   // -10.50
+//! push_day(&mut out, day)?;              // 2014-01-31
+//! ```
+//!
+//! A number has the fewest decimals that are exact, but at least as many as are asked for.
+//!
+//! # Errors
+//!
+//! Want of memory; what was added before it may stay in the buffer.
+//!
+//! # Cost
+//!
+//! A few steps a digit. Most numbers are divided as 64 bits.
+#![tactic(auto)]
+
+mod digits;
+mod runs;
+
+pub use digits::{push_day, push_number};
+pub use runs::push_run;

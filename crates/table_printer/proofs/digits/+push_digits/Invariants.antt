@@ -1,4 +1,0 @@
-use Rattle.table_printer.proofs.digits.+push_digits.Given as goal
-
-abbrev pub decreases-push_digits : goal.decreases-push_digits
-decreases-push_digits a = a.places
