@@ -1,14 +1,15 @@
 -- Worked shapes.
 use Rattle.std.proofs.Common.{◌≡◌, ◌^◌, ◌-◌, ◌*◌, ◌+◌, [], ◌∷◌, Ok, Err, refl}
 use Rattle.bean_base.specs.declared.bounds.Bounds.{Bounds}
-use Rattle.bql_tree.specs.declared.column.Column.TheVariants as column
+use Rattle.query_columns.specs.declared.column.Column.TheVariants as column
 use Rattle.bql_tree.specs.declared.function.Function.TheVariants.{Cost, Sum, OneOf, Units}
-use Rattle.bql_tree.specs.declared.tree.Binary.TheVariants.{Times, Equal, Plus}
+use Rattle.bql_tree.specs.declared.tree.Binary.TheVariants.{Times, Plus}
 use Rattle.query_shapes.specs.declared.shape.Misfit.TheVariants.{Kind, TooWide}
 use Rattle.query_shapes.specs.declared.shape.Shape.{Shape}
-use Rattle.query_shapes.specs.declared.shape.Shape.TheVariants.{Truth, Text, Number, Position}
+use Rattle.query_shapes.specs.declared.shape.Shape.TheVariants.{Truth, Text, Number}
 use Rattle.query_shapes.specs.declared.shape.Shape.TheVariants.{Inventory}
-use Rattle.bql_shapes.specs.Rules.{binary_shape, call_shape, column_shape}
+use Rattle.bql_shapes.specs.Rules.{binary_shape, call_shape}
+use Rattle.query_columns.specs.ColumnShape.{column_shape}
 
 abbrev widest : Bounds
 widest = record { postings = 1000000; units_digits = 20; value_digits = 28 }

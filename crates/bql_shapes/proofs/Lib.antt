@@ -1,3 +1,2 @@
-pub mod BoundFacts
 pub mod ListFacts
 mod Examples

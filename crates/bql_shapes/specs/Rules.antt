@@ -1,12 +1,10 @@
--- The shapes of a query's columns, and those that its operations give.
-use Rattle.std.specs.Prelude.{ℕ, ◌-◌, ◌*◌, ◌^◌, ◌≤◌, ◌&&◌, Bool, true, false, max, List, [], ◌∷◌}
-use Rattle.std.specs.Prelude.{fold, Option, Some, None, Result, Ok, Err, if◌then◌else◌}
+-- The shapes that the operations of a query give.
+use Rattle.std.specs.Prelude.{ℕ, ◌&&◌, Bool, true, false, max, List, [], ◌∷◌}
+use Rattle.std.specs.Prelude.{fold, Some, Ok, Err, if◌then◌else◌}
 use Rattle.std.specs.Int.RustNames.{unsigned_abs}
 use Rattle.std.specs.List.{list_all}
 use Rattle.std.specs.Result.{is_ok}
 use Rattle.bean_base.specs.declared.bounds.Bounds.{Bounds}
-use Rattle.bql_tree.specs.declared.column.Column.{Column}
-use Rattle.bql_tree.specs.declared.column.Column.TheVariants as column
 use Rattle.bql_tree.specs.declared.function.Function.{Function}
 use Rattle.bql_tree.specs.declared.function.Function.TheVariants as function
 use Rattle.bql_tree.specs.declared.tree.Binary.{Binary}
@@ -15,58 +13,17 @@ use Rattle.bql_tree.specs.declared.tree.Leaf.{Leaf}
 use Rattle.bql_tree.specs.declared.tree.Leaf.TheVariants as leaf
 use Rattle.bql_tree.specs.declared.tree.Unary.{Unary}
 use Rattle.bql_tree.specs.declared.tree.Unary.TheVariants as unary
+use Rattle.query_columns.specs.ColumnShape.{column_shape}
 use Rattle.query_shapes.specs.Rules as machine
 use Rattle.query_shapes.specs.Rules.{Ruled}
 use Rattle.query_shapes.specs.declared.shape.Misfit.TheVariants.{Kind, TooWide}
 use Rattle.query_shapes.specs.declared.shape.Shape.{Shape}
-use Rattle.query_shapes.specs.declared.shape.Shape.TheVariants.{Truth, Text, Day, Set, Number}
-use Rattle.query_shapes.specs.declared.shape.Shape.TheVariants.{Amount, Position, Inventory}
+use Rattle.query_shapes.specs.declared.shape.Shape.TheVariants.{Truth, Text, Day, Number}
+use Rattle.query_shapes.specs.declared.shape.Shape.TheVariants.{Amount}
 use Rattle.query_values.specs.declared.operation.Aggregate.{Aggregate}
 use Rattle.query_values.specs.declared.operation.Aggregate.TheVariants as aggregate
 use Rattle.query_values.specs.declared.operation.Binary as operation
 use Rattle.query_values.specs.declared.operation.Binary.TheVariants as operations
-
--- bounds that a query may have
-pub record AreBounds (b : Bounds) : Type 0 where
-  pub postings : b.postings ≤ 1000000
-  pub units : b.units_digits ≤ 20
-  pub value : b.value_digits ≤ 28
-
--- ---- columns
-
--- the greatest count of units, and of what they are worth
-abbrev pub units_most : Bounds → ℕ
-units_most b = 10 ^ b.units_digits - 1
-
-abbrev pub value_most : Bounds → ℕ
-value_most b = 10 ^ b.value_digits - 1
-
-abbrev pub whole : ℕ → Shape
-whole most = Number 0 most
-
-abbrev pub column_shape : Bounds → Column → Shape
-column_shape b column.Date = Day
-column_shape b column.Year = whole 9999
-column_shape b column.Month = whole 12
-column_shape b column.Day = whole 31
-column_shape b column.Flag = Text
-column_shape b column.Payee = Text
-column_shape b column.Narration = Text
-column_shape b column.Tags = Set
-column_shape b column.Links = Set
-column_shape b column.Account = Text
-column_shape b column.PostingFlag = Text
-column_shape b column.Number = Number 8 (units_most b)
-column_shape b column.Currency = Text
-column_shape b column.CostNumber = Number 8 (units_most b)
-column_shape b column.CostCurrency = Text
-column_shape b column.CostDate = Day
-column_shape b column.CostLabel = Text
-column_shape b column.Position = Position (units_most b) (value_most b)
-column_shape b column.Weight = Amount 16 (value_most b)
-column_shape b column.Balance =
-    Inventory 8 (b.postings * units_most b) (b.postings * value_most b)
-column_shape b column.Lineno = whole 16777216
 
 -- ---- leaves
 
@@ -79,7 +36,7 @@ leaf_shape b (leaf.TooWide digits) = Err TooWide
 leaf_shape b (leaf.Text t) = Ok Text
 leaf_shape b (leaf.Day d) = Ok Day
 leaf_shape b (leaf.Truth t) = Ok Truth
-leaf_shape b leaf.Rows = Ok (whole b.postings)
+leaf_shape b leaf.Rows = Ok (machine.whole b.postings)
 leaf_shape b (leaf.Meta e k) = Ok Text
 leaf_shape b (leaf.HasAccount p) = Ok Truth
 
@@ -143,9 +100,9 @@ of_one n function.Leaf s = machine.of_text Text s
 of_one n function.Length s = machine.length_of s
 of_one n function.Units s = machine.units_of s
 of_one n function.Cost s = machine.cost_of s
-of_one n function.Year s = machine.of_day (whole 9999) s
-of_one n function.Month s = machine.of_day (whole 12) s
-of_one n function.Day s = machine.of_day (whole 31) s
+of_one n function.Year s = machine.of_day (machine.whole 9999) s
+of_one n function.Month s = machine.of_day (machine.whole 12) s
+of_one n function.Day s = machine.of_day (machine.whole 31) s
 of_one n function.Number s = machine.number_of s
 of_one n function.Currency s = machine.currency_of s
 of_one n function.Abs s = machine.magnitude_of s

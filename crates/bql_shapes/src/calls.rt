@@ -7,16 +7,10 @@ use bean_base::Bounds;
 use bql_tree::Function;
 use query_shapes::rules::{
     aligned, cost_of, currency_of, length_of, magnitude_of, number_of, of_day, of_text, units_of,
+    whole,
 };
 use query_shapes::{Misfit, Shape, aggregate_shape};
 use query_values::Aggregate;
-
-/// A whole number of at most so many.
-fn whole(most: u128) -> Shape
-    ensures { result ≡ rule.whole most }
-{
-    Shape::Number { places: 0, most }
-}
 
 /// The aggregate that sums values of the shape: numbers to a number, others to an inventory.
 fn sum_over(shape: Shape) -> Aggregate

@@ -1,15 +1,17 @@
 //! The shapes of expressions without parts.
 ghost use Rattle.std.specs.Prelude.{◌≡◌};
 ghost use Rattle.bql_shapes.specs.Rules as rule;
+ghost use Rattle.query_columns.specs.ColumnShape.{AreBounds};
 
-use crate::columns::column_shape;
 use bean_base::Bounds;
 use bql_tree::Leaf;
+use query_columns::column_shape;
+use query_shapes::rules::whole;
 use query_shapes::{Misfit, Shape};
 
 /// The shape of an expression without parts. A NULL has none of its own.
 pub fn leaf_shape(bounds: &Bounds, leaf: &Leaf<'_>) -> Result<Shape, Misfit>
-    requires { rule.AreBounds bounds.now }
+    requires { AreBounds bounds.now }
     ensures { result ≡ rule.leaf_shape bounds.now leaf.now }
 {
     match leaf {
@@ -23,9 +25,6 @@ pub fn leaf_shape(bounds: &Bounds, leaf: &Leaf<'_>) -> Result<Shape, Misfit>
         Leaf::Text(_) | Leaf::Meta(_, _) => Ok(Shape::Text),
         Leaf::Day(_) => Ok(Shape::Day),
         Leaf::Truth(_) | Leaf::HasAccount(_) => Ok(Shape::Truth),
-        Leaf::Rows => Ok(Shape::Number {
-            places: 0,
-            most: bounds.postings as u128,
-        }),
+        Leaf::Rows => Ok(whole(bounds.postings as u128)),
     }
 }

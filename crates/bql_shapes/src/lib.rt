@@ -1,4 +1,4 @@
-//! The shapes of a query's expressions: which shape each column has, and each operation gives.
+//! The shapes of a query's expressions: which shape each leaf has, and each operation gives.
 //!
 //! ```text
 //! let number = column_shape(&bounds, Column::Number);          // 8 decimals, below 10^20
@@ -12,7 +12,7 @@
 //! # What is taken for granted
 //!
 //! Of the ledgers that a query runs on only their [`bean_base::Bounds`]: how many postings they
-//! have at most, and how wide their counts are.
+//! have at most, and how wide their counts are. A column has the shape that `query_columns` tells.
 //!
 //! # One table
 //!
@@ -32,13 +32,9 @@
 #![tactic(auto)]
 
 mod calls;
-mod columns;
-pub mod laws;
 mod leaves;
 mod operators;
 
 pub use calls::call_shape;
-pub use columns::column_shape;
-pub use laws::columns_are_held;
 pub use leaves::leaf_shape;
 pub use operators::{binary_shape, unary_shape};

@@ -1,5 +1,4 @@
 pub mod Cause
-pub mod Column
 pub mod Function
 pub mod Tree
 pub mod Number

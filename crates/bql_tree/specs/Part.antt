@@ -4,12 +4,12 @@ use Rattle.std.specs.Prelude.{Option, Some, None, Result, Ok, Err, if◌then◌e
 use Rattle.std.specs.declared.alloc.Global.{Global}
 use Rattle.bql_lexer.specs.declared.token.Token.{Token}
 use Rattle.bql_tree.specs.Cause.{outside_profile, unknown_name, least, both}
-use Rattle.bql_tree.specs.Column as columns
+use Rattle.query_columns.specs.Column as columns
 use Rattle.bql_tree.specs.Function.{is_left_out}
 use Rattle.bql_tree.specs.Tree.{leaf_of, one_of, two_of, Tree, node, no_trees}
 use Rattle.bql_tree.specs.Tree.{trees, tree_of}
 use Rattle.bql_tree.specs.declared.cause.Cause.{Cause}
-use Rattle.bql_tree.specs.declared.column.Column.{Column}
+use Rattle.query_columns.specs.declared.column.Column.{Column}
 use Rattle.bql_tree.specs.declared.function.Scope.{Scope}
 use Rattle.bql_tree.specs.declared.function.Scope.TheVariants.{Transactions, Postings}
 use Rattle.bql_tree.specs.declared.part.Alone.{Alone}

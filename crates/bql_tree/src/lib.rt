@@ -33,7 +33,6 @@
 
 pub mod call;
 pub mod cause;
-pub mod column;
 pub mod function;
 pub mod level;
 pub mod number;
@@ -41,7 +40,7 @@ pub mod part;
 pub mod tree;
 
 pub use cause::{Cause, CauseKind};
-pub use column::Column;
 pub use function::{Function, Scope};
 pub use part::{Alone, Part};
+pub use query_columns::Column;
 pub use tree::{Binary, Entry, Expr, Leaf, Unary};

@@ -5,11 +5,11 @@ ghost use Rattle.bql_tree.specs.Part.{part_of, tree_found};
 ghost use Rattle.bql_tree.specs.Tree.{tree_of};
 
 use crate::cause::{Cause, both};
-use crate::column::Column;
 use crate::function::{Scope, is_left_out};
 use crate::tree::{Binary, Expr, Leaf, Unary};
 use bean_base::Slice;
 use bql_lexer::Token;
+use query_columns::Column;
 use std::alloc::{AllocError, Global};
 
 /// How high an expression may be.

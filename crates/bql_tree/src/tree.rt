@@ -1,8 +1,8 @@
 //! Expressions of a query, as trees.
 
-use crate::column::Column;
 use crate::function::Function;
 use bean_base::{Day, Slice};
+use query_columns::Column;
 use query_values::Decimal;
 
 /// Whose metadata an entry is.

@@ -8,7 +8,7 @@ use bean_base::power_of_ten;
 use query_values::{Aggregate, Binary};
 
 /// A whole number of at most so many.
-fn whole(most: u128) -> Shape
+pub fn whole(most: u128) -> Shape
     ensures { result ≡ spec.whole most }
 {
     Shape::Number { places: 0, most }

@@ -1,6 +1,6 @@
 //! The columns of the postings.
 ghost use Rattle.std.specs.Prelude.{◌≡◌};
-ghost use Rattle.bql_tree.specs.Column as columns;
+ghost use Rattle.query_columns.specs.Column as columns;
 
 /// A column of the postings.
 #[derive(Clone, Copy, Debug, Drop, PartialEq, Eq)]
@@ -26,9 +26,11 @@ pub enum Column {
     Weight,
     Balance,
     Lineno,
+    /// The accounts of all postings of the transaction.
+    Accounts,
 }
 
-/// All columns, by their numbers.
+/// All columns that a query can name, by their numbers.
 pub const COLUMNS: [Column; 21] = [
     Column::Date,
     Column::Year,
@@ -54,7 +56,7 @@ pub const COLUMNS: [Column; 21] = [
 ];
 
 impl Column {
-    /// The name of the column in small letters.
+    /// The name of the column in small letters. No query can write that of `Accounts`.
     pub fn name(self) -> &'static str
         ensures { result.now ≡ columns.name self }
     {
@@ -80,6 +82,7 @@ impl Column {
             Column::Weight => "weight",
             Column::Balance => "balance",
             Column::Lineno => "lineno",
+            Column::Accounts => "accounts",
         }
     }
 

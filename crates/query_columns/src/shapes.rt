@@ -1,10 +1,11 @@
 //! The shapes of columns.
 ghost use Rattle.std.specs.Prelude.{◌≡◌, ◌^◌, ◌-◌, ◌≤◌};
-ghost use Rattle.bql_shapes.specs.Rules as rule;
+ghost use Rattle.query_columns.specs.ColumnShape as spec;
 
+use crate::column::Column;
 use bean_base::{Bounds, power_of_ten};
-use bql_tree::Column;
 use query_shapes::Shape;
+use query_shapes::rules::whole;
 
 /// The greatest number of so many digits.
 fn most_of(digits: u8) -> u128
@@ -16,26 +17,17 @@ fn most_of(digits: u8) -> u128
 
 /// What is known of a column of each posting.
 pub fn column_shape(bounds: &Bounds, column: Column) -> Shape
-    requires { rule.AreBounds bounds.now }
-    ensures { result ≡ rule.column_shape bounds.now column }
+    requires { spec.AreBounds bounds.now }
+    ensures { result ≡ spec.column_shape bounds.now column }
 {
     let units = most_of(bounds.units_digits);
     let value = most_of(bounds.value_digits);
     let postings = bounds.postings as u128;
     match column {
         Column::Date | Column::CostDate => Shape::Day,
-        Column::Year => Shape::Number {
-            places: 0,
-            most: 9999,
-        },
-        Column::Month => Shape::Number {
-            places: 0,
-            most: 12,
-        },
-        Column::Day => Shape::Number {
-            places: 0,
-            most: 31,
-        },
+        Column::Year => whole(9999),
+        Column::Month => whole(12),
+        Column::Day => whole(31),
         Column::Flag
         | Column::Payee
         | Column::Narration
@@ -44,7 +36,7 @@ pub fn column_shape(bounds: &Bounds, column: Column) -> Shape
         | Column::Currency
         | Column::CostCurrency
         | Column::CostLabel => Shape::Text,
-        Column::Tags | Column::Links => Shape::Set,
+        Column::Tags | Column::Links | Column::Accounts => Shape::Set,
         Column::Number | Column::CostNumber => Shape::Number {
             places: 8,
             most: units,
@@ -59,9 +51,6 @@ pub fn column_shape(bounds: &Bounds, column: Column) -> Shape
             units: postings * units,
             value: postings * value,
         },
-        Column::Lineno => Shape::Number {
-            places: 0,
-            most: 16_777_216,
-        },
+        Column::Lineno => whole(16_777_216),
     }
 }

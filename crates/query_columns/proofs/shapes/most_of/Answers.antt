@@ -1,7 +1,7 @@
 use Rattle.std.proofs.Common.{arith}
 use Rattle.std.proofs.lemmas.Int.{ints}
 use Rattle.bean_base.proofs.PowerFacts.{pow_pos}
-use Rattle.bql_shapes.proofs.columns.most_of.Goals as goal
+use Rattle.query_columns.proofs.shapes.most_of.Goals as goal
 
 pub overflow_sub-result : goal.overflow_sub-result
 overflow_sub-result c =

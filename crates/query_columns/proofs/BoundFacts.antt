@@ -5,10 +5,10 @@ use Rattle.std.proofs.lemmas.Bool.{lt-ltb}
 use Rattle.std.proofs.Math.Nat.{mul-le-mul_left, mul-le-mul_right}
 use Rattle.bean_base.proofs.PowerFacts.{pow_le}
 use Rattle.bean_base.specs.declared.bounds.Bounds.{Bounds}
-use Rattle.bql_tree.specs.declared.column.Column.{Column}
-use Rattle.bql_tree.specs.declared.column.Column.TheVariants as column
+use Rattle.query_columns.specs.declared.column.Column.{Column}
+use Rattle.query_columns.specs.declared.column.Column.TheVariants as column
 use Rattle.query_shapes.specs.Shape.{is_held}
-use Rattle.bql_shapes.specs.Rules.{AreBounds, column_shape}
+use Rattle.query_columns.specs.ColumnShape.{AreBounds, column_shape}
 
 -- so many postings of so many digits each
 narrow : (n d : ℕ) → n ≤ 1000000 → d ≤ 28 → n * (10 ^ d - 1) < 2 ^ 127
@@ -61,3 +61,4 @@ column_is_held b column.Balance are =
     both _ _ (sums_fit b.postings b.units_digits are.postings (omega (arith, are.units)))
     (sums_fit b.postings b.value_digits are.postings are.value)
 column_is_held b column.Lineno are = refl
+column_is_held b column.Accounts are = refl

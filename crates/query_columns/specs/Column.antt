@@ -2,14 +2,14 @@
 use Rattle.std.specs.Prelude.{ℕ, Bool, true, false, List, codes, Option}
 use Rattle.std.specs.List.{find}
 use Rattle.std.specs.Str.{str_eq_ignore_ascii_case}
-use Rattle.bql_tree.specs.declared.column.Column as columns
-use Rattle.bql_tree.specs.declared.column.Column.TheVariants.{Date, Year, Month, Day, Flag, Payee}
-use Rattle.bql_tree.specs.declared.column.Column.TheVariants.{Narration, Tags, Links, Account}
-use Rattle.bql_tree.specs.declared.column.Column.TheVariants.{PostingFlag, Number, Currency}
-use Rattle.bql_tree.specs.declared.column.Column.TheVariants.{CostNumber, CostCurrency, CostDate}
-use Rattle.bql_tree.specs.declared.column.Column.TheVariants.{CostLabel, Position, Weight, Balance}
-use Rattle.bql_tree.specs.declared.column.Column.TheVariants.{Lineno}
-use Rattle.bql_tree.specs.declared.column.TheConstants.{COLUMNS}
+use Rattle.query_columns.specs.declared.column.Column as columns
+use Rattle.query_columns.specs.declared.column.Column.TheVariants.{Date, Year, Month, Day, Flag, Payee}
+use Rattle.query_columns.specs.declared.column.Column.TheVariants.{Narration, Tags, Links, Account}
+use Rattle.query_columns.specs.declared.column.Column.TheVariants.{PostingFlag, Number, Currency}
+use Rattle.query_columns.specs.declared.column.Column.TheVariants.{CostNumber, CostCurrency, CostDate}
+use Rattle.query_columns.specs.declared.column.Column.TheVariants.{CostLabel, Position, Weight, Balance}
+use Rattle.query_columns.specs.declared.column.Column.TheVariants.{Lineno, Accounts}
+use Rattle.query_columns.specs.declared.column.TheConstants.{COLUMNS}
 
 abbrev pub name : columns.Column → List ℕ
 name Date = codes "date"
@@ -33,8 +33,9 @@ name Position = codes "position"
 name Weight = codes "weight"
 name Balance = codes "balance"
 name Lineno = codes "lineno"
+name Accounts = codes "accounts"
 
--- in small or capital letters
+-- in small or capital letters; the accounts of a transaction have no name in queries
 abbrev pub named : List ℕ → Option columns.Column
 named bs = find (λ column. str_eq_ignore_ascii_case bs (name column)) COLUMNS
 

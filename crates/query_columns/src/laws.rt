@@ -1,9 +1,9 @@
-//! Laws of shapes.
+//! Laws of the shapes of columns.
 ghost use Rattle.std.specs.Prelude.{◌≡◌, true};
 ghost use Rattle.bean_base.specs.declared.bounds.Bounds.{Bounds};
-ghost use Rattle.bql_tree.specs.declared.column.Column.{Column};
+ghost use Rattle.query_columns.specs.ColumnShape.{AreBounds, column_shape};
+ghost use Rattle.query_columns.specs.declared.column.Column.{Column};
 ghost use Rattle.query_shapes.specs.Shape.{is_held};
-ghost use Rattle.bql_shapes.specs.Rules.{AreBounds, column_shape};
 
 /// Within the limits of bounds, each value of a column can be held.
 pub fn columns_are_held()

@@ -1,6 +1,6 @@
-use Rattle.std.proofs.Common.{◌≡◌, ◌*◌, arith}
-use Rattle.bql_shapes.proofs.BoundFacts.{sum_fits}
-use Rattle.bql_shapes.proofs.columns.column_shape.Goals as goal
+use Rattle.std.proofs.Common.{arith}
+use Rattle.query_columns.proofs.BoundFacts.{sum_fits}
+use Rattle.query_columns.proofs.shapes.column_shape.Goals as goal
 
 pub overflow_mul-result-in-Balance : goal.overflow_mul-result-in-Balance
 overflow_mul-result-in-Balance c =

@@ -1,0 +1,73 @@
+//! What quoted texts stand for, as one slice of bytes.
+ghost use Rattle.std.specs.Prelude.{◌≡◌, IfOk};
+ghost use Rattle.std.specs.String.{string_bytes};
+
+use crate::slice::Slice;
+use crate::texts::Text;
+use std::alloc::{AllocError, Global};
+use std::marker::Model;
+
+/// Where the bytes of a text are.
+#[derive(Debug, Drop)]
+enum Bytes<'a> {
+    Lent(Slice<'a>),
+    Made(String),
+}
+
+/// A text without escapes: a slice of where it stands, or one that was made. Its value is its
+/// bytes, wherever they lie.
+#[derive(Debug, Drop)]
+pub struct PlainText<'a> {
+    bytes: Bytes<'a>,
+}
+
+impl<'a> Model for PlainText<'a> {
+    ghost use Rattle.std.specs.Prelude.{List, ℕ};
+    ghost use Rattle.bean_base.specs.PlainText.{bytes_of};
+
+    ghost Value = { List ℕ };
+
+    ghost view = { λ t. bytes_of t.bytes };
+}
+
+impl<'a> PlainText<'a> {
+    /// The text that stands there. Takes no memory.
+    pub fn lent(text: &'a str) -> PlainText<'a>
+        ensures { result ≡ text.now }
+    {
+        PlainText {
+            bytes: Bytes::Lent(Slice::new(text)),
+        }
+    }
+
+    /// The text that was made.
+    pub fn made(text: String) -> PlainText<'a>
+        ensures { result ≡ string_bytes text }
+    {
+        PlainText {
+            bytes: Bytes::Made(text),
+        }
+    }
+
+    /// What a quoted text stands for. It takes memory where the text has an escape.
+    pub fn of(alloc: Global, text: &Text<'a>) -> Result<PlainText<'a>, AllocError>
+        ensures { IfOk result (λ plain. plain ≡ text.now) }
+    {
+        if let Some(plain) = text.plain() {
+            return Ok(PlainText::lent(plain));
+        }
+        let mut made = String::new(alloc);
+        text.add_to(&mut made)?;
+        Ok(PlainText::made(made))
+    }
+
+    /// The text.
+    pub fn as_str(&self) -> &str
+        ensures { result.now ≡ self.now }
+    {
+        match &self.bytes {
+            Bytes::Lent(slice) => slice.text(),
+            Bytes::Made(text) => text,
+        }
+    }
+}

@@ -1,0 +1,27 @@
+-- Worked names and shapes.
+use Rattle.std.proofs.Common.{◌≡◌, Some, None, refl}
+use Rattle.std.specs.Prelude.{codes}
+use Rattle.bean_base.specs.declared.bounds.Bounds.{Bounds}
+use Rattle.query_columns.specs.Column.{named}
+use Rattle.query_columns.specs.ColumnShape.{column_shape}
+use Rattle.query_columns.specs.declared.column.Column.TheVariants.{CostNumber, Position, Weight}
+use Rattle.query_shapes.specs.declared.shape.Shape.TheVariants as shape
+
+in_any_letters : named (codes "Cost_NUMBER") ≡ Some CostNumber
+in_any_letters = refl
+
+-- the accounts of a transaction have no name in queries
+no_name : named (codes "accounts") ≡ None
+no_name = refl
+
+abbrev narrow : Bounds
+narrow = record { postings = 10; units_digits = 3; value_digits = 4 }
+
+costs : column_shape narrow CostNumber ≡ shape.Number 8 999
+costs = refl
+
+positions : column_shape narrow Position ≡ shape.Position 999 9999
+positions = refl
+
+weights : column_shape narrow Weight ≡ shape.Amount 16 9999
+weights = refl

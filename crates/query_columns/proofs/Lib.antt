@@ -1,0 +1,2 @@
+pub mod BoundFacts
+mod Examples

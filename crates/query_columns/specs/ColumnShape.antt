@@ -1,0 +1,47 @@
+-- What is known of the values of a column, by the bounds of ledgers.
+use Rattle.std.specs.Prelude.{ℕ, ◌-◌, ◌*◌, ◌^◌, ◌≤◌}
+use Rattle.bean_base.specs.declared.bounds.Bounds.{Bounds}
+use Rattle.query_columns.specs.declared.column.Column.{Column}
+use Rattle.query_columns.specs.declared.column.Column.TheVariants as column
+use Rattle.query_shapes.specs.Rules.{whole}
+use Rattle.query_shapes.specs.declared.shape.Shape.{Shape}
+use Rattle.query_shapes.specs.declared.shape.Shape.TheVariants.{Text, Day, Set, Number}
+use Rattle.query_shapes.specs.declared.shape.Shape.TheVariants.{Amount, Position, Inventory}
+
+-- bounds that a query may have
+pub record AreBounds (b : Bounds) : Type 0 where
+  pub postings : b.postings ≤ 1000000
+  pub units : b.units_digits ≤ 20
+  pub value : b.value_digits ≤ 28
+
+-- the greatest count of units, and of what they are worth
+abbrev pub units_most : Bounds → ℕ
+units_most b = 10 ^ b.units_digits - 1
+
+abbrev pub value_most : Bounds → ℕ
+value_most b = 10 ^ b.value_digits - 1
+
+abbrev pub column_shape : Bounds → Column → Shape
+column_shape b column.Date = Day
+column_shape b column.Year = whole 9999
+column_shape b column.Month = whole 12
+column_shape b column.Day = whole 31
+column_shape b column.Flag = Text
+column_shape b column.Payee = Text
+column_shape b column.Narration = Text
+column_shape b column.Tags = Set
+column_shape b column.Links = Set
+column_shape b column.Account = Text
+column_shape b column.PostingFlag = Text
+column_shape b column.Number = Number 8 (units_most b)
+column_shape b column.Currency = Text
+column_shape b column.CostNumber = Number 8 (units_most b)
+column_shape b column.CostCurrency = Text
+column_shape b column.CostDate = Day
+column_shape b column.CostLabel = Text
+column_shape b column.Position = Position (units_most b) (value_most b)
+column_shape b column.Weight = Amount 16 (value_most b)
+column_shape b column.Balance =
+    Inventory 8 (b.postings * units_most b) (b.postings * value_most b)
+column_shape b column.Lineno = whole 16777216
+column_shape b column.Accounts = Set
