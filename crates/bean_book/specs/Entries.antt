@@ -1,5 +1,5 @@
 -- What is booked, in the order of the directives.
-use Rattle.std.specs.Prelude.{ℕ, ◌+◌, ◌==◌, List, [], ◌∷◌, ◌++◌, drop, if◌then◌else◌}
+use Rattle.std.specs.Prelude.{ℕ, ◌+◌, ◌==◌, List, [], ◌∷◌, ◌++◌, if◌then◌else◌}
 use Rattle.bean_booker.specs.declared.kept.Kept.{Kept}
 use Rattle.bean_heads.specs.declared.directive.Directive.{Directive}
 use Rattle.bean_heads.specs.declared.directive.DirectiveKind.{DirectiveKind}
@@ -38,8 +38,12 @@ abbrev pub kept_behind : ℕ → DirectiveKind → List Kept → List Kept
 kept_behind n (kind.Transaction t) ks = behind_kept n ks
 kept_behind n other ks = ks
 
+abbrev pub pads_left : List NotedPad → List NotedPad
+pads_left [] = []
+pads_left (p ∷ ps) = ps
+
 abbrev pub pads_behind : DirectiveKind → List NotedPad → List NotedPad
-pads_behind (kind.Pad p) ps = drop 1 ps
+pads_behind (kind.Pad p) ps = pads_left ps
 pads_behind other ps = ps
 
 -- what is booked of the directives from the nth on, of which these transactions are kept, and these

@@ -1,5 +1,5 @@
 -- That the transactions that are kept are some of the directives.
-use Rattle.std.specs.Prelude.{◌≡◌, ℕ, ◌+◌, List, [], ◌∷◌, ◌⊎◌}
+use Rattle.std.specs.Prelude.{◌≡◌, ◌≤◌, ℕ, ◌+◌, List, [], ◌∷◌, ◌⊎◌, ⊤, length}
 use Rattle.std.specs.List.{AllByRecursion}
 use Rattle.bean_booker.specs.declared.kept.Kept.{Kept}
 use Rattle.bean_heads.specs.declared.directive.Directive.{Directive}
@@ -7,6 +7,7 @@ use Rattle.bean_heads.specs.declared.directive.DirectiveKind.TheVariants as kind
 use Rattle.bean_heads.specs.declared.transaction.Transaction.{Transaction}
 use Rattle.bean_interp.specs.Residual.{IsLight}
 use Rattle.bean_load.specs.declared.placed.Placed.{Placed}
+use Rattle.bean_sizes.specs.Booked.{IsSmallPosted}
 use Rattle.bean_trial.specs.Tried.{booked_legs}
 
 -- it is the nth directive, and weighs what can be counted
@@ -28,3 +29,13 @@ pub record IsFirstOf (n : ℕ) (d : Placed Directive) (rest : List Kept → Type
 abbrev pub AreOf : ℕ → List (Placed Directive) → List Kept → Type 0
 AreOf n [] ks = ks ≡ []
 AreOf n (d ∷ ds) ks = IsFirstOf n d (AreOf (n + 1) ds) ks ⊎ AreOf (n + 1) ds ks
+
+-- the first, if it is of the nth directive, is of this one
+abbrev pub IsNextOf : ℕ → Placed Directive → List Kept → Type 0
+IsNextOf n d [] = ⊤
+IsNextOf n d (k ∷ ks) = k.directive ≡ n → IsOf n d k
+
+-- its postings are small, and no more than a ledger has
+pub record IsTame (k : Kept) : Type 0 where
+  pub small : AllByRecursion IsSmallPosted k.postings
+  pub few : length k.postings ≤ 1000000

@@ -1,3 +1,8 @@
-pub mod BookFault
-pub mod Flattening
+pub mod Metadata
+pub mod Entries
+pub mod Rows
+pub mod Reported
+pub mod Kept
+pub mod Shaped
 pub mod Booked
+pub mod OneBook

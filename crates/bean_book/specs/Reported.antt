@@ -1,11 +1,10 @@
 -- Faults in the order in which they are reported.
-use Rattle.std.specs.Prelude.{◌≡◌, ℕ, Bool, List}
-use Rattle.std.specs.List.{list_any}
-use Rattle.std.specs.List.Sorted.{IsStrictlySortedBy}
-use Rattle.std.specs.Ordering.{is_eq, nat_cmp, on, ordering_then}
+use Rattle.std.specs.Prelude.{ℕ, List}
+use Rattle.std.specs.Ordering.{nat_cmp, on, ordering_then}
 use Rattle.std.specs.declared.cmp.Ordering.{Ordering}
 use Rattle.bean_base.specs.Fault.{number_of}
 use Rattle.bean_base.specs.declared.fault.Fault.{Fault}
+use Rattle.theory.specs.Once.{once_in_order}
 
 -- the file and the line, and the number
 abbrev pub Key : Type 0
@@ -24,10 +23,6 @@ key_cmp a b = ordering_then (line_cmp a.0 b.0) (nat_cmp a.1 b.1)
 abbrev pub fault_cmp : Fault → Fault → Ordering
 fault_cmp = on key_of key_cmp
 
-abbrev pub is_fault : Fault → Fault → Bool
-is_fault f g = is_eq (fault_cmp f g)
-
--- gs has the faults of fs, each once and before the next
-pub record AreReported (fs gs : List Fault) : Type 0 where
-  pub ordered : IsStrictlySortedBy fault_cmp gs
-  pub same : (f : Fault) → list_any (is_fault f) gs ≡ list_any (is_fault f) fs
+-- each fault once, in that order
+abbrev pub reported : List Fault → List Fault
+reported fs = once_in_order fault_cmp fs

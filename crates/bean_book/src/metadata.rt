@@ -1,18 +1,92 @@
 //! Metadata as texts.
-ghost use Rattle.std.specs.Prelude.{◌≡◌, ◌++◌, IfOk, OnOk, map};
+ghost use Rattle.std.specs.Prelude.{◌≡◌, ◌++◌, ◌∷◌, [], codes, IfOk, OnOk, length, map};
 ghost use Rattle.std.specs.String.{string_bytes};
-ghost use Rattle.number_texts.specs.Digits.{number_text};
+ghost use Rattle.std.specs.Str.{IsAscii};
+ghost use Rattle.number_texts.specs.Digits.{day_text};
 ghost use Rattle.bean_book.specs.Metadata as spec;
 
 use bean_base::{Amount, Day, Num, PlainText, Slice};
-use bean_grammar::metadata::{Entry, Value};
+use bean_grammar::{Entry, Value};
 use number_texts::{push_day, push_number};
 use posting_table::{MetaItem, Metadata};
 use std::alloc::{AllocError, Global};
 
-/// A truth value as a text.
-fn truth_text(truth: bool) -> &'static str
-    ensures { result.now ≡ spec.truth_text truth }
+/// A text that was made byte by byte.
+fn made<'a>(bytes: Vec<u8>) -> PlainText<'a>
+    requires { IsAscii bytes.entry.items }
+    ensures { result ≡ bytes.entry.items }
 {
-    if truth { "TRUE" } else { "FALSE" }
+    match String::from_utf8(bytes) {
+        Ok(text) => PlainText::made(text),
+        Err(_) => unreachable!(),
+    }
+}
+
+/// A number with the decimals that it is written with.
+fn push_num(out: &mut Vec<u8>, number: Num) -> Result<(), AllocError>
+    ensures { OnOk result (out.new.items
+        ≡ out.old.items ++ spec.num_text number) }
+{
+    push_number(out, number.count, number.places, number.places)
+}
+
+fn number_text<'a>(alloc: Global, number: Num) -> Result<PlainText<'a>, AllocError>
+    ensures { IfOk result (λ text. text ≡ spec.num_text number) }
+{
+    let mut out = Vec::new(alloc);
+    push_num(&mut out, number)?;
+    Ok(made(out))
+}
+
+fn amount_text<'a>(alloc: Global, amount: &Amount<'a>) -> Result<PlainText<'a>, AllocError>
+    ensures { IfOk result (λ text. text ≡ spec.amount_text amount.now) }
+{
+    let mut out = Vec::new(alloc);
+    push_num(&mut out, amount.number)?;
+    out.push(b' ')?;
+    out.extend_from_slice(amount.currency.text().as_bytes())?;
+    Ok(made(out))
+}
+
+fn day_text<'a>(alloc: Global, day: Day) -> Result<PlainText<'a>, AllocError>
+    ensures { IfOk result (λ text. text ≡ day_text day) }
+{
+    let mut out = Vec::new(alloc);
+    push_day(&mut out, day)?;
+    Ok(made(out))
+}
+
+/// A value as a text, where it is something.
+fn text_of<'a>(alloc: Global, value: &Value<'a>) -> Result<Option<PlainText<'a>>, AllocError>
+    ensures { IfOk result (λ text. text ≡ spec.text_of value.now) }
+{
+    Ok(Some(match value {
+        Value::Nothing => return Ok(None),
+        Value::Text(text) => PlainText::of(alloc, text)?,
+        Value::Account(account) => PlainText::lent(account.text()),
+        Value::Day(day) => day_text(alloc, *day)?,
+        Value::Currency(currency) => PlainText::lent(currency.text()),
+        Value::Tag(tag) => PlainText::lent(tag.text()),
+        Value::Truth(true) => PlainText::lent("TRUE"),
+        Value::Truth(false) => PlainText::lent("FALSE"),
+        Value::Number(number) => number_text(alloc, *number)?,
+        Value::Amount(amount) => amount_text(alloc, amount)?,
+    }))
+}
+
+/// Entries as texts under their keys.
+pub(crate) fn metadata_of<'a>(
+    alloc: Global,
+    entries: &[Entry<'a>],
+) -> Result<Metadata<'a>, AllocError>
+    ensures { IfOk result (λ metadata. metadata ≡ spec.items_of entries.now) }
+{
+    let mut items = Vec::new(alloc);
+    for entry in entries {
+        items.push(MetaItem {
+            key: Slice::new(entry.key.text()),
+            text: text_of(alloc, &entry.value)?,
+        })?;
+    }
+    Metadata::new(alloc, items)
 }

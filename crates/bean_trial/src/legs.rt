@@ -57,8 +57,8 @@ fn whole_of<'a>(number: Option<Num>, worth: Worth<'a>, posted: &Posted<'a>) -> W
     }
 }
 
-/// A booked posting of a transaction with these written ones.
-fn whole<'a>(postings: &[Posting<'a>], posted: &Posted<'a>) -> Whole<'a>
+/// A booked posting of a transaction with these written ones, as a leg.
+pub fn whole<'a>(postings: &[Posting<'a>], posted: &Posted<'a>) -> Whole<'a>
     ensures { result ≡ whole_at (slice_get postings.now posted.now.written) posted.now }
 {
     match postings.get(posted.written) {

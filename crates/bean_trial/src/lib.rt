@@ -71,6 +71,7 @@ pub mod stop;
 pub mod trial;
 
 pub use holdings::Holdings;
+pub use legs::whole;
 pub use line::{Line, Posted};
 pub use methods::Methods;
 pub use setting::Head;

@@ -1,1 +1,2 @@
 pub mod DigitsFacts
+pub mod PrintableFacts

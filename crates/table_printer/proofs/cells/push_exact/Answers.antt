@@ -3,7 +3,7 @@ use Rattle.std.specs.Int.{w128}
 use Rattle.std.proofs.lemmas.Int.{to_z-of_z}
 use Rattle.number_texts.specs.Digits.{number_text}
 use Rattle.table_printer.proofs.Printable.{width_printable}
-use Rattle.table_printer.proofs.Written.{bounded, printable_number}
+use Rattle.number_texts.proofs.PrintableFacts.{bounded, printable_number}
 use Rattle.table_printer.proofs.cells.push_exact.Goals as goal
 
 pub returns-clause-width : goal.returns-clause-width

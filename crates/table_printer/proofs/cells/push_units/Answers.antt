@@ -4,7 +4,7 @@ use Rattle.std.proofs.lemmas.Int.{to_z-of_z}
 use Rattle.posting_table.specs.Decimals.{decimals_of}
 use Rattle.number_texts.specs.Digits.{number_text}
 use Rattle.table_printer.proofs.Printable.{width_printable}
-use Rattle.table_printer.proofs.Written.{bounded, printable_number, printable_units}
+use Rattle.number_texts.proofs.PrintableFacts.{bounded, printable_number, printable_units}
 use Rattle.table_printer.proofs.cells.push_units.Goals as goal
 
 pub returns-clause-text : goal.returns-clause-text

@@ -1,5 +1,5 @@
 use Rattle.std.proofs.lemmas.Str.{IsUtf8-from_ascii}
-use Rattle.table_printer.proofs.Printable.{is_ascii}
+use Rattle.number_texts.proofs.PrintableFacts.{is_ascii}
 use Rattle.table_printer.proofs.positions.add_printable.Goals as goal
 
 pub returns-in_default : goal.returns-in_default

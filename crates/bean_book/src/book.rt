@@ -1,0 +1,49 @@
+//! A loaded ledger as it is booked.
+ghost use Rattle.std.specs.List.{AllByRecursion};
+ghost use Rattle.bean_sizes.specs.Small.{IsSmall};
+ghost use Rattle.bean_book.specs.Booked.{Books};
+
+use crate::faults::report;
+use crate::ledger::ledger_of;
+use bean_base::{Fault, List};
+use bean_booker::{BookFault, book_directives};
+use bean_load::Loaded;
+use posting_table::Ledger;
+use std::alloc::Global;
+
+/// A booked ledger.
+#[derive(Drop)]
+pub struct Booked<'a> {
+    /// Its postings, and how many decimals its currencies show.
+    pub ledger: Ledger<'a>,
+    /// All that is wrong, by file, then by line, then by number; equal ones once.
+    pub faults: List<Fault>,
+}
+
+/// A loaded ledger as it is booked. What [`bean_load::load`] gives of gathered texts is small
+/// ([`bean_sizes`]).
+pub fn book<'a>(alloc: Global, loaded: Loaded<'a>) -> Result<Booked<'a>, BookFault>
+    requires { AllByRecursion IsSmall loaded.entry.directives }
+    ensures { Books loaded.entry result }
+{
+    let booked = match book_directives(alloc, &loaded) {
+        Ok(booked) => booked,
+        Err(fault) => return Err(fault),
+    };
+    let ledger = ledger_of(
+        alloc,
+        loaded.directives(),
+        booked.kept.as_slice(),
+        booked.pads.as_slice(),
+    );
+    let ledger = match ledger {
+        Ok(ledger) => ledger,
+        Err(fault) => return Err(fault),
+    };
+    let mut faults = booked.faults.into_vec();
+    report(&mut faults)?;
+    Ok(Booked {
+        ledger,
+        faults: List::new(faults),
+    })
+}

@@ -1,0 +1,55 @@
+//! How many decimals currencies show.
+ghost use Rattle.std.specs.Prelude.{◌≡◌, ℕ, List, OnOk, max, if◌then◌else◌};
+ghost use Rattle.std.specs.List.{flat_map};
+ghost use Rattle.std.specs.Str.{bytes_eq};
+ghost use Rattle.posting_table.specs.Decimals.{decimals_of};
+ghost use Rattle.bean_book.specs.Booked.{decimals_from};
+ghost use Rattle.bean_book.specs.Rows.{written_in};
+
+use bean_base::Amount;
+use bean_grammar::{Posting, Units};
+use posting_table::Ledger;
+use std::alloc::AllocError;
+
+/// Shows at least the decimals of a number.
+fn note_amount<'a>(ledger: &mut Ledger<'a>, units: &Amount<'a>) -> Result<(), AllocError>
+    ensures decimals { OnOk result ((name : List ℕ) → decimals_of ledger.new.decimals name
+        ≡ (if bytes_eq units.now.currency name
+        then max (decimals_of ledger.old.decimals name) units.now.number.places
+        else decimals_of ledger.old.decimals name)) }
+    ensures rows { ledger.new.rows ≡ ledger.old.rows }
+{
+    let places = units.number.places;
+    if ledger.display().places(&units.currency) < places {
+        ledger.set_display(units.currency.lend(), places)?;
+    }
+    Ok(())
+}
+
+/// Shows at least the decimals of the number that is written for a posting's units.
+fn note_posting<'a>(ledger: &mut Ledger<'a>, posting: &Posting<'a>) -> Result<(), AllocError>
+    ensures decimals { OnOk result ((name : List ℕ) → decimals_of ledger.new.decimals name
+        ≡ decimals_from (decimals_of ledger.old.decimals name) name (written_in posting.now)) }
+    ensures rows { ledger.new.rows ≡ ledger.old.rows }
+{
+    match &posting.units {
+        Units::Amount(units) => note_amount(ledger, units),
+        _ => Ok(()),
+    }
+}
+
+/// Shows at least the decimals of the numbers that are written for the postings' units.
+pub(crate) fn note_written<'a>(
+    ledger: &mut Ledger<'a>,
+    postings: &[Posting<'a>],
+) -> Result<(), AllocError>
+    ensures decimals { OnOk result ((name : List ℕ) → decimals_of ledger.new.decimals name
+        ≡ decimals_from (decimals_of ledger.old.decimals name) name
+        (flat_map written_in postings.now)) }
+    ensures rows { ledger.new.rows ≡ ledger.old.rows }
+{
+    for posting in postings {
+        note_posting(ledger, posting)?;
+    }
+    Ok(())
+}

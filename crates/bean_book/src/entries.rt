@@ -1,0 +1,113 @@
+//! What the postings of a booked transaction have in common.
+ghost use Rattle.std.specs.Prelude.{◌≡◌, ◌++◌, ◌∷◌, [], IfOk, OnOk, codes, map};
+ghost use Rattle.std.specs.List.{flat_map};
+ghost use Rattle.query_values.specs.TextSet.{set_of};
+ghost use Rattle.bean_book.specs.Rows as spec;
+
+use crate::metadata::metadata_of;
+use bean_base::{PlainText, Shared, Slice, Text};
+use bean_grammar::Mark;
+use bean_heads::{Directive, Transaction};
+use bean_pad::Pad;
+use bean_trial::Posted;
+use posting_table::{Entry, EntryFlag, Metadata};
+use query_values::TextSet;
+use std::alloc::{AllocError, Global};
+
+/// The names of the tags.
+fn tags_of<'a>(alloc: Global, marks: &[Mark<'a>]) -> Result<TextSet<'a>, AllocError>
+    ensures { IfOk result (λ set. set ≡ set_of (flat_map spec.tag_in marks.now)) }
+{
+    let mut names = Vec::new(alloc);
+    for mark in marks {
+        if let Mark::Tag(tag) = mark {
+            names.push(Slice::new(tag.text()))?;
+        }
+    }
+    Ok(TextSet::new(names))
+}
+
+/// The names of the links.
+fn links_of<'a>(alloc: Global, marks: &[Mark<'a>]) -> Result<TextSet<'a>, AllocError>
+    ensures { IfOk result (λ set. set ≡ set_of (flat_map spec.link_in marks.now)) }
+{
+    let mut names = Vec::new(alloc);
+    for mark in marks {
+        if let Mark::Link(link) = mark {
+            names.push(Slice::new(link.text()))?;
+        }
+    }
+    Ok(TextSet::new(names))
+}
+
+/// The accounts of booked postings.
+fn accounts_of<'a>(alloc: Global, posted: &[Posted<'a>]) -> Result<TextSet<'a>, AllocError>
+    ensures { IfOk result (λ set. set ≡ set_of (map (λ p. p.account) posted.now)) }
+{
+    let mut names = Vec::new(alloc);
+    for one in posted {
+        names.push(Slice::new(one.account.text()))?;
+    }
+    Ok(TextSet::new(names))
+}
+
+/// What a payee stands for.
+fn payee_of<'a>(
+    alloc: Global,
+    payee: &Option<Text<'a>>,
+) -> Result<Option<PlainText<'a>>, AllocError>
+    ensures { IfOk result (λ text. text ≡ payee.now) }
+{
+    Ok(match payee {
+        Some(payee) => Some(PlainText::of(alloc, payee)?),
+        None => None,
+    })
+}
+
+/// What the booked postings of a transaction have in common.
+pub(crate) fn entry_of<'a>(
+    alloc: Global,
+    directive: &Directive<'a>,
+    transaction: &Transaction<'a>,
+    posted: &[Posted<'a>],
+) -> Result<Shared<Entry<'a>>, AllocError>
+    ensures { IfOk result (λ entry. entry
+        ≡ spec.entry_of directive.now transaction.now posted.now) }
+{
+    let marks = transaction.marks.as_slice();
+    let entry = Entry {
+        payee: payee_of(alloc, &transaction.payee)?,
+        narration: PlainText::of(alloc, &transaction.narration)?,
+        tags: tags_of(alloc, marks)?,
+        links: links_of(alloc, marks)?,
+        accounts: accounts_of(alloc, posted)?,
+        metadata: metadata_of(alloc, directive.metadata.as_slice())?,
+        date: directive.day,
+        flag: EntryFlag::Written(transaction.flag),
+    };
+    Shared::new(alloc, entry)
+}
+
+/// What the two postings have in common that a pad inserts.
+pub(crate) fn padding_entry<'a>(
+    alloc: Global,
+    pad: &Pad<'a>,
+) -> Result<Shared<Entry<'a>>, AllocError>
+    ensures { IfOk result (λ entry. entry ≡ spec.padding_entry pad.now) }
+{
+    let names = [
+        Slice::new(pad.account.text()),
+        Slice::new(pad.source.text()),
+    ];
+    let entry = Entry {
+        payee: None,
+        narration: PlainText::lent("Padding"),
+        tags: TextSet::new(Vec::new(alloc)),
+        links: TextSet::new(Vec::new(alloc)),
+        accounts: TextSet::new(Vec::from_array(alloc, names)?),
+        metadata: Metadata::empty(),
+        date: pad.day,
+        flag: EntryFlag::Padding,
+    };
+    Shared::new(alloc, entry)
+}

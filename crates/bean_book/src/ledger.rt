@@ -1,0 +1,144 @@
+//! The ledger of what is booked, in the order of the directives.
+ghost use Rattle.std.specs.Prelude.{◌≡◌, ◌≤◌, ◌<◌, ◌+◌, Err, IfOk, length};
+ghost use Rattle.std.specs.List.{AllByRecursion};
+ghost use Rattle.bean_sizes.specs.Booked.{IsSmallNoted};
+ghost use Rattle.bean_sizes.specs.Small.{IsSmall};
+ghost use Rattle.bean_book.specs.Booked.{Adds, MakesLedger, rows_of_all};
+ghost use Rattle.bean_book.specs.Entries as spec;
+ghost use Rattle.bean_book.specs.Kept.{AreOf, IsNextOf, IsTame};
+
+use crate::decimals::note_written;
+use crate::paddings::push_pad;
+use crate::rows::push_transaction;
+use bean_booker::{BookFault, Kept};
+use bean_heads::{Directive, DirectiveKind, Transaction};
+use bean_load::Placed;
+use bean_pad::NotedPad;
+use posting_table::{Ledger, MOST_POSTINGS};
+use std::alloc::Global;
+
+/// The transactions that are kept and the pads, of the directives that are still to be taken.
+#[derive(Clone, Copy)]
+struct Left<'b, 'a> {
+    kept: &'b [Kept<'a>],
+    pads: &'b [NotedPad<'a>],
+}
+
+/// Adds a transaction, the directive of that number, where it is kept. Tells which are left.
+fn take_transaction<'b, 'a>(
+    alloc: Global,
+    ledger: &mut Ledger<'a>,
+    number: usize,
+    placed: &Placed<Directive<'a>>,
+    transaction: &Transaction<'a>,
+    kept: &'b [Kept<'a>],
+) -> Result<&'b [Kept<'a>], BookFault>
+    requires is { placed.now.item.kind ≡ DirectiveKind.Transaction transaction.now }
+    requires next { IsNextOf number placed.now kept.now }
+    requires small { IsSmall placed.now }
+    requires tame { AllByRecursion IsTame kept.now }
+    ensures adds { IfOk result (λ rest.
+        Adds (spec.kept_at number placed.now.item transaction.now kept.now) ledger.old ledger.new) }
+    ensures left { IfOk result (λ rest. rest.now ≡ spec.behind_kept number kept.now) }
+    ensures full { result ≡ Err BookFault.TooManyPostings → MOST_POSTINGS
+        < length ledger.old.rows
+        + length (rows_of_all (spec.kept_at number placed.now.item transaction.now kept.now)) }
+{
+    let Some((first, rest)) = kept.split_first() else {
+        return Ok(kept);
+    };
+    if first.directive != number {
+        return Ok(kept);
+    }
+    let posted = first.postings.as_slice();
+    match push_transaction(alloc, ledger, &placed.item, transaction, posted) {
+        Ok(()) => {}
+        Err(fault) => return Err(fault),
+    }
+    note_written(ledger, transaction.postings.as_slice())?;
+    Ok(rest)
+}
+
+/// Adds what the next pad inserts. Tells which are left.
+fn take_pad<'b, 'a>(
+    alloc: Global,
+    ledger: &mut Ledger<'a>,
+    pads: &'b [NotedPad<'a>],
+) -> Result<&'b [NotedPad<'a>], BookFault>
+    requires { AllByRecursion IsSmallNoted pads.now }
+    ensures adds { IfOk result (λ rest. Adds (spec.noted_at pads.now) ledger.old ledger.new) }
+    ensures left { IfOk result (λ rest. rest.now ≡ spec.pads_left pads.now) }
+    ensures full { result ≡ Err BookFault.TooManyPostings → MOST_POSTINGS
+        < length ledger.old.rows + length (rows_of_all (spec.noted_at pads.now)) }
+{
+    let Some((first, rest)) = pads.split_first() else {
+        return Ok(pads);
+    };
+    match push_pad(alloc, ledger, first) {
+        Ok(()) => Ok(rest),
+        Err(fault) => Err(fault),
+    }
+}
+
+/// Adds what is booked of the directive of that number. Tells what is left.
+fn take_directive<'b, 'a>(
+    alloc: Global,
+    ledger: &mut Ledger<'a>,
+    number: usize,
+    placed: &Placed<Directive<'a>>,
+    left: Left<'b, 'a>,
+) -> Result<Left<'b, 'a>, BookFault>
+    requires next { IsNextOf number placed.now left.kept.now }
+    requires small { IsSmall placed.now }
+    requires tame { AllByRecursion IsTame left.kept.now }
+    requires pads { AllByRecursion IsSmallNoted left.pads.now }
+    ensures adds { IfOk result (λ rest.
+        Adds (spec.booking_of number placed.now.item placed.now.item.kind left.kept.now
+        left.pads.now) ledger.old ledger.new) }
+    ensures kept { IfOk result (λ rest. rest.kept.now
+        ≡ spec.kept_behind number placed.now.item.kind left.kept.now) }
+    ensures noted { IfOk result (λ rest. rest.pads.now
+        ≡ spec.pads_behind placed.now.item.kind left.pads.now) }
+    ensures full { result ≡ Err BookFault.TooManyPostings → MOST_POSTINGS
+        < length ledger.old.rows
+        + length (rows_of_all (spec.booking_of number placed.now.item placed.now.item.kind
+        left.kept.now left.pads.now)) }
+{
+    match &placed.item.kind {
+        DirectiveKind::Transaction(transaction) => {
+            match take_transaction(alloc, ledger, number, placed, transaction, left.kept) {
+                Ok(kept) => Ok(Left { kept, ..left }),
+                Err(fault) => Err(fault),
+            }
+        }
+        DirectiveKind::Pad(_) => match take_pad(alloc, ledger, left.pads) {
+            Ok(pads) => Ok(Left { pads, ..left }),
+            Err(fault) => Err(fault),
+        },
+        _ => Ok(left),
+    }
+}
+
+/// The ledger of what is booked of directives.
+pub(crate) fn ledger_of<'a>(
+    alloc: Global,
+    directives: &[Placed<Directive<'a>>],
+    kept: &[Kept<'a>],
+    pads: &[NotedPad<'a>],
+) -> Result<Ledger<'a>, BookFault>
+    requires are { AreOf 0 directives.now kept.now }
+    requires small { AllByRecursion IsSmall directives.now }
+    requires tame { AllByRecursion IsTame kept.now }
+    requires pads { AllByRecursion IsSmallNoted pads.now }
+    ensures { MakesLedger (spec.bookings 0 directives.now kept.now pads.now) result }
+{
+    let mut ledger = Ledger::new(alloc);
+    let mut left = Left { kept, pads };
+    for number in 0..directives.len() {
+        match take_directive(alloc, &mut ledger, number, &directives[number], left) {
+            Ok(rest) => left = rest,
+            Err(fault) => return Err(fault),
+        }
+    }
+    Ok(ledger)
+}

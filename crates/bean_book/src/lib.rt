@@ -1,0 +1,43 @@
+//! Booking: the postings of a loaded ledger, as the table that is listed and queried, and all that
+//! is wrong in it.
+//!
+//! ```text
+//! let loaded = load(alloc, &texts)?;
+//! let booked = book(alloc, loaded)?;
+//! booked.ledger.len()                    // how many postings there are
+//! booked.faults.as_slice()               // by file, line and number, equal ones once
+//! ```
+//!
+//! What the directives come to is told by [`bean_booker`]. In their order, each transaction that is
+//! kept gives a row for each posting that it is booked as, and each pad two for each balance that
+//! uses it up. A row has what its transaction says too: payee, narration, tags, links, accounts and
+//! metadata.
+//!
+//! # Display decimals
+//!
+//! A currency shows as many decimals as the longest number that is written for units of it in a
+//! transaction that is kept.
+//!
+//! # Faults
+//!
+//! `B1`: there are more than 1,000,000 postings. It is answered exactly there.
+//!
+//! # Cost
+//!
+//! What [`bean_booker`] costs; then one pass. Rows hold slices of the ledger's texts, and no text is
+//! copied but those with an escape; what the postings of a transaction have in common stands once.
+#![tactic(auto)]
+
+mod book;
+mod decimals;
+mod entries;
+mod faults;
+mod laws;
+mod ledger;
+mod metadata;
+mod paddings;
+mod rows;
+
+pub use bean_booker::BookFault;
+pub use book::{Booked, book};
+pub use laws::one_book;

@@ -1,0 +1,98 @@
+//! The rows that pads insert.
+ghost use Rattle.std.specs.Prelude.{◌≡◌, ◌<◌, ◌+◌, ◌++◌, ◌^◌, Err, IfOk, OnOk, length};
+ghost use Rattle.std.specs.Int.RustNames.{unsigned_abs};
+ghost use Rattle.bean_sizes.specs.Booked.{IsSmallNote, IsSmallNoted, IsSmallPad};
+ghost use Rattle.bean_book.specs.Rows as spec;
+
+use crate::entries::padding_entry;
+use crate::rows::push_row;
+use bean_base::{Account, Currency, Shared};
+use bean_booker::BookFault;
+use bean_lots::{Key, Position};
+use bean_pad::{Note, NotedPad, Outcome, Pad};
+use posting_table::{Entry, Ledger, MOST_POSTINGS, Metadata, Row, Weight};
+use std::alloc::{AllocError, Global};
+
+/// So much in an account, as a count of `10^-8`.
+fn padding_row<'a>(
+    entry: &Shared<Entry<'a>>,
+    pad: &Pad<'a>,
+    account: &Account<'a>,
+    currency: &Currency<'a>,
+    count: i128,
+) -> Result<Row<'a>, AllocError>
+    requires entry { entry.now ≡ spec.padding_entry pad.now }
+    requires small { unsigned_abs count < 10 ^ 20 }
+    ensures { IfOk result (λ row. row
+        ≡ spec.padding_row pad.now account.now currency.now count) }
+{
+    Ok(Row {
+        entry: entry.share()?,
+        account: account.lend(),
+        position: Position {
+            key: Key {
+                currency: currency.lend(),
+                lot: None,
+            },
+            count,
+        },
+        weight: Weight {
+            count: count * 100_000_000,
+            currency: currency.lend(),
+        },
+        metadata: Metadata::empty(),
+        line: pad.line,
+        flag: None,
+    })
+}
+
+/// Adds the rows that a pad inserts for one balance.
+fn push_note<'a>(
+    ledger: &mut Ledger<'a>,
+    entry: &Shared<Entry<'a>>,
+    pad: &Pad<'a>,
+    note: &Note<'a>,
+) -> Result<(), BookFault>
+    requires entry { entry.now ≡ spec.padding_entry pad.now }
+    requires pad { IsSmallPad pad.now }
+    requires note { IsSmallNote note.now }
+    ensures rows { OnOk result (ledger.new.rows
+        ≡ ledger.old.rows ++ spec.rows_of_note pad.now note.now) }
+    ensures decimals { ledger.new.decimals ≡ ledger.old.decimals }
+    ensures full { result ≡ Err BookFault.TooManyPostings
+        → MOST_POSTINGS < length ledger.old.rows + length (spec.rows_of_note pad.now note.now) }
+{
+    let Outcome::Padding(number) = note.outcome else {
+        return Ok(());
+    };
+    let count = number.scaled(8);
+    let row = padding_row(entry, pad, &pad.account, &note.currency, count)?;
+    match push_row(ledger, row) {
+        Ok(()) => {}
+        Err(fault) => return Err(fault),
+    }
+    let row = padding_row(entry, pad, &pad.source, &note.currency, -count)?;
+    push_row(ledger, row)
+}
+
+/// Adds the rows that a pad inserts.
+pub(crate) fn push_pad<'a>(
+    alloc: Global,
+    ledger: &mut Ledger<'a>,
+    noted: &NotedPad<'a>,
+) -> Result<(), BookFault>
+    requires { IsSmallNoted noted.now }
+    ensures rows { OnOk result (ledger.new.rows ≡ ledger.old.rows ++ spec.rows_of_pad noted.now) }
+    ensures decimals { ledger.new.decimals ≡ ledger.old.decimals }
+    ensures full { result ≡ Err BookFault.TooManyPostings
+        → MOST_POSTINGS < length ledger.old.rows + length (spec.rows_of_pad noted.now) }
+{
+    let entry = padding_entry(alloc, &noted.pad)?;
+    for note in noted.notes.as_slice() {
+        match push_note(ledger, &entry, &noted.pad, note) {
+            Ok(()) => {}
+            Err(fault) => return Err(fault),
+        }
+    }
+    Ok(())
+}

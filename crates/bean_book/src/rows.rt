@@ -1,0 +1,180 @@
+//! The rows of kept transactions.
+ghost use Rattle.std.specs.Prelude.{◌≡◌, ◌<◌, ◌≤◌, ◌+◌, ◌++◌, ◌∷◌, [], Err, IfOk, OnOk, length, map};
+ghost use Rattle.std.specs.Prelude.{slice_get, unwrap_or};
+ghost use Rattle.std.specs.List.{AllByRecursion};
+ghost use Rattle.bean_interp.specs.Residual.{IsLight};
+ghost use Rattle.bean_sizes.specs.Booked.{IsSmallPosted};
+ghost use Rattle.bean_sizes.specs.Part.{IsSmallPosting, most};
+ghost use Rattle.bean_sizes.specs.Small.{IsSmallDirective};
+ghost use Rattle.bean_trial.specs.Tried.{booked_leg, booked_legs, whole_at};
+ghost use Rattle.posting_table.specs.Shaped.{IsShaped, widest};
+ghost use Rattle.bean_book.specs.Metadata.{items_of};
+ghost use Rattle.bean_book.specs.Rows as spec;
+ghost use Rattle.bean_book.specs.Shaped.{IsSmallEntry};
+
+use crate::entries::entry_of;
+use crate::metadata::metadata_of;
+use bean_base::Shared;
+use bean_booker::BookFault;
+use bean_grammar::Posting;
+use bean_heads::{Directive, Transaction};
+use bean_lots::{Key, Position};
+use bean_trial::{Posted, whole};
+use posting_table::{Entry, Ledger, MOST_POSTINGS, Metadata, Row, Weight};
+use std::alloc::{AllocError, Global};
+
+/// Adds a row at the end.
+pub(crate) fn push_row<'a>(ledger: &mut Ledger<'a>, row: Row<'a>) -> Result<(), BookFault>
+    requires { IsShaped widest row.entry }
+    ensures rows { OnOk result (ledger.new.rows ≡ ledger.old.rows ++ row.entry ∷ []) }
+    ensures decimals { ledger.new.decimals ≡ ledger.old.decimals }
+    ensures full { result ≡ Err BookFault.TooManyPostings
+        → MOST_POSTINGS ≤ length ledger.old.rows }
+{
+    if ledger.len() >= MOST_POSTINGS {
+        return Err(BookFault::TooManyPostings);
+    }
+    ledger.push(row)?;
+    Ok(())
+}
+
+/// The metadata of written postings.
+fn metadata_of_all<'a>(
+    alloc: Global,
+    postings: &[Posting<'a>],
+) -> Result<Vec<Metadata<'a>>, AllocError>
+    ensures { IfOk result (λ all. all.items ≡ map (λ w. items_of w.metadata) postings.now) }
+{
+    let mut all = Vec::new(alloc);
+    for posting in postings {
+        all.push(metadata_of(alloc, posting.metadata.as_slice())?)?;
+    }
+    Ok(all)
+}
+
+/// The metadata of the written posting of that number.
+fn metadata_at<'a>(all: &[Metadata<'a>], written: usize) -> Result<Metadata<'a>, AllocError>
+    ensures { IfOk result (λ metadata. metadata ≡ unwrap_or (slice_get all.now written) []) }
+{
+    match all.get(written) {
+        Some(metadata) => metadata.share(),
+        None => Ok(Metadata::empty()),
+    }
+}
+
+/// What a booked posting weighs.
+fn weight_of<'a>(postings: &[Posting<'a>], posted: &Posted<'a>) -> Weight<'a>
+    requires { IsLight (booked_leg postings.now posted.now) }
+    ensures { result
+        ≡ spec.weight_by (whole_at (slice_get postings.now posted.now.written) posted.now) }
+{
+    match whole(postings, posted).weight() {
+        Ok(weight) => Weight {
+            count: weight.count,
+            currency: weight.currency,
+        },
+        Err(_) => unreachable!(),
+    }
+}
+
+/// What is added to an account, and as what it is held.
+fn position_of<'a>(posted: &Posted<'a>) -> Position<'a>
+    ensures { result ≡ spec.position_of posted.now }
+{
+    Position {
+        key: Key {
+            currency: posted.units.currency.lend(),
+            lot: match &posted.lot {
+                Some(lot) => Some(lot.lend()),
+                None => None,
+            },
+        },
+        count: posted.units.number.scaled(8),
+    }
+}
+
+/// The row of a booked posting, which has the metadata of the written one.
+fn row_of<'a>(
+    entry: &Shared<Entry<'a>>,
+    line: usize,
+    postings: &[Posting<'a>],
+    metadata: Metadata<'a>,
+    posted: &Posted<'a>,
+) -> Result<Row<'a>, AllocError>
+    requires light { IsLight (booked_leg postings.now posted.now) }
+    requires noted { metadata.entry
+        ≡ spec.items_in (slice_get postings.now posted.now.written) }
+    ensures { IfOk result (λ row. row
+        ≡ spec.row_of entry.now line postings.now posted.now) }
+{
+    let (line, flag) = match postings.get(posted.written) {
+        Some(written) => (written.line, written.flag),
+        None => (line, None),
+    };
+    Ok(Row {
+        entry: entry.share()?,
+        account: posted.account.lend(),
+        position: position_of(posted),
+        weight: weight_of(postings, posted),
+        metadata,
+        line,
+        flag,
+    })
+}
+
+/// Adds the rows of booked postings.
+fn push_posted<'a>(
+    ledger: &mut Ledger<'a>,
+    entry: &Shared<Entry<'a>>,
+    line: usize,
+    postings: &[Posting<'a>],
+    metadata: &[Metadata<'a>],
+    posted: &[Posted<'a>],
+) -> Result<(), BookFault>
+    requires noted { metadata.now ≡ map (λ w. items_of w.metadata) postings.now }
+    requires light { AllByRecursion IsLight (booked_legs postings.now posted.now) }
+    requires small { AllByRecursion IsSmallPosted posted.now }
+    requires written { AllByRecursion IsSmallPosting postings.now }
+    requires at { line ≤ most }
+    requires of { IsSmallEntry entry.now }
+    ensures rows { OnOk result (ledger.new.rows
+        ≡ ledger.old.rows ++ map (spec.row_of entry.now line postings.now) posted.now) }
+    ensures decimals { ledger.new.decimals ≡ ledger.old.decimals }
+    ensures full { result ≡ Err BookFault.TooManyPostings
+        → MOST_POSTINGS < length ledger.old.rows + length posted.now }
+{
+    for one in posted {
+        let noted = metadata_at(metadata, one.written)?;
+        let row = row_of(entry, line, postings, noted, one)?;
+        match push_row(ledger, row) {
+            Ok(()) => {}
+            Err(fault) => return Err(fault),
+        }
+    }
+    Ok(())
+}
+
+/// Adds the rows of a transaction that is kept.
+pub(crate) fn push_transaction<'a>(
+    alloc: Global,
+    ledger: &mut Ledger<'a>,
+    directive: &Directive<'a>,
+    transaction: &Transaction<'a>,
+    posted: &[Posted<'a>],
+) -> Result<(), BookFault>
+    requires light { AllByRecursion IsLight (booked_legs transaction.now.postings posted.now) }
+    requires small { AllByRecursion IsSmallPosted posted.now }
+    requires few { length posted.now ≤ 1000000 }
+    requires written { IsSmallOf directive.now transaction.now }
+    ensures rows { OnOk result (ledger.new.rows ≡ ledger.old.rows
+        ++ spec.rows_of_transaction directive.now transaction.now posted.now) }
+    ensures decimals { ledger.new.decimals ≡ ledger.old.decimals }
+    ensures full { result ≡ Err BookFault.TooManyPostings
+        → MOST_POSTINGS < length ledger.old.rows
+        + length (spec.rows_of_transaction directive.now transaction.now posted.now) }
+{
+    let postings = transaction.postings.as_slice();
+    let entry = entry_of(alloc, directive, transaction, posted)?;
+    let metadata = metadata_of_all(alloc, postings)?;
+    push_posted(ledger, &entry, directive.line, postings, &metadata, posted)
+}
