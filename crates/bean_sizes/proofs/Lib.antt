@@ -1,0 +1,4 @@
+pub mod Keeping
+pub mod ShortFacts
+pub mod LineFacts
+pub mod PostingFacts

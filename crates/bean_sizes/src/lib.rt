@@ -1,0 +1,2 @@
+//! Sizes.
+#![tactic(auto)]
