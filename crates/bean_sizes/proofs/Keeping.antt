@@ -5,6 +5,7 @@ use Rattle.std.proofs.Common.{refl, sym, subst}
 use Rattle.std.specs.List.{AllByRecursion}
 use Rattle.theory.specs.Form.{Form, word, made, ◌<+>◌, behind, closed, checked, related, DueRead, due}
 use Rattle.theory.specs.Form.{either, ending, ItemsRead, steps, row, pair, chain, Is}
+use Rattle.bean_sizes.proofs.ShortFacts.{Any}
 
 pub record Keeps {L V : Type 0} (P : L → Type 0) (S : V → Type 0) (form : Form L V) : Type 0 where
   pub keeps : (ls : List L) (v : V) (rest : List L) → AllByRecursion P ls → form.reads ls v rest
@@ -109,10 +110,6 @@ keeps_row {T = T} begins a start b step first next begun go = record {
       let m = items_read b step next go p.2 p.1 rest (start p.0) k.1 (begun p.0 k.0) p.4 in
       (subst T (sym p.5) m.0, m.1);
 }
-
--- nothing is said of what is read
-abbrev pub Any : {V : Type 0} → V → Type 0
-Any v = Unit {0}
 
 -- nothing is said of the operands, and nothing of what comes of them
 pub keeps_chain :

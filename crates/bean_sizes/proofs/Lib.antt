@@ -1,4 +1,5 @@
-pub mod Keeping
 pub mod ShortFacts
+pub mod Keeping
 pub mod LineFacts
 pub mod PostingFacts
+pub mod HeadFacts

@@ -31,10 +31,10 @@ use Rattle.bean_grammar.specs.Metadata.{value, is_more, with_value, all_values, 
 use Rattle.bean_grammar.specs.Metadata.{entry}
 use Rattle.bean_grammar.specs.Ranged.{ranged_map}
 use Rattle.bean_sizes.specs.Part.{IsShort, IsShortMark, IsShortValue, IsShortEntry}
-use Rattle.bean_sizes.proofs.Keeping.{Keeps, Any, keeps_word, keeps_made, keeps_applied, keeps_behind}
+use Rattle.bean_sizes.proofs.Keeping.{Keeps, keeps_word, keeps_made, keeps_applied, keeps_behind}
 use Rattle.bean_sizes.proofs.Keeping.{keeps_closed, keeps_checked, keeps_related, keeps_due}
 use Rattle.bean_sizes.proofs.Keeping.{keeps_either, keeps_ending, keeps_row, keeps_chain}
-use Rattle.bean_sizes.proofs.ShortFacts.{all_pushed, WhenWithin, mapped, mapped_any}
+use Rattle.bean_sizes.proofs.ShortFacts.{all_pushed, Any, WhenWithin, mapped, mapped_any}
 use Rattle.bean_sizes.proofs.ShortFacts.{text_short}
 
 abbrev pub IsShortLexeme : Lexeme → Type 0

@@ -36,9 +36,10 @@ use Rattle.bean_grammar.specs.Price.{price_or_absent, price_if_due}
 use Rattle.bean_grammar.specs.Ranged.{ranged_map2, option_within}
 use Rattle.bean_sizes.specs.Part.{most, IsShort, AreShortUnits, IsShortCost, IsShortPrice}
 use Rattle.bean_sizes.specs.Part.{IsSmallPosting}
-use Rattle.bean_sizes.proofs.Keeping.{Any, keeps_word, keeps_made, keeps_applied, keeps_behind}
+use Rattle.bean_sizes.proofs.Keeping.{keeps_word, keeps_made, keeps_applied, keeps_behind}
 use Rattle.bean_sizes.proofs.Keeping.{keeps_closed, keeps_checked, keeps_due, keeps_either, keeps_row}
-use Rattle.bean_sizes.proofs.ShortFacts.{WhenWithin, mapped_any, mapped2, mapped3, option_short}
+use Rattle.bean_sizes.proofs.ShortFacts.{Any, WhenWithin, any_within, mapped_any, mapped2, mapped3}
+use Rattle.bean_sizes.proofs.ShortFacts.{option_short}
 use Rattle.bean_sizes.proofs.LineFacts.{IsShortLexeme, Gives, account_kept, text_kept, day_kept}
 use Rattle.bean_sizes.proofs.LineFacts.{IsShortAmount, amount_short, AreShortAmountParts}
 use Rattle.bean_sizes.proofs.LineFacts.{number_if_due_kept, currency_if_due_kept, amount_parts_kept}
@@ -141,25 +142,19 @@ braced_kept is_total =
     (keeps_closed (Sign (closing is_total)) cost_parts cost_parts_kept))
 
 abbrev lot_of : Bool → CostParts → Option amounts.Amount → Option days.Day → costs.Cost
-lot_of b p amount day =
+lot_of b p amount when =
     cond b cost_kind.OutsideProfile
-    (cost_kind.Lot record { amount = amount; day = day; label = p.label })
+    (cost_kind.Lot record { amount = amount; day = when; label = p.label })
 
-lot_short : (b : Bool) (p : CostParts) (amount : Option amounts.Amount) (day : Option days.Day)
-    → IfSome amount IsShortAmount → IfSome p.label IsShort → IsShortCost (lot_of b p amount day)
-lot_short true p amount day h k = tt
-lot_short false p amount day h k = (h, k)
+lot_short : (b : Bool) (p : CostParts) (amount : Option amounts.Amount) (when : Option days.Day)
+    → IfSome amount IsShortAmount → IfSome p.label IsShort → IsShortCost (lot_of b p amount when)
+lot_short true p amount when h k = tt
+lot_short false p amount when h k = (h, k)
 
 fit_short : (b : Bool) (r : Ranged costs.Cost) → WhenWithin IsShortCost r
     → WhenWithin IsShortCost (cond b r Outside)
 fit_short true r h = h
 fit_short false r h = tt
-
--- a day says nothing
-day_any : (o : Option (Ranged days.Day)) → WhenWithin Any (option_within o)
-day_any None = tt
-day_any (Some (Within d)) = tt
-day_any (Some Outside) = tt
 
 cost_short : (is_total : Bool) (p : CostParts) → AreShortParts p
     → WhenWithin IsShortCost (cost_of is_total p)
@@ -167,8 +162,8 @@ cost_short is_total p h =
     fit_short (others_fit p)
     (ranged_map2 (cost_with is_total p) (option_within p.amount) (option_within p.day))
     (mapped2 IsShortCost (cost_with is_total p) (option_within p.amount) (option_within p.day)
-    (option_short IsShortAmount p.amount h.0) (day_any p.day)
-    (λ amount day k any. lot_short (is_outside_profile is_total p) p amount day k h.1))
+    (option_short IsShortAmount p.amount h.0) (any_within (option_within p.day))
+    (λ amount when k any. lot_short (is_outside_profile is_total p) p amount when k h.1))
 
 cost_in_kept : (is_total : Bool) → Gives (WhenWithin IsShortCost) (cost_in is_total)
 cost_in_kept is_total =

@@ -24,6 +24,14 @@ abbrev pub WhenWithin : {V : Type 0} → (V → Type 0) → Ranged V → Type 0
 WhenWithin S (Within v) = S v
 WhenWithin S Outside = Unit {0}
 
+-- what always holds
+abbrev pub Any : {V : Type 0} → V → Type 0
+Any v = Unit {0}
+
+pub any_within : {V : Type 0} (r : Ranged V) → WhenWithin Any r
+any_within (Within v) = tt
+any_within Outside = tt
+
 pub mapped : {V W : Type 0} {S : V → Type 0} (T : W → Type 0) (f : V → W) (r : Ranged V)
     → WhenWithin S r → ((v : V) → S v → T (f v)) → WhenWithin T (ranged_map f r)
 mapped T f (Within v) h go = go v h
@@ -32,8 +40,7 @@ mapped T f Outside h go = tt
 -- the same where nothing needs to be known of the value
 pub mapped_any : {V W : Type 0} (T : W → Type 0) (f : V → W) (r : Ranged V) → ((v : V) → T (f v))
     → WhenWithin T (ranged_map f r)
-mapped_any T f (Within v) go = go v
-mapped_any T f Outside go = tt
+mapped_any T f r go = mapped T f r (any_within r) (λ v any. go v)
 
 pub mapped2 :
     {U V W : Type 0} {R : U → Type 0} {S : V → Type 0} (T : W → Type 0) (f : U → V → W)

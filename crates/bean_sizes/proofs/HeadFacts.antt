@@ -1,0 +1,229 @@
+-- First lines are small where their lexemes are short.
+use Rattle.std.proofs.Common.{◌≡◌, ℕ, Bool, true, false, cond, List, [], ◌∷◌, Option, Some, None}
+use Rattle.std.proofs.Common.{IfSome, codes, arith, sym, subst}
+use Rattle.std.specs.List.{AllByRecursion}
+use Rattle.std.specs.Str.{bytes_eq}
+use Rattle.theory.specs.Form.{Form, Is, word, made, ◌<+>◌, behind, due, separated, alone, snoc}
+use Rattle.bean_base.specs.declared.days.Day as days
+use Rattle.bean_base.specs.declared.flags.Flag as flags
+use Rattle.bean_base.specs.declared.flags.Flag.TheVariants.{Complete, Incomplete}
+use Rattle.bean_base.specs.declared.num.Num.{Num}
+use Rattle.bean_lexer.specs.declared.kind.Keyword as keywords
+use Rattle.bean_lexer.specs.declared.kind.Keyword.TheVariants as keyword
+use Rattle.bean_lexer.specs.declared.kind.Sign as signs
+use Rattle.bean_lexer.specs.declared.kind.Sign.TheVariants as sign
+use Rattle.bean_grammar.specs.declared.mark.Mark.{Mark}
+use Rattle.bean_grammar.specs.declared.metadata.Value.{Value}
+use Rattle.bean_grammar.specs.declared.ranged.Ranged.{Ranged}
+use Rattle.bean_grammar.specs.Expression.{expression}
+use Rattle.bean_grammar.specs.Lexeme.{Lexeme, Account, Currency, Tag, Key, Keyword, Sign}
+use Rattle.bean_grammar.specs.Lexeme.{begins_with_text, begins_with_currency}
+use Rattle.bean_grammar.specs.Literal.{day, text}
+use Rattle.bean_grammar.specs.Mark.{marks}
+use Rattle.bean_grammar.specs.Metadata.{all_values, entry}
+use Rattle.bean_heads.specs.Head as head
+use Rattle.bean_heads.specs.Head.{listed, begins_with_comma, some_currencies, currencies, open_of}
+use Rattle.bean_heads.specs.Head.{open_line, close_of, close_line, pad_of, pad_line, commodity_of}
+use Rattle.bean_heads.specs.Head.{commodity_line, begins_with_tilde, not_below_zero, tolerance}
+use Rattle.bean_heads.specs.Head.{ranged_option, balance_of, balance_line, price_of, price_line}
+use Rattle.bean_heads.specs.Head.{note_of, note_line, document_of, document_line, event_of}
+use Rattle.bean_heads.specs.Head.{event_line, query_of, query_line, custom_of, custom_line, words_of}
+use Rattle.bean_heads.specs.Head.{words, transaction_of, transaction_line, kind_behind, IsHead}
+use Rattle.bean_heads.specs.declared.directive.DirectiveKind.{DirectiveKind}
+use Rattle.bean_heads.specs.declared.directive.DirectiveKind.TheVariants as kinds
+use Rattle.bean_heads.specs.declared.transaction.PayeeAndNarration.{PayeeAndNarration}
+use Rattle.bean_sizes.specs.Part.{IsShort, IsShortMark}
+use Rattle.bean_sizes.specs.Small.{IsSmallKind}
+use Rattle.bean_sizes.proofs.Keeping.{Keeps, keeps_made, keeps_applied, keeps_behind, keeps_due}
+use Rattle.bean_sizes.proofs.Keeping.{keeps_row, kept}
+use Rattle.bean_sizes.proofs.ShortFacts.{Any, WhenWithin, any_within, all_pushed, mapped_any, mapped2}
+use Rattle.bean_sizes.proofs.LineFacts.{IsShortLexeme, Gives, account_kept, currency_kept, text_kept}
+use Rattle.bean_sizes.proofs.LineFacts.{day_kept, expression_kept, marks_kept, all_values_kept}
+
+-- what stands behind the word of a kind
+abbrev GivesKind : Form Lexeme (Ranged DirectiveKind) → Type 0
+GivesKind form = Gives (WhenWithin IsSmallKind) form
+
+nothing_kept : GivesKind head.nothing
+nothing_kept = record { keeps = λ ls v rest all p. absurd p }
+
+text_if_due_kept : Gives (λ o. IfSome o IsShort) (due begins_with_text text)
+text_if_due_kept = keeps_due begins_with_text text text_kept
+
+-- Accounts.
+
+listed_short : (o : Option (List (List ℕ))) → IfSome o (AllByRecursion IsShort)
+    → AllByRecursion IsShort (listed o)
+listed_short None h = tt
+listed_short (Some names) h = h
+
+some_currencies_kept : Gives (AllByRecursion IsShort) some_currencies
+some_currencies_kept =
+    keeps_row begins_with_comma (word Currency) alone
+    (behind (Sign sign.Comma) (word Currency)) snoc currency_kept
+    (keeps_behind (Sign sign.Comma) (word Currency) currency_kept) (λ c h. (h, tt))
+    (λ cs c h k. all_pushed IsShort cs c h k)
+
+currencies_kept : Gives (AllByRecursion IsShort) currencies
+currencies_kept =
+    keeps_applied (made listed) (due begins_with_currency some_currencies)
+    (keeps_due begins_with_currency some_currencies some_currencies_kept)
+    (keeps_made listed listed_short)
+
+open_kept : GivesKind open_line
+open_kept =
+    keeps_applied (made open_of <+> word Account <+> currencies) (due begins_with_text text)
+    text_if_due_kept
+    (keeps_applied (made open_of <+> word Account) currencies currencies_kept
+    (keeps_applied (made open_of) (word Account) account_kept
+    (keeps_made open_of (λ account a names s method m. (a, s)))))
+
+close_kept : GivesKind close_line
+close_kept =
+    keeps_applied (made close_of) (word Account) account_kept
+    (keeps_made close_of (λ account a. a))
+
+pad_kept : GivesKind pad_line
+pad_kept =
+    keeps_applied (made pad_of <+> word Account) (word Account) account_kept
+    (keeps_applied (made pad_of) (word Account) account_kept
+    (keeps_made pad_of (λ account a source s. (a, s))))
+
+-- Numbers.
+
+commodity_kept : GivesKind commodity_line
+commodity_kept =
+    keeps_applied (made commodity_of) (word Currency) currency_kept
+    (keeps_made commodity_of (λ c h. tt))
+
+not_below_kept : Gives Any not_below_zero
+not_below_kept = record { keeps = λ ls v rest all p. expression_kept.keeps ls v rest all p.0 }
+
+tolerance_kept : Gives (λ o. IfSome o Any) (due begins_with_tilde tolerance)
+tolerance_kept =
+    keeps_due begins_with_tilde tolerance
+    (keeps_behind (Sign sign.Tilde) not_below_zero not_below_kept)
+
+abbrev the_balance : List ℕ → List ℕ → Num → Option Num → DirectiveKind
+the_balance account currency n t =
+    kinds.Balance record { account = account; number = n; tolerance = t; currency = currency }
+
+balance_kept : GivesKind balance_line
+balance_kept =
+    keeps_applied
+    (made balance_of <+> word Account <+> expression <+> due begins_with_tilde tolerance)
+    (word Currency) currency_kept
+    (keeps_applied (made balance_of <+> word Account <+> expression)
+    (due begins_with_tilde tolerance) tolerance_kept
+    (keeps_applied (made balance_of <+> word Account) expression expression_kept
+    (keeps_applied (made balance_of) (word Account) account_kept
+    (keeps_made balance_of
+    (λ account a n any t due currency c.
+    mapped2 IsSmallKind (the_balance account currency) n (ranged_option t) (any_within n)
+    (any_within (ranged_option t)) (λ x y one two. (a, c)))))))
+
+price_kept : GivesKind price_line
+price_kept =
+    keeps_applied (made price_of <+> word Currency <+> expression) (word Currency) currency_kept
+    (keeps_applied (made price_of <+> word Currency) expression expression_kept
+    (keeps_applied (made price_of) (word Currency) currency_kept
+    (keeps_made price_of
+    (λ currency c n any other o.
+    mapped_any IsSmallKind
+    (λ x. kinds.Price record {
+      currency = currency;
+      amount = record { number = x; currency = other };
+    }) n (λ x. tt)))))
+
+-- Notes.
+
+note_kept : GivesKind note_line
+note_kept =
+    keeps_applied (made note_of <+> word Account) text text_kept
+    (keeps_applied (made note_of) (word Account) account_kept
+    (keeps_made note_of (λ account a t h. tt)))
+
+document_kept : GivesKind document_line
+document_kept =
+    keeps_applied (made document_of <+> word Account <+> text) marks marks_kept
+    (keeps_applied (made document_of <+> word Account) text text_kept
+    (keeps_applied (made document_of) (word Account) account_kept
+    (keeps_made document_of (λ account a name n ms h. tt))))
+
+event_kept : GivesKind event_line
+event_kept =
+    keeps_applied (made event_of <+> text) text text_kept
+    (keeps_applied (made event_of) text text_kept (keeps_made event_of (λ name n value v. tt)))
+
+query_kept : GivesKind query_line
+query_kept =
+    keeps_applied (made query_of <+> text) text text_kept
+    (keeps_applied (made query_of) text text_kept (keeps_made query_of (λ name n value v. tt)))
+
+custom_kept : GivesKind custom_line
+custom_kept =
+    keeps_applied (made custom_of <+> text) all_values all_values_kept
+    (keeps_applied (made custom_of) text text_kept
+    (keeps_made custom_of
+    (λ name n values any.
+    mapped_any IsSmallKind (λ vs. kinds.Custom record { name = name; values = vs }) values
+    (λ vs. tt))))
+
+-- Transactions.
+
+abbrev AreShortWords : PayeeAndNarration → Type 0
+AreShortWords w = IfSome w.payee IsShort × IsShort w.narration
+
+words_short : (a b : Option (List ℕ)) → IfSome a IsShort → IfSome b IsShort
+    → AreShortWords (words_of a b)
+words_short (Some payee) (Some narration) h k = (h, k)
+words_short (Some narration) None h k = (tt, h)
+words_short None b h k = (tt, omega arith)
+
+words_kept : Gives AreShortWords words
+words_kept =
+    keeps_applied (made words_of <+> due begins_with_text text) (due begins_with_text text)
+    text_if_due_kept
+    (keeps_applied (made words_of) (due begins_with_text text) text_if_due_kept
+    (keeps_made words_of (λ a h b k. words_short a b h k)))
+
+transaction_kept : (flag : flags.Flag) → GivesKind (transaction_line flag)
+transaction_kept flag =
+    keeps_applied (made (transaction_of flag) <+> words) marks marks_kept
+    (keeps_applied (made (transaction_of flag)) words words_kept
+    (keeps_made (transaction_of flag)
+    (λ w h ms m. record { payee = h.0; narration = h.1; marks = m; postings = tt })))
+
+-- First lines.
+
+sign_kept : (s : signs.Sign) → GivesKind (kind_behind (Sign s))
+sign_kept sign.Star = transaction_kept Complete
+sign_kept sign.Bang = transaction_kept Incomplete
+sign_kept _ = nothing_kept
+
+keyword_kept : (k : keywords.Keyword) → GivesKind (kind_behind (Keyword k))
+keyword_kept keyword.Txn = transaction_kept Complete
+keyword_kept keyword.Open = open_kept
+keyword_kept keyword.Close = close_kept
+keyword_kept keyword.Commodity = commodity_kept
+keyword_kept keyword.Balance = balance_kept
+keyword_kept keyword.Pad = pad_kept
+keyword_kept keyword.Note = note_kept
+keyword_kept keyword.Document = document_kept
+keyword_kept keyword.Price = price_kept
+keyword_kept keyword.Event = event_kept
+keyword_kept keyword.Query = query_kept
+keyword_kept keyword.Custom = custom_kept
+keyword_kept _ = nothing_kept
+
+kind_kept : (l : Lexeme) → GivesKind (kind_behind l)
+kind_kept (Sign s) = sign_kept s
+kind_kept (Keyword k) = keyword_kept k
+kind_kept _ = nothing_kept
+
+pub head_small : (ls : List Lexeme) (d : Ranged days.Day) (k : Ranged DirectiveKind)
+    → AllByRecursion IsShortLexeme ls → IsHead ls d k → WhenWithin IsSmallKind k
+head_small ls d k all h =
+    let mid : AllByRecursion IsShortLexeme h.0 = (day_kept.keeps ls d h.0 all h.3).1 in
+    let rest = subst (AllByRecursion IsShortLexeme) h.4 mid in
+    kept (kind_behind h.1) h.2 k (kind_kept h.1) rest.1 h.5

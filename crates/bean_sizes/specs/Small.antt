@@ -1,0 +1,34 @@
+-- What of a directive is small: its texts and its line are no larger than a ledger's text may be,
+-- and it has no more tags and links than that.
+use Rattle.std.specs.Prelude.{◌≤◌, length, IfSome}
+use Rattle.std.specs.List.{AllByRecursion}
+use Rattle.bean_heads.specs.declared.directive.Directive as directives
+use Rattle.bean_heads.specs.declared.directive.DirectiveKind as kinds
+use Rattle.bean_heads.specs.declared.directive.DirectiveKind.TheVariants as kind
+use Rattle.bean_heads.specs.declared.transaction.Transaction as transactions
+use Rattle.bean_sizes.specs.Part.{most, IsShort, IsShortMark, IsShortEntry, IsSmallPosting}
+
+pub record IsSmallTransaction (t : transactions.Transaction) : Type 0 where
+  pub payee : IfSome t.payee IsShort
+  pub narration : IsShort t.narration
+  pub marks : AllByRecursion IsShortMark t.marks
+  pub postings : AllByRecursion IsSmallPosting t.postings
+
+-- what the books have of a directive
+abbrev pub IsSmallKind : kinds.DirectiveKind → Type 0
+IsSmallKind (kind.Transaction t) = IsSmallTransaction t
+IsSmallKind (kind.Pad p) = IsShort p.account × IsShort p.source
+IsSmallKind (kind.Balance b) = IsShort b.account × IsShort b.currency
+IsSmallKind (kind.Open o) = IsShort o.account × AllByRecursion IsShort o.currencies
+IsSmallKind (kind.Close c) = IsShort c.account
+IsSmallKind k = Unit {0}
+
+abbrev pub HasFewMarks : kinds.DirectiveKind → Type 0
+HasFewMarks (kind.Transaction t) = length t.marks ≤ most
+HasFewMarks k = Unit {0}
+
+pub record IsSmallDirective (d : directives.Directive) : Type 0 where
+  pub line : d.line ≤ most
+  pub metadata : AllByRecursion IsShortEntry d.metadata
+  pub kind : IsSmallKind d.kind
+  pub marks : HasFewMarks d.kind
