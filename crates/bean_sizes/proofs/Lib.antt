@@ -3,3 +3,5 @@ pub mod Keeping
 pub mod LineFacts
 pub mod PostingFacts
 pub mod HeadFacts
+pub mod UndatedFacts
+pub mod TokenFacts
