@@ -1,7 +1,8 @@
 -- What of a directive is small: its texts and its line are no larger than a ledger's text may be,
 -- and it has no more tags and links than that.
-use Rattle.std.specs.Prelude.{◌≤◌, length, IfSome}
+use Rattle.std.specs.Prelude.{◌≤◌, List, [], length, IfSome}
 use Rattle.std.specs.List.{AllByRecursion}
+use Rattle.bean_grammar.specs.declared.mark.Mark.{Mark}
 use Rattle.bean_heads.specs.declared.directive.Directive as directives
 use Rattle.bean_heads.specs.declared.directive.DirectiveKind as kinds
 use Rattle.bean_heads.specs.declared.directive.DirectiveKind.TheVariants as kind
@@ -23,12 +24,13 @@ IsSmallKind (kind.Open o) = IsShort o.account × AllByRecursion IsShort o.curren
 IsSmallKind (kind.Close c) = IsShort c.account
 IsSmallKind k = Unit {0}
 
-abbrev pub HasFewMarks : kinds.DirectiveKind → Type 0
-HasFewMarks (kind.Transaction t) = length t.marks ≤ most
-HasFewMarks k = Unit {0}
+-- the tags and links of a transaction, its own and those that were pushed to it
+abbrev pub marks_of : kinds.DirectiveKind → List Mark
+marks_of (kind.Transaction t) = t.marks
+marks_of k = []
 
 pub record IsSmallDirective (d : directives.Directive) : Type 0 where
   pub line : d.line ≤ most
   pub metadata : AllByRecursion IsShortEntry d.metadata
   pub kind : IsSmallKind d.kind
-  pub marks : HasFewMarks d.kind
+  pub marks : length (marks_of d.kind) ≤ most
