@@ -6,3 +6,5 @@ pub mod MarkFacts
 pub mod HeadFacts
 pub mod UndatedFacts
 pub mod TokenFacts
+pub mod CutFacts
+pub mod BodyFacts
