@@ -8,3 +8,6 @@ pub mod UndatedFacts
 pub mod TokenFacts
 pub mod CutFacts
 pub mod BodyFacts
+pub mod OutcomeFacts
+pub mod PushFacts
+pub mod ParsedFacts

@@ -14,10 +14,11 @@ use Rattle.bean_grammar.specs.declared.posting.Units as units_declared
 use Rattle.bean_grammar.specs.declared.posting.Units.TheVariants as units
 use Rattle.bean_grammar.specs.declared.price.Price as prices
 use Rattle.bean_grammar.specs.declared.price.Price.TheVariants.{PerUnit, Total}
+use Rattle.bean_load.specs.declared.gathering.TheConstants.{LARGEST_TEXT}
 
 -- the most bytes of a text of a ledger, and so the most of whatever is counted of it
 abbrev pub most : ℕ
-most = 16777216
+most = LARGEST_TEXT
 
 abbrev pub IsShort : List ℕ → Type 0
 IsShort bytes = length bytes ≤ most
