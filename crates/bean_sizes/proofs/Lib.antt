@@ -11,3 +11,5 @@ pub mod BodyFacts
 pub mod OutcomeFacts
 pub mod PushFacts
 pub mod ParsedFacts
+pub mod LoadedFacts
+pub mod GatheringFacts
