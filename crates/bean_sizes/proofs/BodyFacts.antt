@@ -1,27 +1,25 @@
 -- The lines under a first one are small where their lexemes are short, and have no more tags and
 -- links than lexemes.
-use Rattle.std.proofs.Common.{◌≡◌, ℕ, ◌+◌, ◌≤◌, Bool, true, false, List, [], ◌∷◌, ◌++◌, length, map}
+use Rattle.std.proofs.Common.{◌≡◌, ℕ, ◌+◌, ◌≤◌, Bool, List, [], ◌∷◌, length, map}
 use Rattle.std.proofs.Common.{Option, Some, None, IfSome, arith, ap, refl, length-append}
 use Rattle.std.specs.List.{AllByRecursion}
 use Rattle.theory.specs.Cut.{cut_before}
 use Rattle.bean_lexer.specs.declared.token.Token.{Token}
-use Rattle.bean_grammar.specs.declared.mark.Mark.{Mark}
 use Rattle.bean_grammar.specs.declared.metadata.Entry.{Entry}
 use Rattle.bean_grammar.specs.declared.posting.Posting.{Posting}
 use Rattle.bean_grammar.specs.declared.ranged.Ranged.TheVariants.{Within, Outside}
-use Rattle.bean_grammar.specs.Lexeme.{Lexeme}
 use Rattle.bean_grammar.specs.Mark.{some_marks}
 use Rattle.bean_grammar.specs.Metadata.{entry}
 use Rattle.bean_grammar.specs.Posting.{posting}
 use Rattle.bean_parser.specs.Block.{Line, line_of, lines, begins_line, first_line}
 use Rattle.bean_parser.specs.Under.{IsLine, AreLines, no_lines, under_posting, with_entry, all_before}
-use Rattle.bean_parser.specs.Under.{with_posting, with_line, with_lines, postings_in}
+use Rattle.bean_parser.specs.Under.{with_line, with_lines, postings_in}
 use Rattle.bean_parser.specs.declared.under.Body.{Body}
 use Rattle.bean_parser.specs.declared.under.LineKind.{LineKind}
 use Rattle.bean_parser.specs.declared.under.LineKind.TheVariants as kinds
 use Rattle.bean_sizes.specs.Part.{most, IsShortMark, IsShortEntry, IsSmallPosting}
 use Rattle.bean_sizes.proofs.Keeping.{kept}
-use Rattle.bean_sizes.proofs.ShortFacts.{WhenWithin, all_joined, all_pushed}
+use Rattle.bean_sizes.proofs.ShortFacts.{all_joined, all_pushed}
 use Rattle.bean_sizes.proofs.LineFacts.{IsShortLexeme, some_marks_kept, entry_kept}
 use Rattle.bean_sizes.proofs.PostingFacts.{posting_kept}
 use Rattle.bean_sizes.proofs.MarkFacts.{some_marks_no_more}

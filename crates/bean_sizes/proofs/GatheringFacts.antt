@@ -1,6 +1,6 @@
 -- Each text that is gathered has at most as many bytes as a text may have.
-use Rattle.std.proofs.Common.{◌≡◌, ℕ, zero, suc, ◌≤◌, Bool, true, false, ◌||◌, MatchBool, nat_lt}
-use Rattle.std.proofs.Common.{List, [], ◌∷◌, ◌++◌, length, Result, Ok, Err, refl, sym, subst, arith}
+use Rattle.std.proofs.Common.{◌≡◌, ℕ, zero, suc, Bool, true, false, ◌||◌, MatchBool, nat_lt}
+use Rattle.std.proofs.Common.{List, [], ◌∷◌, length, Result, Ok, Err, refl, sym, subst}
 use Rattle.std.proofs.lemmas.Bool.{ltb-false}
 use Rattle.std.specs.List.{AllByRecursion}
 use Rattle.std.specs.Str.{is_utf8}
@@ -13,7 +13,7 @@ use Rattle.bean_load.specs.Gathered.{was_asked, with_asked, with_bytes, with_fau
 use Rattle.bean_load.specs.Gathering.{Step, Ends, AsksFor, BytesCome, AnswerComes, gone_on, Stands, LineBy}
 use Rattle.bean_load.specs.Gathering.{Then, LinesBy, TextBy, TextBelow, LineComes, TextComes, Comes}
 use Rattle.bean_load.specs.Include.{Include}
-use Rattle.bean_load.specs.Texts.{File, Texts}
+use Rattle.bean_load.specs.Texts.{Texts}
 use Rattle.bean_load.specs.declared.fault.LoadFault.{LoadFault}
 use Rattle.bean_load.specs.declared.fault.LoadFault.TheVariants.{Unreadable, NotUtf8, TooLarge}
 use Rattle.bean_load.specs.declared.gathering.TheConstants.{DEEPEST}

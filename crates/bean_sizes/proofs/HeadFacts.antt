@@ -1,9 +1,8 @@
 -- First lines are small where their lexemes are short.
-use Rattle.std.proofs.Common.{◌≡◌, ℕ, Bool, true, false, cond, List, [], ◌∷◌, Option, Some, None}
-use Rattle.std.proofs.Common.{IfSome, ◌+◌, ◌≤◌, length, arith, refl, sym, ◌∙◌, ap, subst}
+use Rattle.std.proofs.Common.{◌≡◌, ℕ, List, [], Option, Some, None}
+use Rattle.std.proofs.Common.{IfSome, ◌≤◌, length, arith, refl, sym, ◌∙◌, ap, subst}
 use Rattle.std.specs.List.{AllByRecursion}
-use Rattle.std.specs.Str.{bytes_eq}
-use Rattle.theory.specs.Form.{Form, Is, word, made, ◌<+>◌, behind, due, separated, alone, snoc}
+use Rattle.theory.specs.Form.{Form, Is, word, made, ◌<+>◌, behind, due, alone, snoc}
 use Rattle.bean_base.specs.declared.days.Day as days
 use Rattle.bean_base.specs.declared.flags.Flag as flags
 use Rattle.bean_base.specs.declared.flags.Flag.TheVariants.{Complete, Incomplete}
@@ -12,16 +11,14 @@ use Rattle.bean_lexer.specs.declared.kind.Keyword as keywords
 use Rattle.bean_lexer.specs.declared.kind.Keyword.TheVariants as keyword
 use Rattle.bean_lexer.specs.declared.kind.Sign as signs
 use Rattle.bean_lexer.specs.declared.kind.Sign.TheVariants as sign
-use Rattle.bean_grammar.specs.declared.mark.Mark.{Mark}
-use Rattle.bean_grammar.specs.declared.metadata.Value.{Value}
 use Rattle.bean_grammar.specs.declared.ranged.Ranged.{Ranged}
 use Rattle.bean_grammar.specs.declared.ranged.Ranged.TheVariants.{Within, Outside}
 use Rattle.bean_grammar.specs.Expression.{expression}
-use Rattle.bean_grammar.specs.Lexeme.{Lexeme, Account, Currency, Tag, Key, Keyword, Sign}
+use Rattle.bean_grammar.specs.Lexeme.{Lexeme, Account, Currency, Keyword, Sign}
 use Rattle.bean_grammar.specs.Lexeme.{begins_with_text, begins_with_currency}
-use Rattle.bean_grammar.specs.Literal.{day, text}
+use Rattle.bean_grammar.specs.Literal.{text}
 use Rattle.bean_grammar.specs.Mark.{marks}
-use Rattle.bean_grammar.specs.Metadata.{all_values, entry}
+use Rattle.bean_grammar.specs.Metadata.{all_values}
 use Rattle.bean_heads.specs.Head as head
 use Rattle.bean_heads.specs.Head.{listed, begins_with_comma, some_currencies, currencies, open_of}
 use Rattle.bean_heads.specs.Head.{open_line, close_of, close_line, pad_of, pad_line, commodity_of}
@@ -33,9 +30,9 @@ use Rattle.bean_heads.specs.Head.{words, transaction_of, transaction_line, kind_
 use Rattle.bean_heads.specs.declared.directive.DirectiveKind.{DirectiveKind}
 use Rattle.bean_heads.specs.declared.directive.DirectiveKind.TheVariants as kinds
 use Rattle.bean_heads.specs.declared.transaction.PayeeAndNarration.{PayeeAndNarration}
-use Rattle.bean_sizes.specs.Part.{IsShort, IsShortMark}
+use Rattle.bean_sizes.specs.Part.{IsShort}
 use Rattle.bean_sizes.specs.Small.{IsSmallKind, marks_of}
-use Rattle.bean_sizes.proofs.Keeping.{Keeps, keeps_made, keeps_applied, keeps_behind, keeps_due}
+use Rattle.bean_sizes.proofs.Keeping.{keeps_made, keeps_applied, keeps_behind, keeps_due}
 use Rattle.bean_sizes.proofs.Keeping.{keeps_row, kept}
 use Rattle.bean_sizes.proofs.ShortFacts.{Any, WhenWithin, any_within, all_pushed, mapped_any, mapped2}
 use Rattle.bean_sizes.proofs.LineFacts.{IsShortLexeme, Gives, account_kept, currency_kept, text_kept}

@@ -1,7 +1,7 @@
 -- What forms keep: where P holds of each lexeme, S holds of what is read, and P of each lexeme that
 -- is left.
 use Rattle.std.proofs.Common.{◌⊎◌, inl, inr, ◌≡◌, Bool, List, [], ◌∷◌, Option, Some, None, IfSome}
-use Rattle.std.proofs.Common.{refl, sym, subst}
+use Rattle.std.proofs.Common.{sym, subst}
 use Rattle.std.specs.List.{AllByRecursion}
 use Rattle.theory.specs.Form.{Form, word, made, ◌<+>◌, behind, closed, checked, related, DueRead, due}
 use Rattle.theory.specs.Form.{either, ending, ItemsRead, steps, row, pair, chain, Is}

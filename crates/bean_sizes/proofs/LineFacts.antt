@@ -1,17 +1,15 @@
 -- What is read of a line's lexemes is short where these are.
-use Rattle.std.proofs.Common.{ℕ, zero, suc, ◌≡◌, Bool, true, false, cond, List, [], ◌∷◌, Option}
+use Rattle.std.proofs.Common.{ℕ, zero, suc, List, [], Option}
 use Rattle.std.proofs.Common.{Some, None, IfSome, sym, subst}
 use Rattle.std.specs.List.{AllByRecursion}
-use Rattle.theory.specs.Form.{Form, word, made, ◌<+>◌, behind, closed, checked, due, either, row}
-use Rattle.theory.specs.Form.{chain, snoc, alone}
+use Rattle.theory.specs.Form.{Form, word, made, ◌<+>◌, behind, closed, due, either}
+use Rattle.theory.specs.Form.{snoc, alone}
 use Rattle.bean_base.specs.declared.amounts.Amount as amounts
-use Rattle.bean_base.specs.declared.days.Day as days
 use Rattle.bean_base.specs.declared.num.Num.{Num}
 use Rattle.bean_lexer.specs.declared.kind.Sign.TheVariants as sign
 use Rattle.bean_grammar.specs.declared.amount.AmountParts.{AmountParts}
 use Rattle.bean_grammar.specs.declared.mark.Mark as marks_declared
 use Rattle.bean_grammar.specs.declared.mark.Mark.TheVariants as mark_kind
-use Rattle.bean_grammar.specs.declared.metadata.Entry.{Entry}
 use Rattle.bean_grammar.specs.declared.metadata.Value as values
 use Rattle.bean_grammar.specs.declared.metadata.Value.TheVariants as value_kind
 use Rattle.bean_grammar.specs.declared.ranged.Ranged.{Ranged}
@@ -29,10 +27,9 @@ use Rattle.bean_grammar.specs.Mark.{written, begins_with_mark, mark, marks, some
 use Rattle.bean_grammar.specs.Metadata.{IsPlain, any_lexeme, plain, valued, number_value, numeric}
 use Rattle.bean_grammar.specs.Metadata.{value, is_more, with_value, all_values, entry_with, entry_of}
 use Rattle.bean_grammar.specs.Metadata.{entry}
-use Rattle.bean_grammar.specs.Ranged.{ranged_map}
 use Rattle.bean_sizes.specs.Part.{IsShort, IsShortMark, IsShortValue, IsShortEntry}
 use Rattle.bean_sizes.proofs.Keeping.{Keeps, keeps_word, keeps_made, keeps_applied, keeps_behind}
-use Rattle.bean_sizes.proofs.Keeping.{keeps_closed, keeps_checked, keeps_related, keeps_due}
+use Rattle.bean_sizes.proofs.Keeping.{keeps_closed, keeps_related, keeps_due}
 use Rattle.bean_sizes.proofs.Keeping.{keeps_either, keeps_ending, keeps_row, keeps_chain}
 use Rattle.bean_sizes.proofs.ShortFacts.{all_pushed, Any, WhenWithin, mapped, mapped_any}
 use Rattle.bean_sizes.proofs.ShortFacts.{text_short}

@@ -1,8 +1,7 @@
 -- What the texts of a ledger say together is small where each of them is.
-use Rattle.std.proofs.Common.{◌≡◌, ℕ, ◌+◌, Bool, true, false, cond, List, [], ◌∷◌, ◌++◌, map, sym, subst}
+use Rattle.std.proofs.Common.{ℕ, ◌+◌, Bool, true, false, cond, List, [], ◌∷◌, map, subst}
 use Rattle.std.specs.Cmp.{IsTotalOrder}
 use Rattle.std.specs.List.{AllByRecursion}
-use Rattle.std.specs.Ordering.{nat_cmp}
 use Rattle.std.specs.declared.cmp.Ordering.{Ordering}
 use Rattle.std.proofs.lemmas.Cmp.{on_total, then_total, nat_cmp_total, int_cmp_total}
 use Rattle.std.proofs.lemmas.List.Sorted.{ranks_by}
@@ -11,11 +10,10 @@ use Rattle.theory.proofs.ArrangedFacts.{is_arranged}
 use Rattle.theory.proofs.ArrangementFacts.{one_by_key}
 use Rattle.bean_heads.specs.declared.directive.Directive.{Directive}
 use Rattle.bean_load.specs.Loaded.{Loaded, IsLoaded, AreParsed, directives_in}
-use Rattle.bean_load.specs.Order.{AreInOrder, DayKey, Key, key_of, key_cmp}
+use Rattle.bean_load.specs.Order.{DayKey, Key, key_of, key_cmp}
 use Rattle.bean_load.specs.Placed.{parts_of, placed_directive}
 use Rattle.bean_load.specs.Texts.{File, Texts}
 use Rattle.bean_load.specs.declared.placed.Own.{Own}
-use Rattle.bean_load.specs.declared.placed.Placed.{Placed}
 use Rattle.bean_load.specs.declared.texts.Part.{Part}
 use Rattle.bean_parser.specs.declared.parse.Parsed.{Parsed}
 use Rattle.bean_sizes.specs.Part.{IsShort}

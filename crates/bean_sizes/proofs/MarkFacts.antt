@@ -1,5 +1,5 @@
 -- Each tag and each link takes a lexeme.
-use Rattle.std.proofs.Common.{◌≡◌, ℕ, ◌+◌, ◌≤◌, Bool, List, [], ◌∷◌, ◌++◌, length, Option, Some, None}
+use Rattle.std.proofs.Common.{◌≡◌, ℕ, ◌+◌, ◌≤◌, List, [], ◌∷◌, length, Option, Some, None}
 use Rattle.std.proofs.Common.{arith, ap, length-append}
 use Rattle.theory.specs.Form.{DueRead, ItemsRead, steps, snoc, alone}
 use Rattle.bean_grammar.specs.declared.mark.Mark.{Mark}

@@ -1,5 +1,5 @@
 -- What a block gives is small where its tokens are, and has no more tags and links than tokens.
-use Rattle.std.proofs.Common.{◌≡◌, ℕ, ◌+◌, ◌≤◌, Bool, true, false, List, [], ◌∷◌, ◌++◌, length}
+use Rattle.std.proofs.Common.{◌≡◌, ℕ, ◌+◌, ◌≤◌, Bool, true, false, List, [], ◌∷◌, length}
 use Rattle.std.proofs.Common.{Option, Some, None, arith, ap, sym, subst, length-append}
 use Rattle.std.specs.List.{AllByRecursion}
 use Rattle.bean_base.specs.declared.days.Day as days
@@ -13,9 +13,9 @@ use Rattle.bean_heads.specs.declared.directive.Directive.{Directive}
 use Rattle.bean_heads.specs.declared.directive.DirectiveKind.{DirectiveKind}
 use Rattle.bean_heads.specs.declared.directive.DirectiveKind.TheVariants as kinds
 use Rattle.bean_parser.specs.Block.{Line, lines, fault_line}
-use Rattle.bean_parser.specs.Grammar.{Tree, Dated, Undated, HaveTree, HasTree, takes_postings}
-use Rattle.bean_parser.specs.Grammar.{with_body, directive_of, in_body, dated, undated, said}
-use Rattle.bean_parser.specs.Outcome.{ReadsAs, GivesAt, Gives, AllGive, fault_at}
+use Rattle.bean_parser.specs.Grammar.{Tree, Dated, Undated, HaveTree, takes_postings}
+use Rattle.bean_parser.specs.Grammar.{with_body, directive_of, in_body, said}
+use Rattle.bean_parser.specs.Outcome.{ReadsAs, GivesAt, AllGive}
 use Rattle.bean_parser.specs.Under.{no_lines, with_lines, postings_in}
 use Rattle.bean_parser.specs.declared.block.Outcome.{Outcome}
 use Rattle.bean_parser.specs.declared.block.Outcome.TheVariants as outcome

@@ -7,7 +7,7 @@ use Rattle.bean_parser.specs.Parsed.{IsParsed, directives_in, all_bounds}
 use Rattle.bean_parser.specs.Scope.{with_pushes}
 use Rattle.bean_parser.specs.declared.parse.Parsed.{Parsed}
 use Rattle.bean_sizes.specs.Part.{most, IsShort}
-use Rattle.bean_sizes.specs.Small.{IsSmallDirective, marks_of}
+use Rattle.bean_sizes.specs.Small.{IsSmallDirective}
 use Rattle.bean_sizes.proofs.TokenFacts.{IsShortToken, tokens_short, tokens_few}
 use Rattle.bean_sizes.proofs.CutFacts.{cut_all, cut_count}
 use Rattle.bean_sizes.proofs.OutcomeFacts.{outcomes_fit, sizes}

@@ -1,13 +1,12 @@
 -- Costs, prices and posting lines are small where their lexemes are short.
-use Rattle.std.proofs.Common.{ℕ, ◌≤◌, ◌≡◌, Bool, true, false, ◌&&◌, cond, List, [], ◌∷◌, Option}
-use Rattle.std.proofs.Common.{Some, None, IfSome, sym, subst}
-use Rattle.theory.specs.Form.{Form, word, made, ◌<+>◌, behind, closed, checked, due, either, row}
+use Rattle.std.proofs.Common.{ℕ, ◌≤◌, ◌≡◌, Bool, true, false, cond, List, [], Option}
+use Rattle.std.proofs.Common.{Some, None, IfSome, subst}
+use Rattle.theory.specs.Form.{word, made, ◌<+>◌, behind, closed, due, either}
 use Rattle.bean_base.specs.declared.amounts.Amount as amounts
 use Rattle.bean_base.specs.declared.days.Day as days
 use Rattle.bean_base.specs.declared.flags.Flag as flags
 use Rattle.bean_base.specs.declared.num.Num.{Num}
 use Rattle.bean_lexer.specs.declared.kind.Sign.TheVariants.{Star, Hash, Comma}
-use Rattle.bean_grammar.specs.declared.amount.AmountParts.{AmountParts}
 use Rattle.bean_grammar.specs.declared.cost.Cost as costs
 use Rattle.bean_grammar.specs.declared.cost.Cost.TheVariants as cost_kind
 use Rattle.bean_grammar.specs.declared.cost_part.CostPart as parts
@@ -19,15 +18,15 @@ use Rattle.bean_grammar.specs.declared.posting.Units.TheVariants as units_kind
 use Rattle.bean_grammar.specs.declared.price.Price as prices
 use Rattle.bean_grammar.specs.declared.price.Price.TheVariants as price_kind
 use Rattle.bean_grammar.specs.declared.ranged.Ranged.{Ranged}
-use Rattle.bean_grammar.specs.declared.ranged.Ranged.TheVariants.{Within, Outside}
-use Rattle.bean_grammar.specs.Amount.{amount_of, amount_parts, number_if_due, currency_if_due}
+use Rattle.bean_grammar.specs.declared.ranged.Ranged.TheVariants.{Outside}
+use Rattle.bean_grammar.specs.Amount.{amount_parts, number_if_due, currency_if_due}
 use Rattle.bean_grammar.specs.Cost.{opening, closing, is_outside_profile, others_fit, cost_with}
 use Rattle.bean_grammar.specs.Cost.{cost_of, braced, cost_in, cost, begins_with_cost}
 use Rattle.bean_grammar.specs.Cost.{cost_or_absent, cost_if_due}
 use Rattle.bean_grammar.specs.CostPart.{number_part_of, compound_if_due, itself, number_part, merge}
 use Rattle.bean_grammar.specs.CostPart.{part, no_parts, placed, put, put_first, another_part}
 use Rattle.bean_grammar.specs.CostPart.{row_of_parts, cost_parts}
-use Rattle.bean_grammar.specs.Lexeme.{Lexeme, Account, Sign, begins_with_sign}
+use Rattle.bean_grammar.specs.Lexeme.{Account, Sign, begins_with_sign}
 use Rattle.bean_grammar.specs.Literal.{day, text}
 use Rattle.bean_grammar.specs.Posting.{flag_sign, begins_with_flag_sign, flag_if_due, units_by}
 use Rattle.bean_grammar.specs.Posting.{units_of, units, posting_of, posted_to, posting}
@@ -40,8 +39,8 @@ use Rattle.bean_sizes.proofs.Keeping.{keeps_word, keeps_made, keeps_applied, kee
 use Rattle.bean_sizes.proofs.Keeping.{keeps_closed, keeps_checked, keeps_due, keeps_either, keeps_row}
 use Rattle.bean_sizes.proofs.ShortFacts.{Any, WhenWithin, any_within, mapped_any, mapped2, mapped3}
 use Rattle.bean_sizes.proofs.ShortFacts.{option_short}
-use Rattle.bean_sizes.proofs.LineFacts.{IsShortLexeme, Gives, account_kept, text_kept, day_kept}
-use Rattle.bean_sizes.proofs.LineFacts.{IsShortAmount, amount_short, AreShortAmountParts}
+use Rattle.bean_sizes.proofs.LineFacts.{Gives, account_kept, text_kept, day_kept}
+use Rattle.bean_sizes.proofs.LineFacts.{IsShortAmount, amount_short}
 use Rattle.bean_sizes.proofs.LineFacts.{number_if_due_kept, currency_if_due_kept, amount_parts_kept}
 
 -- The parts of a cost.

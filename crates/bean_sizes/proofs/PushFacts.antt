@@ -1,5 +1,5 @@
 -- What is pushed leaves directives small, and each push gives a directive one tag at most.
-use Rattle.std.proofs.Common.{◌≡◌, ℕ, suc, ◌+◌, ◌≤◌, Bool, true, false, cond, ◌&&◌, nat_le, nat_lt}
+use Rattle.std.proofs.Common.{ℕ, suc, ◌+◌, ◌≤◌, Bool, true, false, cond, ◌&&◌, nat_le, nat_lt}
 use Rattle.std.proofs.Common.{List, [], ◌∷◌, ◌++◌, length, Option, Some, None, arith, length-append}
 use Rattle.std.specs.List.{AllByRecursion, flat_map}
 use Rattle.bean_grammar.specs.declared.mark.Mark.TheVariants as mark
@@ -22,7 +22,7 @@ use Rattle.bean_parser.specs.declared.scope.PlacedBound.{PlacedBound}
 use Rattle.bean_parser.specs.declared.statement.Statement.TheVariants as statement
 use Rattle.bean_sizes.specs.Part.{IsShort, IsShortMark, IsShortEntry}
 use Rattle.bean_sizes.specs.Small.{IsSmallKind, marks_of}
-use Rattle.bean_sizes.proofs.ShortFacts.{all_joined, all_pushed}
+use Rattle.bean_sizes.proofs.ShortFacts.{all_pushed}
 use Rattle.bean_sizes.proofs.UndatedFacts.{IsShortPushed, IsShortBound, IsShortUndated}
 use Rattle.bean_sizes.proofs.OutcomeFacts.{IsSmallApart, IsSmallOutcome, sizes}
 

@@ -3,14 +3,14 @@
 use Rattle.std.proofs.Common.{◌≡◌, ℕ, ◌+◌, ◌-◌, ◌<◌, ◌≤◌, List, [], ◌∷◌, length, take, drop, ap, arith}
 use Rattle.std.proofs.lemmas.List.{length-take, length-drop}
 use Rattle.std.proofs.lemmas.List.Sums.{count_by-le-length}
-use Rattle.std.specs.List.{AllByRecursion, count_by}
+use Rattle.std.specs.List.{AllByRecursion}
 use Rattle.bean_lexer.specs.Gap.{is_line_feed, gap_from}
-use Rattle.bean_lexer.specs.Tokens.{IsToken, TokensFrom, line_at}
+use Rattle.bean_lexer.specs.Tokens.{TokensFrom, line_at}
 use Rattle.bean_lexer.specs.declared.kind.Kind as kinds
 use Rattle.bean_lexer.specs.declared.kind.Kind.TheVariants as kind
 use Rattle.bean_lexer.specs.declared.token.Token.{Token}
 use Rattle.bean_lexer.proofs.TokensFacts.{token_some}
-use Rattle.bean_grammar.specs.Lexeme.{lexeme_at, lexeme_of, lexemes}
+use Rattle.bean_grammar.specs.Lexeme.{lexeme_at, lexemes}
 use Rattle.bean_sizes.specs.Part.{most, IsShort}
 use Rattle.bean_sizes.proofs.ShortFacts.{drop_short, take_short}
 use Rattle.bean_sizes.proofs.LineFacts.{IsShortLexeme}

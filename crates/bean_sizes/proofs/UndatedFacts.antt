@@ -1,9 +1,9 @@
 -- What is pushed is small where its lexemes are short.
-use Rattle.std.proofs.Common.{◌≡◌, ℕ, Bool, true, false, cond, List, [], ◌∷◌, Option, sym, subst}
+use Rattle.std.proofs.Common.{ℕ, Bool, true, false, cond, List, subst}
 use Rattle.std.proofs.Common.{codes}
 use Rattle.std.specs.List.{AllByRecursion}
 use Rattle.std.specs.Str.{bytes_eq}
-use Rattle.theory.specs.Form.{Form, Is, word, made, ◌<+>◌, due}
+use Rattle.theory.specs.Form.{Form, word, made, ◌<+>◌, due}
 use Rattle.bean_lexer.specs.declared.kind.Keyword as keywords
 use Rattle.bean_lexer.specs.declared.kind.Keyword.TheVariants as keyword
 use Rattle.bean_grammar.specs.declared.ranged.Ranged.{Ranged}
