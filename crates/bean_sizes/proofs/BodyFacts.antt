@@ -24,25 +24,31 @@ use Rattle.bean_sizes.proofs.LineFacts.{IsShortLexeme, some_marks_kept, entry_ke
 use Rattle.bean_sizes.proofs.PostingFacts.{posting_kept}
 use Rattle.bean_sizes.proofs.MarkFacts.{some_marks_no_more}
 use Rattle.bean_sizes.proofs.TokenFacts.{IsShortToken, lexemes_short, lexemes_same}
-use Rattle.bean_sizes.proofs.CutFacts.{cut_all, count, cut_count}
+use Rattle.bean_sizes.proofs.CutFacts.{cut_all, AreSome, cut_some, count, cut_count}
 
 abbrev pub IsShortLine : Line → Type 0
-IsShortLine l = (l.number ≤ most) × AllByRecursion IsShortLexeme l.lexemes
+IsShortLine l =
+    (l.number ≤ most) × AllByRecursion IsShortLexeme l.lexemes × (1 ≤ length l.lexemes)
 
 first_line_short : (ts : List Token) → AllByRecursion IsShortToken ts → first_line ts ≤ most
 first_line_short [] all = omega arith
 first_line_short (t ∷ ts) all = all.0.1
 
 parts_short : (parts : List (List Token)) → AllByRecursion (AllByRecursion IsShortToken) parts
-    → AllByRecursion IsShortLine (map line_of parts)
-parts_short [] all = tt
-parts_short (ts ∷ parts) all =
-    ((first_line_short ts all.0, lexemes_short ts all.0), parts_short parts all.1)
+    → AreSome parts → AllByRecursion IsShortLine (map line_of parts)
+parts_short [] all some = tt
+parts_short (ts ∷ parts) all some =
+    let same = lexemes_same ts in
+    let first : 1 ≤ length ts = some.0 in (
+      (first_line_short ts all.0, lexemes_short ts all.0, omega arith),
+      parts_short parts all.1 some.1,
+    )
 
 pub lines_short : (ts : List Token) → AllByRecursion IsShortToken ts
     → AllByRecursion IsShortLine (lines ts)
 lines_short ts all =
     parts_short (cut_before begins_line ts) (cut_all IsShortToken begins_line ts all)
+    (cut_some begins_line ts)
 
 -- how many lexemes lines have together
 abbrev pub lexemes_in : List Line → ℕ
@@ -190,3 +196,43 @@ lines_marks t (l ∷ ls) (k ∷ ks) b are =
 pub body_marks : (in_transaction : Bool) (ls : List Line) (ks : List LineKind)
     → AreLines in_transaction ls ks → length (with_lines no_lines ks).marks ≤ lexemes_in ls
 body_marks t ls ks are = let m = lines_marks t ls ks no_lines are in omega arith
+
+-- Postings.
+
+entry_postings : (b : Body) (o : Option Posting) (e : Entry) → b.last ≡ o
+    → length (postings_in (with_entry b o e)) ≡ length (postings_in b)
+entry_postings b None e is = refl
+entry_postings b (Some p) e is =
+    let last = ap (λ o. length (all_before b.before o)) is in
+    let old = length-append b.before (p ∷ []) in
+    let new = length-append b.before (under_posting p e ∷ []) in
+    omega arith
+
+line_postings : (in_transaction : Bool) (l : Line) (k : LineKind) (b : Body) → IsShortLine l
+    → IsLine in_transaction l k
+    → length (postings_in (with_line b k)) ≤ length (postings_in b) + length l.lexemes
+line_postings t l (kinds.Entry (Within e)) b s is =
+    let same = entry_postings b b.last e refl in omega arith
+line_postings t l (kinds.Entry Outside) b s is = omega arith
+line_postings t l (kinds.Marks ms) b s is = omega arith
+line_postings t l (kinds.Posting (Within p)) b s is =
+    let both = length-append (postings_in b) (p ∷ []) in
+    let some : 1 ≤ length l.lexemes = s.2 in
+    omega arith
+line_postings t l (kinds.Posting Outside) b s is = omega arith
+
+lines_postings : (in_transaction : Bool) (ls : List Line) (ks : List LineKind) (b : Body)
+    → AllByRecursion IsShortLine ls → AreLines in_transaction ls ks
+    → length (postings_in (with_lines b ks)) ≤ length (postings_in b) + lexemes_in ls
+lines_postings t [] [] b all are = omega arith
+lines_postings t [] (k ∷ ks) b all are = absurd (cc)
+lines_postings t (l ∷ ls) [] b all are = absurd are
+lines_postings t (l ∷ ls) (k ∷ ks) b all are =
+    let first = line_postings t l k b all.0 are.0 in
+    let rest = lines_postings t ls ks (with_line b k) all.1 are.1 in
+    omega arith
+
+pub body_postings : (in_transaction : Bool) (ls : List Line) (ks : List LineKind)
+    → AllByRecursion IsShortLine ls → AreLines in_transaction ls ks
+    → length (postings_in (with_lines no_lines ks)) ≤ lexemes_in ls
+body_postings t ls ks all are = let n = lines_postings t ls ks no_lines all are in omega arith

@@ -1,5 +1,5 @@
 -- What holds of each item of a list holds of those of its parts, and the parts have as many items.
-use Rattle.std.proofs.Common.{◌≡◌, ℕ, ◌+◌, Bool, true, false, cond, List, [], ◌∷◌, length}
+use Rattle.std.proofs.Common.{◌≡◌, ℕ, ◌+◌, ◌≤◌, Bool, true, false, cond, List, [], ◌∷◌, length}
 use Rattle.std.proofs.Common.{arith}
 use Rattle.std.specs.List.{AllByRecursion}
 use Rattle.theory.specs.Cut.{put_before, cut_before}
@@ -24,6 +24,27 @@ module _ {A : Type 0} where
   cut_all P begins [] all = tt
   cut_all P begins (x ∷ xs) all =
       put_all P begins x (cut_before begins xs) all.0 (cut_all P begins xs all.1)
+
+  -- no part is empty
+
+  abbrev pub AreSome : List (List A) → Type 0
+  AreSome parts = AllByRecursion (λ part. 1 ≤ length part) parts
+
+  put_some_by : (b : Bool) (x y : A) (ys : List A) (parts : List (List A))
+      → AreSome ((y ∷ ys) ∷ parts)
+      → AreSome (cond b ((x ∷ []) ∷ ((y ∷ ys) ∷ parts)) ((x ∷ (y ∷ ys)) ∷ parts))
+  put_some_by true x y ys parts all = (omega arith, all)
+  put_some_by false x y ys parts all = (omega arith, all.1)
+
+  put_some : (begins : A → Bool) (x : A) (parts : List (List A)) → AreSome parts
+      → AreSome (put_before begins x parts)
+  put_some begins x [] all = (omega arith, tt)
+  put_some begins x ([] ∷ parts) all = (omega arith, all.1)
+  put_some begins x ((y ∷ ys) ∷ parts) all = put_some_by (begins y) x y ys parts all
+
+  pub cut_some : (begins : A → Bool) (xs : List A) → AreSome (cut_before begins xs)
+  cut_some begins [] = tt
+  cut_some begins (x ∷ xs) = put_some begins x (cut_before begins xs) (cut_some begins xs)
 
   -- how many items some lists have together
   abbrev pub count : List (List A) → ℕ

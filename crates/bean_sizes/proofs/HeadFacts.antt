@@ -30,7 +30,7 @@ use Rattle.bean_heads.specs.Head.{words, transaction_of, transaction_line, kind_
 use Rattle.bean_heads.specs.declared.directive.DirectiveKind.{DirectiveKind}
 use Rattle.bean_heads.specs.declared.directive.DirectiveKind.TheVariants as kinds
 use Rattle.bean_heads.specs.declared.transaction.PayeeAndNarration.{PayeeAndNarration}
-use Rattle.bean_sizes.specs.Part.{IsShort}
+use Rattle.bean_sizes.specs.Part.{IsShort, IsShortCurrency}
 use Rattle.bean_sizes.specs.Small.{IsSmallKind, marks_of}
 use Rattle.bean_sizes.proofs.Keeping.{keeps_made, keeps_applied, keeps_behind, keeps_due}
 use Rattle.bean_sizes.proofs.Keeping.{keeps_row, kept}
@@ -54,19 +54,19 @@ text_if_due_kept = keeps_due begins_with_text text text_kept
 
 -- Accounts.
 
-listed_short : (o : Option (List (List ℕ))) → IfSome o (AllByRecursion IsShort)
-    → AllByRecursion IsShort (listed o)
+listed_short : (o : Option (List (List ℕ))) → IfSome o (AllByRecursion IsShortCurrency)
+    → AllByRecursion IsShortCurrency (listed o)
 listed_short None h = tt
 listed_short (Some names) h = h
 
-some_currencies_kept : Gives (AllByRecursion IsShort) some_currencies
+some_currencies_kept : Gives (AllByRecursion IsShortCurrency) some_currencies
 some_currencies_kept =
     keeps_row begins_with_comma (word Currency) alone
     (behind (Sign sign.Comma) (word Currency)) snoc currency_kept
     (keeps_behind (Sign sign.Comma) (word Currency) currency_kept) (λ c h. (h, tt))
-    (λ cs c h k. all_pushed IsShort cs c h k)
+    (λ cs c h k. all_pushed IsShortCurrency cs c h k)
 
-currencies_kept : Gives (AllByRecursion IsShort) currencies
+currencies_kept : Gives (AllByRecursion IsShortCurrency) currencies
 currencies_kept =
     keeps_applied (made listed) (due begins_with_currency some_currencies)
     (keeps_due begins_with_currency some_currencies some_currencies_kept)
@@ -194,7 +194,13 @@ transaction_kept flag =
     keeps_applied (made (transaction_of flag) <+> words) marks marks_kept
     (keeps_applied (made (transaction_of flag)) words words_kept
     (keeps_made (transaction_of flag)
-    (λ w h ms m. record { payee = h.0; narration = h.1; marks = m; postings = tt })))
+    (λ w h ms m. record {
+      payee = h.0;
+      narration = h.1;
+      marks = m;
+      postings = tt;
+      few_postings = omega arith;
+    })))
 
 -- how many tags and links a kind has where it is in range
 abbrev pub marks_in : Ranged DirectiveKind → ℕ

@@ -27,7 +27,8 @@ use Rattle.bean_grammar.specs.Mark.{written, begins_with_mark, mark, marks, some
 use Rattle.bean_grammar.specs.Metadata.{IsPlain, any_lexeme, plain, valued, number_value, numeric}
 use Rattle.bean_grammar.specs.Metadata.{value, is_more, with_value, all_values, entry_with, entry_of}
 use Rattle.bean_grammar.specs.Metadata.{entry}
-use Rattle.bean_sizes.specs.Part.{IsShort, IsShortMark, IsShortValue, IsShortEntry}
+use Rattle.bean_sizes.specs.Part.{IsShort, IsShortCurrency, IsShortMark, IsShortValue}
+use Rattle.bean_sizes.specs.Part.{IsShortEntry}
 use Rattle.bean_sizes.proofs.Keeping.{Keeps, keeps_word, keeps_made, keeps_applied, keeps_behind}
 use Rattle.bean_sizes.proofs.Keeping.{keeps_closed, keeps_related, keeps_due}
 use Rattle.bean_sizes.proofs.Keeping.{keeps_either, keeps_ending, keeps_row, keeps_chain}
@@ -37,7 +38,7 @@ use Rattle.bean_sizes.proofs.ShortFacts.{text_short}
 abbrev pub IsShortLexeme : Lexeme → Type 0
 IsShortLexeme (Text bs) = IsShort bs
 IsShortLexeme (Account bs) = IsShort bs
-IsShortLexeme (Currency bs) = IsShort bs
+IsShortLexeme (Currency bs) = IsShortCurrency bs
 IsShortLexeme (Tag bs) = IsShort bs
 IsShortLexeme (Link bs) = IsShort bs
 IsShortLexeme (Key bs) = IsShort bs
@@ -52,7 +53,7 @@ Gives S form = Keeps IsShortLexeme S form
 pub account_kept : Gives IsShort (word Account)
 account_kept = keeps_word Account (λ bs h. h)
 
-pub currency_kept : Gives IsShort (word Currency)
+pub currency_kept : Gives IsShortCurrency (word Currency)
 currency_kept = keeps_word Currency (λ bs h. h)
 
 pub tag_kept : Gives IsShort (word Tag)
@@ -128,9 +129,9 @@ expression_kept =
 -- Amounts.
 
 abbrev pub IsShortAmount : amounts.Amount → Type 0
-IsShortAmount a = IsShort a.currency
+IsShortAmount a = IsShortCurrency a.currency
 
-pub amount_short : (n : Ranged Num) (c : List ℕ) → IsShort c
+pub amount_short : (n : Ranged Num) (c : List ℕ) → IsShortCurrency c
     → WhenWithin IsShortAmount (amount_of n c)
 amount_short (Within n) c h = h
 amount_short Outside c h = tt
@@ -144,11 +145,11 @@ amount_kept =
 pub number_if_due_kept : Gives (λ o. IfSome o Any) number_if_due
 number_if_due_kept = keeps_due begins_with_expression expression expression_kept
 
-pub currency_if_due_kept : Gives (λ o. IfSome o IsShort) currency_if_due
+pub currency_if_due_kept : Gives (λ o. IfSome o IsShortCurrency) currency_if_due
 currency_if_due_kept = keeps_due begins_with_currency (word Currency) currency_kept
 
 abbrev pub AreShortAmountParts : AmountParts → Type 0
-AreShortAmountParts p = IfSome p.currency IsShort
+AreShortAmountParts p = IfSome p.currency IsShortCurrency
 
 pub amount_parts_kept : Gives AreShortAmountParts amount_parts
 amount_parts_kept =
@@ -197,7 +198,7 @@ plain_kept : Gives (WhenWithin IsShortValue) plain
 plain_kept =
     keeps_related IsPlain (word any_lexeme) (keeps_word any_lexeme (λ l h. h)) plain_short
 
-valued_short : (c : Option (List ℕ)) (n : Num) → IfSome c IsShort → IsShortValue (valued c n)
+valued_short : (c : Option (List ℕ)) (n : Num) → IfSome c IsShortCurrency → IsShortValue (valued c n)
 valued_short None n h = tt
 valued_short (Some c) n h = h
 

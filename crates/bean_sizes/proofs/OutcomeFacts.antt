@@ -31,6 +31,7 @@ use Rattle.bean_sizes.proofs.TokenFacts.{IsShortToken}
 use Rattle.bean_sizes.proofs.CutFacts.{count}
 use Rattle.bean_sizes.proofs.BodyFacts.{IsShortLine, lines_short, lexemes_in, lines_same}
 use Rattle.bean_sizes.proofs.BodyFacts.{IsSmallBody, postings_small, body_small, body_marks}
+use Rattle.bean_sizes.proofs.BodyFacts.{body_postings}
 
 -- small but for the number of its tags and links
 pub record IsSmallApart (d : Directive) : Type 0 where
@@ -51,16 +52,17 @@ abbrev Fits : ℕ → Statement → Type 0
 Fits n s = IsSmallStatement s × (size_of s ≤ n)
 
 body_kind : (k : DirectiveKind) (ms : List Mark) (ps : List Posting) → IsSmallKind k
-    → AllByRecursion IsShortMark ms → AllByRecursion IsSmallPosting ps
+    → AllByRecursion IsShortMark ms → AllByRecursion IsSmallPosting ps → length ps ≤ most
     → IsSmallKind (with_body k ms ps)
-body_kind (kinds.Transaction t) ms ps h m p =
+body_kind (kinds.Transaction t) ms ps h m p few =
     record {
       payee = h.payee;
       narration = h.narration;
       marks = all_joined IsShortMark t.marks ms h.marks m;
       postings = p;
+      few_postings = few;
     }
-body_kind _ ms ps h m p = h
+body_kind _ ms ps h m p few = h
 
 more_marks : (k : DirectiveKind) (ms : List Mark) (ps : List Posting)
     → length (marks_of (with_body k ms ps)) ≤ length (marks_of k) + length ms
@@ -68,35 +70,39 @@ more_marks (kinds.Transaction t) ms ps = let e = length-append t.marks ms in ome
 more_marks _ ms ps = omega arith
 
 directive_fits : (n line : ℕ) (b : Body) (d : days.Day) (k : DirectiveKind) → line ≤ most
-    → IsSmallKind k → IsSmallBody b → length (marks_of k) + length b.marks ≤ n
+    → IsSmallKind k → IsSmallBody b → length (postings_in b) ≤ most
+    → length (marks_of k) + length b.marks ≤ n
     → Fits n (statement.Directive (directive_of line b d k))
-directive_fits n line b d k l h own few =
+directive_fits n line b d k l h own ps few =
     let marks = more_marks k b.marks (postings_in b) in (
       record {
         line = l;
         metadata = own.metadata;
-        kind = body_kind k b.marks (postings_in b) h own.marks (postings_small b own);
+        kind = body_kind k b.marks (postings_in b) h own.marks (postings_small b own) ps;
       },
       omega arith,
     )
 
 parts_fit : (n line : ℕ) (b : Body) (d : Ranged days.Day) (k : Ranged DirectiveKind) → line ≤ most
-    → WhenWithin IsSmallKind k → IsSmallBody b → marks_in k + length b.marks ≤ n
+    → WhenWithin IsSmallKind k → IsSmallBody b → length (postings_in b) ≤ most
+    → marks_in k + length b.marks ≤ n
     → WhenWithin (Fits n)
     (ranged_map2 (λ d k. statement.Directive (directive_of line b d k)) d k)
-parts_fit n line b (Within d) (Within k) l h own few = directive_fits n line b d k l h own few
-parts_fit n line b (Within d) Outside l h own few = tt
-parts_fit n line b Outside k l h own few = tt
+parts_fit n line b (Within d) (Within k) l h own ps few =
+    directive_fits n line b d k l h own ps few
+parts_fit n line b (Within d) Outside l h own ps few = tt
+parts_fit n line b Outside k l h own ps few = tt
 
 body_fits : (n : ℕ) (is_in_range : Bool) (s : Ranged Statement) → WhenWithin (Fits n) s
     → WhenWithin (Fits n) (in_body is_in_range s)
 body_fits n true s h = h
 body_fits n false s h = tt
 
-tree_fits : (ls : List Line) (t : Tree) → AllByRecursion IsShortLine ls → HaveTree ls t
-    → WhenWithin (Fits (lexemes_in ls)) (said t)
-tree_fits [] t all h = absurd h
-tree_fits (l ∷ ls) (Dated line day kind ks) all h =
+tree_fits : (ls : List Line) (t : Tree) → AllByRecursion IsShortLine ls → lexemes_in ls ≤ most
+    → HaveTree ls t → WhenWithin (Fits (lexemes_in ls)) (said t)
+tree_fits [] t all few h = absurd h
+tree_fits (l ∷ ls) (Dated line day kind ks) all few h =
+    let postings = body_postings (takes_postings kind) ls ks all.1 h.2 in
     let b = with_lines no_lines ks in
     let head = head_small l.lexemes day kind all.0.1 h.1 in
     let own = body_small (takes_postings kind) ls ks all.1 h.2 in
@@ -105,8 +111,8 @@ tree_fits (l ∷ ls) (Dated line day kind ks) all h =
     body_fits (lexemes_in (l ∷ ls)) b.is_in_range
     (ranged_map2 (λ d k. statement.Directive (directive_of line b d k)) day kind)
     (parts_fit (lexemes_in (l ∷ ls)) line b day kind (subst (λ n. n ≤ most) (sym h.0) all.0.0)
-    head.0 own (omega arith))
-tree_fits (l ∷ ls) (Undated line kind) all h =
+    head.0 own (omega arith) (omega arith))
+tree_fits (l ∷ ls) (Undated line kind) all few h =
     let first = ap length h.1.2 in
     let n : 1 ≤ lexemes_in (l ∷ ls) = omega arith in
     mapped (Fits (lexemes_in (l ∷ ls)))
@@ -129,20 +135,20 @@ fault_fits n o f e =
     let none : FitsBlock n (outcome.Fault f) = (tt, omega arith) in subst (FitsBlock n) (sym e) none
 
 reads_fit : (block : List Token) (o : Outcome) → AllByRecursion IsShortToken block
-    → ReadsAs block o → FitsBlock (length block) o
-reads_fit block (outcome.Fault f) all h = (tt, omega arith)
-reads_fit block (outcome.Statement s) all h =
-    let fits = tree_fits (lines block) h.0 (lines_short block all) h.1.1 in
+    → length block ≤ most → ReadsAs block o → FitsBlock (length block) o
+reads_fit block (outcome.Fault f) all few h = (tt, omega arith)
+reads_fit block (outcome.Statement s) all few h =
+    let same = lines_same block in
+    let fits = tree_fits (lines block) h.0 (lines_short block all) (omega arith) h.1.1 in
     let whole : Fits (lexemes_in (lines block)) s =
     subst (WhenWithin (Fits (lexemes_in (lines block)))) h.2 fits in
-    let same = lines_same block in
     let size : size_of s ≤ lexemes_in (lines block) = whole.1 in
     (whole.0, omega arith)
 
 at_fits : (line : Option ℕ) (block : List Token) (o : Outcome) → AllByRecursion IsShortToken block
-    → GivesAt line block o → FitsBlock (length block) o
-at_fits (Some line) block o all h = fault_fits (length block) o _ h
-at_fits None block o all h = reads_fit block o all h
+    → length block ≤ most → GivesAt line block o → FitsBlock (length block) o
+at_fits (Some line) block o all few h = fault_fits (length block) o _ h
+at_fits None block o all few h = reads_fit block o all few h
 
 -- together
 abbrev pub sizes : List Outcome → ℕ
@@ -150,14 +156,14 @@ sizes [] = 0
 sizes (o ∷ os) = size_in o + sizes os
 
 pub outcomes_fit : (blocks : List (List Token)) (os : List Outcome)
-    → AllByRecursion (AllByRecursion IsShortToken) blocks → AllGive blocks os
-    → AllByRecursion IsSmallOutcome os × (sizes os ≤ count blocks)
-outcomes_fit [] [] all give = (tt, omega arith)
-outcomes_fit [] (o ∷ os) all give = absurd (cc)
-outcomes_fit (block ∷ blocks) [] all give = absurd give
-outcomes_fit (block ∷ blocks) (o ∷ os) all give =
-    let first = at_fits (fault_line block) block o all.0 give.0 in
-    let rest = outcomes_fit blocks os all.1 give.1 in
-    let few : size_in o ≤ length block = first.1 in
+    → AllByRecursion (AllByRecursion IsShortToken) blocks → count blocks ≤ most
+    → AllGive blocks os → AllByRecursion IsSmallOutcome os × (sizes os ≤ count blocks)
+outcomes_fit [] [] all few give = (tt, omega arith)
+outcomes_fit [] (o ∷ os) all few give = absurd (cc)
+outcomes_fit (block ∷ blocks) [] all few give = absurd give
+outcomes_fit (block ∷ blocks) (o ∷ os) all few give =
+    let first = at_fits (fault_line block) block o all.0 (omega arith) give.0 in
+    let rest = outcomes_fit blocks os all.1 (omega arith) give.1 in
+    let own : size_in o ≤ length block = first.1 in
     let others : sizes os ≤ count blocks = rest.1 in
     ((first.0, rest.0), omega arith)

@@ -33,7 +33,7 @@ use Rattle.bean_grammar.specs.Posting.{units_of, units, posting_of, posted_to, p
 use Rattle.bean_grammar.specs.Price.{price_sign, begins_with_price, priced, price_by, price_of, price}
 use Rattle.bean_grammar.specs.Price.{price_or_absent, price_if_due}
 use Rattle.bean_grammar.specs.Ranged.{ranged_map2, option_within}
-use Rattle.bean_sizes.specs.Part.{most, IsShort, AreShortUnits, IsShortCost, IsShortPrice}
+use Rattle.bean_sizes.specs.Part.{most, IsShort, IsShortCurrency, AreShortUnits, IsShortCost, IsShortPrice}
 use Rattle.bean_sizes.specs.Part.{IsSmallPosting}
 use Rattle.bean_sizes.proofs.Keeping.{keeps_word, keeps_made, keeps_applied, keeps_behind}
 use Rattle.bean_sizes.proofs.Keeping.{keeps_closed, keeps_checked, keeps_due, keeps_either, keeps_row}
@@ -54,7 +54,7 @@ abbrev AreShortParts : CostParts → Type 0
 AreShortParts p = IfSome p.amount (WhenWithin IsShortAmount) × IfSome p.label IsShort
 
 number_part_short : (n : Option (Ranged Num)) (m : Option (Option (Ranged Num)))
-    (c : Option (List ℕ)) → IfSome c IsShort → IfSome (number_part_of n m c) IsShortPart
+    (c : Option (List ℕ)) → IfSome c IsShortCurrency → IfSome (number_part_of n m c) IsShortPart
 number_part_short (Some n) None (Some c) h = amount_short n c h
 number_part_short (Some n) None None h = tt
 number_part_short None None (Some c) h = tt
@@ -184,12 +184,12 @@ cost_if_due_kept =
 
 -- Prices.
 
-priced_short : (is_total : Bool) (a : amounts.Amount) → IsShort a.currency
+priced_short : (is_total : Bool) (a : amounts.Amount) → IsShortCurrency a.currency
     → IsShortPrice (priced is_total a)
 priced_short false a h = h
 priced_short true a h = h
 
-price_short : (is_total : Bool) (n : Option (Ranged Num)) (c : Option (List ℕ)) → IfSome c IsShort
+price_short : (is_total : Bool) (n : Option (Ranged Num)) (c : Option (List ℕ)) → IfSome c IsShortCurrency
     → WhenWithin IsShortPrice (price_by is_total n c)
 price_short is_total (Some n) (Some c) h =
     mapped_any IsShortPrice (λ x. priced is_total record { number = x; currency = c }) n
@@ -219,7 +219,7 @@ price_if_due_kept =
 
 -- Posting lines.
 
-units_short : (n : Option (Ranged Num)) (c : Option (List ℕ)) → IfSome c IsShort
+units_short : (n : Option (Ranged Num)) (c : Option (List ℕ)) → IfSome c IsShortCurrency
     → WhenWithin AreShortUnits (units_by n c)
 units_short None None h = tt
 units_short None (Some c) h = h

@@ -49,6 +49,7 @@ tag_kind tag (kinds.Transaction t) s h =
       narration = h.narration;
       marks = all_pushed IsShortMark t.marks (mark.Tag tag) h.marks s;
       postings = h.postings;
+      few_postings = h.few_postings;
     }
 tag_kind tag _ s h = h
 

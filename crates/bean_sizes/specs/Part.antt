@@ -23,6 +23,10 @@ most = LARGEST_TEXT
 abbrev pub IsShort : List ℕ → Type 0
 IsShort bytes = length bytes ≤ most
 
+-- a currency has at most 24 bytes
+abbrev pub IsShortCurrency : List ℕ → Type 0
+IsShortCurrency bytes = length bytes ≤ 24
+
 abbrev pub IsShortMark : marks.Mark → Type 0
 IsShortMark (mark.Tag name) = IsShort name
 IsShortMark (mark.Link name) = IsShort name
@@ -31,30 +35,30 @@ IsShortMark (mark.Link name) = IsShort name
 abbrev pub IsShortValue : values.Value → Type 0
 IsShortValue (value.Text text) = IsShort text
 IsShortValue (value.Account account) = IsShort account
-IsShortValue (value.Currency currency) = IsShort currency
+IsShortValue (value.Currency currency) = IsShortCurrency currency
 IsShortValue (value.Tag name) = IsShort name
-IsShortValue (value.Amount amount) = IsShort amount.currency
+IsShortValue (value.Amount amount) = IsShortCurrency amount.currency
 IsShortValue v = Unit {0}
 
 abbrev pub IsShortEntry : Entry → Type 0
 IsShortEntry e = IsShort e.key × IsShortValue e.value
 
 abbrev pub AreShortUnits : units_declared.Units → Type 0
-AreShortUnits (units.Currency currency) = IsShort currency
-AreShortUnits (units.Amount amount) = IsShort amount.currency
+AreShortUnits (units.Currency currency) = IsShortCurrency currency
+AreShortUnits (units.Amount amount) = IsShortCurrency amount.currency
 AreShortUnits u = Unit {0}
 
 -- the currency and the label of a lot
 abbrev pub IsShortLot : LotParts → Type 0
-IsShortLot lot = IfSome lot.amount (λ a. IsShort a.currency) × IfSome lot.label IsShort
+IsShortLot lot = IfSome lot.amount (λ a. IsShortCurrency a.currency) × IfSome lot.label IsShort
 
 abbrev pub IsShortCost : costs.Cost → Type 0
 IsShortCost (Lot lot) = IsShortLot lot
 IsShortCost c = Unit {0}
 
 abbrev pub IsShortPrice : prices.Price → Type 0
-IsShortPrice (PerUnit amount) = IsShort amount.currency
-IsShortPrice (Total amount) = IsShort amount.currency
+IsShortPrice (PerUnit amount) = IsShortCurrency amount.currency
+IsShortPrice (Total amount) = IsShortCurrency amount.currency
 IsShortPrice p = Unit {0}
 
 -- a posting's texts, its line, and the texts of its entries

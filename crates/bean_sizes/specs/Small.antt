@@ -1,5 +1,5 @@
 -- What of a directive is small: its texts and its line are no larger than a ledger's text may be,
--- and it has no more tags and links than that.
+-- and it has no more postings, tags and links than that.
 use Rattle.std.specs.Prelude.{◌≤◌, List, [], length, IfSome}
 use Rattle.std.specs.List.{AllByRecursion}
 use Rattle.bean_grammar.specs.declared.mark.Mark.{Mark}
@@ -9,20 +9,22 @@ use Rattle.bean_heads.specs.declared.directive.DirectiveKind.TheVariants as kind
 use Rattle.bean_heads.specs.declared.transaction.Transaction as transactions
 use Rattle.bean_load.specs.declared.placed.Placed.{Placed}
 use Rattle.bean_load.specs.Texts.{Texts}
-use Rattle.bean_sizes.specs.Part.{most, IsShort, IsShortMark, IsShortEntry, IsSmallPosting}
+use Rattle.bean_sizes.specs.Part.{most, IsShort, IsShortCurrency, IsShortMark, IsShortEntry}
+use Rattle.bean_sizes.specs.Part.{IsSmallPosting}
 
 pub record IsSmallTransaction (t : transactions.Transaction) : Type 0 where
   pub payee : IfSome t.payee IsShort
   pub narration : IsShort t.narration
   pub marks : AllByRecursion IsShortMark t.marks
   pub postings : AllByRecursion IsSmallPosting t.postings
+  pub few_postings : length t.postings ≤ most
 
 -- what the books have of a directive
 abbrev pub IsSmallKind : kinds.DirectiveKind → Type 0
 IsSmallKind (kind.Transaction t) = IsSmallTransaction t
 IsSmallKind (kind.Pad p) = IsShort p.account × IsShort p.source
-IsSmallKind (kind.Balance b) = IsShort b.account × IsShort b.currency
-IsSmallKind (kind.Open o) = IsShort o.account × AllByRecursion IsShort o.currencies
+IsSmallKind (kind.Balance b) = IsShort b.account × IsShortCurrency b.currency
+IsSmallKind (kind.Open o) = IsShort o.account × AllByRecursion IsShortCurrency o.currencies
 IsSmallKind (kind.Close c) = IsShort c.account
 IsSmallKind k = Unit {0}
 
@@ -35,7 +37,7 @@ pub record IsSmallDirective (d : directives.Directive) : Type 0 where
   pub line : d.line ≤ most
   pub metadata : AllByRecursion IsShortEntry d.metadata
   pub kind : IsSmallKind d.kind
-  pub marks : length (marks_of d.kind) ≤ most
+  pub few_marks : length (marks_of d.kind) ≤ most
 
 -- with its place
 abbrev pub IsSmall : Placed directives.Directive → Type 0
