@@ -1,7 +1,7 @@
 -- The lines under a first one are small where their lexemes are short, and have no more tags and
 -- links than lexemes.
-use Rattle.std.proofs.Common.{◌≡◌, ℕ, ◌+◌, ◌≤◌, Bool, List, [], ◌∷◌, length, map}
-use Rattle.std.proofs.Common.{Option, Some, None, IfSome, arith, ap, refl, length-append}
+use Rattle.std.proofs.Common.{◌≡◌, ℕ, ◌+◌, ◌≤◌, Bool, List, [], ◌∷◌, length, map, Option, Some}
+use Rattle.std.proofs.Common.{None, IfSome, arith, ap, refl, length-append}
 use Rattle.std.specs.List.{AllByRecursion}
 use Rattle.theory.specs.Cut.{cut_before}
 use Rattle.bean_lexer.specs.declared.token.Token.{Token}
@@ -12,8 +12,8 @@ use Rattle.bean_grammar.specs.Mark.{some_marks}
 use Rattle.bean_grammar.specs.Metadata.{entry}
 use Rattle.bean_grammar.specs.Posting.{posting}
 use Rattle.bean_parser.specs.Block.{Line, line_of, lines, begins_line, first_line}
-use Rattle.bean_parser.specs.Under.{IsLine, AreLines, no_lines, under_posting, with_entry, all_before}
-use Rattle.bean_parser.specs.Under.{with_line, with_lines, postings_in}
+use Rattle.bean_parser.specs.Under.{IsLine, AreLines, no_lines, under_posting, with_entry}
+use Rattle.bean_parser.specs.Under.{all_before, with_line, with_lines, postings_in}
 use Rattle.bean_parser.specs.declared.under.Body.{Body}
 use Rattle.bean_parser.specs.declared.under.LineKind.{LineKind}
 use Rattle.bean_parser.specs.declared.under.LineKind.TheVariants as kinds
@@ -161,7 +161,8 @@ pub body_small : (in_transaction : Bool) (ls : List Line) (ks : List LineKind)
     → AllByRecursion IsShortLine ls → AreLines in_transaction ls ks
     → IsSmallBody (with_lines no_lines ks)
 body_small t ls ks all are =
-    lines_small t ls ks no_lines all are record { metadata = tt; marks = tt; before = tt; last = tt }
+    lines_small t ls ks no_lines all are
+    record { metadata = tt; marks = tt; before = tt; last = tt }
 
 -- Tags and links.
 

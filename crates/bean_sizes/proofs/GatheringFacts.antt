@@ -1,6 +1,6 @@
 -- Each text that is gathered has at most as many bytes as a text may have.
-use Rattle.std.proofs.Common.{◌≡◌, ℕ, zero, suc, Bool, true, false, ◌||◌, MatchBool, nat_lt}
-use Rattle.std.proofs.Common.{List, [], ◌∷◌, length, Result, Ok, Err, refl, sym, subst}
+use Rattle.std.proofs.Common.{◌≡◌, ℕ, zero, suc, Bool, true, false, ◌||◌, MatchBool, nat_lt, List}
+use Rattle.std.proofs.Common.{[], ◌∷◌, length, Result, Ok, Err, refl, sym, subst}
 use Rattle.std.proofs.lemmas.Bool.{ltb-false}
 use Rattle.std.specs.List.{AllByRecursion}
 use Rattle.std.specs.Str.{is_utf8}
@@ -8,10 +8,11 @@ use Rattle.stores.specs.Reading.{Reading}
 use Rattle.stores.specs.declared.source.SourceFault.{SourceFault}
 use Rattle.stores.specs.declared.source.SourceFault.TheVariants as source
 use Rattle.bean_load.specs.Following.{IsGathered, texts_in}
-use Rattle.bean_load.specs.Gathered.{Gathered, is_full, is_too_large, nothing, texts_of}
-use Rattle.bean_load.specs.Gathered.{was_asked, with_asked, with_bytes, with_fault, with_file}
-use Rattle.bean_load.specs.Gathering.{Step, Ends, AsksFor, BytesCome, AnswerComes, gone_on, Stands, LineBy}
-use Rattle.bean_load.specs.Gathering.{Then, LinesBy, TextBy, TextBelow, LineComes, TextComes, Comes}
+use Rattle.bean_load.specs.Gathered.{Gathered, is_full, is_too_large, nothing, texts_of, was_asked}
+use Rattle.bean_load.specs.Gathered.{with_asked, with_bytes, with_fault, with_file}
+use Rattle.bean_load.specs.Gathering.{Step, Ends, AsksFor, BytesCome, AnswerComes, gone_on, Stands}
+use Rattle.bean_load.specs.Gathering.{LineBy, Then, LinesBy, TextBy, TextBelow, LineComes}
+use Rattle.bean_load.specs.Gathering.{TextComes, Comes}
 use Rattle.bean_load.specs.Include.{Include}
 use Rattle.bean_load.specs.Texts.{Texts}
 use Rattle.bean_load.specs.declared.fault.LoadFault.{LoadFault}

@@ -1,6 +1,6 @@
 -- First lines are small where their lexemes are short.
-use Rattle.std.proofs.Common.{◌≡◌, ℕ, List, [], Option, Some, None}
-use Rattle.std.proofs.Common.{IfSome, ◌≤◌, length, arith, refl, sym, ◌∙◌, ap, subst}
+use Rattle.std.proofs.Common.{◌≡◌, ℕ, List, [], Option, Some, None, IfSome, ◌≤◌, length, arith}
+use Rattle.std.proofs.Common.{refl, sym, ◌∙◌, ap, subst}
 use Rattle.std.specs.List.{AllByRecursion}
 use Rattle.theory.specs.Form.{Form, Is, word, made, ◌<+>◌, behind, due, alone, snoc}
 use Rattle.bean_base.specs.declared.days.Day as days
@@ -14,8 +14,8 @@ use Rattle.bean_lexer.specs.declared.kind.Sign.TheVariants as sign
 use Rattle.bean_grammar.specs.declared.ranged.Ranged.{Ranged}
 use Rattle.bean_grammar.specs.declared.ranged.Ranged.TheVariants.{Within, Outside}
 use Rattle.bean_grammar.specs.Expression.{expression}
-use Rattle.bean_grammar.specs.Lexeme.{Lexeme, Account, Currency, Keyword, Sign}
-use Rattle.bean_grammar.specs.Lexeme.{begins_with_text, begins_with_currency}
+use Rattle.bean_grammar.specs.Lexeme.{Lexeme, Account, Currency, Keyword, Sign, begins_with_text}
+use Rattle.bean_grammar.specs.Lexeme.{begins_with_currency}
 use Rattle.bean_grammar.specs.Literal.{text}
 use Rattle.bean_grammar.specs.Mark.{marks}
 use Rattle.bean_grammar.specs.Metadata.{all_values}
@@ -25,18 +25,21 @@ use Rattle.bean_heads.specs.Head.{open_line, close_of, close_line, pad_of, pad_l
 use Rattle.bean_heads.specs.Head.{commodity_line, begins_with_tilde, not_below_zero, tolerance}
 use Rattle.bean_heads.specs.Head.{ranged_option, balance_of, balance_line, price_of, price_line}
 use Rattle.bean_heads.specs.Head.{note_of, note_line, document_of, document_line, event_of}
-use Rattle.bean_heads.specs.Head.{event_line, query_of, query_line, custom_of, custom_line, words_of}
-use Rattle.bean_heads.specs.Head.{words, transaction_of, transaction_line, kind_behind, IsHead}
+use Rattle.bean_heads.specs.Head.{event_line, query_of, query_line, custom_of, custom_line}
+use Rattle.bean_heads.specs.Head.{words_of, words, transaction_of, transaction_line, kind_behind}
+use Rattle.bean_heads.specs.Head.{IsHead}
 use Rattle.bean_heads.specs.declared.directive.DirectiveKind.{DirectiveKind}
 use Rattle.bean_heads.specs.declared.directive.DirectiveKind.TheVariants as kinds
 use Rattle.bean_heads.specs.declared.transaction.PayeeAndNarration.{PayeeAndNarration}
 use Rattle.bean_sizes.specs.Part.{IsShort, IsShortCurrency}
 use Rattle.bean_sizes.specs.Small.{IsSmallKind, marks_of}
-use Rattle.bean_sizes.proofs.Keeping.{keeps_made, keeps_applied, keeps_behind, keeps_due}
-use Rattle.bean_sizes.proofs.Keeping.{keeps_row, kept}
-use Rattle.bean_sizes.proofs.ShortFacts.{Any, WhenWithin, any_within, all_pushed, mapped_any, mapped2}
-use Rattle.bean_sizes.proofs.LineFacts.{IsShortLexeme, Gives, account_kept, currency_kept, text_kept}
-use Rattle.bean_sizes.proofs.LineFacts.{day_kept, expression_kept, marks_kept, all_values_kept}
+use Rattle.bean_sizes.proofs.Keeping.{keeps_made, keeps_applied, keeps_behind, keeps_due, keeps_row}
+use Rattle.bean_sizes.proofs.Keeping.{kept}
+use Rattle.bean_sizes.proofs.ShortFacts.{Any, WhenWithin, any_within, all_pushed, mapped_any}
+use Rattle.bean_sizes.proofs.ShortFacts.{mapped2}
+use Rattle.bean_sizes.proofs.LineFacts.{IsShortLexeme, Gives, account_kept, currency_kept}
+use Rattle.bean_sizes.proofs.LineFacts.{text_kept, day_kept, expression_kept, marks_kept}
+use Rattle.bean_sizes.proofs.LineFacts.{all_values_kept}
 use Rattle.bean_sizes.proofs.MarkFacts.{marks_no_more, words_no_longer}
 
 -- small, and no transaction with tags or links
@@ -155,12 +158,14 @@ document_kept =
 event_kept : GivesKind event_line
 event_kept =
     keeps_applied (made event_of <+> text) text text_kept
-    (keeps_applied (made event_of) text text_kept (keeps_made event_of (λ name n value v. (tt, refl))))
+    (keeps_applied (made event_of) text text_kept
+    (keeps_made event_of (λ name n value v. (tt, refl))))
 
 query_kept : GivesKind query_line
 query_kept =
     keeps_applied (made query_of <+> text) text text_kept
-    (keeps_applied (made query_of) text text_kept (keeps_made query_of (λ name n value v. (tt, refl))))
+    (keeps_applied (made query_of) text text_kept
+    (keeps_made query_of (λ name n value v. (tt, refl))))
 
 custom_kept : GivesKind custom_line
 custom_kept =

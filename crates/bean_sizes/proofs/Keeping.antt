@@ -3,8 +3,8 @@
 use Rattle.std.proofs.Common.{◌⊎◌, inl, inr, ◌≡◌, Bool, List, [], ◌∷◌, Option, Some, None, IfSome}
 use Rattle.std.proofs.Common.{sym, subst}
 use Rattle.std.specs.List.{AllByRecursion}
-use Rattle.theory.specs.Form.{Form, word, made, ◌<+>◌, behind, closed, checked, related, DueRead, due}
-use Rattle.theory.specs.Form.{either, ending, ItemsRead, steps, row, pair, chain, Is}
+use Rattle.theory.specs.Form.{Form, word, made, ◌<+>◌, behind, closed, checked, related, DueRead}
+use Rattle.theory.specs.Form.{due, either, ending, ItemsRead, steps, row, pair, chain, Is}
 use Rattle.bean_sizes.proofs.ShortFacts.{Any}
 
 pub record Keeps {L V : Type 0} (P : L → Type 0) (S : V → Type 0) (form : Form L V) : Type 0 where

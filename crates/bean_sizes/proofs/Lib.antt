@@ -13,3 +13,4 @@ pub mod PushFacts
 pub mod ParsedFacts
 pub mod LoadedFacts
 pub mod GatheringFacts
+pub mod PlaceFacts

@@ -1,9 +1,7 @@
 -- What is read of a line's lexemes is short where these are.
-use Rattle.std.proofs.Common.{ℕ, zero, suc, List, [], Option}
-use Rattle.std.proofs.Common.{Some, None, IfSome, sym, subst}
+use Rattle.std.proofs.Common.{ℕ, zero, suc, List, [], Option, Some, None, IfSome, sym, subst}
 use Rattle.std.specs.List.{AllByRecursion}
-use Rattle.theory.specs.Form.{Form, word, made, ◌<+>◌, behind, closed, due, either}
-use Rattle.theory.specs.Form.{snoc, alone}
+use Rattle.theory.specs.Form.{Form, word, made, ◌<+>◌, behind, closed, due, either, snoc, alone}
 use Rattle.bean_base.specs.declared.amounts.Amount as amounts
 use Rattle.bean_base.specs.declared.num.Num.{Num}
 use Rattle.bean_lexer.specs.declared.kind.Sign.TheVariants as sign
@@ -17,21 +15,20 @@ use Rattle.bean_grammar.specs.declared.ranged.Ranged.TheVariants.{Within, Outsid
 use Rattle.bean_grammar.specs.Amount.{amount, amount_of, amount_parts, amount_parts_of}
 use Rattle.bean_grammar.specs.Amount.{number_if_due, currency_if_due}
 use Rattle.bean_grammar.specs.Expression.{Arithmetic, literal, product_of, sum_of, signed_of}
-use Rattle.bean_grammar.specs.Expression.{group_of, factor, computed, in_ledger, IsValued, expression}
-use Rattle.bean_grammar.specs.Expression.{begins_with_expression}
+use Rattle.bean_grammar.specs.Expression.{group_of, factor, computed, in_ledger, IsValued}
+use Rattle.bean_grammar.specs.Expression.{expression, begins_with_expression}
 use Rattle.bean_grammar.specs.Lexeme.{Lexeme, Day, Number, Text, Account, Currency, Tag, Link, Key}
 use Rattle.bean_grammar.specs.Lexeme.{Keyword, Sign, Fault, plus_or_minus, begins_with_sign}
 use Rattle.bean_grammar.specs.Lexeme.{begins_with_plus_or_minus, begins_with_currency}
 use Rattle.bean_grammar.specs.Literal.{IsDay, day, text, text_of}
 use Rattle.bean_grammar.specs.Mark.{written, begins_with_mark, mark, marks, some_marks}
 use Rattle.bean_grammar.specs.Metadata.{IsPlain, any_lexeme, plain, valued, number_value, numeric}
-use Rattle.bean_grammar.specs.Metadata.{value, is_more, with_value, all_values, entry_with, entry_of}
-use Rattle.bean_grammar.specs.Metadata.{entry}
-use Rattle.bean_sizes.specs.Part.{IsShort, IsShortCurrency, IsShortMark, IsShortValue}
-use Rattle.bean_sizes.specs.Part.{IsShortEntry}
+use Rattle.bean_grammar.specs.Metadata.{value, is_more, with_value, all_values, entry_with}
+use Rattle.bean_grammar.specs.Metadata.{entry_of, entry}
+use Rattle.bean_sizes.specs.Part.{IsShort, IsShortCurrency, IsShortMark, IsShortValue, IsShortEntry}
 use Rattle.bean_sizes.proofs.Keeping.{Keeps, keeps_word, keeps_made, keeps_applied, keeps_behind}
-use Rattle.bean_sizes.proofs.Keeping.{keeps_closed, keeps_related, keeps_due}
-use Rattle.bean_sizes.proofs.Keeping.{keeps_either, keeps_ending, keeps_row, keeps_chain}
+use Rattle.bean_sizes.proofs.Keeping.{keeps_closed, keeps_related, keeps_due, keeps_either}
+use Rattle.bean_sizes.proofs.Keeping.{keeps_ending, keeps_row, keeps_chain}
 use Rattle.bean_sizes.proofs.ShortFacts.{all_pushed, Any, WhenWithin, mapped, mapped_any}
 use Rattle.bean_sizes.proofs.ShortFacts.{text_short}
 
@@ -93,7 +90,8 @@ product_kept w f h =
     keeps_row (begins_with_sign sign.Star) f (λ v. v) (behind (Sign sign.Star) f) w.times h
     (keeps_behind (Sign sign.Star) f h) (λ v any. tt) (λ s v any one. tt)
 
-sum_kept : {V : Type 0} (w : Arithmetic V) (f : Form Lexeme V) → Gives Any f → Gives Any (sum_of w f)
+sum_kept : {V : Type 0} (w : Arithmetic V) (f : Form Lexeme V) → Gives Any f
+    → Gives Any (sum_of w f)
 sum_kept w f h =
     keeps_chain begins_with_plus_or_minus (word plus_or_minus) (product_of w f) w.joined sign_kept
     (product_kept w f h)
@@ -198,7 +196,8 @@ plain_kept : Gives (WhenWithin IsShortValue) plain
 plain_kept =
     keeps_related IsPlain (word any_lexeme) (keeps_word any_lexeme (λ l h. h)) plain_short
 
-valued_short : (c : Option (List ℕ)) (n : Num) → IfSome c IsShortCurrency → IsShortValue (valued c n)
+valued_short : (c : Option (List ℕ)) (n : Num) → IfSome c IsShortCurrency
+    → IsShortValue (valued c n)
 valued_short None n h = tt
 valued_short (Some c) n h = h
 

@@ -1,6 +1,6 @@
 -- Each tag and each link takes a lexeme.
-use Rattle.std.proofs.Common.{◌≡◌, ℕ, ◌+◌, ◌≤◌, List, [], ◌∷◌, length, Option, Some, None}
-use Rattle.std.proofs.Common.{arith, ap, length-append}
+use Rattle.std.proofs.Common.{◌≡◌, ℕ, ◌+◌, ◌≤◌, List, [], ◌∷◌, length, Option, Some, None, arith}
+use Rattle.std.proofs.Common.{ap, length-append}
 use Rattle.theory.specs.Form.{DueRead, ItemsRead, steps, snoc, alone}
 use Rattle.bean_grammar.specs.declared.mark.Mark.{Mark}
 use Rattle.bean_grammar.specs.Lexeme.{Lexeme, begins_with_text}

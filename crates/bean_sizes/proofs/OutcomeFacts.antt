@@ -1,6 +1,6 @@
 -- What a block gives is small where its tokens are, and has no more tags and links than tokens.
-use Rattle.std.proofs.Common.{◌≡◌, ℕ, ◌+◌, ◌≤◌, Bool, true, false, List, [], ◌∷◌, length}
-use Rattle.std.proofs.Common.{Option, Some, None, arith, ap, sym, subst, length-append}
+use Rattle.std.proofs.Common.{◌≡◌, ℕ, ◌+◌, ◌≤◌, Bool, true, false, List, [], ◌∷◌, length, Option}
+use Rattle.std.proofs.Common.{Some, None, arith, ap, sym, subst, length-append}
 use Rattle.std.specs.List.{AllByRecursion}
 use Rattle.bean_base.specs.declared.days.Day as days
 use Rattle.bean_lexer.specs.declared.token.Token.{Token}
@@ -13,8 +13,8 @@ use Rattle.bean_heads.specs.declared.directive.Directive.{Directive}
 use Rattle.bean_heads.specs.declared.directive.DirectiveKind.{DirectiveKind}
 use Rattle.bean_heads.specs.declared.directive.DirectiveKind.TheVariants as kinds
 use Rattle.bean_parser.specs.Block.{Line, lines, fault_line}
-use Rattle.bean_parser.specs.Grammar.{Tree, Dated, Undated, HaveTree, takes_postings}
-use Rattle.bean_parser.specs.Grammar.{with_body, directive_of, in_body, said}
+use Rattle.bean_parser.specs.Grammar.{Tree, Dated, Undated, HaveTree, takes_postings, with_body}
+use Rattle.bean_parser.specs.Grammar.{directive_of, in_body, said}
 use Rattle.bean_parser.specs.Outcome.{ReadsAs, GivesAt, AllGive}
 use Rattle.bean_parser.specs.Under.{no_lines, with_lines, postings_in}
 use Rattle.bean_parser.specs.declared.block.Outcome.{Outcome}

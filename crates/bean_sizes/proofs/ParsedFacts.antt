@@ -36,7 +36,8 @@ parsed_small text p short h =
     let cut = cut_count begins_block tokens in
     let given =
     outcomes_fit (blocks tokens) os
-    (cut_all IsShortToken begins_block tokens (tokens_short text 0 tokens short h.2)) (omega arith) h.3 in
+    (cut_all IsShortToken begins_block tokens (tokens_short text 0 tokens short h.2))
+    (omega arith) h.3 in
     let size : sizes os ≤ most = (let s = given.1 in omega arith) in
     let own = directives_within 0 os given.0 in
     let bounds = all_bounds 0 os in

@@ -1,6 +1,6 @@
 -- Costs, prices and posting lines are small where their lexemes are short.
-use Rattle.std.proofs.Common.{ℕ, ◌≤◌, ◌≡◌, Bool, true, false, cond, List, [], Option}
-use Rattle.std.proofs.Common.{Some, None, IfSome, subst}
+use Rattle.std.proofs.Common.{ℕ, ◌≤◌, ◌≡◌, Bool, true, false, cond, List, [], Option, Some, None}
+use Rattle.std.proofs.Common.{IfSome, subst}
 use Rattle.theory.specs.Form.{word, made, ◌<+>◌, behind, closed, due, either}
 use Rattle.bean_base.specs.declared.amounts.Amount as amounts
 use Rattle.bean_base.specs.declared.days.Day as days
@@ -30,18 +30,19 @@ use Rattle.bean_grammar.specs.Lexeme.{Account, Sign, begins_with_sign}
 use Rattle.bean_grammar.specs.Literal.{day, text}
 use Rattle.bean_grammar.specs.Posting.{flag_sign, begins_with_flag_sign, flag_if_due, units_by}
 use Rattle.bean_grammar.specs.Posting.{units_of, units, posting_of, posted_to, posting}
-use Rattle.bean_grammar.specs.Price.{price_sign, begins_with_price, priced, price_by, price_of, price}
-use Rattle.bean_grammar.specs.Price.{price_or_absent, price_if_due}
+use Rattle.bean_grammar.specs.Price.{price_sign, begins_with_price, priced, price_by, price_of}
+use Rattle.bean_grammar.specs.Price.{price, price_or_absent, price_if_due}
 use Rattle.bean_grammar.specs.Ranged.{ranged_map2, option_within}
-use Rattle.bean_sizes.specs.Part.{most, IsShort, IsShortCurrency, AreShortUnits, IsShortCost, IsShortPrice}
-use Rattle.bean_sizes.specs.Part.{IsSmallPosting}
+use Rattle.bean_sizes.specs.Part.{most, IsShort, IsShortCurrency, AreShortUnits, IsShortCost}
+use Rattle.bean_sizes.specs.Part.{IsShortPrice, IsSmallPosting}
 use Rattle.bean_sizes.proofs.Keeping.{keeps_word, keeps_made, keeps_applied, keeps_behind}
-use Rattle.bean_sizes.proofs.Keeping.{keeps_closed, keeps_checked, keeps_due, keeps_either, keeps_row}
+use Rattle.bean_sizes.proofs.Keeping.{keeps_closed, keeps_checked, keeps_due, keeps_either}
+use Rattle.bean_sizes.proofs.Keeping.{keeps_row}
 use Rattle.bean_sizes.proofs.ShortFacts.{Any, WhenWithin, any_within, mapped_any, mapped2, mapped3}
 use Rattle.bean_sizes.proofs.ShortFacts.{option_short}
-use Rattle.bean_sizes.proofs.LineFacts.{Gives, account_kept, text_kept, day_kept}
-use Rattle.bean_sizes.proofs.LineFacts.{IsShortAmount, amount_short}
-use Rattle.bean_sizes.proofs.LineFacts.{number_if_due_kept, currency_if_due_kept, amount_parts_kept}
+use Rattle.bean_sizes.proofs.LineFacts.{Gives, account_kept, text_kept, day_kept, IsShortAmount}
+use Rattle.bean_sizes.proofs.LineFacts.{amount_short, number_if_due_kept, currency_if_due_kept}
+use Rattle.bean_sizes.proofs.LineFacts.{amount_parts_kept}
 
 -- The parts of a cost.
 
@@ -189,8 +190,8 @@ priced_short : (is_total : Bool) (a : amounts.Amount) → IsShortCurrency a.curr
 priced_short false a h = h
 priced_short true a h = h
 
-price_short : (is_total : Bool) (n : Option (Ranged Num)) (c : Option (List ℕ)) → IfSome c IsShortCurrency
-    → WhenWithin IsShortPrice (price_by is_total n c)
+price_short : (is_total : Bool) (n : Option (Ranged Num)) (c : Option (List ℕ))
+    → IfSome c IsShortCurrency → WhenWithin IsShortPrice (price_by is_total n c)
 price_short is_total (Some n) (Some c) h =
     mapped_any IsShortPrice (λ x. priced is_total record { number = x; currency = c }) n
     (λ x. priced_short is_total record { number = x; currency = c } h)

@@ -1,6 +1,5 @@
 -- What is pushed is small where its lexemes are short.
-use Rattle.std.proofs.Common.{ℕ, Bool, true, false, cond, List, subst}
-use Rattle.std.proofs.Common.{codes}
+use Rattle.std.proofs.Common.{ℕ, Bool, true, false, cond, List, subst, codes}
 use Rattle.std.specs.List.{AllByRecursion}
 use Rattle.std.specs.Str.{bytes_eq}
 use Rattle.theory.specs.Form.{Form, word, made, ◌<+>◌, due}
