@@ -7,10 +7,13 @@
 //!
 //! # Small
 //!
-//! A text that was read, as a name, a narration or a text of metadata, has at most the 16 MiB of
-//! [`bean_load::LARGEST_TEXT`], since it is a slice of its file. So is the number of the line on
-//! which something stands, and the count of a transaction's tags and links, those that were pushed
-//! to it among them: each comes of a token of its own, which has at least a byte.
+//! A name, a narration, a text of metadata has at most the 16 MiB of [`bean_load::LARGEST_TEXT`]:
+//! it is read from a slice of its file, and no escape makes it longer. A currency has at most 24
+//! bytes, by its form. The number of the line on which something stands is no more than the bytes
+//! before it and itself, and a transaction has no more postings, and no more tags and links, than
+//! its file has bytes: each comes of a token of its own, those that were pushed to it too.
+//!
+//! The directives of one file stand for those of all: sorting them changes none.
 //!
 //! # Cost
 //!
