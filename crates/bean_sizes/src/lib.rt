@@ -13,7 +13,7 @@
 //! before it and itself, and a transaction has no more postings, and no more tags and links, than
 //! its file has bytes: each comes of a token of its own, those that were pushed to it too.
 //!
-//! The directives of one file stand for those of all: sorting them changes none.
+//! Each file is looked at by itself: bringing the directives of all in order changes none of them.
 //!
 //! # Cost
 //!
