@@ -1,0 +1,173 @@
+-- Each text that is gathered has at most as many bytes as a text may have.
+use Rattle.std.proofs.Common.{◌≡◌, ℕ, zero, suc, Bool, true, false, ◌||◌, MatchBool, nat_lt, List}
+use Rattle.std.proofs.Common.{[], ◌∷◌, length, Result, Ok, Err, refl, sym, subst}
+use Rattle.std.proofs.lemmas.Bool.{ltb-false}
+use Rattle.std.specs.List.{AllByRecursion}
+use Rattle.std.specs.Str.{is_utf8}
+use Rattle.stores.specs.Reading.{Reading}
+use Rattle.stores.specs.declared.source.SourceFault.{SourceFault}
+use Rattle.stores.specs.declared.source.SourceFault.TheVariants as source
+use Rattle.bean_load.specs.Following.{IsGathered, texts_in}
+use Rattle.bean_load.specs.Gathered.{Gathered, is_full, is_too_large, nothing, texts_of, was_asked}
+use Rattle.bean_load.specs.Gathered.{with_asked, with_bytes, with_fault, with_file}
+use Rattle.bean_load.specs.Gathering.{Step, Ends, AsksFor, BytesCome, AnswerComes, gone_on, Stands}
+use Rattle.bean_load.specs.Gathering.{LineBy, Then, LinesBy, TextBy, TextBelow, LineComes}
+use Rattle.bean_load.specs.Gathering.{TextComes, Comes}
+use Rattle.bean_load.specs.Include.{Include}
+use Rattle.bean_load.specs.Texts.{Texts}
+use Rattle.bean_load.specs.declared.fault.LoadFault.{LoadFault}
+use Rattle.bean_load.specs.declared.fault.LoadFault.TheVariants.{Unreadable, NotUtf8, TooLarge}
+use Rattle.bean_load.specs.declared.gathering.TheConstants.{DEEPEST}
+use Rattle.bean_sizes.specs.Part.{most, IsShort}
+use Rattle.bean_sizes.specs.Small.{AreLimited}
+use Rattle.bean_sizes.proofs.ShortFacts.{all_pushed}
+
+abbrev HasShort : Gathered → Type 0
+HasShort s = AllByRecursion (λ f. IsShort f.text) s.files
+
+abbrev EndsShort : Result Gathered LoadFault → Type 0
+EndsShort (Ok s) = HasShort s
+EndsShort (Err fault) = Unit {0}
+
+-- of texts that are short it comes to no others
+abbrev Stays : Step → Type 0
+Stays step =
+    (s : Gathered) (todo rest : List Reading) (result : Result Gathered LoadFault) → HasShort s
+    → step s todo rest result → EndsShort result
+
+ends : (end : Result Gathered LoadFault) (todo rest : List Reading)
+    (result : Result Gathered LoadFault) → EndsShort end → Ends end todo rest result
+    → EndsShort result
+ends end todo rest result h e = subst EndsShort (sym e.1) h
+
+first_false : (a b : Bool) → (a || b) ≡ false → a ≡ false
+first_false true b e = e
+first_false false b e = refl
+
+not_large : (s : Gathered) (bytes : List ℕ) → is_too_large (length bytes) s ≡ false → IsShort bytes
+not_large s bytes h = ltb-false most (length bytes) (first_false (nat_lt most (length bytes)) _ h)
+
+-- What an answer comes to.
+
+abbrev Reads : Type 1
+Reads = List ℕ → List Reading → List Reading → Result Gathered LoadFault → Type 0
+
+bytes_end :
+    (no_text : List ℕ → Result Gathered LoadFault) (Text : Reads) (s : Gathered) (bytes : List ℕ)
+    (todo rest : List Reading) (result : Result Gathered LoadFault) → EndsShort (no_text bytes)
+    → (IsShort bytes → Text bytes todo rest result → EndsShort result)
+    → BytesCome no_text Text s bytes todo rest result → EndsShort result
+bytes_end no_text Text s bytes todo rest result h go =
+    by (is_too_large (length bytes) s) refl (is_utf8 bytes)
+  where
+    by : (b : Bool) → is_too_large (length bytes) s ≡ b → (u : Bool)
+        → MatchBool b (Ends (Err TooLarge) todo rest result)
+        (MatchBool u (Text bytes todo rest result) (Ends (no_text bytes) todo rest result))
+        → EndsShort result
+    by true is u e = ends (Err TooLarge) todo rest result tt e
+    by false is true t = go (not_large s bytes is) t
+    by false is false e = ends (no_text bytes) todo rest result h e
+
+answer_end :
+    (unread : Result Gathered LoadFault) (no_text : List ℕ → Result Gathered LoadFault)
+    (Text : Reads) (s : Gathered) (answer : Result (List ℕ) SourceFault) (todo rest : List Reading)
+    (result : Result Gathered LoadFault) → EndsShort unread
+    → ((bytes : List ℕ) → EndsShort (no_text bytes))
+    → ((bytes : List ℕ) → IsShort bytes → Text bytes todo rest result → EndsShort result)
+    → AnswerComes unread no_text Text s answer todo rest result → EndsShort result
+answer_end unread no_text Text s (Ok bytes) todo rest result h k go c =
+    bytes_end no_text Text s bytes todo rest result (k bytes) (go bytes) c
+answer_end unread no_text Text s (Err source.Failed) todo rest result h k go c =
+    ends unread todo rest result h c
+answer_end unread no_text Text s (Err source.OutOfMemory) todo rest result h k go c = absurd c
+
+-- What a line, some lines and a text come to.
+
+abbrev TextStays : (List ℕ → List ℕ → Step) → Type 0
+TextStays Text = (name bytes : List ℕ) → IsShort bytes → Stays (Text name bytes)
+
+gone_short : (file line : ℕ) (end : Result Gathered LoadFault) → EndsShort end
+    → EndsShort (gone_on file line end)
+gone_short file line (Ok s) h = h
+gone_short file line (Err fault) h = tt
+
+line_stays : (Text : List ℕ → List ℕ → Step) (room file : ℕ) (line : Include) → TextStays Text
+    → Stays (LineBy Text room file line)
+line_stays Text room file line h s todo rest result short =
+    by (was_asked line.name s) (is_full room s)
+  where
+    stands : (left : List Reading) (bytes : List ℕ) → IsShort bytes
+        → Stands Text file line bytes (with_bytes line.name bytes s) left rest result
+        → EndsShort result
+    stands left bytes b p =
+        subst EndsShort (sym p.2)
+        (gone_short file line.line p.0
+        (h line.name bytes b (with_bytes line.name bytes s) left rest p.0 short p.1))
+
+    by : (a f : Bool)
+        → MatchBool a (Ends (Ok (with_fault file line.line s)) todo rest result)
+        (MatchBool f (Ends (Err TooLarge) todo rest result)
+        (AsksFor line.name todo (λ answer left. AnswerComes
+        (Ok (with_fault file line.line (with_asked line.name s)))
+        (λ bytes. Ok (with_fault file line.line (with_bytes line.name bytes s)))
+        (λ bytes. Stands Text file line bytes (with_bytes line.name bytes s)) s answer left rest
+        result)))
+        → EndsShort result
+    by true f e = ends (Ok (with_fault file line.line s)) todo rest result short e
+    by false true e = ends (Err TooLarge) todo rest result tt e
+    by false false p =
+        answer_end (Ok (with_fault file line.line (with_asked line.name s)))
+        (λ bytes. Ok (with_fault file line.line (with_bytes line.name bytes s)))
+        (λ bytes. Stands Text file line bytes (with_bytes line.name bytes s)) s p.0 p.1 rest result
+        short (λ bytes. short) (stands p.1) p.3
+
+then_stays : (Next : Step) → Stays Next → (mid : Result Gathered LoadFault)
+    (left rest : List Reading) (result : Result Gathered LoadFault) → EndsShort mid
+    → Then Next mid left rest result → EndsShort result
+then_stays Next h (Ok s) left rest result short p = h s left rest result short p
+then_stays Next h (Err fault) left rest result short p = ends (Err fault) left rest result tt p
+
+lines_stay : (Line : Include → Step) → ((line : Include) → Stays (Line line))
+    → (lines : List Include) → Stays (LinesBy Line lines)
+lines_stay Line h [] s todo rest result short e = ends (Ok s) todo rest result short e
+lines_stay Line h (line ∷ lines) s todo rest result short p =
+    then_stays (LinesBy Line lines) (lines_stay Line h lines) p.0 p.1 rest result
+    (h line s todo p.1 p.0 short p.2) p.3
+
+text_stays : (Line : ℕ → Include → Step) → ((file : ℕ) (line : Include) → Stays (Line file line))
+    → TextStays (TextBy Line)
+text_stays Line h name bytes b s todo rest result short p =
+    lines_stay (Line (length s.files)) (h (length s.files)) p.0 (with_file name bytes s) todo rest
+    result
+    (all_pushed (λ f. IsShort f.text) s.files record { name = name; text = bytes } short b) p.2
+
+below_stays : (room : ℕ) → TextStays (TextBelow room)
+unfolding TextBelow
+below_stays zero = λ name bytes b s todo rest result short p. absurd p
+below_stays (suc room) =
+    text_stays (LineBy (TextBelow room) room)
+    (λ file line. line_stays (TextBelow room) room file line (below_stays room))
+
+comes_short : (name : List ℕ) (readings : List Reading) (result : Result Gathered LoadFault)
+    → Comes name readings result → EndsShort result
+comes_short name readings result p =
+    answer_end (Err Unreadable) (λ bytes. Err NotUtf8)
+    (λ bytes todo rest end.
+    TextComes DEEPEST name bytes (with_bytes name bytes nothing) todo rest end) nothing p.0 p.1 []
+    result tt (λ bytes. tt)
+    (λ bytes b t.
+    text_stays (LineComes DEEPEST)
+    (λ file line.
+    line_stays (TextBelow DEEPEST) DEEPEST file line (below_stays DEEPEST)) name bytes b
+    (with_bytes name bytes nothing) p.1 [] result tt t) p.3
+
+texts_limited : (end : Result Gathered LoadFault) (texts : Texts) → EndsShort end
+    → Ok texts ≡ texts_in end → AreLimited texts
+texts_limited (Ok s) texts h e =
+    let same : texts ≡ texts_of s = cc in subst AreLimited (sym same) h
+texts_limited (Err fault) texts h e = absurd (cc)
+
+pub gathered_limited : (name : List ℕ) (readings : List Reading) (texts : Texts)
+    → IsGathered name readings (Ok texts) → AreLimited texts
+gathered_limited name readings texts h =
+    texts_limited h.0 texts (comes_short name readings h.0 h.1) h.2
