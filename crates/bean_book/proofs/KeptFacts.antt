@@ -1,7 +1,7 @@
 -- The transactions that are kept are some of the directives, in their order.
 use Rattle.std.proofs.Common.{◌≡◌, ℕ, ◌+◌, List, [], ◌∷◌, ◌++◌, length, reverse, Ok, Err, Result}
 use Rattle.std.proofs.Common.{refl, sym, ap, ◌∙◌, subst, arith}
-use Rattle.std.specs.Prelude.{◌⊎◌, inl, inr}
+use Rattle.std.proofs.Common.{◌⊎◌, inl, inr}
 use Rattle.std.proofs.lemmas.List.{length-reverse, reverse-append}
 use Rattle.bean_booker.specs.Stand.{IsStepBy, LeadsTo, Stand, after_trial, setting_of}
 use Rattle.bean_booker.specs.declared.kept.Kept.{Kept}
@@ -65,7 +65,7 @@ behind m past st d (kind.Transaction t) new is h g =
     by (Ok posted) tried =
         one_more 0 (length past) (reverse past) st.kept d
         (record { directive = length past; postings = posted })
-        (sym (length-reverse past)) g
+        (let e = length-reverse past in omega (arith, e)) g
         (record {
           number = refl;
           transaction = t;

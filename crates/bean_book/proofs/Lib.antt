@@ -1,1 +1,3 @@
-pub mod FlatteningFacts
+mod FaultOrder
+mod KeptFacts
+pub mod ListFacts

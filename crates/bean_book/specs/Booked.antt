@@ -17,7 +17,7 @@ use Rattle.posting_table.specs.declared.row.Row.{Row}
 use Rattle.bean_book.specs.Entries.{Booking, bookings}
 use Rattle.bean_book.specs.Reported.{reported}
 use Rattle.bean_book.specs.Rows.{rows_of, written_of}
-use Rattle.bean_book.specs.declared.book.Booked as declared
+use Rattle.bean_book.specs.declared.booked.Booked as declared
 
 -- the greatest of n and the counts of decimals in the numbers written for the currency
 abbrev pub decimals_from : ℕ → List ℕ → List Amount → ℕ

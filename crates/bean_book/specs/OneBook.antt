@@ -1,7 +1,7 @@
 -- That two books say the same.
 use Rattle.std.specs.Prelude.{◌≡◌, ℕ, List}
 use Rattle.posting_table.specs.Decimals.{decimals_of}
-use Rattle.bean_book.specs.declared.book.Booked.{Booked}
+use Rattle.bean_book.specs.declared.booked.Booked.{Booked}
 
 -- the same postings, decimals and faults
 pub record AreAlike (a b : Booked) : Type 0 where

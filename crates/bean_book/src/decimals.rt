@@ -17,7 +17,7 @@ fn note_amount<'a>(ledger: &mut Ledger<'a>, units: &Amount<'a>) -> Result<(), Al
         ≡ (if bytes_eq units.now.currency name
         then max (decimals_of ledger.old.decimals name) units.now.number.places
         else decimals_of ledger.old.decimals name)) }
-    ensures rows { ledger.new.rows ≡ ledger.old.rows }
+    ensures rows { OnOk result (ledger.new.rows ≡ ledger.old.rows) }
 {
     let places = units.number.places;
     if ledger.display().places(&units.currency) < places {
@@ -30,7 +30,7 @@ fn note_amount<'a>(ledger: &mut Ledger<'a>, units: &Amount<'a>) -> Result<(), Al
 fn note_posting<'a>(ledger: &mut Ledger<'a>, posting: &Posting<'a>) -> Result<(), AllocError>
     ensures decimals { OnOk result ((name : List ℕ) → decimals_of ledger.new.decimals name
         ≡ decimals_from (decimals_of ledger.old.decimals name) name (written_in posting.now)) }
-    ensures rows { ledger.new.rows ≡ ledger.old.rows }
+    ensures rows { OnOk result (ledger.new.rows ≡ ledger.old.rows) }
 {
     match &posting.units {
         Units::Amount(units) => note_amount(ledger, units),
@@ -46,7 +46,7 @@ pub(crate) fn note_written<'a>(
     ensures decimals { OnOk result ((name : List ℕ) → decimals_of ledger.new.decimals name
         ≡ decimals_from (decimals_of ledger.old.decimals name) name
         (flat_map written_in postings.now)) }
-    ensures rows { ledger.new.rows ≡ ledger.old.rows }
+    ensures rows { OnOk result (ledger.new.rows ≡ ledger.old.rows) }
 {
     for posting in postings {
         note_posting(ledger, posting)?;

@@ -93,16 +93,16 @@ fn take_directive<'b, 'a>(
     requires tame { AllByRecursion IsTame left.kept.now }
     requires pads { AllByRecursion IsSmallNoted left.pads.now }
     ensures adds { IfOk result (λ rest.
-        Adds (spec.booking_of number placed.now.item placed.now.item.kind left.kept.now
-        left.pads.now) ledger.old ledger.new) }
+        Adds (spec.booking_of number placed.now.item placed.now.item.kind left.entry.kept.now
+        left.entry.pads.now) ledger.old ledger.new) }
     ensures kept { IfOk result (λ rest. rest.kept.now
-        ≡ spec.kept_behind number placed.now.item.kind left.kept.now) }
+        ≡ spec.kept_behind number placed.now.item.kind left.entry.kept.now) }
     ensures noted { IfOk result (λ rest. rest.pads.now
-        ≡ spec.pads_behind placed.now.item.kind left.pads.now) }
+        ≡ spec.pads_behind placed.now.item.kind left.entry.pads.now) }
     ensures full { result ≡ Err BookFault.TooManyPostings → MOST_POSTINGS
         < length ledger.old.rows
         + length (rows_of_all (spec.booking_of number placed.now.item placed.now.item.kind
-        left.kept.now left.pads.now)) }
+        left.entry.kept.now left.entry.pads.now)) }
 {
     match &placed.item.kind {
         DirectiveKind::Transaction(transaction) => {

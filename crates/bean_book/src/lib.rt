@@ -28,7 +28,7 @@
 //! copied but those with an escape; what the postings of a transaction have in common stands once.
 #![tactic(auto)]
 
-mod book;
+mod booked;
 mod decimals;
 mod entries;
 mod faults;
@@ -39,5 +39,5 @@ mod paddings;
 mod rows;
 
 pub use bean_booker::BookFault;
-pub use book::{Booked, book};
+pub use booked::{Booked, book};
 pub use laws::one_book;

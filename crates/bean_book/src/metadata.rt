@@ -13,8 +13,8 @@ use std::alloc::{AllocError, Global};
 
 /// A text that was made byte by byte.
 fn made<'a>(bytes: Vec<u8>) -> PlainText<'a>
-    requires { IsAscii bytes.entry.items }
-    ensures { result ≡ bytes.entry.items }
+    requires { IsAscii bytes.items }
+    ensures { result ≡ bytes.items }
 {
     match String::from_utf8(bytes) {
         Ok(text) => PlainText::made(text),

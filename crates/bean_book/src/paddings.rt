@@ -58,7 +58,7 @@ fn push_note<'a>(
     requires note { IsSmallNote note.now }
     ensures rows { OnOk result (ledger.new.rows
         ≡ ledger.old.rows ++ spec.rows_of_note pad.now note.now) }
-    ensures decimals { ledger.new.decimals ≡ ledger.old.decimals }
+    ensures decimals { OnOk result (ledger.new.decimals ≡ ledger.old.decimals) }
     ensures full { result ≡ Err BookFault.TooManyPostings
         → MOST_POSTINGS < length ledger.old.rows + length (spec.rows_of_note pad.now note.now) }
 {
@@ -83,7 +83,7 @@ pub(crate) fn push_pad<'a>(
 ) -> Result<(), BookFault>
     requires { IsSmallNoted noted.now }
     ensures rows { OnOk result (ledger.new.rows ≡ ledger.old.rows ++ spec.rows_of_pad noted.now) }
-    ensures decimals { ledger.new.decimals ≡ ledger.old.decimals }
+    ensures decimals { OnOk result (ledger.new.decimals ≡ ledger.old.decimals) }
     ensures full { result ≡ Err BookFault.TooManyPostings
         → MOST_POSTINGS < length ledger.old.rows + length (spec.rows_of_pad noted.now) }
 {

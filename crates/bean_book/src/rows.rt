@@ -17,7 +17,7 @@ use crate::metadata::metadata_of;
 use bean_base::Shared;
 use bean_booker::BookFault;
 use bean_grammar::Posting;
-use bean_heads::{Directive, Transaction};
+use bean_heads::{Directive, DirectiveKind, Transaction};
 use bean_lots::{Key, Position};
 use bean_trial::{Posted, whole};
 use posting_table::{Entry, Ledger, MOST_POSTINGS, Metadata, Row, Weight};
@@ -25,9 +25,9 @@ use std::alloc::{AllocError, Global};
 
 /// Adds a row at the end.
 pub(crate) fn push_row<'a>(ledger: &mut Ledger<'a>, row: Row<'a>) -> Result<(), BookFault>
-    requires { IsShaped widest row.entry }
+    requires { IsShaped widest row }
     ensures rows { OnOk result (ledger.new.rows ≡ ledger.old.rows ++ row.entry ∷ []) }
-    ensures decimals { ledger.new.decimals ≡ ledger.old.decimals }
+    ensures decimals { OnOk result (ledger.new.decimals ≡ ledger.old.decimals) }
     ensures full { result ≡ Err BookFault.TooManyPostings
         → MOST_POSTINGS ≤ length ledger.old.rows }
 {
@@ -102,7 +102,7 @@ fn row_of<'a>(
     posted: &Posted<'a>,
 ) -> Result<Row<'a>, AllocError>
     requires light { IsLight (booked_leg postings.now posted.now) }
-    requires noted { metadata.entry
+    requires noted { metadata
         ≡ spec.items_in (slice_get postings.now posted.now.written) }
     ensures { IfOk result (λ row. row
         ≡ spec.row_of entry.now line postings.now posted.now) }
@@ -139,7 +139,7 @@ fn push_posted<'a>(
     requires of { IsSmallEntry entry.now }
     ensures rows { OnOk result (ledger.new.rows
         ≡ ledger.old.rows ++ map (spec.row_of entry.now line postings.now) posted.now) }
-    ensures decimals { ledger.new.decimals ≡ ledger.old.decimals }
+    ensures decimals { OnOk result (ledger.new.decimals ≡ ledger.old.decimals) }
     ensures full { result ≡ Err BookFault.TooManyPostings
         → MOST_POSTINGS < length ledger.old.rows + length posted.now }
 {
@@ -165,10 +165,11 @@ pub(crate) fn push_transaction<'a>(
     requires light { AllByRecursion IsLight (booked_legs transaction.now.postings posted.now) }
     requires small { AllByRecursion IsSmallPosted posted.now }
     requires few { length posted.now ≤ 1000000 }
-    requires written { IsSmallOf directive.now transaction.now }
+    requires directive { IsSmallDirective directive.now }
+    requires is { directive.now.kind ≡ DirectiveKind.Transaction transaction.now }
     ensures rows { OnOk result (ledger.new.rows ≡ ledger.old.rows
         ++ spec.rows_of_transaction directive.now transaction.now posted.now) }
-    ensures decimals { ledger.new.decimals ≡ ledger.old.decimals }
+    ensures decimals { OnOk result (ledger.new.decimals ≡ ledger.old.decimals) }
     ensures full { result ≡ Err BookFault.TooManyPostings
         → MOST_POSTINGS < length ledger.old.rows
         + length (spec.rows_of_transaction directive.now transaction.now posted.now) }

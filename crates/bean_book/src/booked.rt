@@ -23,7 +23,7 @@ pub struct Booked<'a> {
 /// A loaded ledger as it is booked. What [`bean_load::load`] gives of gathered texts is small
 /// ([`bean_sizes`]).
 pub fn book<'a>(alloc: Global, loaded: Loaded<'a>) -> Result<Booked<'a>, BookFault>
-    requires { AllByRecursion IsSmall loaded.entry.directives }
+    requires { AllByRecursion IsSmall loaded.directives }
     ensures { Books loaded.entry result }
 {
     let booked = match book_directives(alloc, &loaded) {

@@ -1,0 +1,5 @@
+use Rattle.std.proofs.lemmas.Str.{IsUtf8-from_ascii}
+use Rattle.bean_book.proofs.metadata.made.Goals as goal
+
+pub unreachable-requires : goal.unreachable-requires
+unreachable-requires c = c.in-Err.ensures.succeeds (IsUtf8-from_ascii c.args.bytes.items c.requires)

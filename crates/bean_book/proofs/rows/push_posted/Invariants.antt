@@ -1,0 +1,11 @@
+use Rattle.std.proofs.Common.{◌≡◌, ◌++◌, map, take}
+use Rattle.bean_book.specs.Rows.{row_of}
+use Rattle.bean_book.proofs.rows.push_posted.Given as goal
+
+abbrev pub invariant-loop-one : goal.invariant-loop-one
+invariant-loop-one l = record {
+  rows : l.ledger.rows
+      ≡ l.initial.ledger.rows
+      ++ map (row_of l.entry l.line l.postings) (take l.one-index l.posted);
+  decimals : l.ledger.decimals ≡ l.initial.ledger.decimals;
+}
