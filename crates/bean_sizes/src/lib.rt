@@ -22,4 +22,4 @@
 
 pub mod laws;
 
-pub use laws::{gathered_texts_are_limited, loaded_ledgers_are_small};
+pub use laws::{booked_ledgers_are_small, gathered_texts_are_limited, loaded_ledgers_are_small};
