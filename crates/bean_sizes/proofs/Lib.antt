@@ -19,3 +19,4 @@ pub mod TakenFacts
 pub mod LinedFacts
 pub mod CompletedFacts
 pub mod BookedFacts
+pub mod BookingFacts

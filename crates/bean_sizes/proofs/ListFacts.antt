@@ -18,6 +18,13 @@ pub all_unmapped :
 all_unmapped P Q f go [] all = tt
 all_unmapped P Q f go (x ∷ xs) all = (go x all.0, all_unmapped P Q f go xs all.1)
 
+-- of two that hold of each comes a third
+pub all_joint :
+    {X : Type 0} (P Q R : X → Type 0) → ((x : X) → P x → Q x → R x) → (xs : List X)
+    → AllByRecursion P xs → AllByRecursion Q xs → AllByRecursion R xs
+all_joint P Q R go [] h k = tt
+all_joint P Q R go (x ∷ xs) h k = (go x h.0 k.0, all_joint P Q R go xs h.1 k.1)
+
 pub all_flat :
     {X Y : Type 0} (P : X → Type 0) (Q : Y → Type 0) (f : X → List Y)
     → ((x : X) → P x → AllByRecursion Q (f x)) → (xs : List X) → AllByRecursion P xs
