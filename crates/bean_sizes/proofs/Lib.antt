@@ -14,3 +14,9 @@ pub mod ParsedFacts
 pub mod LoadedFacts
 pub mod GatheringFacts
 pub mod PlaceFacts
+pub mod ListFacts
+pub mod TakenFacts
+pub mod LinedFacts
+pub mod CompletedFacts
+pub mod BookedFacts
+pub mod BookingFacts

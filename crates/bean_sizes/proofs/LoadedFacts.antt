@@ -40,7 +40,7 @@ module _ {X : Type 0} (P : X → Type 0) (before : X → X → Bool) where
   arranged_all [] all = tt
   arranged_all (x ∷ xs) all = put_all x (arranged_by before xs) all.0 (arranged_all xs all.1)
 
-in_order_all :
+pub in_order_all :
     {X K : Type 0} (P : X → Type 0) (key : X → K) (cmp : K → K → Ordering) → IsTotalOrder cmp
     → (xs ys : List X) → IsArrangedByKey key cmp xs ys → AllByRecursion P xs → AllByRecursion P ys
 in_order_all P key cmp total xs ys arranged all =
