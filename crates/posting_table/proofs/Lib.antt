@@ -1,1 +1,2 @@
 pub mod DecimalsFacts
+pub mod FitFacts

@@ -1,4 +1,7 @@
-pub mod Column
+pub mod Metadata
 pub mod Row
+pub mod Held
 pub mod Decimals
 pub mod Ledger
+pub mod Fits
+pub mod Shaped
