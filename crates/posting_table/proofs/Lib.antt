@@ -1,2 +1,3 @@
 pub mod DecimalsFacts
 pub mod FitFacts
+pub mod PartFacts

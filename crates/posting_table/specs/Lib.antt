@@ -5,3 +5,4 @@ pub mod Decimals
 pub mod Ledger
 pub mod Fits
 pub mod Shaped
+pub mod Parts
