@@ -1,5 +1,5 @@
 //! Sets of texts.
-ghost use Rattle.std.specs.Prelude.{◌≡◌};
+ghost use Rattle.std.specs.Prelude.{◌≡◌, ◌≤◌, length};
 ghost use Rattle.std.specs.Cmp.Lexicographic.{slice_cmp};
 ghost use Rattle.std.specs.List.Sorted.{IsStrictlySortedBy};
 ghost use Rattle.std.specs.Ordering.{nat_cmp};
@@ -30,7 +30,8 @@ impl<'a> Model for TextSet<'a> {
 impl<'a> TextSet<'a> {
     /// The set of these texts, which may come in any order and more than once.
     pub fn new(texts: Vec<Slice<'a>>) -> TextSet<'a>
-        ensures { HasMembersOf texts.entry.items result }
+        ensures members { HasMembersOf texts.entry.items result }
+        ensures few { length result ≤ length texts.entry.items }
     {
         let mut texts = texts;
         texts.sort_unstable();

@@ -17,8 +17,8 @@ invariant_of-result c =
     (sym (dedup_is bytes_eq sorted c.dedup.new.self.items c.dedup.ensures.filtered))
     (IsStrictlySortedBy-dedup nat_list_cmp_total texts_ties sorted c.sort_unstable.ensures.sorted)
 
-pub returns : goal.returns
-returns c = λ t.
+pub returns-clause-members : goal.returns-clause-members
+returns-clause-members c = λ t.
     let sorted = c.sort_unstable.new.self.items in
     ap (list_any (bytes_eq t))
     (dedup_is bytes_eq sorted c.dedup.new.self.items c.dedup.ensures.filtered) ∙ kept t sorted
