@@ -1,5 +1,5 @@
 -- Rows of small parts lie in the shapes of their columns.
-use Rattle.std.proofs.Common.{◌≡◌, ℕ, ◌≤◌, ◌<◌, ◌-◌, ◌^◌, arith, refl, Option, Some, None, List}
+use Rattle.std.proofs.Common.{ℕ, ◌≤◌, arith, refl, Option, Some, None, List}
 use Rattle.jiff_core.proofs.CalendarLemmas.{days_in_month_bounds}
 use Rattle.std.proofs.lemmas.Int.{ints}
 use Rattle.std.specs.Int.RustNames.{unsigned_abs}

@@ -1,13 +1,12 @@
 -- Sets of short texts.
-use Rattle.std.proofs.Common.{◌≡◌, ℕ, ◌≤◌, Bool, true, ◌||◌, List, [], ◌∷◌, length, subst, sym, ap}
-use Rattle.std.proofs.Common.{◌∙◌, refl, arith, ⊎_elim, Decides}
+use Rattle.std.proofs.Common.{◌≡◌, ℕ, ◌≤◌, true, List, [], ◌∷◌, length, subst, sym}
+use Rattle.std.proofs.Common.{◌∙◌, refl, arith, ⊎_elim}
 use Rattle.std.proofs.lemmas.Bool.{or_cases, or_left, or_right}
 use Rattle.std.proofs.lemmas.Slice.Eq.{bytes_eq-Decides}
 use Rattle.std.specs.List.{AllByRecursion, list_any}
 use Rattle.std.specs.Str.{bytes_eq}
 use Rattle.posting_table.specs.Parts.{IsShortSet}
 use Rattle.query_shapes.specs.Shape.{IsShort}
-use Rattle.query_shapes.specs.declared.shape.TheConstants.{LONGEST}
 use Rattle.query_values.specs.TextSet.{HasMembersOf}
 
 -- a text among short ones is short
@@ -21,13 +20,15 @@ among t (x ∷ xs) is all =
 each : (ts : List (List ℕ)) → ((t : List ℕ) → list_any (bytes_eq t) ts ≡ true → IsShort t)
     → AllByRecursion IsShort ts
 each [] short = tt
-each (t ∷ ts) short =
-    (short t (or_left _ _ ((bytes_eq-Decides t t).1 refl)),
-    each ts (λ s is. short s (or_right _ _ is)))
+each (t ∷ ts) short = (
+  short t (or_left _ _ ((bytes_eq-Decides t t).1 refl)),
+  each ts (λ s is. short s (or_right _ _ is)),
+)
 
 -- a set of the same texts, as `TextSet::new` makes it of a list
 pub short_set : (texts set : List (List ℕ)) → HasMembersOf texts set → length set ≤ length texts
     → IsShortSet texts → IsShortSet set
-short_set texts set same few short =
-    (omega (arith, few, short.0),
-    each set (λ t is. among t texts (sym (same t) ∙ is) short.1))
+short_set texts set same few short = (
+  omega (arith, few, short.0),
+  each set (λ t is. among t texts (sym (same t) ∙ is) short.1),
+)
