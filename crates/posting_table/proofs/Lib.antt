@@ -1,1 +1,5 @@
 pub mod DecimalsFacts
+pub mod FitFacts
+pub mod PartFacts
+pub mod SetFacts
+mod Examples

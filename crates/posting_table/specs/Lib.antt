@@ -1,4 +1,8 @@
-pub mod Column
+pub mod Metadata
 pub mod Row
+pub mod Held
 pub mod Decimals
 pub mod Ledger
+pub mod Fits
+pub mod Shaped
+pub mod Parts

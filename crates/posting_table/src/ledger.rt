@@ -1,14 +1,19 @@
 //! The ledger: rows in order, and the display decimals.
-ghost use Rattle.std.specs.Prelude.{◌≡◌, ◌==◌, [], ◌∷◌, ◌++◌, ◌<◌, ◌≤◌, OnOk, OnErr, length, Some};
-ghost use Rattle.std.specs.Prelude.{slice_get};
-ghost use Rattle.std.specs.Option.{option_map};
+ghost use Rattle.std.specs.Prelude.{◌≡◌, ◌≢◌, ◌==◌, [], ◌∷◌, ◌++◌, ◌<◌, ◌≤◌, OnOk, OnErr, length};
+ghost use Rattle.std.specs.Prelude.{All, IsTrue, Some, slice_get};
+ghost use Rattle.std.specs.Option.{option_copied, option_map};
 ghost use Rattle.std.specs.FinMap as map;
+ghost use Rattle.posting_table.specs.Fits.{fits};
+ghost use Rattle.posting_table.specs.Ledger.{meta_at, entry_meta_at};
 ghost use Rattle.posting_table.specs.Row.{cell_at};
+ghost use Rattle.posting_table.specs.Shaped.{IsShaped, widest};
 
-use crate::column::Column;
+use crate::bounded::all_fit;
 use crate::display::Display;
+use crate::held::HeldRow;
 use crate::row::Row;
-use bean_base::Currency;
+use bean_base::{Bounds, Currency};
+use query_columns::Column;
 use query_values::Value;
 use std::alloc::{AllocError, Global};
 use std::marker::Model;
@@ -19,15 +24,17 @@ pub const MOST_POSTINGS: usize = 1_000_000;
 /// A list of booked postings, and how many decimals each currency shows.
 #[derive(Drop)]
 pub struct Ledger<'a> {
-    rows: Vec<Row<'a>>,
+    alloc: Global,
+    rows: Vec<HeldRow<'a>>,
     display: Display<'a>,
 }
 
 impl<'a> Model for Ledger<'a> {
-    ghost use Rattle.std.specs.Prelude.{◌≤◌, length};
+    ghost use Rattle.std.specs.Prelude.{◌≤◌, All, length};
     ghost use Rattle.std.specs.Coded.{codes};
     ghost use Rattle.posting_table.specs.Decimals.{decimals_code};
     ghost use Rattle.posting_table.specs.Ledger.{Ledger};
+    ghost use Rattle.posting_table.specs.Shaped.{IsShaped, widest};
     ghost use Rattle.posting_table.specs.declared.ledger.TheConstants.{MOST_POSTINGS};
 
     ghost Value = { Ledger };
@@ -36,7 +43,8 @@ impl<'a> Model for Ledger<'a> {
 
     ghost view = { λ l. record { rows = l.rows.items; decimals = l.display } };
 
-    ghost invariant = { λ l. length l.rows.items ≤ MOST_POSTINGS };
+    ghost invariant = { λ l.
+        (length l.rows.items ≤ MOST_POSTINGS) × All (IsShaped widest) l.rows.items };
 }
 
 impl<'a> Ledger<'a> {
@@ -45,6 +53,7 @@ impl<'a> Ledger<'a> {
         ensures { result ≡ record { rows = []; decimals = map.empty } }
     {
         Ledger {
+            alloc,
             rows: Vec::new(alloc),
             display: Display::new(alloc),
         }
@@ -52,15 +61,15 @@ impl<'a> Ledger<'a> {
 
     /// Adds a posting at the end.
     pub fn push(&mut self, row: Row<'a>) -> Result<(), AllocError>
-        requires { length self.old.rows < MOST_POSTINGS }
+        requires room { length self.old.rows < MOST_POSTINGS }
+        requires shaped { IsShaped widest row }
         ensures pushed { OnOk result (self.new
             ≡ record { rows = self.old.rows ++ row.entry ∷ []; decimals = self.old.decimals }) }
         ensures unchanged { OnErr result (self.new ≡ self.old) }
     {
-        match self.rows.push(row) {
-            Ok(()) => Ok(()),
-            Err(_) => Err(AllocError),
-        }
+        let row = HeldRow::new(self.alloc, row)?;
+        self.rows.push(row)?;
+        Ok(())
     }
 
     /// Sets how many decimals a currency shows.
@@ -89,12 +98,38 @@ impl<'a> Ledger<'a> {
         self.rows.is_empty()
     }
 
-    /// What a posting has in a column, lent from its row.
+    /// What a posting has in a column, lent from its row. No posting has a balance by itself.
     pub fn cell(&self, row: usize, column: Column) -> Value<'_>
-        requires { row < length self.now.rows }
+        requires row { row < length self.now.rows }
+        requires column { column ≢ Column.Balance }
         ensures { Some result ≡ option_map (λ r. cell_at r column) (slice_get self.now.rows row) }
     {
         self.rows[row].cell(column)
+    }
+
+    /// What a posting's metadata has under a key: none where nothing stands behind it.
+    pub fn meta(&self, row: usize, key: &str) -> Option<&str>
+        requires { row < length self.now.rows }
+        ensures { option_copied result ≡ meta_at self.now.rows row key.now }
+    {
+        self.rows[row].row().metadata.text_under(key)
+    }
+
+    /// What the metadata of a posting's transaction has under a key.
+    pub fn entry_meta(&self, row: usize, key: &str) -> Option<&str>
+        requires { row < length self.now.rows }
+        ensures { option_copied result ≡ entry_meta_at self.now.rows row key.now }
+    {
+        self.rows[row].row().entry.get().metadata.text_under(key)
+    }
+
+    /// Whether it is within bounds: it has no more postings than they allow, and no wider counts. Its
+    /// cells then lie in the shapes that its columns have by these bounds. Takes no memory.
+    pub fn fits(&self, bounds: &Bounds) -> bool
+        ensures fits { result ≡ fits bounds.now self.now.rows }
+        ensures shaped { IsTrue result → All (IsShaped bounds.now) self.now.rows }
+    {
+        self.len() <= bounds.postings as usize && all_fit(bounds, &self.rows)
     }
 
     /// How many decimals each currency shows.

@@ -5,43 +5,71 @@
 //!
 //! ```text
 //! let mut ledger = Ledger::new(alloc);
-//! ledger.push(Row {
+//! let entry = Shared::new(alloc, Entry {
 //!     date: parse_day("2014-01-02")?,
-//!     flag: Flag::Complete,
+//!     flag: EntryFlag::Written(Flag::Complete),
+//!     payee: None,
+//!     narration: PlainText::lent("Lunch"),
+//!     ..                                           // tags, links, accounts, metadata
+//! })?;
+//! ledger.push(Row {
+//!     entry: entry.share()?,
 //!     account: parse_account("Assets:Cash")?,
+//!     flag: None,
 //!     position: Position {
 //!         key: Key { currency: parse_currency("USD")?, lot: None },
 //!         count: 10_000_000_000,                   // 100 USD, in units of 10^-8
 //!     },
+//!     weight: Weight { count: 1_000_000_000_000_000_000, currency: parse_currency("USD")? },
+//!     metadata: Metadata::empty(),
+//!     line: 7,
 //! })?;
 //! ledger.set_display(parse_currency("USD")?, 2)?;
 //! let account = ledger.cell(0, Column::Account);   // Value::Text of Assets:Cash
-//! let name = Column::Account.name();               // account
+//! let receipt = ledger.entry_meta(0, "receipt");   // None
+//! let fits = ledger.fits(&bounds);
 //! ```
+//!
+//! # Rows
+//!
+//! What the postings of a transaction have in common, its [`Entry`], stands once for all of them,
+//! and so does the [`Metadata`] of a written posting that became several. A text is a slice of the
+//! ledger's text, and is made only where it is written with an escape or stands for no text.
 //!
 //! # Cells
 //!
 //! What a row has in a [`Column`] is a `Value` of queries, lent from where the row is kept: names
-//! and texts as slices, the keys of positions by reference (`Lent`). Contracts see what is lent as
-//! the thing itself.
+//! and texts as slices, sets and the keys of positions by reference (`Lent`). Contracts see what is
+//! lent as the thing itself. By itself a posting has no balance.
 //!
 //! # What may be asked
 //!
-//! `push` wants room: a ledger holds at most [`MOST_POSTINGS`]. `cell` wants a row that is there. A
-//! call that answers with an error left the ledger as it was; the only cause is want of memory.
+//! `push` wants room, since a ledger holds at most [`MOST_POSTINGS`], and a row whose cells lie in
+//! the shapes that its columns have by the widest bounds. So in a ledger that [`Ledger::fits`]
+//! narrower bounds they lie in the shapes by these. `cell`, `meta` and `entry_meta` want a row that
+//! is there. A call that answers with an error left the ledger as it was; the only cause is want of
+//! memory.
 //!
 //! # Cost
 //!
 //! A row is moved in and never copied. `cell` and `len` take a few steps, `push` and `set_display`
-//! a few on the average; `new` takes no memory.
+//! a few on the average, `meta` and `entry_meta` look at each entry, and `fits` at each row. `new`
+//! takes no memory.
 #![tactic(auto)]
 
-mod column;
+mod bounded;
 mod display;
+mod entry;
+mod held;
+pub mod laws;
 mod ledger;
+mod metadata;
 mod row;
 
-pub use column::Column;
 pub use display::Display;
+pub use entry::{Entry, EntryFlag};
+pub use laws::{cells_lie_in_their_shapes, rows_of_small_parts_are_shaped};
 pub use ledger::{Ledger, MOST_POSTINGS};
-pub use row::Row;
+pub use metadata::{MetaItem, Metadata};
+pub use query_columns::Column;
+pub use row::{Row, Weight};

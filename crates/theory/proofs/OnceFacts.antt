@@ -1,6 +1,6 @@
 -- What is in order, each item once, is told by what is among it.
 use Rattle.std.proofs.Common.{◌≡◌, Bool, true, false, cond, ◌||◌, List, [], ◌∷◌, refl, sym, ap, ◌∙◌}
-use Rattle.std.proofs.Common.{subst, true≢false}
+use Rattle.std.proofs.Common.{ℕ, suc, ◌≤◌, arith, length, subst, true≢false}
 use Rattle.std.specs.Cmp.{IsTotalOrder}
 use Rattle.std.specs.List.{list_any, AllByRecursion, dedup, dedup_from}
 use Rattle.std.specs.List.Sorted.{IsPermutation, IsSorted, IsStrictlySortedBy}
@@ -208,3 +208,39 @@ module _ {X : Type 0} (R : X → X → Ordering) (o : IsTotalOrder R)
     dedup_is_once xs ys same in_order =
         once_is xs (dedup E ys) (IsStrictlySortedBy-dedup o ties ys in_order)
         (λ t. kept t ys ∙ sym (list_any-IsPermutation (λ w. is_eq (R t w)) xs ys same))
+
+-- ---- what holds of the items holds of them in order
+
+module _ {X : Type 0} (R : X → X → Ordering) where
+  few_put : (x : X) (ys : List X) → length (put_once R x ys) ≤ suc (length ys)
+  few_put x [] = omega arith
+  few_put x (y ∷ ys) = by (few_put x ys) (R x y)
+    where
+      by : length (put_once R x ys) ≤ suc (length ys) → (c : Ordering)
+          → length (placed c x y ys (put_once R x ys)) ≤ suc (suc (length ys))
+      by before Less = omega arith
+      by before Equal = omega arith
+      by before Greater = omega (arith, before)
+
+  -- they are no more
+  pub few_once : (xs : List X) → length (once_in_order R xs) ≤ length xs
+  few_once [] = omega arith
+  few_once (x ∷ xs) =
+      let one = few_put x (once_in_order R xs) in
+      let others = few_once xs in omega (arith, one, others)
+
+  all_put : (P : X → Type 0) (x : X) (ys : List X) → P x → AllByRecursion P ys
+      → AllByRecursion P (put_once R x ys)
+  all_put P x [] h k = (h, tt)
+  all_put P x (y ∷ ys) h k = by (all_put P x ys h k.1) (R x y)
+    where
+      by : AllByRecursion P (put_once R x ys) → (c : Ordering)
+          → AllByRecursion P (placed c x y ys (put_once R x ys))
+      by before Less = (h, k)
+      by before Equal = k
+      by before Greater = (k.0, before)
+
+  pub all_once : (P : X → Type 0) (xs : List X) → AllByRecursion P xs
+      → AllByRecursion P (once_in_order R xs)
+  all_once P [] h = tt
+  all_once P (x ∷ xs) h = all_put P x (once_in_order R xs) h.0 (all_once P xs h.1)

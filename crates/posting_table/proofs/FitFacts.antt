@@ -1,0 +1,130 @@
+-- Numbers below a power of ten, and rows that are within bounds.
+use Rattle.std.proofs.Common.{◌≡◌, ℕ, ◌-◌, ◌^◌, ◌≤◌, ◌<◌, true, arith, refl, Option}
+use Rattle.std.proofs.Common.{Some, None, List, ℤ, All, slice_index_or}
+use Rattle.std.proofs.lemmas.List.Sums.{AllPass-from_list_all}
+use Rattle.std.proofs.Common.{to_z, of_z, ap, ◌∙◌}
+use Rattle.std.proofs.lemmas.Int.{to_z-of_z, fits_signed_from_abs}
+use Rattle.std.specs.Int.{w128}
+use Rattle.std.specs.List.{list_all}
+use Rattle.std.specs.Int.RustNames.{unsigned_abs}
+use Rattle.std.proofs.lemmas.Bool.{lt-ltb, ltb-true, and_parts}
+use Rattle.bean_base.proofs.PowerFacts.{pow_le, pow_pos}
+use Rattle.bean_base.specs.declared.bounds.Bounds.{Bounds}
+use Rattle.bean_lots.specs.declared.lot.Lot.{Lot}
+use Rattle.posting_table.specs.Fits.{fits, has_digits, lot_fits, row_fits}
+use Rattle.posting_table.specs.Row.{cell_at, of_lot}
+use Rattle.posting_table.specs.Shaped.{IsShaped, widest}
+use Rattle.posting_table.specs.declared.row.Row.{Row}
+use Rattle.query_columns.specs.ColumnShape.{column_shape, value_most}
+use Rattle.query_columns.specs.declared.column.Column.{Column}
+use Rattle.query_columns.specs.declared.column.Column.TheVariants as column
+use Rattle.query_shapes.specs.Mass.{value_of}
+use Rattle.query_shapes.specs.Shape.{LiesIn}
+use Rattle.query_values.specs.declared.value.Value.TheVariants.{Number}
+
+pub many_digits : (d n : ℕ) → n < 10 ^ 38 → 38 ≤ d → has_digits d n ≡ true
+many_digits d n small many =
+    let wide = pow_le 38 d many in lt-ltb n (10 ^ d) (omega (arith, small, wide))
+
+-- a number of so many digits is at most the greatest of them
+at_most : (d n : ℕ) → has_digits d n ≡ true → n ≤ 10 ^ d - 1
+at_most d n has = let small = ltb-true n (10 ^ d) has in omega (arith, small)
+
+-- ---- counts, as the program has them
+
+pub same_count : (n : ℤ) → unsigned_abs n < 10 ^ 28 → to_z w128 (of_z w128 n) ≡ n
+same_count n small = to_z-of_z w128 n (fits_signed_from_abs w128 n (omega (arith, small)))
+
+pub small_units : (n : ℤ) (m : ℕ) → unsigned_abs n < 10 ^ 28
+    → m ≡ unsigned_abs (to_z w128 (of_z w128 n)) → m < 10 ^ 38
+small_units n m small is =
+    let same = same_count n small in
+    let e : m ≡ unsigned_abs n = is ∙ ap unsigned_abs same in omega (arith, e, small)
+
+pub small_value : (lot : Option Lot) (n : ℤ) → unsigned_abs n < 10 ^ 28
+    → value_of lot n < 10 ^ 28 → value_of lot (to_z w128 (of_z w128 n)) < 10 ^ 28
+small_value lot n small value = rw (same_count n small) value
+
+-- ---- what is known of the counts of a shaped row
+
+below : (d n : ℕ) → n ≤ 10 ^ d - 1 → n < 10 ^ d
+below d n most = let some = pow_pos d in omega (arith, most, some)
+
+pub units_are_small : (r : Row) → IsShaped widest r → unsigned_abs r.position.count < 10 ^ 28
+units_are_small r is =
+    let small = below 20 _ (is.cells column.Number).1 in omega (arith, small)
+
+pub value_is_small : (r : Row) → IsShaped widest r
+    → value_of r.position.key.lot r.position.count < 10 ^ 28
+value_is_small r is = below 28 _ (is.cells column.Position).1
+
+pub weight_is_small : (r : Row) → IsShaped widest r → unsigned_abs r.weight.count < 10 ^ 28
+weight_is_small r is = below 28 _ (is.cells column.Weight).1
+
+-- ---- the cells of a shaped row that is within bounds
+
+cost_number : (b : Bounds) (lot : Option Lot) (n : ℤ) → lot_fits b lot n ≡ true
+    → LiesIn (of_lot (λ l. Number 8 l.cost.count) lot) (column_shape b column.CostNumber)
+cost_number b None n fits = tt
+cost_number b (Some lot) n fits = (refl, at_most b.units_digits _ (and_parts _ _ fits).0)
+
+value : (b : Bounds) (lot : Option Lot) (n : ℤ) → lot_fits b lot n ≡ true
+    → value_of lot n ≤ value_most b
+value b None n fits = omega arith
+value b (Some lot) n fits = at_most b.value_digits _ (and_parts _ _ fits).1
+
+cell_lies : (b : Bounds) (r : Row) → IsShaped widest r
+    → has_digits b.units_digits (unsigned_abs r.position.count) ≡ true
+    → lot_fits b r.position.key.lot r.position.count ≡ true
+    → has_digits b.value_digits (unsigned_abs r.weight.count) ≡ true
+    → (c : Column) → LiesIn (cell_at r c) (column_shape b c)
+cell_lies b r is units lot weight column.Date = is.cells column.Date
+cell_lies b r is units lot weight column.Year = is.cells column.Year
+cell_lies b r is units lot weight column.Month = is.cells column.Month
+cell_lies b r is units lot weight column.Day = is.cells column.Day
+cell_lies b r is units lot weight column.Flag = is.cells column.Flag
+cell_lies b r is units lot weight column.Payee = is.cells column.Payee
+cell_lies b r is units lot weight column.Narration = is.cells column.Narration
+cell_lies b r is units lot weight column.Tags = is.cells column.Tags
+cell_lies b r is units lot weight column.Links = is.cells column.Links
+cell_lies b r is units lot weight column.Account = is.cells column.Account
+cell_lies b r is units lot weight column.PostingFlag = is.cells column.PostingFlag
+cell_lies b r is units lot weight column.Number = (refl, at_most b.units_digits _ units)
+cell_lies b r is units lot weight column.Currency = is.cells column.Currency
+cell_lies b r is units lot weight column.CostNumber =
+    cost_number b r.position.key.lot r.position.count lot
+cell_lies b r is units lot weight column.CostCurrency = is.cells column.CostCurrency
+cell_lies b r is units lot weight column.CostDate = is.cells column.CostDate
+cell_lies b r is units lot weight column.CostLabel = is.cells column.CostLabel
+cell_lies b r is units lot weight column.Position =
+    let known = is.cells column.Position in (
+      at_most b.units_digits _ units,
+      value b r.position.key.lot r.position.count lot,
+      known.2,
+      known.3,
+    )
+cell_lies b r is units lot weight column.Weight =
+    (refl, at_most b.value_digits _ weight, (is.cells column.Weight).2)
+cell_lies b r is units lot weight column.Balance = tt
+cell_lies b r is units lot weight column.Lineno = is.cells column.Lineno
+cell_lies b r is units lot weight column.Accounts = is.cells column.Accounts
+
+row_lies : (b : Bounds) (r : Row) → IsShaped widest r → row_fits b r ≡ true → IsShaped b r
+row_lies b r is all =
+    let outer = and_parts _ _ all in
+    let inner = and_parts _ _ outer.0 in
+    record {
+      cells = cell_lies b r is inner.0 inner.1 outer.1;
+      texts = is.texts;
+      entry_texts = is.entry_texts;
+    }
+
+pub rows_that_fit_lie : (b : Bounds) (rows : List Row) → All (IsShaped widest) rows
+    → list_all (row_fits b) rows ≡ true → All (IsShaped b) rows
+rows_that_fit_lie b rows are all k d small =
+    row_lies b (slice_index_or rows k d) (are k d small)
+    (AllPass-from_list_all (row_fits b) rows all k d small)
+
+pub rows_lie : (b : Bounds) (rows : List Row) → All (IsShaped widest) rows → fits b rows ≡ true
+    → All (IsShaped b) rows
+rows_lie b rows are fit = rows_that_fit_lie b rows are (and_parts _ _ fit).1

@@ -1,0 +1,8 @@
+use Rattle.std.proofs.Common.{◌≡◌, drop}
+use Rattle.std.specs.List.{list_all}
+use Rattle.posting_table.specs.Fits.{row_fits}
+use Rattle.posting_table.proofs.bounded.all_fit.Given as goal
+
+abbrev pub invariant-loop-row : goal.invariant-loop-row
+invariant-loop-row l =
+    list_all (row_fits l.bounds) l.rows ≡ list_all (row_fits l.bounds) (drop l.row-index l.rows)

@@ -1,0 +1,20 @@
+use Rattle.posting_table.proofs.FitFacts.{small_units, small_value}
+use Rattle.posting_table.proofs.FitFacts.{units_are_small, value_is_small, weight_is_small}
+use Rattle.posting_table.proofs.bounded.row_fits.Goals as goal
+
+pub has_digits-requires : goal.has_digits-requires
+has_digits-requires c =
+    let r = c.args.row.now in
+    small_units r.position.count _ (units_are_small r c.requires) c.unsigned_abs.ensures.value
+
+pub lot_fits-requires : goal.lot_fits-requires
+lot_fits-requires c =
+    let r = c.args.row.now in
+    small_value r.position.key.lot r.position.count (units_are_small r c.requires)
+    (value_is_small r c.requires)
+
+pub has_digits-requires-then-lot_fits : goal.has_digits-requires-then-lot_fits
+has_digits-requires-then-lot_fits c =
+    let r = c.args.row.now in
+    small_units r.weight.count _ (weight_is_small r c.requires)
+    c.unsigned_abs-then-lot_fits.ensures.value

@@ -1,0 +1,20 @@
+use Rattle.std.proofs.Common.{arith, sym, subst, length, ◌<◌, ◌∷◌, []}
+use Rattle.std.proofs.lemmas.List.{length-append}
+use Rattle.std.proofs.lemmas.List.Elements.{All-push}
+use Rattle.posting_table.specs.Shaped.{IsShaped, widest}
+use Rattle.posting_table.specs.declared.ledger.TheConstants.{MOST_POSTINGS}
+use Rattle.posting_table.proofs.ledger.Ledger.push.Goals as goal
+
+pub invariant_of-self : goal.invariant_of-self
+invariant_of-self c = rw c.in_err-push.ensures.items c.self.invariant
+
+pub invariant_of-self-2 : goal.invariant_of-self-2
+invariant_of-self-2 c =
+    let items = c.self.inside.rows.items in
+    let row = c.in_ok-row.row in
+    let room : length items < MOST_POSTINGS =
+    subst (λ l. length l.rows < MOST_POSTINGS) (sym c.self.view_is) c.requires.room in
+    let longer = length-append items (row ∷ []) in
+    let is = subst (IsShaped widest) (sym c.in_ok-row.ensures) c.requires.shaped in
+    rw c.in_ok-push.ensures.items
+    (omega (arith, room, longer), All-push (IsShaped widest) items row c.self.invariant.1 is)

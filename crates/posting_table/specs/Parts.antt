@@ -1,0 +1,41 @@
+-- What makes a row shaped, part by part.
+use Rattle.std.specs.Prelude.{ℕ, ◌<◌, ◌≤◌, ◌^◌, List, length, Option, Some, None, ⊤}
+use Rattle.std.specs.Int.RustNames.{unsigned_abs}
+use Rattle.std.specs.List.{AllByRecursion}
+use Rattle.bean_lots.specs.declared.lot.Lot.{Lot}
+use Rattle.posting_table.specs.Shaped.{AreShort, IsShortIfThere}
+use Rattle.posting_table.specs.declared.entry.Entry.{Entry}
+use Rattle.posting_table.specs.declared.row.Row.{Row}
+use Rattle.query_shapes.specs.Mass.{value_of}
+use Rattle.query_shapes.specs.Shape.{IsShort}
+use Rattle.query_shapes.specs.declared.shape.TheConstants.{LONGEST}
+
+abbrev pub IsShortSet : List (List ℕ) → Type 0
+IsShortSet texts = (length texts ≤ LONGEST) × AllByRecursion IsShort texts
+
+-- the texts of a transaction are short
+pub record HasShortTexts (e : Entry) : Type 0 where
+  pub payee : IsShortIfThere e.payee
+  pub narration : IsShort e.narration
+  pub tags : IsShortSet e.tags
+  pub links : IsShortSet e.links
+  pub accounts : IsShortSet e.accounts
+  pub texts : AreShort e.metadata
+
+-- the texts of a lot are short
+abbrev pub IsShortLot : Option Lot → Type 0
+IsShortLot None = ⊤
+IsShortLot (Some lot) = IsShort lot.cost.currency × IsShortIfThere lot.label
+
+-- the texts of a row are short and its counts small
+pub record HasSmallParts (r : Row) : Type 0 where
+  pub entry : HasShortTexts r.entry
+  pub account : IsShort r.account
+  pub currency : IsShort r.position.key.currency
+  pub lot : IsShortLot r.position.key.lot
+  pub units : unsigned_abs r.position.count < 10 ^ 20
+  pub value : value_of r.position.key.lot r.position.count < 10 ^ 28
+  pub weight : unsigned_abs r.weight.count < 10 ^ 28
+  pub weight_currency : IsShort r.weight.currency
+  pub line : r.line ≤ 16777216
+  pub texts : AreShort r.metadata

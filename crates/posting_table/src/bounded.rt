@@ -1,0 +1,57 @@
+//! Whether rows are within bounds.
+ghost use Rattle.std.specs.Prelude.{◌≡◌, ◌<◌, ◌^◌, All};
+ghost use Rattle.std.specs.List.{list_all};
+ghost use Rattle.posting_table.specs.Fits as spec;
+ghost use Rattle.posting_table.specs.Shaped.{IsShaped, widest};
+ghost use Rattle.query_shapes.specs.Mass.{value_of};
+
+use crate::held::HeldRow;
+use crate::row::Row;
+use bean_base::{Bounds, power_of_ten};
+use bean_lots::Lot;
+
+/// Whether a number has at most so many digits.
+fn has_digits(digits: u8, number: u128) -> bool
+    requires { number < 10 ^ 38 }
+    ensures { result ≡ spec.has_digits digits number }
+{
+    digits >= 38 || number < power_of_ten(digits).unsigned_abs()
+}
+
+/// Whether the cost of so many units is within bounds, and their product.
+fn lot_fits(bounds: &Bounds, lot: &Option<Lot<'_>>, count: i128) -> bool
+    requires { value_of lot.now count < 10 ^ 28 }
+    ensures { result ≡ spec.lot_fits bounds.now lot.now count }
+{
+    match lot {
+        Some(lot) => {
+            let cost = lot.cost.count.unsigned_abs();
+            has_digits(bounds.units_digits, cost)
+                && has_digits(bounds.value_digits, count.unsigned_abs() * cost)
+        }
+        None => true,
+    }
+}
+
+/// Whether the counts of a row are within bounds.
+fn row_fits(bounds: &Bounds, row: &Row<'_>) -> bool
+    requires { IsShaped widest row.now }
+    ensures { result ≡ spec.row_fits bounds.now row.now }
+{
+    has_digits(bounds.units_digits, row.position.count.unsigned_abs())
+        && lot_fits(bounds, &row.position.key.lot, row.position.count)
+        && has_digits(bounds.value_digits, row.weight.count.unsigned_abs())
+}
+
+/// Whether the counts of all rows are within bounds.
+pub(crate) fn all_fit(bounds: &Bounds, rows: &[HeldRow<'_>]) -> bool
+    requires { All (IsShaped widest) rows.now }
+    ensures { result ≡ list_all (spec.row_fits bounds.now) rows.now }
+{
+    for row in rows {
+        if !row_fits(bounds, row.row()) {
+            return false;
+        }
+    }
+    true
+}

@@ -1,0 +1,42 @@
+//! What the postings of a transaction have in common.
+ghost use Rattle.std.specs.Prelude.{◌≡◌};
+ghost use Rattle.posting_table.specs.Row.{entry_spelling};
+
+use crate::metadata::Metadata;
+use bean_base::{Day, Flag, PlainText};
+use query_values::TextSet;
+
+/// How a transaction is marked.
+#[derive(Clone, Copy, Debug, Drop, PartialEq, Eq)]
+pub enum EntryFlag {
+    /// As it is written.
+    Written(Flag),
+    /// By `P`, as one that a pad inserts.
+    Padding,
+}
+
+impl EntryFlag {
+    /// How a table shows the flag.
+    pub fn spelling(self) -> &'static str
+        ensures { result.now ≡ entry_spelling self }
+    {
+        match self {
+            EntryFlag::Written(flag) => flag.spelling(),
+            EntryFlag::Padding => "P",
+        }
+    }
+}
+
+/// What the postings of a transaction have in common.
+#[derive(Debug, Drop)]
+pub struct Entry<'a> {
+    pub payee: Option<PlainText<'a>>,
+    pub narration: PlainText<'a>,
+    pub tags: TextSet<'a>,
+    pub links: TextSet<'a>,
+    /// The accounts of all its postings.
+    pub accounts: TextSet<'a>,
+    pub metadata: Metadata<'a>,
+    pub date: Day,
+    pub flag: EntryFlag,
+}

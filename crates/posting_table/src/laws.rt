@@ -1,0 +1,20 @@
+//! Laws of ledgers.
+ghost use Rattle.std.specs.Prelude.{◌≡◌, true, All, List};
+ghost use Rattle.bean_base.specs.declared.bounds.Bounds.{Bounds};
+ghost use Rattle.posting_table.specs.Fits.{fits};
+ghost use Rattle.posting_table.specs.Parts.{HasSmallParts};
+ghost use Rattle.posting_table.specs.Shaped.{IsShaped, widest};
+ghost use Rattle.posting_table.specs.declared.row.Row.{Row};
+
+/// Where rows are within bounds, their cells lie in the shapes that the columns have by these
+/// bounds, and their texts of metadata in that of texts.
+pub fn cells_lie_in_their_shapes()
+    ensures { (b : Bounds) (rows : List Row) → All (IsShaped widest) rows → fits b rows ≡ true
+        → All (IsShaped b) rows }
+{}
+
+/// A row of short texts and small counts lies in the shapes that its columns have by the widest
+/// bounds, as `push` wants it.
+pub fn rows_of_small_parts_are_shaped()
+    ensures { (r : Row) → HasSmallParts r → IsShaped widest r }
+{}
