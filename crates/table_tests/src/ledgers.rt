@@ -124,31 +124,35 @@ fn lunch_ledger(alloc: Global) -> Result<Ledger<'static>, Fail> {
     Ok(ledger)
 }
 
-/// What a posting has in a column, if it is there and the column isn't the balance.
-fn cell<'l>(ledger: &'l Ledger<'_>, row: usize, column: Column) -> Option<Value<'l>> {
+/// What a posting has in a column; null where it isn't there, and for the balance.
+fn cell<'l>(ledger: &'l Ledger<'_>, row: usize, column: Column) -> Value<'l> {
     if row < ledger.len() && column != Column::Balance {
-        Some(ledger.cell(row, column))
+        ledger.cell(row, column)
     } else {
-        None
+        Value::Null
     }
 }
 
-fn has_text(ledger: &Ledger<'_>, row: usize, column: Column, text: &str) -> bool {
-    match cell(ledger, row, column) {
-        Some(Value::Text(slice)) => slice.text() == text,
+fn is_text(value: &Value<'_>, text: &str) -> bool {
+    match value {
+        Value::Text(slice) => slice.text() == text,
         _ => false,
     }
 }
 
 /// The count of a number, of an amount or of a position, or how many members a set has.
-fn count_of(ledger: &Ledger<'_>, row: usize, column: Column) -> Option<i128> {
-    match cell(ledger, row, column)? {
-        Value::Number { count, .. } => Some(count),
-        Value::Amount { count, .. } => Some(count),
-        Value::Position { count, .. } => Some(count),
+fn count_of(value: &Value<'_>) -> Option<i128> {
+    match value {
+        Value::Number { count, .. } => Some(*count),
+        Value::Amount { count, .. } => Some(*count),
+        Value::Position { count, .. } => Some(*count),
         Value::Set(set) => Some(set.get().as_slice().len() as i128),
         _ => None,
     }
+}
+
+fn is_null(value: &Value<'_>) -> bool {
+    matches!(value, Value::Null)
 }
 
 #[test]
@@ -164,7 +168,7 @@ fn cells_of_texts(rt: HostRuntime) -> Result<(), Fail> {
         (1, Column::CostCurrency, "EUR"),
         (1, Column::CostLabel, "a \"b\""),
     ] {
-        assert!(rt; has_text(&ledger, row, column, text));
+        assert!(rt; is_text(&cell(&ledger, row, column), text));
     }
     Ok(())
 }
@@ -184,7 +188,7 @@ fn cells_of_counts(rt: HostRuntime) -> Result<(), Fail> {
         (1, Column::Position, 50_000_000),
         (1, Column::Weight, 25_000_000_000_000_000),
     ] {
-        assert_eq!(rt; count_of(&ledger, row, column), Some(count));
+        assert_eq!(rt; count_of(&cell(&ledger, row, column)), Some(count));
     }
     Ok(())
 }
@@ -192,6 +196,7 @@ fn cells_of_counts(rt: HostRuntime) -> Result<(), Fail> {
 #[test]
 fn cells_that_are_null(rt: HostRuntime) -> Result<(), Fail> {
     let ledger = lunch_ledger(rt.alloc())?;
+    assert_eq!(rt; ledger.len(), 2);
     for column in [
         Column::Payee,
         Column::PostingFlag,
@@ -200,7 +205,7 @@ fn cells_that_are_null(rt: HostRuntime) -> Result<(), Fail> {
         Column::CostDate,
         Column::CostLabel,
     ] {
-        assert!(rt; matches!(cell(&ledger, 0, column), Some(Value::Null)));
+        assert!(rt; is_null(&cell(&ledger, 0, column)));
     }
     Ok(())
 }
