@@ -123,9 +123,9 @@ impl<'a> Ledger<'a> {
         self.rows[row].row().entry.get().metadata.text_under(key)
     }
 
-    /// Whether it is within bounds: it has no more postings than they allow, and no wider counts. Its
-    /// cells then lie in the shapes that its columns have by these bounds. Each ledger is within the
-    /// widest bounds. Takes no memory.
+    /// Whether it is within bounds: it has no more postings than they allow, and no wider counts.
+    /// Its cells then lie in the shapes that its columns have by these bounds. Each ledger is
+    /// within the widest bounds. Takes no memory.
     pub fn fits(&self, bounds: &Bounds) -> bool
         ensures fits { result ≡ fits bounds.now self.now.rows }
         ensures widest { fits widest self.now.rows ≡ true }
