@@ -25,6 +25,8 @@ import lots
 
 FIRST_DAY = datetime.date(2005, 1, 1)
 DAYS = 7000
+# Transactions may be late by so many days, and are of no day before their accounts are opened.
+LATEST = 30
 ROOTS = {
     "Assets": ["Bank", "Cash", "Fund", "Loan"],
     "Liabilities": ["Card", "Tax"],
@@ -38,9 +40,10 @@ PAYEES = ["Market", "Baker", "Landlord", "Employer", "Railway", "Book shop", "Ch
 NARRATIONS = ["Weekly shopping", "Rent", "Salary", "Tickets", "Bread", "A gift; see the card", "Fee", "Two books"]
 
 
-def accounts(count, pick):
+def accounts(count, pick, first=0):
+    """So many names, told apart by their numbers, which go on from the first."""
     names = []
-    for number in range(count):
+    for number in range(first, first + count):
         root = pick.choices(list(ROOTS), weights=[20, 10, 2, 10, 58])[0]
         group = pick.choice(ROOTS[root])
         names.append(f"{root}:{group}{number}" if number % 8 else f"{root}:{group}:P{number}")
@@ -78,8 +81,8 @@ def transaction(day, size, names, missing, pick):
 
 
 def day_at(done, postings, pick):
-    """Days go forward; one of fifty transactions is up to thirty days late in the text."""
-    late = pick.randint(1, 30) if pick.randrange(50) == 0 else 0
+    """Days go forward; one of fifty transactions is up to LATEST days late in the text."""
+    late = pick.randint(1, LATEST) if pick.randrange(50) == 0 else 0
     return FIRST_DAY + datetime.timedelta(days=done * DAYS // postings - late)
 
 
@@ -94,7 +97,7 @@ def size_of_next(left, pick):
 def ledger(postings, seed, unlisted, missing):
     pick = random.Random(seed)
     names = accounts(min(300, max(30, postings // 300)), pick)
-    yield opens(names, FIRST_DAY)
+    yield opens(names, FIRST_DAY - datetime.timedelta(days=LATEST))
     done = 0
     while done < postings:
         size = size_of_next(postings - done, pick)
@@ -115,10 +118,11 @@ def write_files(blocks, count, folder):
 
 def only_opens(size, seed):
     pick = random.Random(seed)
-    done = 0
+    done = opened = 0
     while done < size:
-        text = opens(accounts(300, pick), FIRST_DAY + datetime.timedelta(days=done * DAYS // size))
+        text = opens(accounts(300, pick, opened), FIRST_DAY + datetime.timedelta(days=done * DAYS // size))
         done += len(text)
+        opened += 300
         yield text
 
 
