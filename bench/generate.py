@@ -5,11 +5,13 @@ generate.py POSTINGS SEED                 so many postings of amounts alone
 generate.py --unlisted POSTINGS SEED      the same, but each transaction is of a 31 June: it is read whole
                                           and then left out, so that `list` has no row to print
 generate.py --missing POSTINGS SEED       the same, but the last posting of each transaction has no
-                                          amount: transactions are kept, and `list` has no row to print
+                                          amount, which booking fills in
 generate.py --opens BYTES SEED            about so many bytes of `open` lines, which give no row either
 generate.py --lots POSTINGS SEED          about so many postings, with lots, prices and metadata, and
                                           every other kind of directive between them
-generate.py --lots-unlisted POSTINGS SEED the same without the transactions that `list` shows
+generate.py --lots-unlisted POSTINGS SEED the same without the transactions of amounts alone
+
+Booked, they have no fault, but for the days of `--unlisted`.
 
 With `--files N FOLDER` before these words, a plain ledger (`--missing` or not) stands in N files of that
 folder: main.beancount has the first of its blocks and includes the others at its end, so that the blocks

@@ -329,7 +329,7 @@ def front(pick):
 
 
 def ledger(postings, pick, unlisted):
-    """A ledger of at least so many postings; where it is unlisted, `list` shows none of them."""
+    """A ledger of at least so many postings; where it is unlisted, no transaction has amounts alone."""
     yield from front(pick)
     book = Ledger(pick, unlisted)
     done = 0
