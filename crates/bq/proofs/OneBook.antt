@@ -1,5 +1,5 @@
 -- Texts have one book, so they have not both a book and too many postings.
-use Rattle.std.proofs.Common.{◌≡◌, ℕ, ◌<◌, ◌≤◌, List, length, reverse, sym, ap, ◌∙◌, subst, arith}
+use Rattle.std.proofs.Common.{◌≡◌, ℕ, ◌<◌, ◌≤◌, length, reverse, sym, ap, ◌∙◌, subst, arith}
 use Rattle.bean_book.specs.Booked as booked
 use Rattle.bean_book.specs.Booked.{bookings_of, decimals_from, rows_of_all, written_in_all}
 use Rattle.bean_book.specs.OneBook.{AreAlike}
@@ -7,7 +7,7 @@ use Rattle.bean_book.specs.Reported.{reported}
 use Rattle.bean_book.specs.declared.booked.Booked.{Booked}
 use Rattle.bean_booker.proofs.OneBooking.{one_stand}
 use Rattle.bean_booker.specs.Booked.{faults_of, method_in_ledger}
-use Rattle.bean_load.specs.Loaded.{IsLoaded, Loaded}
+use Rattle.bean_load.specs.Loaded.{Loaded}
 use Rattle.bean_load.specs.Texts.{Texts}
 use Rattle.bean_load.proofs.OneLoading.{one_loading}
 use Rattle.posting_table.specs.declared.ledger.TheConstants.{MOST_POSTINGS}

@@ -132,9 +132,9 @@ fn run<S: Store, O: Output>(
 }
 
 /// Runs the program on its words, without its own name: the answer goes to `out`, and where there
-/// is none one line that says why to `err`. The status is 0 where it answered, 1 where the answer is
-/// that books have faults, 2 where the words or the input are refused, 3 where reading or writing
-/// failed and 4 where memory lacked.
+/// is none one line that says why to `err`. The status is 0 where it answered, 1 where the answer
+/// is that books have faults, 2 where the words or the input are refused, 3 where reading or
+/// writing failed and 4 where memory lacked.
 pub fn run_words<S: Store, O: Output, E: Output>(
     alloc: Global,
     words: &[&str],

@@ -13,13 +13,16 @@ returns-in_err-write_text g c =
     let is = c.in_ok-booked.ensures in
     let texts = c.args.texts.now in
     let lines = c.in_ok-lines.lines.items in
+    let lines_are =
+    c.in_ok-lines.ensures ∙ ap₂ lines_of c.files.ensures c.as_slice-faults.ensures in
     let r = c.in_err-write_text.field-0.0 in
     let out = written g.O.Output c.args.out.now c.write_text.new.out in
     let step = c.from_residual-in_err-write_text in
     subst (ComesOf out texts (Checks texts)) (sym (converted step.result r step.ensures.1))
     (cut out texts (Checks texts) (not_too_many texts booked is) (verdict_of booked.faults) lines
-    (booked, is, c.in_ok-lines.ensures ∙ ap₂ lines_of c.files.ensures c.as_slice-faults.ensures, refl) r
-    (subst (λ text. WritesText out text (Err r)) c.deref.ensures.value c.in_err-write_text.ensures))
+    (booked, is, lines_are, refl) r
+    (subst (λ text. WritesText out text (Err r)) c.deref.ensures.value
+    c.in_err-write_text.ensures))
 
 pub returns : goal.returns
 returns g c =
@@ -37,6 +40,7 @@ returns g c =
           c.in_ok-lines.ensures ∙ ap₂ lines_of c.files.ensures c.as_slice-faults.ensures,
           c.verdict_of.ensures ∙ ap verdict_of c.as_slice-faults.ensures,
         ),
-        subst (λ text. WritesText out text (Ok tt)) c.deref.ensures.value c.in_ok-write_text.ensures,
+        subst (λ text. WritesText out text (Ok tt)) c.deref.ensures.value
+            c.in_ok-write_text.ensures,
       ),
     )

@@ -1,4 +1,4 @@
-use Rattle.std.proofs.Common.{◌≡◌, ◌∙◌, ap, refl, sym, length, map, subst}
+use Rattle.std.proofs.Common.{◌≡◌, ap, refl, sym, length, map, subst}
 use Rattle.std.proofs.lemmas.List.Elements.{All-map}
 use Rattle.posting_table.specs.Decimals.{Decimals, decimals_of}
 use Rattle.posting_table.specs.Ledger.{Ledger}

@@ -1,5 +1,3 @@
-use Rattle.std.proofs.Common.{Ok, subst}
-use Rattle.bean_load.specs.Following.{Gathers}
 use Rattle.bean_sizes.proofs.GatheringFacts.{gathered_limited}
 use Rattle.bq.proofs.run.texts_of.Goals as goal
 

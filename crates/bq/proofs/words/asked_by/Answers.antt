@@ -1,5 +1,5 @@
-use Rattle.std.proofs.Common.{◌≡◌, Bool, true, false, List, Option, codes, option_map, if◌then◌else◌}
-use Rattle.std.proofs.Common.{sym, ap, ◌∙◌}
+use Rattle.std.proofs.Common.{◌≡◌, Bool, true, false, List, Option, codes, option_map}
+use Rattle.std.proofs.Common.{if◌then◌else◌, sym, ap, ◌∙◌}
 use Rattle.std.specs.Str.{bytes_eq}
 use Rattle.clap.specs.Walk.{Row, Text, first_of, rows_of}
 use Rattle.clap.specs.Words.{found_of}
@@ -20,7 +20,8 @@ other name rows =
     else option_map ShowFile (file_in rows)
 
 by_name : (name : Text) (rows : List Row) (b : Bool) → bytes_eq name (codes "list") ≡ b
-    → asked_by (name, rows) ≡ (if b then option_map ListLedger (ledger_in rows) else other name rows)
+    → asked_by (name, rows)
+    ≡ (if b then option_map ListLedger (ledger_in rows) else other name rows)
 unfolding ledger_in other file_in
 by_name name rows b is =
     ap (λ b. if b then option_map ListLedger (ledger_in rows) else other name rows) is
