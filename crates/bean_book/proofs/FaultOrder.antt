@@ -1,10 +1,9 @@
 -- The order of faults.
 use denote.Enum.Bare.{same_false, same_true, sameb}
 use Rattle.bean_base.specs.contracts.fault.FaultKind.{the_type}
-use Rattle.std.proofs.Common.{rules, ◌≡◌, ℕ, eqb, arith, ◌&&◌, Bool, true, false, cond, ◌||◌, List, [], ◌∷◌, refl, ap, ◌∙◌, sym, subst}
+use Rattle.std.proofs.Common.{rules, ◌≡◌, ℕ, eqb, arith, ◌&&◌, Bool, true, false, List, [], ◌∷◌, refl, ap, ◌∙◌, sym}
 use Rattle.std.specs.Prelude.{slice_get, unwrap_or}
 use Rattle.std.specs.Cmp.{IsTotalOrder, then_total, tied_then}
-use Rattle.std.specs.List.{list_any, dedup, dedup_from}
 use Rattle.std.specs.declared.cmp.Ordering.{Ordering}
 use Rattle.std.specs.declared.cmp.Ordering.TheVariants.{Less, Equal, Greater}
 use Rattle.std.specs.Ordering.{nat_cmp, ordering_then, is_eq}
@@ -106,7 +105,7 @@ fault_told x y e =
     let file : x.file ≡ y.file = exact_unsigned x.file y.file inner.0 in
     let line : x.line ≡ y.line = exact_unsigned x.line y.line inner.1 in
     let kind : x.kind ≡ y.kind =
-        kind_told x.kind y.kind (exact_unsigned (number_of x.kind) (number_of y.kind) outer.1) in
+    kind_told x.kind y.kind (exact_unsigned (number_of x.kind) (number_of y.kind) outer.1) in
     ap (λ k. fault k x.file x.line) kind
     ∙ ap (λ n. fault y.kind n x.line) file
     ∙ ap (λ n. fault y.kind y.file n) line

@@ -1,3 +1,7 @@
 mod FaultOrder
 mod KeptFacts
 pub mod ListFacts
+mod ShapedFacts
+mod PaddingFacts
+mod LedgerFacts
+mod BookFacts

@@ -3,6 +3,5 @@ pub mod Entries
 pub mod Rows
 pub mod Reported
 pub mod Kept
-pub mod Shaped
 pub mod Booked
 pub mod OneBook

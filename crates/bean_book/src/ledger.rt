@@ -37,12 +37,14 @@ fn take_transaction<'b, 'a>(
     requires next { IsNextOf number placed.now kept.now }
     requires small { IsSmall placed.now }
     requires tame { AllByRecursion IsTame kept.now }
+    requires room { length ledger.old.rows ≤ MOST_POSTINGS }
     ensures adds { IfOk result (λ rest.
         Adds (spec.kept_at number placed.now.item transaction.now kept.now) ledger.old ledger.new) }
     ensures left { IfOk result (λ rest. rest.now ≡ spec.behind_kept number kept.now) }
     ensures full { result ≡ Err BookFault.TooManyPostings → MOST_POSTINGS
         < length ledger.old.rows
         + length (rows_of_all (spec.kept_at number placed.now.item transaction.now kept.now)) }
+    ensures room { IfOk result (λ rest. length ledger.new.rows ≤ MOST_POSTINGS) }
 {
     let Some((first, rest)) = kept.split_first() else {
         return Ok(kept);
@@ -65,11 +67,13 @@ fn take_pad<'b, 'a>(
     ledger: &mut Ledger<'a>,
     pads: &'b [NotedPad<'a>],
 ) -> Result<&'b [NotedPad<'a>], BookFault>
-    requires { AllByRecursion IsSmallNoted pads.now }
+    requires small { AllByRecursion IsSmallNoted pads.now }
+    requires room { length ledger.old.rows ≤ MOST_POSTINGS }
     ensures adds { IfOk result (λ rest. Adds (spec.noted_at pads.now) ledger.old ledger.new) }
     ensures left { IfOk result (λ rest. rest.now ≡ spec.pads_left pads.now) }
     ensures full { result ≡ Err BookFault.TooManyPostings → MOST_POSTINGS
         < length ledger.old.rows + length (rows_of_all (spec.noted_at pads.now)) }
+    ensures room { IfOk result (λ rest. length ledger.new.rows ≤ MOST_POSTINGS) }
 {
     let Some((first, rest)) = pads.split_first() else {
         return Ok(pads);
@@ -92,6 +96,7 @@ fn take_directive<'b, 'a>(
     requires small { IsSmall placed.now }
     requires tame { AllByRecursion IsTame left.kept.now }
     requires pads { AllByRecursion IsSmallNoted left.pads.now }
+    requires room { length ledger.old.rows ≤ MOST_POSTINGS }
     ensures adds { IfOk result (λ rest.
         Adds (spec.booking_of number placed.now.item placed.now.item.kind left.entry.kept.now
         left.entry.pads.now) ledger.old ledger.new) }
@@ -103,6 +108,7 @@ fn take_directive<'b, 'a>(
         < length ledger.old.rows
         + length (rows_of_all (spec.booking_of number placed.now.item placed.now.item.kind
         left.entry.kept.now left.entry.pads.now)) }
+    ensures room { IfOk result (λ rest. length ledger.new.rows ≤ MOST_POSTINGS) }
 {
     match &placed.item.kind {
         DirectiveKind::Transaction(transaction) => {

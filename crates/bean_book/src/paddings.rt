@@ -1,5 +1,5 @@
 //! The rows that pads insert.
-ghost use Rattle.std.specs.Prelude.{◌≡◌, ◌<◌, ◌+◌, ◌++◌, ◌^◌, Err, IfOk, OnOk, length};
+ghost use Rattle.std.specs.Prelude.{◌≡◌, ◌<◌, ◌≤◌, ◌+◌, ◌++◌, ◌^◌, Err, IfOk, OnOk, length};
 ghost use Rattle.std.specs.Int.RustNames.{unsigned_abs};
 ghost use Rattle.bean_sizes.specs.Booked.{IsSmallNote, IsSmallNoted, IsSmallPad};
 ghost use Rattle.bean_book.specs.Rows as spec;
@@ -56,11 +56,13 @@ fn push_note<'a>(
     requires entry { entry.now ≡ spec.padding_entry pad.now }
     requires pad { IsSmallPad pad.now }
     requires note { IsSmallNote note.now }
+    requires room { length ledger.old.rows ≤ MOST_POSTINGS }
     ensures rows { OnOk result (ledger.new.rows
         ≡ ledger.old.rows ++ spec.rows_of_note pad.now note.now) }
     ensures decimals { OnOk result (ledger.new.decimals ≡ ledger.old.decimals) }
     ensures full { result ≡ Err BookFault.TooManyPostings
         → MOST_POSTINGS < length ledger.old.rows + length (spec.rows_of_note pad.now note.now) }
+    ensures room { OnOk result (length ledger.new.rows ≤ MOST_POSTINGS) }
 {
     let Outcome::Padding(number) = note.outcome else {
         return Ok(());
@@ -81,11 +83,13 @@ pub(crate) fn push_pad<'a>(
     ledger: &mut Ledger<'a>,
     noted: &NotedPad<'a>,
 ) -> Result<(), BookFault>
-    requires { IsSmallNoted noted.now }
+    requires small { IsSmallNoted noted.now }
+    requires room { length ledger.old.rows ≤ MOST_POSTINGS }
     ensures rows { OnOk result (ledger.new.rows ≡ ledger.old.rows ++ spec.rows_of_pad noted.now) }
     ensures decimals { OnOk result (ledger.new.decimals ≡ ledger.old.decimals) }
     ensures full { result ≡ Err BookFault.TooManyPostings
         → MOST_POSTINGS < length ledger.old.rows + length (spec.rows_of_pad noted.now) }
+    ensures room { OnOk result (length ledger.new.rows ≤ MOST_POSTINGS) }
 {
     let entry = padding_entry(alloc, &noted.pad)?;
     for note in noted.notes.as_slice() {

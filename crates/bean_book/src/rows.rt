@@ -10,7 +10,7 @@ ghost use Rattle.bean_trial.specs.Tried.{booked_leg, booked_legs, whole_at};
 ghost use Rattle.posting_table.specs.Shaped.{IsShaped, widest};
 ghost use Rattle.bean_book.specs.Metadata.{items_of};
 ghost use Rattle.bean_book.specs.Rows as spec;
-ghost use Rattle.bean_book.specs.Shaped.{IsSmallEntry};
+ghost use Rattle.posting_table.specs.Parts.{HasShortTexts};
 
 use crate::entries::entry_of;
 use crate::metadata::metadata_of;
@@ -30,6 +30,7 @@ pub(crate) fn push_row<'a>(ledger: &mut Ledger<'a>, row: Row<'a>) -> Result<(), 
     ensures decimals { OnOk result (ledger.new.decimals ≡ ledger.old.decimals) }
     ensures full { result ≡ Err BookFault.TooManyPostings
         → MOST_POSTINGS ≤ length ledger.old.rows }
+    ensures room { OnOk result (length ledger.new.rows ≤ MOST_POSTINGS) }
 {
     if ledger.len() >= MOST_POSTINGS {
         return Err(BookFault::TooManyPostings);
@@ -136,12 +137,14 @@ fn push_posted<'a>(
     requires small { AllByRecursion IsSmallPosted posted.now }
     requires written { AllByRecursion IsSmallPosting postings.now }
     requires at { line ≤ most }
-    requires of { IsSmallEntry entry.now }
+    requires of { HasShortTexts entry.now }
+    requires room { length ledger.old.rows ≤ MOST_POSTINGS }
     ensures rows { OnOk result (ledger.new.rows
         ≡ ledger.old.rows ++ map (spec.row_of entry.now line postings.now) posted.now) }
     ensures decimals { OnOk result (ledger.new.decimals ≡ ledger.old.decimals) }
     ensures full { result ≡ Err BookFault.TooManyPostings
         → MOST_POSTINGS < length ledger.old.rows + length posted.now }
+    ensures room { OnOk result (length ledger.new.rows ≤ MOST_POSTINGS) }
 {
     for one in posted {
         let noted = metadata_at(metadata, one.written)?;
@@ -167,12 +170,14 @@ pub(crate) fn push_transaction<'a>(
     requires few { length posted.now ≤ 1000000 }
     requires directive { IsSmallDirective directive.now }
     requires is { directive.now.kind ≡ DirectiveKind.Transaction transaction.now }
+    requires room { length ledger.old.rows ≤ MOST_POSTINGS }
     ensures rows { OnOk result (ledger.new.rows ≡ ledger.old.rows
         ++ spec.rows_of_transaction directive.now transaction.now posted.now) }
     ensures decimals { OnOk result (ledger.new.decimals ≡ ledger.old.decimals) }
     ensures full { result ≡ Err BookFault.TooManyPostings
         → MOST_POSTINGS < length ledger.old.rows
         + length (spec.rows_of_transaction directive.now transaction.now posted.now) }
+    ensures room { OnOk result (length ledger.new.rows ≤ MOST_POSTINGS) }
 {
     let postings = transaction.postings.as_slice();
     let entry = entry_of(alloc, directive, transaction, posted)?;

@@ -1,2 +1,3 @@
 pub mod DigitsFacts
 pub mod PrintableFacts
+pub mod LengthFacts

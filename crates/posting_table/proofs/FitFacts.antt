@@ -1,13 +1,12 @@
 -- Numbers below a power of ten, and rows that are within bounds.
 use Rattle.std.proofs.Common.{◌≡◌, ℕ, ◌-◌, ◌^◌, ◌≤◌, ◌<◌, true, arith, refl, Option}
-use Rattle.std.proofs.Common.{Some, None, List, ℤ, All, slice_index_or}
-use Rattle.std.proofs.lemmas.List.Sums.{AllPass-from_list_all}
-use Rattle.std.proofs.Common.{to_z, of_z, ap, ◌∙◌}
+use Rattle.std.proofs.Common.{Some, None, List, ℤ, All, length, slice_index_or, to_z, of_z, ap, ◌∙◌}
+use Rattle.std.proofs.lemmas.List.Sums.{AllPass-from_list_all, list_all-from_AllPass}
 use Rattle.std.proofs.lemmas.Int.{to_z-of_z, fits_signed_from_abs}
 use Rattle.std.specs.Int.{w128}
 use Rattle.std.specs.List.{list_all}
 use Rattle.std.specs.Int.RustNames.{unsigned_abs}
-use Rattle.std.proofs.lemmas.Bool.{lt-ltb, ltb-true, and_parts}
+use Rattle.std.proofs.lemmas.Bool.{le-leb, lt-ltb, ltb-true, and_from, and_parts}
 use Rattle.bean_base.proofs.PowerFacts.{pow_le, pow_pos}
 use Rattle.bean_base.specs.declared.bounds.Bounds.{Bounds}
 use Rattle.bean_lots.specs.declared.lot.Lot.{Lot}
@@ -128,3 +127,25 @@ rows_that_fit_lie b rows are all k d small =
 pub rows_lie : (b : Bounds) (rows : List Row) → All (IsShaped widest) rows → fits b rows ≡ true
     → All (IsShaped b) rows
 rows_lie b rows are fit = rows_that_fit_lie b rows are (and_parts _ _ fit).1
+
+-- ---- the widest bounds
+
+lot_is_within : (lot : Option Lot) (n : ℤ) → value_of lot n < 10 ^ 28 → lot_fits widest lot n ≡ true
+lot_is_within None n small = refl
+lot_is_within (Some lot) n small =
+    let cost = lot.cost.small in
+    and_from _ _ (lt-ltb _ (10 ^ 20) (omega (arith, cost))) (lt-ltb _ (10 ^ 28) small)
+
+row_is_within : (r : Row) → IsShaped widest r → row_fits widest r ≡ true
+row_is_within r is =
+    and_from _ _
+    (and_from _ _ (lt-ltb _ (10 ^ 20) (below 20 _ (is.cells column.Number).1))
+    (lot_is_within r.position.key.lot r.position.count (value_is_small r is)))
+    (lt-ltb _ (10 ^ 28) (weight_is_small r is))
+
+pub rows_are_within : (rows : List Row) → length rows ≤ 1000000 → All (IsShaped widest) rows
+    → fits widest rows ≡ true
+rows_are_within rows few are =
+    and_from _ _ (le-leb (length rows) 1000000 few)
+    (list_all-from_AllPass (row_fits widest) rows
+    (λ k d small. row_is_within (slice_index_or rows k d) (are k d small)))

@@ -1,6 +1,6 @@
 pub mod Metadata
 pub mod Row
-pub mod Held
+pub mod Cells
 pub mod Decimals
 pub mod Ledger
 pub mod Fits

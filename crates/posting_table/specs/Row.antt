@@ -11,8 +11,8 @@ use Rattle.query_columns.specs.declared.column.Column.{Column}
 use Rattle.query_columns.specs.declared.column.Column.TheVariants as column
 use Rattle.query_values.specs.Operation.{whole}
 use Rattle.query_values.specs.declared.value.Value.{Value}
-use Rattle.query_values.specs.declared.value.Value.TheVariants.{Null, Number, Text, Day, Set, Amount}
-use Rattle.query_values.specs.declared.value.Value.TheVariants.{Position}
+use Rattle.query_values.specs.declared.value.Value.TheVariants.{Null, Number, Text, Day, Set}
+use Rattle.query_values.specs.declared.value.Value.TheVariants.{Amount, Position}
 
 -- how a table shows the flag of a transaction
 abbrev pub entry_spelling : EntryFlag → List ℕ

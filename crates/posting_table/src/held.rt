@@ -1,15 +1,14 @@
 //! Rows as a ledger holds them.
-ghost use Rattle.std.specs.Prelude.{◌≡◌, ◌≢◌, IfOk};
-ghost use Rattle.posting_table.specs.Held.{entry_cell, lot_cell};
+ghost use Rattle.std.specs.Prelude.{◌≡◌, IfOk};
+ghost use Rattle.posting_table.specs.Cells.{lot_cell};
 ghost use Rattle.posting_table.specs.Row as spec;
-ghost use Rattle.query_values.specs.Operation.{whole};
 
-use crate::entry::Entry;
+use crate::cells::{flag_or_null, lot_cell, whole};
 use crate::row::Row;
-use bean_base::{Apart, Flag, PlainText, Slice};
+use bean_base::{Apart, PlainText, Slice};
 use bean_lots::Lot;
 use query_columns::Column;
-use query_values::{Lent, Value, part};
+use query_values::{Lent, Value};
 use std::alloc::{AllocError, Global};
 use std::marker::Model;
 
@@ -32,36 +31,6 @@ impl<'a> Model for HeldRow<'a> {
     ghost invariant = { λ h. h.label ≡ label_of h.row.position.key.lot };
 }
 
-/// A whole number.
-fn whole<'r>(number: usize) -> Value<'r>
-    ensures { result ≡ whole number }
-{
-    Value::Number {
-        places: 0,
-        count: number as i128,
-    }
-}
-
-/// A text, or null where there is none.
-fn text_or_null<'r>(text: &'r Option<PlainText<'_>>) -> Value<'r>
-    ensures { result ≡ spec.text_or_null text.now }
-{
-    match text {
-        Some(text) => Value::Text(Slice::new(text.as_str())),
-        None => Value::Null,
-    }
-}
-
-/// A flag, or null where there is none.
-fn flag_or_null<'r>(flag: Option<Flag>) -> Value<'r>
-    ensures { result ≡ spec.flag_or_null flag }
-{
-    match flag {
-        Some(flag) => Value::Text(Slice::new(flag.spelling())),
-        None => Value::Null,
-    }
-}
-
 /// What the label of a lot stands for.
 fn label_of<'a>(
     alloc: Global,
@@ -77,42 +46,6 @@ fn label_of<'a>(
             },
         ) => Ok(Some(Apart::new(alloc, PlainText::of(alloc, label)?)?)),
         _ => Ok(None),
-    }
-}
-
-impl<'a> Entry<'a> {
-    /// What the transaction has in one of its columns; null in any other.
-    pub(crate) fn cell(&self, column: Column) -> Value<'_>
-        ensures { result ≡ entry_cell self.now column }
-    {
-        match column {
-            Column::Date => Value::Day(self.date),
-            Column::Year => part::year(&Value::Day(self.date)),
-            Column::Month => part::month(&Value::Day(self.date)),
-            Column::Day => part::day(&Value::Day(self.date)),
-            Column::Flag => Value::Text(Slice::new(self.flag.spelling())),
-            Column::Payee => text_or_null(&self.payee),
-            Column::Narration => Value::Text(Slice::new(self.narration.as_str())),
-            Column::Tags => Value::Set(Lent::new(&self.tags)),
-            Column::Links => Value::Set(Lent::new(&self.links)),
-            Column::Accounts => Value::Set(Lent::new(&self.accounts)),
-            _ => Value::Null,
-        }
-    }
-}
-
-/// What a lot has in one of its columns but that of its label; null in any other.
-fn lot_cell<'r>(lot: &'r Lot<'_>, column: Column) -> Value<'r>
-    ensures { result ≡ lot_cell lot.now column }
-{
-    match column {
-        Column::CostNumber => Value::Number {
-            places: 8,
-            count: lot.cost.count,
-        },
-        Column::CostCurrency => Value::Text(Slice::new(lot.cost.currency.text())),
-        Column::CostDate => Value::Day(lot.day),
-        _ => Value::Null,
     }
 }
 

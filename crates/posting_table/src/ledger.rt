@@ -1,6 +1,6 @@
 //! The ledger: rows in order, and the display decimals.
 ghost use Rattle.std.specs.Prelude.{◌≡◌, ◌≢◌, ◌==◌, [], ◌∷◌, ◌++◌, ◌<◌, ◌≤◌, OnOk, OnErr, length};
-ghost use Rattle.std.specs.Prelude.{All, IsTrue, Some, slice_get};
+ghost use Rattle.std.specs.Prelude.{All, IsTrue, Some, slice_get, true};
 ghost use Rattle.std.specs.Option.{option_copied, option_map};
 ghost use Rattle.std.specs.FinMap as map;
 ghost use Rattle.posting_table.specs.Fits.{fits};
@@ -123,10 +123,12 @@ impl<'a> Ledger<'a> {
         self.rows[row].row().entry.get().metadata.text_under(key)
     }
 
-    /// Whether it is within bounds: it has no more postings than they allow, and no wider counts. Its
-    /// cells then lie in the shapes that its columns have by these bounds. Takes no memory.
+    /// Whether it is within bounds: it has no more postings than they allow, and no wider counts.
+    /// Its cells then lie in the shapes that its columns have by these bounds. Each ledger is
+    /// within the widest bounds. Takes no memory.
     pub fn fits(&self, bounds: &Bounds) -> bool
         ensures fits { result ≡ fits bounds.now self.now.rows }
+        ensures widest { fits widest self.now.rows ≡ true }
         ensures shaped { IsTrue result → All (IsShaped bounds.now) self.now.rows }
     {
         self.len() <= bounds.postings as usize && all_fit(bounds, &self.rows)

@@ -45,10 +45,11 @@
 //! # What may be asked
 //!
 //! `push` wants room, since a ledger holds at most [`MOST_POSTINGS`], and a row whose cells lie in
-//! the shapes that its columns have by the widest bounds. So in a ledger that [`Ledger::fits`]
-//! narrower bounds they lie in the shapes by these. `cell`, `meta` and `entry_meta` want a row that
-//! is there. A call that answers with an error left the ledger as it was; the only cause is want of
-//! memory.
+//! the shapes that its columns have by the widest bounds: its texts are short and its counts small
+//! ([`rows_of_small_parts_are_shaped`]). So in a ledger that is within narrower bounds
+//! ([`Ledger::fits`]) they lie in the shapes by these. `cell`, `meta` and `entry_meta` want a row
+//! that is there. A call that answers with an error left the ledger as it was; the only cause is
+//! want of memory.
 //!
 //! # Cost
 //!
@@ -58,6 +59,7 @@
 #![tactic(auto)]
 
 mod bounded;
+mod cells;
 mod display;
 mod entry;
 mod held;
@@ -68,7 +70,9 @@ mod row;
 
 pub use display::Display;
 pub use entry::{Entry, EntryFlag};
-pub use laws::{cells_lie_in_their_shapes, rows_of_small_parts_are_shaped};
+pub use laws::{
+    cells_lie_in_their_shapes, rows_of_small_parts_are_shaped, sets_of_short_texts_are_small,
+};
 pub use ledger::{Ledger, MOST_POSTINGS};
 pub use metadata::{MetaItem, Metadata};
 pub use query_columns::Column;

@@ -3,12 +3,13 @@ use Rattle.std.specs.Prelude.{ℕ, Bool, true, false, List, codes, Option}
 use Rattle.std.specs.List.{find}
 use Rattle.std.specs.Str.{str_eq_ignore_ascii_case}
 use Rattle.query_columns.specs.declared.column.Column as columns
-use Rattle.query_columns.specs.declared.column.Column.TheVariants.{Date, Year, Month, Day, Flag, Payee}
-use Rattle.query_columns.specs.declared.column.Column.TheVariants.{Narration, Tags, Links, Account}
-use Rattle.query_columns.specs.declared.column.Column.TheVariants.{PostingFlag, Number, Currency}
-use Rattle.query_columns.specs.declared.column.Column.TheVariants.{CostNumber, CostCurrency, CostDate}
-use Rattle.query_columns.specs.declared.column.Column.TheVariants.{CostLabel, Position, Weight, Balance}
-use Rattle.query_columns.specs.declared.column.Column.TheVariants.{Lineno, Accounts}
+use Rattle.query_columns.specs.declared.column.Column.TheVariants.{Date, Year, Month, Day, Flag}
+use Rattle.query_columns.specs.declared.column.Column.TheVariants.{Payee, Narration, Tags, Links}
+use Rattle.query_columns.specs.declared.column.Column.TheVariants.{Account, PostingFlag, Number}
+use Rattle.query_columns.specs.declared.column.Column.TheVariants.{Currency, CostNumber}
+use Rattle.query_columns.specs.declared.column.Column.TheVariants.{CostCurrency, CostDate}
+use Rattle.query_columns.specs.declared.column.Column.TheVariants.{CostLabel, Position, Weight}
+use Rattle.query_columns.specs.declared.column.Column.TheVariants.{Balance, Lineno, Accounts}
 use Rattle.query_columns.specs.declared.column.TheConstants.{COLUMNS}
 
 abbrev pub name : columns.Column → List ℕ

@@ -2,6 +2,8 @@
 #![tactic(auto)]
 
 #[cfg(test)]
+mod ledgers;
+#[cfg(test)]
 mod memory_stores;
 #[cfg(test)]
 mod short_outputs;

@@ -1,11 +1,9 @@
-//! Tables of answers and of what a ledger lends.
+//! Tables of answers.
 ghost use Rattle.std.specs.Prelude.{◌≡◌, length, IfOk, All};
 
-use bean_base::{
-    Currency, Flag, List, NameFault, Num, Slice, Text, parse_account, parse_currency, parse_day,
-};
+use bean_base::{Currency, List, NameFault, Num, Slice, Text, parse_currency, parse_day};
 use bean_lots::{Cost, Inventory, Key, Lot, Position};
-use posting_table::{Column, Display, Ledger, Row};
+use posting_table::Display;
 use query_values::{Bag, Lent, TextSet, Value};
 use std::alloc::{AllocError, Global};
 use std::test::Fail;
@@ -202,45 +200,6 @@ fn prints_positions_with_their_lots(rt: HostRuntime) -> Result<(), Fail> {
     assert_eq!(rt;
         print(alloc, &answer, &display)?.as_slice(),
         POSITIONS.as_bytes()
-    );
-    Ok(())
-}
-
-fn is_text(value: &Value<'_>, text: &str) -> bool {
-    match value {
-        Value::Text(slice) => slice.text() == text,
-        _ => false,
-    }
-}
-
-fn units_of(value: &Value<'_>) -> Option<i128> {
-    match value {
-        Value::Position { count, .. } => Some(*count),
-        _ => None,
-    }
-}
-
-#[test]
-fn a_ledger_lends_its_cells(rt: HostRuntime) -> Result<(), Fail> {
-    let alloc = rt.alloc();
-    let mut ledger = Ledger::new(alloc);
-    let position = held(250_000_000, "0.1", "2014-01-02", None)?;
-    ledger.push(Row {
-        date: parse_day("2014-01-02")?,
-        flag: Flag::Incomplete,
-        account: parse_account("Assets:Cash")?,
-        position,
-    })?;
-    ledger.set_display(usd()?, 2)?;
-    ledger.set_display(parse_currency("HOOL")?, 3)?;
-    ledger.set_display(usd()?, 4)?;
-    assert_eq!(rt; ledger.len(), 1);
-    assert_eq!(rt; ledger.display().places(&usd()?), 4);
-    assert_eq!(rt; ledger.display().places(&parse_currency("EUR")?), 0);
-    assert!(rt; is_text(&ledger.cell(0, Column::Flag), "!"));
-    assert_eq!(rt;
-        units_of(&ledger.cell(0, Column::Position)),
-        Some(250_000_000)
     );
     Ok(())
 }

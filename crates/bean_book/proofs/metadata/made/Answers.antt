@@ -1,5 +1,7 @@
+use Rattle.std.proofs.Common.{sym, true≢false}
 use Rattle.std.proofs.lemmas.Str.{IsUtf8-from_ascii}
 use Rattle.bean_book.proofs.metadata.made.Goals as goal
 
 pub unreachable-requires : goal.unreachable-requires
-unreachable-requires c = c.in-Err.ensures.succeeds (IsUtf8-from_ascii c.args.bytes.items c.requires)
+unreachable-requires c =
+    true≢false (sym (c.in-Err.ensures.succeeds (IsUtf8-from_ascii c.args.bytes.items c.requires)))

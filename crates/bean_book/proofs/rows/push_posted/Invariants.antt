@@ -1,4 +1,5 @@
-use Rattle.std.proofs.Common.{◌≡◌, ◌++◌, map, take}
+use Rattle.posting_table.specs.declared.ledger.TheConstants.{MOST_POSTINGS}
+use Rattle.std.proofs.Common.{length, ◌≤◌, ◌≡◌, ◌++◌, map, take}
 use Rattle.bean_book.specs.Rows.{row_of}
 use Rattle.bean_book.proofs.rows.push_posted.Given as goal
 
@@ -8,4 +9,5 @@ invariant-loop-one l = record {
       ≡ l.initial.ledger.rows
       ++ map (row_of l.entry l.line l.postings) (take l.one-index l.posted);
   decimals : l.ledger.decimals ≡ l.initial.ledger.decimals;
+  room : length l.ledger.rows ≤ MOST_POSTINGS;
 }

@@ -1,0 +1,220 @@
+-- Rows of small ledgers lie in the shapes of their columns.
+use Rattle.std.proofs.Common.{◌≡◌, ℕ, ℤ, pos, ◌^◌, ◌<◌, ◌≤◌, ◌++◌, List, [], ◌∷◌}
+use Rattle.std.proofs.Common.{codes, ◌+◌, length, length-append, map, Option, Some, None, true, false}
+use Rattle.std.proofs.Common.{ap, ◌∙◌, arith, slice_get, IfSome}
+use Rattle.std.specs.Int.RustNames.{unsigned_abs}
+use Rattle.std.specs.List.{AllByRecursion, flat_map}
+use Rattle.std.specs.Cmp.Lexicographic.{slice_cmp}
+use Rattle.std.specs.Ordering.{nat_cmp}
+use Rattle.std.proofs.lemmas.Int.{unsigned_abs-mul}
+use Rattle.std.proofs.lemmas.List.{length-map}
+use Rattle.bean_base.proofs.PowerFacts.{scaled_lt}
+use Rattle.bean_base.specs.declared.amounts.Amount.{Amount}
+use Rattle.bean_base.specs.declared.num.Num.{Num}
+use Rattle.bean_grammar.specs.declared.mark.Mark.{Mark}
+use Rattle.bean_grammar.specs.declared.mark.Mark.TheVariants.{Tag, Link}
+use Rattle.bean_grammar.specs.declared.metadata.Entry as grammar
+use Rattle.bean_grammar.specs.declared.metadata.Value.{Value}
+use Rattle.bean_grammar.specs.declared.metadata.Value.TheVariants as value
+use Rattle.bean_grammar.specs.declared.posting.Posting.{Posting}
+use Rattle.bean_grammar.specs.declared.price.Price as prices
+use Rattle.bean_grammar.specs.declared.price.Price.TheVariants as price
+use Rattle.bean_heads.specs.declared.directive.Directive.{Directive}
+use Rattle.bean_heads.specs.declared.directive.DirectiveKind.TheVariants as kind
+use Rattle.bean_heads.specs.declared.transaction.Transaction.{Transaction}
+use Rattle.bean_interp.specs.Residual.{IsLight}
+use Rattle.bean_interp.specs.Weight.{at_8, count_of, currency_of}
+use Rattle.bean_interp.specs.declared.leg.Leg.TheVariants as leg
+use Rattle.bean_lots.specs.declared.lot.Lot.{Lot}
+use Rattle.bean_pad.specs.declared.step.Pad.{Pad}
+use Rattle.bean_sizes.proofs.ListFacts.{all_at, all_flat, all_mapped}
+use Rattle.bean_sizes.proofs.PlaceFacts.{transaction_small}
+use Rattle.bean_sizes.specs.Booked.{IsSmallLot, IsSmallPad, IsSmallPosted}
+use Rattle.bean_sizes.specs.Part.{IsShort, IsShortCurrency, IsShortEntry, IsShortMark}
+use Rattle.bean_sizes.specs.Part.{IsShortPrice, IsShortValue, IsSmallPosting, most}
+use Rattle.bean_sizes.specs.Small.{IsSmallDirective}
+use Rattle.bean_trial.specs.Tried.{booked_leg, whole_at, worth_of}
+use Rattle.bean_trial.specs.declared.line.Posted.{Posted}
+use Rattle.number_texts.proofs.LengthFacts.{length-day, short_number}
+use Rattle.posting_table.specs.Parts.{HasShortTexts, HasSmallParts, IsShortLot, IsShortSet}
+use Rattle.posting_table.specs.Shaped.{AreShort, IsShortIfThere}
+use Rattle.posting_table.specs.declared.entry.Entry.{Entry}
+use Rattle.query_shapes.specs.Mass.{value_of}
+use Rattle.query_values.specs.TextSet.{set_of}
+use Rattle.theory.proofs.OnceFacts.{all_once, few_once}
+use Rattle.bean_book.specs.Metadata.{amount_text, item_of, items_of, num_text, text_of}
+use Rattle.bean_book.specs.Rows.{entry_of, link_in, padding_entry, padding_row}
+use Rattle.bean_book.specs.Rows.{row_by, row_of, tag_in}
+
+-- ---- texts
+
+short_currency : (c : List ℕ) → IsShortCurrency c → IsShort c
+short_currency c h = omega (arith, h)
+
+if_there : (o : Option (List ℕ)) → IfSome o IsShort → IsShortIfThere o
+if_there None h = tt
+if_there (Some text) h = h
+
+short_num : (n : Num) → length (num_text n) ≤ 38
+short_num n =
+    let few = n.in_range.0 in
+    let h = short_number n.count n.places n.places n.small in omega (arith, few, h)
+
+short_value : (v : Value) → IsShortValue v → IsShortIfThere (text_of v)
+short_value value.Nothing h = tt
+short_value (value.Text text) h = h
+short_value (value.Account account) h = h
+short_value (value.Day day) h = let e = length-day day in omega (arith, e)
+short_value (value.Currency currency) h = short_currency currency h
+short_value (value.Tag name) h = h
+short_value (value.Truth true) h = omega arith
+short_value (value.Truth false) h = omega arith
+short_value (value.Number n) h = let e = short_num n in omega (arith, e)
+short_value (value.Amount a) h =
+    let number = short_num a.number in
+    let e : length (amount_text a) ≡ length (num_text a.number) + (1 + length a.currency) =
+    length-append (num_text a.number ++ codes " ") a.currency
+    ∙ ap (λ n. n + length a.currency) (length-append (num_text a.number) (codes " "))
+    ∙ (let e : length (num_text a.number) + 1 + length a.currency
+    ≡ length (num_text a.number) + (1 + length a.currency) = omega arith in e) in
+    omega (arith, number, e, h)
+
+short_items : (es : List grammar.Entry) → AllByRecursion IsShortEntry es → AreShort (items_of es)
+short_items es h =
+    all_mapped IsShortEntry (λ item. IsShortIfThere item.text) item_of
+    (λ e k. short_value e.value k.1) es h
+
+-- ---- what a transaction's rows have in common
+
+short_set : (ts : List (List ℕ)) → length ts ≤ most → AllByRecursion IsShort ts
+    → IsShortSet (set_of ts)
+short_set ts few all =
+    let fewer = few_once (slice_cmp nat_cmp) ts in
+    (omega (arith, few, fewer), all_once (slice_cmp nat_cmp) IsShort ts all)
+
+few_tags : (ms : List Mark) → length (flat_map tag_in ms) ≤ length ms
+few_tags [] = omega arith
+few_tags (Tag name ∷ ms) = let h = few_tags ms in omega (arith, h)
+few_tags (Link name ∷ ms) = let h = few_tags ms in omega (arith, h)
+
+few_links : (ms : List Mark) → length (flat_map link_in ms) ≤ length ms
+few_links [] = omega arith
+few_links (Tag name ∷ ms) = let h = few_links ms in omega (arith, h)
+few_links (Link name ∷ ms) = let h = few_links ms in omega (arith, h)
+
+short_tag : (m : Mark) → IsShortMark m → AllByRecursion IsShort (tag_in m)
+short_tag (Tag name) h = (h, tt)
+short_tag (Link name) h = tt
+
+short_link : (m : Mark) → IsShortMark m → AllByRecursion IsShort (link_in m)
+short_link (Tag name) h = tt
+short_link (Link name) h = (h, tt)
+
+pub entry_short : (d : Directive) (t : Transaction) (posted : List Posted) → IsSmallDirective d
+    → d.kind ≡ kind.Transaction t → AllByRecursion IsSmallPosted posted
+    → length posted ≤ 1000000 → HasShortTexts (entry_of d t posted)
+entry_short d t posted small is booked few =
+    let h = transaction_small d t small is in
+    let tags = few_tags t.marks in
+    let links = few_links t.marks in
+    let accounts = length-map posted (λ (p : Posted). p.account) in
+    let few_marks = h.1 in record {
+      payee = if_there t.payee h.0.payee;
+      narration = h.0.narration;
+      tags = short_set (flat_map tag_in t.marks) (omega (arith, tags, few_marks))
+          (all_flat IsShortMark IsShort tag_in short_tag t.marks h.0.marks);
+      links = short_set (flat_map link_in t.marks) (omega (arith, links, few_marks))
+          (all_flat IsShortMark IsShort link_in short_link t.marks h.0.marks);
+      accounts = short_set (map (λ p. p.account) posted) (omega (arith, accounts, few))
+          (all_mapped IsSmallPosted IsShort (λ p. p.account) (λ p k. k.account) posted booked);
+      texts = short_items d.metadata small.metadata;
+    }
+
+-- ---- rows of transactions
+
+units_small : (n : Num) → unsigned_abs (at_8 n) < 10 ^ 20
+units_small n = scaled_lt n.count n.places 8 n.in_range.1 n.in_range.0 (omega arith)
+
+lot_short : (l : Option Lot) → IfSome l IsSmallLot → IsShortLot l
+lot_short None h = tt
+lot_short (Some l) h = (short_currency l.cost.currency h.0, if_there l.label h.1)
+
+value_small : (units : Amount) (o : Option Lot) (w : prices.Price)
+    → unsigned_abs (count_of units (worth_of o w)) < 10 ^ 28
+    → value_of o (at_8 units.number) < 10 ^ 28
+value_small units None w h = omega arith
+value_small units (Some l) w h =
+    let e = unsigned_abs-mul (at_8 units.number) l.cost.count in omega (arith, e, h)
+
+worth_short : (units : Amount) (o : Option Lot) (w : prices.Price)
+    → IsShortCurrency units.currency → IfSome o IsSmallLot → IsShortPrice w
+    → IsShort (currency_of units (worth_of o w))
+worth_short units (Some l) w u h k = short_currency l.cost.currency h.0
+worth_short units None price.Absent u h k = short_currency units.currency u
+worth_short units None (price.PerUnit a) u h k = short_currency a.currency k
+worth_short units None (price.Total a) u h k = short_currency a.currency k
+worth_short units None price.OutsideProfile u h k = short_currency units.currency u
+
+row_by_small : (e : Entry) (line : ℕ) (w : Option Posting) (p : Posted) → HasShortTexts e
+    → IsSmallPosted p → IsLight (leg.Whole (whole_at w p)) → IfSome w IsSmallPosting
+    → line ≤ most → HasSmallParts (row_by e line w p)
+row_by_small e line None p texts small light written at = record {
+  entry = texts;
+  account = small.account;
+  currency = short_currency p.units.currency small.currency;
+  lot = lot_short p.lot small.lot;
+  units = units_small p.units.number;
+  value = value_small p.units p.lot price.Absent light;
+  weight = light;
+  weight_currency = worth_short p.units p.lot price.Absent small.currency small.lot tt;
+  line = at;
+  texts = tt;
+}
+row_by_small e line (Some w) p texts small light written at = record {
+  entry = texts;
+  account = small.account;
+  currency = short_currency p.units.currency small.currency;
+  lot = lot_short p.lot small.lot;
+  units = units_small p.units.number;
+  value = value_small p.units p.lot w.price light;
+  weight = light;
+  weight_currency = worth_short p.units p.lot w.price small.currency small.lot written.price;
+  line = written.line;
+  texts = short_items w.metadata written.metadata;
+}
+
+pub row_small : (e : Entry) (line : ℕ) (ps : List Posting) (p : Posted) → HasShortTexts e
+    → IsSmallPosted p → IsLight (booked_leg ps p) → AllByRecursion IsSmallPosting ps
+    → line ≤ most → HasSmallParts (row_of e line ps p)
+row_small e line ps p texts small light written at =
+    row_by_small e line (slice_get ps p.written) p texts small light
+    (all_at IsSmallPosting ps p.written written) at
+
+-- ---- rows of pads
+
+padding_short : (p : Pad) → IsSmallPad p → HasShortTexts (padding_entry p)
+padding_short p h = record {
+  payee = tt;
+  narration = omega arith;
+  tags = (omega arith, tt);
+  links = (omega arith, tt);
+  accounts = short_set (p.account ∷ p.source ∷ []) (omega arith) (h.account, (h.source, tt));
+  texts = tt;
+}
+
+pub padding_small : (p : Pad) (account currency : List ℕ) (count : ℤ) → IsSmallPad p
+    → IsShort account → IsShortCurrency currency → unsigned_abs count < 10 ^ 20
+    → HasSmallParts (padding_row p account currency count)
+padding_small p account currency count h a c few =
+    let wide = unsigned_abs-mul count (pos (10 ^ 8)) in record {
+      entry = padding_short p h;
+      account = a;
+      currency = short_currency currency c;
+      lot = tt;
+      units = few;
+      value = omega arith;
+      weight = omega (arith, wide, few);
+      weight_currency = short_currency currency c;
+      line = h.line;
+      texts = tt;
+    }

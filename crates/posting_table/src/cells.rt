@@ -1,0 +1,77 @@
+//! Cells, and what the parts of a row have in their columns.
+ghost use Rattle.std.specs.Prelude.{◌≡◌};
+ghost use Rattle.posting_table.specs.Cells.{entry_cell, lot_cell};
+ghost use Rattle.posting_table.specs.Row.{flag_or_null, text_or_null};
+ghost use Rattle.query_values.specs.Operation.{whole};
+
+use crate::entry::Entry;
+use bean_base::{Flag, PlainText, Slice};
+use bean_lots::Lot;
+use query_columns::Column;
+use query_values::{Lent, Value, part};
+
+/// A whole number.
+pub(crate) fn whole<'r>(number: usize) -> Value<'r>
+    ensures { result ≡ whole number }
+{
+    Value::Number {
+        places: 0,
+        count: number as i128,
+    }
+}
+
+/// A text, or null where there is none.
+pub(crate) fn text_or_null<'r>(text: &'r Option<PlainText<'_>>) -> Value<'r>
+    ensures { result ≡ text_or_null text.now }
+{
+    match text {
+        Some(text) => Value::Text(Slice::new(text.as_str())),
+        None => Value::Null,
+    }
+}
+
+/// A flag, or null where there is none.
+pub(crate) fn flag_or_null<'r>(flag: Option<Flag>) -> Value<'r>
+    ensures { result ≡ flag_or_null flag }
+{
+    match flag {
+        Some(flag) => Value::Text(Slice::new(flag.spelling())),
+        None => Value::Null,
+    }
+}
+
+/// What a lot has in one of its columns but that of its label; null in any other.
+pub(crate) fn lot_cell<'r>(lot: &'r Lot<'_>, column: Column) -> Value<'r>
+    ensures { result ≡ lot_cell lot.now column }
+{
+    match column {
+        Column::CostNumber => Value::Number {
+            places: 8,
+            count: lot.cost.count,
+        },
+        Column::CostCurrency => Value::Text(Slice::new(lot.cost.currency.text())),
+        Column::CostDate => Value::Day(lot.day),
+        _ => Value::Null,
+    }
+}
+
+impl<'a> Entry<'a> {
+    /// What the transaction has in one of its columns; null in any other.
+    pub(crate) fn cell(&self, column: Column) -> Value<'_>
+        ensures { result ≡ entry_cell self.now column }
+    {
+        match column {
+            Column::Date => Value::Day(self.date),
+            Column::Year => part::year(&Value::Day(self.date)),
+            Column::Month => part::month(&Value::Day(self.date)),
+            Column::Day => part::day(&Value::Day(self.date)),
+            Column::Flag => Value::Text(Slice::new(self.flag.spelling())),
+            Column::Payee => text_or_null(&self.payee),
+            Column::Narration => Value::Text(Slice::new(self.narration.as_str())),
+            Column::Tags => Value::Set(Lent::new(&self.tags)),
+            Column::Links => Value::Set(Lent::new(&self.links)),
+            Column::Accounts => Value::Set(Lent::new(&self.accounts)),
+            _ => Value::Null,
+        }
+    }
+}
