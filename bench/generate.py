@@ -5,11 +5,13 @@ generate.py POSTINGS SEED                 so many postings of amounts alone
 generate.py --unlisted POSTINGS SEED      the same, but each transaction is of a 31 June: it is read whole
                                           and then left out, so that `list` has no row to print
 generate.py --missing POSTINGS SEED       the same, but the last posting of each transaction has no
-                                          amount: transactions are kept, and `list` has no row to print
+                                          amount, which booking fills in
 generate.py --opens BYTES SEED            about so many bytes of `open` lines, which give no row either
 generate.py --lots POSTINGS SEED          about so many postings, with lots, prices and metadata, and
                                           every other kind of directive between them
-generate.py --lots-unlisted POSTINGS SEED the same without the transactions that `list` shows
+generate.py --lots-unlisted POSTINGS SEED the same without the transactions of amounts alone
+
+Booked, they have no fault, but for the days of `--unlisted`.
 
 With `--files N FOLDER` before these words, a plain ledger (`--missing` or not) stands in N files of that
 folder: main.beancount has the first of its blocks and includes the others at its end, so that the blocks
@@ -25,6 +27,8 @@ import lots
 
 FIRST_DAY = datetime.date(2005, 1, 1)
 DAYS = 7000
+# Transactions may be late by so many days, and are of no day before their accounts are opened.
+LATEST = 30
 ROOTS = {
     "Assets": ["Bank", "Cash", "Fund", "Loan"],
     "Liabilities": ["Card", "Tax"],
@@ -38,9 +42,10 @@ PAYEES = ["Market", "Baker", "Landlord", "Employer", "Railway", "Book shop", "Ch
 NARRATIONS = ["Weekly shopping", "Rent", "Salary", "Tickets", "Bread", "A gift; see the card", "Fee", "Two books"]
 
 
-def accounts(count, pick):
+def accounts(count, pick, first=0):
+    """So many names, told apart by their numbers, which go on from the first."""
     names = []
-    for number in range(count):
+    for number in range(first, first + count):
         root = pick.choices(list(ROOTS), weights=[20, 10, 2, 10, 58])[0]
         group = pick.choice(ROOTS[root])
         names.append(f"{root}:{group}{number}" if number % 8 else f"{root}:{group}:P{number}")
@@ -78,8 +83,8 @@ def transaction(day, size, names, missing, pick):
 
 
 def day_at(done, postings, pick):
-    """Days go forward; one of fifty transactions is up to thirty days late in the text."""
-    late = pick.randint(1, 30) if pick.randrange(50) == 0 else 0
+    """Days go forward; one of fifty transactions is up to LATEST days late in the text."""
+    late = pick.randint(1, LATEST) if pick.randrange(50) == 0 else 0
     return FIRST_DAY + datetime.timedelta(days=done * DAYS // postings - late)
 
 
@@ -94,7 +99,7 @@ def size_of_next(left, pick):
 def ledger(postings, seed, unlisted, missing):
     pick = random.Random(seed)
     names = accounts(min(300, max(30, postings // 300)), pick)
-    yield opens(names, FIRST_DAY)
+    yield opens(names, FIRST_DAY - datetime.timedelta(days=LATEST))
     done = 0
     while done < postings:
         size = size_of_next(postings - done, pick)
@@ -115,10 +120,11 @@ def write_files(blocks, count, folder):
 
 def only_opens(size, seed):
     pick = random.Random(seed)
-    done = 0
+    done = opened = 0
     while done < size:
-        text = opens(accounts(300, pick), FIRST_DAY + datetime.timedelta(days=done * DAYS // size))
+        text = opens(accounts(300, pick, opened), FIRST_DAY + datetime.timedelta(days=done * DAYS // size))
         done += len(text)
+        opened += 300
         yield text
 
 

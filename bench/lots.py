@@ -1,7 +1,7 @@
 """Ledgers full of lots, prices and metadata, with every kind of directive between the transactions.
 
-Each line is of the ledger language and in range. Transactions balance, and what is sold is a part of
-one lot that was bought before. The balances are not those of the accounts: they are only read.
+Each line is of the ledger language and in range, and booking finds no fault: accounts are open, transactions
+balance, what is sold was bought before, and balances are those of the accounts, where pads don't make them so.
 """
 import datetime
 from decimal import Decimal
@@ -87,15 +87,78 @@ def posting(day, account, rest, pick):
     return f"  {flag}{account}{'  ' + rest if rest else ''}{comment}\n" + entries(day, "    ", pick, [85, 11, 4])
 
 
+class Lots:
+    """What is held: by account and currency the units of each lot, which is its price, its day and its label."""
+
+    def __init__(self):
+        self.units = {}
+        # All lots, of which one is picked, and the place of each among them.
+        self.all = []
+        self.places = {}
+
+    def buy(self, account, currency, lot, units):
+        held = self.units.setdefault((account, currency), {})
+        if lot not in held:
+            self.places[account, currency, lot] = len(self.all)
+            self.all.append((account, currency, lot))
+        held[lot] = held.get(lot, 0) + units
+
+    def sell(self, account, currency, price, day, label, units):
+        """Takes units under FIFO of the lots that agree with what is given."""
+        held = self.units[account, currency]
+        agree = [lot for lot in held
+                 if (price is None or lot[0] == price) and (day is None or lot[1] == day)
+                 and (label is None or lot[2] == label)]
+        for lot in sorted(agree, key=lambda lot: lot[1]):
+            take = min(units, held[lot])
+            units -= take
+            held[lot] -= take
+            if held[lot] == 0:
+                del held[lot]
+                self.forget((account, currency, lot))
+            if units == 0:
+                return
+
+    def forget(self, key):
+        place, last = self.places.pop(key), self.all.pop()
+        if last != key:
+            self.all[place] = last
+            self.places[last] = place
+
+
 class Ledger:
-    """The lots that are held, and the tags and entries that are pushed."""
+    """The lots and the cash that are held, and the tags and entries that are pushed."""
 
     def __init__(self, pick, unlisted):
         self.pick = pick
         self.unlisted = unlisted
-        self.lots = []
+        self.lots = Lots()
+        self.cash = {(account, currency): Decimal(0) for account in CASH for currency in MONEY}
+        # The cash at the beginning of the day, which balances ask for.
+        self.day = FIRST_DAY
+        self.at_first = dict(self.cash)
+        # The accounts that were padded on this day, which the next day's first balances serve.
+        self.padded = []
         self.pushed = []
         self.closed = 0
+
+    def begin(self, day):
+        """The balances of what was padded on the day before: not what there is but for the pads."""
+        text = ""
+        if day != self.day:
+            for account in self.padded:
+                self.cash[account, "USD"] += 1 + amount_of(self.pick, 2)
+                text += f"{self.day + datetime.timedelta(1)} balance {account} {self.cash[account, 'USD']} USD\n"
+            self.padded.clear()
+            self.at_first = dict(self.cash)
+            self.day = day
+        return text
+
+    def pays(self, value, currency, account=None):
+        """The account to which so much cash goes."""
+        account = account or self.pick.choice(CASH)
+        self.cash[account, currency] += value
+        return account
 
     def first_line(self, day):
         pick = self.pick
@@ -107,51 +170,58 @@ class Ledger:
             line += f"  #{pick.choice(TAGS)} ^ref-{pick.randrange(10_000)}\n"
         return line + entries(day, "  ", pick, [70, 18, 8, 4])
 
-    # The kinds of transactions: the postings of each, as account and what stands behind it.
+    # The kinds of transactions: the postings of each, as account and what stands behind it. What they buy, sell
+    # and pay is counted.
 
     def spends(self, day):
-        """Amounts only, the one kind that `list` shows."""
+        """Amounts only."""
         pick = self.pick
         currency = pick.choice(MONEY)
         spent = [amount_of(pick, 2) for _ in range(pick.choice([1, 1, 1, 2, 3]))]
-        of_cash = (pick.choice(CASH), amount(-sum(spent), currency, pick))
+        of_cash = (self.pays(-sum(spent), currency), amount(-sum(spent), currency, pick))
         return [*((pick.choice(EXPENSES), amount(value, currency, pick)) for value in spent), of_cash]
 
     def spends_the_rest(self, day):
-        return [*self.spends(day)[:-1], (self.pick.choice(CASH), "")]
+        *spent, (account, _) = self.spends(day)
+        return [*spent, (account, "")]
 
     def buys(self, day):
         pick = self.pick
         account, currency, price = pick.choice(BROKERS), pick.choice(HELD), amount_of(pick, 2)
         units = Decimal(pick.randint(1, 200)) if pick.randrange(2) else amount_of(pick, 3)
         label = f"lot-{pick.randrange(1000)}" if pick.randrange(5) == 0 else None
-        self.lots.append([account, units, currency, price, day, label])
+        self.lots.buy(account, currency, (price, day, label), units)
         parts = [f"{number(price, pick)} USD"]
         if pick.randrange(4) == 0:
             parts.append(str(day))
         if label is not None:
             parts.append(f'"{label}"')
-        return [(account, f"{amount(units, currency, pick)} {{{', '.join(parts)}}}"), (pick.choice(CASH), "")]
+        return [(account, f"{amount(units, currency, pick)} {{{', '.join(parts)}}}"),
+                (self.pays(-units * price, "USD"), "")]
 
     def sells(self, day):
+        """Sells what a lot holds or less, by some of its parts; so other lots may be taken in its place."""
         pick = self.pick
-        if not self.lots:
+        if not self.lots.all:
             return self.buys(day)
-        place = pick.randrange(len(self.lots))
-        account, units, currency, price, bought, label = self.lots[place]
+        account, currency, lot = pick.choice(self.lots.all)
+        price, bought, label = lot
+        units = self.lots.units[account, currency][lot]
         part = units if pick.randrange(2) else min(units, Decimal(1))
-        self.lots[place][1] = units - part
-        if units == part:
-            self.lots.pop(place)
-        all_parts = [f"{price} USD", str(bought)]
-        parts = pick.choices([all_parts, all_parts[1:], all_parts[:1], []], weights=[7, 1, 1, 1])[0]
-        if label is not None and pick.randrange(2) == 0:
-            parts = [*parts, f'"{label}"']
+        has_price, has_day = pick.choices([(True, True), (False, True), (True, False), (False, False)],
+                                          weights=[7, 1, 1, 1])[0]
+        parts = [f"{price} USD"] * has_price + [str(bought)] * has_day
+        has_label = label is not None and pick.randrange(2) == 0
+        if has_label:
+            parts.append(f'"{label}"')
+        self.lots.sell(account, currency, price if has_price else None, bought if has_day else None,
+                       label if has_label else None, part)
         at = amount_of(pick, 2)
+        gained = part * at - Decimal("9.95")
         return [
             (account, f"{amount(-part, currency, pick)} {{{', '.join(parts)}}} @ {number(at, pick)} USD"),
             (FEES, "9.95 USD"),
-            (pick.choice(CASH), amount(part * at - Decimal("9.95"), "USD", pick)),
+            (self.pays(gained, "USD"), amount(gained, "USD", pick)),
             (GAINS, ""),
         ]
 
@@ -162,14 +232,14 @@ class Ledger:
         worth = units * rate
         price = f"@ {rate} {taken}" if pick.randrange(3) else f"@@ {worth} {taken}"
         return [
-            (pick.choice(CASH), f"{amount(-units, given, pick)} {price}"),
-            (pick.choice(CASH), amount(worth, taken, pick)),
+            (self.pays(-units, given), f"{amount(-units, given, pick)} {price}"),
+            (self.pays(worth, taken), amount(worth, taken, pick)),
         ]
 
     def is_paid(self, day):
         pick = self.pick
         pay = amount_of(pick, 2)
-        return [(PAY, amount(-pay, "USD", pick)), ("Assets:Bank:Checking", "USD")]
+        return [(PAY, amount(-pay, "USD", pick)), (self.pays(pay, "USD", "Assets:Bank:Checking"), "USD")]
 
     def transaction(self, day):
         kinds = {Ledger.spends: 0 if self.unlisted else 35, Ledger.spends_the_rest: 20, Ledger.buys: 18,
@@ -185,15 +255,22 @@ class Ledger:
         return f"{day} price {pick.choice(HELD)} {amount(amount_of(pick, 2), 'USD', pick)}\n"
 
     def balance(self, day):
+        """What is held, or off by as much as is tolerated."""
         pick = self.pick
-        tolerance = f" ~ {amount_of(pick, 4)}" if pick.randrange(3) == 0 else ""
-        held = number(amount_of(pick, 2), pick)
-        return f"{day} balance {pick.choice(CASH)} {held}{tolerance} {pick.choice(MONEY)}\n"
+        account, currency = pick.choice(CASH), pick.choice(MONEY)
+        held, tolerance = self.at_first[account, currency], ""
+        if pick.randrange(3) == 0:
+            off = amount_of(pick, 4)
+            held, tolerance = held + off, f" ~ {off}"
+        return f"{day} balance {account} {number(held, pick)}{tolerance} {currency}\n"
 
     def pad(self, day):
+        """A pad, of an account that has none on that day yet."""
         account = self.pick.choice(CASH)
-        return (f"{day} pad {account} Equity:Opening-Balances\n"
-                f"{day + datetime.timedelta(1)} balance {account} {amount_of(self.pick, 2)} USD\n")
+        if account in self.padded:
+            return self.balance(day)
+        self.padded.append(account)
+        return f"{day} pad {account} Equity:Opening-Balances\n"
 
     def note(self, day):
         return f'{day} note {self.pick.choice(CASH)} "Called about the card\\nand again on {day}"\n'
@@ -252,12 +329,13 @@ def front(pick):
 
 
 def ledger(postings, pick, unlisted):
-    """A ledger of at least so many postings; where it is unlisted, `list` shows none of them."""
+    """A ledger of at least so many postings; where it is unlisted, no transaction has amounts alone."""
     yield from front(pick)
     book = Ledger(pick, unlisted)
     done = 0
     while done < postings:
         day = FIRST_DAY + datetime.timedelta(days=done * DAYS // postings)
+        yield book.begin(day)
         while pick.randrange(4) == 0:
             yield book.between(day)
         if book.pushed and pick.randrange(12) == 0:
@@ -267,5 +345,6 @@ def ledger(postings, pick, unlisted):
         text, count = book.transaction(day)
         yield text + "\n"
         done += count
+    yield book.begin(book.day + datetime.timedelta(1))
     while book.pushed:
         yield book.pop()

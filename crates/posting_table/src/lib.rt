@@ -70,9 +70,7 @@ mod row;
 
 pub use display::Display;
 pub use entry::{Entry, EntryFlag};
-pub use laws::{
-    cells_lie_in_their_shapes, rows_of_small_parts_are_shaped, sets_of_short_texts_are_small,
-};
+pub use laws::{cells_lie_in_their_shapes, rows_of_small_parts_are_shaped};
 pub use ledger::{Ledger, MOST_POSTINGS};
 pub use metadata::{MetaItem, Metadata};
 pub use query_columns::Column;

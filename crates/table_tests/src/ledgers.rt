@@ -8,10 +8,7 @@ use bean_base::{
     Bounds, Flag, Num, PlainText, Shared, Slice, Text, parse_account, parse_currency, parse_day,
 };
 use bean_lots::{Cost, Key, Lot, Position};
-use posting_table::{
-    Column, Entry, EntryFlag, Ledger, MetaItem, Metadata, Row, Weight,
-    sets_of_short_texts_are_small,
-};
+use posting_table::{Column, Entry, EntryFlag, Ledger, MetaItem, Metadata, Row, Weight};
 use query_values::{TextSet, Value};
 use std::alloc::Global;
 use std::test::Fail;
@@ -22,7 +19,6 @@ fn set_of<'a>(alloc: Global, text: &'a str) -> Result<TextSet<'a>, Fail>
     ensures { IfOk result (λ set. IsShortSet set) }
 {
     let texts = Vec::from_array(alloc, [Slice::new(text)])?;
-    sets_of_short_texts_are_small();
     Ok(TextSet::new(texts))
 }
 
