@@ -40,7 +40,7 @@ magnitude : (n places least : ℕ) → n < 10 ^ 20
 magnitude n places least small =
     let le = div-le_self n (10 ^ places) in
     let whole = length-decimal-le_wide 20 (n / 10 ^ places) (omega arith) (omega (arith, le, small))
-        (omega (arith, le, small)) in
+    (omega (arith, le, small)) in
     let rest = decimals places (n % 10 ^ places) least in
     let both =
     length-append (decimal (n / 10 ^ places)) (decimals_text places (n % 10 ^ places) least) in

@@ -11,10 +11,10 @@ ghost use Rattle.table_printer.specs.CellText.{set_text, shown_character, truth_
 ghost use Rattle.theory.specs.Joined.{gap_before};
 
 use crate::cell::Cell;
-use number_texts::{push_day, push_number};
 use crate::inventories::{inventory_width, push_inventory};
 use crate::positions::{position_width, push_position};
 use bean_base::Currency;
+use number_texts::{push_day, push_number};
 use posting_table::Display;
 use query_values::{TextSet, Value};
 use std::alloc::{AllocError, Global};

@@ -10,9 +10,9 @@ ghost use Rattle.table_printer.specs.CellText.{entry_text, label_text, lot_text,
 ghost use Rattle.table_printer.specs.CellText.{units_text};
 
 use crate::cells::{Scratch, add_clean, push_units};
-use number_texts::push_day;
 use bean_base::{Currency, Day, Text};
 use bean_lots::{Key, Lot};
+use number_texts::push_day;
 use posting_table::Display;
 use std::alloc::AllocError;
 use unicode_width::UnicodeWidthStr;
