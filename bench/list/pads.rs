@@ -1,7 +1,6 @@
 //! What pads insert.
 
-use crate::directives::Directive;
-use crate::directives::What;
+use crate::directives::{Directive, What};
 use crate::numbers::{Day, Number};
 use crate::trial::{Leg, TOO_WIDE};
 use std::collections::{HashMap, HashSet};
