@@ -2,3 +2,4 @@ pub mod Method
 pub mod Stand
 pub mod Booker
 pub mod Booked
+pub mod BookFault

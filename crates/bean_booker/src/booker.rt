@@ -41,6 +41,20 @@ pub enum BookFault {
     OutOfMemory,
 }
 
+impl BookFault {
+    ghost use Rattle.bean_booker.specs.BookFault.{code_of};
+
+    /// The number that users see.
+    pub fn code(self) -> &'static str
+        ensures { result.now ≡ code_of self }
+    {
+        match self {
+            BookFault::TooManyPostings => "B1",
+            BookFault::OutOfMemory => "M2",
+        }
+    }
+}
+
 impl From<AllocError> for BookFault {
     ghost use Rattle.bean_booker.specs.declared.booker.BookFault.TheVariants.{OutOfMemory};
 

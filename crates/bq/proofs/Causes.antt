@@ -1,7 +1,7 @@
 -- The causes of refusals exclude each other.
 use Rattle.std.proofs.Common.{◌≡◌, ℕ, ◌<◌, ◌≤◌, List, [], ◌∷◌, length, None, Some, Result, Ok, Err}
 use Rattle.std.proofs.Common.{refl, sym, ap, ◌∙◌, arith}
-use Rattle.bean_book.specs.declared.postings.BookFault.TheVariants as book
+use Rattle.bean_booker.specs.declared.booker.BookFault.TheVariants as book
 use Rattle.bean_load.specs.Following.{IsGathered}
 use Rattle.bean_load.specs.Texts.{Texts}
 use Rattle.bean_load.specs.declared.fault.LoadFault.{LoadFault}
@@ -16,9 +16,9 @@ use Rattle.query_code.specs.declared.refusal.Refusal as queries
 use Rattle.stores.specs.Reading.{Reading}
 use Rattle.stores.specs.declared.source.SourceFault.{SourceFault}
 use Rattle.stores.specs.declared.source.SourceFault.TheVariants.{Failed}
-use Rattle.bq.specs.Causes.{CausesExclude, HasCause}
+use Rattle.bq.specs.Causes.{CausesExclude, HasCause, IsCauseOfTexts}
 use Rattle.bq.specs.Showing.{FileComes}
-use Rattle.bq.specs.Words.{ListLedger, ShowFile}
+use Rattle.bq.specs.Words.{ListLedger, CheckLedger, ShowFile}
 use Rattle.bq.specs.declared.refusal.Refusal.{Refusal}
 use Rattle.bq.specs.declared.refusal.Refusal.TheVariants as refusal
 
@@ -44,7 +44,7 @@ refusal_at (Ok texts) = refusal.Book book.TooManyPostings
 refusal_at (Err fault) = refusal.Load fault
 
 end_of_texts : (name : Text) (readings : List Reading) (r : Refusal)
-    → HasCause (Some (ListLedger name)) readings r
+    → IsCauseOfTexts name readings r
     → (end : Result Texts LoadFault) × IsGathered name readings end × (r ≡ refusal_at end)
 unfolding refusal_at
 end_of_texts name readings refusal.Words h = absurd h
@@ -56,8 +56,7 @@ end_of_texts name readings (refusal.Print f) h = absurd h
 end_of_texts name readings refusal.OutOfMemory h = absurd h
 
 one_of_texts : (name : Text) (readings : List Reading) (r s : Refusal)
-    → HasCause (Some (ListLedger name)) readings r
-    → HasCause (Some (ListLedger name)) readings s → r ≡ s
+    → IsCauseOfTexts name readings r → IsCauseOfTexts name readings s → r ≡ s
 one_of_texts name readings r s h k =
     let a = end_of_texts name readings r h in
     let b = end_of_texts name readings s k in
@@ -146,4 +145,5 @@ one_of_file name readings r s h k =
 pub causes_exclude : CausesExclude
 causes_exclude None readings r s h k = one_of_none readings r s h k
 causes_exclude (Some (ListLedger name)) readings r s h k = one_of_texts name readings r s h k
+causes_exclude (Some (CheckLedger name)) readings r s h k = one_of_texts name readings r s h k
 causes_exclude (Some (ShowFile name)) readings r s h k = one_of_file name readings r s h k

@@ -15,23 +15,24 @@ use Rattle.bq.specs.Runs.{Comes, Ends, TellsWhy, deeds, written}
 use Rattle.bq.specs.Words.{Request, request_in}
 use Rattle.bq.specs.declared.refusal.Refusal.{Refusal}
 use Rattle.bq.specs.declared.refusal.Refusal.TheVariants as refusal
+use Rattle.bq.specs.declared.verdict.Verdict.{Verdict}
 
 took : (old new : Holding) (text : List ℕ) (n : ℕ) → TookFront short_writer old new text n
     → KeptFront old new text n
 took old new text n h = let front = keeps_front old new text n h in
     record { kept = front.0; limit = front.1 }
 
-tells : (old new : Holding) (result : Result Unit Refusal)
+tells : (old new : Holding) (result : Result Verdict Refusal)
     → TellsWhy (written short_writer old new) result → TellsWhy (kept_in old new) result
-tells old new (Ok x) h = h
+tells old new (Ok verdict) h = h
 tells old new (Err r) h = (h.0, took old new _ _ h.1)
 
 comes :
     (request : Option Request) (readings : List Reading) (old new : Holding)
-    (result : Result Unit Refusal)
+    (result : Result Verdict Refusal)
     → Comes request readings (written short_writer old new) result
     → Comes request readings (kept_in old new) result
-comes request readings old new (Ok x) h =
+comes request readings old new (Ok verdict) h =
     (h.0, (h.1.0, h.1.1, took old new _ _ h.1.2))
 comes request readings old new (Err (refusal.Print (print.NotWritten n))) h =
     (h.0, (h.1.0, h.1.1, (h.1.2.0, took old new _ _ h.1.2.1)))

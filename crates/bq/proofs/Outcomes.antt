@@ -2,7 +2,7 @@
 use Rattle.std.proofs.Common.{IsTrue, ◌≡◌, ◌⊎◌, inl, inr, ℕ, List, [], Option, Some}
 use Rattle.std.proofs.Common.{Result, Ok, Err, refl, sym, ap, ◌∙◌, subst}
 use Rattle.std.specs.Result.{IsErrAnd}
-use Rattle.bean_book.specs.declared.postings.BookFault.TheVariants as book
+use Rattle.bean_booker.specs.declared.booker.BookFault.TheVariants as book
 use Rattle.bean_load.specs.Following.{Gathers, IsGathered}
 use Rattle.bean_load.specs.Gathered as gathered
 use Rattle.bean_load.specs.Texts.{Texts}
@@ -18,16 +18,18 @@ use Rattle.outputs.specs.declared.output.Output.{Ghosts as OutputOf}
 use Rattle.table_printer.specs.Faults.{WritesTable}
 use Rattle.table_printer.specs.declared.writing.PrintFault.{PrintFault}
 use Rattle.table_printer.specs.declared.writing.PrintFault.TheVariants as print
-use Rattle.bq.specs.Causes.{GaveFile, GaveTexts, HasCause, IsAnswerable}
-use Rattle.bq.specs.Listing.{HasTooMany, Lists}
+use Rattle.bq.specs.Booking.{HasTooMany}
+use Rattle.bq.specs.Causes.{GaveFile, GaveTexts, HasCause, IsAnswerable, IsCauseOfTexts}
 use Rattle.bq.specs.Named.{AskNothing}
 use Rattle.bq.specs.Refusal.{lacks_memory}
-use Rattle.bq.specs.Runs.{Comes, Does, ListsTexts, RefusesExactly, WritesText, Written}
+use Rattle.bq.specs.Runs.{Comes, ComesOf, Does, IsAnswer, RefusesExactly, WritesText, Written}
 use Rattle.bq.specs.Runs.{deeds, written}
 use Rattle.bq.specs.Showing.{FileComes, IsListingOf, ListsNone, ReadsNone}
-use Rattle.bq.specs.Words.{Request, ListLedger, ShowFile, request_in}
+use Rattle.bq.specs.Words.{Request, ShowFile, request_in}
 use Rattle.bq.specs.declared.refusal.Refusal.{Refusal}
 use Rattle.bq.specs.declared.refusal.Refusal.TheVariants as refusal
+use Rattle.bq.specs.declared.verdict.Verdict.{Verdict}
+use Rattle.bq.specs.declared.verdict.Verdict.TheVariants.{Fine}
 use Rattle.bq.proofs.Causes.{causes_exclude, one_file}
 
 -- what `?` makes of a fault
@@ -54,45 +56,60 @@ texts_gathered (Err fault) = gathered.texts_of gathered.nothing
 -- what the store gave comes to texts
 module _ (name : Text) (readings : List Reading) (texts : Texts)
     (are : IsGathered name readings (Ok texts)) where
-  same_texts : (Such : Texts → Type 0) → GaveTexts name readings Such → Such texts
+  pub same_texts : (Such : Texts → Type 0) → GaveTexts name readings Such → Such texts
   unfolding texts_gathered
   same_texts Such h =
       subst Such
       (sym (ap texts_gathered (one_gathering name readings (Ok texts) (Ok h.0) are h.1))) h.2
 
-  answerable : ¬ HasTooMany texts → IsAnswerable (Some (ListLedger name)) readings
-  answerable few refusal.Words h = h
-  answerable few (refusal.Load fault) h =
+  uncaused : ¬ HasTooMany texts → (r : Refusal) → ¬ IsCauseOfTexts name readings r
+  uncaused few refusal.Words h = h
+  uncaused few (refusal.Load fault) h =
       let e = one_gathering name readings (Ok texts) (Err fault) are h in cc
-  answerable few (refusal.Book book.TooManyPostings) h = few (same_texts HasTooMany h)
-  answerable few (refusal.Book book.OutOfMemory) h = h
-  answerable few (refusal.Query q) h = h
-  answerable few (refusal.Print fault) h = h
-  answerable few refusal.OutOfMemory h = h
+  uncaused few (refusal.Book book.TooManyPostings) h = few (same_texts HasTooMany h)
+  uncaused few (refusal.Book book.OutOfMemory) h = h
+  uncaused few (refusal.Query q) h = h
+  uncaused few (refusal.Print fault) h = h
+  uncaused few refusal.OutOfMemory h = h
 
-  -- what comes of texts comes of the run
-  pub listed : (out : Written) (result : Result Unit Refusal) → ListsTexts out texts result
-      → Comes (Some (ListLedger name)) readings out result
-  listed out (Ok x) h = (answerable h.0, (h.1.0, (texts, are, h.1.1), h.1.2))
-  listed out (Err (refusal.Print (print.NotWritten n))) h =
-      (answerable h.0, (h.1.0, (texts, are, h.1.1), h.1.2))
-  listed out (Err (refusal.Print print.OutOfMemory)) h = (inl h.0, h.1)
-  listed out (Err (refusal.Book book.TooManyPostings)) h = (inr (texts, are, h.0), h.1)
-  listed out (Err (refusal.Book book.OutOfMemory)) h = (inl h.0, h.1)
-  listed out (Err refusal.Words) h = (inl h.0, h.1)
-  listed out (Err (refusal.Load fault)) h = (inl h.0, h.1)
-  listed out (Err (refusal.Query q)) h = (inl h.0, h.1)
-  listed out (Err refusal.OutOfMemory) h = (inl h.0, h.1)
+-- what comes of texts comes of a run that is to say this of them
+module _ (request : Option Request) (name : Text) (readings : List Reading) (texts : Texts)
+    (are : IsGathered name readings (Ok texts)) (IsText : Verdict → List ℕ → Type 0)
+    (only : (r : Refusal) → HasCause request readings r → IsCauseOfTexts name readings r)
+    (causes : (r : Refusal) → IsCauseOfTexts name readings r → HasCause request readings r)
+    (says : (v : Verdict) (text : List ℕ) → IsText v text → IsAnswer request readings v text) where
+  answerable : ¬ HasTooMany texts → IsAnswerable request readings
+  answerable few r cause = uncaused name readings texts are few r (only r cause)
+
+  pub told : (out : Written) (result : Result Verdict Refusal) → ComesOf out texts IsText result
+      → Comes request readings out result
+  told out (Ok v) h = (answerable h.0, (h.1.0, says v h.1.0 h.1.1, h.1.2))
+  told out (Err (refusal.Print (print.NotWritten n))) h =
+      (answerable h.0, (h.1.0, (h.1.1.0, says h.1.1.0 h.1.0 h.1.1.1), h.1.2))
+  told out (Err (refusal.Print print.OutOfMemory)) h = (inl h.0, h.1)
+  told out (Err (refusal.Book book.TooManyPostings)) h =
+      (inr (causes (refusal.Book book.TooManyPostings) (texts, are, h.0)), h.1)
+  told out (Err (refusal.Book book.OutOfMemory)) h = (inl h.0, h.1)
+  told out (Err refusal.Words) h = (inl h.0, h.1)
+  told out (Err (refusal.Load fault)) h = (inl h.0, h.1)
+  told out (Err (refusal.Query q)) h = (inl h.0, h.1)
+  told out (Err refusal.OutOfMemory) h = (inl h.0, h.1)
 
 -- there are no texts
-pub ungathered :
-    {S : Type 0} (s : SourceOf S) (old new : S) (name : Text) (fault : LoadFault)
-    → Gathers s old new name (Err fault) → (out : Written) → out.nothing
-    → Does (deeds s old new out) (Some (ListLedger name)) (Err (refusal.Load fault))
-ungathered s old new name Unreadable come out nothing = (come.0, come.1, (inr come.2, nothing))
-ungathered s old new name TooLarge come out nothing = (come.0, come.1, (inr come.2, nothing))
-ungathered s old new name NotUtf8 come out nothing = (come.0, come.1, (inr come.2, nothing))
-ungathered s old new name OutOfMemory come out nothing = (come.0, come.1, (inl refl, nothing))
+module _ (request : Option Request) (name : Text)
+    (causes : (readings : List Reading) (r : Refusal) → IsCauseOfTexts name readings r
+    → HasCause request readings r) where
+  pub ungathered :
+      {S : Type 0} (s : SourceOf S) (old new : S) (fault : LoadFault)
+      → Gathers s old new name (Err fault) → (out : Written) → out.nothing
+      → Does (deeds s old new out) request (Err (refusal.Load fault))
+  ungathered s old new Unreadable come out nothing =
+      (come.0, come.1, (inr (causes come.0 (refusal.Load Unreadable) come.2), nothing))
+  ungathered s old new TooLarge come out nothing =
+      (come.0, come.1, (inr (causes come.0 (refusal.Load TooLarge) come.2), nothing))
+  ungathered s old new NotUtf8 come out nothing =
+      (come.0, come.1, (inr (causes come.0 (refusal.Load NotUtf8) come.2), nothing))
+  ungathered s old new OutOfMemory come out nothing = (come.0, come.1, (inl refl, nothing))
 
 -- there is a file
 module _ (name : Text) (readings : List Reading) (bytes : List ℕ)
@@ -101,7 +118,7 @@ module _ (name : Text) (readings : List Reading) (bytes : List ℕ)
   bytes_in (Ok bytes) = bytes
   bytes_in (Err fault) = []
 
-  same_file : (Such : List ℕ → Type 0) → GaveFile name readings Such → Such bytes
+  pub same_file : (Such : List ℕ → Type 0) → GaveFile name readings Such → Such bytes
   unfolding bytes_in
   same_file Such h =
       subst Such (sym (ap bytes_in (one_file name readings (Ok bytes) (Ok h.0) comes h.1))) h.2
@@ -117,19 +134,21 @@ module _ (name : Text) (readings : List Reading) (bytes : List ℕ)
   showable text is (refusal.Print fault) h = h
   showable text is refusal.OutOfMemory h = h
 
-  -- what comes of its listing comes of the run
+  -- its listing is written, or isn't
   pub shown : (text : List ℕ) → IsListingOf bytes text → (out : Written)
-      (result : Result Unit Refusal) → WritesText out text result
-      → Comes (Some (ShowFile name)) readings out result
-  shown text is out (Ok x) took = (showable text is, (text, (bytes, comes, is), took))
-  shown text is out (Err (refusal.Print (print.NotWritten n))) took =
-      (showable text is, (text, (bytes, comes, is), took))
-  shown text is out (Err (refusal.Print print.OutOfMemory)) took = absurd took
-  shown text is out (Err refusal.Words) took = absurd took
-  shown text is out (Err (refusal.Load fault)) took = absurd took
-  shown text is out (Err (refusal.Book fault)) took = absurd took
-  shown text is out (Err (refusal.Query q)) took = absurd took
-  shown text is out (Err refusal.OutOfMemory) took = absurd took
+      → WritesText out text (Ok tt) → Comes (Some (ShowFile name)) readings out (Ok Fine)
+  shown text is out took = (showable text is, (text, (bytes, comes, is), took))
+
+  pub unwritten : (text : List ℕ) → IsListingOf bytes text → (out : Written) (r : Refusal)
+      → WritesText out text (Err r) → Comes (Some (ShowFile name)) readings out (Err r)
+  unwritten text is out (refusal.Print (print.NotWritten n)) h =
+      (showable text is, (text, (Fine, (bytes, comes, is)), h))
+  unwritten text is out (refusal.Print print.OutOfMemory) h = absurd h
+  unwritten text is out refusal.Words h = absurd h
+  unwritten text is out (refusal.Load fault) h = absurd h
+  unwritten text is out (refusal.Book fault) h = absurd h
+  unwritten text is out (refusal.Query q) h = absurd h
+  unwritten text is out refusal.OutOfMemory h = absurd h
 
   -- it is no query file, or memory lacked
   pub not_shown : (r : Refusal) → ListsNone bytes r → (out : Written) → out.nothing
@@ -152,14 +171,28 @@ unread s old new name TooLarge come out nothing = (come.0, come.1, (inr come.2, 
 unread s old new name NotUtf8 come out nothing = (come.0, come.1, (inr come.2, nothing))
 unread s old new name OutOfMemory come out nothing = (come.0, come.1, (inl refl, nothing))
 
--- a table that wasn't written whole
+-- a text that wasn't written whole
+
 pub printed :
-    {O : Type 0} (o : OutputOf O) (old new : O) (texts : Texts) → ¬ HasTooMany texts
-    → (table : List ℕ) → Lists texts table → (fault : PrintFault)
-    → WritesTable o old new table (Err fault)
-    → ListsTexts (written o old new) texts (Err (refusal.Print fault))
-printed o old new texts few table lists (print.NotWritten n) h = (few, (table, lists, h))
-printed o old new texts few table lists print.OutOfMemory h = (refl, h)
+    {O : Type 0} (o : OutputOf O) (old new : O) (texts : Texts)
+    (IsText : Verdict → List ℕ → Type 0) → ¬ HasTooMany texts → (v : Verdict) (table : List ℕ)
+    → IsText v table → (fault : PrintFault) → WritesTable o old new table (Err fault)
+    → ComesOf (written o old new) texts IsText (Err (refusal.Print fault))
+printed o old new texts IsText few v table is (print.NotWritten n) h =
+    (few, (table, (v, is), h))
+printed o old new texts IsText few v table is print.OutOfMemory h = (refl, h)
+
+pub cut : (out : Written) (texts : Texts) (IsText : Verdict → List ℕ → Type 0) → ¬ HasTooMany texts
+    → (v : Verdict) (text : List ℕ) → IsText v text → (r : Refusal) → WritesText out text (Err r)
+    → ComesOf out texts IsText (Err r)
+cut out texts IsText few v text is (refusal.Print (print.NotWritten n)) h =
+    (few, (text, (v, is), h))
+cut out texts IsText few v text is (refusal.Print print.OutOfMemory) h = absurd h
+cut out texts IsText few v text is refusal.Words h = absurd h
+cut out texts IsText few v text is (refusal.Load fault) h = absurd h
+cut out texts IsText few v text is (refusal.Book fault) h = absurd h
+cut out texts IsText few v text is (refusal.Query q) h = absurd h
+cut out texts IsText few v text is refusal.OutOfMemory h = absurd h
 
 -- want of memory, or the one that has its cause
 is_due :
@@ -170,7 +203,7 @@ is_due request readings r s (inl lacks) cause = inl lacks
 is_due request readings r s (inr has) cause = inr (causes_exclude request readings s r has cause)
 
 pub refuses_exactly : RefusesExactly
-refuses_exactly request readings (Ok x) r due cause = due r cause
+refuses_exactly request readings (Ok v) r due cause = due r cause
 refuses_exactly request readings (Err (refusal.Print (print.NotWritten n))) r due cause =
     absurd (due r cause)
 refuses_exactly request readings (Err (refusal.Print print.OutOfMemory)) r due cause = inl refl

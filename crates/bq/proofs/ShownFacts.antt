@@ -4,7 +4,7 @@ use Rattle.std.proofs.Common.{◌∙◌, arith}
 use Rattle.std.specs.List.{slice_get}
 use Rattle.std.specs.Option.{option_map}
 use Rattle.posting_table.specs.Row.{cell_at}
-use Rattle.posting_table.specs.declared.column.Column.{Column}
+use Rattle.query_columns.specs.declared.column.Column.{Column}
 use Rattle.posting_table.specs.declared.row.Row.{Row}
 use Rattle.query_values.specs.declared.value.Value.{Value}
 use Rattle.table_printer.specs.CellText.{row_at}

@@ -1,7 +1,10 @@
 pub mod Refusal
+pub mod Verdict
 pub mod Words
 pub mod Named
+pub mod Booking
 pub mod Listing
+pub mod Checking
 pub mod Showing
 pub mod Columns
 pub mod Causes

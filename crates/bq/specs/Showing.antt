@@ -13,6 +13,8 @@ use Rattle.stores.specs.declared.source.SourceFault.TheVariants.{Failed}
 use Rattle.bq.specs.Refusal.{lacks_memory}
 use Rattle.bq.specs.declared.refusal.Refusal.{Refusal}
 use Rattle.bq.specs.declared.refusal.Refusal.TheVariants.{Query}
+use Rattle.bq.specs.declared.verdict.Verdict.{Verdict}
+use Rattle.bq.specs.declared.verdict.Verdict.TheVariants.{Fine, Faulty}
 
 -- the file of that name, given what the store gave: its bytes, L1 where it failed, L3 where they
 -- are too many
@@ -41,12 +43,17 @@ ReadsFile s old new name bytes_of (Err fault) = ReadsNone s old new name fault
 abbrev pub IsListingOf : List ℕ → List ℕ → Type 0
 IsListingOf bytes text = (program : Parts) × (decoded bytes ≡ Ok program) × (text ≡ listing program)
 
+-- that listing, which says nothing of books
+abbrev pub Shows : List ℕ → Verdict → List ℕ → Type 0
+Shows bytes Fine text = IsListingOf bytes text
+Shows bytes Faulty text = ⊥
+
 -- why the bytes are no query file, or memory lacked
 abbrev pub ListsNone : List ℕ → Refusal → Type 0
 ListsNone bytes (Query refusal) = decoded bytes ≡ Err refusal
 ListsNone bytes r = IsTrue (lacks_memory r)
 
--- that listing, or why there is none
+-- the listing, or why there is none
 abbrev pub ListsProgram : {X : Type 0} → List ℕ → (X → List ℕ) → Result X Refusal → Type 0
 ListsProgram bytes text_of (Ok x) = IsListingOf bytes (text_of x)
 ListsProgram bytes text_of (Err r) = ListsNone bytes r

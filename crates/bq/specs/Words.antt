@@ -10,9 +10,11 @@ use Rattle.clap.specs.Walk.{Row, Rule, Text, first_of}
 use Rattle.bq.specs.declared.words.Command.{Command}
 use Rattle.bq.specs.declared.words.Command.TheVariants as command
 
--- What is asked for: the table of a ledger's postings, or the listing of a query file.
+-- What is asked for: the table of a ledger's postings, the lines of its faults, or the listing of a
+-- query file.
 pub data Request : Type 0 where
   ListLedger : Text → Request
+  CheckLedger : Text → Request
   ShowFile : Text → Request
 
 -- a word that has to be there
@@ -27,6 +29,9 @@ with_word name word =
 abbrev pub list_command : App
 list_command = with_word (codes "list") (codes "LEDGER")
 
+abbrev pub check_command : App
+check_command = with_word (codes "check") (codes "LEDGER")
+
 abbrev pub show_command : App
 show_command = with_word (codes "show") (codes "FILE")
 
@@ -39,14 +44,17 @@ top =
       subcommand_required = true;
     }) (new_app (codes "bq"))
 
--- list LEDGER, show FILE
+-- list LEDGER, check LEDGER, show FILE
 abbrev pub program : App
-program = with_subcommand (with_subcommand top list_command.top) show_command.top
+program =
+    with_subcommand (with_subcommand (with_subcommand top list_command.top) check_command.top)
+    show_command.top
 
 -- what a subcommand asks for, by its name and its words
 abbrev pub asked_by : Text × List Row → Option Request
 asked_by p =
     if bytes_eq p.0 (codes "list") then option_map ListLedger (first_of (codes "LEDGER") p.1)
+    else if bytes_eq p.0 (codes "check") then option_map CheckLedger (first_of (codes "LEDGER") p.1)
     else option_map ShowFile (first_of (codes "FILE") p.1)
 
 -- what the words ask for, where clap has no fault to find with them
@@ -61,4 +69,5 @@ request_in words = request_by (fault_of program words) words
 -- a command is a request
 abbrev pub request_of : Command → Request
 request_of (command.List ledger) = ListLedger ledger.now
+request_of (command.Check ledger) = CheckLedger ledger.now
 request_of (command.Show file) = ShowFile file.now

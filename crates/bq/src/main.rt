@@ -2,21 +2,22 @@
 //!
 //! `run_words` is the program over any store and any outputs, and has the promise of the whole:
 //! which answer comes for which words and which texts, what is written with it, and the status.
-//! `words` reads the command, `listing` makes the ledger of texts, `shown` says what `list` shows
-//! of it, `showing` lists a query file, `refusal` says what a user is told where there is no
-//! answer. `in_memory` is the same over a store and outputs of memory, and `main` the program on
-//! the host's.
+//! `words` reads the command, `booking` makes the book of texts, `shown` says what `list` shows of
+//! it, `verdict` what its faults say of it, `showing` lists a query file, `refusal` says what a
+//! user is told where there is no answer. `in_memory` is the same over a store and outputs of
+//! memory, and `main` the program on the host's.
 #![tactic(auto)]
 
 mod arguments;
+mod booking;
 mod in_memory;
-mod listing;
 mod refusal;
 mod run;
 mod showing;
 mod shown;
 #[cfg(test)]
 mod tests;
+mod verdict;
 mod words;
 
 use crate::arguments::run_args;

@@ -4,7 +4,8 @@ ghost use Rattle.bq.specs.Columns.{column_at};
 ghost use Rattle.bq.specs.Listing.{shown_row};
 ghost use Rattle.table_printer.specs.CellText.{row_at};
 
-use posting_table::{Column, Ledger};
+use posting_table::Ledger;
+use query_columns::Column;
 use query_values::Value;
 use table_printer::{Cell, Rows};
 

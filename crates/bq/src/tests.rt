@@ -58,6 +58,26 @@ fn list_answers_with_ample_memory(rt: HostRuntime) -> Result<(), Fail> {
 }
 
 #[test]
+fn check_tells_faults_and_whether_they_are_serious(rt: HostRuntime) -> Result<(), Fail> {
+    let alloc = rt.alloc();
+    for (file, status, lines) in [
+        (LEDGER, 0, ""),
+        ("plugin \"x\"\n", 0, "l:1: F5 ignored\n"),
+        (
+            "plugin \"x\"\n2014-01-02 close Assets:Cash\nplugin \"y\"\n",
+            1,
+            "l:1: F5 ignored\nl:2: F10 closed but not open\nl:3: F5 ignored\n",
+        ),
+    ] {
+        let ended = run_on(alloc, &["check", "l"], file.as_bytes(), 0, 10_000)?;
+        assert_eq!(rt; ended.status, status);
+        assert_eq!(rt; ended.out.taken(), lines.as_bytes());
+        assert_eq!(rt; ended.err.taken(), b"".as_slice());
+    }
+    Ok(())
+}
+
+#[test]
 fn refusals_have_their_line_and_status(rt: HostRuntime) -> Result<(), Fail> {
     let alloc = rt.alloc();
     for (ended, status, line) in [

@@ -17,6 +17,8 @@ use std::alloc::{AllocError, Global};
 pub enum Command<'a> {
     /// The table of a ledger's postings, by the ledger's name.
     List(&'a str),
+    /// The lines of a ledger's faults, by the ledger's name.
+    Check(&'a str),
     /// The listing of a query file, by the file's name.
     Show(&'a str),
 }
@@ -38,8 +40,8 @@ fn add_subcommand<'a>(
     command.subcommand(subcommand)
 }
 
-/// The words as those of `bq list LEDGER` or `bq show FILE`. There is no help by words: the README
-/// has it.
+/// The words as those of `bq list LEDGER`, `bq check LEDGER` or `bq show FILE`. There is no help by
+/// words: the README has it.
 fn matches_of<'a>(alloc: Global, words: &'a [&'a str]) -> Result<ArgMatches<'a>, Error>
     ensures rows { IfOk result (λ m. subcommand_rows_of m
         ≡ subcommand_of program (map (λ w. w.now) words.entry.now)) }
@@ -51,7 +53,8 @@ fn matches_of<'a>(alloc: Global, words: &'a [&'a str]) -> Result<ArgMatches<'a>,
         .disable_help_subcommand(true)
         .subcommand_required(true);
     let listing = add_subcommand(alloc, top, "list", "LEDGER")?;
-    let command = add_subcommand(alloc, listing, "show", "FILE")?;
+    let checking = add_subcommand(alloc, listing, "check", "LEDGER")?;
+    let command = add_subcommand(alloc, checking, "show", "FILE")?;
     command.try_get_matches_from(words)
 }
 
@@ -62,6 +65,12 @@ fn asked_by<'a>(name: &str, words: &ArgMatches<'a>) -> Option<Command<'a>>
     if name == "list" {
         return match words.get_str("LEDGER") {
             Some(ledger) => Some(Command::List(ledger)),
+            None => None,
+        };
+    }
+    if name == "check" {
+        return match words.get_str("LEDGER") {
+            Some(ledger) => Some(Command::Check(ledger)),
             None => None,
         };
     }
@@ -92,7 +101,7 @@ fn refusal_of(error: &Error) -> Refusal
     }
 }
 
-/// What the words ask for: `list LEDGER` or `show FILE`.
+/// What the words ask for: `list LEDGER`, `check LEDGER` or `show FILE`.
 pub fn command_in<'a>(alloc: Global, words: &'a [&'a str]) -> Result<Command<'a>, Refusal>
     ensures { AskFor (map (λ w. w.now) words.entry.now) result }
 {

@@ -1,8 +1,9 @@
 use Rattle.std.proofs.Common.{Some, refl, sym, subst}
+use Rattle.bq.specs.Listing.{Lists}
 use Rattle.bq.specs.Runs.{Does, deeds, written}
 use Rattle.bq.specs.Words.{ListLedger}
 use Rattle.bq.specs.declared.refusal.Refusal.TheVariants.{Load}
-use Rattle.bq.proofs.Outcomes.{converted, listed, ungathered}
+use Rattle.bq.proofs.Outcomes.{converted, told, ungathered}
 use Rattle.bq.proofs.run.list.Goals as goal
 
 pub returns-in_err-texts : goal.returns-in_err-texts
@@ -12,16 +13,20 @@ returns-in_err-texts g c =
     let out = written g.O.Output c.args.out.now c.args.out.now in
     let fault = c.in_err-texts.field-0.0 in
     let is = converted c.from_residual.result (Load fault) c.from_residual.ensures.1 in
-    subst (Does (deeds s c.args.store.now c.gather.new.source out) (Some (ListLedger name)))
+    subst (Does (deeds s c.args.store.now c.texts_of.new.store out) (Some (ListLedger name)))
     (sym is)
-    (ungathered s c.args.store.now c.gather.new.source name fault c.in_err-texts.ensures out refl)
+    (ungathered (Some (ListLedger name)) name (λ readings r cause. cause) s c.args.store.now
+    c.texts_of.new.store fault c.in_err-texts.ensures.gathers out refl)
 
 pub returns : goal.returns
 returns g c =
-    let come = c.in_ok-texts.ensures in
+    let come = c.in_ok-texts.ensures.gathers in
+    let name = c.args.name.now in
+    let texts = c.in_ok-texts.texts in
     let out = written g.O.Output c.args.out.now c.list_texts.new.out in (
       come.0,
       come.1,
-      listed c.args.name.now come.0 c.in_ok-texts.texts come.2 out c.list_texts.result
+      told (Some (ListLedger name)) name come.0 texts come.2 (Lists texts) (λ r cause. cause)
+          (λ r cause. cause) (λ v text is. (texts, come.2, is)) out c.list_texts.result
           c.list_texts.ensures,
     )

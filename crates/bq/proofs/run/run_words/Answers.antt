@@ -7,7 +7,7 @@ returns-in-Err g c =
     let line = c.as_bytes.ensures.value ∙ (c.deref.ensures.0 ∙ c.line.ensures) in record {
       result = Err c.in-Err.refusal;
       runs = c.in-Err.ensures;
-      status_is = c.status.ensures;
+      status_is = c.status-in-Err.ensures;
       tells = (
         c.write_bytes.result,
         subst

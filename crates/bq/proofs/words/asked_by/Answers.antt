@@ -1,47 +1,105 @@
-use Rattle.std.proofs.Common.{◌≡◌, true, false, List, codes, option_map, if◌then◌else◌}
-use Rattle.std.proofs.Common.{sym, ap, ◌∙◌}
+use Rattle.std.proofs.Common.{◌≡◌, Bool, true, false, List, Option, codes, option_map}
+use Rattle.std.proofs.Common.{if◌then◌else◌, sym, ap, ◌∙◌}
 use Rattle.std.specs.Str.{bytes_eq}
 use Rattle.clap.specs.Walk.{Row, Text, first_of, rows_of}
 use Rattle.clap.specs.Words.{found_of}
 use Rattle.clap.proofs.WalkLemmas.{first_value-rows}
-use Rattle.bq.specs.Words.{ListLedger, ShowFile, asked_by}
+use Rattle.bq.specs.Words.{Request, ListLedger, CheckLedger, ShowFile, asked_by}
 use Rattle.bq.proofs.words.asked_by.Goals as goal
 
--- what is asked for by a name that is "list", and by one that isn't
+ledger_in : List Row → Option Text
+ledger_in rows = first_of (codes "LEDGER") rows
+
+file_in : List Row → Option Text
+file_in rows = first_of (codes "FILE") rows
+
+-- what is asked for by a name that isn't "list"
+other : Text → List Row → Option Request
+other name rows =
+    if bytes_eq name (codes "check") then option_map CheckLedger (ledger_in rows)
+    else option_map ShowFile (file_in rows)
+
+by_name : (name : Text) (rows : List Row) (b : Bool) → bytes_eq name (codes "list") ≡ b
+    → asked_by (name, rows)
+    ≡ (if b then option_map ListLedger (ledger_in rows) else other name rows)
+unfolding ledger_in other file_in
+by_name name rows b is =
+    ap (λ b. if b then option_map ListLedger (ledger_in rows) else other name rows) is
+
 listing : (name : Text) (rows : List Row) → bytes_eq name (codes "list") ≡ true
-    → asked_by (name, rows) ≡ option_map ListLedger (first_of (codes "LEDGER") rows)
-listing name rows is =
-    ap
-    (λ b. if b then option_map ListLedger (first_of (codes "LEDGER") rows)
-    else option_map ShowFile (first_of (codes "FILE") rows)) is
+    → asked_by (name, rows) ≡ option_map ListLedger (ledger_in rows)
+listing name rows is = by_name name rows true is
+
+checking : (name : Text) (rows : List Row) → bytes_eq name (codes "list") ≡ false
+    → bytes_eq name (codes "check") ≡ true
+    → asked_by (name, rows) ≡ option_map CheckLedger (ledger_in rows)
+unfolding other
+checking name rows not is =
+    by_name name rows false not
+    ∙ ap
+    (λ b. if b then option_map CheckLedger (ledger_in rows) else option_map ShowFile (file_in rows))
+    is
 
 showing : (name : Text) (rows : List Row) → bytes_eq name (codes "list") ≡ false
-    → asked_by (name, rows) ≡ option_map ShowFile (first_of (codes "FILE") rows)
-showing name rows is =
-    ap
-    (λ b. if b then option_map ListLedger (first_of (codes "LEDGER") rows)
-    else option_map ShowFile (first_of (codes "FILE") rows)) is
+    → bytes_eq name (codes "check") ≡ false
+    → asked_by (name, rows) ≡ option_map ShowFile (file_in rows)
+unfolding other
+showing name rows not is =
+    by_name name rows false not
+    ∙ ap
+    (λ b. if b then option_map CheckLedger (ledger_in rows) else option_map ShowFile (file_in rows))
+    is
 
 pub returns-in-Some : goal.returns-in-Some
+unfolding ledger_in
 returns-in-Some c =
     let words = found_of c.args.words.now in
     ap (option_map ListLedger) (c.in-Some.ensures ∙ first_value-rows words (codes "LEDGER"))
     ∙ sym (listing c.args.name.now (rows_of words) (sym c.eq.ensures ∙ c.if-eq.true))
 
 pub returns-in-None : goal.returns-in-None
+unfolding ledger_in
 returns-in-None c =
     let words = found_of c.args.words.now in
     ap (option_map ListLedger) (c.in-None.ensures ∙ first_value-rows words (codes "LEDGER"))
     ∙ sym (listing c.args.name.now (rows_of words) (sym c.eq.ensures ∙ c.if-eq.true))
 
 pub returns-in-Some-get_str : goal.returns-in-Some-get_str
+unfolding ledger_in
 returns-in-Some-get_str c =
     let words = found_of c.args.words.now in
-    ap (option_map ShowFile) (c.in-Some-get_str.ensures ∙ first_value-rows words (codes "FILE"))
-    ∙ sym (showing c.args.name.now (rows_of words) (sym c.eq.ensures ∙ c.if-eq.false))
+    ap (option_map CheckLedger)
+    (c.in-Some-get_str.ensures ∙ first_value-rows words (codes "LEDGER"))
+    ∙ sym
+    (checking c.args.name.now (rows_of words) (sym c.eq.ensures ∙ c.if-eq.false)
+    (sym c.eq-2.ensures ∙ c.if-eq-2.true))
 
 pub returns-in-None-get_str : goal.returns-in-None-get_str
+unfolding ledger_in
 returns-in-None-get_str c =
     let words = found_of c.args.words.now in
-    ap (option_map ShowFile) (c.in-None-get_str.ensures ∙ first_value-rows words (codes "FILE"))
-    ∙ sym (showing c.args.name.now (rows_of words) (sym c.eq.ensures ∙ c.if-eq.false))
+    ap (option_map CheckLedger)
+    (c.in-None-get_str.ensures ∙ first_value-rows words (codes "LEDGER"))
+    ∙ sym
+    (checking c.args.name.now (rows_of words) (sym c.eq.ensures ∙ c.if-eq.false)
+    (sym c.eq-2.ensures ∙ c.if-eq-2.true))
+
+pub returns-in-Some-get_str-2 : goal.returns-in-Some-get_str-2
+unfolding file_in
+returns-in-Some-get_str-2 c =
+    let words = found_of c.args.words.now in
+    ap (option_map ShowFile)
+    (c.in-Some-get_str-2.ensures ∙ first_value-rows words (codes "FILE"))
+    ∙ sym
+    (showing c.args.name.now (rows_of words) (sym c.eq.ensures ∙ c.if-eq.false)
+    (sym c.eq-2.ensures ∙ c.if-eq-2.false))
+
+pub returns-in-None-get_str-2 : goal.returns-in-None-get_str-2
+unfolding file_in
+returns-in-None-get_str-2 c =
+    let words = found_of c.args.words.now in
+    ap (option_map ShowFile)
+    (c.in-None-get_str-2.ensures ∙ first_value-rows words (codes "FILE"))
+    ∙ sym
+    (showing c.args.name.now (rows_of words) (sym c.eq.ensures ∙ c.if-eq.false)
+    (sym c.eq-2.ensures ∙ c.if-eq-2.false))

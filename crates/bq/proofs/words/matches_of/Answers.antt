@@ -5,7 +5,7 @@ use Rattle.clap.specs.Kinds.{FailsBy}
 use Rattle.clap.specs.Simple.{app_of_fields, is_simple, on_top, subcommand_of}
 use Rattle.clap.specs.Words.{app_of, with_subcommand}
 use Rattle.clap.proofs.OnLiterals.{clap_on_literals}
-use Rattle.bq.specs.Words.{list_command, program, show_command}
+use Rattle.bq.specs.Words.{check_command, list_command, program, show_command}
 use Rattle.bq.proofs.words.matches_of.Goals as goal
 
 program_is_simple : is_simple program ≡ true
@@ -33,7 +33,9 @@ command_is c =
     ∙ ap (on_top (λ s. record s { subcommand_required = true })) no_help in
     c.in_ok-command.ensures
     ∙ ap (λ a. with_subcommand a show_command.top)
-    (c.in_ok-listing.ensures ∙ ap (λ a. with_subcommand a list_command.top) top_is)
+    (c.in_ok-checking.ensures
+    ∙ ap (λ a. with_subcommand a check_command.top)
+    (c.in_ok-listing.ensures ∙ ap (λ a. with_subcommand a list_command.top) top_is))
 
 pub returns-clause-rows : goal.returns-clause-rows
 returns-clause-rows c =

@@ -1,0 +1,43 @@
+-- Texts have one book, so they have not both a book and too many postings.
+use Rattle.std.proofs.Common.{◌≡◌, ℕ, ◌<◌, ◌≤◌, length, reverse, sym, ap, ◌∙◌, subst, arith}
+use Rattle.bean_book.specs.Booked as booked
+use Rattle.bean_book.specs.Booked.{bookings_of, decimals_from, rows_of_all, written_in_all}
+use Rattle.bean_book.specs.OneBook.{AreAlike}
+use Rattle.bean_book.specs.Reported.{reported}
+use Rattle.bean_book.specs.declared.booked.Booked.{Booked}
+use Rattle.bean_booker.proofs.OneBooking.{one_stand}
+use Rattle.bean_booker.specs.Booked.{faults_of, method_in_ledger}
+use Rattle.bean_load.specs.Loaded.{Loaded}
+use Rattle.bean_load.specs.Texts.{Texts}
+use Rattle.bean_load.proofs.OneLoading.{one_loading}
+use Rattle.posting_table.specs.declared.ledger.TheConstants.{MOST_POSTINGS}
+use Rattle.bq.specs.Booking.{HasTooMany, IsBookOf}
+
+too_many : (most n m : ℕ) → n ≤ most → n ≡ m → most < m → ⊥
+too_many most n m few same many = absurd (omega (arith, few, same, many))
+
+pub not_too_many : (texts : Texts) (b : Booked) → IsBookOf texts b → ¬ HasTooMany texts
+not_too_many texts b is many =
+    let l = is.0 in
+    let book = is.2 in
+    let more : booked.HasTooMany l =
+    subst booked.HasTooMany (one_loading texts many.0 l many.1 is.1) many.2 in
+    too_many MOST_POSTINGS (length b.ledger.rows) (length (rows_of_all (bookings_of l book.stand)))
+    book.ledger.few (ap length book.ledger.rows) (more book.stand book.leads)
+
+alike : (l : Loaded) (a b : Booked) → booked.IsBookOf l a → booked.IsBookOf l b → AreAlike a b
+alike l a b h g =
+    let same =
+    one_stand (method_in_ledger l) (reverse l.directives) h.stand g.stand h.leads g.leads in
+    record {
+      rows = h.ledger.rows ∙ ap (λ st. rows_of_all (bookings_of l st)) same ∙ sym g.ledger.rows;
+      decimals = λ currency. h.ledger.decimals currency
+          ∙ ap (λ st. decimals_from 0 currency (written_in_all (bookings_of l st))) same
+          ∙ sym (g.ledger.decimals currency);
+      faults = h.faults ∙ ap (λ st. reported (faults_of l st)) same ∙ sym g.faults;
+    }
+
+pub one_book : (texts : Texts) (a b : Booked) → IsBookOf texts a → IsBookOf texts b → AreAlike a b
+one_book texts a b h g =
+    alike h.0 a b h.2
+    (subst (λ l. booked.IsBookOf l b) (one_loading texts g.0 h.0 g.1 h.1) g.2)

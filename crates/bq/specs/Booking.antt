@@ -1,0 +1,22 @@
+-- The book of texts.
+use Rattle.std.specs.Prelude.{⊤, Result, Ok, Err}
+use Rattle.bean_book.specs.Booked as booked
+use Rattle.bean_book.specs.declared.booked.Booked.{Booked}
+use Rattle.bean_booker.specs.declared.booker.BookFault.{BookFault}
+use Rattle.bean_booker.specs.declared.booker.BookFault.TheVariants.{TooManyPostings, OutOfMemory}
+use Rattle.bean_load.specs.Loaded.{IsLoaded, Loaded}
+use Rattle.bean_load.specs.Texts.{Texts}
+
+-- what the texts say together is booked as this
+abbrev pub IsBookOf : Texts → Booked → Type 0
+IsBookOf texts b = (l : Loaded) × IsLoaded texts l × booked.IsBookOf l b
+
+-- the texts have more postings than a ledger holds
+abbrev pub HasTooMany : Texts → Type 0
+HasTooMany texts = (l : Loaded) × IsLoaded texts l × booked.HasTooMany l
+
+-- the book of the texts, or B1 where they have too many postings
+abbrev pub Books : Texts → Result Booked BookFault → Type 0
+Books texts (Ok b) = IsBookOf texts b
+Books texts (Err TooManyPostings) = HasTooMany texts
+Books texts (Err OutOfMemory) = ⊤
