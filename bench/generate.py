@@ -9,7 +9,9 @@ generate.py --missing POSTINGS SEED       the same, but the last posting of each
 generate.py --opens BYTES SEED            about so many bytes of `open` lines, which give no row either
 generate.py --lots POSTINGS SEED          about so many postings, with lots, prices and metadata, and
                                           every other kind of directive between them
-generate.py --lots-unlisted POSTINGS SEED the same without the transactions of amounts alone
+generate.py --lots-dense POSTINGS SEED    the same without the transactions of amounts alone
+generate.py --hoard ACCOUNTS LOTS SEED    so many accounts that each buy so many lots of one unit and sell
+                                          them one by one; the seed changes nothing
 
 Booked, they have no fault, but for the days of `--unlisted`.
 
@@ -130,11 +132,12 @@ def only_opens(size, seed):
 
 def main():
     words = argparse.ArgumentParser(description=__doc__, formatter_class=argparse.RawDescriptionHelpFormatter)
-    words.add_argument("size", type=int, metavar="POSTINGS|BYTES")
+    words.add_argument("size", type=int, metavar="POSTINGS|BYTES|LOTS")
     words.add_argument("seed", type=int)
     kinds = words.add_mutually_exclusive_group()
-    for kind in ["--unlisted", "--missing", "--opens", "--lots", "--lots-unlisted"]:
+    for kind in ["--unlisted", "--missing", "--opens", "--lots", "--lots-dense"]:
         kinds.add_argument(kind, action="store_true")
+    kinds.add_argument("--hoard", type=int, metavar="ACCOUNTS")
     words.add_argument("--files", nargs=2, metavar=("N", "FOLDER"))
     given = words.parse_args()
     if given.files:
@@ -142,8 +145,10 @@ def main():
         write_files(list(ledger(given.size, given.seed, given.unlisted, given.missing)), int(count), pathlib.Path(folder))
     elif given.opens:
         sys.stdout.writelines(only_opens(given.size, given.seed))
-    elif given.lots or given.lots_unlisted:
-        sys.stdout.writelines(lots.ledger(given.size, random.Random(given.seed), given.lots_unlisted))
+    elif given.lots or given.lots_dense:
+        sys.stdout.writelines(lots.ledger(given.size, random.Random(given.seed), given.lots_dense))
+    elif given.hoard:
+        sys.stdout.writelines(lots.hoard(given.hoard, given.size))
     else:
         sys.stdout.writelines(ledger(given.size, given.seed, given.unlisted, given.missing))
 

@@ -129,9 +129,9 @@ class Lots:
 class Ledger:
     """The lots and the cash that are held, and the tags and entries that are pushed."""
 
-    def __init__(self, pick, unlisted):
+    def __init__(self, pick, dense):
         self.pick = pick
-        self.unlisted = unlisted
+        self.dense = dense
         self.lots = Lots()
         self.cash = {(account, currency): Decimal(0) for account in CASH for currency in MONEY}
         # The cash at the beginning of the day, which balances ask for.
@@ -242,7 +242,7 @@ class Ledger:
         return [(PAY, amount(-pay, "USD", pick)), (self.pays(pay, "USD", "Assets:Bank:Checking"), "USD")]
 
     def transaction(self, day):
-        kinds = {Ledger.spends: 0 if self.unlisted else 35, Ledger.spends_the_rest: 20, Ledger.buys: 18,
+        kinds = {Ledger.spends: 0 if self.dense else 35, Ledger.spends_the_rest: 20, Ledger.buys: 18,
                  Ledger.sells: 12, Ledger.exchanges: 12, Ledger.is_paid: 3}
         postings = draw(self.pick, kinds)(self, day)
         lines = [posting(day, account, rest, self.pick) for account, rest in postings]
@@ -328,10 +328,10 @@ def front(pick):
     yield f"{FIRST_DAY} open Equity:Opening-Balances\n\n* Transactions\n\n"
 
 
-def ledger(postings, pick, unlisted):
-    """A ledger of at least so many postings; where it is unlisted, no transaction has amounts alone."""
+def ledger(postings, pick, dense):
+    """A ledger of at least so many postings; where it is dense, no transaction has amounts alone."""
     yield from front(pick)
-    book = Ledger(pick, unlisted)
+    book = Ledger(pick, dense)
     done = 0
     while done < postings:
         day = FIRST_DAY + datetime.timedelta(days=done * DAYS // postings)
@@ -348,3 +348,19 @@ def ledger(postings, pick, unlisted):
     yield book.begin(book.day + datetime.timedelta(1))
     while book.pushed:
         yield book.pop()
+
+
+def hoard(accounts, lots):
+    """So many accounts, each of which buys so many lots of one unit, one a day, and then sells them one by one
+    under FIFO."""
+    names = [f"Assets:Hoard:H{number}" for number in range(accounts)]
+    first, last = datetime.date(1700, 1, 1), datetime.date(2000, 1, 1)
+    yield "".join(f'{first} open {name} VTI "FIFO"\n' for name in names)
+    yield f"{first} open Assets:Cash\n{first} open {GAINS}\n"
+    for number in range(lots):
+        day, cost = first + datetime.timedelta(number), 100 + number % 997
+        for name in names:
+            yield f"{day} *\n  {name}  1 VTI {{{cost} USD}}\n  Assets:Cash\n"
+    for _ in range(lots):
+        for name in names:
+            yield f"{last} *\n  {name}  -1 VTI {{}} @ 99 USD\n  Assets:Cash  99 USD\n  {GAINS}\n"

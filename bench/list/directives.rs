@@ -52,17 +52,17 @@ pub enum Units<'a> {
 
 /// What a cost's braces say; a part that isn't written is none.
 #[derive(Debug)]
-pub struct Lot<'a> {
+pub struct Braces<'a> {
     pub amount: Option<Amount<'a>>,
     pub day: Option<Day>,
     pub label: Option<&'a str>,
 }
 
-/// Lots lie apart, since most postings have none.
+/// Costs lie apart, since most postings have none.
 #[derive(Debug)]
 pub enum Cost<'a> {
     Absent,
-    Lot(Box<Lot<'a>>),
+    Lot(Box<Braces<'a>>),
     OutsideProfile,
 }
 

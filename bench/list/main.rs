@@ -1,24 +1,30 @@
 //! Does in plain Rust what `bq list` does, to compare with.
 //!
 //! `list FILE|-` prints the table of the postings of a ledger, with the texts that it includes;
-//! `list --read FILE|-` only reads it and prints what it found. Characters are taken to be one column
+//! `list --read FILE|-` only reads it, books nothing and prints what it found. Characters are taken to be one column
 //! wide.
 
 mod directives;
+mod escapes;
 mod heads;
+mod inventory;
 mod numbers;
+mod pads;
 mod parse;
 mod postings;
 mod reader;
+mod rows;
 mod scan;
 mod table;
 mod texts;
 mod tokens;
+mod trial;
 
+use rows::listed;
 use std::env;
 use std::io::{self, Write};
 use std::process::ExitCode;
-use table::{rows, table};
+use table::table;
 use texts::Texts;
 
 const MOST_POSTINGS: usize = 1_000_000;
@@ -35,13 +41,17 @@ fn read(name: &str) -> io::Result<()> {
 }
 
 fn list(name: &str) -> io::Result<()> {
-    let mut directives = Texts::of(name)?.directives;
+    let Texts {
+        mut directives,
+        method,
+        ..
+    } = Texts::of(name)?;
     directives.sort_by_key(|directive| (directive.day, directive.rank()));
-    let rows = rows(&directives);
-    if rows.len() > MOST_POSTINGS {
+    let listed = listed(&directives, method);
+    if listed.rows.len() > MOST_POSTINGS {
         return Err(io::Error::other("there are more than 1,000,000 postings"));
     }
-    io::stdout().write_all(&table(&rows))
+    io::stdout().write_all(&table(&listed))
 }
 
 fn main() -> ExitCode {

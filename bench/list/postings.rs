@@ -1,6 +1,6 @@
 //! Postings with their costs and prices.
 
-use crate::directives::{Amount, Cost, Flag, Lot, Posting, Price, Units};
+use crate::directives::{Amount, Braces, Cost, Flag, Posting, Price, Units};
 use crate::numbers::Day;
 use crate::reader::{NotOfTheGrammar, Read, Reader};
 use crate::tokens::{Kind, Sign};
@@ -86,7 +86,7 @@ impl<'a> Reader<'_, 'a> {
         if closing == Sign::CloseBraces || parts.are_outside_profile() {
             return Ok(Cost::OutsideProfile);
         }
-        Ok(Cost::Lot(Box::new(Lot {
+        Ok(Cost::Lot(Box::new(Braces {
             amount: parts.amount,
             day: parts.day,
             label: parts.label,

@@ -1,86 +1,57 @@
 //! The table of a ledger's postings.
 
-use crate::directives::{Amount, Cost, Directive, Flag, Posting, Price, Units, What};
-use crate::numbers::{Day, Number};
+use crate::escapes::cleaned;
+use crate::numbers::Day;
+use crate::rows::{Listed, Row};
 use std::collections::HashMap;
 use std::io::Write;
 use std::iter;
 
-pub struct Row<'a> {
-    day: Day,
-    flag: &'static str,
-    account: &'a str,
-    number: Number,
-    currency: &'a str,
-}
-
-/// The amount of a posting that has neither a cost nor a price.
-fn plain<'p, 'a>(posting: &'p Posting<'a>) -> Option<&'p Amount<'a>> {
-    match (&posting.units, &posting.cost, &posting.price) {
-        (Units::Amount(amount), Cost::Absent, Price::Absent) => Some(amount),
-        _ => None,
-    }
-}
-
-/// The postings of the transactions whose postings are plain, all of them.
-pub fn rows<'a>(directives: &[Directive<'a>]) -> Vec<Row<'a>> {
-    let mut rows = Vec::new();
-    for directive in directives {
-        let What::Transaction(transaction) = &directive.what else {
-            continue;
-        };
-        if transaction
-            .postings
-            .iter()
-            .any(|posting| plain(posting).is_none())
-        {
-            continue;
-        }
-        let flag = match transaction.flag {
-            Flag::Complete => "*",
-            Flag::Incomplete => "!",
-        };
-        rows.extend(transaction.postings.iter().filter_map(|posting| {
-            plain(posting).map(|amount| Row {
-                day: directive.day,
-                flag,
-                account: posting.account,
-                number: amount.number,
-                currency: amount.currency,
-            })
-        }));
-    }
-    rows
-}
-
-/// The most decimals that are written for each currency.
-fn decimals<'a>(rows: &[Row<'a>]) -> HashMap<&'a str, u8> {
-    let mut decimals = HashMap::new();
-    for row in rows {
-        let most = decimals.entry(row.currency).or_insert(0);
-        *most = row.number.places.max(*most);
-    }
-    decimals
-}
-
-/// A position with as many decimals as its currency shows.
-fn push_position(out: &mut Vec<u8>, row: &Row<'_>, decimals: u8) {
-    let magnitude =
-        row.number.count.unsigned_abs() * 10u128.pow((decimals - row.number.places).into());
-    let unit = 10u128.pow(decimals.into());
-    let (whole, rest) = ((magnitude / unit) as u64, (magnitude % unit) as u64);
-    let sign = if row.number.count < 0 { "-" } else { "" };
-    // Writing to a vector never fails.
-    let _ = if decimals == 0 {
-        write!(out, "{sign}{whole} {}", row.currency)
-    } else {
-        write!(
-            out,
-            "{sign}{whole}.{rest:0width$} {}",
-            row.currency,
-            width = decimals.into()
-        )
+/// An amount, of a count of `10^-8`: its decimals are as few as are exact, but at least those that
+/// its currency shows.
+fn push_amount(out: &mut Vec<u8>, count: i128, currency: &str, decimals: &HashMap<&str, u8>) {
+    const UNIT: u128 = 100_000_000;
+    let magnitude = count.unsigned_abs();
+    let (whole, mut rest) = match u64::try_from(magnitude) {
+        Ok(small) => (small / UNIT as u64, small % UNIT as u64),
+        Err(_) => ((magnitude / UNIT) as u64, (magnitude % UNIT) as u64),
     };
+    let least = decimals
+        .get(currency)
+        .map_or(0, |least| usize::from(*least));
+    let mut width = 8;
+    while width > least && rest % 10 == 0 {
+        rest /= 10;
+        width -= 1;
+    }
+    let sign = if count < 0 { "-" } else { "" };
+    // Writing to a vector never fails.
+    let _ = if width == 0 {
+        write!(out, "{sign}{whole} {currency}")
+    } else {
+        write!(out, "{sign}{whole}.{rest:0width$} {currency}")
+    };
+}
+
+fn push_day(out: &mut Vec<u8>, Day { year, month, day }: Day) {
+    // Writing to a vector never fails.
+    let _ = write!(out, "{year:04}-{month:02}-{day:02}");
+}
+
+fn push_position(out: &mut Vec<u8>, row: &Row<'_>, decimals: &HashMap<&str, u8>) {
+    push_amount(out, row.count, row.currency, decimals);
+    let Some(lot) = &row.lot else {
+        return;
+    };
+    out.extend_from_slice(b" {");
+    push_amount(out, lot.cost, lot.currency, decimals);
+    out.extend_from_slice(b", ");
+    push_day(out, lot.day);
+    if let Some(label) = &lot.label {
+        // Writing to a vector never fails.
+        let _ = write!(out, ", \"{}\"", cleaned(label));
+    }
+    out.push(b'}');
 }
 
 fn push_padded(out: &mut Vec<u8>, text: &str, width: usize) {
@@ -107,43 +78,39 @@ fn push_line(out: &mut Vec<u8>, cells: [&str; 4], widths: [usize; 4]) {
 
 /// A row, which no space ends.
 fn push_row(out: &mut Vec<u8>, row: &Row<'_>, position: &str, widths: [usize; 4]) {
-    let Day { year, month, day } = row.day;
-    // Writing to a vector never fails.
-    let _ = write!(out, "{year:04}-{month:02}-{day:02}  ");
-    push_padded(out, row.flag, widths[1] + 2);
-    push_padded(out, row.account, widths[2] + 2);
+    push_day(out, row.day);
+    out.extend_from_slice(b"  ");
+    out.push(row.flag);
+    out.extend(iter::repeat_n(b' ', widths[1] + 1));
+    push_padded(out, &cleaned(row.account), widths[2] + 2);
     out.extend_from_slice(position.as_bytes());
     out.push(b'\n');
 }
 
 /// The texts of the positions one behind another, and where each ends.
-fn positions(rows: &[Row<'_>]) -> (String, Vec<usize>) {
-    let decimals = decimals(rows);
+fn positions(listed: &Listed<'_>) -> (String, Vec<usize>) {
     let mut texts = Vec::new();
-    let mut ends = Vec::with_capacity(rows.len());
-    for row in rows {
-        push_position(&mut texts, row, decimals[row.currency]);
+    let mut ends = Vec::with_capacity(listed.rows.len());
+    for row in &listed.rows {
+        push_position(&mut texts, row, &listed.decimals);
         ends.push(texts.len());
     }
     (String::from_utf8(texts).unwrap_or_default(), ends)
 }
 
-pub fn table(rows: &[Row<'_>]) -> Vec<u8> {
+pub fn table(listed: &Listed<'_>) -> Vec<u8> {
     const HEADERS: [&str; 4] = ["date", "flag", "account", "position"];
-    let (texts, ends) = positions(rows);
+    let rows = &listed.rows;
+    let (texts, ends) = positions(listed);
     let starts = iter::once(0).chain(ends.iter().copied());
     let positions = starts.zip(&ends).map(|(start, end)| &texts[start..*end]);
-    let mut widths = HEADERS.map(|header| header.chars().count());
+    let mut widths = HEADERS.map(str::len);
+    if !rows.is_empty() {
+        widths[0] = 10;
+    }
     for (row, position) in rows.iter().zip(positions.clone()) {
-        let cells = [
-            10,
-            row.flag.len(),
-            row.account.chars().count(),
-            position.chars().count(),
-        ];
-        for (width, cell) in widths.iter_mut().zip(cells) {
-            *width = cell.max(*width);
-        }
+        widths[2] = widths[2].max(row.account.chars().count());
+        widths[3] = widths[3].max(position.chars().count());
     }
     let line = widths.iter().sum::<usize>() + 3 * 2 + 1;
     let mut out = Vec::with_capacity(line * (rows.len() + 2));

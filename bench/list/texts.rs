@@ -1,6 +1,8 @@
 //! The texts of a ledger: the top one, and those that its include lines name.
 
 use crate::directives::{Directive, Setting};
+use crate::escapes::unescaped;
+use crate::inventory::Method;
 use crate::parse::parse;
 use std::io::{self, Error, ErrorKind, Read};
 use std::{fs, iter};
@@ -14,6 +16,8 @@ const DEEPEST: usize = 16;
 #[derive(Default)]
 pub struct Texts {
     pub directives: Vec<Directive<'static>>,
+    /// The last that is known.
+    pub method: Method,
     pub tokens: usize,
     pub faults: usize,
     asked: Vec<String>,
@@ -73,12 +77,18 @@ impl Texts {
         self.faults += parsed.faults.len();
         let mut directives = parsed.directives.into_iter().peekable();
         for (line, setting) in parsed.settings {
-            let Setting::Include(written) = setting else {
-                continue;
-            };
-            let before = iter::from_fn(|| directives.next_if(|directive| directive.line < line));
-            self.directives.extend(before);
-            self.include(&joined(name, written), room)?;
+            match setting {
+                Setting::BookingMethod(method) => {
+                    self.method = Method::named(method).unwrap_or(self.method);
+                }
+                Setting::Include(written) => {
+                    let before =
+                        iter::from_fn(|| directives.next_if(|directive| directive.line < line));
+                    self.directives.extend(before);
+                    self.include(&joined(name, &unescaped(written)), room)?;
+                }
+                _ => {}
+            }
         }
         self.directives.extend(directives);
         Ok(())
