@@ -1,0 +1,354 @@
+//! Targets, filters and items of a query.
+ghost use Rattle.std.specs.Prelude.{◌≡◌, IfOk};
+ghost use Rattle.bql_parser.specs.Answer.{target_of, item_of, kind_of, filter_of};
+ghost use Rattle.bql_shapes.specs.Rules.{AreBounds};
+ghost use Rattle.bql_tree.specs.Tree.{tree_of};
+ghost use Rattle.bql_types.specs.Cause.{told};
+ghost use Rattle.bql_types.specs.Keys as view;
+ghost use Rattle.bql_types.specs.Seen as seen_rule;
+ghost use Rattle.bql_types.specs.Typing as rule;
+ghost use Rattle.std.specs.List.{slice_get};
+ghost use Rattle.std.specs.Prelude.{map};
+
+use crate::aggregates::{aggregates, misplaced};
+use crate::balances::balances;
+use crate::cause::{Cause, CauseKind, sooner, where_true};
+use crate::grouped::{Key, ungrouped};
+use crate::shaped::{Seen, look};
+use bean_base::Bounds;
+use bql_parser::{Filters, Item, ItemKind, Target};
+use bql_tree::Expr;
+use query_shapes::Shape;
+use std::alloc::{AllocError, Global};
+
+/// How the rows of a query come to be: each of its own, or each of a group with these keys.
+#[derive(Drop)]
+pub(crate) struct Grouping<'q, 'a> {
+    pub is_aggregating: bool,
+    pub keys: Vec<Key<'q, 'a>>,
+}
+
+/// The place of an expression's first byte.
+fn place_of(e: &Expr<'_>) -> usize
+    ensures { result ≡ rule.place_of (tree_of e.now) }
+{
+    match e {
+        Expr::Leaf(place, _) => *place,
+        Expr::One(place, _, _) => *place,
+        Expr::Two(place, _, _, _) => *place,
+        Expr::Call(place, _, _) => *place,
+    }
+}
+
+/// What is at fault in the groups of a target or an order item.
+fn grouped(grouping: &Grouping<'_, '_>, e: &Expr<'_>, found: Option<Cause>) -> Option<Cause>
+    ensures { result ≡ told found
+        (rule.grouped_causes (view.grouping_of grouping.now) (tree_of e.now)) }
+{
+    if grouping.is_aggregating {
+        balances(e, ungrouped(grouping.keys.as_slice(), e, found))
+    } else {
+        found
+    }
+}
+
+/// What is at fault in a target or an order item, and its shape.
+fn shown(
+    alloc: Global,
+    bounds: &Bounds,
+    grouping: &Grouping<'_, '_>,
+    e: &Expr<'_>,
+    found: Option<Cause>,
+) -> Result<Seen, AllocError>
+    requires { AreBounds bounds.now }
+    ensures { IfOk result (λ r. r
+        ≡ seen_rule.shown bounds.now (view.grouping_of grouping.now) found (tree_of e.now)) }
+{
+    let seen = look(alloc, bounds, e, found)?;
+    let found = misplaced(alloc, bounds, !grouping.is_aggregating, e, seen.found)?;
+    Ok(Seen {
+        shape: seen.shape,
+        found: grouped(grouping, e, found),
+    })
+}
+
+/// What is at fault in a filter or a group item, and its shape.
+fn of_row(
+    alloc: Global,
+    bounds: &Bounds,
+    e: &Expr<'_>,
+    found: Option<Cause>,
+) -> Result<Seen, AllocError>
+    requires { AreBounds bounds.now }
+    ensures { IfOk result (λ r. r ≡ seen_rule.of_row bounds.now found (tree_of e.now)) }
+{
+    let seen = look(alloc, bounds, e, found)?;
+    let found = misplaced(alloc, bounds, true, e, seen.found)?;
+    Ok(Seen {
+        shape: seen.shape,
+        found: balances(e, found),
+    })
+}
+
+fn isnt_truth(shape: Option<Shape>) -> bool
+    ensures { result ≡ rule.isnt_truth shape }
+{
+    match shape {
+        Some(Shape::Truth) => false,
+        Some(_) => true,
+        None => false,
+    }
+}
+
+/// What is at fault in a filter.
+pub(crate) fn filter(
+    alloc: Global,
+    bounds: &Bounds,
+    filter: &Option<Box<Expr<'_>>>,
+    found: Option<Cause>,
+) -> Result<Option<Cause>, AllocError>
+    requires { AreBounds bounds.now }
+    ensures { IfOk result (λ r. r
+        ≡ told found (rule.filter_causes bounds.now (filter_of filter.now))) }
+{
+    match filter {
+        Some(e) => {
+            let seen = of_row(alloc, bounds, e, found)?;
+            let cause = Cause::at(CauseKind::KindClash, place_of(e));
+            Ok(where_true(seen.found, isnt_truth(seen.shape), cause))
+        }
+        None => Ok(found),
+    }
+}
+
+/// What is at fault in FROM and WHERE.
+pub(crate) fn filters(
+    alloc: Global,
+    bounds: &Bounds,
+    filters: &Filters<'_>,
+    found: Option<Cause>,
+) -> Result<Option<Cause>, AllocError>
+    requires { AreBounds bounds.now }
+    ensures { IfOk result (λ r. r
+        ≡ told found (rule.filters_causes bounds.now (view.filters_of filters.now))) }
+{
+    let found = filter(alloc, bounds, &filters.from, found)?;
+    filter(alloc, bounds, &filters.filter, found)
+}
+
+/// What is at fault in the targets.
+pub(crate) fn targets(
+    alloc: Global,
+    bounds: &Bounds,
+    grouping: &Grouping<'_, '_>,
+    targets: &[Target<'_>],
+    found: Option<Cause>,
+) -> Result<Option<Cause>, AllocError>
+    requires { AreBounds bounds.now }
+    ensures { IfOk result (λ r. r ≡ told found
+        (rule.each (rule.target_causes bounds.now (view.grouping_of grouping.now))
+        (map target_of targets.now))) }
+{
+    let mut found = found;
+    for target in targets {
+        found = shown(alloc, bounds, grouping, &target.expr, found)?.found;
+    }
+    Ok(found)
+}
+
+/// What is at fault in a group item that names a target.
+fn named_group(
+    alloc: Global,
+    bounds: &Bounds,
+    targets: &[Target<'_>],
+    index: usize,
+    place: usize,
+    found: Option<Cause>,
+) -> Result<Option<Cause>, AllocError>
+    requires { AreBounds bounds.now }
+    ensures { IfOk result (λ r. r ≡ told found
+        (rule.named_group_causes bounds.now place (slice_get (map target_of targets.now) index))) }
+{
+    match targets.get(index) {
+        Some(target) => {
+            let inside = misplaced(alloc, bounds, true, &target.expr, None)?;
+            let cause = Cause::at(CauseKind::AggregateMisplaced, place);
+            Ok(where_true(found, inside.is_some(), cause))
+        }
+        None => Ok(sooner(found, Cause::at(CauseKind::KindClash, place))),
+    }
+}
+
+/// What is at fault in the items of GROUP BY.
+pub(crate) fn group(
+    alloc: Global,
+    bounds: &Bounds,
+    targets: &[Target<'_>],
+    items: &[Item<'_>],
+    found: Option<Cause>,
+) -> Result<Option<Cause>, AllocError>
+    requires { AreBounds bounds.now }
+    ensures { IfOk result (λ r. r ≡ told found
+        (rule.each (rule.group_item_causes bounds.now (map target_of targets.now))
+        (map item_of items.now))) }
+{
+    let mut found = found;
+    for item in items {
+        found = match &item.kind {
+            ItemKind::Target(index) => {
+                named_group(alloc, bounds, targets, *index, item.place, found)?
+            }
+            ItemKind::Expr(e) => of_row(alloc, bounds, e, found)?.found,
+        };
+    }
+    Ok(found)
+}
+
+fn isnt_ordered(shape: Option<Shape>) -> bool
+    ensures { result ≡ rule.isnt_ordered shape }
+{
+    match shape {
+        Some(Shape::Number { .. } | Shape::Text | Shape::Day) => false,
+        Some(_) => true,
+        None => false,
+    }
+}
+
+/// What is at fault in an order item that names a target.
+fn named_order(
+    alloc: Global,
+    bounds: &Bounds,
+    targets: &[Target<'_>],
+    index: usize,
+    place: usize,
+    found: Option<Cause>,
+) -> Result<Option<Cause>, AllocError>
+    requires { AreBounds bounds.now }
+    ensures { IfOk result (λ r. r ≡ told found
+        (rule.named_order_causes bounds.now place (slice_get (map target_of targets.now) index))) }
+{
+    match targets.get(index) {
+        Some(target) => {
+            let shape = look(alloc, bounds, &target.expr, None)?.shape;
+            let cause = Cause::at(CauseKind::NotOrderable, place);
+            Ok(where_true(found, isnt_ordered(shape), cause))
+        }
+        None => Ok(sooner(found, Cause::at(CauseKind::KindClash, place))),
+    }
+}
+
+/// What is at fault in an order item of its own.
+fn own_order(
+    alloc: Global,
+    bounds: &Bounds,
+    grouping: &Grouping<'_, '_>,
+    e: &Expr<'_>,
+    found: Option<Cause>,
+) -> Result<Option<Cause>, AllocError>
+    requires { AreBounds bounds.now }
+    ensures { IfOk result (λ r. r ≡ told found
+        (rule.own_order_causes bounds.now (view.grouping_of grouping.now) (tree_of e.now))) }
+{
+    let seen = shown(alloc, bounds, grouping, e, found)?;
+    let cause = Cause::at(CauseKind::NotOrderable, place_of(e));
+    Ok(where_true(seen.found, isnt_ordered(seen.shape), cause))
+}
+
+/// What is at fault in the items of ORDER BY.
+pub(crate) fn order(
+    alloc: Global,
+    bounds: &Bounds,
+    grouping: &Grouping<'_, '_>,
+    targets: &[Target<'_>],
+    items: &[Item<'_>],
+    found: Option<Cause>,
+) -> Result<Option<Cause>, AllocError>
+    requires { AreBounds bounds.now }
+    ensures { IfOk result (λ r. r ≡ told found
+        (rule.each (rule.order_item_causes bounds.now (view.grouping_of grouping.now)
+        (map target_of targets.now)) (map item_of items.now))) }
+{
+    let mut found = found;
+    for item in items {
+        found = match &item.kind {
+            ItemKind::Target(index) => {
+                named_order(alloc, bounds, targets, *index, item.place, found)?
+            }
+            ItemKind::Expr(e) => own_order(alloc, bounds, grouping, e, found)?,
+        };
+    }
+    Ok(found)
+}
+
+/// Whether an aggregate stands in a target.
+fn one_aggregates(targets: &[Target<'_>]) -> bool
+    ensures { result ≡ rule.one_target_aggregates (map target_of targets.now) }
+{
+    for target in targets {
+        if aggregates(&target.expr) {
+            return true;
+        }
+    }
+    false
+}
+
+/// The expressions of the items of GROUP BY.
+fn group_keys<'q, 'a>(
+    alloc: Global,
+    targets: &'q [Target<'a>],
+    items: &'q [Item<'a>],
+) -> Result<Vec<Key<'q, 'a>>, AllocError>
+    ensures { IfOk result (λ r. view.lent_trees r.items
+        ≡ rule.keys_of (map target_of targets.now) (map item_of items.now)) }
+{
+    let mut keys = Vec::new(alloc);
+    for item in items {
+        match &item.kind {
+            ItemKind::Target(index) => {
+                if let Some(target) = targets.get(*index) {
+                    keys.push(Key { expr: &target.expr })?;
+                }
+            }
+            ItemKind::Expr(e) => keys.push(Key { expr: e })?,
+        }
+    }
+    Ok(keys)
+}
+
+/// The targets that have no aggregate.
+fn plain_targets<'q, 'a>(
+    alloc: Global,
+    targets: &'q [Target<'a>],
+) -> Result<Vec<Key<'q, 'a>>, AllocError>
+    ensures { IfOk result (λ r. view.lent_trees r.items
+        ≡ rule.plain_targets (map target_of targets.now)) }
+{
+    let mut keys = Vec::new(alloc);
+    for target in targets {
+        if !aggregates(&target.expr) {
+            keys.push(Key { expr: &target.expr })?;
+        }
+    }
+    Ok(keys)
+}
+
+/// How the rows of a query come to be.
+pub(crate) fn grouped_by<'q, 'a>(
+    alloc: Global,
+    targets: &'q [Target<'a>],
+    group: &'q Option<Vec<Item<'a>>>,
+) -> Result<Grouping<'q, 'a>, AllocError>
+    ensures { IfOk result (λ r. view.grouping_of r
+        ≡ rule.grouping_by (map target_of targets.now) (view.group_of group.now)) }
+{
+    match group {
+        Some(items) => Ok(Grouping {
+            is_aggregating: true,
+            keys: group_keys(alloc, targets, items.as_slice())?,
+        }),
+        None => Ok(Grouping {
+            is_aggregating: one_aggregates(targets),
+            keys: plain_targets(alloc, targets)?,
+        }),
+    }
+}
