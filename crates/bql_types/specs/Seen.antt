@@ -3,9 +3,10 @@ use Rattle.std.specs.Prelude.{ℕ, Bool, true, false, ◌&&◌, List, [], ◌∷
 use Rattle.std.specs.Prelude.{Ok, Err, Vec, if◌then◌else◌}
 use Rattle.std.specs.declared.alloc.Global.{Global}
 use Rattle.bean_base.specs.declared.bounds.Bounds.{Bounds}
-use Rattle.bql_shapes.specs.Rules.{binary_shape}
+use Rattle.bql_shapes.specs.Rules.{binary_shape, unary_shape}
 use Rattle.bql_tree.specs.Tree.{Tree, Trees, two_of}
 use Rattle.bql_tree.specs.declared.tree.Binary.{Binary}
+use Rattle.bql_tree.specs.declared.tree.Unary.{Unary}
 use Rattle.query_shapes.specs.Rules.{Ruled}
 use Rattle.query_shapes.specs.declared.shape.Misfit.TheVariants.{Kind}
 use Rattle.query_shapes.specs.declared.shape.Shape.{Shape}
@@ -23,6 +24,10 @@ use Rattle.bql_types.specs.declared.shaped.SeenPart.{SeenPart}
 
 abbrev pub concluded : ℕ → Option Ruled → Option Cause → Seen
 concluded at r found = record { shape = given r; found = told found (misfit_at at r) }
+
+abbrev pub before : Unary → Option Shape → Option Ruled
+before op (Some s) = Some (unary_shape op s)
+before op None = None
 
 abbrev pub between : Binary → Operand → Operand → Option Ruled
 between op (Shaped s) (Shaped t) = Some (binary_shape op s t)

@@ -85,6 +85,7 @@ fn is_told(
 /// The least of the causes that were found before, and of aggregates inside others, or of all where
 /// none may be.
 #[cycle(misplaced)]
+#[tactic(auto, using(crate::proofs::CauseFacts::told_append))]
 pub(crate) fn misplaced(
     alloc: Global,
     bounds: &Bounds,
@@ -107,16 +108,18 @@ pub(crate) fn misplaced(
             misplaced(alloc, bounds, is_inside, y, found)
         }
         Expr::Call(place, function, xs) => {
-            let is_aggregate = is_aggregate_function(*function);
-            let is_cause = is_told(alloc, bounds, is_aggregate && is_inside, xs)?;
+            if !is_aggregate_function(*function) {
+                return all_misplaced(alloc, bounds, is_inside, xs, found);
+            }
+            let is_cause = is_told(alloc, bounds, is_inside, xs)?;
             let cause = Cause::at(CauseKind::AggregateMisplaced, *place);
-            let found = where_true(found, is_cause, cause);
-            all_misplaced(alloc, bounds, is_aggregate || is_inside, xs, found)
+            all_misplaced(alloc, bounds, true, xs, where_true(found, is_cause, cause))
         }
     }
 }
 
 #[cycle(misplaced)]
+#[tactic(auto, using(crate::proofs::CauseFacts::told_append))]
 fn all_misplaced(
     alloc: Global,
     bounds: &Bounds,

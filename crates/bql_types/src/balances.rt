@@ -15,6 +15,7 @@ fn is_balance(leaf: &Leaf<'_>) -> bool
 
 /// The least of the causes that were found before, and of the places of the running balance.
 #[cycle(balances)]
+#[tactic(auto, using(crate::proofs::CauseFacts::told_append))]
 pub(crate) fn balances(e: &Expr<'_>, found: Option<Cause>) -> Option<Cause>
     ensures { result ≡ told found (rule.balances (tree_of e.now)) }
 {
@@ -30,6 +31,7 @@ pub(crate) fn balances(e: &Expr<'_>, found: Option<Cause>) -> Option<Cause>
 }
 
 #[cycle(balances)]
+#[tactic(auto, using(crate::proofs::CauseFacts::told_append))]
 fn all_balances(es: &[Expr<'_>], found: Option<Cause>) -> Option<Cause>
     ensures { result ≡ told found (rule.all_balances (trees_of es.now)) }
 {

@@ -36,6 +36,7 @@ fn is_key(keys: &[Key<'_, '_>], e: &Expr<'_>) -> bool
 
 /// The least of the causes that were found before, and of what stands outside aggregates and keys.
 #[cycle(ungrouped)]
+#[tactic(auto, using(crate::proofs::CauseFacts::told_append))]
 pub(crate) fn ungrouped(
     keys: &[Key<'_, '_>],
     e: &Expr<'_>,
@@ -64,6 +65,7 @@ pub(crate) fn ungrouped(
 }
 
 #[cycle(ungrouped)]
+#[tactic(auto, using(crate::proofs::CauseFacts::told_append))]
 fn all_ungrouped(
     keys: &[Key<'_, '_>],
     es: &[Expr<'_>],

@@ -8,7 +8,7 @@ ghost use Rattle.bql_types.specs.Seen as seen_rule;
 use crate::cause::{Cause, CauseKind, sooner};
 use bean_base::Bounds;
 use bql_shapes::{binary_shape, call_shape, leaf_shape, unary_shape};
-use bql_tree::{Binary, Expr, Function, Leaf};
+use bql_tree::{Binary, Expr, Function, Leaf, Unary};
 use query_shapes::{Misfit, Shape};
 use std::alloc::{AllocError, Global};
 
@@ -99,6 +99,16 @@ fn beside_null(op: Binary) -> Result<Shape, Misfit>
     }
 }
 
+/// What an operation on one part gives, if it has a shape.
+fn before(op: &Unary<'_>, x: Option<Shape>) -> Option<Result<Shape, Misfit>>
+    ensures { result ≡ seen_rule.before op.now x }
+{
+    match x {
+        Some(shape) => Some(unary_shape(op, shape)),
+        None => None,
+    }
+}
+
 /// What an operation between two parts gives, if they have shapes.
 fn between(op: Binary, x: Operand, y: Operand) -> Option<Result<Shape, Misfit>>
     ensures { result ≡ seen_rule.between op x y }
@@ -118,7 +128,7 @@ fn one_more(
     shape: Option<Shape>,
 ) -> Result<Option<Vec<Shape>>, AllocError>
     ensures { IfOk result (λ r. seen_rule.list_of r
-        ≡ seen_rule.one_more (seen_rule.list_of shapes.entry) shape) }
+        ≡ seen_rule.one_more (seen_rule.list_of shapes) shape) }
 {
     match (shapes, shape) {
         (Some(mut shapes), Some(shape)) => {
@@ -135,7 +145,7 @@ fn called(
     function: Function,
     shapes: Option<Vec<Shape>>,
 ) -> Option<Result<Shape, Misfit>>
-    ensures { result ≡ rule.ruled bounds.now (call_of function) (seen_rule.list_of shapes.entry) }
+    ensures { result ≡ rule.ruled bounds.now (call_of function) (seen_rule.list_of shapes) }
 {
     match shapes {
         Some(shapes) => Some(call_shape(bounds, function, shapes.as_slice())),
@@ -158,11 +168,7 @@ pub(crate) fn look(
         Expr::Leaf(place, leaf) => Ok(concluded(*place, Some(leaf_shape(bounds, leaf)), found)),
         Expr::One(place, op, x) => {
             let x = look(alloc, bounds, x, found)?;
-            let ruled = match x.shape {
-                Some(shape) => Some(unary_shape(op, shape)),
-                None => None,
-            };
-            Ok(concluded(*place, ruled, x.found))
+            Ok(concluded(*place, before(op, x.shape), x.found))
         }
         Expr::Two(place, op, x, y) => {
             let x = look_at_side(alloc, bounds, *op, x, found)?;

@@ -1,0 +1,3 @@
+pub mod CauseFacts
+pub mod ShapeFacts
+pub mod SameFacts
