@@ -1,3 +1,4 @@
 pub mod CauseFacts
 pub mod ShapeFacts
 pub mod SameFacts
+pub mod ItemFacts

@@ -1,5 +1,5 @@
 -- The keys that are lent, and how rows come to be.
-use Rattle.std.specs.Prelude.{ℕ, List, map, Option, Some, None, Vec}
+use Rattle.std.specs.Prelude.{ℕ, List, [], ◌∷◌, map, Option, Some, None, Vec}
 use Rattle.std.specs.declared.alloc.Global.{Global}
 use Rattle.bql_parser.specs.Answer as answer
 use Rattle.bql_parser.specs.Clause as clause
@@ -17,6 +17,10 @@ lent_tree k = tree_of k.expr.now
 
 abbrev pub lent_trees : List Key → List (Tree ℕ)
 lent_trees ks = map lent_tree ks
+
+abbrev pub key_found : Option Key → List (Tree ℕ)
+key_found (Some k) = lent_tree k ∷ []
+key_found None = []
 
 abbrev pub grouping_of : Grouping → typing.Grouping
 grouping_of g = record { is_aggregating = g.is_aggregating; keys = lent_trees g.keys.items }

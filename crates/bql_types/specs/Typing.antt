@@ -52,14 +52,20 @@ key_by ts (tree_item t) = t ∷ []
 abbrev pub key_of : List Target → Item → List (Tree ℕ)
 key_of ts i = key_by ts i.kind
 
+-- a target that has no aggregate
+abbrev pub plain_target : Target → List (Tree ℕ)
+plain_target t = if target_aggregates t then [] else t.tree ∷ []
+
+-- the keys of each
+abbrev pub all_keys : {A : Type 0} → (A → List (Tree ℕ)) → List A → List (Tree ℕ)
+all_keys f [] = []
+all_keys f (x ∷ xs) = f x ++ all_keys f xs
+
 abbrev pub keys_of : List Target → List Item → List (Tree ℕ)
-keys_of ts [] = []
-keys_of ts (i ∷ is) = key_of ts i ++ keys_of ts is
+keys_of ts is = all_keys (key_of ts) is
 
 abbrev pub plain_targets : List Target → List (Tree ℕ)
-plain_targets [] = []
-plain_targets (t ∷ ts) =
-    (if target_aggregates t then [] else t.tree ∷ []) ++ plain_targets ts
+plain_targets ts = all_keys plain_target ts
 
 -- how the rows of a query come to be: each of its own, or each of a group with these keys
 pub record Grouping : Type 0 where

@@ -1,5 +1,5 @@
 //! Targets, filters and items of a query.
-ghost use Rattle.std.specs.Prelude.{◌≡◌, IfOk};
+ghost use Rattle.std.specs.Prelude.{◌≡◌, ◌++◌, IfOk, map};
 ghost use Rattle.bql_parser.specs.Answer.{target_of, item_of, kind_of, filter_of};
 ghost use Rattle.bql_shapes.specs.Rules.{AreBounds};
 ghost use Rattle.bql_tree.specs.Tree.{tree_of};
@@ -8,7 +8,6 @@ ghost use Rattle.bql_types.specs.Keys as view;
 ghost use Rattle.bql_types.specs.Seen as seen_rule;
 ghost use Rattle.bql_types.specs.Typing as rule;
 ghost use Rattle.std.specs.List.{slice_get};
-ghost use Rattle.std.specs.Prelude.{map};
 
 use crate::aggregates::{aggregates, misplaced};
 use crate::balances::balances;
@@ -41,6 +40,7 @@ fn place_of(e: &Expr<'_>) -> usize
 }
 
 /// What is at fault in the groups of a target or an order item.
+#[tactic(auto, using(crate::proofs::CauseFacts::told_append))]
 fn grouped(grouping: &Grouping<'_, '_>, e: &Expr<'_>, found: Option<Cause>) -> Option<Cause>
     ensures { result ≡ told found
         (rule.grouped_causes (view.grouping_of grouping.now) (tree_of e.now)) }
@@ -53,6 +53,7 @@ fn grouped(grouping: &Grouping<'_, '_>, e: &Expr<'_>, found: Option<Cause>) -> O
 }
 
 /// What is at fault in a target or an order item, and its shape.
+#[tactic(auto, using(crate::proofs::CauseFacts::told_append))]
 fn shown(
     alloc: Global,
     bounds: &Bounds,
@@ -73,6 +74,7 @@ fn shown(
 }
 
 /// What is at fault in a filter or a group item, and its shape.
+#[tactic(auto, using(crate::proofs::CauseFacts::told_append))]
 fn of_row(
     alloc: Global,
     bounds: &Bounds,
@@ -101,6 +103,7 @@ fn isnt_truth(shape: Option<Shape>) -> bool
 }
 
 /// What is at fault in a filter.
+#[tactic(auto, using(crate::proofs::CauseFacts::told_append))]
 pub(crate) fn filter(
     alloc: Global,
     bounds: &Bounds,
@@ -122,6 +125,7 @@ pub(crate) fn filter(
 }
 
 /// What is at fault in FROM and WHERE.
+#[tactic(auto, using(crate::proofs::CauseFacts::told_append))]
 pub(crate) fn filters(
     alloc: Global,
     bounds: &Bounds,
@@ -179,8 +183,26 @@ fn named_group(
     }
 }
 
+/// What is at fault in an item of GROUP BY.
+fn group_item(
+    alloc: Global,
+    bounds: &Bounds,
+    targets: &[Target<'_>],
+    item: &Item<'_>,
+    found: Option<Cause>,
+) -> Result<Option<Cause>, AllocError>
+    requires { AreBounds bounds.now }
+    ensures { IfOk result (λ r. r ≡ told found
+        (rule.group_item_causes bounds.now (map target_of targets.now) (item_of item.now))) }
+{
+    match &item.kind {
+        ItemKind::Target(index) => named_group(alloc, bounds, targets, *index, item.place, found),
+        ItemKind::Expr(e) => Ok(of_row(alloc, bounds, e, found)?.found),
+    }
+}
+
 /// What is at fault in the items of GROUP BY.
-pub(crate) fn group(
+fn group(
     alloc: Global,
     bounds: &Bounds,
     targets: &[Target<'_>],
@@ -194,14 +216,27 @@ pub(crate) fn group(
 {
     let mut found = found;
     for item in items {
-        found = match &item.kind {
-            ItemKind::Target(index) => {
-                named_group(alloc, bounds, targets, *index, item.place, found)?
-            }
-            ItemKind::Expr(e) => of_row(alloc, bounds, e, found)?.found,
-        };
+        found = group_item(alloc, bounds, targets, item, found)?;
     }
     Ok(found)
+}
+
+/// What is at fault in GROUP BY, if there is one.
+pub(crate) fn groups(
+    alloc: Global,
+    bounds: &Bounds,
+    targets: &[Target<'_>],
+    items: &Option<Vec<Item<'_>>>,
+    found: Option<Cause>,
+) -> Result<Option<Cause>, AllocError>
+    requires { AreBounds bounds.now }
+    ensures { IfOk result (λ r. r ≡ told found (rule.group_causes bounds.now
+        (map target_of targets.now) (view.group_of items.now))) }
+{
+    match items {
+        Some(items) => group(alloc, bounds, targets, items.as_slice(), found),
+        None => Ok(found),
+    }
 }
 
 fn isnt_ordered(shape: Option<Shape>) -> bool
@@ -238,6 +273,7 @@ fn named_order(
 }
 
 /// What is at fault in an order item of its own.
+#[tactic(auto, using(crate::proofs::CauseFacts::told_append))]
 fn own_order(
     alloc: Global,
     bounds: &Bounds,
@@ -252,6 +288,26 @@ fn own_order(
     let seen = shown(alloc, bounds, grouping, e, found)?;
     let cause = Cause::at(CauseKind::NotOrderable, place_of(e));
     Ok(where_true(seen.found, isnt_ordered(seen.shape), cause))
+}
+
+/// What is at fault in an item of ORDER BY.
+fn order_item(
+    alloc: Global,
+    bounds: &Bounds,
+    grouping: &Grouping<'_, '_>,
+    targets: &[Target<'_>],
+    item: &Item<'_>,
+    found: Option<Cause>,
+) -> Result<Option<Cause>, AllocError>
+    requires { AreBounds bounds.now }
+    ensures { IfOk result (λ r. r ≡ told found
+        (rule.order_item_causes bounds.now (view.grouping_of grouping.now)
+        (map target_of targets.now) (item_of item.now))) }
+{
+    match &item.kind {
+        ItemKind::Target(index) => named_order(alloc, bounds, targets, *index, item.place, found),
+        ItemKind::Expr(e) => own_order(alloc, bounds, grouping, e, found),
+    }
 }
 
 /// What is at fault in the items of ORDER BY.
@@ -270,12 +326,7 @@ pub(crate) fn order(
 {
     let mut found = found;
     for item in items {
-        found = match &item.kind {
-            ItemKind::Target(index) => {
-                named_order(alloc, bounds, targets, *index, item.place, found)?
-            }
-            ItemKind::Expr(e) => own_order(alloc, bounds, grouping, e, found)?,
-        };
+        found = order_item(alloc, bounds, grouping, targets, item, found)?;
     }
     Ok(found)
 }
@@ -292,6 +343,35 @@ fn one_aggregates(targets: &[Target<'_>]) -> bool
     false
 }
 
+/// What an item of GROUP BY is, or the target that it names.
+fn key_of<'q, 'a>(targets: &'q [Target<'a>], item: &'q Item<'a>) -> Option<Key<'q, 'a>>
+    ensures { view.key_found result
+        ≡ rule.key_of (map target_of targets.now) (item_of item.now) }
+{
+    match &item.kind {
+        ItemKind::Target(index) => match targets.get(*index) {
+            Some(target) => Some(Key { expr: &target.expr }),
+            None => None,
+        },
+        ItemKind::Expr(e) => Some(Key { expr: e }),
+    }
+}
+
+/// One more key, if there is one.
+fn one_more<'q, 'a>(
+    keys: Vec<Key<'q, 'a>>,
+    key: Option<Key<'q, 'a>>,
+) -> Result<Vec<Key<'q, 'a>>, AllocError>
+    ensures { IfOk result (λ r. view.lent_trees r.items
+        ≡ view.lent_trees keys.entry.items ++ view.key_found key.entry) }
+{
+    let mut keys = keys;
+    if let Some(key) = key {
+        keys.push(key)?;
+    }
+    Ok(keys)
+}
+
 /// The expressions of the items of GROUP BY.
 fn group_keys<'q, 'a>(
     alloc: Global,
@@ -303,16 +383,20 @@ fn group_keys<'q, 'a>(
 {
     let mut keys = Vec::new(alloc);
     for item in items {
-        match &item.kind {
-            ItemKind::Target(index) => {
-                if let Some(target) = targets.get(*index) {
-                    keys.push(Key { expr: &target.expr })?;
-                }
-            }
-            ItemKind::Expr(e) => keys.push(Key { expr: e })?,
-        }
+        keys = one_more(keys, key_of(targets, item))?;
     }
     Ok(keys)
+}
+
+/// A target that has no aggregate.
+fn plain_target<'q, 'a>(target: &'q Target<'a>) -> Option<Key<'q, 'a>>
+    ensures { view.key_found result ≡ rule.plain_target (target_of target.now) }
+{
+    if aggregates(&target.expr) {
+        None
+    } else {
+        Some(Key { expr: &target.expr })
+    }
 }
 
 /// The targets that have no aggregate.
@@ -325,9 +409,7 @@ fn plain_targets<'q, 'a>(
 {
     let mut keys = Vec::new(alloc);
     for target in targets {
-        if !aggregates(&target.expr) {
-            keys.push(Key { expr: &target.expr })?;
-        }
+        keys = one_more(keys, plain_target(target))?;
     }
     Ok(keys)
 }

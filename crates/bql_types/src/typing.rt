@@ -8,7 +8,7 @@ ghost use Rattle.bql_types.specs.Typing as rule;
 
 use crate::cause::Cause;
 use crate::fault::{TypeFault, fault_of};
-use crate::items::{filter, filters, group, grouped_by, order, targets};
+use crate::items::{filter, filters, grouped_by, groups, order, targets};
 use bean_base::Bounds;
 use bql_parser::{Query, Select};
 use std::alloc::{AllocError, Global};
@@ -32,12 +32,7 @@ fn select_cause(
     let grouping = grouped_by(alloc, s.targets.as_slice(), &s.group)?;
     let found = targets(alloc, bounds, &grouping, s.targets.as_slice(), None)?;
     let found = filters(alloc, bounds, &s.filters, found)?;
-    let found = match &s.group {
-        Some(items) => {
-            group(alloc, bounds, s.targets.as_slice(), items.as_slice(), found)?
-        }
-        None => found,
-    };
+    let found = groups(alloc, bounds, s.targets.as_slice(), &s.group, found)?;
     let items = s.order.items.as_slice();
     order(alloc, bounds, &grouping, s.targets.as_slice(), items, found)
 }
