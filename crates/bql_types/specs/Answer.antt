@@ -4,12 +4,12 @@ use Rattle.bean_base.specs.declared.bounds.Bounds.{Bounds}
 use Rattle.bql_parser.specs.Answer.{query_of}
 use Rattle.bql_parser.specs.declared.query.Query.{Query}
 use Rattle.bql_types.specs.Cause.{least_of}
-use Rattle.bql_types.specs.Typing.{causes}
+use Rattle.bql_types.specs.Typing.{causes, IsTyped}
 use Rattle.bql_types.specs.declared.cause.Cause.{Cause}
 use Rattle.bql_types.specs.declared.cause.CauseKind.{CauseKind}
 use Rattle.bql_types.specs.declared.cause.CauseKind.TheVariants as kind
 use Rattle.std.specs.Option.{option_map}
-use Rattle.bql_types.specs.declared.typing.Typed.{Typed}
+use Rattle.bql_types.specs.declared.typed.Typed.{Typed}
 use Rattle.bql_types.specs.declared.fault.TypeFault.{TypeFault}
 use Rattle.bql_types.specs.declared.fault.TypeFault.TheVariants as fault
 
@@ -26,6 +26,6 @@ fault_of c = fault_at c.kind c.place
 
 -- the query has a type where there is no cause for which it has none, and else the least is told
 abbrev pub Answers : Bounds → Query → Result Typed TypeFault → Type 0
-Answers b q (Ok t) = (causes b (query_of q) ≡ []) × (t.query.now ≡ q) × (t.bounds ≡ b)
+Answers b q (Ok t) = IsTyped b (query_of q) × (t.query.now ≡ q) × (t.bounds ≡ b)
 Answers b q (Err fault.OutOfMemory) = Unit {0}
 Answers b q (Err f) = option_map fault_of (least_of (causes b (query_of q))) ≡ Some f

@@ -189,3 +189,7 @@ abbrev pub causes : Bounds → Settled → List Cause
 causes b (selecting s) = select_causes b s
 causes b (journaling j) = filter_causes b j.from
 causes b (balancing q) = filters_causes b q.filters
+
+-- the query has a type
+abbrev pub IsTyped : Bounds → Settled → Type 0
+IsTyped b q = causes b q ≡ []

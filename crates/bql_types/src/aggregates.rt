@@ -100,7 +100,11 @@ pub(crate) fn misplaced(
     match e {
         Expr::Leaf(place, leaf) => {
             let is_cause = is_rows(leaf) && is_inside;
-            Ok(where_true(found, is_cause, Cause::at(CauseKind::AggregateMisplaced, *place)))
+            Ok(where_true(
+                found,
+                is_cause,
+                Cause::at(CauseKind::AggregateMisplaced, *place),
+            ))
         }
         Expr::One(_, _, x) => misplaced(alloc, bounds, is_inside, x, found),
         Expr::Two(_, _, x, y) => {

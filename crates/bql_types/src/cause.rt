@@ -72,5 +72,9 @@ pub(crate) fn sooner(found: Option<Cause>, cause: Cause) -> Option<Cause>
 pub(crate) fn where_true(found: Option<Cause>, is_cause: bool, cause: Cause) -> Option<Cause>
     ensures { result ≡ rule.told found (rule.where_true is_cause cause) }
 {
-    if is_cause { sooner(found, cause) } else { found }
+    if is_cause {
+        sooner(found, cause)
+    } else {
+        found
+    }
 }

@@ -19,7 +19,10 @@ pub(crate) struct Key<'q, 'a> {
 fn is_of_row(leaf: &Leaf<'_>) -> bool
     ensures { result ≡ rule.is_of_row leaf.now }
 {
-    matches!(leaf, Leaf::Column(_) | Leaf::Meta(_, _) | Leaf::HasAccount(_))
+    matches!(
+        leaf,
+        Leaf::Column(_) | Leaf::Meta(_, _) | Leaf::HasAccount(_)
+    )
 }
 
 /// Whether an expression is the same as one of the keys.
@@ -37,11 +40,7 @@ fn is_key(keys: &[Key<'_, '_>], e: &Expr<'_>) -> bool
 /// The least of the causes that were found before, and of what stands outside aggregates and keys.
 #[cycle(ungrouped)]
 #[tactic(auto, using(crate::proofs::CauseFacts::told_append))]
-pub(crate) fn ungrouped(
-    keys: &[Key<'_, '_>],
-    e: &Expr<'_>,
-    found: Option<Cause>,
-) -> Option<Cause>
+pub(crate) fn ungrouped(keys: &[Key<'_, '_>], e: &Expr<'_>, found: Option<Cause>) -> Option<Cause>
     ensures { result ≡ told found (rule.ungrouped (lent_trees keys.now) (tree_of e.now)) }
 {
     if is_key(keys, e) {
@@ -66,11 +65,7 @@ pub(crate) fn ungrouped(
 
 #[cycle(ungrouped)]
 #[tactic(auto, using(crate::proofs::CauseFacts::told_append))]
-fn all_ungrouped(
-    keys: &[Key<'_, '_>],
-    es: &[Expr<'_>],
-    found: Option<Cause>,
-) -> Option<Cause>
+fn all_ungrouped(keys: &[Key<'_, '_>], es: &[Expr<'_>], found: Option<Cause>) -> Option<Cause>
     ensures { result ≡ told found (rule.all_ungrouped (lent_trees keys.now) (trees_of es.now)) }
 {
     let mut found = found;

@@ -9,8 +9,10 @@ mod grouped;
 mod items;
 mod same;
 pub mod shaped;
+pub mod typed;
 pub mod typing;
 
 pub use cause::{Cause, CauseKind};
 pub use fault::TypeFault;
-pub use typing::{Typed, type_query};
+pub use typed::Typed;
+pub use typing::type_query;

@@ -53,11 +53,7 @@ fn kind_of(misfit: Misfit) -> CauseKind
 }
 
 /// An operation to which its rule gave this, or nothing where a part has no shape.
-fn concluded(
-    place: usize,
-    ruled: Option<Result<Shape, Misfit>>,
-    found: Option<Cause>,
-) -> Seen
+fn concluded(place: usize, ruled: Option<Result<Shape, Misfit>>, found: Option<Cause>) -> Seen
     ensures { result ≡ seen_rule.concluded place ruled found }
 {
     match ruled {

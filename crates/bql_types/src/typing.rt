@@ -9,23 +9,13 @@ ghost use Rattle.bql_types.specs.Typing as rule;
 use crate::cause::Cause;
 use crate::fault::{TypeFault, fault_of};
 use crate::items::{filter, filters, grouped_by, groups, order, targets};
+use crate::typed::Typed;
 use bean_base::Bounds;
 use bql_parser::{Query, Select};
 use std::alloc::{AllocError, Global};
 
-/// A query that has a type within bounds.
-#[derive(Debug, Drop)]
-pub struct Typed<'q, 'a> {
-    pub query: &'q Query<'a>,
-    pub bounds: Bounds,
-}
-
 /// The least cause for which a SELECT has no type.
-fn select_cause(
-    alloc: Global,
-    bounds: &Bounds,
-    s: &Select<'_>,
-) -> Result<Option<Cause>, AllocError>
+fn select_cause(alloc: Global, bounds: &Bounds, s: &Select<'_>) -> Result<Option<Cause>, AllocError>
     requires { AreBounds bounds.now }
     ensures { IfOk result (λ r. r ≡ least_of (rule.select_causes bounds.now (select_of s.now))) }
 {
@@ -38,11 +28,7 @@ fn select_cause(
 }
 
 /// The least cause for which a query has no type.
-fn cause(
-    alloc: Global,
-    bounds: &Bounds,
-    query: &Query<'_>,
-) -> Result<Option<Cause>, AllocError>
+fn cause(alloc: Global, bounds: &Bounds, query: &Query<'_>) -> Result<Option<Cause>, AllocError>
     requires { AreBounds bounds.now }
     ensures { IfOk result (λ r. r ≡ least_of (rule.causes bounds.now (query_of query.now))) }
 {
