@@ -2,3 +2,4 @@ pub mod CauseFacts
 pub mod ShapeFacts
 pub mod SameFacts
 pub mod ItemFacts
+pub mod LawFacts

@@ -6,3 +6,4 @@ pub mod Typing
 pub mod Answer
 pub mod Seen
 pub mod Keys
+pub mod Laws

@@ -7,6 +7,7 @@ pub mod cause;
 pub mod fault;
 mod grouped;
 mod items;
+pub mod laws;
 mod same;
 pub mod shaped;
 pub mod typed;
