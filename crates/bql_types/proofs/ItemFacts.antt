@@ -5,8 +5,9 @@ use Rattle.std.proofs.Common.{append_assoc, if◌then◌else◌}
 use Rattle.bql_tree.specs.Tree.{Tree}
 use Rattle.bean_base.specs.declared.bounds.Bounds.{Bounds}
 use Rattle.bql_types.specs.Cause.{told, least_of, is_before}
-use Rattle.bql_types.specs.Typing.{each, all_keys, Select, Grouping, grouping_of, target_causes}
+use Rattle.bql_types.specs.Typing.{each, all_keys, Grouping, grouping_of, target_causes}
 use Rattle.bql_types.specs.Typing.{filters_causes, group_causes, order_item_causes, select_by}
+use Rattle.bql_types.specs.Standing.{Select}
 use Rattle.bql_types.specs.Typing.{select_causes}
 use Rattle.bql_types.specs.declared.cause.Cause.{Cause}
 use Rattle.bql_types.proofs.CauseFacts.{told_append}

@@ -3,3 +3,4 @@ pub mod ShapeFacts
 pub mod SameFacts
 pub mod ItemFacts
 pub mod LawFacts
+pub mod StandingFacts

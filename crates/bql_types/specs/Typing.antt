@@ -4,22 +4,17 @@ use Rattle.std.specs.Prelude.{Option, Some, None, Result, Ok, Err, ◌≡◌, if
 use Rattle.std.specs.List.{slice_get, list_any}
 use Rattle.std.specs.Option.{is_some}
 use Rattle.bean_base.specs.declared.bounds.Bounds.{Bounds}
-use Rattle.bql_parser.specs.Answer.{query_of}
 use Rattle.bql_parser.specs.Clause as clause
-use Rattle.bql_parser.specs.Clause.{selecting, journaling, balancing}
 use Rattle.bql_parser.specs.Settled.{Target, Item, ItemKind, target_item, tree_item, Settled}
-use Rattle.bql_parser.specs.declared.query.Query.{Query}
 use Rattle.bql_tree.specs.Tree.{Tree, node}
 use Rattle.query_shapes.specs.declared.shape.Shape.{Shape}
 use Rattle.query_shapes.specs.declared.shape.Shape.TheVariants as shape
 use Rattle.bql_types.specs.Cause.{cause_at, where_true, least_of}
 use Rattle.bql_types.specs.Shaped.{shape_of, shape_causes}
+use Rattle.bql_types.specs.Standing.{Select, standing}
 use Rattle.bql_types.specs.Sought.{aggregates, misplaced, balances, ungrouped}
 use Rattle.bql_types.specs.declared.cause.Cause.{Cause}
 use Rattle.bql_types.specs.declared.cause.CauseKind.TheVariants as kind
-
-abbrev pub Select : Type 0
-Select = clause.Select Target (Tree ℕ) Item
 
 abbrev pub place_of : Tree ℕ → ℕ
 place_of (node at op parts) = at
@@ -184,11 +179,9 @@ select_by b g s =
 abbrev pub select_causes : Bounds → Select → List Cause
 select_causes b s = select_by b (grouping_of s) s
 
--- all causes for which a query has no type; JOURNAL and BALANCES have none but in their filters
+-- all causes for which a query has no type
 abbrev pub causes : Bounds → Settled → List Cause
-causes b (selecting s) = select_causes b s
-causes b (journaling j) = filter_causes b j.from
-causes b (balancing q) = filters_causes b q.filters
+causes b q = select_causes b (standing q)
 
 -- the query has a type
 abbrev pub IsTyped : Bounds → Settled → Type 0

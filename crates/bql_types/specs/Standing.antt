@@ -1,0 +1,77 @@
+-- The SELECT that a JOURNAL or a BALANCES stands for. None of its parts stands in the text, so all
+-- are at its first byte.
+use Rattle.std.specs.Prelude.{ℕ, false, List, [], ◌∷◌, codes, Option, Some, None}
+use Rattle.bql_parser.specs.Clause as clause
+use Rattle.bql_parser.specs.Clause.{selecting, journaling, balancing}
+use Rattle.bql_parser.specs.Settled.{Target, Item, target_item, Settled}
+use Rattle.bql_parser.specs.declared.query.Valuation.{Valuation}
+use Rattle.bql_parser.specs.declared.query.Valuation.TheVariants as valuation
+use Rattle.bql_tree.specs.Tree.{leaf_of, one_of, call_of, Tree, node, no_trees, trees}
+use Rattle.bql_tree.specs.declared.column.Column.{Column}
+use Rattle.bql_tree.specs.declared.column.Column.TheVariants as column
+use Rattle.bql_tree.specs.declared.function.Function.{Function}
+use Rattle.bql_tree.specs.declared.function.Function.TheVariants as function
+use Rattle.bql_tree.specs.declared.tree.Leaf.TheVariants as leaf
+use Rattle.bql_tree.specs.declared.tree.Unary.TheVariants as unary
+
+abbrev pub Select : Type 0
+Select = clause.Select Target (Tree ℕ) Item
+
+abbrev pub of_column : Column → Tree ℕ
+of_column c = node 0 (leaf_of (leaf.Column c)) no_trees
+
+abbrev pub applied : Function → Tree ℕ → Tree ℕ
+applied f t = node 0 (call_of f) (trees t no_trees)
+
+-- what AT makes of it
+abbrev pub valued : Option Valuation → Tree ℕ → Tree ℕ
+valued None t = t
+valued (Some valuation.Units) t = applied function.Units t
+valued (Some valuation.Cost) t = applied function.Cost t
+
+abbrev pub named : List ℕ → Tree ℕ → Target
+named name t = record { name = name; tree = t }
+
+abbrev pub matching : Option (List ℕ) → Option (Tree ℕ)
+matching (Some pattern) =
+    Some (node 0 (one_of (unary.Matches pattern)) (trees (of_column column.Account) no_trees))
+matching None = None
+
+-- SELECT date, flag, payee, narration, account, f(position) AS position, f(balance) AS balance
+-- WHERE account ~ 'pattern'
+abbrev pub journal_select : clause.Journal Valuation (Tree ℕ) → Select
+journal_select j = record {
+  distinct = false;
+  targets = named (codes "date") (of_column column.Date)
+      ∷ named (codes "flag") (of_column column.Flag)
+      ∷ named (codes "payee") (of_column column.Payee)
+      ∷ named (codes "narration") (of_column column.Narration)
+      ∷ named (codes "account") (of_column column.Account)
+      ∷ named (codes "position") (valued j.at (of_column column.Position))
+      ∷ named (codes "balance") (valued j.at (of_column column.Balance))
+      ∷ [];
+  filters = record { from = j.from; filter = matching j.pattern };
+  group = None;
+  order = record { items = []; descending = false };
+  limit = None;
+}
+
+-- SELECT account, SUM(f(position)) AS balance GROUP BY account, ordered by the root of the account
+-- and then by the account
+abbrev pub balances_select : clause.Balances Valuation (Tree ℕ) → Select
+balances_select q = record {
+  distinct = false;
+  targets = named (codes "account") (of_column column.Account)
+      ∷ named (codes "balance") (applied function.Sum (valued q.at (of_column column.Position)))
+      ∷ [];
+  filters = q.filters;
+  group = Some (record { place = 0; kind = target_item 0 } ∷ []);
+  order = record { items = []; descending = false };
+  limit = None;
+}
+
+-- the SELECT that a query is or stands for
+abbrev pub standing : Settled → Select
+standing (selecting s) = s
+standing (journaling j) = journal_select j
+standing (balancing q) = balances_select q
