@@ -1,10 +1,10 @@
 -- Causes one behind the other, and the parts of calls.
-use Rattle.std.proofs.Common.{◌≡◌, ℕ, ◌+◌, ◌<◌, List, [], ◌∷◌, ◌++◌, Option, Some, None, refl, sym, ap}
-use Rattle.std.proofs.Common.{◌∙◌, zero, suc, get_or, drop, take, length, arith}
+use Rattle.std.proofs.Common.{◌≡◌, ℕ, ◌+◌, ◌<◌, List, [], ◌∷◌, ◌++◌, Option, refl, sym, ap}
+use Rattle.std.proofs.Common.{◌∙◌, zero, suc, get_or, drop, length, arith}
 use Rattle.std.specs.Prelude.{Vec}
 use Rattle.std.specs.declared.alloc.Global.{Global}
 use mathlib.Core.Former.{Count}
-use Rattle.bql_tree.specs.Tree.{call_of, Tree, node, Trees, trees, no_trees, tree_of, trees_of}
+use Rattle.bql_tree.specs.Tree.{call_of, Tree, node, Trees, trees, tree_of, trees_of}
 use Rattle.bql_tree.specs.Tree.{row_trees}
 use Rattle.bql_tree.specs.declared.function.Function.{Function}
 use Rattle.bql_tree.specs.declared.tree.Expr.{Expr, Row_of-Expr, end_of-Expr, more_of-Expr}

@@ -1,6 +1,6 @@
 -- Why the laws hold.
-use Rattle.std.proofs.Common.{◌≡◌, ◌≢◌, ℕ, zero, suc, ◌<◌, Bool, true, false, ◌&&◌, ◌||◌, ◌==◌, nat_lt}
-use Rattle.std.proofs.Common.{List, [], ◌∷◌, ◌++◌, length, Option, Some, None, Result, Ok, Err, refl}
+use Rattle.std.proofs.Common.{◌≡◌, ℕ, zero, suc, Bool, true, false, ◌&&◌, ◌||◌, ◌==◌, nat_lt}
+use Rattle.std.proofs.Common.{List, [], ◌∷◌, ◌++◌, Option, Some, None, Ok, Err, refl}
 use Rattle.std.proofs.Common.{sym, ap, ◌∙◌, subst, arith, ◌⊎◌, inl, inr, if◌then◌else◌}
 use Rattle.std.proofs.lemmas.Bool.Decides.{nat_tests}
 use Rattle.std.specs.List.{IsAmong}
@@ -8,8 +8,8 @@ use Rattle.bean_base.specs.declared.bounds.Bounds.{Bounds}
 use Rattle.bql_tree.specs.Tree.{Operation, Tree, node, Trees, trees, no_trees}
 use Rattle.query_shapes.specs.Rules.{Ruled}
 use Rattle.query_shapes.specs.declared.shape.Shape.{Shape}
-use Rattle.bql_types.specs.Cause.{told, least_of, sooner, is_before, number_of}
-use Rattle.bql_types.specs.Laws.{IsLeast, LeastIsTold, ShapesAreFound, ShapesHaveNoCauses}
+use Rattle.bql_types.specs.Cause.{told, is_before, number_of}
+use Rattle.bql_types.specs.Laws.{LeastIsTold, ShapesAreFound, ShapesHaveNoCauses}
 use Rattle.bql_types.specs.Shaped.{shape_of, shapes_of, shape_causes, all_shape_causes, ruled, given}
 use Rattle.bql_types.specs.Shaped.{rule, misfit_at, is_equation, is_null, operand, beside}
 use Rattle.bql_types.specs.declared.cause.Cause.{Cause}

@@ -1,6 +1,6 @@
 -- What a JOURNAL and a BALANCES stand for has shapes within all bounds.
-use Rattle.std.proofs.Common.{◌≡◌, ℕ, ◌+◌, ◌-◌, ◌*◌, ◌^◌, ◌≤◌, ◌<◌, ◌&&◌, ◌||◌, Bool, true, false, max, List, []}
-use Rattle.std.proofs.Common.{◌++◌, ◌∷◌, Option, Some, None, Ok, Err, refl, sym, ap, ◌∙◌, arith}
+use Rattle.std.proofs.Common.{◌≡◌, ℕ, ◌+◌, ◌*◌, ◌^◌, ◌≤◌, ◌&&◌, ◌||◌, Bool, true, false, max, List, []}
+use Rattle.std.proofs.Common.{◌++◌, ◌∷◌, Option, Some, None, Ok, Err, refl, ap, ◌∙◌, arith}
 use Rattle.std.specs.Prelude.{nat_lt, if◌then◌else◌}
 use Rattle.std.proofs.lemmas.Bool.{lt-ltb}
 use Rattle.std.proofs.Math.Nat.{mul-le-mul_left, mul-le-mul_right}
@@ -16,8 +16,7 @@ use Rattle.bql_tree.specs.declared.function.Function.TheVariants as function
 use Rattle.query_shapes.specs.Shape.{is_held, fitting}
 use Rattle.query_shapes.specs.declared.shape.Misfit.TheVariants.{TooWide}
 use Rattle.query_shapes.specs.declared.shape.Shape.{Shape}
-use Rattle.query_shapes.specs.declared.shape.Shape.TheVariants.{Amount, Position, Inventory}
-use Rattle.bql_types.specs.Cause.{least_of}
+use Rattle.query_shapes.specs.declared.shape.Shape.TheVariants.{Amount, Inventory}
 use Rattle.bql_types.specs.Shaped.{given, shape_of, shape_causes, ruled, beside, operand}
 use Rattle.bql_types.specs.Sought.{aggregates, misplaced, ungrouped, balances}
 use Rattle.bql_types.specs.Standing.{of_column, applied, valued, matching, journal_select}

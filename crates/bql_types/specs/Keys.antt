@@ -6,7 +6,6 @@ use Rattle.bql_parser.specs.Clause as clause
 use Rattle.bql_parser.specs.Settled as settled
 use Rattle.bql_parser.specs.declared.query.Filters.{Filters}
 use Rattle.bql_parser.specs.declared.query.Item.{Item}
-use Rattle.bql_parser.specs.declared.query.Target.{Target}
 use Rattle.bql_tree.specs.Tree.{Tree, tree_of}
 use Rattle.bql_types.specs.Typing as typing
 use Rattle.bql_types.specs.declared.grouped.Key.{Key}

@@ -1,5 +1,5 @@
 -- What holds of types of queries, whatever the query.
-use Rattle.std.specs.Prelude.{◌≡◌, ◌≢◌, ℕ, Bool, true, false, List, [], Option, Some, None, Result}
+use Rattle.std.specs.Prelude.{◌≡◌, ◌≢◌, ℕ, false, List, [], Some, None}
 use Rattle.std.specs.Prelude.{Ok, Err}
 use Rattle.std.specs.List.{IsAmong}
 use Rattle.bean_base.specs.declared.bounds.Bounds.{Bounds}

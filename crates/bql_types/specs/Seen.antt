@@ -1,10 +1,10 @@
 -- Shapes and the least cause, found at once.
-use Rattle.std.specs.Prelude.{ℕ, Bool, true, false, ◌&&◌, List, [], ◌∷◌, ◌++◌, Option, Some, None}
-use Rattle.std.specs.Prelude.{Ok, Err, Vec, if◌then◌else◌}
+use Rattle.std.specs.Prelude.{ℕ, Bool, false, ◌&&◌, List, [], ◌∷◌, ◌++◌, Option, Some, None}
+use Rattle.std.specs.Prelude.{Err, Vec, if◌then◌else◌}
 use Rattle.std.specs.declared.alloc.Global.{Global}
 use Rattle.bean_base.specs.declared.bounds.Bounds.{Bounds}
 use Rattle.bql_shapes.specs.Rules.{binary_shape, unary_shape}
-use Rattle.bql_tree.specs.Tree.{Tree, Trees, two_of}
+use Rattle.bql_tree.specs.Tree.{Tree, Trees}
 use Rattle.bql_tree.specs.declared.tree.Binary.{Binary}
 use Rattle.bql_tree.specs.declared.tree.Unary.{Unary}
 use Rattle.query_shapes.specs.Rules.{Ruled}
@@ -17,7 +17,7 @@ use Rattle.bql_types.specs.Shaped.{all_shape_causes, operand, is_equality}
 use Rattle.bql_types.specs.Typing.{Grouping, shown_causes, row_causes}
 use Rattle.bql_types.specs.declared.cause.Cause.{Cause}
 use Rattle.bql_types.specs.declared.shaped.Operand.{Operand}
-use Rattle.bql_types.specs.declared.shaped.Operand.TheVariants.{Null, Shaped, Shapeless}
+use Rattle.bql_types.specs.declared.shaped.Operand.TheVariants.{Null, Shaped}
 use Rattle.bql_types.specs.declared.shaped.Seen.{Seen}
 use Rattle.bql_types.specs.declared.shaped.SeenAll.{SeenAll}
 use Rattle.bql_types.specs.declared.shaped.SeenPart.{SeenPart}

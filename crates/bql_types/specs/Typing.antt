@@ -1,6 +1,6 @@
 -- Queries that have a type: all the causes for which one has none.
-use Rattle.std.specs.Prelude.{ℕ, Bool, true, false, not, ◌||◌, List, [], ◌∷◌, ◌++◌, map, filter}
-use Rattle.std.specs.Prelude.{Option, Some, None, Result, Ok, Err, ◌≡◌, if◌then◌else◌}
+use Rattle.std.specs.Prelude.{ℕ, Bool, true, false, not, List, [], ◌∷◌, ◌++◌}
+use Rattle.std.specs.Prelude.{Option, Some, None, ◌≡◌, if◌then◌else◌}
 use Rattle.std.specs.List.{slice_get, list_any}
 use Rattle.std.specs.Option.{is_some}
 use Rattle.bean_base.specs.declared.bounds.Bounds.{Bounds}

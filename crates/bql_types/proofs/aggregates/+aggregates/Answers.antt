@@ -1,4 +1,4 @@
-use Rattle.std.proofs.Common.{◌≡◌, ◌||◌, sym, ap, ◌∙◌}
+use Rattle.std.proofs.Common.{◌||◌, sym, ap, ◌∙◌}
 use Rattle.bql_tree.specs.Tree.{trees_of}
 use Rattle.bql_types.specs.Sought.{aggregates, one_aggregates}
 use Rattle.bql_types.proofs.CauseFacts.{is_call}

@@ -1,4 +1,4 @@
-use Rattle.std.proofs.Common.{◌≡◌, refl, sym, ap, ◌∙◌}
+use Rattle.std.proofs.Common.{refl, sym, ap, ◌∙◌}
 use Rattle.bql_types.specs.Cause.{told}
 use Rattle.bql_types.specs.Sought.{balances, all_balances}
 use Rattle.bql_types.proofs.CauseFacts.{is_call, one_less}

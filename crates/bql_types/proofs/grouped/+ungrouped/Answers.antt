@@ -1,4 +1,4 @@
-use Rattle.std.proofs.Common.{◌≡◌, [], refl, sym, ap, ◌∙◌}
+use Rattle.std.proofs.Common.{refl, sym, ap, ◌∙◌}
 use Rattle.bql_tree.specs.Tree.{tree_of, trees_of}
 use Rattle.bql_types.specs.Cause.{told}
 use Rattle.bql_types.specs.Keys.{lent_trees}

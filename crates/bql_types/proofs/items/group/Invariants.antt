@@ -1,7 +1,6 @@
-use Rattle.std.proofs.Common.{◌≡◌, ◌++◌, drop, map}
+use Rattle.std.proofs.Common.{◌≡◌, drop, map}
 use Rattle.bql_parser.specs.Answer.{target_of, item_of}
 use Rattle.bql_types.specs.Cause.{told}
-use Rattle.bql_types.specs.Keys.{grouping_of, lent_trees}
 use Rattle.bql_types.specs.Typing as rule
 use Rattle.bql_types.proofs.items.group.Given as goal
 

@@ -1,4 +1,4 @@
-use Rattle.std.proofs.Common.{◌≡◌, ◌++◌, refl, sym, ap, ◌∙◌, false}
+use Rattle.std.proofs.Common.{refl, sym, ap, ◌∙◌, false}
 use Rattle.bql_tree.specs.Tree.{one_of, two_of, node, trees, no_trees, tree_of, trees_of}
 use Rattle.bql_types.specs.Seen.{concluded, list_of, one_more}
 use Rattle.bql_types.specs.Shaped.{shape_causes, all_shape_causes}
