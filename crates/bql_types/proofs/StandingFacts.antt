@@ -90,7 +90,7 @@ position_causes b (Some valuation.Cost) are =
 units_sum : (b : Bounds) → AreBounds b → nat_lt (b.postings * units_most b) (2 ^ 127) ≡ true
 units_sum b are =
     let h = all_narrow b.postings (units_most b) are.postings
-        (units_alone (units_most b) (units_narrow b are)) in
+    (units_alone (units_most b) (units_narrow b are)) in
     held (b.postings * units_most b) (omega (arith, h))
 
 value_sum : (b : Bounds) → AreBounds b → nat_lt (b.postings * value_most b) (2 ^ 127) ≡ true

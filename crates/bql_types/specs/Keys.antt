@@ -9,7 +9,7 @@ use Rattle.bql_parser.specs.declared.query.Item.{Item}
 use Rattle.bql_tree.specs.Tree.{Tree, tree_of}
 use Rattle.bql_types.specs.Typing as typing
 use Rattle.bql_types.specs.declared.grouped.Key.{Key}
-use Rattle.bql_types.specs.declared.items.Grouping.{Grouping}
+use Rattle.bql_types.specs.declared.grouping.Grouping.{Grouping}
 
 abbrev pub lent_tree : Key → Tree ℕ
 lent_tree k = tree_of k.expr.now

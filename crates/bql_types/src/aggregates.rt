@@ -11,7 +11,7 @@ use bean_base::Bounds;
 use bql_tree::{Expr, Function, Leaf};
 use std::alloc::{AllocError, Global};
 
-pub(crate) fn is_aggregate_function(function: Function) -> bool
+pub fn is_aggregate_function(function: Function) -> bool
     ensures { result ≡ rule.is_aggregate_function function }
 {
     matches!(
@@ -25,7 +25,7 @@ pub(crate) fn is_aggregate_function(function: Function) -> bool
     )
 }
 
-pub(crate) fn is_rows(leaf: &Leaf<'_>) -> bool
+pub fn is_rows(leaf: &Leaf<'_>) -> bool
     ensures { result ≡ rule.is_rows leaf.now }
 {
     matches!(leaf, Leaf::Rows)
@@ -33,7 +33,7 @@ pub(crate) fn is_rows(leaf: &Leaf<'_>) -> bool
 
 /// Whether it is an aggregate, or one stands in it.
 #[cycle(aggregates)]
-pub(crate) fn aggregates(e: &Expr<'_>) -> bool
+pub fn aggregates(e: &Expr<'_>) -> bool
     ensures { result ≡ rule.aggregates (tree_of e.now) }
 {
     match e {

@@ -10,9 +10,9 @@ use crate::cause::{Cause, CauseKind, where_true};
 use crate::same::same;
 use bql_tree::{Expr, Leaf};
 
-/// An expression by whose values rows are grouped.
+/// An expression of a query, lent: a key by whose values rows are grouped, or another.
 #[derive(Clone, Copy)]
-pub(crate) struct Key<'q, 'a> {
+pub struct Key<'q, 'a> {
     pub expr: &'q Expr<'a>,
 }
 
@@ -26,7 +26,7 @@ fn is_of_row(leaf: &Leaf<'_>) -> bool
 }
 
 /// Whether an expression is the same as one of the keys.
-fn is_key(keys: &[Key<'_, '_>], e: &Expr<'_>) -> bool
+pub fn is_key(keys: &[Key<'_, '_>], e: &Expr<'_>) -> bool
     ensures { result ≡ rule.is_key (lent_trees keys.now) (tree_of e.now) }
 {
     for i in 0..keys.len() {

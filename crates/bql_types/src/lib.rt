@@ -42,14 +42,15 @@
 //! shapes of its arguments, and a query for the list of its keys.
 #![tactic(auto)]
 
-mod aggregates;
+pub mod aggregates;
 mod balances;
 pub mod cause;
 pub mod fault;
-mod grouped;
+pub mod grouped;
+pub mod grouping;
 mod items;
 pub mod laws;
-mod same;
+pub mod same;
 pub mod shaped;
 pub mod standing;
 pub mod typed;

@@ -37,7 +37,7 @@ fn same_unary(a: &Unary<'_>, b: &Unary<'_>) -> bool
 
 /// Whether two expressions are the same, wherever they stand.
 #[cycle(same)]
-pub(crate) fn same(a: &Expr<'_>, b: &Expr<'_>) -> bool
+pub fn same(a: &Expr<'_>, b: &Expr<'_>) -> bool
     ensures { result ≡ rule.same (tree_of a.now) (tree_of b.now) }
 {
     match (a, b) {

@@ -103,10 +103,7 @@ fn heads<'a>(alloc: Global) -> Result<Vec<Target<'a>>, AllocError>
     one_column(alloc, targets, Column::Account)
 }
 
-fn journal_targets<'a>(
-    alloc: Global,
-    at: Option<Valuation>,
-) -> Result<Vec<Target<'a>>, AllocError>
+fn journal_targets<'a>(alloc: Global, at: Option<Valuation>) -> Result<Vec<Target<'a>>, AllocError>
     ensures { IfOk result (λ r. targets_of r ≡ rule.journal_targets at) }
 {
     let targets = heads(alloc)?;
@@ -114,10 +111,7 @@ fn journal_targets<'a>(
     one_more(targets, "balance", valued(alloc, at, Column::Balance)?)
 }
 
-fn balances_targets<'a>(
-    alloc: Global,
-    at: Option<Valuation>,
-) -> Result<Vec<Target<'a>>, AllocError>
+fn balances_targets<'a>(alloc: Global, at: Option<Valuation>) -> Result<Vec<Target<'a>>, AllocError>
     ensures { IfOk result (λ r. targets_of r ≡ rule.balances_targets at) }
 {
     let targets = one_column(alloc, Vec::new(alloc), Column::Account)?;

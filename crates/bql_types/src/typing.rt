@@ -8,7 +8,8 @@ ghost use Rattle.bql_types.specs.Typing as rule;
 
 use crate::cause::Cause;
 use crate::fault::{TypeFault, fault_of};
-use crate::items::{filter, filters, grouped_by, groups, order, targets};
+use crate::grouping::grouped_by;
+use crate::items::{filter, filters, groups, order, targets};
 use crate::typed::Typed;
 use bean_base::Bounds;
 use bql_parser::{Query, Select};

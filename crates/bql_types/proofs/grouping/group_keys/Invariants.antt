@@ -2,7 +2,7 @@ use Rattle.std.proofs.Common.{◌≡◌, ◌++◌, drop, map}
 use Rattle.bql_parser.specs.Answer.{target_of, item_of}
 use Rattle.bql_types.specs.Keys.{lent_trees}
 use Rattle.bql_types.specs.Typing as rule
-use Rattle.bql_types.proofs.items.group_keys.Given as goal
+use Rattle.bql_types.proofs.grouping.group_keys.Given as goal
 
 -- what is found so far, with those that are left, is what is found in all
 abbrev pub invariant-loop-item : goal.invariant-loop-item
