@@ -9,7 +9,8 @@ use crate::grouped::Key;
 use bql_parser::{Item, ItemKind, Target};
 use std::alloc::{AllocError, Global};
 
-/// How the rows of a query come to be: each of its own, or each of a group with these keys.
+/// How the rows of a query come to be: each of its own, or each of a group with these keys, which
+/// count only where the query aggregates.
 #[derive(Drop)]
 pub struct Grouping<'q, 'a> {
     pub is_aggregating: bool,

@@ -52,12 +52,10 @@ mod items;
 pub mod laws;
 pub mod same;
 pub mod shaped;
-pub mod standing;
 pub mod typed;
 pub mod typing;
 
 pub use cause::{Cause, CauseKind};
 pub use fault::TypeFault;
-pub use standing::into_select;
 pub use typed::Typed;
 pub use typing::type_query;

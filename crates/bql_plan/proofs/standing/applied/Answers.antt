@@ -1,7 +1,7 @@
-use Rattle.std.proofs.Common.{◌≡◌, ◌++◌, ◌∷◌, [], ap, ◌∙◌}
+use Rattle.std.proofs.Common.{◌++◌, ◌∷◌, [], ap, ◌∙◌}
 use Rattle.bql_tree.specs.Tree.{call_of, node, tree_of, trees_of}
 use Rattle.bql_types.proofs.CauseFacts.{tree_of_call}
-use Rattle.bql_types.proofs.standing.applied.Goals as goal
+use Rattle.bql_plan.proofs.standing.applied.Goals as goal
 
 pub returns : goal.returns
 returns c =
