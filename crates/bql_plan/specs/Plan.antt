@@ -16,7 +16,7 @@ added ts t = if is_key ts t then ts else ts ++ t ∷ []
 -- the index of the first that is the same
 abbrev pub index_of : List (Tree ℕ) → Tree ℕ → ℕ
 index_of [] t = 0
-index_of (u ∷ us) t = if same u t then 0 else suc (index_of us t)
+index_of (u ∷ us) t = if same t u then 0 else suc (index_of us t)
 
 -- ---- what is shown, and what orders rows
 

@@ -31,6 +31,7 @@
 //! lists; expressions are lent.
 #![tactic(auto)]
 
+pub mod laws;
 pub mod plan;
 pub mod standing;
 

@@ -49,7 +49,7 @@ fn index_of(exprs: &[Key<'_, '_>], expr: &Expr<'_>) -> usize
     ensures { result ≡ rule.index_of (lent_trees exprs.now) (tree_of expr.now) }
 {
     for i in 0..exprs.len() {
-        if same(exprs[i].expr, expr) {
+        if same(expr, exprs[i].expr) {
             return i;
         }
     }
