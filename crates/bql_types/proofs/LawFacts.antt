@@ -132,7 +132,7 @@ least_is_told cs c e =
 
 -- ---- shapes and causes
 
-no_more : {A : Type 0} (xs ys : List A) → xs ++ ys ≡ [] → (xs ≡ []) × (ys ≡ [])
+pub no_more : {A : Type 0} (xs ys : List A) → xs ++ ys ≡ [] → (xs ≡ []) × (ys ≡ [])
 no_more [] ys e = (refl, e)
 no_more (x ∷ xs) ys e = absurd cc
 

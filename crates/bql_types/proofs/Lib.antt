@@ -4,3 +4,4 @@ pub mod SameFacts
 pub mod ItemFacts
 pub mod LawFacts
 pub mod StandingFacts
+pub mod TypedFacts

@@ -51,7 +51,7 @@ pub mod grouping;
 mod items;
 pub mod laws;
 pub mod same;
-pub mod shaped;
+mod shaped;
 pub mod typed;
 pub mod typing;
 
