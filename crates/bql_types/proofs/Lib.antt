@@ -5,3 +5,4 @@ pub mod ItemFacts
 pub mod LawFacts
 pub mod StandingFacts
 pub mod TypedFacts
+pub mod Examples
