@@ -12,7 +12,8 @@ use Rattle.bql_tree.specs.declared.tree.Expr.{items-the_row-Expr, items_hidden-t
 use Rattle.bql_tree.specs.declared.tree.Expr.{Call', Call}
 use Rattle.std.proofs.Common.{Bool, true, false, ◌&&◌, ◌||◌, if◌then◌else◌}
 use Rattle.bql_types.specs.Cause.{told, sooner, where_true, cause_at}
-use Rattle.bql_types.specs.Sought.{is_key, is_aggregate, is_aggregate_function, reads_row, ungrouped}
+use Rattle.bql_types.specs.Sought.{is_key, is_aggregate, is_aggregate_function, reads_row}
+use Rattle.bql_types.specs.Sought.{ungrouped}
 use Rattle.bql_types.specs.Sought.{all_ungrouped, misplaced, all_misplaced, is_told}
 use Rattle.bean_base.specs.declared.bounds.Bounds.{Bounds}
 use Rattle.bql_types.specs.declared.cause.CauseKind.TheVariants as kind

@@ -126,6 +126,9 @@ journal : told widest
 journal = refl
 
 balances : told widest
-    (balancing (record { at = Some valuation.Units; filters = record { from = None; filter = None } }))
+    (balancing (record {
+      at = Some valuation.Units;
+      filters = record { from = None; filter = None };
+    }))
     ≡ None
 balances = refl

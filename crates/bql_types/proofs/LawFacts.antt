@@ -10,7 +10,8 @@ use Rattle.query_shapes.specs.Rules.{Ruled}
 use Rattle.query_shapes.specs.declared.shape.Shape.{Shape}
 use Rattle.bql_types.specs.Cause.{told, is_before, number_of}
 use Rattle.bql_types.specs.Laws.{LeastIsTold, ShapesAreFound, ShapesHaveNoCauses}
-use Rattle.bql_types.specs.Shaped.{shape_of, shapes_of, shape_causes, all_shape_causes, ruled, given}
+use Rattle.bql_types.specs.Shaped.{shape_of, shapes_of, shape_causes, all_shape_causes, ruled}
+use Rattle.bql_types.specs.Shaped.{given}
 use Rattle.bql_types.specs.Shaped.{rule, misfit_at, is_equation, is_null, operand, beside}
 use Rattle.bql_types.specs.declared.cause.Cause.{Cause}
 

@@ -1,5 +1,6 @@
 -- Lists of expressions that aren't the same.
-use Rattle.std.proofs.Common.{◌≡◌, ◌≢◌, suc, Bool, true, false, ◌&&◌, List, [], ◌∷◌, length, refl, ap}
+use Rattle.std.proofs.Common.{◌≡◌, ◌≢◌, suc, Bool, true, false, ◌&&◌, List, [], ◌∷◌, length, refl}
+use Rattle.std.proofs.Common.{ap}
 use Rattle.std.proofs.Common.{◌∙◌, ℕ, sym}
 use denote.Enum.Bare.{sameb}
 use Rattle.bql_tree.specs.Tree.{call_of, Tree, node, Trees, tree_of, trees_of}

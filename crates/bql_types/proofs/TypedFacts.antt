@@ -12,7 +12,8 @@ use Rattle.bql_types.specs.Laws.{IsShaped, IsFilter, IsOrder, HasShapes, TypedHa
 use Rattle.bql_types.specs.Shaped.{shape_of, shape_causes}
 use Rattle.bql_types.specs.Sought.{misplaced, balances}
 use Rattle.bql_types.specs.Standing.{Select, standing}
-use Rattle.bql_types.specs.Typing.{each, Grouping, grouping_of, shown_causes, row_causes, isnt_truth}
+use Rattle.bql_types.specs.Typing.{each, Grouping, grouping_of, shown_causes, row_causes}
+use Rattle.bql_types.specs.Typing.{isnt_truth}
 use Rattle.bql_types.specs.Typing.{filter_causes, filters_causes, target_causes, group_causes}
 use Rattle.bql_types.specs.Typing.{order_item_causes, isnt_ordered, is_ordered, grouped_causes}
 use Rattle.bql_types.specs.Typing.{order_causes_at, select_causes, order_causes_by}
@@ -72,7 +73,8 @@ own_order : (b : Bounds) (g : Grouping) (place : ℕ) (ts : List Target) (t : Tr
     → shown_causes b g t ++ order_causes_at b place t ≡ [] → IsOrder b ts (tree_item t)
 own_order b g place ts t e =
     let h = no_more (shown_causes b g t) (order_causes_at b place t) e in
-    let k = no_more (shape_causes b t) (misplaced b (not g.is_aggregating) t ++ grouped_causes g t) h.0 in
+    let k = no_more (shape_causes b t)
+    (misplaced b (not g.is_aggregating) t ++ grouped_causes g t) h.0 in
     let s = shapes_are_found b t k.0 in
     (s.0, s.1, has_order b place t s.0 s.1 h.1)
 

@@ -75,7 +75,8 @@ abbrev mutual
 
   pub shapes_of : Bounds → Bool → Trees ℕ → Option (List Shape)
   shapes_of b eq no_trees = Some []
-  shapes_of b eq (trees t ts) = beside (operand (eq && is_null t) (shape_of b t)) (shapes_of b eq ts)
+  shapes_of b eq (trees t ts) =
+      beside (operand (eq && is_null t) (shape_of b t)) (shapes_of b eq ts)
 
 abbrev pub kind_of : Misfit → CauseKind
 kind_of Kind = kind.KindClash

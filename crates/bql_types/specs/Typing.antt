@@ -67,8 +67,8 @@ pub record Grouping : Type 0 where
   pub is_aggregating : Bool
   pub keys : List (Tree ℕ)
 
--- a query aggregates where it has GROUP BY or an aggregate in a target; without GROUP BY the targets
--- that have no aggregate are its keys
+-- a query aggregates where it has GROUP BY or an aggregate in a target; without GROUP BY the
+-- targets that have no aggregate are its keys
 abbrev pub grouping_by : List Target → Option (List Item) → Grouping
 grouping_by ts (Some is) = record { is_aggregating = true; keys = keys_of ts is }
 grouping_by ts None = record {

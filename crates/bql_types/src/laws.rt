@@ -20,8 +20,8 @@ pub fn queries_are_answered_in_one_way()
     ensures once { OneRefusal }
 {}
 
-/// What a typed query asks has shapes: its filters are truth values, and rows can be ordered by what
-/// orders them.
+/// What a typed query asks has shapes: its filters are truth values, and rows can be ordered by
+/// what orders them.
 pub fn typed_queries_have_shapes()
     ensures { TypedHaveShapes }
 {}

@@ -21,19 +21,19 @@
 //!
 //! - `Y1` ([`TypeFault::KindClash`]): an operand is of another kind than the operation takes, or
 //!   there are more or fewer of them; a filter is no truth value.
-//! - `Y2` ([`TypeFault::AggregateMisplaced`]): an aggregate stands inside an aggregate, in a filter,
-//!   in a group item, or in an order item of a query that doesn't aggregate.
-//! - `Y3` ([`TypeFault::NotGrouped`]): in a query that aggregates a column or a metadata entry stands
-//!   outside aggregates and outside what is the same as a key.
+//! - `Y2` ([`TypeFault::AggregateMisplaced`]): an aggregate stands inside an aggregate, in a
+//!   filter, in a group item, or in an order item of a query that doesn't aggregate.
+//! - `Y3` ([`TypeFault::NotGrouped`]): in a query that aggregates a column or a metadata entry
+//!   stands outside aggregates and outside what is the same as a key.
 //! - `Y4` ([`TypeFault::NotOrderable`]): an order item is no number, text or day.
 //! - `Y5` ([`TypeFault::TooWide`]): a value might be too wide to be held, on some ledger within the
 //!   bounds.
 //! - `Y6` ([`TypeFault::BalanceMisplaced`]): the running balance stands in a filter, or in a query
 //!   that aggregates.
 //!
-//! What stands where it may not has a shape all the same, so what is around it is looked at too. All
-//! causes of the whole query are looked at, and the least is told: by place, and at one place by
-//! number. What an item that names a target is refused for is told at the item.
+//! What stands where it may not has a shape all the same, so what is around it is looked at too.
+//! All causes of the whole query are looked at, and the least is told: by place, and at one place
+//! by number. What an item that names a target is refused for is told at the item.
 //!
 //! # Cost
 //!
