@@ -13,7 +13,7 @@ use Rattle.bql_plan.specs.Laws.{StandsIn, OrderIsShown, AggregatesAreCounted}
 use Rattle.bql_plan.specs.Plan.{added, index_of, own_trees, shown, aggregates_of}
 use Rattle.bql_tree.specs.Tree.{Operation, leaf_of, one_of, two_of, call_of, Tree, node, Trees}
 use Rattle.bql_tree.specs.Tree.{no_trees, trees}
-use Rattle.bql_tree.specs.contracts.column.Column as columns
+use Rattle.query_columns.specs.contracts.column.Column as columns
 use Rattle.bql_tree.specs.contracts.function.Function as functions
 use Rattle.bql_tree.specs.contracts.tree.Binary as binaries
 use Rattle.bql_tree.specs.contracts.tree.Entry as entries
