@@ -1,0 +1,2 @@
+pub mod PlanFacts
+pub mod LawFacts

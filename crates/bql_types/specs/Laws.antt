@@ -1,0 +1,75 @@
+-- What holds of types of queries, whatever the query.
+use Rattle.std.specs.Prelude.{◌≡◌, ◌≢◌, ℕ, false, List, [], Some, None}
+use Rattle.std.specs.Prelude.{Option, Ok, Err, true}
+use Rattle.std.specs.List.{IsAmong, slice_get}
+use Rattle.bean_base.specs.declared.bounds.Bounds.{Bounds}
+use Rattle.bql_parser.specs.Settled.{Settled, Target, Item, ItemKind, target_item, tree_item}
+use Rattle.bql_parser.specs.declared.query.Query.{Query}
+use Rattle.bql_tree.specs.Tree.{Tree}
+use Rattle.query_shapes.specs.declared.shape.Shape.{Shape}
+use Rattle.query_shapes.specs.declared.shape.Shape.TheVariants.{Truth}
+use Rattle.bql_types.specs.Answer.{Answers}
+use Rattle.bql_types.specs.Cause.{least_of, is_before}
+use Rattle.bql_types.specs.Shaped.{shape_of, shape_causes}
+use Rattle.bql_types.specs.Standing.{Select, standing}
+use Rattle.bql_types.specs.Typing.{IsTyped, is_ordered}
+use Rattle.bql_types.specs.declared.cause.Cause.{Cause}
+use Rattle.bql_types.specs.declared.fault.TypeFault.{TypeFault}
+use Rattle.bql_types.specs.declared.fault.TypeFault.TheVariants.{OutOfMemory}
+use Rattle.bql_types.specs.declared.typed.Typed.{Typed}
+
+-- one of the causes, of which none stands before it
+pub record IsLeast (cs : List Cause) (c : Cause) : Type 0 where
+  pub among : IsAmong cs c
+  pub least : (d : Cause) → IsAmong cs d → is_before d c ≡ false
+
+abbrev pub LeastIsTold : Type 0
+LeastIsTold = (cs : List Cause) (c : Cause) → least_of cs ≡ Some c → IsLeast cs c
+
+abbrev pub NoneIsTold : Type 0
+NoneIsTold = (cs : List Cause) → least_of cs ≡ None → cs ≡ []
+
+-- an expression without causes has a shape
+abbrev pub ShapesAreFound : Type 0
+ShapesAreFound = (b : Bounds) (t : Tree ℕ) → shape_causes b t ≡ []
+    → (s : Shape) × (shape_of b t ≡ Some s)
+
+-- and one with a shape has no cause
+abbrev pub ShapesHaveNoCauses : Type 0
+ShapesHaveNoCauses = (b : Bounds) (t : Tree ℕ) (s : Shape) → shape_of b t ≡ Some s
+    → shape_causes b t ≡ []
+
+-- a query has a type, or it is refused, where memory doesn't lack
+abbrev pub TypedIsNotRefused : Type 0
+TypedIsNotRefused = (b : Bounds) (q : Query) (t : Typed) (f : TypeFault)
+    → Answers b q (Ok t) → Answers b q (Err f) → f ≡ OutOfMemory
+
+-- and it is refused in one way
+abbrev pub OneRefusal : Type 0
+OneRefusal = (b : Bounds) (q : Query) (f g : TypeFault) → Answers b q (Err f) → Answers b q (Err g)
+    → f ≢ OutOfMemory → g ≢ OutOfMemory → f ≡ g
+
+-- what stands behind a list of causes that is empty
+
+abbrev pub IsShaped : Bounds → Tree ℕ → Type 0
+IsShaped b t = (s : Shape) × (shape_of b t ≡ Some s)
+
+abbrev pub IsFilter : Bounds → Option (Tree ℕ) → Type 0
+IsFilter b (Some t) = shape_of b t ≡ Some Truth
+IsFilter b None = Unit {0}
+
+abbrev pub IsOrder : Bounds → List Target → ItemKind → Type 0
+IsOrder b ts (target_item index) =
+    (t : Target) × (s : Shape) × (slice_get ts index ≡ Some t) × (shape_of b t.tree ≡ Some s)
+    × (is_ordered s ≡ true)
+IsOrder b ts (tree_item t) = (s : Shape) × (shape_of b t ≡ Some s) × (is_ordered s ≡ true)
+
+-- what a typed query asks has shapes: targets any, filters truth, and order items an order
+pub record HasShapes (b : Bounds) (s : Select) : Type 0 where
+  pub targets : (t : Target) → IsAmong s.targets t → IsShaped b t.tree
+  pub from : IsFilter b s.filters.from
+  pub filter : IsFilter b s.filters.filter
+  pub order : (i : Item) → IsAmong s.order.items i → IsOrder b s.targets i.kind
+
+abbrev pub TypedHaveShapes : Type 0
+TypedHaveShapes = (b : Bounds) (q : Settled) → IsTyped b q → HasShapes b (standing q)

@@ -1,0 +1,10 @@
+pub mod Cause
+pub mod Same
+pub mod Shaped
+pub mod Sought
+pub mod Standing
+pub mod Typing
+pub mod Answer
+pub mod Seen
+pub mod Keys
+pub mod Laws

@@ -1,0 +1,326 @@
+//! Targets, filters and items of a query.
+ghost use Rattle.std.specs.Prelude.{◌≡◌, IfOk, map};
+ghost use Rattle.bql_parser.specs.Answer.{target_of, item_of, filter_of};
+ghost use Rattle.query_columns.specs.ColumnShape.{AreBounds};
+ghost use Rattle.bql_tree.specs.Tree.{tree_of};
+ghost use Rattle.bql_types.specs.Cause.{told};
+ghost use Rattle.bql_types.specs.Keys as view;
+ghost use Rattle.bql_types.specs.Seen as seen_rule;
+ghost use Rattle.bql_types.specs.Typing as rule;
+ghost use Rattle.std.specs.List.{slice_get};
+
+use crate::aggregates::misplaced;
+use crate::balances::balances;
+use crate::cause::{Cause, CauseKind, sooner, where_true};
+use crate::grouped::ungrouped;
+use crate::grouping::Grouping;
+use crate::shaped::{Seen, look};
+use bean_base::Bounds;
+use bql_parser::{Filters, Item, ItemKind, Target};
+use bql_tree::Expr;
+use query_shapes::Shape;
+use std::alloc::{AllocError, Global};
+
+/// The place of an expression's first byte.
+fn place_of(e: &Expr<'_>) -> usize
+    ensures { result ≡ rule.place_of (tree_of e.now) }
+{
+    match e {
+        Expr::Leaf(place, _) => *place,
+        Expr::One(place, _, _) => *place,
+        Expr::Two(place, _, _, _) => *place,
+        Expr::Call(place, _, _) => *place,
+    }
+}
+
+/// What is at fault in the groups of a target or an order item.
+#[tactic(auto, using(crate::proofs::CauseFacts::told_append))]
+fn grouped(grouping: &Grouping<'_, '_>, e: &Expr<'_>, found: Option<Cause>) -> Option<Cause>
+    ensures { result ≡ told found
+        (rule.grouped_causes (view.grouping_of grouping.now) (tree_of e.now)) }
+{
+    if grouping.is_aggregating {
+        balances(e, ungrouped(grouping.keys.as_slice(), e, found))
+    } else {
+        found
+    }
+}
+
+/// What is at fault in a target or an order item, and its shape.
+#[tactic(auto, using(crate::proofs::CauseFacts::told_append))]
+fn shown(
+    alloc: Global,
+    bounds: &Bounds,
+    grouping: &Grouping<'_, '_>,
+    e: &Expr<'_>,
+    found: Option<Cause>,
+) -> Result<Seen, AllocError>
+    requires { AreBounds bounds.now }
+    ensures { IfOk result (λ r. r
+        ≡ seen_rule.shown bounds.now (view.grouping_of grouping.now) found (tree_of e.now)) }
+{
+    let seen = look(alloc, bounds, e, found)?;
+    let found = misplaced(alloc, bounds, !grouping.is_aggregating, e, seen.found)?;
+    Ok(Seen {
+        shape: seen.shape,
+        found: grouped(grouping, e, found),
+    })
+}
+
+/// What is at fault in a filter or a group item, and its shape.
+#[tactic(auto, using(crate::proofs::CauseFacts::told_append))]
+fn of_row(
+    alloc: Global,
+    bounds: &Bounds,
+    e: &Expr<'_>,
+    found: Option<Cause>,
+) -> Result<Seen, AllocError>
+    requires { AreBounds bounds.now }
+    ensures { IfOk result (λ r. r ≡ seen_rule.of_row bounds.now found (tree_of e.now)) }
+{
+    let seen = look(alloc, bounds, e, found)?;
+    let found = misplaced(alloc, bounds, true, e, seen.found)?;
+    Ok(Seen {
+        shape: seen.shape,
+        found: balances(e, found),
+    })
+}
+
+fn isnt_truth(shape: Option<Shape>) -> bool
+    ensures { result ≡ rule.isnt_truth shape }
+{
+    match shape {
+        Some(Shape::Truth) => false,
+        Some(_) => true,
+        None => false,
+    }
+}
+
+/// What is at fault in a filter.
+#[tactic(auto, using(crate::proofs::CauseFacts::told_append))]
+pub(crate) fn filter(
+    alloc: Global,
+    bounds: &Bounds,
+    filter: &Option<Box<Expr<'_>>>,
+    found: Option<Cause>,
+) -> Result<Option<Cause>, AllocError>
+    requires { AreBounds bounds.now }
+    ensures { IfOk result (λ r. r
+        ≡ told found (rule.filter_causes bounds.now (filter_of filter.now))) }
+{
+    match filter {
+        Some(e) => {
+            let seen = of_row(alloc, bounds, e, found)?;
+            let cause = Cause::at(CauseKind::KindClash, place_of(e));
+            Ok(where_true(seen.found, isnt_truth(seen.shape), cause))
+        }
+        None => Ok(found),
+    }
+}
+
+/// What is at fault in FROM and WHERE.
+#[tactic(auto, using(crate::proofs::CauseFacts::told_append))]
+pub(crate) fn filters(
+    alloc: Global,
+    bounds: &Bounds,
+    filters: &Filters<'_>,
+    found: Option<Cause>,
+) -> Result<Option<Cause>, AllocError>
+    requires { AreBounds bounds.now }
+    ensures { IfOk result (λ r. r
+        ≡ told found (rule.filters_causes bounds.now (view.filters_of filters.now))) }
+{
+    let found = filter(alloc, bounds, &filters.from, found)?;
+    filter(alloc, bounds, &filters.filter, found)
+}
+
+/// What is at fault in the targets.
+pub(crate) fn targets(
+    alloc: Global,
+    bounds: &Bounds,
+    grouping: &Grouping<'_, '_>,
+    targets: &[Target<'_>],
+    found: Option<Cause>,
+) -> Result<Option<Cause>, AllocError>
+    requires { AreBounds bounds.now }
+    ensures { IfOk result (λ r. r ≡ told found
+        (rule.each (rule.target_causes bounds.now (view.grouping_of grouping.now))
+        (map target_of targets.now))) }
+{
+    let mut found = found;
+    for target in targets {
+        found = shown(alloc, bounds, grouping, &target.expr, found)?.found;
+    }
+    Ok(found)
+}
+
+/// What is at fault in a group item that names a target.
+fn named_group(
+    alloc: Global,
+    bounds: &Bounds,
+    targets: &[Target<'_>],
+    index: usize,
+    place: usize,
+    found: Option<Cause>,
+) -> Result<Option<Cause>, AllocError>
+    requires { AreBounds bounds.now }
+    ensures { IfOk result (λ r. r ≡ told found
+        (rule.named_group_causes bounds.now place (slice_get (map target_of targets.now) index))) }
+{
+    match targets.get(index) {
+        Some(target) => {
+            let inside = misplaced(alloc, bounds, true, &target.expr, None)?;
+            let cause = Cause::at(CauseKind::AggregateMisplaced, place);
+            Ok(where_true(found, inside.is_some(), cause))
+        }
+        None => Ok(sooner(found, Cause::at(CauseKind::KindClash, place))),
+    }
+}
+
+/// What is at fault in an item of GROUP BY.
+fn group_item(
+    alloc: Global,
+    bounds: &Bounds,
+    targets: &[Target<'_>],
+    item: &Item<'_>,
+    found: Option<Cause>,
+) -> Result<Option<Cause>, AllocError>
+    requires { AreBounds bounds.now }
+    ensures { IfOk result (λ r. r ≡ told found
+        (rule.group_item_causes bounds.now (map target_of targets.now) (item_of item.now))) }
+{
+    match &item.kind {
+        ItemKind::Target(index) => named_group(alloc, bounds, targets, *index, item.place, found),
+        ItemKind::Expr(e) => Ok(of_row(alloc, bounds, e, found)?.found),
+    }
+}
+
+/// What is at fault in the items of GROUP BY.
+fn group(
+    alloc: Global,
+    bounds: &Bounds,
+    targets: &[Target<'_>],
+    items: &[Item<'_>],
+    found: Option<Cause>,
+) -> Result<Option<Cause>, AllocError>
+    requires { AreBounds bounds.now }
+    ensures { IfOk result (λ r. r ≡ told found
+        (rule.each (rule.group_item_causes bounds.now (map target_of targets.now))
+        (map item_of items.now))) }
+{
+    let mut found = found;
+    for item in items {
+        found = group_item(alloc, bounds, targets, item, found)?;
+    }
+    Ok(found)
+}
+
+/// What is at fault in GROUP BY, if there is one.
+pub(crate) fn groups(
+    alloc: Global,
+    bounds: &Bounds,
+    targets: &[Target<'_>],
+    items: &Option<Vec<Item<'_>>>,
+    found: Option<Cause>,
+) -> Result<Option<Cause>, AllocError>
+    requires { AreBounds bounds.now }
+    ensures { IfOk result (λ r. r ≡ told found (rule.group_causes bounds.now
+        (map target_of targets.now) (view.group_of items.now))) }
+{
+    match items {
+        Some(items) => group(alloc, bounds, targets, items.as_slice(), found),
+        None => Ok(found),
+    }
+}
+
+fn isnt_ordered(shape: Option<Shape>) -> bool
+    ensures { result ≡ rule.isnt_ordered shape }
+{
+    match shape {
+        Some(Shape::Number { .. } | Shape::Text | Shape::Day) => false,
+        Some(_) => true,
+        None => false,
+    }
+}
+
+/// What is at fault in an order item that names a target.
+fn named_order(
+    alloc: Global,
+    bounds: &Bounds,
+    targets: &[Target<'_>],
+    index: usize,
+    place: usize,
+    found: Option<Cause>,
+) -> Result<Option<Cause>, AllocError>
+    requires { AreBounds bounds.now }
+    ensures { IfOk result (λ r. r ≡ told found
+        (rule.named_order_causes bounds.now place (slice_get (map target_of targets.now) index))) }
+{
+    match targets.get(index) {
+        Some(target) => {
+            let shape = look(alloc, bounds, &target.expr, None)?.shape;
+            let cause = Cause::at(CauseKind::NotOrderable, place);
+            Ok(where_true(found, isnt_ordered(shape), cause))
+        }
+        None => Ok(sooner(found, Cause::at(CauseKind::KindClash, place))),
+    }
+}
+
+/// What is at fault in an order item of its own.
+#[tactic(auto, using(crate::proofs::CauseFacts::told_append))]
+fn own_order(
+    alloc: Global,
+    bounds: &Bounds,
+    grouping: &Grouping<'_, '_>,
+    e: &Expr<'_>,
+    found: Option<Cause>,
+) -> Result<Option<Cause>, AllocError>
+    requires { AreBounds bounds.now }
+    ensures { IfOk result (λ r. r ≡ told found
+        (rule.own_order_causes bounds.now (view.grouping_of grouping.now) (tree_of e.now))) }
+{
+    let seen = shown(alloc, bounds, grouping, e, found)?;
+    let cause = Cause::at(CauseKind::NotOrderable, place_of(e));
+    Ok(where_true(seen.found, isnt_ordered(seen.shape), cause))
+}
+
+/// What is at fault in an item of ORDER BY.
+fn order_item(
+    alloc: Global,
+    bounds: &Bounds,
+    grouping: &Grouping<'_, '_>,
+    targets: &[Target<'_>],
+    item: &Item<'_>,
+    found: Option<Cause>,
+) -> Result<Option<Cause>, AllocError>
+    requires { AreBounds bounds.now }
+    ensures { IfOk result (λ r. r ≡ told found
+        (rule.order_item_causes bounds.now (view.grouping_of grouping.now)
+        (map target_of targets.now) (item_of item.now))) }
+{
+    match &item.kind {
+        ItemKind::Target(index) => named_order(alloc, bounds, targets, *index, item.place, found),
+        ItemKind::Expr(e) => own_order(alloc, bounds, grouping, e, found),
+    }
+}
+
+/// What is at fault in the items of ORDER BY.
+pub(crate) fn order(
+    alloc: Global,
+    bounds: &Bounds,
+    grouping: &Grouping<'_, '_>,
+    targets: &[Target<'_>],
+    items: &[Item<'_>],
+    found: Option<Cause>,
+) -> Result<Option<Cause>, AllocError>
+    requires { AreBounds bounds.now }
+    ensures { IfOk result (λ r. r ≡ told found
+        (rule.each (rule.order_item_causes bounds.now (view.grouping_of grouping.now)
+        (map target_of targets.now)) (map item_of items.now))) }
+{
+    let mut found = found;
+    for item in items {
+        found = order_item(alloc, bounds, grouping, targets, item, found)?;
+    }
+    Ok(found)
+}

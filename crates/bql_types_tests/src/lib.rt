@@ -1,0 +1,7 @@
+//! Types and plans of queries, by the libraries' public calls, with ample memory.
+#![tactic(auto)]
+
+#[cfg(test)]
+mod plans;
+#[cfg(test)]
+mod typing;
