@@ -1,7 +1,8 @@
 -- The order of faults.
 use denote.Enum.Bare.{same_false, same_true, sameb}
 use Rattle.bean_base.specs.contracts.fault.FaultKind.{the_type}
-use Rattle.std.proofs.Common.{rules, ◌≡◌, ℕ, eqb, arith, ◌&&◌, Bool, true, false, List, [], ◌∷◌, refl, ap, ◌∙◌, sym}
+use Rattle.std.proofs.Common.{rules, ◌≡◌, ℕ, eqb, arith, ◌&&◌, Bool, true, false, List, [], ◌∷◌}
+use Rattle.std.proofs.Common.{refl, ap, ◌∙◌, sym}
 use Rattle.std.specs.Prelude.{slice_get, unwrap_or}
 use Rattle.std.specs.Cmp.{IsTotalOrder, then_total, tied_then}
 use Rattle.std.specs.declared.cmp.Ordering.{Ordering}
@@ -144,7 +145,8 @@ both false true false = refl
 both false false l = refl
 
 pub ties : (x y : Fault)
-    → (sameb the_type x.kind y.kind && (eqb x.file y.file && eqb x.line y.line)) ≡ is_eq (fault_cmp x y)
+    → (sameb the_type x.kind y.kind && (eqb x.file y.file && eqb x.line y.line))
+    ≡ is_eq (fault_cmp x y)
 ties x y =
     let f = nat_cmp x.file y.file in
     let l = nat_cmp x.line y.line in

@@ -1,5 +1,6 @@
 -- The rows of pads, as the program makes them.
-use Rattle.std.proofs.Common.{◌≡◌, ℤ, zero, suc, negsuc, refl, neg_ℤ, ◌-ℤ◌, ◌*ℤ◌, pos, ◌<◌, ◌^◌, to_z, of_z, ap, ◌∙◌, arith}
+use Rattle.std.proofs.Common.{◌≡◌, ℤ, zero, suc, negsuc, refl, neg_ℤ, ◌-ℤ◌, ◌*ℤ◌, pos, ◌<◌, ◌^◌}
+use Rattle.std.proofs.Common.{to_z, of_z, ap, ◌∙◌, arith}
 use Rattle.std.proofs.Math.IntN.{+ℤ_idl}
 use Rattle.std.specs.Int.{w128}
 use Rattle.std.specs.Int.RustNames.{unsigned_abs}

@@ -1,6 +1,7 @@
 -- Rows of small ledgers lie in the shapes of their columns.
 use Rattle.std.proofs.Common.{◌≡◌, ℕ, ℤ, pos, ◌^◌, ◌<◌, ◌≤◌, ◌++◌, List, [], ◌∷◌}
-use Rattle.std.proofs.Common.{codes, ◌+◌, length, length-append, map, Option, Some, None, true, false}
+use Rattle.std.proofs.Common.{codes, ◌+◌, length, length-append, map, Option, Some, None, true}
+use Rattle.std.proofs.Common.{false}
 use Rattle.std.proofs.Common.{ap, ◌∙◌, arith, slice_get, IfSome}
 use Rattle.std.specs.Int.RustNames.{unsigned_abs}
 use Rattle.std.specs.List.{AllByRecursion, flat_map}

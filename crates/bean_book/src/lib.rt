@@ -24,8 +24,9 @@
 //!
 //! # Cost
 //!
-//! What [`bean_booker`] costs; then one pass. Rows hold slices of the ledger's texts, and no text is
-//! copied but those with an escape; what the postings of a transaction have in common stands once.
+//! What [`bean_booker`] costs; then one pass. Rows hold slices of the ledger's texts, and no text
+//! is copied but those with an escape; what the postings of a transaction have in common stands
+//! once.
 #![tactic(auto)]
 
 mod booked;

@@ -4,7 +4,8 @@ use Rattle.bean_sizes.specs.Booked.{IsSmallNoted}
 use Rattle.bean_book.specs.Booked.{MakesLedger}
 use Rattle.bean_book.specs.Entries.{bookings}
 use Rattle.bean_book.specs.Kept.{AreOf, IsTame}
-use Rattle.bean_book.proofs.BookFacts.{kept_are, kept_tame, pads_small, too_many_kept, too_many_rows}
+use Rattle.bean_book.proofs.BookFacts.{kept_are, kept_tame, pads_small, too_many_kept}
+use Rattle.bean_book.proofs.BookFacts.{too_many_rows}
 use Rattle.bean_book.proofs.booked.book.Goals as goal
 
 pub returns-in-Err : goal.returns-in-Err
@@ -33,7 +34,8 @@ returns-in-Err-ledger c =
     too_many_rows c.args.loaded c.in-Ok.booked c.in-Ok.ensures.booked fault
     (subst (λ ds. MakesLedger (bookings 0 ds c.in-Ok.booked.kept c.in-Ok.booked.pads) (Err fault))
     c.directives.ensures
-    (subst (λ ks. MakesLedger (bookings 0 c.directives.result.now ks c.in-Ok.booked.pads) (Err fault))
+    (subst (λ ks. MakesLedger (bookings 0 c.directives.result.now ks c.in-Ok.booked.pads)
+    (Err fault))
     c.as_slice.ensures
     (subst (λ ps. MakesLedger (bookings 0 c.directives.result.now c.as_slice.result.now ps)
     (Err fault)) c.as_slice-2.ensures c.in-Err-ledger.ensures)))

@@ -3,7 +3,8 @@ use Rattle.std.proofs.Common.{length-append}
 use Rattle.std.proofs.Common.{subst, sym, take, ◌∙◌}
 use Rattle.std.proofs.lemmas.Option.{slice_get-map}
 use Rattle.std.proofs.lemmas.List.{length-map, length-take-le, map-append, take_more}
-use Rattle.std.proofs.Common.{ℕ, ◌<◌, List, Option, Some, None, option_map, refl, slice_get, unwrap_or}
+use Rattle.std.proofs.Common.{ℕ, ◌<◌, List, Option, Some, None, option_map, refl, slice_get}
+use Rattle.std.proofs.Common.{unwrap_or}
 use Rattle.std.specs.List.{AllByRecursion}
 use Rattle.bean_grammar.specs.declared.posting.Posting.{Posting}
 use Rattle.bean_interp.specs.Residual.{IsLight}
