@@ -29,8 +29,8 @@
 //!
 //! # Cost
 //!
-//! Memory is taken by lists ([`List`], [`Few`]), by what lies apart or is shared ([`Apart`],
-//! [`Shared`]) and by what a text with an escape stands for ([`PlainText`]), and by nothing else.
+//! Memory is taken by lists ([`List`], [`Few`]) and by what lies apart ([`Apart`]), and by nothing
+//! else.
 //! Each call is linear in the text that it reads, and a sum, a product or a rounding takes a few
 //! steps.
 #![tactic(auto)]
@@ -47,10 +47,8 @@ pub mod flags;
 pub mod list;
 pub mod names;
 pub mod num;
-pub mod plain_text;
 pub mod power;
 pub mod roots;
-pub mod shared;
 pub mod slice;
 pub mod span;
 pub mod texts;
@@ -65,10 +63,8 @@ pub use flags::Flag;
 pub use list::List;
 pub use names::{Account, Currency, NameFault, parse_account, parse_currency};
 pub use num::{Num, NumFault};
-pub use plain_text::PlainText;
 pub use power::power_of_ten;
 pub use roots::Root;
-pub use shared::Shared;
 pub use slice::Slice;
 pub use span::Span;
 pub use texts::Text;

@@ -5,10 +5,10 @@ ghost use Rattle.std.specs.Str.{IsAscii};
 ghost use Rattle.number_texts.specs.Digits.{day_text};
 ghost use Rattle.bean_book.specs.Metadata as spec;
 
-use bean_base::{Amount, Day, Num, PlainText, Slice};
+use bean_base::{Amount, Day, Num, Slice};
 use bean_grammar::{Entry, Value};
 use number_texts::{push_day, push_number};
-use posting_table::{MetaItem, Metadata};
+use posting_table::{MetaItem, Metadata, PlainText};
 use std::alloc::{AllocError, Global};
 
 /// A text that was made byte by byte.

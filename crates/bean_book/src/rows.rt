@@ -15,13 +15,12 @@ ghost use Rattle.posting_table.specs.Parts.{HasShortTexts};
 
 use crate::entries::entry_of;
 use crate::metadata::metadata_of;
-use bean_base::Shared;
 use bean_booker::BookFault;
 use bean_grammar::Posting;
 use bean_heads::{Directive, DirectiveKind, Transaction};
 use bean_lots::{Key, Position};
 use bean_trial::{Posted, whole};
-use posting_table::{Entry, Ledger, MOST_POSTINGS, Metadata, Row, Weight};
+use posting_table::{Entry, Ledger, MOST_POSTINGS, Metadata, Row, Shared, Weight};
 use std::alloc::{AllocError, Global};
 
 /// Adds a row at the end.

@@ -1,3 +1,4 @@
+pub mod PlainText
 pub mod Metadata
 pub mod Row
 pub mod Cells

@@ -5,7 +5,8 @@ ghost use Rattle.posting_table.specs.Row.{flag_or_null, text_or_null};
 ghost use Rattle.query_values.specs.Operation.{whole};
 
 use crate::entry::Entry;
-use bean_base::{Flag, PlainText, Slice};
+use crate::plain_text::PlainText;
+use bean_base::{Flag, Slice};
 use bean_lots::Lot;
 use query_columns::Column;
 use query_values::{Lent, Value, part};

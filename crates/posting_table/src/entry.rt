@@ -3,7 +3,8 @@ ghost use Rattle.std.specs.Prelude.{◌≡◌};
 ghost use Rattle.posting_table.specs.Row.{entry_spelling};
 
 use crate::metadata::Metadata;
-use bean_base::{Day, Flag, PlainText};
+use crate::plain_text::PlainText;
+use bean_base::{Day, Flag};
 use query_values::TextSet;
 
 /// How a transaction is marked.

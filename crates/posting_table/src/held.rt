@@ -4,8 +4,9 @@ ghost use Rattle.posting_table.specs.Cells.{lot_cell};
 ghost use Rattle.posting_table.specs.Row as spec;
 
 use crate::cells::{flag_or_null, lot_cell, whole};
+use crate::plain_text::PlainText;
 use crate::row::Row;
-use bean_base::{Apart, PlainText, Slice};
+use bean_base::{Apart, Slice};
 use bean_lots::Lot;
 use query_columns::Column;
 use query_values::{Lent, Value};

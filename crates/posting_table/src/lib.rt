@@ -66,12 +66,16 @@ mod held;
 pub mod laws;
 mod ledger;
 mod metadata;
+mod plain_text;
 mod row;
+mod shared;
 
 pub use display::Display;
 pub use entry::{Entry, EntryFlag};
 pub use laws::{cells_lie_in_their_shapes, rows_of_small_parts_are_shaped};
 pub use ledger::{Ledger, MOST_POSTINGS};
 pub use metadata::{MetaItem, Metadata};
+pub use plain_text::PlainText;
 pub use query_columns::Column;
 pub use row::{Row, Weight};
+pub use shared::Shared;

@@ -3,7 +3,9 @@ ghost use Rattle.std.specs.Prelude.{◌≡◌, [], IfOk};
 ghost use Rattle.std.specs.Option.{option_copied};
 ghost use Rattle.posting_table.specs.Metadata.{text_under};
 
-use bean_base::{List, PlainText, Shared, Slice};
+use crate::plain_text::PlainText;
+use crate::shared::Shared;
+use bean_base::{List, Slice};
 use std::alloc::{AllocError, Global};
 use std::marker::Model;
 

@@ -2,7 +2,8 @@
 
 use crate::entry::Entry;
 use crate::metadata::Metadata;
-use bean_base::{Account, Currency, Flag, Shared};
+use crate::shared::Shared;
+use bean_base::{Account, Currency, Flag};
 use bean_lots::Position;
 
 /// What a posting weighs in its transaction, as a count of `10^-16`.

@@ -4,11 +4,11 @@ ghost use Rattle.std.specs.Int.RustNames.{unsigned_abs};
 ghost use Rattle.posting_table.specs.Parts.{HasShortTexts, HasSmallParts, IsShortSet};
 ghost use Rattle.posting_table.specs.Shaped.{AreShort};
 
-use bean_base::{
-    Bounds, Flag, Num, PlainText, Shared, Slice, Text, parse_account, parse_currency, parse_day,
-};
+use bean_base::{Bounds, Flag, Num, Slice, Text, parse_account, parse_currency, parse_day};
 use bean_lots::{Cost, Key, Lot, Position};
-use posting_table::{Column, Entry, EntryFlag, Ledger, MetaItem, Metadata, Row, Weight};
+use posting_table::{
+    Column, Entry, EntryFlag, Ledger, MetaItem, Metadata, PlainText, Row, Shared, Weight,
+};
 use query_values::{TextSet, Value};
 use std::alloc::Global;
 use std::test::Fail;

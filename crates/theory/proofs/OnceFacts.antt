@@ -1,6 +1,6 @@
 -- What is in order, each item once, is told by what is among it.
 use Rattle.std.proofs.Common.{◌≡◌, Bool, true, false, cond, ◌||◌, List, [], ◌∷◌, refl, sym, ap, ◌∙◌}
-use Rattle.std.proofs.Common.{ℕ, suc, ◌≤◌, arith, length, subst, true≢false}
+use Rattle.std.proofs.Common.{suc, ◌≤◌, arith, length, subst, true≢false}
 use Rattle.std.specs.Cmp.{IsTotalOrder}
 use Rattle.std.specs.List.{list_any, AllByRecursion, dedup, dedup_from}
 use Rattle.std.specs.List.Sorted.{IsPermutation, IsSorted, IsStrictlySortedBy}

@@ -2,8 +2,7 @@
 ghost use Rattle.std.specs.Prelude.{◌≡◌, IfOk};
 ghost use Rattle.std.specs.String.{string_bytes};
 
-use crate::slice::Slice;
-use crate::texts::Text;
+use bean_base::{Slice, Text};
 use std::alloc::{AllocError, Global};
 use std::marker::Model;
 
@@ -23,7 +22,7 @@ pub struct PlainText<'a> {
 
 impl<'a> Model for PlainText<'a> {
     ghost use Rattle.std.specs.Prelude.{List, ℕ};
-    ghost use Rattle.bean_base.specs.PlainText.{bytes_of};
+    ghost use Rattle.posting_table.specs.PlainText.{bytes_of};
 
     ghost Value = { List ℕ };
 
