@@ -20,7 +20,7 @@ use Rattle.bean_grammar.specs.Lexeme.{Lexeme, Number, Sign, plus_or_minus, begin
 use Rattle.bean_grammar.specs.Lexeme.{begins_with_plus_or_minus, begins_with_number}
 use Rattle.bean_grammar.specs.Exact.{exact}
 use Rattle.bean_grammar.specs.Expression.{Arithmetic, in_ledger, literal, signed_of, group_of}
-use Rattle.bean_grammar.specs.Expression.{factor, product, sum, IsValued, expression}
+use Rattle.bean_grammar.specs.Expression.{factor, product, sum, computed, IsValued, expression}
 use Rattle.bean_grammar.specs.Expression.{begins_with_expression}
 use Rattle.bean_grammar.proofs.LexemeFacts.{exact_number, exact_plus_or_minus}
 use Rattle.bean_grammar.proofs.ExactFacts.{one_valued}
@@ -426,10 +426,13 @@ pub expression_or_none :
 expression_or_none ls (Some r) rest_of ends reads = reads_expression ls r.0 (rest_of r.1) ends reads
 expression_or_none ls None rest_of ends none = none_expression ls none
 
+pub one_computed : {V : Type 0} (w : Arithmetic V) → IsUnambiguous (computed w)
+one_computed w = one_ending (sum w 200) (one_sum_of w 200 (one_factor w 200))
+
 pub one_expression : IsUnambiguous expression
 one_expression =
-    one_related IsValued (ending (sum in_ledger 200)) (λ v m n p q. one_valued v m n p q)
-    (one_ending (sum in_ledger 200) (one_sum_of in_ledger 200 (one_factor in_ledger 200)))
+    one_related IsValued (computed in_ledger) (λ v m n p q. one_valued v m n p q)
+    (one_computed in_ledger)
 
 pub reads_number_due : (ls : List Lexeme) (n : Ranged Num) (rest : List Lexeme)
     → Reads expression ls n rest → Reads (due begins_with_expression expression) ls (Some n) rest
