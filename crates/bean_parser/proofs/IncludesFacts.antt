@@ -29,7 +29,7 @@ use Rattle.bean_heads.specs.declared.undated.SettingKind.TheVariants as setting
 use Rattle.bean_heads.specs.declared.undated.Undated as undated_blocks
 use Rattle.bean_heads.specs.declared.undated.UndatedKind.{UndatedKind}
 use Rattle.bean_heads.specs.declared.undated.UndatedKind.TheVariants as undated
-use Rattle.bean_parser.specs.Block.{begins_line, blocks, fault_line, line_of, lines}
+use Rattle.bean_parser.specs.Block.{begins_line, blocks, fault_line, line_of}
 use Rattle.bean_parser.specs.BlockReader.{ToRead, TakesBlock}
 use Rattle.bean_parser.specs.Grammar.{Dated, Undated, HasTree, HaveTree, Tree, in_body, said}
 use Rattle.bean_parser.specs.Includes.{AddsInclude, AreIncludeLines, AreIncludesOf, IsIncludeOf}

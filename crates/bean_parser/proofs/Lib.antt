@@ -3,7 +3,7 @@ pub mod LineFacts
 pub mod LinesFacts
 pub mod BlockFacts
 pub mod ScopeFacts
-pub mod OpenFacts
+pub mod MatchFacts
 pub mod GatheredFacts
 pub mod ParsedFacts
 pub mod OneTree

@@ -5,6 +5,7 @@ pub mod Grammar
 pub mod Outcome
 pub mod Reading
 pub mod Scope
+pub mod Matches
 pub mod Parsed
 pub mod Gathered
 pub mod OneReading

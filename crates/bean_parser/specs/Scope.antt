@@ -50,6 +50,15 @@ pop_of name later [] = None
 pop_of name later (b ∷ bs) =
     or_on (later_behind name later b.bound) (Some b.place) (λ n. pop_of name n bs)
 
+-- of each bound that is a push, the place of the pop that takes it back, if one does
+abbrev pub pop_for : Bound → List PlacedBound → Option ℕ
+pop_for (Push p) behind = pop_of (name_of p) 0 behind
+pop_for (Pop n) behind = None
+
+abbrev pub pops_of : List PlacedBound → List (Option ℕ)
+pops_of [] = []
+pops_of (b ∷ bs) = pop_for b.bound bs ∷ pops_of bs
+
 abbrev pub is_popped : Pushed → List PlacedBound → Bool
 is_popped p behind = is_some (pop_of (name_of p) 0 behind)
 
@@ -62,12 +71,6 @@ open_behind name count (Pop n) = if same_name n name then count - 1 else count
 abbrev pub open_pushes : PushName → ℕ → List PlacedBound → ℕ
 open_pushes name count [] = count
 open_pushes name count (b ∷ bs) = open_pushes name (open_behind name count b.bound) bs
-
--- how many pops of the name still take back a push before a bound, or None where it is the push
--- that stays open
-abbrev pub pops_before : PushName → ℕ → Bound → Option ℕ
-pops_before name pops (Push p) = if same_name (name_of p) name then one_less pops else Some pops
-pops_before name pops (Pop n) = Some (if same_name n name then suc pops else pops)
 
 -- a push has a pop behind it, and a pop an open push before it
 abbrev pub is_matched : List PlacedBound → Bound → List PlacedBound → Bool

@@ -35,15 +35,14 @@
 //!
 //! # Cost
 //!
-//! Linear in the text, but for pushes and pops: each looks at those between it and the one that it
-//! goes with, or at all behind or before it where it goes with none; and a push looks at each
-//! directive up to its pop. It takes the memory of what it answers, and of the tokens of the
-//! longest block.
+//! Linear in the text, but that a push looks at each directive up to its pop. It takes the memory
+//! of what it answers, of the tokens of the longest block, and of the names of pushes and pops.
 #![tactic(auto)]
 
 pub mod block;
 pub mod grammar;
 pub mod includes;
+mod matches;
 pub mod parse;
 mod part;
 mod reader;

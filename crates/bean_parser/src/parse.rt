@@ -6,6 +6,7 @@ ghost use Rattle.bean_parser.specs.declared.block.Outcome.{Outcome};
 ghost use Rattle.bean_parser.specs.declared.block.Outcome.TheVariants as outcome;
 
 use crate::block::{Outcome, fault_at, read_block};
+use crate::matches::pops_of;
 use crate::reader::BlockReader;
 use crate::scope::{PlacedBound, add_unmatched, give_all};
 use crate::statement::Statement;
@@ -96,13 +97,15 @@ impl<'a> Gathered<'a> {
     }
 
     /// What blocks come to that gave this.
-    fn parsed(self) -> Result<Parsed<'a>, AllocError>
+    fn parsed(self, alloc: Global) -> Result<Parsed<'a>, AllocError>
         ensures { IfOk result (λ p. (os : List Outcome) → IsGathered os self.entry → ComeTo os p) }
     {
         let mut directives = self.directives;
         let mut faults = self.faults;
-        give_all(&self.bounds, &mut directives)?;
-        add_unmatched(&self.bounds, &mut faults)?;
+        let bounds = self.bounds.as_slice();
+        let pops = pops_of(alloc, bounds)?;
+        give_all(bounds, &pops, &mut directives)?;
+        add_unmatched(alloc, bounds, &pops, &mut faults)?;
         sort_by_line(&mut faults)?;
         Ok(Parsed {
             directives: List::new(directives),
@@ -122,5 +125,5 @@ pub fn parse(alloc: Global, text: &str) -> Result<Parsed<'_>, AllocError>
     while reader.next_block(&mut block)? {
         gathered.add(read_block(alloc, &block)?)?;
     }
-    gathered.parsed()
+    gathered.parsed(alloc)
 }

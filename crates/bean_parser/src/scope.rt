@@ -1,14 +1,19 @@
 //! Pushes and pops: what is given to the transactions between them.
-ghost use Rattle.std.specs.Prelude.{◌≡◌, ◌<◌, ◌-◌, ◌^◌, ◌++◌, [], nat_lt, OnOk};
+ghost use Rattle.std.specs.Prelude.{◌≡◌, ◌++◌, [], OnOk};
+ghost use Rattle.std.specs.Prelude as prelude;
+ghost use Rattle.bean_heads.specs.declared.undated.PushName as names;
+ghost use Rattle.bean_parser.specs.Matches.{count_in};
 ghost use Rattle.bean_parser.specs.Scope as spec;
+ghost use Rattle.bean_parser.specs.declared.scope.PlacedBound as placed;
 
 use crate::block::fault_at;
+use crate::matches::Opens;
 use bean_base::{Fault, FaultKind, List};
 use bean_grammar::{Entry, Mark};
 use bean_heads::directive::{Directive, DirectiveKind};
-use bean_heads::undated::{Bound, PushName, Pushed};
+use bean_heads::undated::{Bound, Pushed};
 use bean_lexer::Tag;
-use std::alloc::AllocError;
+use std::alloc::{AllocError, Global};
 
 /// Where a scope begins or ends, with its place.
 #[derive(Debug, Drop)]
@@ -20,107 +25,47 @@ pub struct PlacedBound<'a> {
     pub bound: Bound<'a>,
 }
 
-fn same_name(a: &PushName<'_>, b: &PushName<'_>) -> bool
-    ensures { result ≡ spec.same_name a.now b.now }
-{
-    match (a, b) {
-        (PushName::Tag(a), PushName::Tag(b)) => a == b,
-        (PushName::Key(a), PushName::Key(b)) => a == b,
-        (_, _) => false,
-    }
-}
-
-fn name_of<'a>(pushed: &Pushed<'a>) -> PushName<'a>
-    ensures { result ≡ spec.name_of pushed.now }
-{
-    match pushed {
-        Pushed::Tag(tag) => PushName::Tag(tag.lend()),
-        Pushed::Entry(entry) => PushName::Key(entry.key.lend()),
-    }
-}
-
-fn one_less(n: usize) -> Option<usize>
-    ensures { result ≡ spec.one_less n }
-{
-    if n == 0 { None } else { Some(n - 1) }
-}
-
-/// How many later pushes of the name are still to be taken back behind a bound, or none where it is
-/// the pop of the first.
-fn later_behind(name: &PushName<'_>, later: usize, bound: &Bound<'_>) -> Option<usize>
-    requires { later < 2 ^ 64 - 1 }
-    ensures { result ≡ spec.later_behind name.now later bound.now }
-{
-    match bound {
-        Bound::Push(pushed) if same_name(&name_of(pushed), name) => Some(later + 1),
-        Bound::Pop(popped) if same_name(popped, name) => one_less(later),
-        _ => Some(later),
-    }
-}
-
-/// The place of the pop that takes back a push of that name, of the bounds behind it.
-fn pop_of(name: &PushName<'_>, behind: &[PlacedBound<'_>]) -> Option<usize>
-    ensures { result ≡ spec.pop_of name.now 0 behind.now }
-{
-    let mut later = 0;
-    for bound in behind {
-        match later_behind(name, later, &bound.bound) {
-            Some(behind) => later = behind,
-            None => return Some(bound.place),
-        }
-    }
-    None
-}
-
-/// How many pops of the name still take back a push before a bound, or none where it is the push
-/// that the first of them leaves open.
-fn pops_before(name: &PushName<'_>, pops: usize, bound: &Bound<'_>) -> Option<usize>
-    requires { pops < 2 ^ 64 - 1 }
-    ensures { result ≡ spec.pops_before name.now pops bound.now }
-{
-    match bound {
-        Bound::Push(pushed) if same_name(&name_of(pushed), name) => one_less(pops),
-        Bound::Pop(popped) if same_name(popped, name) => Some(pops + 1),
-        _ => Some(pops),
-    }
-}
-
-/// Whether a push of the name is open behind these bounds.
-fn is_open(name: &PushName<'_>, bounds: &[PlacedBound<'_>]) -> bool
-    ensures { result ≡ nat_lt 0 (spec.open_pushes name.now 0 bounds.now) }
-{
-    let mut pops = 0;
-    let mut i = bounds.len();
-    while i > 0 {
-        i -= 1;
-        match pops_before(name, pops, &bounds[i].bound) {
-            Some(before) => pops = before,
-            None => return true,
-        }
-    }
-    false
-}
-
 /// Whether a push has its pop behind it, or a pop an open push before it.
-fn is_matched(before: &[PlacedBound<'_>], bound: &Bound<'_>, behind: &[PlacedBound<'_>]) -> bool
-    ensures { result ≡ spec.is_matched before.now bound.now behind.now }
+fn is_matched<'a>(bound: &Bound<'a>, pop: Option<usize>, opens: &Opens<'a>) -> bool
+    ensures { (before behind : prelude.List placed.PlacedBound)
+        → pop ≡ spec.pop_for bound.now behind
+        → ((n : names.PushName) → count_in opens.now n ≡ spec.open_pushes n 0 before)
+        → result ≡ spec.is_matched before bound.now behind }
 {
     match bound {
-        Bound::Push(pushed) => pop_of(&name_of(pushed), behind).is_some(),
-        Bound::Pop(name) => is_open(name, before),
+        Bound::Push(_) => pop.is_some(),
+        Bound::Pop(name) => opens.count(name) > 0,
     }
+}
+
+/// Adds F4 at a line where what is written there isn't matched.
+fn note_unless(is_matched: bool, line: usize, faults: &mut Vec<Fault>) -> Result<(), AllocError>
+    ensures { OnOk result (faults.new.items
+        ≡ faults.old.items ++ spec.fault_unless is_matched line) }
+{
+    if !is_matched {
+        faults.push(fault_at(FaultKind::UnmatchedPushOrPop, line))?;
+    }
+    Ok(())
 }
 
 /// Adds F4 at each bound that isn't matched.
-pub fn add_unmatched(bounds: &[PlacedBound<'_>], faults: &mut Vec<Fault>) -> Result<(), AllocError>
+pub(crate) fn add_unmatched<'a>(
+    alloc: Global,
+    bounds: &[PlacedBound<'a>],
+    pops: &[Option<usize>],
+    faults: &mut Vec<Fault>,
+) -> Result<(), AllocError>
+    requires { pops.now ≡ spec.pops_of bounds.now }
     ensures { OnOk result (faults.new.items ≡ faults.old.items ++ spec.unmatched [] bounds.now) }
 {
+    let mut opens = Opens::new(alloc);
     let mut i = 0;
     while i < bounds.len() {
         let bound = &bounds[i];
-        if !is_matched(&bounds[..i], &bound.bound, &bounds[i + 1..]) {
-            faults.push(fault_at(FaultKind::UnmatchedPushOrPop, bound.line))?;
-        }
+        let matched = is_matched(&bound.bound, pops[i], &opens);
+        note_unless(matched, bound.line, faults)?;
+        opens.take(&bound.bound)?;
         i += 1;
     }
     Ok(())
@@ -178,23 +123,36 @@ fn give_between<'a>(
     Ok(())
 }
 
-/// Gives what each push gives, the later ones first.
-pub fn give_all<'a>(
-    bounds: &[PlacedBound<'a>],
+/// Gives what a push gives up to its pop.
+fn give_up_to<'a>(
+    bound: &PlacedBound<'a>,
+    pop: Option<usize>,
     directives: &mut Vec<Directive<'a>>,
 ) -> Result<(), AllocError>
+    ensures { OnOk result ((behind : prelude.List placed.PlacedBound)
+        → pop ≡ spec.pop_for bound.now.bound behind → directives.new.items
+        ≡ spec.given_by bound.now bound.now.bound behind directives.old.items) }
+{
+    match (&bound.bound, pop) {
+        (Bound::Push(pushed), Some(to)) => give_between(pushed, bound.place, to, directives),
+        (_, _) => Ok(()),
+    }
+}
+
+/// Gives what each push gives, the later ones first.
+pub(crate) fn give_all<'a>(
+    bounds: &[PlacedBound<'a>],
+    pops: &[Option<usize>],
+    directives: &mut Vec<Directive<'a>>,
+) -> Result<(), AllocError>
+    requires { pops.now ≡ spec.pops_of bounds.now }
     ensures { OnOk result (directives.new.items
         ≡ spec.with_pushes bounds.now directives.old.items) }
 {
     let mut i = bounds.len();
     while i > 0 {
         i -= 1;
-        let bound = &bounds[i];
-        if let Bound::Push(pushed) = &bound.bound {
-            if let Some(to) = pop_of(&name_of(pushed), &bounds[i + 1..]) {
-                give_between(pushed, bound.place, to, directives)?;
-            }
-        }
+        give_up_to(&bounds[i], pops[i], directives)?;
     }
     Ok(())
 }
