@@ -15,7 +15,7 @@ use Rattle.bean_sizes.proofs.BookedFacts.{IsSmallKept}
 use Rattle.bean_sizes.proofs.BookingFacts.{HasUpTo, booking_few, booking_small}
 use Rattle.bean_sizes.proofs.ListFacts.{all_joint}
 use Rattle.bean_sizes.specs.Booked.{IsSmallNoted}
-use Rattle.bean_sizes.specs.Small.{IsSmall}
+use Rattle.bean_load.specs.Small.{IsSmall}
 use Rattle.bean_book.specs.Booked.{AreTooMany, Books, MakesLedger, bookings_of}
 use Rattle.bean_book.specs.Entries.{bookings}
 use Rattle.bean_book.specs.Kept.{AreOf, IsTame}

@@ -31,9 +31,9 @@ use Rattle.bean_pad.specs.declared.step.Pad.{Pad}
 use Rattle.bean_sizes.proofs.ListFacts.{all_at, all_flat, all_mapped}
 use Rattle.bean_sizes.proofs.PlaceFacts.{transaction_small}
 use Rattle.bean_sizes.specs.Booked.{IsSmallLot, IsSmallPad, IsSmallPosted}
-use Rattle.bean_sizes.specs.Part.{IsShort, IsShortCurrency, IsShortEntry, IsShortMark}
-use Rattle.bean_sizes.specs.Part.{IsShortPrice, IsShortValue, IsSmallPosting, most}
-use Rattle.bean_sizes.specs.Small.{IsSmallDirective}
+use Rattle.text_sizes.specs.Part.{IsShort, IsShortCurrency, IsShortEntry, IsShortMark}
+use Rattle.text_sizes.specs.Part.{IsShortPrice, IsShortValue, IsSmallPosting, most}
+use Rattle.text_sizes.specs.Small.{IsSmallDirective}
 use Rattle.bean_trial.specs.Tried.{booked_leg, whole_at, worth_of}
 use Rattle.bean_trial.specs.declared.line.Posted.{Posted}
 use Rattle.number_texts.proofs.LengthFacts.{length-day, short_number}

@@ -1,6 +1,4 @@
 //! A loaded ledger as it is booked.
-ghost use Rattle.std.specs.List.{AllByRecursion};
-ghost use Rattle.bean_sizes.specs.Small.{IsSmall};
 ghost use Rattle.bean_book.specs.Booked.{Books};
 
 use crate::faults::report;
@@ -20,10 +18,8 @@ pub struct Booked<'a> {
     pub faults: List<Fault>,
 }
 
-/// A loaded ledger as it is booked. What [`bean_load::load`] gives of gathered texts is small
-/// ([`bean_sizes`]).
+/// A loaded ledger as it is booked.
 pub fn book<'a>(alloc: Global, loaded: Loaded<'a>) -> Result<Booked<'a>, BookFault>
-    requires { AllByRecursion IsSmall loaded.directives }
     ensures { Books loaded.entry result }
 {
     let booked = match book_directives(alloc, &loaded) {

@@ -2,7 +2,7 @@
 ghost use Rattle.std.specs.Prelude.{◌≡◌, ◌≤◌, ◌<◌, ◌+◌, Err, IfOk, length};
 ghost use Rattle.std.specs.List.{AllByRecursion};
 ghost use Rattle.bean_sizes.specs.Booked.{IsSmallNoted};
-ghost use Rattle.bean_sizes.specs.Small.{IsSmall};
+ghost use Rattle.bean_load.specs.Small.{IsSmall};
 ghost use Rattle.bean_book.specs.Booked.{Adds, MakesLedger, rows_of_all};
 ghost use Rattle.bean_book.specs.Entries as spec;
 ghost use Rattle.bean_book.specs.Kept.{AreOf, IsNextOf, IsTame};

@@ -6,4 +6,6 @@ pub mod AskingFacts
 pub mod FolderFacts
 pub mod TopFacts
 pub mod OneGathering
+pub mod LimitedFacts
+pub mod SmallFacts
 pub mod Examples

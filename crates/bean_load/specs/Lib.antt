@@ -8,5 +8,6 @@ pub mod Following
 pub mod Placed
 pub mod Rank
 pub mod Order
+pub mod Small
 pub mod Loaded
 pub mod Loading

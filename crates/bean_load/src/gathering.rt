@@ -3,6 +3,7 @@ ghost use Rattle.std.specs.Prelude.{◌≡◌, ◌++◌, [], ◌∷◌, length, 
 ghost use Rattle.std.specs.String.{string_bytes};
 ghost use Rattle.bean_load.specs.Asking.{AddsBytes, Asks, IsTextOf};
 ghost use Rattle.bean_load.specs.Gathered as spec;
+ghost use Rattle.bean_load.specs.Small.{AreLimited};
 
 use crate::fault::LoadFault;
 use crate::texts::{File, Part, Texts};
@@ -10,9 +11,7 @@ use bean_base::{Fault, FaultKind};
 use std::alloc::{AllocError, Global};
 use std::marker::Model;
 use stores::source::{Source, SourceFault};
-
-/// The most bytes of a text: 16 MiB.
-pub const LARGEST_TEXT: usize = 16_777_216;
+use text_sizes::LARGEST_TEXT;
 
 /// The most bytes of all texts: 64 MiB.
 pub const LARGEST_LEDGER: usize = 67_108_864;
@@ -194,6 +193,7 @@ impl Gathering {
 
     /// The texts that were gathered.
     pub fn texts(self) -> Texts
+        requires { AreLimited self.files }
         ensures { result ≡ spec.texts_of self }
     {
         Texts {

@@ -50,8 +50,9 @@ mod texts;
 
 pub use fault::LoadFault;
 pub use following::{gather, one_gathering};
-pub use gathering::{DEEPEST, LARGEST_LEDGER, LARGEST_TEXT, MOST_NAMES};
+pub use gathering::{DEEPEST, LARGEST_LEDGER, MOST_NAMES};
 pub use loaded::{Loaded, MethodLine, load, one_loading};
 pub use placed::Placed;
 pub use stores::source::Source;
+pub use text_sizes::LARGEST_TEXT;
 pub use texts::{File, Part, Texts};

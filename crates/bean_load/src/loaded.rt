@@ -5,6 +5,7 @@ ghost use Rattle.bean_load.specs.Loaded as spec;
 ghost use Rattle.bean_load.specs.Loaded.{IsLoaded};
 ghost use Rattle.bean_load.specs.Loading.{AddsParsed, AddsSetting, AreBooks, AreRead};
 ghost use Rattle.bean_load.specs.Loading.{HasOneLoading};
+ghost use Rattle.bean_load.specs.Small.{AreSmall};
 
 use crate::order::{order_directives, order_settings};
 use crate::placed::{Own, Placed, add_directives, add_settings, parts_of};
@@ -26,7 +27,8 @@ pub struct MethodLine<'a> {
     pub method: Text<'a>,
 }
 
-/// What the texts of a ledger say together, as [`load`] gives it.
+/// What the texts of a ledger say together, as [`load`] gives it. What a directive holds is no
+/// larger than a text may be ([`text_sizes`]).
 #[derive(Drop)]
 pub struct Loaded<'a> {
     directives: Vec<Placed<Directive<'a>>>,
@@ -38,6 +40,7 @@ pub struct Loaded<'a> {
 
 impl<'a> Model for Loaded<'a> {
     ghost use Rattle.bean_load.specs.Loaded as spec;
+    ghost use Rattle.bean_load.specs.Small.{AreSmall};
 
     ghost Value = { spec.Loaded };
 
@@ -48,12 +51,15 @@ impl<'a> Model for Loaded<'a> {
       operating = l.operating.items;
       methods = l.methods.items;
     } };
+
+    ghost invariant = { λ l. AreSmall l.directives.items };
 }
 
 impl<'a> Loaded<'a> {
     /// The directives in the order in which they are taken.
     pub fn directives(&self) -> &[Placed<Directive<'a>>]
-        ensures { result.now ≡ self.now.directives }
+        ensures directives { result.now ≡ self.now.directives }
+        ensures small { AreSmall self.now.directives }
     {
         &self.directives
     }
@@ -169,7 +175,8 @@ fn books_of<'a>(alloc: Global, settings: &[Placed<Setting<'a>>]) -> Result<Books
 
 /// What each of the texts says, with its places.
 fn read_all(alloc: Global, texts: &Texts) -> Result<Read<'_>, AllocError>
-    ensures { IfOk result (AreRead texts.now) }
+    ensures read { IfOk result (AreRead texts.now) }
+    ensures small { IfOk result (λ read. AreSmall read.directives.items) }
 {
     let mut read = Read {
         directives: Vec::new(alloc),

@@ -1,5 +1,6 @@
 //! The texts of a ledger.
 ghost use Rattle.std.specs.Prelude.{◌≡◌};
+ghost use Rattle.bean_load.specs.Small.{AreLimited};
 
 use bean_base::Fault;
 use std::marker::Model;
@@ -31,7 +32,7 @@ pub struct Part {
     pub behind: usize,
 }
 
-/// The texts of a ledger, as [`crate::gather`] reads them.
+/// The texts of a ledger, as [`crate::gather`] reads them. None is larger than a text may be.
 #[derive(Drop)]
 pub struct Texts {
     pub(crate) files: Vec<File>,
@@ -40,6 +41,7 @@ pub struct Texts {
 }
 
 impl Model for Texts {
+    ghost use Rattle.bean_load.specs.Small.{AreLimited};
     ghost use Rattle.bean_load.specs.Texts as spec;
 
     ghost Value = { spec.Texts };
@@ -49,12 +51,15 @@ impl Model for Texts {
       parts = t.parts.items;
       faults = t.faults.items;
     } };
+
+    ghost invariant = { λ t. AreLimited t.files.items };
 }
 
 impl Texts {
     /// The texts in reading order.
     pub fn files(&self) -> &[File]
-        ensures { result.now ≡ self.now.files }
+        ensures files { result.now ≡ self.now.files }
+        ensures limited { AreLimited self.now.files }
     {
         &self.files
     }

@@ -23,11 +23,12 @@ use Rattle.bean_trial.specs.Tried.{Tries}
 use Rattle.bean_trial.specs.declared.line.Posted.{Posted}
 use Rattle.bean_trial.specs.declared.stop.LineFault.{LineFault}
 use Rattle.bean_sizes.specs.Booked.{IsSmallNote, IsSmallNoted, IsSmallPad, IsSmallPosted}
-use Rattle.bean_sizes.specs.Part.{IsShortCurrency, IsSmallPosting}
-use Rattle.bean_sizes.specs.Small.{IsSmall, IsSmallKind}
+use Rattle.text_sizes.specs.Part.{IsShortCurrency, IsSmallPosting}
+use Rattle.text_sizes.specs.Small.{IsSmallKind}
+use Rattle.bean_load.specs.Small.{IsSmall}
 use Rattle.bean_sizes.proofs.CompletedFacts.{kept_small}
 use Rattle.bean_sizes.proofs.ListFacts.{all_flat, all_reversed}
-use Rattle.bean_sizes.proofs.ShortFacts.{all_joined, all_pushed}
+use Rattle.text_sizes.proofs.ShortFacts.{all_joined, all_pushed}
 
 -- ---- pads
 

@@ -8,7 +8,7 @@ use Rattle.bean_booker.specs.declared.booked.Booked.{Booked}
 use Rattle.bean_booker.specs.declared.kept.Kept.{Kept}
 use Rattle.bean_load.specs.Loaded.{Loaded}
 use Rattle.bean_sizes.specs.Booked.{IsSmallNoted}
-use Rattle.bean_sizes.specs.Small.{IsSmall}
+use Rattle.bean_load.specs.Small.{IsSmall}
 use Rattle.bean_sizes.proofs.BookedFacts.{IsSmallKept, ledger_small}
 
 -- where no more than n are booked, none of the transactions has more postings

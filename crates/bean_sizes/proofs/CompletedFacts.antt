@@ -23,11 +23,11 @@ use Rattle.bean_trial.specs.declared.line.Line.{Line}
 use Rattle.bean_trial.specs.declared.line.Line.TheVariants as line
 use Rattle.bean_trial.specs.declared.line.Posted.{Posted}
 use Rattle.bean_sizes.specs.Booked.{IsSmallLot, IsSmallPosted}
-use Rattle.bean_sizes.specs.Part.{IsShort, IsShortCurrency, IsShortPrice, IsSmallPosting}
+use Rattle.text_sizes.specs.Part.{IsShort, IsShortCurrency, IsShortPrice, IsSmallPosting}
 use Rattle.bean_sizes.proofs.LinedFacts.{AreSmallLines, IsSmallLine, lines_small}
 use Rattle.bean_sizes.proofs.ListFacts.{all_at, all_filtered, all_flat, all_folded, all_mapped}
 use Rattle.bean_sizes.proofs.ListFacts.{all_reversed, all_unmapped}
-use Rattle.bean_sizes.proofs.ShortFacts.{all_joined, all_pushed}
+use Rattle.text_sizes.proofs.ShortFacts.{all_joined, all_pushed}
 
 -- ---- legs
 

@@ -24,9 +24,9 @@ use Rattle.bean_trial.specs.declared.line.Posted.{Posted}
 use Rattle.bean_trial.specs.declared.setting.Head.{Head}
 use Rattle.bean_trial.specs.declared.stop.LineFault.{LineFault}
 use Rattle.bean_sizes.specs.Booked.{IsSmallLot, IsSmallPosted}
-use Rattle.bean_sizes.specs.Part.{AreShortUnits, IsShort, IsShortCost, IsShortCurrency}
-use Rattle.bean_sizes.specs.Part.{IsSmallPosting}
-use Rattle.bean_sizes.proofs.ShortFacts.{all_joined}
+use Rattle.text_sizes.specs.Part.{AreShortUnits, IsShort, IsShortCost, IsShortCurrency}
+use Rattle.text_sizes.specs.Part.{IsSmallPosting}
+use Rattle.text_sizes.proofs.ShortFacts.{all_joined}
 use Rattle.bean_sizes.proofs.TakenFacts.{ArePositions, IsSmallSigned, left_small, reduced_small}
 
 abbrev pub IsSmallLine : Line → Type 0

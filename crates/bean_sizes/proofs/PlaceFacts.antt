@@ -5,8 +5,8 @@ use Rattle.std.specs.List.{AllByRecursion}
 use Rattle.bean_heads.specs.declared.directive.Directive.{Directive}
 use Rattle.bean_heads.specs.declared.directive.DirectiveKind.TheVariants as kind
 use Rattle.bean_heads.specs.declared.transaction.Transaction.{Transaction}
-use Rattle.bean_sizes.specs.Part.{most}
-use Rattle.bean_sizes.specs.Small.{IsSmallTransaction, IsSmallKind, marks_of, IsSmallDirective}
+use Rattle.text_sizes.specs.Part.{most}
+use Rattle.text_sizes.specs.Small.{IsSmallTransaction, IsSmallKind, marks_of, IsSmallDirective}
 
 -- what holds of each item holds of the one at a place
 pub at_place : {X : Type 0} (P : X → Type 0) (xs : List X) (i : ℕ) (d : X) → i < length xs

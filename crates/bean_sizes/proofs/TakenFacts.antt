@@ -25,8 +25,8 @@ use Rattle.bean_trial.specs.declared.line.Line.{Line}
 use Rattle.bean_trial.specs.declared.line.Posted.{Posted}
 use Rattle.bean_sizes.specs.Booked.{IsSmallLot, IsSmallPosted}
 use Rattle.bean_sizes.proofs.ListFacts.{all_filtered, all_folded, all_mapped}
-use Rattle.bean_sizes.proofs.LoadedFacts.{in_order_all}
-use Rattle.bean_sizes.proofs.ShortFacts.{all_joined}
+use Rattle.bean_load.proofs.SmallFacts.{in_order_all}
+use Rattle.text_sizes.proofs.ShortFacts.{all_joined}
 
 -- what is held, by its lot
 abbrev pub IsSmallPosition : Position → Type 0

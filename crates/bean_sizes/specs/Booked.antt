@@ -7,7 +7,7 @@ use Rattle.bean_pad.specs.declared.note.Note.{Note}
 use Rattle.bean_pad.specs.declared.note.NotedPad.{NotedPad}
 use Rattle.bean_pad.specs.declared.step.Pad.{Pad}
 use Rattle.bean_trial.specs.declared.line.Posted.{Posted}
-use Rattle.bean_sizes.specs.Part.{most, IsShort, IsShortCurrency}
+use Rattle.text_sizes.specs.Part.{most, IsShort, IsShortCurrency}
 
 -- the currency of a lot's cost, and its label
 abbrev pub IsSmallLot : Lot → Type 0

@@ -1,5 +1,4 @@
 //! The book of texts.
-ghost use Rattle.bean_sizes.specs.Small.{AreLimited};
 ghost use Rattle.bq.specs.Booking.{Books};
 
 use bean_book::{BookFault, Booked, book};
@@ -8,7 +7,6 @@ use std::alloc::Global;
 
 /// The book of texts: their postings and their faults.
 pub fn book_of<'a>(alloc: Global, texts: &'a Texts) -> Result<Booked<'a>, BookFault>
-    requires { AreLimited texts.now }
     ensures { Books texts.now result }
 {
     let loaded = load(alloc, texts)?;

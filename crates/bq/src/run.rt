@@ -1,7 +1,5 @@
 //! What the program does with its words.
-ghost use Rattle.std.specs.Prelude.{map, IfOk, Some};
-ghost use Rattle.bean_load.specs.Following.{Gathers};
-ghost use Rattle.bean_sizes.specs.Small.{AreLimited};
+ghost use Rattle.std.specs.Prelude.{map, Some};
 ghost use Rattle.bq.specs.Causes.{CausesExclude};
 ghost use Rattle.bq.specs.Checking.{Checks};
 ghost use Rattle.bq.specs.Listing.{Lists};
@@ -15,7 +13,7 @@ use crate::showing::{file_bytes, listing_of};
 use crate::shown::Postings;
 use crate::verdict::{Verdict, verdict_of};
 use crate::words::{Command, command_in};
-use bean_load::{LoadFault, Texts, gather};
+use bean_load::{Texts, gather};
 use fault_printer::fault_lines;
 use outputs::output::Output;
 use outputs::writing::write_bytes;
@@ -38,7 +36,6 @@ fn write_text<O: Output>(text: &[u8], out: &mut O) -> Result<(), Refusal>
 
 /// Writes the table of the postings that texts are booked as.
 fn list_texts<O: Output>(alloc: Global, texts: &Texts, out: &mut O) -> Result<Verdict, Refusal>
-    requires { AreLimited texts.now }
     ensures { ComesOf (written O.Output out.old out.new) texts.now (Lists texts.now) result }
 {
     let booked = book_of(alloc, texts)?;
@@ -51,7 +48,6 @@ fn list_texts<O: Output>(alloc: Global, texts: &Texts, out: &mut O) -> Result<Ve
 
 /// Writes the lines of the faults that are found where texts are booked.
 fn check_texts<O: Output>(alloc: Global, texts: &Texts, out: &mut O) -> Result<Verdict, Refusal>
-    requires { AreLimited texts.now }
     ensures { ComesOf (written O.Output out.old out.new) texts.now (Checks texts.now) result }
 {
     let booked = book_of(alloc, texts)?;
@@ -59,15 +55,6 @@ fn check_texts<O: Output>(alloc: Global, texts: &Texts, out: &mut O) -> Result<V
     let lines = fault_lines(alloc, texts.files(), faults)?;
     write_text(&lines, out)?;
     Ok(verdict_of(faults))
-}
-
-/// The texts of the ledger of that name.
-fn texts_of<S: Source>(alloc: Global, name: &str, store: &mut S) -> Result<Texts, LoadFault>
-    ensures gathers { Gathers S.Source store.old store.new name.now result }
-    ensures limited { IfOk result AreLimited }
-{
-    let texts = gather(alloc, store, name)?;
-    Ok(texts)
 }
 
 /// Writes the table of the postings in the ledger of that name.
@@ -80,7 +67,7 @@ fn list<S: Source, O: Output>(
     ensures { Does (deeds S.Source store.old store.new (written O.Output out.old out.new))
         (Some (ListLedger name.now)) result }
 {
-    let texts = texts_of(alloc, name, store)?;
+    let texts = gather(alloc, store, name)?;
     list_texts(alloc, &texts, out)
 }
 
@@ -94,7 +81,7 @@ fn check<S: Source, O: Output>(
     ensures { Does (deeds S.Source store.old store.new (written O.Output out.old out.new))
         (Some (CheckLedger name.now)) result }
 {
-    let texts = texts_of(alloc, name, store)?;
+    let texts = gather(alloc, store, name)?;
     check_texts(alloc, &texts, out)
 }
 

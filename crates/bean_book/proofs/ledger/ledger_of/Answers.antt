@@ -10,7 +10,7 @@ use Rattle.bean_booker.specs.declared.kept.Kept.{Kept}
 use Rattle.bean_pad.specs.declared.note.NotedPad.{NotedPad}
 use Rattle.bean_sizes.proofs.PlaceFacts.{found_at}
 use Rattle.bean_sizes.specs.Booked.{IsSmallNoted}
-use Rattle.bean_sizes.specs.Small.{IsSmall}
+use Rattle.bean_load.specs.Small.{IsSmall}
 use Rattle.posting_table.specs.Decimals.{decimals_of}
 use Rattle.posting_table.specs.Ledger.{Ledger}
 use Rattle.bean_book.specs.Booked.{decimals_from, rows_of_all, written_in_all}

@@ -3,6 +3,7 @@ use Rattle.std.proofs.lemmas.Grind.{common_steps}
 use Rattle.bean_load.specs.Loading.{AddsParsed}
 use Rattle.bean_load.specs.Placed.{parts_of}
 use Rattle.bean_load.proofs.ReadFacts.{IsCompleted, one_more, all_read}
+use Rattle.bean_load.proofs.SmallFacts.{read_small}
 use Rattle.bean_parser.specs.Parsed.{IsParsed}
 use Rattle.bean_load.proofs.loaded.read_all.Goals as goal
 
@@ -30,5 +31,10 @@ returns c =
     let n = c.loop-number.number in
     let files = c.files-files.result.now in
     let none : drop n files ≡ [] = grind (arith, common_steps) in
+    let read =
     all_read texts n c.loop-number.read
-    (subst (λ fs. IsCompleted texts n c.loop-number.read fs) none c.loop-number.invariant)
+    (subst (λ fs. IsCompleted texts n c.loop-number.read fs) none c.loop-number.invariant) in
+    record {
+      read = read;
+      small = read_small texts c.loop-number.read read c.files-files.ensures.limited;
+    }

@@ -13,14 +13,14 @@ returns-in_err-texts g c =
     let out = written g.O.Output c.args.out.now c.args.out.now in
     let fault = c.in_err-texts.field-0.0 in
     let is = converted c.from_residual.result (Load fault) c.from_residual.ensures.1 in
-    subst (Does (deeds s c.args.store.now c.texts_of.new.store out) (Some (ListLedger name)))
+    subst (Does (deeds s c.args.store.now c.gather.new.store out) (Some (ListLedger name)))
     (sym is)
     (ungathered (Some (ListLedger name)) name (λ readings r cause. cause) s c.args.store.now
-    c.texts_of.new.store fault c.in_err-texts.ensures.gathers out refl)
+    c.gather.new.store fault c.in_err-texts.ensures out refl)
 
 pub returns : goal.returns
 returns g c =
-    let come = c.in_ok-texts.ensures.gathers in
+    let come = c.in_ok-texts.ensures in
     let name = c.args.name.now in
     let texts = c.in_ok-texts.texts in
     let out = written g.O.Output c.args.out.now c.list_texts.new.out in (

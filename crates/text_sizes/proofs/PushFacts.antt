@@ -20,11 +20,11 @@ use Rattle.bean_parser.specs.declared.block.Outcome.{Outcome}
 use Rattle.bean_parser.specs.declared.block.Outcome.TheVariants as outcome
 use Rattle.bean_parser.specs.declared.scope.PlacedBound.{PlacedBound}
 use Rattle.bean_parser.specs.declared.statement.Statement.TheVariants as statement
-use Rattle.bean_sizes.specs.Part.{IsShort, IsShortMark, IsShortEntry}
-use Rattle.bean_sizes.specs.Small.{IsSmallKind, marks_of}
-use Rattle.bean_sizes.proofs.ShortFacts.{all_pushed}
-use Rattle.bean_sizes.proofs.UndatedFacts.{IsShortPushed, IsShortBound, IsShortUndated}
-use Rattle.bean_sizes.proofs.OutcomeFacts.{IsSmallApart, IsSmallOutcome, sizes}
+use Rattle.text_sizes.specs.Part.{IsShort, IsShortMark, IsShortEntry}
+use Rattle.text_sizes.specs.Small.{IsSmallKind, marks_of}
+use Rattle.text_sizes.proofs.ShortFacts.{all_pushed}
+use Rattle.text_sizes.proofs.UndatedFacts.{IsShortPushed, IsShortBound, IsShortUndated}
+use Rattle.text_sizes.proofs.OutcomeFacts.{IsSmallApart, IsSmallOutcome, sizes}
 
 -- small, and with so many others its tags and links are at most n
 pub record IsWithin (n others : ℕ) (d : Directive) : Type 0 where

@@ -31,16 +31,16 @@ use Rattle.bean_heads.specs.Head.{IsHead}
 use Rattle.bean_heads.specs.declared.directive.DirectiveKind.{DirectiveKind}
 use Rattle.bean_heads.specs.declared.directive.DirectiveKind.TheVariants as kinds
 use Rattle.bean_heads.specs.declared.transaction.PayeeAndNarration.{PayeeAndNarration}
-use Rattle.bean_sizes.specs.Part.{IsShort, IsShortCurrency}
-use Rattle.bean_sizes.specs.Small.{IsSmallKind, marks_of}
-use Rattle.bean_sizes.proofs.Keeping.{keeps_made, keeps_applied, keeps_behind, keeps_due, keeps_row}
-use Rattle.bean_sizes.proofs.Keeping.{kept}
-use Rattle.bean_sizes.proofs.ShortFacts.{Any, WhenWithin, any_within, all_pushed, mapped_any}
-use Rattle.bean_sizes.proofs.ShortFacts.{mapped2}
-use Rattle.bean_sizes.proofs.LineFacts.{IsShortLexeme, Gives, account_kept, currency_kept}
-use Rattle.bean_sizes.proofs.LineFacts.{text_kept, day_kept, expression_kept, marks_kept}
-use Rattle.bean_sizes.proofs.LineFacts.{all_values_kept}
-use Rattle.bean_sizes.proofs.MarkFacts.{marks_no_more, words_no_longer}
+use Rattle.text_sizes.specs.Part.{IsShort, IsShortCurrency}
+use Rattle.text_sizes.specs.Small.{IsSmallKind, marks_of}
+use Rattle.text_sizes.proofs.Keeping.{keeps_made, keeps_applied, keeps_behind, keeps_due, keeps_row}
+use Rattle.text_sizes.proofs.Keeping.{kept}
+use Rattle.text_sizes.proofs.ShortFacts.{Any, WhenWithin, any_within, all_pushed, mapped_any}
+use Rattle.text_sizes.proofs.ShortFacts.{mapped2}
+use Rattle.text_sizes.proofs.LineFacts.{IsShortLexeme, Gives, account_kept, currency_kept}
+use Rattle.text_sizes.proofs.LineFacts.{text_kept, day_kept, expression_kept, marks_kept}
+use Rattle.text_sizes.proofs.LineFacts.{all_values_kept}
+use Rattle.text_sizes.proofs.MarkFacts.{marks_no_more, words_no_longer}
 
 -- small, and no transaction with tags or links
 abbrev IsMarkless : DirectiveKind → Type 0

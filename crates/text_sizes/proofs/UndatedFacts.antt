@@ -20,11 +20,11 @@ use Rattle.bean_heads.specs.declared.undated.Pushed.TheVariants as pushed
 use Rattle.bean_heads.specs.declared.undated.SettingKind.TheVariants as settings
 use Rattle.bean_heads.specs.declared.undated.UndatedKind.{UndatedKind}
 use Rattle.bean_heads.specs.declared.undated.UndatedKind.TheVariants as kinds
-use Rattle.bean_sizes.specs.Part.{IsShort, IsShortEntry}
-use Rattle.bean_sizes.proofs.Keeping.{keeps_made, keeps_applied, keeps_due, kept}
-use Rattle.bean_sizes.proofs.ShortFacts.{WhenWithin, mapped}
-use Rattle.bean_sizes.proofs.LineFacts.{IsShortLexeme, Gives, text_kept, tag_kept, key_kept}
-use Rattle.bean_sizes.proofs.LineFacts.{entry_kept}
+use Rattle.text_sizes.specs.Part.{IsShort, IsShortEntry}
+use Rattle.text_sizes.proofs.Keeping.{keeps_made, keeps_applied, keeps_due, kept}
+use Rattle.text_sizes.proofs.ShortFacts.{WhenWithin, mapped}
+use Rattle.text_sizes.proofs.LineFacts.{IsShortLexeme, Gives, text_kept, tag_kept, key_kept}
+use Rattle.text_sizes.proofs.LineFacts.{entry_kept}
 
 abbrev pub IsShortPushed : Pushed → Type 0
 IsShortPushed (pushed.Tag name) = IsShort name

@@ -33,16 +33,16 @@ use Rattle.bean_grammar.specs.Posting.{units_of, units, posting_of, posted_to, p
 use Rattle.bean_grammar.specs.Price.{price_sign, begins_with_price, priced, price_by, price_of}
 use Rattle.bean_grammar.specs.Price.{price, price_or_absent, price_if_due}
 use Rattle.bean_grammar.specs.Ranged.{ranged_map2, option_within}
-use Rattle.bean_sizes.specs.Part.{most, IsShort, IsShortCurrency, AreShortUnits, IsShortCost}
-use Rattle.bean_sizes.specs.Part.{IsShortPrice, IsSmallPosting}
-use Rattle.bean_sizes.proofs.Keeping.{keeps_word, keeps_made, keeps_applied, keeps_behind}
-use Rattle.bean_sizes.proofs.Keeping.{keeps_closed, keeps_checked, keeps_due, keeps_either}
-use Rattle.bean_sizes.proofs.Keeping.{keeps_row}
-use Rattle.bean_sizes.proofs.ShortFacts.{Any, WhenWithin, any_within, mapped_any, mapped2, mapped3}
-use Rattle.bean_sizes.proofs.ShortFacts.{option_short}
-use Rattle.bean_sizes.proofs.LineFacts.{Gives, account_kept, text_kept, day_kept, IsShortAmount}
-use Rattle.bean_sizes.proofs.LineFacts.{amount_short, number_if_due_kept, currency_if_due_kept}
-use Rattle.bean_sizes.proofs.LineFacts.{amount_parts_kept}
+use Rattle.text_sizes.specs.Part.{most, IsShort, IsShortCurrency, AreShortUnits, IsShortCost}
+use Rattle.text_sizes.specs.Part.{IsShortPrice, IsSmallPosting}
+use Rattle.text_sizes.proofs.Keeping.{keeps_word, keeps_made, keeps_applied, keeps_behind}
+use Rattle.text_sizes.proofs.Keeping.{keeps_closed, keeps_checked, keeps_due, keeps_either}
+use Rattle.text_sizes.proofs.Keeping.{keeps_row}
+use Rattle.text_sizes.proofs.ShortFacts.{Any, WhenWithin, any_within, mapped_any, mapped2, mapped3}
+use Rattle.text_sizes.proofs.ShortFacts.{option_short}
+use Rattle.text_sizes.proofs.LineFacts.{Gives, account_kept, text_kept, day_kept, IsShortAmount}
+use Rattle.text_sizes.proofs.LineFacts.{amount_short, number_if_due_kept, currency_if_due_kept}
+use Rattle.text_sizes.proofs.LineFacts.{amount_parts_kept}
 
 -- The parts of a cost.
 

@@ -22,16 +22,16 @@ use Rattle.bean_parser.specs.declared.block.Outcome.TheVariants as outcome
 use Rattle.bean_parser.specs.declared.statement.Statement.{Statement}
 use Rattle.bean_parser.specs.declared.statement.Statement.TheVariants as statement
 use Rattle.bean_parser.specs.declared.under.Body.{Body}
-use Rattle.bean_sizes.specs.Part.{most, IsShortMark, IsShortEntry, IsSmallPosting}
-use Rattle.bean_sizes.specs.Small.{IsSmallKind, marks_of}
-use Rattle.bean_sizes.proofs.ShortFacts.{WhenWithin, all_joined, mapped}
-use Rattle.bean_sizes.proofs.HeadFacts.{marks_in, head_small}
-use Rattle.bean_sizes.proofs.UndatedFacts.{IsShortUndated, undated_short}
-use Rattle.bean_sizes.proofs.TokenFacts.{IsShortToken}
-use Rattle.bean_sizes.proofs.CutFacts.{count}
-use Rattle.bean_sizes.proofs.BodyFacts.{IsShortLine, lines_short, lexemes_in, lines_same}
-use Rattle.bean_sizes.proofs.BodyFacts.{IsSmallBody, postings_small, body_small, body_marks}
-use Rattle.bean_sizes.proofs.BodyFacts.{body_postings}
+use Rattle.text_sizes.specs.Part.{most, IsShortMark, IsShortEntry, IsSmallPosting}
+use Rattle.text_sizes.specs.Small.{IsSmallKind, marks_of}
+use Rattle.text_sizes.proofs.ShortFacts.{WhenWithin, all_joined, mapped}
+use Rattle.text_sizes.proofs.HeadFacts.{marks_in, head_small}
+use Rattle.text_sizes.proofs.UndatedFacts.{IsShortUndated, undated_short}
+use Rattle.text_sizes.proofs.TokenFacts.{IsShortToken}
+use Rattle.text_sizes.proofs.CutFacts.{count}
+use Rattle.text_sizes.proofs.BodyFacts.{IsShortLine, lines_short, lexemes_in, lines_same}
+use Rattle.text_sizes.proofs.BodyFacts.{IsSmallBody, postings_small, body_small, body_marks}
+use Rattle.text_sizes.proofs.BodyFacts.{body_postings}
 
 -- small but for the number of its tags and links
 pub record IsSmallApart (d : Directive) : Type 0 where

@@ -6,12 +6,12 @@ use Rattle.bean_parser.specs.Block.{begins_block, blocks}
 use Rattle.bean_parser.specs.Parsed.{IsParsed, directives_in, all_bounds}
 use Rattle.bean_parser.specs.Scope.{with_pushes}
 use Rattle.bean_parser.specs.declared.parse.Parsed.{Parsed}
-use Rattle.bean_sizes.specs.Part.{most, IsShort}
-use Rattle.bean_sizes.specs.Small.{IsSmallDirective}
-use Rattle.bean_sizes.proofs.TokenFacts.{IsShortToken, tokens_short, tokens_few}
-use Rattle.bean_sizes.proofs.CutFacts.{cut_all, cut_count}
-use Rattle.bean_sizes.proofs.OutcomeFacts.{outcomes_fit, sizes}
-use Rattle.bean_sizes.proofs.PushFacts.{IsWithin, pushes_small, all_bounds_short, directives_within}
+use Rattle.text_sizes.specs.Part.{most, IsShort}
+use Rattle.text_sizes.specs.Small.{IsSmallDirective}
+use Rattle.text_sizes.proofs.TokenFacts.{IsShortToken, tokens_short, tokens_few}
+use Rattle.text_sizes.proofs.CutFacts.{cut_all, cut_count}
+use Rattle.text_sizes.proofs.OutcomeFacts.{outcomes_fit, sizes}
+use Rattle.text_sizes.proofs.PushFacts.{IsWithin, pushes_small, all_bounds_short, directives_within}
 
 whole_small : (n : ℕ) (ds : List Directive) → n ≤ most → AllByRecursion (IsWithin n 0) ds
     → AllByRecursion IsSmallDirective ds

@@ -7,10 +7,8 @@ use Rattle.bean_heads.specs.declared.directive.Directive as directives
 use Rattle.bean_heads.specs.declared.directive.DirectiveKind as kinds
 use Rattle.bean_heads.specs.declared.directive.DirectiveKind.TheVariants as kind
 use Rattle.bean_heads.specs.declared.transaction.Transaction as transactions
-use Rattle.bean_load.specs.declared.placed.Placed.{Placed}
-use Rattle.bean_load.specs.Texts.{Texts}
-use Rattle.bean_sizes.specs.Part.{most, IsShort, IsShortCurrency, IsShortMark, IsShortEntry}
-use Rattle.bean_sizes.specs.Part.{IsSmallPosting}
+use Rattle.text_sizes.specs.Part.{most, IsShort, IsShortCurrency, IsShortMark, IsShortEntry}
+use Rattle.text_sizes.specs.Part.{IsSmallPosting}
 
 pub record IsSmallTransaction (t : transactions.Transaction) : Type 0 where
   pub payee : IfSome t.payee IsShort
@@ -38,11 +36,3 @@ pub record IsSmallDirective (d : directives.Directive) : Type 0 where
   pub metadata : AllByRecursion IsShortEntry d.metadata
   pub kind : IsSmallKind d.kind
   pub few_marks : length (marks_of d.kind) ≤ most
-
--- with its place
-abbrev pub IsSmall : Placed directives.Directive → Type 0
-IsSmall p = IsSmallDirective p.item
-
--- no text of a ledger has more bytes than one may have
-abbrev pub AreLimited : Texts → Type 0
-AreLimited texts = AllByRecursion (λ f. IsShort f.text) texts.files

@@ -15,9 +15,9 @@ use Rattle.bean_lexer.specs.declared.kind.Kind.TheVariants as kind
 use Rattle.bean_lexer.specs.declared.token.Token.{Token}
 use Rattle.bean_lexer.proofs.TokensFacts.{token_some}
 use Rattle.bean_grammar.specs.Lexeme.{lexeme_at, lexemes}
-use Rattle.bean_sizes.specs.Part.{most, IsShort, IsShortCurrency}
-use Rattle.bean_sizes.proofs.ShortFacts.{drop_short, take_short}
-use Rattle.bean_sizes.proofs.LineFacts.{IsShortLexeme}
+use Rattle.text_sizes.specs.Part.{most, IsShort, IsShortCurrency}
+use Rattle.text_sizes.proofs.ShortFacts.{drop_short, take_short}
+use Rattle.text_sizes.proofs.LineFacts.{IsShortLexeme}
 
 abbrev pub IsShortToken : Token → Type 0
 IsShortToken t = IsShort t.text × (t.line ≤ most)

@@ -17,14 +17,14 @@ use Rattle.bean_parser.specs.Under.{all_before, with_line, with_lines, postings_
 use Rattle.bean_parser.specs.declared.under.Body.{Body}
 use Rattle.bean_parser.specs.declared.under.LineKind.{LineKind}
 use Rattle.bean_parser.specs.declared.under.LineKind.TheVariants as kinds
-use Rattle.bean_sizes.specs.Part.{most, IsShortMark, IsShortEntry, IsSmallPosting}
-use Rattle.bean_sizes.proofs.Keeping.{kept}
-use Rattle.bean_sizes.proofs.ShortFacts.{all_joined, all_pushed}
-use Rattle.bean_sizes.proofs.LineFacts.{IsShortLexeme, some_marks_kept, entry_kept}
-use Rattle.bean_sizes.proofs.PostingFacts.{posting_kept}
-use Rattle.bean_sizes.proofs.MarkFacts.{some_marks_no_more}
-use Rattle.bean_sizes.proofs.TokenFacts.{IsShortToken, lexemes_short, lexemes_same}
-use Rattle.bean_sizes.proofs.CutFacts.{cut_all, AreSome, cut_some, count, cut_count}
+use Rattle.text_sizes.specs.Part.{most, IsShortMark, IsShortEntry, IsSmallPosting}
+use Rattle.text_sizes.proofs.Keeping.{kept}
+use Rattle.text_sizes.proofs.ShortFacts.{all_joined, all_pushed}
+use Rattle.text_sizes.proofs.LineFacts.{IsShortLexeme, some_marks_kept, entry_kept}
+use Rattle.text_sizes.proofs.PostingFacts.{posting_kept}
+use Rattle.text_sizes.proofs.MarkFacts.{some_marks_no_more}
+use Rattle.text_sizes.proofs.TokenFacts.{IsShortToken, lexemes_short, lexemes_same}
+use Rattle.text_sizes.proofs.CutFacts.{cut_all, AreSome, cut_some, count, cut_count}
 
 abbrev pub IsShortLine : Line → Type 0
 IsShortLine l =

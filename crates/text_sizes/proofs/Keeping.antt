@@ -5,7 +5,7 @@ use Rattle.std.proofs.Common.{sym, subst}
 use Rattle.std.specs.List.{AllByRecursion}
 use Rattle.theory.specs.Form.{Form, word, made, ◌<+>◌, behind, closed, checked, related, DueRead}
 use Rattle.theory.specs.Form.{due, either, ending, ItemsRead, steps, row, pair, chain, Is}
-use Rattle.bean_sizes.proofs.ShortFacts.{Any}
+use Rattle.text_sizes.proofs.ShortFacts.{Any}
 
 pub record Keeps {L V : Type 0} (P : L → Type 0) (S : V → Type 0) (form : Form L V) : Type 0 where
   pub keeps : (ls : List L) (v : V) (rest : List L) → AllByRecursion P ls → form.reads ls v rest

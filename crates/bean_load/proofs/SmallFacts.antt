@@ -1,5 +1,5 @@
 -- What the texts of a ledger say together is small where each of them is.
-use Rattle.std.proofs.Common.{ℕ, ◌+◌, Bool, true, false, cond, List, [], ◌∷◌, map, subst}
+use Rattle.std.proofs.Common.{ℕ, ◌+◌, Bool, true, false, cond, List, [], ◌∷◌, map, subst, sym}
 use Rattle.std.specs.Cmp.{IsTotalOrder}
 use Rattle.std.specs.List.{AllByRecursion}
 use Rattle.std.specs.declared.cmp.Ordering.{Ordering}
@@ -9,17 +9,21 @@ use Rattle.theory.specs.Arrangement.{IsArrangedByKey, by_key, put_by, arranged_b
 use Rattle.theory.proofs.ArrangedFacts.{is_arranged}
 use Rattle.theory.proofs.ArrangementFacts.{one_by_key}
 use Rattle.bean_heads.specs.declared.directive.Directive.{Directive}
-use Rattle.bean_load.specs.Loaded.{Loaded, IsLoaded, AreParsed, directives_in}
-use Rattle.bean_load.specs.Order.{DayKey, Key, key_of, key_cmp}
+use Rattle.bean_load.specs.Loaded.{AreParsed, directives_in}
+use Rattle.bean_load.specs.Loading.{AreRead}
+use Rattle.bean_load.specs.Order.{AreInOrder, DayKey, Key, key_of, key_cmp}
 use Rattle.bean_load.specs.Placed.{parts_of, placed_directive}
 use Rattle.bean_load.specs.Texts.{File, Texts}
+use Rattle.bean_load.specs.declared.loaded.Read.{Read}
 use Rattle.bean_load.specs.declared.placed.Own.{Own}
+use Rattle.bean_load.specs.declared.placed.Placed.{Placed}
 use Rattle.bean_load.specs.declared.texts.Part.{Part}
 use Rattle.bean_parser.specs.declared.parse.Parsed.{Parsed}
-use Rattle.bean_sizes.specs.Part.{IsShort}
-use Rattle.bean_sizes.specs.Small.{IsSmallDirective, IsSmall, AreLimited}
-use Rattle.bean_sizes.proofs.ShortFacts.{all_joined}
-use Rattle.bean_sizes.proofs.ParsedFacts.{parsed_small}
+use Rattle.text_sizes.specs.Part.{IsShort}
+use Rattle.text_sizes.specs.Small.{IsSmallDirective}
+use Rattle.bean_load.specs.Small.{IsSmall, AreLimited, AreSmall}
+use Rattle.text_sizes.proofs.ShortFacts.{all_joined}
+use Rattle.text_sizes.proofs.ParsedFacts.{parsed_small}
 
 -- an arrangement has the items that it is made of
 
@@ -76,8 +80,11 @@ texts_small parts n (f ∷ files) (p ∷ ps) all are =
     (placed_small n (parts_of n 0 parts) p.directives (parsed_small f.text p all.0 are.0))
     (texts_small parts (n + 1) files ps all.1 are.1)
 
-pub loaded_small : (texts : Texts) (l : Loaded) → IsLoaded texts l → AreLimited texts
-    → AllByRecursion IsSmall l.directives
-loaded_small texts l h limited =
-    in_order_all IsSmall key_of key_cmp key_total (directives_in texts.parts 0 h.parsed)
-    l.directives h.directives (texts_small texts.parts 0 texts.files h.parsed limited h.are_parsed)
+pub read_small : (texts : Texts) (read : Read) → AreRead texts read → AreLimited texts.files
+    → AreSmall read.directives.items
+read_small texts read h limited =
+    subst AreSmall (sym h.directives)
+    (texts_small texts.parts 0 texts.files h.parsed limited h.are_parsed)
+
+pub ordered_small : (xs ys : List (Placed Directive)) → AreInOrder xs ys → AreSmall xs → AreSmall ys
+ordered_small = in_order_all IsSmall key_of key_cmp key_total

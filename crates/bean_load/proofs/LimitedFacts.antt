@@ -18,9 +18,9 @@ use Rattle.bean_load.specs.Texts.{Texts}
 use Rattle.bean_load.specs.declared.fault.LoadFault.{LoadFault}
 use Rattle.bean_load.specs.declared.fault.LoadFault.TheVariants.{Unreadable, NotUtf8, TooLarge}
 use Rattle.bean_load.specs.declared.gathering.TheConstants.{DEEPEST}
-use Rattle.bean_sizes.specs.Part.{most, IsShort}
-use Rattle.bean_sizes.specs.Small.{AreLimited}
-use Rattle.bean_sizes.proofs.ShortFacts.{all_pushed}
+use Rattle.text_sizes.specs.Part.{most, IsShort}
+use Rattle.bean_load.specs.Small.{AreLimited}
+use Rattle.text_sizes.proofs.ShortFacts.{all_pushed}
 
 abbrev HasShort : Gathered → Type 0
 HasShort s = AllByRecursion (λ f. IsShort f.text) s.files
@@ -162,12 +162,12 @@ comes_short name readings result p =
     (with_bytes name bytes nothing) p.1 [] result tt t) p.3
 
 texts_limited : (end : Result Gathered LoadFault) (texts : Texts) → EndsShort end
-    → Ok texts ≡ texts_in end → AreLimited texts
+    → Ok texts ≡ texts_in end → AreLimited texts.files
 texts_limited (Ok s) texts h e =
-    let same : texts ≡ texts_of s = cc in subst AreLimited (sym same) h
+    let same : texts ≡ texts_of s = cc in subst (λ t. AreLimited t.files) (sym same) h
 texts_limited (Err fault) texts h e = absurd (cc)
 
 pub gathered_limited : (name : List ℕ) (readings : List Reading) (texts : Texts)
-    → IsGathered name readings (Ok texts) → AreLimited texts
+    → IsGathered name readings (Ok texts) → AreLimited texts.files
 gathered_limited name readings texts h =
     texts_limited h.0 texts (comes_short name readings h.0 h.1) h.2

@@ -8,7 +8,7 @@ use Rattle.bean_grammar.specs.declared.ranged.Ranged.{Ranged}
 use Rattle.bean_grammar.specs.declared.ranged.Ranged.TheVariants.{Within, Outside}
 use Rattle.bean_grammar.specs.Literal.{between_quotes, text_of}
 use Rattle.bean_grammar.specs.Ranged.{ranged_map, ranged_map2, ranged_map3, option_within}
-use Rattle.bean_sizes.specs.Part.{IsShort}
+use Rattle.text_sizes.specs.Part.{IsShort}
 
 pub all_joined : {X : Type 0} (P : X → Type 0) (xs ys : List X) → AllByRecursion P xs
     → AllByRecursion P ys → AllByRecursion P (xs ++ ys)

@@ -1,0 +1,13 @@
+pub mod ShortFacts
+pub mod Keeping
+pub mod LineFacts
+pub mod PostingFacts
+pub mod MarkFacts
+pub mod HeadFacts
+pub mod UndatedFacts
+pub mod TokenFacts
+pub mod CutFacts
+pub mod BodyFacts
+pub mod OutcomeFacts
+pub mod PushFacts
+pub mod ParsedFacts
