@@ -63,6 +63,7 @@ mod cells;
 mod display;
 mod entry;
 mod held;
+mod keys;
 pub mod laws;
 mod ledger;
 mod metadata;
