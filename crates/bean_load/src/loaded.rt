@@ -58,6 +58,13 @@ impl<'a> Loaded<'a> {
         &self.directives
     }
 
+    /// The directives themselves; all else is given up.
+    pub fn into_directives(self) -> Vec<Placed<Directive<'a>>>
+        ensures { result.items ≡ self.entry.directives }
+    {
+        self.directives
+    }
+
     /// The faults of the texts' blocks, and those of include lines.
     pub fn faults(&self) -> &[Fault]
         ensures { result.now ≡ self.now.faults }
