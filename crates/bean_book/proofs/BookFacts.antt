@@ -22,7 +22,7 @@ use Rattle.bean_book.specs.Kept.{AreOf, IsTame}
 use Rattle.bean_book.proofs.KeptFacts.{are_of}
 use Rattle.bean_book.proofs.LedgerFacts.{rows_hold}
 
-in_order : (l : Loaded) (st : Stand) → LeadsTo (method_in_ledger l) (reverse l.directives) st
+pub in_order : (l : Loaded) (st : Stand) → LeadsTo (method_in_ledger l) (reverse l.directives) st
     → AreOf 0 l.directives st.kept
 in_order l st leads =
     subst (λ ds. AreOf 0 ds st.kept) (reverse-reverse l.directives)

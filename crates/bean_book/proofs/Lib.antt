@@ -5,3 +5,5 @@ mod ShapedFacts
 mod PaddingFacts
 mod LedgerFacts
 mod BookFacts
+mod CountFacts
+mod FoundFacts

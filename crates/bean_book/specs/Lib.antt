@@ -4,4 +4,5 @@ pub mod Rows
 pub mod Reported
 pub mod Kept
 pub mod Booked
+pub mod Found
 pub mod OneBook

@@ -1,6 +1,8 @@
 //! A loaded ledger as it is booked.
 ghost use Rattle.bean_book.specs.Booked.{Books};
+ghost use Rattle.bean_book.specs.Found.{FindsFaults};
 
+use crate::counts::look_for_room;
 use crate::faults::report;
 use crate::ledger::ledger_of;
 use bean_base::{Fault, List};
@@ -28,7 +30,7 @@ pub fn book<'a>(alloc: Global, loaded: Loaded<'a>) -> Result<Booked<'a>, BookFau
     };
     let ledger = ledger_of(
         alloc,
-        loaded.directives(),
+        loaded.into_directives(),
         booked.kept.as_slice(),
         booked.pads.as_slice(),
     );
@@ -42,4 +44,21 @@ pub fn book<'a>(alloc: Global, loaded: Loaded<'a>) -> Result<Booked<'a>, BookFau
         ledger,
         faults: List::new(faults),
     })
+}
+
+/// The faults of a loaded ledger as it is booked: those that [`book`] gives, without the postings.
+pub fn find_faults(alloc: Global, loaded: &Loaded<'_>) -> Result<List<Fault>, BookFault>
+    ensures { FindsFaults loaded.now result }
+{
+    let booked = match book_directives(alloc, loaded) {
+        Ok(booked) => booked,
+        Err(fault) => return Err(fault),
+    };
+    match look_for_room(booked.kept.as_slice(), booked.pads.as_slice()) {
+        Ok(()) => {}
+        Err(fault) => return Err(fault),
+    }
+    let mut faults = booked.faults.into_vec();
+    report(&mut faults)?;
+    Ok(List::new(faults))
 }

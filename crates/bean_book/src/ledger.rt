@@ -125,26 +125,29 @@ fn take_directive<'b, 'a>(
     }
 }
 
-/// The ledger of what is booked of directives.
+/// The ledger of what is booked of directives. Each is given up as soon as it is taken, so that
+/// what its rows have from it takes the memory in which it stood.
 pub(crate) fn ledger_of<'a>(
     alloc: Global,
-    directives: &[Placed<Directive<'a>>],
+    directives: Vec<Placed<Directive<'a>>>,
     kept: &[Kept<'a>],
     pads: &[NotedPad<'a>],
 ) -> Result<Ledger<'a>, BookFault>
-    requires are { AreOf 0 directives.now kept.now }
-    requires small { AllByRecursion IsSmall directives.now }
+    requires are { AreOf 0 directives.items kept.now }
+    requires small { AllByRecursion IsSmall directives.items }
     requires tame { AllByRecursion IsTame kept.now }
     requires pads { AllByRecursion IsSmallNoted pads.now }
-    ensures { MakesLedger (spec.bookings 0 directives.now kept.now pads.now) result }
+    ensures { MakesLedger (spec.bookings 0 directives.entry.items kept.now pads.now) result }
 {
     let mut ledger = Ledger::new(alloc);
     let mut left = Left { kept, pads };
-    for number in 0..directives.len() {
-        match take_directive(alloc, &mut ledger, number, &directives[number], left) {
+    let mut number = 0;
+    for placed in directives {
+        match take_directive(alloc, &mut ledger, number, &placed, left) {
             Ok(rest) => left = rest,
             Err(fault) => return Err(fault),
         }
+        number += 1;
     }
     Ok(ledger)
 }

@@ -6,6 +6,8 @@
 //! let booked = book(alloc, loaded)?;
 //! booked.ledger.len()                    // how many postings there are
 //! booked.faults.as_slice()               // by file, line and number, equal ones once
+//!
+//! let faults = find_faults(alloc, &loaded)?;   // the same faults, where no posting is wanted
 //! ```
 //!
 //! What the directives come to is told by [`bean_booker`]. In their order, each transaction that is
@@ -24,12 +26,14 @@
 //!
 //! # Cost
 //!
-//! What [`bean_booker`] costs; then one pass. Rows hold slices of the ledger's texts, and no text
-//! is copied but those with an escape; what the postings of a transaction have in common stands
-//! once.
+//! What [`bean_booker`] costs; then one pass, which gives each directive up as its rows are made.
+//! Rows hold slices of the ledger's texts, and no text is copied but those with an escape; what the
+//! postings of a transaction have in common stands once. [`find_faults`] makes no row, and counts
+//! those that there would be.
 #![tactic(auto)]
 
 mod booked;
+mod counts;
 mod decimals;
 mod entries;
 mod faults;
@@ -40,5 +44,5 @@ mod paddings;
 mod rows;
 
 pub use bean_booker::BookFault;
-pub use booked::{Booked, book};
+pub use booked::{Booked, book, find_faults};
 pub use laws::one_book;

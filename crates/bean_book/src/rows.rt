@@ -85,10 +85,7 @@ fn position_of<'a>(posted: &Posted<'a>) -> Position<'a>
     Position {
         key: Key {
             currency: posted.units.currency.lend(),
-            lot: match &posted.lot {
-                Some(lot) => Some(lot.lend()),
-                None => None,
-            },
+            lot: posted.lend_lot(),
         },
         count: posted.units.number.scaled(8),
     }

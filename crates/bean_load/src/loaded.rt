@@ -64,6 +64,14 @@ impl<'a> Loaded<'a> {
         &self.directives
     }
 
+    /// The directives themselves; all else is given up.
+    pub fn into_directives(self) -> Vec<Placed<Directive<'a>>>
+        ensures directives { result.items ≡ self.entry.directives }
+        ensures small { AreSmall self.entry.directives }
+    {
+        self.directives
+    }
+
     /// The faults of the texts' blocks, and those of include lines.
     pub fn faults(&self) -> &[Fault]
         ensures { result.now ≡ self.now.faults }

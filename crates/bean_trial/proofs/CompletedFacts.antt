@@ -1,11 +1,11 @@
 -- What is filled in, and what lines are booked as, one after the other.
-use Rattle.std.proofs.Common.{◌≡◌, ℕ, suc, ◌+◌, ◌<◌, ◌==◌, Bool, true, false, cond, List, [], ◌∷◌}
+use Rattle.std.proofs.Common.{◌≡◌, ℕ, ◌+◌, ◌<◌, ◌==◌, Bool, true, false, cond, List, [], ◌∷◌}
 use Rattle.std.proofs.Common.{◌++◌}
-use Rattle.std.proofs.Common.{append_assoc, length, get_or, take, drop, map, filter, refl, sym, ap}
+use Rattle.std.proofs.Common.{append_assoc, arith, length, get_or, take, map, filter, refl, sym, ap}
 use Rattle.std.proofs.Common.{◌∙◌}
 use Rattle.std.proofs.Common.{add-one}
-use Rattle.std.proofs.Math.Seq.{take-suc, drop-cons}
-use Rattle.std.proofs.lemmas.List.{map-append}
+use Rattle.std.proofs.Math.Seq.{take-suc}
+use Rattle.std.proofs.lemmas.List.{append-nil, map-append}
 use Rattle.std.proofs.lemmas.List.Elements.{filter-append}
 use Rattle.bean_interp.specs.declared.fill.Fill.{Fill}
 use Rattle.bean_trial.specs.Tried.{filled_at, filled_in, posts_at, posts_from}
@@ -37,14 +37,13 @@ one_more_fill fills i f k account written before old new h e o n =
     by true = refl
     by false = refl
 
-pub one_more_line :
-    (fills : List Fill) (ls : List Line) (i : ℕ) (l : Line) (old new : List Posted)
-    → i < length ls → l ≡ get_or ls i l → new ≡ old ++ posts_at fills i l
-    → new ++ posts_from fills (i + 1) (drop (i + 1) ls)
-    ≡ old ++ posts_from fills i (drop i ls)
-one_more_line fills ls i l old new h e n =
-    let at : drop i ls ≡ l ∷ drop (i + 1) ls =
-    rw add-one (drop-cons ls i l h ∙ ap (λ q. q ∷ drop (suc i) ls) (sym e)) in
-    let rest = posts_from fills (i + 1) (drop (i + 1) ls) in
-    ap (λ p. p ++ rest) n ∙ append_assoc old (posts_at fills i l) rest
-    ∙ ap (λ q. old ++ q) (sym (ap (posts_from fills i) at))
+pub posts_more :
+    (fills : List Fill) (k : ℕ) (ls : List Line) (l : Line) (n : ℕ) → n ≡ k + length ls
+    → posts_from fills k (ls ++ l ∷ []) ≡ posts_from fills k ls ++ posts_at fills n l
+posts_more fills k [] l n is =
+    let e : k ≡ n = omega (arith, is) in
+    append-nil (posts_at fills k l) ∙ ap (λ n. posts_at fills n l) e
+posts_more fills k (m ∷ ls) l n is =
+    let e : n ≡ (k + 1) + length ls = omega (arith, is) in
+    ap (λ q. posts_at fills k m ++ q) (posts_more fills (k + 1) ls l n e)
+    ∙ sym (append_assoc (posts_at fills k m) (posts_from fills (k + 1) ls) (posts_at fills n l))

@@ -47,10 +47,10 @@ fn push_filled<'a>(
     Ok(())
 }
 
-fn push_posted<'a>(posted: &mut Vec<Posted<'a>>, own: &Posted<'a>) -> Result<(), AllocError>
-    ensures { OnOk result (posted.new.items ≡ posted.old.items ++ own.now ∷ []) }
+fn push_posted<'a>(posted: &mut Vec<Posted<'a>>, own: Posted<'a>) -> Result<(), AllocError>
+    ensures { OnOk result (posted.new.items ≡ posted.old.items ++ own.entry ∷ []) }
 {
-    posted.push(own.lend())?;
+    posted.push(own)?;
     Ok(())
 }
 
@@ -59,19 +59,19 @@ fn push_line<'a>(
     posted: &mut Vec<Posted<'a>>,
     fills: &[Fill<'a>],
     number: usize,
-    line: &Line<'a>,
+    line: Line<'a>,
 ) -> Result<(), AllocError>
     ensures { OnOk result (posted.new.items
-        ≡ posted.old.items ++ spec.posts_at fills.now number line.now) }
+        ≡ posted.old.items ++ spec.posts_at fills.now number line.entry) }
 {
     match line {
         Line::Posted(own) => push_posted(posted, own),
         Line::Take(own) => push_posted(posted, own),
         Line::MissingNumber(account, _, written) => {
-            push_filled(posted, fills, number, account, *written)
+            push_filled(posted, fills, number, &account, written)
         }
         Line::MissingAmount(account, written) => {
-            push_filled(posted, fills, number, account, *written)
+            push_filled(posted, fills, number, &account, written)
         }
     }
 }
@@ -80,13 +80,15 @@ fn push_line<'a>(
 pub(crate) fn completed<'a>(
     alloc: Global,
     fills: &[Fill<'a>],
-    lines: &[Line<'a>],
+    lines: Vec<Line<'a>>,
 ) -> Result<Vec<Posted<'a>>, AllocError>
-    ensures { IfOk result (λ posted. posted.items ≡ spec.completed fills.now lines.now) }
+    ensures { IfOk result (λ posted. posted.items ≡ spec.completed fills.now lines.entry.items) }
 {
-    let mut posted = Vec::new(alloc);
-    for number in 0..lines.len() {
-        push_line(&mut posted, fills, number, &lines[number])?;
+    let mut posted = Vec::with_capacity(alloc, lines.len())?;
+    let mut number = 0;
+    for line in lines {
+        push_line(&mut posted, fills, number, line)?;
+        number += 1;
     }
     Ok(posted)
 }

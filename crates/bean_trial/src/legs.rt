@@ -5,18 +5,18 @@ ghost use Rattle.bean_trial.specs.Tried as spec;
 ghost use Rattle.bean_trial.specs.Tried.{whole_at};
 
 use crate::line::{Line, Posted};
-use bean_base::Num;
+use bean_base::{Apart, Num};
 use bean_grammar::{Posting, Price, Units};
 use bean_interp::{Leg, Whole, Worth};
 use bean_lots::Lot;
 use std::alloc::{AllocError, Global};
 
 /// What units are worth: a cost goes before a price.
-fn worth_of<'a>(lot: &Option<Lot<'a>>, price: &Price<'a>) -> Worth<'a>
+fn worth_of<'a>(lot: &Option<Apart<Lot<'a>>>, price: &Price<'a>) -> Worth<'a>
     ensures { result ≡ spec.worth_of lot.now price.now }
 {
     match lot {
-        Some(lot) => Worth::Cost(lot.cost.lend()),
+        Some(lot) => Worth::Cost(lot.get().cost.lend()),
         None => worth_by(price),
     }
 }
@@ -90,7 +90,7 @@ pub(crate) fn legs_of<'a>(
 ) -> Result<Vec<Leg<'a>>, AllocError>
     ensures { IfOk result (λ legs. legs.items ≡ spec.legs_of postings.now lines.now) }
 {
-    let mut legs = Vec::new(alloc);
+    let mut legs = Vec::with_capacity(alloc, lines.len())?;
     for line in lines {
         legs.push(leg_of(postings, line))?;
     }
@@ -105,7 +105,7 @@ pub(crate) fn booked_legs<'a>(
 ) -> Result<Vec<Leg<'a>>, AllocError>
     ensures { IfOk result (λ legs. legs.items ≡ spec.booked_legs postings.now posted.now) }
 {
-    let mut legs = Vec::new(alloc);
+    let mut legs = Vec::with_capacity(alloc, posted.len())?;
     for one in posted {
         legs.push(Leg::Whole(whole(postings, one)))?;
     }

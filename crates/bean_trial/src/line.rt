@@ -1,7 +1,7 @@
 //! The postings of a transaction while it is tried.
 ghost use Rattle.std.specs.Prelude.{◌≡◌};
 
-use bean_base::{Account, Amount, Currency};
+use bean_base::{Account, Amount, Apart, Currency};
 use bean_lots::Lot;
 
 /// A posting as it is booked.
@@ -10,31 +10,19 @@ pub struct Posted<'a> {
     pub account: Account<'a>,
     pub units: Amount<'a>,
     /// The lot that the units are held as.
-    pub lot: Option<Lot<'a>>,
+    pub lot: Option<Apart<Lot<'a>>>,
     /// The number of the written posting among those of its transaction, from 0.
     pub written: usize,
 }
 
 impl<'a> Posted<'a> {
     /// The lot once more.
-    pub(crate) fn lend_lot(&self) -> Option<Lot<'a>>
+    pub fn lend_lot(&self) -> Option<Lot<'a>>
         ensures { result ≡ self.now.lot }
     {
         match &self.lot {
-            Some(lot) => Some(lot.lend()),
+            Some(lot) => Some(lot.get().lend()),
             None => None,
-        }
-    }
-
-    /// The same posting once more.
-    pub fn lend(&self) -> Posted<'a>
-        ensures { result ≡ self.now }
-    {
-        Posted {
-            account: self.account.lend(),
-            units: self.units.lend(),
-            lot: self.lend_lot(),
-            written: self.written,
         }
     }
 }
@@ -49,22 +37,4 @@ pub enum Line<'a> {
     /// A number of the currency is missing.
     MissingNumber(Account<'a>, Currency<'a>, usize),
     MissingAmount(Account<'a>, usize),
-}
-
-impl<'a> Line<'a> {
-    /// The same line once more.
-    pub(crate) fn lend(&self) -> Line<'a>
-        ensures { result ≡ self.now }
-    {
-        match self {
-            Line::Posted(posted) => Line::Posted(posted.lend()),
-            Line::Take(take) => Line::Take(take.lend()),
-            Line::MissingNumber(account, currency, written) => {
-                Line::MissingNumber(account.lend(), currency.lend(), *written)
-            }
-            Line::MissingAmount(account, written) => {
-                Line::MissingAmount(account.lend(), *written)
-            }
-        }
-    }
 }

@@ -84,6 +84,13 @@ impl<'a> Lines<'a> {
         self.lines.as_slice()
     }
 
+    /// The vector of the lines.
+    pub(crate) fn into_vec(self) -> Vec<Line<'a>>
+        ensures { result.items ≡ self.entry.lines.items }
+    {
+        self.lines
+    }
+
     fn push(&mut self, alloc: Global, line: Line<'a>) -> Result<(), AllocError>
         requires { IsKeeping self.old }
         ensures lines { OnOk result
@@ -95,13 +102,13 @@ impl<'a> Lines<'a> {
         Ok(())
     }
 
-    fn push_all(&mut self, alloc: Global, lines: &[Line<'a>]) -> Result<(), AllocError>
+    fn push_all(&mut self, alloc: Global, lines: Vec<Line<'a>>) -> Result<(), AllocError>
         requires { IsKeeping self.old }
-        ensures lines { OnOk result (self.new.lines.items ≡ self.old.lines.items ++ lines.now) }
+        ensures lines { OnOk result (self.new.lines.items ≡ self.old.lines.items ++ lines.entry.items) }
         ensures keeping { OnOk result (IsKeeping self.new) }
     {
         for line in lines {
-            self.push(alloc, line.lend())?;
+            self.push(alloc, line)?;
         }
         Ok(())
     }
@@ -114,7 +121,7 @@ impl<'a> Lines<'a> {
     {
         match outcome {
             Outcome::Line(line) => self.push(alloc, line),
-            Outcome::Takes(lines) => self.push_all(alloc, &lines),
+            Outcome::Takes(lines) => self.push_all(alloc, lines),
         }
     }
 

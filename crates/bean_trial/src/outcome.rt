@@ -16,7 +16,7 @@ use crate::line::{Line, Posted};
 use crate::setting::Head;
 use crate::stock::Stock;
 use crate::stop::{LineFault, Stop};
-use bean_base::{Account, Amount, Currency, FaultKind, Num, Text};
+use bean_base::{Account, Amount, Apart, Currency, FaultKind, Num, Text};
 use bean_grammar::{Cost, LotParts, Posting, Units};
 use bean_lots::{Lot, LotFault, Method, Selector, has_opposite, reduce_after};
 use std::alloc::{AllocError, Global};
@@ -98,22 +98,25 @@ fn stop_of(fault: LotFault, line: usize) -> Stop
 
 /// The line of a take, for the posting of that index.
 fn take_line<'a>(
+    alloc: Global,
     account: &Account<'a>,
     currency: &Currency<'a>,
     index: usize,
     take: &(Lot<'a>, Num),
-) -> Line<'a>
-    ensures { IsTakeLine account.now currency.now index (take_counts take.now) result }
+) -> Result<Line<'a>, AllocError>
+    ensures { IfOk result (λ line.
+        IsTakeLine account.now currency.now index (take_counts take.now) line) }
 {
-    Line::Take(Posted {
+    let lot = Apart::new(alloc, take.0.lend())?;
+    Ok(Line::Take(Posted {
         account: account.lend(),
         units: Amount {
             number: take.1,
             currency: currency.lend(),
         },
-        lot: Some(take.0.lend()),
+        lot: Some(lot),
         written: index,
-    })
+    }))
 }
 
 /// The lines of takes.
@@ -129,7 +132,7 @@ fn take_lines<'a>(
 {
     let mut lines = Vec::new(alloc);
     for take in takes {
-        lines.push(take_line(account, currency, index, take))?;
+        lines.push(take_line(alloc, account, currency, index, take)?)?;
     }
     Ok(lines)
 }
@@ -178,6 +181,7 @@ fn lot_of<'a>(head: Head, parts: &LotParts<'a>, cost: &Amount<'a>) -> Lot<'a>
 
 /// The line of an augmentation.
 fn augmented<'a>(
+    alloc: Global,
     head: Head,
     index: usize,
     posting: &Posting<'a>,
@@ -193,10 +197,11 @@ fn augmented<'a>(
     if cost.number.count < 0 {
         return Err(stop_at(FaultKind::NegativeCost, posting.line));
     }
+    let lot = Apart::new(alloc, lot_of(head, parts, cost))?;
     Ok(Outcome::Line(Line::Posted(Posted {
         account: posting.account.lend(),
         units: units.lend(),
-        lot: Some(lot_of(head, parts, cost)),
+        lot: Some(lot),
         written: index,
     })))
 }
@@ -218,7 +223,7 @@ fn in_braces<'a>(
     if is_reduction(stock, units) {
         reduced(alloc, stock, index, posting, units, parts)
     } else {
-        augmented(head, index, posting, units, parts)
+        augmented(alloc, head, index, posting, units, parts)
     }
 }
 

@@ -56,13 +56,13 @@ fn complete<'a>(
     scales: &mut Scales<'a>,
     head: Head,
     postings: &[Posting<'a>],
-    lines: &[Line<'a>],
+    lines: Vec<Line<'a>>,
 ) -> Result<List<Posted<'a>>, Stop>
-    ensures ok { IfOk result (IsCompleted postings.now lines.now) }
+    ensures ok { IfOk result (IsCompleted postings.now lines.entry.items) }
     ensures err { IfErr result
-        (StopsAt (LacksOrIsWide head.line (spec.legs_of postings.now lines.now))) }
+        (StopsAt (LacksOrIsWide head.line (spec.legs_of postings.now lines.entry.items))) }
 {
-    let legs = legs_of(alloc, postings, lines)?;
+    let legs = legs_of(alloc, postings, &lines)?;
     match scales.complete(alloc, &legs) {
         Ok(fills) => {
             let posted = completed(alloc, fills.as_slice(), lines)?;
@@ -94,7 +94,7 @@ pub fn try_transaction<'a>(
         }));
     }
     match line_up(alloc, holdings, methods, head, postings) {
-        Ok(lines) => complete(alloc, scales, head, postings, lines.as_slice()),
+        Ok(lines) => complete(alloc, scales, head, postings, lines.into_vec()),
         Err(stop) => Err(stop),
     }
 }

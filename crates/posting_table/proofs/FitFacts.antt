@@ -149,3 +149,8 @@ rows_are_within rows few are =
     and_from _ _ (le-leb (length rows) 1000000 few)
     (list_all-from_AllPass (row_fits widest) rows
     (λ k d small. row_is_within (slice_index_or rows k d) (are k d small)))
+
+-- ---- what a row holds of its units
+
+pub few_units : (r : Row) → IsShaped widest r → unsigned_abs r.position.count < 10 ^ 20
+few_units r is = below 20 _ (is.cells column.Number).1

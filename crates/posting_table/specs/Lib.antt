@@ -3,6 +3,7 @@ pub mod Metadata
 pub mod Row
 pub mod Cells
 pub mod Decimals
+pub mod Held
 pub mod Ledger
 pub mod Fits
 pub mod Shaped

@@ -6,7 +6,6 @@ ghost use Rattle.posting_table.specs.Shaped.{IsShaped, widest};
 ghost use Rattle.query_shapes.specs.Mass.{value_of};
 
 use crate::held::HeldRow;
-use crate::row::Row;
 use bean_base::{Bounds, power_of_ten};
 use bean_lots::Lot;
 
@@ -34,13 +33,13 @@ fn lot_fits(bounds: &Bounds, lot: &Option<Lot<'_>>, count: i128) -> bool
 }
 
 /// Whether the counts of a row are within bounds.
-fn row_fits(bounds: &Bounds, row: &Row<'_>) -> bool
+fn row_fits(bounds: &Bounds, row: &HeldRow<'_>) -> bool
     requires { IsShaped widest row.now }
     ensures { result ≡ spec.row_fits bounds.now row.now }
 {
-    has_digits(bounds.units_digits, row.position.count.unsigned_abs())
-        && lot_fits(bounds, &row.position.key.lot, row.position.count)
-        && has_digits(bounds.value_digits, row.weight.count.unsigned_abs())
+    has_digits(bounds.units_digits, row.count().unsigned_abs())
+        && lot_fits(bounds, &row.key().lot, row.count())
+        && has_digits(bounds.value_digits, row.weight().count.unsigned_abs())
 }
 
 /// Whether the counts of all rows are within bounds.
@@ -49,7 +48,7 @@ pub(crate) fn all_fit(bounds: &Bounds, rows: &[HeldRow<'_>]) -> bool
     ensures { result ≡ list_all (spec.row_fits bounds.now) rows.now }
 {
     for row in rows {
-        if !row_fits(bounds, row.row()) {
+        if !row_fits(bounds, row) {
             return false;
         }
     }

@@ -1,88 +1,155 @@
 //! Rows as a ledger holds them.
-ghost use Rattle.std.specs.Prelude.{◌≡◌, IfOk};
-ghost use Rattle.posting_table.specs.Cells.{lot_cell};
+ghost use Rattle.std.specs.Prelude.{◌≡◌, ◌<◌, ◌^◌, IfOk, None};
+ghost use Rattle.std.specs.Int.RustNames.{unsigned_abs};
+ghost use Rattle.posting_table.specs.Held.{weight_in};
 ghost use Rattle.posting_table.specs.Row as spec;
 
-use crate::cells::{flag_or_null, lot_cell, whole};
-use crate::plain_text::PlainText;
-use crate::row::Row;
-use bean_base::{Apart, Slice};
-use bean_lots::Lot;
+use crate::cells::{flag_or_null, whole};
+use crate::entry::Entry;
+use crate::keys::{HeldKey, Keys};
+use crate::metadata::Metadata;
+use crate::row::{Row, Weight};
+use crate::shared::Shared;
+use bean_base::{Account, Apart, Flag, Slice};
+use bean_lots::{Key, Position};
 use query_columns::Column;
 use query_values::{Lent, Value};
 use std::alloc::{AllocError, Global};
 use std::marker::Model;
 
-/// A row, with what the label of its lot stands for.
+/// A row in little memory: the key of its position stands elsewhere, and most postings weigh what
+/// their units are, so that a weight is seldom held.
 #[derive(Debug, Drop)]
 pub(crate) struct HeldRow<'a> {
-    row: Row<'a>,
-    label: Option<Apart<PlainText<'a>>>,
+    count: i128,
+    account: Account<'a>,
+    entry: Shared<Entry<'a>>,
+    key: Shared<HeldKey<'a>>,
+    weight: Option<Apart<Weight<'a>>>,
+    metadata: Metadata<'a>,
+    line: usize,
+    flag: Option<Flag>,
 }
 
 impl<'a> Model for HeldRow<'a> {
-    ghost use Rattle.std.specs.Prelude.{◌≡◌};
-    ghost use Rattle.posting_table.specs.Row.{label_of};
+    ghost use Rattle.std.specs.Prelude.{◌<◌, ◌^◌};
+    ghost use Rattle.std.specs.Int.RustNames.{unsigned_abs};
+    ghost use Rattle.posting_table.specs.Held.{weight_in};
     ghost use Rattle.posting_table.specs.declared.row.Row.{Row};
 
     ghost Value = { Row };
 
-    ghost view = { λ h. h.row };
+    ghost view = { λ h. record {
+      entry = h.entry;
+      account = h.account;
+      position = record { key = h.key; count = h.count };
+      weight = weight_in h.key.currency h.count h.weight;
+      metadata = h.metadata;
+      line = h.line;
+      flag = h.flag;
+    } };
 
-    ghost invariant = { λ h. h.label ≡ label_of h.row.position.key.lot };
+    ghost invariant = { λ h. unsigned_abs h.count < 10 ^ 20 };
 }
 
-/// What the label of a lot stands for.
-fn label_of<'a>(
-    alloc: Global,
-    lot: &Option<Lot<'a>>,
-) -> Result<Option<Apart<PlainText<'a>>>, AllocError>
-    ensures { IfOk result (λ label. label ≡ spec.label_of lot.now) }
+/// What units weigh by themselves.
+fn weight_by<'a>(key: &Key<'a>, count: i128) -> Weight<'a>
+    requires { unsigned_abs count < 10 ^ 20 }
+    ensures { result ≡ weight_in key.now.currency count None }
 {
-    match lot {
-        Some(
-            Lot {
-                label: Some(label),
-                ..
-            },
-        ) => Ok(Some(Apart::new(alloc, PlainText::of(alloc, label)?)?)),
-        _ => Ok(None),
+    Weight {
+        count: count * 100_000_000,
+        currency: key.currency.lend(),
     }
+}
+
+/// A weight, where it isn't that of the units by themselves.
+fn weight_beside<'a>(
+    alloc: Global,
+    position: &Position<'a>,
+    weight: Weight<'a>,
+) -> Result<Option<Apart<Weight<'a>>>, AllocError>
+    requires { unsigned_abs position.now.count < 10 ^ 20 }
+    ensures { IfOk result (λ held.
+        weight_in position.now.key.currency position.now.count held ≡ weight.entry) }
+{
+    if weight_by(&position.key, position.count) == weight {
+        return Ok(None);
+    }
+    Ok(Some(Apart::new(alloc, weight)?))
 }
 
 impl<'a> HeldRow<'a> {
-    /// The row, with its label made plain.
-    pub(crate) fn new(alloc: Global, row: Row<'a>) -> Result<HeldRow<'a>, AllocError>
+    /// The row, whose key is held as others are.
+    pub(crate) fn new(
+        alloc: Global,
+        keys: &mut Keys<'a>,
+        row: Row<'a>,
+    ) -> Result<HeldRow<'a>, AllocError>
+        requires { unsigned_abs row.position.count < 10 ^ 20 }
         ensures { IfOk result (λ held. held ≡ row.entry) }
     {
-        let label = label_of(alloc, &row.position.key.lot)?;
-        Ok(HeldRow { row, label })
+        let position = row.position;
+        let weight = weight_beside(alloc, &position, row.weight)?;
+        Ok(HeldRow {
+            count: position.count,
+            account: row.account,
+            entry: row.entry,
+            key: keys.held(alloc, position.key)?,
+            weight,
+            metadata: row.metadata,
+            line: row.line,
+            flag: row.flag,
+        })
     }
 
-    /// The row.
-    pub(crate) fn row(&self) -> &Row<'a>
-        ensures { result.now ≡ self.now }
+    /// What the row has from its transaction.
+    pub(crate) fn entry(&self) -> &Entry<'a>
+        ensures { result.now ≡ self.now.entry }
     {
-        &self.row
+        self.entry.get()
     }
 
-    /// What the row has in a column of lots.
-    fn cost_cell(&self, column: Column) -> Value<'_>
-        ensures { result ≡ spec.of_lot (λ lot. lot_cell lot column) self.now.position.key.lot }
+    /// The row's own metadata.
+    pub(crate) fn metadata(&self) -> &Metadata<'a>
+        ensures { result.now ≡ self.now.metadata }
     {
-        match &self.row.position.key.lot {
-            Some(lot) => lot_cell(lot, column),
-            None => Value::Null,
+        &self.metadata
+    }
+
+    /// How many units the posting has, as a count of `10^-8`.
+    pub(crate) fn count(&self) -> i128
+        ensures { result ≡ self.now.position.count }
+    {
+        self.count
+    }
+
+    /// What its units are held as.
+    pub(crate) fn key(&self) -> &Key<'a>
+        ensures { result.now ≡ self.now.position.key }
+    {
+        self.key.get().key()
+    }
+
+    /// What the posting weighs.
+    pub(crate) fn weight(&self) -> Weight<'a>
+        ensures { result ≡ self.now.weight }
+    {
+        match &self.weight {
+            Some(weight) => weight.get().lend(),
+            None => weight_by(self.key(), self.count),
         }
     }
 
-    /// The label of the row's lot, or null.
-    fn label_cell(&self) -> Value<'_>
-        ensures { result ≡ spec.text_or_null (spec.label_of self.now.position.key.lot) }
+    /// The row's weight as a cell.
+    fn weight_cell(&self) -> Value<'_>
+        ensures { result ≡ spec.cell_at self.now Column.Weight }
     {
-        match &self.label {
-            Some(label) => Value::Text(Slice::new(label.get().as_str())),
-            None => Value::Null,
+        let weight = self.weight();
+        Value::Amount {
+            places: 16,
+            count: weight.count,
+            currency: weight.currency,
         }
     }
 
@@ -91,27 +158,25 @@ impl<'a> HeldRow<'a> {
         ensures { result ≡ spec.cell_at self.now column }
     {
         match column {
-            Column::Account => Value::Text(Slice::new(self.row.account.text())),
-            Column::PostingFlag => flag_or_null(self.row.flag),
+            Column::Account => Value::Text(Slice::new(self.account.text())),
+            Column::PostingFlag => flag_or_null(self.flag),
             Column::Number => Value::Number {
                 places: 8,
-                count: self.row.position.count,
+                count: self.count,
             },
-            Column::Currency => Value::Text(Slice::new(self.row.position.key.currency.text())),
-            Column::CostNumber | Column::CostCurrency | Column::CostDate => self.cost_cell(column),
-            Column::CostLabel => self.label_cell(),
+            Column::Currency => Value::Text(Slice::new(self.key().currency.text())),
+            Column::CostNumber | Column::CostCurrency | Column::CostDate => {
+                self.key.get().cost_cell(column)
+            }
+            Column::CostLabel => self.key.get().label_cell(),
             Column::Position => Value::Position {
-                key: Lent::new(&self.row.position.key),
-                count: self.row.position.count,
+                key: Lent::new(self.key()),
+                count: self.count,
             },
-            Column::Weight => Value::Amount {
-                places: 16,
-                count: self.row.weight.count,
-                currency: self.row.weight.currency.lend(),
-            },
+            Column::Weight => self.weight_cell(),
             Column::Balance => Value::Null,
-            Column::Lineno => whole(self.row.line),
-            _ => self.row.entry.get().cell(column),
+            Column::Lineno => whole(self.line),
+            _ => self.entry().cell(column),
         }
     }
 }

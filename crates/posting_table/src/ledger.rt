@@ -11,6 +11,7 @@ ghost use Rattle.posting_table.specs.Shaped.{IsShaped, widest};
 use crate::bounded::all_fit;
 use crate::display::Display;
 use crate::held::HeldRow;
+use crate::keys::Keys;
 use crate::row::Row;
 use bean_base::{Bounds, Currency};
 use query_columns::Column;
@@ -26,6 +27,7 @@ pub const MOST_POSTINGS: usize = 1_000_000;
 pub struct Ledger<'a> {
     alloc: Global,
     rows: Vec<HeldRow<'a>>,
+    keys: Keys<'a>,
     display: Display<'a>,
 }
 
@@ -55,8 +57,17 @@ impl<'a> Ledger<'a> {
         Ledger {
             alloc,
             rows: Vec::new(alloc),
+            keys: Keys::new(alloc),
             display: Display::new(alloc),
         }
+    }
+
+    /// Takes memory for so many more postings at once.
+    pub fn reserve(&mut self, more: usize) -> Result<(), AllocError>
+        ensures { self.new ≡ self.old }
+    {
+        self.rows.reserve(more)?;
+        Ok(())
     }
 
     /// Adds a posting at the end.
@@ -67,7 +78,7 @@ impl<'a> Ledger<'a> {
             ≡ record { rows = self.old.rows ++ row.entry ∷ []; decimals = self.old.decimals }) }
         ensures unchanged { OnErr result (self.new ≡ self.old) }
     {
-        let row = HeldRow::new(self.alloc, row)?;
+        let row = HeldRow::new(self.alloc, &mut self.keys, row)?;
         self.rows.push(row)?;
         Ok(())
     }
@@ -112,7 +123,7 @@ impl<'a> Ledger<'a> {
         requires { row < length self.now.rows }
         ensures { option_copied result ≡ meta_at self.now.rows row key.now }
     {
-        self.rows[row].row().metadata.text_under(key)
+        self.rows[row].metadata().text_under(key)
     }
 
     /// What the metadata of a posting's transaction has under a key.
@@ -120,7 +131,7 @@ impl<'a> Ledger<'a> {
         requires { row < length self.now.rows }
         ensures { option_copied result ≡ entry_meta_at self.now.rows row key.now }
     {
-        self.rows[row].row().entry.get().metadata.text_under(key)
+        self.rows[row].entry().metadata.text_under(key)
     }
 
     /// Whether it is within bounds: it has no more postings than they allow, and no wider counts.

@@ -34,7 +34,9 @@
 //!
 //! What the postings of a transaction have in common, its [`Entry`], stands once for all of them,
 //! and so does the [`Metadata`] of a written posting that became several. A text is a slice of the
-//! ledger's text, and is made only where it is written with an escape or stands for no text.
+//! ledger's text, and is made only where it is written with an escape or stands for no text. What
+//! units of a currency are held as without a lot stands once for all rows of the currency, and a
+//! weight is kept only where it isn't that of the units themselves.
 //!
 //! # Cells
 //!
@@ -53,8 +55,9 @@
 //!
 //! # Cost
 //!
-//! A row is moved in and never copied. `cell` and `len` take a few steps, `push` and `set_display`
-//! a few on the average, `meta` and `entry_meta` look at each entry, and `fits` at each row. `new`
+//! A row is moved in and never copied; it takes 80 bytes, and what it alone has of a lot, of a
+//! weight or of metadata lies apart. `cell` and `len` take a few steps, `push` and `set_display` a
+//! few on the average, `meta` and `entry_meta` look at each entry, and `fits` at each row. `new`
 //! takes no memory.
 #![tactic(auto)]
 
@@ -63,6 +66,7 @@ mod cells;
 mod display;
 mod entry;
 mod held;
+mod keys;
 pub mod laws;
 mod ledger;
 mod metadata;

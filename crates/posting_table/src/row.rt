@@ -1,4 +1,5 @@
 //! Rows of the table.
+ghost use Rattle.std.specs.Prelude.{◌≡◌};
 
 use crate::entry::Entry;
 use crate::metadata::Metadata;
@@ -11,6 +12,18 @@ use bean_lots::Position;
 pub struct Weight<'a> {
     pub count: i128,
     pub currency: Currency<'a>,
+}
+
+impl<'a> Weight<'a> {
+    /// The same weight once more.
+    pub fn lend(&self) -> Weight<'a>
+        ensures { result ≡ self.now }
+    {
+        Weight {
+            count: self.count,
+            currency: self.currency.lend(),
+        }
+    }
 }
 
 /// A booked posting.

@@ -29,7 +29,7 @@ fn add_posted(alloc: Global, words: &mut String, posted: &Posted<'_>) -> Result<
     let currency = posted.units.currency.text();
     let word = format!(in alloc; "{account} {}/{} {currency}", number.count, number.places)?;
     words.push_str(word.as_str())?;
-    if let Some(lot) = &posted.lot {
+    if let Some(lot) = posted.lend_lot() {
         let cost = lot.cost.currency.text();
         let word = format!(in alloc; " {{{} {cost}}}", lot.cost.count)?;
         words.push_str(word.as_str())?;

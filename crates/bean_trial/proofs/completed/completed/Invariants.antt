@@ -1,9 +1,10 @@
-use Rattle.std.proofs.Common.{◌≡◌, ◌++◌, drop}
+use Rattle.std.proofs.Common.{◌≡◌, length}
 use Rattle.bean_trial.specs.Tried as spec
 use Rattle.bean_trial.proofs.completed.completed.Given as goal
 
--- those so far and those of the rest are all
-abbrev pub invariant-loop-number : goal.invariant-loop-number
-invariant-loop-number l =
-    l.posted.items ++ spec.posts_from l.fills l.number (drop l.number l.lines)
-    ≡ spec.completed l.fills l.lines
+-- those of the lines so far
+abbrev pub invariant-loop-line : goal.invariant-loop-line
+invariant-loop-line l = record {
+  number : l.number ≡ length l.yielded;
+  posted : l.posted.items ≡ spec.completed l.fills l.yielded;
+}

@@ -18,4 +18,4 @@ loop-take-preserved c =
     (subst (AreTakeLines account currency i (map take_counts (take k takes) ++ take_counts item ∷ []))
     (sym c.in_ok-push.ensures.items)
     (one_more_take account currency i (map take_counts (take k takes)) old (take_counts item)
-    c.take_line.result c.loop-take.invariant c.take_line.ensures))
+    _ c.loop-take.invariant c.in_ok-take_line.ensures))

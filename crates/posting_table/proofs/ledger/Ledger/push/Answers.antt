@@ -3,10 +3,11 @@ use Rattle.std.proofs.lemmas.List.{length-append}
 use Rattle.std.proofs.lemmas.List.Elements.{All-push}
 use Rattle.posting_table.specs.Shaped.{IsShaped, widest}
 use Rattle.posting_table.specs.declared.ledger.TheConstants.{MOST_POSTINGS}
+use Rattle.posting_table.proofs.FitFacts.{few_units}
 use Rattle.posting_table.proofs.ledger.Ledger.push.Goals as goal
 
-pub invariant_of-self : goal.invariant_of-self
-invariant_of-self c = rw c.in_err-push.ensures.items c.self.invariant
+pub invariant_of-self-in_err-push : goal.invariant_of-self-in_err-push
+invariant_of-self-in_err-push c = rw c.in_err-push.ensures.items c.self.invariant
 
 pub invariant_of-self-2 : goal.invariant_of-self-2
 invariant_of-self-2 c =
@@ -18,3 +19,6 @@ invariant_of-self-2 c =
     let is = subst (IsShaped widest) (sym c.in_ok-row.ensures) c.requires.shaped in
     rw c.in_ok-push.ensures.items
     (omega (arith, room, longer), All-push (IsShaped widest) items row c.self.invariant.1 is)
+
+pub new-requires : goal.new-requires
+new-requires c = few_units c.args.row c.requires.shaped

@@ -1,0 +1,139 @@
+-- Faults are found without rows: the ledger that has the rows is there, and not too large.
+use Rattle.std.proofs.Common.{◌≡◌, ℕ, ◌+◌, ◌<◌, ◌≤◌, max, List, [], ◌∷◌, length, map, filter, fold, reverse}
+use Rattle.std.proofs.Common.{Ok, Err, Bool, true, false, cond, refl, sym, ap, subst, ◌∙◌, arith}
+use Rattle.std.proofs.Common.{unwrap_or}
+use Rattle.std.specs.Cmp.Lexicographic.{slice_cmp}
+use Rattle.std.specs.FinMap.{empty, get-empty, insert}
+use Rattle.std.specs.List.{flat_map}
+use Rattle.std.specs.Ordering.{nat_cmp}
+use Rattle.std.specs.Str.{bytes_eq}
+use Rattle.std.proofs.lemmas.Slice.Eq.{bytes_eq-Decides}
+use Rattle.bean_base.specs.declared.amounts.Amount.{Amount}
+use Rattle.bean_base.specs.declared.fault.Fault.{Fault}
+use Rattle.bean_booker.proofs.OneBooking.{one_stand}
+use Rattle.bean_booker.specs.Booked.{IsBooked, method_in_ledger}
+use Rattle.bean_booker.specs.Stand.{LeadsTo, Stand, postings_of}
+use Rattle.bean_booker.specs.declared.booked.Booked as booker
+use Rattle.bean_booker.specs.declared.booker.BookFault.{BookFault}
+use Rattle.bean_booker.specs.declared.booker.BookFault.TheVariants.{OutOfMemory, TooManyPostings}
+use Rattle.bean_load.specs.Loaded.{Loaded}
+use Rattle.bean_pad.specs.Note.{noted_pads}
+use Rattle.posting_table.proofs.DecimalsFacts.{decimals_of-insert}
+use Rattle.posting_table.specs.Decimals.{Decimals, decimals_of}
+use Rattle.posting_table.specs.Ledger.{Ledger}
+use Rattle.bean_book.specs.Booked.{Books, HasTooMany, IsLedgerOf, bookings_of, decimals_from}
+use Rattle.bean_book.specs.Booked.{rows_of_all, written_in_all}
+use Rattle.bean_book.specs.Entries.{Booking}
+use Rattle.bean_book.specs.Found.{FindsFaults}
+use Rattle.bean_book.specs.Reported.{reported}
+use Rattle.bean_book.specs.Rows.{rows_of_pad}
+use Rattle.bean_book.proofs.BookFacts.{in_order}
+use Rattle.bean_book.proofs.CountFacts.{noted_length, pads_turned, rows_are, stand_pads}
+use Rattle.bean_book.proofs.ListFacts.{decimals_from-append}
+
+-- ---- the ledger of bookings
+
+noted : Decimals → Amount → Decimals
+noted d a = insert d a.currency (max (decimals_of d a.currency) a.number.places)
+
+one_noted : (d : Decimals) (a : Amount) (name : List ℕ)
+    → decimals_of (noted d a) name
+    ≡ cond (bytes_eq a.currency name) (max (decimals_of d name) a.number.places)
+    (decimals_of d name)
+unfolding noted
+one_noted d a name =
+    decimals_of-insert d a.currency (max (decimals_of d a.currency) a.number.places) name
+    ∙ by (bytes_eq a.currency name) refl
+  where
+    by : (b : Bool) → bytes_eq a.currency name ≡ b
+        → cond b (max (decimals_of d a.currency) a.number.places) (decimals_of d name)
+        ≡ cond b (max (decimals_of d name) a.number.places) (decimals_of d name)
+    by true is =
+        ap (λ c. max (decimals_of d c) a.number.places) ((bytes_eq-Decides a.currency name).0 is)
+    by false is = refl
+
+single : (n : ℕ) (a : Amount) (name : List ℕ)
+    → decimals_from n name (a ∷ []) ≡ cond (bytes_eq a.currency name) (max n a.number.places) n
+single n a name = by (bytes_eq a.currency name)
+  where
+    by : (b : Bool)
+        → fold max n (map (λ (x : Amount). x.number.places) (cond b (a ∷ []) []))
+        ≡ cond b (max n a.number.places) n
+    by true = refl
+    by false = refl
+
+decimals_with : Decimals → List Amount → Decimals
+decimals_with d [] = d
+decimals_with d (a ∷ amounts) = decimals_with (noted d a) amounts
+
+with_decimals : (d : Decimals) (amounts : List Amount) (name : List ℕ)
+    → decimals_of (decimals_with d amounts) name ≡ decimals_from (decimals_of d name) name amounts
+unfolding decimals_with
+with_decimals d [] name = refl
+with_decimals d (a ∷ amounts) name =
+    with_decimals (noted d a) amounts name
+    ∙ ap (λ n. decimals_from n name amounts)
+    (one_noted d a name ∙ sym (single (decimals_of d name) a name))
+    ∙ sym (decimals_from-append (decimals_of d name) name (a ∷ []) amounts)
+
+made : List Booking → Ledger
+made bs = record { rows = rows_of_all bs; decimals = decimals_with empty (written_in_all bs) }
+
+is_made : (bs : List Booking) → length (rows_of_all bs) ≤ 1000000 → IsLedgerOf bs (made bs)
+unfolding made
+is_made bs few = record {
+  rows = refl;
+  few = few;
+  decimals = λ name. with_decimals empty (written_in_all bs) name
+      ∙ ap (λ o. decimals_from (unwrap_or o 0) name (written_in_all bs))
+      (get-empty (slice_cmp nat_cmp) name);
+}
+
+-- ---- how many rows there are
+
+abbrev row_count : booker.Booked → ℕ
+row_count b = length (postings_of b.kept) + length (flat_map rows_of_pad b.pads)
+
+rows_counted : (l : Loaded) (b : booker.Booked) (h : IsBooked l b)
+    → length (rows_of_all (bookings_of l h.stand)) ≡ row_count b
+rows_counted l b h =
+    let st = h.stand in
+    let one = noted_length st.steps in
+    let two = stand_pads (method_in_ledger l) (reverse l.directives) st h.leads in
+    let three = pads_turned l.directives in
+    let rows = rows_are 0 l.directives st.kept (noted_pads st.steps) (in_order l st h.leads)
+    (omega (arith, one, two, three)) in
+    let kept = ap (λ ks. length (postings_of ks)) h.finished.kept_is in
+    let pads = ap (λ ps. length (flat_map rows_of_pad ps)) h.finished.pads_are in
+    omega (arith, rows, kept, pads)
+
+-- ---- what is found
+
+pub found : (l : Loaded) (b : booker.Booked) → IsBooked l b → row_count b ≤ 1000000
+    → (faults : List Fault) → faults ≡ reported b.faults → FindsFaults l (Ok faults)
+found l b h few faults is =
+    let rows = rows_counted l b h in (
+      record { ledger = made (bookings_of l h.stand); faults = faults },
+      record {
+        stand = h.stand;
+        leads = h.leads;
+        ledger = is_made (bookings_of l h.stand) (omega (arith, rows, few));
+        faults = is ∙ ap reported h.finished.faults_are;
+      },
+      refl,
+    )
+
+pub too_many_found : (l : Loaded) (b : booker.Booked) → IsBooked l b → (fault : BookFault)
+    → (fault ≡ TooManyPostings → 1000000 < row_count b) → FindsFaults l (Err fault)
+too_many_found l b h TooManyPostings full = λ st leads.
+    let same =
+    one_stand (method_in_ledger l) (reverse l.directives) h.stand st h.leads leads in
+    let rows = rows_counted l b h in
+    let here = ap (λ s. length (rows_of_all (bookings_of l s))) same in
+    let many = full refl in omega (arith, rows, here, many)
+too_many_found l b h OutOfMemory full = tt
+
+pub none_found : (l : Loaded) (fault : BookFault) → Books l (Err fault)
+    → FindsFaults l (Err fault)
+none_found l TooManyPostings many = many
+none_found l OutOfMemory h = tt

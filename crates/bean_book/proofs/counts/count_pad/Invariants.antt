@@ -1,0 +1,11 @@
+use Rattle.std.proofs.Common.{◌≡◌, ◌≤◌, ◌+◌, length, take}
+use Rattle.std.specs.List.{flat_map}
+use Rattle.bean_book.specs.Rows.{rows_of_note}
+use Rattle.bean_book.proofs.counts.count_pad.Given as goal
+
+abbrev pub invariant-loop-note : goal.invariant-loop-note
+invariant-loop-note l = record {
+  sum : l.sum ≡ l.count
+      + length (flat_map (rows_of_note l.noted.pad) (take l.note-index l.noted.notes));
+  few : l.sum ≤ 1000000;
+}

@@ -1,0 +1,143 @@
+//! The keys of positions, as a ledger holds them.
+ghost use Rattle.std.specs.Prelude.{◌≡◌, IfOk, IfSome};
+ghost use Rattle.posting_table.specs.Cells.{lot_cell};
+ghost use Rattle.posting_table.specs.Row as spec;
+
+use crate::cells::lot_cell;
+use crate::plain_text::PlainText;
+use crate::shared::Shared;
+use bean_base::{Currency, Slice};
+use bean_lots::{Key, Lot};
+use indexmap::IndexMap;
+use query_columns::Column;
+use query_values::Value;
+use std::alloc::{AllocError, Global};
+use std::marker::Model;
+
+/// The key of a position, with what the label of its lot stands for.
+#[derive(Debug, Drop)]
+pub(crate) struct HeldKey<'a> {
+    key: Key<'a>,
+    label: Option<PlainText<'a>>,
+}
+
+impl<'a> Model for HeldKey<'a> {
+    ghost use Rattle.std.specs.Prelude.{◌≡◌};
+    ghost use Rattle.bean_lots.specs.declared.lot.Key.{Key};
+    ghost use Rattle.posting_table.specs.Row.{label_of};
+
+    ghost Value = { Key };
+
+    ghost view = { λ h. h.key };
+
+    ghost invariant = { λ h. h.label ≡ label_of h.key.lot };
+}
+
+/// What the label of a lot stands for.
+fn label_of<'a>(
+    alloc: Global,
+    lot: &Option<Lot<'a>>,
+) -> Result<Option<PlainText<'a>>, AllocError>
+    ensures { IfOk result (λ label. label ≡ spec.label_of lot.now) }
+{
+    match lot {
+        Some(
+            Lot {
+                label: Some(label),
+                ..
+            },
+        ) => Ok(Some(PlainText::of(alloc, label)?)),
+        _ => Ok(None),
+    }
+}
+
+impl<'a> HeldKey<'a> {
+    /// The key, with its label made plain, held once so far.
+    fn shared(alloc: Global, key: Key<'a>) -> Result<Shared<HeldKey<'a>>, AllocError>
+        ensures { IfOk result (λ held. held ≡ key.entry) }
+    {
+        let label = label_of(alloc, &key.lot)?;
+        Shared::new(alloc, HeldKey { key, label })
+    }
+
+    /// The key.
+    pub(crate) fn key(&self) -> &Key<'a>
+        ensures { result.now ≡ self.now }
+    {
+        &self.key
+    }
+
+    /// What a column of lots has of it.
+    pub(crate) fn cost_cell(&self, column: Column) -> Value<'_>
+        ensures { result ≡ spec.of_lot (λ lot. lot_cell lot column) self.now.lot }
+    {
+        match &self.key.lot {
+            Some(lot) => lot_cell(lot, column),
+            None => Value::Null,
+        }
+    }
+
+    /// The label of its lot, or null.
+    pub(crate) fn label_cell(&self) -> Value<'_>
+        ensures { result ≡ spec.text_or_null (spec.label_of self.now.lot) }
+    {
+        match &self.label {
+            Some(label) => Value::Text(Slice::new(label.as_str())),
+            None => Value::Null,
+        }
+    }
+}
+
+/// The keys of currencies without a lot, each of which stands once for all rows of the currency.
+#[derive(Drop)]
+pub(crate) struct Keys<'a> {
+    plain: IndexMap<Currency<'a>, Shared<HeldKey<'a>>>,
+}
+
+impl<'a> Keys<'a> {
+    /// No keys. Takes no memory.
+    pub(crate) fn new(alloc: Global) -> Keys<'a> {
+        Keys {
+            plain: IndexMap::new(alloc),
+        }
+    }
+
+    /// The key, where it stands already.
+    fn known(&self, key: &Key<'a>) -> Option<&Shared<HeldKey<'a>>>
+        ensures { IfSome result (λ known. known.now ≡ key.now) }
+    {
+        let known = self.plain.get(&key.currency)?;
+        if *known.get().key() == *key {
+            Some(known)
+        } else {
+            None
+        }
+    }
+
+    /// Keeps the key of a currency for later rows.
+    fn keep(&mut self, alloc: Global, key: Key<'a>) -> Result<Shared<HeldKey<'a>>, AllocError>
+        ensures { IfOk result (λ held. held ≡ key.entry) }
+    {
+        let currency = key.currency.lend();
+        let held = HeldKey::shared(alloc, key)?;
+        self.plain.insert(currency, held.share()?)?;
+        Ok(held)
+    }
+
+    /// The key as it is held: one of a lot stands by itself.
+    pub(crate) fn held(
+        &mut self,
+        alloc: Global,
+        key: Key<'a>,
+    ) -> Result<Shared<HeldKey<'a>>, AllocError>
+        ensures { IfOk result (λ held. held ≡ key.entry) }
+    {
+        if key.lot.is_some() {
+            return HeldKey::shared(alloc, key);
+        }
+        if let Some(known) = self.known(&key) {
+            return known.share();
+        }
+        self.keep(alloc, key)
+    }
+}
