@@ -10,7 +10,7 @@ pub returns-in-Ok-clause-booked : goal.returns-in-Ok-clause-booked
 returns-in-Ok-clause-booked c =
     let l = c.args.loaded.now in
     let m = method_in_ledger l in
-    let ds = c.directives-directives.ensures in
+    let ds = c.directives-directives.ensures.directives in
     let otherwise = c.otherwise.ensures ∙ ap spec.otherwise c.methods.ensures in
     let methods : (a : List ℕ) → m a ≡ method_in c.in_ok-methods.methods a = λ a.
     sym (c.in_ok-methods.ensures a ∙ (λ k. spec.method_of (otherwise k) (ds k) a)) in
