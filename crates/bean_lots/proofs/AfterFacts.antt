@@ -1,17 +1,17 @@
 -- What is left of an inventory, one entry after the other.
-use Rattle.std.proofs.Common.{◌≡◌, ℕ, suc, ◌+◌, ◌<◌, ◌≤◌, ◌^◌, ℤ, pos, ◌+ℤ◌, Bool, true, false}
+use Rattle.std.proofs.Common.{◌≡◌, ℕ, ◌≤◌, ◌^◌, ℤ, pos, ◌+ℤ◌, Bool, true, false}
 use Rattle.std.proofs.Common.{cond}
-use Rattle.std.proofs.Common.{◌&&◌, ◌||◌, List, [], ◌∷◌, ◌++◌, append_assoc, length, get_or, drop}
-use Rattle.std.proofs.Common.{Option, Some, None, refl, sym, ap, ◌∙◌, arith, add-one, subst}
-use Rattle.std.proofs.Math.Seq.{drop-cons}
+use Rattle.std.proofs.Common.{◌&&◌, ◌||◌, List, [], ◌∷◌, ◌++◌, append_assoc}
+use Rattle.std.proofs.Common.{Option, Some, None, refl, sym, ap, ◌∙◌, arith, subst, sum_by, ◌-◌}
+use Rattle.std.proofs.lemmas.List.Sums.{sum_by-append}
+use Rattle.bean_lots.specs.Take.{units_of}
 use Rattle.std.specs.Int.{w128}
 use Rattle.std.specs.Int.RustNames.{unsigned_abs, FitsSigned}
-use Rattle.std.specs.List.{list_any}
 use Rattle.std.specs.Option.{is_some}
 use Rattle.std.specs.Ordering.{int_eq}
 use Rattle.std.proofs.lemmas.Int.{ints}
-use Rattle.std.proofs.lemmas.List.Elements.{All-get_or, All-from_recursion}
-use Rattle.bean_lots.specs.After.{after, has_opposite, is_opposite_lot, IsSmall, AreSmall}
+use Rattle.bean_lots.specs.After.{after, has_lot_against, has_opposite, is_opposite_lot}
+use Rattle.bean_lots.specs.After.{AreSmall}
 use Rattle.bean_lots.specs.Candidate.{agrees, is_opposite, candidate_of, candidates}
 use Rattle.bean_lots.specs.Inventory.{count_of, held_as}
 use Rattle.bean_lots.specs.Lot.{same_key, same_text}
@@ -36,7 +36,7 @@ none_of_zero s want currency (Some lot) n h =
     (never (same_text currency s.currency) (agrees s lot) (is_opposite want n)
     (none_opposite want n h))
 
-front : (s : Selector) (want : ℤ) (k : Key) (n : ℤ) (rest : List Position)
+pub front : (s : Selector) (want : ℤ) (k : Key) (n : ℤ) (rest : List Position)
     → candidates s want (held_as k n ++ rest)
     ≡ candidate_of s want k.currency k.lot n ++ candidates s want rest
 front s want k n rest = by (int_eq n (pos 0)) refl
@@ -49,33 +49,28 @@ front s want k n rest = by (int_eq n (pos 0)) refl
         (sym (none_of_zero s want k.currency k.lot n e))
     by false e = refl
 
-entry_at : (es : List Position) (i : ℕ) (e : Position) → i < length es → e ≡ get_or es i e
-    → drop i es ≡ e ∷ drop (i + 1) es
-entry_at es i e h is = rw add-one (drop-cons es i e h ∙ ap (λ q. q ∷ drop (suc i) es) (sym is))
-
 -- the candidates so far and those of the rest
-pub step : (s : Selector) (want : ℤ) (es taken : List Position) (i : ℕ) (e : Position)
-    (found more : List (Lot × ℕ)) → i < length es → e ≡ get_or es i e
+pub step : (s : Selector) (want : ℤ) (es rest taken : List Position) (e : Position)
+    (found more : List (Lot × ℕ)) → es ≡ e ∷ rest
     → more
     ≡ found
     ++ candidate_of s want e.key.currency e.key.lot (e.count +ℤ count_of taken e.key)
-    → more ++ candidates s want (after (drop (i + 1) es) taken)
-    ≡ found ++ candidates s want (after (drop i es) taken)
-step s want es taken i e found more h is m =
+    → more ++ candidates s want (after rest taken) ≡ found ++ candidates s want (after es taken)
+step s want es rest taken e found more is m =
     let n = e.count +ℤ count_of taken e.key in
     let own = candidate_of s want e.key.currency e.key.lot n in
-    let rest = candidates s want (after (drop (i + 1) es) taken) in
-    ap (λ l. l ++ rest) m ∙ append_assoc found own rest
+    let others = candidates s want (after rest taken) in
+    ap (λ l. l ++ others) m ∙ append_assoc found own others
     ∙ ap (λ l. found ++ l)
-    (sym (front s want e.key n (after (drop (i + 1) es) taken))
-    ∙ sym (ap (λ l. candidates s want (after l taken)) (entry_at es i e h is)))
+    (sym (front s want e.key n (after rest taken))
+    ∙ sym (ap (λ l. candidates s want (after l taken)) is))
 
 not_both : (a b c : Bool) → c ≡ false → (a && (b && c)) ≡ false
 not_both true true c h = h
 not_both true false c h = refl
 not_both false b c h = refl
 
-front_opposite : (currency : List ℕ) (want : ℤ) (k : Key) (n : ℤ) (rest : List Position)
+pub front_opposite : (currency : List ℕ) (want : ℤ) (k : Key) (n : ℤ) (rest : List Position)
     → has_opposite currency want (held_as k n ++ rest)
     ≡ (is_opposite_lot currency want k n || has_opposite currency want rest)
 front_opposite currency want k n rest = by (int_eq n (pos 0)) refl
@@ -89,17 +84,16 @@ front_opposite currency want k n rest = by (int_eq n (pos 0)) refl
         (none_opposite want n e)))
     by false e = refl
 
-pub step_opposite : (currency : List ℕ) (want : ℤ) (es taken : List Position) (i : ℕ)
-    (e : Position) (b : Bool) → i < length es → e ≡ get_or es i e
+pub step_opposite : (currency : List ℕ) (want : ℤ) (es rest taken : List Position)
+    (e : Position) (b : Bool) → es ≡ e ∷ rest
     → b ≡ is_opposite_lot currency want e.key (e.count +ℤ count_of taken e.key)
-    → has_opposite currency want (after (drop i es) taken)
-    ≡ (b || has_opposite currency want (after (drop (i + 1) es) taken))
-step_opposite currency want es taken i e b h is t =
+    → has_opposite currency want (after es taken)
+    ≡ (b || has_opposite currency want (after rest taken))
+step_opposite currency want es rest taken e b is t =
     let n = e.count +ℤ count_of taken e.key in
-    let rest = after (drop (i + 1) es) taken in
-    ap (λ l. has_opposite currency want (after l taken)) (entry_at es i e h is)
-    ∙ front_opposite currency want e.key n rest
-    ∙ ap (λ b. b || has_opposite currency want rest) (sym t)
+    ap (λ l. has_opposite currency want (after l taken)) is
+    ∙ front_opposite currency want e.key n (after rest taken)
+    ∙ ap (λ b. b || has_opposite currency want (after rest taken)) (sym t)
 
 one_small : (n : ℕ) (a c : ℤ) (b : Bool) → unsigned_abs a ≤ n → unsigned_abs c ≤ n
     → unsigned_abs (cond b a c) ≤ n
@@ -112,26 +106,66 @@ count_small n [] k h = omega (arith, ints)
 count_small n (e ∷ es) k h =
     one_small n e.count (count_of es k) (same_key k e.key) h.0 (count_small n es k h.1)
 
-sum_fits : (a b : ℤ) → unsigned_abs a ≤ 2 ^ 125 → unsigned_abs b ≤ 2 ^ 125
+pub sum_fits : (a b : ℤ) → unsigned_abs a ≤ 2 ^ 125 → unsigned_abs b ≤ 2 ^ 125
     → FitsSigned w128 (a +ℤ b)
 sum_fits a b h k = grind (arith, ints)
 
-pub fits_at : (es taken : List Position) (i : ℕ) (e : Position) → i < length es
-    → e ≡ get_or es i e → AreSmall (2 ^ 125) es → AreSmall (2 ^ 125) taken
+pub fits_next : (es rest taken : List Position) (e : Position) → es ≡ e ∷ rest
+    → AreSmall (2 ^ 125) es → AreSmall (2 ^ 125) taken
     → FitsSigned w128 (e.count +ℤ count_of taken e.key)
-fits_at es taken i e h is small own =
-    sum_fits e.count (count_of taken e.key)
-    (subst (IsSmall (2 ^ 125)) (sym is)
-    (All-get_or (IsSmall (2 ^ 125)) es i e h
-    (All-from_recursion (IsSmall (2 ^ 125)) es small)))
+fits_next es rest taken e is small own =
+    sum_fits e.count (count_of taken e.key) (subst (AreSmall (2 ^ 125)) is small).0
     (count_small (2 ^ 125) taken e.key own)
 
-pub next_candidate : (s : Selector) (want : ℤ) (es : List Position) (i : ℕ) (e : Position)
-    (found more : List (Lot × ℕ)) → i < length es → e ≡ get_or es i e
+pub small_rest : (n : ℕ) (es rest : List Position) (e : Position) → es ≡ e ∷ rest → AreSmall n es
+    → AreSmall n rest
+small_rest n es rest e is small = (subst (AreSmall n) is small).1
+
+pub next_candidate : (s : Selector) (want : ℤ) (es rest : List Position) (e : Position)
+    (found more : List (Lot × ℕ)) → es ≡ e ∷ rest
     → more ≡ found ++ candidate_of s want e.key.currency e.key.lot e.count
-    → more ++ candidates s want (drop (i + 1) es) ≡ found ++ candidates s want (drop i es)
-next_candidate s want es i e found more h is m =
+    → more ++ candidates s want rest ≡ found ++ candidates s want es
+next_candidate s want es rest e found more is m =
     let own = candidate_of s want e.key.currency e.key.lot e.count in
-    let rest = candidates s want (drop (i + 1) es) in
-    ap (λ l. l ++ rest) m ∙ append_assoc found own rest
-    ∙ ap (λ l. found ++ l) (sym (ap (candidates s want) (entry_at es i e h is)))
+    ap (λ l. l ++ candidates s want rest) m ∙ append_assoc found own (candidates s want rest)
+    ∙ ap (λ l. found ++ l) (sym (ap (candidates s want) is))
+
+pub no_sum : (a b : ℤ) → b ≡ pos 0 → a +ℤ b ≡ a
+no_sum a b h = omega (arith, ints, h)
+
+or_false : (a b c : Bool) → (a && (b && c)) ≡ true → (b && c) ≡ true
+or_false true b c h = h
+or_false false b c h = cc
+
+-- where nothing is taken and no lot has the other sign, none of the currency has
+pub none_against : (currency : List ℕ) (want : ℤ) (es : List Position)
+    → has_lot_against want es ≡ false → has_opposite currency want (after es []) ≡ false
+none_against currency want [] h = refl
+none_against currency want (e ∷ es) h =
+    by (is_some e.key.lot && is_opposite want e.count) refl h (none_against currency want es)
+  where
+    by : (b : Bool) → (is_some e.key.lot && is_opposite want e.count) ≡ b
+        → (b || has_lot_against want es) ≡ false
+        → (has_lot_against want es ≡ false → has_opposite currency want (after es []) ≡ false)
+        → has_opposite currency want (after (e ∷ es) []) ≡ false
+    by true o h rest = cc
+    by false o h rest =
+        let n : e.count +ℤ pos 0 ≡ e.count = no_sum e.count (pos 0) refl in
+        front_opposite currency want e.key (e.count +ℤ pos 0) (after es [])
+        ∙ ap (λ m. is_opposite_lot currency want e.key m
+        || has_opposite currency want (after es [])) n
+        ∙ ap (λ b. (same_text e.key.currency currency && b)
+        || has_opposite currency want (after es [])) o
+        ∙ none (same_text e.key.currency currency) _ (rest h)
+      where
+        none : (a c : Bool) → c ≡ false → ((a && false) || c) ≡ false
+        none true c h = h
+        none false c h = h
+
+-- what is missing once some more are found
+pub missing_after : (want : ℕ) (found more own : List (Lot × ℕ)) (before units after : ℕ)
+    → more ≡ found ++ own → units ≡ sum_by units_of own → before ≡ want - sum_by units_of found
+    → after ≡ before - units → after ≡ want - sum_by units_of more
+missing_after want found more own before units after e u b a =
+    let all = ap (sum_by units_of) e ∙ sum_by-append units_of found own in
+    omega (arith, all, u, b, a)

@@ -1,6 +1,10 @@
 pub mod LotFacts
 pub mod LotOrderFacts
-pub mod SoughtFacts
+pub mod SlotFacts
+pub mod TallyFacts
+pub mod DayFacts
+pub mod SweepFacts
+pub mod KeptFacts
 pub mod InventoryFacts
 pub mod NegativeFacts
 pub mod FillingFacts
@@ -9,4 +13,7 @@ pub mod TakeFacts
 pub mod ReductionFacts
 pub mod CandidateFacts
 pub mod AfterFacts
+pub mod TurnedFacts
+pub mod FrontFacts
+pub mod HeldFacts
 mod Examples

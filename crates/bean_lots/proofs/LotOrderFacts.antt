@@ -1,10 +1,9 @@
 -- The orders of lots and keys are total.
-use Rattle.std.proofs.Common.{rules}
 use Rattle.std.specs.Cmp.{IsTotalOrder}
 use Rattle.std.specs.Cmp.Lexicographic.{options_total, nat_list_cmp_total}
 use Rattle.std.proofs.lemmas.Cmp.{on_total, then_total, int_cmp_total}
 use Rattle.bean_base.specs.Day.{number}
-use Rattle.bean_lots.specs.Lot.{text_order, cost_order, lot_order, key_order}
+use Rattle.bean_lots.specs.Lot.{cost_order, lot_order, key_order}
 use Rattle.bean_lots.specs.declared.lot.Cost.{Cost}
 use Rattle.bean_lots.specs.declared.lot.Lot.{Lot}
 use Rattle.bean_lots.specs.declared.lot.Key.{Key}

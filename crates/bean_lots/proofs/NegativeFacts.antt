@@ -1,46 +1,147 @@
--- Entries that change their sign one after the other.
-use Rattle.std.proofs.Common.{◌≡◌, ℕ, zero, suc, ◌<◌, ℤ, pos, neg_ℤ, false, List, [], ◌∷◌, length}
-use Rattle.std.proofs.Common.{get_or, map, set, refl, ap, arith}
+-- Slots whose counts change their sign one after the other.
+use Rattle.std.proofs.Common.{◌≡◌, ◌<◌, ◌^◌, ℕ, zero, suc, ℤ, pos, neg_ℤ, Bool, true, false, cond}
+use Rattle.std.proofs.Common.{List, [], ◌∷◌, ◌++◌, length, map, slice_get, Some, refl, sym, ◌∙◌}
+use Rattle.std.proofs.Common.{ap, subst, arith}
 use Rattle.std.specs.List.{AllByRecursion}
+use Rattle.std.specs.Map.{values_of}
+use Rattle.std.specs.Option.{is_some}
 use Rattle.std.specs.Ordering.{int_eq}
+use Rattle.std.specs.Int.RustNames.{unsigned_abs}
 use Rattle.std.proofs.lemmas.Int.{ints}
+use Rattle.indexmap.specs.IndexMap.{set_value_at}
+use Rattle.bean_lots.specs.Days.{IsNotBefore}
+use Rattle.bean_lots.specs.Inventory.{MayBeNegated, held_as, negative_entry}
+use Rattle.bean_lots.specs.Slots.{AreDays, AreHoles, AreInOrder, IsBy, IsKept, in_all, positions}
+use Rattle.bean_lots.specs.Slots.{as_long, as_short, long_at, short_at}
+use Rattle.bean_lots.specs.declared.inventory.slots.Slots.{Slots}
 use Rattle.bean_lots.specs.declared.lot.Key.{Key}
-use Rattle.bean_lots.specs.declared.lot.Position.{Position}
-use Rattle.bean_lots.specs.Inventory.{negative_entry, DiffersFrom, IsInventory}
+use Rattle.bean_lots.proofs.SlotFacts.{is_none, is_zero, same_some}
 
 -- the first n have the other sign
-abbrev pub negative_front : ℕ → List Position → List Position
+abbrev pub negative_front : ℕ → List (Key × ℤ) → List (Key × ℤ)
 negative_front zero es = es
 negative_front (suc n) [] = []
-negative_front (suc n) (e ∷ es) = negative_entry e ∷ negative_front n es
+negative_front (suc n) (e ∷ es) = (e.0, neg_ℤ e.1) ∷ negative_front n es
 
-pub next : (n : ℕ) (es : List Position) (d : Position)
-    → get_or (negative_front n es) n d ≡ get_or es n d
-next zero es d = refl
-next (suc n) [] d = refl
-next (suc n) (e ∷ es) d = next n es d
+abbrev pub negative : List (Key × ℤ) → List (Key × ℤ)
+negative [] = []
+negative (e ∷ es) = (e.0, neg_ℤ e.1) ∷ negative es
 
-pub one_more : (n : ℕ) (es : List Position) (d : Position) → n < length es
-    → set (negative_front n es) n (negative_entry (get_or es n d)) ≡ negative_front (suc n) es
-one_more zero [] d below = absurd (omega arith)
-one_more zero (e ∷ es) d below = refl
-one_more (suc n) [] d below = absurd (omega arith)
-one_more (suc n) (e ∷ es) d below = ap (λ l. negative_entry e ∷ l) (one_more n es d (omega arith))
+pub next : (n : ℕ) (es : List (Key × ℤ))
+    → slice_get (values_of (negative_front n es)) n ≡ slice_get (values_of es) n
+next zero es = refl
+next (suc n) [] = refl
+next (suc n) (e ∷ es) = next n es
 
-pub all : (es : List Position) → negative_front (length es) es ≡ map negative_entry es
+pub one_more : (n : ℕ) (es : List (Key × ℤ)) (m : ℤ) → slice_get (values_of es) n ≡ Some m
+    → set_value_at (negative_front n es) n (neg_ℤ m) ≡ negative_front (suc n) es
+one_more n [] m h = absurd (is_none m (sym h))
+one_more zero (e ∷ es) m h = ap (λ v. (e.0, neg_ℤ v) ∷ es) (sym (same_some e.1 m h))
+one_more (suc n) (e ∷ es) m h = ap (λ l. (e.0, neg_ℤ e.1) ∷ l) (one_more n es m h)
+
+pub same_length : (n : ℕ) (es : List (Key × ℤ)) → length (negative_front n es) ≡ length es
+same_length zero es = refl
+same_length (suc n) [] = refl
+same_length (suc n) (e ∷ es) = ap suc (same_length n es)
+
+pub all : (es : List (Key × ℤ)) → negative_front (length es) es ≡ negative es
 all [] = refl
-all (e ∷ es) = ap (λ l. negative_entry e ∷ l) (all es)
+all (e ∷ es) = ap (λ l. (e.0, neg_ℤ e.1) ∷ l) (all es)
 
-not_zero : (n : ℤ) → int_eq n (pos 0) ≡ false → int_eq (neg_ℤ n) (pos 0) ≡ false
-not_zero n h = grind (arith, ints)
+still_zero : (n : ℤ) (b : Bool) → int_eq n (pos 0) ≡ b → int_eq (neg_ℤ n) (pos 0) ≡ b
+still_zero n true h = grind (arith, ints)
+still_zero n false h = grind (arith, ints)
 
-keys_differ : (k : Key) (es : List Position) → AllByRecursion (DiffersFrom k) es
-    → AllByRecursion (DiffersFrom k) (map negative_entry es)
-keys_differ k [] h = tt
-keys_differ k (e ∷ es) h = (h.0, keys_differ k es h.1)
+pub held : (es : List (Key × ℤ)) → positions (negative es) ≡ map negative_entry (positions es)
+held [] = refl
+held (e ∷ es) = by (int_eq e.1 (pos 0)) (still_zero e.1 _ refl) (held es)
+  where
+    by : (z : Bool) → int_eq (neg_ℤ e.1) (pos 0) ≡ z
+        → positions (negative es) ≡ map negative_entry (positions es)
+        → held_as e.0 (neg_ℤ e.1) ++ positions (negative es)
+        ≡ map negative_entry (cond z [] (record { key = e.0; count = e.1 } ∷ []) ++ positions es)
+    by true z rest =
+        ap (λ c. cond c [] (record { key = e.0; count = neg_ℤ e.1 } ∷ [])
+        ++ positions (negative es)) z
+        ∙ rest
+    by false z rest =
+        ap (λ c. cond c [] (record { key = e.0; count = neg_ℤ e.1 } ∷ [])
+        ++ positions (negative es)) z
+        ∙ ap (λ l. record { key = e.0; count = neg_ℤ e.1 } ∷ l) rest
 
--- an inventory of the other sign is one
-pub negative_inventory : (es : List Position) → IsInventory es → IsInventory (map negative_entry es)
-negative_inventory [] h = tt
-negative_inventory (e ∷ es) h =
-    (not_zero e.count h.0, keys_differ e.key es h.1, negative_inventory es h.2)
+-- no slot's count is the least of 128 bits
+pub fits : (es : List (Key × ℤ)) (i : ℕ) (n : ℤ) → AllByRecursion MayBeNegated (positions es)
+    → slice_get (values_of es) i ≡ Some n → unsigned_abs n < 2 ^ 127
+fits [] i n a h = absurd (is_none n (sym h))
+fits (e ∷ es) i n a h =
+    by (λ a i h. fits es i n a h) (int_eq e.1 (pos 0)) refl i a h
+  where
+    by : (AllByRecursion MayBeNegated (positions es) → (i : ℕ)
+        → slice_get (values_of es) i ≡ Some n → unsigned_abs n < 2 ^ 127)
+        → (z : Bool) → int_eq e.1 (pos 0) ≡ z → (i : ℕ)
+        → AllByRecursion MayBeNegated
+        (cond z [] (record { key = e.0; count = e.1 } ∷ []) ++ positions es)
+        → slice_get (values_of (e ∷ es)) i ≡ Some n → unsigned_abs n < 2 ^ 127
+    by rest true z zero a h =
+        let none : n ≡ pos 0 = sym (same_some e.1 n h) ∙ is_zero e.1 z in omega (arith, ints, none)
+    by rest true z (suc i) a h = rest a i h
+    by rest false z zero a h = subst (λ m. unsigned_abs m < 2 ^ 127) (same_some e.1 n h) a.0
+    by rest false z (suc i) a h = rest a.1 i h
+
+holes : (n : ℕ) (es : List (Key × ℤ)) → AreHoles n es → AreHoles n (negative es)
+holes zero es a = tt
+holes (suc n) [] a = absurd a
+holes (suc n) (e ∷ es) a = (ap neg_ℤ a.0, holes n es a.1)
+
+turned_long : (n : ℤ) → as_long (neg_ℤ n) ≡ as_short n
+turned_long n = grind (arith, ints)
+
+turned_short : (n : ℤ) → as_short (neg_ℤ n) ≡ as_long n
+turned_short n = grind (arith, ints)
+
+long : (es : List (Key × ℤ)) → in_all long_at (negative es) ≡ in_all short_at es
+long [] = refl
+long (e ∷ es) =
+    let own : long_at e.0 (neg_ℤ e.1) ≡ short_at e.0 e.1 =
+    ap (λ n. cond (is_some e.0.lot) n 0) (turned_long e.1) in
+    let rest = long es in
+    omega (arith, own, rest)
+
+short : (es : List (Key × ℤ)) → in_all short_at (negative es) ≡ in_all long_at es
+short [] = refl
+short (e ∷ es) =
+    let own : short_at e.0 (neg_ℤ e.1) ≡ long_at e.0 e.1 =
+    ap (λ n. cond (is_some e.0.lot) n 0) (turned_short e.1) in
+    let rest = short es in
+    omega (arith, own, rest)
+
+all_turned : (P : Key → Type 0) (es : List (Key × ℤ))
+    → AllByRecursion {X = Key × ℤ} (λ e. P e.0) es
+    → AllByRecursion {X = Key × ℤ} (λ e. P e.0) (negative es)
+all_turned P [] a = tt
+all_turned P (e ∷ es) a = (a.0, all_turned P es a.1)
+
+order : (es : List (Key × ℤ)) → AreInOrder es → AreInOrder (negative es)
+order [] a = tt
+order (e ∷ es) a = (all_turned (λ q. IsNotBefore e.0.lot q.lot) es a.0, order es a.1)
+
+pub kept : (s t : Slots) → IsKept s → t.counts.entries ≡ negative s.counts.entries
+    → t.first ≡ s.first → t.days ≡ s.days → t.signs.long ≡ s.signs.short
+    → t.signs.short ≡ s.signs.long → IsKept t
+kept s t h entries first days longs shorts = record {
+  holes =
+      subst (λ i. AreHoles i t.counts.entries) (sym first)
+      (subst (AreHoles s.first) (sym entries) (holes s.first s.counts.entries h.holes));
+  long =
+      longs ∙ h.short ∙ sym (long s.counts.entries) ∙ ap (in_all long_at) (sym entries);
+  short =
+      shorts ∙ h.long ∙ sym (short s.counts.entries) ∙ ap (in_all short_at) (sym entries);
+  days =
+      subst (λ d. AreDays d t.counts.entries) (sym days)
+      (subst (AreDays s.days) (sym entries)
+      (λ e.
+      let d = h.days e in (
+        order s.counts.entries d.0,
+        all_turned (λ q. IsBy s.days.latest q.lot) s.counts.entries d.1,
+      )));
+}

@@ -1,6 +1,7 @@
 -- The candidates of a reduction: the lots of the currency that agree with the selector and have the
 -- opposite sign.
-use Rattle.std.specs.Prelude.{Bool, true, ◌&&◌, ◌||◌, ℕ, ℤ, pos, List, [], ◌∷◌, ◌++◌, Option, Some}
+use Rattle.std.specs.Prelude.{◌<◌, Bool, true, ◌&&◌, ◌||◌, ℕ, ℤ, pos, List, [], ◌∷◌, ◌++◌, Option}
+use Rattle.std.specs.Prelude.{Some}
 use Rattle.std.specs.Prelude.{None, if◌then◌else◌}
 use Rattle.std.specs.Int.RustNames.{unsigned_abs}
 use Rattle.std.specs.Int.Signed.{lt_z}
@@ -45,3 +46,7 @@ abbrev pub candidates : Selector → ℤ → List Position → List (Lot × ℕ)
 candidates s want [] = []
 candidates s want (e ∷ es) =
     candidate_of s want e.key.currency e.key.lot e.count ++ candidates s want es
+
+-- something is held of it
+abbrev pub IsHeld : Lot × ℕ → Type 0
+IsHeld c = 0 < c.1

@@ -1,8 +1,10 @@
 pub mod Lot
 pub mod Inventory
-pub mod Sought
+pub mod Days
+pub mod Slots
 pub mod Candidate
 pub mod Take
 pub mod Filling
 pub mod Reduction
 pub mod After
+pub mod Front

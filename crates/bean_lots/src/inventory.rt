@@ -1,18 +1,26 @@
 //! Inventories: what an account holds of each currency, in lots or without one.
-ghost use Rattle.std.specs.Prelude.{All, map, ◌≡◌, ◌+ℤ◌, ◌<◌, ◌++◌, ◌∷◌, [], OnOk, OnErr, IsTrue};
-ghost use Rattle.std.specs.Prelude.{◌↔◌, List, ℤ, pos, position, if◌then◌else◌, length, take, drop};
-ghost use Rattle.std.specs.Prelude.{suc, slice_index_or};
+ghost use Rattle.std.specs.Prelude.{All, map, ◌≡◌, ◌+ℤ◌, [], OnOk, OnErr, IsTrue, ◌↔◌, List, ℤ};
+ghost use Rattle.std.specs.Prelude.{pos};
+ghost use Rattle.std.specs.Prelude.{false, if◌then◌else◌};
 ghost use Rattle.std.specs.Int.{w128};
 ghost use Rattle.std.specs.Int.RustNames.{FitsSigned};
+ghost use Rattle.bean_lots.specs.Days.{RiseInDays};
+ghost use Rattle.bean_lots.specs.After.{has_lot_against};
+ghost use Rattle.bean_lots.specs.Inventory.{count_of, added, negative_entry, MayBeNegated};
+ghost use Rattle.bean_lots.specs.Inventory.{IsInventory, has_lot, is_lot_of};
 ghost use Rattle.bean_lots.specs.Lot.{same_key};
 ghost use Rattle.bean_lots.specs.declared.lot.Key.{Key};
 ghost use Rattle.bean_lots.specs.declared.lot.Position.{Position};
-ghost use Rattle.bean_lots.specs.Inventory.{count_of, held_as, added, negative_entry, MayBeNegated};
-ghost use Rattle.bean_lots.specs.Inventory.{IsInventory, has_lot, is_lot_of};
-ghost use Rattle.bean_lots.specs.Sought.{IsSought};
+
+mod days;
+mod positions;
+mod signs;
+mod slots;
 
 use crate::lot::{Key, Position};
 use bean_base::Currency;
+pub use positions::Positions;
+use slots::Slots;
 use std::alloc::{AllocError, Global};
 use std::marker::Model;
 
@@ -22,35 +30,28 @@ use std::marker::Model;
 /// new key goes last, one that is there keeps its place, and one that comes to 0 goes.
 #[derive(Drop)]
 pub struct Inventory<'a> {
-    entries: Vec<Position<'a>>,
+    slots: Slots<'a>,
 }
 
 impl<'a> Model for Inventory<'a> {
     ghost use Rattle.std.specs.Prelude.{List};
     ghost use Rattle.bean_lots.specs.declared.lot.Position.{Position};
-    ghost use Rattle.bean_lots.specs.Inventory.{IsInventory};
+    ghost use Rattle.bean_lots.specs.Slots.{IsKept, positions};
 
     ghost Value = { List Position };
 
-    ghost view = { λ a. a.entries.items };
+    ghost view = { λ a. positions a.slots.counts.entries };
 
-    ghost invariant = { λ a. IsInventory a.entries.items };
+    ghost invariant = { λ a. IsKept a.slots };
 }
 
 impl Clone for Inventory<'_> {
     ghost is_clone = { λ a b. b ≡ a };
 
     fn clone(&self) -> Result<Self, AllocError> {
-        let entries = self.entries.clone()?;
-        Ok(Inventory { entries })
+        let slots = self.slots.clone()?;
+        Ok(Inventory { slots })
     }
-}
-
-/// Whether a position is of a key.
-fn is_of(position: &Position<'_>, key: &Key<'_>) -> bool
-    ensures { result ≡ same_key key.now position.now.key }
-{
-    *key == position.key
 }
 
 /// Whether a position is a lot of a currency.
@@ -60,87 +61,13 @@ fn is_lot_of(position: &Position<'_>, currency: &Currency<'_>) -> bool
     position.key.currency == *currency && position.key.lot.is_some()
 }
 
-fn index_of(entries: &[Position<'_>], key: &Key<'_>) -> Option<usize>
-    ensures { result ≡ position (λ e. same_key key.now e.key) entries.now }
-{
-    entries.iter().position(|e| is_of(e, key))
-}
-
-#[tactic(auto, using(crate::proofs::SoughtFacts::told))]
-fn sought(entries: &[Position<'_>], key: &Key<'_>) -> Option<usize>
-    ensures { IsSought entries.now key.now result }
-{
-    index_of(entries, key)
-}
-
-fn count_in(entries: &[Position<'_>], key: &Key<'_>) -> i128
-    ensures { result ≡ count_of entries.now key.now }
-{
-    match sought(entries, key) {
-        Some(i) => entries[i].count,
-        None => 0,
-    }
-}
-
-/// Puts a count in the place of the one at an index, and takes the entry out where it is 0.
-fn put_at(entries: &mut Vec<Position<'_>>, index: usize, count: i128)
-    requires { index < length entries.old.items }
-    ensures { (d : Position) → entries.new.items
-        ≡ take index entries.old.items ++ (held_as (slice_index_or entries.old.items index d).key
-        count ++ drop (suc index) entries.old.items) }
-{
-    if count == 0 {
-        entries.remove(index);
-    } else {
-        entries[index].count = count;
-    }
-}
-
-fn push_new<'a>(
-    entries: &mut Vec<Position<'a>>,
-    key: Key<'a>,
-    count: i128,
-) -> Result<(), AllocError>
-    ensures ok { OnOk result (entries.new.items ≡ entries.old.items ++ held_as key.entry count) }
-    ensures err { OnErr result (entries.new.items ≡ entries.old.items) }
-{
-    if count != 0 {
-        entries.push(Position { key, count })?;
-    }
-    Ok(())
-}
-
-fn add_in<'a>(entries: &mut Vec<Position<'a>>, key: Key<'a>, count: i128) -> Result<(), AllocError>
-    requires { FitsSigned w128 (count_of entries.old.items key +ℤ count) }
-    ensures ok { OnOk result (entries.new.items ≡ added entries.old.items key.entry count) }
-    ensures err { OnErr result (entries.new.items ≡ entries.old.items) }
-{
-    match sought(entries, &key) {
-        None => push_new(entries, key, count),
-        Some(i) => {
-            let sum = entries[i].count + count;
-            put_at(entries, i, sum);
-            Ok(())
-        }
-    }
-}
-
-fn negate_in(entries: &mut [Position<'_>])
-    requires { All MayBeNegated entries.old }
-    ensures { entries.new ≡ map negative_entry entries.old }
-{
-    for entry in entries.iter_mut() {
-        entry.count = -entry.count;
-    }
-}
-
 impl<'a> Inventory<'a> {
-    /// The inventory that holds nothing.
+    /// The inventory that holds nothing. Takes no memory.
     pub fn new(alloc: Global) -> Inventory<'a>
         ensures { result ≡ [] }
     {
         Inventory {
-            entries: Vec::new(alloc),
+            slots: Slots::new(alloc),
         }
     }
 
@@ -149,14 +76,20 @@ impl<'a> Inventory<'a> {
         ensures count { result ≡ count_of self.now key.now }
         ensures inventory { IsInventory self.now }
     {
-        count_in(&self.entries, key)
+        self.slots.get(key)
     }
 
     /// Whether some lot of a currency is held.
     pub fn has_lot(&self, currency: &Currency<'_>) -> bool
         ensures { result ≡ has_lot currency.now self.now }
     {
-        self.entries.iter().any(|entry| is_lot_of(entry, currency))
+        let mut rest = self.positions();
+        while let Some(position) = rest.next() {
+            if is_lot_of(&position, currency) {
+                return true;
+            }
+        }
+        false
     }
 
     /// Adds to the count under a key. The caller knows that the sum fits.
@@ -165,7 +98,7 @@ impl<'a> Inventory<'a> {
         ensures ok { OnOk result (self.new ≡ added self.old key.entry count) }
         ensures err { OnErr result (self.new ≡ self.old) }
     {
-        add_in(&mut self.entries, key, count)
+        self.slots.add(key, count)
     }
 
     /// Changes the sign of every count. None is the least of 128 bits.
@@ -173,14 +106,38 @@ impl<'a> Inventory<'a> {
         requires { All MayBeNegated self.old }
         ensures { self.new ≡ map negative_entry self.old }
     {
-        negate_in(self.entries.as_mut_slice());
+        self.slots.negate();
     }
 
-    /// The entries, in order of entry.
-    pub fn entries(&self) -> &[Position<'a>]
-        ensures { result.now ≡ self.now }
+    /// The positions, in order of entry.
+    pub fn positions(&self) -> Positions<'_, 'a>
+        ensures { result ≡ self.now }
     {
-        self.entries.as_slice()
+        self.slots.positions()
+    }
+
+    /// Whether nothing is held. Where it says no, something may have been.
+    pub(crate) fn is_bare(&self) -> bool
+        ensures bare { IsTrue result → self.now ≡ [] }
+        ensures inventory { IsInventory self.now }
+    {
+        self.slots.is_bare()
+    }
+
+    /// Whether lots are known to stand in the order of their days.
+    pub(crate) fn rises_in_days(&self) -> bool
+        ensures { IsTrue result → RiseInDays self.now }
+    {
+        self.slots.days.in_order
+    }
+
+    /// Whether some lot may have the sign opposite to the want. Where it says no, none has.
+    pub(crate) fn may_have_lot_against(&self, want: i128) -> bool
+        ensures { result ≡ false → has_lot_against want self.now ≡ false }
+    {
+        let signs = self.slots.signs;
+        let against = if want < 0 { signs.long } else { signs.short };
+        against > 0
     }
 }
 

@@ -8,16 +8,14 @@ use query_values::{
 use std::alloc::Global;
 use std::test::Fail;
 
-/// The decimals of an inventory, how many entries it has, and the first count.
-fn summary(value: &Value<'_>) -> Option<(u8, usize, i128)> {
+/// The decimals of an inventory, whether it has one entry alone, and the first count.
+fn summary(value: &Value<'_>) -> Option<(u8, bool, i128)> {
     let Value::Inventory(bag) = value else {
         return None;
     };
-    let entries = bag.held.entries();
-    match entries.first() {
-        Some(first) => Some((bag.places, entries.len(), first.count)),
-        None => Some((bag.places, 0, 0)),
-    }
+    let mut entries = bag.held.positions();
+    let first = entries.next()?;
+    Some((bag.places, entries.next().is_none(), first.count))
 }
 
 fn number(value: &Value<'_>) -> Option<(u8, i128)> {
@@ -98,15 +96,15 @@ fn units_and_cost_of_an_inventory(rt: HostRuntime) -> Result<(), Fail> {
         1_000_000_000,
     )?;
     let value = Value::Inventory(Bag { places: 8, held });
-    assert_eq!(rt; summary(&value), Some((8, 1, 1_000_000_000)));
+    assert_eq!(rt; summary(&value), Some((8, true, 1_000_000_000)));
     let copy = value.clone()?;
-    assert_eq!(rt; summary(&copy), Some((8, 1, 1_000_000_000)));
+    assert_eq!(rt; summary(&copy), Some((8, true, 1_000_000_000)));
     let units = part::units(alloc, &value)?;
-    assert_eq!(rt; summary(&units), Some((8, 1, 1_000_000_000)));
+    assert_eq!(rt; summary(&units), Some((8, true, 1_000_000_000)));
     let cost = part::cost(alloc, &value)?;
-    assert_eq!(rt; summary(&cost), Some((16, 1, 100_000_000_000_000_000)));
+    assert_eq!(rt; summary(&cost), Some((16, true, 100_000_000_000_000_000)));
     let other = arithmetic::neg(value);
-    assert_eq!(rt; summary(&other), Some((8, 1, -1_000_000_000)));
+    assert_eq!(rt; summary(&other), Some((8, true, -1_000_000_000)));
     Ok(())
 }
 
@@ -121,7 +119,7 @@ fn gathered_values(rt: HostRuntime) -> Result<(), Fail> {
     };
     let mut total = Aggregate::SumInventory(2).start(alloc);
     Aggregate::SumInventory(2).add(&mut total, &seven)?;
-    assert_eq!(rt; summary(&total), Some((2, 1, 700)));
+    assert_eq!(rt; summary(&total), Some((2, true, 700)));
     let mut first = Aggregate::First.start(alloc);
     Aggregate::First.add(&mut first, &Value::Null)?;
     Aggregate::First.add(&mut first, &part::number(&seven))?;

@@ -1,9 +1,8 @@
 -- Positions that are added one after the other.
 use Rattle.std.proofs.Common.{◌≡◌, ℕ, zero, suc, ◌+◌, ◌<◌, ◌^◌, ℤ, pos, neg_ℤ, ◌+ℤ◌, Bool, true}
-use Rattle.std.proofs.Common.{false, cond, ◌&&◌, IsTrue, List, [], ◌∷◌, ◌++◌, length, map, drop}
-use Rattle.std.proofs.Common.{get_or, unsigned_abs, to_z, of_z, refl, sym, ap, subst, ◌∙◌, arith}
-use Rattle.std.proofs.Common.{add-one, All}
-use Rattle.std.proofs.Math.Seq.{drop-cons}
+use Rattle.std.proofs.Common.{false, cond, ◌&&◌, IsTrue, List, [], ◌∷◌, ◌++◌, length, map}
+use Rattle.std.proofs.Common.{unsigned_abs, to_z, of_z, refl, sym, ap, subst, ◌∙◌, arith}
+use Rattle.std.proofs.Common.{All}
 use Rattle.std.proofs.lemmas.Bool.Decides.{nat_tests}
 use Rattle.std.proofs.lemmas.Int.{ints}
 use Rattle.std.proofs.lemmas.List.Elements.{All-from_recursion}
@@ -22,53 +21,45 @@ pub both : (a b : Bool) → IsTrue (a && b) → IsTrue a × IsTrue b
 both true b h = (refl, h)
 both false b h = cc
 
--- what is left to be added, f of the entries from i on, adds up, and gives the sum of all
-pub record IsUpTo (f : Position → Position) (es held : List Position) (i : ℕ) : Type 0 where
-  pub adds : IsTrue (adds_up held (map f (drop i es)))
-  pub sum : total_from held (map f (drop i es)) ≡ total_from [] (map f es)
+-- what is left to be added, f of the rest of the entries, adds up, and gives the sum of all
+pub record IsUpTo (f : Position → Position) (es held rest : List Position) : Type 0 where
+  pub adds : IsTrue (adds_up held (map f rest))
+  pub sum : total_from held (map f rest) ≡ total_from [] (map f es)
 
-pub record Adds (f : Position → Position) (es held : List Position) (i : ℕ) (e : Position) :
+pub record Adds (f : Position → Position) (es held more : List Position) (e : Position) :
     Type 0 where
   pub own : IsTrue (is_count (f e).count)
-  pub more : IsTrue (is_count (count_of held (f e).key +ℤ (f e).count))
-  pub next : IsUpTo f es (added held (f e).key (f e).count) (i + 1)
+  pub sum : IsTrue (is_count (count_of held (f e).key +ℤ (f e).count))
+  pub next : IsUpTo f es (added held (f e).key (f e).count) more
 
-pub one_more : (f : Position → Position) (es held : List Position) (i : ℕ) (e : Position)
-    → i < length es → e ≡ get_or es i e → IsUpTo f es held i → Adds f es held i e
-one_more f es held i e below is h =
-    let at : drop i es ≡ e ∷ drop (i + 1) es =
-    rw add-one (drop-cons es i e below ∙ ap (λ x. x ∷ drop (suc i) es) (sym is)) in
-    let adds : IsTrue (adds_up held (f e ∷ map f (drop (i + 1) es))) =
+pub one_more : (f : Position → Position) (es held rest more : List Position) (e : Position)
+    → rest ≡ e ∷ more → IsUpTo f es held rest → Adds f es held more e
+one_more f es held rest more e at h =
+    let adds : IsTrue (adds_up held (f e ∷ map f more)) =
     subst (λ l. IsTrue (adds_up held (map f l))) at h.adds in
     let own = is_count (f e).count in
-    let more = is_count (count_of held (f e).key +ℤ (f e).count) in
-    let first =
-    both (own && more) (adds_up (added held (f e).key (f e).count) (map f (drop (i + 1) es)))
-    adds in
-    let second = both own more first.0 in
+    let sum = is_count (count_of held (f e).key +ℤ (f e).count) in
+    let first = both (own && sum) (adds_up (added held (f e).key (f e).count) (map f more)) adds in
+    let second = both own sum first.0 in
     record {
       own = second.0;
-      more = second.1;
+      sum = second.1;
       next = record { adds = first.1; sum = ap (λ l. total_from held (map f l)) (sym at) ∙ h.sum };
     }
 
-pub none_yet : (f : Position → Position) (es held : List Position) → held ≡ []
-    → IsTrue (adds_up [] (map f es)) → IsUpTo f es held 0
-none_yet f es held e h =
-    record {
+pub none_yet : (f : Position → Position) (es held rest : List Position) → held ≡ [] → rest ≡ es
+    → IsTrue (adds_up [] (map f es)) → IsUpTo f es held rest
+none_yet f es held rest e all h =
+    subst (IsUpTo f es held) (sym all)
+    (record {
       adds = subst (λ l. IsTrue (adds_up l (map f es))) (sym e) h;
       sum =
           ap (λ l. total_from l (map f es)) e;
-    }
+    })
 
-drop_all : (es : List Position) (i : ℕ) → length es ≡ i → drop i es ≡ []
-drop_all [] i e = ap (λ n. drop n []) (sym e)
-drop_all (x ∷ es) zero e = absurd (omega (arith, e))
-drop_all (x ∷ es) (suc i) e = drop_all es i (omega (arith, e))
-
-pub all : (f : Position → Position) (es held : List Position) (i : ℕ) → length es ≡ i
-    → IsUpTo f es held i → held ≡ total_from [] (map f es)
-all f es held i end h = ap (λ l. total_from held (map f l)) (sym (drop_all es i end)) ∙ h.sum
+pub all : (f : Position → Position) (es held rest : List Position) → rest ≡ []
+    → IsUpTo f es held rest → held ≡ total_from [] (map f es)
+all f es held rest end h = ap (λ l. total_from held (map f l)) (sym end) ∙ h.sum
 
 -- a sum that is a count is one of 128 bits
 pub fits_sum : (a n : ℤ) → FitsSigned w128 n → IsTrue (is_count (a +ℤ n))

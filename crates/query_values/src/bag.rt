@@ -6,7 +6,7 @@ ghost use Rattle.query_values.specs.Total.{cost_total, is_count, total_from, uni
 ghost use Rattle.query_values.specs.Total.{without_lot};
 
 use bean_base::Currency;
-use bean_lots::{Inventory, Key, Position};
+use bean_lots::{Inventory, Key};
 use std::alloc::{AllocError, Global};
 
 /// An inventory, and how many decimals its counts have: they are counts of `10^-places`.
@@ -59,24 +59,26 @@ pub(crate) fn count_at_cost(key: &Key<'_>, count: i128) -> i128
 }
 
 /// The inventory without its lots.
-fn units_in<'r>(alloc: Global, entries: &[Position<'r>]) -> Result<Inventory<'r>, AllocError>
-    requires { IsTrue (adds_up [] (map without_lot entries.now)) }
-    ensures { IfOk result (λ held. held ≡ units_total entries.now) }
+fn units_in<'r>(alloc: Global, inventory: &Inventory<'r>) -> Result<Inventory<'r>, AllocError>
+    requires { IsTrue (adds_up [] (map without_lot inventory.now)) }
+    ensures { IfOk result (λ held. held ≡ units_total inventory.now) }
 {
     let mut held = Inventory::new(alloc);
-    for entry in entries {
+    let mut rest = inventory.positions();
+    while let Some(entry) = rest.next() {
         held.add(bare_key(entry.key.currency.lend()), entry.count)?;
     }
     Ok(held)
 }
 
 /// The inventory at cost.
-fn cost_in<'r>(alloc: Global, entries: &[Position<'r>]) -> Result<Inventory<'r>, AllocError>
-    requires { IsTrue (adds_up [] (map at_cost entries.now)) }
-    ensures { IfOk result (λ held. held ≡ cost_total entries.now) }
+fn cost_in<'r>(alloc: Global, inventory: &Inventory<'r>) -> Result<Inventory<'r>, AllocError>
+    requires { IsTrue (adds_up [] (map at_cost inventory.now)) }
+    ensures { IfOk result (λ held. held ≡ cost_total inventory.now) }
 {
     let mut held = Inventory::new(alloc);
-    for entry in entries {
+    let mut rest = inventory.positions();
+    while let Some(entry) = rest.next() {
         let count = count_at_cost(&entry.key, entry.count);
         held.add(bare_key(currency_at_cost(&entry.key)), count)?;
     }
@@ -106,7 +108,7 @@ impl<'r> Bag<'r> {
     {
         Ok(Bag {
             places: self.places,
-            held: units_in(alloc, self.held.entries())?,
+            held: units_in(alloc, &self.held)?,
         })
     }
 
@@ -118,7 +120,7 @@ impl<'r> Bag<'r> {
     {
         Ok(Bag {
             places: self.places + 8,
-            held: cost_in(alloc, self.held.entries())?,
+            held: cost_in(alloc, &self.held)?,
         })
     }
 }

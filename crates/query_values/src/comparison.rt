@@ -1,5 +1,5 @@
 //! Comparisons of values.
-ghost use Rattle.std.specs.Prelude.{◌≡◌, ◌&&◌};
+ghost use Rattle.std.specs.Prelude.{◌≡◌, ◌&&◌, ℤ};
 ghost use Rattle.std.specs.Ordering.{int_eq};
 ghost use Rattle.std.specs.Cmp.{IsEquivalence, IsTotalOrder};
 ghost use Rattle.std.specs.Cmp.Lexicographic.{pointwise};
@@ -13,7 +13,7 @@ use crate::bag::Bag;
 use crate::number::{number_order, same_number};
 use crate::value::Value;
 use bean_base::Slice;
-use bean_lots::{Key, Position};
+use bean_lots::{Inventory, Key};
 use std::cmp::Ordering;
 
 /// Whether it is null.
@@ -37,19 +37,30 @@ fn same_texts(a: &[Slice<'_>], b: &[Slice<'_>]) -> bool
     a == b
 }
 
-/// Whether two inventories have the same count under the key of each of these entries.
-fn agree_at(entries: &[Position<'_>], a: &Bag<'_>, b: &Bag<'_>) -> bool
-    ensures { result ≡ list_all (agree_at a.now b.now) entries.now }
+/// Whether two inventories have the same count under a key.
+fn agree_at(key: &Key<'_>, a: &Bag<'_>, b: &Bag<'_>) -> bool
+    ensures { (n : ℤ) → result ≡ agree_at a.now b.now (record { key = key.now; count = n }) }
 {
-    entries.iter().all(|e| {
-        same_number(a.places, a.held.get(&e.key), b.places, b.held.get(&e.key))
-    })
+    same_number(a.places, a.held.get(key), b.places, b.held.get(key))
+}
+
+/// Whether two inventories have the same count under each key of a third.
+fn agree_in(held: &Inventory<'_>, a: &Bag<'_>, b: &Bag<'_>) -> bool
+    ensures { result ≡ list_all (agree_at a.now b.now) held.now }
+{
+    let mut rest = held.positions();
+    while let Some(entry) = rest.next() {
+        if !agree_at(&entry.key, a, b) {
+            return false;
+        }
+    }
+    true
 }
 
 fn same_bag(a: &Bag<'_>, b: &Bag<'_>) -> bool
     ensures { result ≡ same_bag a.now b.now }
 {
-    agree_at(a.held.entries(), a, b) && agree_at(b.held.entries(), a, b)
+    agree_in(&a.held, a, b) && agree_in(&b.held, a, b)
 }
 
 /// Whether two positions are the same: so many units of one key.

@@ -9,35 +9,33 @@ ghost use Rattle.bean_lots.specs.Lot.{key_order};
 
 use crate::cells::Scratch;
 use crate::positions::add_entry;
-use bean_lots::Position;
+use bean_lots::{Inventory, Position};
 use posting_table::Display;
-use query_values::{Bag, Lent};
+use query_values::Bag;
 use std::alloc::{AllocError, Global};
 use std::cmp::Ordering;
 use unicode_width::UnicodeWidthStr;
 
-/// The entries, lent one by one.
-fn lent<'b>(
-    alloc: Global,
-    entries: &'b [Position<'b>],
-) -> Result<Vec<Lent<'b, Position<'b>>>, AllocError>
-    ensures { IfOk result (λ v. v.items ≡ entries.now) }
+/// The entries of an inventory, in order of entry.
+fn entries_of<'b>(alloc: Global, inventory: &Inventory<'b>) -> Result<Vec<Position<'b>>, AllocError>
+    ensures { IfOk result (λ v. v.items ≡ inventory.now) }
 {
-    let mut lent = Vec::with_capacity(alloc, entries.len())?;
-    for entry in entries {
-        lent.push(Lent::new(entry))?;
+    let mut entries = Vec::new(alloc);
+    let mut rest = inventory.positions();
+    while let Some(entry) = rest.next() {
+        entries.push(entry)?;
     }
-    Ok(lent)
+    Ok(entries)
 }
 
 /// Puts entries in the order of their keys.
-fn arrange(entries: &mut Vec<Lent<'_, Position<'_>>>) -> Result<(), AllocError>
+fn arrange(entries: &mut Vec<Position<'_>>) -> Result<(), AllocError>
     ensures { OnOk result (entries.new.items ≡ in_order entries.old.items) }
 {
     entries.sort_by(
-        |a: &Lent<'_, Position<'_>>, b: &Lent<'_, Position<'_>>| -> Ordering
+        |a: &Position<'_>, b: &Position<'_>| -> Ordering
             ensures { result ≡ key_order a.now.key b.now.key }
-        { a.get().key.cmp(&b.get().key) },
+        { a.key.cmp(&b.key) },
     )
 }
 
@@ -61,11 +59,10 @@ fn make_inventory(
     ensures { OnOk result (string_bytes scratch.new.clean
         ≡ bag_text (decimals_of display.now) bag.now) }
 {
-    let mut entries = lent(scratch.alloc, bag.held.entries())?;
+    let mut entries = entries_of(scratch.alloc, &bag.held)?;
     arrange(&mut entries)?;
     scratch.clean.clear();
     for (i, entry) in entries.iter().enumerate() {
-        let entry = entry.get();
         add_gap(&mut scratch.clean, i)?;
         add_entry(scratch, &entry.key, entry.count, bag.places, display)?;
     }

@@ -1,56 +1,78 @@
 //! Reductions from what is left of an inventory.
-ghost use Rattle.std.specs.Prelude.{◌≡◌, ◌≢◌, ◌<◌, ◌^◌, ◌+ℤ◌, ◌++◌, OnOk, IfOk};
+ghost use Rattle.std.specs.Prelude.{◌≡◌, ◌≢◌, ◌<◌, ◌^◌, ◌+ℤ◌, ◌++◌, OnOk, IfOk, sum_by, true};
 ghost use Rattle.std.specs.Int.{w128};
 ghost use Rattle.std.specs.Int.RustNames.{unsigned_abs, FitsSigned};
 ghost use Rattle.bean_base.specs.Decimal.{scaled};
-ghost use Rattle.bean_lots.specs.After.{AreSmall, after, has_opposite, is_opposite_lot};
+ghost use Rattle.bean_lots.specs.After.{AreSmall, after, has_opposite, has_turned};
+ghost use Rattle.bean_lots.specs.After.{is_opposite_lot, is_turned};
 ghost use Rattle.bean_lots.specs.Candidate.{candidate_of, candidates};
+ghost use Rattle.bean_lots.specs.Days.{RiseInDays};
+ghost use Rattle.bean_lots.specs.Front.{IsFront};
 ghost use Rattle.bean_lots.specs.Inventory.{count_of};
 ghost use Rattle.bean_lots.specs.Reduction.{Reduces};
+ghost use Rattle.bean_lots.specs.Take.{units_of};
 
 use super::queue::{Candidate, is_opposite, push_candidate};
 use super::takes::reduce_candidates;
 use super::{LotFault, Method, Selector};
 use crate::inventory::Inventory;
-use crate::lot::{Lot, Position};
+use crate::lot::{Key, Lot, Position};
 use bean_base::{Currency, Num};
 use std::alloc::{AllocError, Global};
 
-/// Adds the candidate that is left of an entry, where one is.
+/// Adds the candidate that is left of an entry, where one is, and tells its units.
 fn push_left<'a>(
     found: &mut Vec<Candidate<'a>>,
     selector: &Selector<'_>,
     want: i128,
     entry: &Position<'a>,
     taken: &Inventory<'_>,
-) -> Result<(), AllocError>
+) -> Result<u128, AllocError>
     requires { FitsSigned w128 (entry.now.count +ℤ count_of taken.now entry.now.key) }
-    ensures { OnOk result (found.new.items ≡ found.old.items
+    ensures found { OnOk result (found.new.items ≡ found.old.items
         ++ candidate_of selector.now want entry.now.key.currency entry.now.key.lot
         (entry.now.count +ℤ count_of taken.now entry.now.key)) }
+    ensures units { IfOk result (λ units. units
+        ≡ sum_by units_of (candidate_of selector.now want entry.now.key.currency entry.now.key.lot
+        (entry.now.count +ℤ count_of taken.now entry.now.key))) }
 {
     let count = entry.count + taken.get(&entry.key);
     push_candidate(found, selector, want, &entry.key, count)
 }
 
-/// The candidates among what is left, in order of entry.
+/// The candidates among what is left, in order of entry; where a front that comes to the want is
+/// enough, no more.
 fn candidates_after<'a>(
     alloc: Global,
-    entries: &[Position<'a>],
+    inventory: &Inventory<'a>,
     taken: &Inventory<'_>,
     selector: &Selector<'_>,
     want: i128,
+    is_front_enough: bool,
 ) -> Result<Vec<Candidate<'a>>, AllocError>
-    requires held { AreSmall (2 ^ 125) entries.now }
+    requires held { AreSmall (2 ^ 125) inventory.now }
     requires taken { AreSmall (2 ^ 125) taken.now }
-    ensures { IfOk result
-        (λ found. found.items ≡ candidates selector.now want (after entries.now taken.now)) }
+    ensures { IfOk result (λ found. IsFront is_front_enough (unsigned_abs want) found.items
+        (candidates selector.now want (after inventory.now taken.now))) }
 {
     let mut found = Vec::new(alloc);
-    for entry in entries {
-        push_left(&mut found, selector, want, entry, taken)?;
+    let mut missing = want.unsigned_abs();
+    let mut rest = inventory.positions();
+    while let Some(entry) = rest.next() {
+        let units = push_left(&mut found, selector, want, &entry, taken)?;
+        missing = missing.saturating_sub(units);
+        if is_front_enough && missing == 0 {
+            return Ok(found);
+        }
     }
     Ok(found)
+}
+
+/// Whether the first candidates that come to a want are those that are taken.
+fn is_front_enough(inventory: &Inventory<'_>, method: Method) -> bool
+    ensures { result ≡ true → (method ≡ Method.Fifo) × RiseInDays inventory.now }
+{
+    method == Method::Fifo && inventory.rises_in_days()
 }
 
 /// What a reduction by `units` takes of the lots that are left of an inventory by what is in
@@ -70,8 +92,16 @@ pub fn reduce_after<'a>(
         Reduces method (candidates selector.now want (after inventory.now taken.now)) want result }
 {
     let want = units.scaled(8);
-    let found = candidates_after(alloc, inventory.entries(), taken, selector, want)?;
+    let is_front_enough = is_front_enough(inventory, method);
+    let found = candidates_after(alloc, inventory, taken, selector, want, is_front_enough)?;
     reduce_candidates(alloc, found, want, method)
+}
+
+/// Whether so much held under a key is a lot of the currency with the opposite sign.
+fn is_opposite_lot(key: &Key<'_>, currency: &Currency<'_>, want: i128, count: i128) -> bool
+    ensures { result ≡ is_opposite_lot currency.now want key.now count }
+{
+    key.currency == *currency && key.lot.is_some() && is_opposite(want, count)
 }
 
 /// Whether what is left of an entry is a lot of the currency with the opposite sign.
@@ -85,23 +115,57 @@ fn is_opposite_left(
     ensures { result ≡ is_opposite_lot currency.now want entry.now.key
         (entry.now.count +ℤ count_of taken.now entry.now.key) }
 {
-    entry.key.currency == *currency
-        && entry.key.lot.is_some()
-        && is_opposite(want, entry.count + taken.get(&entry.key))
+    let left = entry.count + taken.get(&entry.key);
+    is_opposite_lot(&entry.key, currency, want, left)
 }
 
 fn has_opposite_in(
-    entries: &[Position<'_>],
+    inventory: &Inventory<'_>,
     taken: &Inventory<'_>,
     currency: &Currency<'_>,
     want: i128,
 ) -> bool
-    requires held { AreSmall (2 ^ 125) entries.now }
+    requires held { AreSmall (2 ^ 125) inventory.now }
     requires taken { AreSmall (2 ^ 125) taken.now }
-    ensures { result ≡ has_opposite currency.now want (after entries.now taken.now) }
+    ensures { result ≡ has_opposite currency.now want (after inventory.now taken.now) }
 {
-    for entry in entries {
-        if is_opposite_left(entry, taken, currency, want) {
+    let mut rest = inventory.positions();
+    while let Some(entry) = rest.next() {
+        if is_opposite_left(&entry, taken, currency, want) {
+            return true;
+        }
+    }
+    false
+}
+
+/// Whether a lot of the currency got the opposite sign by a take.
+fn is_turned(
+    inventory: &Inventory<'_>,
+    take: &Position<'_>,
+    currency: &Currency<'_>,
+    want: i128,
+) -> bool
+    requires { FitsSigned w128 (count_of inventory.now take.now.key +ℤ take.now.count) }
+    ensures { result ≡ is_turned currency.now want inventory.now take.now }
+{
+    let held = inventory.get(&take.key);
+    held != 0 && is_opposite_lot(&take.key, currency, want, held + take.count)
+}
+
+/// Whether some lot of the currency got the opposite sign by what was taken of it.
+fn has_turned(
+    inventory: &Inventory<'_>,
+    taken: &Inventory<'_>,
+    currency: &Currency<'_>,
+    want: i128,
+) -> bool
+    requires held { AreSmall (2 ^ 125) inventory.now }
+    requires taken { AreSmall (2 ^ 125) taken.now }
+    ensures { result ≡ has_turned currency.now want inventory.now taken.now }
+{
+    let mut rest = taken.positions();
+    while let Some(take) = rest.next() {
+        if is_turned(inventory, &take, currency, want) {
             return true;
         }
     }
@@ -121,5 +185,15 @@ pub fn has_opposite(
     ensures { result ≡ has_opposite currency.now (scaled units.count units.places 8)
         (after inventory.now taken.now) }
 {
-    has_opposite_in(inventory.entries(), taken, currency, units.scaled(8))
+    let want = units.scaled(8);
+    if inventory.may_have_lot_against(want) {
+        return has_opposite_in(inventory, taken, currency, want);
+    }
+    if inventory.is_bare() {
+        return false;
+    }
+    if taken.is_bare() {
+        return false;
+    }
+    has_turned(inventory, taken, currency, want)
 }

@@ -8,7 +8,8 @@ ghost use Rattle.bean_lots.specs.Take.{IsQueue, units_of};
 ghost use Rattle.bean_lots.specs.Filling.{Judges};
 
 use super::{LotFault, Method, Selector};
-use crate::lot::{Key, Lot, Position};
+use crate::inventory::Inventory;
+use crate::lot::{Key, Lot};
 use std::alloc::{AllocError, Global};
 use std::cmp::Reverse;
 use std::marker::Model;
@@ -76,36 +77,42 @@ fn is_candidate(
     key.currency == selector.currency && selector.agrees(lot) && is_opposite(want, count)
 }
 
-/// Adds the candidate that an entry of that key and count is, where it is one.
+/// Adds the candidate that an entry of that key and count is, where it is one, and tells its units.
 pub(crate) fn push_candidate<'a>(
     found: &mut Vec<Candidate<'a>>,
     selector: &Selector<'_>,
     want: i128,
     key: &Key<'a>,
     count: i128,
-) -> Result<(), AllocError>
-    ensures { OnOk result (found.new.items ≡ found.old.items
+) -> Result<u128, AllocError>
+    ensures found { OnOk result (found.new.items ≡ found.old.items
         ++ candidate_of selector.now want key.now.currency key.now.lot count) }
+    ensures units { IfOk result (λ units. units
+        ≡ sum_by units_of (candidate_of selector.now want key.now.currency key.now.lot count)) }
 {
-    if let Some(lot) = &key.lot {
-        if is_candidate(selector, want, key, lot, count) {
-            found.push(Candidate::new(lot.lend(), count.unsigned_abs()))?;
-        }
+    let Some(lot) = &key.lot else {
+        return Ok(0);
+    };
+    if !is_candidate(selector, want, key, lot, count) {
+        return Ok(0);
     }
-    Ok(())
+    let units = count.unsigned_abs();
+    found.push(Candidate::new(lot.lend(), units))?;
+    Ok(units)
 }
 
 /// The candidates, in order of entry.
 pub(crate) fn candidates<'a>(
     alloc: Global,
-    entries: &[Position<'a>],
+    inventory: &Inventory<'a>,
     selector: &Selector<'_>,
     want: i128,
 ) -> Result<Vec<Candidate<'a>>, AllocError>
-    ensures { IfOk result (λ found. found.items ≡ candidates selector.now want entries.now) }
+    ensures { IfOk result (λ found. found.items ≡ candidates selector.now want inventory.now) }
 {
     let mut found = Vec::new(alloc);
-    for entry in entries {
+    let mut rest = inventory.positions();
+    while let Some(entry) = rest.next() {
         push_candidate(&mut found, selector, want, &entry.key, entry.count)?;
     }
     Ok(found)

@@ -1,15 +1,15 @@
 //! The takes of a reduction.
 ghost use Rattle.std.specs.Prelude.{◌≡◌, ◌≢◌, ◌<◌, ◌^◌, ◌++◌, ◌∷◌, [], OnOk, IfOk, List, ℕ, map};
+ghost use Rattle.std.specs.Prelude.{length};
 ghost use Rattle.std.specs.Int.RustNames.{unsigned_abs};
+ghost use Rattle.std.specs.List.{AllByRecursion};
 ghost use Rattle.bean_base.specs.Decimal.{scaled};
 ghost use Rattle.bean_lots.specs.declared.lot.Lot.{Lot};
-ghost use Rattle.bean_lots.specs.Candidate.{candidates};
+ghost use Rattle.bean_lots.specs.Candidate.{IsHeld, candidates};
 ghost use Rattle.bean_lots.specs.Take.{with_sign, signed_take, signed_takes, take_counts};
 ghost use Rattle.bean_lots.specs.Filling.{filled};
 ghost use Rattle.bean_lots.specs.Reduction.{IsReduction, Reduces};
-ghost use Rattle.bean_lots.specs.declared.lot.Position.{Position};
 ghost use Rattle.bean_lots.specs.declared.reduction.Method.{Method};
-ghost use Rattle.bean_lots.specs.declared.reduction.Selector.{Selector};
 
 use super::queue::{Candidate, arrange, candidates, judge};
 use super::{LotFault, Method, Selector};
@@ -78,8 +78,9 @@ pub(crate) fn reduce_candidates<'a>(
 ) -> Result<Vec<(Lot<'a>, Num)>, LotFault>
     requires small { unsigned_abs want < 10 ^ 20 }
     requires chooses { method ≢ Method.None }
-    ensures { (s : Selector) (es : List Position) → queue.entry.items ≡ candidates s want es
-        → Reduces method (candidates s want es) want result }
+    requires held { AllByRecursion IsHeld queue.items }
+    requires wanted { 0 < length queue.items → 0 < unsigned_abs want }
+    ensures { Reduces method queue.entry.items want result }
 {
     arrange(method, &mut queue)?;
     match judge(method, &queue, want.unsigned_abs()) {
@@ -102,7 +103,7 @@ pub fn reduce<'a>(
         Reduces method (candidates selector.now want inventory.now) want result }
 {
     let want = units.scaled(8);
-    let found = candidates(alloc, inventory.entries(), selector, want)?;
+    let found = candidates(alloc, inventory, selector, want)?;
     reduce_candidates(alloc, found, want, method)
 }
 

@@ -1,7 +1,7 @@
 use Rattle.std.proofs.Common.{◌≡◌, ◌++◌, ◌≤◌, ℕ, List, length}
 use Rattle.std.specs.List.{AllByRecursion}
 use Rattle.bean_sizes.specs.Booked.{IsSmallNoted}
-use Rattle.bean_sizes.specs.Small.{IsSmall}
+use Rattle.bean_load.specs.Small.{IsSmall}
 use Rattle.posting_table.specs.Decimals.{decimals_of}
 use Rattle.posting_table.specs.declared.ledger.TheConstants.{MOST_POSTINGS}
 use Rattle.bean_book.specs.Booked.{decimals_from, rows_of_all, written_in_all}

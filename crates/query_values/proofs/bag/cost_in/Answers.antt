@@ -10,25 +10,26 @@ use Rattle.query_values.proofs.bag.cost_in.Goals as goal
 
 pub loop-entry-init : goal.loop-entry-init
 loop-entry-init c =
-    none_yet at_cost c.args.entries.now c.new-held.result c.new-held.ensures c.requires
+    none_yet at_cost c.args.inventory.now c.new-held.result c.positions-rest.result
+    c.new-held.ensures c.positions-rest.ensures c.requires
 
 pub count_at_cost-count-requires : goal.count_at_cost-count-requires
 count_at_cost-count-requires c =
-    let e = c.entry-item.result in
+    let e = c.in-Some.entry in
     let adds =
-    one_more at_cost c.args.entries.now c.loop-entry.held c.loop-entry.entry-index e
-    c.loop-entry-test.true c.entry-item.is c.loop-entry.invariant in
+    one_more at_cost c.args.inventory.now c.loop-entry.held c.loop-entry.rest c.next.new.self e
+    c.in-Some.ensures.some c.loop-entry.invariant in
     let fits : FitsSigned w128 e.count = search rules in
     subst (λ n. IsTrue (is_count (cost_count e.key.lot n))) (sym (to_z-of_z w128 e.count fits))
     adds.own
 
 pub add-requires : goal.add-requires
 add-requires c =
-    let e = c.entry-item.result in
+    let e = c.in-Some.entry in
     let held = c.loop-entry.held in
     let adds =
-    one_more at_cost c.args.entries.now held c.loop-entry.entry-index e c.loop-entry-test.true
-    c.entry-item.is c.loop-entry.invariant in
+    one_more at_cost c.args.inventory.now held c.loop-entry.rest c.next.new.self e
+    c.in-Some.ensures.some c.loop-entry.invariant in
     let fits : FitsSigned w128 e.count = search rules in
     let own : FitsSigned w128 c.count_at_cost-count.result = search rules in
     let key = c.bare_key.ensures ∙ ap bare_key c.currency_at_cost.ensures in
@@ -37,16 +38,16 @@ add-requires c =
     let sum : IsTrue (is_count (count_of held c.bare_key.result +ℤ c.count_at_cost-count.result)) =
     subst (λ k. IsTrue (is_count (count_of held k +ℤ c.count_at_cost-count.result))) (sym key)
     (subst (λ n. IsTrue (is_count (count_of held (bare_key (cost_currency e.key)) +ℤ n)))
-    (sym count) adds.more) in
+    (sym count) adds.sum) in
     fits_sum (count_of held c.bare_key.result) c.count_at_cost-count.result own sum
 
 pub loop-entry-preserved : goal.loop-entry-preserved
 loop-entry-preserved c =
-    let e = c.entry-item.result in
-    let es = c.args.entries.now in
-    let i = c.loop-entry.entry-index in
+    let e = c.in-Some.entry in
+    let es = c.args.inventory.now in
+    let more = c.next.new.self in
     let adds =
-    one_more at_cost es c.loop-entry.held i e c.loop-entry-test.true c.entry-item.is
+    one_more at_cost es c.loop-entry.held c.loop-entry.rest more e c.in-Some.ensures.some
     c.loop-entry.invariant in
     let fits : FitsSigned w128 e.count = search rules in
     let own : FitsSigned w128 c.count_at_cost-count.result = search rules in
@@ -57,9 +58,9 @@ loop-entry-preserved c =
     c.in_ok-add.ensures.ok
     ∙ ap₂ (added c.loop-entry.held) key
     (to_z-of_z w128 c.count_at_cost-count.result own ∙ count) in
-    subst (λ held. IsUpTo at_cost es held (i + 1)) (sym new) adds.next
+    subst (λ held. IsUpTo at_cost es held more) (sym new) adds.next
 
 pub returns : goal.returns
-returns c = let end : length c.args.entries.now ≡ c.loop-entry.entry-index = omega arith in
-    all at_cost c.args.entries.now c.loop-entry.held c.loop-entry.entry-index end
+returns c =
+    all at_cost c.args.inventory.now c.loop-entry.held c.loop-entry.rest c.in_default.ensures.none
     c.loop-entry.invariant

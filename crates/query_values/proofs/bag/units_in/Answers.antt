@@ -10,35 +10,36 @@ use Rattle.query_values.proofs.bag.units_in.Goals as goal
 
 pub loop-entry-init : goal.loop-entry-init
 loop-entry-init c =
-    none_yet without_lot c.args.entries.now c.new-held.result c.new-held.ensures c.requires
+    none_yet without_lot c.args.inventory.now c.new-held.result c.positions-rest.result
+    c.new-held.ensures c.positions-rest.ensures c.requires
 
 pub add-requires : goal.add-requires
 add-requires c =
-    let e = c.entry-item.result in
+    let e = c.in-Some.entry in
     let adds =
-    one_more without_lot c.args.entries.now c.loop-entry.held c.loop-entry.entry-index e
-    c.loop-entry-test.true c.entry-item.is c.loop-entry.invariant in
+    one_more without_lot c.args.inventory.now c.loop-entry.held c.loop-entry.rest c.next.new.self e
+    c.in-Some.ensures.some c.loop-entry.invariant in
     let fits : FitsSigned w128 e.count = search rules in
     let key = c.bare_key.ensures ∙ ap bare_key c.lend.ensures in
     subst (λ k. FitsSigned w128 (count_of c.loop-entry.held k +ℤ to_z w128 (of_z w128 e.count)))
     (sym key)
-    (fits_sum (count_of c.loop-entry.held (bare_key e.key.currency)) e.count fits adds.more)
+    (fits_sum (count_of c.loop-entry.held (bare_key e.key.currency)) e.count fits adds.sum)
 
 pub loop-entry-preserved : goal.loop-entry-preserved
 loop-entry-preserved c =
-    let e = c.entry-item.result in
-    let es = c.args.entries.now in
-    let i = c.loop-entry.entry-index in
+    let e = c.in-Some.entry in
+    let es = c.args.inventory.now in
+    let more = c.next.new.self in
     let adds =
-    one_more without_lot es c.loop-entry.held i e c.loop-entry-test.true c.entry-item.is
+    one_more without_lot es c.loop-entry.held c.loop-entry.rest more e c.in-Some.ensures.some
     c.loop-entry.invariant in
     let fits : FitsSigned w128 e.count = search rules in
     let key = c.bare_key.ensures ∙ ap bare_key c.lend.ensures in
     let new =
     c.in_ok-add.ensures.ok ∙ ap₂ (added c.loop-entry.held) key (to_z-of_z w128 e.count fits) in
-    subst (λ held. IsUpTo without_lot es held (i + 1)) (sym new) adds.next
+    subst (λ held. IsUpTo without_lot es held more) (sym new) adds.next
 
 pub returns : goal.returns
-returns c = let end : length c.args.entries.now ≡ c.loop-entry.entry-index = omega arith in
-    all without_lot c.args.entries.now c.loop-entry.held c.loop-entry.entry-index end
-    c.loop-entry.invariant
+returns c =
+    all without_lot c.args.inventory.now c.loop-entry.held c.loop-entry.rest
+    c.in_default.ensures.none c.loop-entry.invariant

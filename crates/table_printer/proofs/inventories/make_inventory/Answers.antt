@@ -22,8 +22,7 @@ loop-i-preserved c =
     let fits : FitsSigned w128 entry.count = search rules in
     c.in_ok-add_entry.ensures
     ∙ (λ k. c.in_ok-add_gap.ensures k
-    ++ entry_text display places (c.get-entry.ensures k).key
-    (to_z w128 (of_z w128 (c.get-entry.ensures k).count)))
+    ++ entry_text display places entry.key (to_z w128 (of_z w128 entry.count)))
     ∙ ap (λ n. (string_bytes c.loop-i.scratch.clean ++ gap)
     ++ entry_text display places entry.key n) (to_z-of_z w128 entry.count fits)
     ∙ ap (λ l. (l ++ gap) ++ text_of_entry display places entry) c.loop-i.invariant

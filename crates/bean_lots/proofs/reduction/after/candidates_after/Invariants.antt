@@ -1,10 +1,18 @@
-use Rattle.std.proofs.Common.{◌≡◌, ◌++◌, drop}
-use Rattle.bean_lots.specs.After.{after}
+use Rattle.std.proofs.Common.{◌≡◌, ◌^◌, ◌-◌, ◌++◌, length, sum_by}
+use Rattle.std.specs.Int.RustNames.{unsigned_abs}
+use Rattle.bean_lots.specs.After.{AreSmall, after}
 use Rattle.bean_lots.specs.Candidate.{candidates}
+use Rattle.bean_lots.specs.Take.{units_of}
 use Rattle.bean_lots.proofs.reduction.after.candidates_after.Given as goal
 
 -- those so far and those of the rest are all
 abbrev pub invariant-loop-entry : goal.invariant-loop-entry
-invariant-loop-entry l =
-    l.found.items ++ candidates l.selector l.want (after (drop l.entry-index l.entries) l.taken)
-    ≡ candidates l.selector l.want (after l.entries l.taken)
+invariant-loop-entry l = record {
+  small : AreSmall (2 ^ 125) l.rest;
+  missing : l.missing ≡ unsigned_abs l.want - sum_by units_of l.found.items;
+  told : l.found.items ++ candidates l.selector l.want (after l.rest l.taken)
+      ≡ candidates l.selector l.want (after l.inventory l.taken);
+}
+
+abbrev pub decreases-loop-entry : goal.decreases-loop-entry
+decreases-loop-entry l = length l.rest

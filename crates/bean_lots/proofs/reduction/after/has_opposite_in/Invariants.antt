@@ -1,9 +1,14 @@
-use Rattle.std.proofs.Common.{◌≡◌, drop}
-use Rattle.bean_lots.specs.After.{after, has_opposite}
+use Rattle.std.proofs.Common.{◌≡◌, ◌^◌, length}
+use Rattle.bean_lots.specs.After.{AreSmall, after, has_opposite}
 use Rattle.bean_lots.proofs.reduction.after.has_opposite_in.Given as goal
 
 -- whether there is one is left to the rest
 abbrev pub invariant-loop-entry : goal.invariant-loop-entry
-invariant-loop-entry l =
-    has_opposite l.currency l.want (after (drop l.entry-index l.entries) l.taken)
-    ≡ has_opposite l.currency l.want (after l.entries l.taken)
+invariant-loop-entry l = record {
+  small : AreSmall (2 ^ 125) l.rest;
+  told : has_opposite l.currency l.want (after l.rest l.taken)
+      ≡ has_opposite l.currency l.want (after l.inventory l.taken);
+}
+
+abbrev pub decreases-loop-entry : goal.decreases-loop-entry
+decreases-loop-entry l = length l.rest

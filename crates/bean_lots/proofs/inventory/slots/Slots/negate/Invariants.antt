@@ -1,0 +1,11 @@
+use Rattle.std.proofs.Common.{◌≡◌}
+use Rattle.bean_lots.proofs.NegativeFacts.{negative_front}
+use Rattle.bean_lots.proofs.inventory.slots.Slots.negate.Given as goal
+
+abbrev pub invariant-loop-index : goal.invariant-loop-index
+invariant-loop-index l = record {
+  entries : l.self.counts.entries ≡ negative_front l.index l.initial.self.counts.entries;
+  first : l.self.first ≡ l.initial.self.first;
+  signs : l.self.signs ≡ l.initial.self.signs;
+  days : l.self.days ≡ l.initial.self.days;
+}

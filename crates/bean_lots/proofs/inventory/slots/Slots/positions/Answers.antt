@@ -1,0 +1,17 @@
+use Rattle.std.proofs.Common.{length, drop, subst, sym, ◌∙◌, ap, ◌≤◌}
+use Rattle.bean_lots.specs.Slots.{positions}
+use Rattle.bean_lots.proofs.SlotFacts.{holes_few, holes_passed}
+use Rattle.bean_lots.proofs.inventory.slots.Slots.positions.Goals as goal
+
+pub split_at-held-requires : goal.split_at-held-requires
+split_at-held-requires c =
+    let s = c.args.self.now in
+    subst (λ l. s.first ≤ length l) (sym c.as_slice.ensures.entries)
+    (holes_few s.first s.counts.entries c.requires.holes)
+
+pub returns : goal.returns
+returns c =
+    let s = c.args.self.now in
+    c.new.ensures ∙ ap positions c.split_at-held.ensures.back
+    ∙ ap (λ l. positions (drop s.first l)) c.as_slice.ensures.entries
+    ∙ holes_passed s.first s.counts.entries c.requires.holes

@@ -1,0 +1,71 @@
+-- How an inventory is kept: a slot for each key, and what is known of all slots.
+use Rattle.std.specs.Prelude.{◌≡◌, ◌≤ℤ◌, ◌+◌, ℕ, zero, suc, ℤ, pos, Bool, true, List, [], ◌∷◌}
+use Rattle.std.specs.Prelude.{◌++◌, if◌then◌else◌, not, Option, Some, None}
+use Rattle.std.specs.List.{AllByRecursion}
+use Rattle.std.specs.Int.Signed.{lt_z}
+use Rattle.std.specs.Ordering.{int_eq}
+use Rattle.std.specs.Option.{is_some}
+use Rattle.bean_base.specs.Day.{number}
+use Rattle.bean_lots.specs.Days.{IsNotBefore}
+use Rattle.bean_lots.specs.Inventory.{held_as}
+use Rattle.bean_lots.specs.declared.lot.Key.{Key}
+use Rattle.bean_lots.specs.declared.lot.Lot.{Lot}
+use Rattle.bean_lots.specs.declared.lot.Position.{Position}
+use Rattle.bean_lots.specs.declared.inventory.days.Days.{Days}
+use Rattle.bean_lots.specs.declared.inventory.slots.Slots.{Slots}
+
+-- what is held in slots: nothing in one whose count is 0
+abbrev pub positions : List (Key × ℤ) → List Position
+positions [] = []
+positions (e ∷ es) = held_as e.0 e.1 ++ positions es
+
+abbrev pub is_full : Key × ℤ → Bool
+is_full e = not (int_eq e.1 (pos 0))
+
+-- the first n slots are empty
+abbrev pub AreHoles : ℕ → List (Key × ℤ) → Type 0
+AreHoles zero es = Unit {0}
+AreHoles (suc n) [] = ⊥
+AreHoles (suc n) (e ∷ es) = (e.1 ≡ pos 0) × AreHoles n es
+
+abbrev pub as_long : ℤ → ℕ
+as_long n = if lt_z (pos 0) n then 1 else 0
+
+abbrev pub as_short : ℤ → ℕ
+as_short n = if lt_z n (pos 0) then 1 else 0
+
+abbrev pub long_at : Key → ℤ → ℕ
+long_at k n = if is_some k.lot then as_long n else 0
+
+abbrev pub short_at : Key → ℤ → ℕ
+short_at k n = if is_some k.lot then as_short n else 0
+
+-- so many of each slot together
+abbrev pub in_all : (Key → ℤ → ℕ) → List (Key × ℤ) → ℕ
+in_all f [] = 0
+in_all f (e ∷ es) = f e.0 e.1 + in_all f es
+
+-- a lot is of that day or an earlier one
+abbrev pub IsBy : ℤ → Option Lot → Type 0
+IsBy day None = Unit {0}
+IsBy day (Some lot) = number lot.day ≤ℤ day
+
+abbrev pub AreBy : ℤ → List (Key × ℤ) → Type 0
+AreBy day es = AllByRecursion {X = Key × ℤ} (λ e. IsBy day e.0.lot) es
+
+-- the days of the lots never go down
+abbrev pub AreInOrder : List (Key × ℤ) → Type 0
+AreInOrder [] = Unit {0}
+AreInOrder (e ∷ es) =
+    AllByRecursion {X = Key × ℤ} (λ f. IsNotBefore e.0.lot f.0.lot) es × AreInOrder es
+
+abbrev pub AreDays : Days → List (Key × ℤ) → Type 0
+AreDays d es = d.in_order ≡ true → AreInOrder es × AreBy d.latest es
+
+-- the lots of each sign are counted, slots below the first are empty, and where lots are said to be
+-- in order they are
+pub record IsKept (s : Slots) : Type 0 where
+  pub holes : AreHoles s.first s.counts.entries
+  pub long : s.signs.long ≡ in_all long_at s.counts.entries
+  pub short : s.signs.short ≡ in_all short_at s.counts.entries
+  pub days : AreDays s.days s.counts.entries

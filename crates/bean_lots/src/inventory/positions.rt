@@ -1,0 +1,70 @@
+//! The positions of an inventory, one after the other.
+ghost use Rattle.std.specs.Prelude.{◌≡◌, ◌<◌, ◌∷◌, [], IfSome, IfNone, Some, drop};
+ghost use Rattle.std.specs.Prelude.{length, slice_get};
+ghost use Rattle.bean_lots.specs.Slots.{positions};
+
+use crate::lot::{Key, Position};
+use indexmap::map::Slice;
+use std::marker::Model;
+
+/// The positions that are still to come, in order of entry.
+#[derive(Drop)]
+pub struct Positions<'s, 'a> {
+    slots: Slice<'s, Key<'a>, i128>,
+    next: usize,
+}
+
+impl<'s, 'a> Model for Positions<'s, 'a> {
+    ghost use Rattle.std.specs.Prelude.{List, drop};
+    ghost use Rattle.bean_lots.specs.declared.lot.Position.{Position};
+    ghost use Rattle.bean_lots.specs.Slots.{positions};
+
+    ghost Value = { List Position };
+
+    ghost view = { λ p. positions (drop p.next p.slots) };
+}
+
+/// The key and the count of a slot.
+fn slot_at<'s, 'a>(slots: &Slice<'s, Key<'a>, i128>, index: usize) -> (&'s Key<'a>, i128)
+    requires { index < length slots.now }
+    ensures { slice_get slots.now index ≡ Some (result.0.now, result.1) }
+{
+    match slots.get_index(index) {
+        Some((key, count)) => (key, *count),
+        None => unreachable!(),
+    }
+}
+
+/// The first position in the slots from an index on, and the index behind it.
+fn first_from<'a>(slots: &Slice<'_, Key<'a>, i128>, start: usize) -> Option<(Position<'a>, usize)>
+    ensures some { IfSome result
+        (λ p. positions (drop start slots.now) ≡ p.0 ∷ positions (drop p.1 slots.now)) }
+    ensures none { IfNone result (positions (drop start slots.now) ≡ []) }
+{
+    for index in start..slots.len() {
+        let (key, count) = slot_at(slots, index);
+        if count != 0 {
+            let key = key.lend();
+            return Some((Position { key, count }, index + 1));
+        }
+    }
+    None
+}
+
+impl<'s, 'a> Positions<'s, 'a> {
+    pub(crate) fn new(slots: Slice<'s, Key<'a>, i128>) -> Positions<'s, 'a>
+        ensures { result ≡ positions slots.entry }
+    {
+        Positions { slots, next: 0 }
+    }
+
+    /// The next position, or none where there are no more.
+    pub fn next(&mut self) -> Option<Position<'a>>
+        ensures some { IfSome result (λ e. self.old ≡ e ∷ self.new) }
+        ensures none { IfNone result (self.old ≡ []) }
+    {
+        let (position, behind) = first_from(&self.slots, self.next)?;
+        self.next = behind;
+        Some(position)
+    }
+}

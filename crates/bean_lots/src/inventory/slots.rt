@@ -1,0 +1,252 @@
+//! The slots of an inventory: a count for each key, 0 once what was held of it is gone.
+//!
+//! Nothing moves where a count comes to 0: its slot is a hole, until half of all slots are holes
+//! and all of these are swept out. So a lot that goes costs no more than one that comes.
+ghost use Rattle.std.specs.Prelude.{◌≡◌, ◌≢◌, ◌+ℤ◌, ◌+◌, ◌≤◌, All, OnOk, OnErr, Some, None, pos};
+ghost use Rattle.std.specs.Prelude.{map, [], ℤ};
+ghost use Rattle.std.specs.Prelude.{filter, not, position, true};
+ghost use Rattle.std.specs.Int.{w128};
+ghost use Rattle.std.specs.Int.RustNames.{FitsSigned};
+ghost use Rattle.std.specs.Map.{lookup, keys_of};
+ghost use Rattle.std.specs.Ordering.{int_eq};
+ghost use Rattle.bean_lots.specs.Inventory.{IsInventory, MayBeNegated, added, count_of};
+ghost use Rattle.bean_lots.specs.Inventory.{negative_entry};
+ghost use Rattle.bean_lots.specs.Lot.{same_key};
+ghost use Rattle.bean_lots.specs.Slots.{IsKept, is_full, long_at, positions, short_at};
+ghost use Rattle.bean_lots.specs.declared.lot.Key.{Key as KeyValue};
+
+use super::days::Days;
+use super::positions::Positions;
+use super::signs::Signs;
+use crate::lot::Key;
+use indexmap::IndexMap;
+use std::alloc::{AllocError, Global};
+
+/// Fewer holes are never swept out.
+const FEW: usize = 16;
+
+/// Keeps the slots that are no holes.
+fn keep_full(counts: &mut IndexMap<Key<'_>, i128>)
+    ensures { counts.new.entries ≡ filter is_full counts.old.entries }
+{
+    counts.retain(
+        |_key: &Key<'_>, count: &mut i128| -> bool
+            ensures { (result ≡ not (int_eq count.old (pos 0))) × (count.new ≡ count.old) }
+        { *count != 0 },
+    );
+}
+
+/// A slot for each key that is held, and for some that were.
+#[derive(Drop)]
+pub(crate) struct Slots<'a> {
+    pub counts: IndexMap<Key<'a>, i128>,
+    /// All slots below are holes.
+    pub first: usize,
+    /// About how many holes there are: how soon they are swept out.
+    pub holes: usize,
+    pub signs: Signs,
+    pub days: Days,
+}
+
+impl Clone for Slots<'_> {
+    ghost is_clone = { λ a b. (b.counts.entries ≡ a.counts.entries) × (IsKept a → IsKept b) };
+
+    fn clone(&self) -> Result<Self, AllocError> {
+        Ok(Slots {
+            counts: self.counts.clone()?,
+            first: self.first,
+            holes: self.holes,
+            signs: self.signs,
+            days: self.days,
+        })
+    }
+}
+
+impl<'a> Slots<'a> {
+    /// Nothing is held. Takes no memory.
+    pub(crate) fn new(alloc: Global) -> Slots<'a>
+        ensures nothing { positions result.counts.entries ≡ [] }
+        ensures kept { IsKept result }
+    {
+        Slots {
+            counts: IndexMap::new(alloc),
+            first: 0,
+            holes: 0,
+            signs: Signs::new(),
+            days: Days::new(),
+        }
+    }
+
+    /// The count under a key.
+    pub(crate) fn get(&self, key: &Key<'_>) -> i128
+        ensures count { result ≡ count_of (positions self.now.counts.entries) key.now }
+        ensures inventory { IsInventory (positions self.now.counts.entries) }
+    {
+        if self.counts.len() == 0 {
+            return 0;
+        }
+        match self.counts.get(key) {
+            Some(count) => *count,
+            None => 0,
+        }
+    }
+
+    /// Whether there are no slots, not even holes.
+    pub(crate) fn is_bare(&self) -> bool
+        ensures bare { result ≡ true → positions self.now.counts.entries ≡ [] }
+        ensures inventory { IsInventory (positions self.now.counts.entries) }
+    {
+        self.counts.len() == 0
+    }
+
+    /// What is held, in order of entry.
+    pub(crate) fn positions(&self) -> Positions<'_, 'a>
+        requires { IsKept self.now }
+        ensures { result ≡ positions self.now.counts.entries }
+    {
+        let (_, held) = self.counts.as_slice().split_at(self.first);
+        Positions::new(held)
+    }
+
+    /// Holes at the front are passed.
+    fn pass_holes(&mut self)
+        requires { IsKept self.old }
+        ensures counts { self.new.counts ≡ self.old.counts }
+        ensures kept { IsKept self.new }
+    {
+        while self.first < self.counts.len() && self.counts[self.first] == 0 {
+            self.first += 1;
+        }
+    }
+
+    /// What the signs are once the count under a key becomes another.
+    fn signs_with(&self, key: &Key<'_>, before: i128, after: i128) -> Signs
+        requires kept { IsKept self.now }
+        requires long { long_at key.now before ≤ self.now.signs.long }
+        requires short { short_at key.now before ≤ self.now.signs.short }
+        ensures long { result.long + long_at key.now before
+            ≡ self.now.signs.long + long_at key.now after }
+        ensures short { result.short + short_at key.now before
+            ≡ self.now.signs.short + short_at key.now after }
+    {
+        // There are no more lots than slots, and so few of these that the counts have room.
+        let _slots = self.counts.len();
+        self.signs.changed(key, before, after)
+    }
+
+    /// Writes the count of a key that is held.
+    fn write(&mut self, key: &Key<'_>, index: usize, before: i128, after: i128)
+        requires kept { IsKept self.old }
+        requires at { position (same_key key.now) (keys_of self.old.counts.entries) ≡ Some index }
+        requires count { lookup (same_key key.now) self.old.counts.entries ≡ Some before }
+        requires some { before ≢ pos 0 }
+        ensures kept { IsKept self.new }
+        ensures written { (n : ℤ) → after ≡ before +ℤ n
+            → positions self.new.counts.entries
+            ≡ added (positions self.old.counts.entries) key.now n }
+    {
+        self.signs = self.signs_with(key, before, after);
+        self.counts[index] = after;
+        if after == 0 {
+            self.holes = self.holes.saturating_add(1);
+            self.pass_holes();
+        }
+    }
+
+    /// Takes the holes out.
+    fn sweep(&mut self)
+        requires { IsKept self.old }
+        ensures kept { IsKept self.new }
+        ensures same { positions self.new.counts.entries ≡ positions self.old.counts.entries }
+        ensures absent { (k : KeyValue) → lookup (same_key k) self.old.counts.entries ≡ None
+            → lookup (same_key k) self.new.counts.entries ≡ None }
+    {
+        keep_full(&mut self.counts);
+        self.first = 0;
+        self.holes = 0;
+        if self.counts.is_empty() {
+            self.days = Days::new();
+        }
+    }
+
+    fn sweep_where_due(&mut self)
+        requires { IsKept self.old }
+        ensures kept { IsKept self.new }
+        ensures same { positions self.new.counts.entries ≡ positions self.old.counts.entries }
+        ensures absent { (k : KeyValue) → lookup (same_key k) self.old.counts.entries ≡ None
+            → lookup (same_key k) self.new.counts.entries ≡ None }
+    {
+        if self.holes >= FEW && self.holes > self.counts.len() / 2 {
+            self.sweep();
+        }
+    }
+
+    /// Puts a key that has no slot behind all others.
+    fn push(&mut self, key: Key<'a>, count: i128) -> Result<(), AllocError>
+        requires kept { IsKept self.old }
+        requires absent { lookup (same_key key) self.old.counts.entries ≡ None }
+        ensures kept { IsKept self.new }
+        ensures ok { OnOk result (positions self.new.counts.entries
+            ≡ added (positions self.old.counts.entries) key.entry count) }
+        ensures err { OnErr result
+            (positions self.new.counts.entries ≡ positions self.old.counts.entries) }
+    {
+        let days = self.days.with(&key);
+        let signs = self.signs_with(&key, 0, count);
+        self.counts.insert(key, count)?;
+        self.days = days;
+        self.signs = signs;
+        Ok(())
+    }
+
+    /// Takes out the hole of a key.
+    fn remove_hole(&mut self, key: &Key<'a>)
+        requires kept { IsKept self.old }
+        requires hole { lookup (same_key key.now) self.old.counts.entries ≡ Some (pos 0) }
+        ensures kept { IsKept self.new }
+        ensures same { positions self.new.counts.entries ≡ positions self.old.counts.entries }
+        ensures absent { lookup (same_key key.now) self.new.counts.entries ≡ None }
+    {
+        self.counts.shift_remove(key);
+        self.first = self.first.saturating_sub(1);
+        self.holes = self.holes.saturating_sub(1);
+    }
+
+    /// Adds to the count under a key.
+    pub(crate) fn add(&mut self, key: Key<'a>, count: i128) -> Result<(), AllocError>
+        requires kept { IsKept self.old }
+        requires fits { FitsSigned w128 (count_of (positions self.old.counts.entries) key +ℤ count) }
+        ensures kept { IsKept self.new }
+        ensures ok { OnOk result (positions self.new.counts.entries
+            ≡ added (positions self.old.counts.entries) key.entry count) }
+        ensures err { OnErr result
+            (positions self.new.counts.entries ≡ positions self.old.counts.entries) }
+    {
+        let Some(index) = self.counts.get_index_of(&key) else {
+            self.sweep_where_due();
+            return self.push(key, count);
+        };
+        let before = self.counts[index];
+        if before != 0 {
+            self.write(&key, index, before, before + count);
+            return Ok(());
+        }
+        self.remove_hole(&key);
+        self.push(key, count)
+    }
+
+    /// Changes the sign of every count.
+    pub(crate) fn negate(&mut self)
+        requires kept { IsKept self.old }
+        requires wide { All MayBeNegated (positions self.old.counts.entries) }
+        ensures kept { IsKept self.new }
+        ensures negated { positions self.new.counts.entries
+            ≡ map negative_entry (positions self.old.counts.entries) }
+    {
+        for index in 0..self.counts.len() {
+            let count = self.counts[index];
+            self.counts[index] = -count;
+        }
+        self.signs = self.signs.negated();
+    }
+}

@@ -1,0 +1,22 @@
+use Rattle.std.proofs.Common.{◌≡◌, ◌&&◌, true, false, sym, ap, ◌∙◌}
+use Rattle.std.specs.List.{list_all}
+use Rattle.query_values.specs.Equality.{agree_at}
+use Rattle.query_values.proofs.comparison.agree_in.Goals as goal
+
+pub returns-then-not-agree_at : goal.returns-then-not-agree_at
+returns-then-not-agree_at c =
+    let agree = agree_at c.args.a.now c.args.b.now in
+    let e = c.in-Some.entry in
+    let rest = c.next.new.self in
+    let none = sym (c.agree_at.ensures e.count) ∙ c.if-not-agree_at.true in
+    sym (ap (λ b. b && list_all agree rest) none) ∙ sym (ap (list_all agree) c.in-Some.ensures.some)
+    ∙ c.loop-entry.invariant
+
+pub loop-entry-preserved : goal.loop-entry-preserved
+loop-entry-preserved c =
+    let agree = agree_at c.args.a.now c.args.b.now in
+    let e = c.in-Some.entry in
+    let rest = c.next.new.self in
+    let same = sym (c.agree_at.ensures e.count) ∙ c.if-not-agree_at.false in
+    sym (ap (λ b. b && list_all agree rest) same) ∙ sym (ap (list_all agree) c.in-Some.ensures.some)
+    ∙ c.loop-entry.invariant
