@@ -1,5 +1,8 @@
 -- Texts have one book, so they have not both a book and too many postings.
-use Rattle.std.proofs.Common.{◌≡◌, ℕ, ◌<◌, ◌≤◌, length, reverse, sym, ap, ◌∙◌, subst, arith}
+use Rattle.std.proofs.Common.{◌≡◌, ℕ, ◌<◌, ◌≤◌, List, length, reverse, Result, Ok, Err}
+use Rattle.std.proofs.Common.{sym, ap, ◌∙◌, subst, arith}
+use Rattle.bean_base.specs.declared.fault.Fault.{Fault}
+use Rattle.bean_book.specs.Found as found
 use Rattle.bean_book.specs.Booked as booked
 use Rattle.bean_book.specs.Booked.{bookings_of, decimals_from, rows_of_all, written_in_all}
 use Rattle.bean_book.specs.OneBook.{AreAlike}
@@ -7,11 +10,13 @@ use Rattle.bean_book.specs.Reported.{reported}
 use Rattle.bean_book.specs.declared.booked.Booked.{Booked}
 use Rattle.bean_booker.proofs.OneBooking.{one_stand}
 use Rattle.bean_booker.specs.Booked.{faults_of, method_in_ledger}
-use Rattle.bean_load.specs.Loaded.{Loaded}
+use Rattle.bean_booker.specs.declared.booker.BookFault.{BookFault}
+use Rattle.bean_booker.specs.declared.booker.BookFault.TheVariants.{TooManyPostings, OutOfMemory}
+use Rattle.bean_load.specs.Loaded.{IsLoaded, Loaded}
 use Rattle.bean_load.specs.Texts.{Texts}
 use Rattle.bean_load.proofs.OneLoading.{one_loading}
 use Rattle.posting_table.specs.declared.ledger.TheConstants.{MOST_POSTINGS}
-use Rattle.bq.specs.Booking.{HasTooMany, IsBookOf}
+use Rattle.bq.specs.Booking.{FindsFaults, HasTooMany, IsBookOf}
 
 too_many : (most n m : ℕ) → n ≤ most → n ≡ m → most < m → ⊥
 too_many most n m few same many = absurd (omega (arith, few, same, many))
@@ -41,3 +46,10 @@ pub one_book : (texts : Texts) (a b : Booked) → IsBookOf texts a → IsBookOf 
 one_book texts a b h g =
     alike h.0 a b h.2
     (subst (λ l. booked.IsBookOf l b) (one_loading texts g.0 h.0 g.1 h.1) g.2)
+
+-- what is found in what texts say is found in the texts
+pub found_in : (texts : Texts) (l : Loaded) → IsLoaded texts l
+    → (r : Result (List Fault) BookFault) → found.FindsFaults l r → FindsFaults texts r
+found_in texts l is (Ok faults) h = (h.0, (l, is, h.1), h.2)
+found_in texts l is (Err TooManyPostings) h = (l, is, h)
+found_in texts l is (Err OutOfMemory) h = tt

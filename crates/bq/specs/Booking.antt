@@ -1,5 +1,6 @@
 -- The book of texts.
-use Rattle.std.specs.Prelude.{⊤, Result, Ok, Err}
+use Rattle.std.specs.Prelude.{◌≡◌, ⊤, List, Result, Ok, Err}
+use Rattle.bean_base.specs.declared.fault.Fault.{Fault}
 use Rattle.bean_book.specs.Booked as booked
 use Rattle.bean_book.specs.declared.booked.Booked.{Booked}
 use Rattle.bean_booker.specs.declared.booker.BookFault.{BookFault}
@@ -20,3 +21,9 @@ abbrev pub Books : Texts → Result Booked BookFault → Type 0
 Books texts (Ok b) = IsBookOf texts b
 Books texts (Err TooManyPostings) = HasTooMany texts
 Books texts (Err OutOfMemory) = ⊤
+
+-- the faults in the book of the texts, or B1 where they have too many postings
+abbrev pub FindsFaults : Texts → Result (List Fault) BookFault → Type 0
+FindsFaults texts (Ok faults) = (b : Booked) × IsBookOf texts b × (faults ≡ b.faults)
+FindsFaults texts (Err TooManyPostings) = HasTooMany texts
+FindsFaults texts (Err OutOfMemory) = ⊤

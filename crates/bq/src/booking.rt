@@ -1,7 +1,8 @@
 //! The book of texts.
-ghost use Rattle.bq.specs.Booking.{Books};
+ghost use Rattle.bq.specs.Booking.{Books, FindsFaults};
 
-use bean_book::{BookFault, Booked, book};
+use bean_base::{Fault, List};
+use bean_book::{BookFault, Booked, book, find_faults};
 use bean_load::{Texts, load};
 use std::alloc::Global;
 
@@ -11,4 +12,12 @@ pub fn book_of<'a>(alloc: Global, texts: &'a Texts) -> Result<Booked<'a>, BookFa
 {
     let loaded = load(alloc, texts)?;
     book(alloc, loaded)
+}
+
+/// The faults in the book of texts.
+pub fn faults_in(alloc: Global, texts: &Texts) -> Result<List<Fault>, BookFault>
+    ensures { FindsFaults texts.now result }
+{
+    let loaded = load(alloc, texts)?;
+    find_faults(alloc, &loaded)
 }

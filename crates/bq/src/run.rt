@@ -7,7 +7,7 @@ ghost use Rattle.bq.specs.Runs.{written, deeds, ComesOf, WritesText, Does, Runs,
 ghost use Rattle.bq.specs.Runs.{HasOneAnswer, RefusesExactly, StatusesTell};
 ghost use Rattle.bq.specs.Words.{ListLedger, CheckLedger, ShowFile};
 
-use crate::booking::book_of;
+use crate::booking::{book_of, faults_in};
 use crate::refusal::Refusal;
 use crate::showing::{file_bytes, listing_of};
 use crate::shown::Postings;
@@ -50,11 +50,10 @@ fn list_texts<O: Output>(alloc: Global, texts: &Texts, out: &mut O) -> Result<Ve
 fn check_texts<O: Output>(alloc: Global, texts: &Texts, out: &mut O) -> Result<Verdict, Refusal>
     ensures { ComesOf (written O.Output out.old out.new) texts.now (Checks texts.now) result }
 {
-    let booked = book_of(alloc, texts)?;
-    let faults = booked.faults.as_slice();
-    let lines = fault_lines(alloc, texts.files(), faults)?;
+    let faults = faults_in(alloc, texts)?;
+    let lines = fault_lines(alloc, texts.files(), faults.as_slice())?;
     write_text(&lines, out)?;
-    Ok(verdict_of(faults))
+    Ok(verdict_of(faults.as_slice()))
 }
 
 /// Writes the table of the postings in the ledger of that name.
