@@ -1,0 +1,4 @@
+pub mod AnswerFacts
+mod Worked
+mod ValueExamples
+mod Examples

@@ -1,0 +1,4 @@
+pub mod Reading
+pub mod Meaning
+pub mod Answer
+pub mod Laws

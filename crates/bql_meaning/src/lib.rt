@@ -1,0 +1,33 @@
+//! What queries mean: what an expression is worth, and which rows a query answers.
+//!
+//! `specs/Meaning` says what an expression is worth over some rows of a ledger, a group or one row
+//! alone: columns are those of the first row, aggregates gather over all. Each form of expression
+//! is a line, by the tables of [`query_values`]. `specs/Answer` says which rows pass, what the
+//! running inventory is at each of them, which groups they make, and which rows come of these and
+//! in which order. A program is right where its rows are these.
+//!
+//! There is nothing to run here: the functions are laws, whose contracts say what holds of the
+//! definitions.
+//!
+//! ```text
+//! SELECT account, sum(number) GROUP BY account ORDER BY 2
+//! // over 10 USD of cash, 5 USD of gifts, -4 USD of cash: (gifts, 5), (cash, 6)
+//! ```
+//!
+//! # What is taken for granted
+//!
+//! Nothing: a query that has no type has an answer too, in which what has no type is null. The
+//! bounds of a query are asked only for the decimals that a sum has.
+//!
+//! # Cost
+//!
+//! None: these are laws, and nothing here runs.
+#![tactic(auto)]
+
+ghost use Rattle.bql_meaning.specs.Laws.{AnswersAreOne, AnswersAreThere};
+
+/// A query has one answer over each list of rows.
+pub fn answers_are_one()
+    ensures there { AnswersAreThere }
+    ensures one { AnswersAreOne }
+{}
