@@ -1,4 +1,5 @@
 pub mod Reading
 pub mod Meaning
 pub mod Answer
+pub mod Bare
 pub mod Laws

@@ -39,7 +39,7 @@ leaf_value (leaf.Text t) rows = Text t
 leaf_value (leaf.Day d) rows = Day d
 leaf_value (leaf.Truth b) rows = Truth b
 leaf_value leaf.Rows rows = Null
-leaf_value (leaf.Meta e key) rows = at_first (text e key) rows
+leaf_value (leaf.Meta e key) rows = at_first (λ r. text e key r.row) rows
 leaf_value (leaf.HasAccount pattern) rows =
     unary_value (operation.MatchAny pattern) (at_first (cell column.Accounts) rows)
 

@@ -45,10 +45,11 @@ abbrev pub cell : Column → Reading → Value
 cell column.Balance r = r.balance
 cell c r = cell_of c r.row
 
-abbrev pub text : entry.Entry → List ℕ → Reading → Value
-text Posting key r = posting_text key r.row
-text Transaction key r = transaction_text key r.row
-text Any key r = any_text key r.row
+-- the text of a key of metadata
+abbrev pub text : entry.Entry → List ℕ → Row → Value
+text Posting key r = posting_text key r
+text Transaction key r = transaction_text key r
+text Any key r = any_text key r
 
 -- of the first row
 abbrev pub at_first : (Reading → Value) → List Reading → Value

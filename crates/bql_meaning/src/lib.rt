@@ -25,9 +25,26 @@
 #![tactic(auto)]
 
 ghost use Rattle.bql_meaning.specs.Laws.{AnswersAreOne, AnswersAreThere};
+ghost use Rattle.bql_meaning.specs.Laws.{KeysAreOfTheGroup, KeysAreOfTheRows, ReadAtTheFirst};
+ghost use Rattle.bql_meaning.specs.Laws.{SameAreBare, SameAreWorthTheSame};
 
 /// A query has one answer over each list of rows.
 pub fn answers_are_one()
     ensures there { AnswersAreThere }
     ensures one { AnswersAreOne }
+{}
+
+/// Expressions are the same where their trees are, places aside, and then they are worth the same
+/// over all rows.
+pub fn same_expressions_are_worth_the_same()
+    ensures bare { SameAreBare }
+    ensures worth { SameAreWorthTheSame }
+{}
+
+/// What has no aggregates is read at the first row of a group, and so are keys: they are worth the
+/// values by which the group is told, and the same at each of its rows.
+pub fn keys_are_read_at_the_first_row()
+    ensures first { ReadAtTheFirst }
+    ensures group { KeysAreOfTheGroup }
+    ensures rows { KeysAreOfTheRows }
 {}
