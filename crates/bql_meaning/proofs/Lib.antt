@@ -1,6 +1,10 @@
 pub mod AnswerFacts
 pub mod SameFacts
 pub mod KeyFacts
+pub mod AlignmentFacts
+pub mod ShapeFacts
+pub mod ValueFacts
+pub mod PassingFacts
 mod Worked
 mod ValueExamples
 mod Examples

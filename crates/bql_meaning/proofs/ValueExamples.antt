@@ -138,7 +138,7 @@ and_true : at_posting (two binary.And (of_column column.Payee) (of_leaf (leaf.Tr
     ≡ Truth false
 and_true = refl
 
--- account = 'Assets:Cash', date > 2014-01-02
+-- account = 'Assets:Cash'
 same_account : at_posting (two binary.Equal (of_column column.Account) (text cash)) ≡ Truth true
 same_account = refl
 
@@ -170,7 +170,7 @@ long : at_posting (applied function.Length (of_column column.Account)) ≡ Numbe
 unfolding chars
 long = refl
 
--- cost(position), units(balance), abs(number), -number, number(position), currency(position)
+-- cost(position), cost(balance), abs(number), -number, number(position), currency(position)
 cost : at_posting (applied function.Cost (of_column column.Position))
     ≡ Amount 16 (neg_ℤ (pos (1000 * 10 ^ 16))) (codes "USD")
 cost = refl
@@ -188,7 +188,8 @@ minus_number = refl
 number_of : at_posting (applied function.Number (of_column column.Position)) ≡ Number 8 (minus 1000)
 number_of = refl
 
-currency_of : at_posting (applied function.Currency (of_column column.Position)) ≡ Text (codes "USD")
+currency_of : at_posting (applied function.Currency (of_column column.Position))
+    ≡ Text (codes "USD")
 currency_of = refl
 
 -- day(date)
@@ -282,12 +283,13 @@ greatest_number = refl
 first_account : over group (of_column column.Account) ≡ Text inv
 first_account = refl
 
--- ---- of nothing: sum(payee's length), sum(cost_number), sum(cost(position)), first, count
+-- ---- over no values: sum(cost_number), sum(length(payee)), first(payee), count(payee), min(payee)
 
 abbrev nothing : List Reading
 nothing = reading (posting january_2 (codes "Buy") cash usd (minus 1000)) ∷ []
 
-sum_of_nothing : over nothing (applied function.Sum (of_column column.CostNumber)) ≡ Number 8 (pos 0)
+sum_of_nothing : over nothing (applied function.Sum (of_column column.CostNumber))
+    ≡ Number 8 (pos 0)
 sum_of_nothing = refl
 
 whole_sum_of_nothing :

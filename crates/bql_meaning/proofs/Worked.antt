@@ -12,7 +12,8 @@
 --     Income:Gain
 --
 -- where Assets:Inv is FIFO. Cells that no worked query reads are null.
-use Rattle.std.proofs.Common.{◌<◌, ◌^◌, ◌*◌, ℕ, ℤ, pos, neg_ℤ, List, [], ◌∷◌, ◌++◌, Option, Some, None}
+use Rattle.std.proofs.Common.{◌<◌, ◌^◌, ◌*◌, ℕ, ℤ, pos, neg_ℤ, List, [], ◌∷◌, ◌++◌, Option, Some}
+use Rattle.std.proofs.Common.{None}
 use Rattle.std.proofs.Common.{codes, rules, arith}
 use Rattle.std.specs.Int.{IsInRange}
 use Rattle.std.specs.Int.RustNames.{unsigned_abs}

@@ -117,7 +117,7 @@ rows_of b (selecting s) rows = select_rows b s rows
 rows_of b (journaling j) rows = select_rows b (journal_select j) rows
 rows_of b (balancing q) rows = map with_rank (select_rows b (balances_select q) rows)
 
--- These are the rows that a query answers over the rows of a ledger: in its order, those that tie as
--- they came to be; each once under DISTINCT; and no more than its limit.
+-- These are the rows that a query answers over the rows of a ledger: in its order, those that tie
+-- as they came to be; each once under DISTINCT; and no more than its limit.
 abbrev pub IsAnswer : Bounds → Settled → List Row → List (List Value) → Type 0
 IsAnswer b q rows final = IsFinal (output q) (rows_of b q rows) final

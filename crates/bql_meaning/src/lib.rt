@@ -24,9 +24,10 @@
 //! None: these are laws, and nothing here runs.
 #![tactic(auto)]
 
-ghost use Rattle.bql_meaning.specs.Laws.{AnswersAreOne, AnswersAreThere};
-ghost use Rattle.bql_meaning.specs.Laws.{KeysAreOfTheGroup, KeysAreOfTheRows, ReadAtTheFirst};
-ghost use Rattle.bql_meaning.specs.Laws.{SameAreBare, SameAreWorthTheSame};
+ghost use Rattle.bql_meaning.specs.Laws.{AlignmentsChangeNothing, AnswersAreOne, AnswersAreThere};
+ghost use Rattle.bql_meaning.specs.Laws.{KeysAreOfTheGroup, KeysAreOfTheRows, PassingAreRead};
+ghost use Rattle.bql_meaning.specs.Laws.{ReadAtTheFirst, SameAreBare, SameAreWorthTheSame};
+ghost use Rattle.bql_meaning.specs.Laws.{ValuesLieInTheirShapes};
 
 /// A query has one answer over each list of rows.
 pub fn answers_are_one()
@@ -47,4 +48,17 @@ pub fn keys_are_read_at_the_first_row()
     ensures first { ReadAtTheFirst }
     ensures group { KeysAreOfTheGroup }
     ensures rows { KeysAreOfTheRows }
+{}
+
+/// Operands that are brought to the greater count of decimals first give what they give as they
+/// are.
+pub fn alignments_change_nothing()
+    ensures { AlignmentsChangeNothing }
+{}
+
+/// What an expression is worth is of its shape, where the cells of the rows are of theirs; and then
+/// the running inventories of the rows that pass are.
+pub fn values_lie_in_their_shapes()
+    ensures values { ValuesLieInTheirShapes }
+    ensures passing { PassingAreRead }
 {}
