@@ -1,14 +1,22 @@
 -- Bringing numbers to the greater count of decimals first changes nothing.
 use Rattle.std.proofs.Common.{◌≡◌, ℕ, ℤ, pos, max, ◌-◌, ◌^◌, ◌+ℤ◌, ◌-ℤ◌, ◌*ℤ◌, true, not}
+use Rattle.std.proofs.Common.{List, [], ◌∷◌, ◌||◌, ◌≤◌, map}
 use Rattle.std.proofs.Common.{refl, ap, ◌∙◌, arith}
 use Rattle.std.proofs.lemmas.Int.{ints}
+use Rattle.std.proofs.lemmas.Bool.Decides.{Decides-int_eq, nat_tests}
+use Rattle.std.specs.List.{AllByRecursion, list_any}
+use Rattle.std.specs.Prelude.{nat_le}
 use Rattle.std.specs.Ordering.{int_cmp, int_eq, is_lt}
 use Rattle.bean_base.specs.Decimal.{scaled}
 use Rattle.query_shapes.proofs.ShapeCases.{number_cases}
 use Rattle.query_shapes.specs.Shape.{LiesIn}
 use Rattle.query_shapes.specs.declared.shape.Shape.TheVariants as shape
+use Rattle.query_values.proofs.EqualityFacts.{values_equiv}
 use Rattle.query_values.specs.Arithmetic.{aligned}
-use Rattle.query_values.specs.Operation.{binary_value}
+use Rattle.query_values.specs.Equality.{same}
+use Rattle.query_values.specs.Operand.{has_at_most}
+use Rattle.query_values.specs.Operation.{unary_value, binary_value}
+use Rattle.query_values.specs.Unary.{InList}
 use Rattle.query_values.specs.declared.operation.Binary.{Binary}
 use Rattle.query_values.specs.declared.operation.Binary.TheVariants as binary
 use Rattle.query_values.specs.declared.value.Value.{Value}
@@ -112,3 +120,43 @@ module _ (op : Binary) (is : is_aligned op ≡ true) (p q m n : ℕ) where
       (λ d low. number_cases (Alike (Number p d)) q n (null_second op is (max p q) p d)
       (λ c low. of_numbers p q d c op is) y k)
       x h
+
+-- ---- members of lists
+
+-- a number with more decimals is the same number
+more_decimals : (p q : ℕ) (m : ℤ) → (nat_le q p) ≡ true
+    → same (Number p (scaled m q p)) (Number q m) ≡ true
+more_decimals p q m low =
+    let few : q ≤ p = grind (arith, nat_tests) in
+    let most : max p q ≡ p = omega (arith, few) in
+    ap (λ r. int_eq (scaled (scaled m q p) p r) (scaled m q r)) most
+    ∙ ap (λ z. int_eq z (scaled m q p)) (scaled_by_none (scaled m q p) p)
+    ∙ (Decides-int_eq (scaled m q p) (scaled m q p)).1 refl
+
+both_same : (x y u v : Value) → same u x ≡ true → same v y ≡ true → same u v ≡ same x y
+both_same x y u v h k =
+    values_equiv.congr u x v h ∙ values_equiv.symm x v ∙ values_equiv.congr v y x k
+    ∙ values_equiv.symm y x
+
+sought : (p q : ℕ) (m : ℤ) → nat_le q p ≡ true → (y : Value) → has_at_most p y ≡ true
+    → same (Number p (scaled m q p)) (aligned p y) ≡ same (Number q m) y
+sought p q m low Null h = refl
+sought p q m low (Number r n) h =
+    both_same (Number q m) (Number r n) (Number p (scaled m q p)) (Number p (scaled n r p))
+    (more_decimals p q m low) (more_decimals p r n h)
+sought p q m low y h = absurd cc
+
+all_sought : (p q : ℕ) (m : ℤ) → nat_le q p ≡ true → (ys : List Value)
+    → AllByRecursion (λ y. has_at_most p y ≡ true) ys
+    → list_any (same (Number p (scaled m q p))) (map (aligned p) ys)
+    ≡ list_any (same (Number q m)) ys
+all_sought p q m low [] all = refl
+all_sought p q m low (y ∷ ys) all =
+    λ i. sought p q m low y all.0 i || all_sought p q m low ys all.1 i
+
+pub members_aligned : (places : ℕ) (x : Value) (ys : List Value) → has_at_most places x ≡ true
+    → AllByRecursion (λ y. has_at_most places y ≡ true) ys
+    → unary_value (InList (map (aligned places) ys)) (aligned places x) ≡ unary_value (InList ys) x
+members_aligned p Null ys h all = refl
+members_aligned p (Number q m) ys h all = ap Truth (all_sought p q m h ys all)
+members_aligned p x ys h all = absurd cc

@@ -5,6 +5,8 @@ pub mod AlignmentFacts
 pub mod ShapeFacts
 pub mod ValueFacts
 pub mod PassingFacts
+pub mod BoundFacts
+pub mod BoundlessFacts
 mod Worked
 mod ValueExamples
 mod Examples

@@ -195,7 +195,7 @@ gathering_lies b (call_of f) parts ss s is e all rows few read =
 
 -- ---- expressions
 
-given_is : (r : Ruled) (s : Shape) → given (Some r) ≡ Some s → r ≡ Ok s
+pub given_is : (r : Ruled) (s : Shape) → given (Some r) ≡ Some s → r ≡ Ok s
 given_is (Ok t) s e = let is : t ≡ s = cc in ap Ok is
 given_is (Err m) s e = absurd cc
 
@@ -226,11 +226,11 @@ plain_lies b at op parts ss s short eq is e all rows few read = by (is_aggregate
         eq e
 
 -- the shapes that a shape comes of
-abbrev FromParts : Bounds → Operation → Option (List Shape) → Shape → Type 0
+abbrev pub FromParts : Bounds → Operation → Option (List Shape) → Shape → Type 0
 FromParts b op None s = ⊥
 FromParts b op (Some ss) s = rule b op ss ≡ Ok s
 
-from_parts : (b : Bounds) (op : Operation) (o : Option (List Shape)) (s : Shape)
+pub from_parts : (b : Bounds) (op : Operation) (o : Option (List Shape)) (s : Shape)
     → given (ruled b op o) ≡ Some s → FromParts b op o s
 from_parts b op None s e = absurd cc
 from_parts b op (Some ss) s e = given_is (rule b op ss) s e
@@ -274,7 +274,7 @@ node_lies b at (two_of op) parts s short e all = by (is_equality op) refl
         with_parts b at (two_of op) parts s short eq all (shapes_of b false parts) refl h
 
 -- the shape of the first, and those of the others
-first_shape : (o : Option Shape) (rest : Option (List Shape)) (ss : List Shape)
+pub first_shape : (o : Option Shape) (rest : Option (List Shape)) (ss : List Shape)
     → beside (operand false o) rest ≡ Some ss
     → (s : Shape) × (others : List Shape) × (o ≡ Some s) × (rest ≡ Some others)
     × (ss ≡ s ∷ others)

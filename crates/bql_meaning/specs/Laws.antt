@@ -20,7 +20,9 @@ use Rattle.query_shapes.specs.Shape.{LiesIn, IsShort}
 use Rattle.query_shapes.specs.declared.shape.Shape.{Shape}
 use Rattle.query_shapes.specs.declared.shape.Shape.TheVariants.{Text, Number}
 use Rattle.query_values.specs.Arithmetic.{aligned}
-use Rattle.query_values.specs.Operation.{binary_value}
+use Rattle.query_values.specs.Operand.{has_at_most}
+use Rattle.query_values.specs.Operation.{unary_value, binary_value}
+use Rattle.query_values.specs.Unary.{InList}
 use Rattle.query_values.specs.declared.operation.Binary.{Binary}
 use Rattle.query_values.specs.declared.operation.Binary.TheVariants as binary
 use Rattle.query_values.specs.declared.value.Value.{Value}
@@ -89,6 +91,19 @@ abbrev pub AlignmentsChangeNothing : Type 0
 AlignmentsChangeNothing = (op : Binary) → is_aligned op ≡ true → (p q m n : ℕ) (x y : Value)
     → LiesIn x (Number p m) → LiesIn y (Number q n)
     → binary_value op (aligned (max p q) x) (aligned (max p q) y) ≡ binary_value op x y
+
+-- Nor does it where a number is looked for in a list.
+abbrev pub MembersMayBeAligned : Type 0
+MembersMayBeAligned = (places : ℕ) (x : Value) (ys : List Value) → has_at_most places x ≡ true
+    → AllByRecursion (λ y. has_at_most places y ≡ true) ys
+    → unary_value (InList (map (aligned places) ys)) (aligned places x) ≡ unary_value (InList ys) x
+
+-- ---- bounds
+
+-- by whichever bounds an expression has a shape, it is worth the same
+abbrev pub BoundsChangeNothing : Type 0
+BoundsChangeNothing = (b c : Bounds) (t : Tree ℕ) (s u : Shape) → shape_of b t ≡ Some s
+    → shape_of c t ≡ Some u → (rows : List Reading) → value_of b rows t ≡ value_of c rows t
 
 -- ---- shapes
 

@@ -25,6 +25,7 @@
 #![tactic(auto)]
 
 ghost use Rattle.bql_meaning.specs.Laws.{AlignmentsChangeNothing, AnswersAreOne, AnswersAreThere};
+ghost use Rattle.bql_meaning.specs.Laws.{BoundsChangeNothing, MembersMayBeAligned};
 ghost use Rattle.bql_meaning.specs.Laws.{KeysAreOfTheGroup, KeysAreOfTheRows, PassingAreRead};
 ghost use Rattle.bql_meaning.specs.Laws.{ReadAtTheFirst, SameAreBare, SameAreWorthTheSame};
 ghost use Rattle.bql_meaning.specs.Laws.{ValuesLieInTheirShapes};
@@ -51,9 +52,10 @@ pub fn keys_are_read_at_the_first_row()
 {}
 
 /// Operands that are brought to the greater count of decimals first give what they give as they
-/// are.
+/// are; and so do a number and the list in which it is looked for.
 pub fn alignments_change_nothing()
-    ensures { AlignmentsChangeNothing }
+    ensures operands { AlignmentsChangeNothing }
+    ensures members { MembersMayBeAligned }
 {}
 
 /// What an expression is worth is of its shape, where the cells of the rows are of theirs; and then
@@ -61,4 +63,9 @@ pub fn alignments_change_nothing()
 pub fn values_lie_in_their_shapes()
     ensures values { ValuesLieInTheirShapes }
     ensures passing { PassingAreRead }
+{}
+
+/// By whichever bounds an expression has a shape, it is worth the same.
+pub fn bounds_change_nothing()
+    ensures { BoundsChangeNothing }
 {}

@@ -1,0 +1,5 @@
+use Rattle.bql_meaning.proofs.BoundlessFacts.{by_any_bounds}
+use Rattle.bql_meaning.proofs.bounds_change_nothing.Goals as goal
+
+pub returns : goal.returns
+returns c = by_any_bounds
