@@ -73,12 +73,12 @@ of_parts b at op parts s (Some ss) is h all =
     }
 
 -- a part that is a NULL beside an equation, and the others
-null_part : (b : Bounds) (eq : Bool) (t : Tree ℕ) (ts : Trees ℕ) (ss : List Shape)
+pub null_part : (b : Bounds) (eq : Bool) (t : Tree ℕ) (ts : Trees ℕ) (ss : List Shape)
     → (eq && is_null t) ≡ true → shapes_of b eq (trees t ts) ≡ shapes_of b eq ts
 null_part b eq t ts ss null =
     ap (λ z. beside (operand z (shape_of b t)) (shapes_of b eq ts)) null
 
-shaped_part : (b : Bounds) (eq : Bool) (t : Tree ℕ) (ts : Trees ℕ) (ss : List Shape)
+pub shaped_part : (b : Bounds) (eq : Bool) (t : Tree ℕ) (ts : Trees ℕ) (ss : List Shape)
     → (eq && is_null t) ≡ false
     → shapes_of b eq (trees t ts) ≡ beside (operand false (shape_of b t)) (shapes_of b eq ts)
 shaped_part b eq t ts ss other =

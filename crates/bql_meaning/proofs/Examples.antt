@@ -25,7 +25,7 @@ use Rattle.query_values.specs.Pattern.{is_found}
 use Rattle.plain_machine.specs.Row.{Row}
 use Rattle.bql_meaning.proofs.AnswerFacts.{answer_of}
 use Rattle.bql_meaning.proofs.Worked.{units, minus, usd, at_110, inv, cash, gain, ledger}
-use Rattle.bql_meaning.proofs.Worked.{february_1, held, bag}
+use Rattle.bql_meaning.proofs.Worked.{february_1, held, bag, posting}
 
 abbrev widest : Bounds
 widest = record { postings = 1000000; units_digits = 20; value_digits = 28 }
@@ -252,3 +252,16 @@ journal_of_cash :
     ∷ of_january january_3 (minus 550) (minus 1550)
     ∷ sold cash (Position usd (units 1300)) (bag (held usd (minus 250) ∷ [])) ∷ []
 journal_of_cash pattern in_cash in_inv in_gain = rw (in_cash, in_inv, in_gain) refl
+
+-- BALANCES by roots: liabilities stand before expenses
+abbrev spent : List Row
+spent = posting february_1 (codes "Food") (codes "Expenses:Food") usd (units 5)
+    ∷ posting february_1 (codes "Food") (codes "Liabilities:Card") usd (minus 3)
+    ∷ posting february_1 (codes "Food") cash usd (minus 2) ∷ []
+
+by_roots :
+    answer_of widest (balancing (record { at = None; filters = no_filters })) spent
+    ≡ (Text cash ∷ bag (held usd (minus 2) ∷ []) ∷ [])
+    ∷ (Text (codes "Liabilities:Card") ∷ bag (held usd (minus 3) ∷ []) ∷ [])
+    ∷ (Text (codes "Expenses:Food") ∷ bag (held usd (units 5) ∷ []) ∷ []) ∷ []
+by_roots = refl

@@ -7,6 +7,7 @@ pub mod ValueFacts
 pub mod PassingFacts
 pub mod BoundFacts
 pub mod BoundlessFacts
+pub mod TypedFacts
 mod Worked
 mod ValueExamples
 mod Examples

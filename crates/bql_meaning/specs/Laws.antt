@@ -3,12 +3,16 @@ use Rattle.std.specs.Prelude.{◌≡◌, ◌≤◌, ℕ, max, Bool, true, false,
 use Rattle.std.specs.Bool.{Decides}
 use Rattle.std.specs.List.{IsAmong, AllByRecursion}
 use Rattle.bean_base.specs.declared.bounds.Bounds.{Bounds}
+use Rattle.bql_parser.specs.Answer.{query_of}
 use Rattle.bql_parser.specs.Clause.{Filters}
+use Rattle.bql_parser.specs.declared.query.Query.{Query}
 use Rattle.bql_parser.specs.Settled.{Settled}
 use Rattle.bql_tree.specs.Tree.{Operation, leaf_of, Tree, node, Trees, no_trees, trees}
 use Rattle.bql_tree.specs.declared.tree.Entry.{Entry}
 use Rattle.bql_tree.specs.declared.tree.Leaf.TheVariants as leaf
 use Rattle.bql_types.specs.Same.{same}
+use Rattle.bql_types.specs.Standing.{standing}
+use Rattle.bql_types.specs.Typing.{IsTyped, grouping_of}
 use Rattle.bql_types.specs.Shaped.{shape_of}
 use Rattle.bql_types.specs.Sought.{aggregates}
 use Rattle.plain_machine.specs.Distinct.{same_values, each_once}
@@ -76,6 +80,17 @@ abbrev pub KeysAreOfTheRows : Type 0
 KeysAreOfTheRows = (b : Bounds) (keys : List (Tree ℕ)) (rows : List Reading) (values : List Value)
     → AllByRecursion (λ r. same_values (keys_at b keys r) values ≡ true)
     (group_at b keys rows values)
+
+-- a key that has a shape and no aggregates
+pub record IsTypedKey (b : Bounds) (t : Tree ℕ) : Type 0 where
+  pub shape : Shape
+  pub has : shape_of b t ≡ Some shape
+  pub plain : HasNoAggregate t
+
+-- so are the keys of a query that has a type
+abbrev pub KeysAreTyped : Type 0
+KeysAreTyped = (b : Bounds) (q : Query) → IsTyped b (query_of q)
+    → AllByRecursion (IsTypedKey b) (grouping_of (standing (query_of q))).keys
 
 -- ---- decimals
 

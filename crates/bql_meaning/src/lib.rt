@@ -25,8 +25,8 @@
 #![tactic(auto)]
 
 ghost use Rattle.bql_meaning.specs.Laws.{AlignmentsChangeNothing, AnswersAreOne, AnswersAreThere};
-ghost use Rattle.bql_meaning.specs.Laws.{BoundsChangeNothing, MembersMayBeAligned};
-ghost use Rattle.bql_meaning.specs.Laws.{KeysAreOfTheGroup, KeysAreOfTheRows, PassingAreRead};
+ghost use Rattle.bql_meaning.specs.Laws.{BoundsChangeNothing, KeysAreOfTheGroup, KeysAreOfTheRows};
+ghost use Rattle.bql_meaning.specs.Laws.{KeysAreTyped, MembersMayBeAligned, PassingAreRead};
 ghost use Rattle.bql_meaning.specs.Laws.{ReadAtTheFirst, SameAreBare, SameAreWorthTheSame};
 ghost use Rattle.bql_meaning.specs.Laws.{ValuesLieInTheirShapes};
 
@@ -43,12 +43,14 @@ pub fn same_expressions_are_worth_the_same()
     ensures worth { SameAreWorthTheSame }
 {}
 
-/// What has no aggregates is read at the first row of a group, and so are keys: they are worth the
-/// values by which the group is told, and the same at each of its rows.
+/// What has no aggregates is read at the first row of a group, and so are the keys of a query that
+/// has a type: they are worth the values by which the group is told, and the same at each of its
+/// rows.
 pub fn keys_are_read_at_the_first_row()
     ensures first { ReadAtTheFirst }
     ensures group { KeysAreOfTheGroup }
     ensures rows { KeysAreOfTheRows }
+    ensures typed { KeysAreTyped }
 {}
 
 /// Operands that are brought to the greater count of decimals first give what they give as they
