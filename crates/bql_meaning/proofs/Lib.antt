@@ -8,6 +8,7 @@ pub mod PassingFacts
 pub mod BoundFacts
 pub mod BoundlessFacts
 pub mod TypedFacts
+pub mod QueryBoundFacts
 mod Worked
 mod ValueExamples
 mod Examples

@@ -30,7 +30,7 @@ use Rattle.query_values.specs.Unary.{InList}
 use Rattle.query_values.specs.declared.operation.Binary.{Binary}
 use Rattle.query_values.specs.declared.operation.Binary.TheVariants as binary
 use Rattle.query_values.specs.declared.value.Value.{Value}
-use Rattle.bql_meaning.specs.Answer.{IsAnswer, keys_at, group_at, passing}
+use Rattle.bql_meaning.specs.Answer.{IsAnswer, keys_at, group_at, passing, rows_of}
 use Rattle.bql_meaning.specs.Bare.{bare}
 use Rattle.bql_meaning.specs.Meaning.{value_of}
 use Rattle.bql_meaning.specs.Reading.{Reading, cell_of, text}
@@ -119,6 +119,11 @@ MembersMayBeAligned = (places : ℕ) (x : Value) (ys : List Value) → has_at_mo
 abbrev pub BoundsChangeNothing : Type 0
 BoundsChangeNothing = (b c : Bounds) (t : Tree ℕ) (s u : Shape) → shape_of b t ≡ Some s
     → shape_of c t ≡ Some u → (rows : List Reading) → value_of b rows t ≡ value_of c rows t
+
+-- and so the rows of a query that has a type
+abbrev pub BoundsChangeNoRows : Type 0
+BoundsChangeNoRows = (b c : Bounds) (q : Query) → IsTyped b (query_of q) → IsTyped c (query_of q)
+    → (rows : List Row) → rows_of b (query_of q) rows ≡ rows_of c (query_of q) rows
 
 -- ---- shapes
 

@@ -25,10 +25,10 @@
 #![tactic(auto)]
 
 ghost use Rattle.bql_meaning.specs.Laws.{AlignmentsChangeNothing, AnswersAreOne, AnswersAreThere};
-ghost use Rattle.bql_meaning.specs.Laws.{BoundsChangeNothing, KeysAreOfTheGroup, KeysAreOfTheRows};
-ghost use Rattle.bql_meaning.specs.Laws.{KeysAreTyped, MembersMayBeAligned, PassingAreRead};
-ghost use Rattle.bql_meaning.specs.Laws.{ReadAtTheFirst, SameAreBare, SameAreWorthTheSame};
-ghost use Rattle.bql_meaning.specs.Laws.{ValuesLieInTheirShapes};
+ghost use Rattle.bql_meaning.specs.Laws.{BoundsChangeNoRows, BoundsChangeNothing};
+ghost use Rattle.bql_meaning.specs.Laws.{KeysAreOfTheGroup, KeysAreOfTheRows, KeysAreTyped};
+ghost use Rattle.bql_meaning.specs.Laws.{MembersMayBeAligned, PassingAreRead, ReadAtTheFirst};
+ghost use Rattle.bql_meaning.specs.Laws.{SameAreBare, SameAreWorthTheSame, ValuesLieInTheirShapes};
 
 /// A query has one answer over each list of rows.
 pub fn answers_are_one()
@@ -67,7 +67,9 @@ pub fn values_lie_in_their_shapes()
     ensures passing { PassingAreRead }
 {}
 
-/// By whichever bounds an expression has a shape, it is worth the same.
+/// By whichever bounds an expression has a shape, it is worth the same; and by whichever bounds a
+/// query has a type, its rows are the same.
 pub fn bounds_change_nothing()
-    ensures { BoundsChangeNothing }
+    ensures expressions { BoundsChangeNothing }
+    ensures queries { BoundsChangeNoRows }
 {}
