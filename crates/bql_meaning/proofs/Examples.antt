@@ -1,7 +1,7 @@
 -- What worked queries answer over the rows of a worked ledger.
 use Rattle.std.proofs.Common.{◌≡◌, ◌≤◌, ◌<◌, ◌*ℤ◌, ◌^◌, ℕ, ℤ, pos, Bool, true, false, List, []}
 use Rattle.std.proofs.Common.{◌∷◌, map}
-use Rattle.std.proofs.Common.{Option, Some, None, codes, refl, arith}
+use Rattle.std.proofs.Common.{Option, Some, None, codes, length, refl, arith}
 use Rattle.jiff_core.specs.Calendar.{days_from_civil, day_count, days_of_years, days_of_months}
 use Rattle.bean_base.proofs.WorkedDays.{january_2, january_3}
 use Rattle.bean_base.specs.declared.bounds.Bounds.{Bounds}
@@ -11,20 +11,21 @@ use Rattle.bql_parser.specs.Clause as clause
 use Rattle.bql_parser.specs.Clause.{selecting, journaling, balancing}
 use Rattle.bql_parser.specs.Settled.{Target, Item, target_item, tree_item}
 use Rattle.bql_parser.specs.declared.query.Valuation.TheVariants as valuation
-use Rattle.bql_tree.specs.Tree.{leaf_of, two_of, Tree, node, no_trees, trees}
+use Rattle.bql_tree.specs.Tree.{leaf_of, one_of, two_of, Tree, node, no_trees, trees}
 use Rattle.bql_tree.specs.declared.function.Function.TheVariants as function
 use Rattle.bql_tree.specs.declared.tree.Binary.{Binary}
 use Rattle.bql_tree.specs.declared.tree.Binary.TheVariants as binary
 use Rattle.bql_tree.specs.declared.tree.Leaf.TheVariants as leaf
+use Rattle.bql_tree.specs.declared.tree.Unary.TheVariants as unary
 use Rattle.bql_types.specs.Standing.{of_column, applied}
 use Rattle.query_columns.specs.declared.column.Column.TheVariants as column
 use Rattle.query_values.specs.declared.value.Value.{Value}
-use Rattle.query_values.specs.declared.value.Value.TheVariants.{Null, Number, Text, Day}
+use Rattle.query_values.specs.declared.value.Value.TheVariants.{Null, Truth, Number, Text, Day}
 use Rattle.query_values.specs.declared.value.Value.TheVariants.{Amount, Position, Inventory}
 use Rattle.query_values.specs.Pattern.{is_found}
 use Rattle.plain_machine.specs.Row.{Row}
 use Rattle.bql_meaning.proofs.AnswerFacts.{answer_of}
-use Rattle.bql_meaning.proofs.Worked.{units, minus, usd, at_110, inv, cash, gain, ledger}
+use Rattle.bql_meaning.proofs.Worked.{units, minus, usd, at_100, at_110, inv, cash, gain, ledger}
 use Rattle.bql_meaning.proofs.Worked.{february_1, held, bag, posting}
 
 abbrev widest : Bounds
@@ -95,6 +96,34 @@ nothing_passes :
     (Some (two binary.Less (of_column column.Payee) (of_text (codes "a")))) None) ledger ≡ []
 nothing_passes = refl
 
+-- SELECT account, position WHERE date >= 2014-02-01
+abbrev since_february : clause.Select Target (Tree ℕ) Item
+since_february =
+    asked (of_column column.Account ∷ of_column column.Position ∷ [])
+    (Some (two binary.GreaterOrEqual (of_column column.Date)
+    (node 0 (leaf_of (leaf.Day february_1)) no_trees))) None
+
+sold_since_february :
+    answer since_february ledger
+    ≡ ((Text inv ∷ Position at_100 (minus 10) ∷ []) ∷ (Text inv ∷ Position at_110 (minus 2) ∷ [])
+    ∷ (Text cash ∷ Position usd (units 1300) ∷ []) ∷ (Text gain ∷ Position usd (minus 80) ∷ []) ∷ [])
+unfolding days_from_civil day_count days_of_years days_of_months
+sold_since_february = refl
+
+-- SELECT payee = NULL AS a, payee < 'a' AS b, NOT payee ~ 'x' AS c LIMIT 1
+abbrev of_payee : clause.Select Target (Tree ℕ) Item
+of_payee =
+    ordered false false [] (Some 1)
+    (asked
+    (two binary.Equal (of_column column.Payee) (node 0 (leaf_of leaf.Null) no_trees)
+    ∷ two binary.Less (of_column column.Payee) (of_text (codes "a"))
+    ∷ node 0 (one_of unary.Not)
+    (trees (node 0 (one_of (unary.Matches (codes "x"))) (trees (of_column column.Payee) no_trees))
+    no_trees) ∷ []) None None)
+
+without_payee : answer of_payee ledger ≡ (Truth true ∷ Truth false ∷ Truth true ∷ []) ∷ []
+without_payee = refl
+
 -- SELECT narration, account ORDER BY narration DESC LIMIT 3
 abbrev by_narration : Bool → clause.Select Target (Tree ℕ) Item
 by_narration distinct =
@@ -107,7 +136,19 @@ last_narrations :
     ∷ (Text (codes "Sell") ∷ Text cash ∷ []) ∷ [])
 last_narrations = refl
 
--- the same with DISTINCT
+-- the same with other limits
+abbrev limited : ℕ → clause.Select Target (Tree ℕ) Item
+limited most =
+    ordered false true (named 0 ∷ []) (Some most)
+    (asked (of_column column.Narration ∷ of_column column.Account ∷ []) None None)
+
+none_of_all : answer (limited 0) ledger ≡ []
+none_of_all = refl
+
+all_of_all : length (answer (limited 99) ledger) ≡ 8
+all_of_all = refl
+
+-- the first three with DISTINCT
 distinct_narrations :
     answer (by_narration true) ledger
     ≡ ((Text (codes "Sell") ∷ Text inv ∷ []) ∷ (Text (codes "Sell") ∷ Text cash ∷ [])
@@ -144,6 +185,16 @@ sums_of_months :
     ≡ ((Number 0 (pos 2) ∷ Number 8 (units 1300) ∷ [])
     ∷ (Number 0 (pos 1) ∷ Number 8 (minus 1550) ∷ []) ∷ [])
 sums_of_months = refl
+
+-- SELECT count(*)
+abbrev counted : clause.Select Target (Tree ℕ) Item
+counted = asked (node 0 (leaf_of leaf.Rows) no_trees ∷ []) None None
+
+counted_all : answer counted ledger ≡ (Number 0 (pos 8) ∷ []) ∷ []
+counted_all = refl
+
+counted_none : answer counted [] ≡ []
+counted_none = refl
 
 -- SELECT count(*), sum(cost_number) WHERE account = 'Income:Gain': a sum of no values is 0
 abbrev of_gain : Tree ℕ
