@@ -106,7 +106,8 @@ since_february =
 sold_since_february :
     answer since_february ledger
     ≡ ((Text inv ∷ Position at_100 (minus 10) ∷ []) ∷ (Text inv ∷ Position at_110 (minus 2) ∷ [])
-    ∷ (Text cash ∷ Position usd (units 1300) ∷ []) ∷ (Text gain ∷ Position usd (minus 80) ∷ []) ∷ [])
+    ∷ (Text cash ∷ Position usd (units 1300) ∷ [])
+    ∷ (Text gain ∷ Position usd (minus 80) ∷ []) ∷ [])
 unfolding days_from_civil day_count days_of_years days_of_months
 sold_since_february = refl
 

@@ -129,7 +129,7 @@ no_match : at_posting (one unary.Not (one (unary.Matches (codes "x")) (of_column
     ≡ Truth true
 no_match = refl
 
--- payee OR TRUE, payee AND TRUE, where payee is null and so false
+-- null is false to OR and AND: payee OR TRUE, payee AND TRUE, which have no type
 or_true : at_posting (two binary.Or (of_column column.Payee) (of_leaf (leaf.Truth true)))
     ≡ Truth true
 or_true = refl
