@@ -1,4 +1,4 @@
--- By whichever bounds an expression has a shape, it is worth the same.
+-- By whichever bounds an expression has a shape, it has the same value.
 use Rattle.std.proofs.Common.{◌≡◌, ℕ, Bool, true, false, ◌&&◌, List, [], ◌∷◌, map, Option, Some}
 use Rattle.std.proofs.Common.{None}
 use Rattle.std.proofs.Common.{Ok, refl, sym, ap, subst, ◌∙◌, cond}
@@ -153,7 +153,7 @@ aggregates_same b (call_of f) parts ss e =
     let l = all_lesser b false parts ss e in
     ap (of_call f) e ∙ sym (calls_same f l.shapes ss l.below) ∙ sym (ap (of_call f) l.are)
 
--- a NULL is worth nothing by any bounds
+-- a NULL is null by any bounds
 null_same : (b : Bounds) (t : Tree ℕ) → is_null t ≡ true → (rows : List Reading)
     → value_of b rows t ≡ value_of least rows t
 null_same b (node at (leaf_of leaf.Null) parts) e rows = refl
@@ -164,12 +164,12 @@ second : (a b : Bool) → (a && b) ≡ true → b ≡ true
 second true b e = e
 second false b e = absurd cc
 
-abbrev AreWorthTheSame : Bounds → Trees ℕ → Type 0
-AreWorthTheSame b ts = (rows : List Reading) → values_of b rows ts ≡ values_of least rows ts
+abbrev HaveOneValue : Bounds → Trees ℕ → Type 0
+HaveOneValue b ts = (rows : List Reading) → values_of b rows ts ≡ values_of least rows ts
 
 of_values : (b : Bounds) (at : ℕ) (op : Operation) (parts : Trees ℕ) (s : Shape)
     → (o : Option (List Shape)) → shapes_of b (is_equation op) parts ≡ o → FromParts b op o s
-    → ((ss : List Shape) → shapes_of b (is_equation op) parts ≡ Some ss → AreWorthTheSame b parts)
+    → ((ss : List Shape) → shapes_of b (is_equation op) parts ≡ Some ss → HaveOneValue b parts)
     → (rows : List Reading)
     → value_of b rows (node at op parts) ≡ value_of least rows (node at op parts)
 of_values b at op parts s None is h all rows = absurd h
@@ -188,7 +188,7 @@ mutual
       (λ ss is. values_same b (is_equation op) parts ss is)
 
   values_same : (b : Bounds) (eq : Bool) (ts : Trees ℕ) (ss : List Shape)
-      → shapes_of b eq ts ≡ Some ss → AreWorthTheSame b ts
+      → shapes_of b eq ts ≡ Some ss → HaveOneValue b ts
   values_same b eq no_trees ss e rows = refl
   values_same b eq (trees t ts) ss e rows =
       by (eq && is_null t) refl (λ s is. value_same b t s is rows)

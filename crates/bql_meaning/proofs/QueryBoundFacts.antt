@@ -39,13 +39,13 @@ all_among P (x ∷ xs) h = (
 )
 
 module _ (b c : Bounds) where
-  abbrev IsWorthTheSame : Tree ℕ → Type 0
-  IsWorthTheSame t = (rows : List Reading) → value_of b rows t ≡ value_of c rows t
+  abbrev HasOneValue : Tree ℕ → Type 0
+  HasOneValue t = (rows : List Reading) → value_of b rows t ≡ value_of c rows t
 
-  abbrev AreWorthTheSame : List (Tree ℕ) → Type 0
-  AreWorthTheSame ts = AllByRecursion IsWorthTheSame ts
+  abbrev HaveOneValue : List (Tree ℕ) → Type 0
+  HaveOneValue ts = AllByRecursion HasOneValue ts
 
-  shaped : (t : Tree ℕ) → IsShaped b t → IsShaped c t → IsWorthTheSame t
+  shaped : (t : Tree ℕ) → IsShaped b t → IsShaped c t → HasOneValue t
   shaped t h k = by_any_bounds b c t h.0 k.0 h.1 k.1
 
   -- ---- the rows that pass
@@ -64,64 +64,64 @@ module _ (b c : Bounds) where
 
   -- ---- groups and rows
 
-  same_values_at : (ts : List (Tree ℕ)) → AreWorthTheSame ts → (rows : List Reading)
+  same_values_at : (ts : List (Tree ℕ)) → HaveOneValue ts → (rows : List Reading)
       → map (value_of b rows) ts ≡ map (value_of c rows) ts
   same_values_at [] all rows = refl
   same_values_at (t ∷ ts) all rows = λ i. all.0 rows i ∷ same_values_at ts all.1 rows i
 
-  same_groups : (keys : List (Tree ℕ)) → AreWorthTheSame keys → (rows : List Reading)
+  same_groups : (keys : List (Tree ℕ)) → HaveOneValue keys → (rows : List Reading)
       → groups b keys rows ≡ groups c keys rows
   same_groups keys all rows = λ i.
       map (λ values. filter (λ r. same_values (same_values_at keys all (r ∷ []) i) values) rows)
       (each_once [] (map (λ r. same_values_at keys all (r ∷ []) i) rows))
 
-  same_grouped : (g : Grouping) → AreWorthTheSame g.keys → (rows : List Reading)
+  same_grouped : (g : Grouping) → HaveOneValue g.keys → (rows : List Reading)
       → grouped b g rows ≡ grouped c g rows
   same_grouped g all rows =
       ap (λ z. cond g.is_aggregating z (alone rows)) (same_groups g.keys all rows)
 
-  same_rows : (p : Plan) → AreWorthTheSame p.shown → AreWorthTheSame p.grouping.keys
+  same_rows : (p : Plan) → HaveOneValue p.shown → HaveOneValue p.grouping.keys
       → (rows : List Reading) → rows_by b p rows ≡ rows_by c p rows
   same_rows p shown keys rows = λ i.
       map (λ group. same_values_at p.shown shown group i) (same_grouped p.grouping keys rows i)
 
   -- ---- what is shown
 
-  one_behind : (ts : List (Tree ℕ)) (t : Tree ℕ) → AreWorthTheSame ts → IsWorthTheSame t
-      → AreWorthTheSame (ts ++ t ∷ [])
+  one_behind : (ts : List (Tree ℕ)) (t : Tree ℕ) → HaveOneValue ts → HasOneValue t
+      → HaveOneValue (ts ++ t ∷ [])
   one_behind [] t all h = (h, tt)
   one_behind (u ∷ ts) t all h = (all.0, one_behind ts t all.1 h)
 
-  one_added : (ts : List (Tree ℕ)) (t : Tree ℕ) → AreWorthTheSame ts → IsWorthTheSame t
-      → AreWorthTheSame (added ts t)
+  one_added : (ts : List (Tree ℕ)) (t : Tree ℕ) → HaveOneValue ts → HasOneValue t
+      → HaveOneValue (added ts t)
   one_added ts t all h = by (is_key ts t)
     where
-      by : (is : Bool) → AreWorthTheSame (cond is ts (ts ++ t ∷ []))
+      by : (is : Bool) → HaveOneValue (cond is ts (ts ++ t ∷ []))
       by true = all
       by false = one_behind ts t all h
 
-  all_added : (ts us : List (Tree ℕ)) → AreWorthTheSame ts → AreWorthTheSame us
-      → AreWorthTheSame (steps added ts us)
+  all_added : (ts us : List (Tree ℕ)) → HaveOneValue ts → HaveOneValue us
+      → HaveOneValue (steps added ts us)
   all_added ts [] all more = all
   all_added ts (u ∷ us) all more = all_added (added ts u) us (one_added ts u all more.0) more.1
 
   same_targets : (ts : List Target) → AllByRecursion (λ (t : Target). IsShaped b t.tree) ts
-      → AllByRecursion (λ (t : Target). IsShaped c t.tree) ts → AreWorthTheSame (map target_tree ts)
+      → AllByRecursion (λ (t : Target). IsShaped c t.tree) ts → HaveOneValue (map target_tree ts)
   same_targets [] h k = tt
   same_targets (t ∷ ts) h k = (shaped t.tree h.0 k.0, same_targets ts h.1 k.1)
 
   same_own : (ts : List Target) (is : List Item)
       → AllByRecursion (λ (i : Item). IsOrder b ts i.kind) is
-      → AllByRecursion (λ (i : Item). IsOrder c ts i.kind) is → AreWorthTheSame (own_trees is)
+      → AllByRecursion (λ (i : Item). IsOrder c ts i.kind) is → HaveOneValue (own_trees is)
   same_own ts [] h k = tt
   same_own ts (i ∷ is) h k = by i.kind h.0 k.0 (same_own ts is h.1 k.1)
     where
       by : (kind : ItemKind) → IsOrder b ts kind → IsOrder c ts kind
-          → AreWorthTheSame (own_trees is) → AreWorthTheSame (tree_by kind ++ own_trees is)
+          → HaveOneValue (own_trees is) → HaveOneValue (tree_by kind ++ own_trees is)
       by (target_item index) h k rest = rest
       by (tree_item t) h k rest = (shaped t (h.0, h.1) (k.0, k.1), rest)
 
-  same_shown : (s : Select) → HasShapes b s → HasShapes c s → AreWorthTheSame (plans.shown s)
+  same_shown : (s : Select) → HasShapes b s → HasShapes c s → HaveOneValue (plans.shown s)
   same_shown s h k =
       all_added (map target_tree s.targets) (own_trees s.order.items)
       (same_targets s.targets (all_among _ s.targets h.targets) (all_among _ s.targets k.targets))
@@ -129,7 +129,7 @@ module _ (b c : Bounds) where
       (all_among _ s.order.items k.order))
 
   same_keys : (ts : List (Tree ℕ)) → AllByRecursion (IsTypedKey b) ts
-      → AllByRecursion (IsTypedKey c) ts → AreWorthTheSame ts
+      → AllByRecursion (IsTypedKey c) ts → HaveOneValue ts
   same_keys [] h k = tt
   same_keys (t ∷ ts) h k =
       (shaped t (h.0.shape, h.0.has) (k.0.shape, k.0.has), same_keys ts h.1 k.1)

@@ -1,4 +1,4 @@
--- Expressions that are the same are so but for their places, and are worth the same.
+-- Expressions that are the same are so but for their places, and have the same value.
 use Rattle.std.proofs.Common.{◌≡◌, ◌≤◌, ◌<◌, ◌^◌, ℕ, Bool, true, false, ◌&&◌, ◌==◌, List, []}
 use Rattle.std.proofs.Common.{◌∷◌, map, refl, sym, ap, subst, ◌∙◌, cond}
 use Rattle.std.proofs.lemmas.Bool.Decides.{Decides-int_eq, Decides-eqb}
@@ -148,7 +148,7 @@ mutual
 pub same_are_bare : (t u : Tree ℕ) → Decides (same t u) (bare t ≡ bare u)
 same_are_bare t u = (same_bare t u, bare_same t u)
 
--- ---- what they are worth
+-- ---- their values
 
 -- at the first byte of the query
 abbrev mutual
@@ -189,9 +189,9 @@ mutual
   values_kept b no_trees rows = refl
   values_kept b (trees t ts) rows = λ i. value_kept b t rows i ∷ values_kept b ts rows i
 
-pub same_are_worth : (b : Bounds) (t u : Tree ℕ) → same t u ≡ true → (rows : List Reading)
+pub have_one_value : (b : Bounds) (t u : Tree ℕ) → same t u ≡ true → (rows : List Reading)
     → value_of b rows t ≡ value_of b rows u
-same_are_worth b t u e rows =
+have_one_value b t u e rows =
     sym (value_kept b t rows)
     ∙ ap (λ z. value_of b rows (placed z)) (same_bare t u e)
     ∙ value_kept b u rows

@@ -1,4 +1,4 @@
--- Operations of queries are worth values of the shapes that their rules give.
+-- Operations of queries have values of the shapes that their rules give.
 use Rattle.std.proofs.Common.{◌≡◌, ℕ, ◌≤◌, max, Bool, true, false, ◌&&◌, ◌||◌, List, [], ◌∷◌}
 use Rattle.std.proofs.Common.{length}
 use Rattle.std.proofs.Common.{Some, None, Ok, Err, refl, sym, ap, subst, ◌∙◌, cond, ◌⊎◌, inl, inr}

@@ -1,4 +1,4 @@
--- What expressions are worth at worked rows.
+-- The values of expressions at worked rows.
 use Rattle.std.proofs.Common.{◌≡◌, ◌<◌, ◌≤◌, ◌^◌, ◌*◌, ℕ, pos, neg_ℤ, true, false, List, []}
 use Rattle.std.proofs.Common.{◌∷◌, Some, codes, refl, arith}
 use Rattle.std.specs.Str.{chars}

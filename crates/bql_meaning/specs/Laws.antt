@@ -53,9 +53,9 @@ AnswersAreOne = (b : Bounds) (q : Settled) (rows : List Row) (x y : List (List V
 abbrev pub SameAreBare : Type 0
 SameAreBare = (t u : Tree ℕ) → Decides (same t u) (bare t ≡ bare u)
 
--- and they are worth the same, over all rows
-abbrev pub SameAreWorthTheSame : Type 0
-SameAreWorthTheSame = (b : Bounds) (t u : Tree ℕ) → same t u ≡ true → (rows : List Reading)
+-- and they have the same value, over all rows
+abbrev pub SameHaveOneValue : Type 0
+SameHaveOneValue = (b : Bounds) (t u : Tree ℕ) → same t u ≡ true → (rows : List Reading)
     → value_of b rows t ≡ value_of b rows u
 
 -- ---- keys
@@ -63,12 +63,12 @@ SameAreWorthTheSame = (b : Bounds) (t u : Tree ℕ) → same t u ≡ true → (r
 abbrev pub HasNoAggregate : Tree ℕ → Type 0
 HasNoAggregate t = aggregates t ≡ false
 
--- an expression without aggregates is worth over rows what it is at the first
+-- an expression without aggregates has over rows the value that it has at the first
 abbrev pub ReadAtTheFirst : Type 0
 ReadAtTheFirst = (b : Bounds) (t : Tree ℕ) → HasNoAggregate t → (r : Reading) (rest : List Reading)
     → value_of b (r ∷ rest) t ≡ value_of b (r ∷ []) t
 
--- over a group the keys are worth the values by which it is told
+-- over a group the keys have the values by which it is told
 abbrev pub KeysAreOfTheGroup : Type 0
 KeysAreOfTheGroup = (b : Bounds) (keys : List (Tree ℕ)) (rows : List Reading) (values : List Value)
     → AllByRecursion HasNoAggregate keys
@@ -101,7 +101,7 @@ is_aligned binary.InSet = false
 is_aligned op = true
 
 -- Brought to the greater count of decimals first, numbers and nulls give what they give as they
--- are: so nothing of it is said where expressions are given their worth.
+-- are: so nothing of it is said where expressions are given their values.
 abbrev pub AlignmentsChangeNothing : Type 0
 AlignmentsChangeNothing = (op : Binary) → is_aligned op ≡ true → (p q m n : ℕ) (x y : Value)
     → LiesIn x (Number p m) → LiesIn y (Number q n)
@@ -115,7 +115,7 @@ MembersMayBeAligned = (places : ℕ) (x : Value) (ys : List Value) → has_at_mo
 
 -- ---- bounds
 
--- by whichever bounds an expression has a shape, it is worth the same
+-- by whichever bounds an expression has a shape, it has the same value
 abbrev pub BoundsChangeNothing : Type 0
 BoundsChangeNothing = (b c : Bounds) (t : Tree ℕ) (s u : Shape) → shape_of b t ≡ Some s
     → shape_of c t ≡ Some u → (rows : List Reading) → value_of b rows t ≡ value_of c rows t
@@ -150,8 +150,8 @@ abbrev mutual
   AllHaveShortTexts no_trees = Unit {0}
   AllHaveShortTexts (trees t ts) = HasShortTexts t × AllHaveShortTexts ts
 
--- an expression that has a shape is worth a value of this shape, over no more rows than a ledger
--- may have
+-- an expression that has a shape has a value of this shape, over no more rows than a ledger may
+-- have
 abbrev pub ValuesLieInTheirShapes : Type 0
 ValuesLieInTheirShapes = (b : Bounds) (t : Tree ℕ) (s : Shape) → HasShortTexts t
     → shape_of b t ≡ Some s → (rows : List Reading) → length rows ≤ b.postings

@@ -1,4 +1,4 @@
--- What an expression is worth over some rows: a group, or one row alone. Columns and metadata are
+-- The value of an expression over some rows: a group, or one row alone. Columns and metadata are
 -- those of the first row, aggregates gather over all. What has no type is null.
 use Rattle.std.specs.Prelude.{ℕ, ◌&&◌, ◌||◌, false, List, [], ◌∷◌, map, Option, Some}
 use Rattle.std.specs.Prelude.{if◌then◌else◌}

@@ -1,6 +1,6 @@
-//! What queries mean: what an expression is worth, and which rows a query answers.
+//! What queries mean: the value of an expression, and the rows that a query answers.
 //!
-//! `specs/Meaning` says what an expression is worth over some rows of a ledger, a group or one row
+//! `specs/Meaning` gives the value of an expression over some rows of a ledger, a group or one row
 //! alone: columns are those of the first row, aggregates gather over all. Each form of expression
 //! is a line, by the tables of [`query_values`]. `specs/Answer` says which rows pass, what the
 //! running inventory is at each of them, which groups they make, and which rows come of these and
@@ -28,7 +28,7 @@ ghost use Rattle.bql_meaning.specs.Laws.{AlignmentsChangeNothing, AnswersAreOne,
 ghost use Rattle.bql_meaning.specs.Laws.{BoundsChangeNoRows, BoundsChangeNothing};
 ghost use Rattle.bql_meaning.specs.Laws.{KeysAreOfTheGroup, KeysAreOfTheRows, KeysAreTyped};
 ghost use Rattle.bql_meaning.specs.Laws.{MembersMayBeAligned, PassingAreRead, ReadAtTheFirst};
-ghost use Rattle.bql_meaning.specs.Laws.{SameAreBare, SameAreWorthTheSame, ValuesLieInTheirShapes};
+ghost use Rattle.bql_meaning.specs.Laws.{SameAreBare, SameHaveOneValue, ValuesLieInTheirShapes};
 
 /// A query has one answer over each list of rows.
 pub fn answers_are_one()
@@ -36,15 +36,15 @@ pub fn answers_are_one()
     ensures one { AnswersAreOne }
 {}
 
-/// Expressions are the same where their trees are, places aside, and then they are worth the same
+/// Expressions are the same where their trees are, places aside, and then they have the same value
 /// over all rows.
-pub fn same_expressions_are_worth_the_same()
+pub fn same_expressions_have_one_value()
     ensures bare { SameAreBare }
-    ensures worth { SameAreWorthTheSame }
+    ensures value { SameHaveOneValue }
 {}
 
 /// What has no aggregates is read at the first row of a group, and so are the keys of a query that
-/// has a type: they are worth the values by which the group is told, and the same at each of its
+/// has a type: there they have the values by which the group is told, and the same at each of its
 /// rows.
 pub fn keys_are_read_at_the_first_row()
     ensures first { ReadAtTheFirst }
@@ -60,14 +60,14 @@ pub fn alignments_change_nothing()
     ensures members { MembersMayBeAligned }
 {}
 
-/// What an expression is worth is of its shape, where the cells of the rows are of theirs; and then
+/// The value of an expression is of its shape, where the cells of the rows are of theirs; and then
 /// the running inventories of the rows that pass are.
 pub fn values_lie_in_their_shapes()
     ensures values { ValuesLieInTheirShapes }
     ensures passing { PassingAreRead }
 {}
 
-/// By whichever bounds an expression has a shape, it is worth the same; and by whichever bounds a
+/// By whichever bounds an expression has a shape, it has the same value; and by whichever bounds a
 /// query has a type, its rows are the same.
 pub fn bounds_change_nothing()
     ensures expressions { BoundsChangeNothing }
