@@ -21,7 +21,7 @@ use Rattle.query_values.specs.declared.operation.Binary.{Binary}
 use Rattle.query_values.specs.declared.operation.Binary.TheVariants as binary
 use Rattle.query_values.specs.declared.value.Value.{Value}
 use Rattle.query_values.specs.declared.value.Value.TheVariants.{Null, Truth, Number}
-use Rattle.bql_meaning.specs.Laws.{is_aligned}
+use Rattle.bql_meaning.specs.Alignment.{is_aligned}
 
 greatest : (p : ℕ) → max p p ≡ p
 greatest p = omega arith

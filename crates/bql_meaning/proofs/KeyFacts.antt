@@ -15,7 +15,7 @@ use Rattle.query_values.proofs.EqualityFacts.{values_equiv}
 use Rattle.query_values.specs.declared.value.Value.{Value}
 use Rattle.plain_machine.specs.Distinct.{same_values, each_once}
 use Rattle.bql_meaning.specs.Answer.{keys_at, group_at}
-use Rattle.bql_meaning.specs.Laws.{HasNoAggregate}
+use Rattle.bql_meaning.specs.Keys.{HasNoAggregate}
 use Rattle.bql_meaning.specs.Meaning.{value_of, values_of, applied, leaf_value}
 use Rattle.bql_meaning.specs.Reading.{Reading}
 

@@ -20,7 +20,7 @@ use Rattle.query_values.specs.Aggregate.{aggregate_of}
 use Rattle.query_values.specs.declared.operation.Aggregate.TheVariants.{SumInventory}
 use Rattle.query_values.specs.declared.value.Value.{Value}
 use Rattle.bql_meaning.specs.Answer.{balanced, and_of, passing, passes}
-use Rattle.bql_meaning.specs.Laws.{IsRead, IsShaped}
+use Rattle.bql_meaning.specs.Shaped.{IsRead, IsShaped}
 use Rattle.bql_meaning.specs.Reading.{cell_of}
 use Rattle.bql_meaning.proofs.ShapeFacts.{kept}
 

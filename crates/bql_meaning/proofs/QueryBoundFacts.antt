@@ -23,7 +23,7 @@ use Rattle.plain_machine.specs.Row.{Row}
 use Rattle.query_values.specs.Operation.{is_true}
 use Rattle.bql_meaning.specs.Answer.{holds, passing, balanced, unbalanced, groups}
 use Rattle.bql_meaning.specs.Answer.{grouped, alone, rows_by, select_rows, rows_of, with_rank}
-use Rattle.bql_meaning.specs.Laws.{IsTypedKey}
+use Rattle.bql_meaning.specs.Keys.{IsTypedKey}
 use Rattle.bql_meaning.specs.Meaning.{value_of}
 use Rattle.bql_meaning.specs.Reading.{Reading}
 use Rattle.bql_meaning.proofs.BoundlessFacts.{by_any_bounds}

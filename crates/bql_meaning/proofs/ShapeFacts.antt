@@ -37,7 +37,7 @@ use Rattle.query_values.specs.declared.operation.Binary as operations
 use Rattle.query_values.specs.declared.operation.Binary.TheVariants as machines
 use Rattle.query_values.specs.declared.value.Value.{Value}
 use Rattle.query_values.specs.declared.value.Value.TheVariants.{Null, Truth}
-use Rattle.bql_meaning.specs.Laws.{is_aligned}
+use Rattle.bql_meaning.specs.Alignment.{is_aligned}
 use Rattle.bql_meaning.specs.Meaning.{one_value, two_value, of_one, call_value, of_call}
 use Rattle.bql_meaning.proofs.AlignmentFacts.{alike}
 

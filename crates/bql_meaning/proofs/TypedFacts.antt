@@ -39,7 +39,7 @@ use Rattle.bql_types.specs.declared.cause.Cause.{Cause}
 use Rattle.query_columns.specs.declared.column.Column.{Column}
 use Rattle.query_columns.specs.declared.column.Column.TheVariants as column
 use Rattle.query_shapes.specs.declared.shape.Shape.{Shape}
-use Rattle.bql_meaning.specs.Laws.{IsTypedKey}
+use Rattle.bql_meaning.specs.Keys.{IsTypedKey}
 use Rattle.bql_meaning.proofs.BoundlessFacts.{null_part, shaped_part}
 use Rattle.bql_meaning.proofs.ValueFacts.{first_shape, FromParts, from_parts}
 

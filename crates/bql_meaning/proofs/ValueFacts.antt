@@ -31,7 +31,7 @@ use Rattle.query_values.specs.Equality.{same}
 use Rattle.query_values.specs.declared.operation.Aggregate.TheVariants.{CountRows}
 use Rattle.query_values.specs.declared.value.Value.{Value}
 use Rattle.query_values.specs.declared.value.Value.TheVariants.{Truth}
-use Rattle.bql_meaning.specs.Laws.{IsRead, HasShortTexts, AllHaveShortTexts, IsShortIn}
+use Rattle.bql_meaning.specs.Shaped.{IsRead, HasShortTexts, AllHaveShortTexts, IsShortIn}
 use Rattle.bql_meaning.specs.Meaning.{value_of, values_of, applied, leaf_value, aggregate_by}
 use Rattle.bql_meaning.specs.Meaning.{input_of, of_call}
 use Rattle.bql_meaning.specs.Reading.{Reading, cell}

@@ -24,11 +24,12 @@
 //! None: these are laws, and nothing here runs.
 #![tactic(auto)]
 
-ghost use Rattle.bql_meaning.specs.Laws.{AlignmentsChangeNothing, AnswersAreOne, AnswersAreThere};
-ghost use Rattle.bql_meaning.specs.Laws.{BoundsChangeNoRows, BoundsChangeNothing};
-ghost use Rattle.bql_meaning.specs.Laws.{KeysAreOfTheGroup, KeysAreOfTheRows, KeysAreTyped};
-ghost use Rattle.bql_meaning.specs.Laws.{MembersMayBeAligned, PassingAreRead, ReadAtTheFirst};
-ghost use Rattle.bql_meaning.specs.Laws.{SameAreBare, SameHaveOneValue, ValuesLieInTheirShapes};
+ghost use Rattle.bql_meaning.specs.Alignment.{AlignmentsChangeNothing, MembersMayBeAligned};
+ghost use Rattle.bql_meaning.specs.Keys.{KeysAreOfTheGroup, KeysAreOfTheRows, KeysAreTyped};
+ghost use Rattle.bql_meaning.specs.Keys.{ReadAtTheFirst};
+ghost use Rattle.bql_meaning.specs.Laws.{AnswersAreOne, AnswersAreThere, BoundsChangeNoRows};
+ghost use Rattle.bql_meaning.specs.Laws.{BoundsChangeNothing, SameAreBare, SameHaveOneValue};
+ghost use Rattle.bql_meaning.specs.Shaped.{PassingAreRead, ValuesLieInTheirShapes};
 
 /// A query has one answer over each list of rows.
 pub fn answers_are_one()
