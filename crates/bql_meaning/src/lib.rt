@@ -17,7 +17,7 @@
 //! # What is taken for granted
 //!
 //! Nothing: a query that has no type has an answer too, in which what has no type is null. The
-//! bounds of a query are asked only for the decimals that a sum has.
+//! bounds of a query are asked only for the decimals that a sum has, and change nothing of it.
 //!
 //! # Cost
 //!
