@@ -1,0 +1,14 @@
+pub mod AnswerFacts
+pub mod SameFacts
+pub mod KeyFacts
+pub mod AlignmentFacts
+pub mod ShapeFacts
+pub mod ValueFacts
+pub mod PassingFacts
+pub mod BoundFacts
+pub mod BoundlessFacts
+pub mod TypedFacts
+pub mod QueryBoundFacts
+mod Worked
+mod ValueExamples
+mod Examples

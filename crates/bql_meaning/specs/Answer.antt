@@ -1,0 +1,123 @@
+-- What a query answers over the rows of a ledger.
+use Rattle.std.specs.Prelude.{ℕ, ◌-◌, Bool, true, ◌&&◌, List, [], ◌∷◌, ◌++◌, map, filter, length}
+use Rattle.std.specs.Prelude.{Option, Some, None, if◌then◌else◌}
+use Rattle.bean_base.specs.declared.bounds.Bounds.{Bounds}
+use Rattle.bql_parser.specs.Clause as clause
+use Rattle.bql_parser.specs.Clause.{selecting, journaling, balancing}
+use Rattle.bql_parser.specs.Settled.{Target, Settled}
+use Rattle.bql_plan.specs.Plan.{Plan, plan}
+use Rattle.bql_tree.specs.Tree.{Tree}
+use Rattle.bql_types.specs.Standing.{Select, journal_select, balances_select}
+use Rattle.bql_types.specs.Typing.{Grouping}
+use Rattle.plain_machine.specs.Distinct.{same_values, each_once}
+use Rattle.plain_machine.specs.FinalRows.{IsFinal, column_of}
+use Rattle.plain_machine.specs.Row.{Row}
+use Rattle.query_code.specs.declared.program.Output.{Output}
+use Rattle.query_columns.specs.declared.column.Column.TheVariants as column
+use Rattle.query_values.specs.Aggregate.{aggregate_of}
+use Rattle.query_values.specs.Operation.{is_true, unary_value}
+use Rattle.query_values.specs.Unary as operation
+use Rattle.query_values.specs.declared.operation.Aggregate.TheVariants.{SumInventory}
+use Rattle.query_values.specs.declared.value.Value.{Value}
+use Rattle.query_values.specs.declared.value.Value.TheVariants.{Null}
+use Rattle.bql_meaning.specs.Meaning.{value_of}
+use Rattle.bql_meaning.specs.Reading.{Reading, cell_of}
+
+-- a row at which there is no running inventory
+abbrev pub unbalanced : Row → Reading
+unbalanced r = record { row = r; balance = Null }
+
+-- rows that aren't grouped stand alone
+abbrev pub alone : List Reading → List (List Reading)
+alone rows = map (λ r. r ∷ []) rows
+
+-- positions with that of a row more
+abbrev pub and_of : List Value → Row → List Value
+and_of positions r = positions ++ cell_of column.Position r ∷ []
+
+-- each row with its running inventory: the sum of the positions before it and of its own
+abbrev pub balanced : List Value → List Row → List Reading
+balanced before [] = []
+balanced before (r ∷ rest) =
+    record { row = r; balance = aggregate_of (SumInventory 8) (and_of before r) }
+    ∷ balanced (and_of before r) rest
+
+module _ (b : Bounds) where
+  -- ---- the rows that pass
+
+  -- a filter that isn't there holds
+  abbrev pub holds : Option (Tree ℕ) → Row → Bool
+  holds (Some t) r = is_true (value_of b (unbalanced r ∷ []) t)
+  holds None r = true
+
+  abbrev pub passes : clause.Filters (Tree ℕ) → Row → Bool
+  passes f r = holds f.from r && holds f.filter r
+
+  abbrev pub passing : clause.Filters (Tree ℕ) → List Row → List Reading
+  passing f rows = balanced [] (filter (passes f) rows)
+
+  -- ---- groups
+
+  abbrev pub keys_at : List (Tree ℕ) → Reading → List Value
+  keys_at keys r = map (value_of b (r ∷ [])) keys
+
+  -- the rows with these values of the keys
+  abbrev pub group_at : List (Tree ℕ) → List Reading → List Value → List Reading
+  group_at keys rows values = filter (λ r. same_values (keys_at keys r) values) rows
+
+  -- one for each of the distinct values of the keys, in order of first appearance
+  abbrev pub groups : List (Tree ℕ) → List Reading → List (List Reading)
+  groups keys rows = map (group_at keys rows) (each_once [] (map (keys_at keys) rows))
+
+  abbrev pub grouped : Grouping → List Reading → List (List Reading)
+  grouped g rows = if g.is_aggregating then groups g.keys rows else alone rows
+
+  -- ---- the rows of a query, with what only orders them behind what is shown
+
+  abbrev pub row_of : List (Tree ℕ) → List Reading → List Value
+  row_of shown rows = map (value_of b rows) shown
+
+  abbrev pub rows_by : Plan → List Reading → List (List Value)
+  rows_by p rows = map (row_of p.shown) (grouped p.grouping rows)
+
+  abbrev pub select_rows : Select → List Row → List (List Value)
+  select_rows s rows = rows_by (plan s) (passing s.filters rows)
+
+-- ---- how they come out
+
+abbrev pub target_name : Target → List ℕ
+target_name t = t.name
+
+abbrev pub output_of : Select → Output
+output_of s = record {
+  is_distinct = s.distinct;
+  is_descending = s.order.descending;
+  limit = s.limit;
+  targets = map target_name s.targets;
+  hidden = length (plan s).shown - length s.targets;
+  order = (plan s).order;
+}
+
+-- behind the account and what is on it the rank of the account's root
+abbrev pub with_rank : List Value → List Value
+with_rank row = row ++ unary_value operation.RootRank (column_of row 0) ∷ []
+
+-- by that rank, and then by the account
+abbrev pub by_root : Output → Output
+by_root o = record o { hidden = 1; order = 2 ∷ 0 ∷ [] }
+
+abbrev pub output : Settled → Output
+output (selecting s) = output_of s
+output (journaling j) = output_of (journal_select j)
+output (balancing q) = by_root (output_of (balances_select q))
+
+-- the rows of a query in the order in which they come to be
+abbrev pub rows_of : Bounds → Settled → List Row → List (List Value)
+rows_of b (selecting s) rows = select_rows b s rows
+rows_of b (journaling j) rows = select_rows b (journal_select j) rows
+rows_of b (balancing q) rows = map with_rank (select_rows b (balances_select q) rows)
+
+-- These are the rows that a query answers over the rows of a ledger: in its order, those that tie
+-- as they came to be; each once under DISTINCT; and no more than its limit.
+abbrev pub IsAnswer : Bounds → Settled → List Row → List (List Value) → Type 0
+IsAnswer b q rows final = IsFinal (output q) (rows_of b q rows) final

@@ -1,0 +1,55 @@
+-- What is known of rows and of the values over them.
+use Rattle.std.specs.Prelude.{◌≡◌, ◌≤◌, ℕ, List, length, Some}
+use Rattle.std.specs.List.{AllByRecursion}
+use Rattle.bean_base.specs.declared.bounds.Bounds.{Bounds}
+use Rattle.bql_parser.specs.Clause.{Filters}
+use Rattle.bql_tree.specs.Tree.{Operation, leaf_of, Tree, node, Trees, no_trees, trees}
+use Rattle.bql_tree.specs.declared.tree.Entry.{Entry}
+use Rattle.bql_tree.specs.declared.tree.Leaf.TheVariants as leaf
+use Rattle.bql_types.specs.Shaped.{shape_of}
+use Rattle.plain_machine.specs.Row.{Row}
+use Rattle.query_columns.specs.ColumnShape.{AreBounds, column_shape}
+use Rattle.query_columns.specs.declared.column.Column.{Column}
+use Rattle.query_columns.specs.declared.column.Column.TheVariants.{Balance}
+use Rattle.query_shapes.specs.Shape.{LiesIn, IsShort}
+use Rattle.query_shapes.specs.declared.shape.Shape.{Shape}
+use Rattle.query_shapes.specs.declared.shape.Shape.TheVariants.{Text}
+use Rattle.bql_meaning.specs.Answer.{passing}
+use Rattle.bql_meaning.specs.Meaning.{value_of}
+use Rattle.bql_meaning.specs.Reading.{Reading, cell_of, text}
+
+-- each cell of a row lies in the shape of its column, and each text of metadata in that of texts
+pub record IsShaped (b : Bounds) (r : Row) : Type 0 where
+  pub cells : (c : Column) → LiesIn (cell_of c r) (column_shape b c)
+  pub texts : (e : Entry) (key : List ℕ) → LiesIn (text e key r) Text
+
+-- and so does the running inventory
+pub record IsRead (b : Bounds) (r : Reading) : Type 0 where
+  pub row : IsShaped b r.row
+  pub balance : LiesIn r.balance (column_shape b Balance)
+
+abbrev pub IsShortIn : Operation → Type 0
+IsShortIn (leaf_of (leaf.Text t)) = IsShort t
+IsShortIn op = Unit {0}
+
+-- the texts that an expression writes are short
+abbrev mutual
+  pub HasShortTexts : Tree ℕ → Type 0
+  HasShortTexts (node at op parts) = IsShortIn op × AllHaveShortTexts parts
+
+  pub AllHaveShortTexts : Trees ℕ → Type 0
+  AllHaveShortTexts no_trees = Unit {0}
+  AllHaveShortTexts (trees t ts) = HasShortTexts t × AllHaveShortTexts ts
+
+-- an expression that has a shape has a value of this shape, over no more rows than a ledger may
+-- have
+abbrev pub ValuesLieInTheirShapes : Type 0
+ValuesLieInTheirShapes = (b : Bounds) (t : Tree ℕ) (s : Shape) → HasShortTexts t
+    → shape_of b t ≡ Some s → (rows : List Reading) → length rows ≤ b.postings
+    → AllByRecursion (IsRead b) rows → LiesIn (value_of b rows t) s
+
+-- the rows that pass are read so, where the rows of a ledger are shaped
+abbrev pub PassingAreRead : Type 0
+PassingAreRead = (b : Bounds) → AreBounds b → (f : Filters (Tree ℕ)) (rows : List Row)
+    → length rows ≤ b.postings → AllByRecursion (IsShaped b) rows
+    → AllByRecursion (IsRead b) (passing b f rows)
