@@ -1,11 +1,12 @@
 -- How many rows what is booked has.
-use Rattle.std.proofs.Common.{◌≡◌, ℕ, zero, suc, ◌+◌, ◌≤◌, List, [], ◌∷◌, ◌++◌, length, map, reverse}
+use Rattle.std.proofs.Common.{◌≡◌, ℕ, zero, suc, ◌+◌, ◌≤◌, List, [], ◌∷◌, ◌++◌, length, map}
 use Rattle.std.proofs.Common.{Option, None, Some, Result, Ok, Err, Bool, true, false, cond, ◌==◌}
-use Rattle.std.proofs.Common.{refl, ap, ◌∙◌, arith}
+use Rattle.std.proofs.Common.{reverse, refl, ap, ◌∙◌, arith}
 use Rattle.std.specs.List.{AllByRecursion, flat_map}
 use Rattle.std.proofs.lemmas.Grind.{flat_map-append}
 use Rattle.std.proofs.lemmas.List.{append-nil, length-append, length-map, reverse-append}
-use Rattle.bean_booker.specs.Stand.{IsStepBy, LeadsTo, Stand, after_trial, posting_step, postings_of}
+use Rattle.bean_booker.specs.Stand.{IsStepBy, LeadsTo, Stand, after_trial, posting_step}
+use Rattle.bean_booker.specs.Stand.{postings_of}
 use Rattle.bean_booker.specs.declared.kept.Kept.{Kept}
 use Rattle.bean_grammar.specs.declared.posting.Posting.{Posting}
 use Rattle.bean_heads.specs.declared.directive.Directive.{Directive}
@@ -24,7 +25,7 @@ use Rattle.bean_trial.specs.declared.line.Posted.{Posted}
 use Rattle.bean_trial.specs.declared.stop.LineFault.{LineFault}
 use Rattle.posting_table.specs.declared.row.Row.{Row}
 use Rattle.bean_book.specs.Booked.{rows_of_all}
-use Rattle.bean_book.specs.Entries.{Booking, transaction, booking_of, bookings, kept_behind}
+use Rattle.bean_book.specs.Entries.{transaction, booking_of, bookings, kept_behind}
 use Rattle.bean_book.specs.Entries.{pads_behind}
 use Rattle.bean_book.specs.Kept.{AreOf}
 use Rattle.bean_book.specs.Rows.{entry_of, row_of, rows_of, rows_of_pad, rows_of_transaction}
@@ -144,13 +145,15 @@ of_transaction d t k ks false = omega arith
 -- the rows of a directive and of those behind it, and which pads are left for these
 record Counts (n : ℕ) (d : Directive) (k : DirectiveKind) (ks : List Kept) (ps : List NotedPad) :
     Type 0 where
-  rows : length (rows_of_all (booking_of n d k ks ps)) + left (kept_behind n k ks) (pads_behind k ps)
+  rows : length (rows_of_all (booking_of n d k ks ps))
+      + left (kept_behind n k ks) (pads_behind k ps)
       ≡ left ks ps
   pads : (m : ℕ) → length ps ≤ pad_count k + m → length (pads_behind k ps) ≤ m
 
 counts : (n : ℕ) (d : Directive) (k : DirectiveKind) (ks : List Kept) (ps : List NotedPad)
     → Counts n d k ks ps
-counts n d (kind.Transaction t) [] ps = record { rows = omega arith; pads = λ m h. omega (arith, h) }
+counts n d (kind.Transaction t) [] ps =
+    record { rows = omega arith; pads = λ m h. omega (arith, h) }
 counts n d (kind.Transaction t) (k ∷ ks) ps =
     let own = of_transaction d t k ks (k.directive == n) in
     record { rows = omega (arith, own); pads = λ m h. omega (arith, h) }

@@ -1,6 +1,7 @@
 -- Faults are found without rows: the ledger that has the rows is there, and not too large.
-use Rattle.std.proofs.Common.{◌≡◌, ℕ, ◌+◌, ◌<◌, ◌≤◌, max, List, [], ◌∷◌, length, map, filter, fold, reverse}
-use Rattle.std.proofs.Common.{Ok, Err, Bool, true, false, cond, refl, sym, ap, subst, ◌∙◌, arith}
+use Rattle.std.proofs.Common.{◌≡◌, ℕ, ◌+◌, ◌<◌, ◌≤◌, max, List, [], ◌∷◌, length, map, fold}
+use Rattle.std.proofs.Common.{reverse}
+use Rattle.std.proofs.Common.{Ok, Err, Bool, true, false, cond, refl, sym, ap, ◌∙◌, arith}
 use Rattle.std.proofs.Common.{unwrap_or}
 use Rattle.std.specs.Cmp.Lexicographic.{slice_cmp}
 use Rattle.std.specs.FinMap.{empty, get-empty, insert}
@@ -12,7 +13,7 @@ use Rattle.bean_base.specs.declared.amounts.Amount.{Amount}
 use Rattle.bean_base.specs.declared.fault.Fault.{Fault}
 use Rattle.bean_booker.proofs.OneBooking.{one_stand}
 use Rattle.bean_booker.specs.Booked.{IsBooked, method_in_ledger}
-use Rattle.bean_booker.specs.Stand.{LeadsTo, Stand, postings_of}
+use Rattle.bean_booker.specs.Stand.{postings_of}
 use Rattle.bean_booker.specs.declared.booked.Booked as booker
 use Rattle.bean_booker.specs.declared.booker.BookFault.{BookFault}
 use Rattle.bean_booker.specs.declared.booker.BookFault.TheVariants.{OutOfMemory, TooManyPostings}
@@ -21,7 +22,7 @@ use Rattle.bean_pad.specs.Note.{noted_pads}
 use Rattle.posting_table.proofs.DecimalsFacts.{decimals_of-insert}
 use Rattle.posting_table.specs.Decimals.{Decimals, decimals_of}
 use Rattle.posting_table.specs.Ledger.{Ledger}
-use Rattle.bean_book.specs.Booked.{Books, HasTooMany, IsLedgerOf, bookings_of, decimals_from}
+use Rattle.bean_book.specs.Booked.{Books, IsLedgerOf, bookings_of, decimals_from}
 use Rattle.bean_book.specs.Booked.{rows_of_all, written_in_all}
 use Rattle.bean_book.specs.Entries.{Booking}
 use Rattle.bean_book.specs.Found.{FindsFaults}

@@ -104,7 +104,8 @@ impl<'a> Lines<'a> {
 
     fn push_all(&mut self, alloc: Global, lines: Vec<Line<'a>>) -> Result<(), AllocError>
         requires { IsKeeping self.old }
-        ensures lines { OnOk result (self.new.lines.items ≡ self.old.lines.items ++ lines.entry.items) }
+        ensures lines { OnOk result
+            (self.new.lines.items ≡ self.old.lines.items ++ lines.entry.items) }
         ensures keeping { OnOk result (IsKeeping self.new) }
     {
         for line in lines {

@@ -34,10 +34,7 @@ impl<'a> Model for HeldKey<'a> {
 }
 
 /// What the label of a lot stands for.
-fn label_of<'a>(
-    alloc: Global,
-    lot: &Option<Lot<'a>>,
-) -> Result<Option<PlainText<'a>>, AllocError>
+fn label_of<'a>(alloc: Global, lot: &Option<Lot<'a>>) -> Result<Option<PlainText<'a>>, AllocError>
     ensures { IfOk result (λ label. label ≡ spec.label_of lot.now) }
 {
     match lot {

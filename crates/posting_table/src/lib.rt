@@ -55,7 +55,7 @@
 //!
 //! # Cost
 //!
-//! A row is moved in and never copied; it takes 80 bytes, and what it alone has of a lot, of a
+//! A row is moved in and never copied; it takes 96 bytes, and what it alone has of a lot, of a
 //! weight or of metadata lies apart. `cell` and `len` take a few steps, `push` and `set_display` a
 //! few on the average, `meta` and `entry_meta` look at each entry, and `fits` at each row. `new`
 //! takes no memory.

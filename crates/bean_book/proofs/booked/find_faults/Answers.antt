@@ -15,7 +15,8 @@ returns-in-Err c =
 
 pub returns-in-Err-look_for_room : goal.returns-in-Err-look_for_room
 returns-in-Err-look_for_room c =
-    too_many_found c.args.loaded.now c.in-Ok.booked c.in-Ok.ensures.booked c.in-Err-look_for_room.fault
+    too_many_found c.args.loaded.now c.in-Ok.booked c.in-Ok.ensures.booked
+    c.in-Err-look_for_room.fault
     (λ fault.
     subst (λ ks. 1000000 < length (postings_of ks)
     + length (flat_map rows_of_pad c.in-Ok.booked.pads)) c.as_slice.ensures

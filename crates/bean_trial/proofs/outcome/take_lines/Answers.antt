@@ -15,7 +15,8 @@ loop-take-preserved c =
     let old = c.loop-take.lines.items in
     let more = mapped_more take_counts takes k item (omega arith) c.take-item.is in
     subst (λ ts. AreTakeLines account currency i ts c.push.new.self.items) (sym more)
-    (subst (AreTakeLines account currency i (map take_counts (take k takes) ++ take_counts item ∷ []))
+    (subst
+    (AreTakeLines account currency i (map take_counts (take k takes) ++ take_counts item ∷ []))
     (sym c.in_ok-push.ensures.items)
     (one_more_take account currency i (map take_counts (take k takes)) old (take_counts item)
     _ c.loop-take.invariant c.in_ok-take_line.ensures))

@@ -1,4 +1,4 @@
-use Rattle.std.proofs.Common.{rules, sym, ◌∙◌}
+use Rattle.std.proofs.Common.{sym, ◌∙◌}
 use Rattle.bean_lots.proofs.LotFacts.{same_key_Decides}
 use Rattle.posting_table.proofs.keys.Keys.known.Goals as goal
 
