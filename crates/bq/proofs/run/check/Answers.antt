@@ -13,10 +13,10 @@ returns-in_err-texts g c =
     let out = written g.O.Output c.args.out.now c.args.out.now in
     let fault = c.in_err-texts.field-0.0 in
     let is = converted c.from_residual.result (Load fault) c.from_residual.ensures.1 in
-    subst (Does (deeds s c.args.store.now c.gather.new.store out) (Some (CheckLedger name)))
+    subst (Does (deeds s c.args.store.now c.gather.new.source out) (Some (CheckLedger name)))
     (sym is)
     (ungathered (Some (CheckLedger name)) name (λ readings r cause. cause) s c.args.store.now
-    c.gather.new.store fault c.in_err-texts.ensures out refl)
+    c.gather.new.source fault c.in_err-texts.ensures out refl)
 
 pub returns : goal.returns
 returns g c =

@@ -14,7 +14,7 @@ returns-in_err-write_text g c =
     let texts = c.args.texts.now in
     let lines = c.in_ok-lines.lines.items in
     let lines_are =
-    c.in_ok-lines.ensures ∙ ap₂ lines_of c.files.ensures (c.as_slice.ensures ∙ found.2) in
+    c.in_ok-lines.ensures ∙ ap₂ lines_of c.files.ensures.files (c.as_slice.ensures ∙ found.2) in
     let r = c.in_err-write_text.field-0.0 in
     let out = written g.O.Output c.args.out.now c.write_text.new.out in
     let step = c.from_residual-in_err-write_text in
@@ -37,7 +37,7 @@ returns g c =
         (
           booked,
           found.1,
-          c.in_ok-lines.ensures ∙ ap₂ lines_of c.files.ensures (c.as_slice.ensures ∙ found.2),
+          c.in_ok-lines.ensures ∙ ap₂ lines_of c.files.ensures.files (c.as_slice.ensures ∙ found.2),
           c.verdict_of.ensures ∙ ap verdict_of (c.as_slice-2.ensures ∙ found.2),
         ),
         subst (λ text. WritesText out text (Ok tt)) c.deref.ensures.value
