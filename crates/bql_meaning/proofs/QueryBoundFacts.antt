@@ -7,9 +7,9 @@ use Rattle.theory.specs.Form.{steps}
 use Rattle.bean_base.specs.declared.bounds.Bounds.{Bounds}
 use Rattle.bql_parser.specs.Answer.{query_of}
 use Rattle.bql_parser.specs.Clause as clause
-use Rattle.bql_parser.specs.Clause.{selecting, journaling, balancing}
-use Rattle.bql_parser.specs.Settled.{Settled, Target, Item, ItemKind, target_item, tree_item}
+use Rattle.bql_parser.specs.Settled.{Target, Item, ItemKind, target_item, tree_item}
 use Rattle.bql_parser.specs.declared.query.Query.{Query}
+use Rattle.bql_plan.specs.Ordering.{row_order}
 use Rattle.bql_plan.specs.Plan.{plan, Plan, added, own_trees, tree_by}
 use Rattle.bql_plan.specs.Plan as plans
 use Rattle.bql_tree.specs.Tree.{Tree}
@@ -22,7 +22,7 @@ use Rattle.plain_machine.specs.Distinct.{same_values, each_once}
 use Rattle.plain_machine.specs.Row.{Row}
 use Rattle.query_values.specs.Operation.{is_true}
 use Rattle.bql_meaning.specs.Answer.{holds, passing, balanced, unbalanced, groups}
-use Rattle.bql_meaning.specs.Answer.{grouped, alone, rows_by, select_rows, rows_of, with_rank}
+use Rattle.bql_meaning.specs.Answer.{grouped, alone, rows_by, select_rows, rows_of, ranked}
 use Rattle.bql_meaning.specs.Keys.{IsTypedKey}
 use Rattle.bql_meaning.specs.Meaning.{value_of}
 use Rattle.bql_meaning.specs.Reading.{Reading}
@@ -143,17 +143,10 @@ module _ (b c : Bounds) where
       ∙ same_rows (plan s) (same_shown s h k) (same_keys (grouping_of s).keys m n)
       (passing c s.filters rows)
 
-rows_by_standing : (b c : Bounds) (q : Settled) (rows : List Row)
-    → select_rows b (standing q) rows ≡ select_rows c (standing q) rows
-    → rows_of b q rows ≡ rows_of c q rows
-rows_by_standing b c (selecting s) rows e = e
-rows_by_standing b c (journaling j) rows e = e
-rows_by_standing b c (balancing q) rows e = ap (map with_rank) e
-
 pub rows_by_any_bounds : (b c : Bounds) (q : Query) → IsTyped b (query_of q)
     → IsTyped c (query_of q) → (rows : List Row)
     → rows_of b (query_of q) rows ≡ rows_of c (query_of q) rows
 rows_by_any_bounds b c q h k rows =
-    rows_by_standing b c (query_of q) rows
+    ap (ranked (row_order (query_of q)))
     (same_select b c (standing (query_of q)) (typed_have_shapes b (query_of q) h)
     (typed_have_shapes c (query_of q) k) (keys_are_typed b q h) (keys_are_typed c q k) rows)

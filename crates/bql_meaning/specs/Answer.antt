@@ -3,11 +3,13 @@ use Rattle.std.specs.Prelude.{ℕ, ◌-◌, Bool, true, ◌&&◌, List, [], ◌�
 use Rattle.std.specs.Prelude.{Option, Some, None, if◌then◌else◌}
 use Rattle.bean_base.specs.declared.bounds.Bounds.{Bounds}
 use Rattle.bql_parser.specs.Clause as clause
-use Rattle.bql_parser.specs.Clause.{selecting, journaling, balancing}
 use Rattle.bql_parser.specs.Settled.{Target, Settled}
+use Rattle.bql_plan.specs.Ordering.{row_order}
 use Rattle.bql_plan.specs.Plan.{Plan, plan}
+use Rattle.bql_plan.specs.declared.standing.RowOrder.{RowOrder}
+use Rattle.bql_plan.specs.declared.standing.RowOrder.TheVariants.{AsAsked, ByRoot}
 use Rattle.bql_tree.specs.Tree.{Tree}
-use Rattle.bql_types.specs.Standing.{Select, journal_select, balances_select}
+use Rattle.bql_types.specs.Standing.{Select, standing}
 use Rattle.bql_types.specs.Typing.{Grouping}
 use Rattle.plain_machine.specs.Distinct.{same_values, each_once}
 use Rattle.plain_machine.specs.FinalRows.{IsFinal, column_of}
@@ -102,20 +104,21 @@ output_of s = record {
 abbrev pub with_rank : List Value → List Value
 with_rank row = row ++ unary_value operation.RootRank (column_of row 0) ∷ []
 
+abbrev pub ranked : RowOrder → List (List Value) → List (List Value)
+ranked AsAsked rows = rows
+ranked ByRoot rows = map with_rank rows
+
 -- by that rank, and then by the account
-abbrev pub by_root : Output → Output
-by_root o = record o { hidden = 1; order = 2 ∷ 0 ∷ [] }
+abbrev pub ordered : RowOrder → Output → Output
+ordered AsAsked o = o
+ordered ByRoot o = record o { hidden = 1; order = 2 ∷ 0 ∷ [] }
 
 abbrev pub output : Settled → Output
-output (selecting s) = output_of s
-output (journaling j) = output_of (journal_select j)
-output (balancing q) = by_root (output_of (balances_select q))
+output q = ordered (row_order q) (output_of (standing q))
 
 -- the rows of a query in the order in which they come to be
 abbrev pub rows_of : Bounds → Settled → List Row → List (List Value)
-rows_of b (selecting s) rows = select_rows b s rows
-rows_of b (journaling j) rows = select_rows b (journal_select j) rows
-rows_of b (balancing q) rows = map with_rank (select_rows b (balances_select q) rows)
+rows_of b q rows = ranked (row_order q) (select_rows b (standing q) rows)
 
 -- These are the rows that a query answers over the rows of a ledger: in its order, those that tie
 -- as they came to be; each once under DISTINCT; and no more than its limit.

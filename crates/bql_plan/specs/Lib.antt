@@ -1,3 +1,4 @@
+pub mod Ordering
 pub mod Plan
 pub mod Planned
 pub mod Laws

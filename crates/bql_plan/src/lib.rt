@@ -1,18 +1,18 @@
 //! What is computed for a query, numbered as a program has it.
 //!
 //! ```text
-//! let select = into_select(alloc, parse_query(alloc, text)?)?;
+//! let standing = into_select(alloc, parse_query(alloc, text)?)?;
 //! // "SELECT year, sum(number), 2 * sum(number) ORDER BY 2, month, year"
-//! let plan = planned(alloc, &select)?;
+//! let plan = planned(alloc, &standing.select)?;
 //! // plan.shown:      year, sum(number), 2 * sum(number), and hidden behind them month
 //! // plan.order:      1, 3, 0
 //! // plan.grouping:   the query aggregates, by the key year
 //! // plan.aggregates: sum(number), once
 //! ```
 //!
-//! A JOURNAL and a BALANCES stand for a SELECT, into which [`into_select`] makes them. Of the order
-//! of a BALANCES that SELECT says nothing: its rows are ordered by the roots of their accounts, and
-//! then by the accounts.
+//! A JOURNAL and a BALANCES stand for a SELECT, into which [`into_select`] makes them. What the rows
+//! of a BALANCES are ordered by is none of its targets, so a [`RowOrder`] stands beside the SELECT:
+//! the roots of their accounts, and then the accounts.
 //!
 //! # What is the same
 //!
@@ -36,4 +36,4 @@ pub mod plan;
 pub mod standing;
 
 pub use plan::{Plan, planned};
-pub use standing::into_select;
+pub use standing::{RowOrder, Standing, into_select};

@@ -2,6 +2,7 @@
 ghost use Rattle.std.specs.Prelude.{◌≡◌, ◌++◌, ◌∷◌, [], IfOk};
 ghost use Rattle.bql_parser.specs.Answer as answer;
 ghost use Rattle.bql_parser.specs.Answer.{query_of, select_of, target_of, targets_of, filter_of};
+ghost use Rattle.bql_plan.specs.Ordering.{row_order};
 ghost use Rattle.query_columns.specs.Column.{name};
 ghost use Rattle.bql_tree.specs.Tree.{tree_of};
 ghost use Rattle.bql_types.specs.Standing as rule;
@@ -12,6 +13,22 @@ use bql_parser::{
 };
 use bql_tree::{Column, Expr, Function, Leaf, Unary};
 use std::alloc::{AllocError, Global};
+
+/// How the rows of a query are ordered.
+#[derive(Clone, Copy, Debug, Drop, PartialEq, Eq)]
+pub enum RowOrder {
+    /// As its SELECT asks.
+    AsAsked,
+    /// By the roots of accounts, and then by the accounts: so a BALANCES.
+    ByRoot,
+}
+
+/// The SELECT that a query is, or stands for, and how its rows are ordered.
+#[derive(Debug, Drop)]
+pub struct Standing<'a> {
+    pub select: Select<'a>,
+    pub order: RowOrder,
+}
 
 fn of_column<'a>(alloc: Global, column: Column) -> Result<Box<Expr<'a>>, AllocError>
     ensures { IfOk result (λ e. tree_of e.value ≡ rule.of_column column) }
@@ -176,14 +193,15 @@ fn balances<'a>(alloc: Global, balances: Balances<'a>) -> Result<Select<'a>, All
     })
 }
 
-/// The SELECT that a query is, or stands for. Of the order of a BALANCES it says nothing: that is
-/// by the roots of accounts, and then by the accounts.
-pub fn into_select<'a>(alloc: Global, query: Query<'a>) -> Result<Select<'a>, AllocError>
-    ensures { IfOk result (λ s. select_of s ≡ rule.standing (query_of query.entry)) }
+/// The SELECT that a query is, or stands for, and how its rows are ordered.
+pub fn into_select<'a>(alloc: Global, query: Query<'a>) -> Result<Standing<'a>, AllocError>
+    ensures select { IfOk result (λ s. select_of s.select ≡ rule.standing (query_of query.entry)) }
+    ensures order { IfOk result (λ s. s.order ≡ row_order (query_of query.entry)) }
 {
-    match query {
-        Query::Select(select) => Ok(select),
-        Query::Journal(read) => journal(alloc, read),
-        Query::Balances(read) => balances(alloc, read),
-    }
+    let (select, order) = match query {
+        Query::Select(select) => (select, RowOrder::AsAsked),
+        Query::Journal(read) => (journal(alloc, read)?, RowOrder::AsAsked),
+        Query::Balances(read) => (balances(alloc, read)?, RowOrder::ByRoot),
+    };
+    Ok(Standing { select, order })
 }

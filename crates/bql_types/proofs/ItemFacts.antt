@@ -11,6 +11,8 @@ use Rattle.bql_types.specs.Typing.{filters_causes, group_causes, order_item_caus
 use Rattle.bql_types.specs.Standing.{Select}
 use Rattle.bql_types.specs.Typing.{select_causes}
 use Rattle.bql_types.specs.declared.cause.Cause.{Cause}
+use Rattle.bql_types.specs.declared.targets.SeenTarget.{SeenTarget}
+use Rattle.query_shapes.specs.declared.shape.Shape.{Shape}
 use Rattle.bql_types.proofs.CauseFacts.{told_append}
 
 succ : (i : ℕ) → i + 1 ≡ suc i
@@ -49,6 +51,21 @@ one_key_less f g xs i x keys next whole b is n h =
     ap (λ z. z ++ rest) n
     ∙ append_assoc keys (f (g x)) rest
     ∙ sym (ap (λ z. keys ++ all_keys f (map g z)) (next_is xs i x b is))
+    ∙ h
+
+abbrev pub seen_as : Option Shape → Bool → SeenTarget
+seen_as s is = record { shape = s; has_aggregate = is }
+
+-- the same of what is seen of each
+pub one_seen_less : {A B C : Type 0} (f : B → C) (g : A → B) (xs : List A) (i : ℕ) (x : A)
+    (seen next whole : List C) → i < length xs → x ≡ get_or xs i x → next ≡ seen ++ f (g x) ∷ []
+    → seen ++ map f (map g (drop i xs)) ≡ whole
+    → next ++ map f (map g (drop (i + 1) xs)) ≡ whole
+one_seen_less f g xs i x seen next whole b is n h =
+    let rest = map f (map g (drop (i + 1) xs)) in
+    ap (λ z. z ++ rest) n
+    ∙ append_assoc seen (f (g x) ∷ []) rest
+    ∙ sym (ap (λ z. seen ++ map f (map g z)) (next_is xs i x b is))
     ∙ h
 
 -- ---- queries

@@ -6,5 +6,6 @@ pub mod Standing
 pub mod Typing
 pub mod Answer
 pub mod Seen
+pub mod Named
 pub mod Keys
 pub mod Laws

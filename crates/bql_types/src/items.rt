@@ -1,22 +1,24 @@
-//! Targets, filters and items of a query.
-ghost use Rattle.std.specs.Prelude.{◌≡◌, IfOk, map};
-ghost use Rattle.bql_parser.specs.Answer.{target_of, item_of, filter_of};
+//! Filters and items of a query.
+ghost use Rattle.std.specs.Prelude.{◌≡◌, IfOk, List, map};
+ghost use Rattle.bql_parser.specs.Answer.{item_of, filter_of};
+ghost use Rattle.bql_parser.specs.Settled.{Target};
 ghost use Rattle.query_columns.specs.ColumnShape.{AreBounds};
 ghost use Rattle.bql_tree.specs.Tree.{tree_of};
 ghost use Rattle.bql_types.specs.Cause.{told};
 ghost use Rattle.bql_types.specs.Keys as view;
+ghost use Rattle.bql_types.specs.Named.{AreSeen};
 ghost use Rattle.bql_types.specs.Seen as seen_rule;
 ghost use Rattle.bql_types.specs.Typing as rule;
-ghost use Rattle.std.specs.List.{slice_get};
 
 use crate::aggregates::misplaced;
 use crate::balances::balances;
-use crate::cause::{Cause, CauseKind, sooner, where_true};
+use crate::cause::{Cause, CauseKind, where_true};
 use crate::grouped::ungrouped;
 use crate::grouping::Grouping;
 use crate::shaped::{Seen, look};
+use crate::targets::{SeenTarget, named_group, named_order};
 use bean_base::Bounds;
-use bql_parser::{Filters, Item, ItemKind, Target};
+use bql_parser::{Filters, Item, ItemKind};
 use bql_tree::Expr;
 use query_shapes::Shape;
 use std::alloc::{AllocError, Global};
@@ -48,7 +50,7 @@ fn grouped(grouping: &Grouping<'_, '_>, e: &Expr<'_>, found: Option<Cause>) -> O
 
 /// What is at fault in a target or an order item, and its shape.
 #[tactic(auto, using(crate::proofs::CauseFacts::told_append))]
-fn shown(
+pub(crate) fn shown(
     alloc: Global,
     bounds: &Bounds,
     grouping: &Grouping<'_, '_>,
@@ -134,63 +136,20 @@ pub(crate) fn filters(
     filter(alloc, bounds, &filters.filter, found)
 }
 
-/// What is at fault in the targets.
-pub(crate) fn targets(
-    alloc: Global,
-    bounds: &Bounds,
-    grouping: &Grouping<'_, '_>,
-    targets: &[Target<'_>],
-    found: Option<Cause>,
-) -> Result<Option<Cause>, AllocError>
-    requires { AreBounds bounds.now }
-    ensures { IfOk result (λ r. r ≡ told found
-        (rule.each (rule.target_causes bounds.now (view.grouping_of grouping.now))
-        (map target_of targets.now))) }
-{
-    let mut found = found;
-    for target in targets {
-        found = shown(alloc, bounds, grouping, &target.expr, found)?.found;
-    }
-    Ok(found)
-}
-
-/// What is at fault in a group item that names a target.
-fn named_group(
-    alloc: Global,
-    bounds: &Bounds,
-    targets: &[Target<'_>],
-    index: usize,
-    place: usize,
-    found: Option<Cause>,
-) -> Result<Option<Cause>, AllocError>
-    requires { AreBounds bounds.now }
-    ensures { IfOk result (λ r. r ≡ told found
-        (rule.named_group_causes bounds.now place (slice_get (map target_of targets.now) index))) }
-{
-    match targets.get(index) {
-        Some(target) => {
-            let inside = misplaced(alloc, bounds, true, &target.expr, None)?;
-            let cause = Cause::at(CauseKind::AggregateMisplaced, place);
-            Ok(where_true(found, inside.is_some(), cause))
-        }
-        None => Ok(sooner(found, Cause::at(CauseKind::KindClash, place))),
-    }
-}
-
 /// What is at fault in an item of GROUP BY.
 fn group_item(
     alloc: Global,
     bounds: &Bounds,
-    targets: &[Target<'_>],
+    targets: &[SeenTarget],
     item: &Item<'_>,
     found: Option<Cause>,
 ) -> Result<Option<Cause>, AllocError>
     requires { AreBounds bounds.now }
-    ensures { IfOk result (λ r. r ≡ told found
-        (rule.group_item_causes bounds.now (map target_of targets.now) (item_of item.now))) }
+    ensures { (ts : List Target) → AreSeen bounds.now ts targets.now → IfOk result (λ r. r
+        ≡ told found (rule.group_item_causes bounds.now ts (item_of item.now))) }
 {
     match &item.kind {
-        ItemKind::Target(index) => named_group(alloc, bounds, targets, *index, item.place, found),
+        ItemKind::Target(index) => Ok(named_group(targets, *index, item.place, found)),
         ItemKind::Expr(e) => Ok(of_row(alloc, bounds, e, found)?.found),
     }
 }
@@ -199,14 +158,13 @@ fn group_item(
 fn group(
     alloc: Global,
     bounds: &Bounds,
-    targets: &[Target<'_>],
+    targets: &[SeenTarget],
     items: &[Item<'_>],
     found: Option<Cause>,
 ) -> Result<Option<Cause>, AllocError>
     requires { AreBounds bounds.now }
-    ensures { IfOk result (λ r. r ≡ told found
-        (rule.each (rule.group_item_causes bounds.now (map target_of targets.now))
-        (map item_of items.now))) }
+    ensures { (ts : List Target) → AreSeen bounds.now ts targets.now → IfOk result (λ r. r
+        ≡ told found (rule.each (rule.group_item_causes bounds.now ts) (map item_of items.now))) }
 {
     let mut found = found;
     for item in items {
@@ -219,13 +177,13 @@ fn group(
 pub(crate) fn groups(
     alloc: Global,
     bounds: &Bounds,
-    targets: &[Target<'_>],
+    targets: &[SeenTarget],
     items: &Option<Vec<Item<'_>>>,
     found: Option<Cause>,
 ) -> Result<Option<Cause>, AllocError>
     requires { AreBounds bounds.now }
-    ensures { IfOk result (λ r. r ≡ told found (rule.group_causes bounds.now
-        (map target_of targets.now) (view.group_of items.now))) }
+    ensures { (ts : List Target) → AreSeen bounds.now ts targets.now → IfOk result (λ r. r
+        ≡ told found (rule.group_causes bounds.now ts (view.group_of items.now))) }
 {
     match items {
         Some(items) => group(alloc, bounds, targets, items.as_slice(), found),
@@ -233,36 +191,13 @@ pub(crate) fn groups(
     }
 }
 
-fn isnt_ordered(shape: Option<Shape>) -> bool
+pub(crate) fn isnt_ordered(shape: Option<Shape>) -> bool
     ensures { result ≡ rule.isnt_ordered shape }
 {
     match shape {
         Some(Shape::Number { .. } | Shape::Text | Shape::Day) => false,
         Some(_) => true,
         None => false,
-    }
-}
-
-/// What is at fault in an order item that names a target.
-fn named_order(
-    alloc: Global,
-    bounds: &Bounds,
-    targets: &[Target<'_>],
-    index: usize,
-    place: usize,
-    found: Option<Cause>,
-) -> Result<Option<Cause>, AllocError>
-    requires { AreBounds bounds.now }
-    ensures { IfOk result (λ r. r ≡ told found
-        (rule.named_order_causes bounds.now place (slice_get (map target_of targets.now) index))) }
-{
-    match targets.get(index) {
-        Some(target) => {
-            let shape = look(alloc, bounds, &target.expr, None)?.shape;
-            let cause = Cause::at(CauseKind::NotOrderable, place);
-            Ok(where_true(found, isnt_ordered(shape), cause))
-        }
-        None => Ok(sooner(found, Cause::at(CauseKind::KindClash, place))),
     }
 }
 
@@ -289,17 +224,17 @@ fn order_item(
     alloc: Global,
     bounds: &Bounds,
     grouping: &Grouping<'_, '_>,
-    targets: &[Target<'_>],
+    targets: &[SeenTarget],
     item: &Item<'_>,
     found: Option<Cause>,
 ) -> Result<Option<Cause>, AllocError>
     requires { AreBounds bounds.now }
-    ensures { IfOk result (λ r. r ≡ told found
-        (rule.order_item_causes bounds.now (view.grouping_of grouping.now)
-        (map target_of targets.now) (item_of item.now))) }
+    ensures { (ts : List Target) → AreSeen bounds.now ts targets.now → IfOk result (λ r. r
+        ≡ told found (rule.order_item_causes bounds.now (view.grouping_of grouping.now) ts
+        (item_of item.now))) }
 {
     match &item.kind {
-        ItemKind::Target(index) => named_order(alloc, bounds, targets, *index, item.place, found),
+        ItemKind::Target(index) => Ok(named_order(targets, *index, item.place, found)),
         ItemKind::Expr(e) => own_order(alloc, bounds, grouping, e, found),
     }
 }
@@ -309,14 +244,14 @@ pub(crate) fn order(
     alloc: Global,
     bounds: &Bounds,
     grouping: &Grouping<'_, '_>,
-    targets: &[Target<'_>],
+    targets: &[SeenTarget],
     items: &[Item<'_>],
     found: Option<Cause>,
 ) -> Result<Option<Cause>, AllocError>
     requires { AreBounds bounds.now }
-    ensures { IfOk result (λ r. r ≡ told found
-        (rule.each (rule.order_item_causes bounds.now (view.grouping_of grouping.now)
-        (map target_of targets.now)) (map item_of items.now))) }
+    ensures { (ts : List Target) → AreSeen bounds.now ts targets.now → IfOk result (λ r. r
+        ≡ told found (rule.each (rule.order_item_causes bounds.now (view.grouping_of grouping.now)
+        ts) (map item_of items.now))) }
 {
     let mut found = found;
     for item in items {

@@ -38,8 +38,8 @@
 //! # Cost
 //!
 //! Linear in the query, but for columns of queries that aggregate, which are looked for among the
-//! keys, and for items that name a target, which look at it again. A call takes memory for the
-//! shapes of its arguments, and a query for the list of its keys.
+//! keys. A target is looked at once, however many items name it. A call takes memory for the shapes
+//! of its arguments, and a query for the list of its keys and of what its targets are.
 #![tactic(auto)]
 
 pub mod aggregates;
@@ -52,6 +52,7 @@ mod items;
 pub mod laws;
 pub mod same;
 mod shaped;
+mod targets;
 pub mod typed;
 pub mod typing;
 

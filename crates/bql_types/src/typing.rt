@@ -9,7 +9,8 @@ ghost use Rattle.bql_types.specs.Typing as rule;
 use crate::cause::Cause;
 use crate::fault::{TypeFault, fault_of};
 use crate::grouping::grouped_by;
-use crate::items::{filter, filters, groups, order, targets};
+use crate::items::{filter, filters, groups, order};
+use crate::targets::targets;
 use crate::typed::Typed;
 use bean_base::Bounds;
 use bql_parser::{Query, Select};
@@ -21,11 +22,18 @@ fn select_cause(alloc: Global, bounds: &Bounds, s: &Select<'_>) -> Result<Option
     ensures { IfOk result (λ r. r ≡ least_of (rule.select_causes bounds.now (select_of s.now))) }
 {
     let grouping = grouped_by(alloc, s.targets.as_slice(), &s.group)?;
-    let found = targets(alloc, bounds, &grouping, s.targets.as_slice(), None)?;
-    let found = filters(alloc, bounds, &s.filters, found)?;
-    let found = groups(alloc, bounds, s.targets.as_slice(), &s.group, found)?;
+    let seen = targets(alloc, bounds, &grouping, s.targets.as_slice(), None)?;
+    let found = filters(alloc, bounds, &s.filters, seen.found)?;
+    let found = groups(alloc, bounds, seen.targets.as_slice(), &s.group, found)?;
     let items = s.order.items.as_slice();
-    order(alloc, bounds, &grouping, s.targets.as_slice(), items, found)
+    order(
+        alloc,
+        bounds,
+        &grouping,
+        seen.targets.as_slice(),
+        items,
+        found,
+    )
 }
 
 /// The least cause for which a query has no type.

@@ -1,7 +1,7 @@
 //! What is computed for queries.
 
 use bql_parser::parse_query;
-use bql_plan::{into_select, planned};
+use bql_plan::{RowOrder, into_select, planned};
 use std::alloc::Global;
 use std::test::Fail;
 
@@ -20,10 +20,10 @@ fn counted(alloc: Global, text: &str) -> Option<Counts> {
     let Ok(query) = parse_query(alloc, text) else {
         return None;
     };
-    let Ok(select) = into_select(alloc, query) else {
+    let Ok(standing) = into_select(alloc, query) else {
         return None;
     };
-    match planned(alloc, &select) {
+    match planned(alloc, &standing.select) {
         Ok(plan) => Some(Counts {
             shown: plan.shown.len(),
             first_order: plan.order.first().copied(),
@@ -83,6 +83,32 @@ fn plans_of_queries(rt: HostRuntime) -> Result<(), Fail> {
             aggregates,
         };
         assert_eq!(rt; counted(rt.alloc(), text), Some(wanted));
+    }
+    Ok(())
+}
+
+/// How the rows of a query are ordered.
+fn row_order(alloc: Global, text: &str) -> Option<RowOrder> {
+    let Ok(query) = parse_query(alloc, text) else {
+        return None;
+    };
+    match into_select(alloc, query) {
+        Ok(standing) => Some(standing.order),
+        Err(_) => None,
+    }
+}
+
+#[test]
+fn balances_are_ordered_by_roots(rt: HostRuntime) -> Result<(), Fail> {
+    let wanted = [
+        ("SELECT account, sum(position)", RowOrder::AsAsked),
+        ("SELECT account ORDER BY account", RowOrder::AsAsked),
+        ("JOURNAL 'cash'", RowOrder::AsAsked),
+        ("BALANCES", RowOrder::ByRoot),
+        ("BALANCES AT cost FROM year = 2014", RowOrder::ByRoot),
+    ];
+    for (text, order) in wanted {
+        assert_eq!(rt; row_order(rt.alloc(), text), Some(order));
     }
     Ok(())
 }

@@ -5,7 +5,7 @@ ghost use Rattle.query_columns.specs.ColumnShape.{AreBounds};
 use bean_base::Bounds;
 use bql_parser::parse_query;
 use bql_types::{TypeFault, type_query};
-use std::alloc::Global;
+use std::alloc::{AllocError, Global};
 use std::test::Fail;
 
 const WIDEST: Bounds = Bounds {
@@ -248,6 +248,45 @@ fn products_within_narrower_bounds(rt: HostRuntime) -> Result<(), Fail> {
     ];
     for text in texts {
         assert_eq!(rt; fault(rt.alloc(), text, &NARROWER), None);
+    }
+    Ok(())
+}
+
+/// A SELECT of one target, with so many items that name it.
+fn named_often(alloc: Global, head: &str, items: usize, last: &str) -> Result<String, AllocError> {
+    let mut text = String::new(alloc);
+    text.push_str(head)?;
+    for _ in 1..items {
+        text.push_str("1,")?;
+    }
+    text.push_str(last)?;
+    Ok(text)
+}
+
+#[test]
+fn one_target_for_255_items(rt: HostRuntime) -> Result<(), Fail> {
+    let wanted = [
+        ("SELECT year + month GROUP BY ", "1", None),
+        ("SELECT year + month ORDER BY ", "1", None),
+        (
+            "SELECT year + month ORDER BY ",
+            "(tags)",
+            Some(TypeFault::NotOrderable(538)),
+        ),
+        (
+            "SELECT sum(number) GROUP BY ",
+            "1",
+            Some(TypeFault::AggregateMisplaced(28)),
+        ),
+        (
+            "SELECT position ORDER BY ",
+            "1",
+            Some(TypeFault::NotOrderable(25)),
+        ),
+    ];
+    for (head, last, fault_wanted) in wanted {
+        let text = named_often(rt.alloc(), head, 255, last)?;
+        assert_eq!(rt; fault(rt.alloc(), text.as_str(), &WIDEST), fault_wanted);
     }
     Ok(())
 }
