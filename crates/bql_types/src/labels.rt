@@ -13,8 +13,7 @@ use bql_tree::{Binary, Expr};
 use query_shapes::{Misfit, Shape};
 use std::alloc::{AllocError, Global};
 
-/// The shape of an expression, if it has one, and those of its parts, in their order. A NULL has
-/// none.
+/// The shape of an expression, if it has one, and those of its parts, in their order.
 #[derive(Debug, Drop)]
 pub struct Shapes {
     pub shape: Option<Shape>,
@@ -55,21 +54,18 @@ fn side(op: Binary, e: &Expr<'_>, shape: Option<Shape>) -> Operand
     operand(is_equality(op) && is_null(e), shape)
 }
 
-/// A shape over those of no parts.
-fn of_leaf(alloc: Global, shape: Option<Shape>) -> Shapes
-    ensures { label.label_of result ≡ label.label shape label.no_labels }
-{
-    Shapes {
-        shape,
-        parts: Vec::new(alloc),
-    }
-}
-
 /// A shape over those of its parts.
 fn over(shape: Option<Shape>, parts: Vec<Shapes>) -> Shapes
     ensures { label.label_of result ≡ label.label shape (label.labels_of parts.items) }
 {
     Shapes { shape, parts }
+}
+
+/// A shape over those of no parts.
+fn of_leaf(alloc: Global, shape: Option<Shape>) -> Shapes
+    ensures { label.label_of result ≡ label.label shape label.no_labels }
+{
+    over(shape, Vec::new(alloc))
 }
 
 /// The shapes of all parts, if all have one.
