@@ -1,5 +1,6 @@
 pub mod CauseFacts
 pub mod ShapeFacts
+pub mod LabelFacts
 pub mod SameFacts
 pub mod ItemFacts
 pub mod LawFacts

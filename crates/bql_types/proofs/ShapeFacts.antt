@@ -37,7 +37,7 @@ pub behind_all : (ss : Option (List Shape)) → behind ss (Some []) ≡ ss
 behind_all (Some ss) = ap Some (append_nil ss)
 behind_all None = refl
 
-moved : (ss : Option (List Shape)) (s : Option Shape) (rest : Option (List Shape))
+pub moved : (ss : Option (List Shape)) (s : Option Shape) (rest : Option (List Shape))
     → behind (one_more ss s) rest ≡ behind ss (beside (operand false s) rest)
 moved (Some ss) (Some s) (Some rest) = ap Some (append_assoc ss (s ∷ []) rest)
 moved (Some ss) (Some s) None = refl
@@ -75,12 +75,12 @@ concluded_is b at op parts found next r is told_is =
     told_with : Option Shape → Option Cause → Seen
     told_with s f = record { shape = s; found = f }
 
-before_is : (b : Bounds) (op : Unary) (s : Option Shape)
+pub before_is : (b : Bounds) (op : Unary) (s : Option Shape)
     → before op s ≡ ruled b (one_of op) (beside (operand false s) (Some []))
 before_is b op (Some s) = refl
 before_is b op None = refl
 
-between_is : (b : Bounds) (op : Binary) (x y : Operand)
+pub between_is : (b : Bounds) (op : Binary) (x y : Operand)
     → between op x y ≡ ruled b (two_of op) (beside x (beside y (Some [])))
 between_is b op (Shaped s) (Shaped t) = refl
 between_is b op (Shaped s) Null = refl

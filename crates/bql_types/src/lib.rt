@@ -49,6 +49,7 @@ pub mod fault;
 pub mod grouped;
 pub mod grouping;
 mod items;
+pub mod labels;
 pub mod laws;
 pub mod same;
 mod shaped;
@@ -58,5 +59,6 @@ pub mod typing;
 
 pub use cause::{Cause, CauseKind};
 pub use fault::TypeFault;
+pub use labels::{Shapes, shapes_of};
 pub use typed::Typed;
 pub use typing::type_query;

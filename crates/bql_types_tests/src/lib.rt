@@ -4,4 +4,6 @@
 #[cfg(test)]
 mod plans;
 #[cfg(test)]
+mod shapes;
+#[cfg(test)]
 mod typing;
