@@ -1,5 +1,5 @@
 //! Lists that are seldom more than empty.
-ghost use Rattle.std.specs.Prelude.{◌≡◌, [], ◌++◌, ◌∷◌, OnOk};
+ghost use Rattle.std.specs.Prelude.{◌≡◌, [], ◌++◌, ◌∷◌, IfOk, OnOk};
 
 use crate::apart::Apart;
 use crate::list::List;
@@ -30,6 +30,18 @@ impl<T: Drop> Few<T> {
         Few { items: None }
     }
 
+    /// The items of a list.
+    pub fn of(alloc: Global, items: List<T>) -> Result<Few<T>, AllocError>
+        ensures { IfOk result (λ few. few ≡ items) }
+    {
+        if items.as_slice().is_empty() {
+            return Ok(Few::new());
+        }
+        Ok(Few {
+            items: Some(Apart::new(alloc, items)?),
+        })
+    }
+
     /// The items.
     pub fn as_slice(&self) -> &[T]
         ensures { result.now ≡ self.now }
@@ -46,10 +58,26 @@ impl<T: Drop> Few<T> {
     {
         let mut items = match self.items.take() {
             Some(items) => items.into_inner(),
-            None => List::new(Vec::new(alloc)),
+            None => List::new(Vec::with_capacity(alloc, 1)?),
         };
         items.push(item)?;
         self.items = Some(Apart::new(alloc, items)?);
+        Ok(())
+    }
+
+    /// Adds the items of a list at the end.
+    pub fn append(&mut self, alloc: Global, others: List<T>) -> Result<(), AllocError>
+        ensures { OnOk result (self.new ≡ self.old ++ others) }
+    {
+        let all = match self.items.take() {
+            Some(items) => {
+                let mut all = items.into_inner();
+                all.append(others)?;
+                all
+            }
+            None => others,
+        };
+        *self = Few::of(alloc, all)?;
         Ok(())
     }
 }

@@ -38,7 +38,6 @@
 pub mod amounts;
 pub mod apart;
 pub mod bounds;
-pub mod bytes;
 pub mod days;
 mod digits;
 pub mod fault;

@@ -13,6 +13,7 @@ use Rattle.bean_grammar.specs.Cost.{cost_of}
 use Rattle.bean_grammar.specs.CostPart.{no_parts, number_part_of, put}
 use Rattle.bean_grammar.specs.Exact.{times, plus, minus, signed, written}
 use Rattle.bean_grammar.specs.Expression.{in_ledger, product, factor}
+use Rattle.bean_grammar.specs.Extras.{on_line, no_extras}
 use Rattle.bean_grammar.specs.Lexeme.{Tag, Link, Key, Number, Sign, Keyword, Currency, lexeme_at}
 use Rattle.bean_grammar.specs.Mark as mark_rule
 use Rattle.bean_grammar.specs.declared.mark.Mark.TheVariants as marks
@@ -185,28 +186,21 @@ two_values = (
 -- an account alone before a cost
 missing_before_cost :
     is_outside_profile record {
-      flag = None;
       account = codes "Assets:Inv";
-      units =
-          units_kind.Missing;
-      cost = cost_kind.Lot record { amount = None; day = None; label = None };
-      price = price_kind.Absent;
+      units = units_kind.Missing;
+      extras =
+          on_line None (cost_kind.Lot record { amount = None; day = None; label = None })
+          price_kind.Absent;
       line = 7;
-      metadata = [];
     } ≡ true
 missing_before_cost = refl
 
 missing_alone :
     is_outside_profile record {
-      flag = None;
       account = codes "Assets:Inv";
-      units =
-          units_kind.Missing;
-      cost = cost_kind.Absent;
-      price = price_kind.Absent;
+      units = units_kind.Missing;
+      extras = no_extras;
       line = 7;
-      metadata =
-          [];
     } ≡ false
 missing_alone = refl
 

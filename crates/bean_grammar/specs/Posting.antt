@@ -21,6 +21,7 @@ use Rattle.bean_grammar.specs.declared.ranged.Ranged.{Ranged}
 use Rattle.bean_grammar.specs.declared.ranged.Ranged.TheVariants.{Within}
 use Rattle.bean_grammar.specs.Amount.{amount_parts}
 use Rattle.bean_grammar.specs.Cost.{cost_if_due}
+use Rattle.bean_grammar.specs.Extras.{on_line}
 use Rattle.bean_grammar.specs.Lexeme.{Lexeme, Account, Sign}
 use Rattle.bean_grammar.specs.Price.{price_if_due}
 use Rattle.bean_grammar.specs.Ranged.{ranged_map, ranged_map3}
@@ -55,13 +56,10 @@ abbrev pub posting_of : ℕ → Option flags.Flag → List ℕ → Ranged units_
 posting_of line flag account units cost price =
     ranged_map3
     (λ u c p. record {
-      flag = flag;
       account = account;
       units = u;
-      cost = c;
-      price = p;
+      extras = on_line flag c p;
       line = line;
-      metadata = [];
     })
     units cost price
 
@@ -97,4 +95,5 @@ is_written c p = true
 abbrev pub is_outside_profile : postings.Posting → Bool
 is_outside_profile p =
     is_number_alone p.units
-    || (is_left_out p.cost p.price || (not (has_number p.units) && is_written p.cost p.price))
+    || (is_left_out p.extras.cost p.extras.price
+    || (not (has_number p.units) && is_written p.extras.cost p.extras.price))

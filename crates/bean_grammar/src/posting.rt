@@ -3,9 +3,9 @@ ghost use Rattle.std.specs.Prelude.{◌≡◌};
 ghost use Rattle.bean_grammar.specs.Posting as rule;
 
 use crate::cost::Cost;
-use crate::metadata::Entry;
+use crate::extras::Extras;
 use crate::price::Price;
-use bean_base::{Account, Amount, Currency, Few, Flag};
+use bean_base::{Account, Amount, Currency};
 
 /// What a posting adds to its account, as far as it is written.
 #[derive(Debug, Drop)]
@@ -23,14 +23,10 @@ pub enum Units<'a> {
 pub struct Posting<'a> {
     pub units: Units<'a>,
     pub account: Account<'a>,
-    pub cost: Cost<'a>,
-    pub price: Price<'a>,
+    /// Its flag, its cost, its price and the entries that stand under it.
+    pub extras: Extras<'a>,
     /// The line on which it is written, from 1.
     pub line: usize,
-    /// The entries that stand under it, in order.
-    pub metadata: Few<Entry<'a>>,
-    // The widest field stands first and the smallest last, so that little room is lost between them.
-    pub flag: Option<Flag>,
 }
 
 impl Posting<'_> {
@@ -39,9 +35,13 @@ impl Posting<'_> {
     pub fn is_outside_profile(&self) -> bool
         ensures { result ≡ rule.is_outside_profile self.now }
     {
-        let is_left_out = matches!(self.cost, Cost::OutsideProfile)
-            || matches!(self.price, Price::OutsideProfile);
-        let is_written = !matches!(self.cost, Cost::Absent) || !matches!(self.price, Price::Absent);
+        let Some(parts) = self.extras.get() else {
+            return matches!(self.units, Units::NumberAlone);
+        };
+        let is_left_out = matches!(parts.cost, Cost::OutsideProfile)
+            || matches!(parts.price, Price::OutsideProfile);
+        let is_written =
+            !matches!(parts.cost, Cost::Absent) || !matches!(parts.price, Price::Absent);
         match self.units {
             Units::NumberAlone => true,
             Units::Amount(_) => is_left_out,

@@ -7,11 +7,12 @@ ghost use Rattle.bean_grammar.specs.Posting as rule;
 
 use crate::amount::{AmountParts, amount_parts};
 use crate::cost::{Cost, cost_if_due};
+use crate::extras::Extras;
 use crate::front::{after_account, next};
 use crate::posting::{Posting, Units};
 use crate::price::{Price, price_if_due};
 use crate::ranged::Ranged;
-use bean_base::{Account, Amount, Few, Flag};
+use bean_base::{Account, Amount, Flag};
 use bean_lexer::{Kind, Sign, Token};
 use std::alloc::{AllocError, Global};
 
@@ -62,28 +63,27 @@ fn units<'t, 'a>(tokens: &'t [Token<'a>]) -> Option<(Ranged<Units<'a>>, &'t [Tok
 }
 
 fn posting_of<'a>(
+    alloc: Global,
     line: usize,
     flag: Option<Flag>,
     account: Account<'a>,
     units: Ranged<Units<'a>>,
     cost: Ranged<Cost<'a>>,
     price: Ranged<Price<'a>>,
-) -> Ranged<Posting<'a>>
-    ensures { result ≡ rule.posting_of line flag account.entry units.entry cost.entry price.entry }
+) -> Result<Ranged<Posting<'a>>, AllocError>
+    ensures { IfOk result (λ p. p
+        ≡ rule.posting_of line flag account.entry units.entry cost.entry price.entry) }
 {
     let (Ranged::Within(units), Ranged::Within(cost), Ranged::Within(price)) = (units, cost, price)
     else {
-        return Ranged::Outside;
+        return Ok(Ranged::Outside);
     };
-    Ranged::Within(Posting {
-        flag,
-        account,
+    Ok(Ranged::Within(Posting {
         units,
-        cost,
-        price,
+        account,
+        extras: Extras::of(alloc, flag, cost, price)?,
         line,
-        metadata: Few::new(),
-    })
+    }))
 }
 
 /// The flag, the account and the units at the front, and what stands behind them.
@@ -107,7 +107,7 @@ fn posted<'t, 'a>(
     Some((flag, account, units, rest))
 }
 
-/// The posting that a line of that number is. It takes memory for a lot and for a price alone.
+/// The posting that a line of that number is. It takes memory for extras alone.
 pub fn posting<'a>(
     alloc: Global,
     line: usize,
@@ -131,6 +131,9 @@ pub fn posting<'a>(
     let (price, rest) = found;
     match next(rest) {
         Some(_) => Ok(None),
-        None => Ok(Some(posting_of(line, flag, account, units, cost, price))),
+        None => {
+            let posting = posting_of(alloc, line, flag, account, units, cost, price)?;
+            Ok(Some(posting))
+        }
     }
 }

@@ -5,7 +5,7 @@ ghost use Rattle.bean_grammar.specs.Lexeme.{lexemes};
 ghost use Rattle.bean_heads.specs.Head as rule;
 
 use crate::directive::DirectiveKind;
-use bean_base::{Flag, List, Text};
+use bean_base::{Few, Flag, List, Text};
 use bean_grammar::literal::text_if_due;
 use bean_grammar::mark::marks;
 use bean_grammar::{Mark, Posting, Ranged};
@@ -21,7 +21,7 @@ pub struct Transaction<'a> {
     pub narration: Text<'a>,
     /// Its tags and links in the order in which they are written, then the tags that are pushed to
     /// it. A mark may stand twice.
-    pub marks: List<Mark<'a>>,
+    pub marks: Few<Mark<'a>>,
     pub postings: List<Posting<'a>>,
 }
 
@@ -71,7 +71,8 @@ pub fn transaction_line<'t, 'a>(
         r.0 (lexemes r.1.now)) }
 {
     let (words, rest) = words(tokens);
-    let (marks, rest) = marks(alloc, rest)?;
+    let (written, rest) = marks(alloc, rest)?;
+    let marks = Few::of(alloc, written)?;
     let transaction = Transaction {
         flag,
         payee: words.payee,

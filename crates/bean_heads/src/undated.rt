@@ -45,18 +45,6 @@ pub enum PushName<'a> {
     Key(MetaKey<'a>),
 }
 
-impl<'a> PushName<'a> {
-    /// The same name once more.
-    pub fn lend(&self) -> PushName<'a>
-        ensures { result ≡ self.now }
-    {
-        match self {
-            PushName::Tag(tag) => PushName::Tag(tag.lend()),
-            PushName::Key(key) => PushName::Key(key.lend()),
-        }
-    }
-}
-
 /// Where a scope begins or ends.
 #[derive(Debug, Drop)]
 pub enum Bound<'a> {

@@ -13,7 +13,7 @@ use Rattle.std.specs.Str.{IsCharBoundary}
 use Rattle.bean_lexer.specs.TokenForm.{is_name_behind, is_in_name, is_key, is_in_key}
 use Rattle.theory.specs.LongestFront.{IsLongestFront, HasNoFront}
 use Rattle.theory.proofs.LongestFrontFacts.{front_cons, all_front}
-use Rattle.bean_base.proofs.RunFacts.{run_boundary}
+use Rattle.byte_runs.proofs.RunFacts.{run_boundary}
 
 abbrev pub is_name : List ℕ → Bool
 is_name bs = nat_lt 0 (length bs) && list_all is_in_name bs

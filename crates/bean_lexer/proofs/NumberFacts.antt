@@ -15,7 +15,7 @@ use Rattle.bean_base.proofs.NumeralFacts.{completes, completes_step, drop_more}
 use Rattle.bean_lexer.specs.Lookahead.{has_more_digits}
 use Rattle.theory.specs.LongestFront.{IsLongestFront}
 use Rattle.std.proofs.lemmas.Str.{IsCharBoundary-start, IsCharBoundary-after_ascii}
-use Rattle.bean_base.proofs.RunFacts.{run_boundary}
+use Rattle.byte_runs.proofs.RunFacts.{run_boundary}
 use Rattle.theory.proofs.LongestFrontFacts.{front_at, front_run, front_end, front_end_nil}
 use Rattle.theory.proofs.LongestFrontFacts.{all_front}
 

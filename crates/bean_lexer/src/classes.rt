@@ -3,7 +3,7 @@ ghost use Rattle.bean_base.specs.Name.{is_in_component, is_in_currency};
 ghost use Rattle.bean_lexer.specs.TokenForm.{is_in_name, is_in_key, is_plain};
 ghost use Rattle.bean_lexer.specs.Tokens.{goes_on_character};
 
-use bean_base::bytes::ByteClass;
+use byte_runs::ByteClass;
 
 /// What a component of an account goes on with.
 pub struct InComponent;

@@ -14,7 +14,7 @@ ghost use Rattle.bean_lexer.specs.Tokens.{IsToken};
 use crate::classes::{InComponent, InCurrency, InName};
 use crate::found::Found;
 use crate::kind::{Keyword, Kind, Sign};
-use bean_base::bytes::{end_of_run, has_front};
+use byte_runs::{end_of_run, has_front};
 
 /// The account, the currency or the truth value that begins with a capital.
 #[inline(always)]

@@ -8,7 +8,7 @@ ghost use Rattle.bean_lexer.specs.Tokens.{IsToken, text_reach};
 use crate::classes::PlainText;
 use crate::found::Found;
 use crate::kind::Kind;
-use bean_base::bytes::end_of_run;
+use byte_runs::end_of_run;
 
 /// The text that begins with a quote, or a fault as long.
 pub fn text_or_fault(bytes: &[u8]) -> Found

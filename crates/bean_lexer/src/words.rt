@@ -14,7 +14,7 @@ ghost use Rattle.bean_lexer.specs.Tokens.{IsToken, goes_on_character};
 use crate::classes::{GoesOnCharacter, InKey};
 use crate::found::Found;
 use crate::kind::{Keyword, Kind, Sign, WORDS};
-use bean_base::bytes::{end_of_run, has_front};
+use byte_runs::{end_of_run, has_front};
 
 /// The key or the word that begins with a small letter, or a fault.
 pub fn key_or_keyword(bytes: &[u8]) -> Found

@@ -59,6 +59,7 @@ fn takes_postings(kind: &Ranged<DirectiveKind<'_>>) -> bool
 
 /// The kind, with the tags, links and postings that stand under it.
 fn with_body<'a>(
+    alloc: Global,
     kind: DirectiveKind<'a>,
     marks: List<Mark<'a>>,
     postings: List<Posting<'a>>,
@@ -68,7 +69,7 @@ fn with_body<'a>(
     match kind {
         DirectiveKind::Transaction(transaction) => {
             let mut all = transaction.marks;
-            all.append(marks)?;
+            all.append(alloc, marks)?;
             Ok(DirectiveKind::Transaction(Transaction {
                 flag: transaction.flag,
                 payee: transaction.payee,
@@ -82,6 +83,7 @@ fn with_body<'a>(
 }
 
 fn directive_of<'a>(
+    alloc: Global,
     line: usize,
     body: Body<'a>,
     day: Day,
@@ -94,12 +96,13 @@ fn directive_of<'a>(
         day,
         line,
         metadata: body.metadata,
-        kind: with_body(kind, body.marks, postings)?,
+        kind: with_body(alloc, kind, body.marks, postings)?,
     })
 }
 
 /// What a head says with the lines under it, where all of it is in range.
 fn dated<'a>(
+    alloc: Global,
     line: usize,
     day: Ranged<Day>,
     kind: Ranged<DirectiveKind<'a>>,
@@ -113,7 +116,7 @@ fn dated<'a>(
     let (Ranged::Within(day), Ranged::Within(kind)) = (day, kind) else {
         return Ok(Ranged::Outside);
     };
-    let directive = directive_of(line, body, day, kind)?;
+    let directive = directive_of(alloc, line, body, day, kind)?;
     Ok(Ranged::Within(Statement::Directive(directive)))
 }
 
@@ -128,7 +131,7 @@ fn dated_block<'a>(
     ensures { IfOk result (ReadsDated line day kind.entry (spec.lines under.now)) }
 {
     match read_lines(alloc, takes_postings(&kind), under)? {
-        Some(body) => Ok(Some(dated(line, day, kind, body)?)),
+        Some(body) => Ok(Some(dated(alloc, line, day, kind, body)?)),
         None => Ok(None),
     }
 }

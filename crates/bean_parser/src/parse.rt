@@ -104,7 +104,7 @@ impl<'a> Gathered<'a> {
         let mut faults = self.faults;
         let bounds = self.bounds.as_slice();
         let pops = pops_of(alloc, bounds)?;
-        give_all(bounds, &pops, &mut directives)?;
+        give_all(alloc, bounds, &pops, &mut directives)?;
         add_unmatched(alloc, bounds, &pops, &mut faults)?;
         sort_by_line(&mut faults)?;
         Ok(Parsed {

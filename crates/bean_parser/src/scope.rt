@@ -8,7 +8,7 @@ ghost use Rattle.bean_parser.specs.declared.scope.PlacedBound as placed;
 
 use crate::block::fault_at;
 use crate::matches::Opens;
-use bean_base::{Fault, FaultKind, List};
+use bean_base::{Fault, FaultKind, Few};
 use bean_grammar::{Entry, Mark};
 use bean_heads::directive::{Directive, DirectiveKind};
 use bean_heads::undated::{Bound, Pushed};
@@ -72,41 +72,55 @@ pub(crate) fn add_unmatched<'a>(
 }
 
 /// Gives a tag to a transaction.
-fn give_tag<'a>(tag: &Tag<'a>, kind: &mut DirectiveKind<'a>) -> Result<(), AllocError>
+fn give_tag<'a>(
+    alloc: Global,
+    tag: &Tag<'a>,
+    kind: &mut DirectiveKind<'a>,
+) -> Result<(), AllocError>
     ensures { OnOk result (kind.new ≡ spec.with_tag tag.now kind.old) }
 {
     match kind {
-        DirectiveKind::Transaction(transaction) => transaction.marks.push(Mark::Tag(tag.lend())),
+        DirectiveKind::Transaction(transaction) => {
+            transaction.marks.push(alloc, Mark::Tag(tag.lend()))
+        }
         _ => Ok(()),
     }
 }
 
 /// Gives an entry to a transaction.
 fn give_entry<'a>(
+    alloc: Global,
     entry: &Entry<'a>,
     kind: &DirectiveKind<'a>,
-    entries: &mut List<Entry<'a>>,
+    entries: &mut Few<Entry<'a>>,
 ) -> Result<(), AllocError>
     ensures { OnOk result (entries.new ≡ spec.entries_with kind.now entries.old entry.now) }
 {
     match kind {
-        DirectiveKind::Transaction(_) => entries.push(entry.lend()),
+        DirectiveKind::Transaction(_) => entries.push(alloc, entry.lend()),
         _ => Ok(()),
     }
 }
 
 /// Gives what is pushed to a transaction.
-fn give<'a>(pushed: &Pushed<'a>, directive: &mut Directive<'a>) -> Result<(), AllocError>
+fn give<'a>(
+    alloc: Global,
+    pushed: &Pushed<'a>,
+    directive: &mut Directive<'a>,
+) -> Result<(), AllocError>
     ensures { OnOk result (directive.new ≡ spec.with_pushed pushed.now directive.old) }
 {
     match pushed {
-        Pushed::Tag(tag) => give_tag(tag, &mut directive.kind),
-        Pushed::Entry(entry) => give_entry(entry, &directive.kind, &mut directive.metadata),
+        Pushed::Tag(tag) => give_tag(alloc, tag, &mut directive.kind),
+        Pushed::Entry(entry) => {
+            give_entry(alloc, entry, &directive.kind, &mut directive.metadata)
+        }
     }
 }
 
 /// Gives what is pushed to the transactions from one place up to another.
 fn give_between<'a>(
+    alloc: Global,
     pushed: &Pushed<'a>,
     from: usize,
     to: usize,
@@ -117,7 +131,7 @@ fn give_between<'a>(
 {
     let mut i = from;
     while i < to && i < directives.len() {
-        give(pushed, &mut directives[i])?;
+        give(alloc, pushed, &mut directives[i])?;
         i += 1;
     }
     Ok(())
@@ -125,6 +139,7 @@ fn give_between<'a>(
 
 /// Gives what a push gives up to its pop.
 fn give_up_to<'a>(
+    alloc: Global,
     bound: &PlacedBound<'a>,
     pop: Option<usize>,
     directives: &mut Vec<Directive<'a>>,
@@ -134,13 +149,14 @@ fn give_up_to<'a>(
         ≡ spec.given_by bound.now bound.now.bound behind directives.old.items) }
 {
     match (&bound.bound, pop) {
-        (Bound::Push(pushed), Some(to)) => give_between(pushed, bound.place, to, directives),
+        (Bound::Push(pushed), Some(to)) => give_between(alloc, pushed, bound.place, to, directives),
         (_, _) => Ok(()),
     }
 }
 
 /// Gives what each push gives, the later ones first.
 pub(crate) fn give_all<'a>(
+    alloc: Global,
     bounds: &[PlacedBound<'a>],
     pops: &[Option<usize>],
     directives: &mut Vec<Directive<'a>>,
@@ -152,7 +168,7 @@ pub(crate) fn give_all<'a>(
     let mut i = bounds.len();
     while i > 0 {
         i -= 1;
-        give_up_to(&bounds[i], pops[i], directives)?;
+        give_up_to(alloc, &bounds[i], pops[i], directives)?;
     }
     Ok(())
 }

@@ -9,7 +9,7 @@ ghost use Rattle.bean_parser.specs.Reading.{ReadsLines, ReadsLine};
 ghost use Rattle.bean_parser.specs.Under as rule;
 
 use crate::part::{Part, first_line, first_part};
-use bean_base::List;
+use bean_base::{Few, List};
 use bean_grammar::entry::entry;
 use bean_grammar::front::{after_key, after_link, after_tag, next};
 use bean_grammar::mark::line_of_marks;
@@ -30,7 +30,7 @@ pub enum LineKind<'a> {
 #[derive(Debug, Drop)]
 pub struct Body<'a> {
     /// The entries above all postings.
-    pub metadata: List<Entry<'a>>,
+    pub metadata: Few<Entry<'a>>,
     pub marks: List<Mark<'a>>,
     /// The postings but the last.
     pub before: List<Posting<'a>>,
@@ -115,7 +115,7 @@ impl<'a> Body<'a> {
         ensures { IfOk result (λ body. body ≡ rule.no_lines) }
     {
         Ok(Body {
-            metadata: List::new(Vec::new(alloc)),
+            metadata: Few::new(),
             marks: List::new(Vec::new(alloc)),
             before: List::new(Vec::with_capacity(alloc, postings)?),
             last: None,
@@ -128,8 +128,8 @@ impl<'a> Body<'a> {
         ensures { OnOk result (self.new ≡ rule.with_entry self.old self.old.last entry.entry) }
     {
         match &mut self.last {
-            Some(posting) => posting.metadata.push(alloc, entry),
-            None => self.metadata.push(entry),
+            Some(posting) => posting.extras.push(alloc, entry),
+            None => self.metadata.push(alloc, entry),
         }
     }
 

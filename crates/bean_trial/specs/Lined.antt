@@ -142,10 +142,14 @@ IsInBraces m rest head parts account units i n r =
 
 -- ---- posting by posting
 
+abbrev pub without_lot : List ℕ → amounts.Amount → ℕ → Line
+without_lot account units i =
+    line.Posted record { account = account; units = units; lot = None; written = i }
+
 abbrev pub IsLinedByCost : Method → List Position → Head → List ℕ → amounts.Amount → costs.Cost
     → ℕ → ℕ → Result (List Line) LineFault → Type 0
 IsLinedByCost m rest head account units cost_kind.Absent i n r =
-    r ≡ Ok (line.Posted record { account = account; units = units; lot = None; written = i } ∷ [])
+    r ≡ Ok (without_lot account units i ∷ [])
 IsLinedByCost m rest head account units (cost_kind.Lot parts) i n r =
     IsInBraces m rest head parts account units i n r
 IsLinedByCost m rest head account units cost_kind.OutsideProfile i n r = ⊥
@@ -165,7 +169,7 @@ abbrev pub IsNext : Setting → List Line → ℕ → postings.Posting → Resul
     → Type 0
 IsNext s ls i p r =
     IsLinedByUnits (s.method_of p.account) (left p.account s.before ls) s.head p.account p.units
-    p.cost i p.line r
+    p.extras.cost i p.line r
 
 -- the lines of postings, the latest of which stands first
 abbrev pub AreLined : Setting → List postings.Posting → List Line → Type 0

@@ -6,26 +6,29 @@ ghost use Rattle.bean_trial.specs.Tried.{whole_at};
 
 use crate::line::{Line, Posted};
 use bean_base::{Apart, Num};
-use bean_grammar::{Posting, Price, Units};
+use bean_grammar::{Extras, Posting, Price, Units};
 use bean_interp::{Leg, Whole, Worth};
 use bean_lots::Lot;
 use std::alloc::{AllocError, Global};
 
 /// What units are worth: a cost goes before a price.
-fn worth_of<'a>(lot: &Option<Apart<Lot<'a>>>, price: &Price<'a>) -> Worth<'a>
-    ensures { result ≡ spec.worth_of lot.now price.now }
+fn worth_of<'a>(lot: &Option<Apart<Lot<'a>>>, extras: &Extras<'a>) -> Worth<'a>
+    ensures { result ≡ spec.worth_of lot.now extras.now.price }
 {
     match lot {
         Some(lot) => Worth::Cost(lot.get().cost.lend()),
-        None => worth_by(price),
+        None => worth_by(extras),
     }
 }
 
 /// What units without a cost are worth.
-fn worth_by<'a>(price: &Price<'a>) -> Worth<'a>
-    ensures { result ≡ spec.worth_of prelude.None price.now }
+fn worth_by<'a>(extras: &Extras<'a>) -> Worth<'a>
+    ensures { result ≡ spec.worth_of prelude.None extras.now.price }
 {
-    match price {
+    let Some(parts) = extras.get() else {
+        return Worth::Units;
+    };
+    match &parts.price {
         Price::Absent | Price::OutsideProfile => Worth::Units,
         Price::PerUnit(amount) => Worth::PerUnit(amount.get().lend()),
         Price::Total(amount) => Worth::Total(amount.get().lend()),
@@ -64,10 +67,10 @@ pub fn whole<'a>(postings: &[Posting<'a>], posted: &Posted<'a>) -> Whole<'a>
     match postings.get(posted.written) {
         Some(written) => whole_of(
             number_in(&written.units),
-            worth_of(&posted.lot, &written.price),
+            worth_of(&posted.lot, &written.extras),
             posted,
         ),
-        None => whole_of(None, worth_of(&posted.lot, &Price::Absent), posted),
+        None => whole_of(None, worth_of(&posted.lot, &Extras::none()), posted),
     }
 }
 

@@ -1,5 +1,5 @@
 //! What comes of a posting.
-ghost use Rattle.std.specs.Prelude.{◌≡◌, ◌≢◌, false, ℕ, List, Err, IfOk, map};
+ghost use Rattle.std.specs.Prelude.{◌≡◌, ◌≢◌, ◌∷◌, [], false, ℕ, List, Err, IfOk, map};
 ghost use Rattle.bean_grammar.specs.Posting.{is_outside_profile};
 ghost use Rattle.bean_lots.specs.Reduction.{Reduces};
 ghost use Rattle.bean_lots.specs.Take.{take_counts};
@@ -9,7 +9,7 @@ ghost use Rattle.bean_trial.specs.Lined as spec;
 ghost use Rattle.bean_trial.specs.Lined.{IsAugmented, IsInBraces, IsLinedByCost, IsLinedByUnits};
 ghost use Rattle.bean_trial.specs.Lined.{AreTakeLines, IsLotOf, IsReduced, IsSelector};
 ghost use Rattle.bean_trial.specs.Lined.{IsReducedBy, IsTakeLine};
-ghost use Rattle.bean_trial.specs.Outcome.{ComesOf, StopsWith};
+ghost use Rattle.bean_trial.specs.Outcome.{ComesOf, StopsWith, lines_of};
 ghost use Rattle.bean_trial.specs.Stock.{IsSmallStock, rest_of};
 
 use crate::line::{Line, Posted};
@@ -227,6 +227,18 @@ fn in_braces<'a>(
     }
 }
 
+/// What comes of units without a cost.
+fn without_lot<'a>(index: usize, posting: &Posting<'a>, units: &Amount<'a>) -> Outcome<'a>
+    ensures { lines_of result ≡ spec.without_lot posting.now.account units.now index ∷ [] }
+{
+    Outcome::Line(Line::Posted(Posted {
+        account: posting.account.lend(),
+        units: units.lend(),
+        lot: None,
+        written: index,
+    }))
+}
+
 /// What comes of units.
 fn outcome_by_cost<'a>(
     alloc: Global,
@@ -239,16 +251,14 @@ fn outcome_by_cost<'a>(
     requires small { IsSmallStock stock }
     requires inside { is_outside_profile posting.now ≡ false }
     ensures { ComesOf (IsLinedByCost stock.entry.method (rest_of stock.entry) head
-        posting.now.account units.now posting.now.cost index posting.now.line) result }
+        posting.now.account units.now posting.now.extras.cost index posting.now.line) result }
 {
-    match &posting.cost {
-        Cost::Absent => Ok(Outcome::Line(Line::Posted(Posted {
-            account: posting.account.lend(),
-            units: units.lend(),
-            lot: None,
-            written: index,
-        }))),
-        Cost::Lot(parts) => in_braces(alloc, stock, head, index, posting, units, parts.get()),
+    let Some(parts) = posting.extras.get() else {
+        return Ok(without_lot(index, posting, units));
+    };
+    match &parts.cost {
+        Cost::Absent => Ok(without_lot(index, posting, units)),
+        Cost::Lot(lot) => in_braces(alloc, stock, head, index, posting, units, lot.get()),
         Cost::OutsideProfile => unreachable!(),
     }
 }
@@ -264,7 +274,7 @@ pub(crate) fn outcome_of<'a>(
     requires small { IsSmallStock stock }
     requires inside { is_outside_profile posting.now ≡ false }
     ensures { ComesOf (IsLinedByUnits stock.entry.method (rest_of stock.entry) head
-        posting.now.account posting.now.units posting.now.cost index posting.now.line) result }
+        posting.now.account posting.now.units posting.now.extras.cost index posting.now.line) result }
 {
     match &posting.units {
         Units::Missing => Ok(Outcome::Line(Line::MissingAmount(posting.account.lend(), index))),

@@ -23,7 +23,7 @@ use Rattle.bql_lexer.specs.Token.{has_decimals, whole_len, number_len, begins_wi
 use Rattle.bql_lexer.specs.Token.{day_or_number, fault, is_closed, quoted, text_or_fault, sign_of}
 use Rattle.bql_lexer.specs.Token.{sign_of_two, sign_of_front, cut, cut_or_fault, sign_by}
 use Rattle.bql_lexer.specs.Token.{sign_or_fault, token_by, token_at}
-use Rattle.bean_base.proofs.RunFacts.{run_boundary, front_boundary}
+use Rattle.byte_runs.proofs.RunFacts.{run_boundary, front_boundary}
 
 pub white_is_ascii : (b : ℕ) → is_white b ≡ true → b < 128
 white_is_ascii b h = grind (arith, nat_tests)

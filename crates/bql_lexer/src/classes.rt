@@ -1,7 +1,7 @@
 //! The classes of bytes that tokens are made of.
 ghost use Rattle.bql_lexer.specs.Token.{is_white, is_in_word};
 
-use bean_base::bytes::ByteClass;
+use byte_runs::ByteClass;
 
 /// What stands between tokens.
 pub struct White;

@@ -10,7 +10,7 @@ ghost use Rattle.bql_lexer.specs.Token as spec;
 
 use crate::classes::InWord;
 use crate::kind::Kind;
-use bean_base::bytes::{Digit, end_of_run};
+use byte_runs::{Digit, end_of_run};
 use bean_base::days::Day;
 use bean_base::slice::Slice;
 

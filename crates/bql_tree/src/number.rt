@@ -5,7 +5,7 @@ ghost use Rattle.bql_tree.specs.Number as rule;
 
 use crate::tree::Leaf;
 use bean_base::Slice;
-use bean_base::bytes::{ByteClass, end_of_run};
+use byte_runs::{ByteClass, end_of_run};
 use query_values::Decimal;
 
 /// The zeros in front of a number.

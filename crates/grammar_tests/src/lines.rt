@@ -44,24 +44,25 @@ fn judged(alloc: Global, text: &str) -> Result<Verdict, AllocError> {
 fn a_posting_with_all_its_parts(rt: HostRuntime) -> Result<(), Fail> {
     let text = "! Assets:Inv  1 + 2 X {2014-01-02, \"a\", 2.50 * 2 USD} @@ 7 EUR";
     let posting = posting_of(rt.alloc(), text)?;
-    assert_eq!(rt; posting.flag, Some(Flag::Incomplete));
+    assert_eq!(rt; posting.extras.flag(), Some(Flag::Incomplete));
     assert!(rt; posting.account.text() == "Assets:Inv");
     assert_eq!(rt; posting.line, 3);
-    assert!(rt; posting.metadata.as_slice().is_empty());
+    assert!(rt; posting.extras.metadata().is_empty());
     assert!(rt; !posting.is_outside_profile());
     let Units::Amount(units) = &posting.units else {
         return Err("an amount".into());
     };
     assert_eq!(rt; units.number.count, 3);
     assert!(rt; units.currency.text() == "X");
-    let Cost::Lot(lot) = &posting.cost else {
+    let parts = posting.extras.get().ok_or("extras")?;
+    let Cost::Lot(lot) = &parts.cost else {
         return Err("a lot".into());
     };
     let lot = lot.get();
     assert_eq!(rt; lot.day.ok_or("a day")?.day(), 2);
     assert!(rt; lot.label.as_ref().ok_or("a label")?.plain() == Some("a"));
     assert_eq!(rt; lot.amount.as_ref().ok_or("an amount")?.number.count, 500);
-    let Price::Total(price) = &posting.price else {
+    let Price::Total(price) = &parts.price else {
         return Err("a total".into());
     };
     assert_eq!(rt; price.get().number.count, 7);
@@ -71,10 +72,9 @@ fn a_posting_with_all_its_parts(rt: HostRuntime) -> Result<(), Fail> {
 #[test]
 fn a_posting_of_an_account_alone(rt: HostRuntime) -> Result<(), Fail> {
     let bare = posting_of(rt.alloc(), "Assets:Cash")?;
-    assert_eq!(rt; bare.flag, None);
     assert!(rt; matches!(bare.units, Units::Missing));
-    assert!(rt; matches!(bare.cost, Cost::Absent));
-    assert!(rt; matches!(bare.price, Price::Absent));
+    assert_eq!(rt; bare.extras.flag(), None);
+    assert!(rt; bare.extras.get().is_none());
     Ok(())
 }
 
@@ -83,9 +83,11 @@ fn postings_with_some_of_their_parts(rt: HostRuntime) -> Result<(), Fail> {
     let alone = posting_of(rt.alloc(), "  * Assets:Cash USD")?;
     assert!(rt; matches!(alone.units, Units::Currency(_)));
     let empty = posting_of(rt.alloc(), "Assets:Inv -2 X {}")?;
-    assert!(rt; matches!(empty.cost, Cost::Lot(_)));
+    let parts = empty.extras.get().ok_or("extras")?;
+    assert!(rt; matches!(parts.cost, Cost::Lot(_)));
     let priced = posting_of(rt.alloc(), "Assets:Inv 2 X @ -1 USD")?;
-    assert!(rt; matches!(priced.price, Price::PerUnit(_)));
+    let parts = priced.extras.get().ok_or("extras")?;
+    assert!(rt; matches!(parts.price, Price::PerUnit(_)));
     Ok(())
 }
 

@@ -26,6 +26,7 @@ use Rattle.bean_grammar.specs.Cost.{cost_or_absent, cost_if_due}
 use Rattle.bean_grammar.specs.CostPart.{number_part_of, compound_if_due, itself, number_part, merge}
 use Rattle.bean_grammar.specs.CostPart.{part, no_parts, placed, put, put_first, another_part}
 use Rattle.bean_grammar.specs.CostPart.{row_of_parts, cost_parts}
+use Rattle.bean_grammar.specs.Extras.{on_line}
 use Rattle.bean_grammar.specs.Lexeme.{Account, Sign, begins_with_sign}
 use Rattle.bean_grammar.specs.Literal.{day, text}
 use Rattle.bean_grammar.specs.Posting.{flag_sign, begins_with_flag_sign, flag_if_due, units_by}
@@ -245,13 +246,10 @@ abbrev the_posting : ℕ → Option flags.Flag → List ℕ → units_declared.U
     → prices.Price → postings.Posting
 the_posting line flag account u c p =
     record {
-      flag = flag;
       account = account;
       units = u;
-      cost = c;
-      price = p;
+      extras = on_line flag c p;
       line = line;
-      metadata = [];
     }
 
 posting_small : (line : ℕ) (flag : Option flags.Flag) (account : List ℕ)

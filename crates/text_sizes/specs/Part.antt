@@ -66,6 +66,6 @@ pub record IsSmallPosting (p : Posting) : Type 0 where
   pub line : p.line ≤ most
   pub account : IsShort p.account
   pub units : AreShortUnits p.units
-  pub cost : IsShortCost p.cost
-  pub price : IsShortPrice p.price
-  pub metadata : AllByRecursion IsShortEntry p.metadata
+  pub cost : IsShortCost p.extras.cost
+  pub price : IsShortPrice p.extras.price
+  pub metadata : AllByRecursion IsShortEntry p.extras.metadata

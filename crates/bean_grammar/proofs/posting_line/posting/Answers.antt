@@ -28,6 +28,6 @@ returns c =
     let cost =
     reads_with_cost c.args.line _ _ _ _ _ _ _ (c.in-Some.ensures c.args.line)
     (when_some _ _ _ _ c.in-Some-2.is c.in_ok-found.ensures) in
-    rw c.posting_of.ensures
+    rw c.in_ok-posting-in-None.ensures
     (posting_is _ _ _ _ _ _ _ _ _ cost
     (when_some _ _ _ _ c.in-Some-3.is c.in_ok-found-2.ensures) c.in-None.ensures.front)

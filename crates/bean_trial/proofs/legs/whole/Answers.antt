@@ -12,7 +12,7 @@ returns-in-Some c =
     slice_get-get_or c.args.postings.now p.written w c.in-Some.ensures.lookup.3.0
     ∙ ap Some (sym c.in-Some.ensures.lookup.1) in
     subst (λ o. c.whole_of.result ≡ whole_at o p) (sym at)
-    (whole_by c.whole_of.result c.number_in.result (number_in w.units) w.price p c.number_in.ensures
+    (whole_by c.whole_of.result c.number_in.result (number_in w.units) w.extras.price p c.number_in.ensures
     c.whole_of.ensures.units c.whole_of.ensures.decimals
     (c.whole_of.ensures.worth ∙ c.worth_of.ensures))
 

@@ -1,7 +1,7 @@
 use Rattle.std.proofs.Common.{ap, ◌∙◌, ◌+◌, drop}
 use Rattle.std.specs.List.{prefix_len}
 use Rattle.bql_lexer.specs.Token.{is_white}
-use Rattle.bean_base.proofs.RunFacts.{front_boundary}
+use Rattle.byte_runs.proofs.RunFacts.{front_boundary}
 use Rattle.bql_lexer.proofs.TokenFacts.{white_is_ascii}
 use Rattle.bql_lexer.proofs.token.behind_white.Goals as goal
 

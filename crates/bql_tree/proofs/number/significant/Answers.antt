@@ -1,6 +1,6 @@
 use Rattle.std.proofs.Common.{ap, ◌∙◌, ◌+◌, drop}
 use Rattle.std.specs.List.{prefix_len}
-use Rattle.bean_base.proofs.RunFacts.{front_boundary}
+use Rattle.byte_runs.proofs.RunFacts.{front_boundary}
 use Rattle.bql_tree.specs.Number.{is_zero}
 use Rattle.bql_tree.proofs.NumberFacts.{zero_is_ascii}
 use Rattle.bql_tree.proofs.number.significant.Goals as goal

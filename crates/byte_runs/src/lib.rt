@@ -1,4 +1,13 @@
 //! Classes of bytes, the runs of a class, and what stands at a front: the tools of a lexer.
+//!
+//! ```text
+//! end_of_run::<Digit>(b"2014-01-02", 0)   // 4
+//! has_front(b"{{1 USD}}", b"{{")          // true
+//! ```
+//!
+//! Nothing takes memory, and a run is looked at once.
+#![tactic(auto)]
+
 ghost use Rattle.std.specs.Prelude.{◌≡◌, ℕ, Bool, ◌+◌, ◌<◌, ◌≤◌, nat_eq, length, drop};
 ghost use Rattle.std.specs.List.{prefix_len, starts_with};
 ghost use Rattle.std.specs.Char.{is_ascii_digit};
