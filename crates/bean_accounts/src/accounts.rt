@@ -1,5 +1,5 @@
 //! Accounts, as far as opens and closes came.
-ghost use Rattle.std.specs.Prelude.{◌≡◌, ◌∷◌, ◌++◌, [], OnOk, None, if◌then◌else◌};
+ghost use Rattle.std.specs.Prelude.{◌≡◌, ◌∷◌, ◌++◌, [], OnOk, None, if◌then◌else◌, not};
 ghost use Rattle.std.specs.Prelude as prelude;
 ghost use Rattle.std.specs.Str.{bytes_eq};
 ghost use Rattle.std.specs.Option.{option_map};
@@ -52,6 +52,26 @@ fn note_if(
         faults.push(at.fault(kind))?;
     }
     Ok(())
+}
+
+/// Adds the faults of a posting on an account of which this is known: F7, F8.
+fn note_life(
+    life: &Life<'_>,
+    currency: &Currency<'_>,
+    at: Place,
+    faults: &mut Vec<Fault>,
+) -> Result<(), AllocError>
+    ensures { OnOk result (faults.new.items ≡ faults.old.items
+        ++ faults_at at (spec.kind_if life.now.is_closed FaultKind.AccountClosed
+        ++ spec.kind_if (not (lives.allows life.now currency.now)) FaultKind.CurrencyNotAllowed)) }
+{
+    note_if(life.is_closed, FaultKind::AccountClosed, at, faults)?;
+    note_if(
+        !life.allows(currency),
+        FaultKind::CurrencyNotAllowed,
+        at,
+        faults,
+    )
 }
 
 /// The accounts that were opened.
@@ -129,16 +149,6 @@ impl<'a> Accounts<'a> {
         }
     }
 
-    /// Whether an account may hold a currency.
-    fn allows(&self, account: &Account<'_>, currency: &Currency<'_>) -> bool
-        ensures { result ≡ lives.may_hold (life_in self.now account.now) currency.now }
-    {
-        match self.lives.get(account) {
-            Some(life) => life.allows(currency),
-            None => true,
-        }
-    }
-
     /// Adds the faults of a posting: F6, F7, F8.
     pub fn note_posting(
         &self,
@@ -151,24 +161,10 @@ impl<'a> Accounts<'a> {
             → OnOk result (faults.new.items ≡ faults.old.items
             ++ faults_at at (spec.of_posting account.now currency.now past)) }
     {
-        note_if(
-            !self.is_opened(account),
-            FaultKind::AccountNotOpen,
-            at,
-            faults,
-        )?;
-        note_if(
-            self.is_closed(account),
-            FaultKind::AccountClosed,
-            at,
-            faults,
-        )?;
-        note_if(
-            !self.allows(account, currency),
-            FaultKind::CurrencyNotAllowed,
-            at,
-            faults,
-        )
+        match self.lives.get(account) {
+            Some(life) => note_life(life, currency, at, faults),
+            None => note_if(true, FaultKind::AccountNotOpen, at, faults),
+        }
     }
 
     /// Adds the fault of what wants an account to be opened: F6.

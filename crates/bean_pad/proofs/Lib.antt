@@ -6,3 +6,4 @@ pub mod NotedFacts
 pub mod OutcomeFacts
 pub mod InsertedFacts
 pub mod WaitingFacts
+pub mod SlotFacts

@@ -1,5 +1,5 @@
 -- The padding of a difference.
-use Rattle.std.proofs.Common.{◌≡◌, ◌<◌, ◌^◌, ℤ, Bool, true, false, arith, ap, refl}
+use Rattle.std.proofs.Common.{◌≡◌, ℤ, Bool, true, false, arith, ap, refl}
 use Rattle.std.proofs.lemmas.Grind.{common_steps}
 use Rattle.bean_base.proofs.NumFacts.{one_num}
 use Rattle.bean_base.specs.Decimal.{IsLedger}

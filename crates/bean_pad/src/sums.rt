@@ -51,8 +51,12 @@ impl<'a> Table<'a> {
             ≡ (if bytes_eq account.now a && bytes_eq currency.now c
             then entry_at self.old a c +ℤ count else entry_at self.old a c)) }
     {
-        let sum = self.get(account, currency) + count;
-        self.by_slot.insert(Slot::new(account, currency), sum)?;
+        let slot = Slot::new(account, currency);
+        let Some(index) = self.by_slot.get_index_of(&slot) else {
+            self.by_slot.insert(slot, count)?;
+            return Ok(());
+        };
+        self.by_slot[index] += count;
         Ok(())
     }
 

@@ -56,18 +56,17 @@ either true n es k c s h =
     (n * 10 ^ 20) (10 ^ 20) es k c (omega (arith, s)) h)
 either false n es k c s h = more (n * 10 ^ 20) ((n + 1) * 10 ^ 20) es (omega arith) h
 
--- an addition to an inventory that was taken out and put back
-pub added_at : (f g h : List ℕ
-    → List Position) (name a : List ℕ) (taken put : List Position) (k : Key) (c d : ℤ)
-    → taken ≡ f name → ((a : List ℕ) → bytes_eq name a ≡ false → g a ≡ f a) → put
-    ≡ added taken k d → d ≡ c → h a ≡ cond (bytes_eq name a) put (g a)
-    → h a ≡ cond (bytes_eq name a) (added (f a) k c) (f a)
-added_at f g h name a taken put k c d t o p e i = i ∙ by (bytes_eq name a) refl
+-- an addition to the inventory of one account, where the others stay
+pub added_at : (f : List ℕ → List Position) (name a : List ℕ) (own new now : List Position) (k : Key)
+    (c d : ℤ) → own ≡ f name → new ≡ added own k d → d ≡ c
+    → now ≡ cond (bytes_eq name a) new (f a)
+    → now ≡ cond (bytes_eq name a) (added (f a) k c) (f a)
+added_at f name a own new now k c d o p e i = i ∙ by (bytes_eq name a) refl
   where
-    by : (b : Bool) → bytes_eq name a ≡ b → cond b put (g a) ≡ cond b (added (f a) k c) (f a)
-    by true s = p ∙ ap (λ n. added taken k n) e ∙ ap (λ es. added es k c) (t
+    by : (b : Bool) → bytes_eq name a ≡ b → cond b new (f a) ≡ cond b (added (f a) k c) (f a)
+    by true s = p ∙ ap (λ n. added own k n) e ∙ ap (λ es. added es k c) (o
         ∙ ap f ((bytes_eq-Decides name a).0 s))
-    by false s = o a s
+    by false s = refl
 
 pub bounded_small : (h : Holdings) (a : List ℕ) → IsBounded h → h.additions ≤ 2 ^ 40
     → AreSmall (2 ^ 125) (holding h a)

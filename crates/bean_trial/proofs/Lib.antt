@@ -1,4 +1,5 @@
 pub mod BoundFacts
+pub mod InPlace
 pub mod OutcomeFacts
 pub mod HeldFacts
 pub mod LinedFacts

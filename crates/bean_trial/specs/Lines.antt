@@ -1,5 +1,7 @@
 -- What the program keeps of a transaction's lines, and of its setting.
-use Rattle.std.specs.Prelude.{◌≡◌, ◌≤◌, ◌^◌, ℕ, List, ◌++◌, Result, Ok}
+use Rattle.std.specs.Prelude.{◌≡◌, ◌≤◌, ◌^◌, ℕ, Bool, true, false, List, ◌++◌, Result, Ok}
+use Rattle.bean_grammar.specs.declared.cost.Cost.{Cost}
+use Rattle.bean_grammar.specs.declared.cost.Cost.TheVariants as cost
 use Rattle.bean_trial.specs.Held.{takes_in}
 use Rattle.bean_trial.specs.Holdings.{AreHeld, IsBounded, additions_in}
 use Rattle.bean_trial.specs.Lined.{Setting}
@@ -26,3 +28,9 @@ pub record IsSettled (s : Setting) (h : Holdings) (ms : Methods) (head : Head) :
   pub held : AreHeld s.before h
   pub methods : (a : List ℕ) → s.method_of a ≡ method_in ms a
   pub head_is : s.head ≡ head
+
+-- a cost in braces
+abbrev pub is_lot : Cost → Bool
+is_lot cost.Absent = false
+is_lot (cost.Lot parts) = true
+is_lot cost.OutsideProfile = false

@@ -48,19 +48,8 @@ impl<'a> Holdings<'a> {
         self.inventories.get(account).unwrap_or(nothing)
     }
 
-    fn take_out(&mut self, alloc: Global, account: &Account<'a>) -> Inventory<'a>
-        ensures taken { result ≡ holding self.old account.now }
-        ensures others { (a : List ℕ) → bytes_eq account.now a ≡ false
-            → holding self.new a ≡ holding self.old a }
-        ensures additions { self.new.additions ≡ self.old.additions }
-    {
-        match self.inventories.swap_remove(account) {
-            Some(inventory) => inventory,
-            None => Inventory::new(alloc),
-        }
-    }
-
-    fn put_back(&mut self, account: Account<'a>, inventory: Inventory<'a>) -> Result<(), AllocError>
+    /// Puts an inventory in place of what an account holds.
+    fn put(&mut self, account: Account<'a>, inventory: Inventory<'a>) -> Result<(), AllocError>
         ensures put { OnOk result ((a : List ℕ) → holding self.new a
             ≡ (if bytes_eq account.entry a then inventory.entry else holding self.old a)) }
         ensures additions { self.new.additions ≡ self.old.additions }
@@ -71,7 +60,6 @@ impl<'a> Holdings<'a> {
         }
     }
 
-    #[tactic(auto, using(crate::proofs::BoundFacts::added_at))]
     fn add_to(
         &mut self,
         alloc: Global,
@@ -87,9 +75,12 @@ impl<'a> Holdings<'a> {
             else holding self.old a)) }
         ensures additions { self.new.additions ≡ self.old.additions }
     {
-        let mut inventory = self.take_out(alloc, &account);
-        inventory.add(key, count)?;
-        self.put_back(account, inventory)
+        let Some(index) = self.inventories.get_index_of(&account) else {
+            let mut inventory = Inventory::new(alloc);
+            inventory.add(key, count)?;
+            return self.put(account, inventory);
+        };
+        self.inventories[index].add(key, count)
     }
 
     /// Adds to what an account holds.

@@ -6,7 +6,7 @@ ghost use Rattle.bean_grammar.specs.Posting.{is_outside_profile};
 ghost use Rattle.bean_trial.specs.Held.{takes_in};
 ghost use Rattle.bean_trial.specs.Holdings.{AreHeld, IsBounded, additions_in};
 ghost use Rattle.bean_trial.specs.Lined.{AreLined, IsFirstFault, IsNext, Setting};
-ghost use Rattle.bean_trial.specs.Lines.{Adds, IsKeeping, IsSettled};
+ghost use Rattle.bean_trial.specs.Lines.{Adds, IsKeeping, IsSettled, is_lot};
 ghost use Rattle.bean_trial.specs.Outcome as spec;
 ghost use Rattle.bean_trial.specs.Outcome.{ComesOf, StopsAt, StopsWith};
 ghost use Rattle.bean_trial.specs.declared.line.Line.{Line};
@@ -19,7 +19,7 @@ use crate::outcome::{Outcome, outcome_of};
 use crate::setting::Head;
 use crate::stock::Stock;
 use crate::stop::Stop;
-use bean_grammar::Posting;
+use bean_grammar::{Cost, Posting};
 use bean_lots::Inventory;
 use std::alloc::{AllocError, Global};
 
@@ -64,6 +64,14 @@ fn note<'a>(alloc: Global, taken: &mut Holdings<'a>, line: &Line<'a>) -> Result<
         Line::Take(take) => post_take(alloc, taken, take),
         _ => Ok(()),
     }
+}
+
+/// Whether a posting has a cost in braces. What comes of any other doesn't depend on what its
+/// account holds, which isn't looked up then.
+fn is_in_braces(posting: &Posting<'_>) -> bool
+    ensures { result ≡ is_lot posting.now.cost }
+{
+    matches!(posting.cost, Cost::Lot(_))
 }
 
 impl<'a> Lines<'a> {
@@ -144,6 +152,10 @@ impl<'a> Lines<'a> {
             → ComesOf (IsNext s self.now.lines.items index posting.now) result }
     {
         let nothing = Inventory::new(alloc);
+        if !is_in_braces(posting) {
+            let stock = Stock::of_nothing(&nothing);
+            return outcome_of(alloc, stock, head, index, posting);
+        }
         let stock = Stock {
             method: methods.of(&posting.account),
             held: holdings.of(&posting.account, &nothing),

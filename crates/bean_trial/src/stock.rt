@@ -1,4 +1,5 @@
 //! What a posting meets in its account.
+ghost use Rattle.std.specs.Prelude.{◌≡◌};
 
 use bean_lots::{Inventory, Method};
 
@@ -9,4 +10,18 @@ pub(crate) struct Stock<'s, 'a> {
     pub method: Method,
     pub held: &'s Inventory<'a>,
     pub taken: &'s Inventory<'a>,
+}
+
+impl<'s, 'a> Stock<'s, 'a> {
+    /// An account with nothing in it, of which `nothing` is the inventory.
+    pub fn of_nothing(nothing: &'s Inventory<'a>) -> Stock<'s, 'a>
+        ensures held { result.held.now ≡ nothing.now }
+        ensures taken { result.taken.now ≡ nothing.now }
+    {
+        Stock {
+            method: Method::None,
+            held: nothing,
+            taken: nothing,
+        }
+    }
 }

@@ -1,10 +1,14 @@
-use Rattle.std.proofs.Common.{◌≡◌, ◌+ℤ◌, ◌&&◌, ℤ, pos, ℕ, List, Bool, true, false, cond, refl, ap}
-use Rattle.std.proofs.Common.{◌∙◌, Option, Some, unwrap_or, arith, to_z, of_z}
+use Rattle.std.proofs.Common.{◌≡◌, ◌<◌, ◌^◌, ◌+ℤ◌, ◌&&◌, ℤ, pos, ℕ, List, Bool, true, false, cond, refl, ap}
+use Rattle.std.proofs.Common.{◌∙◌, sym, subst, Option, Some, None, unwrap_or, arith, to_z, of_z}
 use Rattle.std.specs.Int.{w128}
+use Rattle.std.specs.Int.RustNames.{unsigned_abs}
+use Rattle.std.specs.Option.{is_some}
 use Rattle.std.specs.Str.{bytes_eq}
 use Rattle.std.proofs.lemmas.Int.{ints}
 use Rattle.std.proofs.lemmas.Slice.Eq.{bytes_eq-Decides}
 use Rattle.bean_pad.specs.Sums.{entry_at}
+use Rattle.bean_pad.specs.declared.slot.Slot.{Slot}
+use Rattle.bean_pad.proofs.SlotFacts.{written}
 use Rattle.bean_pad.proofs.sums.Table.add_at.Goals as goal
 
 chosen : (a b : Bool) (f : List ℕ → List ℕ → ℤ) (x y v w : List ℕ) (n sum : ℤ) (before : Option ℤ)
@@ -26,14 +30,61 @@ set_or_before f k l x y v w n sum before p q s e =
     (chosen (bytes_eq x v) (bytes_eq y w) f x y v w n sum before (bytes_eq-Decides x v).0
     (bytes_eq-Decides y w).0 s e)
 
-pub returns : goal.returns
-returns c = λ a d.
-    let sum :
-    to_z w128
-    (of_z w128 (to_z w128 (of_z w128 c.get.result) +ℤ to_z w128 (of_z w128 c.args.count)))
-    ≡ entry_at c.args.self.now c.args.account.now c.args.currency.now +ℤ c.args.count =
-    grind (arith, ints, c.get.ensures) in
+nothing : (o : Option ℤ) → false ≡ is_some o → unwrap_or o (pos 0) ≡ pos 0
+nothing None h = refl
+nothing (Some n) h = cc
+
+-- what stands under the slot of an account and a currency
+at_slot : (f : Slot → ℤ) (s : Slot) (account currency : List ℕ) → s.account ≡ account
+    → s.currency ≡ currency → f (record { account = account; currency = currency }) ≡ f s
+at_slot f s account currency p q =
+    λ i. f (record { account = sym p i; currency = sym q i })
+
+pub returns-in_default : goal.returns-in_default
+returns-in_default c = λ a d.
+    let t = c.args.self.now in
+    let s = c.new-slot.result in
+    let none : entry_at t c.args.account.now c.args.currency.now ≡ pos 0 =
+    at_slot (λ s. entry_at t s.account s.currency) s _ _ c.new-slot.ensures.account
+    c.new-slot.ensures.currency
+    ∙ nothing _ c.in_default.ensures.found in
+    let sum : to_z w128 (of_z w128 c.args.count)
+    ≡ entry_at t c.args.account.now c.args.currency.now +ℤ c.args.count =
+    omega (arith, ints, none) in
     ap (λ o. unwrap_or o (pos 0))
     (c.in_ok-insert.ensures.updates.0 (record { account = a; currency = d }))
-    ∙ set_or_before (entry_at c.args.self.now) _ _ _ _ a d c.args.count _ _ c.new.ensures.account
-    c.new.ensures.currency sum refl
+    ∙ set_or_before (entry_at t) _ _ _ _ a d c.args.count _ _ c.new-slot.ensures.account
+    c.new-slot.ensures.currency sum refl
+
+pub overflow_add-index_mut : goal.overflow_add-index_mut
+overflow_add-index_mut c =
+    let t = c.args.self.now in
+    let s = c.new-slot.result in
+    let held : entry_at t c.args.account.now c.args.currency.now ≡ c.index_mut.result.now =
+    at_slot (λ s. entry_at t s.account s.currency) s _ _ c.new-slot.ensures.account
+    c.new-slot.ensures.currency
+    ∙ ap (λ o. unwrap_or o (pos 0)) (sym c.in-Some.ensures.value ∙ c.index_mut.ensures.value) in
+    let far : unsigned_abs c.index_mut.result.now < 2 ^ 126 =
+    subst (λ n. unsigned_abs n < 2 ^ 126) held c.requires.held in
+    omega (arith, ints, far, c.requires.small)
+
+pub returns : goal.returns
+returns c = λ a d.
+    let t = c.args.self.now in
+    let s = c.new-slot.result in
+    let held : entry_at t c.args.account.now c.args.currency.now ≡ c.index_mut.result.now =
+    at_slot (λ s. entry_at t s.account s.currency) s _ _ c.new-slot.ensures.account
+    c.new-slot.ensures.currency
+    ∙ ap (λ o. unwrap_or o (pos 0)) (sym c.in-Some.ensures.value ∙ c.index_mut.ensures.value) in
+    let far : unsigned_abs c.index_mut.result.now < 2 ^ 126 =
+    subst (λ n. unsigned_abs n < 2 ^ 126) held c.requires.held in
+    let sum :
+    to_z w128
+    (of_z w128 (to_z w128 (of_z w128 c.index_mut.result.now) +ℤ to_z w128 (of_z w128 c.args.count)))
+    ≡ entry_at t c.args.account.now c.args.currency.now +ℤ c.args.count =
+    omega (arith, ints, held, far, c.requires.small) in
+    ap (λ o. unwrap_or o (pos 0))
+    (written t.by_slot.entries s (record { account = a; currency = d }) c.in-Some.index _
+    (sym c.in-Some.ensures.index))
+    ∙ set_or_before (entry_at t) _ _ _ _ a d c.args.count _ _ c.new-slot.ensures.account
+    c.new-slot.ensures.currency sum refl
