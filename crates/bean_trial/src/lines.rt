@@ -69,9 +69,12 @@ fn note<'a>(alloc: Global, taken: &mut Holdings<'a>, line: &Line<'a>) -> Result<
 /// Whether a posting has a cost in braces. What comes of any other doesn't depend on what its
 /// account holds, which isn't looked up then.
 fn is_in_braces(posting: &Posting<'_>) -> bool
-    ensures { result ≡ is_lot posting.now.cost }
+    ensures { result ≡ is_lot posting.now.extras.cost }
 {
-    matches!(posting.cost, Cost::Lot(_))
+    match posting.extras.get() {
+        Some(parts) => matches!(parts.cost, Cost::Lot(_)),
+        None => false,
+    }
 }
 
 impl<'a> Lines<'a> {
