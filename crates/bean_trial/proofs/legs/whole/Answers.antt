@@ -1,6 +1,7 @@
 use Rattle.std.proofs.Common.{◌≡◌, ◌∙◌, ap, refl, sym, subst, Some, None}
 use Rattle.std.proofs.lemmas.Option.{slice_get-get_or, slice_get_past}
-use Rattle.bean_trial.specs.Tried.{whole_at, number_in}
+use Rattle.bean_grammar.specs.declared.extras.ExtraParts.{ExtraParts}
+use Rattle.bean_trial.specs.Tried.{whole_at, worth_of, number_in}
 use Rattle.bean_trial.proofs.LegFacts.{whole_by}
 use Rattle.bean_trial.proofs.legs.whole.Goals as goal
 
@@ -23,4 +24,5 @@ returns-in-None c =
     subst (λ o. c.whole_of-in-None.result ≡ whole_at o p) (sym at)
     (whole_by c.whole_of-in-None.result None None _ p refl c.whole_of-in-None.ensures.units
     c.whole_of-in-None.ensures.decimals
-    (c.whole_of-in-None.ensures.worth ∙ c.worth_of-in-None.ensures))
+    (c.whole_of-in-None.ensures.worth ∙ c.worth_of-in-None-2.ensures
+    ∙ ap (λ (e : ExtraParts). worth_of p.lot e.price) c.none.ensures))
