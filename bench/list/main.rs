@@ -1,8 +1,8 @@
 //! Does in plain Rust what `bq list` does, to compare with.
 //!
 //! `list FILE|-` prints the table of the postings of a ledger, with the texts that it includes;
-//! `list --read FILE|-` only reads it, books nothing and prints what it found. Characters are taken to be one column
-//! wide.
+//! `list --load FILE|-` only reads and arranges it, books nothing and prints what it found. Characters are
+//! taken to be one column wide.
 
 mod directives;
 mod escapes;
@@ -29,8 +29,15 @@ use texts::Texts;
 
 const MOST_POSTINGS: usize = 1_000_000;
 
-fn read(name: &str) -> io::Result<()> {
-    let texts = Texts::of(name)?;
+/// The texts of a ledger, with what they say arranged.
+fn loaded(name: &str) -> io::Result<Texts> {
+    let mut texts = Texts::of(name)?;
+    texts.directives.sort_by_key(|directive| (directive.day, directive.rank()));
+    Ok(texts)
+}
+
+fn load(name: &str) -> io::Result<()> {
+    let texts = loaded(name)?;
     println!(
         "{} tokens, {} directives, {} faults",
         texts.tokens,
@@ -42,11 +49,8 @@ fn read(name: &str) -> io::Result<()> {
 
 fn list(name: &str) -> io::Result<()> {
     let Texts {
-        mut directives,
-        method,
-        ..
-    } = Texts::of(name)?;
-    directives.sort_by_key(|directive| (directive.day, directive.rank()));
+        directives, method, ..
+    } = loaded(name)?;
     let listed = listed(&directives, method);
     if listed.rows.len() > MOST_POSTINGS {
         return Err(io::Error::other("there are more than 1,000,000 postings"));
@@ -58,9 +62,9 @@ fn main() -> ExitCode {
     let words: Vec<String> = env::args().skip(1).collect();
     let words: Vec<&str> = words.iter().map(String::as_str).collect();
     let done = match words[..] {
-        ["--read", name] => read(name),
+        ["--load", name] => load(name),
         [name] => list(name),
-        _ => Err(io::Error::other("usage: list [--read] FILE|-")),
+        _ => Err(io::Error::other("usage: list [--load] FILE|-")),
     };
     match done {
         Ok(()) => ExitCode::SUCCESS,
