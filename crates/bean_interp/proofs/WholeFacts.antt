@@ -1,5 +1,6 @@
 -- Legs that lack nothing.
-use Rattle.std.proofs.Common.{◌≡◌, ◌+◌, ◌||◌, ℕ, true, false, List, [], ◌∷◌, Result, Err, refl, ap, sym, ◌∙◌}
+use Rattle.std.proofs.Common.{◌≡◌, ◌+◌, ◌||◌, ℕ, true, false, List, [], ◌∷◌, Result, Err, refl}
+use Rattle.std.proofs.Common.{ap, sym, ◌∙◌}
 use Rattle.std.specs.List.{list_all}
 use Rattle.bean_interp.specs.Completion.{AreFills, Completes, gaps_from}
 use Rattle.bean_interp.specs.Lacking.{is_whole, lack_too_much}
