@@ -44,7 +44,7 @@ fn links_of<'a>(alloc: Global, marks: &[Mark<'a>]) -> Result<TextSet<'a>, AllocE
 fn accounts_of<'a>(alloc: Global, posted: &[Posted<'a>]) -> Result<TextSet<'a>, AllocError>
     ensures { IfOk result (λ set. set ≡ set_of (map (λ p. p.account) posted.now)) }
 {
-    let mut names = Vec::new(alloc);
+    let mut names = Vec::with_capacity(alloc, posted.len())?;
     for one in posted {
         names.push(Slice::new(one.account.text()))?;
     }

@@ -81,7 +81,7 @@ pub(crate) fn metadata_of<'a>(
 ) -> Result<Metadata<'a>, AllocError>
     ensures { IfOk result (λ metadata. metadata ≡ spec.items_of entries.now) }
 {
-    let mut items = Vec::new(alloc);
+    let mut items = Vec::with_capacity(alloc, entries.len())?;
     for entry in entries {
         items.push(MetaItem {
             key: Slice::new(entry.key.text()),

@@ -46,7 +46,7 @@ fn metadata_of_all<'a>(
 ) -> Result<Vec<Metadata<'a>>, AllocError>
     ensures { IfOk result (λ all. all.items ≡ map (λ w. items_of w.extras.metadata) postings.now) }
 {
-    let mut all = Vec::new(alloc);
+    let mut all = Vec::with_capacity(alloc, postings.len())?;
     for posting in postings {
         all.push(metadata_of(alloc, posting.extras.metadata())?)?;
     }

@@ -1,3 +1,5 @@
+pub mod FirstFacts
+pub mod WholeFacts
 pub mod CountFacts
 pub mod EntryFacts
 pub mod TableFacts

@@ -21,6 +21,11 @@ abbrev pub lack_too_much : List Leg → Bool
 lack_too_much [] = false
 lack_too_much (leg ∷ legs) = list_any (clash leg) legs || lack_too_much legs
 
+abbrev pub is_whole : Leg → Bool
+is_whole (Whole w) = true
+is_whole (MissingNumber c) = false
+is_whole MissingAmount = false
+
 abbrev pub lacks_amount : Leg → Bool
 lacks_amount MissingAmount = true
 lacks_amount (MissingNumber c) = false

@@ -1,7 +1,9 @@
 //! Scales: transactions are laid on them one after the other, to be completed and to be judged.
 ghost use Rattle.std.specs.Prelude as prelude;
 ghost use Rattle.bean_interp.specs.Evened.{CompletionBalances};
-ghost use Rattle.std.specs.Prelude.{◌≡◌, ◌∷◌, ◌<◌, [], ℕ, Err, IfOk, OnOk, length};
+ghost use Rattle.std.specs.Prelude.{◌≡◌, ◌∷◌, ◌<◌, [], ℕ, Err, IfOk, OnOk, length, true};
+ghost use Rattle.std.specs.List.{list_all};
+ghost use Rattle.bean_interp.specs.Lacking.{is_whole};
 
 use crate::due::number_due;
 use crate::fault::{CompletionFault, WeighFault};
@@ -20,6 +22,13 @@ use std::alloc::Global;
 pub struct Scales<'a> {
     pub sums: Sums<'a>,
     pub precisions: Precisions<'a>,
+}
+
+/// Whether no leg lacks anything.
+fn are_whole(legs: &[Leg<'_>]) -> bool
+    ensures { result ≡ list_all is_whole legs.now }
+{
+    legs.iter().all(|leg| matches!(leg, Leg::Whole(_)))
 }
 
 impl<'a> Scales<'a> {
@@ -162,6 +171,21 @@ impl<'a> Scales<'a> {
         Ok(())
     }
 
+    /// Weighs legs that lack nothing, as most do: their decimals aren't looked at.
+    fn weigh_whole(
+        &mut self,
+        alloc: Global,
+        legs: &[Leg<'a>],
+    ) -> Result<List<Fill<'a>>, CompletionFault>
+        requires { list_all is_whole legs.now ≡ true }
+        ensures { Completes legs.now result }
+    {
+        match self.sums.weigh(legs) {
+            Ok(()) => Ok(List::new(Vec::new(alloc))),
+            Err(fault) => Err(CompletionFault::Weighing(fault)),
+        }
+    }
+
     /// What the legs of a transaction take that lack something: a leg that lacks its number takes
     /// what its currency lacks, and one that lacks its amount takes what each currency lacks, in
     /// order of first appearance.
@@ -172,6 +196,9 @@ impl<'a> Scales<'a> {
     ) -> Result<List<Fill<'a>>, CompletionFault>
         ensures { Completes legs.now result }
     {
+        if are_whole(legs) {
+            return self.weigh_whole(alloc, legs);
+        }
         if lack_too_much(alloc, legs)? {
             return Err(CompletionFault::LackTooMuch);
         }

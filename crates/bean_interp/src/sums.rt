@@ -1,7 +1,10 @@
 //! Sums of weights, by currency.
-ghost use Rattle.std.specs.Prelude.{◌≡◌, ◌<◌, ◌≤◌, ◌^◌, ◌+ℤ◌, [], OnOk, Err, length, get_or};
+ghost use Rattle.std.specs.Prelude.{◌≡◌, ◌≢◌, ◌<◌, ◌≤◌, ◌^◌, ◌+ℤ◌, [], OnOk, Err, length, get_or};
+ghost use Rattle.std.specs.Prelude.{IfNone, IfSome, IsTrue, Some, pos, position};
 ghost use Rattle.std.specs.Int.RustNames.{unsigned_abs};
 ghost use Rattle.std.specs.List.{list_all};
+ghost use Rattle.std.specs.Map.{keys_of};
+ghost use Rattle.std.specs.Str.{bytes_eq};
 ghost use Rattle.bean_interp.specs.Residual.{AreInRange, Weighed, weighed};
 ghost use Rattle.bean_interp.specs.Sums.{Fits, IsNarrow, added, entry_of, is_zero, sum_with, table};
 ghost use Rattle.bean_interp.specs.Sums.{with_leg};
@@ -90,6 +93,41 @@ impl<'a> Sums<'a> {
         true
     }
 
+    /// Whether a currency is the first.
+    fn is_first(&self, currency: &Currency<'_>) -> bool
+        ensures { IsTrue result → position (bytes_eq currency.now) (keys_of self.now) ≡ Some 0 }
+    {
+        match self.by_currency.get_index(0) {
+            Some((first, _)) => *currency == *first,
+            None => false,
+        }
+    }
+
+    /// The index of a currency, where it is there.
+    fn index_of(&self, currency: &Currency<'_>) -> Option<usize>
+        ensures some { IfSome result
+            (λ i. position (bytes_eq currency.now) (keys_of self.now) ≡ Some i) }
+        ensures none { IfNone result (entry_of self.now currency.now ≡ pos 0) }
+    {
+        // The weights of most transactions are of one currency, which isn't hashed then.
+        if self.is_first(currency) {
+            return Some(0);
+        }
+        self.by_currency.get_index_of(currency)
+    }
+
+    /// Adds the first weight in its currency.
+    fn push(&mut self, weight: Weight<'a>) -> Result<(), WeighFault>
+        requires { entry_of self.old weight.currency ≡ pos 0 }
+        ensures added { OnOk result
+            (self.new ≡ added self.old weight.entry.currency weight.entry.count) }
+        ensures narrow { OnOk result (IsNarrow (sum_with self.old weight.entry)) }
+        ensures memory { result ≢ Err WeighFault.TooWide }
+    {
+        self.by_currency.insert(weight.currency, weight.count)?;
+        Ok(())
+    }
+
     /// Adds a weight, unless the sum of its currency would be too wide.
     fn add(&mut self, weight: Weight<'a>) -> Result<(), WeighFault>
         ensures added { OnOk result
@@ -98,11 +136,14 @@ impl<'a> Sums<'a> {
         ensures wide { result ≡ Err WeighFault.TooWide
             → ¬ IsNarrow (sum_with self.old weight.entry) }
     {
-        let sum = self.of(&weight.currency) + weight.count;
+        let Some(index) = self.index_of(&weight.currency) else {
+            return self.push(weight);
+        };
+        let sum = self.by_currency[index] + weight.count;
         if sum.unsigned_abs() >= MOST {
             return Err(WeighFault::TooWide);
         }
-        self.by_currency.insert(weight.currency, sum)?;
+        self.by_currency[index] = sum;
         Ok(())
     }
 

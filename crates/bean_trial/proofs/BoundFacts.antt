@@ -57,8 +57,8 @@ either true n es k c s h =
 either false n es k c s h = more (n * 10 ^ 20) ((n + 1) * 10 ^ 20) es (omega arith) h
 
 -- an addition to the inventory of one account, where the others stay
-pub added_at : (f : List ℕ → List Position) (name a : List ℕ) (own new now : List Position) (k : Key)
-    (c d : ℤ) → own ≡ f name → new ≡ added own k d → d ≡ c
+pub added_at : (f : List ℕ → List Position) (name a : List ℕ) (own new now : List Position)
+    (k : Key) (c d : ℤ) → own ≡ f name → new ≡ added own k d → d ≡ c
     → now ≡ cond (bytes_eq name a) new (f a)
     → now ≡ cond (bytes_eq name a) (added (f a) k c) (f a)
 added_at f name a own new now k c d o p e i = i ∙ by (bytes_eq name a) refl

@@ -51,10 +51,11 @@
 //!
 //! # Cost
 //!
-//! A look-up in the account for each posting, and for each one in braces what a reduction costs in
-//! [`bean_lots`]. A posting that lacks something looks through all that is filled in. [`Holdings`]
-//! keep an inventory for each account, and count their additions: each sum is at most `10^20` times
-//! that count, which is below `2^40`. No contract shows how they are kept.
+//! For each posting in braces, and for no other, a look-up in its account and what a reduction
+//! costs in [`bean_lots`]. One that lacks something looks through all that is filled in.
+//! [`Holdings`] keep an inventory for each account, change it where it stands, and count their
+//! additions: each sum is at most `10^20` times that count, which is below `2^40`. No contract shows
+//! how they are kept.
 #![tactic(auto)]
 
 mod completed;
