@@ -1,3 +1,4 @@
+pub mod PowerFacts
 pub mod DigitsFacts
 pub mod PrintableFacts
 pub mod LengthFacts

@@ -6,7 +6,7 @@ ghost use Rattle.number_texts.specs.Digits.{digits_of, exact_decimals, decimals_
 ghost use Rattle.number_texts.specs.Digits.{day_text, zeros};
 
 use crate::runs::push_run;
-use bean_base::Day;
+use bean_base::{Day, power_of_ten};
 use itoa::Buffer;
 use std::alloc::AllocError;
 
@@ -22,7 +22,7 @@ fn unit_of(places: u8) -> u128
     ensures some { 0 < result }
     ensures narrow { result ≤ 100000000000000000000000000000000000000 }
 {
-    10u128.pow(places as u32)
+    power_of_ten(places).unsigned_abs()
 }
 
 /// A number before and behind its last `places` digits.
@@ -38,7 +38,7 @@ fn split_at(number: u128, places: u8) -> (u128, u128)
     match u64::try_from(number) {
         // Most fit, and 64 bits are divided much faster than 128.
         Ok(number) if places < 20 => {
-            let unit = 10u64.pow(places as u32);
+            let unit = power_of_ten(places) as u64;
             ((number / unit) as u128, (number % unit) as u128)
         }
         _ => {
