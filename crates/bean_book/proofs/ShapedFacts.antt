@@ -177,11 +177,11 @@ row_by_small e line (Some w) p texts small light written at = record {
   currency = short_currency p.units.currency small.currency;
   lot = lot_short p.lot small.lot;
   units = units_small p.units.number;
-  value = value_small p.units p.lot w.extras.price light;
+  value = value_small p.units p.lot w.details.price light;
   weight = light;
-  weight_currency = worth_short p.units p.lot w.extras.price small.currency small.lot written.price;
+  weight_currency = worth_short p.units p.lot w.details.price small.currency small.lot written.price;
   line = written.line;
-  texts = short_items w.extras.metadata written.metadata;
+  texts = short_items w.details.metadata written.metadata;
 }
 
 pub row_small : (e : Entry) (line : ℕ) (ps : List Posting) (p : Posted) → HasShortTexts e

@@ -57,15 +57,15 @@ entry_of d t posted = record {
 -- what a booked posting has from the one that it was written as
 
 abbrev pub flag_in : Option Posting → Option Flag
-flag_in written = option_and_then (λ w. w.extras.flag) written
+flag_in written = option_and_then (λ w. w.details.flag) written
 
 abbrev pub line_in : ℕ → Option Posting → ℕ
 line_in line None = line
-line_in line (Some w) = w.line
+line_in line (Some w) = w.details.line
 
 abbrev pub items_in : Option Posting → List MetaItem
 items_in None = []
-items_in (Some w) = items_of w.extras.metadata
+items_in (Some w) = items_of w.details.metadata
 
 abbrev pub position_of : Posted → Position
 position_of p = record {

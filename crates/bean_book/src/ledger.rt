@@ -53,7 +53,7 @@ fn take_transaction<'b, 'a>(
         return Ok(kept);
     }
     let posted = first.postings.as_slice();
-    match push_transaction(alloc, ledger, &placed.item, transaction, posted) {
+    match push_transaction(alloc, ledger, placed.item.get(), transaction, posted) {
         Ok(()) => {}
         Err(fault) => return Err(fault),
     }
@@ -110,7 +110,7 @@ fn take_directive<'b, 'a>(
         left.entry.kept.now left.entry.pads.now)) }
     ensures room { IfOk result (λ rest. length ledger.new.rows ≤ MOST_POSTINGS) }
 {
-    match &placed.item.kind {
+    match &placed.item.get().kind {
         DirectiveKind::Transaction(transaction) => {
             match take_transaction(alloc, ledger, number, placed, transaction, left.kept) {
                 Ok(kept) => Ok(Left { kept, ..left }),

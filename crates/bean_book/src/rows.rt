@@ -44,11 +44,11 @@ fn metadata_of_all<'a>(
     alloc: Global,
     postings: &[Posting<'a>],
 ) -> Result<Vec<Metadata<'a>>, AllocError>
-    ensures { IfOk result (λ all. all.items ≡ map (λ w. items_of w.extras.metadata) postings.now) }
+    ensures { IfOk result (λ all. all.items ≡ map (λ w. items_of w.details.metadata) postings.now) }
 {
     let mut all = Vec::with_capacity(alloc, postings.len())?;
     for posting in postings {
-        all.push(metadata_of(alloc, posting.extras.metadata())?)?;
+        all.push(metadata_of(alloc, posting.details.metadata())?)?;
     }
     Ok(all)
 }
@@ -106,7 +106,7 @@ fn row_of<'a>(
         ≡ spec.row_of entry.now line postings.now posted.now) }
 {
     let (line, flag) = match postings.get(posted.written) {
-        Some(written) => (written.line, written.extras.flag()),
+        Some(written) => (written.details.line(), written.details.flag()),
         None => (line, None),
     };
     Ok(Row {
@@ -129,7 +129,7 @@ fn push_posted<'a>(
     metadata: &[Metadata<'a>],
     posted: &[Posted<'a>],
 ) -> Result<(), BookFault>
-    requires noted { metadata.now ≡ map (λ w. items_of w.extras.metadata) postings.now }
+    requires noted { metadata.now ≡ map (λ w. items_of w.details.metadata) postings.now }
     requires light { AllByRecursion IsLight (booked_legs postings.now posted.now) }
     requires small { AllByRecursion IsSmallPosted posted.now }
     requires written { AllByRecursion IsSmallPosting postings.now }

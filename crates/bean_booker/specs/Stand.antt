@@ -66,7 +66,7 @@ place_of d = record { file = d.file; line = d.item.line }
 -- the place of a written posting, and the transaction's where there is none
 abbrev pub place_in : Place → Option Posting → Place
 place_in at None = at
-place_in at (Some p) = record { file = at.file; line = p.line }
+place_in at (Some p) = record { file = at.file; line = p.details.line }
 
 -- F6, F7 and F8 of a booked posting, at the written one
 abbrev pub posted_faults : List lives.Step → Place → List Posting → Posted → List Fault

@@ -97,7 +97,7 @@ pub(crate) fn methods_of<'a>(
     let count = directives.len();
     for taken in 0..count {
         let directive = &directives[count - 1 - taken];
-        note_open(&mut methods, otherwise, &directive.item.kind)?;
+        note_open(&mut methods, otherwise, &directive.item.get().kind)?;
     }
     Ok(methods)
 }

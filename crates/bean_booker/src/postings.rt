@@ -29,7 +29,7 @@ fn place_in(at: Place, postings: &[Posting<'_>], written: usize) -> Place
     match postings.get(written) {
         Some(posting) => Place {
             file: at.file,
-            line: posting.line,
+            line: posting.details.line(),
         },
         None => at,
     }

@@ -13,7 +13,7 @@ use Rattle.bean_grammar.specs.Cost.{cost_of}
 use Rattle.bean_grammar.specs.CostPart.{no_parts, number_part_of, put}
 use Rattle.bean_grammar.specs.Exact.{times, plus, minus, signed, written}
 use Rattle.bean_grammar.specs.Expression.{in_ledger, product, factor}
-use Rattle.bean_grammar.specs.Extras.{on_line, no_extras}
+use Rattle.bean_grammar.specs.Details.{on_line}
 use Rattle.bean_grammar.specs.Lexeme.{Tag, Link, Key, Number, Sign, Keyword, Currency, lexeme_at}
 use Rattle.bean_grammar.specs.Mark as mark_rule
 use Rattle.bean_grammar.specs.declared.mark.Mark.TheVariants as marks
@@ -188,10 +188,9 @@ missing_before_cost :
     is_outside_profile record {
       account = codes "Assets:Inv";
       units = units_kind.Missing;
-      extras =
-          on_line None (cost_kind.Lot record { amount = None; day = None; label = None })
+      details =
+          on_line 7 None (cost_kind.Lot record { amount = None; day = None; label = None })
           price_kind.Absent;
-      line = 7;
     } ≡ true
 missing_before_cost = refl
 
@@ -199,8 +198,7 @@ missing_alone :
     is_outside_profile record {
       account = codes "Assets:Inv";
       units = units_kind.Missing;
-      extras = no_extras;
-      line = 7;
+      details = on_line 7 None cost_kind.Absent price_kind.Absent;
     } ≡ false
 missing_alone = refl
 

@@ -7,7 +7,7 @@ pub mod Amount
 pub mod CostPart
 pub mod Cost
 pub mod Price
-pub mod Extras
+pub mod Details
 pub mod Posting
 pub mod Metadata
 pub mod Mark

@@ -21,7 +21,7 @@ use Rattle.bean_grammar.specs.declared.ranged.Ranged.{Ranged}
 use Rattle.bean_grammar.specs.declared.ranged.Ranged.TheVariants.{Within}
 use Rattle.bean_grammar.specs.Amount.{amount_parts}
 use Rattle.bean_grammar.specs.Cost.{cost_if_due}
-use Rattle.bean_grammar.specs.Extras.{on_line}
+use Rattle.bean_grammar.specs.Details.{on_line}
 use Rattle.bean_grammar.specs.Lexeme.{Lexeme, Account, Sign}
 use Rattle.bean_grammar.specs.Price.{price_if_due}
 use Rattle.bean_grammar.specs.Ranged.{ranged_map, ranged_map3}
@@ -58,8 +58,7 @@ posting_of line flag account units cost price =
     (λ u c p. record {
       account = account;
       units = u;
-      extras = on_line flag c p;
-      line = line;
+      details = on_line line flag c p;
     })
     units cost price
 
@@ -95,5 +94,5 @@ is_written c p = true
 abbrev pub is_outside_profile : postings.Posting → Bool
 is_outside_profile p =
     is_number_alone p.units
-    || (is_left_out p.extras.cost p.extras.price
-    || (not (has_number p.units) && is_written p.extras.cost p.extras.price))
+    || (is_left_out p.details.cost p.details.price
+    || (not (has_number p.units) && is_written p.details.cost p.details.price))

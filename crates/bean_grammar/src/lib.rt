@@ -32,7 +32,7 @@ pub mod cost;
 pub mod cost_part;
 pub mod entry;
 pub mod expression;
-pub mod extras;
+pub mod details;
 pub mod front;
 pub mod grammar;
 pub mod literal;
@@ -45,7 +45,7 @@ pub mod ranged;
 
 pub use amount::AmountParts;
 pub use cost::{Cost, LotParts};
-pub use extras::{ExtraParts, Extras};
+pub use details::{DetailParts, Details};
 pub use mark::Mark;
 pub use metadata::{Entry, Value};
 pub use posting::{Posting, Units};

@@ -3,7 +3,7 @@ ghost use Rattle.std.specs.Prelude.{◌≡◌};
 ghost use Rattle.bean_grammar.specs.Posting as rule;
 
 use crate::cost::Cost;
-use crate::extras::Extras;
+use crate::details::Details;
 use crate::price::Price;
 use bean_base::{Account, Amount, Currency};
 
@@ -23,10 +23,8 @@ pub enum Units<'a> {
 pub struct Posting<'a> {
     pub units: Units<'a>,
     pub account: Account<'a>,
-    /// Its flag, its cost, its price and the entries that stand under it.
-    pub extras: Extras<'a>,
-    /// The line on which it is written, from 1.
-    pub line: usize,
+    /// Its line, its flag, its cost, its price and the entries that stand under it.
+    pub details: Details<'a>,
 }
 
 impl Posting<'_> {
@@ -35,7 +33,7 @@ impl Posting<'_> {
     pub fn is_outside_profile(&self) -> bool
         ensures { result ≡ rule.is_outside_profile self.now }
     {
-        let Some(parts) = self.extras.get() else {
+        let Some(parts) = self.details.get() else {
             return matches!(self.units, Units::NumberAlone);
         };
         let is_left_out = matches!(parts.cost, Cost::OutsideProfile)

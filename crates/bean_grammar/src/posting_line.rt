@@ -7,7 +7,7 @@ ghost use Rattle.bean_grammar.specs.Posting as rule;
 
 use crate::amount::{AmountParts, amount_parts};
 use crate::cost::{Cost, cost_if_due};
-use crate::extras::Extras;
+use crate::details::Details;
 use crate::front::{after_account, next};
 use crate::posting::{Posting, Units};
 use crate::price::{Price, price_if_due};
@@ -81,8 +81,7 @@ fn posting_of<'a>(
     Ok(Ranged::Within(Posting {
         units,
         account,
-        extras: Extras::of(alloc, flag, cost, price)?,
-        line,
+        details: Details::of(alloc, line, flag, cost, price)?,
     }))
 }
 
@@ -107,7 +106,8 @@ fn posted<'t, 'a>(
     Some((flag, account, units, rest))
 }
 
-/// The posting that a line of that number is. It takes memory for extras alone.
+/// The posting that a line of that number is. It takes memory where it has a flag,
+/// a cost or a price alone.
 pub fn posting<'a>(
     alloc: Global,
     line: usize,

@@ -125,16 +125,29 @@ fn add_faults(file: usize, faults: &[Fault], out: &mut Vec<Fault>) -> Result<(),
 
 impl<'a> Read<'a> {
     /// Adds what the text of that number says.
-    fn add(&mut self, file: usize, own: &[Own], parsed: Parsed<'a>) -> Result<(), AllocError>
+    fn add(
+        &mut self,
+        alloc: Global,
+        file: usize,
+        own: &[Own],
+        parsed: Parsed<'a>,
+    ) -> Result<(), AllocError>
         ensures { OnOk result (AddsParsed file own.now parsed.entry self.old self.new) }
     {
         add_directives(
+            alloc,
             file,
             own,
             parsed.directives.into_vec(),
             &mut self.directives,
         )?;
-        add_settings(file, own, parsed.settings.into_vec(), &mut self.settings)?;
+        add_settings(
+            alloc,
+            file,
+            own,
+            parsed.settings.into_vec(),
+            &mut self.settings,
+        )?;
         add_faults(file, parsed.faults.as_slice(), &mut self.faults)
     }
 }
@@ -152,12 +165,13 @@ impl<'a> Books<'a> {
     fn add(&mut self, setting: &Placed<Setting<'a>>) -> Result<(), AllocError>
         ensures { OnOk result (AddsSetting setting.now self.old self.new) }
     {
-        match &setting.item.kind {
+        let written = setting.item.get();
+        match &written.kind {
             SettingKind::Title(title) => self.title = Some(title.lend()),
             SettingKind::OperatingCurrency(currency) => self.operating.push(currency.lend())?,
             SettingKind::BookingMethod(method) => self.methods.push(MethodLine {
                 file: setting.file,
-                line: setting.item.line,
+                line: written.line,
                 method: method.lend(),
             })?,
             SettingKind::Include(_) => {}
@@ -194,7 +208,7 @@ fn read_all(alloc: Global, texts: &Texts) -> Result<Read<'_>, AllocError>
     let files = texts.files();
     for (number, file) in files.iter().enumerate() {
         let own = parts_of(alloc, number, texts.parts())?;
-        read.add(number, &own, parse(alloc, &file.text)?)?;
+        read.add(alloc, number, &own, parse(alloc, &file.text)?)?;
     }
     Ok(read)
 }

@@ -12,7 +12,8 @@ pub fn order_directives(directives: &mut Vec<Placed<Directive<'_>>>) -> Result<(
     ensures { OnOk result (AreInOrder directives.old.items directives.new.items) }
 {
     directives.sort_by_key(|placed| {
-        ((placed.item.day, Rank::of(&placed.item.kind)), placed.part)
+        let directive = placed.item.get();
+        ((directive.day, Rank::of(&directive.kind)), placed.part)
     })
 }
 

@@ -3,17 +3,19 @@ ghost use Rattle.std.specs.Prelude.{◌≡◌, ◌++◌, map, length, fold, IfOk
 ghost use Rattle.bean_load.specs.Placed as spec;
 
 use crate::texts::Part;
+use bean_base::Apart;
 use bean_parser::{Directive, Setting};
 use std::alloc::{AllocError, Global};
 
-/// What is written in a text, with its place.
+/// What is written in a text, with its place. The item lies apart, so that little is moved where many
+/// are sorted.
 #[derive(Debug, Drop)]
 pub struct Placed<T> {
     /// The number of its text, from 0.
     pub file: usize,
     /// The number of the part of the ledger in which it stands, from 0 in reading order.
     pub part: usize,
-    pub item: T,
+    pub item: Apart<T>,
 }
 
 /// A part of a text: the line behind which it begins, and its number in reading order.
@@ -62,6 +64,7 @@ fn part_at(own: &[Own], line: usize) -> usize
 
 /// Adds the directives of a text with their places.
 pub fn add_directives<'a>(
+    alloc: Global,
     file: usize,
     own: &[Own],
     directives: Vec<Directive<'a>>,
@@ -75,7 +78,7 @@ pub fn add_directives<'a>(
         out.push(Placed {
             file,
             part: part_at(own, directive.line),
-            item: directive,
+            item: Apart::new(alloc, directive)?,
         })?;
     }
     Ok(())
@@ -83,6 +86,7 @@ pub fn add_directives<'a>(
 
 /// Adds the settings of a text with their places.
 pub fn add_settings<'a>(
+    alloc: Global,
     file: usize,
     own: &[Own],
     settings: Vec<Setting<'a>>,
@@ -95,7 +99,7 @@ pub fn add_settings<'a>(
         out.push(Placed {
             file,
             part: part_at(own, setting.line),
-            item: setting,
+            item: Apart::new(alloc, setting)?,
         })?;
     }
     Ok(())

@@ -4,7 +4,7 @@ use Rattle.theory.specs.Form.{Is}
 use Rattle.bean_grammar.specs.declared.metadata.Entry.{Entry}
 use Rattle.bean_grammar.specs.declared.posting.Posting.{Posting}
 use Rattle.bean_grammar.specs.declared.ranged.Ranged.TheVariants.{Within, Outside}
-use Rattle.bean_grammar.specs.Extras as below
+use Rattle.bean_grammar.specs.Details as below
 use Rattle.bean_grammar.specs.Mark.{some_marks}
 use Rattle.bean_grammar.specs.Metadata.{entry}
 use Rattle.bean_grammar.specs.Posting.{posting}
@@ -32,7 +32,7 @@ abbrev pub no_lines : Body
 no_lines = record { metadata = []; marks = []; before = []; last = None; is_in_range = true }
 
 abbrev pub under_posting : Posting → Entry → Posting
-under_posting p e = record p { extras = below.with_entry p.extras e }
+under_posting p e = record p { details = below.with_entry p.details e }
 
 -- an entry belongs to the posting above it, or to the directive where no posting precedes
 abbrev pub with_entry : Body → Option Posting → Entry → Body

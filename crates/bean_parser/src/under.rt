@@ -128,7 +128,7 @@ impl<'a> Body<'a> {
         ensures { OnOk result (self.new ≡ rule.with_entry self.old self.old.last entry.entry) }
     {
         match &mut self.last {
-            Some(posting) => posting.extras.push(alloc, entry),
+            Some(posting) => posting.details.push(alloc, entry),
             None => self.metadata.push(alloc, entry),
         }
     }

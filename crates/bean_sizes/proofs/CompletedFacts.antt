@@ -49,7 +49,7 @@ worth_small units None price_kind.OutsideProfile c small short = c
 whole_small : (o : Option Posting) (p : Posted) → IfSome o IsSmallPosting → IsSmallPosted p
     → IsSmallLeg (leg.Whole (whole_at o p))
 whole_small (Some w) p written small =
-    worth_small p.units p.lot w.extras.price small.currency small.lot written.price
+    worth_small p.units p.lot w.details.price small.currency small.lot written.price
 whole_small None p written small =
     worth_small p.units p.lot price_kind.Absent small.currency small.lot tt
 

@@ -86,7 +86,7 @@ in_range legs h few = record {
 -- ---- where something lacks, no price is written
 
 abbrev IsGap : List Posting → ℕ → Type 0
-IsGap ps i = (p : Posting) × (slice_get ps i ≡ Some p) × (p.extras.price ≡ price_kind.Absent)
+IsGap ps i = (p : Posting) × (slice_get ps i ≡ Some p) × (p.details.price ≡ price_kind.Absent)
 
 abbrev IsGapIn : List Posting → Line → Type 0
 IsGapIn ps (line.Posted p) = Unit {0}
@@ -134,7 +134,7 @@ gap ps qs rest p e inside none =
     let own =
     each_inside is_outside_profile (reverse qs ++ p ∷ rest) (length (reverse qs)) p within
     (sym (get_or-append_seam (reverse qs) p rest p)) (sym (ap is_outside e) ∙ inside) in
-    (p, there, no_price p.units p.extras.cost p.extras.price none own)
+    (p, there, no_price p.units p.details.cost p.details.price none own)
 
 takes_have_none : (ps : List Posting) (account currency : List ℕ) (i : ℕ)
     (ts : List (Lot × ℤ × ℕ)) (ls : List Line) → AreTakeLines account currency i ts ls
@@ -182,14 +182,14 @@ next_has_none : (ps : List Posting) (s : Setting) (earlier : List Line) (qs rest
     (p : Posting) (u : units_declared.Units) (new : List Line)
     → (has_number u ≡ false → IsGap ps (length qs))
     → IsLinedByUnits (s.method_of p.account) (left p.account s.before earlier) s.head p.account u
-    p.extras.cost (length qs) p.line (Ok new) → AllByRecursion (IsGapIn ps) new
+    p.details.cost (length qs) p.details.line (Ok new) → AllByRecursion (IsGapIn ps) new
 next_has_none ps s earlier qs rest p Missing new gap h =
     subst (AllByRecursion (IsGapIn ps)) (sym (ok_is new _ h)) (gap refl, tt)
 next_has_none ps s earlier qs rest p (Currency c) new gap h =
     subst (AllByRecursion (IsGapIn ps)) (sym (ok_is new _ h)) (gap refl, tt)
 next_has_none ps s earlier qs rest p (Amount units) new gap h =
     units_have_none ps (s.method_of p.account) (left p.account s.before earlier) s.head p.account
-    units p.extras.cost (length qs) p.line new h
+    units p.details.cost (length qs) p.details.line new h
 next_has_none ps s earlier qs rest p NumberAlone new gap h = absurd h
 
 both : (ps : List Posting) (ls ms : List Line) → AllByRecursion (IsGapIn ps) ls

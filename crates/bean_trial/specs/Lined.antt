@@ -169,7 +169,7 @@ abbrev pub IsNext : Setting → List Line → ℕ → postings.Posting → Resul
     → Type 0
 IsNext s ls i p r =
     IsLinedByUnits (s.method_of p.account) (left p.account s.before ls) s.head p.account p.units
-    p.extras.cost i p.line r
+    p.details.cost i p.details.line r
 
 -- the lines of postings, the latest of which stands first
 abbrev pub AreLined : Setting → List postings.Posting → List Line → Type 0

@@ -68,7 +68,7 @@ whole_of n price p = record {
 
 -- by the posting that it was written as
 abbrev pub whole_at : Option postings.Posting → Posted → Whole
-whole_at (Some w) p = whole_of (number_in w.units) w.extras.price p
+whole_at (Some w) p = whole_of (number_in w.units) w.details.price p
 whole_at None p = whole_of None price_kind.Absent p
 
 abbrev pub leg_of : List postings.Posting → Line → Leg

@@ -1,31 +1,33 @@
 //! Transactions as their completion sees them.
 ghost use Rattle.std.specs.Prelude.{◌≡◌, slice_get, IfOk};
 ghost use Rattle.std.specs.Prelude as prelude;
+ghost use Rattle.bean_grammar.specs.declared.price.Price as prices;
 ghost use Rattle.bean_trial.specs.Tried as spec;
 ghost use Rattle.bean_trial.specs.Tried.{whole_at};
 
 use crate::line::{Line, Posted};
 use bean_base::{Apart, Num};
-use bean_grammar::{Extras, Posting, Price, Units};
+use bean_grammar::{Posting, Price, Units};
 use bean_interp::{Leg, Whole, Worth};
 use bean_lots::Lot;
 use std::alloc::{AllocError, Global};
 
-/// What units are worth: a cost goes before a price.
-fn worth_of<'a>(lot: &Option<Apart<Lot<'a>>>, extras: &Extras<'a>) -> Worth<'a>
-    ensures { result ≡ spec.worth_of lot.now extras.now.price }
+/// What units are worth of which this is known without a cost: a cost goes before a price.
+fn worth_of<'a>(lot: &Option<Apart<Lot<'a>>>, without: Worth<'a>) -> Worth<'a>
+    ensures { (price : prices.Price) → without.entry ≡ spec.worth_of prelude.None price
+        → result ≡ spec.worth_of lot.now price }
 {
     match lot {
         Some(lot) => Worth::Cost(lot.get().cost.lend()),
-        None => worth_by(extras),
+        None => without,
     }
 }
 
 /// What units without a cost are worth.
-fn worth_by<'a>(extras: &Extras<'a>) -> Worth<'a>
-    ensures { result ≡ spec.worth_of prelude.None extras.now.price }
+fn worth_without<'a>(written: &Posting<'a>) -> Worth<'a>
+    ensures { result ≡ spec.worth_of prelude.None written.now.details.price }
 {
-    let Some(parts) = extras.get() else {
+    let Some(parts) = written.details.get() else {
         return Worth::Units;
     };
     match &parts.price {
@@ -67,10 +69,10 @@ pub fn whole<'a>(postings: &[Posting<'a>], posted: &Posted<'a>) -> Whole<'a>
     match postings.get(posted.written) {
         Some(written) => whole_of(
             number_in(&written.units),
-            worth_of(&posted.lot, &written.extras),
+            worth_of(&posted.lot, worth_without(written)),
             posted,
         ),
-        None => whole_of(None, worth_of(&posted.lot, &Extras::none()), posted),
+        None => whole_of(None, worth_of(&posted.lot, Worth::Units), posted),
     }
 }
 

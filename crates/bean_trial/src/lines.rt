@@ -69,9 +69,9 @@ fn note<'a>(alloc: Global, taken: &mut Holdings<'a>, line: &Line<'a>) -> Result<
 /// Whether a posting has a cost in braces. What comes of any other doesn't depend on what its
 /// account holds, which isn't looked up then.
 fn is_in_braces(posting: &Posting<'_>) -> bool
-    ensures { result ≡ is_lot posting.now.extras.cost }
+    ensures { result ≡ is_lot posting.now.details.cost }
 {
-    match posting.extras.get() {
+    match posting.details.get() {
         Some(parts) => matches!(parts.cost, Cost::Lot(_)),
         None => false,
     }

@@ -149,7 +149,7 @@ fn reduced<'a>(
     requires chooses { stock.method ≢ Method.None }
     requires small { IsSmallStock stock }
     ensures { ComesOf (IsReducedBy stock.entry.method (rest_of stock.entry) parts.now
-        posting.now.account units.now index posting.now.line) result }
+        posting.now.account units.now index posting.now.details.line) result }
 {
     let selector = selector_of(units, parts);
     match reduce_after(
@@ -164,7 +164,7 @@ fn reduced<'a>(
             let lines = take_lines(alloc, &posting.account, &units.currency, index, &takes)?;
             Ok(Outcome::Takes(lines))
         }
-        Err(fault) => Err(stop_of(fault, posting.line)),
+        Err(fault) => Err(stop_of(fault, posting.details.line())),
     }
 }
 
@@ -189,13 +189,13 @@ fn augmented<'a>(
     parts: &LotParts<'a>,
 ) -> Result<Outcome<'a>, Stop>
     ensures { ComesOf (IsAugmented head parts.now parts.now.amount posting.now.account units.now
-        index posting.now.line) result }
+        index posting.now.details.line) result }
 {
     let Some(cost) = &parts.amount else {
         return Err(stop_at(FaultKind::OutsideProfile, head.line));
     };
     if cost.number.count < 0 {
-        return Err(stop_at(FaultKind::NegativeCost, posting.line));
+        return Err(stop_at(FaultKind::NegativeCost, posting.details.line()));
     }
     let lot = Apart::new(alloc, lot_of(head, parts, cost))?;
     Ok(Outcome::Line(Line::Posted(Posted {
@@ -218,7 +218,7 @@ fn in_braces<'a>(
 ) -> Result<Outcome<'a>, Stop>
     requires { IsSmallStock stock }
     ensures { ComesOf (IsInBraces stock.entry.method (rest_of stock.entry) head parts.now
-        posting.now.account units.now index posting.now.line) result }
+        posting.now.account units.now index posting.now.details.line) result }
 {
     if is_reduction(stock, units) {
         reduced(alloc, stock, index, posting, units, parts)
@@ -251,9 +251,9 @@ fn outcome_by_cost<'a>(
     requires small { IsSmallStock stock }
     requires inside { is_outside_profile posting.now ≡ false }
     ensures { ComesOf (IsLinedByCost stock.entry.method (rest_of stock.entry) head
-        posting.now.account units.now posting.now.extras.cost index posting.now.line) result }
+        posting.now.account units.now posting.now.details.cost index posting.now.details.line) result }
 {
-    let Some(parts) = posting.extras.get() else {
+    let Some(parts) = posting.details.get() else {
         return Ok(without_lot(index, posting, units));
     };
     match &parts.cost {
@@ -274,7 +274,7 @@ pub(crate) fn outcome_of<'a>(
     requires small { IsSmallStock stock }
     requires inside { is_outside_profile posting.now ≡ false }
     ensures { ComesOf (IsLinedByUnits stock.entry.method (rest_of stock.entry) head
-        posting.now.account posting.now.units posting.now.extras.cost index posting.now.line) result }
+        posting.now.account posting.now.units posting.now.details.cost index posting.now.details.line) result }
 {
     match &posting.units {
         Units::Missing => Ok(Outcome::Line(Line::MissingAmount(posting.account.lend(), index))),

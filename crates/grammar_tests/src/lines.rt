@@ -44,17 +44,17 @@ fn judged(alloc: Global, text: &str) -> Result<Verdict, AllocError> {
 fn a_posting_with_all_its_parts(rt: HostRuntime) -> Result<(), Fail> {
     let text = "! Assets:Inv  1 + 2 X {2014-01-02, \"a\", 2.50 * 2 USD} @@ 7 EUR";
     let posting = posting_of(rt.alloc(), text)?;
-    assert_eq!(rt; posting.extras.flag(), Some(Flag::Incomplete));
+    assert_eq!(rt; posting.details.flag(), Some(Flag::Incomplete));
     assert!(rt; posting.account.text() == "Assets:Inv");
-    assert_eq!(rt; posting.line, 3);
-    assert!(rt; posting.extras.metadata().is_empty());
+    assert_eq!(rt; posting.details.line(), 3);
+    assert!(rt; posting.details.metadata().is_empty());
     assert!(rt; !posting.is_outside_profile());
     let Units::Amount(units) = &posting.units else {
         return Err("an amount".into());
     };
     assert_eq!(rt; units.number.count, 3);
     assert!(rt; units.currency.text() == "X");
-    let parts = posting.extras.get().ok_or("extras")?;
+    let parts = posting.details.get().ok_or("details")?;
     let Cost::Lot(lot) = &parts.cost else {
         return Err("a lot".into());
     };
@@ -73,8 +73,8 @@ fn a_posting_with_all_its_parts(rt: HostRuntime) -> Result<(), Fail> {
 fn a_posting_of_an_account_alone(rt: HostRuntime) -> Result<(), Fail> {
     let bare = posting_of(rt.alloc(), "Assets:Cash")?;
     assert!(rt; matches!(bare.units, Units::Missing));
-    assert_eq!(rt; bare.extras.flag(), None);
-    assert!(rt; bare.extras.get().is_none());
+    assert_eq!(rt; bare.details.flag(), None);
+    assert!(rt; bare.details.get().is_none());
     Ok(())
 }
 
@@ -83,10 +83,10 @@ fn postings_with_some_of_their_parts(rt: HostRuntime) -> Result<(), Fail> {
     let alone = posting_of(rt.alloc(), "  * Assets:Cash USD")?;
     assert!(rt; matches!(alone.units, Units::Currency(_)));
     let empty = posting_of(rt.alloc(), "Assets:Inv -2 X {}")?;
-    let parts = empty.extras.get().ok_or("extras")?;
+    let parts = empty.details.get().ok_or("details")?;
     assert!(rt; matches!(parts.cost, Cost::Lot(_)));
     let priced = posting_of(rt.alloc(), "Assets:Inv 2 X @ -1 USD")?;
-    let parts = priced.extras.get().ok_or("extras")?;
+    let parts = priced.details.get().ok_or("details")?;
     assert!(rt; matches!(parts.price, Price::PerUnit(_)));
     Ok(())
 }

@@ -193,7 +193,7 @@ fn own_tags_and_entries_stand_first(rt: HostRuntime) -> Result<(), Fail> {
     assert_eq!(rt; transaction.marks.as_slice().len(), 4);
     assert!(rt; matches!(transaction.marks.as_slice()[2], Mark::Link(_)));
     let posting = transaction.postings.as_slice().first().ok_or("a posting")?;
-    assert_eq!(rt; posting.extras.metadata().len(), 1);
+    assert_eq!(rt; posting.details.metadata().len(), 1);
     let own = first.metadata.as_slice().first().ok_or("an entry")?;
     assert!(rt; matches!(&own.value, Value::Number(own) if own.count == 2));
     Ok(())

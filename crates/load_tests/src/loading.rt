@@ -12,7 +12,7 @@ fn are_places(loaded: &Loaded<'_>, places: &[(usize, usize)]) -> bool {
         return false;
     }
     for (placed, place) in directives.iter().zip(places) {
-        if placed.file != place.0 || placed.item.line != place.1 {
+        if placed.file != place.0 || placed.item.get().line != place.1 {
             return false;
         }
     }

@@ -85,7 +85,7 @@ under_small p e h k =
       units = h.units;
       cost = h.cost;
       price = h.price;
-      metadata = all_pushed IsShortEntry p.extras.metadata e h.metadata k;
+      metadata = all_pushed IsShortEntry p.details.metadata e h.metadata k;
     }
 
 entry_small : (b : Body) (o : Option Posting) (e : Entry) → IsSmallBody b → IfSome o IsSmallPosting

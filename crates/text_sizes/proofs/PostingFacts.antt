@@ -26,7 +26,7 @@ use Rattle.bean_grammar.specs.Cost.{cost_or_absent, cost_if_due}
 use Rattle.bean_grammar.specs.CostPart.{number_part_of, compound_if_due, itself, number_part, merge}
 use Rattle.bean_grammar.specs.CostPart.{part, no_parts, placed, put, put_first, another_part}
 use Rattle.bean_grammar.specs.CostPart.{row_of_parts, cost_parts}
-use Rattle.bean_grammar.specs.Extras.{on_line}
+use Rattle.bean_grammar.specs.Details.{on_line}
 use Rattle.bean_grammar.specs.Lexeme.{Account, Sign, begins_with_sign}
 use Rattle.bean_grammar.specs.Literal.{day, text}
 use Rattle.bean_grammar.specs.Posting.{flag_sign, begins_with_flag_sign, flag_if_due, units_by}
@@ -248,8 +248,7 @@ the_posting line flag account u c p =
     record {
       account = account;
       units = u;
-      extras = on_line flag c p;
-      line = line;
+      details = on_line line flag c p;
     }
 
 posting_small : (line : ℕ) (flag : Option flags.Flag) (account : List ℕ)

@@ -63,9 +63,9 @@ IsShortPrice p = Unit {0}
 
 -- a posting's texts, its line, and the texts of its entries
 pub record IsSmallPosting (p : Posting) : Type 0 where
-  pub line : p.line ≤ most
+  pub line : p.details.line ≤ most
   pub account : IsShort p.account
   pub units : AreShortUnits p.units
-  pub cost : IsShortCost p.extras.cost
-  pub price : IsShortPrice p.extras.price
-  pub metadata : AllByRecursion IsShortEntry p.extras.metadata
+  pub cost : IsShortCost p.details.cost
+  pub price : IsShortPrice p.details.price
+  pub metadata : AllByRecursion IsShortEntry p.details.metadata

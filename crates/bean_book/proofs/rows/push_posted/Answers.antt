@@ -30,7 +30,7 @@ light_at ps posted i p within is light =
     posted light)
 
 items_by : (o : Option Posting)
-    → unwrap_or (option_map (λ (w : Posting). items_of w.extras.metadata) o) [] ≡ items_in o
+    → unwrap_or (option_map (λ (w : Posting). items_of w.details.metadata) o) [] ≡ items_in o
 items_by None = refl
 items_by (Some w) = refl
 
@@ -45,7 +45,7 @@ row_of-requires-clause-noted c =
     let ps = c.args.postings.now in
     c.in_ok-noted.ensures
     ∙ ap (λ all. unwrap_or (slice_get all i) []) c.requires.noted
-    ∙ ap (λ o. unwrap_or o []) (slice_get-map (λ (w : Posting). items_of w.extras.metadata) ps i)
+    ∙ ap (λ o. unwrap_or o []) (slice_get-map (λ (w : Posting). items_of w.details.metadata) ps i)
     ∙ items_by (slice_get ps i)
 
 pub push_row-requires : goal.push_row-requires

@@ -12,7 +12,7 @@ returns-in-Err c =
     let account = c.args.posting.now.account in
     let units = c.args.units.now in
     let i = c.args.index in
-    let n = c.args.posting.now.line in
+    let n = c.args.posting.now.details.line in
     let s = c.selector_of-selector.result in
     let cs = candidates s (at_8 units.number) rest in
     stops_more (IsReduced m cs account units i n) (IsReducedBy m rest c.args.parts.now account units i n)
