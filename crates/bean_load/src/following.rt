@@ -26,7 +26,7 @@ fn follow_text<S: Source>(
         gathering.new result }
 {
     let file = gathering.next_file();
-    let lines = includes_of(gathering.alloc(), &name, &text)?;
+    let lines = includes_of(gathering.alloc, &name, &text)?;
     gathering.add_file(name, text)?;
     follow_lines(source, gathering, room, file, &lines)
 }

@@ -34,7 +34,7 @@ pub enum Asked {
 /// What is known while texts are gathered.
 #[derive(Drop)]
 pub struct Gathering {
-    alloc: Global,
+    pub alloc: Global,
     asked: Vec<String>,
     read: usize,
     files: Vec<File>,
@@ -91,11 +91,6 @@ impl Gathering {
             parts: Vec::new(alloc),
             faults: Vec::new(alloc),
         }
-    }
-
-    /// The allocator of what is gathered.
-    pub fn alloc(&self) -> Global {
-        self.alloc
     }
 
     /// The number of the next text.

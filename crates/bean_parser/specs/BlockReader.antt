@@ -25,12 +25,12 @@ abbrev pub left_of : BlockReader → ℕ
 left_of reader = option_map_or (λ t. 1 + length reader.lexer.rest.now) reader.first 0
 
 -- A block and what is to be read behind it were to be read, and it is the first block of these; or
--- nothing was to be read.
+-- nothing was to be read, and nothing is.
 abbrev pub TakesBlock : Bool → BlockReader → List Token → BlockReader → Type 0
 TakesBlock true before block after =
     (ts : List Token) → ToRead after ts
     → ToRead before (block ++ ts) × (blocks (block ++ ts) ≡ block ∷ blocks ts)
-TakesBlock false before block after = ToRead before []
+TakesBlock false before block after = ToRead before [] × (after ≡ before) × (block ≡ [])
 
 abbrev pub NoneBegins : List Token → Type 0
 NoneBegins [] = Unit {0}

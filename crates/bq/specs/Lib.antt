@@ -10,3 +10,4 @@ pub mod Columns
 pub mod Causes
 pub mod Runs
 pub mod MemoryRun
+pub mod Process

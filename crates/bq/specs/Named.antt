@@ -12,7 +12,7 @@ use Rattle.bq.specs.declared.words.Command.{Command}
 -- clap's error as a refusal
 abbrev pub IsRefusedBy : Error → Refusal → Type 0
 IsRefusedBy error Words = ¬ (kind_of error ≡ kind.OutOfMemory)
-IsRefusedBy error OutOfMemory = ⊤
+IsRefusedBy error OutOfMemory = kind_of error ≡ kind.OutOfMemory
 IsRefusedBy error _ = ⊥
 
 -- words are refused where they ask for nothing

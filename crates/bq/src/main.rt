@@ -8,6 +8,10 @@
 //! memory, and `main` the program on the host's.
 #![tactic(auto)]
 
+ghost use Rattle.std.specs.IoError.{error_kind};
+ghost use Rattle.std.specs.Process.{exit_status};
+ghost use Rattle.bq.specs.Process.{EndsOrLacksWords, IsRefusedBy, IsStatus};
+
 mod arguments;
 mod booking;
 mod in_memory;
@@ -32,14 +36,19 @@ use stores::host::HostStore;
 const MOST_BYTES: u64 = LARGEST_TEXT as u64 + 1;
 
 /// What is refused where the words can't be had: they are no text, or memory lacks.
-fn refusal_of(error: &io::Error) -> Refusal {
+fn refusal_of(error: &io::Error) -> Refusal
+    ensures { IsRefusedBy (error_kind error.now) result }
+{
     match error.kind() {
         io::ErrorKind::OutOfMemory => Refusal::OutOfMemory,
         _ => Refusal::Words,
     }
 }
 
-fn run_program(rt: HostRuntime) -> Result<u8, Refusal> {
+/// Runs the program on the arguments, the files and the streams of its process.
+fn run_program(rt: HostRuntime) -> Result<u8, Refusal>
+    ensures { EndsOrLacksWords result }
+{
     let args = env::args(&rt).map_err(|error| refusal_of(&error))?;
     let mut out = Stream::new(rt.stdout());
     let mut err = Stream::new(rt.stderr());
@@ -48,7 +57,10 @@ fn run_program(rt: HostRuntime) -> Result<u8, Refusal> {
     run_args(alloc, args, &mut store, &mut out, &mut err).map_err(|_| Refusal::OutOfMemory)
 }
 
-fn main(rt: HostRuntime) -> ExitCode {
+/// Runs the program, and tells on standard error where its words can't be had.
+fn run_process(rt: HostRuntime) -> ExitCode
+    ensures { IsStatus (exit_status result) }
+{
     let mut err = rt.stderr();
     match run_program(rt) {
         Ok(status) => ExitCode::from(status),
@@ -58,4 +70,8 @@ fn main(rt: HostRuntime) -> ExitCode {
             ExitCode::from(refusal.status())
         }
     }
+}
+
+fn main(rt: HostRuntime) -> ExitCode {
+    run_process(rt)
 }

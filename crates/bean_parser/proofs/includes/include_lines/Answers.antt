@@ -23,4 +23,5 @@ returns c =
     let takes =
     subst (λ some. TakesBlock some c.loop-block.reader c.next_block.new.block.items
     c.next_block.new.self) c.if-branch.false c.in_ok-next_block.ensures.block in
-    ended c.args.text.now c.loop-block.reader c.loop-block.found.items c.loop-block.invariant takes
+    ended c.args.text.now c.loop-block.reader c.loop-block.found.items c.loop-block.invariant
+    takes.0

@@ -26,4 +26,4 @@ returns c =
     c.next_block.new.self) c.if-branch.false c.in_ok-next_block.ensures.block in
     if_ok _ _ _
     (λ p come. text_ends c.args.text.now c.loop-block.reader c.loop-block.gathered p
-    c.loop-block.invariant takes come) c.parsed.ensures
+    c.loop-block.invariant takes.0 come) c.parsed.ensures

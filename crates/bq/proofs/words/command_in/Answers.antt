@@ -24,7 +24,7 @@ refused :
     → IsRefusedBy error r → AskNothing words r
 refused words error refusal.Words has is =
     none_asked (fault_of program words) words error has is
-refused words error refusal.OutOfMemory has is = is
+refused words error refusal.OutOfMemory has is = tt
 refused words error (refusal.Load fault) has is = is
 refused words error (refusal.Book fault) has is = is
 refused words error (refusal.Query q) has is = is
