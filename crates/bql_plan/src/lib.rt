@@ -30,6 +30,10 @@
 //! the first counts. What only orders rows stands behind the targets, and aggregates are counted in
 //! the order of reading over all of these; of both equal ones stand once.
 //!
+//! # What is taken for granted
+//!
+//! That what [`unwritten`] made was made for this query.
+//!
 //! # Cost
 //!
 //! Each expression that is looked for is compared with those before it. A plan takes memory for its

@@ -94,7 +94,8 @@ fn filter_with_shapes<'q, 'a>(
     }
 }
 
-/// What is computed for a query that has a type.
+/// What is computed for a query that has a type, with what isn't written of its SELECT, as
+/// [`unwritten`](crate::made::unwritten) makes it.
 pub fn planned<'q, 'a>(
     alloc: Global,
     typed: &Typed<'q, 'a>,
