@@ -100,10 +100,10 @@ order_tree : (b : Bounds) (g : Grouping) (ts : List Target) (place : ℕ) (k : I
     → order_causes_by b g ts place k ≡ [] → AreFaultless b (tree_by k)
 order_tree b g ts place (target_item index) e = tt
 order_tree b g ts place (tree_item t) e =
-    let h = no_more (shown_causes b g t) (order_causes_at b (place_of t) t) e in (
-      (no_more (shape_causes b t) (misplaced b (not g.is_aggregating) t ++ grouped_causes g t) h.0).0,
-      tt,
-    )
+    let h = no_more (shown_causes b g t) (order_causes_at b (place_of t) t) e in
+    let k = no_more (shape_causes b t)
+    (misplaced b (not g.is_aggregating) t ++ grouped_causes g t) h.0 in
+    (k.0, tt)
 
 in_order : (b : Bounds) (g : Grouping) (ts : List Target) (is : List Item)
     → each (order_item_causes b g ts) is ≡ [] → AreFaultless b (own_trees is)
@@ -264,7 +264,8 @@ pub plan_is_whole : (b : Bounds) (q : Settled) → IsTyped b q → IsWholePlan (
 plan_is_whole b q e =
     let s = standing q in
     let h = faultless b s e in
-    let all_shown = are_added b (own_trees s.order.items) (map target_tree s.targets) h.targets h.order in
+    let all_shown = are_added b (own_trees s.order.items) (map target_tree s.targets) h.targets
+    h.order in
     record {
       from = planned_filter b s.filters.from h.from;
       filter = planned_filter b s.filters.filter h.filter;

@@ -1,6 +1,6 @@
 -- Which shapes are whole: those of an expression that has one with each of its parts.
-use Rattle.std.specs.Prelude.{ℕ, ◌≡◌, Bool, true, ◌&&◌, List, [], ◌∷◌, ◌++◌, map, Option, Some, None}
-use Rattle.std.specs.Prelude.{◌⊎◌}
+use Rattle.std.specs.Prelude.{ℕ, ◌≡◌, Bool, true, ◌&&◌, List, [], ◌∷◌, ◌++◌, map, Option, Some}
+use Rattle.std.specs.Prelude.{None, ◌⊎◌}
 use Rattle.std.specs.List.{AllByRecursion}
 use Rattle.bean_base.specs.declared.bounds.Bounds.{Bounds}
 use Rattle.bql_parser.specs.Settled.{Settled, Item}

@@ -53,7 +53,8 @@ fn with_shapes<'q, 'a>(
     key: Key<'q, 'a>,
 ) -> Result<Shaped<'q, 'a>, AllocError>
     requires { AreBounds bounds.now }
-    ensures { IfOk result (λ p. view.shaped_of p ≡ rule.with_shapes bounds.now (lent_tree key.entry)) }
+    ensures { IfOk result (λ p. view.shaped_of p
+        ≡ rule.with_shapes bounds.now (lent_tree key.entry)) }
 {
     Ok(Shaped {
         expr: key.expr,
