@@ -156,7 +156,8 @@ aggregates_same b (call_of f) parts ss e =
 -- a NULL is null by any bounds
 null_same : (b : Bounds) (t : Tree ℕ) → is_null t ≡ true → (rows : List Reading)
     → value_of b rows t ≡ value_of least rows t
-null_same b (node at (leaf_of leaf.Null) parts) e rows = refl
+null_same b (node at (leaf_of leaf.Null) no_trees) e rows = refl
+null_same b (node at (leaf_of leaf.Null) (trees t ts)) e rows = absurd cc
 null_same b (node at (leaf_of l) parts) e rows = absurd cc
 null_same b (node at op parts) e rows = absurd cc
 

@@ -160,7 +160,8 @@ abbrev mutual
   all_placed (trees t ts) = trees (placed t) (all_placed ts)
 
 null_kept : (t : Tree ℕ) → is_null (placed (bare t)) ≡ is_null t
-null_kept (node at (leaf_of leaf.Null) parts) = refl
+null_kept (node at (leaf_of leaf.Null) no_trees) = refl
+null_kept (node at (leaf_of leaf.Null) (trees t ts)) = refl
 null_kept (node at (leaf_of l) parts) = refl
 null_kept (node at op parts) = refl
 

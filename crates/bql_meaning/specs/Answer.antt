@@ -6,8 +6,8 @@ use Rattle.bql_parser.specs.Clause as clause
 use Rattle.bql_parser.specs.Settled.{Target, Settled}
 use Rattle.bql_plan.specs.Ordering.{row_order}
 use Rattle.bql_plan.specs.Plan.{Plan, plan}
-use Rattle.bql_plan.specs.declared.standing.RowOrder.{RowOrder}
-use Rattle.bql_plan.specs.declared.standing.RowOrder.TheVariants.{AsAsked, ByRoot}
+use Rattle.bql_plan.specs.declared.asked.RowOrder.{RowOrder}
+use Rattle.bql_plan.specs.declared.asked.RowOrder.TheVariants.{AsAsked, ByRoot}
 use Rattle.bql_tree.specs.Tree.{Tree}
 use Rattle.bql_types.specs.Standing.{Select, standing}
 use Rattle.bql_types.specs.Typing.{Grouping}

@@ -1,2 +1,4 @@
+pub mod LabelFacts
 pub mod PlanFacts
 pub mod LawFacts
+pub mod WholeFacts

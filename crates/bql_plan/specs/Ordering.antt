@@ -1,8 +1,8 @@
 -- How the rows of a query are ordered.
 use Rattle.bql_parser.specs.Clause.{selecting, journaling, balancing}
 use Rattle.bql_parser.specs.Settled.{Settled}
-use Rattle.bql_plan.specs.declared.standing.RowOrder.{RowOrder}
-use Rattle.bql_plan.specs.declared.standing.RowOrder.TheVariants.{AsAsked, ByRoot}
+use Rattle.bql_plan.specs.declared.asked.RowOrder.{RowOrder}
+use Rattle.bql_plan.specs.declared.asked.RowOrder.TheVariants.{AsAsked, ByRoot}
 
 -- as the SELECT asks that a query is or stands for; of a BALANCES by the roots of its accounts, and
 -- then by the accounts

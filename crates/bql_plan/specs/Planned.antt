@@ -1,12 +1,40 @@
--- The plans that are made.
-use Rattle.bql_plan.specs.Plan as plan
-use Rattle.bql_plan.specs.declared.plan.Plan.{Plan}
-use Rattle.bql_types.specs.Keys.{grouping_of, lent_trees}
+-- What is computed for a query, each expression with the shapes of it and of its parts.
+use Rattle.std.specs.Prelude.{ℕ, Bool, List, map, Option}
+use Rattle.std.specs.Option.{option_map}
+use Rattle.bean_base.specs.declared.bounds.Bounds.{Bounds}
+use Rattle.bql_plan.specs.Labels.{Label, labelled}
+use Rattle.bql_plan.specs.Plan as numbered
+use Rattle.bql_plan.specs.Plan.{plan}
+use Rattle.bql_tree.specs.Tree.{Tree}
+use Rattle.bql_types.specs.Standing.{Select}
 
-abbrev pub plan_of : Plan → plan.Plan
-plan_of p = record {
-  shown = lent_trees p.shown.items;
-  order = p.order.items;
-  grouping = grouping_of p.grouping;
-  aggregates = lent_trees p.aggregates.items;
+pub record Shaped : Type 0 where
+  pub tree : Tree ℕ
+  pub shapes : Label
+
+abbrev pub with_shapes : Bounds → Tree ℕ → Shaped
+with_shapes b t = record { tree = t; shapes = labelled b t }
+
+pub record Plan : Type 0 where
+  pub from : Option Shaped
+  pub filter : Option Shaped
+  pub shown : List Shaped
+  pub order : List ℕ
+  pub is_aggregating : Bool
+  pub keys : List Shaped
+  pub aggregates : List Shaped
+
+abbrev pub planned_over : Bounds → Select → numbered.Plan → Plan
+planned_over b s p = record {
+  from = option_map (with_shapes b) s.filters.from;
+  filter = option_map (with_shapes b) s.filters.filter;
+  shown = map (with_shapes b) p.shown;
+  order = p.order;
+  is_aggregating = p.grouping.is_aggregating;
+  keys = map (with_shapes b) p.grouping.keys;
+  aggregates = map (with_shapes b) p.aggregates;
 }
+
+-- the filters of the SELECT, and what it shows, orders by, groups by and gathers, as it is numbered
+abbrev pub planned : Bounds → Select → Plan
+planned b s = planned_over b s (plan s)

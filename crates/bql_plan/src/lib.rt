@@ -1,18 +1,27 @@
-//! What is computed for a query, numbered as a program has it.
+//! What is computed for a query, numbered as a program has it, with its shapes.
 //!
 //! ```text
-//! let standing = into_select(alloc, parse_query(alloc, text)?)?;
-//! // "SELECT year, sum(number), 2 * sum(number) ORDER BY 2, month, year"
-//! let plan = planned(alloc, &standing.select)?;
-//! // plan.shown:      year, sum(number), 2 * sum(number), and hidden behind them month
+//! // "SELECT year, sum(number), 2 * sum(number) ORDER BY 2, max(month), year"
+//! let query = parse_query(alloc, text)?;
+//! let typed = type_query(alloc, &query, &bounds)?;
+//! let made = unwritten(alloc, typed.query)?;
+//! let plan = planned(alloc, &typed, &made)?;
+//! // plan.shown:      year, sum(number), 2 * sum(number), and hidden behind them max(month)
 //! // plan.order:      1, 3, 0
-//! // plan.grouping:   the query aggregates, by the key year
-//! // plan.aggregates: sum(number), once
+//! // plan.keys:       year, since the query aggregates
+//! // plan.aggregates: sum(number), once, and max(month)
 //! ```
 //!
-//! A JOURNAL and a BALANCES stand for a SELECT, into which [`into_select`] makes them. What the rows
-//! of a BALANCES are ordered by is none of its targets, so a [`RowOrder`] stands beside the SELECT:
-//! the roots of their accounts, and then the accounts.
+//! A JOURNAL and a BALANCES stand for a SELECT. What isn't written of it is made by [`unwritten`],
+//! and [`asked_select`] lends the whole, with the filters of the query. What the rows of a BALANCES
+//! are ordered by is none of its targets, so [`row_order`] tells it: the roots of their accounts,
+//! and then the accounts.
+//!
+//! # Shapes
+//!
+//! Each expression of a plan has its shape and those of all its parts beside it ([`Shapes`]), by
+//! the bounds within which the query has its type. None lacks but that of a NULL which is a side of
+//! an equation.
 //!
 //! # What is the same
 //!
@@ -23,17 +32,22 @@
 //!
 //! # What is taken for granted
 //!
-//! Nothing: also a query that has no type has a plan, though no program.
+//! That what [`unwritten`] made was made for this query.
 //!
 //! # Cost
 //!
 //! Each expression that is looked for is compared with those before it. A plan takes memory for its
-//! lists; expressions are lent.
+//! lists and shapes; expressions are lent.
 #![tactic(auto)]
 
+pub mod asked;
+mod exprs;
+pub mod labels;
 pub mod laws;
+pub mod made;
 pub mod plan;
-pub mod standing;
 
-pub use plan::{Plan, planned};
-pub use standing::{RowOrder, Standing, into_select};
+pub use asked::{Asked, RowOrder, asked_select, row_order};
+pub use labels::{Shapes, shapes_of};
+pub use made::unwritten;
+pub use plan::{Plan, Shaped, planned};

@@ -1,196 +1,125 @@
-//! What is computed for a query.
-ghost use Rattle.std.specs.Prelude.{◌≡◌, IfOk, [], map};
-ghost use Rattle.theory.specs.Form.{steps};
-ghost use Rattle.bql_parser.specs.Answer.{select_of, target_of, item_of, kind_of};
-ghost use Rattle.bql_plan.specs.Plan as rule;
-ghost use Rattle.bql_plan.specs.Planned as view;
-ghost use Rattle.bql_tree.specs.Tree.{tree_of, trees_of};
+//! What is computed for a query, with its shapes.
+ghost use Rattle.std.specs.Prelude.{◌≡◌, IfOk, map};
+ghost use Rattle.std.specs.Option.{option_map};
+ghost use Rattle.bql_parser.specs.Answer.{query_of, select_of};
+ghost use Rattle.bql_plan.specs.Kept as view;
+ghost use Rattle.bql_plan.specs.Planned as rule;
+ghost use Rattle.bql_plan.specs.Unwritten.{unwritten};
+ghost use Rattle.bql_plan.specs.Whole.{IsWholePlan};
 ghost use Rattle.bql_types.specs.Keys.{lent_tree, lent_trees};
-ghost use Rattle.bql_types.specs.Typing.{target_tree};
+ghost use Rattle.bql_types.specs.Standing.{standing};
+ghost use Rattle.query_columns.specs.ColumnShape.{AreBounds};
 
-use bql_parser::{Item, ItemKind, Select, Target};
+use crate::asked::asked_select;
+use crate::exprs::{aggregates, order, targets_shown, with_items};
+use crate::labels::{Shapes, shapes_of};
+use bean_base::Bounds;
+use bql_parser::Select;
 use bql_tree::Expr;
-use bql_types::aggregates::{is_aggregate_function, is_rows};
-use bql_types::grouped::{Key, is_key};
-use bql_types::grouping::{Grouping, grouped_by};
-use bql_types::same::same;
+use bql_types::Typed;
+use bql_types::grouped::Key;
+use bql_types::grouping::grouped_by;
 use std::alloc::{AllocError, Global};
+
+/// An expression of a query, lent, and the shapes of it and of its parts.
+#[derive(Debug, Drop)]
+pub struct Shaped<'q, 'a> {
+    pub expr: &'q Expr<'a>,
+    pub shapes: Shapes,
+}
 
 /// What is computed for a SELECT. All expressions are lent from it.
 #[derive(Drop)]
 pub struct Plan<'q, 'a> {
+    /// Which transactions pass.
+    pub from: Option<Shaped<'q, 'a>>,
+    /// Which of their postings.
+    pub filter: Option<Shaped<'q, 'a>>,
     /// The targets, and behind them what only orders rows, equal ones once.
-    pub shown: Vec<Key<'q, 'a>>,
+    pub shown: Vec<Shaped<'q, 'a>>,
     /// What orders rows, as indices of what is shown.
     pub order: Vec<usize>,
-    pub grouping: Grouping<'q, 'a>,
+    pub is_aggregating: bool,
+    /// What rows are grouped by. They count only where the query aggregates.
+    pub keys: Vec<Shaped<'q, 'a>>,
     /// The aggregates of all that is shown, in order of reading, equal ones once.
-    pub aggregates: Vec<Key<'q, 'a>>,
+    pub aggregates: Vec<Shaped<'q, 'a>>,
 }
 
-/// One more expression, unless one that is the same stands before it.
-fn added<'q, 'a>(
-    exprs: Vec<Key<'q, 'a>>,
-    expr: &'q Expr<'a>,
-) -> Result<Vec<Key<'q, 'a>>, AllocError>
-    ensures { IfOk result (λ r. lent_trees r.items
-        ≡ rule.added (lent_trees exprs.entry.items) (tree_of expr.now)) }
-{
-    let mut exprs = exprs;
-    if is_key(exprs.as_slice(), expr) {
-        return Ok(exprs);
-    }
-    exprs.push(Key { expr })?;
-    Ok(exprs)
-}
-
-/// The index of the first expression that is the same.
-fn index_of(exprs: &[Key<'_, '_>], expr: &Expr<'_>) -> usize
-    ensures { result ≡ rule.index_of (lent_trees exprs.now) (tree_of expr.now) }
-{
-    for i in 0..exprs.len() {
-        if same(expr, exprs[i].expr) {
-            return i;
-        }
-    }
-    exprs.len()
-}
-
-/// The aggregates of an expression behind others, equal ones once.
-#[cycle(gathered)]
-fn gathered<'q, 'a>(
-    e: &'q Expr<'a>,
-    found: Vec<Key<'q, 'a>>,
-) -> Result<Vec<Key<'q, 'a>>, AllocError>
-    ensures { IfOk result (λ r. lent_trees r.items
-        ≡ steps rule.added (lent_trees found.entry.items) (rule.aggregates_in (tree_of e.now))) }
-{
-    match e {
-        Expr::Leaf(_, leaf) => {
-            if is_rows(leaf) {
-                added(found, e)
-            } else {
-                Ok(found)
-            }
-        }
-        Expr::One(_, _, x) => gathered(x, found),
-        Expr::Two(_, _, x, y) => {
-            let found = gathered(x, found)?;
-            gathered(y, found)
-        }
-        Expr::Call(_, function, arguments) => {
-            if is_aggregate_function(*function) {
-                added(found, e)
-            } else {
-                all_gathered(arguments, found)
-            }
-        }
-    }
-}
-
-#[cycle(gathered)]
-fn all_gathered<'q, 'a>(
-    es: &'q [Expr<'a>],
-    found: Vec<Key<'q, 'a>>,
-) -> Result<Vec<Key<'q, 'a>>, AllocError>
-    ensures { IfOk result (λ r. lent_trees r.items
-        ≡ steps rule.added (lent_trees found.entry.items) (rule.all_aggregates (trees_of es.now))) }
-{
-    let mut found = found;
-    for e in es {
-        found = gathered(e, found)?;
-    }
-    Ok(found)
-}
-
-/// The aggregates of some expressions, equal ones once.
-fn aggregates<'q, 'a>(alloc: Global, exprs: &[Key<'q, 'a>]) -> Result<Vec<Key<'q, 'a>>, AllocError>
-    ensures { IfOk result (λ r. lent_trees r.items
-        ≡ steps rule.added [] (rule.aggregates_of (lent_trees exprs.now))) }
-{
-    let mut found = Vec::new(alloc);
-    for key in exprs {
-        found = gathered(key.expr, found)?;
-    }
-    Ok(found)
-}
-
-/// The expressions of the targets.
-fn targets_shown<'q, 'a>(
+/// An expression with its shapes.
+fn with_shapes<'q, 'a>(
     alloc: Global,
-    targets: &'q [Target<'a>],
-) -> Result<Vec<Key<'q, 'a>>, AllocError>
-    ensures { IfOk result (λ r. lent_trees r.items
-        ≡ map target_tree (map target_of targets.now)) }
+    bounds: &Bounds,
+    key: Key<'q, 'a>,
+) -> Result<Shaped<'q, 'a>, AllocError>
+    requires { AreBounds bounds.now }
+    ensures { IfOk result (λ p. view.shaped_of p
+        ≡ rule.with_shapes bounds.now (lent_tree key.entry)) }
 {
-    let mut shown = Vec::new(alloc);
-    for target in targets {
-        shown.push(Key { expr: &target.expr })?;
-    }
-    Ok(shown)
+    Ok(Shaped {
+        expr: key.expr,
+        shapes: shapes_of(alloc, bounds, key.expr)?,
+    })
 }
 
-/// What an item orders rows by, behind what is shown.
-fn with_item<'q, 'a>(
-    shown: Vec<Key<'q, 'a>>,
-    item: &'q Item<'a>,
-) -> Result<Vec<Key<'q, 'a>>, AllocError>
-    ensures { IfOk result (λ r. lent_trees r.items ≡ steps rule.added
-        (lent_trees shown.entry.items) (rule.tree_by (kind_of item.now.kind))) }
+/// Expressions with their shapes.
+fn all_with_shapes<'q, 'a>(
+    alloc: Global,
+    bounds: &Bounds,
+    keys: &[Key<'q, 'a>],
+) -> Result<Vec<Shaped<'q, 'a>>, AllocError>
+    requires { AreBounds bounds.now }
+    ensures { IfOk result (λ r. view.all_of r
+        ≡ map (rule.with_shapes bounds.now) (lent_trees keys.now)) }
 {
-    match &item.kind {
-        ItemKind::Target(_) => Ok(shown),
-        ItemKind::Expr(e) => added(shown, e),
+    let mut all = Vec::new(alloc);
+    for key in keys {
+        all.push(with_shapes(alloc, bounds, *key)?)?;
     }
+    Ok(all)
 }
 
-/// What is shown, and behind it what only orders rows.
-fn with_items<'q, 'a>(
-    shown: Vec<Key<'q, 'a>>,
-    items: &'q [Item<'a>],
-) -> Result<Vec<Key<'q, 'a>>, AllocError>
-    ensures { IfOk result (λ r. lent_trees r.items ≡ steps rule.added
-        (lent_trees shown.entry.items) (rule.own_trees (map item_of items.now))) }
+/// A filter with its shapes, if there is one.
+fn filter_with_shapes<'q, 'a>(
+    alloc: Global,
+    bounds: &Bounds,
+    filter: Option<Key<'q, 'a>>,
+) -> Result<Option<Shaped<'q, 'a>>, AllocError>
+    requires { AreBounds bounds.now }
+    ensures { IfOk result (λ r. view.filter_of r
+        ≡ option_map (rule.with_shapes bounds.now) (view.lent_filter filter.entry)) }
 {
-    let mut shown = shown;
-    for item in items {
-        shown = with_item(shown, item)?;
-    }
-    Ok(shown)
-}
-
-/// The index of what an item orders rows by.
-fn index_for(shown: &[Key<'_, '_>], item: &Item<'_>) -> usize
-    ensures { result ≡ rule.index_for (lent_trees shown.now) (item_of item.now) }
-{
-    match &item.kind {
-        ItemKind::Target(index) => *index,
-        ItemKind::Expr(e) => index_of(shown, e),
+    match filter {
+        Some(filter) => Ok(Some(with_shapes(alloc, bounds, filter)?)),
+        None => Ok(None),
     }
 }
 
-/// The indices of what orders rows.
-fn order(alloc: Global, shown: &[Key<'_, '_>], items: &[Item<'_>]) -> Result<Vec<usize>, AllocError>
-    ensures { IfOk result (λ r. r.items
-        ≡ map (rule.index_for (lent_trees shown.now)) (map item_of items.now)) }
+/// What is computed for a query that has a type, with what isn't written of its SELECT, as
+/// [`unwritten`](crate::made::unwritten) makes it.
+pub fn planned<'q, 'a>(
+    alloc: Global,
+    typed: &Typed<'q, 'a>,
+    made: &'q Select<'a>,
+) -> Result<Plan<'q, 'a>, AllocError>
+    requires { select_of made.now ≡ unwritten (query_of typed.now.query.now) }
+    ensures plan { IfOk result (λ p. view.plan_of p
+        ≡ rule.planned typed.now.bounds (standing (query_of typed.now.query.now))) }
+    ensures whole { IfOk result (λ p. IsWholePlan (view.plan_of p)) }
 {
-    let mut order = Vec::new(alloc);
-    for item in items {
-        order.push(index_for(shown, item))?;
-    }
-    Ok(order)
-}
-
-/// What is computed for a SELECT.
-pub fn planned<'q, 'a>(alloc: Global, select: &'q Select<'a>) -> Result<Plan<'q, 'a>, AllocError>
-    ensures { IfOk result (λ p. view.plan_of p ≡ rule.plan (select_of select.now)) }
-{
-    let shown = targets_shown(alloc, select.targets.as_slice())?;
-    let shown = with_items(shown, select.order.items.as_slice())?;
+    let bounds = &typed.bounds;
+    let select = asked_select(typed.query, made);
+    let shown = targets_shown(alloc, select.targets)?;
+    let shown = with_items(shown, select.order)?;
+    let grouping = grouped_by(alloc, select.targets, select.group)?;
+    let aggregates = aggregates(alloc, shown.as_slice())?;
     Ok(Plan {
-        order: order(alloc, shown.as_slice(), select.order.items.as_slice())?,
-        grouping: grouped_by(alloc, select.targets.as_slice(), &select.group)?,
-        aggregates: aggregates(alloc, shown.as_slice())?,
-        shown,
+        from: filter_with_shapes(alloc, bounds, select.from)?,
+        filter: filter_with_shapes(alloc, bounds, select.filter)?,
+        order: order(alloc, shown.as_slice(), select.order)?,
+        shown: all_with_shapes(alloc, bounds, shown.as_slice())?,
+        is_aggregating: grouping.is_aggregating,
+        keys: all_with_shapes(alloc, bounds, grouping.keys.as_slice())?,
+        aggregates: all_with_shapes(alloc, bounds, aggregates.as_slice())?,
     })
 }

@@ -1,6 +1,5 @@
 pub mod CauseFacts
 pub mod ShapeFacts
-pub mod LabelFacts
 pub mod SameFacts
 pub mod ItemFacts
 pub mod LawFacts

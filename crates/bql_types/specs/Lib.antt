@@ -5,7 +5,6 @@ pub mod Sought
 pub mod Standing
 pub mod Typing
 pub mod Answer
-pub mod Labels
 pub mod Seen
 pub mod Named
 pub mod Keys

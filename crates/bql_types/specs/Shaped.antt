@@ -21,7 +21,7 @@ use Rattle.bql_types.specs.declared.shaped.Operand.{Operand}
 use Rattle.bql_types.specs.declared.shaped.Operand.TheVariants.{Null, Shaped, Shapeless}
 
 abbrev pub is_null : Tree ℕ → Bool
-is_null (node at (leaf_of leaf.Null) ts) = true
+is_null (node at (leaf_of leaf.Null) no_trees) = true
 is_null t = false
 
 abbrev pub is_equality : Binary → Bool

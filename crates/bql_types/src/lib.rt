@@ -49,16 +49,14 @@ pub mod fault;
 pub mod grouped;
 pub mod grouping;
 mod items;
-pub mod labels;
 pub mod laws;
 pub mod same;
-mod shaped;
+pub mod shaped;
 mod targets;
 pub mod typed;
 pub mod typing;
 
 pub use cause::{Cause, CauseKind};
 pub use fault::TypeFault;
-pub use labels::{Shapes, shapes_of};
 pub use typed::Typed;
 pub use typing::type_query;

@@ -69,7 +69,7 @@ fn concluded(place: usize, ruled: Option<Result<Shape, Misfit>>, found: Option<C
     }
 }
 
-pub(crate) fn is_null(e: &Expr<'_>) -> bool
+pub fn is_null(e: &Expr<'_>) -> bool
     ensures { result ≡ rule.is_null (tree_of e.now) }
 {
     match e {
@@ -78,7 +78,7 @@ pub(crate) fn is_null(e: &Expr<'_>) -> bool
     }
 }
 
-pub(crate) fn is_equality(op: Binary) -> bool
+pub fn is_equality(op: Binary) -> bool
     ensures { result ≡ rule.is_equality op }
 {
     op == Binary::Equal || op == Binary::NotEqual
@@ -96,7 +96,7 @@ fn beside_null(op: Binary) -> Result<Shape, Misfit>
 }
 
 /// What an operation on one part gives, if it has a shape.
-pub(crate) fn before(op: &Unary<'_>, x: Option<Shape>) -> Option<Result<Shape, Misfit>>
+pub fn before(op: &Unary<'_>, x: Option<Shape>) -> Option<Result<Shape, Misfit>>
     ensures { result ≡ seen_rule.before op.now x }
 {
     match x {
@@ -106,7 +106,7 @@ pub(crate) fn before(op: &Unary<'_>, x: Option<Shape>) -> Option<Result<Shape, M
 }
 
 /// What an operation between two parts gives, if they have shapes.
-pub(crate) fn between(op: Binary, x: Operand, y: Operand) -> Option<Result<Shape, Misfit>>
+pub fn between(op: Binary, x: Operand, y: Operand) -> Option<Result<Shape, Misfit>>
     ensures { result ≡ seen_rule.between op x y }
 {
     match (x, y) {
@@ -119,7 +119,7 @@ pub(crate) fn between(op: Binary, x: Operand, y: Operand) -> Option<Result<Shape
 }
 
 /// One more shape behind those of the parts before, if all have one.
-pub(crate) fn one_more(
+pub fn one_more(
     shapes: Option<Vec<Shape>>,
     shape: Option<Shape>,
 ) -> Result<Option<Vec<Shape>>, AllocError>
@@ -136,7 +136,7 @@ pub(crate) fn one_more(
 }
 
 /// What a function gives on its parts, if they have shapes.
-pub(crate) fn called(
+pub fn called(
     bounds: &Bounds,
     function: Function,
     shapes: Option<Vec<Shape>>,

@@ -1,99 +1,165 @@
 //! What is computed for queries.
 
+use crate::shapes::push_letters;
+use bean_base::Bounds;
 use bql_parser::parse_query;
-use bql_plan::{RowOrder, into_select, planned};
-use std::alloc::Global;
+use bql_plan::{Plan, RowOrder, Shaped, planned, row_order, unwritten};
+use bql_types::type_query;
+use std::alloc::{AllocError, Global};
 use std::test::Fail;
 
-/// How many expressions are shown or hidden, what orders rows, and how many keys and aggregates
-/// there are.
-#[derive(Debug, Drop, PartialEq, Eq)]
-struct Counts {
-    shown: usize,
-    first_order: Option<usize>,
-    last_order: Option<usize>,
-    keys: usize,
-    aggregates: usize,
+const WIDEST: Bounds = Bounds {
+    postings: 1_000_000,
+    units_digits: 20,
+    value_digits: 28,
+};
+
+/// How many expressions are shown or hidden, how many keys and aggregates there are, and what
+/// orders rows.
+fn push_counts(alloc: Global, words: &mut String, plan: &Plan<'_, '_>) -> Result<(), AllocError> {
+    let shown = plan.shown.len();
+    let keys = plan.keys.len();
+    let aggregates = plan.aggregates.len();
+    let counts = format!(in alloc; "{shown} shown, {keys} keys, {aggregates} aggregates, by")?;
+    words.push_str(counts.as_str())?;
+    for index in plan.order.as_slice() {
+        let by = format!(in alloc; " {index}")?;
+        words.push_str(by.as_str())?;
+    }
+    Ok(())
 }
 
-fn counted(alloc: Global, text: &str) -> Option<Counts> {
+fn push_each(words: &mut String, name: &str, all: &[Shaped<'_, '_>]) -> Result<(), AllocError> {
+    words.push_str(name)?;
+    for one in all {
+        words.push_str(" ")?;
+        push_letters(words, &one.shapes)?;
+    }
+    Ok(())
+}
+
+fn push_filter(
+    words: &mut String,
+    name: &str,
+    filter: &Option<Shaped<'_, '_>>,
+) -> Result<(), AllocError> {
+    if let Some(filter) = filter {
+        words.push_str(name)?;
+        push_letters(words, &filter.shapes)?;
+    }
+    Ok(())
+}
+
+/// The shapes of all that is computed.
+fn push_shapes(words: &mut String, plan: &Plan<'_, '_>) -> Result<(), AllocError> {
+    push_filter(words, "from ", &plan.from)?;
+    push_filter(words, "where ", &plan.filter)?;
+    push_each(words, "; shown", plan.shown.as_slice())?;
+    push_each(words, "; keys", plan.keys.as_slice())?;
+    push_each(words, "; aggregates", plan.aggregates.as_slice())
+}
+
+/// What is computed for a query, by its counts or by its shapes.
+fn told(alloc: Global, text: &str, by_counts: bool) -> Option<String> {
     let Ok(query) = parse_query(alloc, text) else {
         return None;
     };
-    let Ok(standing) = into_select(alloc, query) else {
+    let Ok(typed) = type_query(alloc, &query, &WIDEST) else {
         return None;
     };
-    match planned(alloc, &standing.select) {
-        Ok(plan) => Some(Counts {
-            shown: plan.shown.len(),
-            first_order: plan.order.first().copied(),
-            last_order: plan.order.last().copied(),
-            keys: plan.grouping.keys.len(),
-            aggregates: plan.aggregates.len(),
-        }),
-        Err(_) => None,
-    }
+    let Ok(made) = unwritten(alloc, typed.query) else {
+        return None;
+    };
+    let plan = planned(alloc, &typed, &made).ok()?;
+    let mut words = String::new(alloc);
+    let pushed = if by_counts {
+        push_counts(alloc, &mut words, &plan)
+    } else {
+        push_shapes(&mut words, &plan)
+    };
+    pushed.ok()?;
+    Some(words)
 }
 
 #[test]
 fn plans_of_queries(rt: HostRuntime) -> Result<(), Fail> {
     let wanted = [
-        ("SELECT account, sum(position)", 2, None, None, 1, 1),
         (
-            "SELECT year, sum(number), 2 * sum(number) ORDER BY 2, month, year",
-            4,
-            Some(1),
-            Some(0),
-            1,
-            1,
+            "SELECT account, sum(position)",
+            "2 shown, 1 keys, 1 aggregates, by",
+        ),
+        (
+            "SELECT year, sum(number), 2 * sum(number) GROUP BY 1, month ORDER BY 2, month, year",
+            "4 shown, 2 keys, 1 aggregates, by 1 3 0",
         ),
         (
             "SELECT count(*) ORDER BY max(date), count(*), MAX((date))",
-            2,
-            Some(1),
-            Some(1),
-            0,
-            2,
+            "2 shown, 0 keys, 2 aggregates, by 1 0 1",
         ),
         (
             "SELECT year AS y, year GROUP BY y, 1, month",
-            2,
-            None,
-            None,
-            3,
-            0,
+            "2 shown, 3 keys, 0 aggregates, by",
         ),
         (
             "SELECT year, year ORDER BY +year",
-            2,
-            Some(0),
-            Some(0),
-            2,
-            0,
+            "2 shown, 2 keys, 0 aggregates, by 0",
         ),
-        ("JOURNAL 'cash' AT cost", 7, None, None, 7, 0),
-        ("BALANCES AT units", 2, None, None, 1, 1),
     ];
-    for (text, shown, first_order, last_order, keys, aggregates) in wanted {
-        let wanted = Counts {
-            shown,
-            first_order,
-            last_order,
-            keys,
-            aggregates,
-        };
-        assert_eq!(rt; counted(rt.alloc(), text), Some(wanted));
+    for (text, words) in wanted {
+        let found = told(rt.alloc(), text, true);
+        assert_eq!(rt; found.as_ref().map_or("none", String::as_str), words);
+    }
+    Ok(())
+}
+
+#[test]
+fn plans_of_what_is_not_written(rt: HostRuntime) -> Result<(), Fail> {
+    let wanted = [
+        (
+            "JOURNAL 'cash' AT cost FROM year = 2014",
+            "from T(NN)where T(X); shown D X X X X A(P) I(I); keys D X X X X A(P) I(I); aggregates",
+        ),
+        (
+            "BALANCES AT units WHERE account ~ 'a'",
+            "where T(X); shown X I(A(P)); keys X; aggregates I(A(P))",
+        ),
+        ("BALANCES", "; shown X I(P); keys X; aggregates I(P)"),
+    ];
+    for (text, words) in wanted {
+        let found = told(rt.alloc(), text, false);
+        assert_eq!(rt; found.as_ref().map_or("none", String::as_str), words);
+    }
+    Ok(())
+}
+
+#[test]
+fn shapes_of_plans(rt: HostRuntime) -> Result<(), Fail> {
+    let wanted = [
+        (
+            "SELECT account WHERE number > 1 AND payee = NULL",
+            "where T(T(NN)T(X-)); shown X; keys X; aggregates",
+        ),
+        (
+            "SELECT year, count(*) + 1 FROM year > 2013 GROUP BY year, month + 1",
+            "from T(NN); shown N N(NN); keys N N(NN); aggregates N",
+        ),
+        (
+            "SELECT NULL != date, max(number) GROUP BY NULL != date ORDER BY max(number)",
+            "; shown T(-D) N(N); keys T(-D); aggregates N(N)",
+        ),
+        ("SELECT account + 1", "none"),
+    ];
+    for (text, words) in wanted {
+        let found = told(rt.alloc(), text, false);
+        assert_eq!(rt; found.as_ref().map_or("none", String::as_str), words);
     }
     Ok(())
 }
 
 /// How the rows of a query are ordered.
-fn row_order(alloc: Global, text: &str) -> Option<RowOrder> {
-    let Ok(query) = parse_query(alloc, text) else {
-        return None;
-    };
-    match into_select(alloc, query) {
-        Ok(standing) => Some(standing.order),
+fn order_of(alloc: Global, text: &str) -> Option<RowOrder> {
+    match parse_query(alloc, text) {
+        Ok(query) => Some(row_order(&query)),
         Err(_) => None,
     }
 }
@@ -108,7 +174,7 @@ fn balances_are_ordered_by_roots(rt: HostRuntime) -> Result<(), Fail> {
         ("BALANCES AT cost FROM year = 2014", RowOrder::ByRoot),
     ];
     for (text, order) in wanted {
-        assert_eq!(rt; row_order(rt.alloc(), text), Some(order));
+        assert_eq!(rt; order_of(rt.alloc(), text), Some(order));
     }
     Ok(())
 }

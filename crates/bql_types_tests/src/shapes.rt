@@ -1,11 +1,10 @@
 //! Shapes of expressions and of their parts.
 
-ghost use Rattle.query_columns.specs.ColumnShape.{AreBounds};
-
 use bean_base::Bounds;
 use bql_parser::{Query, parse_query};
-use bql_types::{Shapes, shapes_of};
-use std::alloc::Global;
+use bql_plan::{Shapes, shapes_of};
+use query_shapes::Shape;
+use std::alloc::{AllocError, Global};
 use std::test::Fail;
 
 const WIDEST: Bounds = Bounds {
@@ -14,74 +13,70 @@ const WIDEST: Bounds = Bounds {
     value_digits: 28,
 };
 
-/// Whether the whole has a shape, how many parts there are, and whether the first and the last of
-/// them have one.
-#[derive(Debug, Drop, PartialEq, Eq)]
-struct Labelled {
-    whole: bool,
-    parts: usize,
-    first: Option<bool>,
-    last: Option<bool>,
-}
-
-fn described(shapes: &Shapes) -> Labelled {
-    Labelled {
-        whole: shapes.shape.is_some(),
-        parts: shapes.parts.len(),
-        first: shapes.parts.first().map(|part| part.shape.is_some()),
-        last: shapes.parts.last().map(|part| part.shape.is_some()),
+/// A letter for the kind of a shape.
+fn letter(shape: Option<Shape>) -> &'static str {
+    match shape {
+        None => "-",
+        Some(Shape::Truth) => "T",
+        Some(Shape::Text) => "X",
+        Some(Shape::Day) => "D",
+        Some(Shape::Set) => "S",
+        Some(Shape::Number { .. }) => "N",
+        Some(Shape::Amount { .. }) => "A",
+        Some(Shape::Position { .. }) => "P",
+        Some(Shape::Inventory { .. }) => "I",
     }
 }
 
+/// The letter of an expression, and those of its parts behind it in parentheses.
+#[cycle(letters)]
+pub(crate) fn push_letters(letters: &mut String, shapes: &Shapes) -> Result<(), AllocError> {
+    letters.push_str(letter(shapes.shape))?;
+    if shapes.parts.is_empty() {
+        return Ok(());
+    }
+    letters.push_str("(")?;
+    push_parts(letters, shapes.parts.as_slice())?;
+    letters.push_str(")")?;
+    Ok(())
+}
+
+#[cycle(letters)]
+fn push_parts(letters: &mut String, parts: &[Shapes]) -> Result<(), AllocError> {
+    for part in parts {
+        push_letters(letters, part)?;
+    }
+    Ok(())
+}
+
 /// The shapes of a query's first target.
-fn of_first(alloc: Global, text: &str) -> Option<Labelled> {
+fn of_first(alloc: Global, text: &str) -> Option<Shapes> {
     let Ok(Query::Select(select)) = parse_query(alloc, text) else {
         return None;
     };
     let target = select.targets.first()?;
-    match shapes_of(alloc, &WIDEST, &target.expr) {
-        Ok(shapes) => Some(described(&shapes)),
-        Err(_) => None,
-    }
+    shapes_of(alloc, &WIDEST, &target.expr).ok()
 }
 
 #[test]
 fn shapes_of_parts(rt: HostRuntime) -> Result<(), Fail> {
     let wanted = [
-        ("SELECT number", true, 0, None, None),
-        ("SELECT number + 1.5", true, 2, Some(true), Some(true)),
-        (
-            "SELECT cost(sum(position))",
-            true,
-            1,
-            Some(true),
-            Some(true),
-        ),
-        ("SELECT payee = NULL", true, 2, Some(true), Some(false)),
-        ("SELECT NOT account", false, 1, Some(true), Some(true)),
-        (
-            "SELECT account + number * number",
-            false,
-            2,
-            Some(true),
-            Some(false),
-        ),
-        (
-            "SELECT number IN (1, 2.5, 3)",
-            true,
-            4,
-            Some(true),
-            Some(true),
-        ),
+        ("SELECT number", "N"),
+        ("SELECT number + 1.5", "N(NN)"),
+        ("SELECT cost(sum(position))", "I(I(P))"),
+        ("SELECT payee = NULL", "T(X-)"),
+        ("SELECT NULL != date", "T(-D)"),
+        ("SELECT NOT account", "-(X)"),
+        ("SELECT account + number * number", "-(X-(NN))"),
+        ("SELECT number IN (1, 2.5, 3)", "T(NNNN)"),
+        ("SELECT units(position), 'a' IN tags", "A(P)"),
     ];
-    for (text, whole, parts, first, last) in wanted {
-        let wanted = Labelled {
-            whole,
-            parts,
-            first,
-            last,
-        };
-        assert_eq!(rt; of_first(rt.alloc(), text), Some(wanted));
+    for (text, letters) in wanted {
+        let mut found = String::new(rt.alloc());
+        if let Some(shapes) = of_first(rt.alloc(), text) {
+            push_letters(&mut found, &shapes)?;
+        }
+        assert_eq!(rt; found.as_str(), letters);
     }
     Ok(())
 }

@@ -1,0 +1,69 @@
+-- Which shapes are whole: those of an expression that has one with each of its parts.
+use Rattle.std.specs.Prelude.{ℕ, ◌≡◌, Bool, true, ◌&&◌, List, [], ◌∷◌, ◌++◌, map, Option, Some}
+use Rattle.std.specs.Prelude.{None, ◌⊎◌}
+use Rattle.std.specs.List.{AllByRecursion}
+use Rattle.bean_base.specs.declared.bounds.Bounds.{Bounds}
+use Rattle.bql_parser.specs.Settled.{Settled, Item}
+use Rattle.bql_plan.specs.Labels.{Label, Labels, label, labels, no_labels, labelled}
+use Rattle.bql_plan.specs.Plan.{own_trees}
+use Rattle.bql_plan.specs.Planned.{Shaped, Plan}
+use Rattle.bql_tree.specs.Tree.{Tree, node, Trees, trees, no_trees}
+use Rattle.query_shapes.specs.declared.shape.Shape.{Shape}
+use Rattle.bql_types.specs.Shaped.{is_equation, is_null}
+use Rattle.bql_types.specs.Standing.{Select, standing}
+use Rattle.bql_types.specs.Typing.{IsTyped, target_tree}
+
+-- an expression and each of its parts have a shape, but for a NULL that is a side of an equation
+abbrev mutual
+  pub IsWhole : Tree ℕ → Label → Type 0
+  IsWhole (node at op parts) (label s ls) =
+      (t : Shape) × (s ≡ Some t) × AreWhole (is_equation op) parts ls
+
+  pub AreWhole : Bool → Trees ℕ → Labels → Type 0
+  AreWhole eq no_trees no_labels = Unit {0}
+  AreWhole eq (trees t ts) (labels l ls) =
+      (((eq && is_null t) ≡ true) ⊎ IsWhole t l) × AreWhole eq ts ls
+  AreWhole eq ts ls = ⊥
+
+-- ---- queries
+
+abbrev pub filter_trees : Option (Tree ℕ) → List (Tree ℕ)
+filter_trees (Some t) = t ∷ []
+filter_trees None = []
+
+abbrev pub group_trees : Option (List Item) → List (Tree ℕ)
+group_trees (Some is) = own_trees is
+group_trees None = []
+
+-- all expressions that a SELECT has
+abbrev pub expressions : Select → List (Tree ℕ)
+expressions s =
+    map target_tree s.targets
+    ++ (filter_trees s.filters.from
+    ++ (filter_trees s.filters.filter
+    ++ (group_trees s.group ++ own_trees s.order.items)))
+
+abbrev pub HasWholeShapes : Bounds → Tree ℕ → Type 0
+HasWholeShapes b t = IsWhole t (labelled b t)
+
+-- each expression of a query that has a type has whole shapes
+abbrev pub TypedAreWhole : Type 0
+TypedAreWhole = (b : Bounds) (q : Settled) → IsTyped b q
+    → AllByRecursion (HasWholeShapes b) (expressions (standing q))
+
+-- ---- plans
+
+abbrev pub IsWholeShaped : Shaped → Type 0
+IsWholeShaped p = IsWhole p.tree p.shapes
+
+abbrev pub IsWholeFilter : Option Shaped → Type 0
+IsWholeFilter (Some p) = IsWholeShaped p
+IsWholeFilter None = Unit {0}
+
+-- all shapes of a plan are whole
+pub record IsWholePlan (p : Plan) : Type 0 where
+  pub from : IsWholeFilter p.from
+  pub filter : IsWholeFilter p.filter
+  pub shown : AllByRecursion IsWholeShaped p.shown
+  pub keys : AllByRecursion IsWholeShaped p.keys
+  pub aggregates : AllByRecursion IsWholeShaped p.aggregates
