@@ -30,9 +30,9 @@
 pub mod amount;
 pub mod cost;
 pub mod cost_part;
+pub mod details;
 pub mod entry;
 pub mod expression;
-pub mod details;
 pub mod front;
 pub mod grammar;
 pub mod literal;

@@ -38,8 +38,8 @@ impl Posting<'_> {
         };
         let is_left_out = matches!(parts.cost, Cost::OutsideProfile)
             || matches!(parts.price, Price::OutsideProfile);
-        let is_written =
-            !matches!(parts.cost, Cost::Absent) || !matches!(parts.price, Price::Absent);
+        let is_written = !matches!(parts.cost, Cost::Absent)
+            || !matches!(parts.price, Price::Absent);
         match self.units {
             Units::NumberAlone => true,
             Units::Amount(_) => is_left_out,

@@ -11,8 +11,8 @@ ghost use Rattle.bean_lexer.specs.Tokens.{IsToken};
 
 use crate::found::Found;
 use crate::kind::Kind;
-use byte_runs::{Digit, end_of_run};
 use bean_base::days::Day;
+use byte_runs::{Digit, end_of_run};
 
 /// The day or the number that begins with a digit.
 pub fn day_or_number(bytes: &[u8]) -> Found
