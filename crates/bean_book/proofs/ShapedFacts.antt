@@ -179,7 +179,8 @@ row_by_small e line (Some w) p texts small light written at = record {
   units = units_small p.units.number;
   value = value_small p.units p.lot w.details.price light;
   weight = light;
-  weight_currency = worth_short p.units p.lot w.details.price small.currency small.lot written.price;
+  weight_currency =
+      worth_short p.units p.lot w.details.price small.currency small.lot written.price;
   line = written.line;
   texts = short_items w.details.metadata written.metadata;
 }

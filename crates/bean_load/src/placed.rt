@@ -7,8 +7,8 @@ use bean_base::Apart;
 use bean_parser::{Directive, Setting};
 use std::alloc::{AllocError, Global};
 
-/// What is written in a text, with its place. The item lies apart, so that little is moved where many
-/// are sorted.
+/// What is written in a text, with its place. The item lies apart, so that little is moved where
+/// many are sorted.
 #[derive(Debug, Drop)]
 pub struct Placed<T> {
     /// The number of its text, from 0.

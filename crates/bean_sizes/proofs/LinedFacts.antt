@@ -141,6 +141,6 @@ lines_small s [] ls h all before = subst AreSmallLines (sym h) tt
 lines_small s (p ∷ ps) ls h all before =
     subst AreSmallLines (sym h.4)
     (all_joined IsSmallLine h.0 h.1 (lines_small s ps h.0 h.2 all.1 before)
-    (by_units (s.method_of p.account) (left p.account s.before h.0) s.head p.account p.units p.details.cost
-    (length ps) p.details.line h.1 h.3 all.0.account all.0.units all.0.cost
+    (by_units (s.method_of p.account) (left p.account s.before h.0) s.head p.account p.units
+    p.details.cost (length ps) p.details.line h.1 h.3 all.0.account all.0.units all.0.cost
     (left_small p.account s.before h.0 before)))

@@ -33,17 +33,20 @@ pub next_of :
     (before taken : List Position) (i : ℕ) (p : Posting) (r : Result Outcome Stop)
     → IsSettled s h ms head → IsKeeping ls → m ≡ method_in ms p.account
     → before ≡ holding h p.account → taken ≡ holding ls.taken p.account
-    → ComesOf (IsLinedByUnits m (after before taken) head p.account p.units p.details.cost i p.details.line) r
+    → ComesOf (IsLinedByUnits m (after before taken) head p.account p.units p.details.cost i
+    p.details.line) r
     → ComesOf (IsNext s ls.lines.items i p) r
 next_of s h ms head ls m before taken i p r is keeping e f g comes =
     let a = p.account in
     let left_is : after before taken ≡ left a s.before ls.lines.items =
     ap (λ es. after es taken) (f ∙ is.held.each a)
     ∙ ap (after (held a s.before)) (g ∙ keeping.takes.each a) in
-    subst (λ m. ComesOf (IsLinedByUnits m (left a s.before ls.lines.items) s.head a p.units p.details.cost
-    i p.details.line) r) (e ∙ sym (is.methods a))
-    (subst (λ rest. ComesOf (IsLinedByUnits m rest s.head a p.units p.details.cost i p.details.line) r) left_is
-    (subst (λ hd. ComesOf (IsLinedByUnits m (after before taken) hd a p.units p.details.cost i p.details.line) r)
+    let cost = p.details.cost in
+    let line = p.details.line in
+    subst (λ m. ComesOf (IsLinedByUnits m (left a s.before ls.lines.items) s.head a p.units cost i
+    line) r) (e ∙ sym (is.methods a))
+    (subst (λ rest. ComesOf (IsLinedByUnits m rest s.head a p.units cost i line) r) left_is
+    (subst (λ hd. ComesOf (IsLinedByUnits m (after before taken) hd a p.units cost i line) r)
     (sym is.head_is) comes))
 
 pub each_inside : {X : Type 0} (f : X → Bool) (xs : List X) (i : ℕ) (x : X) → i < length xs

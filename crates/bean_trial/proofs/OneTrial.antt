@@ -41,8 +41,8 @@ one_next : (s : Setting) (p : Posting) (n : ℕ) (before r t : Result (List Line
 one_next s p n (Err f) r t h k = h ∙ sym k
 one_next s p n (Ok ls) r t h k =
     let new =
-    one_outcome (s.method_of p.account) (left p.account s.before ls) s.head p.account p.units p.details.cost
-    n p.details.line h.0 k.0 h.1 k.1 in
+    one_outcome (s.method_of p.account) (left p.account s.before ls) s.head p.account p.units
+    p.details.cost n p.details.line h.0 k.0 h.1 k.1 in
     h.2 ∙ ap (joined ls) new ∙ sym k.2
 
 one_end : (s : Setting) (ps : List Posting) (r t : Result (List Line) LineFault)

@@ -54,8 +54,8 @@
 //! For each posting in braces, and for no other, a look-up in its account and what a reduction
 //! costs in [`bean_lots`]. One that lacks something looks through all that is filled in.
 //! [`Holdings`] keep an inventory for each account, change it where it stands, and count their
-//! additions: each sum is at most `10^20` times that count, which is below `2^40`. No contract shows
-//! how they are kept.
+//! additions: each sum is at most `10^20` times that count, which is below `2^40`. No contract
+//! shows how they are kept.
 #![tactic(auto)]
 
 mod completed;

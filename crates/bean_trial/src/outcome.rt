@@ -251,7 +251,8 @@ fn outcome_by_cost<'a>(
     requires small { IsSmallStock stock }
     requires inside { is_outside_profile posting.now ≡ false }
     ensures { ComesOf (IsLinedByCost stock.entry.method (rest_of stock.entry) head
-        posting.now.account units.now posting.now.details.cost index posting.now.details.line) result }
+        posting.now.account units.now posting.now.details.cost index
+        posting.now.details.line) result }
 {
     let Some(parts) = posting.details.get() else {
         return Ok(without_lot(index, posting, units));
@@ -274,7 +275,8 @@ pub(crate) fn outcome_of<'a>(
     requires small { IsSmallStock stock }
     requires inside { is_outside_profile posting.now ≡ false }
     ensures { ComesOf (IsLinedByUnits stock.entry.method (rest_of stock.entry) head
-        posting.now.account posting.now.units posting.now.details.cost index posting.now.details.line) result }
+        posting.now.account posting.now.units posting.now.details.cost index
+        posting.now.details.line) result }
 {
     match &posting.units {
         Units::Missing => Ok(Outcome::Line(Line::MissingAmount(posting.account.lend(), index))),

@@ -1,5 +1,4 @@
-use Rattle.std.proofs.Common.{rules, ◌≡◌, ◌+◌, ◌-◌, ◌*◌, ◌^◌, pos, ◌*ℤ◌, FitsSigned, to_z, of_z, ap, ◌∙◌, sym, arith}
-use Rattle.std.proofs.Common.{subst}
+use Rattle.std.proofs.Common.{rules, ◌^◌, pos, ◌*ℤ◌, FitsSigned, to_z, of_z, ap, ◌∙◌, arith}
 use Rattle.std.proofs.lemmas.Int.{to_z-of_z}
 use Rattle.std.specs.Int.{w128}
 use Rattle.bean_base.proofs.PowerFacts.{product_is, power_split, fits_power}

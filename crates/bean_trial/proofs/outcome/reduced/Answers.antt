@@ -15,6 +15,7 @@ returns-in-Err c =
     let n = c.args.posting.now.details.line in
     let s = c.selector_of-selector.result in
     let cs = candidates s (at_8 units.number) rest in
-    stops_more (IsReduced m cs account units i n) (IsReducedBy m rest c.args.parts.now account units i n)
+    stops_more (IsReduced m cs account units i n)
+    (IsReducedBy m rest c.args.parts.now account units i n)
     c.stop_of.result (λ r h. (s, c.selector_of-selector.ensures, h))
     (c.stop_of.ensures m cs account units i c.in-Err.ensures)

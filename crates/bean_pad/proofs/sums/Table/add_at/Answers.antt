@@ -1,5 +1,6 @@
 use Rattle.std.proofs.Common.{◌≡◌, ◌<◌, ◌^◌, ◌+ℤ◌, ◌&&◌, ℤ, pos, ℕ, List, Bool, true, false, cond}
-use Rattle.std.proofs.Common.{refl, ap, ◌∙◌, sym, subst, Option, Some, None, unwrap_or, arith, to_z, of_z}
+use Rattle.std.proofs.Common.{refl, ap, ◌∙◌, sym, subst, Option, Some, None, unwrap_or, arith}
+use Rattle.std.proofs.Common.{to_z, of_z}
 use Rattle.std.specs.Int.{w128}
 use Rattle.std.specs.Int.RustNames.{unsigned_abs}
 use Rattle.std.specs.Option.{is_some}
