@@ -1,6 +1,8 @@
+use Rattle.std.proofs.Common.{subst}
 use Rattle.bean_lots.specs.Candidate.{candidates}
 use Rattle.bean_trial.specs.Held.{at_8}
 use Rattle.bean_trial.specs.Lined.{IsReduced, IsReducedBy}
+use Rattle.bean_trial.specs.Outcome.{StopsWith}
 use Rattle.bean_trial.specs.Stock.{rest_of}
 use Rattle.bean_trial.proofs.OutcomeFacts.{stops_more}
 use Rattle.bean_trial.proofs.outcome.reduced.Goals as goal
@@ -12,10 +14,13 @@ returns-in-Err c =
     let account = c.args.posting.now.account in
     let units = c.args.units.now in
     let i = c.args.index in
-    let n = c.args.posting.now.details.line in
+    let n = c.line.result in
     let s = c.selector_of-selector.result in
     let cs = candidates s (at_8 units.number) rest in
-    stops_more (IsReduced m cs account units i n)
+    subst
+    (λ n. StopsWith (IsReducedBy m rest c.args.parts.now account units i n) c.stop_of.result)
+    c.line.ensures
+    (stops_more (IsReduced m cs account units i n)
     (IsReducedBy m rest c.args.parts.now account units i n)
     c.stop_of.result (λ r h. (s, c.selector_of-selector.ensures, h))
-    (c.stop_of.ensures m cs account units i c.in-Err.ensures)
+    (c.stop_of.ensures m cs account units i c.in-Err.ensures))
