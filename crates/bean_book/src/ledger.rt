@@ -10,6 +10,7 @@ ghost use Rattle.bean_book.specs.Kept.{AreOf, IsNextOf, IsTame};
 use crate::decimals::note_written;
 use crate::paddings::push_pad;
 use crate::rows::push_transaction;
+use bean_base::Apart;
 use bean_booker::{BookFault, Kept};
 use bean_heads::{Directive, DirectiveKind, Transaction};
 use bean_load::Placed;
@@ -53,7 +54,7 @@ fn take_transaction<'b, 'a>(
         return Ok(kept);
     }
     let posted = first.postings.as_slice();
-    match push_transaction(alloc, ledger, placed.item.get(), transaction, posted) {
+    match push_transaction(alloc, ledger, &placed.item, transaction, posted) {
         Ok(()) => {}
         Err(fault) => return Err(fault),
     }
@@ -110,7 +111,7 @@ fn take_directive<'b, 'a>(
         left.entry.kept.now left.entry.pads.now)) }
     ensures room { IfOk result (λ rest. length ledger.new.rows ≤ MOST_POSTINGS) }
 {
-    match &placed.item.get().kind {
+    match &placed.item.kind {
         DirectiveKind::Transaction(transaction) => {
             match take_transaction(alloc, ledger, number, placed, transaction, left.kept) {
                 Ok(kept) => Ok(Left { kept, ..left }),
@@ -129,7 +130,7 @@ fn take_directive<'b, 'a>(
 /// what its rows have from it takes the memory in which it stood.
 pub(crate) fn ledger_of<'a>(
     alloc: Global,
-    directives: Vec<Placed<Directive<'a>>>,
+    directives: Vec<Apart<Placed<Directive<'a>>>>,
     kept: &[Kept<'a>],
     pads: &[NotedPad<'a>],
 ) -> Result<Ledger<'a>, BookFault>
@@ -143,7 +144,7 @@ pub(crate) fn ledger_of<'a>(
     let mut left = Left { kept, pads };
     let mut number = 0;
     for placed in directives {
-        match take_directive(alloc, &mut ledger, number, &placed, left) {
+        match take_directive(alloc, &mut ledger, number, placed.get(), left) {
             Ok(rest) => left = rest,
             Err(fault) => return Err(fault),
         }

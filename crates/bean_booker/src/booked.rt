@@ -13,7 +13,7 @@ ghost use Rattle.bean_trial.specs.Methods.{method_in};
 use crate::booker::{BookFault, Booker};
 use crate::kept::Kept;
 use crate::methods::{methods_of, note_unknown, otherwise};
-use bean_base::{Fault, List};
+use bean_base::{Apart, Fault, List};
 use bean_load::{Loaded, Placed};
 use bean_pad::NotedPad;
 use bean_parser::Directive;
@@ -38,7 +38,7 @@ const MOST_DIRECTIVES: usize = 1 << 39;
 fn take_all<'a>(
     alloc: Global,
     methods: Methods<'a>,
-    directives: &[Placed<Directive<'a>>],
+    directives: &[Apart<Placed<Directive<'a>>>],
 ) -> Result<Booker<'a>, BookFault>
     requires { length directives.now ≤ 2 ^ 39 }
     ensures leads { IfOk result (λ booker. (m : prelude.List ℕ → Method)
@@ -53,7 +53,7 @@ fn take_all<'a>(
 {
     let mut booker = Booker::new(alloc, methods);
     for number in 0..directives.len() {
-        match booker.take(number, &directives[number]) {
+        match booker.take(number, directives[number].get()) {
             Ok(()) => {}
             Err(fault) => return Err(fault),
         }

@@ -203,7 +203,7 @@ impl<'a> Booker<'a> {
     {
         let at = place_of(directive);
         let head = Head {
-            day: directive.item.get().day,
+            day: directive.item.day,
             line: at.line,
         };
         match try_transaction(
@@ -242,7 +242,7 @@ impl<'a> Booker<'a> {
             → IsStepBy m past st directive.now directive.now.item.kind new → IsFull new }
     {
         let at = place_of(directive);
-        match &directive.item.get().kind {
+        match &directive.item.kind {
             DirectiveKind::Transaction(transaction) => {
                 self.transaction(number, directive, transaction.postings.as_slice())
             }
@@ -255,7 +255,7 @@ impl<'a> Booker<'a> {
                 Ok(())
             }
             DirectiveKind::Pad(pad) => {
-                let day = directive.item.get().day;
+                let day = directive.item.day;
                 take_pad(
                     &self.accounts,
                     &mut self.padder,

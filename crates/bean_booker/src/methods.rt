@@ -4,7 +4,7 @@ ghost use Rattle.bean_booker.specs.Method as spec;
 ghost use Rattle.bean_trial.specs.Methods.{method_in};
 
 use bean_accounts::method_named;
-use bean_base::{Fault, FaultKind, Text};
+use bean_base::{Apart, Fault, FaultKind, Text};
 use bean_load::{MethodLine, Placed};
 use bean_lots::Method;
 use bean_parser::{Directive, DirectiveKind};
@@ -88,7 +88,7 @@ fn note_open<'a>(
 pub(crate) fn methods_of<'a>(
     alloc: Global,
     otherwise: Method,
-    directives: &[Placed<Directive<'a>>],
+    directives: &[Apart<Placed<Directive<'a>>>],
 ) -> Result<Methods<'a>, AllocError>
     ensures { IfOk result (λ ms. (a : List ℕ)
         → method_in ms a ≡ spec.method_of otherwise directives.now a) }
@@ -96,8 +96,8 @@ pub(crate) fn methods_of<'a>(
     let mut methods = Methods::new(alloc, otherwise);
     let count = directives.len();
     for taken in 0..count {
-        let directive = &directives[count - 1 - taken];
-        note_open(&mut methods, otherwise, &directive.item.get().kind)?;
+        let directive = directives[count - 1 - taken].get();
+        note_open(&mut methods, otherwise, &directive.item.kind)?;
     }
     Ok(methods)
 }

@@ -14,7 +14,7 @@ pub(crate) fn place_of(directive: &Placed<Directive<'_>>) -> Place
 {
     Place {
         file: directive.file,
-        line: directive.item.get().line,
+        line: directive.item.line,
     }
 }
 

@@ -10,7 +10,7 @@ ghost use Rattle.bean_load.specs.Small.{AreSmall};
 use crate::order::{order_directives, order_settings};
 use crate::placed::{Own, Placed, add_directives, add_settings, parts_of};
 use crate::texts::Texts;
-use bean_base::{Fault, Text};
+use bean_base::{Apart, Fault, Text};
 use bean_parser::parse::parse;
 use bean_parser::{Directive, Parsed, Setting, SettingKind};
 use std::alloc::{AllocError, Global};
@@ -31,7 +31,7 @@ pub struct MethodLine<'a> {
 /// larger than a text may be ([`text_sizes`]).
 #[derive(Drop)]
 pub struct Loaded<'a> {
-    directives: Vec<Placed<Directive<'a>>>,
+    directives: Vec<Apart<Placed<Directive<'a>>>>,
     faults: Vec<Fault>,
     title: Option<Text<'a>>,
     operating: Vec<Text<'a>>,
@@ -57,7 +57,7 @@ impl<'a> Model for Loaded<'a> {
 
 impl<'a> Loaded<'a> {
     /// The directives in the order in which they are taken.
-    pub fn directives(&self) -> &[Placed<Directive<'a>>]
+    pub fn directives(&self) -> &[Apart<Placed<Directive<'a>>>]
         ensures directives { result.now ≡ self.now.directives }
         ensures small { AreSmall self.now.directives }
     {
@@ -65,7 +65,7 @@ impl<'a> Loaded<'a> {
     }
 
     /// The directives themselves; all else is given up.
-    pub fn into_directives(self) -> Vec<Placed<Directive<'a>>>
+    pub fn into_directives(self) -> Vec<Apart<Placed<Directive<'a>>>>
         ensures directives { result.items ≡ self.entry.directives }
         ensures small { AreSmall self.entry.directives }
     {
@@ -107,7 +107,7 @@ impl<'a> Loaded<'a> {
 /// What is read of texts so far.
 #[derive(Drop)]
 pub struct Read<'a> {
-    pub directives: Vec<Placed<Directive<'a>>>,
+    pub directives: Vec<Apart<Placed<Directive<'a>>>>,
     pub settings: Vec<Placed<Setting<'a>>>,
     pub faults: Vec<Fault>,
 }
@@ -141,13 +141,7 @@ impl<'a> Read<'a> {
             parsed.directives.into_vec(),
             &mut self.directives,
         )?;
-        add_settings(
-            alloc,
-            file,
-            own,
-            parsed.settings.into_vec(),
-            &mut self.settings,
-        )?;
+        add_settings(file, own, parsed.settings.into_vec(), &mut self.settings)?;
         add_faults(file, parsed.faults.as_slice(), &mut self.faults)
     }
 }
@@ -165,13 +159,12 @@ impl<'a> Books<'a> {
     fn add(&mut self, setting: &Placed<Setting<'a>>) -> Result<(), AllocError>
         ensures { OnOk result (AddsSetting setting.now self.old self.new) }
     {
-        let written = setting.item.get();
-        match &written.kind {
+        match &setting.item.kind {
             SettingKind::Title(title) => self.title = Some(title.lend()),
             SettingKind::OperatingCurrency(currency) => self.operating.push(currency.lend())?,
             SettingKind::BookingMethod(method) => self.methods.push(MethodLine {
                 file: setting.file,
-                line: written.line,
+                line: setting.item.line,
                 method: method.lend(),
             })?,
             SettingKind::Include(_) => {}

@@ -4,16 +4,17 @@ ghost use Rattle.bean_load.specs.Order.{AreInOrder, AreSettingsInOrder};
 
 use crate::placed::Placed;
 use crate::rank::Rank;
+use bean_base::Apart;
 use bean_parser::{Directive, Setting};
 use std::alloc::AllocError;
 
 /// By day, of one day opens, then balances, all else, documents and closes, then in reading order.
-pub fn order_directives(directives: &mut Vec<Placed<Directive<'_>>>) -> Result<(), AllocError>
+pub fn order_directives(directives: &mut Vec<Apart<Placed<Directive<'_>>>>) -> Result<(), AllocError>
     ensures { OnOk result (AreInOrder directives.old.items directives.new.items) }
 {
     directives.sort_by_key(|placed| {
-        let directive = placed.item.get();
-        ((directive.day, Rank::of(&directive.kind)), placed.part)
+        let placed = placed.get();
+        ((placed.item.day, Rank::of(&placed.item.kind)), placed.part)
     })
 }
 

@@ -7,15 +7,14 @@ use bean_base::Apart;
 use bean_parser::{Directive, Setting};
 use std::alloc::{AllocError, Global};
 
-/// What is written in a text, with its place. The item lies apart, so that little is moved where
-/// many are sorted.
+/// What is written in a text, with its place.
 #[derive(Debug, Drop)]
 pub struct Placed<T> {
     /// The number of its text, from 0.
     pub file: usize,
     /// The number of the part of the ledger in which it stands, from 0 in reading order.
     pub part: usize,
-    pub item: Apart<T>,
+    pub item: T,
 }
 
 /// A part of a text: the line behind which it begins, and its number in reading order.
@@ -62,31 +61,32 @@ fn part_at(own: &[Own], line: usize) -> usize
     number
 }
 
-/// Adds the directives of a text with their places.
+/// Adds the directives of a text with their places. Each lies apart, so that little is moved where
+/// they are sorted, and each is given up alone.
 pub fn add_directives<'a>(
     alloc: Global,
     file: usize,
     own: &[Own],
     directives: Vec<Directive<'a>>,
-    out: &mut Vec<Placed<Directive<'a>>>,
+    out: &mut Vec<Apart<Placed<Directive<'a>>>>,
 ) -> Result<(), AllocError>
     ensures { OnOk result (out.new.items
         ≡ out.old.items ++ map (spec.placed_directive file own.now) directives.entry.items) }
 {
     out.reserve(directives.len())?;
     for directive in directives {
-        out.push(Placed {
+        let placed = Placed {
             file,
             part: part_at(own, directive.line),
-            item: Apart::new(alloc, directive)?,
-        })?;
+            item: directive,
+        };
+        out.push(Apart::new(alloc, placed)?)?;
     }
     Ok(())
 }
 
 /// Adds the settings of a text with their places.
 pub fn add_settings<'a>(
-    alloc: Global,
     file: usize,
     own: &[Own],
     settings: Vec<Setting<'a>>,
@@ -99,7 +99,7 @@ pub fn add_settings<'a>(
         out.push(Placed {
             file,
             part: part_at(own, setting.line),
-            item: Apart::new(alloc, setting)?,
+            item: setting,
         })?;
     }
     Ok(())

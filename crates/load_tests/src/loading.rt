@@ -12,7 +12,8 @@ fn are_places(loaded: &Loaded<'_>, places: &[(usize, usize)]) -> bool {
         return false;
     }
     for (placed, place) in directives.iter().zip(places) {
-        if placed.file != place.0 || placed.item.get().line != place.1 {
+        let placed = placed.get();
+        if placed.file != place.0 || placed.item.line != place.1 {
             return false;
         }
     }

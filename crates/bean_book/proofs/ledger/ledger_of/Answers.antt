@@ -25,8 +25,9 @@ empty (x ∷ xs) none = absurd (omega (arith, none))
 pub take_directive-requires-clause-next : goal.take_directive-requires-clause-next
 take_directive-requires-clause-next c =
     let ks = c.loop-placed.left.kept.now in
-    let next = c.in-Some.ensures.steps.0 in
-    next_of c.loop-placed.number c.in-Some.placed c.next.new.self.rest.items ks
+    let ds = c.next.new.self.rest.items in
+    let next = c.in-Some.ensures.steps.0 ∙ ap (λ d. d ∷ ds) (sym c.get.ensures) in
+    next_of c.loop-placed.number c.get.result.now ds ks
     (subst (λ l. AreOf c.loop-placed.number l ks) next c.loop-placed.invariant.are)
 
 pub take_directive-requires-clause-tame : goal.take_directive-requires-clause-tame
@@ -40,7 +41,9 @@ take_directive-requires-clause-room c = c.loop-placed.invariant.room
 
 pub take_directive-requires-clause-small : goal.take_directive-requires-clause-small
 take_directive-requires-clause-small c =
-    (subst (AllByRecursion IsSmall) c.in-Some.ensures.steps.0 c.loop-placed.invariant.small).0
+    let ds = c.next.new.self.rest.items in
+    let next = c.in-Some.ensures.steps.0 ∙ ap (λ d. d ∷ ds) (sym c.get.ensures) in
+    (subst (AllByRecursion IsSmall) next c.loop-placed.invariant.small).0
 
 pub loop-placed-init : goal.loop-placed-init
 loop-placed-init c =
@@ -68,11 +71,11 @@ loop-placed-init c =
 pub loop-placed-preserved : goal.loop-placed-preserved
 loop-placed-preserved c =
     let i = c.loop-placed.number in
-    let d = c.in-Some.placed in
+    let d = c.get.result.now in
     let ds = c.next.new.self.rest.items in
     let ks = c.loop-placed.left.kept.now in
     let ps = c.loop-placed.left.pads.now in
-    let next = c.in-Some.ensures.steps.0 in
+    let next = c.in-Some.ensures.steps.0 ∙ ap (λ d. d ∷ ds) (sym c.get.ensures) in
     let b = booking_of i d.item d.item.kind ks ps in
     let rest = bookings (i + 1) ds (kept_behind i d.item.kind ks)
     (pads_behind d.item.kind ps) in
@@ -82,48 +85,7 @@ loop-placed-preserved c =
     let old = c.loop-placed.ledger in
     let new = c.take_directive.new.ledger in
     let number = c.loop-placed.invariant.number in
-    let longer = length-append c.loop-placed.yielded (d ∷ []) in record {
-      number = omega (arith, number, longer);
-      rows = (λ k. new.rows ++ rows_of_all (now (kept k) (noted k)))
-          ∙ rows_left b rest old new _ c.in-Ok.ensures.adds
-          (ap (λ l. old.rows ++ rows_of_all (bookings i l ks ps)) (sym next)
-          ∙ c.loop-placed.invariant.rows);
-      decimals = λ name.
-          (λ k. decimals_from (decimals_of new.decimals name) name
-          (written_in_all (now (kept k) (noted k))))
-          ∙ decimals_left b rest old new _ name c.in-Ok.ensures.adds
-          (ap (λ l. decimals_from (decimals_of old.decimals name) name
-          (written_in_all (bookings i l ks ps))) (sym next)
-          ∙ c.loop-placed.invariant.decimals name);
-      room = c.in-Ok.ensures.room;
-      are = subst (AreOf (i + 1) ds) (sym kept)
-          (left_of i d ds ks d.item.kind refl
-          (subst (λ l. AreOf i l ks) next c.loop-placed.invariant.are));
-      small = (subst (AllByRecursion IsSmall) next c.loop-placed.invariant.small).1;
-      tame = subst (AllByRecursion IsTame) (sym kept)
-          (all_left IsTame i ks d.item.kind c.loop-placed.invariant.tame);
-      pads = subst (AllByRecursion IsSmallNoted) (sym noted)
-          (all_pads IsSmallNoted ps d.item.kind c.loop-placed.invariant.pads);
-    }
-
-pub loop-placed-preserved-in-Ok-2 : goal.loop-placed-preserved-in-Ok-2
-loop-placed-preserved-in-Ok-2 c =
-    let i = c.loop-placed.number in
-    let d = c.in-Some.placed in
-    let ds = c.next.new.self.rest.items in
-    let ks = c.loop-placed.left.kept.now in
-    let ps = c.loop-placed.left.pads.now in
-    let next = c.in-Some.ensures.steps.0 in
-    let b = booking_of i d.item d.item.kind ks ps in
-    let rest = bookings (i + 1) ds (kept_behind i d.item.kind ks)
-    (pads_behind d.item.kind ps) in
-    let now : List Kept → List NotedPad → List Booking = λ l q. bookings (i + 1) ds l q in
-    let kept = c.in-Ok.ensures.kept in
-    let noted = c.in-Ok.ensures.noted in
-    let old = c.loop-placed.ledger in
-    let new = c.take_directive.new.ledger in
-    let number = c.loop-placed.invariant.number in
-    let longer = length-append c.loop-placed.yielded (d ∷ []) in record {
+    let longer = length-append c.loop-placed.yielded (c.in-Some.placed ∷ []) in record {
       number = omega (arith, number, longer);
       rows = (λ k. new.rows ++ rows_of_all (now (kept k) (noted k)))
           ∙ rows_left b rest old new _ c.in-Ok.ensures.adds
@@ -169,7 +131,7 @@ returns c =
 pub returns-in-Err : goal.returns-in-Err
 returns-in-Err c =
     let i = c.loop-placed.number in
-    let d = c.in-Some.placed in
+    let d = c.get.result.now in
     let ds = c.next.new.self.rest.items in
     let ks = c.loop-placed.left.kept.now in
     let ps = c.loop-placed.left.pads.now in
@@ -177,7 +139,7 @@ returns-in-Err c =
     let all = bookings 0 c.args.directives.items c.args.kept.now c.args.pads.now in
     let rest = bookings (i + 1) ds (kept_behind i d.item.kind ks)
     (pads_behind d.item.kind ps) in
-    let next = c.in-Some.ensures.steps.0 in
+    let next = c.in-Some.ensures.steps.0 ∙ ap (λ d. d ∷ ds) (sym c.get.ensures) in
     refused all c.in-Err.fault (λ fault.
     too_many (booking_of i d.item d.item.kind ks ps) rest old.rows all
     (ap (λ l. old.rows ++ rows_of_all (bookings i l ks ps)) (sym next)

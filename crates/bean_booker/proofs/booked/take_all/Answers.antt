@@ -1,4 +1,4 @@
-use Rattle.std.proofs.Common.{Err, reverse, take, ap, arith, refl, sym, subst}
+use Rattle.std.proofs.Common.{◌≡◌, Err, reverse, take, ap, arith, refl, sym, subst, get_or}
 use Rattle.std.proofs.lemmas.List.{take_all}
 use Rattle.bean_trial.proofs.LinedFacts.{before_length, latest}
 use Rattle.bean_trial.specs.Methods.{method_in}
@@ -28,14 +28,15 @@ loop-number-preserved c = record {
   leads = λ m methods.
       let ds = c.args.directives.now in
       let i = c.loop-number.number in
-      let d = c.index-directives-number.result in
+      let d = c.get.result.now in
+      let there = subst (λ d. d ≡ get_or ds i d) (sym c.get.ensures) c.index-directives-number.is in
       let new = c.take.new.self in
       let led = c.loop-number.invariant.leads m methods in
       let done =
       c.in-Ok.ensures.standing m (reverse (take i ds)) led.0 led.2
       (before_length ds i (omega arith)) in
       subst (λ past. (st : Stand) × LeadsTo m past st × IsStanding m past st new)
-      (sym (latest ds i d (omega arith) c.index-directives-number.is))
+      (sym (latest ds i d (omega arith) there))
       (done.0, (led.0, led.1, done.1), done.2);
 }
 
@@ -61,5 +62,5 @@ returns-in-Err-clause-full c = λ is_full m methods st all.
     let led = c.loop-number.invariant.leads m methods in
     let full =
     c.in-Err.ensures.full (ap Err (ap fault_of is_full)) m (reverse (take i ds)) led.0 led.2 in
-    full_for_good m ds i c.index-directives-number.result led.0 st (omega arith)
-    c.index-directives-number.is led.1 full all
+    let there = subst (λ d. d ≡ get_or ds i d) (sym c.get.ensures) c.index-directives-number.is in
+    full_for_good m ds i c.get.result.now led.0 st (omega arith) there led.1 full all
