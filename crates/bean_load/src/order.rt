@@ -9,7 +9,9 @@ use bean_parser::{Directive, Setting};
 use std::alloc::AllocError;
 
 /// By day, of one day opens, then balances, all else, documents and closes, then in reading order.
-pub fn order_directives(directives: &mut Vec<Apart<Placed<Directive<'_>>>>) -> Result<(), AllocError>
+pub fn order_directives(
+    directives: &mut Vec<Apart<Placed<Directive<'_>>>>,
+) -> Result<(), AllocError>
     ensures { OnOk result (AreInOrder directives.old.items directives.new.items) }
 {
     directives.sort_by_key(|placed| {
