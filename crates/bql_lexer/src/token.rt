@@ -8,8 +8,8 @@ ghost use Rattle.bql_lexer.specs.declared.token.Token as token;
 use crate::classes::White;
 use crate::found::token_at;
 use crate::kind::Kind;
-use byte_runs::end_of_run;
 use bean_base::slice::Slice;
+use byte_runs::end_of_run;
 use std::alloc::{AllocError, Allocator};
 
 /// A token of a query.
