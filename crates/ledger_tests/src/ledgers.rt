@@ -47,7 +47,7 @@ fn the_worked_ledger(rt: HostRuntime) -> Result<(), Fail> {
     let amount = amount_of(open).ok_or("an amount")?;
     assert_eq!(rt; amount.number.count, -10000);
     assert_eq!(rt; amount.number.places, 2);
-    assert_eq!(rt; open.line, 5);
+    assert_eq!(rt; open.details.line(), 5);
     Ok(())
 }
 
