@@ -8,7 +8,7 @@ use Rattle.std.proofs.lemmas.List.{append-nil, length-append, length-map, revers
 use Rattle.bean_booker.specs.Stand.{IsStepBy, LeadsTo, Stand, after_trial, posting_step}
 use Rattle.bean_booker.specs.Stand.{postings_of}
 use Rattle.bean_booker.specs.declared.kept.Kept.{Kept}
-use Rattle.bean_grammar.specs.declared.posting.Posting.{Posting}
+use Rattle.bean_postings.specs.declared.posting.Posting.{Posting}
 use Rattle.bean_heads.specs.declared.directive.Directive.{Directive}
 use Rattle.bean_heads.specs.declared.directive.DirectiveKind.{DirectiveKind}
 use Rattle.bean_heads.specs.declared.directive.DirectiveKind.TheVariants as kind

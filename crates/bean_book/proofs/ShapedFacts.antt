@@ -17,9 +17,9 @@ use Rattle.bean_grammar.specs.declared.mark.Mark.TheVariants.{Tag, Link}
 use Rattle.bean_grammar.specs.declared.metadata.Entry as grammar
 use Rattle.bean_grammar.specs.declared.metadata.Value.{Value}
 use Rattle.bean_grammar.specs.declared.metadata.Value.TheVariants as value
-use Rattle.bean_grammar.specs.declared.posting.Posting.{Posting}
-use Rattle.bean_grammar.specs.declared.price.Price as prices
-use Rattle.bean_grammar.specs.declared.price.Price.TheVariants as price
+use Rattle.bean_postings.specs.declared.posting.Posting.{Posting}
+use Rattle.bean_postings.specs.declared.price.Price as prices
+use Rattle.bean_postings.specs.declared.price.Price.TheVariants as price
 use Rattle.bean_heads.specs.declared.directive.Directive.{Directive}
 use Rattle.bean_heads.specs.declared.directive.DirectiveKind.TheVariants as kind
 use Rattle.bean_heads.specs.declared.transaction.Transaction.{Transaction}

@@ -7,9 +7,9 @@ use Rattle.bean_base.specs.declared.amounts.Amount.{Amount}
 use Rattle.bean_base.specs.declared.flags.Flag.{Flag}
 use Rattle.bean_grammar.specs.declared.mark.Mark.{Mark}
 use Rattle.bean_grammar.specs.declared.mark.Mark.TheVariants.{Tag, Link}
-use Rattle.bean_grammar.specs.declared.posting.Posting.{Posting}
-use Rattle.bean_grammar.specs.declared.posting.Units.{Units}
-use Rattle.bean_grammar.specs.declared.posting.Units.TheVariants as units
+use Rattle.bean_postings.specs.declared.posting.Posting.{Posting}
+use Rattle.bean_postings.specs.declared.posting.Units.{Units}
+use Rattle.bean_postings.specs.declared.posting.Units.TheVariants as units
 use Rattle.bean_heads.specs.declared.directive.Directive.{Directive}
 use Rattle.bean_heads.specs.declared.transaction.Transaction.{Transaction}
 use Rattle.bean_interp.specs.Weight.{at_8, currency_of, weight_of}

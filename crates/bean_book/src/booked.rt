@@ -2,7 +2,7 @@
 ghost use Rattle.bean_book.specs.Booked.{Books};
 ghost use Rattle.bean_book.specs.Found.{FindsFaults};
 
-use crate::counts::look_for_room;
+use crate::counts::count_rows;
 use crate::faults::report;
 use crate::ledger::ledger_of;
 use bean_base::{Fault, List};
@@ -54,8 +54,8 @@ pub fn find_faults(alloc: Global, loaded: &Loaded<'_>) -> Result<List<Fault>, Bo
         Ok(booked) => booked,
         Err(fault) => return Err(fault),
     };
-    match look_for_room(booked.kept.as_slice(), booked.pads.as_slice()) {
-        Ok(()) => {}
+    match count_rows(booked.kept.as_slice(), booked.pads.as_slice()) {
+        Ok(_) => {}
         Err(fault) => return Err(fault),
     }
     let mut faults = booked.faults.into_vec();

@@ -1,4 +1,4 @@
-//! How many rows what is booked has, where none is made.
+//! How many rows what is booked has, before any is made.
 ghost use Rattle.std.specs.Prelude.{◌≡◌, ◌<◌, ◌≤◌, ◌+◌, Err, IfOk, List, ℕ, length};
 ghost use Rattle.std.specs.List.{flat_map};
 ghost use Rattle.bean_booker.specs.Stand.{postings_of};
@@ -86,9 +86,9 @@ fn count_kept(kept: &[Kept<'_>]) -> Result<usize, BookFault>
     Ok(sum)
 }
 
-/// Looks whether the rows of transactions that are kept, and of pads, are too many.
-pub(crate) fn look_for_room(kept: &[Kept<'_>], pads: &[NotedPad<'_>]) -> Result<(), BookFault>
-    ensures few { IfOk result (λ done.
+/// The count of the rows of transactions that are kept, and of pads, unless they are too many.
+pub(crate) fn count_rows(kept: &[Kept<'_>], pads: &[NotedPad<'_>]) -> Result<usize, BookFault>
+    ensures few { IfOk result (λ n.
         length (postings_of kept.now) + length (flat_map spec.rows_of_pad pads.now)
         ≤ MOST_POSTINGS) }
     ensures full { result ≡ Err BookFault.TooManyPostings
@@ -96,10 +96,7 @@ pub(crate) fn look_for_room(kept: &[Kept<'_>], pads: &[NotedPad<'_>]) -> Result<
         < length (postings_of kept.now) + length (flat_map spec.rows_of_pad pads.now) }
 {
     match count_kept(kept) {
-        Ok(count) => match count_pads(count, pads) {
-            Ok(_) => Ok(()),
-            Err(fault) => Err(fault),
-        },
+        Ok(count) => count_pads(count, pads),
         Err(fault) => Err(fault),
     }
 }

@@ -7,7 +7,7 @@ ghost use Rattle.bean_book.specs.Booked.{decimals_from};
 ghost use Rattle.bean_book.specs.Rows.{written_in};
 
 use bean_base::Amount;
-use bean_grammar::{Posting, Units};
+use bean_postings::{Posting, Units};
 use posting_table::Ledger;
 use std::alloc::AllocError;
 

@@ -1,5 +1,6 @@
 //! The ledger of what is booked, in the order of the directives.
-ghost use Rattle.std.specs.Prelude.{◌≡◌, ◌≤◌, ◌<◌, ◌+◌, Err, IfOk, length};
+ghost use Rattle.std.specs.Prelude.{◌≡◌, ◌≤◌, ◌<◌, ◌+◌, [], Err, IfOk, length};
+ghost use Rattle.std.specs.FinMap as map;
 ghost use Rattle.std.specs.List.{AllByRecursion};
 ghost use Rattle.bean_sizes.specs.Booked.{IsSmallNoted};
 ghost use Rattle.bean_load.specs.Small.{IsSmall};
@@ -7,6 +8,7 @@ ghost use Rattle.bean_book.specs.Booked.{Adds, MakesLedger, rows_of_all};
 ghost use Rattle.bean_book.specs.Entries as spec;
 ghost use Rattle.bean_book.specs.Kept.{AreOf, IsNextOf, IsTame};
 
+use crate::counts::count_rows;
 use crate::decimals::note_written;
 use crate::paddings::push_pad;
 use crate::rows::push_transaction;
@@ -16,7 +18,7 @@ use bean_heads::{Directive, DirectiveKind, Transaction};
 use bean_load::Placed;
 use bean_pad::NotedPad;
 use posting_table::{Ledger, MOST_POSTINGS};
-use std::alloc::Global;
+use std::alloc::{AllocError, Global};
 
 /// The transactions that are kept and the pads, of the directives that are still to be taken.
 #[derive(Clone, Copy)]
@@ -126,6 +128,20 @@ fn take_directive<'b, 'a>(
     }
 }
 
+/// A ledger without rows, with room for those that are to come: for all of them, or where they are
+/// too many, for as many as it holds.
+fn ledger_for<'a>(
+    alloc: Global,
+    kept: &[Kept<'a>],
+    pads: &[NotedPad<'a>],
+) -> Result<Ledger<'a>, AllocError>
+    ensures { IfOk result (λ ledger. ledger ≡ record { rows = []; decimals = map.empty }) }
+{
+    let mut ledger = Ledger::new(alloc);
+    ledger.reserve(count_rows(kept, pads).unwrap_or(MOST_POSTINGS))?;
+    Ok(ledger)
+}
+
 /// The ledger of what is booked of directives. Each is given up as soon as it is taken, so that
 /// what its rows have from it takes the memory in which it stood.
 pub(crate) fn ledger_of<'a>(
@@ -140,7 +156,7 @@ pub(crate) fn ledger_of<'a>(
     requires pads { AllByRecursion IsSmallNoted pads.now }
     ensures { MakesLedger (spec.bookings 0 directives.entry.items kept.now pads.now) result }
 {
-    let mut ledger = Ledger::new(alloc);
+    let mut ledger = ledger_for(alloc, kept, pads)?;
     let mut left = Left { kept, pads };
     let mut number = 0;
     for placed in directives {

@@ -1,7 +1,7 @@
 //! The rows of kept transactions.
 ghost use Rattle.std.specs.Prelude.{◌≡◌, ◌<◌, ◌≤◌, ◌+◌, ◌++◌, ◌∷◌, [], Err, IfOk, OnOk, length};
 ghost use Rattle.std.specs.Prelude.{map};
-ghost use Rattle.std.specs.Prelude.{slice_get, unwrap_or};
+ghost use Rattle.std.specs.Prelude.{slice_get};
 ghost use Rattle.std.specs.List.{AllByRecursion};
 ghost use Rattle.bean_interp.specs.Residual.{IsLight};
 ghost use Rattle.bean_sizes.specs.Booked.{IsSmallPosted};
@@ -9,16 +9,15 @@ ghost use Rattle.text_sizes.specs.Part.{IsSmallPosting, most};
 ghost use Rattle.text_sizes.specs.Small.{IsSmallDirective};
 ghost use Rattle.bean_trial.specs.Tried.{booked_leg, booked_legs, whole_at};
 ghost use Rattle.posting_table.specs.Shaped.{IsShaped, widest};
-ghost use Rattle.bean_book.specs.Metadata.{items_of};
 ghost use Rattle.bean_book.specs.Rows as spec;
 ghost use Rattle.posting_table.specs.Parts.{HasShortTexts};
 
 use crate::entries::entry_of;
 use crate::metadata::metadata_of;
 use bean_booker::BookFault;
-use bean_grammar::Posting;
 use bean_heads::{Directive, DirectiveKind, Transaction};
 use bean_lots::{Key, Position};
+use bean_postings::Posting;
 use bean_trial::{Posted, whole};
 use posting_table::{Entry, Ledger, MOST_POSTINGS, Metadata, Row, Shared, Weight};
 use std::alloc::{AllocError, Global};
@@ -39,28 +38,47 @@ pub(crate) fn push_row<'a>(ledger: &mut Ledger<'a>, row: Row<'a>) -> Result<(), 
     Ok(())
 }
 
-/// The metadata of written postings.
-fn metadata_of_all<'a>(
-    alloc: Global,
-    postings: &[Posting<'a>],
-) -> Result<Vec<Metadata<'a>>, AllocError>
-    ensures { IfOk result (λ all. all.items ≡ map (λ w. items_of w.details.metadata) postings.now) }
-{
-    let mut all = Vec::with_capacity(alloc, postings.len())?;
-    for posting in postings {
-        all.push(metadata_of(alloc, posting.details.metadata())?)?;
-    }
-    Ok(all)
+/// The metadata of a written posting, for all that it is booked as.
+#[derive(Drop)]
+struct Noted<'a> {
+    /// The number of the posting.
+    written: usize,
+    metadata: Metadata<'a>,
 }
 
-/// The metadata of the written posting of that number.
-fn metadata_at<'a>(all: &[Metadata<'a>], written: usize) -> Result<Metadata<'a>, AllocError>
-    ensures { IfOk result (λ metadata. metadata ≡ unwrap_or (slice_get all.now written) []) }
+/// The metadata of the written posting of that number: none where there is no such posting.
+fn noted_at<'a>(
+    alloc: Global,
+    postings: &[Posting<'a>],
+    written: usize,
+) -> Result<Noted<'a>, AllocError>
+    ensures number { IfOk result (λ noted. noted.written ≡ written) }
+    ensures items { IfOk result (λ noted. noted.metadata
+        ≡ spec.items_in (slice_get postings.now written)) }
 {
-    match all.get(written) {
-        Some(metadata) => metadata.share(),
-        None => Ok(Metadata::empty()),
+    let metadata = match postings.get(written) {
+        Some(posting) => metadata_of(alloc, posting.details.metadata())?,
+        None => Metadata::empty(),
+    };
+    Ok(Noted { written, metadata })
+}
+
+/// The same, where the one that was made last is at hand: most often it is of this posting.
+fn next_noted<'a>(
+    alloc: Global,
+    postings: &[Posting<'a>],
+    last: Noted<'a>,
+    written: usize,
+) -> Result<Noted<'a>, AllocError>
+    requires { last.metadata ≡ spec.items_in (slice_get postings.now last.written) }
+    ensures number { IfOk result (λ noted. noted.written ≡ written) }
+    ensures items { IfOk result (λ noted. noted.metadata
+        ≡ spec.items_in (slice_get postings.now written)) }
+{
+    if last.written == written {
+        return Ok(last);
     }
+    noted_at(alloc, postings, written)
 }
 
 /// What a booked posting weighs.
@@ -122,14 +140,13 @@ fn row_of<'a>(
 
 /// Adds the rows of booked postings.
 fn push_posted<'a>(
+    alloc: Global,
     ledger: &mut Ledger<'a>,
     entry: &Shared<Entry<'a>>,
     line: usize,
     postings: &[Posting<'a>],
-    metadata: &[Metadata<'a>],
     posted: &[Posted<'a>],
 ) -> Result<(), BookFault>
-    requires noted { metadata.now ≡ map (λ w. items_of w.details.metadata) postings.now }
     requires light { AllByRecursion IsLight (booked_legs postings.now posted.now) }
     requires small { AllByRecursion IsSmallPosted posted.now }
     requires written { AllByRecursion IsSmallPosting postings.now }
@@ -143,9 +160,11 @@ fn push_posted<'a>(
         → MOST_POSTINGS < length ledger.old.rows + length posted.now }
     ensures room { OnOk result (length ledger.new.rows ≤ MOST_POSTINGS) }
 {
+    let mut noted = noted_at(alloc, postings, 0)?;
     for one in posted {
-        let noted = metadata_at(metadata, one.written)?;
-        let row = row_of(entry, line, postings, noted, one)?;
+        noted = next_noted(alloc, postings, noted, one.written)?;
+        let metadata = noted.metadata.share()?;
+        let row = row_of(entry, line, postings, metadata, one)?;
         match push_row(ledger, row) {
             Ok(()) => {}
             Err(fault) => return Err(fault),
@@ -178,6 +197,5 @@ pub(crate) fn push_transaction<'a>(
 {
     let postings = transaction.postings.as_slice();
     let entry = entry_of(alloc, directive, transaction, posted)?;
-    let metadata = metadata_of_all(alloc, postings)?;
-    push_posted(ledger, &entry, directive.line, postings, &metadata, posted)
+    push_posted(alloc, ledger, &entry, directive.line, postings, posted)
 }

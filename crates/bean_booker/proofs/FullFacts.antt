@@ -6,7 +6,7 @@ use Rattle.std.proofs.Common.{arith}
 use Rattle.std.proofs.Math.Seq.{drop-cons}
 use Rattle.std.proofs.lemmas.Grind.{flat_map-append}
 use Rattle.std.proofs.lemmas.List.{append-nil, length-append, reverse-append, take-append-drop}
-use Rattle.bean_grammar.specs.declared.posting.Posting.{Posting}
+use Rattle.bean_postings.specs.declared.posting.Posting.{Posting}
 use Rattle.bean_heads.specs.declared.directive.Directive.{Directive}
 use Rattle.bean_heads.specs.declared.directive.DirectiveKind.{DirectiveKind}
 use Rattle.bean_heads.specs.declared.directive.DirectiveKind.TheVariants as kind

@@ -2,3 +2,4 @@ pub mod StepFacts
 pub mod TakeFacts
 pub mod OneBooking
 pub mod FullFacts
+pub mod EachBooking

@@ -11,9 +11,9 @@ ghost use Rattle.bean_interp.specs.Residual.{IsLight};
 ghost use Rattle.bean_load.specs.declared.placed.Placed as placed;
 ghost use Rattle.bean_lots.specs.declared.reduction.Method.{Method};
 ghost use Rattle.bean_trial.specs.Methods.{method_in};
-ghost use Rattle.bean_trial.specs.Tried.{Tries, booked_legs};
+ghost use Rattle.bean_trial.specs.Tried.{KnowsBalance, Tries, booked_legs};
 ghost use Rattle.bean_trial.specs.declared.line.Posted.{Posted};
-ghost use Rattle.bean_grammar.specs.declared.posting.Posting.{Posting};
+ghost use Rattle.bean_postings.specs.declared.posting.Posting.{Posting};
 ghost use Rattle.bean_trial.specs.declared.stop.LineFault as trials;
 
 use crate::accounts::{take_balance, take_close, take_open, take_pad};
@@ -21,13 +21,13 @@ use crate::kept::Kept;
 use crate::postings::{note_balance, take_postings};
 use crate::steps::place_of;
 use bean_accounts::{Accounts, Place};
-use bean_base::{Fault, List};
-use bean_grammar::Posting;
+use bean_base::Fault;
 use bean_interp::Scales;
 use bean_load::Placed;
 use bean_pad::Padder;
 use bean_parser::{Directive, DirectiveKind};
-use bean_trial::{Head, Holdings, LineFault, Methods, Posted, Stop, try_transaction};
+use bean_postings::Posting;
+use bean_trial::{Head, Holdings, LineFault, Methods, Stop, Tried, try_transaction};
 use std::alloc::{AllocError, AllocFailed, Global};
 
 /// The most postings of a ledger.
@@ -114,33 +114,27 @@ impl<'a> Booker<'a> {
         number: usize,
         at: Place,
         postings: &[Posting<'a>],
-        posted: List<Posted<'a>>,
+        tried: Tried<'a>,
     ) -> Result<(), BookFault>
         requires room { HasRoom number self.old }
         requires few { number ≤ 2 ^ 39 }
-        requires light { AllByRecursion IsLight (booked_legs postings.now posted) }
+        requires light { AllByRecursion IsLight (booked_legs postings.now tried.posted) }
+        requires balances { KnowsBalance postings.now tried }
         ensures standing { (m : prelude.List ℕ → Method)
             (past : prelude.List (placed.Placed Directive)) (st : Stand)
             (d : placed.Placed Directive) → IsStanding m past st self.old → at ≡ place_of d
             → length past ≡ number
             → OnOk result (IsStanding m past
-            (after_trial past st d postings.now (Ok posted.entry)) self.new) }
+            (after_trial past st d postings.now (Ok tried.entry.posted)) self.new) }
         ensures room { OnOk result (HasRoom number self.new) }
         ensures full { result ≡ prelude.Err BookFault.TooManyPostings
-            → 1000000 < additions_in self.old.holdings + length posted.entry }
+            → 1000000 < additions_in self.old.holdings + length tried.entry.posted }
     {
-        let booked = posted.as_slice();
+        let booked = tried.posted.as_slice();
         if booked.len() > MOST_POSTINGS - self.holdings.additions() {
             return Err(BookFault::TooManyPostings);
         }
-        note_balance(
-            self.alloc,
-            &mut self.scales,
-            &mut self.faults,
-            at,
-            postings,
-            booked,
-        )?;
+        note_balance(&mut self.scales, &mut self.faults, at, postings, &tried)?;
         take_postings(
             &self.accounts,
             &mut self.padder,
@@ -152,7 +146,7 @@ impl<'a> Booker<'a> {
         self.holdings.post_all(self.alloc, booked)?;
         self.kept.push(Kept {
             directive: number,
-            postings: posted,
+            postings: tried.posted,
         })?;
         Ok(())
     }
@@ -214,7 +208,7 @@ impl<'a> Booker<'a> {
             head,
             postings,
         ) {
-            Ok(posted) => self.keep(number, at, postings, posted),
+            Ok(tried) => self.keep(number, at, postings, tried),
             Err(Stop::Fault(fault)) => self.drop_with(number, at, fault),
             Err(Stop::OutOfMemory) => Err(BookFault::OutOfMemory),
         }

@@ -1,6 +1,6 @@
 //! The booked postings of a transaction.
-ghost use Rattle.std.specs.Prelude.{◌≡◌, ◌<◌, ◌≤◌, ◌+◌, ◌^◌, ◌∷◌, ◌++◌, OnOk, length, map, not};
-ghost use Rattle.std.specs.Prelude.{reverse, slice_get};
+ghost use Rattle.std.specs.Prelude.{◌≡◌, ◌<◌, ◌≤◌, ◌+◌, ◌^◌, ◌∷◌, ◌++◌, IfOk, OnOk, length, map};
+ghost use Rattle.std.specs.Prelude.{not, reverse, slice_get};
 ghost use Rattle.std.specs.Prelude as prelude;
 ghost use Rattle.std.specs.List.{AllByRecursion, flat_map};
 ghost use Rattle.bean_accounts.specs.Faults.{faults_at, kind_if};
@@ -11,16 +11,16 @@ ghost use Rattle.bean_interp.specs.Balance.{is_balanced};
 ghost use Rattle.bean_interp.specs.Residual.{IsLight};
 ghost use Rattle.bean_pad.specs.Following.{Follows, IsBounded, steps_in};
 ghost use Rattle.bean_pad.specs.declared.step.Step.{Step};
-ghost use Rattle.bean_trial.specs.Tried.{booked_legs};
+ghost use Rattle.bean_trial.specs.Tried.{KnowsBalance, booked_legs};
 
 use crate::steps::posting_of;
 use bean_accounts::{Accounts, Place};
 use bean_base::{Fault, FaultKind};
-use bean_grammar::Posting;
 use bean_interp::Scales;
 use bean_pad::Padder;
-use bean_trial::{Posted, balances};
-use std::alloc::{AllocError, Global};
+use bean_postings::Posting;
+use bean_trial::{Posted, Tried, balances};
+use std::alloc::AllocError;
 
 /// The place of a posting of a transaction at a place.
 fn place_in(at: Place, postings: &[Posting<'_>], written: usize) -> Place
@@ -85,22 +85,40 @@ pub(crate) fn take_postings<'a>(
     Ok(())
 }
 
+/// Whether a transaction balances by the postings that it is booked as. It is weighed where its
+/// trial didn't.
+fn balances_as<'a>(
+    scales: &mut Scales<'a>,
+    postings: &[Posting<'a>],
+    tried: &Tried<'a>,
+) -> Result<bool, AllocError>
+    requires few { length tried.now.posted ≤ 10 ^ 9 }
+    requires light { AllByRecursion IsLight (booked_legs postings.now tried.now.posted) }
+    requires balances { KnowsBalance postings.now tried.now }
+    ensures { IfOk result (λ b. b ≡ is_balanced (booked_legs postings.now tried.now.posted)) }
+{
+    match tried.balances {
+        Some(balances) => Ok(balances),
+        None => balances(scales, postings, tried.posted.as_slice()),
+    }
+}
+
 /// Adds F18 where a transaction doesn't balance.
 pub(crate) fn note_balance<'a>(
-    alloc: Global,
     scales: &mut Scales<'a>,
     faults: &mut Vec<Fault>,
     at: Place,
     postings: &[Posting<'a>],
-    posted: &[Posted<'a>],
+    tried: &Tried<'a>,
 ) -> Result<(), AllocError>
-    requires few { length posted.now ≤ 10 ^ 9 }
-    requires light { AllByRecursion IsLight (booked_legs postings.now posted.now) }
+    requires few { length tried.now.posted ≤ 10 ^ 9 }
+    requires light { AllByRecursion IsLight (booked_legs postings.now tried.now.posted) }
+    requires balances { KnowsBalance postings.now tried.now }
     ensures { OnOk result (faults.new.items ≡ faults.old.items ++ faults_at at
-        (kind_if (not (is_balanced (booked_legs postings.now posted.now)))
+        (kind_if (not (is_balanced (booked_legs postings.now tried.now.posted)))
         FaultKind.Unbalanced)) }
 {
-    if !balances(alloc, scales, postings, posted)? {
+    if !balances_as(scales, postings, tried)? {
         faults.push(at.fault(FaultKind::Unbalanced))?;
     }
     Ok(())

@@ -6,10 +6,6 @@ pub mod ExactFacts
 pub mod ExpressionFacts
 pub mod ValueFacts
 pub mod AmountFacts
-pub mod PriceFacts
-pub mod CostPartFacts
-pub mod CostFacts
-pub mod PostingFacts
 pub mod MetadataFacts
 pub mod MarkFacts
 mod Examples

@@ -4,10 +4,5 @@ pub mod Literal
 pub mod Exact
 pub mod Expression
 pub mod Amount
-pub mod CostPart
-pub mod Cost
-pub mod Price
-pub mod Details
-pub mod Posting
 pub mod Metadata
 pub mod Mark

@@ -1,18 +1,15 @@
 //! What holds of the rules, whatever the code.
-ghost use Rattle.std.specs.Prelude.{ℕ};
 ghost use Rattle.theory.specs.Form.{IsUnambiguous};
 ghost use Rattle.bean_grammar.specs.Amount.{amount};
 ghost use Rattle.bean_grammar.specs.Expression.{HasValues, computed, exactly};
 ghost use Rattle.bean_grammar.specs.Expression.{expression};
 ghost use Rattle.bean_grammar.specs.Mark.{marks, some_marks};
 ghost use Rattle.bean_grammar.specs.Metadata.{all_values, entry};
-ghost use Rattle.bean_grammar.specs.Posting.{posting};
 
 /// What is read by a rule, as far as nothing carries it on, is read in one way.
 pub fn a_rule_has_one_reading()
     ensures expression { IsUnambiguous expression }
     ensures amount { IsUnambiguous amount }
-    ensures posting { (line : ℕ) → IsUnambiguous (posting line) }
     ensures entry { IsUnambiguous entry }
     ensures values { IsUnambiguous all_values }
     ensures marks { IsUnambiguous marks }

@@ -1,9 +1,9 @@
-//! What the lines of a ledger are made of: days, texts, number expressions, postings, metadata,
-//! tags and links, each read from the front of a list of tokens.
+//! What the lines of a ledger are made of: days, texts, number expressions, amounts, metadata, tags
+//! and links, each read from the front of a list of tokens.
 //!
 //! ```text
-//! let found = tokens(alloc, "Assets:Inv  3 X {1 + 2.50 * 2 USD}")?;
-//! // posting(alloc, found.as_slice()): a posting of 3 X at a cost of 6.00 USD.
+//! let found = tokens(alloc, "1 + 2.50 * 2 USD")?;
+//! // amount(found.as_slice()): 6.00 USD, and no token behind it.
 //! ```
 //!
 //! A rule of the grammar stands in `specs/` as a form, and its reader has the same name: it gives a
@@ -16,21 +16,13 @@
 //! same and make what they stand in [`Ranged::Outside`], so that what has no tree comes first. In
 //! an expression each part counts, partial sums and products too.
 //!
-//! # Outside the profile
-//!
-//! Forms that the language has and the books don't (total costs, prices without a number and the
-//! like) are read and kept as a mark alone.
-//!
 //! # Cost
 //!
 //! Linear in the tokens. Expressions are read to their values with no tree, and nest at most 200
-//! deep. What takes memory: a posting's lot and its price, and lists of tags, links and values.
+//! deep. What takes memory: lists of tags, links and values.
 #![tactic(auto)]
 
 pub mod amount;
-pub mod cost;
-pub mod cost_part;
-pub mod details;
 pub mod entry;
 pub mod expression;
 pub mod front;
@@ -38,16 +30,9 @@ pub mod grammar;
 pub mod literal;
 pub mod mark;
 pub mod metadata;
-pub mod posting;
-pub mod posting_line;
-pub mod price;
 pub mod ranged;
 
 pub use amount::AmountParts;
-pub use cost::{Cost, LotParts};
-pub use details::{DetailParts, Details};
 pub use mark::Mark;
 pub use metadata::{Entry, Value};
-pub use posting::{Posting, Units};
-pub use price::Price;
 pub use ranged::Ranged;

@@ -8,8 +8,9 @@ use crate::directive::DirectiveKind;
 use bean_base::{Few, Flag, List, Text};
 use bean_grammar::literal::text_if_due;
 use bean_grammar::mark::marks;
-use bean_grammar::{Mark, Posting, Ranged};
+use bean_grammar::{Mark, Ranged};
 use bean_lexer::Token;
+use bean_postings::Posting;
 use std::alloc::{AllocError, Global};
 
 /// A change of accounts.

@@ -4,6 +4,7 @@ pub mod CountFacts
 pub mod EntryFacts
 pub mod TableFacts
 pub mod WeighingFacts
+pub mod ScalesFacts
 pub mod FillingFacts
 pub mod BalanceFacts
 pub mod EvenedFacts

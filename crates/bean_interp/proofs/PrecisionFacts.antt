@@ -34,7 +34,7 @@ swap (Whole a) MissingAmount c o = refl
 swap (MissingNumber m) b c o = refl
 swap MissingAmount b c o = refl
 
-precision_push : (legs : List Leg) (leg : Leg) (c : List ℕ)
+pub precision_push : (legs : List Leg) (leg : Leg) (c : List ℕ)
     → precision (legs ++ leg ∷ []) c ≡ with_written leg c (precision legs c)
 precision_push [] leg c = refl
 precision_push (l ∷ legs) leg c =

@@ -2,7 +2,7 @@
 use Rattle.std.proofs.Common.{◌≡◌, ◌+◌, ◌+ℤ◌, ◌<◌, ◌≤◌, ℕ, zero, suc, pos, nat_le, Bool, true}
 use Rattle.std.proofs.Common.{false, cond, List, [], ◌∷◌, ◌++◌, length, take, get_or, refl, sym, ap}
 use Rattle.std.proofs.Common.{◌∙◌, subst, arith}
-use Rattle.std.proofs.Math.Seq.{take-suc}
+use Rattle.std.proofs.Math.Seq.{get_or-append_seam, take-append_seam, take-suc}
 use Rattle.std.proofs.lemmas.Grind.{common_steps, flat_map-append}
 use Rattle.std.proofs.lemmas.List.{append-nil, take-append-le, take_all}
 use Rattle.std.specs.List.{AllByRecursion}
@@ -129,6 +129,14 @@ light_at [] i d lt all = absurd (omega (arith, lt))
 light_at (leg ∷ legs) zero d lt all = all.0
 light_at (leg ∷ legs) (suc i) d lt all = light_at legs i d (omega (arith, lt)) all.1
 
+-- with a leg that fits
+pub weighs_more : (es : List Weighed) (legs : List Leg) (leg : Leg) → IsWeighed es legs
+    → Fits es leg → IsWeighed (with_leg es leg) (legs ++ leg ∷ [])
+weighs_more es legs leg so_far fits = record {
+  table_is = ap (λ t. with_leg t leg) so_far.table_is ∙ with_leg_is legs leg;
+  range = range_push legs leg so_far.range (subst (λ t. Fits t leg) so_far.table_is fits);
+}
+
 -- a leg that doesn't fit is in no range
 pub no_range : (legs : List Leg) (i : ℕ) (d : Leg) → i < length legs
     → ¬ Fits (table (weighed (take i legs))) (get_or legs i d) → ¬ AreInRange legs
@@ -152,3 +160,17 @@ no_range legs i d lt never range =
         (light, subst IsNarrow (residual_push (take i legs) (Whole w) c ∙ here) (narrow c))
     by (MissingNumber c) light narrow = tt
     by MissingAmount light narrow = tt
+
+-- whatever stands behind it
+pub no_range_with : (es : List Weighed) (legs : List Leg) (leg : Leg) (later : List Leg)
+    → es ≡ table (weighed legs) → ¬ Fits es leg → ¬ AreInRange (legs ++ leg ∷ later)
+no_range_with es legs leg later is never =
+    let all = legs ++ leg ∷ later in
+    let at : get_or all (length legs) leg ≡ leg = get_or-append_seam legs leg later leg in
+    let front : take (length legs) all ≡ legs = take-append_seam legs (leg ∷ later) in
+    let few : length legs < length all = grind (arith, common_steps) in
+    no_range all (length legs) leg few
+    (λ fits. never
+    (subst (λ t. Fits t leg) (sym is)
+    (subst (λ ls. Fits (table (weighed ls)) leg) front
+    (subst (Fits (table (weighed (take (length legs) all)))) at fits))))

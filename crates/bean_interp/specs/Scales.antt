@@ -14,6 +14,15 @@ use Rattle.bean_interp.specs.declared.leg.Leg.{Leg}
 use Rattle.bean_interp.specs.declared.scales.Scales.{Scales}
 
 -- these legs lie on the scales, and are in range
+pub record AreWeighed (s : Scales) (legs : List Leg) : Type 0 where
+  pub sums : s.sums ≡ table (weighed legs)
+  pub range : AreInRange legs
+
+-- their decimals are noted
+pub record AreNoted (s : Scales) (legs : List Leg) : Type 0 where
+  pub precisions : (c : List ℕ) → lookup (bytes_eq c) s.precisions ≡ precision legs c
+
+-- both
 pub record AreSet (s : Scales) (legs : List Leg) : Type 0 where
   pub sums : s.sums ≡ table (weighed legs)
   pub precisions : (c : List ℕ) → lookup (bytes_eq c) s.precisions ≡ precision legs c

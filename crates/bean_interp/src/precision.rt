@@ -85,8 +85,15 @@ impl<'a> Precisions<'a> {
         Ok(())
     }
 
+    /// Forgets all decimals.
+    pub fn clear(&mut self)
+        ensures { self.new ≡ [] }
+    {
+        self.by_currency.clear();
+    }
+
     /// Notes the decimals that are written in a leg.
-    fn note_leg(&mut self, leg: &Leg<'a>) -> Result<(), AllocError>
+    pub fn note_leg(&mut self, leg: &Leg<'a>) -> Result<(), AllocError>
         ensures { OnOk result ((c : List ℕ) → lookup (bytes_eq c) self.new
             ≡ with_written leg.now c (lookup (bytes_eq c) self.old)) }
     {
@@ -102,7 +109,7 @@ impl<'a> Precisions<'a> {
     pub fn read(&mut self, legs: &[Leg<'a>]) -> Result<(), AllocError>
         ensures { OnOk result ((c : List ℕ) → lookup (bytes_eq c) self.new ≡ precision legs.now c) }
     {
-        self.by_currency.clear();
+        self.clear();
         for leg in legs {
             self.note_leg(leg)?;
         }

@@ -1,7 +1,8 @@
 //! Scales: transactions are laid on them one after the other, to be completed and to be judged.
 ghost use Rattle.std.specs.Prelude as prelude;
 ghost use Rattle.bean_interp.specs.Evened.{CompletionBalances};
-ghost use Rattle.std.specs.Prelude.{◌≡◌, ◌∷◌, ◌<◌, [], ℕ, Err, IfOk, OnOk, length, true};
+ghost use Rattle.std.specs.Prelude.{◌≡◌, ◌∷◌, ◌++◌, ◌<◌, [], ℕ, Err, IfOk, IsTrue, OnOk};
+ghost use Rattle.std.specs.Prelude.{length, true};
 ghost use Rattle.std.specs.List.{list_all};
 ghost use Rattle.bean_interp.specs.Lacking.{is_whole};
 
@@ -13,7 +14,7 @@ use crate::leg::Leg;
 use crate::precision::{Precisions, half_unit};
 use crate::sums::Sums;
 use bean_base::{Amount, Currency, List};
-use std::alloc::Global;
+use std::alloc::{AllocError, Global};
 
 /// What the legs of one transaction weigh together, and the decimals to which it is exact.
 ///
@@ -37,7 +38,7 @@ impl<'a> Scales<'a> {
     ghost use Rattle.bean_interp.specs.Filling.{AreFilled, HaveNumbers, all_currencies};
     ghost use Rattle.bean_interp.specs.Filling.{currency_at, gaps_in};
     ghost use Rattle.bean_interp.specs.Residual.{AreInRange};
-    ghost use Rattle.bean_interp.specs.Scales.{AreSet, GivesFill, HasNoFill};
+    ghost use Rattle.bean_interp.specs.Scales.{AreNoted, AreSet, AreWeighed, GivesFill, HasNoFill};
     ghost use Rattle.bean_interp.specs.declared.leg.Leg.{Leg};
 
     /// Scales with nothing on them. Takes no memory.
@@ -49,6 +50,47 @@ impl<'a> Scales<'a> {
             sums: Sums::new(alloc),
             precisions: Precisions::new(alloc),
         }
+    }
+
+    /// Takes all legs off the scales.
+    pub fn clear(&mut self)
+        ensures weighed { AreWeighed self.new [] }
+        ensures noted { AreNoted self.new [] }
+    {
+        self.sums.clear();
+        self.precisions.clear();
+    }
+
+    /// Lays one more leg on the scales. Its decimals aren't noted.
+    pub fn add(&mut self, leg: &Leg<'a>) -> Result<(), WeighFault>
+        ensures weighed { OnOk result ((legs : prelude.List Leg) → AreWeighed self.old legs
+            → AreWeighed self.new (legs ++ leg.now ∷ [])) }
+        ensures noted { (legs : prelude.List Leg) → AreNoted self.old legs
+            → AreNoted self.new legs }
+        ensures wide { result ≡ Err WeighFault.TooWide
+            → (legs later : prelude.List Leg) → AreWeighed self.old legs
+            → ¬ AreInRange (legs ++ leg.now ∷ later) }
+    {
+        self.sums.add_leg(leg)
+    }
+
+    /// Notes the decimals that are written in one more leg.
+    pub fn note(&mut self, leg: &Leg<'a>) -> Result<(), AllocError>
+        ensures noted { OnOk result ((legs : prelude.List Leg) → AreNoted self.old legs
+            → AreNoted self.new (legs ++ leg.now ∷ [])) }
+        ensures weighed { (legs : prelude.List Leg) → AreWeighed self.old legs
+            → AreWeighed self.new legs }
+    {
+        self.precisions.note_leg(leg)
+    }
+
+    /// Whether the legs on the scales come to 0 in every currency. Such a transaction balances,
+    /// whatever decimals are written.
+    pub fn are_zero(&self) -> bool
+        ensures { IsTrue result → (legs : prelude.List Leg) → AreWeighed self.now legs
+            → is_balanced legs ≡ true }
+    {
+        self.sums.are_zero()
     }
 
     /// Lays the legs of a transaction on the scales, in place of those that were there.
@@ -222,8 +264,8 @@ impl<'a> Scales<'a> {
         sum.unsigned_abs() <= half_unit(self.precisions.of(currency))
     }
 
-    /// Whether the transaction on the scales balances.
-    fn are_even(&self) -> bool
+    /// Whether the transaction on the scales balances, whose decimals are noted.
+    pub fn are_even(&self) -> bool
         ensures { (legs : prelude.List Leg) → AreSet self.now legs → result ≡ is_balanced legs }
     {
         for index in 0..self.sums.len() {

@@ -147,8 +147,15 @@ impl<'a> Sums<'a> {
         Ok(())
     }
 
+    /// Takes all weights off.
+    pub fn clear(&mut self)
+        ensures { self.new ≡ [] }
+    {
+        self.by_currency.clear();
+    }
+
     /// Adds what a leg weighs.
-    fn add_leg(&mut self, leg: &Leg<'a>) -> Result<(), WeighFault>
+    pub fn add_leg(&mut self, leg: &Leg<'a>) -> Result<(), WeighFault>
         ensures added { OnOk result (self.new ≡ with_leg self.old leg.now) }
         ensures fits { OnOk result (Fits self.old leg.now) }
         ensures wide { result ≡ Err WeighFault.TooWide → ¬ Fits self.old leg.now }
@@ -168,7 +175,7 @@ impl<'a> Sums<'a> {
         ensures in_range { OnOk result (AreInRange legs.now) }
         ensures wide { result ≡ Err WeighFault.TooWide → ¬ AreInRange legs.now }
     {
-        self.by_currency.clear();
+        self.clear();
         for leg in legs {
             match self.add_leg(leg) {
                 Ok(()) => {}

@@ -15,5 +15,6 @@ pub mod CandidateFacts
 pub mod AfterFacts
 pub mod TurnedFacts
 pub mod FrontFacts
+pub mod PartFacts
 pub mod HeldFacts
 mod Examples

@@ -1,6 +1,7 @@
 -- The candidates of a reduction: the lots of the currency that agree with the selector and have the
 -- opposite sign.
-use Rattle.std.specs.Prelude.{◌<◌, Bool, true, ◌&&◌, ◌||◌, ℕ, ℤ, pos, List, [], ◌∷◌, ◌++◌, Option}
+use Rattle.std.specs.Prelude.{◌<◌, Bool, true, false, ◌&&◌, ◌||◌, ℕ, ℤ, pos, List, [], ◌∷◌, ◌++◌}
+use Rattle.std.specs.Prelude.{Option}
 use Rattle.std.specs.Prelude.{Some}
 use Rattle.std.specs.Prelude.{None, if◌then◌else◌}
 use Rattle.std.specs.Int.RustNames.{unsigned_abs}
@@ -30,6 +31,11 @@ has_label (Some label) lot = option_eq same_text (Some label) lot.label
 -- the lot has every part that is given
 abbrev pub agrees : Selector → Lot → Bool
 agrees s lot = has_cost s.cost lot && has_day s.day lot && has_label s.label lot
+
+-- a lot of the currency that agrees with the selector, whatever is held of it
+abbrev pub selects : Selector → List ℕ → Option Lot → Bool
+selects s currency None = false
+selects s currency (Some lot) = same_text currency s.currency && agrees s lot
 
 abbrev pub is_opposite : ℤ → ℤ → Bool
 is_opposite want n = (lt_z want (pos 0) && lt_z (pos 0) n) || (lt_z (pos 0) want && lt_z n (pos 0))

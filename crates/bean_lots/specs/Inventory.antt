@@ -15,9 +15,12 @@ abbrev pub count_of : List Position → Key → ℤ
 count_of [] k = pos 0
 count_of (e ∷ es) k = if same_key k e.key then e.count else count_of es k
 
+abbrev pub position_of : Key → ℤ → Position
+position_of k n = record { key = k; count = n }
+
 -- the position of a count, none for 0
 abbrev pub held_as : Key → ℤ → List Position
-held_as k n = if int_eq n (pos 0) then [] else record { key = k; count = n } ∷ []
+held_as k n = if int_eq n (pos 0) then [] else position_of k n ∷ []
 
 -- with n more under a key: a new key goes last, one that is there keeps its place, and one that
 -- comes to 0 goes

@@ -3,6 +3,7 @@ pub mod Inventory
 pub mod Days
 pub mod Slots
 pub mod Candidate
+pub mod Part
 pub mod Take
 pub mod Filling
 pub mod Reduction

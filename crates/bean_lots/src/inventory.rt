@@ -7,18 +7,20 @@ ghost use Rattle.std.specs.Int.RustNames.{FitsSigned};
 ghost use Rattle.bean_lots.specs.Days.{RiseInDays};
 ghost use Rattle.bean_lots.specs.After.{has_lot_against};
 ghost use Rattle.bean_lots.specs.Inventory.{count_of, added, negative_entry, MayBeNegated};
-ghost use Rattle.bean_lots.specs.Inventory.{IsInventory, has_lot, is_lot_of};
+ghost use Rattle.bean_lots.specs.Inventory.{IsInventory, has_lot, is_lot_of, position_of};
 ghost use Rattle.bean_lots.specs.Lot.{same_key};
+ghost use Rattle.bean_lots.specs.Part.{HasAllOf};
 ghost use Rattle.bean_lots.specs.declared.lot.Key.{Key};
 ghost use Rattle.bean_lots.specs.declared.lot.Position.{Position};
 
 mod days;
+mod part;
 mod positions;
 mod signs;
 mod slots;
 
-use crate::lot::{Key, Position};
-use bean_base::Currency;
+use crate::lot::Key;
+use bean_base::{Currency, Day};
 pub use positions::Positions;
 use slots::Slots;
 use std::alloc::{AllocError, Global};
@@ -54,11 +56,11 @@ impl Clone for Inventory<'_> {
     }
 }
 
-/// Whether a position is a lot of a currency.
-fn is_lot_of(position: &Position<'_>, currency: &Currency<'_>) -> bool
-    ensures { result ≡ is_lot_of currency.now position.now }
+/// Whether a key is that of a lot of a currency.
+pub(crate) fn is_lot_of(key: &Key<'_>, currency: &Currency<'_>) -> bool
+    ensures { (n : ℤ) → result ≡ is_lot_of currency.now (position_of key.now n) }
 {
-    position.key.currency == *currency && position.key.lot.is_some()
+    key.currency == *currency && key.lot.is_some()
 }
 
 impl<'a> Inventory<'a> {
@@ -84,8 +86,8 @@ impl<'a> Inventory<'a> {
         ensures { result ≡ has_lot currency.now self.now }
     {
         let mut rest = self.positions();
-        while let Some(position) = rest.next() {
-            if is_lot_of(&position, currency) {
+        while let Some((key, _)) = rest.next_held() {
+            if is_lot_of(key, currency) {
                 return true;
             }
         }
@@ -114,6 +116,17 @@ impl<'a> Inventory<'a> {
         ensures { result ≡ self.now }
     {
         self.slots.positions()
+    }
+
+    /// The positions about a day, in order of entry: all lots of that day, and few others where
+    /// lots are known to stand in the order of their days. Where no day is given, all positions.
+    pub(crate) fn positions_about(&self, day: Option<Day>) -> Positions<'_, 'a>
+        ensures { HasAllOf day result self.now }
+    {
+        match day {
+            Some(day) => self.slots.positions_about(day),
+            None => self.positions(),
+        }
     }
 
     /// Whether nothing is held. Where it says no, something may have been.

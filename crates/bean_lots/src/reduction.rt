@@ -64,7 +64,7 @@ impl Selector<'_> {
         ensures { result ≡ has_cost self.now.cost lot.now }
     {
         match &self.cost {
-            Some(cost) => *cost == lot.cost,
+            Some(cost) => cost.count == lot.cost.count && cost.currency == lot.cost.currency,
             None => true,
         }
     }
@@ -91,6 +91,6 @@ impl Selector<'_> {
     fn agrees(&self, lot: &Lot<'_>) -> bool
         ensures { result ≡ agrees self.now lot.now }
     {
-        self.has_cost(lot) && self.has_day(lot) && self.has_label(lot)
+        self.has_day(lot) && self.has_cost(lot) && self.has_label(lot)
     }
 }

@@ -7,3 +7,4 @@ pub mod OutcomeFacts
 pub mod InsertedFacts
 pub mod WaitingFacts
 pub mod SlotFacts
+pub mod WrittenFacts

@@ -9,12 +9,12 @@ use Rattle.bean_lexer.specs.declared.token.Token.{Token}
 use Rattle.bean_grammar.specs.declared.mark.Mark.{Mark}
 use Rattle.bean_grammar.specs.declared.mark.Mark.TheVariants as mark
 use Rattle.bean_grammar.specs.declared.metadata.Entry.{Entry}
-use Rattle.bean_grammar.specs.declared.posting.Posting.{Posting}
+use Rattle.bean_postings.specs.declared.posting.Posting.{Posting}
 use Rattle.bean_grammar.specs.declared.ranged.Ranged.{Ranged}
 use Rattle.bean_grammar.specs.Lexeme.{Lexeme, Account, lexemes, begins_with_key}
 use Rattle.bean_grammar.specs.Mark.{written, begins_with_mark, some_marks}
 use Rattle.bean_grammar.specs.Metadata.{entry}
-use Rattle.bean_grammar.specs.Posting.{flag_sign, begins_with_flag_sign, posting}
+use Rattle.bean_postings.specs.Posting.{flag_sign, begins_with_flag_sign, posting}
 use Rattle.bean_parser.specs.Block.{line_of, first_line}
 use Rattle.bean_parser.specs.Under.{IsLine}
 use Rattle.bean_parser.specs.declared.under.LineKind.{LineKind}

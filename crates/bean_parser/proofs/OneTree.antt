@@ -4,10 +4,10 @@ use Rattle.theory.proofs.OneReading.{one_value}
 use Rattle.bean_lexer.specs.declared.token.Token.{Token}
 use Rattle.bean_grammar.proofs.MarkFacts.{one_some_marks}
 use Rattle.bean_grammar.proofs.MetadataFacts.{one_entry}
-use Rattle.bean_grammar.proofs.PostingFacts.{one_posting}
+use Rattle.bean_postings.proofs.PostingFacts.{one_posting}
 use Rattle.bean_grammar.specs.Mark.{some_marks}
 use Rattle.bean_grammar.specs.Metadata.{entry}
-use Rattle.bean_grammar.specs.Posting.{posting}
+use Rattle.bean_postings.specs.Posting.{posting}
 use Rattle.bean_parser.specs.Block.{Line, lines}
 use Rattle.bean_parser.specs.Grammar.{takes_postings, Tree, Dated, Undated, HaveTree, HasTree}
 use Rattle.bean_parser.specs.Under.{IsLine, AreLines}

@@ -10,12 +10,13 @@ use crate::part::{Part, first_line, first_part};
 use crate::statement::Statement;
 use crate::under::{Body, all_postings, read_lines};
 use bean_base::{Day, Fault, FaultKind, List};
-use bean_grammar::{Mark, Posting, Ranged};
+use bean_grammar::{Mark, Ranged};
 use bean_heads::directive::{Directive, DirectiveKind};
 use bean_heads::head::head;
 use bean_heads::transaction::Transaction;
 use bean_heads::undated::{Undated, undated_line};
 use bean_lexer::{Kind, Token};
+use bean_postings::Posting;
 use std::alloc::{AllocError, Global};
 
 /// What a block gives.

@@ -13,9 +13,10 @@ use bean_base::{Few, List};
 use bean_grammar::entry::entry;
 use bean_grammar::front::{after_key, after_link, after_tag, next};
 use bean_grammar::mark::line_of_marks;
-use bean_grammar::posting_line::posting;
-use bean_grammar::{Entry, Mark, Posting, Ranged};
+use bean_grammar::{Entry, Mark, Ranged};
 use bean_lexer::{Kind, Token};
+use bean_postings::Posting;
+use bean_postings::posting_line::posting;
 use std::alloc::{AllocError, Global};
 
 /// What a line says.

@@ -5,9 +5,9 @@ use Rattle.std.proofs.Common.{Ok, sym, subst}
 use Rattle.std.specs.List.{AllByRecursion, list_any}
 use Rattle.std.specs.Str.{bytes_eq}
 use Rattle.bean_base.specs.declared.amounts.Amount as amounts
-use Rattle.bean_grammar.specs.declared.posting.Posting.{Posting}
-use Rattle.bean_grammar.specs.declared.price.Price as prices
-use Rattle.bean_grammar.specs.declared.price.Price.TheVariants as price_kind
+use Rattle.bean_postings.specs.declared.posting.Posting.{Posting}
+use Rattle.bean_postings.specs.declared.price.Price as prices
+use Rattle.bean_postings.specs.declared.price.Price.TheVariants as price_kind
 use Rattle.bean_interp.specs.Completion.{gap_of, gaps, gaps_from, gaps_of, taken_by}
 use Rattle.bean_interp.specs.Residual.{Weighed, currencies, lacking, lacks_in, weighed, weighed_in}
 use Rattle.bean_interp.specs.Residual.{with_new}

@@ -3,13 +3,13 @@ use Rattle.std.proofs.Common.{◌≡◌, ℕ, ℤ, Bool, true, false, List, [], 
 use Rattle.std.proofs.Common.{Some, None, IfSome, Result, Ok, Err, refl, sym, subst}
 use Rattle.std.specs.List.{AllByRecursion}
 use Rattle.bean_base.specs.declared.amounts.Amount as amounts
-use Rattle.bean_grammar.specs.declared.cost.Cost as costs
-use Rattle.bean_grammar.specs.declared.cost.Cost.TheVariants as cost_kind
-use Rattle.bean_grammar.specs.declared.cost.LotParts.{LotParts}
-use Rattle.bean_grammar.specs.declared.posting.Posting.{Posting}
-use Rattle.bean_grammar.specs.declared.posting.Units as units_declared
-use Rattle.bean_grammar.specs.declared.posting.Units.TheVariants.{Missing, Currency, Amount}
-use Rattle.bean_grammar.specs.declared.posting.Units.TheVariants.{NumberAlone}
+use Rattle.bean_postings.specs.declared.cost.Cost as costs
+use Rattle.bean_postings.specs.declared.cost.Cost.TheVariants as cost_kind
+use Rattle.bean_postings.specs.declared.cost.LotParts.{LotParts}
+use Rattle.bean_postings.specs.declared.posting.Posting.{Posting}
+use Rattle.bean_postings.specs.declared.posting.Units as units_declared
+use Rattle.bean_postings.specs.declared.posting.Units.TheVariants.{Missing, Currency, Amount}
+use Rattle.bean_postings.specs.declared.posting.Units.TheVariants.{NumberAlone}
 use Rattle.bean_lots.specs.Take.{signed_takes}
 use Rattle.bean_lots.specs.declared.lot.Lot.{Lot}
 use Rattle.bean_lots.specs.declared.lot.Position.{Position}

@@ -4,9 +4,12 @@ pub mod OutcomeFacts
 pub mod HeldFacts
 pub mod LinedFacts
 pub mod CompletedFacts
+pub mod PlainFacts
 pub mod LegFacts
 pub mod OneLine
 pub mod OneFilling
 pub mod OneTrial
 mod Examples
 pub mod LightFacts
+pub mod EachLine
+pub mod EachTrial

@@ -12,16 +12,17 @@ use Rattle.std.specs.Int.RustNames.{unsigned_abs}
 use Rattle.std.specs.List.{AllByRecursion}
 use Rattle.std.specs.Str.{bytes_eq}
 use Rattle.bean_base.specs.declared.amounts.Amount as amounts
-use Rattle.bean_grammar.specs.Posting.{has_number, is_left_out, is_number_alone, is_outside_profile}
-use Rattle.bean_grammar.specs.Posting.{is_written}
-use Rattle.bean_grammar.specs.declared.cost.Cost as costs
-use Rattle.bean_grammar.specs.declared.cost.Cost.TheVariants as cost_kind
-use Rattle.bean_grammar.specs.declared.posting.Posting.{Posting}
-use Rattle.bean_grammar.specs.declared.posting.Units as units_declared
-use Rattle.bean_grammar.specs.declared.posting.Units.TheVariants.{Missing, Currency, Amount}
-use Rattle.bean_grammar.specs.declared.posting.Units.TheVariants.{NumberAlone}
-use Rattle.bean_grammar.specs.declared.price.Price.{Price}
-use Rattle.bean_grammar.specs.declared.price.Price.TheVariants as price_kind
+use Rattle.bean_postings.specs.Posting.{has_number, is_left_out, is_number_alone}
+use Rattle.bean_postings.specs.Posting.{is_outside_profile}
+use Rattle.bean_postings.specs.Posting.{is_written}
+use Rattle.bean_postings.specs.declared.cost.Cost as costs
+use Rattle.bean_postings.specs.declared.cost.Cost.TheVariants as cost_kind
+use Rattle.bean_postings.specs.declared.posting.Posting.{Posting}
+use Rattle.bean_postings.specs.declared.posting.Units as units_declared
+use Rattle.bean_postings.specs.declared.posting.Units.TheVariants.{Missing, Currency, Amount}
+use Rattle.bean_postings.specs.declared.posting.Units.TheVariants.{NumberAlone}
+use Rattle.bean_postings.specs.declared.price.Price.{Price}
+use Rattle.bean_postings.specs.declared.price.Price.TheVariants as price_kind
 use Rattle.bean_interp.proofs.DueFacts.{number_lt}
 use Rattle.bean_interp.specs.Residual.{AreInRange, IsLight, sum_in, weighed}
 use Rattle.bean_interp.specs.Weight.{currency_of, weight_of}

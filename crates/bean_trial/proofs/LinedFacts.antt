@@ -8,7 +8,7 @@ use Rattle.std.specs.List.{list_any}
 use Rattle.std.proofs.Math.Seq.{take-suc, drop-cons}
 use Rattle.std.proofs.lemmas.List.{length-reverse, length-take-le, reverse-append}
 use Rattle.std.proofs.lemmas.List.{take-append-drop}
-use Rattle.bean_grammar.specs.declared.posting.Posting.{Posting}
+use Rattle.bean_postings.specs.declared.posting.Posting.{Posting}
 use Rattle.bean_lots.specs.After.{after}
 use Rattle.bean_lots.specs.declared.lot.Position.{Position}
 use Rattle.bean_lots.specs.declared.reduction.Method.{Method}

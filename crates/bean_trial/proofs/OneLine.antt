@@ -7,12 +7,12 @@ use Rattle.std.specs.Int.RustNames.{unsigned_abs}
 use Rattle.bean_base.proofs.NumFacts.{one_num}
 use Rattle.bean_base.specs.declared.amounts.Amount as amounts
 use Rattle.bean_base.specs.declared.fault.FaultKind.{FaultKind}
-use Rattle.bean_grammar.specs.declared.cost.Cost as costs
-use Rattle.bean_grammar.specs.declared.cost.Cost.TheVariants as cost_kind
-use Rattle.bean_grammar.specs.declared.cost.LotParts.{LotParts}
-use Rattle.bean_grammar.specs.declared.posting.Units as units_declared
-use Rattle.bean_grammar.specs.declared.posting.Units.TheVariants.{Missing, Currency, Amount}
-use Rattle.bean_grammar.specs.declared.posting.Units.TheVariants.{NumberAlone}
+use Rattle.bean_postings.specs.declared.cost.Cost as costs
+use Rattle.bean_postings.specs.declared.cost.Cost.TheVariants as cost_kind
+use Rattle.bean_postings.specs.declared.cost.LotParts.{LotParts}
+use Rattle.bean_postings.specs.declared.posting.Units as units_declared
+use Rattle.bean_postings.specs.declared.posting.Units.TheVariants.{Missing, Currency, Amount}
+use Rattle.bean_postings.specs.declared.posting.Units.TheVariants.{NumberAlone}
 use Rattle.bean_lots.proofs.LotFacts.{one_cost}
 use Rattle.bean_lots.proofs.ReductionFacts.{one}
 use Rattle.bean_lots.specs.Candidate.{candidates}

@@ -7,7 +7,7 @@ use Rattle.std.proofs.Math.Seq.{take-suc}
 use Rattle.std.proofs.lemmas.List.{map-append}
 use Rattle.std.specs.Int.Signed.{lt_z}
 use Rattle.bean_base.specs.declared.amounts.Amount.{Amount}
-use Rattle.bean_grammar.specs.declared.cost.LotParts.{LotParts}
+use Rattle.bean_postings.specs.declared.cost.LotParts.{LotParts}
 use Rattle.bean_lots.specs.declared.lot.Lot.{Lot}
 use Rattle.bean_trial.specs.Lined.{AreTakeLines, IsAugmented, IsLotOf, IsTakeLine}
 use Rattle.bean_trial.specs.declared.line.Line.{Line}

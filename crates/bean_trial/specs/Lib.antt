@@ -6,3 +6,4 @@ pub mod Lined
 pub mod Outcome
 pub mod Lines
 pub mod Tried
+pub mod Plain

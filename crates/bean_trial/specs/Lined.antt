@@ -7,13 +7,13 @@ use Rattle.std.specs.Int.Signed.{lt_z}
 use Rattle.bean_base.specs.declared.amounts.Amount as amounts
 use Rattle.bean_base.specs.declared.fault.FaultKind.{FaultKind}
 use Rattle.bean_base.specs.declared.fault.FaultKind.TheVariants as kind
-use Rattle.bean_grammar.specs.declared.cost.Cost as costs
-use Rattle.bean_grammar.specs.declared.cost.Cost.TheVariants as cost_kind
-use Rattle.bean_grammar.specs.declared.cost.LotParts.{LotParts}
-use Rattle.bean_grammar.specs.declared.posting.Posting as postings
-use Rattle.bean_grammar.specs.declared.posting.Units as units_declared
-use Rattle.bean_grammar.specs.declared.posting.Units.TheVariants.{Missing, Currency, Amount}
-use Rattle.bean_grammar.specs.declared.posting.Units.TheVariants.{NumberAlone}
+use Rattle.bean_postings.specs.declared.cost.Cost as costs
+use Rattle.bean_postings.specs.declared.cost.Cost.TheVariants as cost_kind
+use Rattle.bean_postings.specs.declared.cost.LotParts.{LotParts}
+use Rattle.bean_postings.specs.declared.posting.Posting as postings
+use Rattle.bean_postings.specs.declared.posting.Units as units_declared
+use Rattle.bean_postings.specs.declared.posting.Units.TheVariants.{Missing, Currency, Amount}
+use Rattle.bean_postings.specs.declared.posting.Units.TheVariants.{NumberAlone}
 use Rattle.bean_lots.specs.After.{has_opposite}
 use Rattle.bean_lots.specs.Candidate.{candidates}
 use Rattle.bean_lots.specs.Reduction.{IsReduction, HasNoReduction}

@@ -1,7 +1,7 @@
 -- What the program keeps of a transaction's lines, and of its setting.
-use Rattle.std.specs.Prelude.{◌≡◌, ◌≤◌, ◌^◌, ℕ, Bool, true, false, List, ◌++◌, Result, Ok}
-use Rattle.bean_grammar.specs.declared.cost.Cost.{Cost}
-use Rattle.bean_grammar.specs.declared.cost.Cost.TheVariants as cost
+use Rattle.std.specs.Prelude.{◌≡◌, ◌≤◌, ◌^◌, ℕ, Bool, true, false, List, [], ◌++◌, Result, Ok}
+use Rattle.bean_postings.specs.declared.cost.Cost.{Cost}
+use Rattle.bean_postings.specs.declared.cost.Cost.TheVariants as cost
 use Rattle.bean_trial.specs.Held.{takes_in}
 use Rattle.bean_trial.specs.Holdings.{AreHeld, IsBounded, additions_in}
 use Rattle.bean_trial.specs.Lined.{Setting}
@@ -13,8 +13,9 @@ use Rattle.bean_trial.specs.declared.methods.Methods.{Methods}
 use Rattle.bean_trial.specs.declared.setting.Head.{Head}
 use Rattle.bean_trial.specs.declared.stop.LineFault.{LineFault}
 
--- what is taken is what the takes among the lines come to
+-- what is taken is what the takes among the lines come to, and nothing is nothing
 pub record IsKeeping (ls : Lines) : Type 0 where
+  pub nothing : ls.nothing ≡ []
   pub takes : AreHeld (takes_in ls.lines.items) ls.taken
   pub bounded : IsBounded ls.taken
   pub few : additions_in ls.taken ≤ 2 ^ 39

@@ -1,17 +1,19 @@
 -- A transaction that is tried: the postings that it is booked as, or its first fault.
 use Rattle.std.specs.Prelude.{◌≡◌, ℕ, ◌+◌, ◌≤◌, ◌==◌, ◌⊎◌, Bool, true, false, List, [], ◌∷◌, ◌++◌}
-use Rattle.std.specs.Prelude.{filter, map, reverse, slice_get, Option, Some, None, Result, Ok, Err}
+use Rattle.std.specs.Prelude.{filter, map, reverse, slice_get, Option, Some, None, IfSome, Result}
+use Rattle.std.specs.Prelude.{Ok, Err}
 use Rattle.std.specs.List.{list_any}
 use Rattle.std.proofs.Common.{arith}
 use Rattle.bean_base.specs.declared.fault.FaultKind.TheVariants as kind
 use Rattle.bean_base.specs.declared.num.Num.{Num}
-use Rattle.bean_grammar.specs.Posting.{is_outside_profile}
-use Rattle.bean_grammar.specs.declared.posting.Posting as postings
-use Rattle.bean_grammar.specs.declared.posting.Units as units_declared
-use Rattle.bean_grammar.specs.declared.posting.Units.TheVariants.{Missing, Currency, Amount}
-use Rattle.bean_grammar.specs.declared.posting.Units.TheVariants.{NumberAlone}
-use Rattle.bean_grammar.specs.declared.price.Price as prices
-use Rattle.bean_grammar.specs.declared.price.Price.TheVariants as price_kind
+use Rattle.bean_postings.specs.Posting.{is_outside_profile}
+use Rattle.bean_postings.specs.declared.posting.Posting as postings
+use Rattle.bean_postings.specs.declared.posting.Units as units_declared
+use Rattle.bean_postings.specs.declared.posting.Units.TheVariants.{Missing, Currency, Amount}
+use Rattle.bean_postings.specs.declared.posting.Units.TheVariants.{NumberAlone}
+use Rattle.bean_postings.specs.declared.price.Price as prices
+use Rattle.bean_postings.specs.declared.price.Price.TheVariants as price_kind
+use Rattle.bean_interp.specs.Balance.{is_balanced}
 use Rattle.bean_interp.specs.Completion.{Completes}
 use Rattle.bean_interp.specs.declared.fault.CompletionFault.TheVariants.{LackTooMuch, Weighing}
 use Rattle.bean_interp.specs.declared.fault.WeighFault.TheVariants.{TooWide}
@@ -27,6 +29,7 @@ use Rattle.bean_trial.specs.Outcome.{StopsAt}
 use Rattle.bean_trial.specs.declared.line.Line.{Line}
 use Rattle.bean_trial.specs.declared.line.Line.TheVariants as line
 use Rattle.bean_trial.specs.declared.line.Posted.{Posted}
+use Rattle.bean_trial.specs.declared.line.Tried as tried
 use Rattle.bean_trial.specs.declared.stop.LineFault.{LineFault}
 use Rattle.bean_trial.specs.declared.stop.Stop.{Stop}
 
@@ -142,8 +145,8 @@ Tries s ps (Err f) =
     ⊎ ((is_outside ps ≡ false) × (IsFirstFault s ps f ⊎ IsIncomplete s ps f))
 
 -- what the program answers, of whose want of memory nothing is said
-abbrev pub TriesOrLacks : Setting → List postings.Posting → Result (List Posted) Stop → Type 0
-TriesOrLacks s ps (Ok posted) = Tries s ps (Ok posted)
+abbrev pub TriesOrLacks : Setting → List postings.Posting → Result tried.Tried Stop → Type 0
+TriesOrLacks s ps (Ok t) = Tries s ps (Ok t.posted)
 TriesOrLacks s ps (Err e) = StopsAt (λ f. Tries s ps (Err f)) e
 
 -- ---- what is booked weighs
@@ -154,3 +157,7 @@ booked_leg ps p = leg.Whole (whole_at (slice_get ps p.written) p)
 -- the booked postings of a transaction as legs
 abbrev pub booked_legs : List postings.Posting → List Posted → List Leg
 booked_legs ps posted = map (booked_leg ps) posted
+
+-- whether the transaction balances, where that is known of what it is booked as
+abbrev pub KnowsBalance : List postings.Posting → tried.Tried → Type 0
+KnowsBalance ps t = IfSome t.balances (λ b. b ≡ is_balanced (booked_legs ps t.posted))

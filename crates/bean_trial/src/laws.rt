@@ -2,7 +2,7 @@
 ghost use Rattle.std.specs.Prelude.{◌≡◌, List, Ok, Result};
 ghost use Rattle.std.specs.List.{AllByRecursion};
 ghost use Rattle.bean_interp.specs.Residual.{IsLight};
-ghost use Rattle.bean_grammar.specs.declared.posting.Posting.{Posting};
+ghost use Rattle.bean_postings.specs.declared.posting.Posting.{Posting};
 ghost use Rattle.bean_trial.specs.Lined.{Setting};
 ghost use Rattle.bean_trial.specs.Tried.{Tries, booked_legs};
 ghost use Rattle.bean_trial.specs.declared.line.Posted.{Posted};
@@ -12,6 +12,12 @@ ghost use Rattle.bean_trial.specs.declared.stop.LineFault.{LineFault};
 pub fn one_trial()
     ensures { (s : Setting) (ps : List Posting) (r t : Result (List Posted) LineFault)
         → Tries s ps r → Tries s ps t → r ≡ t }
+{}
+
+/// Something comes of each transaction: that nothing does can't be.
+pub fn each_transaction_is_tried()
+    ensures { (s : Setting) (ps : List Posting)
+        → ¬ ((r : Result (List Posted) LineFault) → ¬ Tries s ps r) }
 {}
 
 /// Each posting that a kept transaction is booked as weighs less than `10^28`.

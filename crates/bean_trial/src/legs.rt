@@ -1,15 +1,18 @@
 //! Transactions as their completion sees them.
-ghost use Rattle.std.specs.Prelude.{◌≡◌, slice_get, IfOk};
+ghost use Rattle.std.specs.Prelude.{◌≡◌, [], slice_get, Err, IfOk, OnOk};
 ghost use Rattle.std.specs.Prelude as prelude;
-ghost use Rattle.bean_grammar.specs.declared.price.Price as prices;
+ghost use Rattle.bean_interp.specs.Balance.{Judges};
+ghost use Rattle.bean_interp.specs.Residual.{AreInRange};
+ghost use Rattle.bean_interp.specs.Scales.{AreNoted, AreSet, AreWeighed};
+ghost use Rattle.bean_postings.specs.declared.price.Price as prices;
 ghost use Rattle.bean_trial.specs.Tried as spec;
 ghost use Rattle.bean_trial.specs.Tried.{whole_at};
 
 use crate::line::{Line, Posted};
 use bean_base::{Apart, Num};
-use bean_grammar::{Posting, Price, Units};
-use bean_interp::{Leg, Whole, Worth};
+use bean_interp::{Leg, Scales, WeighFault, Whole, Worth};
 use bean_lots::Lot;
+use bean_postings::{Posting, Price, Units};
 use std::alloc::{AllocError, Global};
 
 /// What units are worth of which this is known without a cost: a cost goes before a price.
@@ -102,17 +105,58 @@ pub(crate) fn legs_of<'a>(
     Ok(legs)
 }
 
-/// The legs that booked postings are.
-pub(crate) fn booked_legs<'a>(
-    alloc: Global,
+/// Lays the booked postings of a transaction on the scales, in place of what lay there.
+fn lay<'a>(
+    scales: &mut Scales<'a>,
     postings: &[Posting<'a>],
     posted: &[Posted<'a>],
-) -> Result<Vec<Leg<'a>>, AllocError>
-    ensures { IfOk result (λ legs. legs.items ≡ spec.booked_legs postings.now posted.now) }
+) -> Result<(), WeighFault>
+    ensures weighed { OnOk result
+        (AreWeighed scales.new (spec.booked_legs postings.now posted.now)) }
+    ensures noted { OnOk result (AreNoted scales.new []) }
+    ensures wide { result ≡ Err WeighFault.TooWide
+        → ¬ AreInRange (spec.booked_legs postings.now posted.now) }
 {
-    let mut legs = Vec::with_capacity(alloc, posted.len())?;
+    scales.clear();
     for one in posted {
-        legs.push(Leg::Whole(whole(postings, one)))?;
+        match scales.add(&Leg::Whole(whole(postings, one))) {
+            Ok(()) => {}
+            Err(fault) => return Err(fault),
+        }
     }
-    Ok(legs)
+    Ok(())
+}
+
+/// Notes the decimals of the booked postings of a transaction, which lie on the scales.
+fn note<'a>(
+    scales: &mut Scales<'a>,
+    postings: &[Posting<'a>],
+    posted: &[Posted<'a>],
+) -> Result<(), AllocError>
+    requires weighed { AreWeighed scales.old (spec.booked_legs postings.now posted.now) }
+    requires noted { AreNoted scales.old [] }
+    ensures { OnOk result (AreSet scales.new (spec.booked_legs postings.now posted.now)) }
+{
+    for one in posted {
+        scales.note(&Leg::Whole(whole(postings, one)))?;
+    }
+    Ok(())
+}
+
+/// Whether a transaction balances by the postings that it is booked as, or that they are too wide.
+pub(crate) fn judge<'a>(
+    scales: &mut Scales<'a>,
+    postings: &[Posting<'a>],
+    posted: &[Posted<'a>],
+) -> Result<bool, WeighFault>
+    ensures { Judges (spec.booked_legs postings.now posted.now) result }
+{
+    if let Err(fault) = lay(scales, postings, posted) {
+        return Err(fault);
+    }
+    if scales.are_zero() {
+        return Ok(true);
+    }
+    note(scales, postings, posted)?;
+    Ok(scales.are_even())
 }

@@ -11,7 +11,7 @@
 //! let head = Head { day: parse_day("2014-02-01")?, line: 7 };
 //! match try_transaction(alloc, &holdings, &methods, &mut scales, head, postings) {
 //!     // -10 X at 100 USD, -2 X at 110 USD, 1300.00 USD, and -80.00 USD for Income:Gain
-//!     Ok(posted) => holdings.post_all(alloc, posted.as_slice())?,
+//!     Ok(tried) => holdings.post_all(alloc, tried.posted.as_slice())?,
 //!     Err(Stop::Fault(fault)) => report(fault),
 //!     Err(Stop::OutOfMemory) => return Err(AllocError),
 //! }
@@ -47,7 +47,8 @@
 //! - `F17`, where a weight, a sum of weights or what is filled in is too wide.
 //!
 //! One thing comes of a transaction: its postings or its fault, by a law of this crate. Whether one
-//! that is kept balances is told by [`balances`].
+//! that is kept balances is told by [`balances`], and with the trial where no posting has a cost or
+//! lacks something: such a transaction is booked as it is written, and is weighed once.
 //!
 //! # Cost
 //!
@@ -66,6 +67,7 @@ pub mod line;
 mod lines;
 pub mod methods;
 mod outcome;
+mod plain;
 pub mod setting;
 mod stock;
 pub mod stop;
@@ -73,7 +75,7 @@ pub mod trial;
 
 pub use holdings::Holdings;
 pub use legs::whole;
-pub use line::{Line, Posted};
+pub use line::{Line, Posted, Tried};
 pub use methods::Methods;
 pub use setting::Head;
 pub use stop::{LineFault, Stop};

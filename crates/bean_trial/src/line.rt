@@ -1,7 +1,7 @@
 //! The postings of a transaction while it is tried.
 ghost use Rattle.std.specs.Prelude.{◌≡◌};
 
-use bean_base::{Account, Amount, Apart, Currency};
+use bean_base::{Account, Amount, Apart, Currency, List};
 use bean_lots::Lot;
 
 /// A posting as it is booked.
@@ -37,4 +37,13 @@ pub enum Line<'a> {
     /// A number of the currency is missing.
     MissingNumber(Account<'a>, Currency<'a>, usize),
     MissingAmount(Account<'a>, usize),
+}
+
+/// A transaction that was tried and can be booked.
+#[derive(Debug, Drop)]
+pub struct Tried<'a> {
+    /// The postings that it is booked as.
+    pub posted: List<Posted<'a>>,
+    /// Whether it balances by them, where the trial weighed them.
+    pub balances: Option<bool>,
 }

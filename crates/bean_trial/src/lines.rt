@@ -2,7 +2,7 @@
 ghost use Rattle.std.specs.Prelude.{◌≡◌, ◌≤◌, ◌^◌, ◌++◌, ◌∷◌, [], false, List, OnOk, IfOk, IfErr};
 ghost use Rattle.std.specs.Prelude.{Err, reverse};
 ghost use Rattle.std.specs.List.{list_any};
-ghost use Rattle.bean_grammar.specs.Posting.{is_outside_profile};
+ghost use Rattle.bean_postings.specs.Posting.{is_outside_profile};
 ghost use Rattle.bean_trial.specs.Held.{takes_in};
 ghost use Rattle.bean_trial.specs.Holdings.{AreHeld, IsBounded, additions_in};
 ghost use Rattle.bean_trial.specs.Lined.{AreLined, IsFirstFault, IsNext, Setting};
@@ -19,8 +19,8 @@ use crate::outcome::{Outcome, outcome_of};
 use crate::setting::Head;
 use crate::stock::Stock;
 use crate::stop::Stop;
-use bean_grammar::{Cost, Posting};
 use bean_lots::Inventory;
+use bean_postings::{Cost, Posting};
 use std::alloc::{AllocError, Global};
 
 /// More takes than any memory holds.
@@ -31,6 +31,8 @@ const MOST_TAKES: usize = 1 << 39;
 pub(crate) struct Lines<'a> {
     lines: Vec<Line<'a>>,
     taken: Holdings<'a>,
+    /// What an account holds that isn't there.
+    nothing: Inventory<'a>,
 }
 
 /// Adds a take to what is taken.
@@ -85,6 +87,7 @@ impl<'a> Lines<'a> {
         Lines {
             lines: Vec::new(alloc),
             taken: Holdings::new(alloc),
+            nothing: Inventory::new(alloc),
         }
     }
 
@@ -154,15 +157,14 @@ impl<'a> Lines<'a> {
         ensures { (s : Setting) → IsSettled s holdings.now methods.now head
             → ComesOf (IsNext s self.now.lines.items index posting.now) result }
     {
-        let nothing = Inventory::new(alloc);
         if !is_in_braces(posting) {
-            let stock = Stock::of_nothing(&nothing);
+            let stock = Stock::of_nothing(&self.nothing);
             return outcome_of(alloc, stock, head, index, posting);
         }
         let stock = Stock {
             method: methods.of(&posting.account),
-            held: holdings.of(&posting.account, &nothing),
-            taken: self.taken.of(&posting.account, &nothing),
+            held: holdings.of(&posting.account, &self.nothing),
+            taken: self.taken.of(&posting.account, &self.nothing),
         };
         outcome_of(alloc, stock, head, index, posting)
     }

@@ -1,6 +1,6 @@
 //! What comes of a posting.
 ghost use Rattle.std.specs.Prelude.{◌≡◌, ◌≢◌, ◌∷◌, [], false, ℕ, List, Err, IfOk, map};
-ghost use Rattle.bean_grammar.specs.Posting.{is_outside_profile};
+ghost use Rattle.bean_postings.specs.Posting.{is_outside_profile};
 ghost use Rattle.bean_lots.specs.Reduction.{Reduces};
 ghost use Rattle.bean_lots.specs.Take.{take_counts};
 ghost use Rattle.bean_lots.specs.declared.lot.Lot.{Lot};
@@ -17,8 +17,8 @@ use crate::setting::Head;
 use crate::stock::Stock;
 use crate::stop::{LineFault, Stop};
 use bean_base::{Account, Amount, Apart, Currency, FaultKind, Num, Text};
-use bean_grammar::{Cost, LotParts, Posting, Units};
 use bean_lots::{Lot, LotFault, Method, Selector, has_opposite, reduce_after};
+use bean_postings::{Cost, LotParts, Posting, Units};
 use std::alloc::{AllocError, Global};
 
 /// What comes of a posting.

@@ -1,7 +1,12 @@
 //! Why a transaction isn't booked.
-ghost use Rattle.std.specs.Prelude.{◌≡◌};
+ghost use Rattle.std.specs.Prelude.{◌≡◌, Err, List};
+ghost use Rattle.bean_interp.specs.Completion.{Completes};
+ghost use Rattle.bean_interp.specs.declared.leg.Leg.{Leg};
+ghost use Rattle.bean_trial.specs.Outcome.{StopsAt};
+ghost use Rattle.bean_trial.specs.Tried.{LacksOrIsWide};
 
 use bean_base::FaultKind;
+use bean_interp::{CompletionFault, WeighFault};
 use std::alloc::AllocError;
 
 /// A fault, with its line.
@@ -25,5 +30,23 @@ impl From<AllocError> for Stop {
 
     fn from(_: AllocError) -> Stop {
         Stop::OutOfMemory
+    }
+}
+
+/// The fault of a transaction that can't be completed.
+pub(crate) fn stop_of(fault: CompletionFault, line: usize) -> Stop
+    ensures { (legs : List Leg) → Completes legs (Err fault)
+        → StopsAt (LacksOrIsWide line legs) result }
+{
+    match fault {
+        CompletionFault::LackTooMuch => Stop::Fault(LineFault {
+            kind: FaultKind::SeveralMissingAmounts,
+            line,
+        }),
+        CompletionFault::Weighing(WeighFault::TooWide) => Stop::Fault(LineFault {
+            kind: FaultKind::TooWide,
+            line,
+        }),
+        CompletionFault::Weighing(WeighFault::OutOfMemory) => Stop::OutOfMemory,
     }
 }

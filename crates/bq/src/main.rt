@@ -19,8 +19,6 @@ mod refusal;
 mod run;
 mod showing;
 mod shown;
-#[cfg(test)]
-mod tests;
 mod verdict;
 mod words;
 

@@ -198,21 +198,3 @@ fn own_tags_and_entries_stand_first(rt: HostRuntime) -> Result<(), Fail> {
     assert!(rt; matches!(&own.value, Value::Number(own) if own.count == 2));
     Ok(())
 }
-
-#[test]
-fn near_to_directives(rt: HostRuntime) -> Result<(), Fail> {
-    let text = "2014-01-01 open Assets:Cash USD,\n2014-01-01 close\
-         \n2014-01-01 balance Assets:Cash 1 ~ -1 USD\n2014-01-01 balance Assets:Cash 1\
-         \n2014-01-01 pad Assets:Cash\n2014-01-01 note \"x\"\n2014-01-01 price USD CAD\
-         \n2014-01-01 event \"x\"\n2014-01-01 open Assets:Cash\n  Assets:Cash 1 USD\
-         \ninclude \"x\"\n  k: 1\npushtag\n  Assets:Cash 1 USD\n2014-01-01 open Assets:Cash\
-         \n  #tag\n";
-    let parsed = parse(rt.alloc(), text)?;
-    assert_eq!(rt; parsed.directives.as_slice().len(), 0);
-    assert_eq!(rt; parsed.settings.as_slice().len(), 0);
-    assert_eq!(rt; parsed.faults.as_slice().len(), 12);
-    for fault in parsed.faults.as_slice() {
-        assert_eq!(rt; fault.kind, FaultKind::NotADirective);
-    }
-    Ok(())
-}

@@ -1,6 +1,6 @@
 -- What a map of entries has at a name.
-use Rattle.std.proofs.Common.{◌≡◌, ℕ, Bool, true, false, cond, List, [], ◌∷◌, Some, unwrap_or, refl}
-use Rattle.std.proofs.Common.{sym, ap, ◌∙◌, nat_eq}
+use Rattle.std.proofs.Common.{◌≡◌, ℕ, Bool, true, false, cond, List, [], ◌∷◌, Option, Some, refl}
+use Rattle.std.proofs.Common.{unwrap_or, slice_get, sym, ap, ◌∙◌, nat_eq}
 use Rattle.std.specs.Cmp.{eq_by_cmp_equiv}
 use Rattle.std.specs.Cmp.Lexicographic.{pointwise, slice_cmp, texts_ties, nat_list_cmp_total}
 use Rattle.std.specs.FinMap.{get, insert, from_entries, find, get-from_entries, get-insert}
@@ -18,6 +18,21 @@ found name (e ∷ es) = λ k. cond (sym (texts_ties name e.0) k) (Some e.1) (fou
 pub got : (name : List ℕ) (es : List (List ℕ × ℕ))
     → get (from_entries {R = slice_cmp nat_cmp} es) name ≡ lookup (pointwise nat_eq name) es
 got name es = get-from_entries nat_list_cmp_total es name ∙ found name es
+
+-- what the first entry has is the count at its name
+pub first_is : (name : List ℕ) (es : List (List ℕ × ℕ)) (k : List ℕ) (n : ℕ)
+    → slice_get es 0 ≡ Some (k, n) → pointwise nat_eq name k ≡ true
+    → n ≡ decimals_of (from_entries es) name
+first_is name [] k n at h = cc
+first_is name (e ∷ es) k n at h =
+    let same : e ≡ (k, n) = ap (λ (o : Option (List ℕ × ℕ)). unwrap_or o e) at in
+    let hit : pointwise nat_eq name e.0 ≡ true =
+    ap (λ (x : List ℕ × ℕ). pointwise nat_eq name x.0) same ∙ h in
+    sym
+    (ap (λ o. unwrap_or o 0)
+    (got name (e ∷ es)
+    ∙ ap (λ b. cond b (Some e.1) (lookup (pointwise nat_eq name) es)) hit)
+    ∙ ap (λ (x : List ℕ × ℕ). x.1) same)
 
 -- entries that have the count at the name, and at all others what was there
 pub updated : (before after : List (List ℕ × ℕ)) (name : List ℕ) (count : ℕ)

@@ -4,6 +4,7 @@ pub mod Row
 pub mod Cells
 pub mod Decimals
 pub mod Held
+pub mod Beside
 pub mod Ledger
 pub mod Fits
 pub mod Shaped

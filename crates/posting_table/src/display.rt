@@ -1,5 +1,5 @@
 //! How many decimals each currency shows.
-ghost use Rattle.std.specs.Prelude.{◌≡◌, OnOk, OnErr};
+ghost use Rattle.std.specs.Prelude.{◌≡◌, IfSome, OnOk, OnErr};
 ghost use Rattle.std.specs.FinMap as map;
 ghost use Rattle.posting_table.specs.Decimals.{decimals_of};
 
@@ -35,10 +35,25 @@ impl<'a> Display<'a> {
         }
     }
 
+    /// The decimals of a currency, where it is the one that was set first.
+    fn first_places(&self, currency: &Currency<'_>) -> Option<u8>
+        ensures { IfSome result (λ places. places ≡ decimals_of self.now currency.now) }
+    {
+        let (first, places) = self.places.get_index(0)?;
+        if *currency == *first {
+            return Some(*places);
+        }
+        None
+    }
+
     /// The decimals of a currency.
     pub fn places(&self, currency: &Currency<'_>) -> u8
         ensures { result ≡ decimals_of self.now currency.now }
     {
+        // Most amounts of a ledger are in the currency that it shows first, which isn't hashed.
+        if let Some(places) = self.first_places(currency) {
+            return places;
+        }
         match self.places.get(currency) {
             Some(places) => *places,
             None => 0,

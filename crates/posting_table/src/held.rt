@@ -1,34 +1,33 @@
 //! Rows as a ledger holds them.
 ghost use Rattle.std.specs.Prelude.{◌≡◌, ◌<◌, ◌^◌, IfOk, None};
 ghost use Rattle.std.specs.Int.RustNames.{unsigned_abs};
+ghost use Rattle.std.specs.Option.{option_copied};
 ghost use Rattle.posting_table.specs.Held.{weight_in};
+ghost use Rattle.posting_table.specs.Metadata.{text_under};
 ghost use Rattle.posting_table.specs.Row as spec;
 
+use crate::beside::{Beside, BesideParts};
 use crate::cells::{flag_or_null, whole};
 use crate::entry::Entry;
 use crate::keys::{HeldKey, Keys};
-use crate::metadata::Metadata;
 use crate::row::{Row, Weight};
 use crate::shared::Shared;
-use bean_base::{Account, Apart, Flag, Slice};
+use bean_base::{Account, Slice};
 use bean_lots::{Key, Position};
 use query_columns::Column;
 use query_values::{Lent, Value};
 use std::alloc::{AllocError, Global};
 use std::marker::Model;
 
-/// A row in little memory: the key of its position stands elsewhere, and most postings weigh what
-/// their units are, so that a weight is seldom held.
+/// A row in little memory: the key of its position stands elsewhere, and so does what few rows
+/// have. Most postings weigh what their units are, so that a weight is seldom held.
 #[derive(Debug, Drop)]
 pub(crate) struct HeldRow<'a> {
     count: i128,
     account: Account<'a>,
     entry: Shared<Entry<'a>>,
     key: Shared<HeldKey<'a>>,
-    weight: Option<Apart<Weight<'a>>>,
-    metadata: Metadata<'a>,
-    line: usize,
-    flag: Option<Flag>,
+    beside: Beside<'a>,
 }
 
 impl<'a> Model for HeldRow<'a> {
@@ -43,10 +42,10 @@ impl<'a> Model for HeldRow<'a> {
       entry = h.entry;
       account = h.account;
       position = record { key = h.key; count = h.count };
-      weight = weight_in h.key.currency h.count h.weight;
-      metadata = h.metadata;
-      line = h.line;
-      flag = h.flag;
+      weight = weight_in h.key.currency h.count h.beside.weight;
+      metadata = h.beside.metadata;
+      line = h.beside.line;
+      flag = h.beside.flag;
     } };
 
     ghost invariant = { λ h. unsigned_abs h.count < 10 ^ 20 };
@@ -64,19 +63,14 @@ fn weight_by<'a>(key: &Key<'a>, count: i128) -> Weight<'a>
 }
 
 /// A weight, where it isn't that of the units by themselves.
-fn weight_beside<'a>(
-    alloc: Global,
-    position: &Position<'a>,
-    weight: Weight<'a>,
-) -> Result<Option<Apart<Weight<'a>>>, AllocError>
+fn weight_beside<'a>(position: &Position<'a>, weight: Weight<'a>) -> Option<Weight<'a>>
     requires { unsigned_abs position.now.count < 10 ^ 20 }
-    ensures { IfOk result (λ held.
-        weight_in position.now.key.currency position.now.count held ≡ weight.entry) }
+    ensures { weight_in position.now.key.currency position.now.count result ≡ weight.entry }
 {
     if weight_by(&position.key, position.count) == weight {
-        return Ok(None);
+        return None;
     }
-    Ok(Some(Apart::new(alloc, weight)?))
+    Some(weight)
 }
 
 impl<'a> HeldRow<'a> {
@@ -90,16 +84,18 @@ impl<'a> HeldRow<'a> {
         ensures { IfOk result (λ held. held ≡ row.entry) }
     {
         let position = row.position;
-        let weight = weight_beside(alloc, &position, row.weight)?;
+        let beside = BesideParts {
+            weight: weight_beside(&position, row.weight),
+            metadata: row.metadata,
+            line: row.line,
+            flag: row.flag,
+        };
         Ok(HeldRow {
             count: position.count,
             account: row.account,
             entry: row.entry,
             key: keys.held(alloc, position.key)?,
-            weight,
-            metadata: row.metadata,
-            line: row.line,
-            flag: row.flag,
+            beside: Beside::new(alloc, beside)?,
         })
     }
 
@@ -110,11 +106,11 @@ impl<'a> HeldRow<'a> {
         self.entry.get()
     }
 
-    /// The row's own metadata.
-    pub(crate) fn metadata(&self) -> &Metadata<'a>
-        ensures { result.now ≡ self.now.metadata }
+    /// What its own metadata has under a key: none where nothing stands behind it.
+    pub(crate) fn text_under(&self, key: &str) -> Option<&str>
+        ensures { option_copied result ≡ text_under key.now self.now.metadata }
     {
-        &self.metadata
+        self.beside.text_under(key)
     }
 
     /// How many units the posting has, as a count of `10^-8`.
@@ -135,8 +131,8 @@ impl<'a> HeldRow<'a> {
     pub(crate) fn weight(&self) -> Weight<'a>
         ensures { result ≡ self.now.weight }
     {
-        match &self.weight {
-            Some(weight) => weight.get().lend(),
+        match self.beside.weight() {
+            Some(weight) => weight,
             None => weight_by(self.key(), self.count),
         }
     }
@@ -159,7 +155,7 @@ impl<'a> HeldRow<'a> {
     {
         match column {
             Column::Account => Value::Text(Slice::new(self.account.text())),
-            Column::PostingFlag => flag_or_null(self.flag),
+            Column::PostingFlag => flag_or_null(self.beside.flag()),
             Column::Number => Value::Number {
                 places: 8,
                 count: self.count,
@@ -175,7 +171,7 @@ impl<'a> HeldRow<'a> {
             },
             Column::Weight => self.weight_cell(),
             Column::Balance => Value::Null,
-            Column::Lineno => whole(self.line),
+            Column::Lineno => whole(self.beside.line()),
             _ => self.entry().cell(column),
         }
     }

@@ -85,6 +85,17 @@ impl<'a> HeldKey<'a> {
     }
 }
 
+/// A key that is held, where it is this one.
+fn of_key<'s, 'a>(held: &'s Shared<HeldKey<'a>>, key: &Key<'a>) -> Option<&'s Shared<HeldKey<'a>>>
+    ensures { IfSome result (λ held. held.now ≡ key.now) }
+{
+    if *held.get().key() == *key {
+        Some(held)
+    } else {
+        None
+    }
+}
+
 /// The keys of currencies without a lot, each of which stands once for all rows of the currency.
 #[derive(Drop)]
 pub(crate) struct Keys<'a> {
@@ -103,12 +114,12 @@ impl<'a> Keys<'a> {
     fn known(&self, key: &Key<'a>) -> Option<&Shared<HeldKey<'a>>>
         ensures { IfSome result (λ known. known.now ≡ key.now) }
     {
-        let known = self.plain.get(&key.currency)?;
-        if *known.get().key() == *key {
-            Some(known)
-        } else {
-            None
+        // Most positions are of the currency that was kept first, which isn't hashed then.
+        let (_, first) = self.plain.get_index(0)?;
+        if let Some(known) = of_key(first, key) {
+            return Some(known);
         }
+        of_key(self.plain.get(&key.currency)?, key)
     }
 
     /// Keeps the key of a currency for later rows.

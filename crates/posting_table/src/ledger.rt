@@ -123,7 +123,7 @@ impl<'a> Ledger<'a> {
         requires { row < length self.now.rows }
         ensures { option_copied result ≡ meta_at self.now.rows row key.now }
     {
-        self.rows[row].metadata().text_under(key)
+        self.rows[row].text_under(key)
     }
 
     /// What the metadata of a posting's transaction has under a key.

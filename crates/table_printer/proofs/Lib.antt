@@ -1,5 +1,6 @@
 pub mod LayoutFacts
 pub mod TableFacts
 pub mod InColumn
+mod HeadingFacts
 pub mod Printable
 pub mod Written

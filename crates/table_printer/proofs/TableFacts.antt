@@ -1,13 +1,12 @@
 -- The pieces of a line, one by one.
-use Rattle.std.proofs.Common.{◌≡◌, ℕ, zero, suc, ◌+◌, ◌<◌, max, map, fold, List, [], ◌∷◌, ◌++◌}
+use Rattle.std.proofs.Common.{◌≡◌, ℕ, zero, suc, ◌+◌, ◌<◌, map, List, [], ◌∷◌, ◌++◌}
 use Rattle.std.proofs.Common.{length, get_or, take, Some, arith, sym, ap, ◌∙◌, refl, length-take-le}
 use Rattle.table_printer.specs.Layout.{joined, gap}
 use Rattle.std.proofs.lemmas.List.{append-nil, get_or-map, length-map, map-append, take_more}
 use Rattle.std.proofs.lemmas.Grind.{flat_map-append}
 use Rattle.std.specs.List.{flat_map, slice_get}
 use Rattle.std.proofs.lemmas.Option.{slice_get_within, get_or_from_slice_get}
-use Rattle.std.proofs.lemmas.List.Sums.{fold-append}
-use Rattle.table_printer.specs.Table.{PlacedText, padded, pieces, width_at, column_width}
+use Rattle.table_printer.specs.Table.{PlacedText, padded, pieces}
 use Rattle.table_printer.specs.Heading.{width_of}
 use Rattle.table_printer.specs.declared.headings.Heading.{Heading}
 use Rattle.table_printer.proofs.LayoutFacts.{joined_more}
@@ -64,23 +63,6 @@ pub pieces_more_at : {X : Type 0} (f : X → PlacedText) (ws : List ℕ) (xs : L
 pieces_more_at f ws xs i x same is =
     pieces_more_of f ws xs i x same (slice_get_within xs i x (sym is))
     (sym (get_or_from_slice_get xs i x x (sym is)))
-
--- one more line
-pub column_width_more :
-    {X : Type 0} (f : X
-    → List PlacedText) (head : List PlacedText) (xs : List X) (i column : ℕ) (x : X) → i < length xs
-    → x ≡ get_or xs i x →
-    column_width (head ∷ map f (take (i + 1) xs)) column
-    ≡ max (column_width (head ∷ map f (take i xs)) column) (width_at column (f x))
-column_width_more f head xs i column x within is =
-    let width : List PlacedText → ℕ = width_at column in
-    let start = max 1 (width head) in
-    let more : map f (take (i + 1) xs) ≡ map f (take i xs) ++ f x ∷ [] =
-    ap (map f) (take_more xs i x within ∙ ap (λ y. take i xs ++ y ∷ []) (sym is))
-    ∙ map-append f (take i xs) (x ∷ []) in
-    ap (λ l. fold max start (map width l)) more
-    ∙ ap (fold max start) (map-append width (map f (take i xs)) (f x ∷ []))
-    ∙ fold-append max start (map width (map f (take i xs))) (width (f x) ∷ [])
 
 -- the line of one more row
 pub lines_more :

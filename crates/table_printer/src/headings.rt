@@ -1,11 +1,12 @@
 //! What stands over the columns of a table: their names, their widths, and whether numbers stand in
 //! them.
-ghost use Rattle.std.specs.Prelude.{◌≡◌, ◌<◌, ◌∷◌, length, map, slice_get, Some, IfOk, All};
+ghost use Rattle.std.specs.Prelude.{◌≡◌, ◌<◌, length, map, slice_get, Some, IfOk, OnOk, All};
 ghost use Rattle.std.specs.Prelude.{vec_len};
 ghost use Rattle.posting_table.specs.Decimals.{decimals_of};
-ghost use Rattle.table_printer.specs.Heading.{heading_text, width_of};
-ghost use Rattle.table_printer.specs.Table.{text_of, column_width, has_number, headers_from};
-ghost use Rattle.table_printer.specs.Table.{widths_of};
+ghost use Rattle.table_printer.specs.CellText.{row_at};
+ghost use Rattle.table_printer.specs.Heading.{bare_heading, heading_text, width_of, with_cell};
+ghost use Rattle.table_printer.specs.Heading.{with_row};
+ghost use Rattle.table_printer.specs.Table.{text_of, headers_from, widths_of};
 
 use crate::cell::Cell;
 use crate::cells::{Scratch, cell_width, is_number};
@@ -24,38 +25,83 @@ pub(crate) struct Heading<'a> {
     pub has_numbers: bool,
 }
 
-/// The heading of a number: as wide as its widest cell and its name, and at least 1.
-fn heading_at<'t, T: Rows>(
+/// The heading of a column without rows: as wide as its name, and at least 1.
+fn heading_of<'t, T: Rows>(
     table: &'t T,
     column: usize,
     scratch: &mut Scratch,
     display: &Display<'_>,
 ) -> Result<Heading<'t>, AllocError>
-    requires within { column < length (T.names table.now) }
-    requires same { All (λ row. length row ≡ length (T.names table.now)) (T.rows table.now) }
+    requires { column < length (T.names table.now) }
     ensures name { IfOk result (λ h. Some h.name ≡ slice_get (T.names table.now) column) }
-    ensures width { IfOk result (λ h. h.width ≡ column_width
-        (headers_from 0 (T.rows table.now) (T.names table.now)
-        ∷ map (map (text_of (decimals_of display.now))) (T.rows table.now)) column) }
-    ensures numbers { IfOk result (λ h. h.has_numbers ≡ has_number column (T.rows table.now)) }
+    ensures bare { IfOk result (λ h. h ≡ bare_heading h.name) }
 {
     let name = table.name(column);
-    let heading = Cell::made(Value::Text(Slice::new(name)));
-    let mut width = cell_width(&heading, scratch, display)?.max(1);
-    let mut has_numbers = false;
-    for row in 0..table.len() {
-        let cell = table.cell(row, column);
-        width = width.max(cell_width(&cell, scratch, display)?);
-        has_numbers |= is_number(&cell);
-    }
+    let cell = Cell::made(Value::Text(Slice::new(name)));
+    let width = cell_width(&cell, scratch, display)?.max(1);
     Ok(Heading {
         name: Slice::new(name),
         width,
-        has_numbers,
+        has_numbers: false,
     })
 }
 
-/// The headings of a table, in their order.
+/// The headings of a table without rows, in their order.
+fn bare_headings<'t, T: Rows>(
+    alloc: Global,
+    table: &'t T,
+    scratch: &mut Scratch,
+    display: &Display<'_>,
+) -> Result<Vec<Heading<'t>>, AllocError>
+    ensures bare { IfOk result (λ v. v.items ≡ map bare_heading (T.names table.now)) }
+    ensures len { IfOk result (λ v. vec_len v ≡ length (T.names table.now)) }
+{
+    let mut headings = Vec::with_capacity(alloc, table.columns())?;
+    for column in 0..table.columns() {
+        headings.push(heading_of(table, column, scratch, display)?)?;
+    }
+    Ok(headings)
+}
+
+/// Makes a heading as wide as a cell, where it is less, and notes whether the cell is a number.
+fn widen(
+    heading: &mut Heading<'_>,
+    cell: &Cell<'_>,
+    scratch: &mut Scratch,
+    display: &Display<'_>,
+) -> Result<(), AllocError>
+    ensures { OnOk result (heading.new
+        ≡ with_cell (decimals_of display.now) heading.old cell.now) }
+{
+    heading.width = heading.width.max(cell_width(cell, scratch, display)?);
+    heading.has_numbers |= is_number(cell);
+    Ok(())
+}
+
+/// The same for all cells of a row.
+fn widen_all<T: Rows>(
+    headings: &mut [Heading<'_>],
+    table: &T,
+    row: usize,
+    scratch: &mut Scratch,
+    display: &Display<'_>,
+) -> Result<(), AllocError>
+    requires { length headings.old ≡ length (row_at (T.rows table.now) row) }
+    ensures { OnOk result (headings.new
+        ≡ with_row (decimals_of display.now) headings.old (row_at (T.rows table.now) row)) }
+{
+    for column in 0..headings.len() {
+        widen(
+            &mut headings[column],
+            &table.cell(row, column),
+            scratch,
+            display,
+        )?;
+    }
+    Ok(())
+}
+
+/// The headings of a table, in their order. Its rows are passed once, since they lie far apart.
 pub(crate) fn headings<'t, T: Rows>(
     alloc: Global,
     table: &'t T,
@@ -70,9 +116,9 @@ pub(crate) fn headings<'t, T: Rows>(
         (map (map (text_of (decimals_of display.now))) (T.rows table.now))) }
     ensures len { IfOk result (λ v. vec_len v ≡ length (T.names table.now)) }
 {
-    let mut headings = Vec::with_capacity(alloc, table.columns())?;
-    for column in 0..table.columns() {
-        headings.push(heading_at(table, column, scratch, display)?)?;
+    let mut headings = bare_headings(alloc, table, scratch, display)?;
+    for row in 0..table.len() {
+        widen_all(&mut headings, table, row, scratch, display)?;
     }
     Ok(headings)
 }

@@ -6,11 +6,11 @@ use Rattle.std.specs.List.{AllByRecursion}
 use Rattle.theory.specs.Cut.{cut_before}
 use Rattle.bean_lexer.specs.declared.token.Token.{Token}
 use Rattle.bean_grammar.specs.declared.metadata.Entry.{Entry}
-use Rattle.bean_grammar.specs.declared.posting.Posting.{Posting}
+use Rattle.bean_postings.specs.declared.posting.Posting.{Posting}
 use Rattle.bean_grammar.specs.declared.ranged.Ranged.TheVariants.{Within, Outside}
 use Rattle.bean_grammar.specs.Mark.{some_marks}
 use Rattle.bean_grammar.specs.Metadata.{entry}
-use Rattle.bean_grammar.specs.Posting.{posting}
+use Rattle.bean_postings.specs.Posting.{posting}
 use Rattle.bean_parser.specs.Block.{Line, line_of, lines, begins_line, first_line}
 use Rattle.bean_parser.specs.Under.{IsLine, AreLines, no_lines, under_posting, with_entry}
 use Rattle.bean_parser.specs.Under.{all_before, with_line, with_lines, postings_in}

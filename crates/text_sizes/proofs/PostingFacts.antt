@@ -7,32 +7,33 @@ use Rattle.bean_base.specs.declared.days.Day as days
 use Rattle.bean_base.specs.declared.flags.Flag as flags
 use Rattle.bean_base.specs.declared.num.Num.{Num}
 use Rattle.bean_lexer.specs.declared.kind.Sign.TheVariants.{Star, Hash, Comma}
-use Rattle.bean_grammar.specs.declared.cost.Cost as costs
-use Rattle.bean_grammar.specs.declared.cost.Cost.TheVariants as cost_kind
-use Rattle.bean_grammar.specs.declared.cost_part.CostPart as parts
-use Rattle.bean_grammar.specs.declared.cost_part.CostPart.TheVariants as cost_part
-use Rattle.bean_grammar.specs.declared.cost_part.CostParts.{CostParts}
-use Rattle.bean_grammar.specs.declared.posting.Posting as postings
-use Rattle.bean_grammar.specs.declared.posting.Units as units_declared
-use Rattle.bean_grammar.specs.declared.posting.Units.TheVariants as units_kind
-use Rattle.bean_grammar.specs.declared.price.Price as prices
-use Rattle.bean_grammar.specs.declared.price.Price.TheVariants as price_kind
+use Rattle.bean_postings.specs.declared.cost.Cost as costs
+use Rattle.bean_postings.specs.declared.cost.Cost.TheVariants as cost_kind
+use Rattle.bean_postings.specs.declared.cost_part.CostPart as parts
+use Rattle.bean_postings.specs.declared.cost_part.CostPart.TheVariants as cost_part
+use Rattle.bean_postings.specs.declared.cost_part.CostParts.{CostParts}
+use Rattle.bean_postings.specs.declared.posting.Posting as postings
+use Rattle.bean_postings.specs.declared.posting.Units as units_declared
+use Rattle.bean_postings.specs.declared.posting.Units.TheVariants as units_kind
+use Rattle.bean_postings.specs.declared.price.Price as prices
+use Rattle.bean_postings.specs.declared.price.Price.TheVariants as price_kind
 use Rattle.bean_grammar.specs.declared.ranged.Ranged.{Ranged}
 use Rattle.bean_grammar.specs.declared.ranged.Ranged.TheVariants.{Outside}
 use Rattle.bean_grammar.specs.Amount.{amount_parts, number_if_due, currency_if_due}
-use Rattle.bean_grammar.specs.Cost.{opening, closing, is_outside_profile, others_fit, cost_with}
-use Rattle.bean_grammar.specs.Cost.{cost_of, braced, cost_in, cost, begins_with_cost}
-use Rattle.bean_grammar.specs.Cost.{cost_or_absent, cost_if_due}
-use Rattle.bean_grammar.specs.CostPart.{number_part_of, compound_if_due, itself, number_part, merge}
-use Rattle.bean_grammar.specs.CostPart.{part, no_parts, placed, put, put_first, another_part}
-use Rattle.bean_grammar.specs.CostPart.{row_of_parts, cost_parts}
-use Rattle.bean_grammar.specs.Details.{on_line}
+use Rattle.bean_postings.specs.Cost.{opening, closing, is_outside_profile, others_fit, cost_with}
+use Rattle.bean_postings.specs.Cost.{cost_of, braced, cost_in, cost, begins_with_cost}
+use Rattle.bean_postings.specs.Cost.{cost_or_absent, cost_if_due}
+use Rattle.bean_postings.specs.CostPart.{number_part_of, compound_if_due, itself, number_part}
+use Rattle.bean_postings.specs.CostPart.{merge}
+use Rattle.bean_postings.specs.CostPart.{part, no_parts, placed, put, put_first, another_part}
+use Rattle.bean_postings.specs.CostPart.{row_of_parts, cost_parts}
+use Rattle.bean_postings.specs.Details.{on_line}
 use Rattle.bean_grammar.specs.Lexeme.{Account, Sign, begins_with_sign}
 use Rattle.bean_grammar.specs.Literal.{day, text}
-use Rattle.bean_grammar.specs.Posting.{flag_sign, begins_with_flag_sign, flag_if_due, units_by}
-use Rattle.bean_grammar.specs.Posting.{units_of, units, posting_of, posted_to, posting}
-use Rattle.bean_grammar.specs.Price.{price_sign, begins_with_price, priced, price_by, price_of}
-use Rattle.bean_grammar.specs.Price.{price, price_or_absent, price_if_due}
+use Rattle.bean_postings.specs.Posting.{flag_sign, begins_with_flag_sign, flag_if_due, units_by}
+use Rattle.bean_postings.specs.Posting.{units_of, units, posting_of, posted_to, posting}
+use Rattle.bean_postings.specs.Price.{price_sign, begins_with_price, priced, price_by, price_of}
+use Rattle.bean_postings.specs.Price.{price, price_or_absent, price_if_due}
 use Rattle.bean_grammar.specs.Ranged.{ranged_map2, option_within}
 use Rattle.text_sizes.specs.Part.{most, IsShort, IsShortCurrency, AreShortUnits, IsShortCost}
 use Rattle.text_sizes.specs.Part.{IsShortPrice, IsSmallPosting}

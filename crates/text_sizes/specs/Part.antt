@@ -1,19 +1,19 @@
 -- What of a line is small: its texts have no more bytes than a ledger's text may have.
 use Rattle.std.specs.Prelude.{ℕ, ◌≤◌, List, length, IfSome}
 use Rattle.std.specs.List.{AllByRecursion}
-use Rattle.bean_grammar.specs.declared.cost.Cost as costs
-use Rattle.bean_grammar.specs.declared.cost.Cost.TheVariants.{Lot}
-use Rattle.bean_grammar.specs.declared.cost.LotParts.{LotParts}
+use Rattle.bean_postings.specs.declared.cost.Cost as costs
+use Rattle.bean_postings.specs.declared.cost.Cost.TheVariants.{Lot}
+use Rattle.bean_postings.specs.declared.cost.LotParts.{LotParts}
 use Rattle.bean_grammar.specs.declared.mark.Mark as marks
 use Rattle.bean_grammar.specs.declared.mark.Mark.TheVariants as mark
 use Rattle.bean_grammar.specs.declared.metadata.Entry.{Entry}
 use Rattle.bean_grammar.specs.declared.metadata.Value as values
 use Rattle.bean_grammar.specs.declared.metadata.Value.TheVariants as value
-use Rattle.bean_grammar.specs.declared.posting.Posting.{Posting}
-use Rattle.bean_grammar.specs.declared.posting.Units as units_declared
-use Rattle.bean_grammar.specs.declared.posting.Units.TheVariants as units
-use Rattle.bean_grammar.specs.declared.price.Price as prices
-use Rattle.bean_grammar.specs.declared.price.Price.TheVariants.{PerUnit, Total}
+use Rattle.bean_postings.specs.declared.posting.Posting.{Posting}
+use Rattle.bean_postings.specs.declared.posting.Units as units_declared
+use Rattle.bean_postings.specs.declared.posting.Units.TheVariants as units
+use Rattle.bean_postings.specs.declared.price.Price as prices
+use Rattle.bean_postings.specs.declared.price.Price.TheVariants.{PerUnit, Total}
 use Rattle.text_sizes.specs.declared.TheConstants.{LARGEST_TEXT}
 
 -- the most bytes of a text of a ledger, and so the most of whatever is counted of it

@@ -1,6 +1,7 @@
 //! The positions of an inventory, one after the other.
 ghost use Rattle.std.specs.Prelude.{◌≡◌, ◌<◌, ◌∷◌, [], IfSome, IfNone, Some, drop};
 ghost use Rattle.std.specs.Prelude.{length, slice_get};
+ghost use Rattle.bean_lots.specs.Inventory.{position_of};
 ghost use Rattle.bean_lots.specs.Slots.{positions};
 
 use crate::lot::{Key, Position};
@@ -25,7 +26,7 @@ impl<'s, 'a> Model for Positions<'s, 'a> {
 }
 
 /// The key and the count of a slot.
-fn slot_at<'s, 'a>(slots: &Slice<'s, Key<'a>, i128>, index: usize) -> (&'s Key<'a>, i128)
+pub(crate) fn slot_at<'s, 'a>(slots: &Slice<'s, Key<'a>, i128>, index: usize) -> (&'s Key<'a>, i128)
     requires { index < length slots.now }
     ensures { slice_get slots.now index ≡ Some (result.0.now, result.1) }
 {
@@ -35,17 +36,20 @@ fn slot_at<'s, 'a>(slots: &Slice<'s, Key<'a>, i128>, index: usize) -> (&'s Key<'
     }
 }
 
-/// The first position in the slots from an index on, and the index behind it.
-fn first_from<'a>(slots: &Slice<'_, Key<'a>, i128>, start: usize) -> Option<(Position<'a>, usize)>
-    ensures some { IfSome result
-        (λ p. positions (drop start slots.now) ≡ p.0 ∷ positions (drop p.1 slots.now)) }
+/// The first slot from an index on in which something is held, as its key and its count, and the
+/// index behind it.
+fn first_from<'s, 'a>(
+    slots: &Slice<'s, Key<'a>, i128>,
+    start: usize,
+) -> Option<(&'s Key<'a>, i128, usize)>
+    ensures some { IfSome result (λ p. positions (drop start slots.now)
+        ≡ position_of p.0.now p.1 ∷ positions (drop p.2 slots.now)) }
     ensures none { IfNone result (positions (drop start slots.now) ≡ []) }
 {
     for index in start..slots.len() {
         let (key, count) = slot_at(slots, index);
         if count != 0 {
-            let key = key.lend();
-            return Some((Position { key, count }, index + 1));
+            return Some((key, count, index + 1));
         }
     }
     None
@@ -58,13 +62,23 @@ impl<'s, 'a> Positions<'s, 'a> {
         Positions { slots, next: 0 }
     }
 
+    /// The key and the count of the next position, or none where there are no more.
+    pub(crate) fn next_held(&mut self) -> Option<(&'s Key<'a>, i128)>
+        ensures some { IfSome result (λ e. self.old ≡ position_of e.0.now e.1 ∷ self.new) }
+        ensures none { IfNone result (self.old ≡ []) }
+    {
+        let (key, count, behind) = first_from(&self.slots, self.next)?;
+        self.next = behind;
+        Some((key, count))
+    }
+
     /// The next position, or none where there are no more.
     pub fn next(&mut self) -> Option<Position<'a>>
         ensures some { IfSome result (λ e. self.old ≡ e ∷ self.new) }
         ensures none { IfNone result (self.old ≡ []) }
     {
-        let (position, behind) = first_from(&self.slots, self.next)?;
-        self.next = behind;
-        Some(position)
+        let (key, count) = self.next_held()?;
+        let key = key.lend();
+        Some(Position { key, count })
     }
 }

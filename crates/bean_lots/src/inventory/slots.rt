@@ -12,13 +12,16 @@ ghost use Rattle.std.specs.Ordering.{int_eq};
 ghost use Rattle.bean_lots.specs.Inventory.{IsInventory, MayBeNegated, added, count_of};
 ghost use Rattle.bean_lots.specs.Inventory.{negative_entry};
 ghost use Rattle.bean_lots.specs.Lot.{same_key};
+ghost use Rattle.bean_lots.specs.Part.{HasAllOf};
 ghost use Rattle.bean_lots.specs.Slots.{IsKept, is_full, long_at, positions, short_at};
 ghost use Rattle.bean_lots.specs.declared.lot.Key.{Key as KeyValue};
 
 use super::days::Days;
+use super::part::part_on;
 use super::positions::Positions;
 use super::signs::Signs;
 use crate::lot::Key;
+use bean_base::Day;
 use indexmap::IndexMap;
 use std::alloc::{AllocError, Global};
 
@@ -106,6 +109,18 @@ impl<'a> Slots<'a> {
     {
         let (_, held) = self.counts.as_slice().split_at(self.first);
         Positions::new(held)
+    }
+
+    /// What is held about a day, in order of entry: all lots of that day, among few others where
+    /// lots stand in the order of their days.
+    pub(crate) fn positions_about(&self, day: Day) -> Positions<'_, 'a>
+        requires { IsKept self.now }
+        ensures { HasAllOf (Some day) result (positions self.now.counts.entries) }
+    {
+        if !self.days.in_order {
+            return self.positions();
+        }
+        Positions::new(part_on(self.counts.as_slice(), day))
     }
 
     /// Holes at the front are passed.

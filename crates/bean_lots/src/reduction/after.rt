@@ -8,58 +8,62 @@ ghost use Rattle.bean_lots.specs.After.{is_opposite_lot, is_turned};
 ghost use Rattle.bean_lots.specs.Candidate.{candidate_of, candidates};
 ghost use Rattle.bean_lots.specs.Days.{RiseInDays};
 ghost use Rattle.bean_lots.specs.Front.{IsFront};
-ghost use Rattle.bean_lots.specs.Inventory.{count_of};
+ghost use Rattle.bean_lots.specs.Inventory.{count_of, position_of};
 ghost use Rattle.bean_lots.specs.Reduction.{Reduces};
 ghost use Rattle.bean_lots.specs.Take.{units_of};
 
-use super::queue::{Candidate, is_opposite, push_candidate};
+use super::queue::{Candidate, is_opposite, push_candidate, selects};
 use super::takes::reduce_candidates;
 use super::{LotFault, Method, Selector};
-use crate::inventory::Inventory;
-use crate::lot::{Key, Lot, Position};
+use crate::inventory::{Inventory, Positions, is_lot_of};
+use crate::lot::{Key, Lot};
 use bean_base::{Currency, Num};
 use std::alloc::{AllocError, Global};
 
-/// Adds the candidate that is left of an entry, where one is, and tells its units.
+/// Adds the candidate that is left of what is held under a key, where one is, and tells its units.
 fn push_left<'a>(
     found: &mut Vec<Candidate<'a>>,
     selector: &Selector<'_>,
     want: i128,
-    entry: &Position<'a>,
+    key: &Key<'a>,
+    count: i128,
     taken: &Inventory<'_>,
 ) -> Result<u128, AllocError>
-    requires { FitsSigned w128 (entry.now.count +ℤ count_of taken.now entry.now.key) }
+    requires { FitsSigned w128 (count +ℤ count_of taken.now key.now) }
     ensures found { OnOk result (found.new.items ≡ found.old.items
-        ++ candidate_of selector.now want entry.now.key.currency entry.now.key.lot
-        (entry.now.count +ℤ count_of taken.now entry.now.key)) }
+        ++ candidate_of selector.now want key.now.currency key.now.lot
+        (count +ℤ count_of taken.now key.now)) }
     ensures units { IfOk result (λ units. units
-        ≡ sum_by units_of (candidate_of selector.now want entry.now.key.currency entry.now.key.lot
-        (entry.now.count +ℤ count_of taken.now entry.now.key))) }
+        ≡ sum_by units_of (candidate_of selector.now want key.now.currency key.now.lot
+        (count +ℤ count_of taken.now key.now))) }
 {
-    let count = entry.count + taken.get(&entry.key);
-    push_candidate(found, selector, want, &entry.key, count)
+    if !selects(selector, key) {
+        return Ok(0);
+    }
+    let left = count + taken.get(key);
+    push_candidate(found, selector, want, key, left)
 }
 
-/// The candidates among what is left, in order of entry; where a front that comes to the want is
-/// enough, no more.
+/// The candidates among what is left of positions, in order of entry; where a front that comes to
+/// the want is enough, no more.
 fn candidates_after<'a>(
     alloc: Global,
-    inventory: &Inventory<'a>,
+    positions: Positions<'_, 'a>,
     taken: &Inventory<'_>,
     selector: &Selector<'_>,
     want: i128,
     is_front_enough: bool,
 ) -> Result<Vec<Candidate<'a>>, AllocError>
-    requires held { AreSmall (2 ^ 125) inventory.now }
+    requires held { AreSmall (2 ^ 125) positions }
     requires taken { AreSmall (2 ^ 125) taken.now }
     ensures { IfOk result (λ found. IsFront is_front_enough (unsigned_abs want) found.items
-        (candidates selector.now want (after inventory.now taken.now))) }
+        (candidates selector.now want (after positions.entry taken.now))) }
 {
     let mut found = Vec::new(alloc);
     let mut missing = want.unsigned_abs();
-    let mut rest = inventory.positions();
-    while let Some(entry) = rest.next() {
-        let units = push_left(&mut found, selector, want, &entry, taken)?;
+    let mut rest = positions;
+    while let Some((key, count)) = rest.next_held() {
+        let units = push_left(&mut found, selector, want, key, count, taken)?;
         missing = missing.saturating_sub(units);
         if is_front_enough && missing == 0 {
             return Ok(found);
@@ -93,7 +97,8 @@ pub fn reduce_after<'a>(
 {
     let want = units.scaled(8);
     let is_front_enough = is_front_enough(inventory, method);
-    let found = candidates_after(alloc, inventory, taken, selector, want, is_front_enough)?;
+    let part = inventory.positions_about(selector.day);
+    let found = candidates_after(alloc, part, taken, selector, want, is_front_enough)?;
     reduce_candidates(alloc, found, want, method)
 }
 
@@ -104,19 +109,23 @@ fn is_opposite_lot(key: &Key<'_>, currency: &Currency<'_>, want: i128, count: i1
     key.currency == *currency && key.lot.is_some() && is_opposite(want, count)
 }
 
-/// Whether what is left of an entry is a lot of the currency with the opposite sign.
+/// Whether what is left of what is held under a key is a lot of the currency with the opposite
+/// sign.
 fn is_opposite_left(
-    entry: &Position<'_>,
+    key: &Key<'_>,
+    count: i128,
     taken: &Inventory<'_>,
     currency: &Currency<'_>,
     want: i128,
 ) -> bool
-    requires { FitsSigned w128 (entry.now.count +ℤ count_of taken.now entry.now.key) }
-    ensures { result ≡ is_opposite_lot currency.now want entry.now.key
-        (entry.now.count +ℤ count_of taken.now entry.now.key) }
+    requires { FitsSigned w128 (count +ℤ count_of taken.now key.now) }
+    ensures { result ≡ is_opposite_lot currency.now want key.now
+        (count +ℤ count_of taken.now key.now) }
 {
-    let left = entry.count + taken.get(&entry.key);
-    is_opposite_lot(&entry.key, currency, want, left)
+    if !is_lot_of(key, currency) {
+        return false;
+    }
+    is_opposite(want, count + taken.get(key))
 }
 
 fn has_opposite_in(
@@ -130,8 +139,8 @@ fn has_opposite_in(
     ensures { result ≡ has_opposite currency.now want (after inventory.now taken.now) }
 {
     let mut rest = inventory.positions();
-    while let Some(entry) = rest.next() {
-        if is_opposite_left(&entry, taken, currency, want) {
+    while let Some((key, count)) = rest.next_held() {
+        if is_opposite_left(key, count, taken, currency, want) {
             return true;
         }
     }
@@ -141,15 +150,16 @@ fn has_opposite_in(
 /// Whether a lot of the currency got the opposite sign by a take.
 fn is_turned(
     inventory: &Inventory<'_>,
-    take: &Position<'_>,
+    key: &Key<'_>,
+    count: i128,
     currency: &Currency<'_>,
     want: i128,
 ) -> bool
-    requires { FitsSigned w128 (count_of inventory.now take.now.key +ℤ take.now.count) }
-    ensures { result ≡ is_turned currency.now want inventory.now take.now }
+    requires { FitsSigned w128 (count_of inventory.now key.now +ℤ count) }
+    ensures { result ≡ is_turned currency.now want inventory.now (position_of key.now count) }
 {
-    let held = inventory.get(&take.key);
-    held != 0 && is_opposite_lot(&take.key, currency, want, held + take.count)
+    let held = inventory.get(key);
+    held != 0 && is_opposite_lot(key, currency, want, held + count)
 }
 
 /// Whether some lot of the currency got the opposite sign by what was taken of it.
@@ -164,8 +174,8 @@ fn has_turned(
     ensures { result ≡ has_turned currency.now want inventory.now taken.now }
 {
     let mut rest = taken.positions();
-    while let Some(take) = rest.next() {
-        if is_turned(inventory, &take, currency, want) {
+    while let Some((key, count)) = rest.next_held() {
+        if is_turned(inventory, key, count, currency, want) {
             return true;
         }
     }

@@ -3,7 +3,7 @@ ghost use Rattle.std.specs.Prelude.{◌≡◌, ◌↔◌, ◌≢◌, ◌-◌, �
 ghost use Rattle.std.specs.Prelude.{IsPermutation, sum_by};
 ghost use Rattle.bean_base.specs.Day.{number};
 ghost use Rattle.bean_lots.specs.Lot.{same_text};
-ghost use Rattle.bean_lots.specs.Candidate.{agrees, is_opposite, candidate_of, candidates};
+ghost use Rattle.bean_lots.specs.Candidate.{agrees, is_opposite, candidate_of, candidates, selects};
 ghost use Rattle.bean_lots.specs.Take.{IsQueue, units_of};
 ghost use Rattle.bean_lots.specs.Filling.{Judges};
 
@@ -77,6 +77,16 @@ fn is_candidate(
     key.currency == selector.currency && selector.agrees(lot) && is_opposite(want, count)
 }
 
+/// Whether a key is one of those of a selector, whatever is held under it.
+pub(crate) fn selects(selector: &Selector<'_>, key: &Key<'_>) -> bool
+    ensures { result ≡ selects selector.now key.now.currency key.now.lot }
+{
+    match &key.lot {
+        Some(lot) => selector.agrees(lot) && key.currency == selector.currency,
+        None => false,
+    }
+}
+
 /// Adds the candidate that an entry of that key and count is, where it is one, and tells its units.
 pub(crate) fn push_candidate<'a>(
     found: &mut Vec<Candidate<'a>>,
@@ -112,8 +122,8 @@ pub(crate) fn candidates<'a>(
 {
     let mut found = Vec::new(alloc);
     let mut rest = inventory.positions();
-    while let Some(entry) = rest.next() {
-        push_candidate(&mut found, selector, want, &entry.key, entry.count)?;
+    while let Some((key, count)) = rest.next_held() {
+        push_candidate(&mut found, selector, want, key, count)?;
     }
     Ok(found)
 }

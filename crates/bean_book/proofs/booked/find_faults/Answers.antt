@@ -13,16 +13,16 @@ returns-in-Err c =
     (too_many_kept c.args.loaded.now c.in-Err.fault
     (λ fault. c.in-Err.ensures.full (ap Err fault)))
 
-pub returns-in-Err-look_for_room : goal.returns-in-Err-look_for_room
-returns-in-Err-look_for_room c =
+pub returns-in-Err-count_rows : goal.returns-in-Err-count_rows
+returns-in-Err-count_rows c =
     too_many_found c.args.loaded.now c.in-Ok.booked c.in-Ok.ensures.booked
-    c.in-Err-look_for_room.fault
+    c.in-Err-count_rows.fault
     (λ fault.
     subst (λ ks. 1000000 < length (postings_of ks)
     + length (flat_map rows_of_pad c.in-Ok.booked.pads)) c.as_slice.ensures
     (subst (λ ps. 1000000 < length (postings_of c.as_slice.result.now)
     + length (flat_map rows_of_pad ps)) c.as_slice-2.ensures
-    (c.in-Err-look_for_room.ensures.full (ap Err fault))))
+    (c.in-Err-count_rows.ensures.full (ap Err fault))))
 
 pub returns : goal.returns
 returns c =
@@ -31,6 +31,6 @@ returns c =
     subst (λ ks. length (postings_of ks) + length (flat_map rows_of_pad b.pads) ≤ 1000000)
     c.as_slice.ensures
     (subst (λ ps. length (postings_of c.as_slice.result.now) + length (flat_map rows_of_pad ps)
-    ≤ 1000000) c.as_slice-2.ensures c.in-Ok-look_for_room.ensures.few) in
+    ≤ 1000000) c.as_slice-2.ensures c.in-Ok-count_rows.ensures.few) in
     found c.args.loaded.now b c.in-Ok.ensures.booked few c.new.result
     (c.new.ensures ∙ c.in_ok-report.ensures ∙ ap reported c.into_vec-faults.ensures)

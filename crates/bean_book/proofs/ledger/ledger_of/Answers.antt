@@ -52,16 +52,16 @@ loop-placed-init c =
     let ps = c.args.pads.now in
     let all = bookings 0 c.args.directives.items ks ps in record {
       number = refl;
-      rows = ap (λ l. c.new-ledger.result.rows ++ rows_of_all (bookings 0 l ks ps)) items
-          ∙ ap (λ (l : Ledger). l.rows ++ rows_of_all all) c.new-ledger.ensures;
+      rows = ap (λ l. c.in_ok-ledger.ledger.rows ++ rows_of_all (bookings 0 l ks ps)) items
+          ∙ ap (λ (l : Ledger). l.rows ++ rows_of_all all) c.in_ok-ledger.ensures;
       decimals = λ name.
-          ap (λ l. decimals_from (decimals_of c.new-ledger.result.decimals name) name
+          ap (λ l. decimals_from (decimals_of c.in_ok-ledger.ledger.decimals name) name
           (written_in_all (bookings 0 l ks ps))) items
           ∙ ap (λ (l : Ledger). decimals_from (decimals_of l.decimals name) name
-          (written_in_all all)) c.new-ledger.ensures
+          (written_in_all all)) c.in_ok-ledger.ensures
           ∙ ap (λ o. decimals_from (unwrap_or o 0) name (written_in_all all))
           (get-empty (slice_cmp nat_cmp) name);
-      room = rw c.new-ledger.ensures (omega arith);
+      room = rw c.in_ok-ledger.ensures (omega arith);
       are = subst (λ l. AreOf 0 l ks) (sym items) c.requires.are;
       small = subst (AllByRecursion IsSmall) (sym items) c.requires.small;
       tame = c.requires.tame;

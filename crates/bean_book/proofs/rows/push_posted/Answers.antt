@@ -1,12 +1,10 @@
 use Rattle.std.proofs.Common.{◌≡◌, ◌+◌, ◌++◌, ◌∷◌, [], ap, append_assoc, arith, get_or, length, map}
 use Rattle.std.proofs.Common.{length-append}
 use Rattle.std.proofs.Common.{subst, sym, take, ◌∙◌}
-use Rattle.std.proofs.lemmas.Option.{slice_get-map}
 use Rattle.std.proofs.lemmas.List.{length-map, length-take-le, map-append, take_more}
-use Rattle.std.proofs.Common.{ℕ, ◌<◌, List, Option, Some, None, option_map, refl, slice_get}
-use Rattle.std.proofs.Common.{unwrap_or}
+use Rattle.std.proofs.Common.{ℕ, ◌<◌, List, slice_get}
 use Rattle.std.specs.List.{AllByRecursion}
-use Rattle.bean_grammar.specs.declared.posting.Posting.{Posting}
+use Rattle.bean_postings.specs.declared.posting.Posting.{Posting}
 use Rattle.bean_interp.specs.Residual.{IsLight}
 use Rattle.bean_sizes.proofs.ListFacts.{all_unmapped}
 use Rattle.bean_sizes.proofs.PlaceFacts.{found_at}
@@ -15,7 +13,6 @@ use Rattle.bean_trial.specs.Tried.{booked_leg, booked_legs}
 use Rattle.bean_trial.specs.declared.line.Posted.{Posted}
 use Rattle.posting_table.specs.Shaped.{IsShaped, widest}
 use Rattle.posting_table.proofs.PartFacts.{row_lies}
-use Rattle.bean_book.specs.Metadata.{items_of}
 use Rattle.bean_book.specs.Rows.{items_in, row_of}
 use Rattle.bean_book.proofs.ShapedFacts.{row_small}
 use Rattle.bean_book.proofs.rows.push_posted.Goals as goal
@@ -29,24 +26,10 @@ light_at ps posted i p within is light =
     (all_unmapped (λ (q : Posted). IsLight (booked_leg ps q)) IsLight (booked_leg ps) (λ q h. h)
     posted light)
 
-items_by : (o : Option Posting)
-    → unwrap_or (option_map (λ (w : Posting). items_of w.details.metadata) o) [] ≡ items_in o
-items_by None = refl
-items_by (Some w) = refl
-
 pub row_of-requires-clause-light : goal.row_of-requires-clause-light
 row_of-requires-clause-light c =
     light_at c.args.postings.now c.args.posted.now c.loop-one.one-index c.one-item.result
     (omega arith) c.one-item.is c.requires.light
-
-pub row_of-requires-clause-noted : goal.row_of-requires-clause-noted
-row_of-requires-clause-noted c =
-    let i = c.one-item.result.written in
-    let ps = c.args.postings.now in
-    c.in_ok-noted.ensures
-    ∙ ap (λ all. unwrap_or (slice_get all i) []) c.requires.noted
-    ∙ ap (λ o. unwrap_or o []) (slice_get-map (λ (w : Posting). items_of w.details.metadata) ps i)
-    ∙ items_by (slice_get ps i)
 
 pub push_row-requires : goal.push_row-requires
 push_row-requires c =
@@ -90,4 +73,7 @@ loop-one-preserved c =
           ∙ ap (λ l. old ++ l) (sym more);
       decimals = c.in-Ok.ensures.decimals ∙ c.loop-one.invariant.decimals;
       room = c.in-Ok.ensures.room;
+      noted = c.in_ok-noted-2.ensures.items
+          ∙ ap (λ n. items_in (slice_get c.args.postings.now n))
+          (sym c.in_ok-noted-2.ensures.number);
     }

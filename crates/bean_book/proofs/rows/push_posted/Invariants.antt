@@ -1,6 +1,6 @@
 use Rattle.posting_table.specs.declared.ledger.TheConstants.{MOST_POSTINGS}
-use Rattle.std.proofs.Common.{length, ◌≤◌, ◌≡◌, ◌++◌, map, take}
-use Rattle.bean_book.specs.Rows.{row_of}
+use Rattle.std.proofs.Common.{length, ◌≤◌, ◌≡◌, ◌++◌, map, slice_get, take}
+use Rattle.bean_book.specs.Rows.{items_in, row_of}
 use Rattle.bean_book.proofs.rows.push_posted.Given as goal
 
 abbrev pub invariant-loop-one : goal.invariant-loop-one
@@ -10,4 +10,5 @@ invariant-loop-one l = record {
       ++ map (row_of l.entry l.line l.postings) (take l.one-index l.posted);
   decimals : l.ledger.decimals ≡ l.initial.ledger.decimals;
   room : length l.ledger.rows ≤ MOST_POSTINGS;
+  noted : l.noted.metadata ≡ items_in (slice_get l.postings l.noted.written);
 }

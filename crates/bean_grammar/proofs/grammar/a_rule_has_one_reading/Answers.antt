@@ -1,6 +1,5 @@
 use Rattle.bean_grammar.proofs.ExpressionFacts.{one_expression}
 use Rattle.bean_grammar.proofs.AmountFacts.{one_amount}
-use Rattle.bean_grammar.proofs.PostingFacts.{one_posting}
 use Rattle.bean_grammar.proofs.MetadataFacts.{one_entry, one_all_values}
 use Rattle.bean_grammar.proofs.MarkFacts.{one_marks, one_some_marks}
 use Rattle.bean_grammar.proofs.grammar.a_rule_has_one_reading.Goals as goal
@@ -10,9 +9,6 @@ returns-clause-expression c = one_expression
 
 pub returns-clause-amount : goal.returns-clause-amount
 returns-clause-amount c = one_amount
-
-pub returns-clause-posting : goal.returns-clause-posting
-returns-clause-posting c = one_posting
 
 pub returns-clause-entry : goal.returns-clause-entry
 returns-clause-entry c = one_entry

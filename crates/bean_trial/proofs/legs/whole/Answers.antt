@@ -1,6 +1,6 @@
 use Rattle.std.proofs.Common.{◌≡◌, ◌∙◌, ap, refl, sym, subst, Some, None}
 use Rattle.std.proofs.lemmas.Option.{slice_get-get_or, slice_get_past}
-use Rattle.bean_grammar.specs.declared.price.Price.TheVariants.{Absent}
+use Rattle.bean_postings.specs.declared.price.Price.TheVariants.{Absent}
 use Rattle.bean_trial.specs.Tried.{whole_at, number_in}
 use Rattle.bean_trial.proofs.LegFacts.{whole_by}
 use Rattle.bean_trial.proofs.legs.whole.Goals as goal

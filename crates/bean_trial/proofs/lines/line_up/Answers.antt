@@ -1,6 +1,6 @@
 use Rattle.std.proofs.Common.{reverse, arith, subst}
 use Rattle.std.proofs.lemmas.List.{take_all}
-use Rattle.bean_grammar.specs.Posting.{is_outside_profile}
+use Rattle.bean_postings.specs.Posting.{is_outside_profile}
 use Rattle.bean_trial.specs.Lined.{AreLined}
 use Rattle.bean_trial.proofs.LinedFacts.{each_inside, one_more_lined, first_fault}
 use Rattle.bean_trial.proofs.lines.line_up.Goals as goal

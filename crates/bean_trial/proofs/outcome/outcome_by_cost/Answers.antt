@@ -1,6 +1,6 @@
 use Rattle.std.proofs.Common.{◌≡◌, ◌∙◌, ap, subst, sym}
-use Rattle.bean_grammar.specs.declared.cost.Cost.TheVariants.{Lot}
-use Rattle.bean_grammar.specs.declared.details.DetailParts.{DetailParts}
+use Rattle.bean_postings.specs.declared.cost.Cost.TheVariants.{Lot}
+use Rattle.bean_postings.specs.declared.details.DetailParts.{DetailParts}
 use Rattle.bean_trial.specs.Lined.{IsLinedByCost}
 use Rattle.bean_trial.specs.Outcome.{ComesOf}
 use Rattle.bean_trial.specs.Stock.{rest_of}

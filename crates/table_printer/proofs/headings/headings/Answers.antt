@@ -1,54 +1,66 @@
-use Rattle.std.proofs.Common.{◌++◌, ◌∷◌, ◌≡◌, [], List, length, map, sym, ap, ◌∙◌, arith}
-use Rattle.std.proofs.lemmas.List.{map-append, take_all}
-use Rattle.std.proofs.lemmas.List.FromFn.{map-range_with_len_more}
-use Rattle.std.specs.List.{range_with_len}
+use Rattle.std.proofs.Common.{◌≡◌, ◌<◌, ◌+◌, ◌++◌, [], ap, arith, drop, length, map, sym, take, ◌∙◌}
+use Rattle.std.proofs.Math.Seq.{take-append_seam}
+use Rattle.std.proofs.lemmas.List.{take_all}
 use Rattle.posting_table.specs.Decimals.{decimals_of}
-use Rattle.table_printer.specs.Heading.{heading_text, width_of}
-use Rattle.table_printer.specs.Table.{PlacedText, text_of, column_width, headers_from}
-use Rattle.table_printer.specs.CellText.{clean_text}
-use Rattle.table_printer.proofs.InColumn.{next_header, length-headers_from}
+use Rattle.table_printer.specs.CellText.{row_at}
+use Rattle.table_printer.specs.Heading.{heading_text, width_of, with_row}
+use Rattle.table_printer.proofs.HeadingFacts.{length-under, one_more, over_none, texts_are, under}
+use Rattle.table_printer.proofs.HeadingFacts.{widths_are}
 use Rattle.table_printer.proofs.headings.headings.Goals as goal
 
-pub loop-column-preserved : goal.loop-column-preserved
-loop-column-preserved g c =
+pub loop-row-init : goal.loop-row-init
+loop-row-init g c = record {
+  under = c.in_ok-headings.ensures.bare
+      ∙ over_none (decimals_of c.args.display.now) 0 (g.T.Rows.names c.args.table.now);
+  len = c.in_ok-headings.ensures.len;
+}
+
+pub widen_all-requires : goal.widen_all-requires
+widen_all-requires g c =
     let rows = g.T.Rows.rows c.args.table.now in
     let names = g.T.Rows.names c.args.table.now in
-    let i = c.loop-column.column in
-    let lines : List (List PlacedText) =
-    headers_from 0 rows names ∷ map (map (text_of (decimals_of c.args.display.now))) rows in
-    let made = c.in_ok-heading_at.field-0 in record {
-      len = omega (arith, c.in_ok-push.ensures.len, c.loop-column.invariant.len);
-      headers =
-          ap (map heading_text) c.in_ok-push.ensures.items
-          ∙ map-append heading_text c.loop-column.headings.items (made ∷ [])
-          ∙ (λ k. c.loop-column.invariant.headers k
-          ++ record {
-            text = clean_text made.name;
-            stands_right =
-                c.in_ok-heading_at.ensures.numbers k;
-          } ∷ [])
-          ∙ sym (next_header rows names i made.name c.in_ok-heading_at.ensures.name);
-      widths = ap (map width_of) c.in_ok-push.ensures.items
-          ∙ map-append width_of c.loop-column.headings.items (made ∷ [])
-          ∙ (λ k. c.loop-column.invariant.widths k ++ c.in_ok-heading_at.ensures.width k ∷ [])
-          ∙ sym (map-range_with_len_more (column_width lines) 0 i i (omega arith));
+    let i = c.loop-row.row in
+    let last = c.len-row-end.ensures in
+    let before = c.loop-row-test.true in
+    c.deref_mut.ensures.len ∙ c.loop-row.invariant.len
+    ∙ sym (c.requires i [] (omega (arith, last, before)))
+
+pub loop-row-preserved : goal.loop-row-preserved
+loop-row-preserved g c =
+    let display = decimals_of c.args.display.now in
+    let rows = g.T.Rows.rows c.args.table.now in
+    let names = g.T.Rows.names c.args.table.now in
+    let i = c.loop-row.row in
+    let last = c.len-row-end.ensures in
+    let before = c.loop-row-test.true in
+    let within : i < length rows = omega (arith, last, before) in
+    let new = c.widen_all.new.headings in
+    let made : new ≡ under display 0 (take (i + 1) rows) names =
+    c.in_ok-widen_all.ensures
+    ∙ ap (λ hs. with_row display hs (row_at rows i))
+    (c.deref_mut.ensures.value ∙ c.loop-row.invariant.under)
+    ∙ one_more display rows names i within (c.requires i [] within) in
+    let sized : c.loop-row.headings.len ≡ length new =
+    c.loop-row.invariant.len
+    ∙ sym (ap length made ∙ length-under display 0 (take (i + 1) rows) names) in
+    record {
+      under = ap (λ n. take n (new ++ drop (length new) c.loop-row.headings.items)) sized
+          ∙ take-append_seam new (drop (length new) c.loop-row.headings.items) ∙ made;
+      len = c.loop-row.invariant.len;
     }
 
 pub returns : goal.returns
 returns g c =
+    let display = decimals_of c.args.display.now in
     let rows = g.T.Rows.rows c.args.table.now in
     let names = g.T.Rows.names c.args.table.now in
-    let head = headers_from 0 rows names in
-    let lines : List (List PlacedText) =
-    head ∷ map (map (text_of (decimals_of c.args.display.now))) rows in
-    let last = c.columns-column-end.ensures in
-    let all : c.loop-column.column ≡ length names =
-    omega (arith, last, c.loop-column.auto.column-end, c.loop-column-test.false) in record {
-      headers =
-          c.loop-column.invariant.headers
-          ∙ ap (headers_from 0 rows) (take_all c.loop-column.column names (omega arith));
-      widths = c.loop-column.invariant.widths
-          ∙ ap (λ n. map (column_width lines) (range_with_len 0 n))
-          (all ∙ sym (length-headers_from 0 rows names));
-      len = c.loop-column.invariant.len ∙ all;
+    let last = c.len-row-end.ensures in
+    let all = c.loop-row.invariant.under
+    ∙ ap (λ rs. under display 0 rs names)
+    (take_all c.loop-row.row rows
+    (omega (arith, last, c.loop-row.auto.row-end, c.loop-row-test.false))) in
+    record {
+      headers = ap (map heading_text) all ∙ texts_are display 0 rows names;
+      widths = ap (map width_of) all ∙ widths_are display rows names;
+      len = c.loop-row.invariant.len;
     }

@@ -1,18 +1,12 @@
-use Rattle.std.proofs.Common.{◌≡◌, ◌∷◌, take, map, vec_len}
-use Rattle.std.specs.List.{range_with_len}
+use Rattle.std.proofs.Common.{◌≡◌, length, take, vec_len}
 use Rattle.posting_table.specs.Decimals.{decimals_of}
-use Rattle.table_printer.specs.Heading.{heading_text, width_of}
-use Rattle.table_printer.specs.Table.{text_of, column_width, headers_from}
+use Rattle.table_printer.proofs.HeadingFacts.{under}
 use Rattle.table_printer.proofs.headings.headings.Given as goal
 
-abbrev pub invariant-loop-column : goal.invariant-loop-column
-invariant-loop-column g l = record {
-  len : vec_len l.headings ≡ l.column;
-  headers :
-      map heading_text l.headings.items
-      ≡ headers_from 0 (g.T.Rows.rows l.table) (take l.column (g.T.Rows.names l.table));
-  widths : map width_of l.headings.items
-      ≡ map (column_width (headers_from 0 (g.T.Rows.rows l.table) (g.T.Rows.names l.table)
-      ∷ map (map (text_of (decimals_of l.display))) (g.T.Rows.rows l.table)))
-      (range_with_len 0 l.column);
+abbrev pub invariant-loop-row : goal.invariant-loop-row
+invariant-loop-row g l = record {
+  under : l.headings.items
+      ≡ under (decimals_of l.display) 0 (take l.row (g.T.Rows.rows l.table))
+      (g.T.Rows.names l.table);
+  len : vec_len l.headings ≡ length (g.T.Rows.names l.table);
 }

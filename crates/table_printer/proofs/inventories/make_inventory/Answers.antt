@@ -1,4 +1,4 @@
-use Rattle.std.proofs.Common.{◌≡◌, ◌++◌, take, map, get_or, length, sym, ap, ◌∙◌, arith}
+use Rattle.std.proofs.Common.{◌++◌, take, map, sym, ap, ◌∙◌, arith}
 use Rattle.std.proofs.Common.{append_assoc, rules, to_z, of_z}
 use Rattle.std.specs.Int.{w128}
 use Rattle.std.specs.Int.RustNames.{FitsSigned}

@@ -19,7 +19,7 @@ use Rattle.bean_booker.proofs.booker.Booker.keep.Goals as goal
 pub returns-clause-standing : goal.returns-clause-standing
 returns-clause-standing c = λ m past st d is at number.
     let ps = c.args.postings.now in
-    let posted : List Posted = c.args.posted in
+    let posted : List Posted = c.args.tried.posted in
     let booked = c.as_slice-booked.ensures in
     let one : Kept = record { directive = length past; postings = posted } in
     let all =
@@ -47,6 +47,6 @@ returns-clause-standing c = λ m past st d is at number.
           ∙ (λ k. is.kept_is k ++ record { directive = sym number k; postings = posted } ∷ []);
       faults_are = c.in_ok-take_postings.ensures.faults (account_steps past) is.accounts
           ∙ ap (λ l. l ++ each c.args.at c.as_slice-booked.result.now) c.in_ok-note_balance.ensures
-          ∙ (λ k. (is.faults_are k ++ own (at k) (booked k)) ++ each (at k) (booked k))
+          ∙ (λ k. (is.faults_are k ++ own (at k) posted) ++ each (at k) (booked k))
           ∙ append_assoc st.faults (own _ posted) (each _ posted);
     }

@@ -12,8 +12,8 @@ pub keep-requires-clause-light : goal.keep-requires-clause-light
 keep-requires-clause-light c =
     let z = c.requires.stands in
     let d = c.args.directive.now in
-    kept_light (setting_of z.method_of z.stand d) c.args.postings.now c.in-Ok.posted
-    (c.in-Ok.ensures (setting_of z.method_of z.stand d)
+    kept_light (setting_of z.method_of z.stand d) c.args.postings.now c.in-Ok.tried.posted
+    (c.in-Ok.ensures.tried (setting_of z.method_of z.stand d)
     (settled z.method_of z.past z.stand d c.args.self.now c.place_of-at.result z.is
     c.place_of-at.ensures))
 
@@ -21,9 +21,9 @@ pub returns-in-Ok-clause-standing : goal.returns-in-Ok-clause-standing
 returns-in-Ok-clause-standing c = λ m past st is count.
     let d = c.args.directive.now in
     let tries =
-    c.in-Ok.ensures (setting_of m st d)
+    c.in-Ok.ensures.tried (setting_of m st d)
     (settled m past st d c.args.self.now c.place_of-at.result is c.place_of-at.ensures) in
-    on_ok_weaker c.keep.result (λ standing. (Ok c.in-Ok.posted, tries, standing))
+    on_ok_weaker c.keep.result (λ standing. (Ok c.in-Ok.tried.posted, tries, standing))
     (c.keep.ensures.standing m past st d (reweighed m past st c.args.self.now _ is)
     c.place_of-at.ensures count)
 
@@ -33,7 +33,7 @@ returns-in-Err-Fault-clause-standing c = λ m past st is count.
     let ps = c.args.postings.now in
     let s = setting_of m st d in
     let told =
-    c.in-Err-Fault.ensures s
+    c.in-Err-Fault.ensures.tried s
     (settled m past st d c.args.self.now c.place_of-at.result is c.place_of-at.ensures) in
     let tries = subst (StopsAt (λ f. Tries s ps (Err f))) c.in-Err-Fault.field-0-is told in
     on_ok_weaker c.drop_with.result (λ standing. (Err c.in-Err-Fault.fault, tries, standing))
@@ -45,7 +45,7 @@ returns-in-Ok-clause-full c = λ is_full m past st is r tries.
     let d = c.args.directive.now in
     let ps = c.args.postings.now in
     let own =
-    c.in-Ok.ensures (setting_of m st d)
+    c.in-Ok.ensures.tried (setting_of m st d)
     (settled m past st d c.args.self.now c.place_of-at.result is c.place_of-at.ensures) in
-    full_kept m past st d ps c.in-Ok.posted r own tries
-    (subst (λ n. 1000000 < n + length c.in-Ok.posted) is.count (c.keep.ensures.full is_full))
+    full_kept m past st d ps c.in-Ok.tried.posted r own tries
+    (subst (λ n. 1000000 < n + length c.in-Ok.tried.posted) is.count (c.keep.ensures.full is_full))

@@ -4,7 +4,6 @@ use Rattle.std.specs.Int.{w128}
 use Rattle.std.specs.Ordering.{int_eq}
 use Rattle.std.proofs.lemmas.Int.{ints}
 use Rattle.bean_lots.specs.Slots.{positions}
-use Rattle.bean_lots.specs.declared.lot.Key.{Key}
 use Rattle.bean_lots.proofs.SlotFacts.{full_slot, hole_at}
 use Rattle.bean_lots.proofs.inventory.positions.first_from.Goals as goal
 
@@ -18,9 +17,7 @@ returns-then-count-ne0-clause-some c =
     let count : n ≡ to_z w128 (of_z w128 n) = omega (arith, ints) in
     rw add-one
     (sym c.loop-index.invariant ∙ full_slot es i k n c.slot_at-count.ensures some
-    ∙ ap (λ (q : Key). record { key = q; count = n } ∷ positions (drop (suc i) es))
-    (sym c.lend-key.ensures)
-    ∙ ap (λ m. record { key = c.lend-key.result; count = m } ∷ positions (drop (suc i) es)) count)
+    ∙ ap (λ m. record { key = k; count = m } ∷ positions (drop (suc i) es)) count)
 
 pub loop-index-preserved : goal.loop-index-preserved
 loop-index-preserved c =

@@ -6,13 +6,13 @@ use Rattle.bean_lots.specs.Take.{units_of}
 use Rattle.bean_lots.proofs.reduction.after.candidates_after.Given as goal
 
 -- those so far and those of the rest are all
-abbrev pub invariant-loop-entry : goal.invariant-loop-entry
-invariant-loop-entry l = record {
+abbrev pub invariant-loop-key : goal.invariant-loop-key
+invariant-loop-key l = record {
   small : AreSmall (2 ^ 125) l.rest;
   missing : l.missing ≡ unsigned_abs l.want - sum_by units_of l.found.items;
   told : l.found.items ++ candidates l.selector l.want (after l.rest l.taken)
-      ≡ candidates l.selector l.want (after l.inventory l.taken);
+      ≡ candidates l.selector l.want (after l.initial.rest l.taken);
 }
 
-abbrev pub decreases-loop-entry : goal.decreases-loop-entry
-decreases-loop-entry l = length l.rest
+abbrev pub decreases-loop-key : goal.decreases-loop-key
+decreases-loop-key l = length l.rest

@@ -4,13 +4,13 @@ use Rattle.std.specs.Int.{w128}
 use Rattle.std.specs.Ordering.{int_eq}
 use Rattle.std.proofs.lemmas.Int.{ints}
 use Rattle.bean_lots.specs.After.{is_opposite_lot}
-use Rattle.bean_lots.specs.Inventory.{count_of}
+use Rattle.bean_lots.specs.Inventory.{count_of, position_of}
 use Rattle.bean_lots.proofs.reduction.after.is_turned.Goals as goal
 
 pub returns-then-held-ne0 : goal.returns-then-held-ne0
 returns-then-held-ne0 c =
     let cur = c.args.currency.now in
-    let t = c.args.take.now in
+    let t = position_of c.args.key.now c.args.count in
     let n = count_of c.args.inventory.now t.key in
     let held = c.get-held.ensures.count in
     let want : to_z w128 (of_z w128 c.args.want) ≡ c.args.want = omega (arith, ints) in

@@ -1,0 +1,5 @@
+pub mod PriceFacts
+pub mod CostPartFacts
+pub mod CostFacts
+pub mod PostingFacts
+mod Examples

@@ -1,0 +1,5 @@
+pub mod CostPart
+pub mod Cost
+pub mod Price
+pub mod Details
+pub mod Posting

@@ -1,7 +1,0 @@
-//! Pads and balances worked out by hand, by the library's public calls, with ample memory.
-#![tactic(auto)]
-
-#[cfg(test)]
-mod made;
-#[cfg(test)]
-mod paddings;

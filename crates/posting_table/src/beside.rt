@@ -1,0 +1,104 @@
+//! What few rows have beside what all have.
+ghost use Rattle.std.specs.Prelude.{◌≡◌, IfOk};
+ghost use Rattle.std.specs.Option.{option_copied};
+ghost use Rattle.posting_table.specs.Metadata.{text_under};
+
+use crate::metadata::Metadata;
+use crate::row::Weight;
+use bean_base::{Apart, Flag};
+use std::alloc::{AllocError, Global};
+use std::marker::Model;
+
+/// The line of a row, and a weight, metadata and a flag, each of which may be absent.
+#[derive(Debug, Drop)]
+pub(crate) struct BesideParts<'a> {
+    /// What the posting weighs, where that isn't what its units weigh by themselves.
+    pub weight: Option<Weight<'a>>,
+    pub metadata: Metadata<'a>,
+    pub line: usize,
+    pub flag: Option<Flag>,
+}
+
+/// How it is kept.
+#[derive(Debug, Drop)]
+enum Kept<'a> {
+    /// The line, where there is nothing else.
+    Line(usize),
+    Parts(Apart<BesideParts<'a>>),
+}
+
+/// What a row has beside its transaction, its account and its position. What few rows have lies in
+/// memory of its own, so that the others stay small. Contracts see the parts.
+#[derive(Debug, Drop)]
+pub(crate) struct Beside<'a> {
+    kept: Kept<'a>,
+}
+
+impl<'a> Model for Beside<'a> {
+    ghost use Rattle.posting_table.specs.Beside as spec;
+    ghost use Rattle.posting_table.specs.declared.beside.BesideParts as declared;
+
+    ghost Value = { declared.BesideParts };
+
+    ghost view = { λ b. spec.parts_of b.kept };
+}
+
+impl<'a> Beside<'a> {
+    /// These parts. Where there is nothing but the line no memory is taken.
+    pub(crate) fn new(alloc: Global, parts: BesideParts<'a>) -> Result<Beside<'a>, AllocError>
+        ensures { IfOk result (λ b. b ≡ parts.entry) }
+    {
+        let has_metadata = !parts.metadata.as_slice().is_empty();
+        if has_metadata || parts.weight.is_some() || parts.flag.is_some() {
+            return Ok(Beside {
+                kept: Kept::Parts(Apart::new(alloc, parts)?),
+            });
+        }
+        Ok(Beside {
+            kept: Kept::Line(parts.line),
+        })
+    }
+
+    /// What the posting weighs, where that isn't what its units weigh by themselves.
+    pub(crate) fn weight(&self) -> Option<Weight<'a>>
+        ensures { result ≡ self.now.weight }
+    {
+        match &self.kept {
+            Kept::Line(_) => None,
+            Kept::Parts(parts) => match &parts.get().weight {
+                Some(weight) => Some(weight.lend()),
+                None => None,
+            },
+        }
+    }
+
+    /// The text of the first item of its metadata under a key: none where nothing stands behind it.
+    pub(crate) fn text_under(&self, key: &str) -> Option<&str>
+        ensures { option_copied result ≡ text_under key.now self.now.metadata }
+    {
+        match &self.kept {
+            Kept::Line(_) => None,
+            Kept::Parts(parts) => parts.get().metadata.text_under(key),
+        }
+    }
+
+    /// The line of the written posting, or of the pad.
+    pub(crate) fn line(&self) -> usize
+        ensures { result ≡ self.now.line }
+    {
+        match &self.kept {
+            Kept::Line(line) => *line,
+            Kept::Parts(parts) => parts.get().line,
+        }
+    }
+
+    /// The flag, if one is written.
+    pub(crate) fn flag(&self) -> Option<Flag>
+        ensures { result ≡ self.now.flag }
+    {
+        match &self.kept {
+            Kept::Line(_) => None,
+            Kept::Parts(parts) => parts.get().flag,
+        }
+    }
+}

@@ -1,0 +1,31 @@
+use Rattle.std.proofs.Common.{ap, get_or, refl, slice_set, sym, ◌∙◌}
+use Rattle.std.proofs.lemmas.List.{length-set}
+use Rattle.posting_table.specs.Decimals.{decimals_of}
+use Rattle.table_printer.specs.CellText.{row_at}
+use Rattle.table_printer.specs.Heading.{with_cell}
+use Rattle.table_printer.proofs.HeadingFacts.{next_cell, with_none}
+use Rattle.table_printer.proofs.headings.widen_all.Goals as goal
+
+pub loop-column-init : goal.loop-column-init
+loop-column-init g c = record {
+  headings = sym (with_none (decimals_of c.args.display.now) c.args.headings.now);
+  len = refl;
+}
+
+pub loop-column-preserved : goal.loop-column-preserved
+loop-column-preserved g c =
+    let display = decimals_of c.args.display.now in
+    let row = row_at (g.T.Rows.rows c.args.table.now) c.args.row in
+    let i = c.loop-column.column in
+    let h = c.index-headings-column.result in
+    let v = c.cell.result in
+    record {
+      headings = ap (slice_set c.loop-column.headings i) c.in_ok-widen.ensures
+          ∙ ap (λ x. slice_set c.loop-column.headings i (with_cell display x v))
+          (sym c.index-headings-column.is)
+          ∙ (λ k. slice_set (c.loop-column.invariant.headings k) i (with_cell display h v))
+          ∙ next_cell display c.args.headings.now row i h v c.requires c.cell.ensures
+          (c.index-headings-column.is ∙ ap (λ l. get_or l i h) c.loop-column.invariant.headings);
+      len = length-set c.loop-column.headings i c.widen-in-loop-column.new.heading
+          ∙ c.loop-column.invariant.len;
+    }

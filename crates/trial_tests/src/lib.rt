@@ -1,7 +1,0 @@
-//! Transactions tried as they are written, by the library's public calls, with ample memory.
-#![tactic(auto)]
-
-#[cfg(test)]
-mod ledger;
-#[cfg(test)]
-mod trials;
