@@ -54,6 +54,7 @@ fn count_pad(count: usize, noted: &NotedPad<'_>) -> Result<usize, BookFault>
 /// The count with the rows of pads.
 fn count_pads(count: usize, pads: &[NotedPad<'_>]) -> Result<usize, BookFault>
     requires { count ≤ MOST_POSTINGS }
+    ensures sum { IfOk result (λ n. n ≡ count + length (flat_map spec.rows_of_pad pads.now)) }
     ensures few { IfOk result (λ n. count + length (flat_map spec.rows_of_pad pads.now)
         ≤ MOST_POSTINGS) }
     ensures full { result ≡ Err BookFault.TooManyPostings
@@ -88,6 +89,8 @@ fn count_kept(kept: &[Kept<'_>]) -> Result<usize, BookFault>
 
 /// The count of the rows of transactions that are kept, and of pads, unless they are too many.
 pub(crate) fn count_rows(kept: &[Kept<'_>], pads: &[NotedPad<'_>]) -> Result<usize, BookFault>
+    ensures sum { IfOk result (λ n.
+        n ≡ length (postings_of kept.now) + length (flat_map spec.rows_of_pad pads.now)) }
     ensures few { IfOk result (λ n.
         length (postings_of kept.now) + length (flat_map spec.rows_of_pad pads.now)
         ≤ MOST_POSTINGS) }

@@ -24,9 +24,8 @@ pub record AreNoted (s : Scales) (legs : List Leg) : Type 0 where
 
 -- both
 pub record AreSet (s : Scales) (legs : List Leg) : Type 0 where
-  pub sums : s.sums ≡ table (weighed legs)
-  pub precisions : (c : List ℕ) → lookup (bytes_eq c) s.precisions ≡ precision legs c
-  pub range : AreInRange legs
+  pub weighed : AreWeighed s legs
+  pub noted : AreNoted s legs
 
 -- no number of a ledger is due in the currency
 abbrev pub HasNoFill : List Leg → List ℕ → Type 0

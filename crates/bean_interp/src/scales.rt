@@ -33,7 +33,7 @@ fn are_whole(legs: &[Leg<'_>]) -> bool
 }
 
 impl<'a> Scales<'a> {
-    ghost use Rattle.bean_interp.specs.Balance.{Judges, is_balanced, is_even};
+    ghost use Rattle.bean_interp.specs.Balance.{is_balanced, is_even};
     ghost use Rattle.bean_interp.specs.Completion.{CanBeFilled, Completes, gaps, gaps_of};
     ghost use Rattle.bean_interp.specs.Filling.{AreFilled, HaveNumbers, all_currencies};
     ghost use Rattle.bean_interp.specs.Filling.{currency_at, gaps_in};
@@ -264,7 +264,9 @@ impl<'a> Scales<'a> {
         sum.unsigned_abs() <= half_unit(self.precisions.of(currency))
     }
 
-    /// Whether the transaction on the scales balances, whose decimals are noted.
+    /// Whether the transaction on the scales balances, whose decimals are noted: in each currency
+    /// its weights sum to no more than the tolerance, which is half a unit of the last decimal that
+    /// is written for it, and 0 without decimals. What legs lack is left aside.
     pub fn are_even(&self) -> bool
         ensures { (legs : prelude.List Leg) → AreSet self.now legs → result ≡ is_balanced legs }
     {
@@ -274,22 +276,6 @@ impl<'a> Scales<'a> {
             }
         }
         true
-    }
-
-    /// Whether legs balance: in each currency their weights sum to no more than its tolerance,
-    /// which is half a unit of the last decimal that is written for it, and 0 without decimals.
-    /// What legs lack is left aside.
-    pub fn balances(&mut self, legs: &[Leg<'a>]) -> Result<bool, WeighFault>
-        ensures { Judges legs.now result }
-    {
-        if let Err(fault) = self.sums.weigh(legs) {
-            return Err(fault);
-        }
-        if self.sums.are_zero() {
-            return Ok(true);
-        }
-        self.precisions.read(legs)?;
-        Ok(self.are_even())
     }
 }
 

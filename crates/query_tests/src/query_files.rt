@@ -1,11 +1,9 @@
 //! Query files that are decoded and written again, and bytes that are none.
 
 use bean_base::Day;
-use query_code::{
-    Cause, Constant, Instruction, Mode, Program, Push, Refusal, TextList, Unary, show,
-};
+use query_code::{Cause, Constant, Program, Refusal, TextList};
 use query_file::{DecodeFault, decode, encode};
-use query_values::{Aggregate, Decimal};
+use query_values::Decimal;
 use std::alloc::Global;
 use std::test::Fail;
 
@@ -23,13 +21,6 @@ fn refusal(alloc: Global, bytes: &[u8]) -> Option<Refusal> {
     }
 }
 
-/// The refusal of the file with one byte changed.
-fn refusal_with(alloc: Global, place: usize, byte: u8) -> Result<Option<Refusal>, Fail> {
-    let mut file = Vec::from_slice(alloc, &COUNT)?;
-    *file.get_mut(place).ok_or("a place of the file")? = byte;
-    Ok(refusal(alloc, &file))
-}
-
 fn at(code: Cause, place: usize) -> Option<Refusal> {
     Some(Refusal { code, place })
 }
@@ -43,50 +34,6 @@ fn a_file_and_back(rt: HostRuntime) -> Result<(), Fail> {
     let program = program_of(rt.alloc(), &COUNT)?;
     let bytes = encode(rt.alloc(), &program)?;
     assert_eq!(rt; bytes.as_slice(), COUNT.as_slice());
-    Ok(())
-}
-
-#[test]
-fn the_parts_of_a_program(rt: HostRuntime) -> Result<(), Fail> {
-    let program = program_of(rt.alloc(), &COUNT)?;
-    assert_eq!(rt; program.parts.bounds.postings, 1_000_000);
-    assert_eq!(rt; program.parts.mode, Mode::Grouped);
-    assert_eq!(rt; program.parts.output.targets.as_slice().len(), 1);
-    Ok(())
-}
-
-#[test]
-fn the_code_of_a_program(rt: HostRuntime) -> Result<(), Fail> {
-    let program = program_of(rt.alloc(), &COUNT)?;
-    let code = &program.parts.code;
-    assert_eq!(rt;
-        code.aggregates.as_slice(),
-        [Aggregate::CountRows].as_slice()
-    );
-    let last = [Instruction::Push(Push::LoadAggregate(0))];
-    assert_eq!(rt; code.last.as_slice(), last.as_slice());
-    Ok(())
-}
-
-#[test]
-fn each_refusal_with_its_place(rt: HostRuntime) -> Result<(), Fail> {
-    let changes = [
-        (0, 0, at(Cause::Magic, 0)),
-        (5, 2, at(Cause::Version, 4)),
-        (12, 2, at(Cause::BadField, 12)),
-        (19, 0xff, at(Cause::NotUtf8, 19)),
-    ];
-    for (place, byte, refused) in changes {
-        assert_eq!(rt; refusal_with(rt.alloc(), place, byte)?, refused);
-    }
-    Ok(())
-}
-
-#[test]
-fn bytes_behind_the_end(rt: HostRuntime) -> Result<(), Fail> {
-    let mut longer = Vec::from_slice(rt.alloc(), &COUNT)?;
-    longer.push(0)?;
-    assert_eq!(rt; refusal(rt.alloc(), &longer), at(Cause::TrailingBytes, 43));
     Ok(())
 }
 
@@ -147,15 +94,6 @@ fn a_list_of_texts_grows(rt: HostRuntime) -> Result<(), Fail> {
 }
 
 #[test]
-fn a_row_section_behind_a_pool(rt: HostRuntime) -> Result<(), Fail> {
-    let file = with_pool(rt.alloc(), 4, &ENTRIES)?;
-    let program = program_of(rt.alloc(), &file)?;
-    let row = [Instruction::Unary(Unary::Root(2))];
-    assert_eq!(rt; program.parts.code.row.as_slice(), row.as_slice());
-    Ok(())
-}
-
-#[test]
 fn bad_entries_of_the_pool(rt: HostRuntime) -> Result<(), Fail> {
     let no_day: &[u8] = &[3, 0x07, 0xde, 2, 30];
     let no_texts: &[u8] = &[5, 0, 0];
@@ -173,27 +111,5 @@ fn numbers_of_a_machine(rt: HostRuntime) -> Result<(), Fail> {
     assert!(rt; Decimal::new(i128::MAX, 32).is_some());
     assert!(rt; Decimal::new(i128::MIN, 0).is_none());
     assert!(rt; Decimal::new(0, 33).is_none());
-    Ok(())
-}
-
-fn shown(alloc: Global, bytes: &[u8]) -> Result<Vec<u8>, Fail> {
-    let program = program_of(alloc, bytes)?;
-    Ok(show(alloc, &program)?)
-}
-
-#[test]
-fn a_grouped_program_shown(rt: HostRuntime) -> Result<(), Fail> {
-    let wanted = "version 1 postings 1000000 digits 20 value-digits 28\n\
-         grouped keys 0 aggregates 1\nfilter 1\n0 TRUE\nrow 0\nlast 1\n0 LOAD_AGG 0\n";
-    assert_eq!(rt; shown(rt.alloc(), &COUNT)?.as_slice(), wanted.as_bytes());
-    Ok(())
-}
-
-#[test]
-fn a_plain_program_shown(rt: HostRuntime) -> Result<(), Fail> {
-    let file = with_pool(rt.alloc(), 0, &[])?;
-    let wanted = "version 1 postings 1 digits 20 value-digits 28\nplain\nfilter 1\n0 TRUE\nrow 1\n\
-         0 ROOT 2\nlast 0\n";
-    assert_eq!(rt; shown(rt.alloc(), &file)?.as_slice(), wanted.as_bytes());
     Ok(())
 }

@@ -19,8 +19,7 @@ fn side_of(key: &Key<'_>, day: Day) -> Ordering
     }
 }
 
-/// The half of some slots that has all lots of a day, or none where the slot in the middle may be
-/// one of these.
+/// The half that has all lots of a day, or none where the slot in the middle may be one of these.
 fn half_on<'s, 'a>(slots: &Slice<'s, Key<'a>, i128>, day: Day) -> Option<Slice<'s, Key<'a>, i128>>
     requires { AreInOrder slots.now }
     ensures half { IfSome result (λ half. HasAllSlots day half slots.now) }
@@ -44,8 +43,7 @@ fn half_on<'s, 'a>(slots: &Slice<'s, Key<'a>, i128>, day: Day) -> Option<Slice<'
     }
 }
 
-/// A part of some slots that has all lots of a day. It has few others, but where lots of many days
-/// stand between slots without one.
+/// A part of some slots that has all lots of a day, and few others.
 pub(crate) fn part_on<'s, 'a>(slots: Slice<'s, Key<'a>, i128>, day: Day) -> Slice<'s, Key<'a>, i128>
     requires { AreInOrder slots }
     ensures { HasAllSlots day result slots.entry }

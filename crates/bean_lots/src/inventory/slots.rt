@@ -111,8 +111,7 @@ impl<'a> Slots<'a> {
         Positions::new(held)
     }
 
-    /// What is held about a day, in order of entry: all lots of that day, among few others where
-    /// lots stand in the order of their days.
+    /// What is held about a day, in order of entry: all lots of that day.
     pub(crate) fn positions_about(&self, day: Day) -> Positions<'_, 'a>
         requires { IsKept self.now }
         ensures { HasAllOf (Some day) result (positions self.now.counts.entries) }

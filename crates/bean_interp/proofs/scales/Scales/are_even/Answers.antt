@@ -13,7 +13,7 @@ pub returns-then-not-is_even_at : goal.returns-then-not-is_even_at
 returns-then-not-is_even_at c = λ legs are.
     let cs = all_currencies legs in
     let few : length c.args.self.now.sums ≡ length cs =
-    ap length are.sums ∙ length-map cs (λ c. (c, residual legs c)) in
+    ap length are.weighed.sums ∙ length-map cs (λ c. (c, residual legs c)) in
     let no : c.is_even_at.result ≡ false = search rules in
     sym (list_all_at (is_even legs) cs c.loop-index.index [] (omega arith)
     (sym (c.is_even_at.ensures legs [] are) ∙ no))
@@ -23,7 +23,7 @@ loop-index-preserved c = λ legs are.
     let cs = all_currencies legs in
     let i = c.loop-index.index in
     let few : length c.args.self.now.sums ≡ length cs =
-    ap length are.sums ∙ length-map cs (λ c. (c, residual legs c)) in
+    ap length are.weighed.sums ∙ length-map cs (λ c. (c, residual legs c)) in
     let succ : i + 1 ≡ suc i = omega arith in
     let yes : c.is_even_at.result ≡ true = search rules in
     let here = sym (c.is_even_at.ensures legs [] are) ∙ yes in

@@ -12,9 +12,9 @@ use Rattle.bean_interp.proofs.scales.Scales.fill.Goals as goal
 pub returns-in-Ok : goal.returns-in-Ok
 returns-in-Ok c = λ legs are.
     let currency = c.args.currency.now in
-    let p : c.of.result ≡ precision legs currency = c.of.ensures.is ∙ are.precisions currency in
+    let p : c.of.result ≡ precision legs currency = c.of.ensures.is ∙ are.noted.precisions currency in
     let r : c.of-2.result ≡ residual legs currency =
-    c.of-2.ensures.sum ∙ ap (λ (es : List Weighed). entry_of es currency) are.sums
+    c.of-2.ensures.sum ∙ ap (λ (es : List Weighed). entry_of es currency) are.weighed.sums
     ∙ entry_is (weighed legs) currency in
     let back = to_z-of_z w128 c.of-2.result (fits_38 c.of-2.result c.of-2.ensures.bound) in
     record {
@@ -27,9 +27,9 @@ returns-in-Ok c = λ legs are.
 pub returns-in-Err : goal.returns-in-Err
 returns-in-Err c = λ legs are.
     let currency = c.args.currency.now in
-    let p : c.of.result ≡ precision legs currency = c.of.ensures.is ∙ are.precisions currency in
+    let p : c.of.result ≡ precision legs currency = c.of.ensures.is ∙ are.noted.precisions currency in
     let r : c.of-2.result ≡ residual legs currency =
-    c.of-2.ensures.sum ∙ ap (λ (es : List Weighed). entry_of es currency) are.sums
+    c.of-2.ensures.sum ∙ ap (λ (es : List Weighed). entry_of es currency) are.weighed.sums
     ∙ entry_is (weighed legs) currency in
     let back = to_z-of_z w128 c.of-2.result (fits_38 c.of-2.result c.of-2.ensures.bound) in
     subst (λ (o : Option ℕ). HasNoDue o (residual legs currency)) p

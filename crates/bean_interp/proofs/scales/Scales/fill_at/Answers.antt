@@ -9,7 +9,7 @@ use Rattle.bean_interp.proofs.scales.Scales.fill_at.Goals as goal
 pub returns-then-sum-eq0-clause-filled : goal.returns-then-sum-eq0-clause-filled
 returns-then-sum-eq0-clause-filled c = λ legs d are.
     let k = currency_at legs c.args.index d in
-    let there = currency_there c.args.self.now.sums legs c.args.index d are.sums in
+    let there = currency_there c.args.self.now.sums legs c.args.index d are.weighed.sums in
     let sum : residual legs k ≡ c.at-sum.result.1 =
     sym (c.at-sum.ensures.sum (d, residual legs d) ∙ ap (λ e. e.1) there) in
     let zero : c.at-sum.result.1 ≡ pos 0 = search rules in
@@ -19,7 +19,7 @@ returns-then-sum-eq0-clause-filled c = λ legs d are.
 pub returns-clause-filled : goal.returns-clause-filled
 returns-clause-filled c = λ legs d are.
     let k = currency_at legs c.args.index d in
-    let there = currency_there c.args.self.now.sums legs c.args.index d are.sums in
+    let there = currency_there c.args.self.now.sums legs c.args.index d are.weighed.sums in
     let sum : residual legs k ≡ c.at-sum.result.1 =
     sym (c.at-sum.ensures.sum (d, residual legs d) ∙ ap (λ e. e.1) there) in
     let currency : c.at-sum.result.0.now ≡ k =
@@ -34,7 +34,7 @@ returns-clause-filled c = λ legs d are.
 pub returns-clause-none : goal.returns-clause-none
 returns-clause-none c = λ legs d are is.
     let k = currency_at legs c.args.index d in
-    let there = currency_there c.args.self.now.sums legs c.args.index d are.sums in
+    let there = currency_there c.args.self.now.sums legs c.args.index d are.weighed.sums in
     let sum : residual legs k ≡ c.at-sum.result.1 =
     sym (c.at-sum.ensures.sum (d, residual legs d) ∙ ap (λ e. e.1) there) in
     let currency : c.at-sum.result.0.now ≡ k =

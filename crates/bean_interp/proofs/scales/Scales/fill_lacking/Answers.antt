@@ -10,7 +10,7 @@ loop-index-preserved c = λ legs are.
     let cs = all_currencies legs in
     let i = c.loop-index.index in
     let few : length c.args.self.now.sums ≡ length cs =
-    ap length are.sums ∙ length-map cs (λ c. (c, residual legs c)) in
+    ap length are.weighed.sums ∙ length-map cs (λ c. (c, residual legs c)) in
     subst (λ gs. AreFilled legs gs c.args.fills.now.items c.fill_at.new.fills.items)
     (sym (gaps_next legs c.args.leg cs i [] (omega arith)))
     (joined legs _ _ c.args.fills.now.items c.loop-index.fills.items c.fill_at.new.fills.items
@@ -20,6 +20,6 @@ pub returns-in-Err-clause-none : goal.returns-in-Err-clause-none
 returns-in-Err-clause-none c = λ legs are is.
     let cs = all_currencies legs in
     let few : length c.args.self.now.sums ≡ length cs =
-    ap length are.sums ∙ length-map cs (λ c. (c, residual legs c)) in
+    ap length are.weighed.sums ∙ length-map cs (λ c. (c, residual legs c)) in
     without_number legs c.args.leg cs c.loop-index.index [] (omega arith)
     (c.in-Err.ensures.none legs [] are is)

@@ -12,7 +12,7 @@ use Rattle.bean_interp.proofs.scales.Scales.is_even_at.Goals as goal
 pub returns : goal.returns
 returns c = λ legs d are.
     let k = currency_at legs c.args.index d in
-    let there = currency_there c.args.self.now.sums legs c.args.index d are.sums in
+    let there = currency_there c.args.self.now.sums legs c.args.index d are.weighed.sums in
     let sum : c.at-sum.result.1 ≡ residual legs k =
     c.at-sum.ensures.sum (d, residual legs d) ∙ ap (λ e. e.1) there in
     let currency : c.at-sum.result.0.now ≡ k =
@@ -24,6 +24,6 @@ returns c = λ legs d are.
     ∙ sum) in
     let half =
     c.half_unit.ensures
-    ∙ ap half_unit (c.of.ensures.is ∙ are.precisions c.at-sum.result.0.now
+    ∙ ap half_unit (c.of.ensures.is ∙ are.noted.precisions c.at-sum.result.0.now
     ∙ ap (precision legs) currency) in
     λ i. nat_le (size i) (half i)
