@@ -18,6 +18,7 @@ use fault_printer::fault_lines;
 use outputs::output::Output;
 use outputs::writing::write_bytes;
 use std::alloc::Global;
+use std::mem::forget;
 use stores::source::{Source, Store};
 use table_printer::{PrintFault, write_table};
 
@@ -43,6 +44,8 @@ fn list_texts<O: Output>(alloc: Global, texts: &Texts, out: &mut O) -> Result<Ve
         ledger: &booked.ledger,
     };
     write_table(alloc, &postings, booked.ledger.display(), out)?;
+    // The process ends next, and takes all memory back at once.
+    forget(booked);
     Ok(Verdict::Fine)
 }
 
