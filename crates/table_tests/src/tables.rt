@@ -1,8 +1,8 @@
 //! Tables of answers.
 ghost use Rattle.std.specs.Prelude.{◌≡◌, length, IfOk, All};
 
-use bean_base::{Currency, List, NameFault, Num, Slice, Text, parse_currency, parse_day};
-use bean_lots::{Cost, Inventory, Key, Lot, Position};
+use bean_base::{Currency, List, NameFault, Num, Slice, parse_currency, parse_day};
+use bean_lots::{Cost, Inventory, Key, Lot};
 use posting_table::Display;
 use query_values::{Bag, Lent, TextSet, Value};
 use std::alloc::{AllocError, Global};
@@ -13,13 +13,6 @@ const VALUES: &str = "text  number  day         amount
 ----  ------  ----------  ----------
 a b     10.5  2014-01-02  -1.125 USD
            7              1.00 USD
-";
-
-const POSITIONS: &str = "cell
------------------------------------------
-100.00 USD
-2.5 HOOL {0.10 USD, 2014-01-02}
--1 HOOL {120.00 USD, 2014-01-03, \"a \\ b\"}
 ";
 
 const INVENTORIES: &str = "cell
@@ -146,62 +139,15 @@ fn column_of<'a>(
 }
 
 /// HOOL that was bought at so many dollars.
-fn bought(cost: &str, day: &str, label: Option<Text<'static>>) -> Result<Key<'static>, Fail> {
+fn bought(cost: &str, day: &str) -> Result<Key<'static>, Fail> {
     Ok(Key {
         currency: parse_currency("HOOL")?,
         lot: Some(Lot {
             cost: Cost::new(Num::parse(cost)?, usd()?),
             day: parse_day(day)?,
-            label,
+            label: None,
         }),
     })
-}
-
-/// Units of it.
-fn held(
-    count: i128,
-    cost: &str,
-    day: &str,
-    label: Option<Text<'static>>,
-) -> Result<Position<'static>, Fail> {
-    Ok(Position {
-        key: bought(cost, day, label)?,
-        count,
-    })
-}
-
-fn lent<'a>(position: &'a Position<'a>) -> Value<'a> {
-    Value::Position {
-        key: Lent::new(&position.key),
-        count: position.count,
-    }
-}
-
-#[test]
-fn prints_positions_with_their_lots(rt: HostRuntime) -> Result<(), Fail> {
-    let alloc = rt.alloc();
-    let cash = Position {
-        key: Key {
-            currency: usd()?,
-            lot: None,
-        },
-        count: 10_000_000_000,
-    };
-    let owned = held(250_000_000, "0.1", "2014-01-02", None)?;
-    let owed = held(
-        -100_000_000,
-        "120",
-        "2014-01-03",
-        Some(Text::new("a\\n\\\\ b")),
-    )?;
-    let answer = column_of(alloc, lent(&cash), lent(&owned), lent(&owed))?;
-    let mut display = Display::new(alloc);
-    display.set(usd()?, 2)?;
-    assert_eq!(rt;
-        print(alloc, &answer, &display)?.as_slice(),
-        POSITIONS.as_bytes()
-    );
-    Ok(())
 }
 
 fn sets_printed(
@@ -260,7 +206,7 @@ fn bare(currency: &'static str) -> Result<Key<'static>, NameFault> {
 /// Puts in four entries, in another order than that in which they are printed.
 fn put_four(entries: &mut Inventory<'static>) -> Result<(), Fail> {
     put(entries, bare("USD")?, -712_500_000)?;
-    put(entries, bought("1", "2014-01-02", None)?, 300_000_000)?;
+    put(entries, bought("1", "2014-01-02")?, 300_000_000)?;
     put(entries, bare("HOOL")?, 100_000_000)?;
     put(entries, bare("EUR")?, 200_000_000)?;
     Ok(())
