@@ -20,8 +20,8 @@ pub fn faults_in(alloc: Global, texts: &Texts) -> Result<List<Fault>, BookFault>
     ensures { FindsFaults texts.now result }
 {
     let loaded = load(alloc, texts)?;
-    let faults = find_faults(alloc, &loaded)?;
+    let faults = find_faults(alloc, &loaded);
     // The process ends soon, and takes all memory back at once.
     forget(loaded);
-    Ok(faults)
+    faults
 }
