@@ -3,3 +3,4 @@ pub mod TakeFacts
 pub mod OneBooking
 pub mod FullFacts
 pub mod EachBooking
+pub mod ShownFacts

@@ -39,7 +39,9 @@ reweighed m past st b s is = record {
   accounts = is.accounts;
   held = is.held;
   count = is.count;
+  seen = is.seen;
   follows = is.follows;
+  steps_are = is.steps_are;
   kept_is = is.kept_is;
   faults_are = is.faults_are;
 }
@@ -53,7 +55,9 @@ later m past st d b e is = record {
   accounts = subst (λ l. IsKept (l ++ account_steps past) b.accounts) (sym e) is.accounts;
   held = is.held;
   count = is.count;
+  seen = is.seen;
   follows = is.follows;
+  steps_are = is.steps_are;
   kept_is = is.kept_is;
   faults_are = is.faults_are;
 }

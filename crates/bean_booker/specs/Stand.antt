@@ -87,6 +87,14 @@ posting_seen p = record { account = p.account; units = p.units }
 abbrev pub posting_step : Posted → Step
 posting_step p = step.Posting (posting_seen p)
 
+-- what they see of postings, the latest first
+abbrev pub steps_of_postings : List Posted → List Step
+steps_of_postings posted = reverse (map posting_step posted)
+
+-- of transactions
+abbrev pub steps_of : List Kept → List Step
+steps_of ks = steps_of_postings (postings_of ks)
+
 abbrev pub with_faults : Stand → List Fault → Stand
 with_faults st fs = record { kept = st.kept; steps = st.steps; faults = st.faults ++ fs }
 
@@ -95,7 +103,7 @@ abbrev pub after_trial : List (Placed Directive) → Stand → Placed Directive 
     → Result (List Posted) LineFault → Stand
 after_trial past st d ps (Ok posted) = record {
   kept = st.kept ++ record { directive = length past; postings = posted } ∷ [];
-  steps = reverse (map posting_step posted) ++ st.steps;
+  steps = steps_of_postings posted ++ st.steps;
   faults = st.faults ++ kept_faults past d ps posted;
 }
 after_trial past st d ps (Err f) =

@@ -2,9 +2,10 @@
 ghost use Rattle.std.specs.Prelude.{◌≡◌, ◌≢◌, ◌<◌, ◌≤◌, ◌+◌, ◌^◌, ◌∷◌, [], ℕ, OnOk, Ok, length};
 ghost use Rattle.std.specs.Prelude as prelude;
 ghost use Rattle.std.specs.List.{AllByRecursion};
-ghost use Rattle.bean_booker.specs.Booker.{HasRoom, IsStanding, Stands};
+ghost use Rattle.bean_booker.specs.Booker.{HasRoom, IsStanding, Stands, unseen};
 ghost use Rattle.bean_booker.specs.Stand.{IsStepBy, Stand, after_trial, place_of, setting_of};
-ghost use Rattle.bean_booker.specs.Stand.{IsFull, start};
+ghost use Rattle.bean_booker.specs.Stand.{IsFull, postings_of, start};
+ghost use Rattle.bean_pad.specs.Following.{IsBounded, steps_in};
 ghost use Rattle.bean_trial.specs.Holdings.{additions_in};
 ghost use Rattle.bean_heads.specs.declared.directive.Directive.{Directive};
 ghost use Rattle.bean_interp.specs.Residual.{IsLight};
@@ -18,8 +19,8 @@ ghost use Rattle.bean_trial.specs.declared.stop.LineFault as trials;
 
 use crate::accounts::{take_balance, take_close, take_open, take_pad};
 use crate::kept::Kept;
-use crate::postings::{note_balance, take_postings};
-use crate::steps::place_of;
+use crate::postings::{note_balance, note_postings};
+use crate::steps::{place_of, show_kept};
 use bean_accounts::{Accounts, Place};
 use bean_base::Fault;
 use bean_interp::Scales;
@@ -85,6 +86,9 @@ pub(crate) struct Booker<'a> {
     scales: Scales<'a>,
     pub padder: Padder<'a>,
     pub kept: Vec<Kept<'a>>,
+    /// How many of the transactions that are kept the padder has seen. It sees them where a pad or
+    /// a balance comes, so that a ledger without balances sums nothing up.
+    shown: usize,
     pub faults: Vec<Fault>,
 }
 
@@ -104,6 +108,7 @@ impl<'a> Booker<'a> {
             scales: Scales::new(alloc),
             padder: Padder::new(alloc),
             kept: Vec::new(alloc),
+            shown: 0,
             faults: Vec::new(alloc),
         }
     }
@@ -135,14 +140,7 @@ impl<'a> Booker<'a> {
             return Err(BookFault::TooManyPostings);
         }
         note_balance(&mut self.scales, &mut self.faults, at, postings, &tried)?;
-        take_postings(
-            &self.accounts,
-            &mut self.padder,
-            &mut self.faults,
-            at,
-            postings,
-            booked,
-        )?;
+        note_postings(&self.accounts, &mut self.faults, at, postings, booked)?;
         self.holdings.post_all(self.alloc, booked)?;
         self.kept.push(Kept {
             directive: number,
@@ -214,6 +212,22 @@ impl<'a> Booker<'a> {
         }
     }
 
+    /// Shows the padder all that is kept.
+    fn show(&mut self) -> Result<(), AllocError>
+        requires near { IsBounded self.old.padder }
+        requires shown { self.old.shown ≤ length self.old.kept.items }
+        requires few { steps_in self.old.padder + length (postings_of (unseen self.old)) ≤ 2 ^ 40 }
+        ensures standing { (m : prelude.List ℕ → Method)
+            (past : prelude.List (placed.Placed Directive)) (st : Stand)
+            → IsStanding m past st self.old → OnOk result (IsStanding m past st self.new) }
+        ensures room { (n : ℕ) → HasRoom n self.old → OnOk result (HasRoom n self.new) }
+        ensures all { OnOk result (unseen self.new ≡ []) }
+    {
+        show_kept(&mut self.padder, &self.kept[self.shown..])?;
+        self.shown = self.kept.len();
+        Ok(())
+    }
+
     /// Takes the next directive, which has that number.
     pub(crate) fn take(
         &mut self,
@@ -250,6 +264,7 @@ impl<'a> Booker<'a> {
             }
             DirectiveKind::Pad(pad) => {
                 let day = directive.item.day;
+                self.show()?;
                 take_pad(
                     &self.accounts,
                     &mut self.padder,
@@ -261,6 +276,7 @@ impl<'a> Booker<'a> {
                 Ok(())
             }
             DirectiveKind::Balance(balance) => {
+                self.show()?;
                 take_balance(
                     self.alloc,
                     &self.accounts,

@@ -10,7 +10,7 @@
 //! Directives are taken in their order. A transaction is tried against what accounts hold, by the
 //! method of each account ([`bean_trial`]); its postings change what they hold where it is kept.
 //! Opens and closes change which accounts are open ([`bean_accounts`]), and pads and balances are
-//! told to a padder with each booked posting ([`bean_pad`]).
+//! told to a padder, with the postings that are booked before them ([`bean_pad`]).
 //!
 //! The method of an account is the one that its first open names, for all transactions; else the
 //! last that a line of the settings names; else `Strict`. A name of no method counts as not given.

@@ -1,6 +1,5 @@
 //! The booked postings of a transaction.
-ghost use Rattle.std.specs.Prelude.{◌≡◌, ◌<◌, ◌≤◌, ◌+◌, ◌^◌, ◌∷◌, ◌++◌, IfOk, OnOk, length, map};
-ghost use Rattle.std.specs.Prelude.{not, reverse, slice_get};
+ghost use Rattle.std.specs.Prelude.{◌≡◌, ◌≤◌, ◌^◌, ◌++◌, IfOk, OnOk, length, not, slice_get};
 ghost use Rattle.std.specs.Prelude as prelude;
 ghost use Rattle.std.specs.List.{AllByRecursion, flat_map};
 ghost use Rattle.bean_accounts.specs.Faults.{faults_at, kind_if};
@@ -9,15 +8,11 @@ ghost use Rattle.bean_accounts.specs.declared.step.Step as lives;
 ghost use Rattle.bean_booker.specs.Stand as spec;
 ghost use Rattle.bean_interp.specs.Balance.{is_balanced};
 ghost use Rattle.bean_interp.specs.Residual.{IsLight};
-ghost use Rattle.bean_pad.specs.Following.{Follows, IsBounded, steps_in};
-ghost use Rattle.bean_pad.specs.declared.step.Step.{Step};
 ghost use Rattle.bean_trial.specs.Tried.{KnowsBalance, booked_legs};
 
-use crate::steps::posting_of;
 use bean_accounts::{Accounts, Place};
 use bean_base::{Fault, FaultKind};
 use bean_interp::Scales;
-use bean_pad::Padder;
 use bean_postings::Posting;
 use bean_trial::{Posted, Tried, balances};
 use std::alloc::AllocError;
@@ -35,52 +30,36 @@ fn place_in(at: Place, postings: &[Posting<'_>], written: usize) -> Place
     }
 }
 
-/// Adds the faults of a booked posting, and shows it to pads and balances.
-fn take_posting<'a>(
+/// Adds the faults of a booked posting.
+fn note_posting<'a>(
     accounts: &Accounts<'a>,
-    padder: &mut Padder<'a>,
     faults: &mut Vec<Fault>,
     at: Place,
     postings: &[Posting<'a>],
     posted: &Posted<'a>,
 ) -> Result<(), AllocError>
-    requires near { IsBounded padder.old }
-    requires few { steps_in padder.old < 2 ^ 40 }
-    ensures faults { (past : prelude.List lives.Step) → IsKept past accounts.now
+    ensures { (past : prelude.List lives.Step) → IsKept past accounts.now
         → OnOk result (faults.new.items ≡ faults.old.items
         ++ spec.posted_faults past at postings.now posted.now) }
-    ensures follows { OnOk result ((past : prelude.List Step) → Follows past padder.old
-        → Follows (spec.posting_step posted.now ∷ past) padder.new) }
-    ensures near { OnOk result (IsBounded padder.new) }
-    ensures steps { OnOk result (steps_in padder.new ≡ steps_in padder.old + 1) }
 {
     let at = place_in(at, postings, posted.written);
-    accounts.note_posting(&posted.account, &posted.units.currency, at, faults)?;
-    padder.post(&posting_of(posted))
+    accounts.note_posting(&posted.account, &posted.units.currency, at, faults)
 }
 
-/// The same of all booked postings of a transaction.
-pub(crate) fn take_postings<'a>(
+/// Adds the faults of all booked postings of a transaction.
+pub(crate) fn note_postings<'a>(
     accounts: &Accounts<'a>,
-    padder: &mut Padder<'a>,
     faults: &mut Vec<Fault>,
     at: Place,
     postings: &[Posting<'a>],
     posted: &[Posted<'a>],
 ) -> Result<(), AllocError>
-    requires near { IsBounded padder.old }
-    requires few { steps_in padder.old + length posted.now ≤ 2 ^ 40 }
-    ensures faults { (past : prelude.List lives.Step) → IsKept past accounts.now
+    ensures { (past : prelude.List lives.Step) → IsKept past accounts.now
         → OnOk result (faults.new.items ≡ faults.old.items
         ++ flat_map (spec.posted_faults past at postings.now) posted.now) }
-    ensures follows { OnOk result ((past : prelude.List Step) → Follows past padder.old
-        → Follows (reverse (map spec.posting_step posted.now) ++ past) padder.new) }
-    ensures near { OnOk result (IsBounded padder.new) }
-    ensures steps { OnOk result
-        (steps_in padder.new ≡ steps_in padder.old + length posted.now) }
 {
     for one in posted {
-        take_posting(accounts, padder, faults, at, postings, one)?;
+        note_posting(accounts, faults, at, postings, one)?;
     }
     Ok(())
 }

@@ -1,12 +1,17 @@
 //! What pads and balances see of directives.
-ghost use Rattle.std.specs.Prelude.{◌≡◌};
+ghost use Rattle.std.specs.Prelude.{◌≡◌, ◌+◌, ◌≤◌, ◌^◌, ◌++◌, List, OnOk, length};
 ghost use Rattle.bean_booker.specs.Stand as spec;
+ghost use Rattle.bean_pad.specs.Following.{Follows, IsBounded, steps_in};
+ghost use Rattle.bean_pad.specs.declared.step.Step.{Step};
 
+use crate::kept::Kept;
 use bean_accounts::Place;
 use bean_base::{Day, Num};
 use bean_load::Placed;
+use bean_pad::Padder;
 use bean_parser::Directive;
 use bean_trial::Posted;
+use std::alloc::AllocError;
 
 /// The place of a directive.
 pub(crate) fn place_of(directive: &Placed<Directive<'_>>) -> Place
@@ -19,7 +24,7 @@ pub(crate) fn place_of(directive: &Placed<Directive<'_>>) -> Place
 }
 
 /// A booked posting, as pads and balances see it.
-pub(crate) fn posting_of<'a>(posted: &Posted<'a>) -> bean_pad::Posting<'a>
+fn posting_of<'a>(posted: &Posted<'a>) -> bean_pad::Posting<'a>
     ensures { result ≡ spec.posting_seen posted.now }
 {
     bean_pad::Posting {
@@ -58,4 +63,36 @@ pub(crate) fn balance_of<'a>(
         line: at.line,
         is_at_cost,
     }
+}
+
+/// Shows a padder booked postings.
+fn show_postings<'a>(padder: &mut Padder<'a>, posted: &[Posted<'a>]) -> Result<(), AllocError>
+    requires near { IsBounded padder.old }
+    requires few { steps_in padder.old + length posted.now ≤ 2 ^ 40 }
+    ensures follows { OnOk result ((past : List Step) → Follows past padder.old
+        → Follows (spec.steps_of_postings posted.now ++ past) padder.new) }
+    ensures near { OnOk result (IsBounded padder.new) }
+    ensures steps { OnOk result
+        (steps_in padder.new ≡ steps_in padder.old + length posted.now) }
+{
+    for one in posted {
+        padder.post(&posting_of(one))?;
+    }
+    Ok(())
+}
+
+/// Shows a padder the booked postings of transactions.
+pub(crate) fn show_kept<'a>(padder: &mut Padder<'a>, kept: &[Kept<'a>]) -> Result<(), AllocError>
+    requires near { IsBounded padder.old }
+    requires few { steps_in padder.old + length (spec.postings_of kept.now) ≤ 2 ^ 40 }
+    ensures follows { OnOk result ((past : List Step) → Follows past padder.old
+        → Follows (spec.steps_of kept.now ++ past) padder.new) }
+    ensures near { OnOk result (IsBounded padder.new) }
+    ensures steps { OnOk result
+        (steps_in padder.new ≡ steps_in padder.old + length (spec.postings_of kept.now)) }
+{
+    for one in kept {
+        show_postings(padder, one.postings.as_slice())?;
+    }
+    Ok(())
 }

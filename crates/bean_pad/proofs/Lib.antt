@@ -7,4 +7,3 @@ pub mod OutcomeFacts
 pub mod InsertedFacts
 pub mod WaitingFacts
 pub mod SlotFacts
-pub mod WrittenFacts

@@ -1,13 +1,12 @@
 -- What is kept while the steps of a ledger are gone through.
-use Rattle.std.specs.Prelude.{◌≡◌, ℕ, ◌+◌, ◌*◌, ◌≤◌, ◌^◌, List, [], ◌∷◌, Option, None, Some, length}
+use Rattle.std.specs.Prelude.{◌≡◌, ℕ, ◌*◌, ◌≤◌, ◌^◌, List, [], ◌∷◌, Option, None, Some, length}
 use Rattle.std.specs.Prelude.{nat_lt, reverse, if◌then◌else◌}
 use Rattle.std.specs.Int.RustNames.{unsigned_abs}
 use Rattle.std.specs.Str.{bytes_eq}
 use Rattle.bean_pad.specs.Held.{written}
 use Rattle.bean_pad.specs.Note.{IsBelow, is_on, noted_pads, padded, pads_in}
-use Rattle.bean_pad.specs.Sums.{AreSmall, number_at, padded_at, pads_at}
+use Rattle.bean_pad.specs.Sums.{AreSmall, Holds, number_at, padded_at, pads_at}
 use Rattle.bean_pad.specs.Trail.{AreNear, notes_in, trail_of}
-use Rattle.bean_pad.specs.Written.{IsWritten}
 use Rattle.bean_pad.specs.declared.padder.Padder.{Padder}
 use Rattle.bean_pad.specs.declared.step.Step.{Step}
 use Rattle.bean_pad.specs.declared.step.Step.TheVariants as step
@@ -35,7 +34,7 @@ unless_used (Some pad) before = if nat_lt pad before then None else Some pad
 
 -- it follows these steps, the latest of which stands first
 pub record Follows (past : List Step) (p : Padder) : Type 0 where
-  pub sums : IsWritten (written past) p.written
+  pub sums : Holds (written past) p.written
   pub paddings : (a c : List ℕ) → padded_at p.balanced a c ≡ padded past a c
   pub before : (a c : List ℕ) → pads_at p.balanced a c ≡ pads_before past a c
   pub numbers : (a : List ℕ) → number_at p.latest a ≡ latest_pad past a
@@ -50,14 +49,10 @@ steps_in p = p.steps
 
 -- so many steps, each of a number of a ledger, can't have made a sum greater
 pub record IsBounded (p : Padder) : Type 0 where
-  pub additions : p.written.sums.additions + length p.written.noted.items ≤ p.steps
-  pub sums : AreSmall p.written.sums
+  pub additions : p.written.additions ≤ p.steps
+  pub sums : AreSmall p.written
   pub paddings : (a c : List ℕ) → unsigned_abs (padded_at p.balanced a c) ≤ p.steps * 10 ^ 20
   pub numbers : (a : List ℕ) → IsBelow (length p.pads.items) (number_at p.latest a)
   pub notes : notes_in p.pads.items ≤ p.steps
   pub trail : AreNear p.trail.items
   pub passed : length p.trail.items ≤ p.steps
-
--- all that is written is handed up
-abbrev pub IsHandedUp : Padder → Type 0
-IsHandedUp p = p.written.noted.items ≡ []

@@ -7,6 +7,5 @@ pub mod Standing
 pub mod Padded
 pub mod Sums
 pub mod Trail
-pub mod Written
 pub mod Following
 pub mod Checking

@@ -44,13 +44,11 @@
 //!
 //! # Cost
 //!
-//! A posting is only noted. When the next balance comes, each that was noted takes a look-up for
-//! each component of its account's name, by the name up to there, as the two postings of a padding
-//! do in the end; a pad and a balance take a few besides. So a ledger without balances looks up
-//! nothing. `finish` goes over pads and balances alone. Memory is taken for each posting until the
-//! next balance, which uses it again, for each account with each of its currencies where there are
-//! balances, for each pad and for each balance. Sums are of 128 bits: each is at most `10^20` times
-//! the number of steps, which is below `2^40`.
+//! A posting takes a look-up for each component of its account's name, by the name up to there, and
+//! so do the two postings of a padding; a pad and a balance take a few. `finish` goes over pads and
+//! balances alone. Memory is taken for each account with each of its currencies, for each pad and
+//! for each balance. Sums are of 128 bits: each is at most `10^20` times the number of steps, which
+//! is below `2^40`.
 #![tactic(auto)]
 
 mod balanced;
@@ -62,7 +60,6 @@ mod slot;
 pub mod step;
 mod sums;
 mod tolerance;
-mod written;
 
 pub use note::{Note, NotedPad, Outcome};
 pub use padder::{Padded, Padder};

@@ -3,7 +3,7 @@ ghost use Rattle.std.specs.Prelude.{◌≡◌, ◌+◌, ◌*◌, ◌<◌, ◌≤
 ghost use Rattle.std.specs.Prelude as prelude;
 ghost use Rattle.std.specs.Int.RustNames.{unsigned_abs};
 ghost use Rattle.bean_pad.specs.Following as following;
-ghost use Rattle.bean_pad.specs.Following.{Follows, IsBounded, IsHandedUp, steps_in};
+ghost use Rattle.bean_pad.specs.Following.{Follows, IsBounded, steps_in};
 ghost use Rattle.bean_pad.specs.Held.{at_8, held, written};
 ghost use Rattle.bean_pad.specs.Note as spec;
 ghost use Rattle.bean_pad.specs.Note.{IsAmong, IsBelow};
@@ -17,8 +17,8 @@ use crate::balanced::{Balanced, Latest, Seen};
 use crate::check::{Check, Passed, add_failing, add_faults};
 use crate::note::{Note, NotedPad, Outcome, count_in, keep};
 use crate::step::{Balance, Pad, Posting, Step};
+use crate::sums::Sums;
 use crate::tolerance::{is_out, tolerance_of};
-use crate::written::Written;
 use bean_base::{Fault, List};
 use std::alloc::{AllocError, Global};
 
@@ -35,7 +35,7 @@ pub struct Padded<'a> {
 #[derive(Drop)]
 pub struct Padder<'a> {
     alloc: Global,
-    written: Written<'a>,
+    written: Sums<'a>,
     balanced: Balanced<'a>,
     latest: Latest<'a>,
     pads: Vec<NotedPad<'a>>,
@@ -89,7 +89,7 @@ impl<'a> Padder<'a> {
     {
         Padder {
             alloc,
-            written: Written::new(alloc),
+            written: Sums::new(alloc),
             balanced: Balanced::new(alloc),
             latest: Latest::new(alloc),
             pads: Vec::new(alloc),
@@ -107,7 +107,9 @@ impl<'a> Padder<'a> {
         ensures bounded { OnOk result (IsBounded self.new) }
         ensures steps { OnOk result (steps_in self.new ≡ steps_in self.old + 1) }
     {
-        self.written.note(posting)?;
+        let units = &posting.units;
+        self.written
+            .add(&posting.account, &units.currency, units.number.scaled(8))?;
         self.steps += 1;
         Ok(())
     }
@@ -143,7 +145,6 @@ impl<'a> Padder<'a> {
     /// A balance's number less what is written.
     fn short(&self, balance: &Balance<'_>) -> i128
         requires bounded { IsBounded self.now }
-        requires handed { IsHandedUp self.now }
         requires few { steps_in self.now < 2 ^ 40 }
         ensures is { (past : prelude.List Step) → Follows past self.now → result
             ≡ at_8 balance.now.number
@@ -157,7 +158,6 @@ impl<'a> Padder<'a> {
     /// A balance's number less what is written, and less what was padded on its account.
     fn difference(&self, balance: &Balance<'_>) -> i128
         requires bounded { IsBounded self.now }
-        requires handed { IsHandedUp self.now }
         requires few { steps_in self.now < 2 ^ 40 }
         ensures is { (past : prelude.List Step) → Follows past self.now → result
             ≡ spec.difference past balance.now }
@@ -170,7 +170,6 @@ impl<'a> Padder<'a> {
     /// What comes of a balance.
     fn noted(&self, balance: &Balance<'a>) -> Option<(usize, Note<'a>)>
         requires bounded { IsBounded self.now }
-        requires handed { IsHandedUp self.now }
         requires few { steps_in self.now < 2 ^ 40 }
         ensures is { (past : prelude.List Step) → Follows past self.now → result
             ≡ spec.noted past balance.now }
@@ -182,7 +181,6 @@ impl<'a> Padder<'a> {
     /// What is to be checked of a balance once all paddings stand.
     fn check(&self, balance: &Balance<'a>) -> Check<'a>
         requires bounded { IsBounded self.now }
-        requires handed { IsHandedUp self.now }
         requires few { steps_in self.now < 2 ^ 40 }
         ensures is { (past : prelude.List Step) → Follows past self.now → result
             ≡ check_of past balance.now }
@@ -198,37 +196,9 @@ impl<'a> Padder<'a> {
         }
     }
 
-    /// Hands up what is written, for a balance to look at.
-    fn hand_up(&mut self) -> Result<(), AllocError>
-        requires bounded { IsBounded self.old }
-        requires few { steps_in self.old < 2 ^ 40 }
-        ensures follows { OnOk result ((past : prelude.List Step) → Follows past self.old
-            → Follows past self.new) }
-        ensures bounded { OnOk result (IsBounded self.new) }
-        ensures handed { OnOk result (IsHandedUp self.new) }
-        ensures steps { OnOk result (steps_in self.new ≡ steps_in self.old) }
-    {
-        self.written.hand_up()?;
-        Ok(())
-    }
-
     /// The next step is a balance.
     pub fn balance(&mut self, balance: &Balance<'a>) -> Result<(), AllocError>
         requires bounded { IsBounded self.old }
-        requires few { steps_in self.old < 2 ^ 40 }
-        ensures follows { OnOk result ((past : prelude.List Step) → Follows past self.old
-            → Follows (step.Balance balance.now ∷ past) self.new) }
-        ensures bounded { OnOk result (IsBounded self.new) }
-        ensures steps { OnOk result (steps_in self.new ≡ steps_in self.old + 1) }
-    {
-        self.hand_up()?;
-        self.take_balance(balance)
-    }
-
-    /// The next step is a balance, where what is written is handed up.
-    fn take_balance(&mut self, balance: &Balance<'a>) -> Result<(), AllocError>
-        requires bounded { IsBounded self.old }
-        requires handed { IsHandedUp self.old }
         requires few { steps_in self.old < 2 ^ 40 }
         ensures follows { OnOk result ((past : prelude.List Step) → Follows past self.old
             → Follows (step.Balance balance.now ∷ past) self.new) }

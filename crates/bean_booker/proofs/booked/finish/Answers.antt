@@ -1,10 +1,14 @@
 use Rattle.std.proofs.Common.{◌++◌, ◌∙◌}
+use Rattle.bean_booker.specs.Booker.{unseen}
 use Rattle.bean_booker.specs.Method.{unknown_in}
+use Rattle.bean_booker.proofs.ShownFacts.{padded_by_seen}
 use Rattle.bean_booker.proofs.booked.finish.Goals as goal
 
 pub returns-clause-booked : goal.returns-clause-booked
 returns-clause-booked c = λ m past st is.
-    let padded = c.in_ok-padded.ensures st.steps is.follows in
+    let padded =
+    padded_by_seen (unseen c.args.booker) is.seen st.steps c.in_ok-padded.padded is.steps_are
+    (c.in_ok-padded.ensures is.seen is.follows) in
     let own = c.deref.ensures.value ∙ is.faults_are in
     let pads = c.as_slice.ensures ∙ padded.faults in
     let l = c.args.loaded.now in record {

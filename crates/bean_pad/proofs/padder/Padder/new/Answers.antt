@@ -6,9 +6,7 @@ use Rattle.bean_pad.proofs.padder.Padder.new.Goals as goal
 
 pub returns-clause-bounded : goal.returns-clause-bounded
 returns-clause-bounded c = record {
-  additions =
-      let none = c.new.ensures.additions in
-      let noted = ap length c.new.ensures.noted in omega (arith, none, noted);
+  additions = let none = c.new.ensures.additions in omega (arith, none);
   sums = c.new.ensures.small;
   paddings =
       λ a k. subst (λ n. unsigned_abs n ≤ 0) (sym (c.new-2.ensures.padded a k)) (omega arith);

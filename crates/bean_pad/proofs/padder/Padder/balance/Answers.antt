@@ -12,7 +12,7 @@ use Rattle.bean_pad.specs.Sums.{number_at, padded_at}
 use Rattle.bean_pad.specs.Trail.{AreNear, check_of, notes_in, trail_of}
 use Rattle.bean_pad.specs.declared.check.Passed.TheVariants as passed
 use Rattle.bean_pad.proofs.BoundFacts.{grown, near_push, notes_noted}
-use Rattle.bean_pad.proofs.padder.Padder.take_balance.Goals as goal
+use Rattle.bean_pad.proofs.padder.Padder.balance.Goals as goal
 
 -- what is kept under one account and currency, by a function that says what is kept under each
 chosen : (a b : Bool) (f : List ℕ → List ℕ → ℤ) (x y v w : List ℕ) (n sum old : ℤ)
