@@ -1,14 +1,14 @@
 -- What is held in slots, as they are written, taken out and put behind the others.
 use Rattle.std.proofs.Common.{◌≡◌, ◌-◌, ◌≤◌, ℕ, zero, suc, ℤ, pos, ◌+ℤ◌, Bool, true, false}
 use Rattle.std.proofs.Common.{cond, List, [], ◌∷◌, ◌++◌, length, drop, slice_get, position}
-use Rattle.std.proofs.Common.{Some, None, unwrap_or, refl, sym, ◌∙◌, ap, subst, arith}
+use Rattle.std.proofs.Common.{Option, Some, None, unwrap_or, refl, sym, ◌∙◌, ap, subst, arith}
 use Rattle.std.specs.List.{AllByRecursion, IsDistinct}
 use Rattle.std.specs.Map.{keys_of, values_of, lookup, remove_entry}
 use Rattle.std.specs.Ordering.{int_eq}
 use Rattle.std.specs.Cmp.{signed_Decides}
 use Rattle.std.proofs.lemmas.List.{append-nil}
 use Rattle.indexmap.specs.IndexMap.{insert_entry, set_value_at}
-use Rattle.indexmap.proofs.MapLemmas.{Found-position, insert_entry-first}
+use Rattle.indexmap.proofs.MapLemmas.{Found-position, index-first, insert_entry-first}
 use Rattle.bean_lots.specs.Inventory.{count_of, held_as, added, DiffersFrom, IsInventory}
 use Rattle.bean_lots.specs.Lot.{same_key}
 use Rattle.bean_lots.specs.Slots.{positions, AreHoles}
@@ -24,6 +24,13 @@ is_none x e = cc
 
 pub same_some : {A : Type 0} (x y : A) → Some x ≡ Some y → x ≡ y
 same_some x y e = ap (λ o. unwrap_or o x) e
+
+-- a key that stands first
+pub first_slot : (t : Key → Bool) (es : List (Key × ℤ)) (k : Key) (n : ℤ)
+    → slice_get es 0 ≡ Some (k, n) → t k ≡ true → position t (keys_of es) ≡ Some 0
+first_slot t [] k n at h = absurd (is_none (k, n) (sym at))
+first_slot t (e ∷ es) k n at h =
+    index-first t (e ∷ es) 0 (ap (λ (o : Option (Key × ℤ)). t (unwrap_or o e).0) at ∙ h)
 
 -- a key that stands nowhere
 none_there : (es : List (Key × ℤ)) (k : Key)

@@ -1,13 +1,15 @@
 -- How an inventory is kept: a slot for each key, and what is known of all slots.
 use Rattle.std.specs.Prelude.{◌≡◌, ◌≤ℤ◌, ◌+◌, ℕ, zero, suc, ℤ, pos, Bool, true, List, [], ◌∷◌}
-use Rattle.std.specs.Prelude.{◌++◌, if◌then◌else◌, not, Option, Some, None}
+use Rattle.std.specs.Prelude.{◌++◌, if◌then◌else◌, not, position, Option, Some, None}
 use Rattle.std.specs.List.{AllByRecursion}
+use Rattle.std.specs.Map.{keys_of}
 use Rattle.std.specs.Int.Signed.{lt_z}
 use Rattle.std.specs.Ordering.{int_eq}
 use Rattle.std.specs.Option.{is_some}
 use Rattle.bean_base.specs.Day.{number}
 use Rattle.bean_lots.specs.Days.{IsNotBefore}
 use Rattle.bean_lots.specs.Inventory.{held_as}
+use Rattle.bean_lots.specs.Lot.{same_key}
 use Rattle.bean_lots.specs.declared.lot.Key.{Key}
 use Rattle.bean_lots.specs.declared.lot.Lot.{Lot}
 use Rattle.bean_lots.specs.declared.lot.Position.{Position}
@@ -21,6 +23,10 @@ positions (e ∷ es) = held_as e.0 e.1 ++ positions es
 
 abbrev pub is_full : Key × ℤ → Bool
 is_full e = not (int_eq e.1 (pos 0))
+
+-- which slot is that of the key
+abbrev pub slot_of : Key → List (Key × ℤ) → Option ℕ
+slot_of k es = position (same_key k) (keys_of es)
 
 -- the first n slots are empty
 abbrev pub AreHoles : ℕ → List (Key × ℤ) → Type 0

@@ -4,16 +4,18 @@
 //! and all of these are swept out. So a lot that goes costs no more than one that comes.
 ghost use Rattle.std.specs.Prelude.{◌≡◌, ◌≢◌, ◌+ℤ◌, ◌+◌, ◌≤◌, All, OnOk, OnErr, Some, None, pos};
 ghost use Rattle.std.specs.Prelude.{map, [], ℤ};
-ghost use Rattle.std.specs.Prelude.{filter, not, position, true};
+ghost use Rattle.std.specs.Prelude.{◌<◌, IfNone, IfSome, IsTrue, filter, length, not, position};
+ghost use Rattle.std.specs.Prelude.{slice_get, true};
 ghost use Rattle.std.specs.Int.{w128};
 ghost use Rattle.std.specs.Int.RustNames.{FitsSigned};
-ghost use Rattle.std.specs.Map.{lookup, keys_of};
+ghost use Rattle.std.specs.List.{IsDistinct};
+ghost use Rattle.std.specs.Map.{lookup, keys_of, values_of};
 ghost use Rattle.std.specs.Ordering.{int_eq};
 ghost use Rattle.bean_lots.specs.Inventory.{IsInventory, MayBeNegated, added, count_of};
 ghost use Rattle.bean_lots.specs.Inventory.{negative_entry};
 ghost use Rattle.bean_lots.specs.Lot.{same_key};
 ghost use Rattle.bean_lots.specs.Part.{HasAllOf};
-ghost use Rattle.bean_lots.specs.Slots.{IsKept, is_full, long_at, positions, short_at};
+ghost use Rattle.bean_lots.specs.Slots.{IsKept, is_full, long_at, positions, short_at, slot_of};
 ghost use Rattle.bean_lots.specs.declared.lot.Key.{Key as KeyValue};
 
 use super::days::Days;
@@ -226,6 +228,32 @@ impl<'a> Slots<'a> {
         self.holes = self.holes.saturating_sub(1);
     }
 
+    /// Whether the first slot is that of a key.
+    fn is_first(&self, key: &Key<'_>) -> bool
+        ensures { IsTrue result → slot_of key.now self.now.counts.entries ≡ Some 0 }
+    {
+        match self.counts.get_index(0) {
+            Some((first, _)) => *key == *first,
+            None => false,
+        }
+    }
+
+    /// Which slot is that of a key, where there is one. What is held of one currency alone has one
+    /// slot, and its key isn't hashed.
+    fn slot_of(&self, key: &Key<'_>) -> Option<usize>
+        ensures slot { result ≡ slot_of key.now self.now.counts.entries }
+        ensures inside { IfSome result (λ slot. slot < length self.now.counts.entries) }
+        ensures value { IfSome result (λ slot. slice_get (values_of self.now.counts.entries) slot
+            ≡ lookup (same_key key.now) self.now.counts.entries) }
+        ensures none { IfNone result (lookup (same_key key.now) self.now.counts.entries ≡ None) }
+        ensures unique { IsDistinct same_key (keys_of self.now.counts.entries) }
+    {
+        if self.counts.len() > 0 && self.is_first(key) {
+            return Some(0);
+        }
+        self.counts.get_index_of(key)
+    }
+
     /// Adds to the count under a key.
     pub(crate) fn add(&mut self, key: Key<'a>, count: i128) -> Result<(), AllocError>
         requires kept { IsKept self.old }
@@ -236,7 +264,7 @@ impl<'a> Slots<'a> {
         ensures err { OnErr result
             (positions self.new.counts.entries ≡ positions self.old.counts.entries) }
     {
-        let Some(index) = self.counts.get_index_of(&key) else {
+        let Some(index) = self.slot_of(&key) else {
             self.sweep_where_due();
             return self.push(key, count);
         };
