@@ -1,8 +1,8 @@
 -- The names of booking methods.
 use Rattle.std.specs.Prelude.{ℕ, List, Option, Some, None, codes, if◌then◌else◌}
 use Rattle.std.specs.Str.{bytes_eq}
-use Rattle.bean_lots.specs.declared.reduction.Method as methods
-use Rattle.bean_lots.specs.declared.reduction.Method.TheVariants as method
+use Rattle.bean_reductions.specs.declared.reduction.Method as methods
+use Rattle.bean_reductions.specs.declared.reduction.Method.TheVariants as method
 
 abbrev pub method_named : List ℕ → Option methods.Method
 method_named name =

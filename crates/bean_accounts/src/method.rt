@@ -3,7 +3,7 @@ ghost use Rattle.std.specs.Prelude.{◌≡◌};
 ghost use Rattle.bean_accounts.specs.Method as spec;
 
 use bean_base::Text;
-use bean_lots::Method;
+use bean_reductions::Method;
 
 /// The booking method of a name, if there is one.
 pub fn method_named(name: &Text<'_>) -> Option<Method>

@@ -11,7 +11,7 @@ use Rattle.bean_heads.specs.declared.directive.Directive.{Directive}
 use Rattle.bean_heads.specs.declared.directive.DirectiveKind.{DirectiveKind}
 use Rattle.bean_heads.specs.declared.directive.DirectiveKind.TheVariants as kind
 use Rattle.bean_load.specs.declared.placed.Placed.{Placed}
-use Rattle.bean_lots.specs.declared.reduction.Method.{Method}
+use Rattle.bean_reductions.specs.declared.reduction.Method.{Method}
 use Rattle.bean_trial.proofs.LightFacts.{kept_light}
 use Rattle.bean_trial.specs.Tried.{Tries}
 use Rattle.bean_trial.specs.declared.line.Posted.{Posted}

@@ -4,7 +4,7 @@ use Rattle.bean_heads.specs.declared.directive.Directive.{Directive}
 use Rattle.bean_heads.specs.declared.directive.DirectiveKind.{DirectiveKind}
 use Rattle.bean_heads.specs.declared.directive.DirectiveKind.TheVariants as kind
 use Rattle.bean_load.specs.declared.placed.Placed.{Placed}
-use Rattle.bean_lots.specs.declared.reduction.Method.{Method}
+use Rattle.bean_reductions.specs.declared.reduction.Method.{Method}
 use Rattle.bean_trial.proofs.EachLine.{Comes, comes, behind}
 use Rattle.bean_trial.proofs.EachTrial.{each_trial}
 use Rattle.bean_booker.specs.Stand.{IsStepBy, LeadsTo, Stand, after_trial, setting_of, start}

@@ -5,7 +5,7 @@ use Rattle.bean_heads.specs.declared.directive.DirectiveKind.{DirectiveKind}
 use Rattle.bean_heads.specs.declared.directive.DirectiveKind.TheVariants as kind
 use Rattle.bean_load.specs.Loaded.{Loaded}
 use Rattle.bean_load.specs.declared.placed.Placed.{Placed}
-use Rattle.bean_lots.specs.declared.reduction.Method.{Method}
+use Rattle.bean_reductions.specs.declared.reduction.Method.{Method}
 use Rattle.bean_pad.specs.Note.{noted_pads}
 use Rattle.bean_trial.proofs.OneTrial.{one_trial}
 use Rattle.bean_booker.specs.Booked.{IsBooked, faults_of, method_in_ledger}

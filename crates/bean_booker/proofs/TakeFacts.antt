@@ -13,7 +13,7 @@ use Rattle.bean_heads.specs.declared.numbers.Balance as balances
 use Rattle.bean_heads.specs.declared.transaction.Transaction.{Transaction}
 use Rattle.bean_interp.specs.declared.scales.Scales.{Scales}
 use Rattle.bean_load.specs.declared.placed.Placed.{Placed}
-use Rattle.bean_lots.specs.declared.reduction.Method.{Method}
+use Rattle.bean_reductions.specs.declared.reduction.Method.{Method}
 use Rattle.bean_trial.specs.Lines.{IsSettled}
 use Rattle.bean_booker.specs.Booker.{IsStanding}
 use Rattle.bean_booker.specs.Stand.{IsStepBy, Stand, account_step, account_steps, place_of}

@@ -2,7 +2,7 @@
 use Rattle.std.specs.Prelude.{◌≡◌, ◌≤◌, ℕ, List, ◌++◌, length, reverse}
 use Rattle.bean_base.specs.declared.fault.Fault.{Fault}
 use Rattle.bean_load.specs.Loaded.{Loaded}
-use Rattle.bean_lots.specs.declared.reduction.Method as methods
+use Rattle.bean_reductions.specs.declared.reduction.Method as methods
 use Rattle.bean_pad.specs.Note.{noted_pads}
 use Rattle.bean_pad.specs.Padded.{faults_with}
 use Rattle.bean_booker.specs.Method.{method_of, otherwise, unknown_in}

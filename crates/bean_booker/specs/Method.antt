@@ -12,8 +12,8 @@ use Rattle.bean_heads.specs.declared.directive.DirectiveKind.{DirectiveKind}
 use Rattle.bean_heads.specs.declared.directive.DirectiveKind.TheVariants as kind
 use Rattle.bean_load.specs.declared.loaded.MethodLine.{MethodLine}
 use Rattle.bean_load.specs.declared.placed.Placed.{Placed}
-use Rattle.bean_lots.specs.declared.reduction.Method as methods
-use Rattle.bean_lots.specs.declared.reduction.Method.TheVariants.{Strict}
+use Rattle.bean_reductions.specs.declared.reduction.Method as methods
+use Rattle.bean_reductions.specs.declared.reduction.Method.TheVariants.{Strict}
 
 abbrev pub behind : methods.Method → MethodLine → methods.Method
 behind m l = unwrap_or (method_named l.method) m

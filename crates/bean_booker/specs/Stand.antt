@@ -19,7 +19,7 @@ use Rattle.bean_heads.specs.declared.numbers.Balance as balances
 use Rattle.bean_interp.specs.Balance.{is_balanced}
 use Rattle.bean_load.specs.declared.placed.Placed.{Placed}
 use Rattle.bean_lots.specs.Inventory.{has_lot}
-use Rattle.bean_lots.specs.declared.reduction.Method.{Method}
+use Rattle.bean_reductions.specs.declared.reduction.Method.{Method}
 use Rattle.bean_pad.specs.declared.step.Balance as balance_steps
 use Rattle.bean_pad.specs.declared.step.Pad as pad_steps
 use Rattle.bean_pad.specs.declared.step.Posting as pad_postings

@@ -7,7 +7,7 @@ ghost use Rattle.bean_booker.specs.Method.{unknown_in};
 ghost use Rattle.bean_booker.specs.Stand.{IsFull, LeadsTo, Stand};
 ghost use Rattle.bean_heads.specs.declared.directive.Directive as declared;
 ghost use Rattle.bean_load.specs.declared.placed.Placed as placed;
-ghost use Rattle.bean_lots.specs.declared.reduction.Method.{Method};
+ghost use Rattle.bean_reductions.specs.declared.reduction.Method.{Method};
 ghost use Rattle.bean_trial.specs.Methods.{method_in};
 
 use crate::booker::{BookFault, Booker};

@@ -10,7 +10,7 @@ ghost use Rattle.bean_trial.specs.Holdings.{additions_in};
 ghost use Rattle.bean_heads.specs.declared.directive.Directive.{Directive};
 ghost use Rattle.bean_interp.specs.Residual.{IsLight};
 ghost use Rattle.bean_load.specs.declared.placed.Placed as placed;
-ghost use Rattle.bean_lots.specs.declared.reduction.Method.{Method};
+ghost use Rattle.bean_reductions.specs.declared.reduction.Method.{Method};
 ghost use Rattle.bean_trial.specs.Methods.{method_in};
 ghost use Rattle.bean_trial.specs.Tried.{KnowsBalance, Tries, booked_legs};
 ghost use Rattle.bean_trial.specs.declared.line.Posted.{Posted};

@@ -6,7 +6,7 @@ ghost use Rattle.bean_booker.specs.declared.booked.Booked.{Booked};
 ghost use Rattle.bean_heads.specs.declared.directive.Directive.{Directive};
 ghost use Rattle.bean_load.specs.Loaded.{Loaded};
 ghost use Rattle.bean_load.specs.declared.placed.Placed.{Placed};
-ghost use Rattle.bean_lots.specs.declared.reduction.Method.{Method};
+ghost use Rattle.bean_reductions.specs.declared.reduction.Method.{Method};
 
 /// A loaded ledger is booked in one way.
 pub fn one_booking()

@@ -6,7 +6,7 @@ ghost use Rattle.bean_trial.specs.Methods.{method_in};
 use bean_accounts::method_named;
 use bean_base::{Apart, Fault, FaultKind, Text};
 use bean_load::{MethodLine, Placed};
-use bean_lots::Method;
+use bean_reductions::Method;
 use bean_parser::{Directive, DirectiveKind};
 use bean_trial::Methods;
 use std::alloc::{AllocError, Global};

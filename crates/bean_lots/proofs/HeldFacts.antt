@@ -7,8 +7,8 @@ use Rattle.std.specs.Int.Signed.{lt_z}
 use Rattle.std.specs.Option.{is_some}
 use Rattle.std.specs.Ordering.{int_eq}
 use Rattle.std.proofs.lemmas.Int.{ints}
-use Rattle.bean_lots.specs.After.{has_lot_against}
-use Rattle.bean_lots.specs.Candidate.{is_opposite}
+use Rattle.bean_lots.specs.Inventory.{has_lot_against}
+use Rattle.bean_lots.specs.Inventory.{is_opposite}
 use Rattle.bean_lots.specs.Days.{IsNotBefore, RiseInDays}
 use Rattle.bean_lots.specs.Slots.{AreInOrder, as_long, as_short, in_all, long_at, positions}
 use Rattle.bean_lots.specs.Slots.{short_at}

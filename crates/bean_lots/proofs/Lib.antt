@@ -7,14 +7,6 @@ pub mod SweepFacts
 pub mod KeptFacts
 pub mod InventoryFacts
 pub mod NegativeFacts
-pub mod FillingFacts
-pub mod InTurn
-pub mod TakeFacts
-pub mod ReductionFacts
-pub mod CandidateFacts
-pub mod AfterFacts
-pub mod TurnedFacts
-pub mod FrontFacts
 pub mod PartFacts
 pub mod HeldFacts
-mod Examples
+pub mod Examples

@@ -1,8 +1,10 @@
 -- An inventory as the list of its positions, in order of entry.
-use Rattle.std.specs.Prelude.{◌≡◌, ◌^◌, ◌<◌, ◌&&◌, ℕ, Bool, false, List, [], ◌∷◌, ◌++◌, ℤ, pos}
+use Rattle.std.specs.Prelude.{◌≡◌, ◌^◌, ◌<◌, ◌&&◌, ◌||◌, ℕ, Bool, false, List, [], ◌∷◌, ◌++◌, ℤ}
+use Rattle.std.specs.Prelude.{pos}
 use Rattle.std.specs.Prelude.{neg_ℤ, ◌+ℤ◌}
 use Rattle.std.specs.Prelude.{if◌then◌else◌}
 use Rattle.std.specs.Int.RustNames.{unsigned_abs}
+use Rattle.std.specs.Int.Signed.{lt_z}
 use Rattle.std.specs.Ordering.{int_eq}
 use Rattle.std.specs.List.{AllByRecursion, list_any}
 use Rattle.std.specs.Option.{is_some}
@@ -35,6 +37,14 @@ is_lot_of currency e = same_text e.key.currency currency && is_some e.key.lot
 -- some lot of the currency is held
 abbrev pub has_lot : List ℕ → List Position → Bool
 has_lot currency es = list_any (is_lot_of currency) es
+
+-- a count has the sign opposite to the want
+abbrev pub is_opposite : ℤ → ℤ → Bool
+is_opposite want n = (lt_z want (pos 0) && lt_z (pos 0) n) || (lt_z (pos 0) want && lt_z n (pos 0))
+
+-- some lot, of whatever currency, has the sign opposite to the want
+abbrev pub has_lot_against : ℤ → List Position → Bool
+has_lot_against want es = list_any (λ e. is_some e.key.lot && is_opposite want e.count) es
 
 -- the entry of the other sign
 abbrev pub negative_entry : Position → Position

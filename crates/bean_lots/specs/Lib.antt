@@ -2,10 +2,4 @@ pub mod Lot
 pub mod Inventory
 pub mod Days
 pub mod Slots
-pub mod Candidate
 pub mod Part
-pub mod Take
-pub mod Filling
-pub mod Reduction
-pub mod After
-pub mod Front

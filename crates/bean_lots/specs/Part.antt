@@ -6,7 +6,7 @@ use Rattle.std.specs.List.{AllByRecursion}
 use Rattle.std.specs.Ordering.{int_cmp}
 use Rattle.bean_base.specs.Day.{number}
 use Rattle.bean_base.specs.declared.days.Day.{Day}
-use Rattle.bean_lots.specs.Candidate.{has_day}
+use Rattle.bean_lots.specs.Days.{has_day}
 use Rattle.bean_lots.specs.Slots.{AreInOrder}
 use Rattle.bean_lots.specs.declared.lot.Key.{Key}
 use Rattle.bean_lots.specs.declared.lot.Lot.{Lot}

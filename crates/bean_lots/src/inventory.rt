@@ -5,7 +5,7 @@ ghost use Rattle.std.specs.Prelude.{false, if◌then◌else◌};
 ghost use Rattle.std.specs.Int.{w128};
 ghost use Rattle.std.specs.Int.RustNames.{FitsSigned};
 ghost use Rattle.bean_lots.specs.Days.{RiseInDays};
-ghost use Rattle.bean_lots.specs.After.{has_lot_against};
+ghost use Rattle.bean_lots.specs.Inventory.{has_lot_against};
 ghost use Rattle.bean_lots.specs.Inventory.{count_of, added, negative_entry, MayBeNegated};
 ghost use Rattle.bean_lots.specs.Inventory.{IsInventory, has_lot, is_lot_of, position_of};
 ghost use Rattle.bean_lots.specs.Lot.{same_key};
@@ -57,7 +57,7 @@ impl Clone for Inventory<'_> {
 }
 
 /// Whether a key is that of a lot of a currency.
-pub(crate) fn is_lot_of(key: &Key<'_>, currency: &Currency<'_>) -> bool
+pub fn is_lot_of(key: &Key<'_>, currency: &Currency<'_>) -> bool
     ensures { (n : ℤ) → result ≡ is_lot_of currency.now (position_of key.now n) }
 {
     key.currency == *currency && key.lot.is_some()
@@ -120,7 +120,7 @@ impl<'a> Inventory<'a> {
 
     /// The positions about a day, in order of entry: all lots of that day, and few others where
     /// lots are known to stand in the order of their days. Where no day is given, all positions.
-    pub(crate) fn positions_about(&self, day: Option<Day>) -> Positions<'_, 'a>
+    pub fn positions_about(&self, day: Option<Day>) -> Positions<'_, 'a>
         ensures { HasAllOf day result self.now }
     {
         match day {
@@ -130,7 +130,7 @@ impl<'a> Inventory<'a> {
     }
 
     /// Whether nothing is held. Where it says no, something may have been.
-    pub(crate) fn is_bare(&self) -> bool
+    pub fn is_bare(&self) -> bool
         ensures bare { IsTrue result → self.now ≡ [] }
         ensures inventory { IsInventory self.now }
     {
@@ -138,14 +138,14 @@ impl<'a> Inventory<'a> {
     }
 
     /// Whether lots are known to stand in the order of their days.
-    pub(crate) fn rises_in_days(&self) -> bool
+    pub fn rises_in_days(&self) -> bool
         ensures { IsTrue result → RiseInDays self.now }
     {
         self.slots.days.in_order
     }
 
     /// Whether some lot may have the sign opposite to the want. Where it says no, none has.
-    pub(crate) fn may_have_lot_against(&self, want: i128) -> bool
+    pub fn may_have_lot_against(&self, want: i128) -> bool
         ensures { result ≡ false → has_lot_against want self.now ≡ false }
     {
         let signs = self.slots.signs;

@@ -10,7 +10,7 @@ use Rattle.bean_heads.specs.declared.directive.Directive.{Directive}
 use Rattle.bean_heads.specs.declared.directive.DirectiveKind.{DirectiveKind}
 use Rattle.bean_heads.specs.declared.directive.DirectiveKind.TheVariants as kind
 use Rattle.bean_load.specs.declared.placed.Placed.{Placed}
-use Rattle.bean_lots.specs.declared.reduction.Method.{Method}
+use Rattle.bean_reductions.specs.declared.reduction.Method.{Method}
 use Rattle.bean_pad.specs.Note.{difference, note_of, noted, noted_at, noted_of, noted_pads, waiting}
 use Rattle.bean_pad.specs.Note.{with_noted}
 use Rattle.bean_pad.specs.Tolerance.{is_out, tolerance_of}

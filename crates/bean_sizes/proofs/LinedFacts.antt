@@ -10,10 +10,10 @@ use Rattle.bean_postings.specs.declared.posting.Posting.{Posting}
 use Rattle.bean_postings.specs.declared.posting.Units as units_declared
 use Rattle.bean_postings.specs.declared.posting.Units.TheVariants.{Missing, Currency, Amount}
 use Rattle.bean_postings.specs.declared.posting.Units.TheVariants.{NumberAlone}
-use Rattle.bean_lots.specs.Take.{signed_takes}
+use Rattle.bean_reductions.specs.Take.{signed_takes}
 use Rattle.bean_lots.specs.declared.lot.Lot.{Lot}
 use Rattle.bean_lots.specs.declared.lot.Position.{Position}
-use Rattle.bean_lots.specs.declared.reduction.Method.{Method}
+use Rattle.bean_reductions.specs.declared.reduction.Method.{Method}
 use Rattle.bean_trial.specs.Held.{at_8, left}
 use Rattle.bean_trial.specs.Lined.{AreLined, AreTakeLines, IsAugmented, IsLinedByCost}
 use Rattle.bean_trial.specs.Lined.{IsLinedByUnits, IsLotOf, IsReducedBy, IsTakeOf, Setting}

@@ -6,20 +6,21 @@ use Rattle.std.specs.Int.RustNames.{unsigned_abs}
 use Rattle.std.specs.List.{AllByRecursion}
 use Rattle.std.specs.Ordering.{int_eq}
 use Rattle.std.proofs.lemmas.Cmp.{back_total, int_cmp_total}
-use Rattle.bean_lots.specs.After.{after}
-use Rattle.bean_lots.specs.Candidate.{agrees, candidate_of, candidates, is_opposite}
+use Rattle.bean_reductions.specs.After.{after}
+use Rattle.bean_lots.specs.Inventory.{is_opposite}
+use Rattle.bean_reductions.specs.Candidate.{agrees, candidate_of, candidates}
 use Rattle.bean_lots.specs.Inventory.{added, count_of, held_as}
 use Rattle.bean_lots.specs.Lot.{same_key, same_text}
-use Rattle.bean_lots.specs.Reduction.{IsReduction}
-use Rattle.bean_lots.specs.Take.{day_of, order_of, signed_take, signed_takes}
+use Rattle.bean_reductions.specs.Reduction.{IsReduction}
+use Rattle.bean_reductions.specs.Take.{day_of, order_of, signed_take, signed_takes}
 use Rattle.bean_lots.specs.declared.lot.Key.{Key}
 use Rattle.bean_lots.specs.declared.lot.Lot.{Lot}
 use Rattle.bean_lots.specs.declared.lot.Position.{Position}
-use Rattle.bean_lots.specs.declared.reduction.Method.{Method}
-use Rattle.bean_lots.specs.declared.reduction.Method.TheVariants as method
-use Rattle.bean_lots.specs.declared.reduction.Selector.{Selector}
-use Rattle.bean_lots.proofs.InTurn.{TakesInTurn}
-use Rattle.bean_lots.proofs.TakeFacts.{to_takes}
+use Rattle.bean_reductions.specs.declared.reduction.Method.{Method}
+use Rattle.bean_reductions.specs.declared.reduction.Method.TheVariants as method
+use Rattle.bean_reductions.specs.declared.reduction.Selector.{Selector}
+use Rattle.bean_reductions.proofs.InTurn.{TakesInTurn}
+use Rattle.bean_reductions.proofs.TakeFacts.{to_takes}
 use Rattle.bean_trial.specs.Held.{at_8, held, is_on, key_of, left, takes_in}
 use Rattle.bean_trial.specs.declared.line.Line.{Line}
 use Rattle.bean_trial.specs.declared.line.Posted.{Posted}

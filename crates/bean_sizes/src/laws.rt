@@ -4,7 +4,7 @@ ghost use Rattle.std.specs.List.{AllByRecursion};
 ghost use Rattle.bean_booker.specs.Stand.{LeadsTo, Stand};
 ghost use Rattle.bean_heads.specs.declared.directive.Directive.{Directive};
 ghost use Rattle.bean_load.specs.declared.placed.Placed.{Placed};
-ghost use Rattle.bean_lots.specs.declared.reduction.Method.{Method};
+ghost use Rattle.bean_reductions.specs.declared.reduction.Method.{Method};
 ghost use Rattle.bean_pad.specs.Note.{noted_pads};
 ghost use Rattle.bean_sizes.specs.Booked.{IsSmallNoted, IsSmallPosted};
 ghost use Rattle.bean_load.specs.Small.{IsSmall};

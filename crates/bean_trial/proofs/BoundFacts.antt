@@ -11,7 +11,7 @@ use Rattle.bean_lots.specs.Inventory.{added, held_as}
 use Rattle.bean_lots.specs.Lot.{same_key}
 use Rattle.bean_lots.specs.declared.lot.Key.{Key}
 use Rattle.bean_lots.specs.declared.lot.Position.{Position}
-use Rattle.bean_lots.specs.After.{AreSmall}
+use Rattle.bean_reductions.specs.After.{AreSmall}
 use Rattle.bean_trial.specs.Holdings.{IsBounded, holding}
 use Rattle.bean_trial.specs.declared.holdings.Holdings.{Holdings}
 

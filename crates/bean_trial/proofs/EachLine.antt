@@ -12,15 +12,15 @@ use Rattle.bean_base.specs.declared.amounts.Amount as amounts
 use Rattle.bean_base.specs.declared.fault.FaultKind.{FaultKind}
 use Rattle.bean_base.specs.declared.fault.FaultKind.TheVariants as kind
 use Rattle.bean_base.specs.declared.num.Num.{Num}
-use Rattle.bean_lots.specs.Candidate.{candidates}
-use Rattle.bean_lots.specs.Reduction.{IsReduction}
-use Rattle.bean_lots.specs.Take.{AreTakes, signed_take, signed_takes, units_of, with_sign}
+use Rattle.bean_reductions.specs.Candidate.{candidates}
+use Rattle.bean_reductions.specs.Reduction.{IsReduction}
+use Rattle.bean_reductions.specs.Take.{AreTakes, signed_take, signed_takes, units_of, with_sign}
 use Rattle.bean_lots.specs.declared.lot.Cost.{Cost}
 use Rattle.bean_lots.specs.declared.lot.Lot.{Lot}
 use Rattle.bean_lots.specs.declared.lot.Position.{Position}
-use Rattle.bean_lots.specs.declared.reduction.Method.{Method}
-use Rattle.bean_lots.specs.declared.reduction.Method.TheVariants as method
-use Rattle.bean_lots.specs.declared.reduction.Selector.{Selector}
+use Rattle.bean_reductions.specs.declared.reduction.Method.{Method}
+use Rattle.bean_reductions.specs.declared.reduction.Method.TheVariants as method
+use Rattle.bean_reductions.specs.declared.reduction.Selector.{Selector}
 use Rattle.bean_postings.specs.Posting.{has_number, is_left_out, is_number_alone}
 use Rattle.bean_postings.specs.Posting.{is_outside_profile}
 use Rattle.bean_postings.specs.Posting.{is_written}

@@ -10,7 +10,7 @@ use Rattle.bean_interp.specs.declared.fill.Fill.{Fill}
 use Rattle.bean_lots.specs.declared.lot.Cost.{Cost}
 use Rattle.bean_lots.specs.declared.lot.Lot.{Lot}
 use Rattle.bean_lots.specs.declared.lot.Position.{Position}
-use Rattle.bean_lots.specs.declared.reduction.Method.TheVariants as method
+use Rattle.bean_reductions.specs.declared.reduction.Method.TheVariants as method
 use Rattle.bean_trial.specs.Held.{held, left}
 use Rattle.bean_trial.specs.Lined.{is_reduction}
 use Rattle.bean_trial.specs.Tried.{completed}

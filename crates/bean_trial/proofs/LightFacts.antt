@@ -29,10 +29,10 @@ use Rattle.bean_interp.specs.Weight.{currency_of, weight_of}
 use Rattle.bean_interp.specs.declared.fill.Fill.{Fill}
 use Rattle.bean_interp.specs.declared.leg.Leg.{Leg}
 use Rattle.bean_interp.specs.declared.leg.Leg.TheVariants as leg
-use Rattle.bean_lots.specs.Take.{signed_takes}
+use Rattle.bean_reductions.specs.Take.{signed_takes}
 use Rattle.bean_lots.specs.declared.lot.Lot.{Lot}
 use Rattle.bean_lots.specs.declared.lot.Position.{Position}
-use Rattle.bean_lots.specs.declared.reduction.Method.{Method}
+use Rattle.bean_reductions.specs.declared.reduction.Method.{Method}
 use Rattle.bean_trial.specs.Held.{at_8, left}
 use Rattle.bean_trial.specs.Lined.{AreLined, AreTakeLines, IsAugmented, IsLinedByCost}
 use Rattle.bean_trial.specs.Lined.{IsLinedByUnits}

@@ -9,9 +9,9 @@ use Rattle.std.proofs.Math.Seq.{take-suc, drop-cons}
 use Rattle.std.proofs.lemmas.List.{length-reverse, length-take-le, reverse-append}
 use Rattle.std.proofs.lemmas.List.{take-append-drop}
 use Rattle.bean_postings.specs.declared.posting.Posting.{Posting}
-use Rattle.bean_lots.specs.After.{after}
+use Rattle.bean_reductions.specs.After.{after}
 use Rattle.bean_lots.specs.declared.lot.Position.{Position}
-use Rattle.bean_lots.specs.declared.reduction.Method.{Method}
+use Rattle.bean_reductions.specs.declared.reduction.Method.{Method}
 use Rattle.bean_trial.specs.Held.{held, left}
 use Rattle.bean_trial.specs.Holdings.{holding}
 use Rattle.bean_trial.specs.Lined.{AreLined, IsFirstFault, IsLinedByUnits, IsNext, Setting}

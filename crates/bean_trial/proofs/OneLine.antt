@@ -14,14 +14,14 @@ use Rattle.bean_postings.specs.declared.posting.Units as units_declared
 use Rattle.bean_postings.specs.declared.posting.Units.TheVariants.{Missing, Currency, Amount}
 use Rattle.bean_postings.specs.declared.posting.Units.TheVariants.{NumberAlone}
 use Rattle.bean_lots.proofs.LotFacts.{one_cost}
-use Rattle.bean_lots.proofs.ReductionFacts.{one}
-use Rattle.bean_lots.specs.Candidate.{candidates}
-use Rattle.bean_lots.specs.Take.{signed_takes}
+use Rattle.bean_reductions.proofs.ReductionFacts.{one}
+use Rattle.bean_reductions.specs.Candidate.{candidates}
+use Rattle.bean_reductions.specs.Take.{signed_takes}
 use Rattle.bean_lots.specs.declared.lot.Cost.{Cost}
 use Rattle.bean_lots.specs.declared.lot.Lot.{Lot}
 use Rattle.bean_lots.specs.declared.lot.Position.{Position}
-use Rattle.bean_lots.specs.declared.reduction.Method.{Method}
-use Rattle.bean_lots.specs.declared.reduction.Selector.{Selector}
+use Rattle.bean_reductions.specs.declared.reduction.Method.{Method}
+use Rattle.bean_reductions.specs.declared.reduction.Selector.{Selector}
 use Rattle.bean_trial.specs.Held.{at_8}
 use Rattle.bean_trial.specs.Lined.{AreTakeLines, IsAugmented, IsCostIn, IsInBraces, IsLinedByCost}
 use Rattle.bean_trial.specs.Lined.{IsLinedByUnits, IsLotOf, IsReduced, IsReducedBy, IsSelector}

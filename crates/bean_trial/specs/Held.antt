@@ -3,7 +3,7 @@ use Rattle.std.specs.Prelude.{ℕ, ℤ, Bool, List, [], ◌∷◌, fold, filter}
 use Rattle.std.specs.Str.{bytes_eq}
 use Rattle.bean_base.specs.Decimal.{scaled}
 use Rattle.bean_base.specs.declared.num.Num.{Num}
-use Rattle.bean_lots.specs.After.{after}
+use Rattle.bean_reductions.specs.After.{after}
 use Rattle.bean_lots.specs.Inventory.{added}
 use Rattle.bean_lots.specs.declared.lot.Key.{Key}
 use Rattle.bean_lots.specs.declared.lot.Position.{Position}

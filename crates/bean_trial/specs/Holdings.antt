@@ -2,7 +2,7 @@
 use Rattle.std.specs.Prelude.{◌≡◌, ℕ, ◌*◌, ◌^◌, List, [], unwrap_or}
 use Rattle.std.specs.Str.{bytes_eq}
 use Rattle.indexmap.specs.IndexMap.{get}
-use Rattle.bean_lots.specs.After.{AreSmall}
+use Rattle.bean_reductions.specs.After.{AreSmall}
 use Rattle.bean_lots.specs.declared.lot.Position.{Position}
 use Rattle.bean_trial.specs.Held.{held}
 use Rattle.bean_trial.specs.declared.holdings.Holdings.{Holdings}

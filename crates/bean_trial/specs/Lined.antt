@@ -14,16 +14,16 @@ use Rattle.bean_postings.specs.declared.posting.Posting as postings
 use Rattle.bean_postings.specs.declared.posting.Units as units_declared
 use Rattle.bean_postings.specs.declared.posting.Units.TheVariants.{Missing, Currency, Amount}
 use Rattle.bean_postings.specs.declared.posting.Units.TheVariants.{NumberAlone}
-use Rattle.bean_lots.specs.After.{has_opposite}
-use Rattle.bean_lots.specs.Candidate.{candidates}
-use Rattle.bean_lots.specs.Reduction.{IsReduction, HasNoReduction}
-use Rattle.bean_lots.specs.Take.{signed_takes}
+use Rattle.bean_reductions.specs.After.{has_opposite}
+use Rattle.bean_reductions.specs.Candidate.{candidates}
+use Rattle.bean_reductions.specs.Reduction.{IsReduction, HasNoReduction}
+use Rattle.bean_reductions.specs.Take.{signed_takes}
 use Rattle.bean_lots.specs.declared.lot.Cost.{Cost}
 use Rattle.bean_lots.specs.declared.lot.Lot.{Lot}
 use Rattle.bean_lots.specs.declared.lot.Position.{Position}
-use Rattle.bean_lots.specs.declared.reduction.Method.{Method}
-use Rattle.bean_lots.specs.declared.reduction.Method.TheVariants as method
-use Rattle.bean_lots.specs.declared.reduction.Selector.{Selector}
+use Rattle.bean_reductions.specs.declared.reduction.Method.{Method}
+use Rattle.bean_reductions.specs.declared.reduction.Method.TheVariants as method
+use Rattle.bean_reductions.specs.declared.reduction.Selector.{Selector}
 use Rattle.bean_trial.specs.Held.{at_8, left}
 use Rattle.bean_trial.specs.declared.line.Line.{Line}
 use Rattle.bean_trial.specs.declared.line.Line.TheVariants as line

@@ -2,7 +2,7 @@
 use Rattle.std.specs.Prelude.{ℕ, List, unwrap_or}
 use Rattle.std.specs.Str.{bytes_eq}
 use Rattle.indexmap.specs.IndexMap.{get}
-use Rattle.bean_lots.specs.declared.reduction.Method.{Method}
+use Rattle.bean_reductions.specs.declared.reduction.Method.{Method}
 use Rattle.bean_trial.specs.declared.methods.Methods.{Methods}
 
 abbrev pub method_in : Methods → List ℕ → Method

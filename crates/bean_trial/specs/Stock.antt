@@ -1,6 +1,6 @@
 -- What is left in an account.
 use Rattle.std.specs.Prelude.{◌^◌, List}
-use Rattle.bean_lots.specs.After.{AreSmall, after}
+use Rattle.bean_reductions.specs.After.{AreSmall, after}
 use Rattle.bean_lots.specs.declared.lot.Position.{Position}
 use Rattle.bean_trial.specs.declared.stock.Stock.{Stock}
 

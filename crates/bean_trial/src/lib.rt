@@ -27,7 +27,7 @@
 //! account has the opposite sign, unless the account's method is `None`. What is left is what the
 //! account held before the transaction, less what the transaction's own earlier postings took; its
 //! own additions don't count. A reduction becomes one posting for each lot that it takes, as
-//! [`bean_lots::reduce`] says.
+//! [`bean_reductions::reduce`] says.
 //!
 //! All other units in braces are added as a lot, of the cost in the braces, of their day or else
 //! the transaction's, and of their label. Units without braces are held as they are.
@@ -41,7 +41,7 @@
 //! The first of these, in this order; `F13` to `F16` at the posting, the others at the transaction:
 //!
 //! - `F12`, where the form of a posting is outside the profile,
-//! - posting by posting: of a reduction `F13`, `F14` or `F15`, as [`bean_lots::reduce`] answers
+//! - posting by posting: of a reduction `F13`, `F14` or `F15`, as [`bean_reductions::reduce`] answers
 //!   them; of an addition `F12`, where its braces have no cost, and `F16`, where that is below 0,
 //! - `F11`, where too much is lacking to be filled in,
 //! - `F17`, where a weight, a sum of weights or what is filled in is too wide.

@@ -4,7 +4,7 @@ ghost use Rattle.std.specs.Str.{bytes_eq};
 ghost use Rattle.bean_trial.specs.Methods.{method_in};
 
 use bean_base::Account;
-use bean_lots::Method;
+use bean_reductions::Method;
 use indexmap::IndexMap;
 use std::alloc::{AllocError, Global};
 

@@ -1,8 +1,8 @@
 //! What comes of a posting.
 ghost use Rattle.std.specs.Prelude.{◌≡◌, ◌≢◌, ◌∷◌, [], false, ℕ, List, Err, IfOk, map};
 ghost use Rattle.bean_postings.specs.Posting.{is_outside_profile};
-ghost use Rattle.bean_lots.specs.Reduction.{Reduces};
-ghost use Rattle.bean_lots.specs.Take.{take_counts};
+ghost use Rattle.bean_reductions.specs.Reduction.{Reduces};
+ghost use Rattle.bean_reductions.specs.Take.{take_counts};
 ghost use Rattle.bean_lots.specs.declared.lot.Lot.{Lot};
 ghost use Rattle.bean_trial.specs.Held.{at_8};
 ghost use Rattle.bean_trial.specs.Lined as spec;
@@ -17,8 +17,9 @@ use crate::setting::Head;
 use crate::stock::Stock;
 use crate::stop::{LineFault, Stop};
 use bean_base::{Account, Amount, Apart, Currency, FaultKind, Num, Text};
-use bean_lots::{Lot, LotFault, Method, Selector, has_opposite, reduce_after};
+use bean_lots::Lot;
 use bean_postings::{Cost, LotParts, Posting, Units};
+use bean_reductions::{LotFault, Method, Selector, has_opposite, reduce_after};
 use std::alloc::{AllocError, Global};
 
 /// What comes of a posting.

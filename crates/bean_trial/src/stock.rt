@@ -1,7 +1,8 @@
 //! What a posting meets in its account.
 ghost use Rattle.std.specs.Prelude.{◌≡◌};
 
-use bean_lots::{Inventory, Method};
+use bean_lots::Inventory;
+use bean_reductions::Method;
 
 /// An account as a posting meets it: what it held before the transaction, what the transaction took
 /// of that so far, and how the account chooses among its lots.

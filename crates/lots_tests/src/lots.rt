@@ -1,7 +1,8 @@
 //! Reductions by each method.
 
 use bean_base::{Num, parse_currency, parse_day};
-use bean_lots::{Cost, Inventory, Key, Lot, Method, Selector, reduce};
+use bean_lots::{Cost, Inventory, Key, Lot};
+use bean_reductions::{Method, Selector, reduce};
 use std::alloc::Global;
 use std::test::Fail;
 

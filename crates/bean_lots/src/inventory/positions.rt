@@ -63,7 +63,7 @@ impl<'s, 'a> Positions<'s, 'a> {
     }
 
     /// The key and the count of the next position, or none where there are no more.
-    pub(crate) fn next_held(&mut self) -> Option<(&'s Key<'a>, i128)>
+    pub fn next_held(&mut self) -> Option<(&'s Key<'a>, i128)>
         ensures some { IfSome result (λ e. self.old ≡ position_of e.0.now e.1 ∷ self.new) }
         ensures none { IfNone result (self.old ≡ []) }
     {

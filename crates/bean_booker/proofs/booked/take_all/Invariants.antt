@@ -1,5 +1,5 @@
 use Rattle.std.proofs.Common.{◌≡◌, ℕ, List, reverse, take}
-use Rattle.bean_lots.specs.declared.reduction.Method.{Method}
+use Rattle.bean_reductions.specs.declared.reduction.Method.{Method}
 use Rattle.bean_trial.specs.Methods.{method_in}
 use Rattle.bean_booker.specs.Booker.{HasRoom, IsStanding}
 use Rattle.bean_booker.specs.Stand.{LeadsTo, Stand}

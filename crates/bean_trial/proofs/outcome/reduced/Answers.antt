@@ -1,5 +1,5 @@
 use Rattle.std.proofs.Common.{subst}
-use Rattle.bean_lots.specs.Candidate.{candidates}
+use Rattle.bean_reductions.specs.Candidate.{candidates}
 use Rattle.bean_trial.specs.Held.{at_8}
 use Rattle.bean_trial.specs.Lined.{IsReduced, IsReducedBy}
 use Rattle.bean_trial.specs.Outcome.{StopsWith}

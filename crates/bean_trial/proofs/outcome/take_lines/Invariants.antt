@@ -1,5 +1,5 @@
 use Rattle.std.proofs.Common.{map, take}
-use Rattle.bean_lots.specs.Take.{take_counts}
+use Rattle.bean_reductions.specs.Take.{take_counts}
 use Rattle.bean_trial.specs.Lined.{AreTakeLines}
 use Rattle.bean_trial.proofs.outcome.take_lines.Given as goal
 

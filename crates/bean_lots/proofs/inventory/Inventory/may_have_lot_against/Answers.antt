@@ -1,7 +1,7 @@
 use Rattle.std.proofs.Common.{◌≡◌, ℕ, false, nat_lt, sym, subst, ◌∙◌, arith}
 use Rattle.std.proofs.lemmas.Bool.Decides.{nat_tests}
 use Rattle.std.proofs.lemmas.Int.{ints}
-use Rattle.bean_lots.specs.After.{has_lot_against}
+use Rattle.bean_lots.specs.Inventory.{has_lot_against}
 use Rattle.bean_lots.proofs.HeldFacts.{none_long, none_short}
 use Rattle.bean_lots.proofs.inventory.Inventory.may_have_lot_against.Goals as goal
 use Rattle.bean_lots.proofs.inventory.Inventory.may_have_lot_against.Goals.{then-want-lt0}

@@ -3,7 +3,7 @@ use Rattle.std.specs.Int.{w128}
 use Rattle.std.proofs.lemmas.Int.{ints}
 use Rattle.std.specs.Int.RustNames.{unsigned_abs}
 use Rattle.std.specs.Str.{bytes_eq}
-use Rattle.bean_lots.specs.After.{AreSmall}
+use Rattle.bean_reductions.specs.After.{AreSmall}
 use Rattle.bean_trial.specs.Holdings.{holding}
 use Rattle.bean_trial.proofs.BoundFacts.{either}
 use Rattle.bean_trial.proofs.holdings.Holdings.add.Goals as goal

@@ -7,7 +7,7 @@ use Rattle.std.proofs.lemmas.Int.{ints}
 use Rattle.indexmap.proofs.MapLemmas.{OnOk-map}
 use Rattle.bean_lots.specs.Inventory.{added, count_of}
 use Rattle.bean_trial.specs.Holdings.{holding}
-use Rattle.bean_lots.proofs.AfterFacts.{count_small}
+use Rattle.bean_reductions.proofs.AfterFacts.{count_small}
 use Rattle.bean_trial.proofs.BoundFacts.{added_at, sum_fits}
 use Rattle.bean_trial.proofs.InPlace.{nothing, put_or_before, written}
 use Rattle.bean_trial.proofs.holdings.Holdings.add_to.Goals as goal

@@ -1,0 +1,203 @@
+-- A front of the candidates that comes to the want is as good as all of them, where their days
+-- never go down.
+use Rattle.std.proofs.Common.{◌≡◌, ◌-◌, ◌<◌, ◌≤◌, ◌≤ℤ◌, inl, inr, ℕ, zero, suc, ℤ, Bool, true}
+use Rattle.std.proofs.Common.{false, cond, ◌&&◌, List, [], ◌∷◌, ◌++◌, length, sum_by, get_or}
+use Rattle.std.proofs.Common.{Option, Some}
+use Rattle.std.proofs.Common.{None, Result, Ok, Err, ◌+ℤ◌, refl, sym, ◌∙◌, ap, subst, arith}
+use Rattle.std.proofs.Common.{add-one}
+use Rattle.std.specs.List.{AllByRecursion}
+use Rattle.std.specs.Int.RustNames.{unsigned_abs}
+use Rattle.std.specs.Ordering.{int_cmp, is_lt}
+use Rattle.std.specs.declared.vec.Vec.{Vec}
+use Rattle.std.specs.declared.alloc.Global.{Global}
+use Rattle.std.proofs.lemmas.Int.{ints}
+use Rattle.std.proofs.lemmas.List.{append-nil}
+use Rattle.bean_base.specs.Day.{number}
+use Rattle.bean_base.specs.declared.num.Num.{Num}
+use Rattle.bean_reductions.specs.After.{after}
+use Rattle.bean_lots.specs.Inventory.{is_opposite}
+use Rattle.bean_reductions.specs.Candidate.{IsHeld, agrees, candidate_of, candidates}
+use Rattle.bean_lots.specs.Days.{IsNotBefore, RiseInDays}
+use Rattle.bean_reductions.specs.Filling.{filled}
+use Rattle.bean_reductions.specs.Front.{IsFront}
+use Rattle.bean_lots.specs.Inventory.{count_of}
+use Rattle.bean_lots.specs.Lot.{same_text}
+use Rattle.bean_reductions.specs.Reduction.{IsReduction, Reduces}
+use Rattle.bean_reductions.specs.Take.{IsQueue, day_of, units_of}
+use Rattle.bean_lots.specs.declared.lot.Lot.{Lot}
+use Rattle.bean_lots.specs.declared.lot.Position.{Position}
+use Rattle.bean_reductions.specs.declared.reduction.LotFault.{LotFault}
+use Rattle.bean_reductions.specs.declared.reduction.LotFault.TheVariants.{NoLotMatches, AmbiguousLots}
+use Rattle.bean_reductions.specs.declared.reduction.LotFault.TheVariants.{NotEnoughUnits, OutOfMemory}
+use Rattle.bean_reductions.specs.declared.reduction.Method.{Method}
+use Rattle.bean_reductions.specs.declared.reduction.Method.TheVariants.{Strict, Fifo}
+use Rattle.bean_reductions.specs.declared.reduction.Selector.{Selector}
+use Rattle.bean_reductions.proofs.AfterFacts.{front}
+use Rattle.bean_reductions.proofs.InTurn.{TakesInTurn}
+use Rattle.bean_reductions.proofs.ReductionFacts.{made, one_queue, none as none_at}
+use Rattle.bean_reductions.proofs.TakeFacts.{to_first, to_takes}
+
+-- of that day or a later one
+abbrev IsFrom : ℤ → Lot × ℕ → Type 0
+IsFrom day c = day ≤ℤ day_of c
+
+-- the days never go down
+abbrev pub AreByDay : List (Lot × ℕ) → Type 0
+AreByDay [] = Unit {0}
+AreByDay (c ∷ cs) = AllByRecursion (IsFrom (day_of c)) cs × AreByDay cs
+
+all_behind : (s : Selector) (want : ℤ) (l : Lot) (es taken : List Position)
+    → AllByRecursion {X = Position} (λ f. IsNotBefore (Some l) f.key.lot) es
+    → AllByRecursion (IsFrom (number l.day)) (candidates s want (after es taken))
+all_behind s want l [] taken a = tt
+all_behind s want l (e ∷ es) taken a =
+    subst (AllByRecursion (IsFrom (number l.day)))
+    (sym (front s want e.key (e.count +ℤ count_of taken e.key) (after es taken)))
+    (own e.key.currency e.key.lot (e.count +ℤ count_of taken e.key) a.0
+    (all_behind s want l es taken a.1))
+  where
+    own : (currency : List ℕ) (lot : Option Lot) (n : ℤ) → IsNotBefore (Some l) lot
+        → AllByRecursion (IsFrom (number l.day)) (candidates s want (after es taken))
+        → AllByRecursion (IsFrom (number l.day))
+        (candidate_of s want currency lot n ++ candidates s want (after es taken))
+    own currency None n b rest = rest
+    own currency (Some m) n b rest =
+        by (same_text currency s.currency && agrees s m && is_opposite want n)
+      where
+        by : (t : Bool)
+            → AllByRecursion (IsFrom (number l.day))
+            (cond t ((m, unsigned_abs n) ∷ []) [] ++ candidates s want (after es taken))
+        by true = (b, rest)
+        by false = rest
+
+-- where lots stand in the order of their days, candidates do
+pub by_day : (s : Selector) (want : ℤ) (es taken : List Position) → RiseInDays es
+    → AreByDay (candidates s want (after es taken))
+by_day s want [] taken a = tt
+by_day s want (e ∷ es) taken a =
+    subst AreByDay
+    (sym (front s want e.key (e.count +ℤ count_of taken e.key) (after es taken)))
+    (own e.key.currency e.key.lot (e.count +ℤ count_of taken e.key) a.0
+    (by_day s want es taken a.1))
+  where
+    own : (currency : List ℕ) (lot : Option Lot) (n : ℤ)
+        → AllByRecursion {X = Position} (λ f. IsNotBefore lot f.key.lot) es
+        → AreByDay (candidates s want (after es taken))
+        → AreByDay (candidate_of s want currency lot n ++ candidates s want (after es taken))
+    own currency None n b rest = rest
+    own currency (Some m) n b rest =
+        by (same_text currency s.currency && agrees s m && is_opposite want n)
+      where
+        by : (t : Bool)
+            → AreByDay (cond t ((m, unsigned_abs n) ∷ []) [] ++ candidates s want (after es taken))
+        by true = (all_behind s want m es taken b, rest)
+        by false = rest
+
+not_less : (a b : ℤ) → a ≤ℤ b → is_lt (int_cmp b a) ≡ false
+not_less a b h = grind (arith, ints)
+
+sorted : (cs : List (Lot × ℕ)) → AreByDay cs → (k : ℕ) (d : Lot × ℕ) → suc k < length cs
+    → is_lt (int_cmp (day_of (get_or cs (suc k) d)) (day_of (get_or cs k d))) ≡ false
+sorted [] a k d below = absurd (omega (arith, below))
+sorted (c ∷ []) a k d below = absurd (omega (arith, below))
+sorted (c ∷ e ∷ cs) a zero d below = not_less (day_of c) (day_of e) a.0.0
+sorted (c ∷ e ∷ cs) a (suc k) d below = sorted (e ∷ cs) a.1 k d (omega (arith, below))
+
+-- candidates by day are their own queue
+pub own_queue : (cs : List (Lot × ℕ)) → AreByDay cs → IsQueue Fifo cs cs
+own_queue cs a = record {
+  sorted = λ k d low below. rw add-one (sorted cs a k d (omega (arith, below)));
+  stable = λ x. refl;
+}
+
+front_by_day : (f r : List (Lot × ℕ)) → AreByDay (f ++ r) → AreByDay f
+front_by_day [] r a = tt
+front_by_day (c ∷ f) r a = (some f r a.0, front_by_day f r a.1)
+  where
+    some : (f r : List (Lot × ℕ)) → AllByRecursion (IsFrom (day_of c)) (f ++ r)
+        → AllByRecursion (IsFrom (day_of c)) f
+    some [] r a = tt
+    some (x ∷ f) r a = (a.0, some f r a.1)
+
+pub front_held : (f r : List (Lot × ℕ)) → AllByRecursion IsHeld (f ++ r) → AllByRecursion IsHeld f
+front_held [] r a = tt
+front_held (c ∷ f) r a = (a.0, front_held f r a.1)
+
+pub front_some : (f r : List (Lot × ℕ)) → 0 < length f → 0 < length (f ++ r)
+front_some [] r p = absurd (omega (arith, p))
+front_some (c ∷ f) r p = omega arith
+
+longer : (q r : List (Lot × ℕ)) (want : ℕ) (ts : List (Lot × ℕ)) → TakesInTurn q want ts
+    → TakesInTurn (q ++ r) want ts
+longer q r want [] h = h
+longer [] r want (t ∷ ts) h = absurd h
+longer (c ∷ q) r want (t ∷ ts) h = (h.0, h.1, h.2, h.3, h.4, longer q r (want - t.1) ts h.5)
+
+-- the reduction of a front is that of all
+reduction : (f r : List (Lot × ℕ)) (want : ℕ) (ts : List (Lot × ℕ)) → AreByDay (f ++ r)
+    → IsReduction Fifo f want ts → IsReduction Fifo (f ++ r) want ts
+reduction f r want ts a h = record {
+  queue = f ++ r;
+  arranged = own_queue (f ++ r) a;
+  taken =
+      to_first (f ++ r) want ts
+      (longer f r want ts
+      (subst (λ q. TakesInTurn q want ts)
+      (one_queue Fifo f h.queue f h.arranged (own_queue f (front_by_day f r a)))
+      (to_takes h.queue want ts h.taken)));
+  some = h.some;
+  strict = λ e. absurd (not_strict e);
+}
+  where
+    not_strict : Fifo ≡ Strict → ⊥
+    not_strict e = cc
+
+nothing : (f r : List (Lot × ℕ)) (want : ℕ) → length f ≡ 0 → want ≤ sum_by units_of f
+    → (0 < length (f ++ r) → 0 < want) → length (f ++ r) ≡ 0
+nothing [] [] want e le w = refl
+nothing [] (c ∷ r) want e le w = absurd (omega (arith, le, w (omega arith)))
+nothing (c ∷ f) r want e le w = absurd (omega (arith, e))
+
+enough : (f r : List (Lot × ℕ)) (want : ℤ) (a : Result (Vec (Lot × Num) Global) LotFault)
+    → AreByDay (f ++ r) → AllByRecursion IsHeld (f ++ r)
+    → (0 < length (f ++ r) → 0 < unsigned_abs want) → unsigned_abs want ≤ sum_by units_of f
+    → Reduces Fifo f want a → Reduces Fifo (f ++ r) want a
+enough f r want (Ok v) days held wanted le h =
+    (h.0, h.1, reduction f r (unsigned_abs want) h.0 days h.2)
+enough f r want (Err NoLotMatches) days held wanted le h =
+    let none = nothing f r (unsigned_abs want) h.0 le wanted in
+    (none, none_at Fifo (f ++ r) (unsigned_abs want) none)
+enough f r want (Err AmbiguousLots) days held wanted le h = absurd (not_strict h.0)
+  where
+    not_strict : Fifo ≡ Strict → ⊥
+    not_strict e = cc
+enough f r want (Err NotEnoughUnits) days held wanted le h =
+    let want_some = wanted (front_some f r h.0) in
+    absurd
+    (h.2 (filled f (unsigned_abs want))
+    (made Fifo f f (unsigned_abs want) want_some (own_queue f (front_by_day f r days))
+    (front_held f r held) (h.0, le, λ e. absurd (not_strict e))))
+  where
+    not_strict : Fifo ≡ Strict → ⊥
+    not_strict e = cc
+enough f r want (Err OutOfMemory) days held wanted le h = tt
+
+pub of_all : (m : Method) (b : Bool) (f cs : List (Lot × ℕ)) (want : ℤ)
+    (a : Result (Vec (Lot × Num) Global) LotFault) → IsFront b (unsigned_abs want) f cs
+    → (b ≡ true → (m ≡ Fifo) × AreByDay cs) → AllByRecursion IsHeld cs
+    → (0 < length cs → 0 < unsigned_abs want) → Reduces m f want a → Reduces m cs want a
+of_all m b f cs want a front days held wanted h =
+    elim front.enough as (λ _. Reduces m cs want a) [
+      | inl none ↦
+          subst (λ l. Reduces m l want a)
+          (sym (append-nil f) ∙ ap (λ r. f ++ r) (sym none) ∙ sym front.all) h
+      | inr some ↦
+          let d = days some.0 in
+          let r = front.rest in
+          subst (λ l. Reduces m l want a) (sym front.all)
+          (subst (λ m. Reduces m (f ++ r) want a) (sym d.0)
+          (enough f r want a (subst AreByDay front.all d.1)
+          (subst (AllByRecursion IsHeld) front.all held)
+          (subst (λ l. 0 < length l → 0 < unsigned_abs want) front.all wanted) some.1
+          (subst (λ m. Reduces m f want a) d.0 h)))
+    ]

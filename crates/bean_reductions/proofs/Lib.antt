@@ -1,0 +1,10 @@
+pub mod FillingFacts
+pub mod InTurn
+pub mod TakeFacts
+pub mod ReductionFacts
+pub mod CandidateFacts
+pub mod AfterFacts
+pub mod TurnedFacts
+pub mod FrontFacts
+pub mod PartFacts
+mod Examples

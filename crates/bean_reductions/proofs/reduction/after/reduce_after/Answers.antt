@@ -1,0 +1,61 @@
+use Rattle.std.proofs.Common.{◌≡◌, ◌<◌, ◌^◌, length, to_z, of_z, arith, subst, sym}
+use Rattle.std.specs.Int.{w128}
+use Rattle.std.specs.Int.RustNames.{unsigned_abs}
+use Rattle.std.specs.List.{AllByRecursion}
+use Rattle.std.proofs.lemmas.Int.{ints}
+use Rattle.bean_base.specs.Decimal.{scaled}
+use Rattle.bean_reductions.specs.After.{IsSmall, after}
+use Rattle.bean_reductions.specs.Candidate.{IsHeld, candidates}
+use Rattle.bean_reductions.specs.Front.{IsFront}
+use Rattle.bean_reductions.specs.Reduction.{Reduces}
+use Rattle.bean_reductions.proofs.CandidateFacts.{all_held, wanted}
+use Rattle.bean_reductions.proofs.FrontFacts.{by_day, front_held, front_some, of_all}
+use Rattle.bean_lots.proofs.PartFacts.{middle}
+use Rattle.bean_reductions.proofs.PartFacts.{same_candidates}
+use Rattle.bean_reductions.proofs.reduction.after.reduce_after.Goals as goal
+
+pub candidates_after-requires-clause-held : goal.candidates_after-requires-clause-held
+candidates_after-requires-clause-held c =
+    let part = c.positions_about-part.ensures in
+    middle (IsSmall (2 ^ 125)) part.before c.positions_about-part.result part.behind
+    c.args.inventory.now part.all c.requires.held
+
+pub reduce_candidates-requires-clause-held : goal.reduce_candidates-requires-clause-held
+reduce_candidates-requires-clause-held c =
+    let left = after c.positions_about-part.result c.args.taken.now in
+    let front = c.in_ok-found.ensures in
+    let wide = to_z w128 (of_z w128 c.scaled-want.result) in
+    front_held c.in_ok-found.found.items front.rest
+    (subst (AllByRecursion IsHeld) front.all (all_held c.args.selector.now wide left))
+
+pub reduce_candidates-requires-clause-wanted : goal.reduce_candidates-requires-clause-wanted
+reduce_candidates-requires-clause-wanted c = λ p.
+    let left = after c.positions_about-part.result c.args.taken.now in
+    let front = c.in_ok-found.ensures in
+    let wide = to_z w128 (of_z w128 c.scaled-want.result) in
+    wanted c.args.selector.now wide left
+    (subst (λ l. 0 < length l) (sym front.all) (front_some c.in_ok-found.found.items front.rest p))
+
+pub returns : goal.returns
+returns c =
+    let s = c.args.selector.now in
+    let es = c.args.inventory.now in
+    let taken = c.args.taken.now in
+    let wide = to_z w128 (of_z w128 c.scaled-want.result) in
+    let want : wide ≡ scaled c.args.units.count c.args.units.places 8 =
+    omega (arith, ints, c.scaled-want.ensures.value) in
+    let front = c.is_front_enough-is_front_enough.result in
+    let same =
+    same_candidates s wide c.positions_about-part.result es taken c.positions_about-part.ensures in
+    subst
+    (λ w. Reduces c.args.method (candidates s w (after es taken)) w c.reduce_candidates.result)
+    want
+    (of_all c.args.method front c.in_ok-found.found.items
+    (candidates s wide (after es taken)) wide c.reduce_candidates.result
+    (subst (IsFront front (unsigned_abs wide) c.in_ok-found.found.items) same
+    c.in_ok-found.ensures)
+    (λ t.
+    let d = c.is_front_enough-is_front_enough.ensures t in
+    (d.0, by_day s wide es taken d.1))
+    (all_held s wide (after es taken)) (wanted s wide (after es taken))
+    c.reduce_candidates.ensures)

@@ -1,0 +1,6 @@
+pub mod Candidate
+pub mod Take
+pub mod Filling
+pub mod Reduction
+pub mod After
+pub mod Front

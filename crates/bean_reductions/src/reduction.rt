@@ -1,0 +1,97 @@
+//! Reductions: which lots are taken, and how much of each.
+ghost use Rattle.std.specs.Prelude.{◌≡◌};
+
+mod after;
+mod queue;
+mod takes;
+
+pub use after::{has_opposite, reduce_after};
+use bean_base::{Currency, Day, Text};
+use bean_lots::{Cost, Lot};
+use std::alloc::AllocError;
+pub use takes::{one_reduction, reduce};
+use thiserror::Error;
+
+/// How an account chooses among its lots.
+#[derive(Clone, Copy, Debug, Drop, PartialEq, Eq)]
+pub enum Method {
+    /// The one candidate, or all of them where their sum is the want.
+    Strict,
+    /// The earliest days first.
+    Fifo,
+    /// The latest days first.
+    Lifo,
+    /// No choice: nothing is reduced, and lots of both signs may stand together.
+    None,
+}
+
+/// Which lots may be reduced: those of the currency that have every part that is given.
+#[derive(Debug, Drop)]
+pub struct Selector<'a> {
+    pub currency: Currency<'a>,
+    pub cost: Option<Cost<'a>>,
+    pub day: Option<Day>,
+    pub label: Option<Text<'a>>,
+}
+
+/// What keeps a reduction from being made.
+#[derive(Clone, Copy, Debug, Drop, PartialEq, Eq, Error)]
+pub enum LotFault {
+    #[error("F13 no lot matches")]
+    NoLotMatches,
+    #[error("F14 ambiguous lots")]
+    AmbiguousLots,
+    #[error("F15 not enough units")]
+    NotEnoughUnits,
+    #[error("out of memory")]
+    OutOfMemory,
+}
+
+impl From<AllocError> for LotFault {
+    ghost use Rattle.bean_reductions.specs.declared.reduction.LotFault.TheVariants.{OutOfMemory};
+
+    ghost from_gives = { λ _ fault. fault ≡ OutOfMemory };
+
+    fn from(_: AllocError) -> LotFault {
+        LotFault::OutOfMemory
+    }
+}
+
+impl Selector<'_> {
+    ghost use Rattle.bean_lots.specs.Days.{has_day};
+    ghost use Rattle.bean_reductions.specs.Candidate.{has_cost, has_label, agrees};
+
+    fn has_cost(&self, lot: &Lot<'_>) -> bool
+        ensures { result ≡ has_cost self.now.cost lot.now }
+    {
+        match &self.cost {
+            Some(cost) => cost.count == lot.cost.count && cost.currency == lot.cost.currency,
+            None => true,
+        }
+    }
+
+    fn has_day(&self, lot: &Lot<'_>) -> bool
+        ensures { result ≡ has_day self.now.day lot.now }
+    {
+        match self.day {
+            Some(day) => day == lot.day,
+            None => true,
+        }
+    }
+
+    fn has_label(&self, lot: &Lot<'_>) -> bool
+        ensures { result ≡ has_label self.now.label lot.now }
+    {
+        match &self.label {
+            Some(_) => self.label == lot.label,
+            None => true,
+        }
+    }
+
+    /// Whether a lot has every part that is given.
+    fn agrees(&self, lot: &Lot<'_>) -> bool
+        ensures { result ≡ agrees self.now lot.now }
+    {
+        self.has_day(lot) && self.has_cost(lot) && self.has_label(lot)
+    }
+}
