@@ -1,4 +1,5 @@
 -- What is known of all slots stays known.
+use Rattle.std.proofs.Common.{take, ◌≤◌}
 use Rattle.std.proofs.Common.{◌≡◌, ◌+◌, ◌-◌, ◌<◌, ◌^◌, ℕ, ℤ, pos, false, filter, List, []}
 use Rattle.std.proofs.Common.{◌∷◌, ◌++◌, length, Some, None, sym, ◌∙◌, ap, subst, arith}
 use Rattle.std.specs.Map.{lookup, remove_entry}
@@ -12,6 +13,7 @@ use Rattle.bean_lots.specs.declared.lot.Key.{Key}
 use Rattle.bean_lots.proofs.SlotFacts as slot
 use Rattle.bean_lots.proofs.TallyFacts as tally
 use Rattle.bean_lots.proofs.DayFacts as day
+use Rattle.bean_lots.proofs.EndFacts as end
 use Rattle.bean_lots.proofs.SweepFacts as swept
 
 sum_after : (total all part new old : ℕ) → total + old ≡ all + new → all ≡ part
@@ -108,6 +110,36 @@ swept_out s t h entries first days signs = record {
       ∙ ap (in_all short_at) (sym entries);
   days = days;
 }
+
+-- a front that has all that is held
+pub in_front : (s t : Slots) (n : ℕ) → IsKept s → t.counts.entries ≡ take n s.counts.entries
+    → filter is_full (take n s.counts.entries) ≡ filter is_full s.counts.entries
+    → t.first ≤ s.first → t.first ≤ n → AreDays t.days t.counts.entries → t.signs ≡ s.signs
+    → IsKept t
+in_front s t n h entries full first inside days signs = record {
+  holes =
+      subst (AreHoles t.first) (sym entries)
+      (end.holes_in_front s.first n s.counts.entries h.holes t.first first inside);
+  long =
+      ap (λ x. x.long) signs ∙ h.long ∙ same long_at tally.not_long
+      ∙ ap (in_all long_at) (sym entries);
+  short =
+      ap (λ x. x.short) signs ∙ h.short ∙ same short_at tally.not_short
+      ∙ ap (in_all short_at) (sym entries);
+  days = days;
+}
+  where
+    same : (f : Key → ℤ → ℕ) (none : (k : Key) → f k (pos 0) ≡ 0)
+        → in_all f s.counts.entries ≡ in_all f (take n s.counts.entries)
+    same f none =
+        sym (swept.counted f none s.counts.entries) ∙ ap (in_all f) (sym full)
+        ∙ swept.counted f none (take n s.counts.entries)
+
+pub front_days : (s : Slots) (n : ℕ) (es : List (Key × ℤ)) → IsKept s
+    → es ≡ take n s.counts.entries → AreDays s.days es
+front_days s n es h entries =
+    subst (AreDays s.days) (sym entries)
+    (λ e. end.days_in_front s.days.latest n s.counts.entries (h.days e))
 
 pub same_days : (s : Slots) (es : List (Key × ℤ)) → IsKept s
     → es ≡ filter is_full s.counts.entries → AreDays s.days es

@@ -3,6 +3,7 @@ pub mod LotOrderFacts
 pub mod SlotFacts
 pub mod TallyFacts
 pub mod DayFacts
+pub mod EndFacts
 pub mod SweepFacts
 pub mod KeptFacts
 pub mod InventoryFacts

@@ -1,5 +1,5 @@
 //! The positions of an inventory, one after the other.
-ghost use Rattle.std.specs.Prelude.{◌≡◌, ◌<◌, ◌∷◌, [], IfSome, IfNone, Some, drop};
+ghost use Rattle.std.specs.Prelude.{◌≡◌, ◌<◌, ◌≤◌, ◌∷◌, ◌++◌, [], IfSome, IfNone, Some, drop, take};
 ghost use Rattle.std.specs.Prelude.{length, slice_get};
 ghost use Rattle.bean_lots.specs.Inventory.{position_of};
 ghost use Rattle.bean_lots.specs.Slots.{positions};
@@ -55,6 +55,26 @@ fn first_from<'s, 'a>(
     None
 }
 
+/// The last slot from an index on in which something is held, as its key and its count, and its
+/// index.
+fn last_from<'s, 'a>(
+    slots: &Slice<'s, Key<'a>, i128>,
+    start: usize,
+) -> Option<(&'s Key<'a>, i128, usize)>
+    ensures some { IfSome result (λ p. positions (drop start slots.now)
+        ≡ positions (drop start (take p.2 slots.now)) ++ position_of p.0.now p.1 ∷ []) }
+    ensures inside { IfSome result (λ p. p.2 ≤ length slots.now) }
+    ensures none { IfNone result (positions (drop start slots.now) ≡ []) }
+{
+    for index in (start..slots.len()).rev() {
+        let (key, count) = slot_at(slots, index);
+        if count != 0 {
+            return Some((key, count, index));
+        }
+    }
+    None
+}
+
 impl<'s, 'a> Positions<'s, 'a> {
     pub(crate) fn new(slots: Slice<'s, Key<'a>, i128>) -> Positions<'s, 'a>
         ensures { result ≡ positions slots.entry }
@@ -69,6 +89,17 @@ impl<'s, 'a> Positions<'s, 'a> {
     {
         let (key, count, behind) = first_from(&self.slots, self.next)?;
         self.next = behind;
+        Some((key, count))
+    }
+
+    /// The key and the count of the last position, or none where there are no more.
+    pub fn next_back_held(&mut self) -> Option<(&'s Key<'a>, i128)>
+        ensures some { IfSome result (λ e. self.old ≡ self.new ++ position_of e.0.now e.1 ∷ []) }
+        ensures none { IfNone result (self.old ≡ []) }
+    {
+        let (key, count, index) = last_from(&self.slots, self.next)?;
+        let (before, _) = self.slots.split_at(index);
+        self.slots = before;
         Some((key, count))
     }
 

@@ -1,9 +1,10 @@
 //! The slots of an inventory: a count for each key, 0 once what was held of it is gone.
 //!
 //! Nothing moves where a count comes to 0: its slot is a hole, until half of all slots are holes
-//! and all of these are swept out. So a lot that goes costs no more than one that comes.
+//! and all of these are swept out. So a lot that goes costs no more than one that comes. Holes
+//! behind all that is held go at once, so what is looked at from the end is held.
 ghost use Rattle.std.specs.Prelude.{◌≡◌, ◌≢◌, ◌+ℤ◌, ◌+◌, ◌≤◌, All, OnOk, OnErr, Some, None, pos};
-ghost use Rattle.std.specs.Prelude.{map, [], ℤ};
+ghost use Rattle.std.specs.Prelude.{map, take, [], ℤ};
 ghost use Rattle.std.specs.Prelude.{◌<◌, IfNone, IfSome, IsTrue, filter, length, not, position};
 ghost use Rattle.std.specs.Prelude.{slice_get, true};
 ghost use Rattle.std.specs.Int.{w128};
@@ -135,6 +136,33 @@ impl<'a> Slots<'a> {
         }
     }
 
+    /// How many slots there are up to the last that is no hole.
+    fn end_of_held(&self) -> usize
+        ensures { filter is_full (take result self.now.counts.entries)
+            ≡ filter is_full self.now.counts.entries }
+    {
+        let mut end = self.counts.len();
+        while end > 0 && self.counts[end - 1] == 0 {
+            end -= 1;
+        }
+        end
+    }
+
+    /// Takes out the holes behind all that is held.
+    fn drop_last_holes(&mut self)
+        requires { IsKept self.old }
+        ensures kept { IsKept self.new }
+        ensures same { positions self.new.counts.entries ≡ positions self.old.counts.entries }
+    {
+        let end = self.end_of_held();
+        self.holes = self.holes.saturating_sub(self.counts.len().saturating_sub(end));
+        self.counts.truncate(end);
+        self.first = self.first.min(end);
+        if end == 0 {
+            self.days = Days::new();
+        }
+    }
+
     /// What the signs are once the count under a key becomes another.
     fn signs_with(&self, key: &Key<'_>, before: i128, after: i128) -> Signs
         requires kept { IsKept self.now }
@@ -166,6 +194,7 @@ impl<'a> Slots<'a> {
         if after == 0 {
             self.holes = self.holes.saturating_add(1);
             self.pass_holes();
+            self.drop_last_holes();
         }
     }
 

@@ -49,7 +49,7 @@ returns-then-after-eq0-clause-written c = λ n e.
     let k = c.args.key.now in
     let wide : to_z w128 (of_z w128 c.args.after) ≡ c.args.before +ℤ n = omega (arith, ints, e) in
     let some : int_eq c.args.before (pos 0) ≡ false = grind (arith, ints, c.requires.some) in
-    ap (λ m. positions m.entries) c.pass_holes.ensures.counts
+    c.drop_last_holes.ensures.same ∙ ap (λ m. positions m.entries) c.pass_holes.ensures.counts
     ∙ ap positions (slot.written es k c.args.index _ c.requires.at)
     ∙ ap (λ m. positions (insert_entry same_key es k m)) wide
     ∙ held_key es k c.args.before n c.requires.count some

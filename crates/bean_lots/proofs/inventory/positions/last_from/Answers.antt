@@ -1,0 +1,38 @@
+use Rattle.std.proofs.Common.{◌≡◌, ◌-◌, ◌≤◌, pos, ◌∷◌, ◌++◌, [], drop, take, suc, false, to_z, of_z}
+use Rattle.std.proofs.Common.{arith, ◌∙◌, ap, subst, sym}
+use Rattle.std.specs.Int.{w128}
+use Rattle.std.specs.Ordering.{int_eq}
+use Rattle.std.proofs.lemmas.Int.{ints}
+use Rattle.bean_lots.specs.Slots.{positions}
+use Rattle.bean_lots.proofs.EndFacts.{full_before, hole_before, nothing_left}
+use Rattle.bean_lots.proofs.inventory.positions.last_from.Goals as goal
+
+pub returns-then-count-ne0-clause-some : goal.returns-then-count-ne0-clause-some
+returns-then-count-ne0-clause-some c =
+    let es = c.args.slots.now in
+    let s = c.args.start in
+    let i = c.loop-index.index - 1 in
+    let next : suc i ≡ c.loop-index.index = omega (arith, c.loop-index-test.true) in
+    let k = c.slot_at-count.result.0.now in
+    let n = c.slot_at-count.result.1 in
+    let some : int_eq n (pos 0) ≡ false = grind (arith, ints, c.if-count-ne0.true) in
+    let count : n ≡ to_z w128 (of_z w128 n) = omega (arith, ints) in
+    sym (ap (λ j. positions (drop s (take j es))) next ∙ c.loop-index.invariant.same)
+    ∙ full_before es s i k n (omega (arith, c.loop-index-test.true)) c.slot_at-count.ensures some
+    ∙ ap (λ m. positions (drop s (take i es)) ++ record { key = k; count = m } ∷ []) count
+
+pub loop-index-preserved : goal.loop-index-preserved
+loop-index-preserved c =
+    let es = c.args.slots.now in
+    let s = c.args.start in
+    let i = c.loop-index.index - 1 in
+    let next : suc i ≡ c.loop-index.index = omega (arith, c.loop-index-test.true) in
+    let n = c.slot_at-count.result.1 in
+    let none : n ≡ pos 0 = grind (arith, ints, c.if-count-ne0.false) in
+    record {
+      inside = omega (arith, c.loop-index.invariant.inside);
+      same =
+          hole_before es s i c.slot_at-count.result.0.now n
+          (omega (arith, c.loop-index-test.true)) c.slot_at-count.ensures none
+          ∙ ap (λ j. positions (drop s (take j es))) next ∙ c.loop-index.invariant.same;
+    }
