@@ -24,12 +24,12 @@ both : {A : Type 0} (P : A → Type 0) (xs ys : List A) → AllByRecursion P xs 
 both P [] ys a b = b
 both P (x ∷ xs) ys a b = (a.0, both P xs ys a.1 b)
 
-first : {A : Type 0} (P : A → Type 0) (xs ys : List A) → AllByRecursion P (xs ++ ys)
+pub first : {A : Type 0} (P : A → Type 0) (xs ys : List A) → AllByRecursion P (xs ++ ys)
     → AllByRecursion P xs
 first P [] ys a = tt
 first P (x ∷ xs) ys a = (a.0, first P xs ys a.1)
 
-second : {A : Type 0} (P : A → Type 0) (xs ys : List A) → AllByRecursion P (xs ++ ys)
+pub second : {A : Type 0} (P : A → Type 0) (xs ys : List A) → AllByRecursion P (xs ++ ys)
     → AllByRecursion P ys
 second P [] ys a = a
 second P (x ∷ xs) ys a = second P xs ys a.1
@@ -66,7 +66,7 @@ later_off day None b h s = absurd (apart s)
 later_off day (Some a) None h s = tt
 later_off day (Some a) (Some b) h s = grind (arith, ints)
 
-own_day : (a : Option Lot) → IsNotBefore a a
+pub own_day : (a : Option Lot) → IsNotBefore a a
 own_day None = tt
 own_day (Some a) = omega (arith, ints)
 

@@ -1,9 +1,9 @@
 -- A front of the candidates that comes to the want is as good as all of them, where their days
 -- never go down.
-use Rattle.std.proofs.Common.{◌≡◌, ◌-◌, ◌<◌, ◌≤◌, ◌≤ℤ◌, inl, inr, ℕ, zero, suc, ℤ, Bool, true}
+use Rattle.std.proofs.Common.{◌≡◌, ◌<◌, ◌≤◌, ◌≤ℤ◌, inl, inr, ℕ, zero, suc, ℤ, Bool, true}
 use Rattle.std.proofs.Common.{false, cond, ◌&&◌, List, [], ◌∷◌, ◌++◌, length, sum_by, get_or}
 use Rattle.std.proofs.Common.{Option, Some}
-use Rattle.std.proofs.Common.{None, Result, Ok, Err, ◌+ℤ◌, refl, sym, ◌∙◌, ap, subst, arith}
+use Rattle.std.proofs.Common.{None, Result, ◌+ℤ◌, refl, sym, ◌∙◌, ap, subst, arith}
 use Rattle.std.proofs.Common.{add-one}
 use Rattle.std.specs.List.{AllByRecursion}
 use Rattle.std.specs.Int.RustNames.{unsigned_abs}
@@ -18,7 +18,6 @@ use Rattle.bean_reductions.specs.After.{after}
 use Rattle.bean_lots.specs.Inventory.{is_opposite}
 use Rattle.bean_reductions.specs.Candidate.{IsHeld, agrees, candidate_of, candidates}
 use Rattle.bean_lots.specs.Days.{IsNotBefore, RiseInDays}
-use Rattle.bean_reductions.specs.Filling.{filled}
 use Rattle.bean_reductions.specs.Front.{IsFront}
 use Rattle.bean_lots.specs.Inventory.{count_of}
 use Rattle.bean_lots.specs.Lot.{same_text}
@@ -27,14 +26,13 @@ use Rattle.bean_reductions.specs.Take.{IsQueue, day_of, units_of}
 use Rattle.bean_lots.specs.declared.lot.Lot.{Lot}
 use Rattle.bean_lots.specs.declared.lot.Position.{Position}
 use Rattle.bean_reductions.specs.declared.reduction.LotFault.{LotFault}
-use Rattle.bean_reductions.specs.declared.reduction.LotFault.TheVariants.{NoLotMatches, AmbiguousLots}
-use Rattle.bean_reductions.specs.declared.reduction.LotFault.TheVariants.{NotEnoughUnits, OutOfMemory}
 use Rattle.bean_reductions.specs.declared.reduction.Method.{Method}
 use Rattle.bean_reductions.specs.declared.reduction.Method.TheVariants.{Strict, Fifo}
 use Rattle.bean_reductions.specs.declared.reduction.Selector.{Selector}
 use Rattle.bean_reductions.proofs.AfterFacts.{front}
+use Rattle.bean_reductions.proofs.EnoughFacts.{longer, of_enough}
 use Rattle.bean_reductions.proofs.InTurn.{TakesInTurn}
-use Rattle.bean_reductions.proofs.ReductionFacts.{made, one_queue, none as none_at}
+use Rattle.bean_reductions.proofs.ReductionFacts.{one_queue}
 use Rattle.bean_reductions.proofs.TakeFacts.{to_first, to_takes}
 
 -- of that day or a later one
@@ -127,12 +125,6 @@ pub front_some : (f r : List (Lot × ℕ)) → 0 < length f → 0 < length (f ++
 front_some [] r p = absurd (omega (arith, p))
 front_some (c ∷ f) r p = omega arith
 
-longer : (q r : List (Lot × ℕ)) (want : ℕ) (ts : List (Lot × ℕ)) → TakesInTurn q want ts
-    → TakesInTurn (q ++ r) want ts
-longer q r want [] h = h
-longer [] r want (t ∷ ts) h = absurd h
-longer (c ∷ q) r want (t ∷ ts) h = (h.0, h.1, h.2, h.3, h.4, longer q r (want - t.1) ts h.5)
-
 -- the reduction of a front is that of all
 reduction : (f r : List (Lot × ℕ)) (want : ℕ) (ts : List (Lot × ℕ)) → AreByDay (f ++ r)
     → IsReduction Fifo f want ts → IsReduction Fifo (f ++ r) want ts
@@ -152,35 +144,17 @@ reduction f r want ts a h = record {
     not_strict : Fifo ≡ Strict → ⊥
     not_strict e = cc
 
-nothing : (f r : List (Lot × ℕ)) (want : ℕ) → length f ≡ 0 → want ≤ sum_by units_of f
-    → (0 < length (f ++ r) → 0 < want) → length (f ++ r) ≡ 0
-nothing [] [] want e le w = refl
-nothing [] (c ∷ r) want e le w = absurd (omega (arith, le, w (omega arith)))
-nothing (c ∷ f) r want e le w = absurd (omega (arith, e))
-
 enough : (f r : List (Lot × ℕ)) (want : ℤ) (a : Result (Vec (Lot × Num) Global) LotFault)
     → AreByDay (f ++ r) → AllByRecursion IsHeld (f ++ r)
     → (0 < length (f ++ r) → 0 < unsigned_abs want) → unsigned_abs want ≤ sum_by units_of f
     → Reduces Fifo f want a → Reduces Fifo (f ++ r) want a
-enough f r want (Ok v) days held wanted le h =
-    (h.0, h.1, reduction f r (unsigned_abs want) h.0 days h.2)
-enough f r want (Err NoLotMatches) days held wanted le h =
-    let none = nothing f r (unsigned_abs want) h.0 le wanted in
-    (none, none_at Fifo (f ++ r) (unsigned_abs want) none)
-enough f r want (Err AmbiguousLots) days held wanted le h = absurd (not_strict h.0)
+enough f r want a days held wanted le h =
+    of_enough Fifo f (f ++ r) f want a not_strict (own_queue f (front_by_day f r days))
+    (λ ts. reduction f r (unsigned_abs want) ts days) (front_held f r held) refl
+    le (λ p. front_some f r p) wanted h
   where
     not_strict : Fifo ≡ Strict → ⊥
     not_strict e = cc
-enough f r want (Err NotEnoughUnits) days held wanted le h =
-    let want_some = wanted (front_some f r h.0) in
-    absurd
-    (h.2 (filled f (unsigned_abs want))
-    (made Fifo f f (unsigned_abs want) want_some (own_queue f (front_by_day f r days))
-    (front_held f r held) (h.0, le, λ e. absurd (not_strict e))))
-  where
-    not_strict : Fifo ≡ Strict → ⊥
-    not_strict e = cc
-enough f r want (Err OutOfMemory) days held wanted le h = tt
 
 pub of_all : (m : Method) (b : Bool) (f cs : List (Lot × ℕ)) (want : ℤ)
     (a : Result (Vec (Lot × Num) Global) LotFault) → IsFront b (unsigned_abs want) f cs

@@ -20,7 +20,7 @@ use Rattle.bean_reductions.proofs.InTurn.{TakesInTurn, taken, only, held, whole}
 use Rattle.bean_reductions.proofs.TakeFacts.{to_first, to_takes}
 use Rattle.theory.proofs.ArrangementFacts.{one_by_key}
 
-open_orders : (m : Method) → IsTotalOrder (order_of m)
+pub open_orders : (m : Method) → IsTotalOrder (order_of m)
 open_orders Strict = int_cmp_total
 open_orders Fifo = int_cmp_total
 open_orders method_None = int_cmp_total

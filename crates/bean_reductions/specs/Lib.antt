@@ -4,3 +4,4 @@ pub mod Filling
 pub mod Reduction
 pub mod After
 pub mod Front
+pub mod Back

@@ -155,7 +155,9 @@ impl<'a> Slots<'a> {
         ensures same { positions self.new.counts.entries ≡ positions self.old.counts.entries }
     {
         let end = self.end_of_held();
-        self.holes = self.holes.saturating_sub(self.counts.len().saturating_sub(end));
+        self.holes = self
+            .holes
+            .saturating_sub(self.counts.len().saturating_sub(end));
         self.counts.truncate(end);
         self.first = self.first.min(end);
         if end == 0 {

@@ -12,6 +12,7 @@ ghost use Rattle.bean_lots.specs.Inventory.{count_of, position_of};
 ghost use Rattle.bean_reductions.specs.Reduction.{Reduces};
 ghost use Rattle.bean_reductions.specs.Take.{units_of};
 
+use super::last::reduce_last;
 use super::queue::{Candidate, is_opposite, push_candidate, selects};
 use super::takes::reduce_candidates;
 use super::{LotFault, Method, Selector};
@@ -21,7 +22,7 @@ use bean_lots::{Key, Lot};
 use std::alloc::{AllocError, Global};
 
 /// Adds the candidate that is left of what is held under a key, where one is, and tells its units.
-fn push_left<'a>(
+pub(crate) fn push_left<'a>(
     found: &mut Vec<Candidate<'a>>,
     selector: &Selector<'_>,
     want: i128,
@@ -79,6 +80,14 @@ fn is_front_enough(inventory: &Inventory<'_>, method: Method) -> bool
     method == Method::Fifo && inventory.rises_in_days()
 }
 
+/// Whether the last candidates that come to a want, with all others of their days, have those that
+/// are taken.
+fn is_back_enough(inventory: &Inventory<'_>, method: Method) -> bool
+    ensures { result ≡ true → (method ≡ Method.Lifo) × RiseInDays inventory.now }
+{
+    method == Method::Lifo && inventory.rises_in_days()
+}
+
 /// What a reduction by `units` takes of the lots that are left of an inventory by what is in
 /// `taken`: the takes in their order, with the sign of `units`.
 pub fn reduce_after<'a>(
@@ -96,8 +105,11 @@ pub fn reduce_after<'a>(
         Reduces method (candidates selector.now want (after inventory.now taken.now)) want result }
 {
     let want = units.scaled(8);
-    let is_front_enough = is_front_enough(inventory, method);
     let part = inventory.positions_about(selector.day);
+    if is_back_enough(inventory, method) {
+        return reduce_last(alloc, part, taken, selector, want);
+    }
+    let is_front_enough = is_front_enough(inventory, method);
     let found = candidates_after(alloc, part, taken, selector, want, is_front_enough)?;
     reduce_candidates(alloc, found, want, method)
 }

@@ -49,7 +49,7 @@ impl<'a> Candidate<'a> {
         self.units
     }
 
-    fn day_number(&self) -> i32
+    pub(crate) fn day_number(&self) -> i32
         ensures { result ≡ number self.now.0.day }
     {
         self.lot.day.number()

@@ -1,10 +1,10 @@
-use Rattle.std.proofs.Common.{◌≡◌, ◌-◌, ◌≤◌, pos, ◌∷◌, ◌++◌, [], drop, take, suc, false, to_z, of_z}
-use Rattle.std.proofs.Common.{arith, ◌∙◌, ap, subst, sym}
+use Rattle.std.proofs.Common.{◌≡◌, ◌-◌, pos, ◌∷◌, ◌++◌, [], drop, take, suc, false, to_z, of_z}
+use Rattle.std.proofs.Common.{arith, ◌∙◌, ap, sym}
 use Rattle.std.specs.Int.{w128}
 use Rattle.std.specs.Ordering.{int_eq}
 use Rattle.std.proofs.lemmas.Int.{ints}
 use Rattle.bean_lots.specs.Slots.{positions}
-use Rattle.bean_lots.proofs.EndFacts.{full_before, hole_before, nothing_left}
+use Rattle.bean_lots.proofs.EndFacts.{full_before, hole_before}
 use Rattle.bean_lots.proofs.inventory.positions.last_from.Goals as goal
 
 pub returns-then-count-ne0-clause-some : goal.returns-then-count-ne0-clause-some

@@ -1,6 +1,6 @@
-use Rattle.std.proofs.Common.{◌≡◌, ◌≤◌, ℕ, List, [], take, filter, min, refl, sym, ap, subst, ◌∙◌}
+use Rattle.std.proofs.Common.{◌≡◌, ℕ, List, [], take, refl, sym, ap, subst, ◌∙◌}
 use Rattle.std.proofs.Common.{arith}
-use Rattle.bean_lots.specs.Slots.{AreDays, is_full, positions}
+use Rattle.bean_lots.specs.Slots.{AreDays, positions}
 use Rattle.bean_lots.proofs.KeptFacts as kept
 use Rattle.bean_lots.proofs.SweepFacts.{same}
 use Rattle.bean_lots.proofs.inventory.slots.Slots.drop_last_holes.Goals as goal

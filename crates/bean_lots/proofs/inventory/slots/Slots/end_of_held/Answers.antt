@@ -1,4 +1,4 @@
-use Rattle.std.proofs.Common.{◌≡◌, ◌-◌, ◌<◌, pos, suc, Some, filter, take, arith, ◌∙◌, ap}
+use Rattle.std.proofs.Common.{◌≡◌, ◌-◌, pos, suc, Some, filter, take, arith, ◌∙◌, ap}
 use Rattle.std.proofs.lemmas.Int.{ints}
 use Rattle.bean_lots.specs.Slots.{is_full}
 use Rattle.bean_lots.proofs.EndFacts.{last_hole}
