@@ -12,6 +12,7 @@ generate.py --lots POSTINGS SEED          about so many postings, with lots, pri
 generate.py --lots-dense POSTINGS SEED    the same without the transactions of amounts alone
 generate.py --hoard ACCOUNTS LOTS SEED    so many accounts that each buy so many lots of one unit and sell
                                           them one by one; the seed changes nothing
+generate.py --hoard ACCOUNTS --lifo LOTS SEED   the same, the latest first
 
 Booked, they have no fault, but for the days of `--unlisted`.
 
@@ -138,6 +139,7 @@ def main():
     for kind in ["--unlisted", "--missing", "--opens", "--lots", "--lots-dense"]:
         kinds.add_argument(kind, action="store_true")
     kinds.add_argument("--hoard", type=int, metavar="ACCOUNTS")
+    words.add_argument("--lifo", action="store_true")
     words.add_argument("--files", nargs=2, metavar=("N", "FOLDER"))
     given = words.parse_args()
     if given.files:
@@ -148,7 +150,7 @@ def main():
     elif given.lots or given.lots_dense:
         sys.stdout.writelines(lots.ledger(given.size, random.Random(given.seed), given.lots_dense))
     elif given.hoard:
-        sys.stdout.writelines(lots.hoard(given.hoard, given.size))
+        sys.stdout.writelines(lots.hoard(given.hoard, given.size, "LIFO" if given.lifo else "FIFO"))
     else:
         sys.stdout.writelines(ledger(given.size, given.seed, given.unlisted, given.missing))
 

@@ -350,12 +350,12 @@ def ledger(postings, pick, dense):
         yield book.pop()
 
 
-def hoard(accounts, lots):
+def hoard(accounts, lots, method):
     """So many accounts, each of which buys so many lots of one unit, one a day, and then sells them one by one
-    under FIFO."""
+    by a booking method."""
     names = [f"Assets:Hoard:H{number}" for number in range(accounts)]
     first, last = datetime.date(1700, 1, 1), datetime.date(2000, 1, 1)
-    yield "".join(f'{first} open {name} VTI "FIFO"\n' for name in names)
+    yield "".join(f'{first} open {name} VTI "{method}"\n' for name in names)
     yield f"{first} open Assets:Cash\n{first} open {GAINS}\n"
     for number in range(lots):
         day, cost = first + datetime.timedelta(number), 100 + number % 997
