@@ -47,18 +47,18 @@ pub too_many_kept : (l : Loaded) (fault : BookFault)
     → (fault ≡ TooManyPostings → booker.HasTooMany l) → Books l (Err fault)
 too_many_kept l TooManyPostings full = λ st leads.
     let rows =
-    rows_hold 0 l.directives st.kept (noted_pads st.steps) (in_order l st leads) in
+    rows_hold l.directives st.kept (noted_pads st.steps) (in_order l st leads) in
     let many = full refl st leads in omega (arith, rows, many)
 too_many_kept l OutOfMemory full = tt
 
 -- where the rows are too many of what is booked, so are they of all that it may lead to
 pub too_many_rows : (l : Loaded) (b : Booked) → IsBooked l b → (fault : BookFault)
-    → MakesLedger (bookings 0 l.directives b.kept b.pads) (Err fault) → Books l (Err fault)
+    → MakesLedger (bookings l.directives b.kept b.pads) (Err fault) → Books l (Err fault)
 too_many_rows l b h TooManyPostings many = λ st leads.
     let same =
     one_stand (method_in_ledger l) (reverse l.directives) h.stand st h.leads leads in
     let here : AreTooMany (bookings_of l h.stand) =
-    subst (λ ps. AreTooMany (bookings 0 l.directives h.stand.kept ps)) h.finished.pads_are
-    (subst (λ ks. AreTooMany (bookings 0 l.directives ks b.pads)) h.finished.kept_is many) in
+    subst (λ ps. AreTooMany (bookings l.directives h.stand.kept ps)) h.finished.pads_are
+    (subst (λ ks. AreTooMany (bookings l.directives ks b.pads)) h.finished.kept_is many) in
     subst (λ s. AreTooMany (bookings_of l s)) same here
 too_many_rows l b h OutOfMemory many = tt

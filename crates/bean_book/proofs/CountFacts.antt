@@ -1,7 +1,7 @@
 -- How many rows what is booked has.
 use Rattle.std.proofs.Common.{◌≡◌, ℕ, zero, suc, ◌+◌, ◌≤◌, List, [], ◌∷◌, ◌++◌, length, map}
 use Rattle.std.proofs.Common.{Option, None, Some, Result, Ok, Err, Bool, true, false, cond, ◌==◌}
-use Rattle.std.proofs.Common.{reverse, refl, ap, ◌∙◌, arith}
+use Rattle.std.proofs.Common.{reverse, refl, sym, ap, ◌∙◌, arith}
 use Rattle.std.specs.List.{AllByRecursion, flat_map}
 use Rattle.std.proofs.lemmas.Grind.{flat_map-append}
 use Rattle.std.proofs.lemmas.List.{append-nil, length-append, length-map, reverse-append}
@@ -25,17 +25,15 @@ use Rattle.bean_trial.specs.declared.line.Posted.{Posted}
 use Rattle.bean_trial.specs.declared.stop.LineFault.{LineFault}
 use Rattle.posting_table.specs.declared.row.Row.{Row}
 use Rattle.bean_book.specs.Booked.{rows_of_all}
-use Rattle.bean_book.specs.Entries.{transaction, booking_of, bookings, kept_behind}
-use Rattle.bean_book.specs.Entries.{pads_behind}
+use Rattle.bean_book.specs.Entries.{transaction, bookings, pad_count}
+use Rattle.bean_book.specs.Left.{next_booking, bookings_left, kept_behind}
+use Rattle.bean_book.specs.Left.{pads_behind}
 use Rattle.bean_book.specs.Kept.{AreOf}
 use Rattle.bean_book.specs.Rows.{entry_of, row_of, rows_of, rows_of_pad, rows_of_transaction}
+use Rattle.bean_book.proofs.BookingFacts.{all_left}
 use Rattle.bean_book.proofs.KeptFacts.{left_of}
 
 -- ---- pads among directives, and those that are noted
-
-abbrev pad_count : DirectiveKind → ℕ
-pad_count (kind.Pad p) = 1
-pad_count other = 0
 
 abbrev pub pads_among : List (Placed Directive) → ℕ
 pads_among [] = 0
@@ -145,7 +143,7 @@ of_transaction d t k ks false = omega arith
 -- the rows of a directive and of those behind it, and which pads are left for these
 record Counts (n : ℕ) (d : Directive) (k : DirectiveKind) (ks : List Kept) (ps : List NotedPad) :
     Type 0 where
-  rows : length (rows_of_all (booking_of n d k ks ps))
+  rows : length (rows_of_all (next_booking n d k ks ps))
       + left (kept_behind n k ks) (pads_behind k ps)
       ≡ left ks ps
   pads : (m : ℕ) → length ps ≤ pad_count k + m → length (pads_behind k ps) ≤ m
@@ -174,21 +172,29 @@ counts n d (kind.Event x) ks ps = record { rows = omega arith; pads = λ m h. om
 counts n d (kind.Query x) ks ps = record { rows = omega arith; pads = λ m h. omega (arith, h) }
 counts n d (kind.Custom x) ks ps = record { rows = omega arith; pads = λ m h. omega (arith, h) }
 
--- where there are no more pads than are written, each kept posting and each of a pad has a row
-pub rows_are : (n : ℕ) (ds : List (Placed Directive)) (ks : List Kept) (ps : List NotedPad)
+rows_left_are : (n : ℕ) (ds : List (Placed Directive)) (ks : List Kept) (ps : List NotedPad)
     → AreOf n ds ks → length ps ≤ pads_among ds
-    → length (rows_of_all (bookings n ds ks ps))
+    → length (rows_of_all (bookings_left n ds ks ps))
     ≡ length (postings_of ks) + length (flat_map rows_of_pad ps)
-rows_are n [] ks [] h few = let none = ap (λ l. length (postings_of l)) h in omega (arith, none)
-rows_are n [] ks (p ∷ ps) h few = absurd (omega (arith, few))
-rows_are n (d ∷ ds) ks ps h few =
+rows_left_are n [] ks [] h few = let none = ap (λ l. length (postings_of l)) h in omega (arith, none)
+rows_left_are n [] ks (p ∷ ps) h few = absurd (omega (arith, few))
+rows_left_are n (d ∷ ds) ks ps h few =
     let k = d.item.kind in
-    let b = booking_of n d.item k ks ps in
-    let rest = bookings (n + 1) ds (kept_behind n k ks) (pads_behind k ps) in
+    let b = next_booking n d.item k ks ps in
+    let rest = bookings_left (n + 1) ds (kept_behind n k ks) (pads_behind k ps) in
     let own = (counts n d.item k ks ps).rows in
     let later =
-    rows_are (n + 1) ds (kept_behind n k ks) (pads_behind k ps) (left_of n d ds ks k refl h)
+    rows_left_are (n + 1) ds (kept_behind n k ks) (pads_behind k ps) (left_of n d ds ks k refl h)
     ((counts n d.item k ks ps).pads (pads_among ds) few) in
     let both = ap length (flat_map-append rows_of b rest)
     ∙ length-append (rows_of_all b) (rows_of_all rest) in
     omega (arith, own, later, both)
+
+-- where there are no more pads than are written, each kept posting and each of a pad has a row
+pub rows_are : (ds : List (Placed Directive)) (ks : List Kept) (ps : List NotedPad)
+    → AreOf 0 ds ks → length ps ≤ pads_among ds
+    → length (rows_of_all (bookings ds ks ps))
+    ≡ length (postings_of ks) + length (flat_map rows_of_pad ps)
+rows_are ds ks ps h few =
+    ap (λ bs. length (rows_of_all bs)) (sym (all_left ds ks ps h))
+    ∙ rows_left_are 0 ds ks ps h few

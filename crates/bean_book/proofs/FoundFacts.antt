@@ -102,7 +102,7 @@ rows_counted l b h =
     let one = noted_length st.steps in
     let two = stand_pads (method_in_ledger l) (reverse l.directives) st h.leads in
     let three = pads_turned l.directives in
-    let rows = rows_are 0 l.directives st.kept (noted_pads st.steps) (in_order l st h.leads)
+    let rows = rows_are l.directives st.kept (noted_pads st.steps) (in_order l st h.leads)
     (omega (arith, one, two, three)) in
     let kept = ap (λ ks. length (postings_of ks)) h.finished.kept_is in
     let pads = ap (λ ps. length (flat_map rows_of_pad ps)) h.finished.pads_are in

@@ -17,7 +17,7 @@ use Rattle.bean_trial.specs.Tried.{Tries}
 use Rattle.bean_trial.specs.declared.line.Posted.{Posted}
 use Rattle.bean_trial.specs.declared.stop.LineFault.{LineFault}
 use Rattle.bean_pad.specs.declared.note.NotedPad.{NotedPad}
-use Rattle.bean_book.specs.Entries.{behind_kept, kept_behind, pads_behind, pads_left}
+use Rattle.bean_book.specs.Left.{behind_kept, kept_behind, pads_behind, pads_left}
 use Rattle.bean_book.specs.Kept.{AreOf, IsNextOf, IsOf}
 
 none_more : (n : ℕ) (ds : List (Placed Directive)) (ks : List Kept) (d : Placed Directive)
@@ -127,7 +127,7 @@ abbrev HeadIsOf : ℕ → Placed Directive → List Kept → Type 0
 HeadIsOf n d [] = ⊥
 HeadIsOf n d (k ∷ ks) = IsOf n d k
 
-not_before : (n : ℕ) (ds : List (Placed Directive)) (k : Kept) (ks : List Kept)
+pub not_before : (n : ℕ) (ds : List (Placed Directive)) (k : Kept) (ks : List Kept)
     → AreOf n ds (k ∷ ks) → n ≤ k.directive
 not_before n [] k ks h = absurd (subst (HeadIs k.directive) h refl)
 not_before n (d ∷ ds) k ks (inl f) =
@@ -200,20 +200,20 @@ all_behind P n (k ∷ ks) h = by (k.directive == n)
     by false = h
 
 -- what holds of all holds of those that are left
-pub all_left : (P : Kept → Type 0) (n : ℕ) (ks : List Kept) (k : DirectiveKind)
+pub still_all : (P : Kept → Type 0) (n : ℕ) (ks : List Kept) (k : DirectiveKind)
     → AllByRecursion P ks → AllByRecursion P (kept_behind n k ks)
-all_left P n ks (kind.Transaction t) h = all_behind P n ks h
-all_left P n ks (kind.Open o) h = h
-all_left P n ks (kind.Close c) h = h
-all_left P n ks (kind.Pad p) h = h
-all_left P n ks (kind.Balance b) h = h
-all_left P n ks (kind.Commodity x) h = h
-all_left P n ks (kind.Note x) h = h
-all_left P n ks (kind.Document x) h = h
-all_left P n ks (kind.Price x) h = h
-all_left P n ks (kind.Event x) h = h
-all_left P n ks (kind.Query x) h = h
-all_left P n ks (kind.Custom x) h = h
+still_all P n ks (kind.Transaction t) h = all_behind P n ks h
+still_all P n ks (kind.Open o) h = h
+still_all P n ks (kind.Close c) h = h
+still_all P n ks (kind.Pad p) h = h
+still_all P n ks (kind.Balance b) h = h
+still_all P n ks (kind.Commodity x) h = h
+still_all P n ks (kind.Note x) h = h
+still_all P n ks (kind.Document x) h = h
+still_all P n ks (kind.Price x) h = h
+still_all P n ks (kind.Event x) h = h
+still_all P n ks (kind.Query x) h = h
+still_all P n ks (kind.Custom x) h = h
 
 all_pads_left : (P : NotedPad → Type 0) (ps : List NotedPad) → AllByRecursion P ps
     → AllByRecursion P (pads_left ps)

@@ -1,6 +1,6 @@
 -- What is there and what is left, one directive after the other.
 use Rattle.std.proofs.Common.{◌≡◌, ℕ, suc, ◌+◌, ◌<◌, ◌≤◌, List, [], ◌∷◌, ◌++◌, append_assoc, drop}
-use Rattle.std.proofs.Common.{get_or}
+use Rattle.std.proofs.Common.{get_or, subst}
 use Rattle.std.proofs.Common.{length, length-append, Err, refl, sym, ap, ◌∙◌, arith}
 use Rattle.std.proofs.Math.Seq.{drop-cons}
 use Rattle.std.proofs.Common.{Bool, true, false, cond, ◌==◌}
@@ -11,6 +11,7 @@ use Rattle.bean_heads.specs.declared.directive.DirectiveKind.{DirectiveKind}
 use Rattle.bean_heads.specs.declared.directive.DirectiveKind.TheVariants as kind
 use Rattle.bean_heads.specs.declared.transaction.Transaction.{Transaction}
 use Rattle.bean_book.specs.Kept.{AreOf}
+use Rattle.bean_book.proofs.BookingFacts.{all_left}
 use Rattle.bean_book.proofs.KeptFacts.{left_of}
 use Rattle.bean_booker.specs.declared.booker.BookFault.{BookFault}
 use Rattle.bean_booker.specs.declared.booker.BookFault.TheVariants.{OutOfMemory, TooManyPostings}
@@ -23,8 +24,9 @@ use Rattle.posting_table.specs.Ledger.{Ledger}
 use Rattle.posting_table.specs.declared.row.Row.{Row}
 use Rattle.bean_book.specs.Booked.{Adds, AreTooMany, MakesLedger, decimals_from, rows_of_all}
 use Rattle.bean_book.specs.Booked.{written_in_all}
-use Rattle.bean_book.specs.Entries.{Booking, transaction, booking_of, bookings, kept_behind}
-use Rattle.bean_book.specs.Entries.{pads_behind}
+use Rattle.bean_book.specs.Entries.{Booking, transaction, bookings}
+use Rattle.bean_book.specs.Left.{next_booking, bookings_left, kept_behind}
+use Rattle.bean_book.specs.Left.{pads_behind}
 use Rattle.bean_book.specs.Rows.{entry_of, row_of, rows_of, rows_of_transaction, written_of}
 use Rattle.bean_book.proofs.ListFacts.{decimals_from-append}
 
@@ -86,7 +88,7 @@ covered_by d t k ks false = omega arith
 
 covered : (n : ℕ) (d : Directive) (k : DirectiveKind) (ks : List Kept) (ps : List NotedPad)
     → length (postings_of ks)
-    ≤ length (rows_of_all (booking_of n d k ks ps)) + length (postings_of (kept_behind n k ks))
+    ≤ length (rows_of_all (next_booking n d k ks ps)) + length (postings_of (kept_behind n k ks))
 covered n d (kind.Transaction t) [] ps = omega arith
 covered n d (kind.Transaction t) (k ∷ ks) ps = covered_by d t k ks (k.directive == n)
 covered n d (kind.Open o) ks ps = omega arith
@@ -101,15 +103,22 @@ covered n d (kind.Event x) ks ps = omega arith
 covered n d (kind.Query x) ks ps = omega arith
 covered n d (kind.Custom x) ks ps = omega arith
 
-pub rows_hold : (n : ℕ) (ds : List (Placed Directive)) (ks : List Kept) (ps : List NotedPad)
-    → AreOf n ds ks → length (postings_of ks) ≤ length (rows_of_all (bookings n ds ks ps))
-rows_hold n [] ks ps h = let none = ap (λ l. length (postings_of l)) h in omega (arith, none)
-rows_hold n (d ∷ ds) ks ps h =
-    let b = booking_of n d.item d.item.kind ks ps in
-    let rest = bookings (n + 1) ds (kept_behind n d.item.kind ks) (pads_behind d.item.kind ps) in
-    let later = rows_hold (n + 1) ds (kept_behind n d.item.kind ks) (pads_behind d.item.kind ps)
+rows_left_hold : (n : ℕ) (ds : List (Placed Directive)) (ks : List Kept) (ps : List NotedPad)
+    → AreOf n ds ks → length (postings_of ks) ≤ length (rows_of_all (bookings_left n ds ks ps))
+rows_left_hold n [] ks ps h = let none = ap (λ l. length (postings_of l)) h in omega (arith, none)
+rows_left_hold n (d ∷ ds) ks ps h =
+    let b = next_booking n d.item d.item.kind ks ps in
+    let rest = bookings_left (n + 1) ds (kept_behind n d.item.kind ks) (pads_behind d.item.kind ps) in
+    let later = rows_left_hold (n + 1) ds (kept_behind n d.item.kind ks) (pads_behind d.item.kind ps)
     (left_of n d ds ks d.item.kind refl h) in
     let here = covered n d.item d.item.kind ks ps in
     let both = ap length (flat_map-append rows_of b rest)
     ∙ length-append (rows_of_all b) (rows_of_all rest) in
     omega (arith, later, here, both)
+
+-- each kept posting has a row
+pub rows_hold : (ds : List (Placed Directive)) (ks : List Kept) (ps : List NotedPad)
+    → AreOf 0 ds ks → length (postings_of ks) ≤ length (rows_of_all (bookings ds ks ps))
+rows_hold ds ks ps h =
+    subst (λ bs. length (postings_of ks) ≤ length (rows_of_all bs)) (all_left ds ks ps h)
+    (rows_left_hold 0 ds ks ps h)

@@ -1,5 +1,6 @@
 mod FaultOrder
 mod KeptFacts
+mod BookingFacts
 pub mod ListFacts
 mod ShapedFacts
 mod PaddingFacts

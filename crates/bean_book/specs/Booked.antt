@@ -57,7 +57,7 @@ MakesLedger bs (Err OutOfMemory) = ⊤
 
 -- what is booked of a loaded ledger, where its directives lead here
 abbrev pub bookings_of : Loaded → Stand → List Booking
-bookings_of l st = bookings 0 l.directives st.kept (noted_pads st.steps)
+bookings_of l st = bookings l.directives st.kept (noted_pads st.steps)
 
 -- The ledger of what is booked, and all faults.
 pub record IsBookOf (l : Loaded) (b : declared.Booked) : Type 0 where

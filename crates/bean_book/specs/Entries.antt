@@ -1,5 +1,6 @@
 -- What is booked, in the order of the directives.
-use Rattle.std.specs.Prelude.{ℕ, ◌+◌, ◌==◌, List, [], ◌∷◌, ◌++◌, if◌then◌else◌}
+use Rattle.std.specs.Prelude.{ℕ, ◌+◌, ◌==◌, List, [], ◌∷◌, ◌++◌, Option, Some, None, filter, map}
+use Rattle.std.specs.Prelude.{slice_get}
 use Rattle.bean_booker.specs.declared.kept.Kept.{Kept}
 use Rattle.bean_heads.specs.declared.directive.Directive.{Directive}
 use Rattle.bean_heads.specs.declared.directive.DirectiveKind.{DirectiveKind}
@@ -15,41 +16,32 @@ pub data Booking : Type 0 where
   transaction : Directive → Transaction → List Posted → Booking
   padding : NotedPad → Booking
 
--- the first of those that are kept, where it is the nth directive
-abbrev pub kept_at : ℕ → Directive → Transaction → List Kept → List Booking
-kept_at n d t [] = []
-kept_at n d t (k ∷ ks) = if k.directive == n then transaction d t k.postings ∷ [] else []
+-- the nth directive, a transaction, as it is kept: nothing where it isn't
+abbrev pub kept_as : ℕ → Directive → Transaction → List Kept → List Booking
+kept_as n d t ks = map (λ k. transaction d t k.postings) (filter (λ k. k.directive == n) ks)
 
-abbrev pub behind_kept : ℕ → List Kept → List Kept
-behind_kept n [] = []
-behind_kept n (k ∷ ks) = if k.directive == n then ks else k ∷ ks
+-- what comes of a pad
+abbrev pub padded_as : Option NotedPad → List Booking
+padded_as None = []
+padded_as (Some p) = padding p ∷ []
 
-abbrev pub noted_at : List NotedPad → List Booking
-noted_at [] = []
-noted_at (p ∷ ps) = padding p ∷ []
+-- what is booked of the nth directive, which has so many pads before it
+abbrev pub booking_of : ℕ → ℕ → Directive → DirectiveKind → List Kept → List NotedPad → List Booking
+booking_of n before d (kind.Transaction t) ks ps = kept_as n d t ks
+booking_of n before d (kind.Pad p) ks ps = padded_as (slice_get ps before)
+booking_of n before d other ks ps = []
 
--- what is booked of the nth directive
-abbrev pub booking_of : ℕ → Directive → DirectiveKind → List Kept → List NotedPad → List Booking
-booking_of n d (kind.Transaction t) ks ps = kept_at n d t ks
-booking_of n d (kind.Pad p) ks ps = noted_at ps
-booking_of n d other ks ps = []
+abbrev pub pad_count : DirectiveKind → ℕ
+pad_count (kind.Pad p) = 1
+pad_count other = 0
 
-abbrev pub kept_behind : ℕ → DirectiveKind → List Kept → List Kept
-kept_behind n (kind.Transaction t) ks = behind_kept n ks
-kept_behind n other ks = ks
+-- what is booked of directives, the first of which is the nth and has so many pads before it
+abbrev pub bookings_from : ℕ → ℕ → List (Placed Directive) → List Kept → List NotedPad → List Booking
+bookings_from n before [] ks ps = []
+bookings_from n before (d ∷ ds) ks ps =
+    booking_of n before d.item d.item.kind ks ps
+    ++ bookings_from (n + 1) (before + pad_count d.item.kind) ds ks ps
 
-abbrev pub pads_left : List NotedPad → List NotedPad
-pads_left [] = []
-pads_left (p ∷ ps) = ps
-
-abbrev pub pads_behind : DirectiveKind → List NotedPad → List NotedPad
-pads_behind (kind.Pad p) ps = pads_left ps
-pads_behind other ps = ps
-
--- what is booked of the directives from the nth on, of which these transactions are kept, and these
--- are the pads
-abbrev pub bookings : ℕ → List (Placed Directive) → List Kept → List NotedPad → List Booking
-bookings n [] ks ps = []
-bookings n (d ∷ ds) ks ps =
-    booking_of n d.item d.item.kind ks ps
-    ++ bookings (n + 1) ds (kept_behind n d.item.kind ks) (pads_behind d.item.kind ps)
+-- what is booked of all directives, of which these transactions are kept, and these are the pads
+abbrev pub bookings : List (Placed Directive) → List Kept → List NotedPad → List Booking
+bookings ds ks ps = bookings_from 0 0 ds ks ps

@@ -1,5 +1,6 @@
 pub mod Metadata
 pub mod Entries
+pub mod Left
 pub mod Rows
 pub mod Reported
 pub mod Kept

@@ -5,7 +5,8 @@ ghost use Rattle.std.specs.List.{AllByRecursion};
 ghost use Rattle.bean_sizes.specs.Booked.{IsSmallNoted};
 ghost use Rattle.bean_load.specs.Small.{IsSmall};
 ghost use Rattle.bean_book.specs.Booked.{Adds, MakesLedger, rows_of_all};
-ghost use Rattle.bean_book.specs.Entries as spec;
+ghost use Rattle.bean_book.specs.Entries.{bookings};
+ghost use Rattle.bean_book.specs.Left as spec;
 ghost use Rattle.bean_book.specs.Kept.{AreOf, IsNextOf, IsTame};
 
 use crate::counts::count_rows;
@@ -101,7 +102,7 @@ fn take_directive<'b, 'a>(
     requires pads { AllByRecursion IsSmallNoted left.pads.now }
     requires room { length ledger.old.rows ≤ MOST_POSTINGS }
     ensures adds { IfOk result (λ rest.
-        Adds (spec.booking_of number placed.now.item placed.now.item.kind left.entry.kept.now
+        Adds (spec.next_booking number placed.now.item placed.now.item.kind left.entry.kept.now
         left.entry.pads.now) ledger.old ledger.new) }
     ensures kept { IfOk result (λ rest. rest.kept.now
         ≡ spec.kept_behind number placed.now.item.kind left.entry.kept.now) }
@@ -109,7 +110,7 @@ fn take_directive<'b, 'a>(
         ≡ spec.pads_behind placed.now.item.kind left.entry.pads.now) }
     ensures full { result ≡ Err BookFault.TooManyPostings → MOST_POSTINGS
         < length ledger.old.rows
-        + length (rows_of_all (spec.booking_of number placed.now.item placed.now.item.kind
+        + length (rows_of_all (spec.next_booking number placed.now.item placed.now.item.kind
         left.entry.kept.now left.entry.pads.now)) }
     ensures room { IfOk result (λ rest. length ledger.new.rows ≤ MOST_POSTINGS) }
 {
@@ -154,7 +155,7 @@ pub(crate) fn ledger_of<'a>(
     requires small { AllByRecursion IsSmall directives.items }
     requires tame { AllByRecursion IsTame kept.now }
     requires pads { AllByRecursion IsSmallNoted pads.now }
-    ensures { MakesLedger (spec.bookings 0 directives.entry.items kept.now pads.now) result }
+    ensures { MakesLedger (bookings directives.entry.items kept.now pads.now) result }
 {
     let mut ledger = ledger_for(alloc, kept, pads)?;
     let mut left = Left { kept, pads };

@@ -32,10 +32,10 @@ pub returns-in-Err-ledger : goal.returns-in-Err-ledger
 returns-in-Err-ledger c =
     let fault = c.in-Err-ledger.fault in
     too_many_rows c.args.loaded c.in-Ok.booked c.in-Ok.ensures.booked fault
-    (subst (λ ds. MakesLedger (bookings 0 ds c.in-Ok.booked.kept c.in-Ok.booked.pads) (Err fault))
+    (subst (λ ds. MakesLedger (bookings ds c.in-Ok.booked.kept c.in-Ok.booked.pads) (Err fault))
     c.into_directives.ensures.directives
-    (subst (λ ks. MakesLedger (bookings 0 c.into_directives.result.items ks c.in-Ok.booked.pads)
+    (subst (λ ks. MakesLedger (bookings c.into_directives.result.items ks c.in-Ok.booked.pads)
     (Err fault))
     c.as_slice.ensures
-    (subst (λ ps. MakesLedger (bookings 0 c.into_directives.result.items c.as_slice.result.now ps)
+    (subst (λ ps. MakesLedger (bookings c.into_directives.result.items c.as_slice.result.now ps)
     (Err fault)) c.as_slice-2.ensures c.in-Err-ledger.ensures)))

@@ -11,10 +11,12 @@ use Rattle.bean_sizes.specs.Booked.{IsSmallNoted}
 use Rattle.bean_load.specs.Small.{IsSmall}
 use Rattle.posting_table.specs.Decimals.{decimals_of}
 use Rattle.posting_table.specs.Ledger.{Ledger}
-use Rattle.bean_book.specs.Booked.{decimals_from, rows_of_all, written_in_all}
-use Rattle.bean_book.specs.Entries.{Booking, booking_of, bookings, kept_behind, pads_behind}
+use Rattle.bean_book.specs.Booked.{MakesLedger, decimals_from, rows_of_all, written_in_all}
+use Rattle.bean_book.specs.Entries.{Booking}
+use Rattle.bean_book.specs.Left.{next_booking, bookings_left, kept_behind, pads_behind}
 use Rattle.bean_book.specs.Kept.{AreOf, IsTame}
-use Rattle.bean_book.proofs.KeptFacts.{all_left, all_pads, left_of, next_of}
+use Rattle.bean_book.proofs.BookingFacts.{all_left}
+use Rattle.bean_book.proofs.KeptFacts.{all_pads, left_of, next_of, still_all}
 use Rattle.bean_book.proofs.LedgerFacts.{decimals_left, refused, rows_left, too_many}
 use Rattle.bean_book.proofs.ledger.ledger_of.Goals as goal
 
@@ -50,13 +52,13 @@ loop-placed-init c =
     let items = c.into_iter-placed-iterator.ensures.into_iter_gives.0 in
     let ks = c.args.kept.now in
     let ps = c.args.pads.now in
-    let all = bookings 0 c.args.directives.items ks ps in record {
+    let all = bookings_left 0 c.args.directives.items ks ps in record {
       number = refl;
-      rows = ap (λ l. c.in_ok-ledger.ledger.rows ++ rows_of_all (bookings 0 l ks ps)) items
+      rows = ap (λ l. c.in_ok-ledger.ledger.rows ++ rows_of_all (bookings_left 0 l ks ps)) items
           ∙ ap (λ (l : Ledger). l.rows ++ rows_of_all all) c.in_ok-ledger.ensures;
       decimals = λ name.
           ap (λ l. decimals_from (decimals_of c.in_ok-ledger.ledger.decimals name) name
-          (written_in_all (bookings 0 l ks ps))) items
+          (written_in_all (bookings_left 0 l ks ps))) items
           ∙ ap (λ (l : Ledger). decimals_from (decimals_of l.decimals name) name
           (written_in_all all)) c.in_ok-ledger.ensures
           ∙ ap (λ o. decimals_from (unwrap_or o 0) name (written_in_all all))
@@ -76,10 +78,10 @@ loop-placed-preserved c =
     let ks = c.loop-placed.left.kept.now in
     let ps = c.loop-placed.left.pads.now in
     let next = c.in-Some.ensures.steps.0 ∙ ap (λ d. d ∷ ds) (sym c.get.ensures) in
-    let b = booking_of i d.item d.item.kind ks ps in
-    let rest = bookings (i + 1) ds (kept_behind i d.item.kind ks)
+    let b = next_booking i d.item d.item.kind ks ps in
+    let rest = bookings_left (i + 1) ds (kept_behind i d.item.kind ks)
     (pads_behind d.item.kind ps) in
-    let now : List Kept → List NotedPad → List Booking = λ l q. bookings (i + 1) ds l q in
+    let now : List Kept → List NotedPad → List Booking = λ l q. bookings_left (i + 1) ds l q in
     let kept = c.in-Ok.ensures.kept in
     let noted = c.in-Ok.ensures.noted in
     let old = c.loop-placed.ledger in
@@ -89,14 +91,14 @@ loop-placed-preserved c =
       number = omega (arith, number, longer);
       rows = (λ k. new.rows ++ rows_of_all (now (kept k) (noted k)))
           ∙ rows_left b rest old new _ c.in-Ok.ensures.adds
-          (ap (λ l. old.rows ++ rows_of_all (bookings i l ks ps)) (sym next)
+          (ap (λ l. old.rows ++ rows_of_all (bookings_left i l ks ps)) (sym next)
           ∙ c.loop-placed.invariant.rows);
       decimals = λ name.
           (λ k. decimals_from (decimals_of new.decimals name) name
           (written_in_all (now (kept k) (noted k))))
           ∙ decimals_left b rest old new _ name c.in-Ok.ensures.adds
           (ap (λ l. decimals_from (decimals_of old.decimals name) name
-          (written_in_all (bookings i l ks ps))) (sym next)
+          (written_in_all (bookings_left i l ks ps))) (sym next)
           ∙ c.loop-placed.invariant.decimals name);
       room = c.in-Ok.ensures.room;
       are = subst (AreOf (i + 1) ds) (sym kept)
@@ -104,7 +106,7 @@ loop-placed-preserved c =
           (subst (λ l. AreOf i l ks) next c.loop-placed.invariant.are));
       small = (subst (AllByRecursion IsSmall) next c.loop-placed.invariant.small).1;
       tame = subst (AllByRecursion IsTame) (sym kept)
-          (all_left IsTame i ks d.item.kind c.loop-placed.invariant.tame);
+          (still_all IsTame i ks d.item.kind c.loop-placed.invariant.tame);
       pads = subst (AllByRecursion IsSmallNoted) (sym noted)
           (all_pads IsSmallNoted ps d.item.kind c.loop-placed.invariant.pads);
     }
@@ -118,14 +120,16 @@ returns c =
     let left = c.loop-placed.placed-iterator.rest in
     let count = left.ok.0 in
     let done = c.in-None.ensures.steps.0 in
-    let none = empty left.items (omega (arith, count, done)) in record {
+    let none = empty left.items (omega (arith, count, done)) in
+    let all = all_left c.args.directives.items c.args.kept.now c.args.pads.now c.requires.are in record {
       rows = sym (append-nil ledger.rows)
-          ∙ ap (λ l. ledger.rows ++ rows_of_all (bookings i l ks ps)) (sym none)
-          ∙ c.loop-placed.invariant.rows;
+          ∙ ap (λ l. ledger.rows ++ rows_of_all (bookings_left i l ks ps)) (sym none)
+          ∙ c.loop-placed.invariant.rows ∙ ap rows_of_all all;
       few = c.loop-placed.invariant.room;
       decimals = λ name. ap (λ l. decimals_from (decimals_of ledger.decimals name) name
-          (written_in_all (bookings i l ks ps))) (sym none)
-          ∙ c.loop-placed.invariant.decimals name;
+          (written_in_all (bookings_left i l ks ps))) (sym none)
+          ∙ c.loop-placed.invariant.decimals name
+          ∙ ap (λ bs. decimals_from 0 name (written_in_all bs)) all;
     }
 
 pub returns-in-Err : goal.returns-in-Err
@@ -136,12 +140,14 @@ returns-in-Err c =
     let ks = c.loop-placed.left.kept.now in
     let ps = c.loop-placed.left.pads.now in
     let old = c.loop-placed.ledger in
-    let all = bookings 0 c.args.directives.items c.args.kept.now c.args.pads.now in
-    let rest = bookings (i + 1) ds (kept_behind i d.item.kind ks)
+    let all = bookings_left 0 c.args.directives.items c.args.kept.now c.args.pads.now in
+    let rest = bookings_left (i + 1) ds (kept_behind i d.item.kind ks)
     (pads_behind d.item.kind ps) in
     let next = c.in-Some.ensures.steps.0 ∙ ap (λ d. d ∷ ds) (sym c.get.ensures) in
-    refused all c.in-Err.fault (λ fault.
-    too_many (booking_of i d.item d.item.kind ks ps) rest old.rows all
-    (ap (λ l. old.rows ++ rows_of_all (bookings i l ks ps)) (sym next)
+    subst (λ bs. MakesLedger bs (Err c.in-Err.fault))
+    (all_left c.args.directives.items c.args.kept.now c.args.pads.now c.requires.are)
+    (refused all c.in-Err.fault (λ fault.
+    too_many (next_booking i d.item d.item.kind ks ps) rest old.rows all
+    (ap (λ l. old.rows ++ rows_of_all (bookings_left i l ks ps)) (sym next)
     ∙ c.loop-placed.invariant.rows)
-    (c.in-Err.ensures.full (ap Err fault)))
+    (c.in-Err.ensures.full (ap Err fault))))

@@ -5,7 +5,7 @@ use Rattle.bean_load.specs.Small.{IsSmall}
 use Rattle.posting_table.specs.Decimals.{decimals_of}
 use Rattle.posting_table.specs.declared.ledger.TheConstants.{MOST_POSTINGS}
 use Rattle.bean_book.specs.Booked.{decimals_from, rows_of_all, written_in_all}
-use Rattle.bean_book.specs.Entries.{bookings}
+use Rattle.bean_book.specs.Left.{bookings_left}
 use Rattle.bean_book.specs.Kept.{AreOf, IsTame}
 use Rattle.bean_book.proofs.ledger.ledger_of.Given as goal
 
@@ -15,13 +15,13 @@ invariant-loop-placed l = record {
   number : l.number ≡ length l.yielded;
   rows : l.ledger.rows
       ++ rows_of_all
-      (bookings l.number l.placed-iterator.rest.items l.left.kept.now l.left.pads.now)
-      ≡ rows_of_all (bookings 0 l.fn.directives.items l.kept l.pads);
+      (bookings_left l.number l.placed-iterator.rest.items l.left.kept.now l.left.pads.now)
+      ≡ rows_of_all (bookings_left 0 l.fn.directives.items l.kept l.pads);
   decimals : (name : List ℕ)
       → decimals_from (decimals_of l.ledger.decimals name) name
       (written_in_all
-      (bookings l.number l.placed-iterator.rest.items l.left.kept.now l.left.pads.now))
-      ≡ decimals_from 0 name (written_in_all (bookings 0 l.fn.directives.items l.kept l.pads));
+      (bookings_left l.number l.placed-iterator.rest.items l.left.kept.now l.left.pads.now))
+      ≡ decimals_from 0 name (written_in_all (bookings_left 0 l.fn.directives.items l.kept l.pads));
   room : length l.ledger.rows ≤ MOST_POSTINGS;
   are : AreOf l.number l.placed-iterator.rest.items l.left.kept.now;
   small : AllByRecursion IsSmall l.placed-iterator.rest.items;
