@@ -6,8 +6,8 @@ ghost use Rattle.bean_trial.specs.Methods.{method_in};
 use bean_accounts::method_named;
 use bean_base::{Apart, Fault, FaultKind, Text};
 use bean_load::{MethodLine, Placed};
-use bean_reductions::Method;
 use bean_parser::{Directive, DirectiveKind};
+use bean_reductions::Method;
 use bean_trial::Methods;
 use std::alloc::{AllocError, Global};
 

@@ -1,7 +1,7 @@
 -- Something comes of each posting.
-use Rattle.std.proofs.Common.{◌≡◌, ◌⊎◌, inl, inr, ℕ, ℤ, zero, suc, pos, neg_ℤ, ◌<◌, ◌+◌, ◌^◌, Bool}
-use Rattle.std.proofs.Common.{true, false, ◌||◌, ◌&&◌, not, cond, List, [], ◌∷◌, length, sum_by}
-use Rattle.std.proofs.Common.{Option, Some, None, Result, Ok, Err, refl, ap, ◌∙◌, arith}
+use Rattle.std.proofs.Common.{◌≡◌, ◌⊎◌, inl, inr, ℕ, ℤ, zero, suc, pos, neg_ℤ, ◌<◌, ◌^◌, Bool}
+use Rattle.std.proofs.Common.{true, false, ◌||◌, ◌&&◌, not, cond, List, [], ◌∷◌, sum_by}
+use Rattle.std.proofs.Common.{Option, Some, None, Result, Ok, Err, refl, arith}
 use Rattle.std.specs.Prelude.{unwrap_or}
 use Rattle.std.specs.Int.RustNames.{unsigned_abs}
 use Rattle.std.specs.Int.Signed.{lt_z}
@@ -14,7 +14,7 @@ use Rattle.bean_base.specs.declared.fault.FaultKind.TheVariants as kind
 use Rattle.bean_base.specs.declared.num.Num.{Num}
 use Rattle.bean_reductions.specs.Candidate.{candidates}
 use Rattle.bean_reductions.specs.Reduction.{IsReduction}
-use Rattle.bean_reductions.specs.Take.{AreTakes, signed_take, signed_takes, units_of, with_sign}
+use Rattle.bean_reductions.specs.Take.{signed_take, signed_takes, units_of, with_sign}
 use Rattle.bean_lots.specs.declared.lot.Cost.{Cost}
 use Rattle.bean_lots.specs.declared.lot.Lot.{Lot}
 use Rattle.bean_lots.specs.declared.lot.Position.{Position}

@@ -6,7 +6,7 @@ use Rattle.std.specs.List.{AllByRecursion, list_any}
 use Rattle.std.proofs.lemmas.List.{append-nil, reverse-append}
 use Rattle.bean_base.specs.declared.fault.FaultKind.TheVariants as kind
 use Rattle.bean_base.specs.declared.num.Num.{Num}
-use Rattle.bean_interp.specs.Completion.{AreFills, CanBeFilled, Completes, Fills, gap_of, gaps}
+use Rattle.bean_interp.specs.Completion.{CanBeFilled, Fills, gap_of, gaps}
 use Rattle.bean_interp.specs.Lacking.{lack_too_much}
 use Rattle.bean_interp.specs.Residual.{AreInRange}
 use Rattle.bean_interp.specs.declared.fill.Fill.{Fill}
