@@ -1,7 +1,6 @@
 -- What is known of all slots stays known.
-use Rattle.std.proofs.Common.{take, ◌≤◌}
-use Rattle.std.proofs.Common.{◌≡◌, ◌+◌, ◌-◌, ◌<◌, ◌^◌, ℕ, ℤ, pos, false, filter, List, []}
-use Rattle.std.proofs.Common.{◌∷◌, ◌++◌, length, Some, None, sym, ◌∙◌, ap, subst, arith}
+use Rattle.std.proofs.Common.{◌≡◌, ◌+◌, ◌-◌, ◌<◌, ◌≤◌, ◌^◌, ℕ, ℤ, pos, false, filter, take, List}
+use Rattle.std.proofs.Common.{[], ◌∷◌, ◌++◌, length, Some, None, sym, ◌∙◌, ap, subst, arith}
 use Rattle.std.specs.Map.{lookup, remove_entry}
 use Rattle.std.specs.Ordering.{int_eq}
 use Rattle.indexmap.specs.IndexMap.{insert_entry}
