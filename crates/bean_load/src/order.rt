@@ -14,7 +14,7 @@ pub fn order_directives(
 ) -> Result<(), AllocError>
     ensures { OnOk result (AreInOrder directives.old.items directives.new.items) }
 {
-    directives.sort_by_key(|placed| {
+    directives.sort_by_cached_key(|placed| {
         let placed = placed.get();
         ((placed.item.day, Rank::of(&placed.item.kind)), placed.part)
     })
