@@ -43,6 +43,7 @@ mod digits;
 pub mod fault;
 pub mod few;
 pub mod flags;
+pub mod limits;
 pub mod list;
 pub mod names;
 pub mod num;

@@ -5,20 +5,21 @@ use Rattle.std.proofs.lemmas.Bool.{lt-ltb}
 use Rattle.std.proofs.Math.Nat.{mul-le-mul_left, mul-le-mul_right}
 use Rattle.bean_base.proofs.PowerFacts.{pow_le}
 use Rattle.bean_base.specs.declared.bounds.Bounds.{Bounds}
+use Rattle.bean_base.specs.declared.limits.TheConstants.{MOST_POSTINGS}
 use Rattle.query_columns.specs.declared.column.Column.{Column}
 use Rattle.query_columns.specs.declared.column.Column.TheVariants as column
 use Rattle.query_shapes.specs.Shape.{is_held}
 use Rattle.query_columns.specs.ColumnShape.{AreBounds, column_shape}
 
 -- so many postings of so many digits each
-narrow : (n d : ℕ) → n ≤ 1000000 → d ≤ 28 → n * (10 ^ d - 1) < 2 ^ 127
+narrow : (n d : ℕ) → n ≤ MOST_POSTINGS → d ≤ 28 → n * (10 ^ d - 1) < 2 ^ 127
 narrow n d few small =
     let wide = pow_le d 28 small in
     let one : n * (10 ^ d - 1) ≤ n * 10 ^ 28 = mul-le-mul_left n (omega (arith, wide)) in
-    let all : n * 10 ^ 28 ≤ 1000000 * 10 ^ 28 = mul-le-mul_right (10 ^ 28) few in
+    let all : n * 10 ^ 28 ≤ MOST_POSTINGS * 10 ^ 28 = mul-le-mul_right (10 ^ 28) few in
     omega (arith, one, all)
 
-pub sum_fits : (n d : ℕ) → n ≤ 1000000 → d ≤ 28 → n * (10 ^ d - 1) < 2 ^ 128
+pub sum_fits : (n d : ℕ) → n ≤ MOST_POSTINGS → d ≤ 28 → n * (10 ^ d - 1) < 2 ^ 128
 sum_fits n d few small = let h = narrow n d few small in omega (arith, h)
 
 -- ---- columns
@@ -29,7 +30,7 @@ units_fit d small = let wide = pow_le d 20 small in lt-ltb _ _ (omega (arith, wi
 value_fits : (d : ℕ) → d ≤ 28 → nat_lt (10 ^ d - 1) (2 ^ 127) ≡ true
 value_fits d small = let wide = pow_le d 28 small in lt-ltb _ _ (omega (arith, wide))
 
-sums_fit : (n d : ℕ) → n ≤ 1000000 → d ≤ 28 → nat_lt (n * (10 ^ d - 1)) (2 ^ 127) ≡ true
+sums_fit : (n d : ℕ) → n ≤ MOST_POSTINGS → d ≤ 28 → nat_lt (n * (10 ^ d - 1)) (2 ^ 127) ≡ true
 sums_fit n d few small = lt-ltb _ _ (narrow n d few small)
 
 both : (a b : Bool) → a ≡ true → b ≡ true → (a && b) ≡ true

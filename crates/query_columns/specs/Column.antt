@@ -1,5 +1,6 @@
 -- The columns of the postings, and their names.
-use Rattle.std.specs.Prelude.{ℕ, Bool, true, false, List, codes, Option}
+use Rattle.std.specs.Prelude.{◌≡◌, ◌&&◌, ℕ, Bool, true, false, List, codes, Option, Some}
+use Rattle.std.specs.Prelude.{slice_get}
 use Rattle.std.specs.List.{find}
 use Rattle.std.specs.Str.{str_eq_ignore_ascii_case}
 use Rattle.query_columns.specs.declared.column.Column as columns
@@ -36,9 +37,51 @@ name Balance = codes "balance"
 name Lineno = codes "lineno"
 name Accounts = codes "accounts"
 
--- in small or capital letters; the accounts of a transaction have no name in queries
+-- the accounts of a transaction have no name in queries
+abbrev pub has_name : columns.Column → Bool
+has_name Accounts = false
+has_name _ = true
+
+-- in small or capital letters
 abbrev pub named : List ℕ → Option columns.Column
-named bs = find (λ column. str_eq_ignore_ascii_case bs (name column)) COLUMNS
+named bs =
+    find (λ column. has_name column && str_eq_ignore_ascii_case bs (name column)) COLUMNS
+
+-- the numbers of columns in the file of a query
+abbrev pub number : columns.Column → ℕ
+number Date = 0
+number Year = 1
+number Month = 2
+number Day = 3
+number Flag = 4
+number Payee = 5
+number Narration = 6
+number Tags = 7
+number Links = 8
+number Account = 9
+number PostingFlag = 10
+number Number = 11
+number Currency = 12
+number CostNumber = 13
+number CostCurrency = 14
+number CostDate = 15
+number CostLabel = 16
+number Position = 17
+number Weight = 18
+number Balance = 19
+number Lineno = 20
+number Accounts = 21
+
+abbrev pub numbered : ℕ → Option columns.Column
+numbered n = slice_get COLUMNS n
+
+-- each column has its number, and each number at most one column
+abbrev pub NumbersAreOfColumns : Type 0
+NumbersAreOfColumns =
+    (n : ℕ) (c : columns.Column) → numbered n ≡ Some c → number c ≡ n
+
+abbrev pub ColumnsHaveNumbers : Type 0
+ColumnsHaveNumbers = (c : columns.Column) → numbered (number c) ≡ Some c
 
 -- those that FROM knows
 abbrev pub is_of_transaction : columns.Column → Bool

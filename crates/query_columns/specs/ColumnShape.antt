@@ -1,6 +1,8 @@
 -- What is known of the values of a column, by the bounds of ledgers.
 use Rattle.std.specs.Prelude.{ℕ, ◌-◌, ◌*◌, ◌^◌, ◌≤◌}
 use Rattle.bean_base.specs.declared.bounds.Bounds.{Bounds}
+use Rattle.bean_base.specs.declared.limits.TheConstants.{MOST_POSTINGS, LARGEST_TEXT}
+use Rattle.bean_base.specs.declared.limits.TheConstants.{MOST_UNITS_DIGITS, MOST_VALUE_DIGITS}
 use Rattle.query_columns.specs.declared.column.Column.{Column}
 use Rattle.query_columns.specs.declared.column.Column.TheVariants as column
 use Rattle.query_shapes.specs.Rules.{whole}
@@ -8,11 +10,22 @@ use Rattle.query_shapes.specs.declared.shape.Shape.{Shape}
 use Rattle.query_shapes.specs.declared.shape.Shape.TheVariants.{Text, Day, Set, Number}
 use Rattle.query_shapes.specs.declared.shape.Shape.TheVariants.{Amount, Position, Inventory}
 
--- bounds that a query may have
+-- bounds that a query may have: each is at least 1, and at most its limit
 pub record AreBounds (b : Bounds) : Type 0 where
-  pub postings : b.postings ≤ 1000000
-  pub units : b.units_digits ≤ 20
-  pub value : b.value_digits ≤ 28
+  pub some_postings : 1 ≤ b.postings
+  pub postings : b.postings ≤ MOST_POSTINGS
+  pub some_units : 1 ≤ b.units_digits
+  pub units : b.units_digits ≤ MOST_UNITS_DIGITS
+  pub some_value : 1 ≤ b.value_digits
+  pub value : b.value_digits ≤ MOST_VALUE_DIGITS
+
+-- the widest of them
+abbrev pub widest : Bounds
+widest = record {
+  postings = MOST_POSTINGS;
+  units_digits = MOST_UNITS_DIGITS;
+  value_digits = MOST_VALUE_DIGITS;
+}
 
 -- the greatest count of units, and of what they are worth
 abbrev pub units_most : Bounds → ℕ
@@ -43,5 +56,5 @@ column_shape b column.Position = Position (units_most b) (value_most b)
 column_shape b column.Weight = Amount 16 (value_most b)
 column_shape b column.Balance =
     Inventory 8 (b.postings * units_most b) (b.postings * value_most b)
-column_shape b column.Lineno = whole 16777216
+column_shape b column.Lineno = whole LARGEST_TEXT
 column_shape b column.Accounts = Set

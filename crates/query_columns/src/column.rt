@@ -30,8 +30,8 @@ pub enum Column {
     Accounts,
 }
 
-/// All columns that a query can name, by their numbers.
-pub const COLUMNS: [Column; 21] = [
+/// All columns, by their numbers.
+pub const COLUMNS: [Column; 22] = [
     Column::Date,
     Column::Year,
     Column::Month,
@@ -53,6 +53,7 @@ pub const COLUMNS: [Column; 21] = [
     Column::Weight,
     Column::Balance,
     Column::Lineno,
+    Column::Accounts,
 ];
 
 impl Column {
@@ -93,7 +94,29 @@ impl Column {
         COLUMNS
             .iter()
             .copied()
-            .find(|column| name.eq_ignore_ascii_case(column.name()))
+            .find(|column| column.has_name() && name.eq_ignore_ascii_case(column.name()))
+    }
+
+    /// Whether a query can name the column. The accounts of a transaction are read by
+    /// `HAS_ACCOUNT` alone.
+    pub fn has_name(self) -> bool
+        ensures { result ≡ columns.has_name self }
+    {
+        !matches!(self, Column::Accounts)
+    }
+
+    /// The number of the column in the file of a query.
+    pub fn number(self) -> u8
+        ensures { result ≡ columns.number self }
+    {
+        self as u8
+    }
+
+    /// The column of a number.
+    pub fn numbered(number: u8) -> Option<Column>
+        ensures { result ≡ columns.numbered number }
+    {
+        COLUMNS.get(number as usize).copied()
     }
 
     /// Whether the column is the transaction's, and one of those that FROM knows.

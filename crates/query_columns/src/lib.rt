@@ -4,6 +4,7 @@
 //! let column = Column::named("Cost_Number");             // Some(Column::CostNumber)
 //! let name = Column::CostNumber.name();                  // cost_number
 //! Column::CostNumber.is_of_transaction();                // false
+//! Column::CostNumber.number();                           // 13, in the file of a query
 //! let bounds = Bounds { postings: 1_000_000, units_digits: 20, value_digits: 28 };
 //! column_shape(&bounds, Column::CostNumber)              // 8 decimals, below 10^20
 //! ```
@@ -28,5 +29,5 @@ pub mod laws;
 mod shapes;
 
 pub use column::{COLUMNS, Column};
-pub use laws::columns_are_held;
+pub use laws::{columns_are_held, columns_are_numbered_once};
 pub use shapes::column_shape;

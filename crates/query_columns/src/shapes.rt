@@ -3,6 +3,7 @@ ghost use Rattle.std.specs.Prelude.{◌≡◌, ◌^◌, ◌-◌, ◌≤◌};
 ghost use Rattle.query_columns.specs.ColumnShape as spec;
 
 use crate::column::Column;
+use bean_base::limits::LARGEST_TEXT;
 use bean_base::{Bounds, power_of_ten};
 use query_shapes::Shape;
 use query_shapes::rules::whole;
@@ -51,6 +52,6 @@ pub fn column_shape(bounds: &Bounds, column: Column) -> Shape
             units: postings * units,
             value: postings * value,
         },
-        Column::Lineno => whole(16_777_216),
+        Column::Lineno => whole(LARGEST_TEXT as u128),
     }
 }

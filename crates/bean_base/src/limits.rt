@@ -1,0 +1,50 @@
+//! The limits of ledgers, of queries and of programs, each told once.
+
+// ---- ledgers
+
+/// The most postings of a ledger.
+pub const MOST_POSTINGS: usize = 1_000_000;
+
+/// The most bytes of a text of a ledger: 16 MiB. So a name or a narration has no more bytes, and a
+/// line no greater number.
+pub const LARGEST_TEXT: usize = 16_777_216;
+
+/// The most digits of a count of units or of a cost, in `10^-8`.
+pub const MOST_UNITS_DIGITS: u8 = 20;
+
+/// The most digits of a weight, and of a product of units and cost, in `10^-16`.
+pub const MOST_VALUE_DIGITS: u8 = 28;
+
+// ---- queries
+
+/// The most bytes of the text of a query.
+pub const LARGEST_QUERY: usize = 65_535;
+
+/// The most targets of a query, the most items of GROUP BY, and the most of ORDER BY.
+pub const MOST_ITEMS: usize = 255;
+
+/// The greatest height of an expression of a query.
+pub const GREATEST_HEIGHT: usize = 200;
+
+/// The most parentheses, signs and NOTs in one another, in a ledger's expression or a query's.
+pub const MOST_NESTED: usize = 200;
+
+/// The most components that a query takes of an account.
+pub const MOST_COMPONENTS: i128 = 255;
+
+// ---- machines
+
+/// The most decimals of a value.
+pub const MOST_PLACES: u8 = 32;
+
+/// The greatest count of a value, sign left off: `2^127 - 1`.
+pub const GREATEST_COUNT: u128 = 170_141_183_460_469_231_731_687_303_715_884_105_727;
+
+/// The most values on the stack of a section.
+pub const MOST_VALUES: usize = 256;
+
+/// How many slots a section has.
+pub const SLOTS: usize = 64;
+
+/// The most instructions of a section, and the most entries of a pool.
+pub const LONGEST_SECTION: usize = 65_535;

@@ -1,0 +1,4 @@
+pub mod FinalRowsFacts
+pub mod SameFacts
+pub mod ShapedFacts
+mod Examples

@@ -1,0 +1,5 @@
+pub mod Row
+pub mod Shaped
+pub mod Same
+pub mod Grouping
+pub mod FinalRows
