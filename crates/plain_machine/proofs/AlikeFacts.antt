@@ -11,8 +11,8 @@ use Rattle.query_values.specs.declared.value.Value.{Value}
 use Rattle.query_code.specs.QueryFile.{is_grouped}
 use Rattle.query_code.specs.declared.program.Parts.{Parts}
 use Rattle.plain_machine.specs.Alike.{group_as, kept_as, stand_as}
-use Rattle.plain_machine.specs.FinalRows.{are_orderable}
-use Rattle.plain_machine.specs.Distinct.{same_values}
+use Rattle.plain_machine.specs.Finishing.{are_orderable}
+use Rattle.query_rows.specs.Same.{same_values}
 use Rattle.plain_machine.specs.Gathering.{Keeping, Group, inputs_of, next_input, cons_if, take_each}
 use Rattle.plain_machine.specs.Gathering.{with_input, aggregates_over, all_inputs, with_value}
 use Rattle.plain_machine.specs.Gathering.{running_values, group_if, put}
@@ -24,7 +24,7 @@ use Rattle.plain_machine.specs.PlainMachine.{end_row, begin_row, judged, end_fil
 use Rattle.plain_machine.specs.PlainMachine.{end_last, in_filter, in_row, in_last, filter_acts}
 use Rattle.plain_machine.specs.PlainMachine.{row_acts, last_acts, step, after, last_loads}
 use Rattle.plain_machine.specs.Loading.{value_acts}
-use Rattle.plain_machine.specs.Row.{Row}
+use Rattle.query_rows.specs.Row.{Row}
 use Rattle.plain_machine.specs.SectionRun.{start, Outcome, Standing, Stopped, one_step}
 
 -- what one keeping keeps is, as f sees it, what another keeps

@@ -7,13 +7,13 @@ use Rattle.std.proofs.Math.Nat.{mul-le-mul_right}
 use Rattle.query_values.specs.declared.value.Value.{Value}
 use Rattle.query_code.specs.QueryFile.{is_grouped}
 use Rattle.query_code.specs.declared.program.Parts.{Parts}
-use Rattle.plain_machine.specs.FinalRows.{are_orderable}
-use Rattle.plain_machine.specs.Distinct.{same_values}
+use Rattle.plain_machine.specs.Finishing.{are_orderable}
+use Rattle.query_rows.specs.Same.{same_values}
 use Rattle.plain_machine.specs.Gathering.{Keeping, Group, inputs_of, cons_if, group_if, put}
 use Rattle.plain_machine.specs.PlainMachine.{Kept, Done, one_truth, running_with, row_of}
 use Rattle.plain_machine.specs.PlainMachine.{with_running, with_groups, with_row, grouped_with}
 use Rattle.plain_machine.specs.PlainMachine.{kept_with, nothing_kept, begin}
-use Rattle.plain_machine.specs.Row.{Row}
+use Rattle.query_rows.specs.Row.{Row}
 use Rattle.plain_machine.specs.WholeRun.{filter_left, row_left, row_run, row_taken, behind_row}
 use Rattle.plain_machine.specs.WholeRun.{behind_rows, group_row, group_rows, orderable, rows_of}
 use Rattle.plain_machine.specs.WholeRun.{answer, stand_of, group_count, budget, Reaches, IsReached}

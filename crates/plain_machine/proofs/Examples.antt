@@ -2,6 +2,8 @@
 use Rattle.std.proofs.Common.{◌≡◌, ◌<◌, ◌≤◌, ◌^◌, ◌-◌, ℕ, ℤ, pos, negsuc, Bool, true, false, List}
 use Rattle.std.proofs.Common.{[], ◌∷◌, ◌++◌, map, replicate, Some, None, codes, refl, arith}
 use Rattle.bean_lots.specs.declared.lot.Key.{Key}
+use Rattle.query_columns.specs.declared.column.Column.{Column}
+use Rattle.query_columns.specs.declared.column.Column.TheVariants as column
 use Rattle.query_values.specs.declared.operation.Aggregate.{Aggregate}
 use Rattle.query_values.specs.declared.operation.Aggregate.TheVariants as aggregate
 use Rattle.query_values.specs.declared.operation.Binary.TheVariants as binary
@@ -20,9 +22,9 @@ use Rattle.query_code.specs.declared.program.Mode.TheVariants.{Plain, Grouped}
 use Rattle.query_code.specs.declared.program.Output.{Output}
 use Rattle.query_code.specs.declared.program.Parts.{Parts}
 use Rattle.query_code.proofs.WorkedProgram.{counted}
-use Rattle.plain_machine.specs.FinalRows.{are_orderable, comes_before, once_if, shown}
+use Rattle.plain_machine.specs.Finishing.{are_orderable, finish_of, ranked}
 use Rattle.plain_machine.specs.PlainMachine.{Done, Fault, stand_after}
-use Rattle.plain_machine.specs.Row.{Row, Entry, any_text}
+use Rattle.query_rows.specs.Row.{Row}
 use Rattle.plain_machine.specs.WholeRun.{budget, is_going}
 
 -- ---- rows
@@ -31,13 +33,14 @@ abbrev usd : Key
 usd = record { currency = codes "USD"; lot = None }
 
 -- an account, and a count of 10^-8 USD
+abbrev cell_of : List ℕ → ℤ → Column → Value
+cell_of account count column.Account = Text account
+cell_of account count column.Position = Position usd count
+cell_of account count c = Null
+
 abbrev posting : List ℕ → ℤ → Row
-posting account count = record {
-  cells = replicate 9 Null ++ Text account ∷ replicate 7 Null ++ Position usd count
-      ∷ replicate 4 Null;
-  posting_entries = [];
-  transaction_entries = [];
-}
+posting account count =
+    record { cell = cell_of account count; posting_entries = []; transaction_entries = [] }
 
 abbrev cash : List ℕ
 cash = codes "Assets:Cash"
@@ -235,23 +238,6 @@ a_value_more = refl
 column_of_a_group : stand_after (grouped 1 [] load_account load_account) three_rows 7 ≡ Fault
 column_of_a_group = refl
 
--- ---- metadata
-
-abbrev with_entries : List Entry → List Entry → Row
-with_entries own entry = record { cells = []; posting_entries = own; transaction_entries = entry }
-
-own_text :
-    any_text (codes "k")
-    (with_entries ((codes "k", Some (codes "a")) ∷ []) ((codes "k", Some (codes "b")) ∷ []))
-    ≡ Text (codes "a")
-own_text = refl
-
-first_entry :
-    any_text (codes "k")
-    (with_entries ((codes "k", None) ∷ (codes "k", Some (codes "a")) ∷ [])
-    ((codes "k", Some (codes "b")) ∷ [])) ≡ Text (codes "b")
-first_entry = refl
-
 -- ---- final rows
 
 -- null stands with any kind, other kinds don't stand with each other
@@ -284,19 +270,16 @@ by_first descending =
 abbrev pair : ℤ → ℤ → List Value
 pair m n = Number 0 m ∷ Number 0 n ∷ []
 
-first_decides : comes_before (by_first false) (pair (pos 1) (pos 9)) (pair (pos 2) (pos 0)) ≡ true
-first_decides = refl
+-- the hidden value only orders rows
+hidden_orders :
+    ranked (by_first true) (pair (pos 1) (pos 9))
+    ≡ record {
+      shown = Number 0 (pos 1) ∷ [];
+      ranks = Number 0 (pos 1) ∷ Number 0 (pos 9) ∷ [];
+    }
+hidden_orders = refl
 
-second_decides : comes_before (by_first true) (pair (pos 1) (pos 9)) (pair (pos 1) (pos 0)) ≡ true
-second_decides = refl
-
-null_is_last : comes_before (by_first true) (pair (pos 1) (pos 0)) (Null ∷ Null ∷ []) ≡ true
-null_is_last = refl
-
--- rows that show the same are one, whatever they are ordered by
-kept_once :
-    once_if true
-    (map (shown (by_first false))
-    (pair (pos 1) (pos 9) ∷ pair (pos 2) (pos 0) ∷ pair (pos 1) (pos 7) ∷ []))
-    ≡ (Number 0 (pos 1) ∷ []) ∷ (Number 0 (pos 2) ∷ []) ∷ []
-kept_once = refl
+-- each once, from the end of the order, and no limit
+as_asked : finish_of (by_first true)
+    ≡ record { is_descending = true; is_distinct = true; limit = None }
+as_asked = refl

@@ -2,18 +2,13 @@
 use Rattle.std.proofs.Common.{◌≡◌, List, [], ◌∷◌, ◌++◌, map, Option, Some, None, Bool, true, false}
 use Rattle.std.proofs.Common.{cond, ◌||◌, refl, sym, ap, subst, ◌∙◌, true≢false}
 use Rattle.std.specs.Prelude.{filter, option_and_then}
-use Rattle.std.specs.Cmp.{IsEquivalence}
-use Rattle.std.specs.Cmp.Lexicographic.{lists_equiv}
 use Rattle.std.specs.List.{AllByRecursion, list_any}
 use Rattle.std.proofs.lemmas.List.{append-nil}
-use Rattle.query_values.proofs.EqualityFacts.{values_equiv}
+use Rattle.query_rows.proofs.SameFacts.{lists_same}
 use Rattle.query_values.specs.declared.value.Value.{Value}
-use Rattle.plain_machine.specs.Distinct.{same_values, with_new, each_once}
+use Rattle.query_rows.specs.Same.{same_values, with_new, each_once}
 use Rattle.plain_machine.specs.Gathering.{Keeping, Group, cons_if, group_if, put}
 use Rattle.plain_machine.specs.Grouping.{Member, put_all, come_to, inputs_under, AreGroups}
-
-lists_same : IsEquivalence same_values
-lists_same = lists_equiv values_equiv
 
 neither : (a b : Bool) → (a || b) ≡ false → (a ≡ false) × (b ≡ false)
 neither true b e = absurd (true≢false e)

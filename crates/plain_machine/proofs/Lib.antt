@@ -4,5 +4,4 @@ pub mod RunFacts
 pub mod CountFacts
 pub mod GroupingFacts
 pub mod AlikeFacts
-pub mod FinalRowsFacts
 mod Examples

@@ -10,7 +10,7 @@ use Rattle.query_code.specs.declared.program.Parts.{Parts}
 use Rattle.plain_machine.specs.Gathering.{Keeping}
 use Rattle.plain_machine.specs.PlainMachine.{Stand, step, steps}
 use Rattle.plain_machine.specs.SectionRun.{Acts, State, start, Outcome, Standing, Stopped, stepped}
-use Rattle.plain_machine.specs.SectionRun.{one_step, after_steps, left_by}
+use Rattle.plain_machine.specs.SectionRun.{one_step, after_steps, begun, left_by}
 use Rattle.plain_machine.specs.WholeRun.{Reaches, is_going}
 use Rattle.plain_machine.proofs.SectionFacts.{far_after, at_end}
 
@@ -98,14 +98,14 @@ module _ {X : Type 0} (keep : Keeping X) (p : Parts) where
         (sym (slice_get_past code q more)) a))
         (cases_lt q (length code))
 
-    section_made : (n : ℕ) → Reaches keep p n first (lift (after_steps code m n))
+    section_made : (n : ℕ) → Reaches keep p n first (lift (after_steps code m n begun))
     section_made zero = reach_here 0 first first refl
-    section_made (suc n) = section_on n (after_steps code m n) (section_made n)
+    section_made (suc n) = section_on n (after_steps code m n begun) (section_made n)
 
     pub section_ends : (end : Option (List Value) → Stand X) → lift Stopped ≡ end None
         → ((s : State Value) → lift (Standing (length code) s) ≡ end (Some s.stack))
         → Reaches keep p (length code) first (end (left_by code m))
     section_ends end none some =
         subst (λ t. Reaches keep p (length code) first t)
-        (at_end code lift end none some (after_steps code m (length code))
+        (at_end code lift end none some (after_steps code m (length code) begun)
         (far_after code m (length code))) (section_made (length code))

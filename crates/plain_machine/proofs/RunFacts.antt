@@ -4,7 +4,7 @@ use Rattle.std.proofs.Common.{None, Bool, true, false, cond, refl, sym, ap, subs
 use Rattle.std.specs.Prelude.{nat_eq, option_map, option_and_then}
 use Rattle.query_values.specs.declared.value.Value.{Value}
 use Rattle.query_code.specs.declared.program.Parts.{Parts}
-use Rattle.plain_machine.specs.FinalRows.{are_orderable}
+use Rattle.plain_machine.specs.Finishing.{are_orderable}
 use Rattle.plain_machine.specs.Gathering.{Keeping, Group}
 use Rattle.plain_machine.specs.PlainMachine.{Kept, Stand, InFilter, InRow, InLast, Done, Fault}
 use Rattle.plain_machine.specs.PlainMachine.{one_truth, running_with, row_of, kept_with}
@@ -12,7 +12,7 @@ use Rattle.plain_machine.specs.PlainMachine.{with_running, nothing_kept, ended, 
 use Rattle.plain_machine.specs.PlainMachine.{begin_filter, begin, go_on, end_row, begin_row, judged}
 use Rattle.plain_machine.specs.PlainMachine.{end_filter, go_on_last, end_last, in_filter, in_row}
 use Rattle.plain_machine.specs.PlainMachine.{in_last, filter_acts, row_acts, last_acts, step}
-use Rattle.plain_machine.specs.Row.{Row}
+use Rattle.query_rows.specs.Row.{Row}
 use Rattle.plain_machine.specs.SectionRun.{Acts, State, start, Outcome}
 use Rattle.plain_machine.specs.WholeRun.{filter_left, row_left, last_left, row_run, row_taken}
 use Rattle.plain_machine.specs.WholeRun.{behind_row, behind_rows, group_row, group_rows, orderable}

@@ -13,7 +13,7 @@ use Rattle.query_code.specs.declared.instruction.Instruction.TheVariants.{LoadSl
 use Rattle.query_code.specs.declared.instruction.Instruction.TheVariants.{JumpIfFalse}
 use Rattle.plain_machine.specs.SectionRun.{Acts, State, effect, leads_on, has_true_top, next_place}
 use Rattle.plain_machine.specs.SectionRun.{Outcome, Standing, Stopped, moved, stepped, one_step}
-use Rattle.plain_machine.specs.SectionRun.{after_steps, stack_in, left_by}
+use Rattle.plain_machine.specs.SectionRun.{after_steps, begun, stack_in, left_by}
 
 pub above_zero : (n : ℕ) → nat_eq n 0 ≡ false → 0 < n
 above_zero zero h = absurd (eqb-false 0 0 h refl)
@@ -110,9 +110,10 @@ far_step code m n (Standing p s) f =
     on (Some i) e less = far_on code m n p i s f less
 
 pub far_after : (code : List Instruction) (m : Acts Value) (n : ℕ)
-    → IsFar code n (after_steps code m n)
+    → IsFar code n (after_steps code m n begun)
 far_after code m zero = record { inside = omega arith; far = omega arith }
-far_after code m (suc n) = far_step code m n (after_steps code m n) (far_after code m n)
+far_after code m (suc n) =
+    far_step code m n (after_steps code m n begun) (far_after code m n)
 
 -- where a section ends, and how
 pub at_end :

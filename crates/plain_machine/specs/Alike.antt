@@ -4,7 +4,7 @@ use Rattle.query_code.specs.declared.program.Parts.{Parts}
 use Rattle.plain_machine.specs.Gathering.{Group, all_inputs, running_values, aggregates_over}
 use Rattle.plain_machine.specs.PlainMachine.{Kept, Stand, InFilter, InRow, InLast, Done, Fault}
 use Rattle.plain_machine.specs.PlainMachine.{after}
-use Rattle.plain_machine.specs.Row.{Row}
+use Rattle.query_rows.specs.Row.{Row}
 
 module _ {X Y : Type 0} (f : X → Y) where
   -- what f makes of what each group keeps

@@ -7,7 +7,7 @@ use Rattle.query_values.specs.declared.operation.Aggregate.{Aggregate}
 use Rattle.query_values.specs.declared.operation.Aggregate.TheVariants.{CountRows}
 use Rattle.query_values.specs.declared.value.Value.{Value}
 use Rattle.query_values.specs.declared.value.Value.TheVariants.{Null}
-use Rattle.plain_machine.specs.Distinct.{same_values}
+use Rattle.query_rows.specs.Same.{same_values}
 
 -- How a group keeps what comes to it: inputs, one for each aggregate but a count of rows. None is a
 -- fault.

@@ -1,9 +1,9 @@
 -- The groups that members make: each with keys and inputs, one after the other.
-use Rattle.std.specs.Prelude.{◌≡◌, List, [], ◌∷◌, map, filter, Option, Some, option_and_then}
+use Rattle.std.specs.Prelude.{◌≡◌, List, [], ◌∷◌, map, Option, Some, option_and_then}
 use Rattle.std.specs.List.{AllByRecursion}
 use Rattle.query_values.specs.declared.operation.Aggregate.{Aggregate}
 use Rattle.query_values.specs.declared.value.Value.{Value}
-use Rattle.plain_machine.specs.Distinct.{same_values, each_once}
+use Rattle.query_rows.specs.Grouping.{distinct_keys, members_of}
 use Rattle.plain_machine.specs.Gathering.{Keeping, Group, put}
 
 abbrev pub Member : Type 0
@@ -21,14 +21,17 @@ module _ {X : Type 0} (keep : Keeping X) where
   come_to x [] = Some x
   come_to x (i ∷ inputs) = option_and_then (λ y. come_to y inputs) (keep.add x i)
 
+abbrev pub keys_of : Member → List Value
+keys_of m = m.0
+
 -- the inputs of the members with these keys
 abbrev pub inputs_under : List Value → List Member → List (List Value)
-inputs_under keys members = map (λ m. m.1) (filter (λ m. same_values m.0 keys) members)
+inputs_under keys members = map (λ m. m.1) (members_of keys_of members keys)
 
 -- The distinct keys in order of first appearance, each with what the inputs of its members come to.
 pub record AreGroups {X : Type 0} (keep : Keeping X) (members : List Member)
     (groups : List (Group X)) : Type 0 where
-  pub keys : map (λ g. g.0) groups ≡ each_once [] (map (λ m. m.0) members)
+  pub keys : map (λ g. g.0) groups ≡ distinct_keys keys_of members
   pub each :
       AllByRecursion (λ g. come_to keep keep.start (inputs_under g.0 members) ≡ Some g.1) groups
 

@@ -1,11 +1,9 @@
-pub mod Row
 pub mod Pool
 pub mod SectionRun
 pub mod Loading
-pub mod Distinct
 pub mod Gathering
 pub mod Grouping
-pub mod FinalRows
+pub mod Finishing
 pub mod PlainMachine
 pub mod WholeRun
 pub mod Alike

@@ -1,6 +1,9 @@
 -- What the instructions of a section load, and what operations give there.
-use Rattle.std.specs.Prelude.{ℕ, ◌==◌, nat_lt, true, false, List, Option, Some, None, slice_get}
-use Rattle.std.specs.Prelude.{option_map, option_and_then, if◌then◌else◌}
+use Rattle.std.specs.Prelude.{ℕ, true, false, List, Option, Some, None, slice_get, option_map}
+use Rattle.std.specs.Prelude.{option_and_then}
+use Rattle.query_columns.specs.Column.{numbered}
+use Rattle.query_columns.specs.declared.column.Column.{Column}
+use Rattle.query_columns.specs.declared.column.Column.TheVariants.{Balance}
 use Rattle.query_values.specs.Held.{checked}
 use Rattle.query_values.specs.Operand.{may_unary, may_binary, is_truth}
 use Rattle.query_values.specs.Operation.{unary_value, binary_value}
@@ -12,7 +15,7 @@ use Rattle.query_code.specs.declared.instruction.Push.TheVariants as push
 use Rattle.query_code.specs.declared.instruction.Unary.{Unary}
 use Rattle.query_code.specs.declared.program.Constant.{Constant}
 use Rattle.plain_machine.specs.Pool.{value_at, key_at, operation_of}
-use Rattle.plain_machine.specs.Row.{Row, posting_text, transaction_text, any_text}
+use Rattle.query_rows.specs.Row.{Row, posting_text, transaction_text, any_text}
 use Rattle.plain_machine.specs.SectionRun.{Acts}
 
 -- a posting's row, the running inventory, a group's keys and its aggregates, where they may be read
@@ -22,21 +25,14 @@ pub record Loads : Type 0 where
   pub keys : List Value
   pub aggregates : List Value
 
--- how many columns there are; of one the cell is the running inventory
-abbrev pub column_count : ℕ
-column_count = 22
+-- the cell of the row; of one column it is the running inventory
+abbrev pub cell_in : Loads → Column → Option Value
+cell_in l Balance = l.balance
+cell_in l c = option_map (λ (r : Row). r.cell c) l.row
 
-abbrev pub balance_column : ℕ
-balance_column = 19
-
-abbrev pub position_column : ℕ
-position_column = 17
-
-abbrev pub cell_at : ℕ → Row → Option Value
-cell_at c r = if nat_lt c column_count then slice_get r.cells c else None
-
+-- none where no column has the number
 abbrev pub column_at : Loads → ℕ → Option Value
-column_at l c = if c == balance_column then l.balance else option_and_then (cell_at c) l.row
+column_at l n = option_and_then (cell_in l) (numbered n)
 
 -- a text of the row's metadata, under a key of the pool
 abbrev pub text_at : Loads → (List ℕ → Row → Value) → Option (List ℕ) → Option Value

@@ -7,15 +7,16 @@ use Rattle.query_values.specs.Aggregate.{aggregate_of}
 use Rattle.query_values.specs.declared.operation.Aggregate.TheVariants.{SumInventory}
 use Rattle.query_values.specs.declared.value.Value.{Value}
 use Rattle.query_values.specs.declared.value.Value.TheVariants.{Null, Truth}
+use Rattle.query_columns.specs.declared.column.Column.TheVariants.{Position}
+use Rattle.query_rows.specs.Row.{Row}
 use Rattle.query_code.specs.QueryFile.{is_grouped}
 use Rattle.query_code.specs.declared.program.Mode.{Mode}
 use Rattle.query_code.specs.declared.program.Mode.TheVariants.{Plain, Grouped}
 use Rattle.query_code.specs.declared.program.Output.{Output}
 use Rattle.query_code.specs.declared.program.Parts.{Parts}
-use Rattle.plain_machine.specs.FinalRows.{are_orderable}
+use Rattle.plain_machine.specs.Finishing.{are_orderable}
 use Rattle.plain_machine.specs.Gathering.{Keeping, Group, all_inputs, inputs_of, put, with_value}
-use Rattle.plain_machine.specs.Loading.{Loads, cell_at, position_column, value_acts}
-use Rattle.plain_machine.specs.Row.{Row}
+use Rattle.plain_machine.specs.Loading.{Loads, value_acts}
 use Rattle.plain_machine.specs.SectionRun.{Acts, State, start, Outcome, Standing, Stopped, one_step}
 
 -- What a run keeps between sections: the running inventory, the groups, and the rows that it gave.
@@ -62,8 +63,7 @@ one_truth stack = None
 
 -- the running inventory with the position of a row
 abbrev pub running_with : Value → Row → Option Value
-running_with running r =
-    option_and_then (with_value (SumInventory 8) running) (cell_at position_column r)
+running_with running r = with_value (SumInventory 8) running (r.cell Position)
 
 -- how many values a row of the answer has, those to order by included
 abbrev pub width_of : Output → ℕ

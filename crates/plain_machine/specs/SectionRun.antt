@@ -2,6 +2,7 @@
 use Rattle.std.specs.Prelude.{ℕ, zero, suc, ◌+◌, nat_le, nat_lt, Bool, true, false, ◌&&◌, List, []}
 use Rattle.std.specs.Prelude.{◌∷◌, length, replicate, slice_get, slice_set, Option, Some, None}
 use Rattle.std.specs.Prelude.{option_map, if◌then◌else◌}
+use Rattle.bean_base.specs.declared.limits.TheConstants.{MOST_VALUES, SLOTS}
 use Rattle.query_values.specs.Operation.{is_true}
 use Rattle.query_values.specs.declared.operation.Binary as binary
 use Rattle.query_values.specs.declared.value.Value.{Value}
@@ -24,19 +25,13 @@ pub record State (A : Type 0) : Type 0 where
   pub stack : List A
   pub slots : List (Option A)
 
-abbrev pub most_values : ℕ
-most_values = 256
-
-abbrev pub slot_count : ℕ
-slot_count = 64
-
 abbrev pub start : {A : Type 0} → State A
-start = record { stack = []; slots = replicate slot_count None }
+start = record { stack = []; slots = replicate SLOTS None }
 
 -- a value more, where it has room
 abbrev pub with_top : {A : Type 0} → Option A → List A → Option (List A)
 with_top None xs = None
-with_top (Some x) xs = if nat_lt (length xs) most_values then Some (x ∷ xs) else None
+with_top (Some x) xs = if nat_lt (length xs) MOST_VALUES then Some (x ∷ xs) else None
 
 -- in place of the operands on top, of which the last is the top
 abbrev pub one_operand : {A : Type 0} → (A → Option A) → List A → Option (List A)
@@ -117,10 +112,14 @@ abbrev pub one_step : List Instruction → Acts Value → Outcome → Outcome
 one_step code m Stopped = Stopped
 one_step code m (Standing p s) = stepped (length code) m (slice_get code p) p s
 
--- after n instructions
-abbrev pub after_steps : List Instruction → Acts Value → ℕ → Outcome
-after_steps code m zero = Standing 0 start
-after_steps code m (suc n) = one_step code m (after_steps code m n)
+-- after n instructions more
+abbrev pub after_steps : List Instruction → Acts Value → ℕ → Outcome → Outcome
+after_steps code m zero o = o
+after_steps code m (suc n) o = one_step code m (after_steps code m n o)
+
+-- before the first instruction
+abbrev pub begun : Outcome
+begun = Standing 0 start
 
 -- the stack that a section leaves; none where it stops
 abbrev pub stack_in : Outcome → Option (List Value)
@@ -128,4 +127,4 @@ stack_in Stopped = None
 stack_in (Standing p s) = Some s.stack
 
 abbrev pub left_by : List Instruction → Acts Value → Option (List Value)
-left_by code m = stack_in (after_steps code m (length code))
+left_by code m = stack_in (after_steps code m (length code) begun)

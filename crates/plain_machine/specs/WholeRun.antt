@@ -5,12 +5,12 @@ use Rattle.std.specs.Prelude.{if◌then◌else◌}
 use Rattle.query_values.specs.declared.operation.Aggregate.{Aggregate}
 use Rattle.query_values.specs.declared.value.Value.{Value}
 use Rattle.query_code.specs.declared.program.Parts.{Parts}
-use Rattle.plain_machine.specs.FinalRows.{are_orderable}
+use Rattle.plain_machine.specs.Finishing.{are_orderable}
 use Rattle.plain_machine.specs.Gathering.{Keeping, Group}
 use Rattle.plain_machine.specs.PlainMachine.{Kept, Stand, Done, Fault, filter_acts, row_acts}
 use Rattle.plain_machine.specs.PlainMachine.{last_acts, one_truth, running_with, row_of, kept_with}
 use Rattle.plain_machine.specs.PlainMachine.{with_running, nothing_kept, begin, steps}
-use Rattle.plain_machine.specs.Row.{Row}
+use Rattle.query_rows.specs.Row.{Row}
 use Rattle.plain_machine.specs.SectionRun.{left_by}
 
 abbrev pub filter_left : Parts → Row → Option (List Value)

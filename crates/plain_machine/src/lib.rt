@@ -32,7 +32,6 @@
 #![tactic(auto)]
 
 ghost use Rattle.plain_machine.specs.Alike.{StandAlike};
-ghost use Rattle.plain_machine.specs.FinalRows.{AreOne};
 ghost use Rattle.plain_machine.specs.Gathering.{all_inputs, running_values};
 ghost use Rattle.plain_machine.specs.Grouping.{MakesGroups};
 ghost use Rattle.plain_machine.specs.WholeRun.{AnswersAreReached, ComesToItsAnswer};
@@ -61,9 +60,4 @@ pub fn groups_are_of_their_members()
 /// after each step.
 pub fn running_values_stand_alike()
     ensures { StandAlike }
-{}
-
-/// Rows have one order, and so one list of final rows.
-pub fn final_rows_are_one()
-    ensures { AreOne }
 {}

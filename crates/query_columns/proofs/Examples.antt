@@ -2,9 +2,10 @@
 use Rattle.std.proofs.Common.{◌≡◌, Some, None, refl}
 use Rattle.std.specs.Prelude.{codes}
 use Rattle.bean_base.specs.declared.bounds.Bounds.{Bounds}
-use Rattle.query_columns.specs.Column.{named}
+use Rattle.query_columns.specs.Column.{named, number, numbered}
 use Rattle.query_columns.specs.ColumnShape.{column_shape}
 use Rattle.query_columns.specs.declared.column.Column.TheVariants.{CostNumber, Position, Weight}
+use Rattle.query_columns.specs.declared.column.Column.TheVariants.{Accounts}
 use Rattle.query_shapes.specs.declared.shape.Shape.TheVariants as shape
 
 in_any_letters : named (codes "Cost_NUMBER") ≡ Some CostNumber
@@ -25,3 +26,13 @@ positions = refl
 
 weights : column_shape narrow Weight ≡ shape.Amount 16 9999
 weights = refl
+
+in_a_file : number CostNumber ≡ 13
+in_a_file = refl
+
+-- a file may name the accounts of a transaction
+twenty_one : numbered 21 ≡ Some Accounts
+twenty_one = refl
+
+no_column : numbered 22 ≡ None
+no_column = refl

@@ -1,2 +1,3 @@
 pub mod BoundFacts
+pub mod NumberFacts
 mod Examples

@@ -91,10 +91,8 @@ impl Column {
     pub fn named(name: &str) -> Option<Column>
         ensures { result ≡ columns.named name.now }
     {
-        COLUMNS
-            .iter()
-            .copied()
-            .find(|column| column.has_name() && name.eq_ignore_ascii_case(column.name()))
+        COLUMNS.iter().copied().find(|column| column.has_name()
+            && name.eq_ignore_ascii_case(column.name()))
     }
 
     /// Whether a query can name the column. The accounts of a transaction are read by
@@ -116,7 +114,12 @@ impl Column {
     pub fn numbered(number: u8) -> Option<Column>
         ensures { result ≡ columns.numbered number }
     {
-        COLUMNS.get(number as usize).copied()
+        let place = number as usize;
+        if place < COLUMNS.len() {
+            Some(COLUMNS[place])
+        } else {
+            None
+        }
     }
 
     /// Whether the column is the transaction's, and one of those that FROM knows.

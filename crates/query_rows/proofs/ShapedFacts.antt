@@ -1,5 +1,5 @@
 -- The texts of shaped rows.
-use Rattle.std.proofs.Common.{ℕ, List, [], ◌∷◌, Bool, true, false, cond, Option, Some, None, ⊤}
+use Rattle.std.proofs.Common.{ℕ, List, [], ◌∷◌, Bool, true, false, cond, Option, Some, None}
 use Rattle.std.specs.Prelude.{bytes_eq}
 use Rattle.bean_base.specs.declared.bounds.Bounds.{Bounds}
 use Rattle.query_values.specs.Order.{is_null}
@@ -12,11 +12,12 @@ use Rattle.query_rows.specs.Shaped.{AreShort, IsShortIfThere, IsShaped, TextsLie
 
 found : (key : List ℕ) (es : List Entry) → AreShort es → IsShortIfThere (text_under key es)
 found key [] short = tt
-found key (e ∷ es) short = by (bytes_eq key e.key)
+found key (e ∷ es) short = by (bytes_eq key e.key) (found key es short.1)
   where
-    by : (b : Bool) → IsShortIfThere (cond b e.text (text_under key es))
-    by true = short.0
-    by false = found key es short.1
+    by : (b : Bool) → IsShortIfThere (text_under key es)
+        → IsShortIfThere (cond b e.text (text_under key es))
+    by true rest = short.0
+    by false rest = rest
 
 lies : (text : Option (List ℕ)) → IsShortIfThere text → LiesIn (text_or_null text) Text
 lies None short = tt
