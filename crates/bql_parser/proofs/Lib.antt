@@ -8,3 +8,4 @@ pub mod SmallParts
 pub mod SmallExpressions
 pub mod SmallClauses
 pub mod SmallFacts
+pub mod SmallLaw

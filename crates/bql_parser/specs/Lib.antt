@@ -9,4 +9,5 @@ pub mod Settled
 pub mod View
 pub mod Small
 pub mod Answer
+pub mod Kept
 pub mod Parse
