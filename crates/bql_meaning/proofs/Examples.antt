@@ -23,7 +23,7 @@ use Rattle.query_values.specs.declared.value.Value.{Value}
 use Rattle.query_values.specs.declared.value.Value.TheVariants.{Null, Truth, Number, Text, Day}
 use Rattle.query_values.specs.declared.value.Value.TheVariants.{Amount, Position, Inventory}
 use Rattle.query_values.specs.Pattern.{is_found}
-use Rattle.plain_machine.specs.Row.{Row}
+use Rattle.query_rows.specs.Row.{Row}
 use Rattle.bql_meaning.proofs.AnswerFacts.{answer_of}
 use Rattle.bql_meaning.proofs.Worked.{units, minus, usd, at_100, at_110, inv, cash, gain, ledger}
 use Rattle.bql_meaning.proofs.Worked.{february_1, held, bag, posting}

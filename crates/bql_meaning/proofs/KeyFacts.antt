@@ -2,8 +2,6 @@
 use Rattle.std.proofs.Common.{◌≡◌, ℕ, zero, suc, Bool, true, false, ◌||◌, List, [], ◌∷◌, ◌++◌, map}
 use Rattle.std.proofs.Common.{filter, refl, sym, ap, ◌∙◌, cond, arith, true≢false, ◌⊎◌}
 use Rattle.std.proofs.Common.{inl, inr}
-use Rattle.std.specs.Cmp.{IsEquivalence}
-use Rattle.std.proofs.lemmas.Cmp.{lists_equiv}
 use Rattle.std.specs.List.{IsAmong, AllByRecursion, list_any}
 use Rattle.bean_base.specs.declared.bounds.Bounds.{Bounds}
 use Rattle.bql_tree.specs.Tree.{Operation, leaf_of, one_of, two_of, call_of, Tree, node, Trees}
@@ -11,10 +9,11 @@ use Rattle.bql_tree.specs.Tree.{no_trees, trees}
 use Rattle.bql_tree.specs.declared.tree.Leaf.{Leaf}
 use Rattle.bql_tree.specs.declared.tree.Leaf.TheVariants as leaf
 use Rattle.bql_types.specs.Sought.{is_aggregate, aggregates, one_aggregates}
-use Rattle.query_values.proofs.EqualityFacts.{values_equiv}
 use Rattle.query_values.specs.declared.value.Value.{Value}
-use Rattle.plain_machine.specs.Distinct.{same_values, each_once}
-use Rattle.bql_meaning.specs.Answer.{keys_at, group_at}
+use Rattle.query_rows.proofs.SameFacts.{lists_same}
+use Rattle.query_rows.specs.Grouping.{distinct_keys, members_of}
+use Rattle.query_rows.specs.Same.{same_values, each_once}
+use Rattle.bql_meaning.specs.Answer.{keys_at}
 use Rattle.bql_meaning.specs.Keys.{HasNoAggregate}
 use Rattle.bql_meaning.specs.Meaning.{value_of, values_of, applied, leaf_value}
 use Rattle.bql_meaning.specs.Reading.{Reading}
@@ -74,9 +73,6 @@ mutual
 
 -- ---- the first row with some keys
 
-same_lists : IsEquivalence same_values
-same_lists = lists_equiv values_equiv
-
 abbrev Stands : List Value → List (List Value) → Type 0
 Stands v [] = ⊥
 Stands v (x ∷ xs) = (v ≡ x) ⊎ Stands v xs
@@ -104,7 +100,7 @@ alike_are_there : (u v : List Value) → same_values u v ≡ true → (kept : Li
     → is_there u kept ≡ is_there v kept
 alike_are_there u v e [] = refl
 alike_are_there u v e (x ∷ kept) =
-    λ i. same_lists.congr u v x e i || alike_are_there u v e kept i
+    λ i. lists_same.congr u v x e i || alike_are_there u v e kept i
 
 not_behind : (v x : List Value) (kept : List (List Value)) → is_there v (kept ++ x ∷ []) ≡ false
     → (is_there v kept ≡ false) × (same_values v x ≡ false)
@@ -139,7 +135,7 @@ module _ {X : Type 0} (key : X → List Value) where
     first = x;
     rest = those v xs;
     is = ap (λ b. cond b (x ∷ those v xs) (those v xs))
-        (ap (same_values (key x)) e ∙ same_lists.refl (key x));
+        (ap (same_values (key x)) e ∙ lists_same.refl (key x));
     has = sym e;
   }
 
@@ -170,7 +166,7 @@ module _ {X : Type 0} (key : X → List Value) where
           → Found v kept (x ∷ xs)
       new absent (inl s) = new_here absent (stands_behind v (key x) kept s)
       new absent (inr h) = let k = not_behind v (key x) kept h.0 in
-          inr (k.0, passed v x xs (same_lists.symm (key x) v ∙ k.1) h.1)
+          inr (k.0, passed v x xs (lists_same.symm (key x) v ∙ k.1) h.1)
 
       by : (b : Bool) → is_there (key x) kept ≡ b
           → ((kept : List (List Value)) → Stands v (each_once kept (map key xs))
@@ -196,8 +192,8 @@ keys_at_first b (t ∷ keys) none r rest =
 
 pub of_the_group : (b : Bounds) (keys : List (Tree ℕ)) (rows : List Reading) (values : List Value)
     → AllByRecursion HasNoAggregate keys
-    → IsAmong (each_once [] (map (keys_at b keys) rows)) values
-    → map (value_of b (group_at b keys rows values)) keys ≡ values
+    → IsAmong (distinct_keys (keys_at b keys) rows) values
+    → map (value_of b (members_of (keys_at b keys) rows values)) keys ≡ values
 of_the_group b keys rows values none among =
     let h = begins (keys_at b keys) values rows among in
     ap (λ g. map (value_of b g) keys) h.is
@@ -205,15 +201,15 @@ of_the_group b keys rows values none among =
 
 pub of_the_rows : (b : Bounds) (keys : List (Tree ℕ)) (rows : List Reading) (values : List Value)
     → AllByRecursion (λ r. same_values (keys_at b keys r) values ≡ true)
-    (group_at b keys rows values)
+    (members_of (keys_at b keys) rows values)
 of_the_rows b keys [] values = tt
 of_the_rows b keys (r ∷ rows) values =
     by (same_values (keys_at b keys r) values) refl (of_the_rows b keys rows values)
   where
     by : (is : Bool) → same_values (keys_at b keys r) values ≡ is
         → AllByRecursion (λ r. same_values (keys_at b keys r) values ≡ true)
-        (group_at b keys rows values)
+        (members_of (keys_at b keys) rows values)
         → AllByRecursion (λ r. same_values (keys_at b keys r) values ≡ true)
-        (cond is (r ∷ group_at b keys rows values) (group_at b keys rows values))
+        (cond is (r ∷ members_of (keys_at b keys) rows values) (members_of (keys_at b keys) rows values))
     by true e rest = (e, rest)
     by false e rest = rest

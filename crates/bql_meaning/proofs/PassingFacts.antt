@@ -6,7 +6,7 @@ use Rattle.std.specs.List.{AllByRecursion}
 use Rattle.bean_base.specs.declared.bounds.Bounds.{Bounds}
 use Rattle.bql_parser.specs.Clause.{Filters}
 use Rattle.bql_tree.specs.Tree.{Tree}
-use Rattle.plain_machine.specs.Row.{Row}
+use Rattle.query_rows.specs.Row.{Row}
 use Rattle.query_columns.proofs.BoundFacts.{column_is_held}
 use Rattle.query_columns.specs.ColumnShape.{AreBounds, column_shape}
 use Rattle.query_columns.specs.declared.column.Column.TheVariants as column
@@ -20,8 +20,8 @@ use Rattle.query_values.specs.Aggregate.{aggregate_of}
 use Rattle.query_values.specs.declared.operation.Aggregate.TheVariants.{SumInventory}
 use Rattle.query_values.specs.declared.value.Value.{Value}
 use Rattle.bql_meaning.specs.Answer.{balanced, and_of, passing, passes}
-use Rattle.bql_meaning.specs.Shaped.{IsRead, IsShaped}
-use Rattle.bql_meaning.specs.Reading.{cell_of}
+use Rattle.bql_meaning.specs.Shaped.{IsRead}
+use Rattle.query_rows.specs.Shaped.{IsShaped}
 use Rattle.bql_meaning.proofs.ShapeFacts.{kept}
 
 fits : (s : Shape) → is_held s ≡ true → fitting s ≡ Ok s
@@ -53,8 +53,8 @@ balanced_are : (b : Bounds) → AreBounds b → (before : List Value) (rows : Li
 balanced_are b are before [] few all shaped = tt
 balanced_are b are before (r ∷ rows) few all shaped =
     let position = shaped.0.cells column.Position in
-    let longer = one_longer before (cell_of column.Position r) in
-    let more = all_behind (column_shape b column.Position) before (cell_of column.Position r) all
+    let longer = one_longer before (r.cell column.Position) in
+    let more = all_behind (column_shape b column.Position) before (r.cell column.Position) all
     position in (
       record {
         row = shaped.0;

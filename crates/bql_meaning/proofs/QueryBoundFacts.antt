@@ -1,26 +1,24 @@
 -- By whichever bounds a query has a type, its rows are the same.
-use Rattle.std.proofs.Common.{◌≡◌, ℕ, suc, Bool, true, false, ◌&&◌, List, [], ◌∷◌, ◌++◌}
+use Rattle.std.proofs.Common.{◌≡◌, ℕ, zero, suc, Bool, true, false, ◌&&◌, List, [], ◌∷◌}
 use Rattle.std.proofs.Common.{map, filter, Option, Some, None, refl, ap, ◌∙◌, cond}
 use Rattle.std.proofs.Common.{arith}
-use Rattle.std.specs.List.{AllByRecursion, IsAmong}
-use Rattle.theory.specs.Form.{steps}
+use Rattle.std.specs.List.{AllByRecursion, IsAmong, slice_get}
 use Rattle.bean_base.specs.declared.bounds.Bounds.{Bounds}
 use Rattle.bql_parser.specs.Answer.{query_of}
 use Rattle.bql_parser.specs.Clause as clause
 use Rattle.bql_parser.specs.Asked.{Asked, Target, Item, ItemKind, target_item, tree_item}
 use Rattle.bql_parser.specs.declared.query.Query.{Query}
-use Rattle.bql_plan.specs.Plan.{plan, Plan, added, own_trees, tree_by}
-use Rattle.bql_plan.specs.Plan as plans
 use Rattle.bql_tree.specs.Tree.{Tree}
 use Rattle.bql_types.proofs.TypedFacts.{typed_have_shapes}
 use Rattle.bql_types.specs.Laws.{HasShapes, IsShaped, IsFilter, IsOrder}
-use Rattle.bql_types.specs.Sought.{is_key}
-use Rattle.bql_types.specs.Typing.{IsTyped, Grouping, grouping_of, target_tree}
-use Rattle.plain_machine.specs.Distinct.{same_values, each_once}
-use Rattle.plain_machine.specs.Row.{Row}
+use Rattle.bql_types.specs.Typing.{IsTyped, Grouping, grouping_of}
+use Rattle.query_rows.specs.Same.{same_values, each_once}
+use Rattle.query_values.specs.declared.value.Value.{Value}
+use Rattle.query_rows.specs.Row.{Row}
 use Rattle.query_values.specs.Operation.{is_true}
-use Rattle.bql_meaning.specs.Answer.{holds, passing, balanced, unbalanced, groups}
-use Rattle.bql_meaning.specs.Answer.{grouped, alone, rows_by, rows_of}
+use Rattle.bql_meaning.specs.Answer.{holds, passing, balanced, unbalanced, groups, grouped, alone}
+use Rattle.bql_meaning.specs.Answer.{target_value, target_values, item_value, kind_value, row_of}
+use Rattle.bql_meaning.specs.Answer.{rows_of}
 use Rattle.bql_meaning.specs.Keys.{IsTypedKey}
 use Rattle.bql_meaning.specs.Meaning.{value_of}
 use Rattle.bql_meaning.specs.Reading.{Reading}
@@ -78,53 +76,56 @@ module _ (b c : Bounds) where
   same_grouped g all rows =
       ap (λ z. cond g.is_aggregating z (alone rows)) (same_groups g.keys all rows)
 
-  same_rows : (p : Plan) → HaveOneValue p.shown → HaveOneValue p.grouping.keys
-      → (rows : List Reading) → rows_by b p rows ≡ rows_by c p rows
-  same_rows p shown keys rows = λ i.
-      map (λ group. same_values_at p.shown shown group i) (same_grouped p.grouping keys rows i)
+  -- ---- what is shown, and what orders rows
 
-  -- ---- what is shown
+  abbrev HaveOneTarget : List Target → Type 0
+  HaveOneTarget ts = AllByRecursion (λ (t : Target). HasOneValue t.tree) ts
 
-  one_behind : (ts : List (Tree ℕ)) (t : Tree ℕ) → HaveOneValue ts → HasOneValue t
-      → HaveOneValue (ts ++ t ∷ [])
-  one_behind [] t all h = (h, tt)
-  one_behind (u ∷ ts) t all h = (all.0, one_behind ts t all.1 h)
+  all_targets : (ts : List Target) → AllByRecursion (λ (t : Target). IsShaped b t.tree) ts
+      → AllByRecursion (λ (t : Target). IsShaped c t.tree) ts → HaveOneTarget ts
+  all_targets [] h k = tt
+  all_targets (t ∷ ts) h k = (shaped t.tree h.0 k.0, all_targets ts h.1 k.1)
 
-  one_added : (ts : List (Tree ℕ)) (t : Tree ℕ) → HaveOneValue ts → HasOneValue t
-      → HaveOneValue (added ts t)
-  one_added ts t all h = by (is_key ts t)
-    where
-      by : (is : Bool) → HaveOneValue (cond is ts (ts ++ t ∷ []))
-      by true = all
-      by false = one_behind ts t all h
+  same_targets : (ts : List Target) → HaveOneTarget ts → (rows : List Reading)
+      → target_values b ts rows ≡ target_values c ts rows
+  same_targets [] all rows = refl
+  same_targets (t ∷ ts) all rows = λ i. all.0 rows i ∷ same_targets ts all.1 rows i
 
-  all_added : (ts us : List (Tree ℕ)) → HaveOneValue ts → HaveOneValue us
-      → HaveOneValue (steps added ts us)
-  all_added ts [] all more = all
-  all_added ts (u ∷ us) all more = all_added (added ts u) us (one_added ts u all more.0) more.1
+  same_target : (ts : List Target) → HaveOneTarget ts → (index : ℕ) (rows : List Reading)
+      → target_value b rows (slice_get ts index) ≡ target_value c rows (slice_get ts index)
+  same_target [] all index rows = refl
+  same_target (t ∷ ts) all zero rows = all.0 rows
+  same_target (t ∷ ts) all (suc index) rows = same_target ts all.1 index rows
 
-  same_targets : (ts : List Target) → AllByRecursion (λ (t : Target). IsShaped b t.tree) ts
-      → AllByRecursion (λ (t : Target). IsShaped c t.tree) ts → HaveOneValue (map target_tree ts)
-  same_targets [] h k = tt
-  same_targets (t ∷ ts) h k = (shaped t.tree h.0 k.0, same_targets ts h.1 k.1)
+  same_kind : (ts : List Target) → HaveOneTarget ts → (kind : ItemKind) → IsOrder b ts kind
+      → IsOrder c ts kind → (rows : List Reading)
+      → kind_value b ts rows kind ≡ kind_value c ts rows kind
+  same_kind ts all (target_item index) h k rows = same_target ts all index rows
+  same_kind ts all (tree_item t) h k rows = shaped t (h.0, h.1.0) (k.0, k.1.0) rows
 
-  same_own : (ts : List Target) (is : List Item)
+  same_items : (ts : List Target) → HaveOneTarget ts → (is : List Item)
       → AllByRecursion (λ (i : Item). IsOrder b ts i.kind) is
-      → AllByRecursion (λ (i : Item). IsOrder c ts i.kind) is → HaveOneValue (own_trees is)
-  same_own ts [] h k = tt
-  same_own ts (i ∷ is) h k = by i.kind h.0 k.0 (same_own ts is h.1 k.1)
-    where
-      by : (kind : ItemKind) → IsOrder b ts kind → IsOrder c ts kind
-          → HaveOneValue (own_trees is) → HaveOneValue (tree_by kind ++ own_trees is)
-      by (target_item index) h k rest = rest
-      by (tree_item t) h k rest = (shaped t (h.0, h.1) (k.0, k.1), rest)
+      → AllByRecursion (λ (i : Item). IsOrder c ts i.kind) is → (rows : List Reading)
+      → map (item_value b ts rows) is ≡ map (item_value c ts rows) is
+  same_items ts all [] h k rows = refl
+  same_items ts all (i ∷ is) h k rows = λ j.
+      same_kind ts all i.kind h.0 k.0 rows j ∷ same_items ts all is h.1 k.1 rows j
 
-  same_shown : (s : Asked) → HasShapes b s → HasShapes c s → HaveOneValue (plans.shown s)
-  same_shown s h k =
-      all_added (map target_tree s.targets) (own_trees s.order.items)
-      (same_targets s.targets (all_among _ s.targets h.targets) (all_among _ s.targets k.targets))
-      (same_own s.targets s.order.items (all_among _ s.order.items h.order)
-      (all_among _ s.order.items k.order))
+  same_row : (s : Asked) → HasShapes b s → HasShapes c s → (rows : List Reading)
+      → row_of b s rows ≡ row_of c s rows
+  same_row s h k rows = λ i.
+      record { shown = same_targets s.targets all rows i; ranks = items i }
+    where
+      all : HaveOneTarget s.targets
+      all =
+          all_targets s.targets (all_among _ s.targets h.targets)
+          (all_among _ s.targets k.targets)
+
+      items : map (item_value b s.targets rows) s.order.items
+          ≡ map (item_value c s.targets rows) s.order.items
+      items =
+          same_items s.targets all s.order.items (all_among _ s.order.items h.order)
+          (all_among _ s.order.items k.order) rows
 
   same_keys : (ts : List (Tree ℕ)) → AllByRecursion (IsTypedKey b) ts
       → AllByRecursion (IsTypedKey c) ts → HaveOneValue ts
@@ -132,18 +133,22 @@ module _ (b c : Bounds) where
   same_keys (t ∷ ts) h k =
       (shaped t (h.0.shape, h.0.has) (k.0.shape, k.0.has), same_keys ts h.1 k.1)
 
-  same_select : (s : Asked) → HasShapes b s → HasShapes c s
+  same_rows : (s : Asked) → HasShapes b s → HasShapes c s
       → AllByRecursion (IsTypedKey b) (grouping_of s).keys
       → AllByRecursion (IsTypedKey c) (grouping_of s).keys
       → (rows : List Row) → rows_of b s rows ≡ rows_of c s rows
-  same_select s h k m n rows =
-      ap (rows_by b (plan s)) (same_passing s.filters h.from k.from h.filter k.filter rows)
-      ∙ same_rows (plan s) (same_shown s h k) (same_keys (grouping_of s).keys m n)
-      (passing c s.filters rows)
+  same_rows s h k m n rows =
+      ap (λ passed. map (row_of b s) (grouped b (grouping_of s) passed))
+      (same_passing s.filters h.from k.from h.filter k.filter rows)
+      ∙ ap (map (row_of b s))
+      (same_grouped (grouping_of s) (same_keys (grouping_of s).keys m n)
+      (passing c s.filters rows))
+      ∙ (λ i. map (λ group. same_row s h k group i)
+      (grouped c (grouping_of s) (passing c s.filters rows)))
 
 pub rows_by_any_bounds : (b c : Bounds) (q : Query) → IsTyped b (query_of q)
     → IsTyped c (query_of q) → (rows : List Row)
     → rows_of b (query_of q) rows ≡ rows_of c (query_of q) rows
 rows_by_any_bounds b c q h k rows =
-    same_select b c (query_of q) (typed_have_shapes b (query_of q) h)
+    same_rows b c (query_of q) (typed_have_shapes b (query_of q) h)
     (typed_have_shapes c (query_of q) k) (keys_are_typed b q h) (keys_are_typed c q k) rows

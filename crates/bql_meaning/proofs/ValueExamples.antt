@@ -21,7 +21,7 @@ use Rattle.query_columns.specs.declared.column.Column.TheVariants as column
 use Rattle.query_values.specs.declared.value.Value.{Value}
 use Rattle.query_values.specs.declared.value.Value.TheVariants.{Null, Truth, Number, Text, Amount}
 use Rattle.query_values.specs.declared.value.Value.TheVariants.{Inventory}
-use Rattle.plain_machine.specs.Row.{Row}
+use Rattle.query_rows.specs.Row.{Row}
 use Rattle.bql_meaning.specs.Meaning.{value_of}
 use Rattle.bql_meaning.specs.Reading.{Reading}
 use Rattle.bql_meaning.proofs.Worked.{units, minus, usd, at_100, at_110, inv, cash, posting}

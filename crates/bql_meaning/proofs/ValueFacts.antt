@@ -13,6 +13,8 @@ use Rattle.bql_tree.specs.declared.function.Function.{Function}
 use Rattle.bql_tree.specs.declared.function.Function.TheVariants as function
 use Rattle.bql_tree.specs.declared.tree.Binary.{Binary}
 use Rattle.bql_tree.specs.declared.tree.Binary.TheVariants as binary
+use Rattle.bql_tree.specs.declared.tree.Entry as entries
+use Rattle.bql_tree.specs.declared.tree.Entry.TheVariants.{Posting, Transaction, Any}
 use Rattle.bql_tree.specs.declared.tree.Leaf.{Leaf}
 use Rattle.bql_tree.specs.declared.tree.Leaf.TheVariants as leaf
 use Rattle.bql_types.specs.Shaped.{shape_of, shapes_of, ruled, given, rule, is_equation, beside}
@@ -21,6 +23,9 @@ use Rattle.bql_types.specs.Sought.{is_aggregate, is_aggregate_function}
 use Rattle.query_columns.specs.ColumnShape.{column_shape}
 use Rattle.query_columns.specs.declared.column.Column.{Column}
 use Rattle.query_columns.specs.declared.column.Column.TheVariants as column
+use Rattle.query_rows.proofs.ShapedFacts.{texts_lie}
+use Rattle.query_rows.specs.Row.{Row}
+use Rattle.query_rows.specs.Shaped.{IsShaped}
 use Rattle.query_shapes.specs.Keeping.{AllIn}
 use Rattle.query_shapes.specs.Rules.{Ruled}
 use Rattle.query_shapes.specs.Shape.{LiesIn}
@@ -34,7 +39,7 @@ use Rattle.query_values.specs.declared.value.Value.TheVariants.{Truth}
 use Rattle.bql_meaning.specs.Shaped.{IsRead, HasShortTexts, AllHaveShortTexts, IsShortIn}
 use Rattle.bql_meaning.specs.Meaning.{value_of, values_of, applied, leaf_value, aggregate_by}
 use Rattle.bql_meaning.specs.Meaning.{input_of, of_call}
-use Rattle.bql_meaning.specs.Reading.{Reading, cell}
+use Rattle.bql_meaning.specs.Reading.{Reading, cell, text}
 use Rattle.bql_meaning.proofs.ShapeFacts.{one_lies, two_lies, equations_give_truth, AllLie}
 use Rattle.bql_meaning.proofs.ShapeFacts.{call_lies, gathered_lies}
 
@@ -49,6 +54,13 @@ column_lies : (b : Bounds) (c : Column) (rows : List Reading) → AllByRecursion
     → LiesIn (leaf_value (leaf.Column c) rows) (column_shape b c)
 column_lies b c [] read = tt
 column_lies b c (r ∷ rows) read = cell_lies b c r read.0
+
+-- a text of metadata
+entry_lies : (b : Bounds) (r : Row) → IsShaped b r → (x : entries.Entry) (key : List ℕ)
+    → LiesIn (text x key r) shape.Text
+entry_lies b r is Posting key = (texts_lie b r is).posting key
+entry_lies b r is Transaction key = (texts_lie b r is).transaction key
+entry_lies b r is Any key = (texts_lie b r is).any key
 
 text_lies : (b : Bounds) (l : Leaf) (rows : List Reading) → AllByRecursion (IsRead b) rows
     → (s : Shape) → leaf_shape b l ≡ Ok s → IsShortIn (leaf_of l) → LiesIn (leaf_value l rows) s
@@ -70,7 +82,7 @@ text_lies b leaf.Rows rows read s e short = tt
 text_lies b (leaf.Meta x key) [] read s e short = tt
 text_lies b (leaf.Meta x key) (r ∷ rows) read s e short =
     let is : shape.Text ≡ s = cc in
-    subst (LiesIn (leaf_value (leaf.Meta x key) (r ∷ rows))) is (read.0.row.texts x key)
+    subst (LiesIn (leaf_value (leaf.Meta x key) (r ∷ rows))) is (entry_lies b r.row read.0.row x key)
 text_lies b (leaf.HasAccount p) rows read s e short =
     let is : shape.Truth ≡ s = cc in subst (LiesIn (leaf_value (leaf.HasAccount p) rows)) is tt
 

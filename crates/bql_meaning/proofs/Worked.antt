@@ -23,11 +23,13 @@ use Rattle.bean_base.specs.declared.days.Day as day
 use Rattle.bean_lots.specs.declared.lot.Key.{Key}
 use Rattle.bean_lots.specs.declared.lot.Lot.{Lot}
 use Rattle.bean_lots.specs.declared.lot.Position as entry
+use Rattle.query_columns.specs.declared.column.Column.{Column}
+use Rattle.query_columns.specs.declared.column.Column.TheVariants as column
 use Rattle.query_values.specs.Operation.{whole}
 use Rattle.query_values.specs.declared.value.Value.{Value}
 use Rattle.query_values.specs.declared.value.Value.TheVariants.{Null, Number, Text, Day, Set}
 use Rattle.query_values.specs.declared.value.Value.TheVariants.{Position, Inventory}
-use Rattle.plain_machine.specs.Row.{Row}
+use Rattle.query_rows.specs.Row.{Row}
 
 -- ---- days, counts and keys
 
@@ -93,22 +95,34 @@ gain = codes "Income:Gain"
 
 -- ---- rows
 
--- number, currency, date and label of a cost
-abbrev pub cost_cells : Option Lot → List Value
-cost_cells None = Null ∷ Null ∷ Null ∷ Null ∷ []
-cost_cells (Some lot) =
-    Number 8 lot.cost.count ∷ Text lot.cost.currency ∷ Day lot.day ∷ Null ∷ []
+abbrev pub of_lot : (Lot → Value) → Option Lot → Value
+of_lot told None = Null
+of_lot told (Some lot) = told lot
 
-abbrev pub head_cells : day.Day → List ℕ → List Value
-head_cells d narration =
-    Day d ∷ whole (unsigned_abs d.date.year) ∷ whole d.date.month ∷ whole d.date.day
-    ∷ Text (codes "*") ∷ Null ∷ Text narration ∷ Set [] ∷ Set [] ∷ []
+abbrev pub cell_of : day.Day → List ℕ → List ℕ → Key → ℤ → Column → Value
+cell_of d narration account key count column.Date = Day d
+cell_of d narration account key count column.Year = whole (unsigned_abs d.date.year)
+cell_of d narration account key count column.Month = whole d.date.month
+cell_of d narration account key count column.Day = whole d.date.day
+cell_of d narration account key count column.Flag = Text (codes "*")
+cell_of d narration account key count column.Narration = Text narration
+cell_of d narration account key count column.Tags = Set []
+cell_of d narration account key count column.Links = Set []
+cell_of d narration account key count column.Account = Text account
+cell_of d narration account key count column.Number = Number 8 count
+cell_of d narration account key count column.Currency = Text key.currency
+cell_of d narration account key count column.CostNumber =
+    of_lot (λ lot. Number 8 lot.cost.count) key.lot
+cell_of d narration account key count column.CostCurrency =
+    of_lot (λ lot. Text lot.cost.currency) key.lot
+cell_of d narration account key count column.CostDate = of_lot (λ lot. Day lot.day) key.lot
+cell_of d narration account key count column.Position = Position key count
+cell_of d narration account key count column.Accounts = Set (cash ∷ inv ∷ [])
+cell_of d narration account key count c = Null
 
 abbrev pub posting : day.Day → List ℕ → List ℕ → Key → ℤ → Row
 posting d narration account key count = record {
-  cells = head_cells d narration
-      ++ Text account ∷ Null ∷ Number 8 count ∷ Text key.currency ∷ cost_cells key.lot
-      ++ Position key count ∷ Null ∷ Null ∷ Null ∷ Set (cash ∷ inv ∷ []) ∷ [];
+  cell = cell_of d narration account key count;
   posting_entries = [];
   transaction_entries = [];
 }

@@ -8,10 +8,11 @@ use Rattle.bql_tree.specs.Tree.{Tree}
 use Rattle.bql_types.specs.Typing.{IsTyped, grouping_of}
 use Rattle.bql_types.specs.Shaped.{shape_of}
 use Rattle.bql_types.specs.Sought.{aggregates}
-use Rattle.plain_machine.specs.Distinct.{same_values, each_once}
+use Rattle.query_rows.specs.Grouping.{distinct_keys, members_of}
+use Rattle.query_rows.specs.Same.{same_values}
 use Rattle.query_shapes.specs.declared.shape.Shape.{Shape}
 use Rattle.query_values.specs.declared.value.Value.{Value}
-use Rattle.bql_meaning.specs.Answer.{keys_at, group_at}
+use Rattle.bql_meaning.specs.Answer.{keys_at}
 use Rattle.bql_meaning.specs.Meaning.{value_of}
 use Rattle.bql_meaning.specs.Reading.{Reading}
 
@@ -27,14 +28,14 @@ ReadAtTheFirst = (b : Bounds) (t : Tree ℕ) → HasNoAggregate t → (r : Readi
 abbrev pub KeysAreOfTheGroup : Type 0
 KeysAreOfTheGroup = (b : Bounds) (keys : List (Tree ℕ)) (rows : List Reading) (values : List Value)
     → AllByRecursion HasNoAggregate keys
-    → IsAmong (each_once [] (map (keys_at b keys) rows)) values
-    → map (value_of b (group_at b keys rows values)) keys ≡ values
+    → IsAmong (distinct_keys (keys_at b keys) rows) values
+    → map (value_of b (members_of (keys_at b keys) rows values)) keys ≡ values
 
 -- and at each of its rows the same
 abbrev pub KeysAreOfTheRows : Type 0
 KeysAreOfTheRows = (b : Bounds) (keys : List (Tree ℕ)) (rows : List Reading) (values : List Value)
     → AllByRecursion (λ r. same_values (keys_at b keys r) values ≡ true)
-    (group_at b keys rows values)
+    (members_of (keys_at b keys) rows values)
 
 -- a key that has a shape and no aggregates
 pub record IsTypedKey (b : Bounds) (t : Tree ℕ) : Type 0 where

@@ -4,26 +4,19 @@ use Rattle.std.specs.List.{AllByRecursion}
 use Rattle.bean_base.specs.declared.bounds.Bounds.{Bounds}
 use Rattle.bql_parser.specs.Clause.{Filters}
 use Rattle.bql_tree.specs.Tree.{Operation, leaf_of, Tree, node, Trees, no_trees, trees}
-use Rattle.bql_tree.specs.declared.tree.Entry.{Entry}
 use Rattle.bql_tree.specs.declared.tree.Leaf.TheVariants as leaf
 use Rattle.bql_types.specs.Shaped.{shape_of}
-use Rattle.plain_machine.specs.Row.{Row}
+use Rattle.query_rows.specs.Row.{Row}
+use Rattle.query_rows.specs.Shaped.{IsShaped}
 use Rattle.query_columns.specs.ColumnShape.{AreBounds, column_shape}
-use Rattle.query_columns.specs.declared.column.Column.{Column}
 use Rattle.query_columns.specs.declared.column.Column.TheVariants.{Balance}
 use Rattle.query_shapes.specs.Shape.{LiesIn, IsShort}
 use Rattle.query_shapes.specs.declared.shape.Shape.{Shape}
-use Rattle.query_shapes.specs.declared.shape.Shape.TheVariants.{Text}
 use Rattle.bql_meaning.specs.Answer.{passing}
 use Rattle.bql_meaning.specs.Meaning.{value_of}
-use Rattle.bql_meaning.specs.Reading.{Reading, cell_of, text}
+use Rattle.bql_meaning.specs.Reading.{Reading}
 
--- each cell of a row lies in the shape of its column, and each text of metadata in that of texts
-pub record IsShaped (b : Bounds) (r : Row) : Type 0 where
-  pub cells : (c : Column) → LiesIn (cell_of c r) (column_shape b c)
-  pub texts : (e : Entry) (key : List ℕ) → LiesIn (text e key r) Text
-
--- and so does the running inventory
+-- a row is shaped, and the running inventory at it lies in the shape of its column
 pub record IsRead (b : Bounds) (r : Reading) : Type 0 where
   pub row : IsShaped b r.row
   pub balance : LiesIn r.balance (column_shape b Balance)
