@@ -1,0 +1,4 @@
+pub mod FrameFacts
+pub mod BelowFacts
+pub mod EndFacts
+pub mod PlaceFacts
