@@ -79,7 +79,7 @@ module _ {A B : Type 0} (R : A → B → Type 0) where
   set_kept (u ∷ s) (v ∷ t) zero x y h each = (h, each.1)
   set_kept (u ∷ s) (v ∷ t) (suc k) x y h each = (each.0, set_kept s t k x y h each.1)
 
-  slots_as_many : (s : List (Option A)) (t : List (Option B)) → AreEach (IfSet R) s t
+  pub slots_as_many : (s : List (Option A)) (t : List (Option B)) → AreEach (IfSet R) s t
       → length s ≡ length t
   slots_as_many [] [] each = refl
   slots_as_many [] (v ∷ t) each = absurd each

@@ -2,3 +2,5 @@ pub mod FrameFacts
 pub mod BelowFacts
 pub mod EndFacts
 pub mod PlaceFacts
+pub mod DepthFacts
+pub mod NamedFacts
