@@ -1,33 +1,31 @@
 -- Of lesser shapes instructions make lesser ones.
-use Rattle.std.proofs.Common.{◌≡◌, ℕ, List, Option, Some, None, Ok, Err, Bool, true, false, refl}
+use Rattle.std.proofs.Common.{◌≡◌, ℕ, List, Option, Some, None, Ok, Err, true, refl}
 use Rattle.std.proofs.Common.{subst}
 use Rattle.std.specs.Prelude.{option_map, option_and_then}
 use Rattle.std.proofs.lemmas.Bool.{false≢true}
 use Rattle.bean_base.specs.declared.bounds.Bounds.{Bounds}
 use Rattle.query_values.specs.Unary as operation
-use Rattle.query_values.specs.declared.operation.Binary.{Binary}
 use Rattle.query_shapes.proofs.OrderFacts.{reflexive, transitive}
 use Rattle.query_shapes.proofs.RisingFacts.{fitting_below, unary_rises, binary_rises}
 use Rattle.query_shapes.specs.Keeping.{Under}
 use Rattle.query_shapes.specs.Rules.{Ruled, unary_shape, binary_shape}
 use Rattle.query_shapes.specs.Shape.{IsBelow, fitting}
 use Rattle.query_shapes.specs.declared.shape.Shape.{Shape}
-use Rattle.query_shapes.specs.declared.shape.Shape.TheVariants.{Truth}
+use Rattle.query_shapes.specs.declared.shape.Shape.TheVariants.{Text, Truth}
 use Rattle.query_columns.specs.Column.{numbered}
 use Rattle.query_columns.specs.ColumnShape.{column_shape}
 use Rattle.query_columns.specs.declared.column.Column.{Column}
 use Rattle.query_columns.specs.declared.column.Column.TheVariants.{Balance}
 use Rattle.query_code.specs.declared.instruction.Push.{Push}
 use Rattle.query_code.specs.declared.instruction.Push.TheVariants as push
-use Rattle.query_code.specs.declared.instruction.Unary.{Unary}
 use Rattle.query_code.specs.declared.program.Constant.{Constant}
 use Rattle.plain_machine.specs.Pool.{key_at, operation_of}
-use Rattle.plain_machine.specs.SectionRun.{Acts, State}
+use Rattle.plain_machine.specs.SectionRun.{State}
 use Rattle.well_shaped.specs.Laws.{AreLoadsBelow}
-use Rattle.well_shaped.specs.Sections.{Loads, given, shape_at, shape_of, column_at, text_at, loaded}
-use Rattle.well_shaped.specs.Sections.{push_of, unary_of, is_truth, shape_acts}
+use Rattle.well_shaped.specs.Sections.{Loads, given, shape_at, shape_of, text_at, loaded}
+use Rattle.well_shaped.specs.Sections.{is_truth, shape_acts}
 use Rattle.well_shaped.specs.StateShape.{IfSet, AreActs, IsStateBelow}
-use Rattle.well_shaped.proofs.FrameFacts.{each_at, if_set_itself, states_then, states_themselves}
+use Rattle.well_shaped.proofs.FrameFacts.{each_at, each_itself, if_set_itself, states_then, states_themselves}
 
 pub state_reflexive : (s : State Shape) → IsStateBelow s s
 state_reflexive = states_themselves IsBelow reflexive
@@ -69,7 +67,7 @@ module _ (pool : List Constant) (k l : Loads) (less : AreLoadsBelow k l) where
 
   text_below : (key : Option (List ℕ)) → IfSet IsBelow (text_at k key) (text_at l key)
   text_below None = tt
-  text_below (Some key) = of_posting (λ b. Rattle.query_shapes.specs.declared.shape.Shape.TheVariants.Text)
+  text_below (Some key) = of_posting (λ b. Text)
 
   loaded_below : (op : Push) → IfSet IsBelow (loaded pool k op) (loaded pool l op)
   loaded_below push.True = tt
@@ -106,3 +104,11 @@ module _ (pool : List Constant) (k l : Loads) (less : AreLoadsBelow k l) where
         (binary_rises op s t u v h g);
     test = truth_below;
   }
+
+pub loads_themselves : (l : Loads) → AreLoadsBelow l l
+loads_themselves l = record {
+  posting = refl;
+  balance = same_below l.balance;
+  keys = each_itself IsBelow reflexive l.keys;
+  aggregates = each_itself IsBelow reflexive l.aggregates;
+}

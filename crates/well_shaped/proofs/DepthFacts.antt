@@ -1,9 +1,10 @@
 -- How many values stand on the stack behind an instruction, and at the places of a section.
-use Rattle.std.proofs.Common.{◌≡◌, ℕ, zero, suc, ◌+◌, ◌-◌, ◌<◌, ◌≤◌, List, [], ◌∷◌, length, set, Option}
-use Rattle.std.proofs.Common.{Some, None, Bool, true, false, cond, ltb, refl, sym, ap, ◌∙◌, subst}
+use Rattle.std.proofs.Common.{◌≡◌, ℕ, suc, ◌+◌, ◌-◌, ◌≤◌, List, [], ◌∷◌, length, set, Option}
+use Rattle.std.proofs.Common.{Some, None, Bool, true, false, cond, ltb, refl, sym, ap, ◌∙◌}
 use Rattle.std.proofs.Common.{⊎_elim, inl, inr, arith}
-use Rattle.std.specs.Prelude.{slice_get, ◌⊎◌}
+use Rattle.std.specs.Prelude.{slice_get}
 use Rattle.std.proofs.lemmas.Bool.{ltb-true}
+use Rattle.std.proofs.lemmas.List.{length-set}
 use Rattle.bean_base.specs.declared.limits.TheConstants.{MOST_VALUES, SLOTS}
 use Rattle.query_shapes.specs.Shape.{IsBelow}
 use Rattle.query_shapes.specs.declared.shape.Shape.{Shape}
@@ -16,10 +17,10 @@ use Rattle.query_code.specs.declared.program.Mode.TheVariants.{Plain, Grouped}
 use Rattle.query_code.specs.declared.program.Parts.{Parts}
 use Rattle.plain_machine.specs.SectionRun.{Acts, State, start, with_top, one_operand, two_operands}
 use Rattle.plain_machine.specs.SectionRun.{with_slots, slot_at, stored, tested, effect}
-use Rattle.well_shaped.specs.Places.{LeadsTo, Works, AreGiven, Leaves, HasDepth}
+use Rattle.well_shaped.specs.Places.{LeadsTo, AreGiven, Leaves, HasDepth}
 use Rattle.well_shaped.specs.Program.{EndsWell, HasDepthInLast, HasDepthSomewhere, IsDepth}
 use Rattle.well_shaped.specs.Program.{IsWellShaped}
-use Rattle.well_shaped.specs.StateShape.{IfSet, IsStateBelow}
+use Rattle.well_shaped.specs.StateShape.{IsStateBelow}
 use Rattle.well_shaped.proofs.FrameFacts.{as_many, slots_as_many}
 use Rattle.well_shaped.proofs.PlaceFacts.{everywhere}
 
@@ -101,16 +102,10 @@ module _ {A : Type 0} where
     depth = sym (ap (λ (v : State A). length v.stack) same) ∙ stack ∙ sym one;
     few = λ h.
         let a : length t.stack ≡ length xs =
-            sym (ap (λ (v : State A). length v.stack) same) ∙ stack in
+        sym (ap (λ (v : State A). length v.stack) same) ∙ stack in
         omega (arith, a, h);
     slots = sym (ap (λ (v : State A). length v.slots) same) ∙ all;
   }
-
-  set_as_many : (slots : List (Option A)) (k : ℕ) (x : Option A)
-      → length (set slots k x) ≡ length slots
-  set_as_many [] k x = refl
-  set_as_many (y ∷ slots) zero x = refl
-  set_as_many (y ∷ slots) (suc k) x = ap suc (set_as_many slots k x)
 
   stored_changed : (k : ℕ) (xs : List A) (slots : List (Option A)) (t : State A)
       → stored k xs slots ≡ Some t
@@ -126,7 +121,7 @@ module _ {A : Type 0} where
       by false e = absurd (none_some t e)
       by true e =
           less_by_one (StoreSlot k) x xs slots t put (omega arith) (some_same put t e) refl
-          (set_as_many slots k (Some x))
+          (length-set slots k (Some x))
 
   tested_changed : (to : ℕ) (f : A → Bool) (xs : List A) (slots : List (Option A)) (t : State A)
       → tested f xs slots ≡ Some t

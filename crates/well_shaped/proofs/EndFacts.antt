@@ -1,7 +1,7 @@
 -- Ends that pass with shapes pass with lesser ones.
-use Rattle.std.proofs.Common.{◌≡◌, ℕ, ◌+◌, List, [], ◌∷◌, ◌++◌, length, Option, Some, None, Bool}
-use Rattle.std.proofs.Common.{true, false, refl, sym, ap, ◌∙◌, arith}
-use Rattle.std.specs.Prelude.{slice_get, option_map, option_and_then, ◌&&◌}
+use Rattle.std.proofs.Common.{◌≡◌, ℕ, List, [], ◌∷◌, ◌++◌, Option, Some, None}
+use Rattle.std.proofs.Common.{true, refl, ap, ◌∙◌, arith, subst}
+use Rattle.std.specs.Prelude.{slice_get, option_and_then}
 use Rattle.std.specs.List.{list_all}
 use Rattle.std.proofs.lemmas.Bool.{and_parts, and_from, false≢true}
 use Rattle.query_values.specs.declared.operation.Aggregate.{Aggregate}
@@ -57,7 +57,7 @@ ordered_below : (values more : List Shape) → AreEach IsBelow values more → (
 ordered_below values more each [] e = refl
 ordered_below values more each (k ∷ order) e =
     let both = and_parts (has_order (slice_get more k))
-        (list_all (λ k. has_order (slice_get more k)) order) e in
+    (list_all (λ k. has_order (slice_get more k)) order) e in
     and_from (has_order (slice_get values k)) (list_all (λ k. has_order (slice_get values k)) order)
     (order_below (slice_get values k) (slice_get more k) (each_at IsBelow values more k each) both.0)
     (ordered_below values more each order both.1)
@@ -148,7 +148,7 @@ gathers : (n : ℕ) (c : Code) (inputs more totals : List Shape) → AreEach IsB
     → gathered n c.aggregates more ≡ Some totals → Gathers n c inputs totals
 gathers n c inputs more totals each e =
     by (gathered n c.aggregates inputs) refl
-    (Rattle.std.proofs.Common.subst (λ o. IfSet (AreEach IsBelow) (gathered n c.aggregates inputs) o) e
+    (subst (λ o. IfSet (AreEach IsBelow) (gathered n c.aggregates inputs) o) e
     (gathered_below n c.aggregates inputs more each))
   where
     by : (o : Option (List Shape)) → gathered n c.aggregates inputs ≡ o
@@ -161,7 +161,7 @@ pub groups_below : (n : ℕ) (c : Code) (values more keys totals : List Shape)
     → HandsOverLess n c values keys totals
 groups_below n c values more keys totals each handed =
     let low = parted values keys handed.inputs
-        (Rattle.std.proofs.Common.subst (λ xs. AreEach IsBelow values xs) handed.are each) in
+    (subst (λ xs. AreEach IsBelow values xs) handed.are each) in
     let all = gathers n c low.low_inputs handed.inputs totals low.inputs_below handed.gather in
     record {
       less_keys = low.low_keys;

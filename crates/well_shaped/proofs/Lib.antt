@@ -4,3 +4,5 @@ pub mod EndFacts
 pub mod PlaceFacts
 pub mod DepthFacts
 pub mod NamedFacts
+pub mod Examples
+mod RefusedExamples

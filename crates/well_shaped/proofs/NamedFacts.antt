@@ -1,9 +1,9 @@
 -- What the instructions of a section name is there.
-use Rattle.std.proofs.Common.{◌≡◌, ◌≤◌, ℕ, List, [], ◌∷◌, length, set, Option, Some, None, Bool, true, false}
+use Rattle.std.proofs.Common.{◌≡◌, ℕ, List, [], ◌∷◌, length, set, Option, Some, None, Bool, true, false}
 use Rattle.std.proofs.Common.{cond, ltb, refl, sym, ap, ◌∙◌, subst, ⊎_elim, arith}
 use Rattle.std.specs.Prelude.{slice_get, option_and_then}
 use Rattle.std.proofs.lemmas.Bool.{cases_lt, lt-ltb}
-use Rattle.std.proofs.lemmas.Option.{slice_get_past}
+use Rattle.std.proofs.lemmas.Option.{slice_get_past, slice_get_within}
 use Rattle.bean_base.specs.declared.limits.TheConstants.{SLOTS}
 use Rattle.query_values.specs.Unary as operation
 use Rattle.query_shapes.specs.Rules.{unary_shape}
@@ -88,11 +88,6 @@ module _ (pool : List Constant) (l : Loads) where
       → AreGiven (shape_acts pool l) code at → slice_get code p ≡ Some i → is_there pool l i ≡ true
   are_there code at p i given stands =
       let w = given.works p i stands in
-      there i (at p) w.gives (all_slots (shape_acts pool l) code at given p (inside p i stands))
+      there i (at p) w.gives (all_slots (shape_acts pool l) code at given p
+      (let less = slice_get_within code p i stands in omega (arith, less)))
       w.applies
-    where
-      inside : (p : ℕ) (i : Instruction) → slice_get code p ≡ Some i → p ≤ length code
-      inside p i stands =
-          ⊎_elim (λ less. omega (arith, less))
-          (λ more. absurd (none_some i (sym (slice_get_past code p more) ∙ stands)))
-          (cases_lt p (length code))

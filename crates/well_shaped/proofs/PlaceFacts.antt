@@ -1,24 +1,22 @@
 -- What holds at the places of a section to which state shapes are given.
-use Rattle.std.proofs.Common.{◌≡◌, ℕ, zero, suc, ◌+◌, ◌-◌, ◌<◌, ◌≤◌, List, [], ◌∷◌, length, set, Option}
-use Rattle.std.proofs.Common.{Some, None, Bool, true, false, cond, leb, ltb, refl, sym, ap, ◌∙◌, subst}
+use Rattle.std.proofs.Common.{◌≡◌, ℕ, zero, suc, ◌<◌, ◌≤◌, List, length, Option}
+use Rattle.std.proofs.Common.{Some, None, true, leb, ltb, refl, subst}
 use Rattle.std.proofs.Common.{⊎_elim, arith}
-use Rattle.std.specs.Prelude.{slice_get, ◌&&◌, option_and_then}
-use Rattle.std.proofs.lemmas.Bool.{cases_lt, ltb-true, leb-true, and_parts, false≢true}
-use Rattle.std.proofs.lemmas.Option.{slice_get_past}
-use Rattle.bean_base.specs.declared.limits.TheConstants.{MOST_VALUES, SLOTS}
-use Rattle.query_shapes.specs.Shape.{IsBelow, fitting}
+use Rattle.std.specs.Prelude.{slice_get, ◌&&◌}
+use Rattle.std.proofs.lemmas.Bool.{ltb-true, and_parts}
+use Rattle.query_shapes.specs.Shape.{IsBelow}
 use Rattle.query_shapes.specs.declared.shape.Shape.{Shape}
 use Rattle.query_code.specs.declared.instruction.Instruction.{Instruction}
 use Rattle.query_code.specs.declared.instruction.Instruction.TheVariants.{Push, Unary, Binary}
 use Rattle.query_code.specs.declared.instruction.Instruction.TheVariants.{LoadSlot, StoreSlot, Jump}
 use Rattle.query_code.specs.declared.instruction.Instruction.TheVariants.{JumpIfFalse}
 use Rattle.query_code.specs.declared.program.Constant.{Constant}
-use Rattle.plain_machine.specs.SectionRun.{Acts, State, start, with_top, one_operand, two_operands}
-use Rattle.plain_machine.specs.SectionRun.{with_slots, slot_at, stored, tested, effect, leads_on}
+use Rattle.plain_machine.specs.SectionRun.{Acts, State}
+use Rattle.plain_machine.specs.SectionRun.{effect, leads_on}
 use Rattle.well_shaped.specs.Laws.{AreLoadsBelow, Makes}
 use Rattle.well_shaped.specs.Places.{LeadsTo, IsLedTo, Works, AreGiven}
 use Rattle.well_shaped.specs.Sections.{Loads, shape_acts}
-use Rattle.well_shaped.specs.StateShape.{AreActs, AreEach, AreStates, IfSet, IsStateBelow}
+use Rattle.well_shaped.specs.StateShape.{IfSet, IsStateBelow}
 use Rattle.well_shaped.proofs.BelowFacts.{acts_below, state_transitive}
 use Rattle.well_shaped.proofs.FrameFacts.{effect_kept}
 
@@ -69,17 +67,17 @@ forward len p q (JumpIfFalse to) on leads =
 module _ (m : Acts Shape) (code : List Instruction) (at : ℕ → State Shape)
     (given : AreGiven m code at) (P : ℕ → Type 0) (first : P 0)
     (next : (p q : ℕ) (i : Instruction) → slice_get code p ≡ Some i → LeadsTo i p q → P p → P q)
-    where
-  reached : (n q : ℕ) → q < n → q ≤ length code → P q
-  reached zero q less within = absurd (omega (arith, less))
-  reached (suc n) zero less within = first
-  reached (suc n) (suc q) less within =
-      let led : IsLedTo code (suc q) = given.led_to (suc q) (omega arith) within in
-      let w = given.works led.from led.instruction led.stands in
-      let on : led.from < suc q =
-          forward (length code) led.from (suc q) led.instruction w.leads_on led.leads in
-      next led.from (suc q) led.instruction led.stands led.leads
-      (reached n led.from (omega (arith, less, on)) (omega (arith, within, on)))
+  where
+    reached : (n q : ℕ) → q < n → q ≤ length code → P q
+    reached zero q less within = absurd (omega (arith, less))
+    reached (suc n) zero less within = first
+    reached (suc n) (suc q) less within =
+        let led : IsLedTo code (suc q) = given.led_to (suc q) (omega arith) within in
+        let w = given.works led.from led.instruction led.stands in
+        let on : led.from < suc q =
+        forward (length code) led.from (suc q) led.instruction w.leads_on led.leads in
+        next led.from (suc q) led.instruction led.stands led.leads
+        (reached n led.from (omega (arith, less, on)) (omega (arith, within, on)))
 
-  pub everywhere : (q : ℕ) → q ≤ length code → P q
-  everywhere q = reached (suc q) q (omega arith)
+    pub everywhere : (q : ℕ) → q ≤ length code → P q
+    everywhere q = reached (suc q) q (omega arith)

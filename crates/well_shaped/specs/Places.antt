@@ -1,5 +1,5 @@
 -- State shapes that are given to the places of a section, its end included.
-use Rattle.std.specs.Prelude.{◌≡◌, ℕ, ◌+◌, ◌<◌, ◌≤◌, true, List, length, reverse, Option, Some}
+use Rattle.std.specs.Prelude.{◌≡◌, ℕ, ◌+◌, ◌<◌, ◌≤◌, true, List, length, reverse, Some}
 use Rattle.std.specs.Prelude.{slice_get, ◌⊎◌}
 use Rattle.query_shapes.specs.declared.shape.Shape.{Shape}
 use Rattle.query_code.specs.declared.instruction.Instruction.{Instruction}

@@ -1,6 +1,6 @@
 -- Which programs are well shaped: those of which it is known beforehand, over each ledger within
 -- their bounds, that they can be run without a fault, and how deep their stack becomes.
-use Rattle.std.specs.Prelude.{◌≡◌, ℕ, ◌≤◌, List, [], ◌∷◌, ◌⊎◌}
+use Rattle.std.specs.Prelude.{ℕ, ◌≤◌, List, [], ◌∷◌, ◌⊎◌}
 use Rattle.query_shapes.specs.declared.shape.Shape.{Shape}
 use Rattle.query_shapes.specs.declared.shape.Shape.TheVariants.{Truth}
 use Rattle.query_columns.specs.ColumnShape.{AreBounds}

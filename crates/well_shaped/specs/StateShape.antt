@@ -1,5 +1,5 @@
 -- One relation on values, or on what is known of them, carried to a stack and slots.
-use Rattle.std.specs.Prelude.{◌≡◌, Bool, true, List, [], ◌∷◌, Option, Some, None, ⊤}
+use Rattle.std.specs.Prelude.{◌≡◌, true, List, [], ◌∷◌, Option, Some, None, ⊤}
 use Rattle.query_values.specs.declared.operation.Binary.{Binary}
 use Rattle.query_values.specs.declared.value.Value.{Value}
 use Rattle.query_shapes.specs.Shape.{IsBelow, LiesIn}
