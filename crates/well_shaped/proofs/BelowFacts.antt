@@ -25,7 +25,8 @@ use Rattle.well_shaped.specs.Laws.{AreLoadsBelow}
 use Rattle.well_shaped.specs.Sections.{Loads, given, shape_at, shape_of, text_at, loaded}
 use Rattle.well_shaped.specs.Sections.{is_truth, shape_acts}
 use Rattle.well_shaped.specs.StateShape.{IfSet, AreActs, IsStateBelow}
-use Rattle.well_shaped.proofs.FrameFacts.{each_at, each_itself, if_set_itself, states_then, states_themselves}
+use Rattle.well_shaped.proofs.FrameFacts.{each_at, each_itself, if_set_itself, states_then}
+use Rattle.well_shaped.proofs.FrameFacts.{states_themselves}
 
 pub state_reflexive : (s : State Shape) → IsStateBelow s s
 state_reflexive = states_themselves IsBelow reflexive

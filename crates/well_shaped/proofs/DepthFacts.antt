@@ -136,7 +136,8 @@ module _ {A : Type 0} where
           → Changed (JumpIfFalse to) (record { stack = x ∷ xs; slots = slots }) t
       by false e = absurd (none_some t e)
       by true e =
-          less_by_one (JumpIfFalse to) x xs slots t rest (omega arith) (some_same rest t e) refl refl
+          less_by_one (JumpIfFalse to) x xs slots t rest (omega arith) (some_same rest t e) refl
+          refl
 
   pub changed : (m : Acts A) (i : Instruction) (s t : State A) → effect m i s ≡ Some t
       → Changed i s t
@@ -232,7 +233,8 @@ carried {m} {n} {code} {values} {others} a b d has = record {
   deep = sym (one_at_places m n code values others a b has.place has.within) ∙ has.deep;
 }
 
-carried_in_last : (mode : Mode) (p : Parts) (values others : List Shape) (a : EndsWell mode p values)
+carried_in_last : (mode : Mode) (p : Parts) (values others : List Shape)
+    (a : EndsWell mode p values)
     (b : EndsWell mode p others) (d : ℕ) → HasDepthInLast mode p values a d
     → HasDepthInLast mode p others b d
 carried_in_last Plain p values others a b d has = absurd has

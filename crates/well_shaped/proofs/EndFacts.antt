@@ -59,7 +59,8 @@ ordered_below values more each (k ∷ order) e =
     let both = and_parts (has_order (slice_get more k))
     (list_all (λ k. has_order (slice_get more k)) order) e in
     and_from (has_order (slice_get values k)) (list_all (λ k. has_order (slice_get values k)) order)
-    (order_below (slice_get values k) (slice_get more k) (each_at IsBelow values more k each) both.0)
+    (order_below (slice_get values k) (slice_get more k) (each_at IsBelow values more k each)
+    both.0)
     (ordered_below values more each order both.1)
 
 pub row_below : (o : Output) (values more : List Shape) → AreEach IsBelow values more
@@ -87,8 +88,12 @@ GathersLess n aggregates =
 front_below : (n : ℕ) (a : Aggregate) (aggregates : List Aggregate) → GathersLess n aggregates
     → (inputs more : List Shape) → AreEach IsBelow inputs more
     → IfSet (AreEach IsBelow)
-    (option_and_then (λ i. cons_if (given (aggregate_shape n a (Some i.0))) (gathered n aggregates i.1)) (front_of inputs))
-    (option_and_then (λ i. cons_if (given (aggregate_shape n a (Some i.0))) (gathered n aggregates i.1)) (front_of more))
+    (option_and_then
+    (λ i. cons_if (given (aggregate_shape n a (Some i.0))) (gathered n aggregates i.1))
+    (front_of inputs))
+    (option_and_then
+    (λ i. cons_if (given (aggregate_shape n a (Some i.0))) (gathered n aggregates i.1))
+    (front_of more))
 front_below n a aggregates rest inputs [] each = tt
 front_below n a aggregates rest [] (t ∷ more) each = absurd each
 front_below n a aggregates rest (s ∷ inputs) (t ∷ more) each =

@@ -64,7 +64,8 @@ module _ (m : Acts Shape) (code : List Instruction) (at : ℕ → State Shape) w
     leads_on = on;
   }
 
-  given_so : IsStateBelow start (at 0) → ((p : ℕ) → IfThere (slice_get code p) (Works m (length code) at p))
+  given_so : IsStateBelow start (at 0)
+      → ((p : ℕ) → IfThere (slice_get code p) (Works m (length code) at p))
       → ((q : ℕ) → 0 < q → q ≤ length code → IsLedTo code q) → AreGiven m code at
   given_so begins works led = record {
     begins = begins;

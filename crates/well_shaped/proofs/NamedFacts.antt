@@ -1,5 +1,6 @@
 -- What the instructions of a section name is there.
-use Rattle.std.proofs.Common.{◌≡◌, ℕ, List, [], ◌∷◌, length, set, Option, Some, None, Bool, true, false}
+use Rattle.std.proofs.Common.{◌≡◌, ℕ, List, [], ◌∷◌, length, set, Option, Some, None, Bool}
+use Rattle.std.proofs.Common.{true, false}
 use Rattle.std.proofs.Common.{cond, ltb, refl, sym, ap, ◌∙◌, subst, ⊎_elim, arith}
 use Rattle.std.specs.Prelude.{slice_get, option_and_then}
 use Rattle.std.proofs.lemmas.Bool.{cases_lt, lt-ltb}
@@ -15,7 +16,8 @@ use Rattle.query_code.specs.declared.instruction.Instruction.TheVariants.{LoadSl
 use Rattle.query_code.specs.declared.instruction.Instruction.TheVariants.{JumpIfFalse}
 use Rattle.query_code.specs.declared.program.Constant.{Constant}
 use Rattle.plain_machine.specs.Pool.{operation_of}
-use Rattle.plain_machine.specs.SectionRun.{State, with_top, one_operand, with_slots, slot_at, set_in}
+use Rattle.plain_machine.specs.SectionRun.{State, with_top, one_operand, with_slots, slot_at}
+use Rattle.plain_machine.specs.SectionRun.{set_in}
 use Rattle.plain_machine.specs.SectionRun.{stored, effect}
 use Rattle.well_shaped.specs.Laws.{is_some, is_there}
 use Rattle.well_shaped.specs.Places.{AreGiven}
@@ -48,7 +50,8 @@ set_slot : (slots : List (Option Shape)) (k : ℕ) → is_some (slot_at slots k)
     → ltb k (length slots) ≡ true
 set_slot slots k e =
     ⊎_elim (λ less. lt-ltb k (length slots) less)
-    (λ more. absurd (unset (subst (λ o. is_some (set_in o) ≡ true) (slice_get_past slots k more) e)))
+    (λ more. absurd
+    (unset (subst (λ o. is_some (set_in o) ≡ true) (slice_get_past slots k more) e)))
     (cases_lt k (length slots))
   where
     unset : false ≡ true → ⊥
@@ -59,7 +62,8 @@ stored_is : (k : ℕ) (xs : List Shape) (slots : List (Option Shape)) (t : State
 stored_is k [] slots t e = absurd (none_some t e)
 stored_is k (x ∷ xs) slots t e = by (ltb k (length slots)) e
   where
-    by : (b : Bool) → cond b (Some (record { stack = xs; slots = set slots k (Some x) })) None ≡ Some t
+    by : (b : Bool)
+        → cond b (Some (record { stack = xs; slots = set slots k (Some x) })) None ≡ Some t
         → b ≡ true
     by false e = absurd (none_some t e)
     by true e = refl

@@ -64,8 +64,8 @@ module _ (filter : List Instruction) (shaped : IsWellShaped (filtered filter)) w
       → slice_get filter p ≡ Some i → LeadsTo i p q
       → effect (filter_acts (filtered filter)) i s ≡ Some t → Comes filter shaped q t
   comes_next p q i s t comes stands leads applies =
-      let made = goes_on [] (filter_loads widest) (filter_loads widest) filter shaped.filter.at p q i s
-      (loads_themselves (filter_loads widest)) shaped.filter.given comes stands leads in
+      let made = goes_on [] (filter_loads widest) (filter_loads widest) filter shaped.filter.at p q
+      i s (loads_themselves (filter_loads widest)) shaped.filter.given comes stands leads in
       subst (λ u. IsStateBelow u (shaped.filter.at q))
       (same made.gives t (sym made.applies ∙ applies)) made.below
     where
@@ -104,14 +104,15 @@ no_entry shaped =
     (comes_first (Push (push.Const 0) ∷ []) shaped) refl refl
 
 -- number, the number of weight, ADD: they have 8 decimals and 16
-other_decimals : IsWellShaped (filtered (Push (push.LoadColumn 11) ∷ Push (push.LoadColumn 18) ∷ Unary unary.Number ∷ Binary binary.Add ∷ [])) → ⊥
-other_decimals shaped = goes_further code shaped 3 (Binary binary.Add) (pair (Number 16 value)) third refl refl
-  where
-    code : List Instruction
-    code =
-        Push (push.LoadColumn 11) ∷ Push (push.LoadColumn 18) ∷ Unary unary.Number
-        ∷ Binary binary.Add ∷ []
+abbrev unlike : List Instruction
+unlike =
+    Push (push.LoadColumn 11) ∷ Push (push.LoadColumn 18) ∷ Unary unary.Number
+    ∷ Binary binary.Add ∷ []
 
+other_decimals : IsWellShaped (filtered unlike) → ⊥
+other_decimals shaped =
+    goes_further unlike shaped 3 (Binary binary.Add) (pair (Number 16 value)) third refl refl
+  where
     units : ℕ
     units = units_most widest
 
@@ -124,28 +125,28 @@ other_decimals shaped = goes_further code shaped 3 (Binary binary.Add) (pair (Nu
     pair : Shape → State Shape
     pair s = record { stack = s ∷ Number 8 units ∷ []; slots = unset }
 
-    first : Comes code shaped 1 one
+    first : Comes unlike shaped 1 one
     first =
-        comes_next code shaped 0 1 (Push (push.LoadColumn 11)) start one (comes_first code shaped)
-        refl refl refl
+        comes_next unlike shaped 0 1 (Push (push.LoadColumn 11)) start one
+        (comes_first unlike shaped) refl refl refl
 
-    second : Comes code shaped 2 (pair (Amount 16 value))
+    second : Comes unlike shaped 2 (pair (Amount 16 value))
     second =
-        comes_next code shaped 1 2 (Push (push.LoadColumn 18)) one (pair (Amount 16 value)) first refl
-        refl refl
+        comes_next unlike shaped 1 2 (Push (push.LoadColumn 18)) one (pair (Amount 16 value))
+        first refl refl refl
 
-    third : Comes code shaped 3 (pair (Number 16 value))
+    third : Comes unlike shaped 3 (pair (Number 16 value))
     third =
-        comes_next code shaped 2 3 (Unary unary.Number) (pair (Amount 16 value))
+        comes_next unlike shaped 2 3 (Unary unary.Number) (pair (Amount 16 value))
         (pair (Number 16 value)) second refl refl refl
 
 -- number * number may have 40 digits
-too_wide : IsWellShaped (filtered (Push (push.LoadColumn 11) ∷ Push (push.LoadColumn 11) ∷ Binary binary.Mul ∷ [])) → ⊥
-too_wide shaped = goes_further code shaped 2 (Binary binary.Mul) two second refl refl
-  where
-    code : List Instruction
-    code = Push (push.LoadColumn 11) ∷ Push (push.LoadColumn 11) ∷ Binary binary.Mul ∷ []
+abbrev square : List Instruction
+square = Push (push.LoadColumn 11) ∷ Push (push.LoadColumn 11) ∷ Binary binary.Mul ∷ []
 
+too_wide : IsWellShaped (filtered square) → ⊥
+too_wide shaped = goes_further square shaped 2 (Binary binary.Mul) two second refl refl
+  where
     units : ℕ
     units = units_most widest
 
@@ -155,14 +156,14 @@ too_wide shaped = goes_further code shaped 2 (Binary binary.Mul) two second refl
     two : State Shape
     two = record { stack = Number 8 units ∷ Number 8 units ∷ []; slots = unset }
 
-    first : Comes code shaped 1 one
+    first : Comes square shaped 1 one
     first =
-        comes_next code shaped 0 1 (Push (push.LoadColumn 11)) start one (comes_first code shaped)
-        refl refl refl
+        comes_next square shaped 0 1 (Push (push.LoadColumn 11)) start one
+        (comes_first square shaped) refl refl refl
 
-    second : Comes code shaped 2 two
+    second : Comes square shaped 2 two
     second =
-        comes_next code shaped 1 2 (Push (push.LoadColumn 11)) one two first refl refl refl
+        comes_next square shaped 1 2 (Push (push.LoadColumn 11)) one two first refl refl refl
 
 -- the running inventory is no column of a filter
 no_balance : IsWellShaped (filtered (Push (push.LoadColumn 19) ∷ [])) → ⊥
@@ -172,23 +173,25 @@ no_balance shaped =
 
 -- ---- ends
 
-two_values : IsWellShaped (filtered (Push push.True ∷ Push push.True ∷ [])) → ⊥
-two_values shaped = two (one_at_end code shaped both second)
-  where
-    code : List Instruction
-    code = Push push.True ∷ Push push.True ∷ []
+abbrev two_truths : List Instruction
+two_truths = Push push.True ∷ Push push.True ∷ []
 
+two_values : IsWellShaped (filtered two_truths) → ⊥
+two_values shaped = two (one_at_end two_truths shaped both second)
+  where
     one : State Shape
     one = record { stack = Truth ∷ []; slots = unset }
 
     both : State Shape
     both = record { stack = Truth ∷ Truth ∷ []; slots = unset }
 
-    first : Comes code shaped 1 one
-    first = comes_next code shaped 0 1 (Push push.True) start one (comes_first code shaped) refl refl refl
+    first : Comes two_truths shaped 1 one
+    first =
+        comes_next two_truths shaped 0 1 (Push push.True) start one
+        (comes_first two_truths shaped) refl refl refl
 
-    second : Comes code shaped 2 both
-    second = comes_next code shaped 1 2 (Push push.True) one both first refl refl refl
+    second : Comes two_truths shaped 2 both
+    second = comes_next two_truths shaped 1 2 (Push push.True) one both first refl refl refl
 
     two : length both.stack ≡ 1 → ⊥
     two e = omega (arith, e)
@@ -208,16 +211,16 @@ to_itself shaped = no (shaped.filter.given.works 0 (Jump 0) refl).leads_on
     no e = cc
 
 -- JUMP 2, TRUE, TRUE: nothing leads to the first TRUE
-not_led_to : IsWellShaped (filtered (Jump 2 ∷ Push push.True ∷ Push push.True ∷ [])) → ⊥
+abbrev passed_over : List Instruction
+passed_over = Jump 2 ∷ Push push.True ∷ Push push.True ∷ []
+
+not_led_to : IsWellShaped (filtered passed_over) → ⊥
 not_led_to shaped =
     let led = shaped.filter.given.led_to 1 (leb-true _ _ refl) (leb-true _ _ refl) in
-    there (λ i. LeadsTo i led.from 1 → ⊥) (slice_get code led.from) led.instruction (none led.from)
-    led.stands led.leads
+    there (λ i. LeadsTo i led.from 1 → ⊥) (slice_get passed_over led.from) led.instruction
+    (none led.from) led.stands led.leads
   where
-    code : List Instruction
-    code = Jump 2 ∷ Push push.True ∷ Push push.True ∷ []
-
-    none : (p : ℕ) → IfThere (slice_get code p) (λ i. LeadsTo i p 1 → ⊥)
+    none : (p : ℕ) → IfThere (slice_get passed_over p) (λ i. LeadsTo i p 1 → ⊥)
     none zero = λ e. omega (arith, e)
     none (suc zero) = λ e. omega (arith, e)
     none (suc (suc zero)) = λ e. omega (arith, e)
@@ -226,22 +229,27 @@ not_led_to shaped =
 -- ---- slots
 
 -- TRUE, JUMP_IF_FALSE 4, TRUE, STORE_SLOT 0, LOAD_SLOT 0: one of two paths sets the slot
-might_be_unset : IsWellShaped (filtered (Push push.True ∷ JumpIfFalse 4 ∷ Push push.True ∷ StoreSlot 0 ∷ LoadSlot 0 ∷ [])) → ⊥
-might_be_unset shaped = goes_further code shaped 4 (LoadSlot 0) start jumped refl refl
-  where
-    code : List Instruction
-    code = Push push.True ∷ JumpIfFalse 4 ∷ Push push.True ∷ StoreSlot 0 ∷ LoadSlot 0 ∷ []
+abbrev halfway : List Instruction
+halfway = Push push.True ∷ JumpIfFalse 4 ∷ Push push.True ∷ StoreSlot 0 ∷ LoadSlot 0 ∷ []
 
+might_be_unset : IsWellShaped (filtered halfway) → ⊥
+might_be_unset shaped = goes_further halfway shaped 4 (LoadSlot 0) start jumped refl refl
+  where
     one : State Shape
     one = record { stack = Truth ∷ []; slots = unset }
 
-    first : Comes code shaped 1 one
-    first = comes_next code shaped 0 1 (Push push.True) start one (comes_first code shaped) refl refl refl
+    first : Comes halfway shaped 1 one
+    first =
+        comes_next halfway shaped 0 1 (Push push.True) start one
+        (comes_first halfway shaped) refl refl refl
 
-    jumped : Comes code shaped 4 start
-    jumped = comes_next code shaped 1 4 (JumpIfFalse 4) one start first refl (inr refl) refl
+    jumped : Comes halfway shaped 4 start
+    jumped = comes_next halfway shaped 1 4 (JumpIfFalse 4) one start first refl (inr refl) refl
 
 -- ---- bounds
 
-no_postings : IsWellShaped (filtered_at (record { postings = 0; units_digits = 20; value_digits = 28 }) (Push push.True ∷ [])) → ⊥
+abbrev of_no_postings : Bounds
+of_no_postings = record { postings = 0; units_digits = 20; value_digits = 28 }
+
+no_postings : IsWellShaped (filtered_at of_no_postings (Push push.True ∷ [])) → ⊥
 no_postings shaped = let e = shaped.bounds.some_postings in omega (arith, e)

@@ -46,9 +46,9 @@ pub record Makes (m : Acts Shape) (i : Instruction) (s t : State Shape) : Type 0
   pub applies : effect m i s ≡ Some gives
   pub below : IsStateBelow gives t
 
--- What is made of a state shape below the one that is given to a place is below those that are given
--- to the places behind it, also where less may be loaded. So whoever goes through a section from the
--- start stays below all that can be given to it.
+-- What is made of a state shape below the one that is given to a place is below those that are
+-- given to the places behind it, also where less may be loaded. So whoever goes through a section
+-- from the start stays below all that can be given to it.
 abbrev pub SectionsAreFollowed : Type 0
 SectionsAreFollowed =
     (pool : List Constant) (k l : Loads) (code : List Instruction) (at : ℕ → State Shape)
@@ -87,8 +87,8 @@ is_there pool l (LoadSlot k) = nat_lt k SLOTS
 is_there pool l (StoreSlot k) = nat_lt k SLOTS
 is_there pool l i = true
 
--- At each place there is what the instruction names, the stack has no more than the most values, and
--- there are all slots.
+-- At each place there is what the instruction names, the stack has no more than the most values,
+-- and there are all slots.
 pub record SectionsHaveWhatTheyName : Type 0 where
   pub named : (pool : List Constant) (l : Loads) (code : List Instruction) (at : ℕ → State Shape)
       (p : ℕ) (i : Instruction) → AreGiven (shape_acts pool l) code at → slice_get code p ≡ Some i
@@ -100,8 +100,8 @@ pub record SectionsHaveWhatTheyName : Type 0 where
 
 -- ---- how deep the stack becomes
 
--- The depth at a place of a section is the same in all state shapes that can be given to it, whatever
--- it may load; so a program has one depth at most, which is no more than the most values.
+-- The depth at a place of a section is the same in all state shapes that can be given to it,
+-- whatever it may load; so a program has one depth at most, which is no more than the most values.
 pub record DepthsAreOne : Type 0 where
   pub places : (m n : Acts Shape) (code : List Instruction) (values others : List Shape)
       (a : Leaves m code values) (b : Leaves n code others) (q : ℕ) → q ≤ length code

@@ -2,8 +2,8 @@
 //! fault over each ledger within the bounds of their header.
 //!
 //! To each place of each section a state shape can be given: what is known of the values on the
-//! stack and in the slots. `specs/Program` says so, without a word on how such shapes are found. The
-//! verifier accepts these programs and no others, and the compiler makes no others.
+//! stack and in the slots. `specs/Program` says so, without a word on how such shapes are found, so
+//! that it can be the measure of whoever looks for them, and of whoever makes programs.
 //!
 //! ```text
 //! filter        row           last
@@ -18,9 +18,9 @@
 //!
 //! Those with bounds outside the limits; a place that no instruction leads to; a jump that doesn't
 //! lead on; a column, a key, an aggregate, a slot or an entry of the pool that isn't there, and a
-//! slot that might be unset; operands of another kind or other decimals, or none; a value that might
-//! be too wide, or more than 256 on a stack; places where paths meet with other kinds, decimals or
-//! depths on the stack; and ends of sections with other values than the program states.
+//! slot that might be unset; operands of another kind or other decimals, or none; a value that
+//! might be too wide, or more than 256 on a stack; places where paths meet with other kinds,
+//! decimals or depths on the stack; and ends of sections with other values than the program states.
 //!
 //! # Cost
 //!
@@ -38,8 +38,8 @@ pub fn state_shapes_are_ordered()
     ensures { StatesAreOrdered }
 {}
 
-/// Where instructions do of lesser shapes, or of values of these shapes, what they do of the shapes,
-/// so they do with whole states.
+/// Where the operations of instructions keep that shapes are below others, or that values lie in
+/// them, so do instructions with whole states.
 pub fn instructions_keep_states()
     ensures below { KeepStates IsBelow }
     ensures values { KeepStates LiesIn }
