@@ -4,5 +4,6 @@ pub mod EndFacts
 pub mod PlaceFacts
 pub mod DepthFacts
 pub mod NamedFacts
+pub mod HeldFacts
 pub mod Examples
 mod RefusedExamples

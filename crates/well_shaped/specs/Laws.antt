@@ -1,8 +1,9 @@
 -- What holds of state shapes, of sections that have them, and of well shaped programs.
 use Rattle.std.specs.Prelude.{◌≡◌, ℕ, ◌≤◌, nat_lt, Bool, true, false, List, [], ◌∷◌, length, Option}
-use Rattle.std.specs.Prelude.{Some, None, slice_get}
+use Rattle.std.specs.Prelude.{Some, None, slice_get, ⊤}
+use Rattle.std.specs.List.{AllByRecursion}
 use Rattle.bean_base.specs.declared.limits.TheConstants.{MOST_VALUES, SLOTS}
-use Rattle.query_shapes.specs.Shape.{IsBelow}
+use Rattle.query_shapes.specs.Shape.{IsBelow, is_held}
 use Rattle.query_shapes.specs.declared.shape.Shape.{Shape}
 use Rattle.query_shapes.specs.declared.shape.Shape.TheVariants.{Truth}
 use Rattle.query_code.specs.declared.instruction.Instruction.{Instruction}
@@ -72,6 +73,35 @@ pub record EndsAreMonotone : Type 0 where
   pub groups : (n : ℕ) (c : Code) (values more keys totals : List Shape)
       → AreEach IsBelow values more → HandsOver n c more keys totals
       → HandsOverLess n c values keys totals
+
+-- ---- what can be held
+
+abbrev pub IsHeld : Shape → Type 0
+IsHeld s = is_held s ≡ true
+
+abbrev pub IsHeldIfSet : Option Shape → Type 0
+IsHeldIfSet None = ⊤
+IsHeldIfSet (Some s) = IsHeld s
+
+-- each value of each of its shapes can be held
+pub record AreHeld (s : State Shape) : Type 0 where
+  pub stack : AllByRecursion IsHeld s.stack
+  pub slots : AllByRecursion IsHeldIfSet s.slots
+
+-- state shapes below others, that fit the section as well and can be held at each of its places
+pub record HeldBelow (m : Acts Shape) (code : List Instruction) (at : ℕ → State Shape) :
+    Type 0 where
+  pub low : ℕ → State Shape
+  pub given : AreGiven m code low
+  pub below : (q : ℕ) → IsStateBelow (low q) (at q)
+  pub held : (q : ℕ) → q ≤ length code → AreHeld (low q)
+
+-- Where state shapes fit a section, there are such that can be held: at most 2^127 - 1 in all
+-- counts, and at most 32 decimals.
+abbrev pub HeldShapesFit : Type 0
+HeldShapesFit =
+    (pool : List Constant) (l : Loads) (code : List Instruction) (at : ℕ → State Shape)
+    → AreGiven (shape_acts pool l) code at → HeldBelow (shape_acts pool l) code at
 
 -- ---- what stands in sections that are well shaped
 

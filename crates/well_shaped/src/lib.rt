@@ -29,6 +29,7 @@
 
 ghost use Rattle.query_shapes.specs.Shape.{IsBelow, LiesIn};
 ghost use Rattle.well_shaped.specs.Laws.{ActsAreMonotone, DepthsAreOne, EndsAreMonotone};
+ghost use Rattle.well_shaped.specs.Laws.{HeldShapesFit};
 ghost use Rattle.well_shaped.specs.Laws.{SectionsAreFollowed, SectionsHaveWhatTheyName};
 ghost use Rattle.well_shaped.specs.Laws.{StatesAreOrdered};
 ghost use Rattle.well_shaped.specs.StateShape.{KeepStates};
@@ -56,6 +57,11 @@ pub fn sections_are_monotone()
 /// places behind it.
 pub fn sections_are_followed()
     ensures { SectionsAreFollowed }
+{}
+
+/// Where state shapes fit a section, lesser ones do of which each value can be held.
+pub fn held_shapes_fit()
+    ensures { HeldShapesFit }
 {}
 
 /// What the instructions of a section name is there.
