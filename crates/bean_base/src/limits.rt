@@ -37,8 +37,8 @@ pub const MOST_COMPONENTS: i128 = 255;
 /// The most decimals of a value.
 pub const MOST_PLACES: u8 = 32;
 
-/// The greatest count of a value, sign left off: `2^127 - 1`.
-pub const GREATEST_COUNT: u128 = 170_141_183_460_469_231_731_687_303_715_884_105_727;
+/// Counts of values are below `2^127`, signs left off.
+pub const COUNT_BOUND: u128 = 1 << 127;
 
 /// The most values on the stack of a section.
 pub const MOST_VALUES: usize = 256;

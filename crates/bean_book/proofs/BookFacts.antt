@@ -2,6 +2,7 @@
 use Rattle.std.proofs.Common.{◌≡◌, reverse, arith, refl, sym, subst, Err}
 use Rattle.std.specs.List.{AllByRecursion}
 use Rattle.std.proofs.lemmas.List.{reverse-reverse}
+use Rattle.bean_base.specs.declared.limits.TheConstants.{MOST_POSTINGS}
 use Rattle.bean_booker.proofs.OneBooking.{one_stand}
 use Rattle.bean_booker.specs.Booked as booker
 use Rattle.bean_booker.specs.Booked.{IsBooked, method_in_ledger}
@@ -35,7 +36,7 @@ kept_are l b h =
 pub kept_tame : (l : Loaded) (b : Booked) → IsBooked l b → AllByRecursion IsSmall l.directives
     → AllByRecursion IsTame b.kept
 kept_tame l b h all =
-    all_joint IsSmallKept (HasUpTo 1000000) IsTame (λ k s f. record { small = s; few = f }) b.kept
+    all_joint IsSmallKept (HasUpTo MOST_POSTINGS) IsTame (λ k s f. record { small = s; few = f }) b.kept
     (booking_small l b h all).0 (booking_few l b h)
 
 pub pads_small : (l : Loaded) (b : Booked) → IsBooked l b → AllByRecursion IsSmall l.directives

@@ -9,6 +9,7 @@ use Rattle.std.specs.List.{flat_map}
 use Rattle.std.specs.Ordering.{nat_cmp}
 use Rattle.std.specs.Str.{bytes_eq}
 use Rattle.std.proofs.lemmas.Slice.Eq.{bytes_eq-Decides}
+use Rattle.bean_base.specs.declared.limits.TheConstants.{MOST_POSTINGS}
 use Rattle.bean_base.specs.declared.amounts.Amount.{Amount}
 use Rattle.bean_base.specs.declared.fault.Fault.{Fault}
 use Rattle.bean_booker.proofs.OneBooking.{one_stand}
@@ -80,7 +81,7 @@ with_decimals d (a ∷ amounts) name =
 made : List Booking → Ledger
 made bs = record { rows = rows_of_all bs; decimals = decimals_with empty (written_in_all bs) }
 
-is_made : (bs : List Booking) → length (rows_of_all bs) ≤ 1000000 → IsLedgerOf bs (made bs)
+is_made : (bs : List Booking) → length (rows_of_all bs) ≤ MOST_POSTINGS → IsLedgerOf bs (made bs)
 unfolding made
 is_made bs few = record {
   rows = refl;
@@ -110,7 +111,7 @@ rows_counted l b h =
 
 -- ---- what is found
 
-pub found : (l : Loaded) (b : booker.Booked) → IsBooked l b → row_count b ≤ 1000000
+pub found : (l : Loaded) (b : booker.Booked) → IsBooked l b → row_count b ≤ MOST_POSTINGS
     → (faults : List Fault) → faults ≡ reported b.faults → FindsFaults l (Ok faults)
 found l b h few faults is =
     let rows = rows_counted l b h in (
@@ -125,7 +126,7 @@ found l b h few faults is =
     )
 
 pub too_many_found : (l : Loaded) (b : booker.Booked) → IsBooked l b → (fault : BookFault)
-    → (fault ≡ TooManyPostings → 1000000 < row_count b) → FindsFaults l (Err fault)
+    → (fault ≡ TooManyPostings → MOST_POSTINGS < row_count b) → FindsFaults l (Err fault)
 too_many_found l b h TooManyPostings full = λ st leads.
     let same =
     one_stand (method_in_ledger l) (reverse l.directives) h.stand st h.leads leads in

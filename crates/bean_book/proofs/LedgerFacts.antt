@@ -6,6 +6,7 @@ use Rattle.std.proofs.Math.Seq.{drop-cons}
 use Rattle.std.proofs.Common.{Bool, true, false, cond, ◌==◌}
 use Rattle.std.proofs.lemmas.Grind.{flat_map-append}
 use Rattle.std.proofs.lemmas.List.{append-nil, length-map}
+use Rattle.bean_base.specs.declared.limits.TheConstants.{MOST_POSTINGS}
 use Rattle.bean_booker.specs.Stand.{postings_of}
 use Rattle.bean_heads.specs.declared.directive.DirectiveKind.{DirectiveKind}
 use Rattle.bean_heads.specs.declared.directive.DirectiveKind.TheVariants as kind
@@ -64,7 +65,7 @@ refused bs OutOfMemory full = tt
 -- what is too many with the next directive is too many in all
 pub too_many : (b rest : List Booking) (old : List Row) (bs : List Booking)
     → old ++ rows_of_all (b ++ rest) ≡ rows_of_all bs
-    → 1000000 < length old + length (rows_of_all b) → AreTooMany bs
+    → MOST_POSTINGS < length old + length (rows_of_all b) → AreTooMany bs
 too_many b rest old bs whole full =
     let one = ap length whole in
     let two = length-append old (rows_of_all (b ++ rest)) in

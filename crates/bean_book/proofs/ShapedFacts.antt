@@ -9,6 +9,7 @@ use Rattle.std.specs.Cmp.Lexicographic.{slice_cmp}
 use Rattle.std.specs.Ordering.{nat_cmp}
 use Rattle.std.proofs.lemmas.Int.{unsigned_abs-mul}
 use Rattle.std.proofs.lemmas.List.{length-map}
+use Rattle.bean_base.specs.declared.limits.TheConstants.{MOST_POSTINGS}
 use Rattle.bean_base.proofs.PowerFacts.{scaled_lt}
 use Rattle.bean_base.specs.declared.amounts.Amount.{Amount}
 use Rattle.bean_base.specs.declared.num.Num.{Num}
@@ -113,7 +114,7 @@ short_link (Link name) h = (h, tt)
 
 pub entry_short : (d : Directive) (t : Transaction) (posted : List Posted) → IsSmallDirective d
     → d.kind ≡ kind.Transaction t → AllByRecursion IsSmallPosted posted
-    → length posted ≤ 1000000 → HasShortTexts (entry_of d t posted)
+    → length posted ≤ MOST_POSTINGS → HasShortTexts (entry_of d t posted)
 entry_short d t posted small is booked few =
     let h = transaction_small d t small is in
     let tags = few_tags t.marks in

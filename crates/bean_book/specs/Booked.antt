@@ -12,7 +12,7 @@ use Rattle.bean_load.specs.Loaded.{Loaded}
 use Rattle.bean_pad.specs.Note.{noted_pads}
 use Rattle.posting_table.specs.Decimals.{decimals_of}
 use Rattle.posting_table.specs.Ledger as tables
-use Rattle.posting_table.specs.declared.ledger.TheConstants.{MOST_POSTINGS}
+use Rattle.bean_base.specs.declared.limits.TheConstants.{MOST_POSTINGS}
 use Rattle.posting_table.specs.declared.row.Row.{Row}
 use Rattle.bean_book.specs.Entries.{Booking, bookings}
 use Rattle.bean_book.specs.Reported.{reported}

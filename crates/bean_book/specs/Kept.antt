@@ -1,6 +1,7 @@
 -- That the transactions that are kept are some of the directives.
 use Rattle.std.specs.Prelude.{◌≡◌, ◌≤◌, ℕ, ◌+◌, List, [], ◌∷◌, ◌⊎◌, ⊤, length}
 use Rattle.std.specs.List.{AllByRecursion}
+use Rattle.bean_base.specs.declared.limits.TheConstants.{MOST_POSTINGS}
 use Rattle.bean_booker.specs.declared.kept.Kept.{Kept}
 use Rattle.bean_heads.specs.declared.directive.Directive.{Directive}
 use Rattle.bean_heads.specs.declared.directive.DirectiveKind.TheVariants as kind
@@ -38,4 +39,4 @@ IsNextOf n d (k ∷ ks) = k.directive ≡ n → IsOf n d k
 -- its postings are small, and no more than a ledger has
 pub record IsTame (k : Kept) : Type 0 where
   pub small : AllByRecursion IsSmallPosted k.postings
-  pub few : length k.postings ≤ 1000000
+  pub few : length k.postings ≤ MOST_POSTINGS

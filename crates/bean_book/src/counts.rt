@@ -5,9 +5,9 @@ ghost use Rattle.bean_booker.specs.Stand.{postings_of};
 ghost use Rattle.bean_pad.specs.declared.step.Pad.{Pad};
 ghost use Rattle.bean_book.specs.Rows as spec;
 
+use bean_base::limits::MOST_POSTINGS;
 use bean_booker::{BookFault, Kept};
 use bean_pad::{NotedPad, Outcome};
-use posting_table::MOST_POSTINGS;
 
 /// The count with so many rows more, unless there are too many.
 fn more(count: usize, rows: usize) -> Result<usize, BookFault>

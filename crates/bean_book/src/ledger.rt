@@ -14,11 +14,12 @@ use crate::decimals::note_written;
 use crate::paddings::push_pad;
 use crate::rows::push_transaction;
 use bean_base::Apart;
+use bean_base::limits::MOST_POSTINGS;
 use bean_booker::{BookFault, Kept};
 use bean_heads::{Directive, DirectiveKind, Transaction};
 use bean_load::Placed;
 use bean_pad::NotedPad;
-use posting_table::{Ledger, MOST_POSTINGS};
+use posting_table::Ledger;
 use std::alloc::{AllocError, Global};
 
 /// The transactions that are kept and the pads, of the directives that are still to be taken.

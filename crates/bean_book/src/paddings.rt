@@ -6,11 +6,12 @@ ghost use Rattle.bean_book.specs.Rows as spec;
 
 use crate::entries::padding_entry;
 use crate::rows::push_row;
+use bean_base::limits::MOST_POSTINGS;
 use bean_base::{Account, Currency};
 use bean_booker::BookFault;
 use bean_lots::{Key, Position};
 use bean_pad::{Note, NotedPad, Outcome, Pad};
-use posting_table::{Entry, Ledger, MOST_POSTINGS, Metadata, Row, Shared, Weight};
+use posting_table::{Entry, Ledger, Metadata, Row, Shared, Weight};
 use std::alloc::{AllocError, Global};
 
 /// So much in an account, as a count of `10^-8`.

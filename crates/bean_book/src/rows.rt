@@ -14,12 +14,13 @@ ghost use Rattle.posting_table.specs.Parts.{HasShortTexts};
 
 use crate::entries::entry_of;
 use crate::metadata::metadata_of;
+use bean_base::limits::MOST_POSTINGS;
 use bean_booker::BookFault;
 use bean_heads::{Directive, DirectiveKind, Transaction};
 use bean_lots::{Key, Position};
 use bean_postings::Posting;
 use bean_trial::{Posted, whole};
-use posting_table::{Entry, Ledger, MOST_POSTINGS, Metadata, Row, Shared, Weight};
+use posting_table::{Entry, Ledger, Metadata, Row, Shared, Weight};
 use std::alloc::{AllocError, Global};
 
 /// Adds a row at the end.
@@ -183,7 +184,7 @@ pub(crate) fn push_transaction<'a>(
 ) -> Result<(), BookFault>
     requires light { AllByRecursion IsLight (booked_legs transaction.now.postings posted.now) }
     requires small { AllByRecursion IsSmallPosted posted.now }
-    requires few { length posted.now ≤ 1000000 }
+    requires few { length posted.now ≤ MOST_POSTINGS }
     requires directive { IsSmallDirective directive.now }
     requires is { directive.now.kind ≡ DirectiveKind.Transaction transaction.now }
     requires room { length ledger.old.rows ≤ MOST_POSTINGS }

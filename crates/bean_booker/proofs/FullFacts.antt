@@ -6,6 +6,7 @@ use Rattle.std.proofs.Common.{arith}
 use Rattle.std.proofs.Math.Seq.{drop-cons}
 use Rattle.std.proofs.lemmas.Grind.{flat_map-append}
 use Rattle.std.proofs.lemmas.List.{append-nil, length-append, reverse-append, take-append-drop}
+use Rattle.bean_base.specs.declared.limits.TheConstants.{MOST_POSTINGS}
 use Rattle.bean_postings.specs.declared.posting.Posting.{Posting}
 use Rattle.bean_heads.specs.declared.directive.Directive.{Directive}
 use Rattle.bean_heads.specs.declared.directive.DirectiveKind.{DirectiveKind}
@@ -40,12 +41,12 @@ pub full_kept : (m : List ℕ → Method) (past : List (Placed Directive)) (st :
     (d : Placed Directive) (ps : List Posting) (posted : List Posted)
     (r : Result (List Posted) LineFault) → Tries (setting_of m st d) ps (Ok posted)
     → Tries (setting_of m st d) ps r
-    → 1000000 < length (postings_of st.kept) + length posted
+    → MOST_POSTINGS < length (postings_of st.kept) + length posted
     → IsFull (after_trial past st d ps r)
 full_kept m past st d ps posted r h g many =
     subst (λ r. IsFull (after_trial past st d ps r))
     (one_trial (setting_of m st d) ps (Ok posted) r h g)
-    (subst (λ n. 1000000 < n) (sym (counted st.kept (length past) posted)) many)
+    (subst (λ n. MOST_POSTINGS < n) (sym (counted st.kept (length past) posted)) many)
 
 abbrev size : Stand → ℕ
 size st = length (postings_of st.kept)

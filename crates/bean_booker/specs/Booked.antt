@@ -1,5 +1,6 @@
 -- What a loaded ledger is booked as.
 use Rattle.std.specs.Prelude.{◌≡◌, ◌≤◌, ℕ, List, ◌++◌, length, reverse}
+use Rattle.bean_base.specs.declared.limits.TheConstants.{MOST_POSTINGS}
 use Rattle.bean_base.specs.declared.fault.Fault.{Fault}
 use Rattle.bean_load.specs.Loaded.{Loaded}
 use Rattle.bean_reductions.specs.declared.reduction.Method as methods
@@ -28,7 +29,7 @@ pub record IsFinished (l : Loaded) (st : Stand) (b : declared.Booked) : Type 0 w
 pub record IsBooked (l : Loaded) (b : declared.Booked) : Type 0 where
   pub stand : Stand
   pub leads : LeadsTo (method_in_ledger l) (reverse l.directives) stand
-  pub few : length (postings_of stand.kept) ≤ 1000000
+  pub few : length (postings_of stand.kept) ≤ MOST_POSTINGS
   pub finished : IsFinished l stand b
 
 -- the transactions that are kept have more than a million postings

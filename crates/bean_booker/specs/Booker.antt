@@ -1,5 +1,6 @@
 -- What is kept while directives are taken.
 use Rattle.std.specs.Prelude.{◌≡◌, ◌≤◌, ◌+◌, ℕ, List, ◌++◌, drop, length}
+use Rattle.bean_base.specs.declared.limits.TheConstants.{MOST_POSTINGS}
 use Rattle.bean_accounts.specs.Kept as accounts
 use Rattle.bean_heads.specs.declared.directive.Directive.{Directive}
 use Rattle.bean_load.specs.declared.placed.Placed.{Placed}
@@ -35,7 +36,7 @@ pub record IsStanding (m : List ℕ → Method) (past : List (Placed Directive))
 pub record HasRoom (n : ℕ) (b : Booker) : Type 0 where
   pub bounded : holdings.IsBounded b.holdings
   pub near : following.IsBounded b.padder
-  pub few : additions_in b.holdings ≤ 1000000
+  pub few : additions_in b.holdings ≤ MOST_POSTINGS
   pub shown : b.shown ≤ length b.kept.items
   pub steps : steps_in b.padder + length (postings_of (unseen b)) ≤ n + additions_in b.holdings
 

@@ -3,6 +3,7 @@ use Rattle.std.specs.Prelude.{◌<◌, ℕ, ◌≡◌, Bool, not, List, [], ◌�
 use Rattle.std.specs.Prelude.{Option}
 use Rattle.std.specs.Prelude.{Some, None, Result, Ok, Err, length}
 use Rattle.std.specs.List.{flat_map}
+use Rattle.bean_base.specs.declared.limits.TheConstants.{MOST_POSTINGS}
 use Rattle.bean_accounts.specs.Faults.{faults_at, kind_if, of_close, of_open, of_posting, of_use}
 use Rattle.bean_accounts.specs.declared.accounts.Place.{Place}
 use Rattle.bean_accounts.specs.declared.step.Step as lives
@@ -176,4 +177,4 @@ LeadsTo m (d ∷ past) new =
 
 -- there are more than a million booked postings
 abbrev pub IsFull : Stand → Type 0
-IsFull st = 1000000 < length (postings_of st.kept)
+IsFull st = MOST_POSTINGS < length (postings_of st.kept)

@@ -2,6 +2,7 @@
 ghost use Rattle.std.specs.Prelude.{◌≡◌, ◌≢◌, ◌<◌, ◌≤◌, ◌+◌, ◌^◌, ◌∷◌, [], ℕ, OnOk, Ok, length};
 ghost use Rattle.std.specs.Prelude as prelude;
 ghost use Rattle.std.specs.List.{AllByRecursion};
+ghost use Rattle.bean_base.specs.declared.limits.TheConstants.{MOST_POSTINGS};
 ghost use Rattle.bean_booker.specs.Booker.{HasRoom, IsStanding, Stands, unseen};
 ghost use Rattle.bean_booker.specs.Stand.{IsStepBy, Stand, after_trial, place_of, setting_of};
 ghost use Rattle.bean_booker.specs.Stand.{IsFull, postings_of, start};
@@ -23,6 +24,7 @@ use crate::postings::{note_balance, note_postings};
 use crate::steps::{place_of, show_kept};
 use bean_accounts::{Accounts, Place};
 use bean_base::Fault;
+use bean_base::limits::MOST_POSTINGS;
 use bean_interp::Scales;
 use bean_load::Placed;
 use bean_pad::Padder;
@@ -30,9 +32,6 @@ use bean_parser::{Directive, DirectiveKind};
 use bean_postings::Posting;
 use bean_trial::{Head, Holdings, LineFault, Methods, Stop, Tried, try_transaction};
 use std::alloc::{AllocError, AllocFailed, Global};
-
-/// The most postings of a ledger.
-pub const MOST_POSTINGS: usize = 1_000_000;
 
 /// Why nothing is booked.
 #[derive(Clone, Copy, Debug, Drop, PartialEq, Eq)]
@@ -133,7 +132,7 @@ impl<'a> Booker<'a> {
             (after_trial past st d postings.now (Ok tried.entry.posted)) self.new) }
         ensures room { OnOk result (HasRoom number self.new) }
         ensures full { result ≡ prelude.Err BookFault.TooManyPostings
-            → 1000000 < additions_in self.old.holdings + length tried.entry.posted }
+            → MOST_POSTINGS < additions_in self.old.holdings + length tried.entry.posted }
     {
         let booked = tried.posted.as_slice();
         if booked.len() > MOST_POSTINGS - self.holdings.additions() {

@@ -36,6 +36,6 @@ mod postings;
 mod steps;
 
 pub use booked::{Booked, book_directives};
-pub use booker::{BookFault, MOST_POSTINGS};
+pub use booker::BookFault;
 pub use kept::Kept;
 pub use laws::one_booking;

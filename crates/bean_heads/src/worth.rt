@@ -8,7 +8,7 @@ ghost use Rattle.bean_grammar.specs.Expression.{exactly};
 ghost use Rattle.bean_grammar.specs.Lexeme.{lexemes, begins_with_sign};
 ghost use Rattle.bean_heads.specs.Head.{IsBelowZero};
 
-use bean_grammar::expression::ROOM;
+use bean_base::limits::MOST_NESTED;
 use bean_grammar::front::{after_number, after_plus_or_minus, after_sign};
 use bean_lexer::{Sign, Token};
 use exact_numbers::ExactNumber;
@@ -140,7 +140,7 @@ fn factor<'t, 'a>(
 pub fn is_below_zero(alloc: Global, tokens: &[Token<'_>]) -> Result<bool, AllocError>
     ensures { IfOk result (λ is. (is ≡ true) ↔ IsBelowZero (lexemes tokens.now)) }
 {
-    match sum(alloc, tokens, ROOM)? {
+    match sum(alloc, tokens, MOST_NESTED)? {
         Some((value, _)) => Ok(value.is_negative()),
         None => Ok(false),
     }

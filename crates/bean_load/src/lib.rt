@@ -54,5 +54,4 @@ pub use gathering::{DEEPEST, LARGEST_LEDGER, MOST_NAMES};
 pub use loaded::{Loaded, MethodLine, load, one_loading};
 pub use placed::Placed;
 pub use stores::source::Source;
-pub use text_sizes::LARGEST_TEXT;
 pub use texts::{File, Part, Texts};

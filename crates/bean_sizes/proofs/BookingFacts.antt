@@ -2,6 +2,7 @@
 use Rattle.std.proofs.Common.{ℕ, ◌≤◌, List, [], ◌∷◌, length, sym, subst, arith}
 use Rattle.std.proofs.Common.{length-append}
 use Rattle.std.specs.List.{AllByRecursion}
+use Rattle.bean_base.specs.declared.limits.TheConstants.{MOST_POSTINGS}
 use Rattle.bean_booker.specs.Booked.{IsBooked, method_in_ledger}
 use Rattle.bean_booker.specs.Stand.{postings_of}
 use Rattle.bean_booker.specs.declared.booked.Booked.{Booked}
@@ -31,7 +32,7 @@ booking_small l b h all =
     )
 
 pub booking_few : (l : Loaded) (b : Booked) → IsBooked l b
-    → AllByRecursion (HasUpTo 1000000) b.kept
+    → AllByRecursion (HasUpTo MOST_POSTINGS) b.kept
 booking_few l b h =
-    subst (AllByRecursion (HasUpTo 1000000)) (sym h.finished.kept_is)
-    (each_few 1000000 h.stand.kept h.few)
+    subst (AllByRecursion (HasUpTo MOST_POSTINGS)) (sym h.finished.kept_is)
+    (each_few MOST_POSTINGS h.stand.kept h.few)

@@ -7,7 +7,7 @@ use Rattle.bean_load.specs.Texts.{Texts}
 use Rattle.bean_load.specs.declared.fault.LoadFault.{LoadFault}
 use Rattle.bean_load.specs.declared.fault.LoadFault.TheVariants.{Unreadable, TooLarge, NotUtf8}
 use Rattle.bean_load.specs.declared.fault.LoadFault.TheVariants.{OutOfMemory}
-use Rattle.text_sizes.specs.declared.TheConstants.{LARGEST_TEXT}
+use Rattle.bean_base.specs.declared.limits.TheConstants.{LARGEST_TEXT}
 use Rattle.bean_load.proofs.OneGathering.{one_gathering}
 use Rattle.clap.specs.Walk.{Text}
 use Rattle.query_code.specs.QueryFile.{decoded}

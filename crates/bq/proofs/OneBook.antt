@@ -15,7 +15,7 @@ use Rattle.bean_booker.specs.declared.booker.BookFault.TheVariants.{TooManyPosti
 use Rattle.bean_load.specs.Loaded.{IsLoaded, Loaded}
 use Rattle.bean_load.specs.Texts.{Texts}
 use Rattle.bean_load.proofs.OneLoading.{one_loading}
-use Rattle.posting_table.specs.declared.ledger.TheConstants.{MOST_POSTINGS}
+use Rattle.bean_base.specs.declared.limits.TheConstants.{MOST_POSTINGS}
 use Rattle.bq.specs.Booking.{FindsFaults, HasTooMany, IsBookOf}
 
 too_many : (most n m : ℕ) → n ≤ most → n ≡ m → most < m → ⊥

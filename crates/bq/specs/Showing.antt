@@ -2,7 +2,7 @@
 use Rattle.std.specs.Prelude.{◌≡◌, ℕ, ◌<◌, ◌≤◌, IsTrue, List, [], ◌∷◌, length, Result, Ok, Err}
 use Rattle.bean_load.specs.declared.fault.LoadFault.{LoadFault}
 use Rattle.bean_load.specs.declared.fault.LoadFault.TheVariants.{Unreadable, TooLarge, OutOfMemory}
-use Rattle.text_sizes.specs.declared.TheConstants.{LARGEST_TEXT}
+use Rattle.bean_base.specs.declared.limits.TheConstants.{LARGEST_TEXT}
 use Rattle.query_code.specs.Listing.{listing}
 use Rattle.query_code.specs.QueryFile.{decoded}
 use Rattle.query_code.specs.declared.program.Parts.{Parts}

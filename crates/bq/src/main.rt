@@ -24,7 +24,7 @@ mod words;
 
 use crate::arguments::run_args;
 use crate::refusal::Refusal;
-use bean_load::LARGEST_TEXT;
+use bean_base::limits::LARGEST_TEXT;
 use outputs::stream::Stream;
 use std::process::ExitCode;
 use std::{env, io};

@@ -2,7 +2,8 @@
 ghost use Rattle.bq.specs.Showing.{ListsProgram, ReadsFile};
 
 use crate::refusal::Refusal;
-use bean_load::{LARGEST_TEXT, LoadFault};
+use bean_base::limits::LARGEST_TEXT;
+use bean_load::LoadFault;
 use query_code::show;
 use query_file::decode;
 use std::alloc::Global;

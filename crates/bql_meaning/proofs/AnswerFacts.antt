@@ -4,7 +4,7 @@ use Rattle.std.specs.Cmp.{IsStrictWeakOrder}
 use Rattle.std.specs.Cmp.Lexicographic.{lists_total}
 use Rattle.std.proofs.lemmas.List.Sorted.{ranks_by, IsStrictWeakOrder-flip}
 use Rattle.bean_base.specs.declared.bounds.Bounds.{Bounds}
-use Rattle.bql_parser.specs.Settled.{Settled}
+use Rattle.bql_parser.specs.Asked.{Asked}
 use Rattle.theory.proofs.ArrangedFacts.{is_arranged}
 use Rattle.theory.specs.Arrangement.{arranged_by}
 use Rattle.query_code.specs.declared.program.Output.{Output}
@@ -35,13 +35,13 @@ is_final o rows = record {
 }
 
 -- the answer, which can be computed
-abbrev pub answer_of : Bounds → Settled → List Row → List (List Value)
+abbrev pub answer_of : Bounds → Asked → List Row → List (List Value)
 answer_of b q rows = final_of (output q) (rows_of b q rows)
 
-pub are_there : (b : Bounds) (q : Settled) (rows : List Row)
+pub are_there : (b : Bounds) (q : Asked) (rows : List Row)
     → (final : List (List Value)) × IsAnswer b q rows final
 are_there b q rows = (answer_of b q rows, is_final (output q) (rows_of b q rows))
 
-pub one_answer : (b : Bounds) (q : Settled) (rows : List Row) (x y : List (List Value))
+pub one_answer : (b : Bounds) (q : Asked) (rows : List Row) (x y : List (List Value))
     → IsAnswer b q rows x → IsAnswer b q rows y → x ≡ y
 one_answer b q rows = are_one (output q) (rows_of b q rows)

@@ -406,6 +406,7 @@ of_one_lesser n function.Day u s t h e = by_one operation.Day u s t h e
 of_one_lesser n function.Number u s t h e = by_one operation.Number u s t h e
 of_one_lesser n function.Currency u s t h e = by_one operation.Currency u s t h e
 of_one_lesser n function.Abs u s t h e = by_one operation.Abs u s t h e
+of_one_lesser n function.RootRank u s t h e = by_one operation.RootRank u s t h e
 of_one_lesser n function.Count u s t h e = by_many aggregate.Count n u s t h e
 of_one_lesser n function.Sum u s t h e =
     subst (λ a. Gives (machine.aggregate_shape 0 a (Some u)) t) (sym (sum_below u s h))

@@ -8,16 +8,16 @@ use Rattle.bean_base.specs.declared.bounds.Bounds.{Bounds}
 use Rattle.bean_base.specs.declared.days.Day as day
 use Rattle.bean_lots.specs.declared.lot.Key.{Key}
 use Rattle.bql_parser.specs.Clause as clause
-use Rattle.bql_parser.specs.Clause.{selecting, journaling, balancing}
-use Rattle.bql_parser.specs.Settled.{Target, Item, target_item, tree_item}
-use Rattle.bql_parser.specs.declared.query.Valuation.TheVariants as valuation
+use Rattle.bql_parser.specs.Asked.{Target, Item, target_item, tree_item}
+use Rattle.bql_parser.specs.declared.standing.Valuation.TheVariants as valuation
 use Rattle.bql_tree.specs.Tree.{leaf_of, one_of, two_of, Tree, node, no_trees, trees}
 use Rattle.bql_tree.specs.declared.function.Function.TheVariants as function
 use Rattle.bql_tree.specs.declared.tree.Binary.{Binary}
 use Rattle.bql_tree.specs.declared.tree.Binary.TheVariants as binary
 use Rattle.bql_tree.specs.declared.tree.Leaf.TheVariants as leaf
 use Rattle.bql_tree.specs.declared.tree.Unary.TheVariants as unary
-use Rattle.bql_types.specs.Standing.{of_column, applied}
+use Rattle.bql_parser.specs.Standing as standing
+use Rattle.bql_parser.specs.Standing.{of_column, applied}
 use Rattle.query_columns.specs.declared.column.Column.TheVariants as column
 use Rattle.query_values.specs.declared.value.Value.{Value}
 use Rattle.query_values.specs.declared.value.Value.TheVariants.{Null, Truth, Number, Text, Day}
@@ -73,7 +73,7 @@ ordered distinct descending items limit s = record s {
 }
 
 abbrev answer : clause.Select Target (Tree ℕ) Item → List Row → List (List Value)
-answer s rows = answer_of widest (selecting s) rows
+answer s rows = answer_of widest s rows
 
 abbrev of_cash : Tree ℕ
 of_cash = two binary.Equal (of_column column.Account) (of_text cash)
@@ -254,7 +254,7 @@ of_february = two binary.Equal (of_column column.Month) (node 0 (leaf_of (leaf.N
 
 -- BALANCES: the accounts stand by their roots and then by their names
 balances :
-    answer_of widest (balancing (record { at = None; filters = no_filters })) ledger
+    answer_of widest (standing.balances None no_filters) ledger
     ≡ ((Text cash ∷ bag (held usd (minus 250) ∷ []) ∷ [])
     ∷ (Text inv ∷ bag (held at_110 (units 3) ∷ []) ∷ [])
     ∷ (Text gain ∷ bag (held usd (minus 80) ∷ []) ∷ []) ∷ [])
@@ -263,7 +263,7 @@ balances = refl
 
 -- BALANCES AT cost
 balances_at_cost :
-    answer_of widest (balancing (record { at = Some valuation.Cost; filters = no_filters })) ledger
+    answer_of widest (standing.balances (Some valuation.Cost) no_filters) ledger
     ≡ (Text cash ∷ at_cost (minus 250) ∷ []) ∷ (Text inv ∷ at_cost (units 330) ∷ [])
     ∷ (Text gain ∷ at_cost (minus 80) ∷ []) ∷ []
 balances_at_cost = refl
@@ -279,7 +279,7 @@ some_units currency n = Amount 8 n currency
 
 journal :
     answer_of widest
-    (journaling (record { pattern = None; at = Some valuation.Units; from = Some of_february }))
+    (standing.journal None (Some valuation.Units) (Some of_february))
     ledger
     ≡ sold inv (some_units (codes "HOOL") (minus 10)) (bag (held hool (minus 10) ∷ []))
     ∷ sold inv (some_units (codes "HOOL") (minus 2)) (bag (held hool (minus 12) ∷ []))
@@ -298,7 +298,7 @@ of_january d count balance =
 journal_of_cash :
     (pattern : List ℕ) → is_found pattern cash ≡ true → is_found pattern inv ≡ false
     → is_found pattern gain ≡ false
-    → answer_of widest (journaling (record { pattern = Some pattern; at = None; from = None }))
+    → answer_of widest (standing.journal (Some pattern) None None)
     ledger
     ≡ of_january january_2 (minus 1000) (minus 1000)
     ∷ of_january january_3 (minus 550) (minus 1550)
@@ -312,7 +312,7 @@ spent = posting february_1 (codes "Food") (codes "Expenses:Food") usd (units 5)
     ∷ posting february_1 (codes "Food") cash usd (minus 2) ∷ []
 
 by_roots :
-    answer_of widest (balancing (record { at = None; filters = no_filters })) spent
+    answer_of widest (standing.balances None no_filters) spent
     ≡ (Text cash ∷ bag (held usd (minus 2) ∷ []) ∷ [])
     ∷ (Text (codes "Liabilities:Card") ∷ bag (held usd (minus 3) ∷ []) ∷ [])
     ∷ (Text (codes "Expenses:Food") ∷ bag (held usd (units 5) ∷ []) ∷ []) ∷ []

@@ -5,6 +5,7 @@ pub mod AlignmentFacts
 pub mod ShapeFacts
 pub mod ValueFacts
 pub mod PassingFacts
+pub mod ShortFacts
 pub mod BoundFacts
 pub mod BoundlessFacts
 pub mod TypedFacts

@@ -7,22 +7,20 @@ use Rattle.theory.specs.Form.{steps}
 use Rattle.bean_base.specs.declared.bounds.Bounds.{Bounds}
 use Rattle.bql_parser.specs.Answer.{query_of}
 use Rattle.bql_parser.specs.Clause as clause
-use Rattle.bql_parser.specs.Settled.{Target, Item, ItemKind, target_item, tree_item}
+use Rattle.bql_parser.specs.Asked.{Asked, Target, Item, ItemKind, target_item, tree_item}
 use Rattle.bql_parser.specs.declared.query.Query.{Query}
-use Rattle.bql_plan.specs.Ordering.{row_order}
 use Rattle.bql_plan.specs.Plan.{plan, Plan, added, own_trees, tree_by}
 use Rattle.bql_plan.specs.Plan as plans
 use Rattle.bql_tree.specs.Tree.{Tree}
 use Rattle.bql_types.proofs.TypedFacts.{typed_have_shapes}
 use Rattle.bql_types.specs.Laws.{HasShapes, IsShaped, IsFilter, IsOrder}
 use Rattle.bql_types.specs.Sought.{is_key}
-use Rattle.bql_types.specs.Standing.{Select, standing}
 use Rattle.bql_types.specs.Typing.{IsTyped, Grouping, grouping_of, target_tree}
 use Rattle.plain_machine.specs.Distinct.{same_values, each_once}
 use Rattle.plain_machine.specs.Row.{Row}
 use Rattle.query_values.specs.Operation.{is_true}
 use Rattle.bql_meaning.specs.Answer.{holds, passing, balanced, unbalanced, groups}
-use Rattle.bql_meaning.specs.Answer.{grouped, alone, rows_by, select_rows, rows_of, ranked}
+use Rattle.bql_meaning.specs.Answer.{grouped, alone, rows_by, rows_of}
 use Rattle.bql_meaning.specs.Keys.{IsTypedKey}
 use Rattle.bql_meaning.specs.Meaning.{value_of}
 use Rattle.bql_meaning.specs.Reading.{Reading}
@@ -121,7 +119,7 @@ module _ (b c : Bounds) where
       by (target_item index) h k rest = rest
       by (tree_item t) h k rest = (shaped t (h.0, h.1) (k.0, k.1), rest)
 
-  same_shown : (s : Select) → HasShapes b s → HasShapes c s → HaveOneValue (plans.shown s)
+  same_shown : (s : Asked) → HasShapes b s → HasShapes c s → HaveOneValue (plans.shown s)
   same_shown s h k =
       all_added (map target_tree s.targets) (own_trees s.order.items)
       (same_targets s.targets (all_among _ s.targets h.targets) (all_among _ s.targets k.targets))
@@ -134,10 +132,10 @@ module _ (b c : Bounds) where
   same_keys (t ∷ ts) h k =
       (shaped t (h.0.shape, h.0.has) (k.0.shape, k.0.has), same_keys ts h.1 k.1)
 
-  same_select : (s : Select) → HasShapes b s → HasShapes c s
+  same_select : (s : Asked) → HasShapes b s → HasShapes c s
       → AllByRecursion (IsTypedKey b) (grouping_of s).keys
       → AllByRecursion (IsTypedKey c) (grouping_of s).keys
-      → (rows : List Row) → select_rows b s rows ≡ select_rows c s rows
+      → (rows : List Row) → rows_of b s rows ≡ rows_of c s rows
   same_select s h k m n rows =
       ap (rows_by b (plan s)) (same_passing s.filters h.from k.from h.filter k.filter rows)
       ∙ same_rows (plan s) (same_shown s h k) (same_keys (grouping_of s).keys m n)
@@ -147,6 +145,5 @@ pub rows_by_any_bounds : (b c : Bounds) (q : Query) → IsTyped b (query_of q)
     → IsTyped c (query_of q) → (rows : List Row)
     → rows_of b (query_of q) rows ≡ rows_of c (query_of q) rows
 rows_by_any_bounds b c q h k rows =
-    ap (ranked (row_order (query_of q)))
-    (same_select b c (standing (query_of q)) (typed_have_shapes b (query_of q) h)
-    (typed_have_shapes c (query_of q) k) (keys_are_typed b q h) (keys_are_typed c q k) rows)
+    same_select b c (query_of q) (typed_have_shapes b (query_of q) h)
+    (typed_have_shapes c (query_of q) k) (keys_are_typed b q h) (keys_are_typed c q k) rows

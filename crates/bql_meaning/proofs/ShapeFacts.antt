@@ -152,6 +152,7 @@ of_one_lies n function.Day x s u h plain e = by_one operation.Day x s u h e
 of_one_lies n function.Number x s u h plain e = by_one operation.Number x s u h e
 of_one_lies n function.Currency x s u h plain e = by_one operation.Currency x s u h e
 of_one_lies n function.Abs x s u h plain e = by_one operation.Abs x s u h e
+of_one_lies n function.RootRank x s u h plain e = by_one operation.RootRank x s u h e
 of_one_lies n f x s u h plain e = tt
 
 list_gives : (s u : Shape) (ss : List Shape) → one_of s ss ≡ Ok u → u ≡ shape.Truth

@@ -6,17 +6,15 @@ use Rattle.std.specs.declared.alloc.Global.{Global}
 use Rattle.std.specs.List.{AllByRecursion, slice_get}
 use Rattle.std.specs.Option.{is_some}
 use Rattle.bean_base.specs.declared.bounds.Bounds.{Bounds}
-use Rattle.bql_parser.specs.Answer.{query_of, target_of, item_of}
-use Rattle.bql_parser.specs.Answer.{group_of, kind_of}
-use Rattle.bql_parser.specs.Settled.{Target, Item, ItemKind, target_item, tree_item}
+use Rattle.bql_parser.specs.Answer.{query_of}
+use Rattle.bql_parser.specs.View.{target_of, item_of}
+use Rattle.bql_parser.specs.View.{group_of, kind_of}
+use Rattle.bql_parser.specs.Asked.{Asked, Target, Item, ItemKind, target_item, tree_item}
 use Rattle.bql_parser.specs.declared.query.Item as items
 use Rattle.bql_parser.specs.declared.query.ItemKind as kinds
 use Rattle.bql_parser.specs.declared.query.ItemKind.TheVariants as kind
 use Rattle.bql_parser.specs.declared.query.Query.{Query}
-use Rattle.bql_parser.specs.declared.query.Query.TheVariants as queries
 use Rattle.bql_parser.specs.declared.query.Target as targets
-use Rattle.bql_parser.specs.declared.query.Valuation.{Valuation}
-use Rattle.bql_parser.specs.declared.query.Valuation.TheVariants as valuation
 use Rattle.bql_tree.specs.Tree.{Operation, leaf_of, one_of, two_of, call_of, Tree, node, Trees}
 use Rattle.bql_tree.specs.Tree.{no_trees, trees, tree_of, row_trees}
 use Rattle.bql_tree.specs.declared.tree.Expr.{Expr, Row_of-Expr, end_of-Expr, more_of-Expr}
@@ -28,16 +26,13 @@ use Rattle.bql_types.specs.Cause.{where_true, least_of}
 use Rattle.bql_types.specs.Shaped.{shape_of, shapes_of, shape_causes, is_equation, is_null}
 use Rattle.bql_types.specs.Sought.{is_aggregate, aggregates, one_aggregates, misplaced, is_told}
 use Rattle.bql_types.specs.Sought.{all_misplaced, balances}
-use Rattle.bql_types.specs.Standing.{Select, standing, valued, of_column}
 use Rattle.bql_types.specs.Typing.{IsTyped, Grouping, grouping_by, grouping_of, each}
 use Rattle.bql_types.specs.Typing.{target_causes, keys_of}
 use Rattle.bql_types.specs.Typing.{group_item_causes, plain_targets, filters_causes, group_causes}
 use Rattle.bql_types.specs.Typing.{row_causes, plain_target}
 use Rattle.bql_types.specs.Typing.{named_group_causes, group_causes_by, key_by}
-use Rattle.bql_types.specs.Typing.{tree_of_found, key_of, select_causes}
+use Rattle.bql_types.specs.Typing.{tree_of_found, key_of, causes}
 use Rattle.bql_types.specs.declared.cause.Cause.{Cause}
-use Rattle.query_columns.specs.declared.column.Column.{Column}
-use Rattle.query_columns.specs.declared.column.Column.TheVariants as column
 use Rattle.query_shapes.specs.declared.shape.Shape.{Shape}
 use Rattle.bql_meaning.specs.Keys.{IsTypedKey}
 use Rattle.bql_meaning.proofs.BoundlessFacts.{null_part, shaped_part}
@@ -255,11 +250,11 @@ group_keys b g ts None are is none well = plain_keys b g ts none
 group_keys b g ts (Some items) are is none well =
     item_keys b ts items (proper_targets b g ts are none) is well
 
-record IsProperSelect (s : Select) : Type 0 where
+record IsProperSelect (s : Asked) : Type 0 where
   pub targets : AllByRecursion (λ (t : Target). IsProper t.tree) s.targets
   pub group : IsProperGroup s.group
 
-select_keys : (b : Bounds) (s : Select) → IsProperSelect s → select_causes b s ≡ []
+select_keys : (b : Bounds) (s : Asked) → IsProperSelect s → causes b s ≡ []
     → AllKeys b (grouping_of s).keys
 select_keys b s is none =
     let h = no_more (each (target_causes b (grouping_of s)) s.targets) _ none in
@@ -287,38 +282,10 @@ group_proper : (g : Option (Vec items.Item Global)) → IsProperGroup (group_of 
 group_proper None = tt
 group_proper (Some v) = items_proper v.items
 
-valued_proper : (at : Option Valuation) (c : Column) → IsProper (valued at (of_column c))
-valued_proper None c = (tt, tt)
-valued_proper (Some valuation.Units) c = (tt, ((tt, tt), tt))
-valued_proper (Some valuation.Cost) c = (tt, ((tt, tt), tt))
-
-query_proper : (q : Query) → IsProperSelect (standing (query_of q))
-query_proper (queries.Select s) =
-    record { targets = targets_proper s.targets.items; group = group_proper s.group }
-query_proper (queries.Journal j) = record {
-  targets = (
-    (tt, tt),
-    (
-      (tt, tt),
-      (
-        (tt, tt),
-        (
-          (tt, tt),
-          (
-            (tt, tt),
-            (valued_proper j.at column.Position, (valued_proper j.at column.Balance, tt)),
-          ),
-        ),
-      ),
-    ),
-  );
-  group = tt;
-}
-query_proper (queries.Balances q) = record {
-  targets = ((tt, tt), ((tt, (valued_proper q.at column.Position, tt)), tt));
-  group = (tt, tt);
-}
+query_proper : (q : Query) → IsProperSelect (query_of q)
+query_proper q =
+    record { targets = targets_proper q.targets.items; group = group_proper q.group }
 
 pub keys_are_typed : (b : Bounds) (q : Query) → IsTyped b (query_of q)
-    → AllByRecursion (IsTypedKey b) (grouping_of (standing (query_of q))).keys
-keys_are_typed b q typed = select_keys b (standing (query_of q)) (query_proper q) typed
+    → AllByRecursion (IsTypedKey b) (grouping_of (query_of q)).keys
+keys_are_typed b q typed = select_keys b (query_of q) (query_proper q) typed

@@ -15,7 +15,7 @@ use Rattle.bql_tree.specs.declared.tree.Leaf as leaves
 use Rattle.bql_tree.specs.declared.tree.Leaf.TheVariants as leaf
 use Rattle.bql_tree.specs.declared.tree.Unary.{Unary}
 use Rattle.bql_tree.specs.declared.tree.Unary.TheVariants as unary
-use Rattle.bql_types.specs.Standing.{of_column, applied}
+use Rattle.bql_parser.specs.Standing.{of_column, applied}
 use Rattle.query_columns.specs.declared.column.Column.{Column}
 use Rattle.query_columns.specs.declared.column.Column.TheVariants as column
 use Rattle.query_values.specs.declared.value.Value.{Value}

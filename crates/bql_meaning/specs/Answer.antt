@@ -3,22 +3,17 @@ use Rattle.std.specs.Prelude.{ℕ, ◌-◌, Bool, true, ◌&&◌, List, [], ◌�
 use Rattle.std.specs.Prelude.{Option, Some, None, if◌then◌else◌}
 use Rattle.bean_base.specs.declared.bounds.Bounds.{Bounds}
 use Rattle.bql_parser.specs.Clause as clause
-use Rattle.bql_parser.specs.Settled.{Target, Settled}
-use Rattle.bql_plan.specs.Ordering.{row_order}
+use Rattle.bql_parser.specs.Asked.{Asked, Target}
 use Rattle.bql_plan.specs.Plan.{Plan, plan}
-use Rattle.bql_plan.specs.declared.asked.RowOrder.{RowOrder}
-use Rattle.bql_plan.specs.declared.asked.RowOrder.TheVariants.{AsAsked, ByRoot}
 use Rattle.bql_tree.specs.Tree.{Tree}
-use Rattle.bql_types.specs.Standing.{Select, standing}
 use Rattle.bql_types.specs.Typing.{Grouping}
 use Rattle.plain_machine.specs.Distinct.{same_values, each_once}
-use Rattle.plain_machine.specs.FinalRows.{IsFinal, column_of}
+use Rattle.plain_machine.specs.FinalRows.{IsFinal}
 use Rattle.plain_machine.specs.Row.{Row}
 use Rattle.query_code.specs.declared.program.Output.{Output}
 use Rattle.query_columns.specs.declared.column.Column.TheVariants as column
 use Rattle.query_values.specs.Aggregate.{aggregate_of}
-use Rattle.query_values.specs.Operation.{is_true, unary_value}
-use Rattle.query_values.specs.Unary as operation
+use Rattle.query_values.specs.Operation.{is_true}
 use Rattle.query_values.specs.declared.operation.Aggregate.TheVariants.{SumInventory}
 use Rattle.query_values.specs.declared.value.Value.{Value}
 use Rattle.query_values.specs.declared.value.Value.TheVariants.{Null}
@@ -74,7 +69,8 @@ module _ (b : Bounds) where
   abbrev pub grouped : Grouping → List Reading → List (List Reading)
   grouped g rows = if g.is_aggregating then groups g.keys rows else alone rows
 
-  -- ---- the rows of a query, with what only orders them behind what is shown
+  -- ---- the rows of a query, with what only orders them behind what is shown, in the order in
+  -- which they come to be
 
   abbrev pub row_of : List (Tree ℕ) → List Reading → List Value
   row_of shown rows = map (value_of b rows) shown
@@ -82,16 +78,16 @@ module _ (b : Bounds) where
   abbrev pub rows_by : Plan → List Reading → List (List Value)
   rows_by p rows = map (row_of p.shown) (grouped p.grouping rows)
 
-  abbrev pub select_rows : Select → List Row → List (List Value)
-  select_rows s rows = rows_by (plan s) (passing s.filters rows)
+  abbrev pub rows_of : Asked → List Row → List (List Value)
+  rows_of s rows = rows_by (plan s) (passing s.filters rows)
 
 -- ---- how they come out
 
 abbrev pub target_name : Target → List ℕ
 target_name t = t.name
 
-abbrev pub output_of : Select → Output
-output_of s = record {
+abbrev pub output : Asked → Output
+output s = record {
   is_distinct = s.distinct;
   is_descending = s.order.descending;
   limit = s.limit;
@@ -100,27 +96,7 @@ output_of s = record {
   order = (plan s).order;
 }
 
--- behind the account and what is on it the rank of the account's root
-abbrev pub with_rank : List Value → List Value
-with_rank row = row ++ unary_value operation.RootRank (column_of row 0) ∷ []
-
-abbrev pub ranked : RowOrder → List (List Value) → List (List Value)
-ranked AsAsked rows = rows
-ranked ByRoot rows = map with_rank rows
-
--- by that rank, and then by the account
-abbrev pub ordered : RowOrder → Output → Output
-ordered AsAsked o = o
-ordered ByRoot o = record o { hidden = 1; order = 2 ∷ 0 ∷ [] }
-
-abbrev pub output : Settled → Output
-output q = ordered (row_order q) (output_of (standing q))
-
--- the rows of a query in the order in which they come to be
-abbrev pub rows_of : Bounds → Settled → List Row → List (List Value)
-rows_of b q rows = ranked (row_order q) (select_rows b (standing q) rows)
-
 -- These are the rows that a query answers over the rows of a ledger: in its order, those that tie
 -- as they came to be; each once under DISTINCT; and no more than its limit.
-abbrev pub IsAnswer : Bounds → Settled → List Row → List (List Value) → Type 0
-IsAnswer b q rows final = IsFinal (output q) (rows_of b q rows) final
+abbrev pub IsAnswer : Bounds → Asked → List Row → List (List Value) → Type 0
+IsAnswer b s rows final = IsFinal (output s) (rows_of b s rows) final

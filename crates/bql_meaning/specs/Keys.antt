@@ -5,7 +5,6 @@ use Rattle.bean_base.specs.declared.bounds.Bounds.{Bounds}
 use Rattle.bql_parser.specs.Answer.{query_of}
 use Rattle.bql_parser.specs.declared.query.Query.{Query}
 use Rattle.bql_tree.specs.Tree.{Tree}
-use Rattle.bql_types.specs.Standing.{standing}
 use Rattle.bql_types.specs.Typing.{IsTyped, grouping_of}
 use Rattle.bql_types.specs.Shaped.{shape_of}
 use Rattle.bql_types.specs.Sought.{aggregates}
@@ -46,4 +45,4 @@ pub record IsTypedKey (b : Bounds) (t : Tree ℕ) : Type 0 where
 -- so are the keys of a query that has a type
 abbrev pub KeysAreTyped : Type 0
 KeysAreTyped = (b : Bounds) (q : Query) → IsTyped b (query_of q)
-    → AllByRecursion (IsTypedKey b) (grouping_of (standing (query_of q))).keys
+    → AllByRecursion (IsTypedKey b) (grouping_of (query_of q)).keys

@@ -1,10 +1,12 @@
 -- What holds of meanings, whatever the query.
 use Rattle.std.specs.Prelude.{◌≡◌, ℕ, true, List, Some}
 use Rattle.std.specs.Bool.{Decides}
+use Rattle.std.specs.List.{AllByRecursion}
 use Rattle.bean_base.specs.declared.bounds.Bounds.{Bounds}
 use Rattle.bql_parser.specs.Answer.{query_of}
 use Rattle.bql_parser.specs.declared.query.Query.{Query}
-use Rattle.bql_parser.specs.Settled.{Settled}
+use Rattle.bql_parser.specs.Asked.{Asked}
+use Rattle.bql_plan.specs.Whole.{expressions}
 use Rattle.bql_tree.specs.Tree.{Tree}
 use Rattle.bql_types.specs.Same.{same}
 use Rattle.bql_types.specs.Typing.{IsTyped}
@@ -16,17 +18,18 @@ use Rattle.bql_meaning.specs.Answer.{IsAnswer, rows_of}
 use Rattle.bql_meaning.specs.Bare.{bare}
 use Rattle.bql_meaning.specs.Meaning.{value_of}
 use Rattle.bql_meaning.specs.Reading.{Reading}
+use Rattle.bql_meaning.specs.Shaped.{HasShortTexts}
 
 -- ---- answers
 
 -- a query has an answer over each list of rows
 abbrev pub AnswersAreThere : Type 0
-AnswersAreThere = (b : Bounds) (q : Settled) (rows : List Row)
+AnswersAreThere = (b : Bounds) (q : Asked) (rows : List Row)
     → (final : List (List Value)) × IsAnswer b q rows final
 
 -- and no other
 abbrev pub AnswersAreOne : Type 0
-AnswersAreOne = (b : Bounds) (q : Settled) (rows : List Row) (x y : List (List Value))
+AnswersAreOne = (b : Bounds) (q : Asked) (rows : List Row) (x y : List (List Value))
     → IsAnswer b q rows x → IsAnswer b q rows y → x ≡ y
 
 -- ---- expressions that are the same
@@ -51,3 +54,9 @@ BoundsChangeNothing = (b c : Bounds) (t : Tree ℕ) (s u : Shape) → shape_of b
 abbrev pub BoundsChangeNoRows : Type 0
 BoundsChangeNoRows = (b c : Bounds) (q : Query) → IsTyped b (query_of q) → IsTyped c (query_of q)
     → (rows : List Row) → rows_of b (query_of q) rows ≡ rows_of c (query_of q) rows
+
+-- ---- texts
+
+-- each text that an expression of a query writes is short
+abbrev pub QueriesHaveShortTexts : Type 0
+QueriesHaveShortTexts = (q : Query) → AllByRecursion HasShortTexts (expressions (query_of q))

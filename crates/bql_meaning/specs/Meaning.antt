@@ -76,6 +76,7 @@ of_one function.Day x = unary_value operation.Day x
 of_one function.Number x = unary_value operation.Number x
 of_one function.Currency x = unary_value operation.Currency x
 of_one function.Abs x = unary_value operation.Abs x
+of_one function.RootRank x = unary_value operation.RootRank x
 of_one f x = Null
 
 abbrev pub call_value : Function → List Value → Value

@@ -28,7 +28,8 @@ ghost use Rattle.bql_meaning.specs.Alignment.{AlignmentsChangeNothing, MembersMa
 ghost use Rattle.bql_meaning.specs.Keys.{KeysAreOfTheGroup, KeysAreOfTheRows, KeysAreTyped};
 ghost use Rattle.bql_meaning.specs.Keys.{ReadAtTheFirst};
 ghost use Rattle.bql_meaning.specs.Laws.{AnswersAreOne, AnswersAreThere, BoundsChangeNoRows};
-ghost use Rattle.bql_meaning.specs.Laws.{BoundsChangeNothing, SameAreBare, SameHaveOneValue};
+ghost use Rattle.bql_meaning.specs.Laws.{BoundsChangeNothing, QueriesHaveShortTexts};
+ghost use Rattle.bql_meaning.specs.Laws.{SameAreBare, SameHaveOneValue};
 ghost use Rattle.bql_meaning.specs.Shaped.{PassingAreRead, ValuesLieInTheirShapes};
 
 /// A query has one answer over each list of rows.
@@ -73,4 +74,10 @@ pub fn values_lie_in_their_shapes()
 pub fn bounds_change_nothing()
     ensures expressions { BoundsChangeNothing }
     ensures queries { BoundsChangeNoRows }
+{}
+
+/// Each text that an expression of a query writes is short, so what is said of values in their
+/// shapes holds of all expressions of a query.
+pub fn queries_have_short_texts()
+    ensures { QueriesHaveShortTexts }
 {}

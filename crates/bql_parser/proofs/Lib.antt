@@ -2,3 +2,10 @@ pub mod ClauseFacts
 pub mod SettlingFacts
 pub mod ParseFacts
 pub mod OneQuery
+pub mod SmallTokens
+pub mod SmallForms
+pub mod SmallParts
+pub mod SmallExpressions
+pub mod SmallClauses
+pub mod SmallFacts
+pub mod SmallLaw

@@ -1,7 +1,7 @@
 -- What is found comes to.
 use Rattle.std.proofs.Common.{◌≡◌, ℕ, Bool, List, [], Option, Some, None, Result, Ok, Err, length}
 use Rattle.std.proofs.Common.{refl}
-use Rattle.std.proofs.Common.{sym, ap, ◌∙◌, inl, inr}
+use Rattle.std.proofs.Common.{sym, ap, ◌∙◌, subst, inl, inr}
 use Rattle.theory.specs.Form.{Reads, IsNone}
 use Rattle.bql_lexer.specs.Tokens.{AreTokens}
 use Rattle.bql_lexer.specs.declared.token.Token.{Token}
@@ -11,9 +11,9 @@ use Rattle.bql_tree.specs.declared.cause.CauseKind.{CauseKind}
 use Rattle.bql_tree.specs.declared.cause.CauseKind.TheVariants.{UnknownName, OutsideProfile}
 use Rattle.bql_grammar.specs.declared.stuck.Stuck.{Stuck}
 use Rattle.bql_grammar.specs.declared.stuck.Stuck.TheVariants.{OutOfMemory, At}
-use Rattle.bql_parser.specs.Answer.{query_of}
+use Rattle.bql_parser.specs.Asked.{Asked}
 use Rattle.bql_parser.specs.Grammar.{query}
-use Rattle.bql_parser.specs.Parse.{Parses, IsQuery, HasCause, Stops, is_cause, faulted}
+use Rattle.bql_parser.specs.Parse.{Parses, IsQuery, HasCause, Stops, is_cause, IsAnswered}
 use Rattle.bql_parser.specs.Read.{Read}
 use Rattle.bql_parser.specs.Settled.{mapped, refused_at, byte_beyond, settled, answer}
 use Rattle.bql_parser.specs.Whole.{IsRead}
@@ -52,29 +52,31 @@ all_refused fa fb fc fd whole a b c d a' b' c' d' e pa pb pc pd is =
 
 -- Texts of the grammar.
 
-refused_mapped : {A B : Type 0} (f : A → B) (place : Option ℕ) (found : Result A Cause)
-    → mapped f (refused_at place found) ≡ refused_at place (mapped f found)
-refused_mapped f None found = refl
-refused_mapped f (Some place) (Ok a) = refl
-refused_mapped f (Some place) (Err c) = refl
-
 has_cause : (text : List ℕ) (place : ℕ) (k : CauseKind)
     → HasCause text record { place = place; kind = k } → Parses text (Err (is_cause k place))
 has_cause text place UnknownName h = h
 has_cause text place OutsideProfile h = inl h
 
-is_answered : (text : List ℕ) (r : Read) (found : Result Query Cause) → IsQuery text r
-    → mapped query_of found ≡ answer text r → Parses text (faulted found)
-is_answered text r (Ok q) is e = (r, is, sym e)
-is_answered text r (Err c) is e = has_cause text c.place c.kind (r, is, sym e)
+is_parsed : (text : List ℕ) (r : Read) (found : Result Asked Cause) (result : Result Query QueryFault)
+    → IsQuery text r → answer text r ≡ found → IsAnswered found result → Parses text result
+is_parsed text r found (Ok q) is e h = (r, is, e ∙ h)
+is_parsed text r found (Err fault) is e h =
+    subst (λ f. Parses text (Err f)) (sym h.2)
+    (has_cause text h.0.place h.0.kind (r, is, e ∙ h.1))
 
-pub parsed : (text : List ℕ) (ts : List Token) (r : Read) (found : Result Query Cause)
-    → AreTokens text ts → Reads (query text) ts r [] → mapped query_of found ≡ settled r
-    → Parses text (faulted (refused_at (byte_beyond (length text)) found))
-parsed text ts r found tokens read e =
-    is_answered text r (refused_at (byte_beyond (length text)) found) (ts, tokens, read)
-    (refused_mapped query_of (byte_beyond (length text)) found
-    ∙ ap (refused_at (byte_beyond (length text))) e)
+pub parsed : (text : List ℕ) (ts : List Token) (r : Read) (found : Result Asked Cause)
+    (result : Result Query QueryFault) → AreTokens text ts → Reads (query text) ts r []
+    → found ≡ settled r → IsAnswered (refused_at (byte_beyond (length text)) found) result
+    → Parses text result
+parsed text ts r found result tokens read e h =
+    is_parsed text r (refused_at (byte_beyond (length text)) found) result (ts, tokens, read)
+    (ap (refused_at (byte_beyond (length text))) (sym e)) h
+
+pub refused_mapped : {A B : Type 0} (f : A → B) (place : Option ℕ) (found : Result A Cause)
+    → mapped f (refused_at place found) ≡ refused_at place (mapped f found)
+refused_mapped f None found = refl
+refused_mapped f (Some place) (Ok a) = refl
+refused_mapped f (Some place) (Err c) = refl
 
 -- Texts outside the grammar.
 pub stopped : (text : List ℕ) (ts : List Token) (e : QueryFault) → AreTokens text ts

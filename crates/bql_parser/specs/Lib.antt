@@ -3,6 +3,11 @@ pub mod Read
 pub mod Piece
 pub mod Grammar
 pub mod Whole
+pub mod Asked
+pub mod Standing
 pub mod Settled
+pub mod View
+pub mod Small
 pub mod Answer
+pub mod Kept
 pub mod Parse

@@ -13,6 +13,7 @@ use Rattle.bql_tree.specs.declared.cause.Cause.{Cause}
 use Rattle.bql_tree.specs.declared.cause.CauseKind.{CauseKind}
 use Rattle.bql_tree.specs.declared.cause.CauseKind.TheVariants as causes
 use Rattle.bql_parser.specs.Answer.{query_of}
+use Rattle.bql_parser.specs.Asked.{Asked}
 use Rattle.bql_parser.specs.Grammar.{query}
 use Rattle.bql_parser.specs.Read.{Read}
 use Rattle.bql_parser.specs.Settled.{answer}
@@ -60,9 +61,10 @@ is_cause causes.OutsideProfile place = fault.OutsideProfile place
 abbrev pub fault_of : Cause → QueryFault
 fault_of c = is_cause c.kind c.place
 
-abbrev pub faulted : Result Query Cause → Result Query QueryFault
-faulted (Ok q) = Ok q
-faulted (Err c) = Err (fault_of c)
+-- the query that is found, or the least cause as its fault
+abbrev pub IsAnswered : Result Asked Cause → Result Query QueryFault → Type 0
+IsAnswered found (Ok q) = found ≡ Ok (query_of q)
+IsAnswered found (Err e) = (c : Cause) × (found ≡ Err c) × (e ≡ fault_of c)
 
 -- the text is a query of the grammar with this as its least cause
 abbrev pub HasCause : List ℕ → Cause → Type 0

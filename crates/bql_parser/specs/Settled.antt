@@ -15,29 +15,15 @@ use Rattle.bql_tree.specs.declared.cause.Cause.{Cause}
 use Rattle.bql_tree.specs.declared.part.Alone.{Alone}
 use Rattle.bql_tree.specs.declared.part.Alone.TheVariants.{No, Name, Number}
 use Rattle.bql_tree.specs.declared.tree.Leaf.TheVariants as leaf
+use Rattle.bql_parser.specs.Asked.{Asked, Target, Item, ItemKind, target_item, tree_item}
 use Rattle.bql_parser.specs.Clause as clause
 use Rattle.bql_parser.specs.Clause.{selecting, journaling, balancing}
 use Rattle.bql_parser.specs.Read.{Read}
 use Rattle.bql_parser.specs.Read as read
+use Rattle.bql_parser.specs.Standing as standing
 use Rattle.bql_parser.specs.declared.clauses.NameRead.{NameRead}
-use Rattle.bql_parser.specs.declared.query.Valuation.{Valuation}
-use Rattle.bql_parser.specs.declared.query.Valuation.TheVariants as valuation
-
-pub record Target : Type 0 where
-  pub name : List ℕ
-  pub tree : Tree ℕ
-
--- a target of the query, by its index, or an expression
-pub data ItemKind : Type 0 where
-  target_item : ℕ → ItemKind
-  tree_item : Tree ℕ → ItemKind
-
-pub record Item : Type 0 where
-  pub place : ℕ
-  pub kind : ItemKind
-
-abbrev pub Settled : Type 0
-Settled = clause.Query Target (Tree ℕ) Item Valuation
+use Rattle.bql_parser.specs.declared.standing.Valuation.{Valuation}
+use Rattle.bql_parser.specs.declared.standing.Valuation.TheVariants as valuation
 
 abbrev pub mapped : {A B : Type 0} → (A → B) → Result A Cause → Result B Cause
 mapped f (Ok a) = Ok (f a)
@@ -164,8 +150,7 @@ order ts o = in_order (items ts o.items) o
 -- Queries.
 
 abbrev pub selected : clause.Select read.Target Part Part
-    → ((List Target × clause.Filters (Tree ℕ)) × Option (List Item)) × clause.Order Item
-    → clause.Select Target (Tree ℕ) Item
+    → ((List Target × clause.Filters (Tree ℕ)) × Option (List Item)) × clause.Order Item → Asked
 selected s p = record {
   distinct = s.distinct;
   targets = p.0.0.0;
@@ -175,8 +160,7 @@ selected s p = record {
   limit = s.limit;
 }
 
-abbrev pub select : clause.Select read.Target Part Part
-    → Result (clause.Select Target (Tree ℕ) Item) Cause
+abbrev pub select : clause.Select read.Target Part Part → Result Asked Cause
 select s =
     mapped (selected s)
     (both (both (both (targets s.targets) (filters s.filters)) (group s.targets s.group))
@@ -194,30 +178,29 @@ abbrev pub at : Option NameRead → Result (Option Valuation) Cause
 at (Some name) = mapped Some (valuation_of name)
 at None = Ok None
 
-abbrev pub in_journal : Option (List ℕ) → Option Valuation × Option (Tree ℕ)
-    → clause.Journal Valuation (Tree ℕ)
-in_journal pattern p = record { pattern = pattern; at = p.0; from = p.1 }
+abbrev pub journal_with : Option (List ℕ) → Option Valuation × Option (Tree ℕ) → Asked
+journal_with pattern p = standing.journal pattern p.0 p.1
 
-abbrev pub journal : clause.Journal NameRead Part → Result (clause.Journal Valuation (Tree ℕ)) Cause
-journal j = mapped (in_journal j.pattern) (both (at j.at) (filter j.from))
+-- the SELECT that a JOURNAL stands for
+abbrev pub journal : clause.Journal NameRead Part → Result Asked Cause
+journal j = mapped (journal_with j.pattern) (both (at j.at) (filter j.from))
 
-abbrev pub in_balances : Option Valuation × clause.Filters (Tree ℕ)
-    → clause.Balances Valuation (Tree ℕ)
-in_balances p = record { at = p.0; filters = p.1 }
+abbrev pub balances_with : Option Valuation × clause.Filters (Tree ℕ) → Asked
+balances_with p = standing.balances p.0 p.1
 
-abbrev pub balances : clause.Balances NameRead Part
-    → Result (clause.Balances Valuation (Tree ℕ)) Cause
-balances b = mapped in_balances (both (at b.at) (filters b.filters))
+-- and that for which a BALANCES stands
+abbrev pub balances : clause.Balances NameRead Part → Result Asked Cause
+balances b = mapped balances_with (both (at b.at) (filters b.filters))
 
 -- all causes of the clauses are told apart by their places
-abbrev pub settled : Read → Result Settled Cause
-settled (selecting s) = mapped selecting (select s)
-settled (journaling j) = mapped journaling (journal j)
-settled (balancing b) = mapped balancing (balances b)
+abbrev pub settled : Read → Result Asked Cause
+settled (selecting s) = select s
+settled (journaling j) = journal j
+settled (balancing b) = balances b
 
 -- a text of more than 65535 bytes is refused at the first that is too many
 abbrev pub byte_beyond : ℕ → Option ℕ
 byte_beyond len = if nat_lt 65535 len then Some 65535 else None
 
-abbrev pub answer : List ℕ → Read → Result Settled Cause
+abbrev pub answer : List ℕ → Read → Result Asked Cause
 answer text r = refused_at (byte_beyond (length text)) (settled r)

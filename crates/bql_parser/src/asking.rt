@@ -1,21 +1,22 @@
 //! Queries of clauses, or the least causes for which they are refused.
 ghost use Rattle.std.specs.Prelude.{◌≡◌, IfOk};
-ghost use Rattle.bql_parser.specs.Answer as answer;
 ghost use Rattle.bql_parser.specs.Read as views;
 ghost use Rattle.bql_parser.specs.Settled as rule;
 ghost use Rattle.bql_parser.specs.Settled.{mapped};
+ghost use Rattle.bql_parser.specs.View.{draft_of};
 
 use crate::clauses::{BalancesRead, JournalRead, NameRead, QueryRead, SelectRead};
-use crate::query::{Balances, Journal, Query, Select, Valuation};
+use crate::query::Draft;
 use crate::settling::{filter, filters, group, order, targets};
+use crate::standing;
+use crate::standing::Valuation;
 use bql_tree::Cause;
 use bql_tree::cause::both;
 use bql_tree::function::is_left_out;
 use std::alloc::{AllocError, Global};
 
-fn select<'a>(alloc: Global, read: SelectRead<'a>) -> Result<Result<Select<'a>, Cause>, AllocError>
-    ensures { IfOk result (λ r. mapped answer.select_of r
-        ≡ rule.select (views.select_of read.entry)) }
+fn select<'a>(alloc: Global, read: SelectRead<'a>) -> Result<Result<Draft<'a>, Cause>, AllocError>
+    ensures { IfOk result (λ r. mapped draft_of r ≡ rule.select (views.select_of read.entry)) }
 {
     let (distinct, limit) = (read.distinct, read.limit);
     let reads = read.targets;
@@ -25,7 +26,7 @@ fn select<'a>(alloc: Global, read: SelectRead<'a>) -> Result<Result<Select<'a>, 
     let targets = targets(alloc, reads)?;
     let found = both(both(both(targets, filters), group), order);
     match found {
-        Ok((((targets, filters), group), order)) => Ok(Ok(Select {
+        Ok((((targets, filters), group), order)) => Ok(Ok(Draft {
             distinct,
             targets,
             filters,
@@ -65,22 +66,31 @@ fn at(name: Option<NameRead<'_>>) -> Result<Option<Valuation>, Cause>
     }
 }
 
-fn journal<'a>(read: JournalRead<'a>) -> Result<Journal<'a>, Cause>
-    ensures { mapped answer.journal_of result ≡ rule.journal (views.journal_of read.entry) }
+fn journal<'a>(alloc: Global, read: JournalRead<'a>) -> Result<Result<Draft<'a>, Cause>, AllocError>
+    ensures { IfOk result (λ r. mapped draft_of r ≡ rule.journal (views.journal_of read.entry)) }
 {
     let pattern = read.pattern;
     match both(at(read.at), filter(read.from)) {
-        Ok((at, from)) => Ok(Journal { pattern, at, from }),
-        Err(cause) => Err(cause),
+        Ok((at, from)) => {
+            let draft = standing::journal(alloc, pattern, at, from)?;
+            Ok(Ok(draft))
+        }
+        Err(cause) => Ok(Err(cause)),
     }
 }
 
-fn balances<'a>(read: BalancesRead<'a>) -> Result<Balances<'a>, Cause>
-    ensures { mapped answer.balances_of result ≡ rule.balances (views.balances_of read.entry) }
+fn balances<'a>(
+    alloc: Global,
+    read: BalancesRead<'a>,
+) -> Result<Result<Draft<'a>, Cause>, AllocError>
+    ensures { IfOk result (λ r. mapped draft_of r ≡ rule.balances (views.balances_of read.entry)) }
 {
     match both(at(read.at), filters(read.filters)) {
-        Ok((at, filters)) => Ok(Balances { at, filters }),
-        Err(cause) => Err(cause),
+        Ok((at, filters)) => {
+            let draft = standing::balances(alloc, at, filters)?;
+            Ok(Ok(draft))
+        }
+        Err(cause) => Ok(Err(cause)),
     }
 }
 
@@ -88,22 +98,12 @@ fn balances<'a>(read: BalancesRead<'a>) -> Result<Balances<'a>, Cause>
 pub fn settled<'a>(
     alloc: Global,
     read: QueryRead<'a>,
-) -> Result<Result<Query<'a>, Cause>, AllocError>
-    ensures { IfOk result (λ r. mapped answer.query_of r
-        ≡ rule.settled (views.read_of read.entry)) }
+) -> Result<Result<Draft<'a>, Cause>, AllocError>
+    ensures { IfOk result (λ r. mapped draft_of r ≡ rule.settled (views.read_of read.entry)) }
 {
     match read {
-        QueryRead::Select(read) => match select(alloc, read)? {
-            Ok(select) => Ok(Ok(Query::Select(select))),
-            Err(cause) => Ok(Err(cause)),
-        },
-        QueryRead::Journal(read) => match journal(read) {
-            Ok(journal) => Ok(Ok(Query::Journal(journal))),
-            Err(cause) => Ok(Err(cause)),
-        },
-        QueryRead::Balances(read) => match balances(read) {
-            Ok(balances) => Ok(Ok(Query::Balances(balances))),
-            Err(cause) => Ok(Err(cause)),
-        },
+        QueryRead::Select(read) => select(alloc, read),
+        QueryRead::Journal(read) => journal(alloc, read),
+        QueryRead::Balances(read) => balances(alloc, read),
     }
 }

@@ -2,13 +2,14 @@
 //!
 //! ```text
 //! let query = parse_query(alloc, "SELECT account, sum(position) AS total ORDER BY total")?;
-//! // Query::Select: the targets `account` and `total`, ordered by the target of index 1
+//! // the targets `account` and `total`, ordered by the target of index 1
 //! parse_query(alloc, "SELECT foo")               // QueryFault::UnknownName(7)
 //! parse_query(alloc, "SELECT number / 2")        // QueryFault::OutsideProfile(14)
 //! parse_query(alloc, "SELECT account WHERE")     // QueryFault::Syntax(20)
 //! ```
 //!
-//! A query is a SELECT, a JOURNAL or a BALANCES, with at most one `;` behind it. A target's name is
+//! A query is a SELECT, a JOURNAL or a BALANCES, with at most one `;` behind it. Of a JOURNAL and a
+//! BALANCES the SELECT is given that they stand for. A target's name is
 //! what follows AS, or else its own text. An item of GROUP BY or ORDER BY that is a target's name,
 //! or a bare whole number from 1, is that target ([`ItemKind::Target`]); all names are the same in
 //! small and in capital letters.
@@ -44,9 +45,8 @@ mod queries;
 pub mod query;
 mod reading;
 mod settling;
+mod standing;
 
 pub use fault::QueryFault;
 pub use parse::parse_query;
-pub use query::{
-    Balances, Filters, Item, ItemKind, Journal, Order, Query, Select, Target, Valuation,
-};
+pub use query::{Filters, Item, ItemKind, Order, Query, Target};

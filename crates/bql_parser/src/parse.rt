@@ -1,13 +1,16 @@
 //! Texts of queries.
-ghost use Rattle.std.specs.Prelude.{◌≡◌, length};
+ghost use Rattle.std.specs.Prelude.{◌≡◌, ◌≤◌, length};
 ghost use Rattle.bql_parser.specs.Parse as rule;
-ghost use Rattle.bql_parser.specs.Parse.{Parses, Stops};
+ghost use Rattle.bql_parser.specs.Parse.{Parses, Stops, IsAnswered};
 ghost use Rattle.bql_parser.specs.Settled as settled;
+ghost use Rattle.bql_parser.specs.Settled.{mapped};
+ghost use Rattle.bql_parser.specs.Small.{IsSmallFound};
+ghost use Rattle.bql_parser.specs.View.{draft_of};
 
 use crate::asking::settled;
 use crate::fault::{QueryFault, fault_of};
 use crate::queries::query;
-use crate::query::Query;
+use crate::query::{Draft, Query};
 use crate::settling::refused_at;
 use bql_grammar::Stuck;
 use bql_lexer::{Kind, Token, tokens};
@@ -60,12 +63,20 @@ fn byte_beyond(text: &str) -> Option<usize>
 }
 
 /// A query, unless its text is too long.
-fn answered<'a>(text: &str, found: Result<Query<'a>, Cause>) -> Result<Query<'a>, QueryFault>
-    ensures { result ≡ rule.faulted
-        (settled.refused_at (settled.byte_beyond (length text.now)) found.entry) }
+fn answered<'a>(text: &str, found: Result<Draft<'a>, Cause>) -> Result<Query<'a>, QueryFault>
+    requires { length text.now ≤ 65535 → IsSmallFound (mapped draft_of found) }
+    ensures { IsAnswered (settled.refused_at (settled.byte_beyond (length text.now))
+        (mapped draft_of found.entry)) result }
 {
     match refused_at(byte_beyond(text), found) {
-        Ok(query) => Ok(query),
+        Ok(draft) => Ok(Query {
+            distinct: draft.distinct,
+            targets: draft.targets,
+            filters: draft.filters,
+            group: draft.group,
+            order: draft.order,
+            limit: draft.limit,
+        }),
         Err(cause) => Err(fault_of(cause)),
     }
 }
@@ -76,7 +87,10 @@ pub fn parse_query<'a>(alloc: Global, text: &'a str) -> Result<Query<'a>, QueryF
 {
     let found = tokens(alloc, text)?;
     match query(alloc, text, found.as_slice()) {
-        Ok(read) => answered(text, settled(alloc, read)?),
+        Ok(read) => {
+            let draft = settled(alloc, read)?;
+            answered(text, draft)
+        }
         Err(Stuck::OutOfMemory) => Err(QueryFault::OutOfMemory),
         Err(Stuck::At { left, is_deep }) => { Err(fault_at(text, found.as_slice(), left, is_deep)) }
     }

@@ -1,4 +1,6 @@
 //! Queries.
+ghost use Rattle.bql_parser.specs.Small.{IsSmall};
+ghost use Rattle.bql_parser.specs.View.{asked_of};
 
 use bean_base::Slice;
 use bql_tree::Expr;
@@ -40,9 +42,22 @@ pub struct Order<'a> {
     pub descending: bool,
 }
 
-/// What is asked of the postings that pass.
+/// A query whose text may still be too long.
 #[derive(Debug, Drop)]
-pub struct Select<'a> {
+pub struct Draft<'a> {
+    pub distinct: bool,
+    pub targets: Vec<Target<'a>>,
+    pub filters: Filters<'a>,
+    pub group: Option<Vec<Item<'a>>>,
+    pub order: Order<'a>,
+    pub limit: Option<u32>,
+}
+
+/// What is asked of the postings that pass: a SELECT, as it is written or as a JOURNAL or a
+/// BALANCES stands for it. It has from 1 to 255 targets, at most 255 items of GROUP BY and of ORDER
+/// BY, each, and no text or list in it is longer than 65,535.
+#[derive(Debug, Drop)]
+pub struct Query<'a> {
     pub distinct: bool,
     pub targets: Vec<Target<'a>>,
     pub filters: Filters<'a>,
@@ -50,34 +65,5 @@ pub struct Select<'a> {
     pub group: Option<Vec<Item<'a>>>,
     pub order: Order<'a>,
     pub limit: Option<u32>,
-}
-
-/// What AT makes of positions.
-#[derive(Clone, Copy, Debug, Drop, PartialEq, Eq)]
-pub enum Valuation {
-    Units,
-    Cost,
-}
-
-/// The postings of accounts that match a pattern, one after the other, with their balance.
-#[derive(Debug, Drop)]
-pub struct Journal<'a> {
-    pub pattern: Option<Slice<'a>>,
-    pub at: Option<Valuation>,
-    pub from: Option<Box<Expr<'a>>>,
-}
-
-/// The balances of all accounts.
-#[derive(Debug, Drop)]
-pub struct Balances<'a> {
-    pub at: Option<Valuation>,
-    pub filters: Filters<'a>,
-}
-
-/// A query.
-#[derive(Debug, Drop)]
-pub enum Query<'a> {
-    Select(Select<'a>),
-    Journal(Journal<'a>),
-    Balances(Balances<'a>),
+    ghost is_small: { ∥ IsSmall (asked_of distinct targets filters group order limit) ∥₁ },
 }

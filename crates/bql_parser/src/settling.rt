@@ -4,19 +4,14 @@ ghost use Rattle.std.specs.List.{slice_get, list_any};
 ghost use Rattle.bean_base.specs.Numeral.{is_point};
 ghost use Rattle.bql_tree.specs.Part.{part_of, parts_in, parts_of, tree_found};
 ghost use Rattle.bql_tree.specs.Tree.{tree_of};
-ghost use Rattle.bql_parser.specs.Answer as answer;
 ghost use Rattle.bql_parser.specs.Read as views;
 ghost use Rattle.bql_parser.specs.Settled as rule;
 ghost use Rattle.bql_parser.specs.Settled.{mapped};
+ghost use Rattle.bql_parser.specs.View as view;
 
-use crate::clauses::{
-    BalancesRead, FiltersRead, JournalRead, NameRead, OrderRead, QueryRead, SelectRead, TargetRead,
-};
-use crate::query::{
-    Balances, Filters, Item, ItemKind, Journal, Order, Query, Select, Target, Valuation,
-};
+use crate::clauses::{FiltersRead, OrderRead, TargetRead};
+use crate::query::{Filters, Item, ItemKind, Order, Target};
 use bql_tree::cause::both;
-use bql_tree::function::is_left_out;
 use bql_tree::part::not_null;
 use bql_tree::{Alone, Cause, Expr, Leaf, Part};
 use std::alloc::{AllocError, Global};
@@ -36,7 +31,7 @@ pub fn refused_at<T: Drop>(place: Option<usize>, found: Result<T, Cause>) -> Res
 }
 
 fn target<'a>(read: TargetRead<'a>) -> Result<Target<'a>, Cause>
-    ensures { mapped answer.target_of result ≡ rule.target (views.target_of read.entry) }
+    ensures { mapped view.target_of result ≡ rule.target (views.target_of read.entry) }
 {
     match not_null(read.part.expr) {
         Ok(expr) => Ok(Target {
@@ -52,8 +47,8 @@ fn one_target<'a>(
     found: Result<Vec<Target<'a>>, Cause>,
     read: TargetRead<'a>,
 ) -> Result<Result<Vec<Target<'a>>, Cause>, AllocError>
-    ensures { IfOk result (λ r. mapped answer.targets_of r
-        ≡ rule.one_target (mapped answer.targets_of found.entry) (views.target_of read.entry)) }
+    ensures { IfOk result (λ r. mapped view.targets_of r
+        ≡ rule.one_target (mapped view.targets_of found.entry) (views.target_of read.entry)) }
 {
     match both(found, target(read)) {
         Ok((mut targets, next)) => {
@@ -79,7 +74,7 @@ fn each_target<'a>(
     alloc: Global,
     reads: Vec<TargetRead<'a>>,
 ) -> Result<Result<Vec<Target<'a>>, Cause>, AllocError>
-    ensures { IfOk result (λ r. mapped answer.targets_of r
+    ensures { IfOk result (λ r. mapped view.targets_of r
         ≡ rule.each_target (views.targets_of reads.entry)) }
 {
     let mut found = Ok(Vec::new(alloc));
@@ -93,7 +88,7 @@ pub fn targets<'a>(
     alloc: Global,
     reads: Vec<TargetRead<'a>>,
 ) -> Result<Result<Vec<Target<'a>>, Cause>, AllocError>
-    ensures { IfOk result (λ r. mapped answer.targets_of r
+    ensures { IfOk result (λ r. mapped view.targets_of r
         ≡ rule.targets (views.targets_of reads.entry)) }
 {
     let beyond = target_beyond(reads.as_slice());
@@ -102,7 +97,7 @@ pub fn targets<'a>(
 }
 
 pub fn filter<'a>(part: Option<Part<'a>>) -> Result<Option<Box<Expr<'a>>>, Cause>
-    ensures { mapped answer.filter_of result ≡ rule.filter (views.filter_of part.entry) }
+    ensures { mapped view.filter_of result ≡ rule.filter (views.filter_of part.entry) }
 {
     let Some(part) = part else {
         return Ok(None);
@@ -114,7 +109,7 @@ pub fn filter<'a>(part: Option<Part<'a>>) -> Result<Option<Box<Expr<'a>>>, Cause
 }
 
 pub fn filters<'a>(read: FiltersRead<'a>) -> Result<Filters<'a>, Cause>
-    ensures { mapped answer.filters_of result ≡ rule.filters (views.filters_of read.entry) }
+    ensures { mapped view.filters_of result ≡ rule.filters (views.filters_of read.entry) }
 {
     match both(filter(read.from), filter(read.filter)) {
         Ok((from, filter)) => Ok(Filters { from, filter }),
@@ -168,7 +163,7 @@ fn has_point(digits: &str) -> bool
 
 /// A whole number from 1 is a target, and other numbers are themselves.
 fn by_number<'a>(count: usize, place: usize, expr: Box<Expr<'a>>) -> Result<ItemKind<'a>, Cause>
-    ensures { mapped answer.kind_of result
+    ensures { mapped view.kind_of result
         ≡ rule.by_number count place (tree_of expr.entry.value) }
 {
     if is_great(&expr) {
@@ -182,7 +177,7 @@ fn by_number<'a>(count: usize, place: usize, expr: Box<Expr<'a>>) -> Result<Item
 }
 
 fn plain<'a>(found: Result<Box<Expr<'a>>, Cause>) -> Result<ItemKind<'a>, Cause>
-    ensures { mapped answer.kind_of result ≡ rule.plain (tree_found found.entry) }
+    ensures { mapped view.kind_of result ≡ rule.plain (tree_found found.entry) }
 {
     match not_null(found) {
         Ok(expr) => Ok(ItemKind::Expr(expr)),
@@ -197,7 +192,7 @@ fn item_kind<'a>(
     alone: Alone<'a>,
     found: Result<Box<Expr<'a>>, Cause>,
 ) -> Result<ItemKind<'a>, Cause>
-    ensures { mapped answer.kind_of result
+    ensures { mapped view.kind_of result
         ≡ rule.kind_by (views.targets_in targets.now) place alone.entry (tree_found found.entry) }
 {
     match alone {
@@ -214,7 +209,7 @@ fn item_kind<'a>(
 }
 
 fn item<'a>(targets: &[TargetRead<'_>], part: Part<'a>) -> Result<Item<'a>, Cause>
-    ensures { mapped answer.item_of result
+    ensures { mapped view.item_of result
         ≡ rule.item (views.targets_in targets.now) (part_of part.entry) }
 {
     let place = part.start;
@@ -230,8 +225,8 @@ fn one_item<'a>(
     found: Result<Vec<Item<'a>>, Cause>,
     part: Part<'a>,
 ) -> Result<Result<Vec<Item<'a>>, Cause>, AllocError>
-    ensures { IfOk result (λ r. mapped answer.items_of r
-        ≡ rule.one_item (views.targets_in targets.now) (mapped answer.items_of found.entry)
+    ensures { IfOk result (λ r. mapped view.items_of r
+        ≡ rule.one_item (views.targets_in targets.now) (mapped view.items_of found.entry)
         (part_of part.entry)) }
 {
     match both(found, item(targets, part)) {
@@ -249,7 +244,7 @@ fn each_item<'a>(
     targets: &[TargetRead<'_>],
     parts: Vec<Part<'a>>,
 ) -> Result<Result<Vec<Item<'a>>, Cause>, AllocError>
-    ensures { IfOk result (λ r. mapped answer.items_of r
+    ensures { IfOk result (λ r. mapped view.items_of r
         ≡ rule.each_item (views.targets_in targets.now) (parts_of parts.entry)) }
 {
     let mut found = Ok(Vec::new(alloc));
@@ -274,7 +269,7 @@ fn items<'a>(
     targets: &[TargetRead<'_>],
     parts: Vec<Part<'a>>,
 ) -> Result<Result<Vec<Item<'a>>, Cause>, AllocError>
-    ensures { IfOk result (λ r. mapped answer.items_of r
+    ensures { IfOk result (λ r. mapped view.items_of r
         ≡ rule.items (views.targets_in targets.now) (parts_of parts.entry)) }
 {
     let beyond = part_beyond(parts.as_slice());
@@ -287,7 +282,7 @@ pub fn group<'a>(
     targets: &[TargetRead<'_>],
     parts: Option<Vec<Part<'a>>>,
 ) -> Result<Result<Option<Vec<Item<'a>>>, Cause>, AllocError>
-    ensures { IfOk result (λ r. mapped answer.group_of r
+    ensures { IfOk result (λ r. mapped view.group_of r
         ≡ rule.group (views.targets_in targets.now) (views.group_of parts.entry)) }
 {
     let Some(parts) = parts else {
@@ -304,7 +299,7 @@ pub fn order<'a>(
     targets: &[TargetRead<'_>],
     read: OrderRead<'a>,
 ) -> Result<Result<Order<'a>, Cause>, AllocError>
-    ensures { IfOk result (λ r. mapped answer.order_of r
+    ensures { IfOk result (λ r. mapped view.order_of r
         ≡ rule.order (views.targets_in targets.now) (views.order_of read.entry)) }
 {
     let descending = read.descending;

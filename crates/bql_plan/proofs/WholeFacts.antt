@@ -6,7 +6,7 @@ use Rattle.std.specs.List.{AllByRecursion, slice_get}
 use Rattle.std.specs.Option.{option_map}
 use Rattle.theory.specs.Form.{steps}
 use Rattle.bean_base.specs.declared.bounds.Bounds.{Bounds}
-use Rattle.bql_parser.specs.Settled.{Settled, Target, Item, ItemKind, target_item, tree_item}
+use Rattle.bql_parser.specs.Asked.{Asked, Target, Item, ItemKind, target_item, tree_item}
 use Rattle.bql_plan.specs.Labels.{labelled, all_labelled}
 use Rattle.bql_plan.specs.Plan.{added, tree_by, own_trees, shown, aggregates_in, all_aggregates}
 use Rattle.bql_plan.specs.Plan.{aggregates_of}
@@ -18,12 +18,11 @@ use Rattle.bql_tree.specs.Tree.{leaf_of, Tree, node, Trees, trees, no_trees}
 use Rattle.bql_tree.specs.declared.tree.Leaf.TheVariants as leaf
 use Rattle.bql_types.specs.Shaped.{shape_causes, all_shape_causes, is_equation, is_null}
 use Rattle.bql_types.specs.Sought.{misplaced, balances, is_aggregate, is_key}
-use Rattle.bql_types.specs.Standing.{Select, standing}
 use Rattle.bql_types.specs.Typing.{IsTyped, each, Grouping, grouping_of, grouping_by, target_tree}
 use Rattle.bql_types.specs.Typing.{shown_causes, row_causes, grouped_causes, filter_causes}
 use Rattle.bql_types.specs.Typing.{filters_causes, target_causes, group_causes, group_item_causes}
 use Rattle.bql_types.specs.Typing.{group_causes_by, order_item_causes, order_causes_by}
-use Rattle.bql_types.specs.Typing.{order_causes_at, place_of, select_causes, key_of, key_by}
+use Rattle.bql_types.specs.Typing.{order_causes_at, place_of, causes, key_of, key_by}
 use Rattle.bql_types.specs.Typing.{keys_of, plain_target, plain_targets, tree_of_found}
 use Rattle.bql_types.specs.Typing.{target_aggregates}
 use Rattle.bql_types.proofs.LawFacts.{no_more, shapes_are_found}
@@ -113,14 +112,14 @@ in_order b g ts (i ∷ is) e =
     both b (tree_by i.kind) (own_trees is) (order_tree b g ts i.place i.kind h.0)
     (in_order b g ts is h.1)
 
-record IsFaultless (b : Bounds) (s : Select) : Type 0 where
+record IsFaultless (b : Bounds) (s : Asked) : Type 0 where
   pub targets : AreFaultless b (map target_tree s.targets)
   pub from : AreFaultless b (filter_trees s.filters.from)
   pub filter : AreFaultless b (filter_trees s.filters.filter)
   pub group : AreFaultless b (group_trees s.group)
   pub order : AreFaultless b (own_trees s.order.items)
 
-faultless : (b : Bounds) (s : Select) → select_causes b s ≡ [] → IsFaultless b s
+faultless : (b : Bounds) (s : Asked) → causes b s ≡ [] → IsFaultless b s
 faultless b s e =
     let g = grouping_of s in
     let h = no_more (each (target_causes b g) s.targets) _ e in
@@ -139,7 +138,7 @@ all : (b : Bounds) (ts : List (Tree ℕ)) → AreFaultless b ts → AllByRecursi
 all b [] h = tt
 all b (t ∷ ts) h = (whole b t h.0, all b ts h.1)
 
-all_expressions : (b : Bounds) (s : Select) → IsFaultless b s → AreFaultless b (expressions s)
+all_expressions : (b : Bounds) (s : Asked) → IsFaultless b s → AreFaultless b (expressions s)
 all_expressions b s h =
     both b (map target_tree s.targets) _ h.targets
     (both b (filter_trees s.filters.from) _ h.from
@@ -148,7 +147,7 @@ all_expressions b s h =
 
 pub typed_are_whole : TypedAreWhole
 typed_are_whole b q e =
-    all b (expressions (standing q)) (all_expressions b (standing q) (faultless b (standing q) e))
+    all b (expressions q) (all_expressions b q (faultless b q e))
 
 -- ---- those of a plan
 
@@ -260,9 +259,9 @@ planned_filter : (b : Bounds) (o : Option (Tree ℕ)) → AreFaultless b (filter
 planned_filter b None h = tt
 planned_filter b (Some t) h = whole b t h.0
 
-pub plan_is_whole : (b : Bounds) (q : Settled) → IsTyped b q → IsWholePlan (planned b (standing q))
+pub plan_is_whole : (b : Bounds) (q : Asked) → IsTyped b q → IsWholePlan (planned b q)
 plan_is_whole b q e =
-    let s = standing q in
+    let s = q in
     let h = faultless b s e in
     let all_shown = are_added b (own_trees s.order.items) (map target_tree s.targets) h.targets
     h.order in

@@ -1,31 +1,12 @@
--- What is kept of SELECTs and of plans, as the definitions have it.
-use Rattle.std.specs.Prelude.{ℕ, List, map, Option, Vec}
+-- What is kept of plans, as the definitions have it.
+use Rattle.std.specs.Prelude.{List, map, Option, Vec}
 use Rattle.std.specs.Option.{option_map}
 use Rattle.std.specs.declared.alloc.Global.{Global}
-use Rattle.bql_parser.specs.Answer as answer
 use Rattle.bql_plan.specs.Labels.{label_of}
 use Rattle.bql_plan.specs.Planned as planned
-use Rattle.bql_plan.specs.declared.asked.Asked.{Asked}
 use Rattle.bql_plan.specs.declared.plan.Plan.{Plan}
 use Rattle.bql_plan.specs.declared.plan.Shaped.{Shaped}
-use Rattle.bql_tree.specs.Tree.{Tree, tree_of}
-use Rattle.bql_types.specs.Keys.{lent_tree}
-use Rattle.bql_types.specs.Standing.{Select}
-use Rattle.bql_types.specs.declared.grouped.Key.{Key}
-
-abbrev pub lent_filter : Option Key → Option (Tree ℕ)
-lent_filter o = option_map lent_tree o
-
--- a SELECT that is lent
-abbrev pub asked_of : Asked → Select
-asked_of a = record {
-  distinct = a.distinct;
-  targets = map answer.target_of a.targets.now;
-  filters = record { from = lent_filter a.from; filter = lent_filter a.filter };
-  group = answer.group_of a.group.now;
-  order = record { items = map answer.item_of a.order.now; descending = a.descending };
-  limit = a.limit;
-}
+use Rattle.bql_tree.specs.Tree.{tree_of}
 
 abbrev pub shaped_of : Shaped → planned.Shaped
 shaped_of p = record { tree = tree_of p.expr.now; shapes = label_of p.shapes }

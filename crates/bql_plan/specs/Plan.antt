@@ -2,11 +2,10 @@
 -- gathered of each group.
 use Rattle.std.specs.Prelude.{ℕ, suc, List, [], ◌∷◌, ◌++◌, map, if◌then◌else◌}
 use Rattle.theory.specs.Form.{steps}
-use Rattle.bql_parser.specs.Settled.{Item, ItemKind, target_item, tree_item}
+use Rattle.bql_parser.specs.Asked.{Asked, Item, ItemKind, target_item, tree_item}
 use Rattle.bql_tree.specs.Tree.{Tree, node, Trees, no_trees, trees}
 use Rattle.bql_types.specs.Same.{same}
 use Rattle.bql_types.specs.Sought.{is_aggregate, is_key}
-use Rattle.bql_types.specs.Standing.{Select}
 use Rattle.bql_types.specs.Typing.{Grouping, grouping_of, target_tree}
 
 -- one more, unless one that is the same stands before it
@@ -30,7 +29,7 @@ own_trees [] = []
 own_trees (i ∷ is) = tree_by i.kind ++ own_trees is
 
 -- the targets, and behind them what only orders rows, equal ones once
-abbrev pub shown : Select → List (Tree ℕ)
+abbrev pub shown : Asked → List (Tree ℕ)
 shown s = steps added (map target_tree s.targets) (own_trees s.order.items)
 
 abbrev pub index_by : List (Tree ℕ) → ItemKind → ℕ
@@ -64,7 +63,7 @@ pub record Plan : Type 0 where
   pub grouping : Grouping
   pub aggregates : List (Tree ℕ)
 
-abbrev pub plan_over : List (Tree ℕ) → Select → Plan
+abbrev pub plan_over : List (Tree ℕ) → Asked → Plan
 plan_over ts s = record {
   shown = ts;
   order = map (index_for ts) s.order.items;
@@ -72,5 +71,5 @@ plan_over ts s = record {
   aggregates = steps added [] (aggregates_of ts);
 }
 
-abbrev pub plan : Select → Plan
+abbrev pub plan : Asked → Plan
 plan s = plan_over (shown s) s

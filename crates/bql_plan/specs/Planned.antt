@@ -6,7 +6,7 @@ use Rattle.bql_plan.specs.Labels.{Label, labelled}
 use Rattle.bql_plan.specs.Plan as numbered
 use Rattle.bql_plan.specs.Plan.{plan}
 use Rattle.bql_tree.specs.Tree.{Tree}
-use Rattle.bql_types.specs.Standing.{Select}
+use Rattle.bql_parser.specs.Asked.{Asked}
 
 pub record Shaped : Type 0 where
   pub tree : Tree ℕ
@@ -24,7 +24,7 @@ pub record Plan : Type 0 where
   pub keys : List Shaped
   pub aggregates : List Shaped
 
-abbrev pub planned_over : Bounds → Select → numbered.Plan → Plan
+abbrev pub planned_over : Bounds → Asked → numbered.Plan → Plan
 planned_over b s p = record {
   from = option_map (with_shapes b) s.filters.from;
   filter = option_map (with_shapes b) s.filters.filter;
@@ -35,6 +35,6 @@ planned_over b s p = record {
   aggregates = map (with_shapes b) p.aggregates;
 }
 
--- the filters of the SELECT, and what it shows, orders by, groups by and gathers, as it is numbered
-abbrev pub planned : Bounds → Select → Plan
+-- the filters of the query, and what it shows, orders by, groups by and gathers, as it is numbered
+abbrev pub planned : Bounds → Asked → Plan
 planned b s = planned_over b s (plan s)

@@ -3,14 +3,13 @@ use Rattle.std.specs.Prelude.{ℕ, ◌≡◌, Bool, true, ◌&&◌, List, [], �
 use Rattle.std.specs.Prelude.{None, ◌⊎◌}
 use Rattle.std.specs.List.{AllByRecursion}
 use Rattle.bean_base.specs.declared.bounds.Bounds.{Bounds}
-use Rattle.bql_parser.specs.Settled.{Settled, Item}
+use Rattle.bql_parser.specs.Asked.{Asked, Item}
 use Rattle.bql_plan.specs.Labels.{Label, Labels, label, labels, no_labels, labelled}
 use Rattle.bql_plan.specs.Plan.{own_trees}
 use Rattle.bql_plan.specs.Planned.{Shaped, Plan}
 use Rattle.bql_tree.specs.Tree.{Tree, node, Trees, trees, no_trees}
 use Rattle.query_shapes.specs.declared.shape.Shape.{Shape}
 use Rattle.bql_types.specs.Shaped.{is_equation, is_null}
-use Rattle.bql_types.specs.Standing.{Select, standing}
 use Rattle.bql_types.specs.Typing.{IsTyped, target_tree}
 
 -- an expression and each of its parts have a shape, but for a NULL that is a side of an equation
@@ -35,8 +34,8 @@ abbrev pub group_trees : Option (List Item) → List (Tree ℕ)
 group_trees (Some is) = own_trees is
 group_trees None = []
 
--- all expressions that a SELECT has
-abbrev pub expressions : Select → List (Tree ℕ)
+-- all expressions that a query has
+abbrev pub expressions : Asked → List (Tree ℕ)
 expressions s =
     map target_tree s.targets
     ++ (filter_trees s.filters.from
@@ -48,8 +47,8 @@ HasWholeShapes b t = IsWhole t (labelled b t)
 
 -- each expression of a query that has a type has whole shapes
 abbrev pub TypedAreWhole : Type 0
-TypedAreWhole = (b : Bounds) (q : Settled) → IsTyped b q
-    → AllByRecursion (HasWholeShapes b) (expressions (standing q))
+TypedAreWhole = (b : Bounds) (s : Asked) → IsTyped b s
+    → AllByRecursion (HasWholeShapes b) (expressions s)
 
 -- ---- plans
 

@@ -1,7 +1,7 @@
 //! The expressions of a query, each at its index.
 ghost use Rattle.std.specs.Prelude.{◌≡◌, IfOk, [], map};
 ghost use Rattle.theory.specs.Form.{steps};
-ghost use Rattle.bql_parser.specs.Answer.{target_of, item_of, kind_of};
+ghost use Rattle.bql_parser.specs.View.{target_of, item_of, kind_of};
 ghost use Rattle.bql_plan.specs.Plan as rule;
 ghost use Rattle.bql_tree.specs.Tree.{tree_of, trees_of};
 ghost use Rattle.bql_types.specs.Keys.{lent_tree, lent_trees};

@@ -1,20 +1,17 @@
 //! What is computed for a query, with its shapes.
 ghost use Rattle.std.specs.Prelude.{◌≡◌, IfOk, map};
 ghost use Rattle.std.specs.Option.{option_map};
-ghost use Rattle.bql_parser.specs.Answer.{query_of, select_of};
+ghost use Rattle.bql_parser.specs.Answer.{query_of};
+ghost use Rattle.bql_parser.specs.View as answer;
 ghost use Rattle.bql_plan.specs.Kept as view;
 ghost use Rattle.bql_plan.specs.Planned as rule;
-ghost use Rattle.bql_plan.specs.Unwritten.{unwritten};
 ghost use Rattle.bql_plan.specs.Whole.{IsWholePlan};
 ghost use Rattle.bql_types.specs.Keys.{lent_tree, lent_trees};
-ghost use Rattle.bql_types.specs.Standing.{standing};
 ghost use Rattle.query_columns.specs.ColumnShape.{AreBounds};
 
-use crate::asked::asked_select;
 use crate::exprs::{aggregates, order, targets_shown, with_items};
 use crate::labels::{Shapes, shapes_of};
 use bean_base::Bounds;
-use bql_parser::Select;
 use bql_tree::Expr;
 use bql_types::Typed;
 use bql_types::grouped::Key;
@@ -28,7 +25,7 @@ pub struct Shaped<'q, 'a> {
     pub shapes: Shapes,
 }
 
-/// What is computed for a SELECT. All expressions are lent from it.
+/// What is computed for a query. All expressions are lent from it.
 #[derive(Drop)]
 pub struct Plan<'q, 'a> {
     /// Which transactions pass.
@@ -83,40 +80,34 @@ fn all_with_shapes<'q, 'a>(
 fn filter_with_shapes<'q, 'a>(
     alloc: Global,
     bounds: &Bounds,
-    filter: Option<Key<'q, 'a>>,
+    filter: &'q Option<Box<Expr<'a>>>,
 ) -> Result<Option<Shaped<'q, 'a>>, AllocError>
     requires { AreBounds bounds.now }
     ensures { IfOk result (λ r. view.filter_of r
-        ≡ option_map (rule.with_shapes bounds.now) (view.lent_filter filter.entry)) }
+        ≡ option_map (rule.with_shapes bounds.now) (answer.filter_of filter.now)) }
 {
     match filter {
-        Some(filter) => Ok(Some(with_shapes(alloc, bounds, filter)?)),
+        Some(expr) => Ok(Some(with_shapes(alloc, bounds, Key { expr })?)),
         None => Ok(None),
     }
 }
 
-/// What is computed for a query that has a type, with what isn't written of its SELECT, as
-/// [`unwritten`](crate::made::unwritten) makes it.
-pub fn planned<'q, 'a>(
-    alloc: Global,
-    typed: &Typed<'q, 'a>,
-    made: &'q Select<'a>,
-) -> Result<Plan<'q, 'a>, AllocError>
-    requires { select_of made.now ≡ unwritten (query_of typed.now.query.now) }
+/// What is computed for a query that has a type.
+pub fn planned<'q, 'a>(alloc: Global, typed: &Typed<'q, 'a>) -> Result<Plan<'q, 'a>, AllocError>
     ensures plan { IfOk result (λ p. view.plan_of p
-        ≡ rule.planned typed.now.bounds (standing (query_of typed.now.query.now))) }
+        ≡ rule.planned typed.now.bounds (query_of typed.now.query.now)) }
     ensures whole { IfOk result (λ p. IsWholePlan (view.plan_of p)) }
 {
-    let bounds = &typed.bounds;
-    let select = asked_select(typed.query, made);
-    let shown = targets_shown(alloc, select.targets)?;
-    let shown = with_items(shown, select.order)?;
-    let grouping = grouped_by(alloc, select.targets, select.group)?;
+    let (bounds, query) = (&typed.bounds, typed.query);
+    let targets = query.targets.as_slice();
+    let items = query.order.items.as_slice();
+    let shown = with_items(targets_shown(alloc, targets)?, items)?;
+    let grouping = grouped_by(alloc, targets, &query.group)?;
     let aggregates = aggregates(alloc, shown.as_slice())?;
     Ok(Plan {
-        from: filter_with_shapes(alloc, bounds, select.from)?,
-        filter: filter_with_shapes(alloc, bounds, select.filter)?,
-        order: order(alloc, shown.as_slice(), select.order)?,
+        from: filter_with_shapes(alloc, bounds, &query.filters.from)?,
+        filter: filter_with_shapes(alloc, bounds, &query.filters.filter)?,
+        order: order(alloc, shown.as_slice(), items)?,
         shown: all_with_shapes(alloc, bounds, shown.as_slice())?,
         is_aggregating: grouping.is_aggregating,
         keys: all_with_shapes(alloc, bounds, grouping.keys.as_slice())?,

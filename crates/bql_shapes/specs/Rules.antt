@@ -106,6 +106,7 @@ of_one n function.Day s = machine.of_day (machine.whole 31) s
 of_one n function.Number s = machine.number_of s
 of_one n function.Currency s = machine.currency_of s
 of_one n function.Abs s = machine.magnitude_of s
+of_one n function.RootRank s = machine.of_text (machine.whole 5) s
 of_one n f s = gathered n f s
 
 -- ---- IN with a list

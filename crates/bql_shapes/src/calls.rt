@@ -54,6 +54,7 @@ fn of_one(postings: u32, function: Function, shape: Shape) -> Result<Shape, Misf
         Function::Number => number_of(shape),
         Function::Currency => currency_of(shape),
         Function::Abs => magnitude_of(shape),
+        Function::RootRank => of_text(whole(5), shape),
         _ => gathered(postings, function, shape),
     }
 }

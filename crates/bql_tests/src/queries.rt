@@ -1,6 +1,6 @@
 //! Queries, their trees and their faults.
 
-use bql_parser::{Query, QueryFault, parse_query};
+use bql_parser::{QueryFault, parse_query};
 use bql_tree::{Binary, Expr};
 use std::alloc::{AllocError, Global};
 use std::test::Fail;
@@ -62,6 +62,7 @@ fn names_that_are_unknown(rt: HostRuntime) -> Result<(), Fail> {
             24,
         ),
         ("SELECT has_account('a')", 7),
+        ("SELECT root_rank(account)", 7),
         ("SELECT account FROM account = 'a'", 20),
         ("SELECT account FROM meta('k') = 'a'", 20),
         ("SELECT foo + NULL", 7),
@@ -171,11 +172,11 @@ fn operation(expr: &Expr<'_>) -> Option<Binary> {
 /// The operations of the first target.
 fn first_operations(alloc: Global, text: &str) -> Option<(Binary, Option<Binary>, Option<Binary>)> {
     match parse_query(alloc, text) {
-        Ok(Query::Select(select)) => match select.targets.first() {
+        Ok(query) => match query.targets.first() {
             Some(target) => operations(&target.expr),
             None => None,
         },
-        _ => None,
+        Err(_) => None,
     }
 }
 
@@ -218,11 +219,11 @@ fn levels_of_operators(rt: HostRuntime) -> Result<(), Fail> {
 /// Whether the first target has the name.
 fn is_named(alloc: Global, text: &str, name: &str) -> bool {
     match parse_query(alloc, text) {
-        Ok(Query::Select(select)) => match select.targets.first() {
+        Ok(query) => match query.targets.first() {
             Some(target) => target.name.text() == name,
             None => false,
         },
-        _ => false,
+        Err(_) => false,
     }
 }
 
@@ -233,6 +234,8 @@ fn names_of_targets(rt: HostRuntime) -> Result<(), Fail> {
         ("SELECT  sum( number ) AS Total", "Total"),
         ("SELECT ( 1 +  2 ) , 3", "( 1 +  2 )"),
         ("SELECT *", "date"),
+        ("JOURNAL", "date"),
+        ("BALANCES", "account"),
     ];
     for (text, name) in wanted {
         assert!(rt; is_named(rt.alloc(), text, name));

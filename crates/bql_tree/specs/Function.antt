@@ -8,7 +8,7 @@ use Rattle.bql_tree.specs.declared.function.Function.TheVariants.{Root, Parent, 
 use Rattle.bql_tree.specs.declared.function.Function.TheVariants.{Cost, Year, Month, Day, Number}
 use Rattle.bql_tree.specs.declared.function.Function.TheVariants.{Currency, Abs, Meta, EntryMeta}
 use Rattle.bql_tree.specs.declared.function.Function.TheVariants.{AnyMeta, HasAccount, Count, Sum}
-use Rattle.bql_tree.specs.declared.function.Function.TheVariants.{First, Last, Min, Max, OneOf}
+use Rattle.bql_tree.specs.declared.function.Function.TheVariants.{First, Last, Min, Max, OneOf, RootRank}
 use Rattle.bql_tree.specs.declared.function.Scope.{Scope}
 use Rattle.bql_tree.specs.declared.function.Scope.TheVariants.{Transactions, Postings}
 use Rattle.bql_tree.specs.declared.function.TheConstants.{FUNCTIONS}
@@ -37,6 +37,7 @@ name Last = codes "last"
 name Min = codes "min"
 name Max = codes "max"
 name OneOf = []
+name RootRank = codes "root_rank"
 
 -- in small or capital letters
 abbrev pub named : List ℕ → Option functions.Function

@@ -41,9 +41,12 @@ pub enum Function {
     Max,
     /// Whether the first is one of the others: `IN` with a list.
     OneOf,
+    /// The place of an account's root among the roots: 0 for Assets to 4 for Expenses, and 5 for
+    /// other texts. No query can name it: the rows of a BALANCES are ordered by it.
+    RootRank,
 }
 
-/// All functions that have a name.
+/// All functions that a query can name.
 pub const FUNCTIONS: [Function; 22] = [
     Function::Sum,
     Function::Count,
@@ -98,6 +101,7 @@ impl Function {
             Function::Min => "min",
             Function::Max => "max",
             Function::OneOf => "",
+            Function::RootRank => "root_rank",
         }
     }
 

@@ -1,9 +1,9 @@
 -- Worked queries.
 use Rattle.std.proofs.Common.{◌≡◌, ℕ, ◌+◌, false, List, [], ◌∷◌, map, Option, Some, None, refl}
 use Rattle.bean_base.specs.declared.bounds.Bounds.{Bounds}
-use Rattle.bql_parser.specs.Clause.{selecting, journaling, balancing}
-use Rattle.bql_parser.specs.Settled.{Settled, Target, Item, tree_item, target_item}
-use Rattle.bql_parser.specs.declared.query.Valuation.TheVariants as valuation
+use Rattle.bql_parser.specs.Asked.{Asked, Target, Item, tree_item, target_item}
+use Rattle.bql_parser.specs.Standing as standing
+use Rattle.bql_parser.specs.declared.standing.Valuation.TheVariants as valuation
 use Rattle.bql_tree.specs.Tree.{leaf_of, two_of, call_of, Tree, node, no_trees, trees}
 use Rattle.query_columns.specs.declared.column.Column.{Column}
 use Rattle.query_columns.specs.declared.column.Column.TheVariants as column
@@ -40,17 +40,17 @@ abbrev item : ℕ → Tree ℕ → Item
 item place t = record { place = place; kind = tree_item t }
 
 -- targets, GROUP BY and ORDER BY
-abbrev asked : List (Tree ℕ) → Option (List Item) → List Item → Settled
-asked ts group items = selecting (record {
+abbrev asked : List (Tree ℕ) → Option (List Item) → List Item → Asked
+asked ts group items = record {
   distinct = false;
   targets = map target ts;
   filters = record { from = None; filter = None };
   group = group;
   order = record { items = items; descending = false };
   limit = None;
-})
+}
 
-abbrev told : Bounds → Settled → Option Cause
+abbrev told : Bounds → Asked → Option Cause
 told b q = least_of (causes b q)
 
 -- account + year
@@ -82,7 +82,7 @@ unordered : told widest
     ≡ Some (cause_at NotOrderable 25)
 unordered = refl
 
-abbrev products : Settled
+abbrev products : Asked
 products = asked (of_one 7 Sum (node 11 (two_of Times) (trees (of_column 11 column.Number)
     (trees (of_column 20 column.Number) no_trees))) ∷ []) None []
 
@@ -121,14 +121,9 @@ target_of_groups : told widest
 target_of_groups = refl
 
 -- JOURNAL AT cost, BALANCES AT units
-journal : told widest
-    (journaling (record { pattern = None; at = Some valuation.Cost; from = None })) ≡ None
+journal : told widest (standing.journal None (Some valuation.Cost) None) ≡ None
 journal = refl
 
 balances : told widest
-    (balancing (record {
-      at = Some valuation.Units;
-      filters = record { from = None; filter = None };
-    }))
-    ≡ None
+    (standing.balances (Some valuation.Units) record { from = None; filter = None }) ≡ None
 balances = refl

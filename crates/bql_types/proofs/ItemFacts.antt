@@ -7,9 +7,9 @@ use Rattle.bql_tree.specs.Tree.{Tree}
 use Rattle.bean_base.specs.declared.bounds.Bounds.{Bounds}
 use Rattle.bql_types.specs.Cause.{told, least_of, is_before}
 use Rattle.bql_types.specs.Typing.{each, all_keys, Grouping, grouping_of, target_causes}
-use Rattle.bql_types.specs.Typing.{filters_causes, group_causes, order_item_causes, select_by}
-use Rattle.bql_types.specs.Standing.{Select}
-use Rattle.bql_types.specs.Typing.{select_causes}
+use Rattle.bql_types.specs.Typing.{filters_causes, group_causes, order_item_causes, causes_by}
+use Rattle.bql_parser.specs.Asked.{Asked}
+use Rattle.bql_types.specs.Typing.{causes}
 use Rattle.bql_types.specs.declared.cause.Cause.{Cause}
 use Rattle.bql_types.specs.declared.targets.SeenTarget.{SeenTarget}
 use Rattle.query_shapes.specs.declared.shape.Shape.{Shape}
@@ -70,11 +70,11 @@ one_seen_less f g xs i x seen next whole b is n h =
 
 -- ---- queries
 
-pub select_found : (b : Bounds) (s : Select) (g : Grouping) (f1 f2 f3 : Option Cause)
+pub select_found : (b : Bounds) (s : Asked) (g : Grouping) (f1 f2 f3 : Option Cause)
     → g ≡ grouping_of s → f1 ≡ told None (each (target_causes b g) s.targets)
     → f2 ≡ told f1 (filters_causes b s.filters) → f3 ≡ told f2 (group_causes b s.targets s.group)
     → told f3 (each (order_item_causes b g s.targets) s.order.items)
-    ≡ least_of (select_causes b s)
+    ≡ least_of (causes b s)
 select_found b s g f1 f2 f3 is h1 h2 h3 =
     let ts = each (target_causes b g) s.targets in
     let fs = filters_causes b s.filters in
@@ -83,7 +83,7 @@ select_found b s g f1 f2 f3 is h1 h2 h3 =
     ap (λ z. told z os) (h3 ∙ ap (λ z. told z gs) (h2 ∙ ap (λ z. told z fs) h1))
     ∙ sym (told_append None ts (fs ++ (gs ++ os)) ∙ told_append (told None ts) fs (gs ++ os)
     ∙ told_append (told (told None ts) fs) gs os)
-    ∙ ap (λ z. least_of (select_by b z s)) is
+    ∙ ap (λ z. least_of (causes_by b z s)) is
 
 told_by : (is : Bool) (c d : Cause) (cs : List Cause) → (told (Some c) cs ≡ None → ⊥)
     → (told (Some d) cs ≡ None → ⊥) → told (if is then Some d else Some c) cs ≡ None → ⊥

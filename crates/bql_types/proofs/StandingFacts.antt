@@ -7,11 +7,10 @@ use Rattle.std.proofs.lemmas.Bool.{lt-ltb}
 use Rattle.std.proofs.Math.Nat.{mul-le-mul_left, mul-le-mul_right}
 use Rattle.bean_base.proofs.PowerFacts.{pow_le}
 use Rattle.bean_base.specs.declared.bounds.Bounds.{Bounds}
-use Rattle.bql_parser.specs.declared.query.Valuation.{Valuation}
-use Rattle.bql_parser.specs.declared.query.Valuation.TheVariants as valuation
+use Rattle.bql_parser.specs.declared.standing.Valuation.{Valuation}
+use Rattle.bql_parser.specs.declared.standing.Valuation.TheVariants as valuation
 use Rattle.query_columns.specs.ColumnShape.{AreBounds, units_most, value_most}
 use Rattle.bql_shapes.specs.Rules.{of_one}
-use Rattle.bql_parser.specs.Clause as clause
 use Rattle.bql_tree.specs.Tree.{Tree, call_of}
 use Rattle.query_columns.specs.declared.column.Column.TheVariants as column
 use Rattle.bql_tree.specs.declared.function.Function.TheVariants as function
@@ -21,9 +20,10 @@ use Rattle.query_shapes.specs.declared.shape.Shape.{Shape}
 use Rattle.query_shapes.specs.declared.shape.Shape.TheVariants.{Amount, Inventory}
 use Rattle.bql_types.specs.Shaped.{given, shape_of, shape_causes, ruled, beside, operand}
 use Rattle.bql_types.specs.Sought.{aggregates, misplaced, ungrouped, balances}
-use Rattle.bql_types.specs.Standing.{of_column, applied, valued, matching, journal_select}
-use Rattle.bql_types.specs.Standing.{balances_select}
-use Rattle.bql_types.specs.Typing.{select_causes, filter_causes, filters_causes, each, Grouping}
+use Rattle.bql_parser.specs.Standing as standing
+use Rattle.bql_parser.specs.Standing.{of_column, applied, valued, matching}
+use Rattle.bql_types.specs.Laws.{JournalsAreTyped, BalancesAreTyped}
+use Rattle.bql_types.specs.Typing.{filter_causes, filters_causes, each, Grouping}
 use Rattle.bql_types.specs.Typing.{grouping_of, target_causes, shown_causes}
 use Rattle.bql_types.specs.declared.cause.Cause.{Cause}
 use Rattle.bql_types.proofs.LawFacts.{shapes_have_no_causes}
@@ -189,28 +189,27 @@ no_aggregates None = refl
 no_aggregates (Some valuation.Units) = refl
 no_aggregates (Some valuation.Cost) = refl
 
-journal_targets : (b : Bounds) (j : clause.Journal Valuation (Tree ℕ)) (g : Grouping)
-    → AreBounds b → g.is_aggregating ≡ false
-    → each (target_causes b g) (journal_select j).targets ≡ []
-journal_targets b j g are off =
+journal_targets : (b : Bounds) (at : Option Valuation) (g : Grouping) → AreBounds b
+    → g.is_aggregating ≡ false → each (target_causes b g) (standing.journal_targets at) ≡ []
+journal_targets b at g are off =
     ap (λ z. each (target_causes b (record { is_aggregating = z; keys = g.keys }))
-    (journal_select j).targets) off
+    (standing.journal_targets at)) off
     ∙ none_of_two _ _
-    (shown_alone b g.keys (valued j.at (of_column column.Position))
-    (position_causes b j.at are) (position_alone b j.at))
-    (none_of_two _ [] (shown_alone b g.keys (valued j.at (of_column column.Balance))
-    (balance_causes b j.at are) (balance_alone b j.at)) refl)
+    (shown_alone b g.keys (valued at (of_column column.Position))
+    (position_causes b at are) (position_alone b at))
+    (none_of_two _ [] (shown_alone b g.keys (valued at (of_column column.Balance))
+    (balance_causes b at are) (balance_alone b at)) refl)
 
 -- a JOURNAL has no cause but in FROM
-pub journals_stand : (b : Bounds) (j : clause.Journal Valuation (Tree ℕ)) → AreBounds b
-    → select_causes b (journal_select j) ≡ filter_causes b j.from
-journals_stand b j are =
-    let g = grouping_of (journal_select j) in
-    between (each (target_causes b g) (journal_select j).targets)
-    (filter_causes b j.from ++ filter_causes b (matching j.pattern)) []
-    (journal_targets b j g are (no_aggregates j.at)) refl
-    ∙ ap (λ z. filter_causes b j.from ++ z) (no_pattern b j.pattern)
-    ∙ append_nil (filter_causes b j.from)
+pub journals_are_typed : JournalsAreTyped
+journals_are_typed b are pattern at from =
+    let s = standing.journal pattern at from in
+    let g = grouping_of s in
+    between (each (target_causes b g) s.targets)
+    (filter_causes b from ++ filter_causes b (matching pattern)) []
+    (journal_targets b at g are (no_aggregates at)) refl
+    ∙ ap (λ z. filter_causes b from ++ z) (no_pattern b pattern)
+    ∙ append_nil (filter_causes b from)
 
 sum_alone : (b : Bounds) (at : Option Valuation) (keys : List (Tree ℕ))
     → keys ≡ of_column column.Account ∷ []
@@ -227,18 +226,17 @@ sum_alone b (Some valuation.Cost) keys e =
     ++ []) e
 
 -- and a BALANCES none but in its filters
-pub balances_stand : (b : Bounds) (q : clause.Balances Valuation (Tree ℕ)) → AreBounds b
-    → select_causes b (balances_select q) ≡ filters_causes b q.filters
-balances_stand b q are =
-    between (each (target_causes b (grouping_of (balances_select q))) (balances_select q).targets)
-    (filters_causes b q.filters) [] balances_targets refl
+pub balances_are_typed : BalancesAreTyped
+balances_are_typed b are at f =
+    between (each (target_causes b (grouping_of (standing.balances at f)))
+    (standing.balances at f).targets) (filters_causes b f) [] shown refl
   where
-    balances_targets : each (target_causes b (grouping_of (balances_select q)))
-        (balances_select q).targets ≡ []
-    balances_targets =
+    shown : each (target_causes b (grouping_of (standing.balances at f)))
+        (standing.balances at f).targets ≡ []
+    shown =
         none_of_two
-        (shown_causes b (grouping_of (balances_select q))
-        (applied function.Sum (valued q.at (of_column column.Position)))) []
+        (shown_causes b (grouping_of (standing.balances at f))
+        (applied function.Sum (valued at (of_column column.Position)))) []
         (none_of_two
-        (shape_causes b (applied function.Sum (valued q.at (of_column column.Position)))) _
-        (sum_causes b q.at are) (sum_alone b q.at (of_column column.Account ∷ []) refl)) refl
+        (shape_causes b (applied function.Sum (valued at (of_column column.Position)))) _
+        (sum_causes b at are) (sum_alone b at (of_column column.Account ∷ []) refl)) refl

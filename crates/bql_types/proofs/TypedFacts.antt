@@ -3,7 +3,7 @@ use Rattle.std.proofs.Common.{◌≡◌, ℕ, zero, suc, Bool, true, false, not,
 use Rattle.std.proofs.Common.{Option, Some, None, refl, sym, ap, ◌∙◌, arith}
 use Rattle.std.specs.List.{IsAmong, slice_get}
 use Rattle.bean_base.specs.declared.bounds.Bounds.{Bounds}
-use Rattle.bql_parser.specs.Settled.{Target, ItemKind, target_item, tree_item}
+use Rattle.bql_parser.specs.Asked.{Asked, Target, ItemKind, target_item, tree_item}
 use Rattle.bql_tree.specs.Tree.{Tree}
 use Rattle.query_shapes.specs.declared.shape.Shape.{Shape}
 use Rattle.query_shapes.specs.declared.shape.Shape.TheVariants as shape
@@ -11,12 +11,11 @@ use Rattle.bql_types.specs.Cause.{where_true}
 use Rattle.bql_types.specs.Laws.{IsShaped, IsFilter, IsOrder, HasShapes, TypedHaveShapes}
 use Rattle.bql_types.specs.Shaped.{shape_of, shape_causes}
 use Rattle.bql_types.specs.Sought.{misplaced, balances}
-use Rattle.bql_types.specs.Standing.{Select, standing}
 use Rattle.bql_types.specs.Typing.{each, Grouping, grouping_of, shown_causes, row_causes}
 use Rattle.bql_types.specs.Typing.{isnt_truth}
 use Rattle.bql_types.specs.Typing.{filter_causes, filters_causes, target_causes, group_causes}
 use Rattle.bql_types.specs.Typing.{order_item_causes, isnt_ordered, is_ordered, grouped_causes}
-use Rattle.bql_types.specs.Typing.{order_causes_at, select_causes, order_causes_by}
+use Rattle.bql_types.specs.Typing.{order_causes_at, order_causes_by}
 use Rattle.bql_types.specs.Typing.{named_order_causes}
 use Rattle.bql_types.specs.declared.cause.Cause.{Cause}
 use Rattle.bql_types.proofs.LawFacts.{no_more, shapes_are_found}
@@ -99,8 +98,8 @@ order_by b g ts place (target_item index) e h =
     found_target b place ts index (slice_get ts index) refl e (λ t is. h t (within ts index t is))
 order_by b g ts place (tree_item t) e h = own_order b g _ ts t e
 
-select_shapes : (b : Bounds) (s : Select) → select_causes b s ≡ [] → HasShapes b s
-select_shapes b s e =
+pub typed_have_shapes : TypedHaveShapes
+typed_have_shapes b s e =
     let g = grouping_of s in
     let h = no_more (each (target_causes b g) s.targets) _ e in
     let k = no_more (filters_causes b s.filters) _ h.1 in
@@ -115,6 +114,3 @@ select_shapes b s e =
       order = λ i m. order_by b g s.targets i.place i.kind
           (among (order_item_causes b g s.targets) s.order.items i o.1 m) ts;
     }
-
-pub typed_have_shapes : TypedHaveShapes
-typed_have_shapes b q e = select_shapes b (standing q) e

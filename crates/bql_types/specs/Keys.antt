@@ -1,9 +1,9 @@
 -- The keys that are lent, and how rows come to be.
 use Rattle.std.specs.Prelude.{ℕ, List, [], ◌∷◌, map, Option, Some, None, Vec}
 use Rattle.std.specs.declared.alloc.Global.{Global}
-use Rattle.bql_parser.specs.Answer as answer
+use Rattle.bql_parser.specs.View as answer
 use Rattle.bql_parser.specs.Clause as clause
-use Rattle.bql_parser.specs.Settled as settled
+use Rattle.bql_parser.specs.Asked as settled
 use Rattle.bql_parser.specs.declared.query.Filters.{Filters}
 use Rattle.bql_parser.specs.declared.query.Item.{Item}
 use Rattle.bql_tree.specs.Tree.{Tree, tree_of}

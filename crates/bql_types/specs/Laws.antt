@@ -3,16 +3,19 @@ use Rattle.std.specs.Prelude.{◌≡◌, ◌≢◌, ℕ, false, List, [], Some, 
 use Rattle.std.specs.Prelude.{Option, Ok, Err, true}
 use Rattle.std.specs.List.{IsAmong, slice_get}
 use Rattle.bean_base.specs.declared.bounds.Bounds.{Bounds}
-use Rattle.bql_parser.specs.Settled.{Settled, Target, Item, ItemKind, target_item, tree_item}
+use Rattle.bql_parser.specs.Asked.{Asked, Target, Item, ItemKind, target_item, tree_item}
+use Rattle.bql_parser.specs.Clause.{Filters}
+use Rattle.bql_parser.specs.Standing as standing
 use Rattle.bql_parser.specs.declared.query.Query.{Query}
+use Rattle.bql_parser.specs.declared.standing.Valuation.{Valuation}
 use Rattle.bql_tree.specs.Tree.{Tree}
+use Rattle.query_columns.specs.ColumnShape.{AreBounds}
 use Rattle.query_shapes.specs.declared.shape.Shape.{Shape}
 use Rattle.query_shapes.specs.declared.shape.Shape.TheVariants.{Truth}
 use Rattle.bql_types.specs.Answer.{Answers}
 use Rattle.bql_types.specs.Cause.{least_of, is_before}
 use Rattle.bql_types.specs.Shaped.{shape_of, shape_causes}
-use Rattle.bql_types.specs.Standing.{Select, standing}
-use Rattle.bql_types.specs.Typing.{IsTyped, is_ordered}
+use Rattle.bql_types.specs.Typing.{IsTyped, is_ordered, causes, filter_causes, filters_causes}
 use Rattle.bql_types.specs.declared.cause.Cause.{Cause}
 use Rattle.bql_types.specs.declared.fault.TypeFault.{TypeFault}
 use Rattle.bql_types.specs.declared.fault.TypeFault.TheVariants.{OutOfMemory}
@@ -65,11 +68,23 @@ IsOrder b ts (target_item index) =
 IsOrder b ts (tree_item t) = (s : Shape) × (shape_of b t ≡ Some s) × (is_ordered s ≡ true)
 
 -- what a typed query asks has shapes: targets any, filters truth, and order items an order
-pub record HasShapes (b : Bounds) (s : Select) : Type 0 where
+pub record HasShapes (b : Bounds) (s : Asked) : Type 0 where
   pub targets : (t : Target) → IsAmong s.targets t → IsShaped b t.tree
   pub from : IsFilter b s.filters.from
   pub filter : IsFilter b s.filters.filter
   pub order : (i : Item) → IsAmong s.order.items i → IsOrder b s.targets i.kind
 
 abbrev pub TypedHaveShapes : Type 0
-TypedHaveShapes = (b : Bounds) (q : Settled) → IsTyped b q → HasShapes b (standing q)
+TypedHaveShapes = (b : Bounds) (s : Asked) → IsTyped b s → HasShapes b s
+
+-- what isn't written of a query
+
+-- of the SELECT that a JOURNAL stands for only FROM can be at fault
+abbrev pub JournalsAreTyped : Type 0
+JournalsAreTyped = (b : Bounds) → AreBounds b → (pattern : Option (List ℕ)) (at : Option Valuation)
+    (from : Option (Tree ℕ)) → causes b (standing.journal pattern at from) ≡ filter_causes b from
+
+-- and of that for which a BALANCES stands only the filters
+abbrev pub BalancesAreTyped : Type 0
+BalancesAreTyped = (b : Bounds) → AreBounds b → (at : Option Valuation) (f : Filters (Tree ℕ))
+    → causes b (standing.balances at f) ≡ filters_causes b f

@@ -2,7 +2,6 @@ pub mod Cause
 pub mod Same
 pub mod Shaped
 pub mod Sought
-pub mod Standing
 pub mod Typing
 pub mod Answer
 pub mod Seen

@@ -2,7 +2,7 @@
 use Rattle.std.specs.Prelude.{◌≡◌, ℕ, true, List, map, Option, Some, None}
 use Rattle.std.specs.Option.{is_some}
 use Rattle.bean_base.specs.declared.bounds.Bounds.{Bounds}
-use Rattle.bql_parser.specs.Settled.{Target}
+use Rattle.bql_parser.specs.Asked.{Target}
 use Rattle.bql_types.specs.Cause.{cause_at, where_true, least_of}
 use Rattle.bql_types.specs.Shaped.{shape_of}
 use Rattle.bql_types.specs.Sought.{misplaced}

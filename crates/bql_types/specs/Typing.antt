@@ -5,13 +5,12 @@ use Rattle.std.specs.List.{slice_get, list_any}
 use Rattle.std.specs.Option.{is_some}
 use Rattle.bean_base.specs.declared.bounds.Bounds.{Bounds}
 use Rattle.bql_parser.specs.Clause as clause
-use Rattle.bql_parser.specs.Settled.{Target, Item, ItemKind, target_item, tree_item, Settled}
+use Rattle.bql_parser.specs.Asked.{Target, Item, ItemKind, target_item, tree_item, Asked}
 use Rattle.bql_tree.specs.Tree.{Tree, node}
 use Rattle.query_shapes.specs.declared.shape.Shape.{Shape}
 use Rattle.query_shapes.specs.declared.shape.Shape.TheVariants as shape
 use Rattle.bql_types.specs.Cause.{cause_at, where_true, least_of}
 use Rattle.bql_types.specs.Shaped.{shape_of, shape_causes}
-use Rattle.bql_types.specs.Standing.{Select, standing}
 use Rattle.bql_types.specs.Sought.{aggregates, misplaced, balances, ungrouped}
 use Rattle.bql_types.specs.declared.cause.Cause.{Cause}
 use Rattle.bql_types.specs.declared.cause.CauseKind.TheVariants as kind
@@ -76,7 +75,7 @@ grouping_by ts None = record {
   keys = plain_targets ts;
 }
 
-abbrev pub grouping_of : Select → Grouping
+abbrev pub grouping_of : Asked → Grouping
 grouping_of s = grouping_by s.targets s.group
 
 -- ---- what is at fault in an expression, by where it stands
@@ -169,20 +168,17 @@ order_item_causes b g ts i = order_causes_by b g ts i.place i.kind
 
 -- ---- queries
 
-abbrev pub select_by : Bounds → Grouping → Select → List Cause
-select_by b g s =
+abbrev pub causes_by : Bounds → Grouping → Asked → List Cause
+causes_by b g s =
     each (target_causes b g) s.targets
     ++ (filters_causes b s.filters
     ++ (group_causes b s.targets s.group
     ++ each (order_item_causes b g s.targets) s.order.items))
 
-abbrev pub select_causes : Bounds → Select → List Cause
-select_causes b s = select_by b (grouping_of s) s
-
 -- all causes for which a query has no type
-abbrev pub causes : Bounds → Settled → List Cause
-causes b q = select_causes b (standing q)
+abbrev pub causes : Bounds → Asked → List Cause
+causes b s = causes_by b (grouping_of s) s
 
 -- the query has a type
-abbrev pub IsTyped : Bounds → Settled → Type 0
-IsTyped b q = causes b q ≡ []
+abbrev pub IsTyped : Bounds → Asked → Type 0
+IsTyped b s = causes b s ≡ []

@@ -1,6 +1,6 @@
 //! How the rows of a query come to be.
 ghost use Rattle.std.specs.Prelude.{◌≡◌, ◌++◌, IfOk, map};
-ghost use Rattle.bql_parser.specs.Answer.{target_of, item_of};
+ghost use Rattle.bql_parser.specs.View.{target_of, item_of};
 ghost use Rattle.bql_types.specs.Keys as view;
 ghost use Rattle.bql_types.specs.Typing as rule;
 

@@ -1,7 +1,7 @@
 //! Filters and items of a query.
 ghost use Rattle.std.specs.Prelude.{◌≡◌, IfOk, List, map};
-ghost use Rattle.bql_parser.specs.Answer.{item_of, filter_of};
-ghost use Rattle.bql_parser.specs.Settled.{Target};
+ghost use Rattle.bql_parser.specs.View.{item_of, filter_of};
+ghost use Rattle.bql_parser.specs.Asked.{Target};
 ghost use Rattle.query_columns.specs.ColumnShape.{AreBounds};
 ghost use Rattle.bql_tree.specs.Tree.{tree_of};
 ghost use Rattle.bql_types.specs.Cause.{told};

@@ -1,6 +1,7 @@
 //! Laws of the definitions.
 ghost use Rattle.bql_types.specs.Laws.{LeastIsTold, NoneIsTold, ShapesAreFound, ShapesHaveNoCauses};
 ghost use Rattle.bql_types.specs.Laws.{TypedIsNotRefused, OneRefusal, TypedHaveShapes};
+ghost use Rattle.bql_types.specs.Laws.{JournalsAreTyped, BalancesAreTyped};
 
 /// Of some causes one is told that no other stands before, and none only where there is none.
 pub fn least_causes_are_told()
@@ -24,4 +25,11 @@ pub fn queries_are_answered_in_one_way()
 /// what orders them.
 pub fn typed_queries_have_shapes()
     ensures { TypedHaveShapes }
+{}
+
+/// Of a JOURNAL and a BALANCES only what is written of their filters can be at fault: what they
+/// show, and what their rows are grouped and ordered by, has a type within all bounds.
+pub fn only_filters_are_at_fault()
+    ensures journals { JournalsAreTyped }
+    ensures balances { BalancesAreTyped }
 {}

@@ -2,7 +2,7 @@
 ghost use Rattle.std.specs.Prelude.{◌≡◌, IfOk, map, true};
 ghost use Rattle.std.specs.List.{slice_get};
 ghost use Rattle.std.specs.Option.{is_some};
-ghost use Rattle.bql_parser.specs.Answer.{target_of};
+ghost use Rattle.bql_parser.specs.View.{target_of};
 ghost use Rattle.bql_tree.specs.Tree.{tree_of};
 ghost use Rattle.bql_types.specs.Cause.{told, least_of};
 ghost use Rattle.bql_types.specs.Keys as view;

@@ -3,7 +3,7 @@
 use crate::shapes::push_letters;
 use bean_base::Bounds;
 use bql_parser::parse_query;
-use bql_plan::{Plan, RowOrder, Shaped, planned, row_order, unwritten};
+use bql_plan::{Plan, Shaped, planned};
 use bql_types::type_query;
 use std::alloc::{AllocError, Global};
 use std::test::Fail;
@@ -67,10 +67,7 @@ fn told(alloc: Global, text: &str, by_counts: bool) -> Option<String> {
     let Ok(typed) = type_query(alloc, &query, &WIDEST) else {
         return None;
     };
-    let Ok(made) = unwritten(alloc, typed.query) else {
-        return None;
-    };
-    let plan = planned(alloc, &typed, &made).ok()?;
+    let plan = planned(alloc, &typed).ok()?;
     let mut words = String::new(alloc);
     let pushed = if by_counts {
         push_counts(alloc, &mut words, &plan)
@@ -104,6 +101,11 @@ fn plans_of_queries(rt: HostRuntime) -> Result<(), Fail> {
             "SELECT year, year ORDER BY +year",
             "2 shown, 2 keys, 0 aggregates, by 0",
         ),
+        ("JOURNAL 'cash'", "7 shown, 7 keys, 0 aggregates, by"),
+        (
+            "BALANCES AT cost FROM year = 2014",
+            "3 shown, 1 keys, 1 aggregates, by 2 0",
+        ),
     ];
     for (text, words) in wanted {
         let found = told(rt.alloc(), text, true);
@@ -121,9 +123,12 @@ fn plans_of_what_is_not_written(rt: HostRuntime) -> Result<(), Fail> {
         ),
         (
             "BALANCES AT units WHERE account ~ 'a'",
-            "where T(X); shown X I(A(P)); keys X; aggregates I(A(P))",
+            "where T(X); shown X I(A(P)) N(X); keys X; aggregates I(A(P))",
         ),
-        ("BALANCES", "; shown X I(P); keys X; aggregates I(P)"),
+        (
+            "BALANCES",
+            "; shown X I(P) N(X); keys X; aggregates I(P)",
+        ),
     ];
     for (text, words) in wanted {
         let found = told(rt.alloc(), text, false);
@@ -152,29 +157,6 @@ fn shapes_of_plans(rt: HostRuntime) -> Result<(), Fail> {
     for (text, words) in wanted {
         let found = told(rt.alloc(), text, false);
         assert_eq!(rt; found.as_ref().map_or("none", String::as_str), words);
-    }
-    Ok(())
-}
-
-/// How the rows of a query are ordered.
-fn order_of(alloc: Global, text: &str) -> Option<RowOrder> {
-    match parse_query(alloc, text) {
-        Ok(query) => Some(row_order(&query)),
-        Err(_) => None,
-    }
-}
-
-#[test]
-fn balances_are_ordered_by_roots(rt: HostRuntime) -> Result<(), Fail> {
-    let wanted = [
-        ("SELECT account, sum(position)", RowOrder::AsAsked),
-        ("SELECT account ORDER BY account", RowOrder::AsAsked),
-        ("JOURNAL 'cash'", RowOrder::AsAsked),
-        ("BALANCES", RowOrder::ByRoot),
-        ("BALANCES AT cost FROM year = 2014", RowOrder::ByRoot),
-    ];
-    for (text, order) in wanted {
-        assert_eq!(rt; order_of(rt.alloc(), text), Some(order));
     }
     Ok(())
 }

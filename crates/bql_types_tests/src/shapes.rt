@@ -1,7 +1,7 @@
 //! Shapes of expressions and of their parts.
 
 use bean_base::Bounds;
-use bql_parser::{Query, parse_query};
+use bql_parser::parse_query;
 use bql_plan::{Shapes, shapes_of};
 use query_shapes::Shape;
 use std::alloc::{AllocError, Global};
@@ -51,10 +51,10 @@ fn push_parts(letters: &mut String, parts: &[Shapes]) -> Result<(), AllocError> 
 
 /// The shapes of a query's first target.
 fn of_first(alloc: Global, text: &str) -> Option<Shapes> {
-    let Ok(Query::Select(select)) = parse_query(alloc, text) else {
+    let Ok(query) = parse_query(alloc, text) else {
         return None;
     };
-    let target = select.targets.first()?;
+    let target = query.targets.first()?;
     shapes_of(alloc, &WIDEST, &target.expr).ok()
 }
 

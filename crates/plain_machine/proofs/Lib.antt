@@ -4,4 +4,5 @@ pub mod RunFacts
 pub mod CountFacts
 pub mod GroupingFacts
 pub mod AlikeFacts
+pub mod AnswerFacts
 mod Examples

@@ -7,3 +7,4 @@ pub mod Finishing
 pub mod PlainMachine
 pub mod WholeRun
 pub mod Alike
+pub mod Answer

@@ -32,6 +32,9 @@
 #![tactic(auto)]
 
 ghost use Rattle.plain_machine.specs.Alike.{StandAlike};
+ghost use Rattle.plain_machine.specs.Answer.{AnswersAreOfSections, AnswersAreOne};
+ghost use Rattle.plain_machine.specs.Answer.{AnswersAreWithinBudget, AnswersWithoutFault};
+ghost use Rattle.plain_machine.specs.Answer.{NoFaultWithAnswer};
 ghost use Rattle.plain_machine.specs.Gathering.{all_inputs, running_values};
 ghost use Rattle.plain_machine.specs.Grouping.{MakesGroups};
 ghost use Rattle.plain_machine.specs.WholeRun.{AnswersAreReached, ComesToItsAnswer};
@@ -60,4 +63,15 @@ pub fn groups_are_of_their_members()
 /// after each step.
 pub fn running_values_stand_alike()
     ensures { StandAlike }
+{}
+
+/// A program has an answer over rows exactly where it never faults there, and has no other. Its
+/// rows are those to which its sections come, and it is reached within the budget of the rows and
+/// of the groups that they make.
+pub fn programs_have_one_answer()
+    ensures there { AnswersWithoutFault }
+    ensures safe { NoFaultWithAnswer }
+    ensures one { AnswersAreOne }
+    ensures sections { AnswersAreOfSections }
+    ensures budget { AnswersAreWithinBudget }
 {}

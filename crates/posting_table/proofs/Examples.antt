@@ -6,13 +6,14 @@ use Rattle.std.specs.Prelude.{codes}
 use Rattle.bean_base.specs.declared.bounds.Bounds.{Bounds}
 use Rattle.bean_base.specs.declared.days.Day as day
 use Rattle.bean_lots.specs.declared.lot.Lot.{Lot}
-use Rattle.posting_table.specs.Fits.{has_digits, lot_fits}
-use Rattle.posting_table.specs.Metadata.{text_under}
-use Rattle.posting_table.specs.Row.{cell_at, entry_spelling, of_lot, text_or_null}
+use Rattle.posting_table.specs.Row.{cell_at, entry_spelling, of_lot}
+use Rattle.posting_table.specs.Rows.{entries_of}
 use Rattle.posting_table.specs.declared.entry.EntryFlag.TheVariants.{Padding}
 use Rattle.posting_table.specs.declared.metadata.MetaItem.{MetaItem}
 use Rattle.posting_table.specs.declared.row.Row.{Row}
 use Rattle.query_columns.specs.declared.column.Column.TheVariants.{Balance, Tags}
+use Rattle.query_rows.specs.Fits.{has_digits, lot_fits}
+use Rattle.query_rows.specs.Row.{text_or_null, text_under}
 use Rattle.query_values.specs.declared.value.Value.TheVariants.{Null, Set, Text}
 
 -- ---- metadata
@@ -24,15 +25,15 @@ items =
     ∷ record { key = codes "receipt"; text = Some (codes "B") }
     ∷ record { key = codes "paid"; text = Some (codes "cash") } ∷ []
 
-the_first_of_a_key : text_under (codes "receipt") items ≡ Some (codes "A-17")
+the_first_of_a_key : text_under (codes "receipt") (entries_of items) ≡ Some (codes "A-17")
 the_first_of_a_key = refl
 
 -- it hides a later one
-nothing_behind_a_key : text_under (codes "paid") items ≡ None
+nothing_behind_a_key : text_under (codes "paid") (entries_of items) ≡ None
 nothing_behind_a_key = refl
 
 -- keys are the same in the same letters alone
-another_key : text_under (codes "Receipt") items ≡ None
+another_key : text_under (codes "Receipt") (entries_of items) ≡ None
 another_key = refl
 
 -- ---- cells

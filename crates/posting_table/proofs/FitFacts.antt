@@ -1,6 +1,10 @@
 -- Numbers below a power of ten, and rows that are within bounds.
 use Rattle.std.proofs.Common.{◌≡◌, ℕ, ◌-◌, ◌^◌, ◌≤◌, ◌<◌, true, arith, refl, Option}
 use Rattle.std.proofs.Common.{Some, None, List, ℤ, All, length, slice_index_or, to_z, of_z, ap, ◌∙◌}
+use Rattle.std.proofs.Common.{Bool, ◌&&◌, map, sym}
+use Rattle.std.specs.Prelude.{nat_le}
+use Rattle.std.proofs.lemmas.List.{length-map}
+use Rattle.std.proofs.lemmas.List.Folds.{list_all-map}
 use Rattle.std.proofs.lemmas.List.Sums.{AllPass-from_list_all, list_all-from_AllPass}
 use Rattle.std.proofs.lemmas.Int.{to_z-of_z, fits_signed_from_abs}
 use Rattle.std.specs.Int.{w128}
@@ -9,14 +13,17 @@ use Rattle.std.specs.Int.RustNames.{unsigned_abs}
 use Rattle.std.proofs.lemmas.Bool.{le-leb, lt-ltb, ltb-true, and_from, and_parts}
 use Rattle.bean_base.proofs.PowerFacts.{pow_le, pow_pos}
 use Rattle.bean_base.specs.declared.bounds.Bounds.{Bounds}
+use Rattle.bean_base.specs.declared.limits.TheConstants.{MOST_POSTINGS}
 use Rattle.bean_lots.specs.declared.lot.Lot.{Lot}
-use Rattle.posting_table.specs.Fits.{fits, has_digits, lot_fits, row_fits}
 use Rattle.posting_table.specs.Row.{cell_at, of_lot}
-use Rattle.posting_table.specs.Shaped.{IsShaped, widest}
+use Rattle.posting_table.specs.Rows.{row_of}
+use Rattle.posting_table.specs.Shaped.{IsShaped}
 use Rattle.posting_table.specs.declared.row.Row.{Row}
-use Rattle.query_columns.specs.ColumnShape.{column_shape, value_most}
+use Rattle.query_columns.specs.ColumnShape.{column_shape, value_most, widest}
 use Rattle.query_columns.specs.declared.column.Column.{Column}
 use Rattle.query_columns.specs.declared.column.Column.TheVariants as column
+use Rattle.query_rows.specs.Fits as rows
+use Rattle.query_rows.specs.Fits.{fits, has_digits, lot_fits}
 use Rattle.query_shapes.specs.Mass.{value_of}
 use Rattle.query_shapes.specs.Shape.{LiesIn}
 use Rattle.query_values.specs.declared.value.Value.TheVariants.{Number}
@@ -108,14 +115,24 @@ cell_lies b r is units lot weight column.Balance = tt
 cell_lies b r is units lot weight column.Lineno = is.cells column.Lineno
 cell_lies b r is units lot weight column.Accounts = is.cells column.Accounts
 
+-- a row is within bounds as queries see it
+abbrev pub row_fits : Bounds → Row → Bool
+row_fits b r = rows.row_fits b (row_of r)
+
+-- and so are rows
+pub fits_alike : (b : Bounds) (rs : List Row)
+    → fits b (map row_of rs) ≡ (nat_le (length rs) b.postings && list_all (row_fits b) rs)
+fits_alike b rs = λ i.
+    nat_le (length-map rs row_of i) b.postings && list_all-map (rows.row_fits b) row_of rs i
+
 row_lies : (b : Bounds) (r : Row) → IsShaped widest r → row_fits b r ≡ true → IsShaped b r
 row_lies b r is all =
     let outer = and_parts _ _ all in
     let inner = and_parts _ _ outer.0 in
     record {
       cells = cell_lies b r is inner.0 inner.1 outer.1;
-      texts = is.texts;
-      entry_texts = is.entry_texts;
+      posting_texts = is.posting_texts;
+      transaction_texts = is.transaction_texts;
     }
 
 pub rows_that_fit_lie : (b : Bounds) (rows : List Row) → All (IsShaped widest) rows
@@ -124,9 +141,10 @@ rows_that_fit_lie b rows are all k d small =
     row_lies b (slice_index_or rows k d) (are k d small)
     (AllPass-from_list_all (row_fits b) rows all k d small)
 
-pub rows_lie : (b : Bounds) (rows : List Row) → All (IsShaped widest) rows → fits b rows ≡ true
-    → All (IsShaped b) rows
-rows_lie b rows are fit = rows_that_fit_lie b rows are (and_parts _ _ fit).1
+pub rows_lie : (b : Bounds) (rs : List Row) → All (IsShaped widest) rs
+    → fits b (map row_of rs) ≡ true → All (IsShaped b) rs
+rows_lie b rs are fit =
+    rows_that_fit_lie b rs are (and_parts _ _ (sym (fits_alike b rs) ∙ fit)).1
 
 -- ---- the widest bounds
 
@@ -143,12 +161,13 @@ row_is_within r is =
     (lot_is_within r.position.key.lot r.position.count (value_is_small r is)))
     (lt-ltb _ (10 ^ 28) (weight_is_small r is))
 
-pub rows_are_within : (rows : List Row) → length rows ≤ 1000000 → All (IsShaped widest) rows
-    → fits widest rows ≡ true
-rows_are_within rows few are =
-    and_from _ _ (le-leb (length rows) 1000000 few)
-    (list_all-from_AllPass (row_fits widest) rows
-    (λ k d small. row_is_within (slice_index_or rows k d) (are k d small)))
+pub rows_are_within : (rs : List Row) → length rs ≤ MOST_POSTINGS → All (IsShaped widest) rs
+    → fits widest (map row_of rs) ≡ true
+rows_are_within rs few are =
+    fits_alike widest rs
+    ∙ and_from _ _ (le-leb (length rs) MOST_POSTINGS few)
+    (list_all-from_AllPass (row_fits widest) rs
+    (λ k d small. row_is_within (slice_index_or rs k d) (are k d small)))
 
 -- ---- what a row holds of its units
 

@@ -1,5 +1,5 @@
 -- Rows of small parts lie in the shapes of their columns.
-use Rattle.std.proofs.Common.{ℕ, ◌≤◌, arith, refl, Option, Some, None, List}
+use Rattle.std.proofs.Common.{ℕ, ◌≤◌, arith, refl, Option, Some, None, List, [], ◌∷◌}
 use Rattle.jiff_core.proofs.CalendarLemmas.{days_in_month_bounds}
 use Rattle.std.proofs.lemmas.Int.{ints}
 use Rattle.std.specs.Int.RustNames.{unsigned_abs}
@@ -9,14 +9,18 @@ use Rattle.bean_base.specs.declared.flags.Flag.TheVariants.{Complete, Incomplete
 use Rattle.bean_lots.specs.declared.lot.Lot.{Lot}
 use Rattle.posting_table.specs.Parts.{HasSmallParts, IsShortLot}
 use Rattle.posting_table.specs.Row.{cell_at, entry_spelling, flag_or_null, label_of, of_lot}
-use Rattle.posting_table.specs.Row.{text_or_null}
-use Rattle.posting_table.specs.Shaped.{IsShaped, IsShortIfThere, widest}
+use Rattle.posting_table.specs.Rows.{entries_of}
+use Rattle.posting_table.specs.Shaped.{IsShaped, AreShort}
+use Rattle.posting_table.specs.declared.metadata.MetaItem.{MetaItem}
 use Rattle.posting_table.specs.declared.entry.EntryFlag.{EntryFlag}
 use Rattle.posting_table.specs.declared.entry.EntryFlag.TheVariants.{Written, Padding}
 use Rattle.posting_table.specs.declared.row.Row.{Row}
-use Rattle.query_columns.specs.ColumnShape.{column_shape}
+use Rattle.query_columns.specs.ColumnShape.{column_shape, widest}
 use Rattle.query_columns.specs.declared.column.Column.{Column}
 use Rattle.query_columns.specs.declared.column.Column.TheVariants as column
+use Rattle.query_rows.specs.Row.{text_or_null}
+use Rattle.query_rows.specs.Shaped as rows
+use Rattle.query_rows.specs.Shaped.{IsShortIfThere}
 use Rattle.query_shapes.specs.Shape.{IsShort, LiesIn}
 use Rattle.query_shapes.specs.declared.shape.Shape.TheVariants as shape
 use Rattle.query_values.specs.Total.{cost_currency}
@@ -102,9 +106,13 @@ cell_lies r has column.Balance = tt
 cell_lies r has column.Lineno = (refl, has.line)
 cell_lies r has column.Accounts = has.entry.accounts
 
+short_entries : (items : List MetaItem) → AreShort items → rows.AreShort (entries_of items)
+short_entries [] short = tt
+short_entries (m ∷ ms) short = (short.0, short_entries ms short.1)
+
 pub row_lies : (r : Row) → HasSmallParts r → IsShaped widest r
 row_lies r has = record {
   cells = cell_lies r has;
-  texts = has.texts;
-  entry_texts = has.entry.texts;
+  posting_texts = short_entries r.metadata has.texts;
+  transaction_texts = short_entries r.entry.metadata has.entry.texts;
 }

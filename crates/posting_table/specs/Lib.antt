@@ -1,11 +1,10 @@
 pub mod PlainText
-pub mod Metadata
 pub mod Row
 pub mod Cells
 pub mod Decimals
 pub mod Held
 pub mod Beside
 pub mod Ledger
-pub mod Fits
+pub mod Rows
 pub mod Shaped
 pub mod Parts

@@ -3,15 +3,16 @@ use Rattle.std.specs.Prelude.{ℕ, ◌<◌, ◌≤◌, ◌^◌, List, length, Op
 use Rattle.std.specs.Int.RustNames.{unsigned_abs}
 use Rattle.std.specs.List.{AllByRecursion}
 use Rattle.bean_lots.specs.declared.lot.Lot.{Lot}
-use Rattle.posting_table.specs.Shaped.{AreShort, IsShortIfThere}
+use Rattle.bean_base.specs.declared.limits.TheConstants.{LARGEST_TEXT}
+use Rattle.posting_table.specs.Shaped.{AreShort}
 use Rattle.posting_table.specs.declared.entry.Entry.{Entry}
 use Rattle.posting_table.specs.declared.row.Row.{Row}
+use Rattle.query_rows.specs.Shaped.{IsShortIfThere}
 use Rattle.query_shapes.specs.Mass.{value_of}
 use Rattle.query_shapes.specs.Shape.{IsShort}
-use Rattle.query_shapes.specs.declared.shape.TheConstants.{LONGEST}
 
 abbrev pub IsShortSet : List (List ℕ) → Type 0
-IsShortSet texts = (length texts ≤ LONGEST) × AllByRecursion IsShort texts
+IsShortSet texts = (length texts ≤ LARGEST_TEXT) × AllByRecursion IsShort texts
 
 -- the texts of a transaction are short
 pub record HasShortTexts (e : Entry) : Type 0 where
@@ -37,5 +38,5 @@ pub record HasSmallParts (r : Row) : Type 0 where
   pub value : value_of r.position.key.lot r.position.count < 10 ^ 28
   pub weight : unsigned_abs r.weight.count < 10 ^ 28
   pub weight_currency : IsShort r.weight.currency
-  pub line : r.line ≤ 16777216
+  pub line : r.line ≤ LARGEST_TEXT
   pub texts : AreShort r.metadata

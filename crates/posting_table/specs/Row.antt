@@ -9,6 +9,7 @@ use Rattle.posting_table.specs.declared.entry.EntryFlag.TheVariants.{Written, Pa
 use Rattle.posting_table.specs.declared.row.Row.{Row}
 use Rattle.query_columns.specs.declared.column.Column.{Column}
 use Rattle.query_columns.specs.declared.column.Column.TheVariants as column
+use Rattle.query_rows.specs.Row.{text_or_null}
 use Rattle.query_values.specs.Operation.{whole}
 use Rattle.query_values.specs.declared.value.Value.{Value}
 use Rattle.query_values.specs.declared.value.Value.TheVariants.{Null, Number, Text, Day, Set}
@@ -19,11 +20,7 @@ abbrev pub entry_spelling : EntryFlag → List ℕ
 entry_spelling (Written flag) = spelling flag
 entry_spelling Padding = codes "P"
 
--- a text, a flag, what is told of a lot; null where there is none
-
-abbrev pub text_or_null : Option (List ℕ) → Value
-text_or_null None = Null
-text_or_null (Some text) = Text text
+-- a flag, what is told of a lot; null where there is none
 
 abbrev pub flag_or_null : Option Flag → Value
 flag_or_null None = Null

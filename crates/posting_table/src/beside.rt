@@ -1,7 +1,8 @@
 //! What few rows have beside what all have.
 ghost use Rattle.std.specs.Prelude.{◌≡◌, IfOk};
 ghost use Rattle.std.specs.Option.{option_copied};
-ghost use Rattle.posting_table.specs.Metadata.{text_under};
+ghost use Rattle.posting_table.specs.Rows.{entries_of};
+ghost use Rattle.query_rows.specs.Row.{text_under};
 
 use crate::metadata::Metadata;
 use crate::row::Weight;
@@ -74,7 +75,7 @@ impl<'a> Beside<'a> {
 
     /// The text of the first item of its metadata under a key: none where nothing stands behind it.
     pub(crate) fn text_under(&self, key: &str) -> Option<&str>
-        ensures { option_copied result ≡ text_under key.now self.now.metadata }
+        ensures { option_copied result ≡ text_under key.now (entries_of self.now.metadata) }
     {
         match &self.kept {
             Kept::Line(_) => None,

@@ -1,8 +1,10 @@
 //! Whether rows are within bounds.
 ghost use Rattle.std.specs.Prelude.{◌≡◌, ◌<◌, ◌^◌, All};
 ghost use Rattle.std.specs.List.{list_all};
-ghost use Rattle.posting_table.specs.Fits as spec;
-ghost use Rattle.posting_table.specs.Shaped.{IsShaped, widest};
+ghost use Rattle.posting_table.specs.Rows.{row_of};
+ghost use Rattle.posting_table.specs.Shaped.{IsShaped};
+ghost use Rattle.query_columns.specs.ColumnShape.{widest};
+ghost use Rattle.query_rows.specs.Fits as spec;
 ghost use Rattle.query_shapes.specs.Mass.{value_of};
 
 use crate::held::HeldRow;
@@ -35,7 +37,7 @@ fn lot_fits(bounds: &Bounds, lot: &Option<Lot<'_>>, count: i128) -> bool
 /// Whether the counts of a row are within bounds.
 fn row_fits(bounds: &Bounds, row: &HeldRow<'_>) -> bool
     requires { IsShaped widest row.now }
-    ensures { result ≡ spec.row_fits bounds.now row.now }
+    ensures { result ≡ spec.row_fits bounds.now (row_of row.now) }
 {
     has_digits(bounds.units_digits, row.count().unsigned_abs())
         && lot_fits(bounds, &row.key().lot, row.count())
@@ -45,7 +47,7 @@ fn row_fits(bounds: &Bounds, row: &HeldRow<'_>) -> bool
 /// Whether the counts of all rows are within bounds.
 pub(crate) fn all_fit(bounds: &Bounds, rows: &[HeldRow<'_>]) -> bool
     requires { All (IsShaped widest) rows.now }
-    ensures { result ≡ list_all (spec.row_fits bounds.now) rows.now }
+    ensures { result ≡ list_all (λ r. spec.row_fits bounds.now (row_of r)) rows.now }
 {
     for row in rows {
         if !row_fits(bounds, row) {

@@ -1,7 +1,8 @@
 //! Cells, and what the parts of a row have in their columns.
 ghost use Rattle.std.specs.Prelude.{◌≡◌};
 ghost use Rattle.posting_table.specs.Cells.{entry_cell, lot_cell};
-ghost use Rattle.posting_table.specs.Row.{flag_or_null, text_or_null};
+ghost use Rattle.posting_table.specs.Row.{flag_or_null};
+ghost use Rattle.query_rows.specs.Row.{text_or_null};
 ghost use Rattle.query_values.specs.Operation.{whole};
 
 use crate::entry::Entry;

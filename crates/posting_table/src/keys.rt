@@ -2,6 +2,7 @@
 ghost use Rattle.std.specs.Prelude.{◌≡◌, IfOk, IfSome};
 ghost use Rattle.posting_table.specs.Cells.{lot_cell};
 ghost use Rattle.posting_table.specs.Row as spec;
+ghost use Rattle.query_rows.specs.Row.{text_or_null};
 
 use crate::cells::lot_cell;
 use crate::plain_text::PlainText;
@@ -76,7 +77,7 @@ impl<'a> HeldKey<'a> {
 
     /// The label of its lot, or null.
     pub(crate) fn label_cell(&self) -> Value<'_>
-        ensures { result ≡ spec.text_or_null (spec.label_of self.now.lot) }
+        ensures { result ≡ text_or_null (spec.label_of self.now.lot) }
     {
         match &self.label {
             Some(label) => Value::Text(Slice::new(label.as_str())),

@@ -1,16 +1,18 @@
 //! Laws of ledgers.
-ghost use Rattle.std.specs.Prelude.{◌≡◌, true, All, List};
+ghost use Rattle.std.specs.Prelude.{◌≡◌, true, All, List, map};
 ghost use Rattle.bean_base.specs.declared.bounds.Bounds.{Bounds};
-ghost use Rattle.posting_table.specs.Fits.{fits};
 ghost use Rattle.posting_table.specs.Parts.{HasSmallParts};
-ghost use Rattle.posting_table.specs.Shaped.{IsShaped, widest};
+ghost use Rattle.posting_table.specs.Rows.{row_of};
+ghost use Rattle.posting_table.specs.Shaped.{IsShaped};
 ghost use Rattle.posting_table.specs.declared.row.Row.{Row};
+ghost use Rattle.query_columns.specs.ColumnShape.{widest};
+ghost use Rattle.query_rows.specs.Fits.{fits};
 
 /// Where rows are within bounds, their cells lie in the shapes that the columns have by these
 /// bounds, and their texts of metadata in that of texts.
 pub fn cells_lie_in_their_shapes()
-    ensures { (b : Bounds) (rows : List Row) → All (IsShaped widest) rows → fits b rows ≡ true
-        → All (IsShaped b) rows }
+    ensures { (b : Bounds) (rows : List Row) → All (IsShaped widest) rows
+        → fits b (map row_of rows) ≡ true → All (IsShaped b) rows }
 {}
 
 /// A row of short texts and small counts lies in the shapes that its columns have by the widest

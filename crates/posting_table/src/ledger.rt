@@ -1,26 +1,26 @@
 //! The ledger: rows in order, and the display decimals.
 ghost use Rattle.std.specs.Prelude.{◌≡◌, ◌≢◌, ◌==◌, [], ◌∷◌, ◌++◌, ◌<◌, ◌≤◌, OnOk, OnErr, length};
 ghost use Rattle.std.specs.Prelude.{All, IsTrue, Some, slice_get, true};
-ghost use Rattle.std.specs.Option.{option_copied, option_map};
+ghost use Rattle.std.specs.Option.{option_and_then, option_copied, option_map};
 ghost use Rattle.std.specs.FinMap as map;
-ghost use Rattle.posting_table.specs.Fits.{fits};
-ghost use Rattle.posting_table.specs.Ledger.{meta_at, entry_meta_at};
-ghost use Rattle.posting_table.specs.Row.{cell_at};
-ghost use Rattle.posting_table.specs.Shaped.{IsShaped, widest};
+ghost use Rattle.posting_table.specs.Rows.{rows_of};
+ghost use Rattle.posting_table.specs.Shaped.{IsShaped};
+ghost use Rattle.query_columns.specs.ColumnShape.{widest};
+ghost use Rattle.query_rows.specs.Fits.{fits};
+ghost use Rattle.query_rows.specs.Row.{text_under};
+ghost use Rattle.query_rows.specs.Shaped as rows;
 
 use crate::bounded::all_fit;
 use crate::display::Display;
 use crate::held::HeldRow;
 use crate::keys::Keys;
 use crate::row::Row;
+use bean_base::limits::MOST_POSTINGS;
 use bean_base::{Bounds, Currency};
 use query_columns::Column;
 use query_values::Value;
 use std::alloc::{AllocError, Global};
 use std::marker::Model;
-
-/// The most postings that a ledger holds.
-pub const MOST_POSTINGS: usize = 1_000_000;
 
 /// A list of booked postings, and how many decimals each currency shows.
 #[derive(Drop)]
@@ -36,8 +36,9 @@ impl<'a> Model for Ledger<'a> {
     ghost use Rattle.std.specs.Coded.{codes};
     ghost use Rattle.posting_table.specs.Decimals.{decimals_code};
     ghost use Rattle.posting_table.specs.Ledger.{Ledger};
-    ghost use Rattle.posting_table.specs.Shaped.{IsShaped, widest};
-    ghost use Rattle.posting_table.specs.declared.ledger.TheConstants.{MOST_POSTINGS};
+    ghost use Rattle.posting_table.specs.Shaped.{IsShaped};
+    ghost use Rattle.query_columns.specs.ColumnShape.{widest};
+    ghost use Rattle.bean_base.specs.declared.limits.TheConstants.{MOST_POSTINGS};
 
     ghost Value = { Ledger };
 
@@ -113,7 +114,8 @@ impl<'a> Ledger<'a> {
     pub fn cell(&self, row: usize, column: Column) -> Value<'_>
         requires row { row < length self.now.rows }
         requires column { column ≢ Column.Balance }
-        ensures { Some result ≡ option_map (λ r. cell_at r column) (slice_get self.now.rows row) }
+        ensures { Some result
+            ≡ option_map (λ r. r.cell column) (slice_get (rows_of self.now) row) }
     {
         self.rows[row].cell(column)
     }
@@ -121,7 +123,8 @@ impl<'a> Ledger<'a> {
     /// What a posting's metadata has under a key: none where nothing stands behind it.
     pub fn meta(&self, row: usize, key: &str) -> Option<&str>
         requires { row < length self.now.rows }
-        ensures { option_copied result ≡ meta_at self.now.rows row key.now }
+        ensures { option_copied result ≡ option_and_then
+            (λ r. text_under key.now r.posting_entries) (slice_get (rows_of self.now) row) }
     {
         self.rows[row].text_under(key)
     }
@@ -129,7 +132,8 @@ impl<'a> Ledger<'a> {
     /// What the metadata of a posting's transaction has under a key.
     pub fn entry_meta(&self, row: usize, key: &str) -> Option<&str>
         requires { row < length self.now.rows }
-        ensures { option_copied result ≡ entry_meta_at self.now.rows row key.now }
+        ensures { option_copied result ≡ option_and_then
+            (λ r. text_under key.now r.transaction_entries) (slice_get (rows_of self.now) row) }
     {
         self.rows[row].entry().metadata.text_under(key)
     }
@@ -138,9 +142,9 @@ impl<'a> Ledger<'a> {
     /// Its cells then lie in the shapes that its columns have by these bounds. Each ledger is
     /// within the widest bounds. Takes no memory.
     pub fn fits(&self, bounds: &Bounds) -> bool
-        ensures fits { result ≡ fits bounds.now self.now.rows }
-        ensures widest { fits widest self.now.rows ≡ true }
-        ensures shaped { IsTrue result → All (IsShaped bounds.now) self.now.rows }
+        ensures fits { result ≡ fits bounds.now (rows_of self.now) }
+        ensures widest { fits widest (rows_of self.now) ≡ true }
+        ensures shaped { IsTrue result → All (rows.IsShaped bounds.now) (rows_of self.now) }
     {
         self.len() <= bounds.postings as usize && all_fit(bounds, &self.rows)
     }

@@ -46,7 +46,7 @@
 //!
 //! # What may be asked
 //!
-//! `push` wants room, since a ledger holds at most [`MOST_POSTINGS`], and a row whose cells lie in
+//! `push` wants room, since a ledger holds at most [`bean_base::limits::MOST_POSTINGS`], and a row whose cells lie in
 //! the shapes that its columns have by the widest bounds: its texts are short and its counts small
 //! ([`rows_of_small_parts_are_shaped`]). So in a ledger that is within narrower bounds
 //! ([`Ledger::fits`]) they lie in the shapes by these. `cell`, `meta` and `entry_meta` want a row
@@ -78,7 +78,7 @@ mod shared;
 pub use display::Display;
 pub use entry::{Entry, EntryFlag};
 pub use laws::{cells_lie_in_their_shapes, rows_of_small_parts_are_shaped};
-pub use ledger::{Ledger, MOST_POSTINGS};
+pub use ledger::Ledger;
 pub use metadata::{MetaItem, Metadata};
 pub use plain_text::PlainText;
 pub use query_columns::Column;

@@ -4,6 +4,7 @@ use Rattle.std.specs.Prelude.{nat_le, List, [], ◌∷◌, length, codes, Option
 use Rattle.std.specs.Prelude.{Err, if◌then◌else◌}
 use Rattle.std.specs.Int.{w32, w128, cast_signed, cast_unsigned}
 use Rattle.std.specs.Int.RustNames.{unsigned_abs}
+use Rattle.bean_base.specs.declared.limits.TheConstants.{COUNT_BOUND, MOST_PLACES}
 use Rattle.bean_base.specs.CalendarDay as calendar
 use Rattle.query_values.specs.Wide as wide
 use Rattle.bean_base.specs.declared.bounds.Bounds.{Bounds}
@@ -41,7 +42,7 @@ wide_integer = mapped (cast_signed w128) (cast_unsigned w128) (number w128 (2 ^ 
 
 -- at most 2^127 - 1, sign left off
 abbrev pub is_count : ℤ → Bool
-is_count z = nat_lt (unsigned_abs z) (2 ^ 127)
+is_count z = nat_lt (unsigned_abs z) COUNT_BOUND
 
 unfoldable pub count : Form ℤ
 count = such_that BadField is_count wide_integer
@@ -78,7 +79,7 @@ only m a = such_that BadField (λ n. is_grouped m || (n == 0)) a
 -- ---- the pool
 
 abbrev pub places : Form ℕ
-places = such_that BadField (λ p. nat_le p 32) byte
+places = such_that BadField (λ p. nat_le p MOST_PLACES) byte
 
 abbrev pub some_number : Form ℕ
 some_number = such_that BadField at_least_one word

@@ -11,6 +11,7 @@ ghost use Rattle.query_code.specs.QueryFile.{decimal, day};
 ghost use Rattle.query_code.specs.TextForm.{text};
 
 use crate::fault::Fault;
+use bean_base::limits::MOST_PLACES;
 use bean_base::{Day, Slice};
 use query_code::refusal::{Cause, Stop};
 use query_values::Decimal;
@@ -144,7 +145,7 @@ pub fn places_at(bytes: &[u8]) -> Result<(u8, &[u8]), Fault>
     ensures { Gives (λ x. (x.0, x.1.now)) result (places.read bytes.now) }
 {
     let (places, rest) = byte_at(bytes)?;
-    if places > 32 {
+    if places > MOST_PLACES {
         return Err(stopped(Cause::BadField, bytes));
     }
     Ok((places, rest))

@@ -1,4 +1,5 @@
 pub mod Row
+pub mod Fits
 pub mod Shaped
 pub mod Same
 pub mod Grouping

@@ -18,7 +18,7 @@ use Rattle.query_shapes.specs.Shape.{IsBelow, fitting, is_held, is_most}
 use Rattle.query_shapes.specs.declared.shape.Misfit.TheVariants.{Kind, TooWide}
 use Rattle.query_shapes.specs.declared.shape.Shape.{Shape}
 use Rattle.query_shapes.specs.declared.shape.Shape.TheVariants as shape
-use Rattle.query_shapes.specs.declared.shape.TheConstants.{LONGEST}
+use Rattle.bean_base.specs.declared.limits.TheConstants.{LARGEST_TEXT}
 use Rattle.query_shapes.proofs.OrderFacts.{OfPairs, below_cases, reflexive}
 
 -- ---- what fits
@@ -169,9 +169,9 @@ lengths : (s t : Shape) → IsBelow s t → Rises rule.length_of s t
 lengths s t h =
     below_cases (Rises rule.length_of) (record {
       truth = tt;
-      text = reflexive (rule.whole LONGEST);
+      text = reflexive (rule.whole LARGEST_TEXT);
       day = tt;
-      set = reflexive (rule.whole LONGEST);
+      set = reflexive (rule.whole LARGEST_TEXT);
       number = λ p m n low. tt;
       amount = λ p m n low. tt;
       position = λ u v w z low less. tt;

@@ -12,7 +12,7 @@ use Rattle.query_values.specs.declared.value.Value.TheVariants as value
 use Rattle.query_shapes.specs.Mass.{units_mass, value_mass, value_of}
 use Rattle.query_shapes.specs.Shape.{LiesIn, IsShort}
 use Rattle.query_shapes.specs.declared.shape.Shape.TheVariants as shape
-use Rattle.query_shapes.specs.declared.shape.TheConstants.{LONGEST}
+use Rattle.bean_base.specs.declared.limits.TheConstants.{LARGEST_TEXT}
 
 pub truth_cases : (P : Value → Type 0) → P value.Null
     → ((b : Bool) → P (value.Truth b))
@@ -54,7 +54,7 @@ day_cases P null one (value.Position k n) h = absurd h
 day_cases P null one (value.Inventory b) h = absurd h
 
 pub set_cases : (P : Value → Type 0) → P value.Null
-    → ((ts : List (List ℕ)) → length ts ≤ LONGEST → AllByRecursion IsShort ts → P (value.Set ts))
+    → ((ts : List (List ℕ)) → length ts ≤ LARGEST_TEXT → AllByRecursion IsShort ts → P (value.Set ts))
     → (x : Value) → LiesIn x shape.Set → P x
 set_cases P null one value.Null h = null
 set_cases P null one (value.Truth b) h = absurd h

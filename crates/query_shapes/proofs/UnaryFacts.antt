@@ -44,7 +44,7 @@ use Rattle.query_shapes.specs.Shape.{IsShort, LiesIn, fitting}
 use Rattle.query_shapes.specs.declared.shape.Misfit.TheVariants.{Kind}
 use Rattle.query_shapes.specs.declared.shape.Shape.{Shape}
 use Rattle.query_shapes.specs.declared.shape.Shape.TheVariants as shape
-use Rattle.query_shapes.specs.declared.shape.TheConstants.{LONGEST}
+use Rattle.bean_base.specs.declared.limits.TheConstants.{LARGEST_TEXT}
 use Rattle.query_shapes.proofs.FittingFacts.{fits, fits_then, most_of_units}
 use Rattle.query_shapes.proofs.MassFacts.{bare_units, cost_units, cost_within, costs_low}
 use Rattle.query_shapes.proofs.MassFacts.{negative_units, negative_value, negative_values}
@@ -212,14 +212,14 @@ few_chars (b ∷ bs) =
 on_length : (x : Value) (s : Shape) → LiesIn x s
     → Has (checked (is_text x || is_set x) (length_of x)) (rule.length_of s)
 on_length x shape.Text h =
-    fits (is_text x || is_set x) (length_of x) (rule.whole LONGEST)
+    fits (is_text x || is_set x) (length_of x) (rule.whole LARGEST_TEXT)
     (text_cases (λ y. (is_text y || is_set y) ≡ true) refl (λ t short. refl) x h)
-    (text_cases (λ y. LiesIn (length_of y) (rule.whole LONGEST)) tt
+    (text_cases (λ y. LiesIn (length_of y) (rule.whole LARGEST_TEXT)) tt
     (λ t short. (refl, (let c = few_chars t in omega (arith, c, short)))) x h)
 on_length x shape.Set h =
-    fits (is_text x || is_set x) (length_of x) (rule.whole LONGEST)
+    fits (is_text x || is_set x) (length_of x) (rule.whole LARGEST_TEXT)
     (set_cases (λ y. (is_text y || is_set y) ≡ true) refl (λ ts few short. refl) x h)
-    (set_cases (λ y. LiesIn (length_of y) (rule.whole LONGEST)) tt (λ ts few short. (refl, few)) x
+    (set_cases (λ y. LiesIn (length_of y) (rule.whole LARGEST_TEXT)) tt (λ ts few short. (refl, few)) x
     h)
 on_length x shape.Truth h = tt
 on_length x shape.Day h = tt

@@ -4,6 +4,7 @@ use Rattle.std.specs.Prelude.{ℕ, ◌+◌, ◌-◌, ◌*◌, ◌^◌, ◌==◌,
 use Rattle.std.specs.Prelude.{List}
 use Rattle.std.specs.Prelude.{Option, Some, None, Result, Ok, Err, if◌then◌else◌}
 use Rattle.std.specs.List.{list_all}
+use Rattle.bean_base.specs.declared.limits.TheConstants.{LARGEST_TEXT}
 use Rattle.query_values.specs.Unary as unary
 use Rattle.query_values.specs.declared.operation.Aggregate.{Aggregate}
 use Rattle.query_values.specs.declared.operation.Aggregate.TheVariants as aggregate
@@ -17,7 +18,6 @@ use Rattle.query_shapes.specs.declared.shape.Misfit.TheVariants.{Kind}
 use Rattle.query_shapes.specs.declared.shape.Shape.{Shape}
 use Rattle.query_shapes.specs.declared.shape.Shape.TheVariants.{Truth, Text, Day, Set, Number}
 use Rattle.query_shapes.specs.declared.shape.Shape.TheVariants.{Amount, Position, Inventory}
-use Rattle.query_shapes.specs.declared.shape.TheConstants.{LONGEST}
 
 abbrev pub Ruled : Type 0
 Ruled = Result Shape Misfit
@@ -79,8 +79,8 @@ abbrev pub among : List Value → Shape → Ruled
 among ys s = if is_ranked s && list_all (is_like s) ys then Ok Truth else Err Kind
 
 abbrev pub length_of : Shape → Ruled
-length_of Text = Ok (whole LONGEST)
-length_of Set = Ok (whole LONGEST)
+length_of Text = Ok (whole LARGEST_TEXT)
+length_of Set = Ok (whole LARGEST_TEXT)
 length_of s = Err Kind
 
 abbrev pub units_of : Shape → Ruled

@@ -4,6 +4,7 @@ use Rattle.std.specs.Prelude.{◌≡◌, ℕ, ◌≤◌, ◌^◌, ◌&&◌, ◌=
 use Rattle.std.specs.Prelude.{length, Option, Some, None, Result, Ok, Err, if◌then◌else◌}
 use Rattle.std.specs.Int.RustNames.{unsigned_abs}
 use Rattle.std.specs.List.{AllByRecursion}
+use Rattle.bean_base.specs.declared.limits.TheConstants.{COUNT_BOUND, LARGEST_TEXT, MOST_PLACES}
 use Rattle.query_values.specs.Total.{cost_currency}
 use Rattle.query_values.specs.declared.value.Value.{Value}
 use Rattle.query_values.specs.declared.value.Value.TheVariants as value
@@ -13,10 +14,9 @@ use Rattle.query_shapes.specs.declared.shape.Misfit.TheVariants.{TooWide}
 use Rattle.query_shapes.specs.declared.shape.Shape.{Shape}
 use Rattle.query_shapes.specs.declared.shape.Shape.TheVariants.{Truth, Text, Day, Set, Number}
 use Rattle.query_shapes.specs.declared.shape.Shape.TheVariants.{Amount, Position, Inventory}
-use Rattle.query_shapes.specs.declared.shape.TheConstants.{LONGEST}
 
 abbrev pub IsShort : List ℕ → Type 0
-IsShort text = length text ≤ LONGEST
+IsShort text = length text ≤ LARGEST_TEXT
 
 -- a value is of a shape; null is of every shape
 abbrev pub LiesIn : Value → Shape → Type 0
@@ -24,7 +24,7 @@ LiesIn value.Null s = Unit {0}
 LiesIn (value.Truth b) Truth = Unit {0}
 LiesIn (value.Text t) Text = IsShort t
 LiesIn (value.Day d) Day = Unit {0}
-LiesIn (value.Set ts) Set = (length ts ≤ LONGEST) × AllByRecursion IsShort ts
+LiesIn (value.Set ts) Set = (length ts ≤ LARGEST_TEXT) × AllByRecursion IsShort ts
 LiesIn (value.Number p n) (Number q m) = (p ≡ q) × (unsigned_abs n ≤ m)
 LiesIn (value.Amount p n c) (Amount q m) = (p ≡ q) × (unsigned_abs n ≤ m) × IsShort c
 LiesIn (value.Position k n) (Position u v) =
@@ -47,14 +47,14 @@ IsBelow (Inventory p u v) (Inventory q w x) = (p ≡ q) × (u ≤ w) × (v ≤ x
 IsBelow s t = ⊥
 
 abbrev pub is_most : ℕ → Bool
-is_most m = nat_lt m (2 ^ 127)
+is_most m = nat_lt m COUNT_BOUND
 
 -- each value of the shape can be held
 abbrev pub is_held : Shape → Bool
-is_held (Number p m) = nat_le p 32 && is_most m
-is_held (Amount p m) = nat_le p 32 && is_most m
+is_held (Number p m) = nat_le p MOST_PLACES && is_most m
+is_held (Amount p m) = nat_le p MOST_PLACES && is_most m
 is_held (Position u v) = is_most u && is_most v
-is_held (Inventory p u v) = nat_le p 32 && (is_most u && is_most v)
+is_held (Inventory p u v) = nat_le p MOST_PLACES && (is_most u && is_most v)
 is_held s = true
 
 abbrev pub fitting : Shape → Result Shape Misfit

@@ -1,9 +1,11 @@
 //! Which shape an operation gives.
 ghost use Rattle.std.specs.Prelude.{◌≡◌, ◌+◌, ◌*◌, IsTrue, nat_le};
+ghost use Rattle.bean_base.specs.declared.limits.TheConstants.{MOST_PLACES};
 ghost use Rattle.query_shapes.specs.Rules as spec;
 ghost use Rattle.query_shapes.specs.Shape.{is_most};
 
-use crate::shape::{LONGEST, Misfit, Shape, fitting};
+use crate::shape::{Misfit, Shape, fitting};
+use bean_base::limits::{LARGEST_TEXT, MOST_PLACES};
 use bean_base::power_of_ten;
 use query_values::{Aggregate, Binary};
 
@@ -32,8 +34,8 @@ fn product_of_most(m: u128, n: u128) -> u128
 
 /// The decimals of a product, or some as far beyond all that can be held.
 fn places_of_both(p: u8, q: u8) -> u8
-    ensures same { nat_le result 32 ≡ nat_le (p + q) 32 }
-    ensures sum { IsTrue (nat_le result 32) → result ≡ p + q }
+    ensures same { nat_le result MOST_PLACES ≡ nat_le (p + q) MOST_PLACES }
+    ensures sum { IsTrue (nat_le result MOST_PLACES) → result ≡ p + q }
 {
     p.saturating_add(q)
 }
@@ -84,7 +86,7 @@ pub fn aligned(places: u8, shape: Shape) -> Result<Shape, Misfit>
 {
     match shape {
         Shape::Number { places: from, most } if from <= places => {
-            if places > 32 {
+            if places > MOST_PLACES {
                 return Err(Misfit::TooWide);
             }
             let unit = power_of_ten(places - from).unsigned_abs();
@@ -123,7 +125,7 @@ pub fn length_of(shape: Shape) -> Result<Shape, Misfit>
     ensures { result ≡ spec.length_of shape }
 {
     match shape {
-        Shape::Text | Shape::Set => Ok(whole(LONGEST)),
+        Shape::Text | Shape::Set => Ok(whole(LARGEST_TEXT as u128)),
         _ => Err(Misfit::Kind),
     }
 }

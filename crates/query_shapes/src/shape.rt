@@ -2,19 +2,17 @@
 ghost use Rattle.std.specs.Prelude.{◌≡◌};
 ghost use Rattle.query_shapes.specs.Shape as spec;
 
-/// The most bytes of a text, and so the most characters; also the most members of a set. A ledger's
-/// texts are slices of files that have no more.
-pub const LONGEST: u128 = 16_777_216;
+use bean_base::limits::{COUNT_BOUND, LARGEST_TEXT, MOST_PLACES};
 
 /// What is known of a value: its kind, its decimals, and the most that its counts may be, signs
 /// left off. Null is of every shape.
 #[derive(Clone, Copy, Debug, Drop, PartialEq, Eq)]
 pub enum Shape {
     Truth,
-    /// A text of at most [`LONGEST`] bytes.
+    /// A text of at most [`LARGEST_TEXT`] bytes.
     Text,
     Day,
-    /// At most [`LONGEST`] such texts.
+    /// At most [`LARGEST_TEXT`] such texts.
     Set,
     Number {
         places: u8,
@@ -50,7 +48,7 @@ pub enum Misfit {
 pub(crate) fn is_most(most: u128) -> bool
     ensures { result ≡ spec.is_most most }
 {
-    most <= i128::MAX as u128
+    most < COUNT_BOUND
 }
 
 /// Whether each value of the shape can be held.
@@ -59,14 +57,14 @@ fn is_held(shape: Shape) -> bool
 {
     match shape {
         Shape::Number { places, most } | Shape::Amount { places, most } => {
-            places <= 32 && is_most(most)
+            places <= MOST_PLACES && is_most(most)
         }
         Shape::Position { units, value } => is_most(units) && is_most(value),
         Shape::Inventory {
             places,
             units,
             value,
-        } => places <= 32 && is_most(units) && is_most(value),
+        } => places <= MOST_PLACES && is_most(units) && is_most(value),
         Shape::Truth | Shape::Text | Shape::Day | Shape::Set => true,
     }
 }

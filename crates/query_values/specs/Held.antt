@@ -1,6 +1,7 @@
 -- Values that are held: at most 32 decimals, and counts of at most 2^127 - 1, signs left off.
 use Rattle.std.specs.Prelude.{Bool, true, ◌&&◌, nat_le, Option, Some, None, if◌then◌else◌}
 use Rattle.std.specs.List.{list_all}
+use Rattle.bean_base.specs.declared.limits.TheConstants.{MOST_PLACES}
 use Rattle.query_values.specs.WideCount.{is_wide}
 use Rattle.bean_lots.specs.declared.lot.Position as entry
 use Rattle.query_values.specs.Total.{is_count}
@@ -12,7 +13,7 @@ abbrev pub has_count : entry.Position → Bool
 has_count e = is_count e.count
 
 abbrev pub is_held_bag : Bag → Bool
-is_held_bag b = nat_le b.places 32 && list_all has_count b.held
+is_held_bag b = nat_le b.places MOST_PLACES && list_all has_count b.held
 
 abbrev pub is_held : Value → Bool
 is_held (Number p n) = is_wide p n

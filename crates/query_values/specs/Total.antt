@@ -2,6 +2,7 @@
 use Rattle.std.specs.Prelude.{ℕ, ◌^◌, Bool, true, ◌&&◌, nat_lt, List, [], ◌∷◌, map, ℤ, pos, ◌+ℤ◌}
 use Rattle.std.specs.Prelude.{◌*ℤ◌, Option, Some, None}
 use Rattle.std.specs.Int.RustNames.{unsigned_abs}
+use Rattle.bean_base.specs.declared.limits.TheConstants.{COUNT_BOUND}
 use Rattle.bean_lots.specs.Inventory.{added, count_of}
 use Rattle.bean_lots.specs.declared.lot.Key.{Key}
 use Rattle.bean_lots.specs.declared.lot.Lot.{Lot}
@@ -9,7 +10,7 @@ use Rattle.bean_lots.specs.declared.lot.Position.{Position}
 
 -- a count that a number may have
 abbrev pub is_count : ℤ → Bool
-is_count n = nat_lt (unsigned_abs n) (2 ^ 127)
+is_count n = nat_lt (unsigned_abs n) COUNT_BOUND
 
 -- the inventory with these positions more
 abbrev pub total_from : List Position → List Position → List Position

@@ -4,14 +4,15 @@ use Rattle.std.specs.Prelude.{nat_lt, Option, Some, None, refl}
 use Rattle.std.specs.Int.RustNames.{unsigned_abs}
 use Rattle.std.proofs.Common.{arith}
 use Rattle.std.proofs.lemmas.Grind.{common_steps}
+use Rattle.bean_base.specs.declared.limits.TheConstants.{COUNT_BOUND, MOST_PLACES}
 use Rattle.query_values.specs.WideCount.{is_wide}
 use Rattle.query_values.specs.declared.decimal.Decimal.{Decimal}
 
-pub is_narrow : (places : ℕ) (count : ℤ) → is_wide places count ≡ true → places ≤ 32
+pub is_narrow : (places : ℕ) (count : ℤ) → is_wide places count ≡ true → places ≤ MOST_PLACES
 is_narrow places count is = grind (arith, common_steps)
 
 pub is_in_range : (places : ℕ) (count : ℤ) → is_wide places count ≡ true
-    → unsigned_abs count < 2 ^ 127
+    → unsigned_abs count < COUNT_BOUND
 is_in_range places count is = grind (arith, common_steps)
 
 abbrev pub decimal_where : (places : ℕ) (count : ℤ) (b : Bool) → is_wide places count ≡ b

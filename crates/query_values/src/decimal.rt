@@ -1,23 +1,25 @@
 //! Numbers that are wider than those that a ledger writes: those of queries.
 ghost use Rattle.std.specs.Prelude.{◌≡◌, ◌≤◌, ◌<◌, ◌^◌};
 ghost use Rattle.std.specs.Int.RustNames.{unsigned_abs};
+ghost use Rattle.bean_base.specs.declared.limits.TheConstants.{COUNT_BOUND, MOST_PLACES};
 ghost use Rattle.query_values.specs.WideCount.{is_wide};
 
 use bean_base::Num;
+use bean_base::limits::MOST_PLACES;
 
 /// `count * 10^-places`, with at most 32 places and a count of at most `2^127 - 1`, signs left off.
 #[derive(Clone, Copy, Debug, Drop, PartialEq, Eq)]
 pub struct Decimal {
     pub count: i128,
     pub places: u8,
-    ghost narrow: { places ≤ 32 },
-    ghost in_range: { unsigned_abs count < 2 ^ 127 },
+    ghost narrow: { places ≤ MOST_PLACES },
+    ghost in_range: { unsigned_abs count < COUNT_BOUND },
 }
 
 fn is_wide(count: i128, places: u8) -> bool
     ensures { result ≡ is_wide places count }
 {
-    places <= 32 && count != i128::MIN
+    places <= MOST_PLACES && count != i128::MIN
 }
 
 impl Decimal {

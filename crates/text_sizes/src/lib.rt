@@ -7,7 +7,7 @@
 //!
 //! # Small
 //!
-//! A name, a narration, a text of metadata has at most the 16 MiB of [`LARGEST_TEXT`]: it is read
+//! A name, a narration, a text of metadata has at most the 16 MiB of [`bean_base::limits::LARGEST_TEXT`]: it is read
 //! from a slice of its file, and no escape makes it longer. A currency has at most 24 bytes, by its
 //! form. The number of the line on which something stands is no more than the bytes before it and
 //! itself, and a transaction has no more postings, and no more tags and links, than its file has
@@ -24,9 +24,6 @@ ghost use Rattle.bean_parser.specs.Parsed.{IsParsed};
 ghost use Rattle.bean_parser.specs.declared.parse.Parsed.{Parsed};
 ghost use Rattle.text_sizes.specs.Part.{IsShort};
 ghost use Rattle.text_sizes.specs.Small.{IsSmallDirective};
-
-/// The most bytes of a text: 16 MiB.
-pub const LARGEST_TEXT: usize = 16_777_216;
 
 /// The directives of a text are small where it is no larger than a text may be.
 pub fn texts_say_what_is_small()

@@ -1,5 +1,6 @@
 use Rattle.std.proofs.Common.{◌<◌, ◌≤◌, ◌+◌, ap, length, subst, Err, ◌∙◌}
 use Rattle.std.specs.List.{flat_map}
+use Rattle.bean_base.specs.declared.limits.TheConstants.{MOST_POSTINGS}
 use Rattle.bean_booker.specs.Stand.{postings_of}
 use Rattle.bean_book.specs.Reported.{reported}
 use Rattle.bean_book.specs.Rows.{rows_of_pad}
@@ -18,9 +19,9 @@ returns-in-Err-count_rows c =
     too_many_found c.args.loaded.now c.in-Ok.booked c.in-Ok.ensures.booked
     c.in-Err-count_rows.fault
     (λ fault.
-    subst (λ ks. 1000000 < length (postings_of ks)
+    subst (λ ks. MOST_POSTINGS < length (postings_of ks)
     + length (flat_map rows_of_pad c.in-Ok.booked.pads)) c.as_slice.ensures
-    (subst (λ ps. 1000000 < length (postings_of c.as_slice.result.now)
+    (subst (λ ps. MOST_POSTINGS < length (postings_of c.as_slice.result.now)
     + length (flat_map rows_of_pad ps)) c.as_slice-2.ensures
     (c.in-Err-count_rows.ensures.full (ap Err fault))))
 
@@ -28,9 +29,9 @@ pub returns : goal.returns
 returns c =
     let b = c.in-Ok.booked in
     let few =
-    subst (λ ks. length (postings_of ks) + length (flat_map rows_of_pad b.pads) ≤ 1000000)
+    subst (λ ks. length (postings_of ks) + length (flat_map rows_of_pad b.pads) ≤ MOST_POSTINGS)
     c.as_slice.ensures
     (subst (λ ps. length (postings_of c.as_slice.result.now) + length (flat_map rows_of_pad ps)
-    ≤ 1000000) c.as_slice-2.ensures c.in-Ok-count_rows.ensures.few) in
+    ≤ MOST_POSTINGS) c.as_slice-2.ensures c.in-Ok-count_rows.ensures.few) in
     found c.args.loaded.now b c.in-Ok.ensures.booked few c.new.result
     (c.new.ensures ∙ c.in_ok-report.ensures ∙ ap reported c.into_vec-faults.ensures)

@@ -1,5 +1,6 @@
 use Rattle.std.proofs.Common.{◌≡◌, ◌≤◌, ◌+◌, length, take}
 use Rattle.std.specs.List.{flat_map}
+use Rattle.bean_base.specs.declared.limits.TheConstants.{MOST_POSTINGS}
 use Rattle.bean_book.specs.Rows.{rows_of_note}
 use Rattle.bean_book.proofs.counts.count_pad.Given as goal
 
@@ -7,5 +8,5 @@ abbrev pub invariant-loop-note : goal.invariant-loop-note
 invariant-loop-note l = record {
   sum : l.sum ≡ l.count
       + length (flat_map (rows_of_note l.noted.pad) (take l.note-index l.noted.notes));
-  few : l.sum ≤ 1000000;
+  few : l.sum ≤ MOST_POSTINGS;
 }

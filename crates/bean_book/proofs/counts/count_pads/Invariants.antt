@@ -1,10 +1,11 @@
 use Rattle.std.proofs.Common.{◌≡◌, ◌≤◌, ◌+◌, length, take}
 use Rattle.std.specs.List.{flat_map}
+use Rattle.bean_base.specs.declared.limits.TheConstants.{MOST_POSTINGS}
 use Rattle.bean_book.specs.Rows.{rows_of_pad}
 use Rattle.bean_book.proofs.counts.count_pads.Given as goal
 
 abbrev pub invariant-loop-pad : goal.invariant-loop-pad
 invariant-loop-pad l = record {
   sum : l.sum ≡ l.count + length (flat_map rows_of_pad (take l.pad-index l.pads));
-  few : l.sum ≤ 1000000;
+  few : l.sum ≤ MOST_POSTINGS;
 }

@@ -3,7 +3,7 @@ use Rattle.std.specs.List.{AllByRecursion}
 use Rattle.bean_sizes.specs.Booked.{IsSmallNoted}
 use Rattle.bean_load.specs.Small.{IsSmall}
 use Rattle.posting_table.specs.Decimals.{decimals_of}
-use Rattle.posting_table.specs.declared.ledger.TheConstants.{MOST_POSTINGS}
+use Rattle.bean_base.specs.declared.limits.TheConstants.{MOST_POSTINGS}
 use Rattle.bean_book.specs.Booked.{decimals_from, rows_of_all, written_in_all}
 use Rattle.bean_book.specs.Left.{bookings_left}
 use Rattle.bean_book.specs.Kept.{AreOf, IsTame}

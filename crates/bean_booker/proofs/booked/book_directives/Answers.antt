@@ -1,5 +1,6 @@
 use Rattle.std.proofs.Common.{◌≡◌, ◌≤◌, ℕ, List, reverse, ap, sym, ◌∙◌, subst}
 use Rattle.std.proofs.lemmas.Result.{IfOk-weaker}
+use Rattle.bean_base.specs.declared.limits.TheConstants.{MOST_POSTINGS}
 use Rattle.bean_trial.specs.Methods.{method_in}
 use Rattle.bean_booker.specs.Booked.{IsBooked, IsFinished, method_in_ledger}
 use Rattle.bean_booker.specs.Method as spec
@@ -19,6 +20,6 @@ returns-in-Ok-clause-booked c =
     (λ b finished. record {
       stand = led.0;
       leads = subst (λ ds. LeadsTo m (reverse ds) led.0) ds led.1;
-      few = subst (λ n. n ≤ 1000000) led.2.count c.in-Ok.ensures.room.few;
+      few = subst (λ n. n ≤ MOST_POSTINGS) led.2.count c.in-Ok.ensures.room.few;
       finished = finished;
     }) (c.finish.ensures.booked m (reverse c.directives-directives.result.now) led.0 led.2)

@@ -1,5 +1,5 @@
 use Rattle.std.proofs.Common.{◌≡◌, ◌++◌, drop, map}
-use Rattle.bql_parser.specs.Answer.{item_of}
+use Rattle.bql_parser.specs.View.{item_of}
 use Rattle.bql_plan.specs.Plan as rule
 use Rattle.bql_types.specs.Keys.{lent_trees}
 use Rattle.bql_plan.proofs.exprs.order.Given as goal

@@ -1,6 +1,6 @@
 use Rattle.std.proofs.Common.{◌≡◌, drop, map}
 use Rattle.theory.specs.Form.{steps}
-use Rattle.bql_parser.specs.Answer.{item_of}
+use Rattle.bql_parser.specs.View.{item_of}
 use Rattle.bql_plan.specs.Plan as rule
 use Rattle.bql_types.specs.Keys.{lent_trees}
 use Rattle.bql_plan.proofs.exprs.with_items.Given as goal

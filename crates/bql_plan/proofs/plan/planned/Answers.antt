@@ -4,7 +4,6 @@ use Rattle.bql_plan.specs.Kept as view
 use Rattle.bql_plan.specs.Planned as rule
 use Rattle.bql_plan.specs.Whole.{IsWholePlan}
 use Rattle.bql_plan.specs.declared.plan.Plan.{Plan}
-use Rattle.bql_types.specs.Standing.{standing}
 use Rattle.bql_types.specs.Typing.{IsTyped}
 use Rattle.bql_plan.proofs.WholeFacts.{plan_is_whole}
 use Rattle.bql_plan.proofs.plan.planned.Goals as goal
@@ -22,6 +21,6 @@ returns-clause-whole c =
       keys = c.in_ok-all_with_shapes-2.field-0;
       aggregates = c.in_ok-all_with_shapes-3.field-0;
     } in
-    let is : rule.planned b (standing q) ≡ view.plan_of p = search rules in
+    let is : rule.planned b q ≡ view.plan_of p = search rules in
     let typed : IsTyped b q = search rules in
     subst IsWholePlan is (plan_is_whole b q typed)

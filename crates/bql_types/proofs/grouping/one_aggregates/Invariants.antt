@@ -1,5 +1,5 @@
 use Rattle.std.proofs.Common.{◌≡◌, drop, map}
-use Rattle.bql_parser.specs.Answer.{target_of}
+use Rattle.bql_parser.specs.View.{target_of}
 use Rattle.bql_types.specs.Typing as rule
 use Rattle.bql_types.proofs.grouping.one_aggregates.Given as goal
 

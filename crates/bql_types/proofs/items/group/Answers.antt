@@ -1,4 +1,4 @@
-use Rattle.bql_parser.specs.Answer.{item_of}
+use Rattle.bql_parser.specs.View.{item_of}
 use Rattle.bql_types.specs.Typing.{group_item_causes}
 use Rattle.bql_types.proofs.ItemFacts.{one_less}
 use Rattle.bql_types.proofs.items.group.Goals as goal

@@ -1,6 +1,6 @@
 use Rattle.std.proofs.Common.{◌≡◌, List, drop, map}
-use Rattle.bql_parser.specs.Answer.{item_of}
-use Rattle.bql_parser.specs.Settled.{Target}
+use Rattle.bql_parser.specs.View.{item_of}
+use Rattle.bql_parser.specs.Asked.{Target}
 use Rattle.bql_types.specs.Cause.{told}
 use Rattle.bql_types.specs.Named.{AreSeen}
 use Rattle.bql_types.specs.Typing as rule

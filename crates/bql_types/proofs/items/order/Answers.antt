@@ -1,4 +1,4 @@
-use Rattle.bql_parser.specs.Answer.{item_of}
+use Rattle.bql_parser.specs.View.{item_of}
 use Rattle.bql_types.specs.Keys.{grouping_of}
 use Rattle.bql_types.specs.Typing.{order_item_causes}
 use Rattle.bql_types.proofs.ItemFacts.{one_less}

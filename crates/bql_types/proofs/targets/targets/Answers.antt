@@ -1,6 +1,6 @@
 use Rattle.std.proofs.Common.{ap, ◌∙◌, ◌++◌, ◌∷◌, [], true}
 use Rattle.std.specs.Option.{is_some}
-use Rattle.bql_parser.specs.Answer.{target_of}
+use Rattle.bql_parser.specs.View.{target_of}
 use Rattle.bql_tree.specs.Tree.{tree_of}
 use Rattle.bql_types.specs.Cause.{told, least_of}
 use Rattle.bql_types.specs.Keys.{grouping_of}

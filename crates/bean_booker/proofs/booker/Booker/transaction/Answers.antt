@@ -1,5 +1,6 @@
 use Rattle.std.proofs.Common.{◌+◌, ◌<◌, Ok, Err, length, subst}
 use Rattle.std.proofs.lemmas.Result.{on_ok_weaker}
+use Rattle.bean_base.specs.declared.limits.TheConstants.{MOST_POSTINGS}
 use Rattle.bean_trial.proofs.LightFacts.{kept_light}
 use Rattle.bean_trial.specs.Outcome.{StopsAt}
 use Rattle.bean_trial.specs.Tried.{Tries}
@@ -48,4 +49,4 @@ returns-in-Ok-clause-full c = λ is_full m past st is r tries.
     c.in-Ok.ensures.tried (setting_of m st d)
     (settled m past st d c.args.self.now c.place_of-at.result is c.place_of-at.ensures) in
     full_kept m past st d ps c.in-Ok.tried.posted r own tries
-    (subst (λ n. 1000000 < n + length c.in-Ok.tried.posted) is.count (c.keep.ensures.full is_full))
+    (subst (λ n. MOST_POSTINGS < n + length c.in-Ok.tried.posted) is.count (c.keep.ensures.full is_full))

@@ -1,25 +1,44 @@
-use Rattle.std.proofs.Common.{sym, subst, ap, ◌∙◌, ◌≡◌, All, true}
+use Rattle.std.proofs.Common.{sym, subst, ap, ◌∙◌, ◌≡◌, All, true, map}
+use Rattle.std.proofs.Common.{◌≤◌, ◌&&◌, length}
+use Rattle.std.proofs.lemmas.Bool.{le-leb}
 use Rattle.std.specs.List.{list_all}
-use Rattle.posting_table.specs.Fits.{fits, row_fits}
-use Rattle.posting_table.specs.Shaped.{IsShaped, widest}
-use Rattle.posting_table.proofs.FitFacts.{rows_are_within, rows_that_fit_lie}
+use Rattle.std.proofs.lemmas.List.Elements.{All-map}
+use Rattle.posting_table.specs.Rows.{row_of}
+use Rattle.posting_table.specs.Shaped.{IsShaped}
+use Rattle.posting_table.proofs.FitFacts.{fits_alike, row_fits, rows_are_within}
+use Rattle.posting_table.proofs.FitFacts.{rows_that_fit_lie}
+use Rattle.query_columns.specs.ColumnShape.{widest}
+use Rattle.query_rows.specs.Fits.{fits}
+use Rattle.query_rows.specs.Shaped as rows
 use Rattle.posting_table.proofs.ledger.Ledger.fits.Goals as goal
 
 pub returns-then-len-bounds-clause-widest : goal.returns-then-len-bounds-clause-widest
 returns-then-len-bounds-clause-widest c =
-    subst (λ l. fits widest l.rows ≡ true) c.self.view_is
+    subst (λ l. fits widest (map row_of l.rows) ≡ true) c.self.view_is
     (rows_are_within c.self.inside.rows.items c.self.invariant.0 c.self.invariant.1)
 
 pub returns-else-len-bounds-clause-widest : goal.returns-else-len-bounds-clause-widest
 returns-else-len-bounds-clause-widest c =
-    subst (λ l. fits widest l.rows ≡ true) c.self.view_is
+    subst (λ l. fits widest (map row_of l.rows) ≡ true) c.self.view_is
     (rows_are_within c.self.inside.rows.items c.self.invariant.0 c.self.invariant.1)
 
 pub returns-then-len-bounds-clause-shaped : goal.returns-then-len-bounds-clause-shaped
 returns-then-len-bounds-clause-shaped c fit =
     let test = row_fits c.args.bounds.now in
-    rows_that_fit_lie c.args.bounds.now c.args.self.now.rows
+    All-map (rows.IsShaped c.args.bounds.now) row_of c.args.self.now.rows
+    (rows_that_fit_lie c.args.bounds.now c.args.self.now.rows
     (subst (λ l. All (IsShaped widest) l.rows) c.self.view_is c.self.invariant.1)
     (sym (ap (λ l. list_all test l.rows) c.self.view_is)
     ∙ sym (ap (list_all test) c.deref.ensures.value)
-    ∙ sym c.all_fit.ensures ∙ fit)
+    ∙ sym c.all_fit.ensures ∙ fit))
+
+pub returns-then-len-bounds-clause-fits : goal.returns-then-len-bounds-clause-fits
+returns-then-len-bounds-clause-fits c =
+    let b = c.args.bounds.now in
+    let rs = c.args.self.now.rows in
+    let few : length rs ≤ b.postings =
+    subst (λ n. n ≤ b.postings) c.len.ensures.count c.if-len-bounds.true in
+    c.all_fit.ensures ∙ ap (list_all (row_fits b)) c.deref.ensures.value
+    ∙ ap (λ l. list_all (row_fits b) l.rows) c.self.view_is
+    ∙ sym (ap (λ is. is && list_all (row_fits b) rs) (le-leb (length rs) b.postings few))
+    ∙ sym (fits_alike b rs)

@@ -1,8 +1,9 @@
 use Rattle.std.proofs.Common.{arith, sym, subst, length, ◌<◌, ◌∷◌, []}
 use Rattle.std.proofs.lemmas.List.{length-append}
 use Rattle.std.proofs.lemmas.List.Elements.{All-push}
-use Rattle.posting_table.specs.Shaped.{IsShaped, widest}
-use Rattle.posting_table.specs.declared.ledger.TheConstants.{MOST_POSTINGS}
+use Rattle.bean_base.specs.declared.limits.TheConstants.{MOST_POSTINGS}
+use Rattle.posting_table.specs.Shaped.{IsShaped}
+use Rattle.query_columns.specs.ColumnShape.{widest}
 use Rattle.posting_table.proofs.FitFacts.{few_units}
 use Rattle.posting_table.proofs.ledger.Ledger.push.Goals as goal
 

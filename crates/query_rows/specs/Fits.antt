@@ -1,12 +1,15 @@
--- Whether a list of postings is within bounds: how many they are, and how wide their counts, signs
--- left off.
+-- Whether the rows of a ledger are within bounds: how many they are, and how wide their counts,
+-- signs left off.
 use Rattle.std.specs.Prelude.{ℕ, ◌*◌, ◌^◌, ◌&&◌, ℤ, Bool, true, nat_le, nat_lt, List, length}
 use Rattle.std.specs.Prelude.{Option, Some, None}
 use Rattle.std.specs.Int.RustNames.{unsigned_abs}
 use Rattle.std.specs.List.{list_all}
 use Rattle.bean_base.specs.declared.bounds.Bounds.{Bounds}
 use Rattle.bean_lots.specs.declared.lot.Lot.{Lot}
-use Rattle.posting_table.specs.declared.row.Row.{Row}
+use Rattle.query_columns.specs.declared.column.Column.TheVariants as column
+use Rattle.query_values.specs.declared.value.Value.{Value}
+use Rattle.query_values.specs.declared.value.Value.TheVariants.{Amount, Position}
+use Rattle.query_rows.specs.Row.{Row}
 
 -- a number of at most so many digits
 abbrev pub has_digits : ℕ → ℕ → Bool
@@ -19,12 +22,18 @@ lot_fits b (Some lot) n =
     has_digits b.units_digits (unsigned_abs lot.cost.count)
     && has_digits b.value_digits (unsigned_abs n * unsigned_abs lot.cost.count)
 
--- units with their cost, and the weight
+-- units with their cost
+abbrev pub position_fits : Bounds → Value → Bool
+position_fits b (Position key n) =
+    has_digits b.units_digits (unsigned_abs n) && lot_fits b key.lot n
+position_fits b x = true
+
+abbrev pub weight_fits : Bounds → Value → Bool
+weight_fits b (Amount places n currency) = has_digits b.value_digits (unsigned_abs n)
+weight_fits b x = true
+
 abbrev pub row_fits : Bounds → Row → Bool
-row_fits b r =
-    has_digits b.units_digits (unsigned_abs r.position.count)
-    && lot_fits b r.position.key.lot r.position.count
-    && has_digits b.value_digits (unsigned_abs r.weight.count)
+row_fits b r = position_fits b (r.cell column.Position) && weight_fits b (r.cell column.Weight)
 
 abbrev pub fits : Bounds → List Row → Bool
 fits b rows = nat_le (length rows) b.postings && list_all (row_fits b) rows

@@ -1,11 +1,10 @@
--- The SELECT that a JOURNAL or a BALANCES stands for. None of its parts stands in the text, so all
--- are at its first byte.
+-- The SELECT that a JOURNAL or a BALANCES stands for. What isn't written of it is at the query's
+-- first byte.
 use Rattle.std.specs.Prelude.{ℕ, false, List, [], ◌∷◌, ◌++◌, codes, Option, Some, None}
+use Rattle.bql_parser.specs.Asked.{Asked, Target, Item, ItemKind, target_item, tree_item}
 use Rattle.bql_parser.specs.Clause as clause
-use Rattle.bql_parser.specs.Clause.{selecting, journaling, balancing}
-use Rattle.bql_parser.specs.Settled.{Target, Item, target_item, Settled}
-use Rattle.bql_parser.specs.declared.query.Valuation.{Valuation}
-use Rattle.bql_parser.specs.declared.query.Valuation.TheVariants as valuation
+use Rattle.bql_parser.specs.declared.standing.Valuation.{Valuation}
+use Rattle.bql_parser.specs.declared.standing.Valuation.TheVariants as valuation
 use Rattle.query_columns.specs.Column.{name}
 use Rattle.bql_tree.specs.Tree.{leaf_of, one_of, call_of, Tree, node, no_trees, trees}
 use Rattle.query_columns.specs.declared.column.Column.{Column}
@@ -14,9 +13,6 @@ use Rattle.bql_tree.specs.declared.function.Function.{Function}
 use Rattle.bql_tree.specs.declared.function.Function.TheVariants as function
 use Rattle.bql_tree.specs.declared.tree.Leaf.TheVariants as leaf
 use Rattle.bql_tree.specs.declared.tree.Unary.TheVariants as unary
-
-abbrev pub Select : Type 0
-Select = clause.Select Target (Tree ℕ) Item
 
 abbrev pub of_column : Column → Tree ℕ
 of_column c = node 0 (leaf_of (leaf.Column c)) no_trees
@@ -42,6 +38,11 @@ matching None = None
 abbrev pub plain : Column → Target
 plain c = named (name c) (of_column c)
 
+abbrev pub item : ItemKind → Item
+item kind = record { place = 0; kind = kind }
+
+-- ---- JOURNAL
+
 abbrev pub journal_heads : List Target
 journal_heads = plain column.Date ∷ plain column.Flag ∷ plain column.Payee
     ∷ plain column.Narration ∷ plain column.Account ∷ []
@@ -55,39 +56,41 @@ abbrev pub unordered : clause.Order Item
 unordered = record { items = []; descending = false }
 
 -- SELECT date, flag, payee, narration, account, f(position) AS position, f(balance) AS balance
--- WHERE account ~ 'pattern'
-abbrev pub journal_select : clause.Journal Valuation (Tree ℕ) → Select
-journal_select j = record {
+-- FROM .. WHERE account ~ 'pattern'
+abbrev pub journal : Option (List ℕ) → Option Valuation → Option (Tree ℕ) → Asked
+journal pattern at from = record {
   distinct = false;
-  targets = journal_targets j.at;
-  filters = record { from = j.from; filter = matching j.pattern };
+  targets = journal_targets at;
+  filters = record { from = from; filter = matching pattern };
   group = None;
   order = unordered;
   limit = None;
 }
 
+-- ---- BALANCES
+
 abbrev pub balances_targets : Option Valuation → List Target
 balances_targets at = plain column.Account
     ∷ named (codes "balance") (applied function.Sum (valued at (of_column column.Position))) ∷ []
 
--- by the first target
-abbrev pub by_account : List Item
-by_account = record { place = 0; kind = target_item 0 } ∷ []
+-- the first target
+abbrev pub by_account : Item
+by_account = item (target_item 0)
 
--- SELECT account, SUM(f(position)) AS balance GROUP BY account, ordered by the root of the account
--- and then by the account
-abbrev pub balances_select : clause.Balances Valuation (Tree ℕ) → Select
-balances_select q = record {
+abbrev pub by_root : Item
+by_root = item (tree_item (applied function.RootRank (of_column column.Account)))
+
+abbrev pub by_root_and_account : clause.Order Item
+by_root_and_account = record { items = by_root ∷ by_account ∷ []; descending = false }
+
+-- SELECT account, SUM(f(position)) AS balance FROM .. WHERE ..
+-- GROUP BY account ORDER BY ROOT_RANK(account), account
+abbrev pub balances : Option Valuation → clause.Filters (Tree ℕ) → Asked
+balances at filters = record {
   distinct = false;
-  targets = balances_targets q.at;
-  filters = q.filters;
-  group = Some by_account;
-  order = unordered;
+  targets = balances_targets at;
+  filters = filters;
+  group = Some (by_account ∷ []);
+  order = by_root_and_account;
   limit = None;
 }
-
--- the SELECT that a query is or stands for
-abbrev pub standing : Settled → Select
-standing (selecting s) = s
-standing (journaling j) = journal_select j
-standing (balancing q) = balances_select q

@@ -1,19 +1,22 @@
-//! What isn't written of the SELECT that a JOURNAL or a BALANCES stands for.
+//! The SELECT that a JOURNAL or a BALANCES stands for.
 ghost use Rattle.std.specs.Prelude.{◌≡◌, ◌++◌, ◌∷◌, [], IfOk};
-ghost use Rattle.bql_parser.specs.Answer as answer;
-ghost use Rattle.bql_parser.specs.Answer.{query_of, select_of, target_of, targets_of, filter_of};
-ghost use Rattle.bql_plan.specs.Unwritten.{unwritten, nothing, no_filters};
-ghost use Rattle.bql_plan.specs.Unwritten.{unfiltered_journal, unfiltered_balances};
+ghost use Rattle.bql_parser.specs.Standing as rule;
+ghost use Rattle.bql_parser.specs.View as view;
+ghost use Rattle.bql_parser.specs.View.{targets_of, filter_of};
 ghost use Rattle.query_columns.specs.Column.{name};
 ghost use Rattle.bql_tree.specs.Tree.{tree_of};
-ghost use Rattle.bql_types.specs.Standing as rule;
 
+use crate::query::{Draft, Filters, Item, ItemKind, Order, Target};
 use bean_base::Slice;
-use bql_parser::{
-    Balances, Filters, Item, ItemKind, Journal, Order, Query, Select, Target, Valuation,
-};
 use bql_tree::{Column, Expr, Function, Leaf, Unary};
 use std::alloc::{AllocError, Global};
+
+/// What AT makes of positions.
+#[derive(Clone, Copy, Debug, Drop, PartialEq, Eq)]
+pub enum Valuation {
+    Units,
+    Cost,
+}
 
 fn of_column<'a>(alloc: Global, column: Column) -> Result<Box<Expr<'a>>, AllocError>
     ensures { IfOk result (λ e. tree_of e.value ≡ rule.of_column column) }
@@ -54,16 +57,15 @@ fn valued<'a>(
 /// The postings of accounts that match a pattern.
 fn matching<'a>(
     alloc: Global,
-    pattern: &Option<Slice<'a>>,
+    pattern: Option<Slice<'a>>,
 ) -> Result<Option<Box<Expr<'a>>>, AllocError>
-    ensures { IfOk result (λ e. filter_of e ≡ rule.matching pattern.now) }
+    ensures { IfOk result (λ e. filter_of e ≡ rule.matching pattern.entry) }
 {
     let Some(pattern) = pattern else {
         return Ok(None);
     };
     let account = of_column(alloc, Column::Account)?;
-    let matches = Unary::Matches(pattern.lend());
-    Ok(Some(Box::new(alloc, Expr::One(0, matches, account))?))
+    Ok(Some(Box::new(alloc, Expr::One(0, Unary::Matches(pattern), account))?))
 }
 
 /// One more target.
@@ -114,6 +116,31 @@ fn journal_targets<'a>(alloc: Global, at: Option<Valuation>) -> Result<Vec<Targe
     one_more(targets, "balance", valued(alloc, at, Column::Balance)?)
 }
 
+/// The SELECT that a JOURNAL stands for.
+pub fn journal<'a>(
+    alloc: Global,
+    pattern: Option<Slice<'a>>,
+    at: Option<Valuation>,
+    from: Option<Box<Expr<'a>>>,
+) -> Result<Draft<'a>, AllocError>
+    ensures { IfOk result (λ d. view.draft_of d
+        ≡ rule.journal pattern.entry at (filter_of from.entry)) }
+{
+    let targets = journal_targets(alloc, at)?;
+    let filter = matching(alloc, pattern)?;
+    Ok(Draft {
+        distinct: false,
+        targets,
+        filters: Filters { from, filter },
+        group: None,
+        order: Order {
+            items: Vec::new(alloc),
+            descending: false,
+        },
+        limit: None,
+    })
+}
+
 fn balances_targets<'a>(alloc: Global, at: Option<Valuation>) -> Result<Vec<Target<'a>>, AllocError>
     ensures { IfOk result (λ r. targets_of r ≡ rule.balances_targets at) }
 {
@@ -122,93 +149,56 @@ fn balances_targets<'a>(alloc: Global, at: Option<Valuation>) -> Result<Vec<Targ
     one_more(targets, "balance", applied(alloc, Function::Sum, position)?)
 }
 
-/// Rows as they come.
-fn unordered<'a>(alloc: Global) -> Order<'a>
-    ensures { answer.order_of result ≡ rule.unordered }
-{
-    Order {
-        items: Vec::new(alloc),
-        descending: false,
-    }
-}
-
-/// What a JOURNAL shows and looks for.
-fn journal<'a>(alloc: Global, journal: &Journal<'a>) -> Result<Select<'a>, AllocError>
-    ensures { IfOk result (λ s. select_of s
-        ≡ rule.journal_select (unfiltered_journal (answer.journal_of journal.now))) }
-{
-    let targets = journal_targets(alloc, journal.at)?;
-    let filter = matching(alloc, &journal.pattern)?;
-    Ok(Select {
-        distinct: false,
-        targets,
-        filters: Filters { from: None, filter },
-        group: None,
-        order: unordered(alloc),
-        limit: None,
-    })
-}
-
 /// The first target.
-fn by_account<'a>(alloc: Global) -> Result<Vec<Item<'a>>, AllocError>
-    ensures { IfOk result (λ r. answer.items_of r ≡ rule.by_account) }
+fn by_account<'a>() -> Item<'a>
+    ensures { view.item_of result ≡ rule.by_account }
 {
-    let mut items = Vec::new(alloc);
-    items.push(Item {
+    Item {
         place: 0,
         kind: ItemKind::Target(0),
-    })?;
-    Ok(items)
-}
-
-/// No filters.
-fn unfiltered<'a>() -> Filters<'a>
-    ensures { answer.filters_of result ≡ no_filters }
-{
-    Filters {
-        from: None,
-        filter: None,
     }
 }
 
-/// What a BALANCES shows, and what its rows are grouped by.
-fn balances<'a>(alloc: Global, balances: &Balances<'a>) -> Result<Select<'a>, AllocError>
-    ensures { IfOk result (λ s. select_of s
-        ≡ rule.balances_select (unfiltered_balances (answer.balances_of balances.now))) }
+/// The place of the account's root among the roots.
+fn by_root<'a>(alloc: Global) -> Result<Item<'a>, AllocError>
+    ensures { IfOk result (λ r. view.item_of r ≡ rule.by_root) }
 {
-    let targets = balances_targets(alloc, balances.at)?;
-    let group = by_account(alloc)?;
-    Ok(Select {
-        distinct: false,
-        targets,
-        filters: unfiltered(),
-        group: Some(group),
-        order: unordered(alloc),
-        limit: None,
+    let account = of_column(alloc, Column::Account)?;
+    Ok(Item {
+        place: 0,
+        kind: ItemKind::Expr(applied(alloc, Function::RootRank, account)?),
     })
 }
 
-/// Nothing.
-fn nothing<'a>(alloc: Global) -> Select<'a>
-    ensures { select_of result ≡ nothing }
+fn by_root_and_account<'a>(alloc: Global) -> Result<Order<'a>, AllocError>
+    ensures { IfOk result (λ r. view.order_of r ≡ rule.by_root_and_account) }
 {
-    Select {
-        distinct: false,
-        targets: Vec::new(alloc),
-        filters: unfiltered(),
-        group: None,
-        order: unordered(alloc),
-        limit: None,
-    }
+    let mut items = Vec::new(alloc);
+    items.push(by_root(alloc)?)?;
+    items.push(by_account())?;
+    Ok(Order {
+        items,
+        descending: false,
+    })
 }
 
-/// What isn't written of the SELECT that a query stands for, and so has to be made.
-pub fn unwritten<'a>(alloc: Global, query: &Query<'a>) -> Result<Select<'a>, AllocError>
-    ensures { IfOk result (λ s. select_of s ≡ unwritten (query_of query.now)) }
+/// The SELECT that a BALANCES stands for.
+pub fn balances<'a>(
+    alloc: Global,
+    at: Option<Valuation>,
+    filters: Filters<'a>,
+) -> Result<Draft<'a>, AllocError>
+    ensures { IfOk result (λ d. view.draft_of d ≡ rule.balances at (view.filters_of filters.entry)) }
 {
-    match query {
-        Query::Select(_) => Ok(nothing(alloc)),
-        Query::Journal(read) => journal(alloc, read),
-        Query::Balances(read) => balances(alloc, read),
-    }
+    let targets = balances_targets(alloc, at)?;
+    let mut group = Vec::new(alloc);
+    group.push(by_account())?;
+    Ok(Draft {
+        distinct: false,
+        targets,
+        filters,
+        group: Some(group),
+        order: by_root_and_account(alloc)?,
+        limit: None,
+    })
 }

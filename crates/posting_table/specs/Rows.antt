@@ -1,0 +1,23 @@
+-- The rows of a ledger, as queries see them.
+use Rattle.std.specs.Prelude.{List, map}
+use Rattle.query_rows.specs.Row as rows
+use Rattle.posting_table.specs.Ledger.{Ledger}
+use Rattle.posting_table.specs.Row.{cell_at}
+use Rattle.posting_table.specs.declared.metadata.MetaItem.{MetaItem}
+use Rattle.posting_table.specs.declared.row.Row.{Row}
+
+abbrev pub entry_of : MetaItem → rows.Entry
+entry_of m = record { key = m.key; text = m.text }
+
+abbrev pub entries_of : List MetaItem → List rows.Entry
+entries_of items = map entry_of items
+
+abbrev pub row_of : Row → rows.Row
+row_of r = record {
+  cell = cell_at r;
+  posting_entries = entries_of r.metadata;
+  transaction_entries = entries_of r.entry.metadata;
+}
+
+abbrev pub rows_of : Ledger → List rows.Row
+rows_of l = map row_of l.rows
