@@ -1,0 +1,6 @@
+pub mod Sections
+pub mod StateShape
+pub mod Places
+pub mod Ends
+pub mod Program
+pub mod Laws
