@@ -6,7 +6,7 @@ use Rattle.std.specs.Prelude.{⊤, slice_get, option_map, option_and_then, nat_e
 use Rattle.std.specs.List.{AllByRecursion, list_all}
 use Rattle.std.proofs.lemmas.Bool.{and_parts, and_from, ltb-true, lt-ltb}
 use Rattle.std.proofs.lemmas.Option.{slice_get_within}
-use Rattle.bean_base.specs.declared.limits.TheConstants.{SLOTS}
+use Rattle.bean_base.specs.declared.limits.TheConstants.{COUNT_BOUND, MOST_PLACES, SLOTS}
 use Rattle.query_values.specs.Unary as operation
 use Rattle.query_values.specs.declared.operation.Binary.{Binary}
 use Rattle.query_values.specs.declared.operation.Binary.TheVariants as binary
@@ -211,7 +211,7 @@ module _ (pool : List Constant) (l : Loads) where
 -- ---- the greatest below a shape that can be held
 
 abbrev most : ℕ
-most = 2 ^ 127 - 1
+most = COUNT_BOUND - 1
 
 abbrev capped : Shape → Shape
 capped (shape.Number p m) = shape.Number p (min m most)
@@ -235,10 +235,10 @@ abbrev UnderCap : Shape → Shape → Type 0
 UnderCap s t = IsHeld s → IsBelow s (capped t) × IsHeld (capped t)
 
 cap_most : (n : ℕ) → is_most (min n most) ≡ true
-cap_most n = lt-ltb (min n most) (2 ^ 127) (omega arith)
+cap_most n = lt-ltb (min n most) COUNT_BOUND (omega arith)
 
 few : (m n : ℕ) → m ≤ n → is_most m ≡ true → m ≤ min n most
-few m n h e = let small = ltb-true m (2 ^ 127) e in omega (arith, h, small)
+few m n h e = let small = ltb-true m COUNT_BOUND e in omega (arith, h, small)
 
 under_cap : (s t : Shape) → IsBelow s t → UnderCap s t
 under_cap = below_cases UnderCap (record {
@@ -246,19 +246,19 @@ under_cap = below_cases UnderCap (record {
   text = λ e. (tt, refl);
   day = λ e. (tt, refl);
   set = λ e. (tt, refl);
-  number = λ p m n h e. let both = and_parts (leb p 32) (is_most m) e in
-      ((refl, few m n h both.1), and_from (leb p 32) (is_most (min n most)) both.0 (cap_most n));
-  amount = λ p m n h e. let both = and_parts (leb p 32) (is_most m) e in
-      ((refl, few m n h both.1), and_from (leb p 32) (is_most (min n most)) both.0 (cap_most n));
+  number = λ p m n h e. let both = and_parts (leb p MOST_PLACES) (is_most m) e in
+      ((refl, few m n h both.1), and_from (leb p MOST_PLACES) (is_most (min n most)) both.0 (cap_most n));
+  amount = λ p m n h e. let both = and_parts (leb p MOST_PLACES) (is_most m) e in
+      ((refl, few m n h both.1), and_from (leb p MOST_PLACES) (is_most (min n most)) both.0 (cap_most n));
   position = λ u v w z h g e. let both = and_parts (is_most u) (is_most v) e in (
     (few u w h both.0, few v z g both.1),
     and_from (is_most (min w most)) (is_most (min z most)) (cap_most w) (cap_most z),
   );
   inventory = λ p u v w z h g e.
-      let all = and_parts (leb p 32) (is_most u && is_most v) e in
+      let all = and_parts (leb p MOST_PLACES) (is_most u && is_most v) e in
       let both = and_parts (is_most u) (is_most v) all.1 in (
         (refl, few u w h both.0, few v z g both.1),
-        and_from (leb p 32) (is_most (min w most) && is_most (min z most)) all.0
+        and_from (leb p MOST_PLACES) (is_most (min w most) && is_most (min z most)) all.0
             (and_from (is_most (min w most)) (is_most (min z most)) (cap_most w) (cap_most z)),
       );
 })
