@@ -13,3 +13,4 @@ pub mod QueryBoundFacts
 mod Worked
 mod ValueExamples
 mod Examples
+pub mod PlannedFacts

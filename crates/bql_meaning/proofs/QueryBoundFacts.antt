@@ -101,7 +101,7 @@ module _ (b c : Bounds) where
       → IsOrder c ts kind → (rows : List Reading)
       → kind_value b ts rows kind ≡ kind_value c ts rows kind
   same_kind ts all (target_item index) h k rows = same_target ts all index rows
-  same_kind ts all (tree_item t) h k rows = shaped t (h.0, h.1.0) (k.0, k.1.0) rows
+  same_kind ts all (tree_item t) h k rows = shaped t (h.0, h.1) (k.0, k.1) rows
 
   same_items : (ts : List Target) → HaveOneTarget ts → (is : List Item)
       → AllByRecursion (λ (i : Item). IsOrder b ts i.kind) is

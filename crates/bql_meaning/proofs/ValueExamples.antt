@@ -21,7 +21,7 @@ use Rattle.query_columns.specs.declared.column.Column.TheVariants as column
 use Rattle.query_values.specs.declared.value.Value.{Value}
 use Rattle.query_values.specs.declared.value.Value.TheVariants.{Null, Truth, Number, Text, Amount}
 use Rattle.query_values.specs.declared.value.Value.TheVariants.{Inventory}
-use Rattle.query_rows.specs.Row.{Row}
+use Rattle.query_rows.specs.Row.{Entry, Row}
 use Rattle.bql_meaning.specs.Meaning.{value_of}
 use Rattle.bql_meaning.specs.Reading.{Reading}
 use Rattle.bql_meaning.proofs.Worked.{units, minus, usd, at_100, at_110, inv, cash, posting}
@@ -199,12 +199,15 @@ day_of = refl
 -- ---- metadata
 
 -- the posting has a: 1, the transaction a: 2 and b: 3
+abbrev item : List ℕ → List ℕ → Entry
+item key text = record { key = key; text = Some text }
+
 abbrev with_entries : Reading
 with_entries = record {
   row = record {
-    cells = [];
-    posting_entries = (codes "a", Some (codes "1")) ∷ [];
-    transaction_entries = (codes "a", Some (codes "2")) ∷ (codes "b", Some (codes "3")) ∷ [];
+    cell = λ c. Null;
+    posting_entries = item (codes "a") (codes "1") ∷ [];
+    transaction_entries = item (codes "a") (codes "2") ∷ item (codes "b") (codes "3") ∷ [];
   };
   balance = Null;
 }

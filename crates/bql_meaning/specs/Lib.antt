@@ -6,3 +6,4 @@ pub mod Keys
 pub mod Alignment
 pub mod Shaped
 pub mod Laws
+pub mod Planned

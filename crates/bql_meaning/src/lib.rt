@@ -30,6 +30,7 @@ ghost use Rattle.bql_meaning.specs.Keys.{ReadAtTheFirst};
 ghost use Rattle.bql_meaning.specs.Laws.{AnswersAreOne, AnswersAreThere, BoundsChangeNoRows};
 ghost use Rattle.bql_meaning.specs.Laws.{BoundsChangeNothing, QueriesHaveShortTexts};
 ghost use Rattle.bql_meaning.specs.Laws.{SameAreBare, SameHaveOneValue};
+ghost use Rattle.bql_meaning.specs.Planned.{PlansRankAsAsked};
 ghost use Rattle.bql_meaning.specs.Shaped.{PassingAreRead, ValuesLieInTheirShapes};
 
 /// A query has one answer over each list of rows.
@@ -80,4 +81,10 @@ pub fn bounds_change_nothing()
 /// shapes holds of all expressions of a query.
 pub fn queries_have_short_texts()
     ensures { QueriesHaveShortTexts }
+{}
+
+/// The values of what a plan shows and hides, at the indices by which it orders rows, are those of
+/// the targets and of the items of its query.
+pub fn plans_rank_as_asked()
+    ensures { PlansRankAsAsked }
 {}
