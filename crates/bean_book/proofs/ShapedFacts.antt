@@ -39,7 +39,8 @@ use Rattle.bean_trial.specs.Tried.{booked_leg, whole_at, worth_of}
 use Rattle.bean_trial.specs.declared.line.Posted.{Posted}
 use Rattle.number_texts.proofs.LengthFacts.{length-day, short_number}
 use Rattle.posting_table.specs.Parts.{HasShortTexts, HasSmallParts, IsShortLot, IsShortSet}
-use Rattle.posting_table.specs.Shaped.{AreShort, IsShortIfThere}
+use Rattle.posting_table.specs.Shaped.{AreShort}
+use Rattle.query_rows.specs.Shaped.{IsShortIfThere}
 use Rattle.posting_table.specs.declared.entry.Entry.{Entry}
 use Rattle.query_shapes.specs.Mass.{value_of}
 use Rattle.query_values.specs.TextSet.{set_of}

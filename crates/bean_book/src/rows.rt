@@ -8,7 +8,8 @@ ghost use Rattle.bean_sizes.specs.Booked.{IsSmallPosted};
 ghost use Rattle.text_sizes.specs.Part.{IsSmallPosting, most};
 ghost use Rattle.text_sizes.specs.Small.{IsSmallDirective};
 ghost use Rattle.bean_trial.specs.Tried.{booked_leg, booked_legs, whole_at};
-ghost use Rattle.posting_table.specs.Shaped.{IsShaped, widest};
+ghost use Rattle.posting_table.specs.Shaped.{IsShaped};
+ghost use Rattle.query_columns.specs.ColumnShape.{widest};
 ghost use Rattle.bean_book.specs.Rows as spec;
 ghost use Rattle.posting_table.specs.Parts.{HasShortTexts};
 

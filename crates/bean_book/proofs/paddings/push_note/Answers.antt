@@ -1,7 +1,8 @@
 use Rattle.std.proofs.Common.{◌≡◌, ◌++◌, ◌∷◌, [], ap, append_assoc, arith, length, length-append}
 use Rattle.std.proofs.Common.{neg_ℤ, subst, sym, ◌∙◌}
 use Rattle.std.proofs.lemmas.Result.{on_ok_weaker}
-use Rattle.posting_table.specs.Shaped.{IsShaped, widest}
+use Rattle.posting_table.specs.Shaped.{IsShaped}
+use Rattle.query_columns.specs.ColumnShape.{widest}
 use Rattle.posting_table.proofs.PartFacts.{row_lies}
 use Rattle.bean_book.specs.Rows.{padding_row, rows_by}
 use Rattle.bean_book.proofs.PaddingFacts.{same, turned, unsigned_abs-neg}

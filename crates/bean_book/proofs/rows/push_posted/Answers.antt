@@ -11,7 +11,8 @@ use Rattle.bean_sizes.proofs.PlaceFacts.{found_at}
 use Rattle.bean_sizes.specs.Booked.{IsSmallPosted}
 use Rattle.bean_trial.specs.Tried.{booked_leg, booked_legs}
 use Rattle.bean_trial.specs.declared.line.Posted.{Posted}
-use Rattle.posting_table.specs.Shaped.{IsShaped, widest}
+use Rattle.posting_table.specs.Shaped.{IsShaped}
+use Rattle.query_columns.specs.ColumnShape.{widest}
 use Rattle.posting_table.proofs.PartFacts.{row_lies}
 use Rattle.bean_book.specs.Rows.{items_in, row_of}
 use Rattle.bean_book.proofs.ShapedFacts.{row_small}
