@@ -71,10 +71,7 @@ fn journal<'a>(alloc: Global, read: JournalRead<'a>) -> Result<Result<Draft<'a>,
 {
     let pattern = read.pattern;
     match both(at(read.at), filter(read.from)) {
-        Ok((at, from)) => {
-            let draft = standing::journal(alloc, pattern, at, from)?;
-            Ok(Ok(draft))
-        }
+        Ok((at, from)) => Ok(Ok(standing::journal(alloc, pattern, at, from)?)),
         Err(cause) => Ok(Err(cause)),
     }
 }
@@ -86,10 +83,7 @@ fn balances<'a>(
     ensures { IfOk result (λ r. mapped draft_of r ≡ rule.balances (views.balances_of read.entry)) }
 {
     match both(at(read.at), filters(read.filters)) {
-        Ok((at, filters)) => {
-            let draft = standing::balances(alloc, at, filters)?;
-            Ok(Ok(draft))
-        }
+        Ok((at, filters)) => Ok(Ok(standing::balances(alloc, at, filters)?)),
         Err(cause) => Ok(Err(cause)),
     }
 }

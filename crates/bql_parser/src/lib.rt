@@ -8,11 +8,10 @@
 //! parse_query(alloc, "SELECT account WHERE")     // QueryFault::Syntax(20)
 //! ```
 //!
-//! A query is a SELECT, a JOURNAL or a BALANCES, with at most one `;` behind it. Of a JOURNAL and a
-//! BALANCES the SELECT is given that they stand for. A target's name is
-//! what follows AS, or else its own text. An item of GROUP BY or ORDER BY that is a target's name,
-//! or a bare whole number from 1, is that target ([`ItemKind::Target`]); all names are the same in
-//! small and in capital letters.
+//! A query is a SELECT, a JOURNAL or a BALANCES, with at most one `;` behind it; of the latter two
+//! the SELECT is given that they stand for. A target's name is what follows AS, or else its own
+//! text. An item of GROUP BY or ORDER BY that is a target's name, or a bare whole number from 1, is
+//! that target ([`ItemKind::Target`]); all names are the same in small and in capital letters.
 //!
 //! # Faults
 //!

@@ -87,10 +87,7 @@ pub fn parse_query<'a>(alloc: Global, text: &'a str) -> Result<Query<'a>, QueryF
 {
     let found = tokens(alloc, text)?;
     match query(alloc, text, found.as_slice()) {
-        Ok(read) => {
-            let draft = settled(alloc, read)?;
-            answered(text, draft)
-        }
+        Ok(read) => answered(text, settled(alloc, read)?),
         Err(Stuck::OutOfMemory) => Err(QueryFault::OutOfMemory),
         Err(Stuck::At { left, is_deep }) => { Err(fault_at(text, found.as_slice(), left, is_deep)) }
     }

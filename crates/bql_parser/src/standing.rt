@@ -97,21 +97,14 @@ fn one_column<'a>(
     one_more(targets, column.name(), of_column(alloc, column)?)
 }
 
-/// The targets of JOURNAL that have no amounts.
-fn heads<'a>(alloc: Global) -> Result<Vec<Target<'a>>, AllocError>
-    ensures { IfOk result (λ r. targets_of r ≡ rule.journal_heads) }
+fn journal_targets<'a>(alloc: Global, at: Option<Valuation>) -> Result<Vec<Target<'a>>, AllocError>
+    ensures { IfOk result (λ r. targets_of r ≡ rule.journal_targets at) }
 {
     let targets = one_column(alloc, Vec::new(alloc), Column::Date)?;
     let targets = one_column(alloc, targets, Column::Flag)?;
     let targets = one_column(alloc, targets, Column::Payee)?;
     let targets = one_column(alloc, targets, Column::Narration)?;
-    one_column(alloc, targets, Column::Account)
-}
-
-fn journal_targets<'a>(alloc: Global, at: Option<Valuation>) -> Result<Vec<Target<'a>>, AllocError>
-    ensures { IfOk result (λ r. targets_of r ≡ rule.journal_targets at) }
-{
-    let targets = heads(alloc)?;
+    let targets = one_column(alloc, targets, Column::Account)?;
     let targets = one_more(targets, "position", valued(alloc, at, Column::Position)?)?;
     one_more(targets, "balance", valued(alloc, at, Column::Balance)?)
 }
@@ -149,33 +142,21 @@ fn balances_targets<'a>(alloc: Global, at: Option<Valuation>) -> Result<Vec<Targ
     one_more(targets, "balance", applied(alloc, Function::Sum, position)?)
 }
 
-/// The first target.
-fn by_account<'a>() -> Item<'a>
-    ensures { view.item_of result ≡ rule.by_account }
+/// What rows are grouped or ordered by, at the query's first byte.
+fn item<'a>(kind: ItemKind<'a>) -> Item<'a>
+    ensures { view.item_of result ≡ rule.item (view.kind_of kind.entry) }
 {
-    Item {
-        place: 0,
-        kind: ItemKind::Target(0),
-    }
-}
-
-/// The place of the account's root among the roots.
-fn by_root<'a>(alloc: Global) -> Result<Item<'a>, AllocError>
-    ensures { IfOk result (λ r. view.item_of r ≡ rule.by_root) }
-{
-    let account = of_column(alloc, Column::Account)?;
-    Ok(Item {
-        place: 0,
-        kind: ItemKind::Expr(applied(alloc, Function::RootRank, account)?),
-    })
+    Item { place: 0, kind }
 }
 
 fn by_root_and_account<'a>(alloc: Global) -> Result<Order<'a>, AllocError>
     ensures { IfOk result (λ r. view.order_of r ≡ rule.by_root_and_account) }
 {
+    let account = of_column(alloc, Column::Account)?;
+    let rank = applied(alloc, Function::RootRank, account)?;
     let mut items = Vec::new(alloc);
-    items.push(by_root(alloc)?)?;
-    items.push(by_account())?;
+    items.push(item(ItemKind::Expr(rank)))?;
+    items.push(item(ItemKind::Target(0)))?;
     Ok(Order {
         items,
         descending: false,
@@ -192,7 +173,7 @@ pub fn balances<'a>(
 {
     let targets = balances_targets(alloc, at)?;
     let mut group = Vec::new(alloc);
-    group.push(by_account())?;
+    group.push(item(ItemKind::Target(0)))?;
     Ok(Draft {
         distinct: false,
         targets,

@@ -13,7 +13,7 @@
 //! # What is taken for granted
 //!
 //! That the bounds are some that a query may have: at most 1,000,000 postings, 20 digits of units
-//! and 28 of values. Nothing of the query: also one that no text is, made by hand, is answered.
+//! and 28 of values. Nothing of the query.
 //!
 //! # Faults
 //!

@@ -125,10 +125,7 @@ fn plans_of_what_is_not_written(rt: HostRuntime) -> Result<(), Fail> {
             "BALANCES AT units WHERE account ~ 'a'",
             "where T(X); shown X I(A(P)) N(X); keys X; aggregates I(A(P))",
         ),
-        (
-            "BALANCES",
-            "; shown X I(P) N(X); keys X; aggregates I(P)",
-        ),
+        ("BALANCES", "; shown X I(P) N(X); keys X; aggregates I(P)"),
     ];
     for (text, words) in wanted {
         let found = told(rt.alloc(), text, false);

@@ -11,16 +11,16 @@ use Rattle.bql_parser.proofs.parse.parse_query.Goals as goal
 pub answered-requires : goal.answered-requires
 answered-requires c =
     small_settled c.args.text.now c.as_slice.result.now (read_of c.in-Ok.read)
-    (mapped draft_of c.in_ok-draft-in-Ok.draft)
+    (mapped draft_of c.in_ok-settled-in-Ok.field-0)
     (subst (AreTokens c.args.text.now) (sym c.as_slice.ensures.value) c.in_ok-found.ensures)
-    c.in-Ok.ensures.read c.in_ok-draft-in-Ok.ensures
+    c.in-Ok.ensures.read c.in_ok-settled-in-Ok.ensures
 
 pub returns-in-Ok : goal.returns-in-Ok
 returns-in-Ok c =
     parsed c.args.text.now c.as_slice.result.now (read_of c.in-Ok.read)
-    (mapped draft_of c.in_ok-draft-in-Ok.draft) c.answered.result
+    (mapped draft_of c.in_ok-settled-in-Ok.field-0) c.answered.result
     (subst (AreTokens c.args.text.now) (sym c.as_slice.ensures.value) c.in_ok-found.ensures)
-    c.in-Ok.ensures c.in_ok-draft-in-Ok.ensures c.answered.ensures
+    c.in-Ok.ensures c.in_ok-settled-in-Ok.ensures c.answered.ensures
 
 pub returns : goal.returns
 returns c =
