@@ -81,7 +81,7 @@ inside_before ends room n ts us e is faces =
 
 -- Behind what was read.
 
-ended_others : (last : Last) (os : List Open) (ts : List Token) → HasEnded last ts
+pub ended_others : (last : Last) (os : List Open) (ts : List Token) → HasEnded last ts
     → still_open last (begins (of_kind kind.OpenParenthesis) ts) os ≡ enclosing os
 ended_others Wants os ts h = absurd h
 ended_others Names os ts h = ap (λ b. still_open Names b os) h
