@@ -112,29 +112,37 @@ at_seam [] [] t some e = absurd (omega (arith, some))
 at_seam [] (u ∷ us) t some e = (us, ap (λ v. v ∷ us) (sym (e u)))
 at_seam (b ∷ before) us t some e = at_seam before us t some e
 
+met_at : (ts passed rest : List Token) (t : Token) (deep : Bool) → ts ≡ passed ++ rest
+    → deep ≡ is_full (through (wanting []) passed) rest
+    → (behind : List Token) × (rest ≡ t ∷ behind) → Met ts t deep
+met_at ts passed rest t deep cut full b = record {
+  before = passed;
+  behind = b.0;
+  cut = cut ∙ ap (λ us. passed ++ us) b.1;
+  deep_there = full ∙ ap (is_full (through (wanting []) passed)) b.1
+      ∙ same_depth (through (wanting []) passed) t b.0 [];
+}
+
 pub met : (ts : List Token) (left : ℕ) (deep : Bool) (i : ℕ) (t : Token)
     → nesting.Stops (wanting []) ts left deep → i ≡ length ts - left → i < length ts
     → ((d : Token) → t ≡ get_or ts i d) → Met ts t deep
 met ts left deep i t s at inside found =
     let long = ap length s.cut ∙ length-append s.passed s.rest in
     let here : i ≡ length s.passed = omega (arith, at, long, s.are_left) in
-    let p = through (wanting []) s.passed in
-    let b = at_seam s.passed s.rest t (omega (arith, long, here, inside))
-        (λ d. found d ∙ ap (λ us. get_or us i d) s.cut
-        ∙ ap (λ n. get_or (s.passed ++ s.rest) n d) here) in
-    record {
-      before = s.passed;
-      behind = b.0;
-      cut = s.cut ∙ ap (λ us. s.passed ++ us) b.1;
-      deep_there = s.full ∙ ap (is_full p) b.1 ∙ same_depth p t b.0 [];
-    }
+    met_at ts s.passed s.rest t deep s.cut s.full
+    (at_seam s.passed s.rest t (omega (arith, long, here, inside))
+    (λ d. found d ∙ ap (λ us. get_or us i d) s.cut
+    ∙ ap (λ n. get_or (s.passed ++ s.rest) n d) here))
 
 pub meets : (ts : List Token) (t : Token) (deep is : Bool) → Met ts t deep
     → ((before : List Token) → deep ≡ is_deep before t → is ≡ is_left before t)
     → Meets ts t.start is_left is
-meets ts t deep is m h =
-    (m.before, t, record { behind = m.behind; cut = m.cut; starts = refl },
-      sym (h m.before m.deep_there))
+meets ts t deep is m h = (
+  m.before,
+  t,
+  record { behind = m.behind; cut = m.cut; starts = refl },
+  sym (h m.before m.deep_there),
+)
 
 -- Texts outside the grammar.
 stopped : (text : List ℕ) (ts : List Token) (e : QueryFault) → AreTokens text ts
