@@ -1,12 +1,12 @@
 -- Where readers of expressions stop.
-use Rattle.std.proofs.Common.{◌≡◌, ℕ, zero, suc, ◌+◌, ◌-◌, ◌<◌, Bool, true, false, List, [], ◌∷◌}
+use Rattle.std.proofs.Common.{◌≡◌, ℕ, suc, ◌+◌, ◌-◌, Bool, true, false, List, [], ◌∷◌}
 use Rattle.std.proofs.Common.{Option, Some, None, is_some, refl, sym, ap, ◌∙◌, subst, inl, inr, length, arith}
 use Rattle.std.specs.Prelude.{◌==◌, Result, Ok, Err, IfErr}
 use Rattle.theory.specs.Form.{Form, Reads, snoc}
 use Rattle.theory.proofs.RowFacts.{InRow}
 use Rattle.bql_lexer.specs.declared.kind.Kind.TheVariants as kind
 use Rattle.bql_lexer.specs.declared.token.Token.{Token}
-use Rattle.bql_grammar.specs.Expression.{sum_of, unary, operand, chain_at, behind_comma, or_of}
+use Rattle.bql_grammar.specs.Expression.{operand, chain_at, behind_comma, or_of}
 use Rattle.bql_grammar.specs.Expression.{arguments_of, arguments, negation, literals}
 use Rattle.bql_grammar.specs.Front as fronts
 use Rattle.bql_grammar.specs.Front.{front, begins, of_kind, and_behind, begins_with_list}
@@ -23,8 +23,8 @@ use Rattle.bql_tree.specs.declared.level.Level.TheVariants as level
 use Rattle.bql_tree.specs.declared.tree.Binary.{Binary}
 use Rattle.bql_grammar.proofs.ExpressionFacts.{links, another, joined, rows}
 use Rattle.bql_grammar.proofs.FormFacts.{present, absent}
-use Rattle.bql_grammar.proofs.StandingFacts.{Leads, leads_here, leads_on, leads_kind, leads_operator}
-use Rattle.bql_grammar.proofs.StandingFacts.{leads_comparison, leads_sign, leads_literal, stops_on}
+use Rattle.bql_grammar.proofs.StandingFacts.{Leads, leads_on, leads_kind, leads_operator}
+use Rattle.bql_grammar.proofs.StandingFacts.{leads_comparison, leads_sign, stops_on}
 use Rattle.bql_grammar.proofs.StandingFacts.{stops_here, both_once, signs_once, no_signs_either}
 use Rattle.bql_grammar.proofs.PassingFacts.{Passes, Passing, Behind, HasEnded, is_whole, bound_once}
 use Rattle.bql_grammar.proofs.PassingFacts.{links_pass, rows_pass, any_operand, any_chain}

@@ -1,11 +1,11 @@
 -- What is read of an expression leaves open what was open before it.
-use Rattle.std.proofs.Common.{◌≡◌, ℕ, zero, suc, ◌+◌, ◌-◌, ◌<◌, Bool, true, false, List, [], ◌∷◌}
-use Rattle.std.proofs.Common.{Some, None, refl, sym, ap, ◌∙◌, subst, inl, inr, ◌⊎◌}
-use Rattle.theory.specs.Form.{Form, made, row, chain, ItemsRead, ◌<+>◌, pair, alone, snoc, ending}
+use Rattle.std.proofs.Common.{◌≡◌, ℕ, zero, suc, Bool, false, List, [], ◌∷◌}
+use Rattle.std.proofs.Common.{Some, refl, sym, ap, ◌∙◌, subst, inl, inr}
+use Rattle.theory.specs.Form.{Form, made, row, ItemsRead, ◌<+>◌, pair, alone, snoc}
 use Rattle.bql_lexer.specs.declared.kind.Kind.TheVariants as kind
 use Rattle.bql_lexer.specs.declared.token.Token.{Token}
-use Rattle.bql_grammar.specs.Expression.{told, token, then, choice, nothing, chained, behind_comma}
-use Rattle.bql_grammar.specs.Expression.{list_of, literal, literals, list_behind, with_room, list}
+use Rattle.bql_grammar.specs.Expression.{told, choice, nothing, chained, behind_comma}
+use Rattle.bql_grammar.specs.Expression.{list_of, literal, literals, list_behind, list}
 use Rattle.bql_grammar.specs.Expression.{sum_of, compared, matched, contained, compared_if_due}
 use Rattle.bql_grammar.specs.Expression.{comparison_of, denied_of, signed_of, or_of, group_of}
 use Rattle.bql_grammar.specs.Expression.{arguments_of, counted, inside_call, call_of, name, atom_of}

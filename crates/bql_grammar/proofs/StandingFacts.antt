@@ -1,10 +1,10 @@
 -- What tokens do to what is open, one behind the other.
 use Rattle.std.proofs.Common.{rules, ◌≡◌, ℕ, ◌+◌, Bool, true, false, List, [], ◌∷◌, ◌++◌, length}
-use Rattle.std.proofs.Common.{Option, Some, None, Result, Err, refl, sym, ap, ◌∙◌, subst, arith}
+use Rattle.std.proofs.Common.{Option, Some, None, refl, sym, ap, ◌∙◌, subst, arith}
 use Rattle.std.proofs.lemmas.List.{append_assoc}
 use Rattle.std.specs.Prelude.{◌==◌, nat_le, if◌then◌else◌}
 use Rattle.std.proofs.lemmas.Bool.Decides.{nat_tests}
-use denote.Enum.Bare.{sameb, same_true}
+use denote.Enum.Bare.{same_true}
 use Rattle.bql_lexer.specs.Kind.{same_kind}
 use Rattle.bql_lexer.specs.contracts.kind.Kind as kind_type
 use Rattle.bql_lexer.specs.declared.kind.Kind.{Kind}
@@ -15,10 +15,10 @@ use Rattle.bql_grammar.specs.Front.{front, before, begins, of_kind, with_token, 
 use Rattle.bql_grammar.specs.Nesting.{Open, Parenthesis, Sign, Denial, Last, Wants, Names, Ends}
 use Rattle.bql_grammar.specs.Nesting.{Standing, behind, wanting, unsigned, enclosing, outside}
 use Rattle.bql_grammar.specs.Nesting.{role, Joins, IsLiteral, after, step, through, others, most}
-use Rattle.bql_grammar.specs.Nesting.{is_full, Stops, IsInside, bound, still_open}
+use Rattle.bql_grammar.specs.Nesting.{is_full, Stops, IsInside, bound}
 use Rattle.bql_grammar.proofs.FormFacts.{same_some}
 use Rattle.bql_grammar.specs.declared.stuck.Stuck.{Stuck}
-use Rattle.bql_grammar.specs.declared.stuck.Stuck.TheVariants.{OutOfMemory, At}
+use Rattle.bql_grammar.specs.declared.stuck.Stuck.TheVariants.{At}
 use Rattle.bql_tree.specs.Level as level_rules
 use Rattle.bql_tree.specs.declared.level.Level.{Level}
 use Rattle.bql_tree.specs.declared.level.Level.TheVariants as level

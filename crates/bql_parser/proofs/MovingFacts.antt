@@ -1,15 +1,15 @@
 -- What is read of clauses leaves nothing open.
 use Rattle.std.proofs.Common.{◌≡◌, ℕ, Bool, true, false, List, [], ◌∷◌, Some, None, length}
 use Rattle.std.proofs.Common.{Option, refl, sym, ap, ◌∙◌, subst, inl, inr}
-use Rattle.theory.specs.Form.{Form, made, row, ItemsRead, alone, snoc}
+use Rattle.theory.specs.Form.{Form, made, ItemsRead}
 use Rattle.bql_lexer.specs.declared.kind.Kind.{Kind}
 use Rattle.bql_lexer.specs.declared.kind.Kind.TheVariants as kind
 use Rattle.bql_lexer.specs.declared.token.Token.{Token}
 use Rattle.bql_grammar.specs.Expression.{told, token, then, choice, list_of, behind_comma}
 use Rattle.bql_grammar.specs.Expression.{expression}
-use Rattle.bql_grammar.specs.Front.{front, begins, of_kind}
-use Rattle.bql_grammar.specs.Nesting.{Standing, behind, wanting, enclosing, others, role, Parts}
-use Rattle.bql_grammar.specs.Nesting.{after, still_open, Last, Wants, Names, Ends, IsLiteral, step}
+use Rattle.bql_grammar.specs.Front.{begins, of_kind}
+use Rattle.bql_grammar.specs.Nesting.{Standing, behind, wanting, role, Parts}
+use Rattle.bql_grammar.specs.Nesting.{after, still_open, Last, Wants, Names, Ends, IsLiteral}
 use Rattle.bql_grammar.proofs.ExpressionFacts.{rows}
 use Rattle.bql_grammar.proofs.StandingFacts.{Leads, leads_here, leads_on, leads_kind, leads_by}
 use Rattle.bql_grammar.proofs.StandingFacts.{fronts_of}
@@ -19,9 +19,8 @@ use Rattle.bql_tree.specs.Part.{Part}
 use Rattle.bql_tree.specs.declared.function.Scope.{Scope}
 use Rattle.bql_tree.specs.declared.function.Scope.TheVariants.{Transactions, Postings}
 use Rattle.bql_tree.specs.declared.level.Level.TheVariants as level
-use Rattle.bql_parser.specs.Clause as clause
 use Rattle.bql_parser.specs.Grammar.{behind_word, flag, filter, filtered, filters, behind_from}
-use Rattle.bql_parser.specs.Grammar.{in_filters, items, items_in, items_behind, items_by, by_items}
+use Rattle.bql_parser.specs.Grammar.{in_filters, items, items_behind, items_by, by_items}
 use Rattle.bql_parser.specs.Grammar.{some, with_name, target, targets, shown, all_shown, direction}
 use Rattle.bql_parser.specs.Grammar.{ordered, order, limit, select, behind_distinct, in_order, named}
 use Rattle.bql_parser.specs.Grammar.{behind_targets, behind_filters, behind_group, behind_order}
@@ -31,7 +30,6 @@ use Rattle.bql_parser.specs.Grammar.{a_select, a_journal, some_balances, fixed_c
 use Rattle.bql_parser.specs.Grammar.{made_journal, made_balances, name_at}
 use Rattle.bql_parser.specs.Piece.{whole, whole_of}
 use Rattle.bql_parser.specs.Stopping.{IsFresh, IsClear, IsClearFor}
-use Rattle.bql_parser.specs.declared.clauses.NameRead.{NameRead}
 
 abbrev pub Where : Type 1
 Where = Standing → List Token → Type 0

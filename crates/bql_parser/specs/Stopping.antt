@@ -1,5 +1,5 @@
 -- What readers of clauses give, and where they stop.
-use Rattle.std.specs.Prelude.{◌≡◌, ℕ, List, [], Result, Ok, Err}
+use Rattle.std.specs.Prelude.{◌≡◌, List, [], Result, Ok, Err}
 use Rattle.theory.specs.Form.{Form, Reads, HasNone}
 use Rattle.bql_lexer.specs.declared.kind.Kind.{Kind}
 use Rattle.bql_lexer.specs.declared.token.Token.{Token}

@@ -1,6 +1,5 @@
 use Rattle.bql_grammar.specs.Nesting.{all}
 use Rattle.bql_grammar.proofs.StandingFacts.{stuck_here}
-use Rattle.bql_grammar.proofs.DepthFacts.{in_chain}
 use Rattle.bql_grammar.proofs.expressions.literal.Goals as goal
 
 pub returns-in_default-clause-inside : goal.returns-in_default-clause-inside

@@ -1,4 +1,4 @@
-use Rattle.std.proofs.Common.{true, false, inl, ap, sym, ◌∙◌}
+use Rattle.std.proofs.Common.{true, false, inl, sym, ◌∙◌}
 use Rattle.bql_parser.proofs.ParseFacts.{met, meets}
 use Rattle.bql_parser.proofs.parse.fault_at.Goals as goal
 
