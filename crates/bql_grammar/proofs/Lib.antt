@@ -5,3 +5,6 @@ pub mod ComparisonFacts
 pub mod AtomFacts
 pub mod ItemsFacts
 pub mod ArgumentsFacts
+pub mod StandingFacts
+pub mod PassingFacts
+pub mod DepthFacts

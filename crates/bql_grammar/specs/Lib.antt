@@ -1,3 +1,4 @@
 pub mod Front
 pub mod Expression
 pub mod Gives
+pub mod Nesting

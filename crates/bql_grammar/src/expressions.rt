@@ -1,7 +1,10 @@
 //! Expressions at the front of some tokens.
-ghost use Rattle.std.specs.Prelude.{◌≡◌, ◌<◌, ◌≤◌, length, IfOk};
+ghost use Rattle.std.specs.Prelude.{◌≡◌, ◌<◌, ◌≤◌, true, length, IfOk, IfErr};
 ghost use Rattle.bql_grammar.specs.Expression as rule;
+ghost use Rattle.bql_grammar.specs.Front.{begins_with_call};
 ghost use Rattle.bql_grammar.specs.Gives.{Gives};
+ghost use Rattle.bql_grammar.specs.Nesting as nesting;
+ghost use Rattle.bql_grammar.specs.Nesting.{IsInside, IsInsideList};
 ghost use Rattle.bql_tree.specs.Part.{part_of, parts_of};
 
 use crate::front::{
@@ -31,6 +34,7 @@ fn chain<'t, 'a>(
 ) -> Result<(Part<'a>, &'t [Token<'a>]), Stuck>
     ensures read { Gives (rule.chain_at level scope room) part_of tokens.now result }
     ensures shorter { IfOk result (λ r. length r.1.now < length tokens.now) }
+    ensures inside { IfErr result (λ e. IsInside (nesting.bound level) room tokens.now e) }
 {
     let found = match operand(alloc, tokens, level, scope, room) {
         Ok(found) => found,
@@ -60,6 +64,7 @@ fn operand<'t, 'a>(
 ) -> Result<(Part<'a>, &'t [Token<'a>]), Stuck>
     ensures read { Gives (rule.operand level scope room) part_of tokens.now result }
     ensures shorter { IfOk result (λ r. length r.1.now < length tokens.now) }
+    ensures inside { IfErr result (λ e. IsInside (nesting.bound level) room tokens.now e) }
 {
     match level {
         Level::Or => chain(alloc, tokens, Level::And, scope, room),
@@ -79,6 +84,7 @@ fn negation<'t, 'a>(
 ) -> Result<(Part<'a>, &'t [Token<'a>]), Stuck>
     ensures read { Gives (rule.negation scope room) part_of tokens.now result }
     ensures shorter { IfOk result (λ r. length r.1.now < length tokens.now) }
+    ensures inside { IfErr result (λ e. IsInside nesting.unsigned room tokens.now e) }
 {
     let Some((not, behind)) = after(tokens, Kind::Not) else {
         return comparison(alloc, tokens, scope, room);
@@ -105,6 +111,7 @@ fn comparison<'t, 'a>(
 ) -> Result<(Part<'a>, &'t [Token<'a>]), Stuck>
     ensures read { Gives (rule.comparison scope room) part_of tokens.now result }
     ensures shorter { IfOk result (λ r. length r.1.now < length tokens.now) }
+    ensures inside { IfErr result (λ e. IsInside nesting.unsigned room tokens.now e) }
 {
     let found = match chain(alloc, tokens, Level::Sum, scope, room) {
         Ok(found) => found,
@@ -152,6 +159,7 @@ fn unary<'t, 'a>(
 ) -> Result<(Part<'a>, &'t [Token<'a>]), Stuck>
     ensures read { Gives (rule.unary scope room) part_of tokens.now result }
     ensures shorter { IfOk result (λ r. length r.1.now < length tokens.now) }
+    ensures inside { IfErr result (λ e. IsInside nesting.all room tokens.now e) }
 {
     let Some((sign, is_minus, behind)) = after_sign(tokens) else {
         return atom(alloc, tokens, scope, room);
@@ -178,6 +186,7 @@ fn atom<'t, 'a>(
 ) -> Result<(Part<'a>, &'t [Token<'a>]), Stuck>
     ensures read { Gives (rule.atom scope room) part_of tokens.now result }
     ensures shorter { IfOk result (λ r. length r.1.now < length tokens.now) }
+    ensures inside { IfErr result (λ e. IsInside nesting.all room tokens.now e) }
 {
     if after_literal(tokens).is_some() {
         return literal(alloc, tokens, room);
@@ -205,6 +214,7 @@ fn grouped<'t, 'a>(
 ) -> Result<(Part<'a>, &'t [Token<'a>]), Stuck>
     ensures read { Gives (rule.grouped scope room) part_of tokens.now result }
     ensures shorter { IfOk result (λ r. length r.1.now < length tokens.now) }
+    ensures inside { IfErr result (λ e. IsInside nesting.all room tokens.now e) }
 {
     let Some((open, behind)) = after(tokens, Kind::OpenParenthesis) else {
         return Err(Stuck::before(tokens, room));
@@ -233,6 +243,8 @@ fn call<'t, 'a>(
 ) -> Result<(Part<'a>, &'t [Token<'a>]), Stuck>
     ensures read { Gives (rule.call scope room) part_of tokens.now result }
     ensures shorter { IfOk result (λ r. length r.1.now < length tokens.now) }
+    ensures inside { begins_with_call tokens.now ≡ true
+        → IfErr result (λ e. IsInside nesting.all room tokens.now e) }
 {
     let Some((name, behind)) = after(tokens, Kind::Name) else {
         return Err(Stuck::before(tokens, room));
@@ -274,6 +286,7 @@ fn counted<'t, 'a>(
 ) -> Result<(Part<'a>, &'t [Token<'a>]), Stuck>
     ensures read { Gives (rule.counted name.now) part_of tokens.now result }
     ensures shorter { IfOk result (λ r. length r.1.now < length tokens.now) }
+    ensures inside { IfErr result (λ e. IsInside nesting.enclosing room tokens.now e) }
 {
     let Some((_, rest)) = after(tokens, Kind::Star) else {
         return Err(Stuck::before(tokens, room));
@@ -295,6 +308,7 @@ fn arguments<'t, 'a>(
 ) -> Result<(Vec<Part<'a>>, &'t [Token<'a>]), Stuck>
     ensures read { Gives (rule.arguments scope room) parts_of tokens.now result }
     ensures no_longer { IfOk result (λ r. length r.1.now ≤ length tokens.now) }
+    ensures inside { IfErr result (λ e. IsInside nesting.enclosing room tokens.now e) }
 {
     let mut parts = Vec::new(alloc);
     if after(tokens, Kind::CloseParenthesis).is_some() {
@@ -327,6 +341,7 @@ fn list<'t, 'a>(
 ) -> Result<(Part<'a>, &'t [Token<'a>]), Stuck>
     ensures read { Gives (rule.list room (part_of left.entry)) part_of tokens.now result }
     ensures shorter { IfOk result (λ r. length r.1.now < length tokens.now) }
+    ensures inside { IfErr result (λ e. IsInsideList room tokens.now e) }
 {
     let Some((_, behind)) = after(tokens, Kind::In) else {
         return Err(Stuck::before(tokens, room));
@@ -357,6 +372,7 @@ fn literals<'t, 'a>(
 ) -> Result<(Vec<Part<'a>>, &'t [Token<'a>]), Stuck>
     ensures read { Gives rule.literals parts_of tokens.now result }
     ensures shorter { IfOk result (λ r. length r.1.now < length tokens.now) }
+    ensures inside { IfErr result (λ e. IsInside nesting.enclosing room tokens.now e) }
 {
     let mut parts = Vec::new(alloc);
     let found = match literal(alloc, tokens, room) {
@@ -385,6 +401,7 @@ fn literal<'t, 'a>(
 ) -> Result<(Part<'a>, &'t [Token<'a>]), Stuck>
     ensures read { Gives rule.literal part_of tokens.now result }
     ensures shorter { IfOk result (λ r. length r.1.now < length tokens.now) }
+    ensures inside { IfErr result (λ e. IsInside nesting.all room tokens.now e) }
 {
     let Some(found) = after_literal(tokens) else {
         return Err(Stuck::before(tokens, room));
@@ -403,6 +420,7 @@ pub fn expression<'t, 'a>(
 ) -> Result<(Part<'a>, &'t [Token<'a>]), Stuck>
     ensures read { Gives (rule.expression scope) part_of tokens.now result }
     ensures shorter { IfOk result (λ r. length r.1.now < length tokens.now) }
+    ensures inside { IfErr result (λ e. IsInside nesting.enclosing 200 tokens.now e) }
 {
     chain(alloc, tokens, Level::Or, scope, ROOM)
 }

@@ -1,3 +1,4 @@
+pub mod MovingFacts
 pub mod ClauseFacts
 pub mod SettlingFacts
 pub mod ParseFacts

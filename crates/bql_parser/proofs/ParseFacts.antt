@@ -1,7 +1,9 @@
 -- What is found comes to.
 use Rattle.std.proofs.Common.{◌≡◌, ℕ, Bool, List, [], Option, Some, None, Result, Ok, Err, length}
-use Rattle.std.proofs.Common.{refl}
-use Rattle.std.proofs.Common.{sym, ap, ◌∙◌, subst, inl, inr}
+use Rattle.std.proofs.Common.{refl, ◌-◌, ◌<◌, get_or, ◌∷◌, ◌++◌, is_some, subst, arith}
+use Rattle.std.specs.Prelude.{nat_le}
+use Rattle.std.proofs.lemmas.List.{length-append}
+use Rattle.std.proofs.Common.{sym, ap, ◌∙◌, inl, inr}
 use Rattle.theory.specs.Form.{Reads, IsNone}
 use Rattle.bql_lexer.specs.Tokens.{AreTokens}
 use Rattle.bql_lexer.specs.declared.token.Token.{Token}
@@ -9,11 +11,17 @@ use Rattle.bql_tree.specs.Cause.{both}
 use Rattle.bql_tree.specs.declared.cause.Cause.{Cause}
 use Rattle.bql_tree.specs.declared.cause.CauseKind.{CauseKind}
 use Rattle.bql_tree.specs.declared.cause.CauseKind.TheVariants.{UnknownName, OutsideProfile}
+use Rattle.bql_lexer.specs.declared.kind.Kind.TheVariants as kind
+use Rattle.bql_grammar.specs.Front as fronts
+use Rattle.bql_grammar.specs.Front.{of_kind}
+use Rattle.bql_grammar.specs.Nesting as nesting
+use Rattle.bql_grammar.specs.Nesting.{Standing, wanting, through, is_full, still_open}
 use Rattle.bql_grammar.specs.declared.stuck.Stuck.{Stuck}
 use Rattle.bql_grammar.specs.declared.stuck.Stuck.TheVariants.{OutOfMemory, At}
 use Rattle.bql_parser.specs.Asked.{Asked}
 use Rattle.bql_parser.specs.Grammar.{query}
-use Rattle.bql_parser.specs.Parse.{Parses, IsQuery, HasCause, Stops, is_cause, IsAnswered}
+use Rattle.bql_parser.specs.Parse.{Parses, IsQuery, HasCause, Stops, is_cause, IsAnswered, Meets}
+use Rattle.bql_parser.specs.Parse.{is_deep, is_left, IsFaultBy}
 use Rattle.bql_parser.specs.Read.{Read}
 use Rattle.bql_parser.specs.Settled.{mapped, refused_at, byte_beyond, settled, answer}
 use Rattle.bql_parser.specs.Whole.{IsRead}
@@ -78,8 +86,68 @@ refused_mapped f None found = refl
 refused_mapped f (Some place) (Ok a) = refl
 refused_mapped f (Some place) (Err c) = refl
 
+-- Where they stop.
+
+-- the token that stands there
+pub record Met (ts : List Token) (t : Token) (deep : Bool) : Type 0 where
+  pub before : List Token
+  pub behind : List Token
+  pub cut : ts ≡ before ++ t ∷ behind
+  pub deep_there : deep ≡ is_deep before t
+
+is_some_before : {V : Type 0} (o : Option V) (ts us : List Token)
+    → is_some (fronts.before ts o) ≡ is_some (fronts.before us o)
+is_some_before (Some v) ts us = refl
+is_some_before None ts us = refl
+
+-- how deep it stands doesn't depend on what stands behind it
+same_depth : (p : Standing) (t : Token) (ts us : List Token)
+    → is_full p (t ∷ ts) ≡ is_full p (t ∷ us)
+same_depth p t ts us =
+    ap (λ b. nat_le 200 (length (still_open p.last b p.within)))
+    (is_some_before (of_kind kind.OpenParenthesis t) ts us)
+
+at_seam : (before us : List Token) (t : Token) → 0 < length us
+    → ((d : Token) → t ≡ get_or (before ++ us) (length before) d)
+    → (behind : List Token) × (us ≡ t ∷ behind)
+at_seam [] [] t some e = absurd (omega (arith, some))
+at_seam [] (u ∷ us) t some e = (us, ap (λ v. v ∷ us) (sym (e u)))
+at_seam (b ∷ before) us t some e = at_seam before us t some e
+
+met_at : (ts passed rest : List Token) (t : Token) (deep : Bool) → ts ≡ passed ++ rest
+    → deep ≡ is_full (through (wanting []) passed) rest
+    → (behind : List Token) × (rest ≡ t ∷ behind) → Met ts t deep
+met_at ts passed rest t deep cut full b = record {
+  before = passed;
+  behind = b.0;
+  cut = cut ∙ ap (λ us. passed ++ us) b.1;
+  deep_there = full ∙ ap (is_full (through (wanting []) passed)) b.1
+      ∙ same_depth (through (wanting []) passed) t b.0 [];
+}
+
+pub met : (ts : List Token) (left : ℕ) (deep : Bool) (i : ℕ) (t : Token)
+    → nesting.Stops (wanting []) ts left deep → i ≡ length ts - left → i < length ts
+    → ((d : Token) → t ≡ get_or ts i d) → Met ts t deep
+met ts left deep i t s at inside found =
+    let long = ap length s.cut ∙ length-append s.passed s.rest in
+    let here : i ≡ length s.passed = omega (arith, at, long, s.are_left) in
+    met_at ts s.passed s.rest t deep s.cut s.full
+    (at_seam s.passed s.rest t (omega (arith, long, here, inside))
+    (λ d. found d ∙ ap (λ us. get_or us i d) s.cut
+    ∙ ap (λ n. get_or (s.passed ++ s.rest) n d) here))
+
+pub meets : (ts : List Token) (t : Token) (deep is : Bool) → Met ts t deep
+    → ((before : List Token) → deep ≡ is_deep before t → is ≡ is_left before t)
+    → Meets ts t.start is_left is
+meets ts t deep is m h = (
+  m.before,
+  t,
+  record { behind = m.behind; cut = m.cut; starts = refl },
+  sym (h m.before m.deep_there),
+)
+
 -- Texts outside the grammar.
-pub stopped : (text : List ℕ) (ts : List Token) (e : QueryFault) → AreTokens text ts
+stopped : (text : List ℕ) (ts : List Token) (e : QueryFault) → AreTokens text ts
     → IsNone (query text) ts → Stops text ts e → Parses text (Err e)
 stopped text ts fault.OutOfMemory tokens none h = tt
 stopped text ts (fault.UnknownName place) tokens none h = absurd h
@@ -88,7 +156,7 @@ stopped text ts (fault.OutsideProfile place) tokens none h =
 stopped text ts (fault.Syntax place) tokens none h =
     (ts, record { tokens = tokens; none = none }, h)
 
-pub none_read : (text : List ℕ) (ts : List Token) (e : Stuck) (left : ℕ) (deep : Bool)
-    → e ≡ At left deep → IsRead text ts (Err e) → IsNone (query text) ts
-none_read text ts OutOfMemory left deep is h = absurd cc
-none_read text ts (At l d) left deep is h = h
+pub not_read : (text : List ℕ) (ts : List Token) (s : Stuck) (e : QueryFault) → AreTokens text ts
+    → IsRead text ts (Err s) → IsFaultBy text ts s e → Parses text (Err e)
+not_read text ts OutOfMemory e tokens h is = subst (λ e. Parses text (Err e)) (sym is) tt
+not_read text ts (At left deep) e tokens h is = stopped text ts e tokens h.0 (is h.1)

@@ -2,6 +2,7 @@ pub mod Clause
 pub mod Read
 pub mod Piece
 pub mod Grammar
+pub mod Stopping
 pub mod Whole
 pub mod Asked
 pub mod Standing

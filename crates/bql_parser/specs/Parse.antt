@@ -1,12 +1,15 @@
 -- Texts of queries.
-use Rattle.std.specs.Prelude.{◌≡◌, ℕ, ◌||◌, ◌&&◌, Bool, true, List, [], length, Result, Ok, Err}
-use Rattle.std.specs.Prelude.{◌⊎◌}
-use Rattle.std.specs.List.{IsAmong}
+use Rattle.std.specs.Prelude.{◌≡◌, ℕ, ◌||◌, ◌&&◌, Bool, true, false, List, [], ◌∷◌, ◌++◌, length}
+use Rattle.std.specs.Prelude.{Result, Ok, Err, ◌⊎◌}
 use Rattle.theory.specs.Form.{Reads, IsNone}
 use Rattle.bql_lexer.specs.Kind.{same_kind}
 use Rattle.bql_lexer.specs.Tokens.{AreTokens}
 use Rattle.bql_lexer.specs.declared.kind.Kind.TheVariants as kind
 use Rattle.bql_lexer.specs.declared.token.Token.{Token}
+use Rattle.bql_grammar.specs.Nesting as nesting
+use Rattle.bql_grammar.specs.Nesting.{wanting, through, is_full}
+use Rattle.bql_grammar.specs.declared.stuck.Stuck.{Stuck}
+use Rattle.bql_grammar.specs.declared.stuck.Stuck.TheVariants.{OutOfMemory, At}
 use Rattle.bql_tree.specs.Cause.{unknown_name, outside_profile}
 use Rattle.bql_tree.specs.Function.{is_left_out}
 use Rattle.bql_tree.specs.declared.cause.Cause.{Cause}
@@ -36,23 +39,40 @@ nests t =
     same_kind t.kind kind.OpenParenthesis || same_kind t.kind kind.Plus
     || same_kind t.kind kind.Minus || same_kind t.kind kind.Not
 
--- what the profile leaves out, and where nothing may nest any deeper, what nests
-abbrev pub is_left : Bool → Token → Bool
-is_left is_deep t =
-    same_kind t.kind kind.Slash || (same_kind t.kind kind.Name && is_left_out t.text)
-    || (is_deep && nests t)
+-- the token stands inside 200 others behind these: parentheses that are not closed, and signs and
+-- NOTs whose operand still goes on
+abbrev pub is_deep : List Token → Token → Bool
+is_deep before t = is_full (through (wanting []) before) (t ∷ [])
 
-pub record StandsAt (ts : List Token) (place : ℕ) (t : Token) : Type 0 where
-  pub among : IsAmong ts t
+-- what the profile leaves out; and what nests, inside 200 others
+abbrev pub is_left : List Token → Token → Bool
+is_left before t =
+    same_kind t.kind kind.Slash || (same_kind t.kind kind.Name && is_left_out t.text)
+    || (is_deep before t && nests t)
+
+-- the token stands at the place, behind these
+pub record StandsAt (ts : List Token) (place : ℕ) (before : List Token) (t : Token) : Type 0 where
+  pub behind : List Token
+  pub cut : ts ≡ before ++ t ∷ behind
   pub starts : t.start ≡ place
 
--- why a text is none, whose tokens are these
+-- a token stands at the place, of which the test says this
+abbrev pub Meets : List Token → ℕ → (List Token → Token → Bool) → Bool → Type 0
+Meets ts place test is =
+    (before : List Token) × (t : Token) × StandsAt ts place before t × (test before t ≡ is)
+
+-- why a text is none, whose tokens are these: Q3 where the token is left, and else Q1
 abbrev pub Stops : List ℕ → List Token → QueryFault → Type 0
-Stops text ts (fault.Syntax place) = ((t : Token) × StandsAt ts place t) ⊎ (place ≡ length text)
-Stops text ts (fault.OutsideProfile place) =
-    (t : Token) × (deep : Bool) × StandsAt ts place t × (is_left deep t ≡ true)
+Stops text ts (fault.Syntax place) = Meets ts place is_left false ⊎ (place ≡ length text)
+Stops text ts (fault.OutsideProfile place) = Meets ts place is_left true
 Stops text ts (fault.UnknownName place) = ⊥
 Stops text ts fault.OutOfMemory = ⊥
+
+-- what is told of a text whose reader stopped so
+abbrev pub IsFaultBy : List ℕ → List Token → Stuck → QueryFault → Type 0
+IsFaultBy text ts OutOfMemory e = e ≡ fault.OutOfMemory
+IsFaultBy text ts (At left is_deep) e =
+    nesting.Stops (wanting []) ts left is_deep → Stops text ts e
 
 abbrev pub is_cause : CauseKind → ℕ → QueryFault
 is_cause causes.UnknownName place = fault.UnknownName place

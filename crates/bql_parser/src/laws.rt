@@ -2,14 +2,18 @@
 ghost use Rattle.std.specs.Prelude.{◌≡◌, ℕ, List};
 ghost use Rattle.bql_lexer.specs.declared.token.Token.{Token};
 ghost use Rattle.bql_parser.specs.Kept.{QueriesAreSmall};
-ghost use Rattle.bql_parser.specs.Parse.{IsQuery, IsOutside};
+ghost use Rattle.bql_parser.specs.Parse.{IsQuery, IsOutside, StopsAt};
+ghost use Rattle.bql_parser.specs.declared.fault.QueryFault.TheVariants as fault;
 ghost use Rattle.bql_parser.specs.Read.{Read};
 
-/// A text is a query of the grammar in one way, or it is outside the grammar.
+/// A text is a query of the grammar in one way, or it is outside the grammar; and where it stops
+/// then, that is Q1 or Q3, but not both.
 pub fn texts_are_read_in_one_way()
     ensures once { (text : List ℕ) (r s : Read) → IsQuery text r → IsQuery text s → r ≡ s }
     ensures apart { (text : List ℕ) (r : Read) (ts : List Token) → IsQuery text r
         → IsOutside text ts → ⊥ }
+    ensures told { (text : List ℕ) (place : ℕ) → StopsAt text (fault.Syntax place)
+        → StopsAt text (fault.OutsideProfile place) → ⊥ }
 {}
 
 /// A query has at least one target, and none of its counts and lengths is above what a program may

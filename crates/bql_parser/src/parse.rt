@@ -1,7 +1,10 @@
 //! Texts of queries.
-ghost use Rattle.std.specs.Prelude.{◌≡◌, ◌≤◌, length};
+ghost use Rattle.std.specs.Prelude.{◌≡◌, ◌≤◌, List, [], length};
+ghost use Rattle.bql_grammar.specs.Nesting as nesting;
+ghost use Rattle.bql_grammar.specs.Nesting.{wanting};
+ghost use Rattle.bql_lexer.specs.declared.token.Token.{Token};
 ghost use Rattle.bql_parser.specs.Parse as rule;
-ghost use Rattle.bql_parser.specs.Parse.{Parses, Stops, IsAnswered};
+ghost use Rattle.bql_parser.specs.Parse.{Parses, Stops, IsAnswered, IsFaultBy};
 ghost use Rattle.bql_parser.specs.Settled as settled;
 ghost use Rattle.bql_parser.specs.Settled.{mapped};
 ghost use Rattle.bql_parser.specs.Small.{IsSmallFound};
@@ -31,9 +34,10 @@ fn nests(token: &Token<'_>) -> bool
         || token.kind == Kind::Not
 }
 
-/// Whether a token that can't go on is left out by the profile.
+/// Whether a token that can't go on is left out by the profile, or stands too deep.
 fn is_left(token: &Token<'_>, is_deep: bool) -> bool
-    ensures { result ≡ rule.is_left is_deep token.now }
+    ensures { (before : List Token) → is_deep ≡ rule.is_deep before token.now
+        → result ≡ rule.is_left before token.now }
 {
     token.kind == Kind::Slash
         || token.kind == Kind::Name && is_left_out(token.text.text())
@@ -42,12 +46,23 @@ fn is_left(token: &Token<'_>, is_deep: bool) -> bool
 
 /// Why a text is no query whose tokens can't go on there.
 fn fault_at(text: &str, tokens: &[Token<'_>], left: usize, is_deep: bool) -> QueryFault
-    ensures { Stops text.now tokens.now result }
+    ensures { nesting.Stops (wanting []) tokens.now left is_deep
+        → Stops text.now tokens.now result }
 {
     match tokens.get(tokens.len().saturating_sub(left)) {
         Some(token) if is_left(token, is_deep) => QueryFault::OutsideProfile(token.start),
         Some(token) => QueryFault::Syntax(token.start),
         None => QueryFault::Syntax(text.len()),
+    }
+}
+
+/// Why a text is no query that was read so far.
+fn fault_by(text: &str, tokens: &[Token<'_>], stuck: Stuck) -> QueryFault
+    ensures { IsFaultBy text.now tokens.now stuck result }
+{
+    match stuck {
+        Stuck::OutOfMemory => QueryFault::OutOfMemory,
+        Stuck::At { left, is_deep } => fault_at(text, tokens, left, is_deep),
     }
 }
 
@@ -88,7 +103,6 @@ pub fn parse_query<'a>(alloc: Global, text: &'a str) -> Result<Query<'a>, QueryF
     let found = tokens(alloc, text)?;
     match query(alloc, text, found.as_slice()) {
         Ok(read) => answered(text, settled(alloc, read)?),
-        Err(Stuck::OutOfMemory) => Err(QueryFault::OutOfMemory),
-        Err(Stuck::At { left, is_deep }) => { Err(fault_at(text, found.as_slice(), left, is_deep)) }
+        Err(stuck) => Err(fault_by(text, found.as_slice(), stuck)),
     }
 }

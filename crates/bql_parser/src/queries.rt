@@ -1,9 +1,9 @@
 //! Whole queries, from their tokens.
 ghost use Rattle.std.specs.Prelude.{◌≡◌, [], Result, Ok, Err};
 ghost use Rattle.theory.specs.Form.{Reads};
-ghost use Rattle.bql_grammar.specs.Gives.{Gives};
 ghost use Rattle.bql_parser.specs.Grammar as rule;
 ghost use Rattle.bql_parser.specs.Read as views;
+ghost use Rattle.bql_parser.specs.Stopping.{GivesFrom, IsFresh, IsClear};
 ghost use Rattle.bql_parser.specs.Whole.{IsRead};
 
 use crate::clauses::{BalancesRead, JournalRead, NameRead, QueryRead, SelectRead, TargetRead};
@@ -22,7 +22,7 @@ fn behind_targets<'t, 'a>(
     distinct: bool,
     targets: Vec<TargetRead<'a>>,
 ) -> Result<(SelectRead<'a>, &'t [Token<'a>]), Stuck>
-    ensures { Gives (rule.behind_targets distinct (views.targets_of targets.entry))
+    ensures { GivesFrom IsClear (rule.behind_targets distinct (views.targets_of targets.entry))
         views.select_of tokens.now result }
 {
     let found = match filters(alloc, tokens) {
@@ -62,7 +62,7 @@ fn select<'t, 'a>(
     text: &'a str,
     tokens: &'t [Token<'a>],
 ) -> Result<(SelectRead<'a>, &'t [Token<'a>]), Stuck>
-    ensures { Gives (rule.select text.now) views.select_of tokens.now result }
+    ensures { GivesFrom IsFresh (rule.select text.now) views.select_of tokens.now result }
 {
     let (distinct, rest) = flag(tokens, Kind::Distinct);
     let found = match shown(alloc, text, rest) {
@@ -75,7 +75,7 @@ fn select<'t, 'a>(
 
 /// What AT names, if it is written.
 fn at<'t, 'a>(tokens: &'t [Token<'a>]) -> Result<(Option<NameRead<'a>>, &'t [Token<'a>]), Stuck>
-    ensures { Gives rule.at views.same tokens.now result }
+    ensures { GivesFrom IsClear rule.at views.same tokens.now result }
 {
     let Some((_, behind)) = after(tokens, Kind::At) else {
         return Ok((None, tokens));
@@ -105,7 +105,7 @@ fn journal<'t, 'a>(
     alloc: Global,
     tokens: &'t [Token<'a>],
 ) -> Result<(JournalRead<'a>, &'t [Token<'a>]), Stuck>
-    ensures { Gives rule.journal views.journal_of tokens.now result }
+    ensures { GivesFrom IsFresh rule.journal views.journal_of tokens.now result }
 {
     let (pattern, rest) = pattern(tokens);
     let found = match at(rest) {
@@ -126,7 +126,7 @@ fn balances<'t, 'a>(
     alloc: Global,
     tokens: &'t [Token<'a>],
 ) -> Result<(BalancesRead<'a>, &'t [Token<'a>]), Stuck>
-    ensures { Gives rule.balances views.balances_of tokens.now result }
+    ensures { GivesFrom IsClear rule.balances views.balances_of tokens.now result }
 {
     let found = match at(tokens) {
         Ok(found) => found,
@@ -146,7 +146,7 @@ fn fixed_clauses<'t, 'a>(
     alloc: Global,
     tokens: &'t [Token<'a>],
 ) -> Result<(QueryRead<'a>, &'t [Token<'a>]), Stuck>
-    ensures { Gives rule.fixed_clauses views.read_of tokens.now result }
+    ensures { GivesFrom IsFresh rule.fixed_clauses views.read_of tokens.now result }
 {
     if let Some((_, behind)) = after(tokens, Kind::Journal) {
         let found = match journal(alloc, behind) {
@@ -173,7 +173,7 @@ fn clauses<'t, 'a>(
     text: &'a str,
     tokens: &'t [Token<'a>],
 ) -> Result<(QueryRead<'a>, &'t [Token<'a>]), Stuck>
-    ensures { Gives (rule.clauses text.now) views.read_of tokens.now result }
+    ensures { GivesFrom IsFresh (rule.clauses text.now) views.read_of tokens.now result }
 {
     let Some((_, behind)) = after(tokens, Kind::Select) else {
         return fixed_clauses(alloc, tokens);

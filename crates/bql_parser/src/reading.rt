@@ -2,12 +2,12 @@
 ghost use Rattle.std.specs.Prelude.{◌≡◌, ◌<◌, ◌≤◌, None, Some, length, MatchOption, IfOk, IfSome};
 ghost use Rattle.theory.specs.Form.{Reads};
 ghost use Rattle.bql_grammar.specs.Front.{front};
-ghost use Rattle.bql_grammar.specs.Gives.{Gives};
 ghost use Rattle.bql_tree.specs.Part.{part_of, parts_of};
 ghost use Rattle.bql_parser.specs.Piece as piece;
 ghost use Rattle.bql_parser.specs.Grammar as rule;
 ghost use Rattle.bql_parser.specs.Read as views;
 ghost use Rattle.bql_parser.specs.Read.{same};
+ghost use Rattle.bql_parser.specs.Stopping.{GivesFrom, IsFresh, IsClear, IsClearFor};
 
 use crate::clauses::{
     BalancesRead, FiltersRead, JournalRead, NameRead, OrderRead, QueryRead, SelectRead, TargetRead,
@@ -41,7 +41,7 @@ pub fn filter<'t, 'a>(
     word: Kind,
     scope: Scope,
 ) -> Result<(Option<Part<'a>>, &'t [Token<'a>]), Stuck>
-    ensures { Gives (rule.filter word scope) views.filter_of tokens.now result }
+    ensures { GivesFrom (IsClearFor word) (rule.filter word scope) views.filter_of tokens.now result }
 {
     let Some((_, behind)) = after(tokens, word) else {
         return Ok((None, tokens));
@@ -59,7 +59,7 @@ pub fn filters<'t, 'a>(
     alloc: Global,
     tokens: &'t [Token<'a>],
 ) -> Result<(FiltersRead<'a>, &'t [Token<'a>]), Stuck>
-    ensures { Gives rule.filters views.filters_of tokens.now result }
+    ensures { GivesFrom IsClear rule.filters views.filters_of tokens.now result }
 {
     let found = match filter(alloc, tokens, Kind::From, Scope::Transactions) {
         Ok(found) => found,
@@ -79,7 +79,7 @@ fn items<'t, 'a>(
     alloc: Global,
     tokens: &'t [Token<'a>],
 ) -> Result<(Vec<Part<'a>>, &'t [Token<'a>]), Stuck>
-    ensures { Gives rule.items parts_of tokens.now result }
+    ensures { GivesFrom IsFresh rule.items parts_of tokens.now result }
 {
     let mut parts = Vec::new(alloc);
     let found = match expression(alloc, tokens, Scope::Postings) {
@@ -105,7 +105,7 @@ fn by_items<'t, 'a>(
     alloc: Global,
     tokens: &'t [Token<'a>],
 ) -> Result<(Option<Vec<Part<'a>>>, &'t [Token<'a>]), Stuck>
-    ensures { Gives rule.items_in views.group_of tokens.now result }
+    ensures { GivesFrom IsFresh rule.items_in views.group_of tokens.now result }
 {
     let Some((_, behind)) = after(tokens, Kind::By) else {
         return Err(Stuck::before(tokens, WIDE));
@@ -124,7 +124,7 @@ pub fn items_by<'t, 'a>(
     tokens: &'t [Token<'a>],
     word: Kind,
 ) -> Result<(Option<Vec<Part<'a>>>, &'t [Token<'a>]), Stuck>
-    ensures { Gives (rule.items_by word) views.group_of tokens.now result }
+    ensures { GivesFrom (IsClearFor word) (rule.items_by word) views.group_of tokens.now result }
 {
     match after(tokens, word) {
         Some((_, behind)) => by_items(alloc, behind),
@@ -159,7 +159,7 @@ fn with_name<'t, 'a>(
     tokens: &'t [Token<'a>],
     part: Part<'a>,
 ) -> Result<(TargetRead<'a>, &'t [Token<'a>]), Stuck>
-    ensures { Gives (rule.with_name text.now (part_of part.entry)) views.target_of tokens.now
+    ensures { GivesFrom IsClear (rule.with_name text.now (part_of part.entry)) views.target_of tokens.now
         result }
 {
     let Some((_, behind)) = after(tokens, Kind::As) else {
@@ -179,7 +179,7 @@ fn target<'t, 'a>(
     text: &'a str,
     tokens: &'t [Token<'a>],
 ) -> Result<(TargetRead<'a>, &'t [Token<'a>]), Stuck>
-    ensures read { Gives (rule.target text.now) views.target_of tokens.now result }
+    ensures read { GivesFrom IsFresh (rule.target text.now) views.target_of tokens.now result }
     ensures shorter { IfOk result (λ r. length r.1.now < length tokens.now) }
 {
     let found = match expression(alloc, tokens, Scope::Postings) {
@@ -196,7 +196,7 @@ fn targets<'t, 'a>(
     text: &'a str,
     tokens: &'t [Token<'a>],
 ) -> Result<(Vec<TargetRead<'a>>, &'t [Token<'a>]), Stuck>
-    ensures { Gives (rule.targets text.now) views.targets_of tokens.now result }
+    ensures { GivesFrom IsFresh (rule.targets text.now) views.targets_of tokens.now result }
 {
     let mut targets = Vec::new(alloc);
     let found = match target(alloc, text, tokens) {
@@ -250,7 +250,7 @@ pub fn shown<'t, 'a>(
     text: &'a str,
     tokens: &'t [Token<'a>],
 ) -> Result<(Vec<TargetRead<'a>>, &'t [Token<'a>]), Stuck>
-    ensures { Gives (rule.shown text.now) views.targets_of tokens.now result }
+    ensures { GivesFrom IsFresh (rule.shown text.now) views.targets_of tokens.now result }
 {
     let Some((star, rest)) = after(tokens, Kind::Star) else {
         return targets(alloc, text, tokens);
@@ -293,7 +293,7 @@ pub fn order<'t, 'a>(
     alloc: Global,
     tokens: &'t [Token<'a>],
 ) -> Result<(OrderRead<'a>, &'t [Token<'a>]), Stuck>
-    ensures { Gives rule.order views.order_of tokens.now result }
+    ensures { GivesFrom IsClear rule.order views.order_of tokens.now result }
 {
     let found = match items_by(alloc, tokens, Kind::Order) {
         Ok(found) => found,
@@ -327,7 +327,7 @@ fn after_whole<'t, 'a>(tokens: &'t [Token<'a>]) -> Option<(u32, &'t [Token<'a>])
 
 /// LIMIT, if it is written.
 pub fn limit<'t, 'a>(tokens: &'t [Token<'a>]) -> Result<(Option<u32>, &'t [Token<'a>]), Stuck>
-    ensures { Gives rule.limit same tokens.now result }
+    ensures { GivesFrom IsClear rule.limit same tokens.now result }
 {
     let Some((_, behind)) = after(tokens, Kind::Limit) else {
         return Ok((None, tokens));

@@ -1,3 +1,4 @@
+use Rattle.std.specs.Prelude.{IfErr}
 use Rattle.std.proofs.Common.{◌-◌, arith, refl, subst, sym, ◌∙◌}
 use Rattle.theory.specs.Form.{Reads, snoc}
 use Rattle.theory.proofs.RowFacts.{InRow}
@@ -10,6 +11,8 @@ use Rattle.bql_grammar.specs.Expression.{grouped, call, arguments, behind_comma}
 use Rattle.bql_grammar.specs.Front as fronts
 use Rattle.bql_grammar.specs.Front.{begins, of_kind}
 use Rattle.bql_grammar.specs.Gives.{Gives}
+use Rattle.bql_grammar.specs.Nesting as nesting
+use Rattle.bql_grammar.specs.Nesting.{IsInside, IsInsideList, bound, all, enclosing}
 use Rattle.bql_grammar.proofs.ArgumentsFacts.{begins_where, literal_where, no_argument}
 use Rattle.bql_grammar.proofs.ArgumentsFacts.{none_in_arguments, arguments_read}
 use Rattle.bql_grammar.proofs.AtomFacts.{literal_atom, group_atom, name_atom, none_in_group}
@@ -24,7 +27,13 @@ use Rattle.bql_grammar.proofs.ExpressionFacts.{chain_begins, chain_goes_on, none
 use Rattle.bql_grammar.proofs.ExpressionFacts.{chain_is_read, undenied, no_room_for_not}
 use Rattle.bql_grammar.proofs.ExpressionFacts.{none_behind_not, denied_read, unsigned}
 use Rattle.bql_grammar.proofs.ExpressionFacts.{no_room_for_sign, none_behind_sign, signed_read}
+use Rattle.bql_grammar.proofs.DepthFacts as depth
+use Rattle.bql_grammar.proofs.DepthFacts.{in_chain, in_not, in_sign, in_compared, no_pattern}
+use Rattle.bql_grammar.proofs.DepthFacts.{in_contained, in_group, group_not_shut, call_too_deep}
+use Rattle.bql_grammar.proofs.DepthFacts.{in_call, in_list, in_listed, inside_looser, same_if_err}
 use Rattle.bql_grammar.proofs.ItemsFacts.{parts_first}
+use Rattle.bql_grammar.proofs.PassingFacts.{any_chain}
+use Rattle.bql_grammar.proofs.StandingFacts.{no_signs_either}
 use Rattle.bql_grammar.proofs.expressions.+expression.Goals as goal
 
 -- Chains.
@@ -379,3 +388,108 @@ arguments-returns-clause-read t c =
     (sym (begins_where (of_kind kind.CloseParenthesis) c.args.tokens.now c.after.result
     c.after.ensures.front) ∙ sym c.if-is_some.ensures)
     c.loop-behind.invariant.read c.in_default.ensures.front
+
+-- Where they stop.
+
+pub chain-returns-in-Err-operand-clause-inside : goal.chain-returns-in-Err-operand-clause-inside
+chain-returns-in-Err-operand-clause-inside t c =
+    in_chain c.args.level c.args.scope c.args.room c.args.tokens.now
+    (part_of c.loop-operator.value) c.loop-operator.rest.now c.in-Some.after.now
+    c.in-Some.operator c.in-Err-operand.stuck c.loop-operator.invariant.read
+    c.in-Some.ensures.front c.in-Err-operand.ensures.inside
+
+pub operand-returns-in-And-clause-inside : goal.operand-returns-in-And-clause-inside
+operand-returns-in-And-clause-inside t c =
+    subst (λ l. IfErr c.negation.result (λ e. IsInside (bound l) c.args.room c.args.tokens.now e))
+    (sym c.in-And.is)
+    (same_if_err (IsInside nesting.unsigned c.args.room c.args.tokens.now)
+    (IsInside enclosing c.args.room c.args.tokens.now) c.negation.result
+    (λ e. inside_looser enclosing nesting.unsigned c.args.room c.args.tokens.now e no_signs_either)
+    c.negation.ensures.inside)
+
+pub negation-returns-in-Err-clause-inside : goal.negation-returns-in-Err-clause-inside
+negation-returns-in-Err-clause-inside t c =
+    in_not c.args.room c.args.tokens.now _ _ c.in-Err.stuck
+    (λ none. omega (arith, c.if-room-eq0.false, none)) c.in-Some.ensures.front
+    c.in-Err.ensures.inside
+
+pub unary-returns-in-Err-clause-inside : goal.unary-returns-in-Err-clause-inside
+unary-returns-in-Err-clause-inside t c =
+    in_sign c.args.room c.args.tokens.now _ _ c.in-Err.stuck
+    (λ none. omega (arith, c.if-room-eq0.false, none)) c.in-Some.ensures.front
+    c.in-Err.ensures.inside
+
+pub comparison-returns-in-Err-chain-clause-inside :
+    goal.comparison-returns-in-Err-chain-clause-inside
+comparison-returns-in-Err-chain-clause-inside t c =
+    in_compared c.args.scope c.args.room c.args.tokens.now _ _ c.in-Ok.ensures.read _ _
+    c.in-Err-chain.stuck c.in-Some.ensures.front c.in-Err-chain.ensures.inside
+
+pub comparison-returns-in_default-after-2-clause-inside :
+    goal.comparison-returns-in_default-after-2-clause-inside
+comparison-returns-in_default-after-2-clause-inside t c =
+    no_pattern c.args.scope c.args.room c.args.tokens.now _ _ c.in-Ok.ensures.read _ _ _
+    c.before-in_default-after-2.ensures c.in-Some-after.ensures.front
+
+pub comparison-returns-then-begins_with_list-clause-inside :
+    goal.comparison-returns-then-begins_with_list-clause-inside
+comparison-returns-then-begins_with_list-clause-inside t c =
+    same_if_err (IsInsideList c.args.room c.in-Ok.found.1.now)
+    (IsInside nesting.unsigned c.args.room c.args.tokens.now) c.list.result
+    (λ e. in_listed c.args.scope c.args.room c.args.tokens.now _ c.in-Ok.found.1.now
+    c.in-Ok.ensures.read e (sym c.if-begins_with_list.ensures))
+    c.list.ensures.inside
+
+pub comparison-returns-in-Err-chain-2-clause-inside :
+    goal.comparison-returns-in-Err-chain-2-clause-inside
+comparison-returns-in-Err-chain-2-clause-inside t c =
+    in_contained c.args.scope c.args.room c.args.tokens.now _ _ c.in-Ok.ensures.read _ _
+    c.in-Err-chain-2.stuck c.in-Some-after-3.ensures.front c.in-Err-chain-2.ensures.inside
+
+pub grouped-returns-in-Err-clause-inside : goal.grouped-returns-in-Err-clause-inside
+grouped-returns-in-Err-clause-inside t c =
+    in_group c.args.room c.args.tokens.now _ _ c.in-Err.stuck
+    (λ none. omega (arith, c.if-room-eq0.false, none)) c.in-Some.ensures.front
+    c.in-Err.ensures.inside
+
+pub grouped-returns-in_default-after-clause-inside :
+    goal.grouped-returns-in_default-after-clause-inside
+grouped-returns-in_default-after-clause-inside t c =
+    group_not_shut c.args.scope c.args.room c.args.tokens.now _ _ _ _ _
+    c.before-in_default-after.ensures (λ none. omega (arith, c.if-room-eq0.false, none))
+    c.in-Some.ensures.front c.in-Ok.ensures.read
+
+pub call-returns-then-room-eq0-clause-inside : goal.call-returns-then-room-eq0-clause-inside
+call-returns-then-room-eq0-clause-inside t c = λ is.
+    call_too_deep c.args.room c.args.tokens.now _ _ c.in-Some.ensures.front _ _
+    c.in-Some-after.ensures.front _ c.before-then-room-eq0.ensures
+
+pub call-returns-then-begins_with_count-clause-inside :
+    goal.call-returns-then-begins_with_count-clause-inside
+call-returns-then-begins_with_count-clause-inside t c = λ is.
+    same_if_err (IsInside enclosing (c.args.room - 1) c.in-Some-after.inside.now)
+    (IsInside all c.args.room c.args.tokens.now) c.counted.result
+    (λ e. in_call c.args.room c.args.tokens.now c.in-Some.name.now c.in-Some.behind.now
+    c.in-Some.ensures.front c.in-Some-after.field-0-0.now c.in-Some-after.inside.now
+    c.in-Some-after.ensures.front (λ none. omega (arith, c.if-room-eq0.false, none)) e)
+    c.counted.ensures.inside
+
+pub call-returns-in-Err-clause-inside : goal.call-returns-in-Err-clause-inside
+call-returns-in-Err-clause-inside t c = λ is.
+    in_call c.args.room c.args.tokens.now _ _ c.in-Some.ensures.front _ _
+    c.in-Some-after.ensures.front (λ none. omega (arith, c.if-room-eq0.false, none))
+    c.in-Err.stuck c.in-Err.ensures.inside
+
+pub call-returns-in_default-after-2-clause-inside :
+    goal.call-returns-in_default-after-2-clause-inside
+call-returns-in_default-after-2-clause-inside t c = λ is.
+    depth.call_not_shut c.args.room c.args.tokens.now _ _ c.in-Some.ensures.front _ _
+    c.in-Some-after.ensures.front (λ none. omega (arith, c.if-room-eq0.false, none))
+    c.args.scope (parts_of c.in-Ok.found.0) c.in-Ok.found.1.now _
+    c.before-in_default-after-2.ensures c.in_default-after-2.ensures.front c.in-Ok.ensures.read
+
+pub arguments-returns-in-Err-chain-clause-inside : goal.arguments-returns-in-Err-chain-clause-inside
+arguments-returns-in-Err-chain-clause-inside t c =
+    in_list (chain_at level.Or c.args.scope c.args.room) c.args.room c.args.tokens.now _ _ _ _
+    c.in-Err-chain.stuck (any_chain level.Or c.args.scope c.args.room)
+    c.loop-behind.invariant.read c.in-Some.ensures.front c.in-Err-chain.ensures.inside

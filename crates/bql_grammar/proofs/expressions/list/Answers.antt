@@ -3,6 +3,7 @@ use Rattle.theory.specs.Form.{Reads}
 use Rattle.bql_grammar.specs.Expression.{literals, list}
 use Rattle.bql_tree.specs.Part.{part_of, parts_of}
 use Rattle.bql_grammar.proofs.ExpressionFacts.{stuck_in, gives_none}
+use Rattle.bql_grammar.proofs.DepthFacts.{no_list_opens, in_items, list_not_shut}
 use Rattle.bql_grammar.proofs.ItemsFacts.{no_items, items_not_shut, list_read}
 use Rattle.bql_grammar.proofs.expressions.list.Goals as goal
 
@@ -28,3 +29,26 @@ returns-in-Err-clause-read c =
     c.in-Some-after.inside.now c.args.tokens.now c.in-Err.stuck
     (λ none. no_items c.args.room (part_of c.args.left) c.args.tokens.now _ _ _ _
     c.in-Some.ensures.front c.in-Some-after.ensures.front none) c.in-Err.ensures.read
+
+pub returns-in_default-after-clause-inside : goal.returns-in_default-after-clause-inside
+returns-in_default-after-clause-inside c =
+    no_list_opens c.args.room c.args.tokens.now _ _ c.in-Some.ensures.front _
+    c.before-in_default-after.ensures
+
+pub returns-then-room-eq0-clause-inside : goal.returns-then-room-eq0-clause-inside
+returns-then-room-eq0-clause-inside c =
+    no_list_opens c.args.room c.args.tokens.now _ _ c.in-Some.ensures.front _
+    c.before-then-room-eq0.ensures
+
+pub returns-in-Err-clause-inside : goal.returns-in-Err-clause-inside
+returns-in-Err-clause-inside c =
+    in_items c.args.room c.args.tokens.now _ _ c.in-Some.ensures.front
+    (λ none. omega (arith, c.if-room-eq0.false, none)) _ _ c.in-Some-after.ensures.front
+    c.in-Err.stuck c.in-Err.ensures.inside
+
+pub returns-in_default-after-2-clause-inside : goal.returns-in_default-after-2-clause-inside
+returns-in_default-after-2-clause-inside c =
+    list_not_shut c.args.room c.args.tokens.now _ _ c.in-Some.ensures.front
+    (λ none. omega (arith, c.if-room-eq0.false, none)) _ _ c.in-Some-after.ensures.front
+    (parts_of c.in-Ok.found.0) c.in-Ok.found.1.now _ c.before-in_default-after-2.ensures
+    c.in-Ok.ensures.read

@@ -7,7 +7,10 @@ use Rattle.bql_tree.proofs.CallFacts.{parts_more}
 use Rattle.bql_grammar.proofs.ExpressionFacts.{rows, no_list, list_begins, stuck_in, none_in_list}
 use Rattle.bql_grammar.proofs.ExpressionFacts.{list_goes_on}
 use Rattle.bql_grammar.proofs.ExpressionFacts.{list_is_read}
+use Rattle.bql_grammar.specs.Nesting.{enclosing, all}
+use Rattle.bql_grammar.proofs.DepthFacts.{in_list, inside_looser}
 use Rattle.bql_grammar.proofs.ItemsFacts.{parts_first}
+use Rattle.bql_grammar.proofs.PassingFacts.{literal_passes}
 use Rattle.bql_grammar.proofs.expressions.literals.Goals as goal
 
 pub loop-behind-preserved : goal.loop-behind-preserved
@@ -49,3 +52,10 @@ pub returns-in-Err-clause-read : goal.returns-in-Err-clause-read
 returns-in-Err-clause-read c =
     stuck_in literal literals part_of parts_of c.args.tokens.now c.args.tokens.now c.in-Err.stuck
     (no_list literal (λ rest. refl) c.args.tokens.now) c.in-Err.ensures.read
+
+pub returns-in-Err-literal-clause-inside : goal.returns-in-Err-literal-clause-inside
+returns-in-Err-literal-clause-inside c =
+    in_list literal c.args.room c.args.tokens.now _ _ _ _ c.in-Err-literal.stuck
+    (literal_passes enclosing) c.loop-behind.invariant.read c.in-Some.ensures.front
+    (inside_looser enclosing all c.args.room c.in-Some.behind.now c.in-Err-literal.stuck
+    (λ os bare. refl) c.in-Err-literal.ensures.inside)

@@ -1,10 +1,10 @@
 use Rattle.std.proofs.Common.{sym, subst, ◌∙◌}
 use Rattle.bql_lexer.specs.Tokens.{AreTokens}
-use Rattle.bql_parser.specs.Parse.{Parses, Stops}
+use Rattle.bql_parser.specs.Parse.{Parses, IsFaultBy}
 use Rattle.bql_parser.specs.Read.{read_of}
 use Rattle.bql_parser.specs.Settled.{mapped}
 use Rattle.bql_parser.specs.View.{draft_of}
-use Rattle.bql_parser.proofs.ParseFacts.{parsed, stopped, none_read}
+use Rattle.bql_parser.proofs.ParseFacts.{parsed, not_read}
 use Rattle.bql_parser.proofs.SmallFacts.{small_settled}
 use Rattle.bql_parser.proofs.parse.parse_query.Goals as goal
 
@@ -24,9 +24,8 @@ returns-in-Ok c =
 
 pub returns : goal.returns
 returns c =
-    stopped c.args.text.now c.as_slice.result.now c.fault_at.result
+    not_read c.args.text.now c.as_slice.result.now c.in-Err.stuck c.fault_by.result
     (subst (AreTokens c.args.text.now) (sym c.as_slice.ensures.value) c.in_ok-found.ensures)
-    (none_read c.args.text.now c.as_slice.result.now c.in-Err-At.field-0 c.in-Err-At.left
-    c.in-Err-At.is_deep c.in-Err-At.field-0-is c.in-Err-At.ensures)
-    (subst (λ ts. Stops c.args.text.now ts c.fault_at.result)
-    (c.as_slice-in-Err-At.ensures.value ∙ sym c.as_slice.ensures.value) c.fault_at.ensures)
+    c.in-Err.ensures
+    (subst (λ ts. IsFaultBy c.args.text.now ts c.in-Err.stuck c.fault_by.result)
+    (c.as_slice-in-Err.ensures.value ∙ sym c.as_slice.ensures.value) c.fault_by.ensures)

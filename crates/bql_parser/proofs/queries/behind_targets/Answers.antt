@@ -5,37 +5,42 @@ use Rattle.bql_grammar.proofs.FormFacts.{reads_then}
 use Rattle.bql_parser.specs.Grammar.{filters, items_by, order, limit, behind_filters}
 use Rattle.bql_parser.specs.Grammar.{behind_group, behind_order, in_select}
 use Rattle.bql_parser.specs.Read.{same, filters_of, group_of, order_of, targets_of, select_of}
-use Rattle.bql_parser.proofs.ClauseFacts.{stuck_first, gives_then}
+use Rattle.bql_parser.specs.Stopping.{IsClear}
+use Rattle.bql_parser.proofs.MovingFacts.{filters_move, items_by_moves, order_moves}
+use Rattle.bql_parser.proofs.ClauseFacts.{stuck_first, gives_then, clear_before}
 use Rattle.bql_parser.proofs.queries.behind_targets.Goals as goal
 
 pub returns-in-Err : goal.returns-in-Err
 returns-in-Err c =
-    stuck_first filters (behind_filters c.args.distinct (targets_of c.args.targets)) filters_of
+    stuck_first IsClear filters (behind_filters c.args.distinct (targets_of c.args.targets)) filters_of
     select_of c.args.tokens.now c.in-Err.stuck (λ rest. refl) c.in-Err.ensures
 
 pub returns-in-Err-items_by : goal.returns-in-Err-items_by
 returns-in-Err-items_by c =
     let shown = targets_of c.args.targets in
     let fs = filters_of c.in-Ok.found.0 in
-    gives_then filters (behind_filters c.args.distinct shown) select_of c.args.tokens.now fs
+    gives_then IsClear IsClear filters (behind_filters c.args.distinct shown) select_of
+    c.args.tokens.now fs
     c.in-Ok.found.1.now (Err c.in-Err-items_by.stuck) (λ rest. refl) (λ v rest. refl)
-    c.in-Ok.ensures
-    (stuck_first (items_by kind.Group) (behind_group c.args.distinct shown fs) group_of
+    filters_move c.in-Ok.ensures
+    (stuck_first IsClear (items_by kind.Group) (behind_group c.args.distinct shown fs) group_of
     select_of c.in-Ok.found.1.now c.in-Err-items_by.stuck (λ rest. refl)
-    c.in-Err-items_by.ensures)
+    (clear_before kind.Group refl (items_by kind.Group) group_of c.in-Ok.found.1.now _
+    c.in-Err-items_by.ensures))
 
 pub returns-in-Err-order : goal.returns-in-Err-order
 returns-in-Err-order c =
     let shown = targets_of c.args.targets in
     let fs = filters_of c.in-Ok.found.0 in
     let group = group_of c.in-Ok-items_by.found.0 in
-    gives_then filters (behind_filters c.args.distinct shown) select_of c.args.tokens.now fs
+    gives_then IsClear IsClear filters (behind_filters c.args.distinct shown) select_of
+    c.args.tokens.now fs
     c.in-Ok.found.1.now (Err c.in-Err-order.stuck) (λ rest. refl) (λ v rest. refl)
-    c.in-Ok.ensures
-    (gives_then (items_by kind.Group) (behind_group c.args.distinct shown fs) select_of
-    c.in-Ok.found.1.now group c.in-Ok-items_by.found.1.now (Err c.in-Err-order.stuck)
-    (λ rest. refl) (λ v rest. refl) c.in-Ok-items_by.ensures
-    (stuck_first order (behind_order c.args.distinct shown fs group) order_of select_of
+    filters_move c.in-Ok.ensures
+    (gives_then IsClear IsClear (items_by kind.Group) (behind_group c.args.distinct shown fs)
+    select_of c.in-Ok.found.1.now group c.in-Ok-items_by.found.1.now (Err c.in-Err-order.stuck)
+    (λ rest. refl) (λ v rest. refl) (items_by_moves kind.Group refl) c.in-Ok-items_by.ensures
+    (stuck_first IsClear order (behind_order c.args.distinct shown fs group) order_of select_of
     c.in-Ok-items_by.found.1.now c.in-Err-order.stuck (λ rest. refl)
     c.in-Err-order.ensures))
 
@@ -45,16 +50,17 @@ returns-in-Err-limit c =
     let fs = filters_of c.in-Ok.found.0 in
     let group = group_of c.in-Ok-items_by.found.0 in
     let ordered = order_of c.in-Ok-order.found.0 in
-    gives_then filters (behind_filters c.args.distinct shown) select_of c.args.tokens.now fs
+    gives_then IsClear IsClear filters (behind_filters c.args.distinct shown) select_of
+    c.args.tokens.now fs
     c.in-Ok.found.1.now (Err c.in-Err-limit.stuck) (λ rest. refl) (λ v rest. refl)
-    c.in-Ok.ensures
-    (gives_then (items_by kind.Group) (behind_group c.args.distinct shown fs) select_of
-    c.in-Ok.found.1.now group c.in-Ok-items_by.found.1.now (Err c.in-Err-limit.stuck)
-    (λ rest. refl) (λ v rest. refl) c.in-Ok-items_by.ensures
-    (gives_then order (behind_order c.args.distinct shown fs group) select_of
+    filters_move c.in-Ok.ensures
+    (gives_then IsClear IsClear (items_by kind.Group) (behind_group c.args.distinct shown fs)
+    select_of c.in-Ok.found.1.now group c.in-Ok-items_by.found.1.now (Err c.in-Err-limit.stuck)
+    (λ rest. refl) (λ v rest. refl) (items_by_moves kind.Group refl) c.in-Ok-items_by.ensures
+    (gives_then IsClear IsClear order (behind_order c.args.distinct shown fs group) select_of
     c.in-Ok-items_by.found.1.now ordered c.in-Ok-order.found.1.now
-    (Err c.in-Err-limit.stuck) (λ rest. refl) (λ v rest. refl) c.in-Ok-order.ensures
-    (stuck_first limit (in_select c.args.distinct shown fs group ordered) same select_of
+    (Err c.in-Err-limit.stuck) (λ rest. refl) (λ v rest. refl) order_moves c.in-Ok-order.ensures
+    (stuck_first IsClear limit (in_select c.args.distinct shown fs group ordered) same select_of
     c.in-Ok-order.found.1.now c.in-Err-limit.stuck (λ rest. refl)
     c.in-Err-limit.ensures)))
 
@@ -66,7 +72,8 @@ returns c =
     let ordered = order_of c.in-Ok-order.found.0 in
     let rest = c.in-Ok-limit.found.1.now in
     reads_then filters (behind_filters c.args.distinct shown) c.args.tokens.now fs
-    c.in-Ok.found.1.now _ rest (λ rest. refl) (λ v rest. refl) c.in-Ok.ensures
+    c.in-Ok.found.1.now _ rest (λ rest. refl) (λ v rest. refl)
+    c.in-Ok.ensures
     (reads_then (items_by kind.Group) (behind_group c.args.distinct shown fs)
     c.in-Ok.found.1.now group c.in-Ok-items_by.found.1.now _ rest (λ rest. refl)
     (λ v rest. refl) c.in-Ok-items_by.ensures

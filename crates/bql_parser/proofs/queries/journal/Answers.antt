@@ -5,28 +5,32 @@ use Rattle.bql_tree.specs.declared.function.Scope.TheVariants.{Transactions}
 use Rattle.bql_grammar.proofs.FormFacts.{reads_then}
 use Rattle.bql_parser.specs.Grammar.{pattern, at, filter, behind_pattern, behind_at, in_journal}
 use Rattle.bql_parser.specs.Read.{same, filter_of, journal_of}
-use Rattle.bql_parser.proofs.ClauseFacts.{stuck_first, gives_then}
+use Rattle.bql_parser.specs.Stopping.{IsFresh, IsClear}
+use Rattle.bql_parser.proofs.MovingFacts.{pattern_moves, at_moves}
+use Rattle.bql_parser.proofs.ClauseFacts.{stuck_first, gives_then, clear_before}
 use Rattle.bql_parser.proofs.queries.journal.Goals as goal
 
 pub returns-in-Err : goal.returns-in-Err
 returns-in-Err c =
-    gives_then pattern behind_pattern journal_of c.args.tokens.now c.pattern-pattern.result.0
+    gives_then IsFresh IsClear pattern behind_pattern journal_of c.args.tokens.now c.pattern-pattern.result.0
     c.pattern-pattern.result.1.now (Err c.in-Err.stuck) (λ rest. refl) (λ v rest. refl)
-    c.pattern-pattern.ensures
-    (stuck_first at (behind_at c.pattern-pattern.result.0) same journal_of
+    pattern_moves c.pattern-pattern.ensures
+    (stuck_first IsClear at (behind_at c.pattern-pattern.result.0) same journal_of
     c.pattern-pattern.result.1.now c.in-Err.stuck (λ rest. refl) c.in-Err.ensures)
 
 pub returns-in-Err-filter : goal.returns-in-Err-filter
 returns-in-Err-filter c =
-    gives_then pattern behind_pattern journal_of c.args.tokens.now c.pattern-pattern.result.0
+    gives_then IsFresh IsClear pattern behind_pattern journal_of c.args.tokens.now c.pattern-pattern.result.0
     c.pattern-pattern.result.1.now (Err c.in-Err-filter.stuck) (λ rest. refl)
-    (λ v rest. refl) c.pattern-pattern.ensures
-    (gives_then at (behind_at c.pattern-pattern.result.0) journal_of
+    (λ v rest. refl) pattern_moves c.pattern-pattern.ensures
+    (gives_then IsClear IsClear at (behind_at c.pattern-pattern.result.0) journal_of
     c.pattern-pattern.result.1.now c.in-Ok.found.0 c.in-Ok.found.1.now
-    (Err c.in-Err-filter.stuck) (λ rest. refl) (λ v rest. refl) c.in-Ok.ensures
-    (stuck_first (filter kind.From Transactions)
+    (Err c.in-Err-filter.stuck) (λ rest. refl) (λ v rest. refl) at_moves c.in-Ok.ensures
+    (stuck_first IsClear (filter kind.From Transactions)
     (in_journal c.pattern-pattern.result.0 c.in-Ok.found.0) filter_of journal_of
-    c.in-Ok.found.1.now c.in-Err-filter.stuck (λ rest. refl) c.in-Err-filter.ensures))
+    c.in-Ok.found.1.now c.in-Err-filter.stuck (λ rest. refl)
+    (clear_before kind.From refl (filter kind.From Transactions) filter_of c.in-Ok.found.1.now _
+    c.in-Err-filter.ensures)))
 
 pub returns : goal.returns
 returns c =

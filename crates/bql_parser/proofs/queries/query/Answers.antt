@@ -1,17 +1,20 @@
-use Rattle.std.proofs.Common.{refl, subst}
+use Rattle.std.proofs.Common.{refl, subst, []}
 use Rattle.theory.specs.Form.{Reads}
 use Rattle.theory.proofs.FormFacts.{reads_made}
 use Rattle.bql_lexer.specs.declared.kind.Kind.TheVariants as kind
 use Rattle.bql_grammar.proofs.FormFacts.{reads_then}
 use Rattle.bql_parser.specs.Grammar.{flag, clauses, behind_clauses, ended, query}
 use Rattle.bql_parser.specs.Read.{read_of}
+use Rattle.bql_parser.specs.Stopping.{IsFresh, IsClear}
+use Rattle.bql_parser.proofs.MovingFacts.{then_moves, clauses_move, flag_moves}
+use Rattle.bql_grammar.specs.Nesting.{wanting}
 use Rattle.bql_parser.proofs.ClauseFacts.{stuck_first, stuck_whole, ends_short, empty_is, not_empty}
 use Rattle.bql_parser.proofs.queries.query.Goals as goal
 
 pub returns-in-Err : goal.returns-in-Err
 returns-in-Err c =
     stuck_whole c.args.text.now c.args.tokens.now c.in-Err.stuck
-    (stuck_first (clauses c.args.text.now) behind_clauses read_of read_of c.args.tokens.now
+    (stuck_first IsFresh (clauses c.args.text.now) behind_clauses read_of read_of c.args.tokens.now
     c.in-Err.stuck (λ rest. refl) c.in-Err.ensures)
 
 pub returns-then-is_empty : goal.returns-then-is_empty
@@ -29,7 +32,11 @@ pub returns : goal.returns
 returns c =
     let read = read_of c.in-Ok.found.0 in
     let rest = c.flag.result.1.now in
-    ends_short c.args.text.now c.args.tokens.now read rest _
+    ends_short c.args.text.now c.args.tokens.now read rest _ c.before-else-is_empty.ensures
+    (then_moves IsFresh IsClear IsClear (clauses c.args.text.now)
+    (λ r. flag kind.Semicolon) (clauses_move c.args.text.now)
+    (λ r. flag_moves kind.Semicolon refl) c.args.tokens.now c.flag.result.0 rest
+    (read, c.in-Ok.found.1.now, c.in-Ok.ensures.read, c.flag.ensures.read) (wanting []) refl)
     (reads_then (clauses c.args.text.now) behind_clauses c.args.tokens.now read
     c.in-Ok.found.1.now read rest (λ rest. refl) (λ v rest. refl) c.in-Ok.ensures
     (reads_then (flag kind.Semicolon) (ended read) c.in-Ok.found.1.now c.flag.result.0 rest

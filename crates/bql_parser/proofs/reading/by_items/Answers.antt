@@ -6,14 +6,16 @@ use Rattle.bql_grammar.specs.Front.{of_kind}
 use Rattle.bql_grammar.proofs.FormFacts.{reads_behind, reads_then}
 use Rattle.bql_parser.specs.Grammar.{items, items_behind, some}
 use Rattle.bql_parser.specs.Read.{group_of}
+use Rattle.bql_parser.specs.Stopping.{IsFresh}
+use Rattle.bql_parser.proofs.MovingFacts.{by_moves}
 use Rattle.bql_parser.proofs.ClauseFacts.{gives_behind, stuck_first}
 use Rattle.bql_parser.proofs.reading.by_items.Goals as goal
 
 pub returns-in-Err : goal.returns-in-Err
 returns-in-Err c =
-    gives_behind (of_kind kind.By) items_behind group_of c.args.tokens.now _ _
-    (Err c.in-Err.stuck) (λ t rest. refl) c.in-Some.ensures.front
-    (stuck_first items some parts_of group_of c.in-Some.behind.now c.in-Err.stuck
+    gives_behind IsFresh IsFresh (of_kind kind.By) items_behind group_of c.args.tokens.now _ _
+    (Err c.in-Err.stuck) (λ t rest. refl) by_moves c.in-Some.ensures.front
+    (stuck_first IsFresh items some parts_of group_of c.in-Some.behind.now c.in-Err.stuck
     (λ rest. refl) c.in-Err.ensures)
 
 pub returns : goal.returns

@@ -5,17 +5,24 @@ use Rattle.bql_tree.specs.Part.{part_of, parts_of}
 use Rattle.bql_tree.specs.declared.function.Scope.TheVariants.{Postings}
 use Rattle.bql_tree.proofs.CallFacts.{parts_more}
 use Rattle.bql_grammar.specs.Expression.{expression, behind_comma}
-use Rattle.bql_grammar.proofs.ExpressionFacts.{rows, stuck_in, no_list, list_begins}
+use Rattle.bql_grammar.proofs.ExpressionFacts.{rows, no_list, list_begins}
 use Rattle.bql_grammar.proofs.ExpressionFacts.{none_in_list, list_goes_on, list_is_read}
 use Rattle.bql_grammar.proofs.ItemsFacts.{parts_first}
 use Rattle.bql_parser.specs.Grammar.{items}
+use Rattle.bql_parser.specs.Stopping.{IsFresh}
+use Rattle.bql_parser.proofs.MovingFacts.{expression_moves}
+use Rattle.bql_parser.proofs.ClauseFacts.{stuck_from, same_place, reaches_another}
+use Rattle.bql_parser.proofs.ClauseFacts.{expression_stuck}
 use Rattle.bql_parser.proofs.reading.items.Goals as goal
 
 pub returns-in-Err : goal.returns-in-Err
 returns-in-Err c =
-    stuck_in (expression Postings) items part_of parts_of c.args.tokens.now c.args.tokens.now
-    c.in-Err.stuck (no_list (expression Postings) (λ rest. refl) c.args.tokens.now)
-    c.in-Err.ensures.read
+    stuck_from IsFresh IsFresh (expression Postings) items part_of parts_of c.args.tokens.now
+    c.args.tokens.now c.in-Err.stuck
+    (no_list (expression Postings) (λ rest. refl) c.args.tokens.now)
+    (same_place IsFresh c.args.tokens.now)
+    (expression_stuck Postings c.args.tokens.now c.in-Err.stuck c.in-Err.ensures.read
+    c.in-Err.ensures.inside)
 
 pub loop-behind-init : goal.loop-behind-init
 loop-behind-init c =
@@ -28,11 +35,14 @@ loop-behind-init c =
 
 pub returns-in-Err-expression : goal.returns-in-Err-expression
 returns-in-Err-expression c =
-    stuck_in (expression Postings) items part_of parts_of c.in-Some.behind.now
+    stuck_from IsFresh IsFresh (expression Postings) items part_of parts_of c.in-Some.behind.now
     c.args.tokens.now c.in-Err-expression.stuck
     (λ none. none_in_list (expression Postings) (λ rest. refl) c.args.tokens.now _ _ _ _
     c.loop-behind.invariant c.in-Some.ensures.front none)
-    c.in-Err-expression.ensures.read
+    (reaches_another (expression Postings) (expression_moves Postings) c.args.tokens.now _ _ _ _
+    c.loop-behind.invariant c.in-Some.ensures.front)
+    (expression_stuck Postings c.in-Some.behind.now c.in-Err-expression.stuck
+    c.in-Err-expression.ensures.read c.in-Err-expression.ensures.inside)
 
 pub loop-behind-preserved : goal.loop-behind-preserved
 loop-behind-preserved c =

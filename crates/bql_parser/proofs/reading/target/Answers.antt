@@ -4,16 +4,21 @@ use Rattle.bql_tree.specs.declared.function.Scope.TheVariants.{Postings}
 use Rattle.bql_grammar.specs.Expression.{expression}
 use Rattle.bql_parser.specs.Grammar.{with_name}
 use Rattle.bql_parser.specs.Read.{target_of}
-use Rattle.bql_parser.proofs.ClauseFacts.{stuck_first, gives_then}
+use Rattle.bql_parser.specs.Stopping.{IsFresh, IsClear}
+use Rattle.bql_parser.proofs.MovingFacts.{expression_moves}
+use Rattle.bql_parser.proofs.ClauseFacts.{stuck_first, gives_then, expression_stuck}
 use Rattle.bql_parser.proofs.reading.target.Goals as goal
 
 pub returns-in-Err-clause-read : goal.returns-in-Err-clause-read
 returns-in-Err-clause-read c =
-    stuck_first (expression Postings) (with_name c.args.text.now) part_of target_of
-    c.args.tokens.now c.in-Err.stuck (λ rest. refl) c.in-Err.ensures.read
+    stuck_first IsFresh (expression Postings) (with_name c.args.text.now) part_of target_of
+    c.args.tokens.now c.in-Err.stuck (λ rest. refl)
+    (expression_stuck Postings c.args.tokens.now c.in-Err.stuck c.in-Err.ensures.read
+    c.in-Err.ensures.inside)
 
 pub returns-clause-read : goal.returns-clause-read
 returns-clause-read c =
-    gives_then (expression Postings) (with_name c.args.text.now) target_of c.args.tokens.now
-    (part_of c.in-Ok.found.0) c.in-Ok.found.1.now c.with_name.result (λ rest. refl)
-    (λ v rest. refl) c.in-Ok.ensures.read c.with_name.ensures
+    gives_then IsFresh IsClear (expression Postings) (with_name c.args.text.now) target_of
+    c.args.tokens.now (part_of c.in-Ok.found.0) c.in-Ok.found.1.now c.with_name.result
+    (λ rest. refl) (λ v rest. refl) (expression_moves Postings) c.in-Ok.ensures.read
+    c.with_name.ensures

@@ -2,19 +2,22 @@ use Rattle.std.proofs.Common.{refl, subst, sym}
 use Rattle.theory.specs.Form.{snoc}
 use Rattle.theory.proofs.RowFacts.{InRow}
 use Rattle.bql_grammar.specs.Expression.{behind_comma}
-use Rattle.bql_grammar.proofs.ExpressionFacts.{rows, stuck_in, no_list, list_begins}
+use Rattle.bql_grammar.proofs.ExpressionFacts.{rows, no_list, list_begins}
 use Rattle.bql_grammar.proofs.ExpressionFacts.{none_in_list, list_goes_on, list_is_read}
 use Rattle.bql_parser.specs.Grammar.{target, targets}
 use Rattle.bql_parser.specs.Read.{target_of, targets_of}
-use Rattle.bql_parser.proofs.ClauseFacts.{targets_first, targets_more}
+use Rattle.bql_parser.specs.Stopping.{IsFresh}
+use Rattle.bql_parser.proofs.MovingFacts.{target_moves}
+use Rattle.bql_parser.proofs.ClauseFacts.{targets_first, targets_more, stuck_from}
+use Rattle.bql_parser.proofs.ClauseFacts.{same_place, reaches_another}
 use Rattle.bql_parser.proofs.reading.targets.Goals as goal
 
 pub returns-in-Err : goal.returns-in-Err
 returns-in-Err c =
     let t = target c.args.text.now in
-    stuck_in t (targets c.args.text.now) target_of targets_of c.args.tokens.now
+    stuck_from IsFresh IsFresh t (targets c.args.text.now) target_of targets_of c.args.tokens.now
     c.args.tokens.now c.in-Err.stuck (no_list t (λ rest. refl) c.args.tokens.now)
-    c.in-Err.ensures.read
+    (same_place IsFresh c.args.tokens.now) c.in-Err.ensures.read
 
 pub loop-behind-init : goal.loop-behind-init
 loop-behind-init c =
@@ -27,10 +30,12 @@ loop-behind-init c =
 pub returns-in-Err-target : goal.returns-in-Err-target
 returns-in-Err-target c =
     let t = target c.args.text.now in
-    stuck_in t (targets c.args.text.now) target_of targets_of c.in-Some.behind.now
+    stuck_from IsFresh IsFresh t (targets c.args.text.now) target_of targets_of c.in-Some.behind.now
     c.args.tokens.now c.in-Err-target.stuck
     (λ none. none_in_list t (λ rest. refl) c.args.tokens.now _ _ _ _ c.loop-behind.invariant
     c.in-Some.ensures.front none)
+    (reaches_another t (target_moves c.args.text.now) c.args.tokens.now _ _ _ _
+    c.loop-behind.invariant c.in-Some.ensures.front)
     c.in-Err-target.ensures.read
 
 pub loop-behind-preserved : goal.loop-behind-preserved
