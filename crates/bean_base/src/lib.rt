@@ -1,6 +1,5 @@
 //! What the books are made of: exact decimal numbers, accounts, currencies, amounts, quoted texts
-//! and days, each with the call that reads it from a text, and the faults of a ledger with their
-//! places.
+//! and days, each read from a text by a call, and the faults of a ledger with their places.
 //!
 //! ```text
 //! let usd = parse_currency("USD")?;
@@ -29,10 +28,8 @@
 //!
 //! # Cost
 //!
-//! Memory is taken by lists ([`List`], [`Few`]) and by what lies apart ([`Apart`]), and by nothing
-//! else.
-//! Each call is linear in the text that it reads, and a sum, a product or a rounding takes a few
-//! steps.
+//! Lists ([`List`], [`Few`]) and what lies apart ([`Apart`]) take memory, nothing else does. Each
+//! call is linear in the text that it reads, and a sum, a product or a rounding takes a few steps.
 #![tactic(auto)]
 
 pub mod amounts;

@@ -1,12 +1,9 @@
 //! The limits of ledgers, of queries and of programs, each told once.
 
-// ---- ledgers
-
 /// The most postings of a ledger.
 pub const MOST_POSTINGS: usize = 1_000_000;
 
-/// The most bytes of a text of a ledger: 16 MiB. So a name or a narration has no more bytes, and a
-/// line no greater number.
+/// The most bytes of a text of a ledger, 16 MiB: so a line has no greater number.
 pub const LARGEST_TEXT: usize = 16_777_216;
 
 /// The most digits of a count of units or of a cost, in `10^-8`.
@@ -14,8 +11,6 @@ pub const MOST_UNITS_DIGITS: u8 = 20;
 
 /// The most digits of a weight, and of a product of units and cost, in `10^-16`.
 pub const MOST_VALUE_DIGITS: u8 = 28;
-
-// ---- queries
 
 /// The most bytes of the text of a query.
 pub const LARGEST_QUERY: usize = 65_535;
@@ -31,8 +26,6 @@ pub const MOST_NESTED: usize = 200;
 
 /// The most components that a query takes of an account.
 pub const MOST_COMPONENTS: i128 = 255;
-
-// ---- machines
 
 /// The most decimals of a value.
 pub const MOST_PLACES: u8 = 32;

@@ -2,6 +2,7 @@
 use Rattle.std.proofs.Common.{◌≡◌, ℕ, suc, ◌+◌, ◌-◌, Bool, true, false, List, [], ◌∷◌}
 use Rattle.std.proofs.Common.{Option, Some, None, is_some, refl, sym, ap, ◌∙◌, subst, inl, inr, length, arith}
 use Rattle.std.specs.Prelude.{◌==◌, Result, Ok, Err, IfErr}
+use Rattle.bean_base.specs.declared.limits.TheConstants.{MOST_NESTED}
 use Rattle.theory.specs.Form.{Form, Reads, snoc}
 use Rattle.theory.proofs.RowFacts.{InRow}
 use Rattle.bql_lexer.specs.declared.kind.Kind.TheVariants as kind
@@ -13,7 +14,7 @@ use Rattle.bql_grammar.specs.Front.{front, begins, of_kind, and_behind, begins_w
 use Rattle.bql_grammar.specs.Front.{begins_with_call, literal, ends_literal}
 use Rattle.bql_grammar.specs.Nesting.{Open, Parenthesis, Sign, Denial, Last, Wants, Names, Ends}
 use Rattle.bql_grammar.specs.Nesting.{Standing, behind, wanting, unsigned, enclosing, still_open}
-use Rattle.bql_grammar.specs.Nesting.{bound, all, others, most, Stops, IsInside, IsInsideList}
+use Rattle.bql_grammar.specs.Nesting.{bound, all, others, Stops, IsInside, IsInsideList}
 use Rattle.bql_grammar.specs.declared.stuck.Stuck.{Stuck}
 use Rattle.bql_grammar.specs.declared.stuck.Stuck.TheVariants.{OutOfMemory, At}
 use Rattle.bql_tree.specs.Part.{Part}
@@ -38,7 +39,7 @@ pub record Begins (ends : List Open → List Open) (room : ℕ) (p : Standing) (
   pub within : List Open
   pub leads : Leads p ts (wanting within) us
   pub bare : ends within ≡ within
-  pub enough : length within + room ≡ most
+  pub enough : length within + room ≡ MOST_NESTED
 
 stops_within : (ends : List Open → List Open) (room : ℕ) (p : Standing) (ts us : List Token)
     (left : ℕ) (deep : Bool) → Begins ends room p ts us → IsInside ends room us (At left deep)
@@ -48,7 +49,7 @@ stops_within ends room p ts us left deep b h =
 
 -- what a reader tells that is called there
 pub inside_of : (ends more : List Open → List Open) (room n : ℕ) (ts us : List Token) (e : Stuck)
-    → ((os : List Open) → ends os ≡ os → length os + room ≡ most → Begins more n (wanting os) ts us)
+    → ((os : List Open) → ends os ≡ os → length os + room ≡ MOST_NESTED → Begins more n (wanting os) ts us)
     → IsInside more n us e → IsInside ends room ts e
 inside_of ends more room n ts us OutOfMemory begins h = tt
 inside_of ends more room n ts us (At left deep) begins h =
@@ -64,7 +65,7 @@ inside_looser ends more room ts (At left deep) f h = λ os bare enough. h os (f 
 pub record Faces (room : ℕ) (p : Standing) (ts us : List Token) : Type 0 where
   pub to : Standing
   pub leads : Leads p ts to us
-  pub enough : others to us + room ≡ most
+  pub enough : others to us + room ≡ MOST_NESTED
 
 pub stops_facing : (room : ℕ) (p : Standing) (ts us : List Token) → Faces room p ts us
     → Stops p ts (length us) (room == 0)
@@ -73,7 +74,7 @@ stops_facing room p ts us f =
 
 pub inside_before : (ends : List Open → List Open) (room n : ℕ) (ts us : List Token) (e : Stuck)
     → e ≡ At (length us) (n == 0)
-    → ((os : List Open) → ends os ≡ os → length os + room ≡ most → Faces n (wanting os) ts us)
+    → ((os : List Open) → ends os ≡ os → length os + room ≡ MOST_NESTED → Faces n (wanting os) ts us)
     → IsInside ends room ts e
 inside_before ends room n ts us e is faces =
     subst (IsInside ends room ts) (sym is)
@@ -89,7 +90,7 @@ ended_others Ends os ts h = refl
 
 -- behind a whole operand one stands in what it doesn't end
 faces_behind : (n : ℕ) (os : List Open) (p q : Standing) (ts us : List Token) → Leads p ts q us
-    → Behind enclosing os q us → length (enclosing os) + n ≡ most → Faces n p ts us
+    → Behind enclosing os q us → length (enclosing os) + n ≡ MOST_NESTED → Faces n p ts us
 faces_behind n os p q ts us leads at enough = record {
   to = q;
   leads = leads;
@@ -216,7 +217,7 @@ module _ (scope : Scope) (room : ℕ) (ts : List Token) (v : Part) (mid : List T
   -- behind a sum, and what joins another operand to it
   begins_joined : (us : List Token)
       → ((p : Standing) → Leads p mid (wanting (unsigned p.within)) us)
-      → (os : List Open) → unsigned os ≡ os → length os + room ≡ most
+      → (os : List Open) → unsigned os ≡ os → length os + room ≡ MOST_NESTED
       → Begins unsigned room (wanting os) ts us
   begins_joined us joins os bare enough =
       let p = any_chain level.Sum scope room ts v mid r.read os in

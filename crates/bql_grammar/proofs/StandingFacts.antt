@@ -4,6 +4,7 @@ use Rattle.std.proofs.Common.{Option, Some, None, refl, sym, ap, ◌∙◌, subs
 use Rattle.std.proofs.lemmas.List.{append_assoc}
 use Rattle.std.specs.Prelude.{◌==◌, nat_le, if◌then◌else◌}
 use Rattle.std.proofs.lemmas.Bool.Decides.{nat_tests}
+use Rattle.bean_base.specs.declared.limits.TheConstants.{MOST_NESTED}
 use denote.Enum.Bare.{same_true}
 use Rattle.bql_lexer.specs.Kind.{same_kind}
 use Rattle.bql_lexer.specs.contracts.kind.Kind as kind_type
@@ -14,7 +15,7 @@ use Rattle.bql_grammar.specs.Front as fronts
 use Rattle.bql_grammar.specs.Front.{front, before, begins, of_kind, with_token, leaf_by}
 use Rattle.bql_grammar.specs.Nesting.{Open, Parenthesis, Sign, Denial, Last, Wants, Names, Ends}
 use Rattle.bql_grammar.specs.Nesting.{Standing, behind, wanting, unsigned, enclosing, outside}
-use Rattle.bql_grammar.specs.Nesting.{role, Joins, IsLiteral, after, step, through, others, most}
+use Rattle.bql_grammar.specs.Nesting.{role, Joins, IsLiteral, after, step, through, others}
 use Rattle.bql_grammar.specs.Nesting.{is_full, Stops, IsInside, bound}
 use Rattle.bql_grammar.proofs.FormFacts.{same_some}
 use Rattle.bql_grammar.specs.declared.stuck.Stuck.{Stuck}
@@ -222,7 +223,7 @@ stops_on p ts q us left deep a s = record {
 full_is : (n room : ℕ) → n + room ≡ 200 → (room == 0) ≡ nat_le 200 n
 full_is n room e = grind (arith, nat_tests, e)
 
-pub stops_here : (p : Standing) (ts : List Token) (room : ℕ) → others p ts + room ≡ most
+pub stops_here : (p : Standing) (ts : List Token) (room : ℕ) → others p ts + room ≡ MOST_NESTED
     → Stops p ts (length ts) (room == 0)
 stops_here p ts room e = record {
   passed = [];

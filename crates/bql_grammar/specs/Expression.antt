@@ -8,6 +8,7 @@
 -- atom = literal | name | name "(" ["*" | or {"," or}] ")" | "(" or ")"
 use Rattle.std.specs.Prelude.{◌≡◌, ℕ, zero, suc, ◌&&◌, ◌⊎◌, Bool, true, false, List, [], Option}
 use Rattle.std.specs.Prelude.{Some}
+use Rattle.bean_base.specs.declared.limits.TheConstants.{MOST_NESTED}
 use Rattle.theory.specs.Form.{Form, made, ending, row, chain, alone, snoc}
 use Rattle.bql_lexer.specs.declared.kind.Kind.{Kind}
 use Rattle.bql_lexer.specs.declared.kind.Kind.TheVariants as kind
@@ -216,4 +217,4 @@ abbrev pub arguments : Scope → ℕ → Form Token (List Part)
 arguments scope room = arguments_of (or_of (negation scope room))
 
 abbrev pub expression : Scope → Form Token Part
-expression scope = chain_at level.Or scope 200
+expression scope = chain_at level.Or scope MOST_NESTED

@@ -1,6 +1,7 @@
 -- What is open behind some tokens: parentheses that are not closed, and signs and NOTs whose
 -- operand still goes on.
 use Rattle.std.specs.Prelude.{◌≡◌, ℕ, ◌+◌, Bool, true, false, nat_le, List, [], ◌∷◌, ◌++◌, length}
+use Rattle.bean_base.specs.declared.limits.TheConstants.{MOST_NESTED}
 use Rattle.bql_lexer.specs.declared.kind.Kind.{Kind}
 use Rattle.bql_lexer.specs.declared.kind.Kind.TheVariants as kind
 use Rattle.bql_lexer.specs.declared.token.Token.{Token}
@@ -126,12 +127,9 @@ still_open Ends call within = enclosing within
 abbrev pub others : Standing → List Token → ℕ
 others p ts = length (still_open p.last (begins (of_kind kind.OpenParenthesis) ts) p.within)
 
-abbrev pub most : ℕ
-most = 200
-
 -- nothing may nest there
 abbrev pub is_full : Standing → List Token → Bool
-is_full p ts = nat_le most (others p ts)
+is_full p ts = nat_le MOST_NESTED (others p ts)
 
 -- Reading stops where so many tokens are left, and this says whether something may nest there.
 pub record Stops (p : Standing) (ts : List Token) (left : ℕ) (is_deep : Bool) : Type 0 where

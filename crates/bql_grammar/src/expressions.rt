@@ -1,5 +1,6 @@
 //! Expressions at the front of some tokens.
 ghost use Rattle.std.specs.Prelude.{◌≡◌, ◌<◌, ◌≤◌, true, length, IfOk, IfErr};
+ghost use Rattle.bean_base.specs.declared.limits.TheConstants.{MOST_NESTED};
 ghost use Rattle.bql_grammar.specs.Expression as rule;
 ghost use Rattle.bql_grammar.specs.Front.{begins_with_call};
 ghost use Rattle.bql_grammar.specs.Gives.{Gives};
@@ -12,6 +13,7 @@ use crate::front::{
     begins_with_list,
 };
 use crate::stuck::Stuck;
+use bean_base::limits::MOST_NESTED;
 use bql_lexer::{Kind, Token};
 use bql_tree::call::{called, is_count, listed};
 use bql_tree::function::Scope;
@@ -19,9 +21,6 @@ use bql_tree::level::Level;
 use bql_tree::part::{Part, denied, group, leaf, matched, name, rows, signed, two};
 use bql_tree::tree::Binary;
 use std::alloc::Global;
-
-/// How many parentheses, signs and NOTs may stand in one another.
-pub const ROOM: usize = 200;
 
 /// A chain of operators of a level at the front, and what stands behind it.
 #[cycle(expression)]
@@ -420,7 +419,7 @@ pub fn expression<'t, 'a>(
 ) -> Result<(Part<'a>, &'t [Token<'a>]), Stuck>
     ensures read { Gives (rule.expression scope) part_of tokens.now result }
     ensures shorter { IfOk result (λ r. length r.1.now < length tokens.now) }
-    ensures inside { IfErr result (λ e. IsInside nesting.enclosing 200 tokens.now e) }
+    ensures inside { IfErr result (λ e. IsInside nesting.enclosing MOST_NESTED tokens.now e) }
 {
-    chain(alloc, tokens, Level::Or, scope, ROOM)
+    chain(alloc, tokens, Level::Or, scope, MOST_NESTED)
 }

@@ -5,6 +5,7 @@ use Rattle.std.specs.Prelude.{Err}
 use Rattle.std.specs.Prelude.{if◌then◌else◌}
 use Rattle.std.specs.List.{slice_get, position, list_any}
 use Rattle.std.specs.Str.{str_eq_ignore_ascii_case}
+use Rattle.bean_base.specs.declared.limits.TheConstants.{LARGEST_QUERY, MOST_ITEMS}
 use Rattle.theory.specs.Form.{steps}
 use Rattle.bean_base.specs.Numeral.{is_point}
 use Rattle.bql_tree.specs.Cause.{unknown_name, outside_profile, both}
@@ -55,7 +56,7 @@ each_target ts = steps one_target (Ok []) ts
 
 -- the first of too many is refused
 abbrev pub targets : List read.Target → Result (List Target) Cause
-targets ts = refused_at (slice_get (map target_start ts) 255) (each_target ts)
+targets ts = refused_at (slice_get (map target_start ts) MOST_ITEMS) (each_target ts)
 
 -- Filters.
 
@@ -134,7 +135,7 @@ abbrev pub each_item : List read.Target → List Part → Result (List Item) Cau
 each_item ts ps = steps (one_item ts) (Ok []) ps
 
 abbrev pub items : List read.Target → List Part → Result (List Item) Cause
-items ts ps = refused_at (slice_get (map part_start ps) 255) (each_item ts ps)
+items ts ps = refused_at (slice_get (map part_start ps) MOST_ITEMS) (each_item ts ps)
 
 abbrev pub group : List read.Target → Option (List Part) → Result (Option (List Item)) Cause
 group ts (Some ps) = mapped Some (items ts ps)
@@ -200,7 +201,7 @@ settled (balancing b) = balances b
 
 -- a text of more than 65535 bytes is refused at the first that is too many
 abbrev pub byte_beyond : ℕ → Option ℕ
-byte_beyond len = if nat_lt 65535 len then Some 65535 else None
+byte_beyond len = if nat_lt LARGEST_QUERY len then Some LARGEST_QUERY else None
 
 abbrev pub answer : List ℕ → Read → Result Asked Cause
 answer text r = refused_at (byte_beyond (length text)) (settled r)

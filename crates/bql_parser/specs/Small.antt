@@ -1,6 +1,7 @@
 -- How large what a query asks may be.
 use Rattle.std.specs.Prelude.{ℕ, suc, ◌<◌, ◌≤◌, List, length, IfSome, Result, Ok, Err}
 use Rattle.std.specs.List.{AllByRecursion}
+use Rattle.bean_base.specs.declared.limits.TheConstants.{LARGEST_QUERY, MOST_COMPONENTS, MOST_ITEMS}
 use Rattle.bql_parser.specs.Asked.{Asked, Target, Item, ItemKind, target_item, tree_item}
 use Rattle.bql_tree.specs.Tree.{Operation, leaf_of, one_of, call_of, Tree, node, Trees, no_trees}
 use Rattle.bql_tree.specs.Tree.{trees}
@@ -13,7 +14,7 @@ use Rattle.bql_tree.specs.declared.tree.Unary.TheVariants as unary
 
 -- a text of at most 65535 bytes, as many as a query may have
 abbrev pub IsShort : List ℕ → Type 0
-IsShort bytes = length bytes ≤ 65535
+IsShort bytes = length bytes ≤ LARGEST_QUERY
 
 abbrev pub count : {A : Type 0} → Trees A → ℕ
 count no_trees = 0
@@ -32,14 +33,14 @@ IsSmallLeaf l = Unit {0}
 -- its pattern is short, and ROOT takes from 1 to 255 components
 abbrev pub IsSmallUnary : Unary → Type 0
 IsSmallUnary (unary.Matches pattern) = IsShort pattern
-IsSmallUnary (unary.Root n) = (1 ≤ n) × (n ≤ 255)
+IsSmallUnary (unary.Root n) = (1 ≤ n) × (n ≤ MOST_COMPONENTS)
 IsSmallUnary op = Unit {0}
 
 -- over these parts; behind what is looked for in a list stand its members, at most 65535
 abbrev pub IsSmallIn : Operation → Trees ℕ → Type 0
 IsSmallIn (leaf_of l) ts = IsSmallLeaf l
 IsSmallIn (one_of op) ts = IsSmallUnary op
-IsSmallIn (call_of function.OneOf) (trees t members) = count members ≤ 65535
+IsSmallIn (call_of function.OneOf) (trees t members) = count members ≤ LARGEST_QUERY
 IsSmallIn op ts = Unit {0}
 
 -- an expression in which all that is written is small
@@ -66,7 +67,7 @@ IsSmallItem targets i = IsSmallKind targets i.kind
 
 -- items beside so many targets
 pub record AreSmallItems (targets : ℕ) (is : List Item) : Type 0 where
-  pub few : length is ≤ 255
+  pub few : length is ≤ MOST_ITEMS
   pub all : AllByRecursion (IsSmallItem targets) is
 
 -- ---- queries
@@ -74,7 +75,7 @@ pub record AreSmallItems (targets : ℕ) (is : List Item) : Type 0 where
 -- from 1 to 255 targets, at most 255 items to group and to order by, each, and all of them small
 pub record IsSmall (s : Asked) : Type 0 where
   pub some : 1 ≤ length s.targets
-  pub few : length s.targets ≤ 255
+  pub few : length s.targets ≤ MOST_ITEMS
   pub targets : AllByRecursion IsSmallTarget s.targets
   pub from : IfSome s.filters.from IsSmallTree
   pub filter : IfSome s.filters.filter IsSmallTree

@@ -1,5 +1,6 @@
 //! Texts of queries.
 ghost use Rattle.std.specs.Prelude.{◌≡◌, ◌≤◌, List, [], length};
+ghost use Rattle.bean_base.specs.declared.limits.TheConstants.{LARGEST_QUERY};
 ghost use Rattle.bql_grammar.specs.Nesting as nesting;
 ghost use Rattle.bql_grammar.specs.Nesting.{wanting};
 ghost use Rattle.bql_lexer.specs.declared.token.Token.{Token};
@@ -15,14 +16,12 @@ use crate::fault::{QueryFault, fault_of};
 use crate::queries::query;
 use crate::query::{Draft, Query};
 use crate::settling::refused_at;
+use bean_base::limits::LARGEST_QUERY;
 use bql_grammar::Stuck;
 use bql_lexer::{Kind, Token, tokens};
 use bql_tree::Cause;
 use bql_tree::function::is_left_out;
 use std::alloc::Global;
-
-/// How many bytes a query may have.
-pub const MOST_BYTES: usize = 65_535;
 
 /// Whether a token is a parenthesis, a sign or NOT.
 fn nests(token: &Token<'_>) -> bool
@@ -70,8 +69,8 @@ fn fault_by(text: &str, tokens: &[Token<'_>], stuck: Stuck) -> QueryFault
 fn byte_beyond(text: &str) -> Option<usize>
     ensures { result ≡ settled.byte_beyond (length text.now) }
 {
-    if text.len() > MOST_BYTES {
-        Some(MOST_BYTES)
+    if text.len() > LARGEST_QUERY {
+        Some(LARGEST_QUERY)
     } else {
         None
     }
@@ -79,7 +78,7 @@ fn byte_beyond(text: &str) -> Option<usize>
 
 /// A query, unless its text is too long.
 fn answered<'a>(text: &str, found: Result<Draft<'a>, Cause>) -> Result<Query<'a>, QueryFault>
-    requires { length text.now ≤ 65535 → IsSmallFound (mapped draft_of found) }
+    requires { length text.now ≤ LARGEST_QUERY → IsSmallFound (mapped draft_of found) }
     ensures { IsAnswered (settled.refused_at (settled.byte_beyond (length text.now))
         (mapped draft_of found.entry)) result }
 {

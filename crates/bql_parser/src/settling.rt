@@ -1,6 +1,7 @@
 //! From clauses that were read to a query, or to the least cause for which it is refused.
 ghost use Rattle.std.specs.Prelude.{◌≡◌, map, IfOk};
 ghost use Rattle.std.specs.List.{slice_get, list_any};
+ghost use Rattle.bean_base.specs.declared.limits.TheConstants.{MOST_ITEMS};
 ghost use Rattle.bean_base.specs.Numeral.{is_point};
 ghost use Rattle.bql_tree.specs.Part.{part_of, parts_in, parts_of, tree_found};
 ghost use Rattle.bql_tree.specs.Tree.{tree_of};
@@ -11,13 +12,11 @@ ghost use Rattle.bql_parser.specs.View as view;
 
 use crate::clauses::{FiltersRead, OrderRead, TargetRead};
 use crate::query::{Filters, Item, ItemKind, Order, Target};
+use bean_base::limits::MOST_ITEMS;
 use bql_tree::cause::both;
 use bql_tree::part::not_null;
 use bql_tree::{Alone, Cause, Expr, Leaf, Part};
 use std::alloc::{AllocError, Global};
-
-/// How many targets, items of GROUP BY and items of ORDER BY a query may have, each.
-pub const MOST_ITEMS: usize = 255;
 
 /// What is found, or its least cause, where something stands at a place that may not.
 pub fn refused_at<T: Drop>(place: Option<usize>, found: Result<T, Cause>) -> Result<T, Cause>
@@ -61,7 +60,7 @@ fn one_target<'a>(
 
 /// Where the first target stands that is too many.
 fn target_beyond(reads: &[TargetRead<'_>]) -> Option<usize>
-    ensures { result ≡ slice_get (map rule.target_start (views.targets_in reads.now)) 255 }
+    ensures { result ≡ slice_get (map rule.target_start (views.targets_in reads.now)) MOST_ITEMS }
 {
     match reads.get(MOST_ITEMS) {
         Some(read) => Some(read.part.start),
@@ -256,7 +255,7 @@ fn each_item<'a>(
 
 /// Where the first part stands that is too many.
 fn part_beyond(parts: &[Part<'_>]) -> Option<usize>
-    ensures { result ≡ slice_get (map rule.part_start (parts_in parts.now)) 255 }
+    ensures { result ≡ slice_get (map rule.part_start (parts_in parts.now)) MOST_ITEMS }
 {
     match parts.get(MOST_ITEMS) {
         Some(part) => Some(part.start),

@@ -3,6 +3,7 @@ use Rattle.std.specs.Prelude.{ℕ, ◌==◌, ◌&&◌, max, Bool, true, false, L
 use Rattle.std.specs.Prelude.{negsuc, nat_le, codes, Option, Some, None, Result, Ok, Err}
 use Rattle.std.specs.Prelude.{if◌then◌else◌}
 use Rattle.std.specs.Str.{str_eq_ignore_ascii_case}
+use Rattle.bean_base.specs.declared.limits.TheConstants.{MOST_COMPONENTS}
 use Rattle.theory.specs.Form.{steps}
 use Rattle.query_values.specs.declared.decimal.Decimal.{Decimal}
 use Rattle.bql_lexer.specs.declared.token.Token.{Token}
@@ -69,7 +70,7 @@ takes_key f = false
 
 -- a whole number from 1 to 255
 abbrev pub components_of : ℤ → Option ℕ
-components_of (pos n) = if nat_le 1 n && nat_le n 255 then Some n else None
+components_of (pos n) = if nat_le 1 n && nat_le n MOST_COMPONENTS then Some n else None
 components_of (negsuc n) = None
 
 abbrev pub whole_components : Decimal → Option ℕ

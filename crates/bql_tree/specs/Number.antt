@@ -1,6 +1,7 @@
 -- Numbers of a query: digits, and a point with digits behind it.
 use Rattle.std.specs.Prelude.{ℕ, ◌^◌, ◌==◌, min, Bool, List, drop, length, pos, Option, Some, None}
 use Rattle.std.specs.List.{prefix_len, after_first}
+use Rattle.bean_base.specs.declared.limits.TheConstants.{COUNT_BOUND}
 use Rattle.bean_base.specs.Numeral.{count_of, is_point}
 use Rattle.query_values.specs.Wide.{decimal_of}
 use Rattle.query_values.specs.declared.decimal.Decimal.{Decimal}
@@ -27,4 +28,4 @@ number_by bs None = leaf.TooWide (significant bs)
 
 -- the decimal that is written, if a machine holds it, and else its digits
 abbrev pub number : List ℕ → leaves.Leaf
-number bs = number_by bs (decimal (places bs) (min (2 ^ 127) (count_of bs)))
+number bs = number_by bs (decimal (places bs) (min COUNT_BOUND (count_of bs)))

@@ -2,6 +2,7 @@
 use Rattle.std.specs.Prelude.{ℕ, ◌+◌, max, Bool, true, false, ◌||◌, List, map, nat_lt, nat_le}
 use Rattle.std.specs.Prelude.{Option, Some, None, Result, Ok, Err, if◌then◌else◌, Box, Vec}
 use Rattle.std.specs.declared.alloc.Global.{Global}
+use Rattle.bean_base.specs.declared.limits.TheConstants.{GREATEST_HEIGHT}
 use Rattle.bql_lexer.specs.declared.token.Token.{Token}
 use Rattle.bql_tree.specs.Cause.{outside_profile, unknown_name, least, both}
 use Rattle.query_columns.specs.Column as columns
@@ -68,7 +69,7 @@ parts_of v = parts_in v.items
 
 -- of what stands around something; 201 is too high, and no more is told
 abbrev pub above : ℕ → ℕ
-above height = if nat_lt 200 height then height else height + 1
+above height = if nat_lt GREATEST_HEIGHT height then height else height + 1
 
 abbrev pub too_high : {A : Type 0} → ℕ → Result A Cause → Result A Cause
 too_high start (Ok a) = Err (outside_profile start)
@@ -76,7 +77,7 @@ too_high start (Err c) = Err (least c (outside_profile start))
 
 -- an expression above the height of 200 is refused at its first byte
 abbrev pub not_too_high : {A : Type 0} → ℕ → ℕ → Result A Cause → Result A Cause
-not_too_high start height found = if nat_le height 200 then found else too_high start found
+not_too_high start height found = if nat_le height GREATEST_HEIGHT then found else too_high start found
 
 -- NULL.
 

@@ -8,6 +8,7 @@ use crate::function::{Function, Scope};
 use crate::part::{Alone, Part, above, not_null, not_too_high, unknown};
 use crate::tree::{Entry, Expr, Leaf, Unary};
 use bean_base::Slice;
+use bean_base::limits::MOST_COMPONENTS;
 use bql_lexer::Token;
 use std::alloc::{AllocError, Global};
 
@@ -101,7 +102,8 @@ fn components(part: Part<'_>) -> Result<u8, Cause>
     let outside = Cause::outside_profile(part.start);
     match part.expr {
         Ok(expr) => match Box::into_inner(expr) {
-            Expr::Leaf(_, Leaf::Number(n)) if n.places == 0 && 1 <= n.count && n.count <= 255 => {
+            Expr::Leaf(_, Leaf::Number(n))
+                if n.places == 0 && 1 <= n.count && n.count <= MOST_COMPONENTS => {
                 Ok(n.count as u8)
             }
             _ => Err(outside),

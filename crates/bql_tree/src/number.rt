@@ -1,10 +1,12 @@
 //! Numbers of a query.
 ghost use Rattle.std.specs.Prelude.{◌≡◌, ◌^◌, ◌<◌, ◌≤◌, min, pos};
+ghost use Rattle.bean_base.specs.declared.limits.TheConstants.{COUNT_BOUND, MOST_PLACES};
 ghost use Rattle.bean_base.specs.Numeral.{count_of};
 ghost use Rattle.bql_tree.specs.Number as rule;
 
 use crate::tree::Leaf;
 use bean_base::Slice;
+use bean_base::limits::{COUNT_BOUND, MOST_PLACES};
 use byte_runs::{ByteClass, end_of_run};
 use query_values::Decimal;
 
@@ -19,13 +21,10 @@ impl ByteClass for Zero {
     }
 }
 
-/// What no count reaches.
-const CAP: u128 = 1 << 127;
-
 /// The number that the digits write, or `2^127` where it is as great.
 #[tactic(auto, using(crate::proofs::NumberFacts::capped))]
 fn capped_count(bytes: &[u8]) -> u128
-    ensures { result ≡ min (2 ^ 127) (count_of bytes.now) }
+    ensures { result ≡ min COUNT_BOUND (count_of bytes.now) }
 {
     let mut count: u128 = 0;
     for b in bytes {
@@ -33,7 +32,7 @@ fn capped_count(bytes: &[u8]) -> u128
             count = count
                 .saturating_mul(10)
                 .saturating_add((*b - b'0') as u128)
-                .min(CAP);
+                .min(COUNT_BOUND);
         }
     }
     count
@@ -50,14 +49,14 @@ fn places(number: &str) -> usize
 }
 
 fn signed(count: u128) -> i128
-    requires { count < 2 ^ 127 }
+    requires { count < COUNT_BOUND }
     ensures { result ≡ pos count }
 {
     count as i128
 }
 
 fn narrow(places: usize) -> u8
-    requires { places ≤ 32 }
+    requires { places ≤ MOST_PLACES }
     ensures { result ≡ places }
 {
     places as u8
@@ -68,7 +67,7 @@ fn narrow(places: usize) -> u8
 fn decimal(count: u128, places: usize) -> Option<Decimal>
     ensures { result ≡ rule.decimal places count }
 {
-    if places > 32 || count >= CAP {
+    if places > MOST_PLACES as usize || count >= COUNT_BOUND {
         return None;
     }
     Decimal::new(signed(count), narrow(places))

@@ -8,12 +8,10 @@ use crate::cause::{Cause, both};
 use crate::function::{Scope, is_left_out};
 use crate::tree::{Binary, Expr, Leaf, Unary};
 use bean_base::Slice;
+use bean_base::limits::GREATEST_HEIGHT;
 use bql_lexer::Token;
 use query_columns::Column;
 use std::alloc::{AllocError, Global};
-
-/// How high an expression may be.
-pub const GREATEST_HEIGHT: usize = 200;
 
 /// Whether an expression is one token, without parentheses.
 #[derive(Debug, Drop)]
