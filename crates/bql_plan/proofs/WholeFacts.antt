@@ -24,7 +24,7 @@ use Rattle.bql_types.specs.Typing.{filters_causes, target_causes, group_causes, 
 use Rattle.bql_types.specs.Typing.{group_causes_by, order_item_causes, order_causes_by}
 use Rattle.bql_types.specs.Typing.{order_causes_at, place_of, causes, key_of, key_by}
 use Rattle.bql_types.specs.Typing.{keys_of, plain_target, plain_targets, tree_of_found}
-use Rattle.bql_types.specs.Typing.{target_aggregates}
+use Rattle.bql_types.specs.Typing.{target_aggregates, keys_of_targets, one_target_aggregates}
 use Rattle.bql_types.proofs.LawFacts.{no_more, shapes_are_found}
 
 -- ---- an expression without causes
@@ -243,10 +243,15 @@ plain_keys b (t ∷ ts) h =
     both b (plain_target t) (plain_targets ts) (plain_key (target_aggregates t) b t.tree h.0)
     (plain_keys b ts h.1)
 
+target_keys : (aggregating : Bool) (b : Bounds) (ts : List Target)
+    → AreFaultless b (map target_tree ts) → AreFaultless b (keys_of_targets aggregating ts)
+target_keys true b ts h = plain_keys b ts h
+target_keys false b ts h = tt
+
 keys : (b : Bounds) (ts : List Target) (o : Option (List Item))
     → AreFaultless b (map target_tree ts) → AreFaultless b (group_trees o)
     → AreFaultless b (grouping_by ts o).keys
-keys b ts None h k = plain_keys b ts h
+keys b ts None h k = target_keys (one_target_aggregates ts) b ts h
 keys b ts (Some is) h k = item_keys b ts is h k
 
 all_planned : (b : Bounds) (ts : List (Tree ℕ)) → AreFaultless b ts

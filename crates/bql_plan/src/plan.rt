@@ -37,7 +37,7 @@ pub struct Plan<'q, 'a> {
     /// What orders rows, as indices of what is shown.
     pub order: Vec<usize>,
     pub is_aggregating: bool,
-    /// What rows are grouped by. They count only where the query aggregates.
+    /// What rows are grouped by: nothing where the query doesn't aggregate.
     pub keys: Vec<Shaped<'q, 'a>>,
     /// The aggregates of all that is shown, in order of reading, equal ones once.
     pub aggregates: Vec<Shaped<'q, 'a>>,
