@@ -15,8 +15,8 @@ use Rattle.query_shapes.proofs.OrderFacts.{reflexive}
 use Rattle.query_shapes.specs.Shape.{IsBelow}
 use Rattle.query_shapes.specs.declared.shape.Shape.{Shape}
 use Rattle.query_values.specs.Aggregate.{aggregate_of}
-use Rattle.bql_meaning.specs.Meaning.{value_of, values_of, applied, aggregate_by, input_of}
-use Rattle.bql_meaning.specs.Meaning.{summing, of_call}
+use Rattle.bql_meaning.specs.Meaning.{value_of, values_of, applied, input_of}
+use Rattle.bql_types.specs.Gathered.{aggregate_by, summing, of_call}
 use Rattle.bql_meaning.specs.Reading.{Reading}
 use Rattle.bql_meaning.proofs.BoundFacts.{least, Gives, AllBelow, leaf_lesser, one_lesser}
 use Rattle.bql_meaning.proofs.BoundFacts.{two_lesser, call_lesser, sum_below}

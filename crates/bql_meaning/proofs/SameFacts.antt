@@ -29,7 +29,8 @@ use Rattle.query_columns.specs.contracts.column.Column as columns
 use Rattle.query_values.specs.Aggregate.{aggregate_of}
 use Rattle.query_values.specs.declared.decimal.Decimal.{Decimal}
 use Rattle.bql_meaning.specs.Bare.{bare, all_bare}
-use Rattle.bql_meaning.specs.Meaning.{value_of, values_of, applied, aggregate_by, input_of}
+use Rattle.bql_meaning.specs.Meaning.{value_of, values_of, applied, input_of}
+use Rattle.bql_types.specs.Gathered.{aggregate_by}
 use Rattle.bql_meaning.specs.Reading.{Reading}
 
 texts : (a b : List ℕ) → Decides (same_text a b) (a ≡ b)

@@ -38,7 +38,8 @@ use Rattle.query_values.specs.declared.operation.Binary.TheVariants as machines
 use Rattle.query_values.specs.declared.value.Value.{Value}
 use Rattle.query_values.specs.declared.value.Value.TheVariants.{Null, Truth}
 use Rattle.bql_meaning.specs.Alignment.{is_aligned}
-use Rattle.bql_meaning.specs.Meaning.{one_value, two_value, of_one, call_value, of_call}
+use Rattle.bql_meaning.specs.Meaning.{one_value, two_value, of_one, call_value}
+use Rattle.bql_types.specs.Gathered.{of_call}
 use Rattle.bql_meaning.proofs.AlignmentFacts.{alike}
 
 -- what is there lies in the shape that is there

@@ -28,6 +28,7 @@ use Rattle.bql_types.specs.Sought.{is_aggregate, aggregates, one_aggregates, mis
 use Rattle.bql_types.specs.Sought.{all_misplaced, balances}
 use Rattle.bql_types.specs.Typing.{IsTyped, Grouping, grouping_by, grouping_of, each}
 use Rattle.bql_types.specs.Typing.{target_causes, keys_of}
+use Rattle.bql_types.specs.Typing.{keys_of_targets, one_target_aggregates}
 use Rattle.bql_types.specs.Typing.{group_item_causes, plain_targets, filters_causes, group_causes}
 use Rattle.bql_types.specs.Typing.{row_causes, plain_target}
 use Rattle.bql_types.specs.Typing.{named_group_causes, group_causes_by, key_by}
@@ -246,7 +247,11 @@ group_keys : (b : Bounds) (g : Grouping) (ts : List Target) (group : Option (Lis
     → AllByRecursion (λ t. IsProper t.tree) ts → IsProperGroup group
     → each (target_causes b g) ts ≡ [] → group_causes b ts group ≡ []
     → AllKeys b (grouping_by ts group).keys
-group_keys b g ts None are is none well = plain_keys b g ts none
+group_keys b g ts None are is none well = by (one_target_aggregates ts)
+  where
+    by : (aggregating : Bool) → AllKeys b (keys_of_targets aggregating ts)
+    by true = plain_keys b g ts none
+    by false = tt
 group_keys b g ts (Some items) are is none well =
     item_keys b ts items (proper_targets b g ts are none) is well
 

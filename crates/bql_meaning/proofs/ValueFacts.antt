@@ -37,8 +37,8 @@ use Rattle.query_values.specs.declared.operation.Aggregate.TheVariants.{CountRow
 use Rattle.query_values.specs.declared.value.Value.{Value}
 use Rattle.query_values.specs.declared.value.Value.TheVariants.{Truth}
 use Rattle.bql_meaning.specs.Shaped.{IsRead, HasShortTexts, AllHaveShortTexts, IsShortIn}
-use Rattle.bql_meaning.specs.Meaning.{value_of, values_of, applied, leaf_value, aggregate_by}
-use Rattle.bql_meaning.specs.Meaning.{input_of, of_call}
+use Rattle.bql_meaning.specs.Meaning.{value_of, values_of, applied, leaf_value, input_of}
+use Rattle.bql_types.specs.Gathered.{aggregate_by, of_call}
 use Rattle.bql_meaning.specs.Reading.{Reading, cell, text}
 use Rattle.bql_meaning.proofs.ShapeFacts.{one_lies, two_lies, equations_give_truth, AllLie}
 use Rattle.bql_meaning.proofs.ShapeFacts.{call_lies, gathered_lies}

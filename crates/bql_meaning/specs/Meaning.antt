@@ -1,9 +1,8 @@
 -- The value of an expression over some rows: a group, or one row alone. Columns and metadata are
 -- those of the first row, aggregates gather over all. What has no type is null.
-use Rattle.std.specs.Prelude.{ℕ, ◌&&◌, ◌||◌, false, List, [], ◌∷◌, map, Option, Some}
+use Rattle.std.specs.Prelude.{ℕ, ◌&&◌, ◌||◌, false, List, [], ◌∷◌, map}
 use Rattle.std.specs.Prelude.{if◌then◌else◌}
 use Rattle.bean_base.specs.declared.bounds.Bounds.{Bounds}
-use Rattle.bql_shapes.specs.Rules.{sum_over}
 use Rattle.bql_tree.specs.Tree.{Operation, leaf_of, one_of, two_of, call_of, Tree, node, Trees}
 use Rattle.bql_tree.specs.Tree.{no_trees, trees}
 use Rattle.bql_tree.specs.declared.function.Function.{Function}
@@ -14,15 +13,13 @@ use Rattle.bql_tree.specs.declared.tree.Leaf.{Leaf}
 use Rattle.bql_tree.specs.declared.tree.Leaf.TheVariants as leaf
 use Rattle.bql_tree.specs.declared.tree.Unary.{Unary}
 use Rattle.bql_tree.specs.declared.tree.Unary.TheVariants as unary
+use Rattle.bql_types.specs.Gathered.{aggregate_by}
 use Rattle.bql_types.specs.Shaped.{shapes_of}
 use Rattle.bql_types.specs.Sought.{is_aggregate}
 use Rattle.query_columns.specs.declared.column.Column.TheVariants as column
-use Rattle.query_shapes.specs.declared.shape.Shape.{Shape}
 use Rattle.query_values.specs.Aggregate.{aggregate_of}
 use Rattle.query_values.specs.Operation.{is_true, unary_value, binary_value}
 use Rattle.query_values.specs.Unary as operation
-use Rattle.query_values.specs.declared.operation.Aggregate.{Aggregate}
-use Rattle.query_values.specs.declared.operation.Aggregate.TheVariants as aggregate
 use Rattle.query_values.specs.declared.operation.Binary.TheVariants as operations
 use Rattle.query_values.specs.declared.value.Value.{Value}
 use Rattle.query_values.specs.declared.value.Value.TheVariants.{Null, Truth, Number, Text, Day}
@@ -93,26 +90,6 @@ applied (call_of f) rows xs = call_value f xs
 applied op rows xs = Null
 
 -- ---- aggregates
-
--- numbers are summed to a number of the decimals that they have by their type, even where there are
--- none; amounts and positions to an inventory
-abbrev pub summing : Option (List Shape) → Aggregate
-summing (Some (s ∷ [])) = sum_over s
-summing ss = aggregate.SumInventory 8
-
-abbrev pub of_call : Function → Option (List Shape) → Aggregate
-of_call function.Count ss = aggregate.Count
-of_call function.Sum ss = summing ss
-of_call function.First ss = aggregate.First
-of_call function.Last ss = aggregate.Last
-of_call function.Min ss = aggregate.Min
-of_call function.Max ss = aggregate.Max
-of_call f ss = aggregate.CountRows
-
--- which aggregate it is, by the shapes of its parts; COUNT(*) alone has none
-abbrev pub aggregate_by : Operation → Option (List Shape) → Aggregate
-aggregate_by (call_of f) ss = of_call f ss
-aggregate_by op ss = aggregate.CountRows
 
 -- what is gathered of a row: the value of the one part, null where there is none
 abbrev pub input_of : List Value → Value

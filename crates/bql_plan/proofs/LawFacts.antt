@@ -1,15 +1,15 @@
 -- Why the laws hold.
-use Rattle.std.proofs.Common.{◌≡◌, ℕ, ℤ, zero, suc, ◌<◌, Bool, true, false, ◌&&◌, ◌||◌, ◌==◌}
-use Rattle.std.proofs.Common.{List, [], ◌∷◌, ◌++◌, length, refl, sym, subst, arith}
+use Rattle.std.proofs.Common.{◌≡◌, ℕ, ℤ, zero, suc, Bool, true, false, ◌&&◌, ◌||◌, ◌==◌}
+use Rattle.std.proofs.Common.{List, [], ◌∷◌, ◌++◌, refl, sym, subst, ap, ◌∙◌, arith}
 use Rattle.std.proofs.Common.{if◌then◌else◌, nat_eq}
 use Rattle.std.proofs.lemmas.Bool.Decides.{nat_tests}
-use Rattle.std.specs.List.{IsAmong}
+use Rattle.std.specs.List.{IsAmong, slice_get}
 use Rattle.std.specs.Ordering.{int_eq}
 use Rattle.theory.specs.Form.{steps}
 use Rattle.bean_base.specs.Day.{number}
 use denote.Enum.Bare.{sameb}
 use Rattle.std.proofs.lemmas.Cmp.{int_eq_equiv}
-use Rattle.bql_plan.specs.Laws.{StandsIn, OrderIsShown, AggregatesAreCounted}
+use Rattle.bql_plan.specs.Laws.{StandsIn, OrderIsShown, AggregatesAreCounted, KeysAreFound}
 use Rattle.bql_plan.specs.Plan.{added, index_of, own_trees, shown, aggregates_of}
 use Rattle.bql_tree.specs.Tree.{Operation, leaf_of, one_of, two_of, call_of, Tree, node, Trees}
 use Rattle.bql_tree.specs.Tree.{no_trees, trees}
@@ -146,15 +146,24 @@ has_all (u ∷ us) ts t (zero, (b, e)) =
     (subst (λ z. is_key (added ts u) z ≡ true) (sym e) (adds_by (is_key ts u) ts u refl))
 has_all (u ∷ us) ts t (suc i, (b, e)) = has_all us (added ts u) t (i, (omega (arith, b), e))
 
-index_by : (is a : Bool) (n m : ℕ) → (is || a) ≡ true → (a ≡ true → n < m)
-    → (if is then 0 else suc n) < suc m
-index_by true a n m h k = omega arith
-index_by false a n m h k = let l = k h in omega (arith, l)
+stands_by : (is : Bool) (u : Tree ℕ) (us : List (Tree ℕ)) (t : Tree ℕ) → same t u ≡ is
+    → (is || is_key us t) ≡ true → (is_key us t ≡ true → StandsIn us t) → StandsIn (u ∷ us) t
+stands_by true u us t e h k = record {
+  tree = u;
+  there = ap (λ z. slice_get (u ∷ us) (if z then 0 else suc (index_of us t))) e;
+  is = e;
+}
+stands_by false u us t e h k =
+    let behind = k h in
+    record {
+      tree = behind.tree;
+      there = ap (λ z. slice_get (u ∷ us) (if z then 0 else suc (index_of us t))) e ∙ behind.there;
+      is = behind.is;
+    }
 
-stands : (ts : List (Tree ℕ)) (t : Tree ℕ) → is_key ts t ≡ true → StandsIn ts t
+pub stands : KeysAreFound
 stands [] t h = absurd cc
-stands (u ∷ us) t h =
-    index_by (same t u) (is_key us t) (index_of us t) (length us) h (stands us t)
+stands (u ∷ us) t h = stands_by (same t u) u us t refl h (stands us t)
 
 pub order_is_shown : OrderIsShown
 order_is_shown s t h = stands (shown s) t (has_all (own_trees s.order.items) _ t h)

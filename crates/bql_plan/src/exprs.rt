@@ -2,7 +2,9 @@
 ghost use Rattle.std.specs.Prelude.{◌≡◌, IfOk, [], map};
 ghost use Rattle.theory.specs.Form.{steps};
 ghost use Rattle.bql_parser.specs.View.{target_of, item_of, kind_of};
+ghost use Rattle.bql_plan.specs.Kept.{lent_if};
 ghost use Rattle.bql_plan.specs.Plan as rule;
+ghost use Rattle.bql_plan.specs.Planned as part;
 ghost use Rattle.bql_tree.specs.Tree.{tree_of, trees_of};
 ghost use Rattle.bql_types.specs.Keys.{lent_tree, lent_trees};
 ghost use Rattle.bql_types.specs.Typing.{target_tree};
@@ -102,6 +104,28 @@ pub(crate) fn aggregates<'q, 'a>(
         found = gathered(key.expr, found)?;
     }
     Ok(found)
+}
+
+/// The first of some parts, if there are any.
+fn first_of<'q, 'a>(es: &'q [Expr<'a>]) -> Option<Key<'q, 'a>>
+    ensures { lent_if result ≡ part.first_of (trees_of es.now) }
+{
+    match es.first() {
+        Some(expr) => Some(Key { expr }),
+        None => None,
+    }
+}
+
+/// The first part of an expression, if it has any.
+pub(crate) fn first_part<'q, 'a>(e: &'q Expr<'a>) -> Option<Key<'q, 'a>>
+    ensures { lent_if result ≡ part.first_part (tree_of e.now) }
+{
+    match e {
+        Expr::Leaf(_, _) => None,
+        Expr::One(_, _, x) => Some(Key { expr: x }),
+        Expr::Two(_, _, x, _) => Some(Key { expr: x }),
+        Expr::Call(_, _, arguments) => first_of(arguments),
+    }
 }
 
 /// The expressions of the targets.

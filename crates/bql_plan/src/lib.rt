@@ -39,4 +39,4 @@ pub mod laws;
 pub mod plan;
 
 pub use labels::{Shapes, shapes_of};
-pub use plan::{Plan, Shaped, planned};
+pub use plan::{Gathered, Plan, Shaped, planned};

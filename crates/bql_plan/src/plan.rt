@@ -9,13 +9,15 @@ ghost use Rattle.bql_plan.specs.Whole.{IsWholePlan};
 ghost use Rattle.bql_types.specs.Keys.{lent_tree, lent_trees};
 ghost use Rattle.query_columns.specs.ColumnShape.{AreBounds};
 
-use crate::exprs::{aggregates, order, targets_shown, with_items};
+use crate::exprs::{aggregates, first_part, order, targets_shown, with_items};
 use crate::labels::{Shapes, shapes_of};
 use bean_base::Bounds;
 use bql_tree::Expr;
 use bql_types::Typed;
+use bql_types::gathered::aggregate_in;
 use bql_types::grouped::Key;
 use bql_types::grouping::grouped_by;
+use query_values::Aggregate;
 use std::alloc::{AllocError, Global};
 
 /// An expression of a query, lent, and the shapes of it and of its parts.
@@ -23,6 +25,13 @@ use std::alloc::{AllocError, Global};
 pub struct Shaped<'q, 'a> {
     pub expr: &'q Expr<'a>,
     pub shapes: Shapes,
+}
+
+/// An aggregate, and the part whose values it gathers. `COUNT(*)` has none.
+#[derive(Debug, Drop)]
+pub struct Gathered<'q, 'a> {
+    pub aggregate: Aggregate,
+    pub input: Option<Shaped<'q, 'a>>,
 }
 
 /// What is computed for a query. All expressions are lent from it.
@@ -37,10 +46,10 @@ pub struct Plan<'q, 'a> {
     /// What orders rows, as indices of what is shown.
     pub order: Vec<usize>,
     pub is_aggregating: bool,
-    /// What rows are grouped by. They count only where the query aggregates.
+    /// What rows are grouped by: nothing where the query doesn't aggregate.
     pub keys: Vec<Shaped<'q, 'a>>,
     /// The aggregates of all that is shown, in order of reading, equal ones once.
-    pub aggregates: Vec<Shaped<'q, 'a>>,
+    pub aggregates: Vec<Gathered<'q, 'a>>,
 }
 
 /// An expression with its shapes.
@@ -83,13 +92,48 @@ fn filter_with_shapes<'q, 'a>(
     filter: &'q Option<Box<Expr<'a>>>,
 ) -> Result<Option<Shaped<'q, 'a>>, AllocError>
     requires { AreBounds bounds.now }
-    ensures { IfOk result (λ r. view.filter_of r
+    ensures { IfOk result (λ r. view.shaped_if r
         ≡ option_map (rule.with_shapes bounds.now) (answer.filter_of filter.now)) }
 {
     match filter {
         Some(expr) => Ok(Some(with_shapes(alloc, bounds, Key { expr })?)),
         None => Ok(None),
     }
+}
+
+/// An aggregate with its input.
+fn with_input<'q, 'a>(
+    alloc: Global,
+    bounds: &Bounds,
+    key: Key<'q, 'a>,
+) -> Result<Gathered<'q, 'a>, AllocError>
+    requires { AreBounds bounds.now }
+    ensures { IfOk result (λ g. view.gathered_of g
+        ≡ rule.gathered bounds.now (lent_tree key.entry)) }
+{
+    let aggregate = aggregate_in(alloc, bounds, key.expr)?;
+    let input = match first_part(key.expr) {
+        Some(part) => Some(with_shapes(alloc, bounds, part)?),
+        None => None,
+    };
+    Ok(Gathered { aggregate, input })
+}
+
+/// Aggregates with their inputs.
+fn all_with_inputs<'q, 'a>(
+    alloc: Global,
+    bounds: &Bounds,
+    keys: &[Key<'q, 'a>],
+) -> Result<Vec<Gathered<'q, 'a>>, AllocError>
+    requires { AreBounds bounds.now }
+    ensures { IfOk result (λ r. view.all_gathered_of r
+        ≡ map (rule.gathered bounds.now) (lent_trees keys.now)) }
+{
+    let mut all = Vec::new(alloc);
+    for key in keys {
+        all.push(with_input(alloc, bounds, *key)?)?;
+    }
+    Ok(all)
 }
 
 /// What is computed for a query that has a type.
@@ -111,6 +155,6 @@ pub fn planned<'q, 'a>(alloc: Global, typed: &Typed<'q, 'a>) -> Result<Plan<'q, 
         shown: all_with_shapes(alloc, bounds, shown.as_slice())?,
         is_aggregating: grouping.is_aggregating,
         keys: all_with_shapes(alloc, bounds, grouping.keys.as_slice())?,
-        aggregates: all_with_shapes(alloc, bounds, aggregates.as_slice())?,
+        aggregates: all_with_inputs(alloc, bounds, aggregates.as_slice())?,
     })
 }

@@ -6,9 +6,8 @@ use Rattle.bean_base.specs.declared.bounds.Bounds.{Bounds}
 use Rattle.bean_base.specs.declared.limits.TheConstants.{LONGEST_SECTION, MOST_ITEMS, MOST_VALUES}
 use Rattle.bql_parser.specs.Asked.{Asked, Target}
 use Rattle.bql_plan.specs.Plan.{Plan, plan}
-use Rattle.bql_meaning.specs.Meaning.{aggregate_by}
 use Rattle.bql_tree.specs.Tree.{Tree, node, Trees, no_trees, trees}
-use Rattle.bql_types.specs.Shaped.{shapes_of}
+use Rattle.bql_types.specs.Gathered.{aggregate_in}
 use Rattle.query_code.specs.declared.program.Code.{Code}
 use Rattle.query_code.specs.declared.program.Constant.{Constant}
 use Rattle.query_code.specs.declared.program.Mode.{Mode}
@@ -31,10 +30,6 @@ input_in (node at op (trees t ts)) = t ∷ []
 abbrev pub inputs_in : List (Tree ℕ) → List (Tree ℕ)
 inputs_in [] = []
 inputs_in (t ∷ ts) = input_in t ++ inputs_in ts
-
--- which aggregate it is, by the shapes of its parts
-abbrev pub aggregate_in : Bounds → Tree ℕ → Aggregate
-aggregate_in b (node at op parts) = aggregate_by op (shapes_of b false parts)
 
 -- What each section computes: of the filter one expression, of the others one behind the other.
 pub record Sections : Type 0 where

@@ -13,7 +13,7 @@ use query_shapes::{Misfit, Shape, aggregate_shape};
 use query_values::Aggregate;
 
 /// The aggregate that sums values of the shape: numbers to a number, others to an inventory.
-fn sum_over(shape: Shape) -> Aggregate
+pub fn sum_over(shape: Shape) -> Aggregate
     ensures { result ≡ rule.sum_over shape }
 {
     match shape {

@@ -1,6 +1,7 @@
 pub mod CauseFacts
 pub mod ShapeFacts
 pub mod SameFacts
+pub mod OneShapeFacts
 pub mod ItemFacts
 pub mod LawFacts
 pub mod StandingFacts

@@ -1,5 +1,5 @@
 -- What holds of types of queries, whatever the query.
-use Rattle.std.specs.Prelude.{◌≡◌, ◌≢◌, ℕ, false, List, [], Some, None}
+use Rattle.std.specs.Prelude.{◌≡◌, ◌≢◌, ℕ, false, List, [], map, Some, None}
 use Rattle.std.specs.Prelude.{Option, Ok, Err, true}
 use Rattle.std.specs.List.{IsAmong, slice_get}
 use Rattle.bean_base.specs.declared.bounds.Bounds.{Bounds}
@@ -14,12 +14,17 @@ use Rattle.query_shapes.specs.declared.shape.Shape.{Shape}
 use Rattle.query_shapes.specs.declared.shape.Shape.TheVariants.{Truth}
 use Rattle.bql_types.specs.Answer.{Answers}
 use Rattle.bql_types.specs.Cause.{least_of, is_before}
+use Rattle.bql_types.specs.Same.{same}
 use Rattle.bql_types.specs.Shaped.{shape_of, shape_causes}
 use Rattle.bql_types.specs.Typing.{IsTyped, is_ordered, causes, filter_causes, filters_causes}
 use Rattle.bql_types.specs.declared.cause.Cause.{Cause}
+use Rattle.bql_types.specs.declared.cause.CauseKind.{CauseKind}
 use Rattle.bql_types.specs.declared.fault.TypeFault.{TypeFault}
 use Rattle.bql_types.specs.declared.fault.TypeFault.TheVariants.{OutOfMemory}
 use Rattle.bql_types.specs.declared.typed.Typed.{Typed}
+
+abbrev pub cause_kind : Cause → CauseKind
+cause_kind c = c.kind
 
 -- one of the causes, of which none stands before it
 pub record IsLeast (cs : List Cause) (c : Cause) : Type 0 where
@@ -41,6 +46,15 @@ ShapesAreFound = (b : Bounds) (t : Tree ℕ) → shape_causes b t ≡ []
 abbrev pub ShapesHaveNoCauses : Type 0
 ShapesHaveNoCauses = (b : Bounds) (t : Tree ℕ) (s : Shape) → shape_of b t ≡ Some s
     → shape_causes b t ≡ []
+
+-- expressions that are the same have the same shape, if they have one
+abbrev pub SameHaveOneShape : Type 0
+SameHaveOneShape = (b : Bounds) (t u : Tree ℕ) → same t u ≡ true → shape_of b t ≡ shape_of b u
+
+-- and causes of the same kinds, each at its place
+abbrev pub SameHaveCausesAlike : Type 0
+SameHaveCausesAlike = (b : Bounds) (t u : Tree ℕ) → same t u ≡ true
+    → map cause_kind (shape_causes b t) ≡ map cause_kind (shape_causes b u)
 
 -- a query has a type, or it is refused, where memory doesn't lack
 abbrev pub TypedIsNotRefused : Type 0

@@ -2,6 +2,7 @@ pub mod Cause
 pub mod Same
 pub mod Shaped
 pub mod Sought
+pub mod Gathered
 pub mod Typing
 pub mod Answer
 pub mod Seen

@@ -66,13 +66,16 @@ pub record Grouping : Type 0 where
   pub is_aggregating : Bool
   pub keys : List (Tree ℕ)
 
--- a query aggregates where it has GROUP BY or an aggregate in a target; without GROUP BY the
--- targets that have no aggregate are its keys
+-- of a query without GROUP BY the targets that have no aggregate are the keys, where it aggregates
+abbrev pub keys_of_targets : Bool → List Target → List (Tree ℕ)
+keys_of_targets is_aggregating ts = if is_aggregating then plain_targets ts else []
+
+-- a query aggregates where it has GROUP BY or an aggregate in a target
 abbrev pub grouping_by : List Target → Option (List Item) → Grouping
 grouping_by ts (Some is) = record { is_aggregating = true; keys = keys_of ts is }
 grouping_by ts None = record {
   is_aggregating = one_target_aggregates ts;
-  keys = plain_targets ts;
+  keys = keys_of_targets (one_target_aggregates ts) ts;
 }
 
 abbrev pub grouping_of : Asked → Grouping

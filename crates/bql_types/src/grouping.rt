@@ -9,8 +9,8 @@ use crate::grouped::Key;
 use bql_parser::{Item, ItemKind, Target};
 use std::alloc::{AllocError, Global};
 
-/// How the rows of a query come to be: each of its own, or each of a group with these keys, which
-/// count only where the query aggregates.
+/// How the rows of a query come to be: each of its own, or each of a group with these keys. There
+/// are none where the query doesn't aggregate.
 #[derive(Drop)]
 pub struct Grouping<'q, 'a> {
     pub is_aggregating: bool,
@@ -100,6 +100,22 @@ fn plain_targets<'q, 'a>(
     Ok(keys)
 }
 
+/// The keys of a query without GROUP BY.
+fn keys_of_targets<'q, 'a>(
+    alloc: Global,
+    is_aggregating: bool,
+    targets: &'q [Target<'a>],
+) -> Result<Vec<Key<'q, 'a>>, AllocError>
+    ensures { IfOk result (λ r. view.lent_trees r.items
+        ≡ rule.keys_of_targets is_aggregating (map target_of targets.now)) }
+{
+    if is_aggregating {
+        plain_targets(alloc, targets)
+    } else {
+        Ok(Vec::new(alloc))
+    }
+}
+
 /// How the rows of a query come to be.
 pub fn grouped_by<'q, 'a>(
     alloc: Global,
@@ -114,9 +130,13 @@ pub fn grouped_by<'q, 'a>(
             is_aggregating: true,
             keys: group_keys(alloc, targets, items.as_slice())?,
         }),
-        None => Ok(Grouping {
-            is_aggregating: one_aggregates(targets),
-            keys: plain_targets(alloc, targets)?,
-        }),
+        None => {
+            let is_aggregating = one_aggregates(targets);
+            let keys = keys_of_targets(alloc, is_aggregating, targets)?;
+            Ok(Grouping {
+                is_aggregating,
+                keys,
+            })
+        }
     }
 }

@@ -2,6 +2,7 @@
 ghost use Rattle.bql_types.specs.Laws.{LeastIsTold, NoneIsTold, ShapesAreFound, ShapesHaveNoCauses};
 ghost use Rattle.bql_types.specs.Laws.{TypedIsNotRefused, OneRefusal, TypedHaveShapes};
 ghost use Rattle.bql_types.specs.Laws.{JournalsAreTyped, BalancesAreTyped};
+ghost use Rattle.bql_types.specs.Laws.{SameHaveOneShape, SameHaveCausesAlike};
 
 /// Of some causes one is told that no other stands before, and none only where there is none.
 pub fn least_causes_are_told()
@@ -13,6 +14,12 @@ pub fn least_causes_are_told()
 pub fn expressions_have_shapes_or_causes()
     ensures shapes { ShapesAreFound }
     ensures causes { ShapesHaveNoCauses }
+{}
+
+/// Expressions that are the same have one shape, or none for the same causes, wherever they stand.
+pub fn same_expressions_have_one_shape()
+    ensures shape { SameHaveOneShape }
+    ensures causes { SameHaveCausesAlike }
 {}
 
 /// A query has a type or it is refused, in one way.

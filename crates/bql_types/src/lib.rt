@@ -46,6 +46,7 @@ pub mod aggregates;
 mod balances;
 pub mod cause;
 pub mod fault;
+pub mod gathered;
 pub mod grouped;
 pub mod grouping;
 mod items;

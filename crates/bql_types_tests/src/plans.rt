@@ -99,9 +99,9 @@ fn plans_of_queries(rt: HostRuntime) -> Result<(), Fail> {
         ),
         (
             "SELECT year, year ORDER BY +year",
-            "2 shown, 2 keys, 0 aggregates, by 0",
+            "2 shown, 0 keys, 0 aggregates, by 0",
         ),
-        ("JOURNAL 'cash'", "7 shown, 7 keys, 0 aggregates, by"),
+        ("JOURNAL 'cash'", "7 shown, 0 keys, 0 aggregates, by"),
         (
             "BALANCES AT cost FROM year = 2014",
             "3 shown, 1 keys, 1 aggregates, by 2 0",
@@ -119,7 +119,7 @@ fn plans_of_what_is_not_written(rt: HostRuntime) -> Result<(), Fail> {
     let wanted = [
         (
             "JOURNAL 'cash' AT cost FROM year = 2014",
-            "from T(NN)where T(X); shown D X X X X A(P) I(I); keys D X X X X A(P) I(I); aggregates",
+            "from T(NN)where T(X); shown D X X X X A(P) I(I); keys; aggregates",
         ),
         (
             "BALANCES AT units WHERE account ~ 'a'",
@@ -139,7 +139,7 @@ fn shapes_of_plans(rt: HostRuntime) -> Result<(), Fail> {
     let wanted = [
         (
             "SELECT account WHERE number > 1 AND payee = NULL",
-            "where T(T(NN)T(X-)); shown X; keys X; aggregates",
+            "where T(T(NN)T(X-)); shown X; keys; aggregates",
         ),
         (
             "SELECT year, count(*) + 1 FROM year > 2013 GROUP BY year, month + 1",

@@ -19,7 +19,7 @@ returns-clause-whole c =
       order = c.in_ok-order.field-0;
       is_aggregating = c.in_ok-grouping.grouping.is_aggregating;
       keys = c.in_ok-all_with_shapes-2.field-0;
-      aggregates = c.in_ok-all_with_shapes-3.field-0;
+      aggregates = c.in_ok-all_with_inputs.field-0;
     } in
     let is : rule.planned b q ≡ view.plan_of p = search rules in
     let typed : IsTyped b q = search rules in
