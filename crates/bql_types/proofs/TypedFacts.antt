@@ -3,12 +3,12 @@ use Rattle.std.proofs.Common.{◌≡◌, ℕ, zero, suc, Bool, true, false, not,
 use Rattle.std.proofs.Common.{Option, Some, None, refl, sym, ap, ◌∙◌, arith}
 use Rattle.std.specs.List.{IsAmong, slice_get}
 use Rattle.bean_base.specs.declared.bounds.Bounds.{Bounds}
-use Rattle.bql_parser.specs.Asked.{Asked, Target, ItemKind, target_item, tree_item}
+use Rattle.bql_parser.specs.Asked.{Target, ItemKind, target_item, tree_item}
 use Rattle.bql_tree.specs.Tree.{Tree}
 use Rattle.query_shapes.specs.declared.shape.Shape.{Shape}
 use Rattle.query_shapes.specs.declared.shape.Shape.TheVariants as shape
 use Rattle.bql_types.specs.Cause.{where_true}
-use Rattle.bql_types.specs.Laws.{IsShaped, IsFilter, IsOrder, HasShapes, TypedHaveShapes}
+use Rattle.bql_types.specs.Laws.{IsShaped, IsFilter, IsOrder, TypedHaveShapes}
 use Rattle.bql_types.specs.Shaped.{shape_of, shape_causes}
 use Rattle.bql_types.specs.Sought.{misplaced, balances}
 use Rattle.bql_types.specs.Typing.{each, Grouping, grouping_of, shown_causes, row_causes}
