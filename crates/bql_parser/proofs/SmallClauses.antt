@@ -1,7 +1,6 @@
 -- Clauses of short tokens are small.
-use Rattle.std.proofs.Common.{ℕ, ◌≤◌, Bool, true, false, List, [], ◌∷◌, length, Option, Some, None}
+use Rattle.std.proofs.Common.{ℕ, Bool, true, false, List, [], Option, Some, None}
 use Rattle.std.proofs.Common.{IfSome, arith}
-use Rattle.std.specs.List.{AllByRecursion}
 use Rattle.theory.specs.Form.{Form, made}
 use Rattle.query_columns.specs.declared.column.Column.TheVariants as column
 use Rattle.bql_lexer.specs.declared.kind.Kind.{Kind}
@@ -11,7 +10,7 @@ use Rattle.bql_tree.specs.Part.{Part}
 use Rattle.bql_tree.specs.declared.function.Scope.{Scope}
 use Rattle.bql_tree.specs.declared.function.Scope.TheVariants.{Transactions, Postings}
 use Rattle.bql_tree.specs.declared.tree.Leaf.TheVariants as leaf
-use Rattle.bql_grammar.specs.Expression.{told, token, then, list_of, expression}
+use Rattle.bql_grammar.specs.Expression.{told, token, then, expression}
 use Rattle.bql_grammar.specs.Front.{begins, of_kind}
 use Rattle.bql_parser.specs.Clause as clause
 use Rattle.bql_parser.specs.Clause.{selecting, journaling, balancing}
@@ -19,7 +18,6 @@ use Rattle.bql_parser.specs.Grammar as rules
 use Rattle.bql_parser.specs.Piece.{piece, whole}
 use Rattle.bql_parser.specs.Read.{Target, Read}
 use Rattle.bql_parser.specs.Small.{IsShort}
-use Rattle.bql_parser.specs.declared.clauses.NameRead.{NameRead}
 use Rattle.bql_parser.proofs.SmallTokens.{IsShortToken, piece_short}
 use Rattle.bql_parser.proofs.SmallForms.{Keeps, Any, AreSome, keeps_any, keeps_token, keeps_made}
 use Rattle.bql_parser.proofs.SmallForms.{keeps_then, keeps_choice, keeps_list}

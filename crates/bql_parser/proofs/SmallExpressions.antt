@@ -1,6 +1,6 @@
 -- Expressions of short tokens are small.
-use Rattle.std.proofs.Common.{◌≡◌, ℕ, zero, suc, ◌+◌, ◌≤◌, ◌<◌, Bool, true, false, List, [], ◌∷◌}
-use Rattle.std.proofs.Common.{length, drop, Option, Some, None, IfSome, arith, ap}
+use Rattle.std.proofs.Common.{ℕ, zero, suc, ◌≤◌, Bool, true, false, List, []}
+use Rattle.std.proofs.Common.{length, Option, Some, None, IfSome, arith, ap}
 use Rattle.std.proofs.lemmas.List.{length-drop}
 use Rattle.std.specs.List.{AllByRecursion, prefix_len}
 use Rattle.theory.specs.Form.{Form, made}
@@ -18,21 +18,20 @@ use Rattle.bql_tree.specs.Part.{Part}
 use Rattle.bql_tree.specs.declared.function.Scope.{Scope}
 use Rattle.bql_tree.specs.declared.level.Level.{Level}
 use Rattle.bql_tree.specs.declared.level.Level.TheVariants as level
-use Rattle.bql_tree.specs.declared.tree.Binary.{Binary}
 use Rattle.bql_tree.specs.declared.tree.Binary.TheVariants as binary
 use Rattle.bql_tree.specs.declared.tree.Leaf.{Leaf}
 use Rattle.bql_grammar.specs.Front as fronts
 use Rattle.bql_grammar.specs.Front.{begins, of_kind, begins_with_list, begins_with_call}
-use Rattle.bql_grammar.specs.Expression.{told, token, then, choice, nothing, chained, behind_comma}
-use Rattle.bql_grammar.specs.Expression.{list_of, literal, literals, list_behind, with_room, list}
+use Rattle.bql_grammar.specs.Expression.{told, token, nothing, chained, behind_comma}
+use Rattle.bql_grammar.specs.Expression.{list_of, literal, literals, list_behind, with_room}
 use Rattle.bql_grammar.specs.Expression.{sum_of, compared, matched, contained, compared_if_due}
 use Rattle.bql_grammar.specs.Expression.{comparison_of, denied_of, signed_of, or_of, group_of}
 use Rattle.bql_grammar.specs.Expression.{arguments_of, counted, begins_with_count, inside_call}
 use Rattle.bql_grammar.specs.Expression.{call_of, name, atom_of, unary_of, negation_of, Inner}
 use Rattle.bql_grammar.specs.Expression.{innermost, unary_around, around, inner, expression}
 use Rattle.bql_parser.specs.Small.{IsShort, IsSmallLeaf}
-use Rattle.bql_parser.proofs.SmallTokens.{IsShortToken, AreSmallTokens}
-use Rattle.bql_parser.proofs.SmallForms.{Keeps, Any, Takes, AreSome, keeps_told, keeps_any}
+use Rattle.bql_parser.proofs.SmallTokens.{AreSmallTokens}
+use Rattle.bql_parser.proofs.SmallForms.{Keeps, Takes, keeps_told, keeps_any}
 use Rattle.bql_parser.proofs.SmallForms.{keeps_token, keeps_made, keeps_nothing, keeps_then}
 use Rattle.bql_parser.proofs.SmallForms.{keeps_choice, keeps_ending, keeps_chain, keeps_list}
 use Rattle.bql_parser.proofs.SmallForms.{takes_told, list_counted}

@@ -1,19 +1,19 @@
 -- What is settled of small clauses is small.
-use Rattle.std.proofs.Common.{◌≡◌, ℕ, ℤ, zero, suc, ◌+◌, ◌<◌, ◌≤◌, ◌&&◌, Bool, true, false, not, cond, List}
-use Rattle.std.proofs.Common.{[], ◌∷◌, ◌++◌, length, map, get_or, Option, Some, None, IfSome, Result}
-use Rattle.std.proofs.Common.{Ok, Err, ap, sym, subst, refl, arith, nat_lt, ◌==◌, if◌then◌else◌}
+use Rattle.std.proofs.Common.{◌≡◌, ℕ, zero, suc, ◌+◌, ◌<◌, ◌≤◌, Bool, true, false, cond, List}
+use Rattle.std.proofs.Common.{[], ◌∷◌, length, map, get_or, Option, Some, None, IfSome, Result}
+use Rattle.std.proofs.Common.{Ok, Err, ap, sym, subst, refl, arith, nat_lt, if◌then◌else◌}
 use Rattle.std.proofs.lemmas.Bool.{ltb-true}
 use Rattle.std.proofs.lemmas.Bool.Decides.{nat_tests}
 use Rattle.std.proofs.lemmas.List.{length-map}
 use Rattle.std.proofs.lemmas.Option.{slice_get_read}
-use Rattle.std.specs.List.{AllByRecursion, slice_get, position, position_or_len}
+use Rattle.std.specs.List.{AllByRecursion, slice_get, position_or_len}
 use Rattle.std.specs.Str.{str_eq_ignore_ascii_case}
 use Rattle.theory.specs.Form.{steps}
 use Rattle.bql_lexer.specs.Tokens.{AreTokens}
 use Rattle.bql_lexer.specs.declared.token.Token.{Token}
 use Rattle.bql_tree.specs.Cause.{both, unknown_name}
 use Rattle.bql_tree.specs.Part.{Part, too_high, not_null}
-use Rattle.bql_tree.specs.Tree.{Tree, node, no_trees}
+use Rattle.bql_tree.specs.Tree.{Tree}
 use Rattle.bql_tree.specs.declared.cause.Cause.{Cause}
 use Rattle.bql_tree.specs.declared.part.Alone.{Alone}
 use Rattle.bql_tree.specs.declared.part.Alone.TheVariants.{No, Name, Number}
@@ -37,7 +37,7 @@ use Rattle.bql_parser.specs.declared.standing.Valuation.TheVariants as valuation
 use Rattle.bql_parser.proofs.SmallClauses as clauses
 use Rattle.bql_parser.proofs.SmallClauses.{keeps_query}
 use Rattle.bql_parser.proofs.SmallExpressions.{AreSmallParts}
-use Rattle.bql_parser.proofs.SmallForms.{AreSome, all_pushed, pushed_length}
+use Rattle.bql_parser.proofs.SmallForms.{all_pushed, pushed_length}
 use Rattle.bql_parser.proofs.SmallParts.{Found, IsSmallPart, Both, both_found, not_null_found}
 use Rattle.bql_parser.proofs.SmallTokens.{small_tokens}
 

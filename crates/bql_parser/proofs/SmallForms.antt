@@ -1,6 +1,6 @@
 -- What forms keep: where tokens are short and few, S holds of what is read, and so are those that
 -- are left.
-use Rattle.std.proofs.Common.{◌⊎◌, inl, inr, ◌≡◌, ℕ, ◌+◌, ◌≤◌, ◌<◌, Bool, true, false, List, []}
+use Rattle.std.proofs.Common.{◌⊎◌, inl, inr, ◌≡◌, ◌+◌, ◌≤◌, ◌<◌, Bool, true, false, List, []}
 use Rattle.std.proofs.Common.{◌∷◌, ◌++◌, length, Option, Some, None, IfSome, sym, ap, subst, arith}
 use Rattle.std.proofs.Common.{refl}
 use Rattle.std.specs.List.{AllByRecursion}

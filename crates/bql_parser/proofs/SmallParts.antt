@@ -1,20 +1,19 @@
 -- What is made of small parts is small.
-use Rattle.std.proofs.Common.{◌≡◌, ℕ, ℤ, pos, negsuc, zero, suc, ◌+◌, ◌≤◌, Bool, true, false, ◌&&◌}
-use Rattle.std.proofs.Common.{List, [], ◌∷◌, ◌++◌, length, Option, Some, None, IfSome, Result, Ok}
-use Rattle.std.proofs.Common.{Err, ap, sym, subst, refl, arith, if◌then◌else◌, ◌==◌}
+use Rattle.std.proofs.Common.{◌≡◌, ℕ, ℤ, pos, negsuc, suc, ◌+◌, ◌≤◌, Bool, true, false, ◌&&◌}
+use Rattle.std.proofs.Common.{List, [], ◌∷◌, length, Option, Some, None, IfSome, Result, Ok}
+use Rattle.std.proofs.Common.{Err, ap, subst, refl, arith, if◌then◌else◌, ◌==◌}
 use Rattle.std.proofs.lemmas.Bool.{leb-true}
 use Rattle.std.specs.Prelude.{nat_le}
 use Rattle.std.specs.List.{AllByRecursion, find}
 use Rattle.std.specs.Str.{str_eq_ignore_ascii_case}
 use Rattle.theory.specs.Form.{steps}
-use Rattle.query_values.specs.declared.decimal.Decimal.{Decimal}
 use Rattle.bql_lexer.specs.declared.token.Token.{Token}
 use Rattle.bql_tree.specs.Call as call
 use Rattle.bql_tree.specs.Cause.{both}
 use Rattle.bql_tree.specs.Function.{name, named, known, if_known, is_known_in}
 use Rattle.bql_tree.specs.Part as parts
 use Rattle.bql_tree.specs.Part.{Part}
-use Rattle.bql_tree.specs.Tree.{Operation, leaf_of, one_of, two_of, call_of, Tree, node, no_trees}
+use Rattle.bql_tree.specs.Tree.{leaf_of, call_of, Tree, node}
 use Rattle.bql_tree.specs.Tree.{Trees, trees, all_trees}
 use Rattle.bql_tree.specs.declared.cause.Cause.{Cause}
 use Rattle.bql_tree.specs.declared.function.Function.{Function}

@@ -1,15 +1,15 @@
 -- The tokens of a query of at most 65535 bytes are short, and no more than these.
-use Rattle.std.proofs.Common.{◌≡◌, ℕ, ◌+◌, ◌-◌, ◌<◌, ◌≤◌, ◌&&◌, Bool, true, false, List, []}
-use Rattle.std.proofs.Common.{◌∷◌, length, take, IfSome}
-use Rattle.std.proofs.Common.{drop, ap, arith, refl, Option, Some, None, if◌then◌else◌}
+use Rattle.std.proofs.Common.{ℕ, ◌-◌, ◌≤◌, ◌&&◌, Bool, true, false, List, []}
+use Rattle.std.proofs.Common.{◌∷◌, length, IfSome}
+use Rattle.std.proofs.Common.{drop, ap, arith, Option, Some, None, if◌then◌else◌}
 use Rattle.std.specs.Prelude.{nat_eq, nat_le, slice_index, slice_range}
 use Rattle.std.proofs.lemmas.List.{length-take, length-drop}
-use Rattle.std.specs.List.{AllByRecursion, prefix_len, before_first, after_first, position_or_len}
+use Rattle.std.specs.List.{AllByRecursion, prefix_len, position_or_len}
 use Rattle.std.specs.Char.{is_ascii_digit}
 use Rattle.bean_base.specs.Character.{quote, apostrophe}
 use Rattle.bql_lexer.specs.Kind.{word_kind}
 use Rattle.bql_lexer.specs.Token.{behind_white, is_white, token_at, cut, fault, word_of, is_in_word}
-use Rattle.bql_lexer.specs.Token.{begins_word, begins_with_day, number_len, day_or_number}
+use Rattle.bql_lexer.specs.Token.{begins_word, begins_with_day, number_len}
 use Rattle.bql_lexer.specs.Token.{is_closed, text_or_fault, cut_or_fault, sign_of, sign_by}
 use Rattle.bql_lexer.specs.Token.{sign_of_front}
 use Rattle.bql_lexer.specs.Tokens.{TokensFrom}
