@@ -25,7 +25,7 @@ pub const GREATEST_HEIGHT: usize = 200;
 pub const MOST_NESTED: usize = 200;
 
 /// The most components that a query takes of an account.
-pub const MOST_COMPONENTS: i128 = 255;
+pub const MOST_COMPONENTS: u8 = 255;
 
 /// The most decimals of a value.
 pub const MOST_PLACES: u8 = 32;

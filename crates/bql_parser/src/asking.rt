@@ -2,7 +2,6 @@
 ghost use Rattle.std.specs.Prelude.{◌≡◌, IfOk};
 ghost use Rattle.bql_parser.specs.Read as views;
 ghost use Rattle.bql_parser.specs.Settled as rule;
-ghost use Rattle.bql_parser.specs.Settled.{mapped};
 ghost use Rattle.bql_parser.specs.View.{draft_of};
 
 use crate::clauses::{BalancesRead, JournalRead, NameRead, QueryRead, SelectRead};
@@ -16,7 +15,7 @@ use bql_tree::function::is_left_out;
 use std::alloc::{AllocError, Global};
 
 fn select<'a>(alloc: Global, read: SelectRead<'a>) -> Result<Result<Draft<'a>, Cause>, AllocError>
-    ensures { IfOk result (λ r. mapped draft_of r ≡ rule.select (views.select_of read.entry)) }
+    ensures { IfOk result (λ r. rule.mapped draft_of r ≡ rule.select (views.select_of read.entry)) }
 {
     let (distinct, limit) = (read.distinct, read.limit);
     let reads = read.targets;
@@ -67,7 +66,7 @@ fn at(name: Option<NameRead<'_>>) -> Result<Option<Valuation>, Cause>
 }
 
 fn journal<'a>(alloc: Global, read: JournalRead<'a>) -> Result<Result<Draft<'a>, Cause>, AllocError>
-    ensures { IfOk result (λ r. mapped draft_of r ≡ rule.journal (views.journal_of read.entry)) }
+    ensures { IfOk result (λ r. rule.mapped draft_of r ≡ rule.journal (views.journal_of read.entry)) }
 {
     let pattern = read.pattern;
     match both(at(read.at), filter(read.from)) {
@@ -80,7 +79,7 @@ fn balances<'a>(
     alloc: Global,
     read: BalancesRead<'a>,
 ) -> Result<Result<Draft<'a>, Cause>, AllocError>
-    ensures { IfOk result (λ r. mapped draft_of r ≡ rule.balances (views.balances_of read.entry)) }
+    ensures { IfOk result (λ r. rule.mapped draft_of r ≡ rule.balances (views.balances_of read.entry)) }
 {
     match both(at(read.at), filters(read.filters)) {
         Ok((at, filters)) => Ok(Ok(standing::balances(alloc, at, filters)?)),
@@ -93,7 +92,7 @@ pub fn settled<'a>(
     alloc: Global,
     read: QueryRead<'a>,
 ) -> Result<Result<Draft<'a>, Cause>, AllocError>
-    ensures { IfOk result (λ r. mapped draft_of r ≡ rule.settled (views.read_of read.entry)) }
+    ensures { IfOk result (λ r. rule.mapped draft_of r ≡ rule.settled (views.read_of read.entry)) }
 {
     match read {
         QueryRead::Select(read) => select(alloc, read),

@@ -8,10 +8,9 @@
 //! parse_query(alloc, "SELECT account WHERE")     // QueryFault::Syntax(20)
 //! ```
 //!
-//! A query is a SELECT, a JOURNAL or a BALANCES, with at most one `;` behind it; of the latter two
-//! the SELECT is given that they stand for. A target's name is what follows AS, or else its own
-//! text. An item of GROUP BY or ORDER BY that is a target's name, or a bare whole number from 1, is
-//! that target ([`ItemKind::Target`]); all names are the same in small and in capital letters.
+//! A query is a SELECT, or a JOURNAL or a BALANCES, which stand for one, with at most one `;` behind
+//! it. A target's name is what follows AS, or else its own text. An item that is a target's name, or
+//! a bare whole number from 1, is that target ([`ItemKind::Target`]). Names ignore the case.
 //!
 //! # Faults
 //!
@@ -20,8 +19,7 @@
 //!
 //! - `Q1` ([`QueryFault::Syntax`]): the text is outside the grammar. The place is that of a token
 //!   that can't go on, or the text's end.
-//! - `Q2` ([`QueryFault::UnknownName`]): no column, function, target or valuation has the name, or
-//!   no target the number.
+//! - `Q2` ([`QueryFault::UnknownName`]): a name, or the number of a target, that isn't known.
 //! - `Q3` ([`QueryFault::OutsideProfile`]): the language has it, and the profile leaves it out; or
 //!   it stands above a limit: 65,535 bytes, 255 targets, 255 items of GROUP BY, 255 of ORDER BY,
 //!   expressions 200 high. Of a text outside the grammar it is told where the token that can't go

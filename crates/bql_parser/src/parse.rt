@@ -2,12 +2,9 @@
 ghost use Rattle.std.specs.Prelude.{◌≡◌, ◌≤◌, List, [], length};
 ghost use Rattle.bean_base.specs.declared.limits.TheConstants.{LARGEST_QUERY};
 ghost use Rattle.bql_grammar.specs.Nesting as nesting;
-ghost use Rattle.bql_grammar.specs.Nesting.{wanting};
 ghost use Rattle.bql_lexer.specs.declared.token.Token.{Token};
 ghost use Rattle.bql_parser.specs.Parse as rule;
-ghost use Rattle.bql_parser.specs.Parse.{Parses, Stops, IsAnswered, IsFaultBy};
 ghost use Rattle.bql_parser.specs.Settled as settled;
-ghost use Rattle.bql_parser.specs.Settled.{mapped};
 ghost use Rattle.bql_parser.specs.Small.{IsSmallFound};
 ghost use Rattle.bql_parser.specs.View.{draft_of};
 
@@ -45,8 +42,8 @@ fn is_left(token: &Token<'_>, is_deep: bool) -> bool
 
 /// Why a text is no query whose tokens can't go on there.
 fn fault_at(text: &str, tokens: &[Token<'_>], left: usize, is_deep: bool) -> QueryFault
-    ensures { nesting.Stops (wanting []) tokens.now left is_deep
-        → Stops text.now tokens.now result }
+    ensures { nesting.Stops (nesting.wanting []) tokens.now left is_deep
+        → rule.Stops text.now tokens.now result }
 {
     match tokens.get(tokens.len().saturating_sub(left)) {
         Some(token) if is_left(token, is_deep) => QueryFault::OutsideProfile(token.start),
@@ -57,7 +54,7 @@ fn fault_at(text: &str, tokens: &[Token<'_>], left: usize, is_deep: bool) -> Que
 
 /// Why a text is no query that was read so far.
 fn fault_by(text: &str, tokens: &[Token<'_>], stuck: Stuck) -> QueryFault
-    ensures { IsFaultBy text.now tokens.now stuck result }
+    ensures { rule.IsFaultBy text.now tokens.now stuck result }
 {
     match stuck {
         Stuck::OutOfMemory => QueryFault::OutOfMemory,
@@ -78,9 +75,9 @@ fn byte_beyond(text: &str) -> Option<usize>
 
 /// A query, unless its text is too long.
 fn answered<'a>(text: &str, found: Result<Draft<'a>, Cause>) -> Result<Query<'a>, QueryFault>
-    requires { length text.now ≤ LARGEST_QUERY → IsSmallFound (mapped draft_of found) }
-    ensures { IsAnswered (settled.refused_at (settled.byte_beyond (length text.now))
-        (mapped draft_of found.entry)) result }
+    requires { length text.now ≤ LARGEST_QUERY → IsSmallFound (settled.mapped draft_of found) }
+    ensures { rule.IsAnswered (settled.refused_at (settled.byte_beyond (length text.now))
+        (settled.mapped draft_of found.entry)) result }
 {
     match refused_at(byte_beyond(text), found) {
         Ok(draft) => Ok(Query {
@@ -97,7 +94,7 @@ fn answered<'a>(text: &str, found: Result<Draft<'a>, Cause>) -> Result<Query<'a>
 
 /// The query that a text is.
 pub fn parse_query<'a>(alloc: Global, text: &'a str) -> Result<Query<'a>, QueryFault>
-    ensures { Parses text.now result }
+    ensures { rule.Parses text.now result }
 {
     let found = tokens(alloc, text)?;
     match query(alloc, text, found.as_slice()) {

@@ -6,7 +6,6 @@ ghost use Rattle.bql_tree.specs.Part.{part_of, parts_of};
 ghost use Rattle.bql_parser.specs.Piece as piece;
 ghost use Rattle.bql_parser.specs.Grammar as rule;
 ghost use Rattle.bql_parser.specs.Read as views;
-ghost use Rattle.bql_parser.specs.Read.{same};
 ghost use Rattle.bql_parser.specs.Stopping.{GivesFrom, IsFresh, IsClear, IsClearFor};
 
 use crate::clauses::{
@@ -327,7 +326,7 @@ fn after_whole<'t, 'a>(tokens: &'t [Token<'a>]) -> Option<(u32, &'t [Token<'a>])
 
 /// LIMIT, if it is written.
 pub fn limit<'t, 'a>(tokens: &'t [Token<'a>]) -> Result<(Option<u32>, &'t [Token<'a>]), Stuck>
-    ensures { GivesFrom IsClear rule.limit same tokens.now result }
+    ensures { GivesFrom IsClear rule.limit views.same tokens.now result }
 {
     let Some((_, behind)) = after(tokens, Kind::Limit) else {
         return Ok((None, tokens));

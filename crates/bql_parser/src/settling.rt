@@ -7,7 +7,6 @@ ghost use Rattle.bql_tree.specs.Part.{part_of, parts_in, parts_of, tree_found};
 ghost use Rattle.bql_tree.specs.Tree.{tree_of};
 ghost use Rattle.bql_parser.specs.Read as views;
 ghost use Rattle.bql_parser.specs.Settled as rule;
-ghost use Rattle.bql_parser.specs.Settled.{mapped};
 ghost use Rattle.bql_parser.specs.View as view;
 
 use crate::clauses::{FiltersRead, OrderRead, TargetRead};
@@ -30,7 +29,7 @@ pub fn refused_at<T: Drop>(place: Option<usize>, found: Result<T, Cause>) -> Res
 }
 
 fn target<'a>(read: TargetRead<'a>) -> Result<Target<'a>, Cause>
-    ensures { mapped view.target_of result ≡ rule.target (views.target_of read.entry) }
+    ensures { rule.mapped view.target_of result ≡ rule.target (views.target_of read.entry) }
 {
     match not_null(read.part.expr) {
         Ok(expr) => Ok(Target {
@@ -46,8 +45,8 @@ fn one_target<'a>(
     found: Result<Vec<Target<'a>>, Cause>,
     read: TargetRead<'a>,
 ) -> Result<Result<Vec<Target<'a>>, Cause>, AllocError>
-    ensures { IfOk result (λ r. mapped view.targets_of r
-        ≡ rule.one_target (mapped view.targets_of found.entry) (views.target_of read.entry)) }
+    ensures { IfOk result (λ r. rule.mapped view.targets_of r
+        ≡ rule.one_target (rule.mapped view.targets_of found.entry) (views.target_of read.entry)) }
 {
     match both(found, target(read)) {
         Ok((mut targets, next)) => {
@@ -73,7 +72,7 @@ fn each_target<'a>(
     alloc: Global,
     reads: Vec<TargetRead<'a>>,
 ) -> Result<Result<Vec<Target<'a>>, Cause>, AllocError>
-    ensures { IfOk result (λ r. mapped view.targets_of r
+    ensures { IfOk result (λ r. rule.mapped view.targets_of r
         ≡ rule.each_target (views.targets_of reads.entry)) }
 {
     let mut found = Ok(Vec::new(alloc));
@@ -87,7 +86,7 @@ pub fn targets<'a>(
     alloc: Global,
     reads: Vec<TargetRead<'a>>,
 ) -> Result<Result<Vec<Target<'a>>, Cause>, AllocError>
-    ensures { IfOk result (λ r. mapped view.targets_of r
+    ensures { IfOk result (λ r. rule.mapped view.targets_of r
         ≡ rule.targets (views.targets_of reads.entry)) }
 {
     let beyond = target_beyond(reads.as_slice());
@@ -96,7 +95,7 @@ pub fn targets<'a>(
 }
 
 pub fn filter<'a>(part: Option<Part<'a>>) -> Result<Option<Box<Expr<'a>>>, Cause>
-    ensures { mapped view.filter_of result ≡ rule.filter (views.filter_of part.entry) }
+    ensures { rule.mapped view.filter_of result ≡ rule.filter (views.filter_of part.entry) }
 {
     let Some(part) = part else {
         return Ok(None);
@@ -108,7 +107,7 @@ pub fn filter<'a>(part: Option<Part<'a>>) -> Result<Option<Box<Expr<'a>>>, Cause
 }
 
 pub fn filters<'a>(read: FiltersRead<'a>) -> Result<Filters<'a>, Cause>
-    ensures { mapped view.filters_of result ≡ rule.filters (views.filters_of read.entry) }
+    ensures { rule.mapped view.filters_of result ≡ rule.filters (views.filters_of read.entry) }
 {
     match both(filter(read.from), filter(read.filter)) {
         Ok((from, filter)) => Ok(Filters { from, filter }),
@@ -162,7 +161,7 @@ fn has_point(digits: &str) -> bool
 
 /// A whole number from 1 is a target, and other numbers are themselves.
 fn by_number<'a>(count: usize, place: usize, expr: Box<Expr<'a>>) -> Result<ItemKind<'a>, Cause>
-    ensures { mapped view.kind_of result
+    ensures { rule.mapped view.kind_of result
         ≡ rule.by_number count place (tree_of expr.entry.value) }
 {
     if is_great(&expr) {
@@ -176,7 +175,7 @@ fn by_number<'a>(count: usize, place: usize, expr: Box<Expr<'a>>) -> Result<Item
 }
 
 fn plain<'a>(found: Result<Box<Expr<'a>>, Cause>) -> Result<ItemKind<'a>, Cause>
-    ensures { mapped view.kind_of result ≡ rule.plain (tree_found found.entry) }
+    ensures { rule.mapped view.kind_of result ≡ rule.plain (tree_found found.entry) }
 {
     match not_null(found) {
         Ok(expr) => Ok(ItemKind::Expr(expr)),
@@ -191,7 +190,7 @@ fn item_kind<'a>(
     alone: Alone<'a>,
     found: Result<Box<Expr<'a>>, Cause>,
 ) -> Result<ItemKind<'a>, Cause>
-    ensures { mapped view.kind_of result
+    ensures { rule.mapped view.kind_of result
         ≡ rule.kind_by (views.targets_in targets.now) place alone.entry (tree_found found.entry) }
 {
     match alone {
@@ -208,7 +207,7 @@ fn item_kind<'a>(
 }
 
 fn item<'a>(targets: &[TargetRead<'_>], part: Part<'a>) -> Result<Item<'a>, Cause>
-    ensures { mapped view.item_of result
+    ensures { rule.mapped view.item_of result
         ≡ rule.item (views.targets_in targets.now) (part_of part.entry) }
 {
     let place = part.start;
@@ -224,8 +223,8 @@ fn one_item<'a>(
     found: Result<Vec<Item<'a>>, Cause>,
     part: Part<'a>,
 ) -> Result<Result<Vec<Item<'a>>, Cause>, AllocError>
-    ensures { IfOk result (λ r. mapped view.items_of r
-        ≡ rule.one_item (views.targets_in targets.now) (mapped view.items_of found.entry)
+    ensures { IfOk result (λ r. rule.mapped view.items_of r
+        ≡ rule.one_item (views.targets_in targets.now) (rule.mapped view.items_of found.entry)
         (part_of part.entry)) }
 {
     match both(found, item(targets, part)) {
@@ -243,7 +242,7 @@ fn each_item<'a>(
     targets: &[TargetRead<'_>],
     parts: Vec<Part<'a>>,
 ) -> Result<Result<Vec<Item<'a>>, Cause>, AllocError>
-    ensures { IfOk result (λ r. mapped view.items_of r
+    ensures { IfOk result (λ r. rule.mapped view.items_of r
         ≡ rule.each_item (views.targets_in targets.now) (parts_of parts.entry)) }
 {
     let mut found = Ok(Vec::new(alloc));
@@ -268,7 +267,7 @@ fn items<'a>(
     targets: &[TargetRead<'_>],
     parts: Vec<Part<'a>>,
 ) -> Result<Result<Vec<Item<'a>>, Cause>, AllocError>
-    ensures { IfOk result (λ r. mapped view.items_of r
+    ensures { IfOk result (λ r. rule.mapped view.items_of r
         ≡ rule.items (views.targets_in targets.now) (parts_of parts.entry)) }
 {
     let beyond = part_beyond(parts.as_slice());
@@ -281,7 +280,7 @@ pub fn group<'a>(
     targets: &[TargetRead<'_>],
     parts: Option<Vec<Part<'a>>>,
 ) -> Result<Result<Option<Vec<Item<'a>>>, Cause>, AllocError>
-    ensures { IfOk result (λ r. mapped view.group_of r
+    ensures { IfOk result (λ r. rule.mapped view.group_of r
         ≡ rule.group (views.targets_in targets.now) (views.group_of parts.entry)) }
 {
     let Some(parts) = parts else {
@@ -298,7 +297,7 @@ pub fn order<'a>(
     targets: &[TargetRead<'_>],
     read: OrderRead<'a>,
 ) -> Result<Result<Order<'a>, Cause>, AllocError>
-    ensures { IfOk result (λ r. mapped view.order_of r
+    ensures { IfOk result (λ r. rule.mapped view.order_of r
         ≡ rule.order (views.targets_in targets.now) (views.order_of read.entry)) }
 {
     let descending = read.descending;

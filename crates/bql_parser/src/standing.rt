@@ -2,7 +2,6 @@
 ghost use Rattle.std.specs.Prelude.{◌≡◌, ◌++◌, ◌∷◌, [], IfOk};
 ghost use Rattle.bql_parser.specs.Standing as rule;
 ghost use Rattle.bql_parser.specs.View as view;
-ghost use Rattle.bql_parser.specs.View.{targets_of, filter_of};
 ghost use Rattle.query_columns.specs.Column.{name};
 ghost use Rattle.bql_tree.specs.Tree.{tree_of};
 
@@ -59,7 +58,7 @@ fn matching<'a>(
     alloc: Global,
     pattern: Option<Slice<'a>>,
 ) -> Result<Option<Box<Expr<'a>>>, AllocError>
-    ensures { IfOk result (λ e. filter_of e ≡ rule.matching pattern.entry) }
+    ensures { IfOk result (λ e. view.filter_of e ≡ rule.matching pattern.entry) }
 {
     let Some(pattern) = pattern else {
         return Ok(None);
@@ -74,7 +73,7 @@ fn one_more<'a>(
     name: &'static str,
     expr: Box<Expr<'a>>,
 ) -> Result<Vec<Target<'a>>, AllocError>
-    ensures { IfOk result (λ r. targets_of r ≡ targets_of targets.entry
+    ensures { IfOk result (λ r. view.targets_of r ≡ view.targets_of targets.entry
         ++ rule.named name.now (tree_of expr.entry.value) ∷ []) }
 {
     let mut targets = targets;
@@ -91,14 +90,14 @@ fn one_column<'a>(
     targets: Vec<Target<'a>>,
     column: Column,
 ) -> Result<Vec<Target<'a>>, AllocError>
-    ensures { IfOk result (λ r. targets_of r ≡ targets_of targets.entry
+    ensures { IfOk result (λ r. view.targets_of r ≡ view.targets_of targets.entry
         ++ rule.named (name column) (rule.of_column column) ∷ []) }
 {
     one_more(targets, column.name(), of_column(alloc, column)?)
 }
 
 fn journal_targets<'a>(alloc: Global, at: Option<Valuation>) -> Result<Vec<Target<'a>>, AllocError>
-    ensures { IfOk result (λ r. targets_of r ≡ rule.journal_targets at) }
+    ensures { IfOk result (λ r. view.targets_of r ≡ rule.journal_targets at) }
 {
     let targets = one_column(alloc, Vec::new(alloc), Column::Date)?;
     let targets = one_column(alloc, targets, Column::Flag)?;
@@ -117,7 +116,7 @@ pub fn journal<'a>(
     from: Option<Box<Expr<'a>>>,
 ) -> Result<Draft<'a>, AllocError>
     ensures { IfOk result (λ d. view.draft_of d
-        ≡ rule.journal pattern.entry at (filter_of from.entry)) }
+        ≡ rule.journal pattern.entry at (view.filter_of from.entry)) }
 {
     let targets = journal_targets(alloc, at)?;
     let filter = matching(alloc, pattern)?;
@@ -135,7 +134,7 @@ pub fn journal<'a>(
 }
 
 fn balances_targets<'a>(alloc: Global, at: Option<Valuation>) -> Result<Vec<Target<'a>>, AllocError>
-    ensures { IfOk result (λ r. targets_of r ≡ rule.balances_targets at) }
+    ensures { IfOk result (λ r. view.targets_of r ≡ rule.balances_targets at) }
 {
     let targets = one_column(alloc, Vec::new(alloc), Column::Account)?;
     let position = valued(alloc, at, Column::Position)?;

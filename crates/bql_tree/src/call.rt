@@ -103,7 +103,7 @@ fn components(part: Part<'_>) -> Result<u8, Cause>
     match part.expr {
         Ok(expr) => match Box::into_inner(expr) {
             Expr::Leaf(_, Leaf::Number(n))
-                if n.places == 0 && 1 <= n.count && n.count <= MOST_COMPONENTS => {
+                if n.places == 0 && 1 <= n.count && n.count <= MOST_COMPONENTS as i128 => {
                 Ok(n.count as u8)
             }
             _ => Err(outside),
