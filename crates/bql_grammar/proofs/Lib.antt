@@ -8,3 +8,4 @@ pub mod ArgumentsFacts
 pub mod StandingFacts
 pub mod PassingFacts
 pub mod DepthFacts
+pub mod Examples

@@ -127,11 +127,11 @@ still_open Ends call within = enclosing within
 abbrev pub others : Standing → List Token → ℕ
 others p ts = length (still_open p.last (begins (of_kind kind.OpenParenthesis) ts) p.within)
 
--- nothing may nest there
+-- the next token stands inside 200 others or more
 abbrev pub is_full : Standing → List Token → Bool
 is_full p ts = nat_le MOST_NESTED (others p ts)
 
--- Reading stops where so many tokens are left, and this says whether something may nest there.
+-- Reading stops where so many tokens are left, and this says whether that is inside 200 others.
 pub record Stops (p : Standing) (ts : List Token) (left : ℕ) (is_deep : Bool) : Type 0 where
   pub passed : List Token
   pub rest : List Token

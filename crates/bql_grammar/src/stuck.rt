@@ -8,7 +8,8 @@ use std::alloc::{AllocError, AllocFailed};
 #[derive(Clone, Copy, Debug, Drop, PartialEq, Eq)]
 pub enum Stuck {
     OutOfMemory,
-    /// No token of the grammar can stand where so many tokens are left, or it would nest too deep.
+    /// No token of the grammar can stand where so many tokens are left, or it would nest too deep:
+    /// then 200 others are open there.
     At { left: usize, is_deep: bool },
 }
 
