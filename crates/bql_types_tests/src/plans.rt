@@ -3,8 +3,9 @@
 use crate::shapes::push_letters;
 use bean_base::Bounds;
 use bql_parser::parse_query;
-use bql_plan::{Plan, Shaped, planned};
+use bql_plan::{Gathered, Plan, Shaped, planned};
 use bql_types::type_query;
+use query_values::Aggregate;
 use std::alloc::{AllocError, Global};
 use std::test::Fail;
 
@@ -38,25 +39,66 @@ fn push_each(words: &mut String, name: &str, all: &[Shaped<'_, '_>]) -> Result<(
     Ok(())
 }
 
-fn push_filter(
+/// The shapes of an expression that may lack, behind a name.
+fn push_if_there(
     words: &mut String,
     name: &str,
-    filter: &Option<Shaped<'_, '_>>,
+    shaped: &Option<Shaped<'_, '_>>,
 ) -> Result<(), AllocError> {
-    if let Some(filter) = filter {
+    if let Some(shaped) = shaped {
         words.push_str(name)?;
-        push_letters(words, &filter.shapes)?;
+        push_letters(words, &shaped.shapes)?;
+    }
+    Ok(())
+}
+
+/// A sum's name and its decimals.
+fn push_sum(alloc: Global, words: &mut String, name: &str, places: u8) -> Result<(), AllocError> {
+    let sum = format!(in alloc; " {name}:{places}")?;
+    words.push_str(sum.as_str())?;
+    Ok(())
+}
+
+fn push_aggregate(
+    alloc: Global,
+    words: &mut String,
+    aggregate: Aggregate,
+) -> Result<(), AllocError> {
+    let name = match aggregate {
+        Aggregate::CountRows => " rows",
+        Aggregate::Count => " count",
+        Aggregate::Sum(places) => return push_sum(alloc, words, "sum", places),
+        Aggregate::SumInventory(places) => return push_sum(alloc, words, "inventory", places),
+        Aggregate::First => " first",
+        Aggregate::Last => " last",
+        Aggregate::Min => " min",
+        Aggregate::Max => " max",
+    };
+    words.push_str(name)?;
+    Ok(())
+}
+
+/// The aggregates, each with the shapes of its input.
+fn push_gathered(
+    alloc: Global,
+    words: &mut String,
+    all: &[Gathered<'_, '_>],
+) -> Result<(), AllocError> {
+    words.push_str("; aggregates")?;
+    for one in all {
+        push_aggregate(alloc, words, one.aggregate)?;
+        push_if_there(words, " ", &one.input)?;
     }
     Ok(())
 }
 
 /// The shapes of all that is computed.
-fn push_shapes(words: &mut String, plan: &Plan<'_, '_>) -> Result<(), AllocError> {
-    push_filter(words, "from ", &plan.from)?;
-    push_filter(words, "where ", &plan.filter)?;
+fn push_shapes(alloc: Global, words: &mut String, plan: &Plan<'_, '_>) -> Result<(), AllocError> {
+    push_if_there(words, "from ", &plan.from)?;
+    push_if_there(words, "where ", &plan.filter)?;
     push_each(words, "; shown", plan.shown.as_slice())?;
     push_each(words, "; keys", plan.keys.as_slice())?;
-    push_each(words, "; aggregates", plan.aggregates.as_slice())
+    push_gathered(alloc, words, plan.aggregates.as_slice())
 }
 
 /// What is computed for a query, by its counts or by its shapes.
@@ -72,7 +114,7 @@ fn told(alloc: Global, text: &str, by_counts: bool) -> Option<String> {
     let pushed = if by_counts {
         push_counts(alloc, &mut words, &plan)
     } else {
-        push_shapes(&mut words, &plan)
+        push_shapes(alloc, &mut words, &plan)
     };
     pushed.ok()?;
     Some(words)
@@ -123,9 +165,12 @@ fn plans_of_what_is_not_written(rt: HostRuntime) -> Result<(), Fail> {
         ),
         (
             "BALANCES AT units WHERE account ~ 'a'",
-            "where T(X); shown X I(A(P)) N(X); keys X; aggregates I(A(P))",
+            "where T(X); shown X I(A(P)) N(X); keys X; aggregates inventory:8 A(P)",
         ),
-        ("BALANCES", "; shown X I(P) N(X); keys X; aggregates I(P)"),
+        (
+            "BALANCES",
+            "; shown X I(P) N(X); keys X; aggregates inventory:8 P",
+        ),
     ];
     for (text, words) in wanted {
         let found = told(rt.alloc(), text, false);
@@ -143,11 +188,15 @@ fn shapes_of_plans(rt: HostRuntime) -> Result<(), Fail> {
         ),
         (
             "SELECT year, count(*) + 1 FROM year > 2013 GROUP BY year, month + 1",
-            "from T(NN); shown N N(NN); keys N N(NN); aggregates N",
+            "from T(NN); shown N N(NN); keys N N(NN); aggregates rows",
         ),
         (
             "SELECT NULL != date, max(number) GROUP BY NULL != date ORDER BY max(number)",
-            "; shown T(-D) N(N); keys T(-D); aggregates N(N)",
+            "; shown T(-D) N(N); keys T(-D); aggregates max N",
+        ),
+        (
+            "SELECT sum(number), sum(units(position)) ORDER BY count(account)",
+            "; shown N(N) I(A(P)) N(X); keys; aggregates sum:8 N inventory:8 A(P) count X",
         ),
         ("SELECT account + 1", "none"),
     ];

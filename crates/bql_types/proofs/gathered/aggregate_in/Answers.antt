@@ -1,5 +1,4 @@
 use Rattle.std.proofs.Common.{sym, ap, ◌∙◌}
-use Rattle.bql_tree.specs.Tree.{tree_of}
 use Rattle.bql_types.specs.Gathered.{of_call, aggregate_in}
 use Rattle.bql_types.proofs.CauseFacts.{is_call}
 use Rattle.bql_types.proofs.gathered.aggregate_in.Goals as goal
