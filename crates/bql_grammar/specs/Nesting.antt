@@ -153,12 +153,12 @@ all within = within
 abbrev pub IsInside : (List Open → List Open) → ℕ → List Token → Stuck → Type 0
 IsInside ends room ts OutOfMemory = Unit {0}
 IsInside ends room ts (At left is_deep) =
-    (within : List Open) → ends within ≡ within → length within + room ≡ most
+    (within : List Open) → ends within ≡ within → length within + room ≡ MOST_NESTED
     → Stops (wanting within) ts left is_deep
 
 -- the same of a reader of IN and a list behind an operand
 abbrev pub IsInsideList : ℕ → List Token → Stuck → Type 0
 IsInsideList room ts OutOfMemory = Unit {0}
 IsInsideList room ts (At left is_deep) =
-    (p : Standing) → begins (of_kind kind.In) ts ≡ true → length (unsigned p.within) + room ≡ most
+    (p : Standing) → begins (of_kind kind.In) ts ≡ true → length (unsigned p.within) + room ≡ MOST_NESTED
     → Stops p ts left is_deep

@@ -4,3 +4,4 @@ pub mod Code
 pub mod Lowered
 pub mod Program
 pub mod Carried
+pub mod Laws

@@ -22,7 +22,7 @@ same_constant (constants.Number m) (constants.Number n) =
     m.places == n.places && int_eq m.count n.count
 same_constant (constants.Day d) (constants.Day e) = same_day d e
 same_constant (constants.Pattern a) (constants.Pattern b) = same_text a b
-same_constant (constants.Texts as) (constants.Texts bs) = pointwise same_text as bs
+same_constant (constants.Texts ss) (constants.Texts ts) = pointwise same_text ss ts
 same_constant (constants.Numbers ms) (constants.Numbers ns) =
     ms.places == ns.places && pointwise int_eq ms.counts ns.counts
 same_constant (constants.Days ds) (constants.Days es) = pointwise same_day ds es

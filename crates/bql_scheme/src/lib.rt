@@ -20,10 +20,18 @@
 //! row               0 LOAD_COL 9
 //! ```
 //!
-//! There is nothing to run here.
+//! There is nothing to run here: the function is a law, whose contract says what holds of the
+//! definitions.
 //!
 //! # When there is no program
 //!
 //! Where a section, the pool or the aggregates would be longer than the file of a query holds, or
 //! where more values would stand on the stack than it holds (`specs/Program`).
 #![tactic(auto)]
+
+ghost use Rattle.bql_scheme.specs.Laws.{PoolsHaveWhatIsUsed};
+
+/// Whatever is used stands in the pool, at its index.
+pub fn pools_have_what_is_used()
+    ensures { PoolsHaveWhatIsUsed }
+{}
