@@ -116,7 +116,7 @@ day_in t = []
 -- a count of so many decimals
 abbrev pub count_in : ℕ → Tree ℕ → List ℤ
 count_in places (node at (leaf_of (leaf.Number n)) parts) =
-    n.count *ℤ pos (10 ^ (places - n.places)) ∷ []
+    (n.count *ℤ pos (10 ^ (places - n.places))) ∷ []
 count_in places t = []
 
 abbrev pub each_in : {A : Type 0} → (Tree ℕ → List A) → Trees ℕ → List A
