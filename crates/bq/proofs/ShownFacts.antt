@@ -4,8 +4,10 @@ use Rattle.std.proofs.Common.{◌∙◌, arith}
 use Rattle.std.specs.List.{slice_get}
 use Rattle.std.specs.Option.{option_map}
 use Rattle.posting_table.specs.Row.{cell_at}
+use Rattle.posting_table.specs.Rows.{row_of}
 use Rattle.query_columns.specs.declared.column.Column.{Column}
 use Rattle.posting_table.specs.declared.row.Row.{Row}
+use Rattle.query_rows.specs.Row as query
 use Rattle.query_values.specs.declared.value.Value.{Value}
 use Rattle.table_printer.specs.CellText.{row_at}
 use Rattle.bq.specs.Columns.{column_at}
@@ -22,7 +24,7 @@ in_column r (suc (suc (suc (suc n)))) within = absurd (omega arith)
 -- a value that a row has in a column is what the listing shows there
 pub is_shown : (rows : List Row) (i n : ℕ) (c : Column) (x : Value)
     → n < length (row_at (map shown_row rows) i) → c ≡ column_at n
-    → Some x ≡ option_map (λ r. cell_at r c) (slice_get rows i)
+    → Some x ≡ option_map (λ (r : query.Row). r.cell c) (slice_get (map row_of rows) i)
     → Some x ≡ slice_get (row_at (map shown_row rows) i) n
 is_shown [] i n c x within column is = absurd (omega arith)
 is_shown (r ∷ rows) zero n c x within column is =
