@@ -15,9 +15,9 @@
 //!
 //! Where no expression stands, the reader tells the first token that can't go on ([`Stuck`]), and
 //! whether it stands inside 200 others: parentheses that are not closed, and signs and NOTs whose
-//! operand still goes on (`specs/Nesting`). An expression of the grammar may still name what isn't known, or what the profile leaves out: then
-//! its part has the cause at the least place in place of its tree, and reading goes on, so that
-//! what is no query at all is told first.
+//! operand still goes on (`specs/Nesting`). An expression of the grammar may still name what isn't
+//! known, or what the profile leaves out: then its part has the cause at the least place in place of
+//! its tree, and reading goes on, so that what is no query at all is told first.
 //!
 //! # Cost
 //!
