@@ -29,10 +29,10 @@
 //! the account's open lists. Memory is taken for each account, and for each currency of its open.
 #![tactic(auto)]
 
-pub mod accounts;
-pub mod life;
-pub mod method;
-pub mod step;
+mod accounts;
+mod life;
+mod method;
+mod step;
 
 pub use accounts::{Accounts, Place};
 pub use life::Life;

@@ -32,23 +32,23 @@
 //! call is linear in the text that it reads, and a sum, a product or a rounding takes a few steps.
 #![tactic(auto)]
 
-pub mod amounts;
-pub mod apart;
-pub mod bounds;
-pub mod days;
+mod amounts;
+mod apart;
+mod bounds;
+mod days;
 mod digits;
-pub mod fault;
-pub mod few;
-pub mod flags;
+mod fault;
+mod few;
+mod flags;
 pub mod limits;
-pub mod list;
-pub mod names;
-pub mod num;
-pub mod power;
-pub mod roots;
-pub mod slice;
-pub mod span;
-pub mod texts;
+mod list;
+mod names;
+mod num;
+mod power;
+mod roots;
+mod slice;
+mod span;
+mod texts;
 
 pub use amounts::Amount;
 pub use apart::Apart;

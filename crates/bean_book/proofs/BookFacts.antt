@@ -3,19 +3,19 @@ use Rattle.std.proofs.Common.{◌≡◌, reverse, arith, refl, sym, subst, Err}
 use Rattle.std.specs.List.{AllByRecursion}
 use Rattle.std.proofs.lemmas.List.{reverse-reverse}
 use Rattle.bean_base.specs.declared.limits.TheConstants.{MOST_POSTINGS}
-use Rattle.bean_booker.proofs.OneBooking.{one_stand}
-use Rattle.bean_booker.specs.Booked as booker
-use Rattle.bean_booker.specs.Booked.{IsBooked, method_in_ledger}
-use Rattle.bean_booker.specs.Stand.{LeadsTo, Stand}
-use Rattle.bean_booker.specs.declared.booked.Booked.{Booked}
-use Rattle.bean_booker.specs.declared.booker.BookFault.{BookFault}
-use Rattle.bean_booker.specs.declared.booker.BookFault.TheVariants.{OutOfMemory, TooManyPostings}
+use Rattle.bean_replay.proofs.OneBooking.{one_stand}
+use Rattle.bean_replay.specs.Booked as booker
+use Rattle.bean_replay.specs.Booked.{IsBooked, method_in_ledger}
+use Rattle.bean_replay.specs.Stand.{LeadsTo, Stand}
+use Rattle.bean_replay.specs.declared.booked.Booked.{Booked}
+use Rattle.bean_replay.specs.declared.booker.BookFault.{BookFault}
+use Rattle.bean_replay.specs.declared.booker.BookFault.TheVariants.{OutOfMemory, TooManyPostings}
 use Rattle.bean_load.specs.Loaded.{Loaded}
 use Rattle.bean_pad.specs.Note.{noted_pads}
-use Rattle.bean_sizes.proofs.BookedFacts.{IsSmallKept}
-use Rattle.bean_sizes.proofs.BookingFacts.{HasUpTo, booking_few, booking_small}
-use Rattle.bean_sizes.proofs.ListFacts.{all_joint}
-use Rattle.bean_sizes.specs.Booked.{IsSmallNoted}
+use Rattle.bean_replay.proofs.SmallBookedFacts.{IsSmallKept}
+use Rattle.bean_replay.proofs.SmallBookingFacts.{HasUpTo, booking_few, booking_small}
+use Rattle.bean_replay.proofs.SmallListFacts.{all_joint}
+use Rattle.bean_replay.specs.Small.{IsSmallNoted}
 use Rattle.bean_load.specs.Small.{IsSmall}
 use Rattle.bean_book.specs.Booked.{AreTooMany, Books, MakesLedger, bookings_of}
 use Rattle.bean_book.specs.Entries.{bookings}

@@ -3,11 +3,11 @@ use Rattle.std.proofs.Common.{◌≡◌, ℕ, zero, suc, ◌+◌, ◌≤◌, ◌
 use Rattle.std.proofs.Common.{◌∷◌, ◌++◌, drop, filter, map, slice_get, inl, inr, refl, sym, ap, ◌∙◌}
 use Rattle.std.proofs.Common.{arith}
 use Rattle.std.proofs.lemmas.Bool.Decides.{nat_tests}
-use Rattle.bean_booker.specs.declared.kept.Kept.{Kept}
-use Rattle.bean_heads.specs.declared.directive.Directive.{Directive}
-use Rattle.bean_heads.specs.declared.directive.DirectiveKind.{DirectiveKind}
-use Rattle.bean_heads.specs.declared.directive.DirectiveKind.TheVariants as kind
-use Rattle.bean_heads.specs.declared.transaction.Transaction.{Transaction}
+use Rattle.bean_replay.specs.declared.kept.Kept.{Kept}
+use Rattle.bean_directives.specs.declared.directive.Directive.{Directive}
+use Rattle.bean_directives.specs.declared.directive.DirectiveKind.{DirectiveKind}
+use Rattle.bean_directives.specs.declared.directive.DirectiveKind.TheVariants as kind
+use Rattle.bean_directives.specs.declared.transaction.Transaction.{Transaction}
 use Rattle.bean_load.specs.declared.placed.Placed.{Placed}
 use Rattle.bean_pad.specs.declared.note.NotedPad.{NotedPad}
 use Rattle.bean_book.specs.Entries.{transaction, booking_of, bookings, bookings_from}

@@ -5,14 +5,14 @@ use Rattle.std.proofs.Common.{reverse, refl, sym, ap, ◌∙◌, arith}
 use Rattle.std.specs.List.{AllByRecursion, flat_map}
 use Rattle.std.proofs.lemmas.Grind.{flat_map-append}
 use Rattle.std.proofs.lemmas.List.{append-nil, length-append, length-map, reverse-append}
-use Rattle.bean_booker.specs.Stand.{IsStepBy, LeadsTo, Stand, after_trial, posting_step}
-use Rattle.bean_booker.specs.Stand.{postings_of}
-use Rattle.bean_booker.specs.declared.kept.Kept.{Kept}
+use Rattle.bean_replay.specs.Stand.{IsStepBy, LeadsTo, Stand, after_trial, posting_step}
+use Rattle.bean_replay.specs.Stand.{postings_of}
+use Rattle.bean_replay.specs.declared.kept.Kept.{Kept}
 use Rattle.bean_postings.specs.declared.posting.Posting.{Posting}
-use Rattle.bean_heads.specs.declared.directive.Directive.{Directive}
-use Rattle.bean_heads.specs.declared.directive.DirectiveKind.{DirectiveKind}
-use Rattle.bean_heads.specs.declared.directive.DirectiveKind.TheVariants as kind
-use Rattle.bean_heads.specs.declared.transaction.Transaction.{Transaction}
+use Rattle.bean_directives.specs.declared.directive.Directive.{Directive}
+use Rattle.bean_directives.specs.declared.directive.DirectiveKind.{DirectiveKind}
+use Rattle.bean_directives.specs.declared.directive.DirectiveKind.TheVariants as kind
+use Rattle.bean_directives.specs.declared.transaction.Transaction.{Transaction}
 use Rattle.bean_load.specs.declared.placed.Placed.{Placed}
 use Rattle.bean_reductions.specs.declared.reduction.Method.{Method}
 use Rattle.bean_pad.specs.Note.{noted, noted_at, noted_pads, pads_in, with_noted}
@@ -20,9 +20,9 @@ use Rattle.bean_pad.specs.declared.note.Note.{Note}
 use Rattle.bean_pad.specs.declared.note.NotedPad.{NotedPad}
 use Rattle.bean_pad.specs.declared.step.Step.{Step}
 use Rattle.bean_pad.specs.declared.step.Step.TheVariants as step
-use Rattle.bean_sizes.proofs.ListFacts.{all_reversed}
-use Rattle.bean_trial.specs.declared.line.Posted.{Posted}
-use Rattle.bean_trial.specs.declared.stop.LineFault.{LineFault}
+use Rattle.bean_replay.proofs.SmallListFacts.{all_reversed}
+use Rattle.bean_transactions.specs.declared.line.Posted.{Posted}
+use Rattle.bean_transactions.specs.declared.stop.LineFault.{LineFault}
 use Rattle.posting_table.specs.declared.row.Row.{Row}
 use Rattle.bean_book.specs.Booked.{rows_of_all}
 use Rattle.bean_book.specs.Entries.{transaction, bookings, pad_count}

@@ -12,12 +12,12 @@ use Rattle.std.proofs.lemmas.Slice.Eq.{bytes_eq-Decides}
 use Rattle.bean_base.specs.declared.limits.TheConstants.{MOST_POSTINGS}
 use Rattle.bean_base.specs.declared.amounts.Amount.{Amount}
 use Rattle.bean_base.specs.declared.fault.Fault.{Fault}
-use Rattle.bean_booker.proofs.OneBooking.{one_stand}
-use Rattle.bean_booker.specs.Booked.{IsBooked, method_in_ledger}
-use Rattle.bean_booker.specs.Stand.{postings_of}
-use Rattle.bean_booker.specs.declared.booked.Booked as booker
-use Rattle.bean_booker.specs.declared.booker.BookFault.{BookFault}
-use Rattle.bean_booker.specs.declared.booker.BookFault.TheVariants.{OutOfMemory, TooManyPostings}
+use Rattle.bean_replay.proofs.OneBooking.{one_stand}
+use Rattle.bean_replay.specs.Booked.{IsBooked, method_in_ledger}
+use Rattle.bean_replay.specs.Stand.{postings_of}
+use Rattle.bean_replay.specs.declared.booked.Booked as booker
+use Rattle.bean_replay.specs.declared.booker.BookFault.{BookFault}
+use Rattle.bean_replay.specs.declared.booker.BookFault.TheVariants.{OutOfMemory, TooManyPostings}
 use Rattle.bean_load.specs.Loaded.{Loaded}
 use Rattle.bean_pad.specs.Note.{noted_pads}
 use Rattle.posting_table.proofs.DecimalsFacts.{decimals_of-insert}

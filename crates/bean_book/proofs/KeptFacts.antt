@@ -5,17 +5,17 @@ use Rattle.std.proofs.Common.{inl, inr, ◌≤◌, ◌==◌, Bool, true, false, 
 use Rattle.std.specs.List.{AllByRecursion}
 use Rattle.std.proofs.lemmas.Bool.Decides.{nat_tests}
 use Rattle.std.proofs.lemmas.List.{length-reverse, reverse-append}
-use Rattle.bean_booker.specs.Stand.{IsStepBy, LeadsTo, Stand, after_trial, setting_of}
-use Rattle.bean_booker.specs.declared.kept.Kept.{Kept}
-use Rattle.bean_heads.specs.declared.directive.Directive.{Directive}
-use Rattle.bean_heads.specs.declared.directive.DirectiveKind.{DirectiveKind}
-use Rattle.bean_heads.specs.declared.directive.DirectiveKind.TheVariants as kind
+use Rattle.bean_replay.specs.Stand.{IsStepBy, LeadsTo, Stand, after_trial, setting_of}
+use Rattle.bean_replay.specs.declared.kept.Kept.{Kept}
+use Rattle.bean_directives.specs.declared.directive.Directive.{Directive}
+use Rattle.bean_directives.specs.declared.directive.DirectiveKind.{DirectiveKind}
+use Rattle.bean_directives.specs.declared.directive.DirectiveKind.TheVariants as kind
 use Rattle.bean_load.specs.declared.placed.Placed.{Placed}
 use Rattle.bean_reductions.specs.declared.reduction.Method.{Method}
-use Rattle.bean_trial.proofs.LightFacts.{kept_light}
-use Rattle.bean_trial.specs.Tried.{Tries}
-use Rattle.bean_trial.specs.declared.line.Posted.{Posted}
-use Rattle.bean_trial.specs.declared.stop.LineFault.{LineFault}
+use Rattle.bean_transactions.proofs.LightFacts.{kept_light}
+use Rattle.bean_transactions.specs.Tried.{Tries}
+use Rattle.bean_transactions.specs.declared.line.Posted.{Posted}
+use Rattle.bean_transactions.specs.declared.stop.LineFault.{LineFault}
 use Rattle.bean_pad.specs.declared.note.NotedPad.{NotedPad}
 use Rattle.bean_book.specs.Left.{behind_kept, kept_behind, pads_behind, pads_left}
 use Rattle.bean_book.specs.Kept.{AreOf, IsNextOf, IsOf}

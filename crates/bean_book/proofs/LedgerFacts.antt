@@ -7,17 +7,17 @@ use Rattle.std.proofs.Common.{Bool, true, false, cond, ◌==◌}
 use Rattle.std.proofs.lemmas.Grind.{flat_map-append}
 use Rattle.std.proofs.lemmas.List.{append-nil, length-map}
 use Rattle.bean_base.specs.declared.limits.TheConstants.{MOST_POSTINGS}
-use Rattle.bean_booker.specs.Stand.{postings_of}
-use Rattle.bean_heads.specs.declared.directive.DirectiveKind.{DirectiveKind}
-use Rattle.bean_heads.specs.declared.directive.DirectiveKind.TheVariants as kind
-use Rattle.bean_heads.specs.declared.transaction.Transaction.{Transaction}
+use Rattle.bean_replay.specs.Stand.{postings_of}
+use Rattle.bean_directives.specs.declared.directive.DirectiveKind.{DirectiveKind}
+use Rattle.bean_directives.specs.declared.directive.DirectiveKind.TheVariants as kind
+use Rattle.bean_directives.specs.declared.transaction.Transaction.{Transaction}
 use Rattle.bean_book.specs.Kept.{AreOf}
 use Rattle.bean_book.proofs.BookingFacts.{all_left}
 use Rattle.bean_book.proofs.KeptFacts.{left_of}
-use Rattle.bean_booker.specs.declared.booker.BookFault.{BookFault}
-use Rattle.bean_booker.specs.declared.booker.BookFault.TheVariants.{OutOfMemory, TooManyPostings}
-use Rattle.bean_booker.specs.declared.kept.Kept.{Kept}
-use Rattle.bean_heads.specs.declared.directive.Directive.{Directive}
+use Rattle.bean_replay.specs.declared.booker.BookFault.{BookFault}
+use Rattle.bean_replay.specs.declared.booker.BookFault.TheVariants.{OutOfMemory, TooManyPostings}
+use Rattle.bean_replay.specs.declared.kept.Kept.{Kept}
+use Rattle.bean_directives.specs.declared.directive.Directive.{Directive}
 use Rattle.bean_load.specs.declared.placed.Placed.{Placed}
 use Rattle.bean_pad.specs.declared.note.NotedPad.{NotedPad}
 use Rattle.posting_table.specs.Decimals.{decimals_of}

@@ -21,22 +21,22 @@ use Rattle.bean_grammar.specs.declared.metadata.Value.TheVariants as value
 use Rattle.bean_postings.specs.declared.posting.Posting.{Posting}
 use Rattle.bean_postings.specs.declared.price.Price as prices
 use Rattle.bean_postings.specs.declared.price.Price.TheVariants as price
-use Rattle.bean_heads.specs.declared.directive.Directive.{Directive}
-use Rattle.bean_heads.specs.declared.directive.DirectiveKind.TheVariants as kind
-use Rattle.bean_heads.specs.declared.transaction.Transaction.{Transaction}
+use Rattle.bean_directives.specs.declared.directive.Directive.{Directive}
+use Rattle.bean_directives.specs.declared.directive.DirectiveKind.TheVariants as kind
+use Rattle.bean_directives.specs.declared.transaction.Transaction.{Transaction}
 use Rattle.bean_interp.specs.Residual.{IsLight}
 use Rattle.bean_interp.specs.Weight.{at_8, count_of, currency_of}
 use Rattle.bean_interp.specs.declared.leg.Leg.TheVariants as leg
 use Rattle.bean_lots.specs.declared.lot.Lot.{Lot}
 use Rattle.bean_pad.specs.declared.step.Pad.{Pad}
-use Rattle.bean_sizes.proofs.ListFacts.{all_at, all_flat, all_mapped}
-use Rattle.bean_sizes.proofs.PlaceFacts.{transaction_small}
-use Rattle.bean_sizes.specs.Booked.{IsSmallLot, IsSmallPad, IsSmallPosted}
-use Rattle.text_sizes.specs.Part.{IsShort, IsShortCurrency, IsShortEntry, IsShortMark}
-use Rattle.text_sizes.specs.Part.{IsShortPrice, IsShortValue, IsSmallPosting, most}
-use Rattle.text_sizes.specs.Small.{IsSmallDirective}
-use Rattle.bean_trial.specs.Tried.{booked_leg, whole_at, worth_of}
-use Rattle.bean_trial.specs.declared.line.Posted.{Posted}
+use Rattle.bean_replay.proofs.SmallListFacts.{all_at, all_flat, all_mapped}
+use Rattle.bean_replay.proofs.SmallPlaceFacts.{transaction_small}
+use Rattle.bean_replay.specs.Small.{IsSmallLot, IsSmallPad, IsSmallPosted}
+use Rattle.bean_parser.specs.SmallPart.{IsShort, IsShortCurrency, IsShortEntry, IsShortMark}
+use Rattle.bean_parser.specs.SmallPart.{IsShortPrice, IsShortValue, IsSmallPosting, most}
+use Rattle.bean_parser.specs.Small.{IsSmallDirective}
+use Rattle.bean_transactions.specs.Tried.{booked_leg, whole_at, worth_of}
+use Rattle.bean_transactions.specs.declared.line.Posted.{Posted}
 use Rattle.number_texts.proofs.LengthFacts.{length-day, short_number}
 use Rattle.posting_table.specs.Parts.{HasShortTexts, HasSmallParts, IsShortLot, IsShortSet}
 use Rattle.posting_table.specs.Shaped.{AreShort}

@@ -4,10 +4,10 @@ use Rattle.std.specs.Prelude.{reverse, Result, Ok, Err}
 use Rattle.std.specs.List.{flat_map}
 use Rattle.std.specs.Str.{bytes_eq}
 use Rattle.bean_base.specs.declared.amounts.Amount.{Amount}
-use Rattle.bean_booker.specs.Booked.{faults_of, method_in_ledger}
-use Rattle.bean_booker.specs.Stand.{LeadsTo, Stand}
-use Rattle.bean_booker.specs.declared.booker.BookFault.{BookFault}
-use Rattle.bean_booker.specs.declared.booker.BookFault.TheVariants.{TooManyPostings, OutOfMemory}
+use Rattle.bean_replay.specs.Booked.{faults_of, method_in_ledger}
+use Rattle.bean_replay.specs.Stand.{LeadsTo, Stand}
+use Rattle.bean_replay.specs.declared.booker.BookFault.{BookFault}
+use Rattle.bean_replay.specs.declared.booker.BookFault.TheVariants.{TooManyPostings, OutOfMemory}
 use Rattle.bean_load.specs.Loaded.{Loaded}
 use Rattle.bean_pad.specs.Note.{noted_pads}
 use Rattle.posting_table.specs.Decimals.{decimals_of}

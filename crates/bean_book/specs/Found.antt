@@ -1,8 +1,8 @@
 -- The faults of what a loaded ledger is booked as.
 use Rattle.std.specs.Prelude.{◌≡◌, ⊤, List, Result, Ok, Err}
 use Rattle.bean_base.specs.declared.fault.Fault.{Fault}
-use Rattle.bean_booker.specs.declared.booker.BookFault.{BookFault}
-use Rattle.bean_booker.specs.declared.booker.BookFault.TheVariants.{TooManyPostings, OutOfMemory}
+use Rattle.bean_replay.specs.declared.booker.BookFault.{BookFault}
+use Rattle.bean_replay.specs.declared.booker.BookFault.TheVariants.{TooManyPostings, OutOfMemory}
 use Rattle.bean_load.specs.Loaded.{Loaded}
 use Rattle.bean_book.specs.Booked.{HasTooMany, IsBookOf}
 use Rattle.bean_book.specs.declared.booked.Booked.{Booked}

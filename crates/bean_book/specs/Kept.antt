@@ -2,14 +2,14 @@
 use Rattle.std.specs.Prelude.{◌≡◌, ◌≤◌, ℕ, ◌+◌, List, [], ◌∷◌, ◌⊎◌, ⊤, length}
 use Rattle.std.specs.List.{AllByRecursion}
 use Rattle.bean_base.specs.declared.limits.TheConstants.{MOST_POSTINGS}
-use Rattle.bean_booker.specs.declared.kept.Kept.{Kept}
-use Rattle.bean_heads.specs.declared.directive.Directive.{Directive}
-use Rattle.bean_heads.specs.declared.directive.DirectiveKind.TheVariants as kind
-use Rattle.bean_heads.specs.declared.transaction.Transaction.{Transaction}
+use Rattle.bean_replay.specs.declared.kept.Kept.{Kept}
+use Rattle.bean_directives.specs.declared.directive.Directive.{Directive}
+use Rattle.bean_directives.specs.declared.directive.DirectiveKind.TheVariants as kind
+use Rattle.bean_directives.specs.declared.transaction.Transaction.{Transaction}
 use Rattle.bean_interp.specs.Residual.{IsLight}
 use Rattle.bean_load.specs.declared.placed.Placed.{Placed}
-use Rattle.bean_sizes.specs.Booked.{IsSmallPosted}
-use Rattle.bean_trial.specs.Tried.{booked_legs}
+use Rattle.bean_replay.specs.Small.{IsSmallPosted}
+use Rattle.bean_transactions.specs.Tried.{booked_legs}
 
 -- it is the nth directive, and weighs what can be counted
 pub record IsOf (n : ℕ) (d : Placed Directive) (k : Kept) : Type 0 where

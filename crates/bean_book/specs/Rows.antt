@@ -10,8 +10,8 @@ use Rattle.bean_grammar.specs.declared.mark.Mark.TheVariants.{Tag, Link}
 use Rattle.bean_postings.specs.declared.posting.Posting.{Posting}
 use Rattle.bean_postings.specs.declared.posting.Units.{Units}
 use Rattle.bean_postings.specs.declared.posting.Units.TheVariants as units
-use Rattle.bean_heads.specs.declared.directive.Directive.{Directive}
-use Rattle.bean_heads.specs.declared.transaction.Transaction.{Transaction}
+use Rattle.bean_directives.specs.declared.directive.Directive.{Directive}
+use Rattle.bean_directives.specs.declared.transaction.Transaction.{Transaction}
 use Rattle.bean_interp.specs.Weight.{at_8, currency_of, weight_of}
 use Rattle.bean_interp.specs.declared.leg.Whole.{Whole}
 use Rattle.bean_lots.specs.declared.lot.Position.{Position}
@@ -20,8 +20,8 @@ use Rattle.bean_pad.specs.declared.note.NotedPad.{NotedPad}
 use Rattle.bean_pad.specs.declared.note.Outcome as outcomes
 use Rattle.bean_pad.specs.declared.note.Outcome.TheVariants as outcome
 use Rattle.bean_pad.specs.declared.step.Pad.{Pad}
-use Rattle.bean_trial.specs.Tried.{whole_at}
-use Rattle.bean_trial.specs.declared.line.Posted.{Posted}
+use Rattle.bean_transactions.specs.Tried.{whole_at}
+use Rattle.bean_transactions.specs.declared.line.Posted.{Posted}
 use Rattle.posting_table.specs.declared.entry.Entry.{Entry}
 use Rattle.posting_table.specs.declared.entry.EntryFlag.TheVariants.{Written, Padding}
 use Rattle.posting_table.specs.declared.metadata.MetaItem.{MetaItem}

@@ -6,8 +6,8 @@ use crate::counts::count_rows;
 use crate::faults::report;
 use crate::ledger::ledger_of;
 use bean_base::{Fault, List};
-use bean_booker::{BookFault, book_directives};
 use bean_load::Loaded;
+use bean_replay::{BookFault, book_directives};
 use posting_table::Ledger;
 use std::alloc::Global;
 

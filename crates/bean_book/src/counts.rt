@@ -1,13 +1,13 @@
 //! How many rows what is booked has, before any is made.
 ghost use Rattle.std.specs.Prelude.{◌≡◌, ◌<◌, ◌≤◌, ◌+◌, Err, IfOk, List, ℕ, length};
 ghost use Rattle.std.specs.List.{flat_map};
-ghost use Rattle.bean_booker.specs.Stand.{postings_of};
+ghost use Rattle.bean_replay.specs.Stand.{postings_of};
 ghost use Rattle.bean_pad.specs.declared.step.Pad.{Pad};
 ghost use Rattle.bean_book.specs.Rows as spec;
 
 use bean_base::limits::MOST_POSTINGS;
-use bean_booker::{BookFault, Kept};
 use bean_pad::{NotedPad, Outcome};
+use bean_replay::{BookFault, Kept};
 
 /// The count with so many rows more, unless there are too many.
 fn more(count: usize, rows: usize) -> Result<usize, BookFault>

@@ -6,10 +6,10 @@ ghost use Rattle.bean_book.specs.Rows as spec;
 
 use crate::metadata::metadata_of;
 use bean_base::{Slice, Text};
+use bean_directives::{Directive, Transaction};
 use bean_grammar::Mark;
-use bean_heads::{Directive, Transaction};
 use bean_pad::Pad;
-use bean_trial::Posted;
+use bean_transactions::Posted;
 use posting_table::{Entry, EntryFlag, Metadata, PlainText, Shared};
 use query_values::TextSet;
 use std::alloc::{AllocError, Global};

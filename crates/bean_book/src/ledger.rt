@@ -2,7 +2,7 @@
 ghost use Rattle.std.specs.Prelude.{◌≡◌, ◌≤◌, ◌<◌, ◌+◌, [], Err, IfOk, length};
 ghost use Rattle.std.specs.FinMap as map;
 ghost use Rattle.std.specs.List.{AllByRecursion};
-ghost use Rattle.bean_sizes.specs.Booked.{IsSmallNoted};
+ghost use Rattle.bean_replay.specs.Small.{IsSmallNoted};
 ghost use Rattle.bean_load.specs.Small.{IsSmall};
 ghost use Rattle.bean_book.specs.Booked.{Adds, MakesLedger, rows_of_all};
 ghost use Rattle.bean_book.specs.Entries.{bookings};
@@ -15,10 +15,10 @@ use crate::paddings::push_pad;
 use crate::rows::push_transaction;
 use bean_base::Apart;
 use bean_base::limits::MOST_POSTINGS;
-use bean_booker::{BookFault, Kept};
-use bean_heads::{Directive, DirectiveKind, Transaction};
+use bean_directives::{Directive, DirectiveKind, Transaction};
 use bean_load::Placed;
 use bean_pad::NotedPad;
+use bean_replay::{BookFault, Kept};
 use posting_table::Ledger;
 use std::alloc::{AllocError, Global};
 

@@ -10,7 +10,7 @@
 //! let faults = find_faults(alloc, &loaded)?;   // the same faults, where no posting is wanted
 //! ```
 //!
-//! What the directives come to is told by [`bean_booker`]. In their order, each transaction that is
+//! What the directives come to is told by [`bean_replay`]. In their order, each transaction that is
 //! kept gives a row for each posting that it is booked as, and each pad two for each balance that
 //! uses it up. A row has what its transaction says too: payee, narration, tags, links, accounts and
 //! metadata.
@@ -26,7 +26,7 @@
 //!
 //! # Cost
 //!
-//! What [`bean_booker`] costs; then one pass, which gives each directive up as its rows are made.
+//! What [`bean_replay`] costs; then one pass, which gives each directive up as its rows are made.
 //! Rows hold slices of the ledger's texts, and no text is copied but those with an escape; what the
 //! postings of a transaction have in common stands once. [`find_faults`] makes no row, and counts
 //! those that there would be.
@@ -43,6 +43,6 @@ mod metadata;
 mod paddings;
 mod rows;
 
-pub use bean_booker::BookFault;
+pub use bean_replay::BookFault;
 pub use booked::{Booked, book, find_faults};
 pub use laws::one_book;

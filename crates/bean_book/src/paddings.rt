@@ -1,16 +1,16 @@
 //! The rows that pads insert.
 ghost use Rattle.std.specs.Prelude.{◌≡◌, ◌<◌, ◌≤◌, ◌+◌, ◌++◌, ◌^◌, Err, IfOk, OnOk, length};
 ghost use Rattle.std.specs.Int.RustNames.{unsigned_abs};
-ghost use Rattle.bean_sizes.specs.Booked.{IsSmallNote, IsSmallNoted, IsSmallPad};
+ghost use Rattle.bean_replay.specs.Small.{IsSmallNote, IsSmallNoted, IsSmallPad};
 ghost use Rattle.bean_book.specs.Rows as spec;
 
 use crate::entries::padding_entry;
 use crate::rows::push_row;
 use bean_base::limits::MOST_POSTINGS;
 use bean_base::{Account, Currency};
-use bean_booker::BookFault;
 use bean_lots::{Key, Position};
 use bean_pad::{Note, NotedPad, Outcome, Pad};
+use bean_replay::BookFault;
 use posting_table::{Entry, Ledger, Metadata, Row, Shared, Weight};
 use std::alloc::{AllocError, Global};
 

@@ -26,11 +26,11 @@ pub mod amount;
 pub mod entry;
 pub mod expression;
 pub mod front;
-pub mod grammar;
+mod grammar;
 pub mod literal;
 pub mod mark;
-pub mod metadata;
-pub mod ranged;
+mod metadata;
+mod ranged;
 
 pub use amount::AmountParts;
 pub use mark::Mark;

@@ -39,14 +39,14 @@
 #![tactic(auto)]
 
 mod due;
-pub mod fault;
-pub mod fill;
+mod fault;
+mod fill;
 mod lacks;
-pub mod leg;
-pub mod precision;
-pub mod scales;
-pub mod sums;
-pub mod weight;
+mod leg;
+mod precision;
+mod scales;
+mod sums;
+mod weight;
 
 pub use fault::{CompletionFault, WeighFault};
 pub use fill::Fill;

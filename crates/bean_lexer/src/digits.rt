@@ -11,7 +11,7 @@ ghost use Rattle.bean_lexer.specs.Tokens.{IsToken};
 
 use crate::found::Found;
 use crate::kind::Kind;
-use bean_base::days::Day;
+use bean_base::Day;
 use byte_runs::{Digit, end_of_run};
 
 /// The day or the number that begins with a digit.

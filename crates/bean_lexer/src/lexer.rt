@@ -5,7 +5,7 @@ ghost use Rattle.bean_lexer.specs.Tokens.{line_at};
 use crate::gaps::{Spot, gap_at};
 use crate::token::Token;
 use crate::token_at::{line_feeds_of, token_at};
-use bean_base::slice::Slice;
+use bean_base::Slice;
 
 /// Gives the tokens of a text one after the other. It takes no memory.
 #[derive(Clone, Copy, Debug)]

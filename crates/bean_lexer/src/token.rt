@@ -3,8 +3,7 @@ ghost use Rattle.std.specs.Prelude.{◌≡◌, ◌+◌, ◌<◌, ◌^◌, IsTrue
 ghost use Rattle.bean_lexer.specs.KindForm.{may_be};
 
 use crate::kind::{Kind, Place};
-use bean_base::slice::Slice;
-use bean_base::span::Span;
+use bean_base::{Slice, Span};
 
 /// A token of a ledger's text, as a slice of it.
 #[derive(Debug, Drop)]

@@ -3,7 +3,7 @@ use Rattle.std.proofs.Common.{◌≡◌, List, [], ◌∷◌, ◌++◌, sym, ap,
 use Rattle.std.specs.Prelude.{fold}
 use Rattle.std.specs.List.{flat_map}
 use Rattle.std.proofs.lemmas.List.{append-nil}
-use Rattle.bean_heads.specs.declared.undated.Setting.{Setting}
+use Rattle.bean_directives.specs.declared.undated.Setting.{Setting}
 use Rattle.bean_load.specs.Loaded.{title_behind, title_in, operating_of, method_of}
 use Rattle.bean_load.specs.Loading.{AddsSetting, AreBooks}
 use Rattle.bean_load.specs.declared.loaded.Books.{Books}

@@ -18,9 +18,9 @@ use Rattle.bean_load.specs.Texts.{Texts}
 use Rattle.bean_load.specs.declared.fault.LoadFault.{LoadFault}
 use Rattle.bean_load.specs.declared.fault.LoadFault.TheVariants.{Unreadable, NotUtf8, TooLarge}
 use Rattle.bean_load.specs.declared.gathering.TheConstants.{DEEPEST}
-use Rattle.text_sizes.specs.Part.{most, IsShort}
+use Rattle.bean_parser.specs.SmallPart.{most, IsShort}
 use Rattle.bean_load.specs.Small.{AreLimited}
-use Rattle.text_sizes.proofs.ShortFacts.{all_pushed}
+use Rattle.bean_parser.proofs.ShortFacts.{all_pushed}
 
 abbrev HasShort : Gathered → Type 0
 HasShort s = AllByRecursion (λ f. IsShort f.text) s.files

@@ -8,7 +8,7 @@ use Rattle.std.proofs.lemmas.List.Sorted.{ranks_by}
 use Rattle.theory.specs.Arrangement.{IsArrangedByKey, by_key, put_by, arranged_by}
 use Rattle.theory.proofs.ArrangedFacts.{is_arranged}
 use Rattle.theory.proofs.ArrangementFacts.{one_by_key}
-use Rattle.bean_heads.specs.declared.directive.Directive.{Directive}
+use Rattle.bean_directives.specs.declared.directive.Directive.{Directive}
 use Rattle.bean_load.specs.Loaded.{AreParsed, directives_in}
 use Rattle.bean_load.specs.Loading.{AreRead}
 use Rattle.bean_load.specs.Order.{AreInOrder, DayKey, Key, key_of, key_cmp}
@@ -19,11 +19,11 @@ use Rattle.bean_load.specs.declared.placed.Own.{Own}
 use Rattle.bean_load.specs.declared.placed.Placed.{Placed}
 use Rattle.bean_load.specs.declared.texts.Part.{Part}
 use Rattle.bean_parser.specs.declared.parse.Parsed.{Parsed}
-use Rattle.text_sizes.specs.Part.{IsShort}
-use Rattle.text_sizes.specs.Small.{IsSmallDirective}
+use Rattle.bean_parser.specs.SmallPart.{IsShort}
+use Rattle.bean_parser.specs.Small.{IsSmallDirective}
 use Rattle.bean_load.specs.Small.{IsSmall, AreLimited, AreSmall}
-use Rattle.text_sizes.proofs.ShortFacts.{all_joined}
-use Rattle.text_sizes.proofs.ParsedFacts.{parsed_small}
+use Rattle.bean_parser.proofs.ShortFacts.{all_joined}
+use Rattle.bean_parser.proofs.SmallParsedFacts.{parsed_small}
 
 -- an arrangement has the items that it is made of
 

@@ -2,10 +2,10 @@
 use Rattle.std.specs.Prelude.{◌≡◌, ℕ, ◌+◌, List, [], ◌∷◌, ◌++◌, Option, Some, None, fold, map}
 use Rattle.std.specs.List.{flat_map}
 use Rattle.bean_base.specs.declared.fault.Fault.{Fault}
-use Rattle.bean_heads.specs.declared.directive.Directive.{Directive}
-use Rattle.bean_heads.specs.declared.undated.Setting.{Setting}
-use Rattle.bean_heads.specs.declared.undated.SettingKind.{SettingKind}
-use Rattle.bean_heads.specs.declared.undated.SettingKind.TheVariants as kind
+use Rattle.bean_directives.specs.declared.directive.Directive.{Directive}
+use Rattle.bean_directives.specs.declared.undated.Setting.{Setting}
+use Rattle.bean_directives.specs.declared.undated.SettingKind.{SettingKind}
+use Rattle.bean_directives.specs.declared.undated.SettingKind.TheVariants as kind
 use Rattle.bean_load.specs.Order.{AreInOrder, AreSettingsInOrder}
 use Rattle.bean_load.specs.Placed.{parts_of, placed_directive, placed_setting}
 use Rattle.bean_load.specs.Texts.{File, Texts}

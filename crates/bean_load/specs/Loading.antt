@@ -1,7 +1,7 @@
 -- What is kept of texts that were read.
 use Rattle.std.specs.Prelude.{◌≡◌, ℕ, List, ◌++◌, map}
 use Rattle.std.specs.List.{flat_map}
-use Rattle.bean_heads.specs.declared.undated.Setting.{Setting}
+use Rattle.bean_directives.specs.declared.undated.Setting.{Setting}
 use Rattle.bean_load.specs.Loaded.{AreParsed, IsLoaded, Loaded, directives_in, settings_in}
 use Rattle.bean_load.specs.Loaded.{faults_in, fault_in, title_behind, title_in, operating_of}
 use Rattle.bean_load.specs.Loaded.{method_of}

@@ -4,8 +4,8 @@ use Rattle.std.specs.Ordering.{int_cmp, nat_cmp, ordering_then}
 use Rattle.std.specs.declared.cmp.Ordering.{Ordering}
 use Rattle.theory.specs.Arrangement.{IsArrangedByKey}
 use Rattle.bean_base.specs.Day.{number}
-use Rattle.bean_heads.specs.declared.directive.Directive.{Directive}
-use Rattle.bean_heads.specs.declared.undated.Setting.{Setting}
+use Rattle.bean_directives.specs.declared.directive.Directive.{Directive}
+use Rattle.bean_directives.specs.declared.undated.Setting.{Setting}
 use Rattle.bean_load.specs.Rank.{rank_number, rank_of}
 use Rattle.bean_load.specs.declared.placed.Placed.{Placed}
 

@@ -1,8 +1,8 @@
 -- Places in reading order. A text is read in parts, and what an include line gives stands between
 -- two of them.
 use Rattle.std.specs.Prelude.{ℕ, ◌+◌, ◌==◌, List, [], ◌∷◌, fold, nat_lt, if◌then◌else◌}
-use Rattle.bean_heads.specs.declared.directive.Directive.{Directive}
-use Rattle.bean_heads.specs.declared.undated.Setting.{Setting}
+use Rattle.bean_directives.specs.declared.directive.Directive.{Directive}
+use Rattle.bean_directives.specs.declared.undated.Setting.{Setting}
 use Rattle.bean_load.specs.declared.placed.Own.{Own}
 use Rattle.bean_load.specs.declared.placed.Placed.{Placed}
 use Rattle.bean_load.specs.declared.texts.Part.{Part}

@@ -1,7 +1,7 @@
 -- Which directives of one day are taken first.
 use Rattle.std.specs.Prelude.{ℕ}
-use Rattle.bean_heads.specs.declared.directive.DirectiveKind.{DirectiveKind}
-use Rattle.bean_heads.specs.declared.directive.DirectiveKind.TheVariants as kind
+use Rattle.bean_directives.specs.declared.directive.DirectiveKind.{DirectiveKind}
+use Rattle.bean_directives.specs.declared.directive.DirectiveKind.TheVariants as kind
 use Rattle.bean_load.specs.declared.rank.Rank.{Rank}
 use Rattle.bean_load.specs.declared.rank.Rank.TheVariants.{Open, Balance, Other, Document, Close}
 

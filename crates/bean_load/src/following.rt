@@ -10,7 +10,7 @@ use crate::gathering::{Asked, DEEPEST, Gathering};
 use crate::include::{Include, includes_of};
 use crate::texts::Texts;
 use std::alloc::Global;
-use stores::source::Source;
+use stores::Source;
 
 /// Reads a text, which is the next one: the texts of its include lines, each at its line.
 #[cycle(following)]

@@ -11,7 +11,7 @@ use bean_base::limits::LARGEST_TEXT;
 use bean_base::{Fault, FaultKind};
 use std::alloc::{AllocError, Global};
 use std::marker::Model;
-use stores::source::{Source, SourceFault};
+use stores::{Source, SourceFault};
 
 /// The most bytes of all texts: 64 MiB.
 pub const LARGEST_LEDGER: usize = 67_108_864;

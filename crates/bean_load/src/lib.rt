@@ -53,5 +53,5 @@ pub use following::{gather, one_gathering};
 pub use gathering::{DEEPEST, LARGEST_LEDGER, MOST_NAMES};
 pub use loaded::{Loaded, MethodLine, load, one_loading};
 pub use placed::Placed;
-pub use stores::source::Source;
+pub use stores::Source;
 pub use texts::{File, Part, Texts};

@@ -28,7 +28,7 @@ pub struct MethodLine<'a> {
 }
 
 /// What the texts of a ledger say together, as [`load`] gives it. What a directive holds is no
-/// larger than a text may be ([`text_sizes`]).
+/// larger than a text may be ([`bean_parser::texts_say_what_is_small`]).
 #[derive(Drop)]
 pub struct Loaded<'a> {
     directives: Vec<Apart<Placed<Directive<'a>>>>,

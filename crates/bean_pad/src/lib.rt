@@ -53,11 +53,11 @@
 
 mod balanced;
 mod check;
-pub mod laws;
-pub mod note;
-pub mod padder;
+mod laws;
+mod note;
+mod padder;
 mod slot;
-pub mod step;
+mod step;
 mod sums;
 mod tolerance;
 

@@ -11,16 +11,16 @@ use Rattle.bean_grammar.specs.declared.ranged.Ranged.{Ranged}
 use Rattle.bean_grammar.specs.Lexeme.{lexemes}
 use Rattle.bean_parser.specs.Block.{Line, line_of, lines, first_line, begins_line, is_in_column_one}
 use Rattle.bean_parser.specs.Grammar.{takes_postings, Tree, Dated, Undated, HaveTree}
-use Rattle.bean_heads.specs.Head.{IsHead, IsNoHead}
+use Rattle.bean_directives.specs.Head.{IsHead, IsNoHead}
 use Rattle.bean_parser.specs.Reading.{ReadsDated, ReadsUndated, ReadsBlock}
-use Rattle.bean_heads.specs.Undated.{IsUndated}
+use Rattle.bean_directives.specs.Undated.{IsUndated}
 use Rattle.bean_parser.specs.Under.{AreLines}
-use Rattle.bean_heads.specs.declared.directive.DirectiveKind.{DirectiveKind}
+use Rattle.bean_directives.specs.declared.directive.DirectiveKind.{DirectiveKind}
 use Rattle.bean_parser.specs.declared.statement.Statement.{Statement}
 use Rattle.bean_parser.specs.declared.under.LineKind.{LineKind}
-use Rattle.bean_heads.specs.declared.undated.UndatedKind.{UndatedKind}
-use Rattle.bean_heads.proofs.FirstLineFacts.{dated_or_undated}
-use Rattle.bean_heads.proofs.OneHeadFacts.{one_head}
+use Rattle.bean_directives.specs.declared.undated.UndatedKind.{UndatedKind}
+use Rattle.bean_directives.proofs.FirstLineFacts.{dated_or_undated}
+use Rattle.bean_directives.proofs.OneHeadFacts.{one_head}
 
 -- where tokens stand, lines stand
 pub some_lines : (tokens : List Token) → (length tokens == 0) ≡ false → lines tokens ≡ [] → ⊥

@@ -4,9 +4,9 @@ use Rattle.std.specs.Prelude.{codes}
 use Rattle.bean_base.specs.declared.fault.FaultKind.TheVariants.{UnmatchedPushOrPop}
 use Rattle.bean_grammar.specs.declared.metadata.Value.TheVariants as value
 use Rattle.bean_grammar.specs.declared.ranged.Ranged.TheVariants.{Within, Outside}
-use Rattle.bean_heads.specs.declared.undated.Bound.TheVariants.{Push, Pop}
-use Rattle.bean_heads.specs.declared.undated.PushName.TheVariants as names
-use Rattle.bean_heads.specs.declared.undated.Pushed.TheVariants as pushed
+use Rattle.bean_directives.specs.declared.undated.Bound.TheVariants.{Push, Pop}
+use Rattle.bean_directives.specs.declared.undated.PushName.TheVariants as names
+use Rattle.bean_directives.specs.declared.undated.Pushed.TheVariants as pushed
 use Rattle.bean_parser.specs.Outcome.{fault_at}
 use Rattle.bean_parser.specs.Scope.{pop_of, open_pushes, unmatched}
 use Rattle.bean_parser.specs.Under.{no_lines, with_lines}

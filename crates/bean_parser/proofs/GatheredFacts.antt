@@ -10,13 +10,13 @@ use Rattle.bean_base.specs.declared.fault.FaultKind.TheVariants.{Ignored}
 use Rattle.bean_parser.specs.Outcome.{fault_at}
 use Rattle.bean_parser.specs.declared.block.Outcome.{Outcome}
 use Rattle.bean_parser.specs.declared.block.Outcome.TheVariants as outcome
-use Rattle.bean_heads.specs.declared.directive.Directive as directives
+use Rattle.bean_directives.specs.declared.directive.Directive as directives
 use Rattle.bean_parser.specs.declared.statement.Statement.{Statement}
 use Rattle.bean_parser.specs.declared.statement.Statement.TheVariants as statement
-use Rattle.bean_heads.specs.declared.undated.Bound.{Bound}
-use Rattle.bean_heads.specs.declared.undated.SettingKind.{SettingKind}
-use Rattle.bean_heads.specs.declared.undated.UndatedKind.{UndatedKind}
-use Rattle.bean_heads.specs.declared.undated.UndatedKind.TheVariants as kind
+use Rattle.bean_directives.specs.declared.undated.Bound.{Bound}
+use Rattle.bean_directives.specs.declared.undated.SettingKind.{SettingKind}
+use Rattle.bean_directives.specs.declared.undated.UndatedKind.{UndatedKind}
+use Rattle.bean_directives.specs.declared.undated.UndatedKind.TheVariants as kind
 use Rattle.bean_parser.specs.declared.parse.Gathered.{Gathered}
 
 one_more : {A B : Type 0} (f : A → List B) (xs : List A) (x : A)

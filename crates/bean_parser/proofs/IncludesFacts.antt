@@ -19,16 +19,16 @@ use Rattle.bean_grammar.specs.declared.metadata.Entry.{Entry}
 use Rattle.bean_grammar.specs.declared.ranged.Ranged.{Ranged}
 use Rattle.bean_grammar.specs.declared.ranged.Ranged.TheVariants.{Within, Outside}
 use Rattle.bean_grammar.specs.Ranged.{ranged_map2}
-use Rattle.bean_heads.proofs.FirstLineFacts.{behind_word}
-use Rattle.bean_heads.specs.Undated.{option_of, plugin_of, pop_key_of, pop_tag_of, push_entry_of}
-use Rattle.bean_heads.specs.Undated.{push_tag_of, undated_behind}
-use Rattle.bean_heads.specs.declared.directive.Directive as directives
-use Rattle.bean_heads.specs.declared.directive.DirectiveKind.{DirectiveKind}
-use Rattle.bean_heads.specs.declared.undated.Setting.{Setting}
-use Rattle.bean_heads.specs.declared.undated.SettingKind.TheVariants as setting
-use Rattle.bean_heads.specs.declared.undated.Undated as undated_blocks
-use Rattle.bean_heads.specs.declared.undated.UndatedKind.{UndatedKind}
-use Rattle.bean_heads.specs.declared.undated.UndatedKind.TheVariants as undated
+use Rattle.bean_directives.proofs.FirstLineFacts.{behind_word}
+use Rattle.bean_directives.specs.Undated.{option_of, plugin_of, pop_key_of, pop_tag_of, push_entry_of}
+use Rattle.bean_directives.specs.Undated.{push_tag_of, undated_behind}
+use Rattle.bean_directives.specs.declared.directive.Directive as directives
+use Rattle.bean_directives.specs.declared.directive.DirectiveKind.{DirectiveKind}
+use Rattle.bean_directives.specs.declared.undated.Setting.{Setting}
+use Rattle.bean_directives.specs.declared.undated.SettingKind.TheVariants as setting
+use Rattle.bean_directives.specs.declared.undated.Undated as undated_blocks
+use Rattle.bean_directives.specs.declared.undated.UndatedKind.{UndatedKind}
+use Rattle.bean_directives.specs.declared.undated.UndatedKind.TheVariants as undated
 use Rattle.bean_parser.specs.Block.{begins_line, blocks, fault_line, line_of}
 use Rattle.bean_parser.specs.BlockReader.{ToRead, TakesBlock}
 use Rattle.bean_parser.specs.Grammar.{Dated, Undated, HasTree, HaveTree, Tree, in_body, said}

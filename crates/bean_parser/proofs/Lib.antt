@@ -9,4 +9,17 @@ pub mod ParsedFacts
 pub mod OneTree
 pub mod OneReadingFacts
 pub mod IncludesFacts
+pub mod ShortFacts
+pub mod SmallKeeping
+pub mod SmallLineFacts
+pub mod SmallPostingFacts
+pub mod SmallMarkFacts
+pub mod SmallHeadFacts
+pub mod SmallUndatedFacts
+pub mod SmallTokenFacts
+pub mod SmallCutFacts
+pub mod SmallBodyFacts
+pub mod SmallOutcomeFacts
+pub mod SmallPushFacts
+pub mod SmallParsedFacts
 mod Examples

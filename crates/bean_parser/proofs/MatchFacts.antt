@@ -9,11 +9,11 @@ use Rattle.std.specs.Prelude.{if◌then◌else◌, slice_get}
 use Rattle.std.specs.declared.alloc.AllocError.{AllocError}
 use Rattle.bean_base.specs.declared.fault.Fault.{Fault}
 use Rattle.std.specs.Str.{bytes_eq}
-use Rattle.bean_heads.specs.declared.undated.Bound.{Bound}
-use Rattle.bean_heads.specs.declared.undated.Bound.TheVariants.{Push, Pop}
-use Rattle.bean_heads.specs.declared.undated.Pushed.{Pushed}
-use Rattle.bean_heads.specs.declared.undated.PushName.{PushName}
-use Rattle.bean_heads.specs.declared.undated.PushName.TheVariants as names
+use Rattle.bean_directives.specs.declared.undated.Bound.{Bound}
+use Rattle.bean_directives.specs.declared.undated.Bound.TheVariants.{Push, Pop}
+use Rattle.bean_directives.specs.declared.undated.Pushed.{Pushed}
+use Rattle.bean_directives.specs.declared.undated.PushName.{PushName}
+use Rattle.bean_directives.specs.declared.undated.PushName.TheVariants as names
 use Rattle.bean_parser.specs.Matches.{ArePopsOf, PopsOne, are_same, looked_up, places_in}
 use Rattle.bean_parser.specs.Scope.{name_of, same_name, one_less, or_on, open_behind, open_pushes}
 use Rattle.bean_parser.specs.Scope.{later_behind, pop_of, pop_for, pops_of, fault_unless, is_matched}

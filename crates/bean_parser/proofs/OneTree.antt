@@ -13,10 +13,10 @@ use Rattle.bean_parser.specs.Grammar.{takes_postings, Tree, Dated, Undated, Have
 use Rattle.bean_parser.specs.Under.{IsLine, AreLines}
 use Rattle.bean_parser.specs.declared.under.LineKind.{LineKind}
 use Rattle.bean_parser.specs.declared.under.LineKind.TheVariants as kinds
-use Rattle.bean_heads.proofs.FirstLineFacts.{dated_or_undated}
+use Rattle.bean_directives.proofs.FirstLineFacts.{dated_or_undated}
 use Rattle.bean_parser.proofs.LineFacts.{entry_told, marks_begin, posting_begins, both}
-use Rattle.bean_heads.proofs.OneHeadFacts.{one_head}
-use Rattle.bean_heads.proofs.OneUndatedFacts.{one_undated}
+use Rattle.bean_directives.proofs.OneHeadFacts.{one_head}
+use Rattle.bean_directives.proofs.OneUndatedFacts.{one_undated}
 
 -- a line says one thing
 one_line : (in_transaction : Bool) (l : Line) (k j : LineKind) → IsLine in_transaction l k

@@ -12,11 +12,11 @@ use Rattle.bean_parser.specs.Outcome.{Gives, AllGive}
 use Rattle.bean_parser.specs.Parsed.{IsParsed, ComeTo, AreByLine}
 use Rattle.bean_parser.specs.Scope.{unmatched, with_pushes}
 use Rattle.bean_parser.specs.declared.block.Outcome.{Outcome}
-use Rattle.bean_heads.specs.declared.directive.Directive as directives
+use Rattle.bean_directives.specs.declared.directive.Directive as directives
 use Rattle.bean_parser.specs.declared.parse.Gathered.{Gathered}
 use Rattle.bean_parser.specs.declared.parse.Parsed.{Parsed}
 use Rattle.bean_parser.specs.declared.reader.BlockReader.{BlockReader}
-use Rattle.bean_heads.specs.declared.undated.Setting as settings
+use Rattle.bean_directives.specs.declared.undated.Setting as settings
 
 -- what a text's blocks give begins with some outcomes
 abbrev pub Begins : List ℕ → List Outcome → Type 0

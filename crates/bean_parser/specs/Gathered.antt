@@ -5,7 +5,7 @@ use Rattle.bean_parser.specs.Parsed.{directives_in, settings_in, faults_in, all_
 use Rattle.bean_parser.specs.declared.block.Outcome.{Outcome}
 use Rattle.bean_parser.specs.declared.block.Outcome.TheVariants as outcome
 use Rattle.bean_parser.specs.declared.statement.Statement.TheVariants as statement
-use Rattle.bean_heads.specs.declared.undated.UndatedKind.{UndatedKind}
+use Rattle.bean_directives.specs.declared.undated.UndatedKind.{UndatedKind}
 use Rattle.bean_parser.specs.declared.parse.Gathered.{Gathered}
 
 abbrev pub undated_at : ℕ → UndatedKind → Outcome

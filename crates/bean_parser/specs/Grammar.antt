@@ -8,17 +8,17 @@ use Rattle.bean_grammar.specs.declared.ranged.Ranged.{Ranged}
 use Rattle.bean_grammar.specs.declared.ranged.Ranged.TheVariants.{Within, Outside}
 use Rattle.bean_grammar.specs.Ranged.{ranged_map, ranged_map2}
 use Rattle.bean_parser.specs.Block.{Line, lines, is_in_column_one}
-use Rattle.bean_heads.specs.Head.{IsHead}
+use Rattle.bean_directives.specs.Head.{IsHead}
 use Rattle.bean_parser.specs.Under.{AreLines, no_lines, with_lines, postings_in}
-use Rattle.bean_heads.specs.Undated.{IsUndated}
-use Rattle.bean_heads.specs.declared.directive.Directive.{Directive}
-use Rattle.bean_heads.specs.declared.directive.DirectiveKind.{DirectiveKind}
-use Rattle.bean_heads.specs.declared.directive.DirectiveKind.TheVariants as kinds
+use Rattle.bean_directives.specs.Undated.{IsUndated}
+use Rattle.bean_directives.specs.declared.directive.Directive.{Directive}
+use Rattle.bean_directives.specs.declared.directive.DirectiveKind.{DirectiveKind}
+use Rattle.bean_directives.specs.declared.directive.DirectiveKind.TheVariants as kinds
 use Rattle.bean_parser.specs.declared.statement.Statement.{Statement}
 use Rattle.bean_parser.specs.declared.statement.Statement.TheVariants as statements
 use Rattle.bean_parser.specs.declared.under.Body.{Body}
 use Rattle.bean_parser.specs.declared.under.LineKind.{LineKind}
-use Rattle.bean_heads.specs.declared.undated.UndatedKind.{UndatedKind}
+use Rattle.bean_directives.specs.declared.undated.UndatedKind.{UndatedKind}
 
 abbrev pub is_transaction : DirectiveKind → Bool
 is_transaction (kinds.Transaction t) = true

@@ -2,11 +2,11 @@
 use Rattle.std.specs.Prelude.{◌≡◌, ℕ, List, [], ◌∷◌, ◌++◌, Option, Some, None}
 use Rattle.bean_lexer.specs.Tokens.{AreTokens}
 use Rattle.bean_lexer.specs.declared.token.Token.{Token}
-use Rattle.bean_heads.specs.declared.undated.Setting.{Setting}
-use Rattle.bean_heads.specs.declared.undated.SettingKind.{SettingKind}
-use Rattle.bean_heads.specs.declared.undated.SettingKind.TheVariants as setting
-use Rattle.bean_heads.specs.declared.undated.UndatedKind.{UndatedKind}
-use Rattle.bean_heads.specs.declared.undated.UndatedKind.TheVariants as undated
+use Rattle.bean_directives.specs.declared.undated.Setting.{Setting}
+use Rattle.bean_directives.specs.declared.undated.SettingKind.{SettingKind}
+use Rattle.bean_directives.specs.declared.undated.SettingKind.TheVariants as setting
+use Rattle.bean_directives.specs.declared.undated.UndatedKind.{UndatedKind}
+use Rattle.bean_directives.specs.declared.undated.UndatedKind.TheVariants as undated
 use Rattle.bean_parser.specs.Block.{blocks}
 use Rattle.bean_parser.specs.Outcome.{Gives}
 use Rattle.bean_parser.specs.Parsed.{IsParsed}

@@ -6,8 +6,8 @@ use Rattle.std.specs.Str.{bytes_eq}
 use Rattle.std.specs.declared.alloc.Global.{Global}
 use Rattle.std.specs.declared.vec.Vec.{Vec}
 use Rattle.indexmap.specs.IndexMap.{get}
-use Rattle.bean_heads.specs.declared.undated.PushName.{PushName}
-use Rattle.bean_heads.specs.declared.undated.PushName.TheVariants as names
+use Rattle.bean_directives.specs.declared.undated.PushName.{PushName}
+use Rattle.bean_directives.specs.declared.undated.PushName.TheVariants as names
 use Rattle.bean_parser.specs.Scope.{pop_of, same_name}
 use Rattle.bean_parser.specs.declared.matches.Name.{Name}
 use Rattle.bean_parser.specs.declared.matches.Opens.{Opens}

@@ -9,9 +9,9 @@ use Rattle.bean_parser.specs.Under.{IsLine, AreLines, no_lines, with_lines}
 use Rattle.bean_parser.specs.declared.under.Body.{Body}
 use Rattle.bean_parser.specs.declared.under.LineKind.{LineKind}
 use Rattle.bean_grammar.specs.Lexeme.{lexemes}
-use Rattle.bean_heads.specs.Undated.{IsUndated}
-use Rattle.bean_heads.specs.declared.directive.DirectiveKind.{DirectiveKind}
-use Rattle.bean_heads.specs.declared.undated.UndatedKind.{UndatedKind}
+use Rattle.bean_directives.specs.Undated.{IsUndated}
+use Rattle.bean_directives.specs.declared.directive.DirectiveKind.{DirectiveKind}
+use Rattle.bean_directives.specs.declared.undated.UndatedKind.{UndatedKind}
 use Rattle.bean_parser.specs.declared.statement.Statement.{Statement}
 
 abbrev pub ReadsLine : Bool → Line → Option LineKind → Type 0

@@ -7,15 +7,15 @@ use Rattle.bean_base.specs.declared.fault.FaultKind.TheVariants.{UnmatchedPushOr
 use Rattle.bean_grammar.specs.declared.mark.Mark.TheVariants as mark
 use Rattle.bean_grammar.specs.declared.metadata.Entry.{Entry}
 use Rattle.bean_parser.specs.Outcome.{fault_at}
-use Rattle.bean_heads.specs.declared.directive.Directive.{Directive}
-use Rattle.bean_heads.specs.declared.directive.DirectiveKind.{DirectiveKind}
-use Rattle.bean_heads.specs.declared.directive.DirectiveKind.TheVariants as kinds
-use Rattle.bean_heads.specs.declared.undated.Bound.{Bound}
-use Rattle.bean_heads.specs.declared.undated.Bound.TheVariants.{Push, Pop}
-use Rattle.bean_heads.specs.declared.undated.Pushed.{Pushed}
-use Rattle.bean_heads.specs.declared.undated.Pushed.TheVariants as pushed
-use Rattle.bean_heads.specs.declared.undated.PushName.{PushName}
-use Rattle.bean_heads.specs.declared.undated.PushName.TheVariants as names
+use Rattle.bean_directives.specs.declared.directive.Directive.{Directive}
+use Rattle.bean_directives.specs.declared.directive.DirectiveKind.{DirectiveKind}
+use Rattle.bean_directives.specs.declared.directive.DirectiveKind.TheVariants as kinds
+use Rattle.bean_directives.specs.declared.undated.Bound.{Bound}
+use Rattle.bean_directives.specs.declared.undated.Bound.TheVariants.{Push, Pop}
+use Rattle.bean_directives.specs.declared.undated.Pushed.{Pushed}
+use Rattle.bean_directives.specs.declared.undated.Pushed.TheVariants as pushed
+use Rattle.bean_directives.specs.declared.undated.PushName.{PushName}
+use Rattle.bean_directives.specs.declared.undated.PushName.TheVariants as names
 use Rattle.bean_parser.specs.declared.scope.PlacedBound.{PlacedBound}
 
 -- a tag is its own name, and an entry has its key's

@@ -7,8 +7,8 @@ use crate::block::{Outcome, read_block};
 use crate::reader::BlockReader;
 use crate::statement::Statement;
 use bean_base::Text;
+use bean_directives::{SettingKind, Undated, UndatedKind};
 use bean_grammar::front::after_keyword;
-use bean_heads::{SettingKind, Undated, UndatedKind};
 use bean_lexer::{Keyword, Token};
 use std::alloc::{AllocError, Global};
 

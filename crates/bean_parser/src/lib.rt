@@ -19,7 +19,8 @@
 //! gives before an earlier one. A pop takes back the latest push of its name.
 //!
 //! Names and texts are slices of the ledger's text: they cost no memory, and live as long as it
-//! does.
+//! does. So nothing that a text says is larger than the text, which is a law
+//! ([`texts_say_what_is_small`]).
 //!
 //! # Faults
 //!
@@ -39,17 +40,19 @@
 //! of what it answers, of the tokens of the longest block, and of the names of pushes and pops.
 #![tactic(auto)]
 
-pub mod block;
-pub mod grammar;
+mod block;
+mod grammar;
 pub mod includes;
 mod matches;
 pub mod parse;
 mod part;
 mod reader;
-pub mod scope;
-pub mod statement;
-pub mod under;
+mod scope;
+mod sizes;
+mod statement;
+mod under;
 
-pub use bean_heads::{Directive, DirectiveKind, Setting, SettingKind, Transaction};
+pub use bean_directives::{Directive, DirectiveKind, Setting, SettingKind, Transaction};
 pub use includes::IncludeLine;
 pub use parse::Parsed;
+pub use sizes::texts_say_what_is_small;

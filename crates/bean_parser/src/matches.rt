@@ -1,7 +1,7 @@
 //! Which pop takes each push back, and how many pushes are open.
 ghost use Rattle.std.specs.Prelude.{◌≡◌, ◌<◌, ◌-◌, ◌^◌, ◌++◌, ◌∷◌, [], IfOk, OnOk, List};
 ghost use Rattle.std.specs.Prelude.{if◌then◌else◌};
-ghost use Rattle.bean_heads.specs.declared.undated.PushName as names;
+ghost use Rattle.bean_directives.specs.declared.undated.PushName as names;
 ghost use Rattle.bean_parser.specs.Matches.{ArePopsOf, PopsOne, count_in, looked_up, places_in};
 ghost use Rattle.bean_parser.specs.Scope as spec;
 ghost use Rattle.bean_parser.specs.Scope.{open_behind, same_name};
@@ -9,7 +9,7 @@ ghost use Rattle.bean_parser.specs.declared.scope.PlacedBound as placed;
 
 use crate::scope::PlacedBound;
 use bean_base::Slice;
-use bean_heads::undated::{Bound, PushName, Pushed};
+use bean_directives::{Bound, PushName, Pushed};
 use indexmap::IndexMap;
 use std::alloc::{AllocError, Global};
 

@@ -11,8 +11,7 @@ use crate::reader::BlockReader;
 use crate::scope::{PlacedBound, add_unmatched, give_all};
 use crate::statement::Statement;
 use bean_base::{Fault, FaultKind, List};
-use bean_heads::directive::Directive;
-use bean_heads::undated::{Setting, UndatedKind};
+use bean_directives::{Directive, Setting, UndatedKind};
 use std::alloc::{AllocError, Global};
 
 /// What a ledger's text says, in reading order. The faults have file 0.

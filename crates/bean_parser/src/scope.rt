@@ -1,7 +1,7 @@
 //! Pushes and pops: what is given to the transactions between them.
 ghost use Rattle.std.specs.Prelude.{◌≡◌, ◌++◌, [], OnOk};
 ghost use Rattle.std.specs.Prelude as prelude;
-ghost use Rattle.bean_heads.specs.declared.undated.PushName as names;
+ghost use Rattle.bean_directives.specs.declared.undated.PushName as names;
 ghost use Rattle.bean_parser.specs.Matches.{count_in};
 ghost use Rattle.bean_parser.specs.Scope as spec;
 ghost use Rattle.bean_parser.specs.declared.scope.PlacedBound as placed;
@@ -9,9 +9,8 @@ ghost use Rattle.bean_parser.specs.declared.scope.PlacedBound as placed;
 use crate::block::fault_at;
 use crate::matches::Opens;
 use bean_base::{Fault, FaultKind, Few};
+use bean_directives::{Bound, Directive, DirectiveKind, Pushed};
 use bean_grammar::{Entry, Mark};
-use bean_heads::directive::{Directive, DirectiveKind};
-use bean_heads::undated::{Bound, Pushed};
 use bean_lexer::Tag;
 use std::alloc::{AllocError, Global};
 

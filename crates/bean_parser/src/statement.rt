@@ -1,7 +1,6 @@
 //! What a block says.
 
-use bean_heads::directive::Directive;
-use bean_heads::undated::Undated;
+use bean_directives::{Directive, Undated};
 
 /// What a block without a fault says.
 #[derive(Debug, Drop)]

@@ -20,13 +20,13 @@
 //! apart, where it has any ([`Details`]): these, a lot and a price take memory.
 #![tactic(auto)]
 
-pub mod cost;
-pub mod cost_part;
-pub mod details;
-pub mod grammar;
-pub mod posting;
+mod cost;
+mod cost_part;
+mod details;
+mod grammar;
+mod posting;
 pub mod posting_line;
-pub mod price;
+mod price;
 
 pub use cost::{Cost, LotParts};
 pub use details::{DetailParts, Details};

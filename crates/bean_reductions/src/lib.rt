@@ -42,6 +42,6 @@
 //! finds; where none that is held has the opposite sign, it looks at what was taken alone.
 #![tactic(auto)]
 
-pub mod reduction;
+mod reduction;
 
 pub use reduction::{LotFault, Method, Selector, has_opposite, reduce, reduce_after};

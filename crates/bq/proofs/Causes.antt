@@ -1,7 +1,7 @@
 -- The causes of refusals exclude each other.
 use Rattle.std.proofs.Common.{◌≡◌, ℕ, ◌<◌, ◌≤◌, List, [], ◌∷◌, length, None, Some, Result, Ok, Err}
 use Rattle.std.proofs.Common.{refl, sym, ap, ◌∙◌, arith}
-use Rattle.bean_booker.specs.declared.booker.BookFault.TheVariants as book
+use Rattle.bean_replay.specs.declared.booker.BookFault.TheVariants as book
 use Rattle.bean_load.specs.Following.{IsGathered}
 use Rattle.bean_load.specs.Texts.{Texts}
 use Rattle.bean_load.specs.declared.fault.LoadFault.{LoadFault}

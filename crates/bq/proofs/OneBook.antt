@@ -8,10 +8,10 @@ use Rattle.bean_book.specs.Booked.{bookings_of, decimals_from, rows_of_all, writ
 use Rattle.bean_book.specs.OneBook.{AreAlike}
 use Rattle.bean_book.specs.Reported.{reported}
 use Rattle.bean_book.specs.declared.booked.Booked.{Booked}
-use Rattle.bean_booker.proofs.OneBooking.{one_stand}
-use Rattle.bean_booker.specs.Booked.{faults_of, method_in_ledger}
-use Rattle.bean_booker.specs.declared.booker.BookFault.{BookFault}
-use Rattle.bean_booker.specs.declared.booker.BookFault.TheVariants.{TooManyPostings, OutOfMemory}
+use Rattle.bean_replay.proofs.OneBooking.{one_stand}
+use Rattle.bean_replay.specs.Booked.{faults_of, method_in_ledger}
+use Rattle.bean_replay.specs.declared.booker.BookFault.{BookFault}
+use Rattle.bean_replay.specs.declared.booker.BookFault.TheVariants.{TooManyPostings, OutOfMemory}
 use Rattle.bean_load.specs.Loaded.{IsLoaded, Loaded}
 use Rattle.bean_load.specs.Texts.{Texts}
 use Rattle.bean_load.proofs.OneLoading.{one_loading}

@@ -2,7 +2,7 @@
 use Rattle.std.proofs.Common.{IsTrue, ◌≡◌, ◌⊎◌, inl, inr, ℕ, List, [], Option, Some}
 use Rattle.std.proofs.Common.{Result, Ok, Err, refl, sym, ap, ◌∙◌, subst}
 use Rattle.std.specs.Result.{IsErrAnd}
-use Rattle.bean_booker.specs.declared.booker.BookFault.TheVariants as book
+use Rattle.bean_replay.specs.declared.booker.BookFault.TheVariants as book
 use Rattle.bean_load.specs.Following.{Gathers, IsGathered}
 use Rattle.bean_load.specs.Gathered as gathered
 use Rattle.bean_load.specs.Texts.{Texts}

@@ -1,6 +1,6 @@
 -- Why a run is refused.
 use Rattle.std.specs.Prelude.{◌≡◌, ℕ, List, [], Option, Some, None, Ok, Err}
-use Rattle.bean_booker.specs.declared.booker.BookFault.TheVariants.{TooManyPostings}
+use Rattle.bean_replay.specs.declared.booker.BookFault.TheVariants.{TooManyPostings}
 use Rattle.bean_load.specs.Following.{IsGathered}
 use Rattle.bean_load.specs.Texts.{Texts}
 use Rattle.query_code.specs.QueryFile.{decoded}

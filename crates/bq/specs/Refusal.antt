@@ -1,8 +1,8 @@
 -- How the program ends: its status, and the line on standard error.
 use Rattle.std.specs.Prelude.{ℕ, Bool, true, false, List, [], ◌++◌, codes, Option, Some, None}
 use Rattle.std.specs.Fmt.{decimal}
-use Rattle.bean_booker.specs.BookFault as book
-use Rattle.bean_booker.specs.declared.booker.BookFault.TheVariants as books
+use Rattle.bean_replay.specs.BookFault as book
+use Rattle.bean_replay.specs.declared.booker.BookFault.TheVariants as books
 use Rattle.bean_load.specs.LoadFault as load
 use Rattle.bean_load.specs.declared.fault.LoadFault.TheVariants as loads
 use Rattle.table_printer.specs.Faults as print

@@ -8,7 +8,7 @@ use Rattle.stores.specs.Reading.{Reading}
 use Rattle.stores.specs.Source.{Gave}
 use Rattle.stores.specs.declared.source.Source.{Ghosts as SourceOf}
 use Rattle.table_printer.specs.declared.writing.PrintFault.TheVariants.{NotWritten}
-use Rattle.bean_booker.specs.declared.booker.BookFault.TheVariants.{TooManyPostings}
+use Rattle.bean_replay.specs.declared.booker.BookFault.TheVariants.{TooManyPostings}
 use Rattle.bean_load.specs.Texts.{Texts}
 use Rattle.bq.specs.Causes.{GaveFile, GaveTexts, HasCause, IsAnswerable}
 use Rattle.bq.specs.Booking.{HasTooMany}

@@ -5,10 +5,10 @@ ghost use Rattle.std.specs.Vec.Iter.{into_iter_items};
 ghost use Rattle.bq.specs.Runs.{written, deeds, Ends};
 
 use crate::run::run_words;
-use outputs::output::Output;
+use outputs::Output;
 use std::alloc::{AllocError, Global};
 use std::env::Args;
-use stores::source::Store;
+use stores::Store;
 
 /// The words behind the program's own name.
 fn words_behind(alloc: Global, args: Args) -> Result<Vec<String>, AllocError>

@@ -4,9 +4,9 @@ ghost use Rattle.bq.specs.MemoryRun.{in_memory, kept_in};
 ghost use Rattle.bq.specs.Runs.{Ends};
 
 use crate::run::run_words;
-use outputs::short_writer::ShortWriter;
+use outputs::ShortWriter;
 use std::alloc::Global;
-use stores::memory::MemoryStore;
+use stores::MemoryStore;
 
 /// Runs the program on its words, as `run_words` does.
 pub fn run_in_memory(

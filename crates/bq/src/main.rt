@@ -25,10 +25,10 @@ mod words;
 use crate::arguments::run_args;
 use crate::refusal::Refusal;
 use bean_base::limits::LARGEST_TEXT;
-use outputs::stream::Stream;
+use outputs::Stream;
 use std::process::ExitCode;
 use std::{env, io};
-use stores::host::HostStore;
+use stores::HostStore;
 
 /// One byte more than the largest text, so that a larger one shows.
 const MOST_BYTES: u64 = LARGEST_TEXT as u64 + 1;

@@ -15,11 +15,10 @@ use crate::verdict::{Verdict, verdict_of};
 use crate::words::{Command, command_in};
 use bean_load::{Texts, gather};
 use fault_printer::fault_lines;
-use outputs::output::Output;
-use outputs::writing::write_bytes;
+use outputs::{Output, write_bytes};
 use std::alloc::Global;
 use std::mem::forget;
-use stores::source::{Source, Store};
+use stores::{Source, Store};
 use table_printer::{PrintFault, write_table};
 
 /// Writes a text.

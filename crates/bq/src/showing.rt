@@ -7,7 +7,7 @@ use bean_load::LoadFault;
 use query_code::show;
 use query_file::decode;
 use std::alloc::Global;
-use stores::source::{Source, SourceFault};
+use stores::{Source, SourceFault};
 
 /// The bytes of the file of that name.
 pub fn file_bytes<S: Source>(store: &mut S, name: &str) -> Result<Vec<u8>, LoadFault>

@@ -16,10 +16,9 @@ use crate::stuck::Stuck;
 use bean_base::limits::MOST_NESTED;
 use bql_lexer::{Kind, Token};
 use bql_tree::call::{called, is_count, listed};
-use bql_tree::function::Scope;
 use bql_tree::level::Level;
-use bql_tree::part::{Part, denied, group, leaf, matched, name, rows, signed, two};
-use bql_tree::tree::Binary;
+use bql_tree::part::{denied, group, leaf, matched, name, rows, signed, two};
+use bql_tree::{Binary, Part, Scope};
 use std::alloc::Global;
 
 /// A chain of operators of a level at the front, and what stands behind it.

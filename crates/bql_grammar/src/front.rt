@@ -7,7 +7,7 @@ use bean_base::parse_day;
 use bql_lexer::{Kind, Token};
 use bql_tree::level::{Level, comparison_of, sign_of};
 use bql_tree::number::number;
-use bql_tree::tree::{Binary, Leaf};
+use bql_tree::{Binary, Leaf};
 
 /// The first token, and what stands behind it.
 fn next<'t, 'a>(tokens: &'t [Token<'a>]) -> Option<(&'t Token<'a>, &'t [Token<'a>])>

@@ -25,9 +25,9 @@
 //! lists among them. A tree is at most 200 high; what is higher is let go as soon as it is.
 #![tactic(auto)]
 
-pub mod expressions;
+mod expressions;
 pub mod front;
-pub mod stuck;
+mod stuck;
 
 pub use expressions::expression;
 pub use stuck::Stuck;

@@ -10,8 +10,7 @@ ghost use Rattle.bql_lexer.specs.Token as spec;
 
 use crate::classes::InWord;
 use crate::kind::Kind;
-use bean_base::days::Day;
-use bean_base::slice::Slice;
+use bean_base::{Day, Slice};
 use byte_runs::{Digit, end_of_run};
 
 /// A token, and what stands behind it.

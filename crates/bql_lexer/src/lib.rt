@@ -22,8 +22,8 @@
 
 mod classes;
 mod found;
-pub mod kind;
-pub mod token;
+mod kind;
+mod token;
 
 pub use kind::Kind;
 pub use token::{Token, tokens};

@@ -8,7 +8,7 @@ ghost use Rattle.bql_lexer.specs.declared.token.Token as token;
 use crate::classes::White;
 use crate::found::token_at;
 use crate::kind::Kind;
-use bean_base::slice::Slice;
+use bean_base::Slice;
 use byte_runs::end_of_run;
 use std::alloc::{AllocError, Allocator};
 

@@ -5,10 +5,10 @@ use Rattle.std.specs.Prelude.{fold}
 use Rattle.std.specs.List.{list_all}
 use Rattle.std.specs.Result.{is_ok}
 use Rattle.bean_base.specs.declared.bounds.Bounds.{Bounds}
-use Rattle.bql_shapes.specs.Rules as rule
-use Rattle.bql_shapes.specs.Rules.{by_machine, of_both, of_truths, listed, one_of, greatest_places}
-use Rattle.bql_shapes.specs.Rules.{is_held_with, are_alike, call_shape, single, sum_over, gathered}
-use Rattle.bql_shapes.specs.Rules.{leaf_shape, places_of}
+use Rattle.bql_rules.specs.Rules as rule
+use Rattle.bql_rules.specs.Rules.{by_machine, of_both, of_truths, listed, one_of, greatest_places}
+use Rattle.bql_rules.specs.Rules.{is_held_with, are_alike, call_shape, single, sum_over, gathered}
+use Rattle.bql_rules.specs.Rules.{leaf_shape, places_of}
 use Rattle.bql_tree.specs.declared.function.Function.{Function}
 use Rattle.bql_tree.specs.declared.function.Function.TheVariants as function
 use Rattle.bql_tree.specs.declared.tree.Binary.{Binary}

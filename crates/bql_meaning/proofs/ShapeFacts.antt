@@ -3,10 +3,10 @@ use Rattle.std.proofs.Common.{◌≡◌, ℕ, ◌≤◌, max, Bool, true, false,
 use Rattle.std.proofs.Common.{length}
 use Rattle.std.proofs.Common.{Some, None, Ok, Err, refl, sym, ap, subst, ◌∙◌, cond, ◌⊎◌, inl, inr}
 use Rattle.bean_base.specs.declared.bounds.Bounds.{Bounds}
-use Rattle.bql_shapes.specs.Rules as rule
-use Rattle.bql_shapes.specs.Rules.{by_machine, of_both, of_truths, listed, one_of}
-use Rattle.bql_shapes.specs.Rules.{greatest_places, sum_over}
-use Rattle.bql_shapes.specs.Rules.{is_held_with, are_alike, call_shape, single}
+use Rattle.bql_rules.specs.Rules as rule
+use Rattle.bql_rules.specs.Rules.{by_machine, of_both, of_truths, listed, one_of}
+use Rattle.bql_rules.specs.Rules.{greatest_places, sum_over}
+use Rattle.bql_rules.specs.Rules.{is_held_with, are_alike, call_shape, single}
 use Rattle.bql_tree.specs.declared.function.Function.{Function}
 use Rattle.bql_tree.specs.declared.function.Function.TheVariants as function
 use Rattle.bql_tree.specs.declared.tree.Binary.{Binary}

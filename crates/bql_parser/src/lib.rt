@@ -35,11 +35,11 @@
 
 mod asking;
 mod clauses;
-pub mod fault;
-pub mod laws;
-pub mod parse;
+mod fault;
+mod laws;
+mod parse;
 mod queries;
-pub mod query;
+mod query;
 mod reading;
 mod settling;
 mod standing;

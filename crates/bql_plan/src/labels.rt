@@ -7,7 +7,7 @@ ghost use Rattle.bql_types.specs.Seen as seen_rule;
 ghost use Rattle.query_columns.specs.ColumnShape.{AreBounds};
 
 use bean_base::Bounds;
-use bql_shapes::leaf_shape;
+use bql_rules::leaf_shape;
 use bql_tree::{Binary, Expr};
 use bql_types::shaped::{Operand, before, between, called, is_equality, is_null, one_more};
 use query_shapes::{Misfit, Shape};

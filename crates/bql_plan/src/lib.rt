@@ -34,9 +34,9 @@
 #![tactic(auto)]
 
 mod exprs;
-pub mod labels;
-pub mod laws;
-pub mod plan;
+mod labels;
+mod laws;
+mod plan;
 
 pub use labels::{Shapes, shapes_of};
 pub use plan::{Gathered, Plan, Shaped, planned};

@@ -37,7 +37,7 @@ pub mod function;
 pub mod level;
 pub mod number;
 pub mod part;
-pub mod tree;
+mod tree;
 
 pub use cause::{Cause, CauseKind};
 pub use function::{Function, Scope};

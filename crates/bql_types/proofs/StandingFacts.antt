@@ -10,7 +10,7 @@ use Rattle.bean_base.specs.declared.bounds.Bounds.{Bounds}
 use Rattle.bql_parser.specs.declared.standing.Valuation.{Valuation}
 use Rattle.bql_parser.specs.declared.standing.Valuation.TheVariants as valuation
 use Rattle.query_columns.specs.ColumnShape.{AreBounds, units_most, value_most}
-use Rattle.bql_shapes.specs.Rules.{of_one}
+use Rattle.bql_rules.specs.Rules.{of_one}
 use Rattle.bql_tree.specs.Tree.{Tree, call_of}
 use Rattle.query_columns.specs.declared.column.Column.TheVariants as column
 use Rattle.bql_tree.specs.declared.function.Function.TheVariants as function

@@ -7,7 +7,7 @@ ghost use Rattle.query_columns.specs.ColumnShape.{AreBounds};
 
 use crate::shaped::look_at_all;
 use bean_base::Bounds;
-use bql_shapes::sum_over;
+use bql_rules::sum_over;
 use bql_tree::{Expr, Function};
 use query_shapes::Shape;
 use query_values::Aggregate;

@@ -44,18 +44,18 @@
 
 pub mod aggregates;
 mod balances;
-pub mod cause;
-pub mod fault;
+mod cause;
+mod fault;
 pub mod gathered;
 pub mod grouped;
 pub mod grouping;
 mod items;
-pub mod laws;
+mod laws;
 pub mod same;
 pub mod shaped;
 mod targets;
-pub mod typed;
-pub mod typing;
+mod typed;
+mod typing;
 
 pub use cause::{Cause, CauseKind};
 pub use fault::TypeFault;

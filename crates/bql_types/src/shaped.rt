@@ -7,7 +7,7 @@ ghost use Rattle.bql_types.specs.Seen as seen_rule;
 
 use crate::cause::{Cause, CauseKind, sooner};
 use bean_base::Bounds;
-use bql_shapes::{binary_shape, call_shape, leaf_shape, unary_shape};
+use bql_rules::{binary_shape, call_shape, leaf_shape, unary_shape};
 use bql_tree::{Binary, Expr, Function, Leaf, Unary};
 use query_shapes::{Misfit, Shape};
 use std::alloc::{AllocError, Global};

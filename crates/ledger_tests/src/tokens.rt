@@ -1,7 +1,6 @@
 //! The tokens of worked texts.
 
-use bean_lexer::kind::{Keyword, Kind, Place, Sign};
-use bean_lexer::tokens;
+use bean_lexer::{Keyword, Kind, Place, Sign, tokens};
 use std::alloc::{AllocError, Global};
 use std::test::Fail;
 

@@ -4,7 +4,8 @@ use crate::made::{are_faults, are_texts, store_of};
 use bean_load::{LoadFault, gather};
 use std::alloc::Global;
 use std::test::Fail;
-use stores::memory::{Entry, MemoryStore};
+use stores::MemoryStore;
+use stores::memory::Entry;
 
 /// A file of so many spaces behind a text.
 fn padded(alloc: Global, name: &str, text: &str, spaces: usize) -> Result<Entry, Fail> {

@@ -3,7 +3,8 @@
 use bean_load::Texts;
 use std::alloc::Global;
 use std::test::Fail;
-use stores::memory::{Entry, MemoryStore};
+use stores::MemoryStore;
+use stores::memory::Entry;
 
 /// A store with these files, which fails at that call; at none where it is 0.
 pub fn store_of(alloc: Global, files: &[(&str, &str)], fails_at: u64) -> Result<MemoryStore, Fail> {

@@ -31,10 +31,10 @@
 //! `Stream` makes a call again that a signal interrupted.
 #![tactic(auto)]
 
-pub mod output;
-pub mod short_writer;
-pub mod stream;
-pub mod writing;
+mod output;
+mod short_writer;
+mod stream;
+mod writing;
 
 pub use output::{NotTaken, Output};
 pub use short_writer::ShortWriter;

@@ -68,7 +68,7 @@ mod display;
 mod entry;
 mod held;
 mod keys;
-pub mod laws;
+mod laws;
 mod ledger;
 mod metadata;
 mod plain_text;

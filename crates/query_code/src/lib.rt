@@ -21,10 +21,10 @@
 //! a [`TextList`] is lent from the file as it stands there, or keeps its texts so.
 #![tactic(auto)]
 
-pub mod instruction;
+mod instruction;
 mod listing;
-pub mod program;
-pub mod refusal;
+mod program;
+mod refusal;
 pub mod text_list;
 
 pub use instruction::{Instruction, Push, Unary};

@@ -24,8 +24,8 @@
 //! A few steps; a name is looked for among all. No memory.
 #![tactic(auto)]
 
-pub mod column;
-pub mod laws;
+mod column;
+mod laws;
 mod shapes;
 
 pub use column::{COLUMNS, Column};

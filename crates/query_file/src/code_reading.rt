@@ -16,10 +16,7 @@ use crate::reading::{
     some_number_at, stopped, text_at, word_at,
 };
 use bean_base::{Day, List, Slice};
-use query_code::TextList;
-use query_code::instruction::Instruction;
-use query_code::program::{Code, Constant, Mode, Numbers, Output};
-use query_code::refusal::Cause;
+use query_code::{Cause, Code, Constant, Instruction, Mode, Numbers, Output, TextList};
 use query_values::Aggregate;
 use std::alloc::Global;
 

@@ -12,8 +12,7 @@ use crate::code_reading::{code_at, output_at};
 use crate::fault::{DecodeFault, Fault};
 use crate::reading::{byte_at, long_at, stopped, truncated};
 use bean_base::Bounds;
-use query_code::program::{Mode, Parts, Program};
-use query_code::refusal::{Cause, Refusal, Stop};
+use query_code::{Cause, Mode, Parts, Program, Refusal, Stop};
 use std::alloc::Global;
 
 #[tactic(auto, unfolding(query_code::specs::QueryFile::bounds))]

@@ -2,7 +2,7 @@
 ghost use Rattle.std.specs.Prelude.{◌≡◌};
 ghost use Rattle.query_file.specs.declared.fault.Fault.TheVariants.{OutOfMemory};
 
-use query_code::refusal::{Refusal, Stop};
+use query_code::{Refusal, Stop};
 use std::alloc::{AllocError, AllocFailed};
 
 /// Why bytes were not decoded.

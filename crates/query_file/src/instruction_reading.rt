@@ -6,8 +6,7 @@ ghost use Rattle.query_file.specs.FieldReading.{Gives};
 
 use crate::fault::Fault;
 use crate::reading::{byte_at, some_byte_at, stopped, word_at};
-use query_code::instruction::{Instruction, Push, Unary};
-use query_code::refusal::Cause;
+use query_code::{Cause, Instruction, Push, Unary};
 use query_values::Binary;
 
 /// Those with two bytes behind their opcode, which stands before `rest`.

@@ -24,7 +24,7 @@
 
 mod code_reading;
 mod decoding;
-pub mod fault;
+mod fault;
 mod instruction_reading;
 mod reading;
 mod writing;

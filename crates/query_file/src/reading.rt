@@ -13,7 +13,7 @@ ghost use Rattle.query_code.specs.TextForm.{text};
 use crate::fault::Fault;
 use bean_base::limits::MOST_PLACES;
 use bean_base::{Day, Slice};
-use query_code::refusal::{Cause, Stop};
+use query_code::{Cause, Stop};
 use query_values::Decimal;
 use std::alloc::Global;
 

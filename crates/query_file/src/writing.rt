@@ -9,9 +9,8 @@ ghost use Rattle.query_code.specs.QueryFile.{some_number, IsFile};
 ghost use Rattle.query_code.specs.TextForm.{text};
 
 use bean_base::{Bounds, Day, Slice};
-use query_code::instruction::{Instruction, Push, Unary};
-use query_code::program::{Code, Constant, Mode, Numbers, Output, Parts, Program};
 use query_code::text_list::put_text;
+use query_code::{Code, Constant, Instruction, Mode, Numbers, Output, Parts, Program, Push, Unary};
 use query_values::{Aggregate, Binary, Decimal};
 use std::alloc::{AllocError, Global};
 

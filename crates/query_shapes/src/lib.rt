@@ -28,7 +28,7 @@
 #![tactic(auto)]
 
 pub mod rules;
-pub mod shape;
+mod shape;
 
 ghost use Rattle.query_shapes.specs.Keeping.{AreMonotone, AreOrdered, GatherShapes, KeepShapes};
 

@@ -47,20 +47,20 @@
 //! inventories each entry is looked up by going through the others.
 #![tactic(auto)]
 
-pub mod arithmetic;
-pub mod bag;
-pub mod comparison;
+mod arithmetic;
+mod bag;
+mod comparison;
 mod component;
-pub mod decimal;
-pub mod gathering;
-pub mod lent;
-pub mod membership;
+mod decimal;
+mod gathering;
+mod lent;
+mod membership;
 mod number;
-pub mod operation;
-pub mod part;
-pub mod pattern;
-pub mod text_set;
-pub mod value;
+mod operation;
+mod part;
+mod pattern;
+mod text_set;
+mod value;
 
 pub use bag::Bag;
 pub use decimal::Decimal;

@@ -26,9 +26,9 @@
 //! A text is read once, into memory of its own. A `HostStore` asks for no byte past its limit.
 #![tactic(auto)]
 
-pub mod host;
+mod host;
 pub mod memory;
-pub mod source;
+mod source;
 
 pub use host::HostStore;
 pub use memory::MemoryStore;

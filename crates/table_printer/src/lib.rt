@@ -59,7 +59,7 @@ mod lines;
 mod positions;
 mod rows;
 mod table;
-pub mod writing;
+mod writing;
 
 pub use answer::Answer;
 pub use cell::Cell;

@@ -6,8 +6,7 @@ ghost use Rattle.table_printer.specs.Table.{table_text};
 
 use crate::rows::Rows;
 use crate::table::print;
-use outputs::output::Output;
-use outputs::writing::write_bytes;
+use outputs::{Output, write_bytes};
 use posting_table::Display;
 use std::alloc::{AllocError, Global};
 use thiserror::Error;

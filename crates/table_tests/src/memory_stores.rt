@@ -2,8 +2,8 @@
 
 use std::alloc::Global;
 use std::test::Fail;
-use stores::memory::{Entry, MemoryStore};
-use stores::source::{Source, SourceFault, Store};
+use stores::memory::Entry;
+use stores::{MemoryStore, Source, SourceFault, Store};
 
 /// A store with two files of one name, and one of another, which fails at that call.
 fn store_of_three(alloc: Global, fails_at: u64) -> Result<MemoryStore, Fail> {

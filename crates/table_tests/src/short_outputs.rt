@@ -1,7 +1,7 @@
 //! Outputs of memory, and tables that are written to them.
 
 use bean_base::{List, Slice};
-use outputs::short_writer::ShortWriter;
+use outputs::ShortWriter;
 use posting_table::Ledger;
 use std::test::Fail;
 use table_printer::{Answer, PrintFault, write_table};

@@ -17,8 +17,8 @@ use super::queue::{Candidate, is_opposite, push_candidate, selects};
 use super::takes::reduce_candidates;
 use super::{LotFault, Method, Selector};
 use bean_base::{Currency, Num};
-use bean_lots::inventory::{Inventory, Positions, is_lot_of};
-use bean_lots::{Key, Lot};
+use bean_lots::inventory::{Positions, is_lot_of};
+use bean_lots::{Inventory, Key, Lot};
 use std::alloc::{AllocError, Global};
 
 /// Adds the candidate that is left of what is held under a key, where one is, and tells its units.

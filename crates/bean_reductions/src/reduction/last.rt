@@ -13,8 +13,8 @@ use super::queue::Candidate;
 use super::takes::reduce_candidates;
 use super::{LotFault, Method, Selector};
 use bean_base::Num;
-use bean_lots::inventory::{Inventory, Positions};
-use bean_lots::{Key, Lot};
+use bean_lots::inventory::Positions;
+use bean_lots::{Inventory, Key, Lot};
 use std::alloc::{AllocError, Global};
 
 /// Whether a key is that of a lot of an earlier day than the candidate that was found last.

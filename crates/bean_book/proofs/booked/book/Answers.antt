@@ -1,6 +1,6 @@
 use Rattle.std.proofs.Common.{ap, subst, sym, Err}
 use Rattle.std.specs.List.{AllByRecursion}
-use Rattle.bean_sizes.specs.Booked.{IsSmallNoted}
+use Rattle.bean_replay.specs.Small.{IsSmallNoted}
 use Rattle.bean_book.specs.Booked.{MakesLedger}
 use Rattle.bean_book.specs.Entries.{bookings}
 use Rattle.bean_book.specs.Kept.{AreOf, IsTame}

@@ -1,7 +1,7 @@
 use Rattle.std.proofs.Common.{◌<◌, ◌≤◌, ◌+◌, ap, length, subst, Err, ◌∙◌}
 use Rattle.std.specs.List.{flat_map}
 use Rattle.bean_base.specs.declared.limits.TheConstants.{MOST_POSTINGS}
-use Rattle.bean_booker.specs.Stand.{postings_of}
+use Rattle.bean_replay.specs.Stand.{postings_of}
 use Rattle.bean_book.specs.Reported.{reported}
 use Rattle.bean_book.specs.Rows.{rows_of_pad}
 use Rattle.bean_book.proofs.BookFacts.{too_many_kept}

@@ -1,7 +1,7 @@
 use Rattle.std.proofs.Common.{◌+◌, List, ap, arith, get_or, length, length-append, take, ◌∙◌}
 use Rattle.std.specs.List.{flat_map}
-use Rattle.bean_booker.specs.declared.kept.Kept.{Kept}
-use Rattle.bean_trial.specs.declared.line.Posted.{Posted}
+use Rattle.bean_replay.specs.declared.kept.Kept.{Kept}
+use Rattle.bean_transactions.specs.declared.line.Posted.{Posted}
 use Rattle.bean_book.proofs.ListFacts.{flat_map_more, length-flat_map-take}
 use Rattle.bean_book.proofs.counts.count_kept.Goals as goal
 

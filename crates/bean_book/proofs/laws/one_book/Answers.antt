@@ -1,6 +1,6 @@
 use Rattle.std.proofs.Common.{ap, reverse, sym, ◌∙◌}
-use Rattle.bean_booker.proofs.OneBooking.{one_stand}
-use Rattle.bean_booker.specs.Booked.{faults_of, method_in_ledger}
+use Rattle.bean_replay.proofs.OneBooking.{one_stand}
+use Rattle.bean_replay.specs.Booked.{faults_of, method_in_ledger}
 use Rattle.bean_book.specs.Booked.{bookings_of, decimals_from, rows_of_all, written_in_all}
 use Rattle.bean_book.specs.Reported.{reported}
 use Rattle.bean_book.proofs.laws.one_book.Goals as goal

@@ -5,9 +5,9 @@ use Rattle.std.specs.FinMap.{get-empty}
 use Rattle.std.specs.List.{AllByRecursion}
 use Rattle.std.specs.Ordering.{nat_cmp}
 use Rattle.std.proofs.lemmas.List.{append-nil, length-append}
-use Rattle.bean_booker.specs.declared.kept.Kept.{Kept}
+use Rattle.bean_replay.specs.declared.kept.Kept.{Kept}
 use Rattle.bean_pad.specs.declared.note.NotedPad.{NotedPad}
-use Rattle.bean_sizes.specs.Booked.{IsSmallNoted}
+use Rattle.bean_replay.specs.Small.{IsSmallNoted}
 use Rattle.bean_load.specs.Small.{IsSmall}
 use Rattle.posting_table.specs.Decimals.{decimals_of}
 use Rattle.posting_table.specs.Ledger.{Ledger}

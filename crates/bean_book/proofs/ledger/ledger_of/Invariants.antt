@@ -1,6 +1,6 @@
 use Rattle.std.proofs.Common.{◌≡◌, ◌++◌, ◌≤◌, ℕ, List, length}
 use Rattle.std.specs.List.{AllByRecursion}
-use Rattle.bean_sizes.specs.Booked.{IsSmallNoted}
+use Rattle.bean_replay.specs.Small.{IsSmallNoted}
 use Rattle.bean_load.specs.Small.{IsSmall}
 use Rattle.posting_table.specs.Decimals.{decimals_of}
 use Rattle.bean_base.specs.declared.limits.TheConstants.{MOST_POSTINGS}

@@ -6,11 +6,11 @@ use Rattle.std.proofs.Common.{ℕ, ◌<◌, List, slice_get}
 use Rattle.std.specs.List.{AllByRecursion}
 use Rattle.bean_postings.specs.declared.posting.Posting.{Posting}
 use Rattle.bean_interp.specs.Residual.{IsLight}
-use Rattle.bean_sizes.proofs.ListFacts.{all_unmapped}
-use Rattle.bean_sizes.proofs.PlaceFacts.{found_at}
-use Rattle.bean_sizes.specs.Booked.{IsSmallPosted}
-use Rattle.bean_trial.specs.Tried.{booked_leg, booked_legs}
-use Rattle.bean_trial.specs.declared.line.Posted.{Posted}
+use Rattle.bean_replay.proofs.SmallListFacts.{all_unmapped}
+use Rattle.bean_replay.proofs.SmallPlaceFacts.{found_at}
+use Rattle.bean_replay.specs.Small.{IsSmallPosted}
+use Rattle.bean_transactions.specs.Tried.{booked_leg, booked_legs}
+use Rattle.bean_transactions.specs.declared.line.Posted.{Posted}
 use Rattle.posting_table.specs.Shaped.{IsShaped}
 use Rattle.query_columns.specs.ColumnShape.{widest}
 use Rattle.posting_table.proofs.PartFacts.{row_lies}

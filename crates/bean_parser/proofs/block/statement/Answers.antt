@@ -1,8 +1,8 @@
 use Rattle.std.proofs.Common.{sym, ◌∙◌, subst}
 use Rattle.std.specs.Prelude.{MatchOption}
 use Rattle.bean_grammar.specs.Lexeme.{lexemes}
-use Rattle.bean_heads.specs.Head.{IsHead, IsNoHead}
-use Rattle.bean_heads.proofs.HeadFacts.{when_some}
+use Rattle.bean_directives.specs.Head.{IsHead, IsNoHead}
+use Rattle.bean_directives.proofs.HeadFacts.{when_some}
 use Rattle.bean_parser.proofs.BlockFacts.{dated_is, undated_is_block, if_ok}
 use Rattle.bean_parser.proofs.block.statement.Goals as goal
 

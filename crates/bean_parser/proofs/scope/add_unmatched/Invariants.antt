@@ -1,5 +1,5 @@
 use Rattle.std.proofs.Common.{◌≡◌, ◌≤◌, ◌++◌, ◌-◌, [], length, take, drop}
-use Rattle.bean_heads.specs.declared.undated.PushName.{PushName}
+use Rattle.bean_directives.specs.declared.undated.PushName.{PushName}
 use Rattle.bean_parser.specs.Matches.{count_in}
 use Rattle.bean_parser.specs.Scope.{open_pushes, unmatched}
 use Rattle.bean_parser.proofs.scope.add_unmatched.Given as goal

@@ -1,5 +1,0 @@
-use Rattle.bean_booker.proofs.OneBooking as lemmas
-use Rattle.bean_booker.proofs.laws.one_booking.Goals as goal
-
-pub returns : goal.returns
-returns c = lemmas.one_booking

@@ -1,5 +1,0 @@
-pub mod Method
-pub mod Stand
-pub mod Booker
-pub mod Booked
-pub mod BookFault

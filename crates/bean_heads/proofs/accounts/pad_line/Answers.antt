@@ -1,5 +1,0 @@
-use Rattle.bean_heads.proofs.HeadFacts.{reads_pad}
-use Rattle.bean_heads.proofs.accounts.pad_line.Goals as goal
-
-pub returns : goal.returns
-returns c = reads_pad _ _ _ _ _ c.in_ok-account.ensures.front c.in_ok-source.ensures.front

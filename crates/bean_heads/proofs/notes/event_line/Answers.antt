@@ -1,5 +1,0 @@
-use Rattle.bean_heads.proofs.HeadFacts.{reads_event}
-use Rattle.bean_heads.proofs.notes.event_line.Goals as goal
-
-pub returns : goal.returns
-returns c = reads_event _ _ _ _ _ c.in_ok-name.ensures.read c.in_ok-value.ensures.read

@@ -1,0 +1,13 @@
+pub mod StepFacts
+pub mod TakeFacts
+pub mod OneBooking
+pub mod FullFacts
+pub mod EachBooking
+pub mod ShownFacts
+pub mod SmallPlaceFacts
+pub mod SmallListFacts
+pub mod SmallTakenFacts
+pub mod SmallLinedFacts
+pub mod SmallCompletedFacts
+pub mod SmallBookedFacts
+pub mod SmallBookingFacts

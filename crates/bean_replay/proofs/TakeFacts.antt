@@ -1,0 +1,94 @@
+-- One more directive.
+use Rattle.std.proofs.Common.{◌≡◌, ℕ, List, [], ◌∷◌, ◌++◌}
+use Rattle.std.proofs.Common.{refl, sym, ap, ◌∙◌, subst}
+use Rattle.bean_accounts.specs.Kept.{IsKept}
+use Rattle.bean_accounts.specs.declared.accounts.Place.{Place}
+use Rattle.bean_directives.specs.declared.accounts.Close as closes
+use Rattle.bean_directives.specs.declared.accounts.Open as opens
+use Rattle.bean_directives.specs.declared.accounts.Pad as pads
+use Rattle.bean_directives.specs.declared.directive.Directive.{Directive}
+use Rattle.bean_directives.specs.declared.directive.DirectiveKind.{DirectiveKind}
+use Rattle.bean_directives.specs.declared.directive.DirectiveKind.TheVariants as kind
+use Rattle.bean_directives.specs.declared.numbers.Balance as balances
+use Rattle.bean_directives.specs.declared.transaction.Transaction.{Transaction}
+use Rattle.bean_interp.specs.declared.scales.Scales.{Scales}
+use Rattle.bean_load.specs.declared.placed.Placed.{Placed}
+use Rattle.bean_reductions.specs.declared.reduction.Method.{Method}
+use Rattle.bean_transactions.specs.Lines.{IsSettled}
+use Rattle.bean_replay.specs.Booker.{IsStanding}
+use Rattle.bean_replay.specs.Stand.{IsStepBy, Stand, account_step, account_steps, place_of}
+use Rattle.bean_replay.specs.Stand.{setting_of}
+use Rattle.bean_replay.specs.declared.booker.Booker.{Booker}
+
+-- the setting of a transaction is what the program has
+pub settled : (m : List ℕ → Method) (past : List (Placed Directive)) (st : Stand)
+    (d : Placed Directive) (b : Booker) (at : Place) → IsStanding m past st b → at ≡ place_of d
+    → IsSettled (setting_of m st d) b.holdings b.methods
+    (record { day = d.item.day; line = at.line })
+settled m past st d b at is e = record {
+  held = is.held;
+  methods = is.methods;
+  head_is = λ k. record { day = d.item.day; line = (sym e k).line };
+}
+
+-- scales are used again, and say nothing of what is booked
+pub reweighed : (m : List ℕ → Method) (past : List (Placed Directive)) (st : Stand) (b : Booker)
+    (s : Scales) → IsStanding m past st b → IsStanding m past st (record b { scales = s })
+reweighed m past st b s is = record {
+  methods = is.methods;
+  accounts = is.accounts;
+  held = is.held;
+  count = is.count;
+  seen = is.seen;
+  follows = is.follows;
+  steps_are = is.steps_are;
+  kept_is = is.kept_is;
+  faults_are = is.faults_are;
+}
+
+-- what happens to no account leaves them as they are
+pub later : (m : List ℕ → Method) (past : List (Placed Directive)) (st : Stand)
+    (d : Placed Directive) (b : Booker) → account_step d.item.kind ≡ []
+    → IsStanding m past st b → IsStanding m (d ∷ past) st b
+later m past st d b e is = record {
+  methods = is.methods;
+  accounts = subst (λ l. IsKept (l ++ account_steps past) b.accounts) (sym e) is.accounts;
+  held = is.held;
+  count = is.count;
+  seen = is.seen;
+  follows = is.follows;
+  steps_are = is.steps_are;
+  kept_is = is.kept_is;
+  faults_are = is.faults_are;
+}
+
+-- a directive of that kind was taken
+pub stepped : (m : List ℕ → Method) (past : List (Placed Directive)) (st new : Stand)
+    (d : Placed Directive) (k : DirectiveKind) (b : Booker) → d.item.kind ≡ k
+    → IsStepBy m past st d k new → account_step k ≡ [] → IsStanding m past new b
+    → (new : Stand) × IsStepBy m past st d d.item.kind new × IsStanding m (d ∷ past) new b
+stepped m past st new d k b e step none is = (
+  new,
+  subst (λ k. IsStepBy m past st d k new) (sym e) step,
+  later m past new d b (ap account_step e ∙ none) is,
+)
+
+-- other directives do nothing
+pub other : (m : List ℕ → Method) (past : List (Placed Directive)) (st : Stand)
+    (d : Placed Directive) (k : DirectiveKind)
+    → ((t : Transaction) → ¬ (k ≡ kind.Transaction t)) → ((o : opens.Open) → ¬ (k ≡ kind.Open o))
+    → ((c : closes.Close) → ¬ (k ≡ kind.Close c)) → ((p : pads.Pad) → ¬ (k ≡ kind.Pad p))
+    → ((b : balances.Balance) → ¬ (k ≡ kind.Balance b))
+    → IsStepBy m past st d k st × (account_step k ≡ [])
+other m past st d (kind.Transaction t) ht ho hc hp hb = absurd (ht t refl)
+other m past st d (kind.Open o) ht ho hc hp hb = absurd (ho o refl)
+other m past st d (kind.Close c) ht ho hc hp hb = absurd (hc c refl)
+other m past st d (kind.Pad p) ht ho hc hp hb = absurd (hp p refl)
+other m past st d (kind.Balance b) ht ho hc hp hb = absurd (hb b refl)
+other m past st d (kind.Commodity x) ht ho hc hp hb = (refl, refl)
+other m past st d (kind.Note x) ht ho hc hp hb = (refl, refl)
+other m past st d (kind.Document x) ht ho hc hp hb = (refl, refl)
+other m past st d (kind.Price x) ht ho hc hp hb = (refl, refl)
+other m past st d (kind.Event x) ht ho hc hp hb = (refl, refl)
+other m past st d (kind.Query x) ht ho hc hp hb = (refl, refl)
+other m past st d (kind.Custom x) ht ho hc hp hb = (refl, refl)

@@ -1,0 +1,25 @@
+use Rattle.std.proofs.Common.{◌≡◌, ◌≤◌, ℕ, List, reverse, ap, sym, ◌∙◌, subst}
+use Rattle.std.proofs.lemmas.Result.{IfOk-weaker}
+use Rattle.bean_base.specs.declared.limits.TheConstants.{MOST_POSTINGS}
+use Rattle.bean_transactions.specs.Methods.{method_in}
+use Rattle.bean_replay.specs.Booked.{IsBooked, IsFinished, method_in_ledger}
+use Rattle.bean_replay.specs.Method as spec
+use Rattle.bean_replay.specs.Stand.{LeadsTo}
+use Rattle.bean_replay.proofs.booked.book_directives.Goals as goal
+
+pub returns-in-Ok-clause-booked : goal.returns-in-Ok-clause-booked
+returns-in-Ok-clause-booked c =
+    let l = c.args.loaded.now in
+    let m = method_in_ledger l in
+    let ds = c.directives-directives.ensures.directives in
+    let otherwise = c.otherwise.ensures ∙ ap spec.otherwise c.methods.ensures in
+    let methods : (a : List ℕ) → m a ≡ method_in c.in_ok-methods.methods a = λ a.
+    sym (c.in_ok-methods.ensures a ∙ (λ k. spec.method_of (otherwise k) (ds k) a)) in
+    let led = c.in-Ok.ensures.leads m methods in
+    IfOk-weaker c.finish.result (IsFinished l led.0) (IsBooked l)
+    (λ b finished. record {
+      stand = led.0;
+      leads = subst (λ ds. LeadsTo m (reverse ds) led.0) ds led.1;
+      few = subst (λ n. n ≤ MOST_POSTINGS) led.2.count c.in-Ok.ensures.room.few;
+      finished = finished;
+    }) (c.finish.ensures.booked m (reverse c.directives-directives.result.now) led.0 led.2)

@@ -1,0 +1,120 @@
+//! Directives on accounts.
+ghost use Rattle.std.specs.Prelude.{◌≡◌, ◌<◌, ◌+◌, ◌^◌, ◌∷◌, ◌++◌, OnOk};
+ghost use Rattle.std.specs.Prelude as prelude;
+ghost use Rattle.bean_accounts.specs.Faults.{faults_at, of_close, of_open, of_use};
+ghost use Rattle.bean_accounts.specs.Kept.{IsKept};
+ghost use Rattle.bean_accounts.specs.declared.step.Step as lives;
+ghost use Rattle.bean_accounts.specs.declared.step.Step.TheVariants as life;
+ghost use Rattle.bean_replay.specs.Stand as spec;
+ghost use Rattle.bean_lots.specs.Inventory.{has_lot};
+ghost use Rattle.bean_pad.specs.Following.{Follows, IsBounded, steps_in};
+ghost use Rattle.bean_pad.specs.declared.step.Step.{Step};
+ghost use Rattle.bean_pad.specs.declared.step.Step.TheVariants as step;
+ghost use Rattle.bean_transactions.specs.Holdings.{holding};
+
+use crate::steps::{balance_of, pad_of};
+use bean_accounts::{Accounts, Place};
+use bean_base::{Apart, Day, Fault};
+use bean_directives::{Balance, Close, Open, Pad};
+use bean_lots::Inventory;
+use bean_pad::Padder;
+use bean_transactions::Holdings;
+use std::alloc::{AllocError, Global};
+
+/// Takes an open that is written at a place.
+pub(crate) fn take_open<'a>(
+    alloc: Global,
+    accounts: &mut Accounts<'a>,
+    faults: &mut Vec<Fault>,
+    at: Place,
+    opening: &Open<'a>,
+) -> Result<(), AllocError>
+    ensures kept { (past : prelude.List lives.Step) → IsKept past accounts.old
+        → OnOk result (IsKept (life.Open opening.now.account opening.now.currencies ∷ past)
+        accounts.new) }
+    ensures faults { (past : prelude.List lives.Step) → IsKept past accounts.old
+        → OnOk result (faults.new.items ≡ faults.old.items
+        ++ faults_at at (of_open opening.now.account opening.now.method past)) }
+{
+    accounts.note_open(&opening.account, &opening.method, at, faults)?;
+    accounts.open(alloc, &opening.account, opening.currencies.as_slice())
+}
+
+/// Takes a close that is written at a place.
+pub(crate) fn take_close<'a>(
+    accounts: &mut Accounts<'a>,
+    faults: &mut Vec<Fault>,
+    at: Place,
+    close: &Close<'a>,
+) -> Result<(), AllocError>
+    ensures kept { (past : prelude.List lives.Step) → IsKept past accounts.old
+        → OnOk result (IsKept (life.Close close.now.account ∷ past) accounts.new) }
+    ensures faults { (past : prelude.List lives.Step) → IsKept past accounts.old
+        → OnOk result (faults.new.items ≡ faults.old.items
+        ++ faults_at at (of_close close.now.account past)) }
+{
+    accounts.note_close(&close.account, at, faults)?;
+    accounts.close(&close.account)
+}
+
+/// Takes a pad that is written at a place.
+pub(crate) fn take_pad<'a>(
+    accounts: &Accounts<'a>,
+    padder: &mut Padder<'a>,
+    faults: &mut Vec<Fault>,
+    day: Day,
+    at: Place,
+    pad: &Pad<'a>,
+) -> Result<(), AllocError>
+    requires near { IsBounded padder.old }
+    requires few { steps_in padder.old < 2 ^ 40 }
+    ensures faults { (past : prelude.List lives.Step) → IsKept past accounts.now
+        → OnOk result (faults.new.items ≡ (faults.old.items
+        ++ faults_at at (of_use pad.now.account past))
+        ++ faults_at at (of_use pad.now.source past)) }
+    ensures follows { OnOk result ((past : prelude.List Step) → Follows past padder.old
+        → Follows (step.Pad (spec.pad_at day at pad.now) ∷ past) padder.new) }
+    ensures near { OnOk result (IsBounded padder.new) }
+    ensures steps { OnOk result (steps_in padder.new ≡ steps_in padder.old + 1) }
+{
+    accounts.note_use(&pad.account, at, faults)?;
+    accounts.note_use(&pad.source, at, faults)?;
+    padder.pad(pad_of(day, at, pad))
+}
+
+/// Whether the account of a balance itself holds a lot of its currency.
+fn is_at_cost<'a>(alloc: Global, holdings: &Holdings<'a>, balance: &Balance<'a>) -> bool
+    ensures { result ≡ has_lot balance.now.currency (holding holdings.now balance.now.account) }
+{
+    let nothing = Inventory::new(alloc);
+    let held = holdings.of(&balance.account, &nothing);
+    held.has_lot(&balance.currency)
+}
+
+/// Takes a balance that is written at a place.
+pub(crate) fn take_balance<'a>(
+    alloc: Global,
+    accounts: &Accounts<'a>,
+    holdings: &Holdings<'a>,
+    padder: &mut Padder<'a>,
+    faults: &mut Vec<Fault>,
+    at: Place,
+    balance: &Apart<Balance<'a>>,
+) -> Result<(), AllocError>
+    requires near { IsBounded padder.old }
+    requires few { steps_in padder.old < 2 ^ 40 }
+    ensures faults { (past : prelude.List lives.Step) → IsKept past accounts.now
+        → OnOk result (faults.new.items ≡ faults.old.items
+        ++ faults_at at (of_use balance.now.account past)) }
+    ensures follows { OnOk result ((past : prelude.List Step) → Follows past padder.old
+        → Follows (step.Balance (spec.balance_at at balance.now
+        (has_lot balance.now.currency (holding holdings.now balance.now.account))) ∷ past)
+        padder.new) }
+    ensures near { OnOk result (IsBounded padder.new) }
+    ensures steps { OnOk result (steps_in padder.new ≡ steps_in padder.old + 1) }
+{
+    let balance = balance.get();
+    accounts.note_use(&balance.account, at, faults)?;
+    let is_at_cost = is_at_cost(alloc, holdings, balance);
+    padder.balance(&balance_of(at, balance, is_at_cost))
+}

@@ -1,0 +1,43 @@
+//! Booking: what the directives of a ledger come to, one after the other.
+//!
+//! ```text
+//! let loaded = load(alloc, &texts)?;
+//! let booked = book_directives(alloc, &loaded)?;
+//! // booked.kept: the transactions that are kept, with the postings that they are booked as;
+//! // booked.pads: each pad, with what it inserts; booked.faults: all that is wrong
+//! ```
+//!
+//! Directives are taken in their order. A transaction is tried against what accounts hold, by the
+//! method of each account ([`bean_transactions`]); its postings change what they hold where it is kept.
+//! Opens and closes change which accounts are open ([`bean_accounts`]), and pads and balances are
+//! told to a padder, with the postings that are booked before them ([`bean_pad`]).
+//!
+//! The method of an account is the one that its first open names, for all transactions; else the
+//! last that a line of the settings names; else `Strict`. A name of no method counts as not given.
+//!
+//! # Faults
+//!
+//! Those of a transaction that is dropped, `F11` to `F17`; of one that is kept `F18`, where it
+//! doesn't balance, and `F6` to `F8` of its postings; `F6` of pads and balances; `F9`, `F10`; `F23`
+//! of opens and of lines of the settings; and those of pads and balances, `F17` and `F19` to `F21`.
+//!
+//! # Cost
+//!
+//! What the trials cost, and for each posting, pad and balance a few look-ups by names.
+#![tactic(auto)]
+
+mod accounts;
+mod booked;
+mod booker;
+mod kept;
+mod laws;
+mod methods;
+mod postings;
+mod sizes;
+mod steps;
+
+pub use booked::{Booked, book_directives};
+pub use booker::BookFault;
+pub use kept::Kept;
+pub use laws::one_booking;
+pub use sizes::booked_ledgers_are_small;

@@ -1,0 +1,103 @@
+//! The booking methods of a ledger's accounts.
+ghost use Rattle.std.specs.Prelude.{◌≡◌, ◌++◌, List, ℕ, OnOk, IfOk};
+ghost use Rattle.bean_replay.specs.Method as spec;
+ghost use Rattle.bean_transactions.specs.Methods.{method_in};
+
+use bean_accounts::method_named;
+use bean_base::{Apart, Fault, FaultKind, Text};
+use bean_load::{MethodLine, Placed};
+use bean_parser::{Directive, DirectiveKind};
+use bean_reductions::Method;
+use bean_transactions::Methods;
+use std::alloc::{AllocError, Global};
+
+/// The method once a line is read.
+fn behind(method: Method, line: &MethodLine<'_>) -> Method
+    ensures { result ≡ spec.behind method line.now }
+{
+    method_named(&line.method).unwrap_or(method)
+}
+
+/// The method for accounts whose open names none: that of the last line that names one.
+pub(crate) fn otherwise(lines: &[MethodLine<'_>]) -> Method
+    ensures { result ≡ spec.otherwise lines.now }
+{
+    let mut method = Method::Strict;
+    for line in lines {
+        method = behind(method, line);
+    }
+    method
+}
+
+/// Adds the fault of a line that names no method.
+fn note_line(line: &MethodLine<'_>, faults: &mut Vec<Fault>) -> Result<(), AllocError>
+    ensures { OnOk result (faults.new.items ≡ faults.old.items ++ spec.unknown_of line.now) }
+{
+    if method_named(&line.method).is_none() {
+        faults.push(Fault {
+            kind: FaultKind::UnknownMethod,
+            file: line.file,
+            line: line.line,
+        })?;
+    }
+    Ok(())
+}
+
+/// Adds the faults of lines that name no method.
+pub(crate) fn note_unknown(
+    lines: &[MethodLine<'_>],
+    faults: &mut Vec<Fault>,
+) -> Result<(), AllocError>
+    ensures { OnOk result (faults.new.items ≡ faults.old.items ++ spec.unknown_in lines.now) }
+{
+    for line in lines {
+        note_line(line, faults)?;
+    }
+    Ok(())
+}
+
+/// The method that an open names, if it names one.
+fn named_in(method: &Option<Text<'_>>) -> Option<Method>
+    ensures { result ≡ spec.named_in method.now }
+{
+    match method {
+        Some(name) => method_named(name),
+        None => None,
+    }
+}
+
+/// Notes the method of the account that a directive opens, over what later ones say.
+fn note_open<'a>(
+    methods: &mut Methods<'a>,
+    otherwise: Method,
+    kind: &DirectiveKind<'a>,
+) -> Result<(), AllocError>
+    ensures { OnOk result ((a : List ℕ) → method_in methods.new a
+        ≡ spec.method_by otherwise kind.now a (method_in methods.old a)) }
+{
+    match kind {
+        DirectiveKind::Open(open) => methods.set(
+            open.account.lend(),
+            named_in(&open.method).unwrap_or(otherwise),
+        ),
+        _ => Ok(()),
+    }
+}
+
+/// The methods by the first opens of accounts.
+pub(crate) fn methods_of<'a>(
+    alloc: Global,
+    otherwise: Method,
+    directives: &[Apart<Placed<Directive<'a>>>],
+) -> Result<Methods<'a>, AllocError>
+    ensures { IfOk result (λ ms. (a : List ℕ)
+        → method_in ms a ≡ spec.method_of otherwise directives.now a) }
+{
+    let mut methods = Methods::new(alloc, otherwise);
+    let count = directives.len();
+    for taken in 0..count {
+        let directive = directives[count - 1 - taken].get();
+        note_open(&mut methods, otherwise, &directive.item.kind)?;
+    }
+    Ok(methods)
+}

@@ -1,0 +1,129 @@
+-- Transactions that are booked as they are written.
+use Rattle.std.proofs.Common.{◌≡◌, inr, ℕ, ◌+◌, ◌<◌, true, false, List, [], ◌∷◌, ◌++◌, map}
+use Rattle.std.proofs.Common.{length, get_or, take, reverse, Ok, Err, refl, sym, ap, ◌∙◌}
+use Rattle.std.proofs.Common.{subst}
+use Rattle.std.proofs.lemmas.List.{map-append}
+use Rattle.std.specs.List.{list_all}
+use Rattle.bean_interp.specs.Balance.{Judges}
+use Rattle.bean_interp.specs.Completion.{Completes}
+use Rattle.bean_interp.specs.Lacking.{is_whole}
+use Rattle.bean_interp.specs.Residual.{AreInRange}
+use Rattle.bean_interp.specs.declared.fault.CompletionFault.TheVariants.{Weighing}
+use Rattle.bean_interp.specs.declared.fault.WeighFault.{WeighFault}
+use Rattle.bean_interp.specs.declared.fault.WeighFault.TheVariants.{TooWide, OutOfMemory}
+use Rattle.bean_interp.proofs.WholeFacts.{none_filled, none_lack}
+use Rattle.bean_postings.specs.declared.posting.Posting.{Posting}
+use Rattle.bean_transactions.specs.Held.{left}
+use Rattle.bean_transactions.specs.Lined.{AreLined, IsLinedByCost, IsLinedByUnits, IsNext, Setting}
+use Rattle.bean_transactions.specs.Outcome.{StopsAt}
+use Rattle.bean_transactions.specs.Plain.{AreAsWritten, IsAsWritten}
+use Rattle.bean_transactions.specs.Tried.{IsKept, LacksOrIsWide, Tries, booked_legs, is_outside}
+use Rattle.bean_transactions.specs.Tried.{leg_of, legs_of, posts_from}
+use Rattle.bean_transactions.specs.declared.line.Line.{Line}
+use Rattle.bean_transactions.specs.declared.line.Line.TheVariants as line
+use Rattle.bean_transactions.specs.declared.line.Posted.{Posted}
+use Rattle.bean_transactions.specs.declared.stop.Stop.{Stop}
+use Rattle.bean_transactions.specs.declared.stop.Stop.TheVariants as stop
+use Rattle.bean_transactions.proofs.LinedFacts.{before_length, latest}
+
+-- the lines of such postings
+abbrev lines_as : List Posted → List Line
+lines_as qs = map (λ q. line.Posted q) qs
+
+-- ---- what comes of them
+
+next_as_written : (s : Setting) (ls : List Line) (i : ℕ) (p : Posting) (q : Posted)
+    → IsAsWritten i p q → IsNext s ls i p (Ok (line.Posted q ∷ []))
+next_as_written s ls i p q is =
+    let m = s.method_of p.account in
+    let rest = left p.account s.before ls in
+    let r = Ok (line.Posted q ∷ []) in
+    subst (λ u. IsLinedByUnits m rest s.head p.account u p.details.cost i p.details.line r)
+    (sym is.units_are)
+    (subst (λ c. IsLinedByCost m rest s.head p.account q.units c i p.details.line r)
+    (sym is.cost_is)
+    (λ k. Ok (line.Posted record {
+      account = is.account_is k;
+      units = q.units;
+      lot = is.lot_is k;
+      written = is.written_is k;
+    } ∷ [])))
+
+lined_as_written : (s : Setting) (ps : List Posting) (qs : List Posted) → AreAsWritten ps qs
+    → AreLined s ps (lines_as qs)
+lined_as_written s [] qs are = ap lines_as are
+lined_as_written s (p ∷ ps) qs (earlier, q, before, is, more) = (
+  lines_as earlier,
+  line.Posted q ∷ [],
+  lined_as_written s ps earlier before,
+  next_as_written s (lines_as earlier) (length ps) p q is,
+  ap lines_as more ∙ map-append (λ q. line.Posted q) earlier (q ∷ []),
+)
+
+legs_as_written : (ps : List Posting) (qs : List Posted)
+    → legs_of ps (lines_as qs) ≡ booked_legs ps qs
+legs_as_written ps [] = refl
+legs_as_written ps (q ∷ qs) = ap (λ l. leg_of ps (line.Posted q) ∷ l) (legs_as_written ps qs)
+
+posts_as_written : (k : ℕ) (qs : List Posted) → posts_from [] k (lines_as qs) ≡ qs
+posts_as_written k [] = refl
+posts_as_written k (q ∷ qs) = ap (λ l. q ∷ l) (posts_as_written (k + 1) qs)
+
+all_whole : (ps : List Posting) (qs : List Posted) → list_all is_whole (booked_legs ps qs) ≡ true
+all_whole ps [] = refl
+all_whole ps (q ∷ qs) = all_whole ps qs
+
+-- ---- one posting more
+
+pub one_more_written : (ps : List Posting) (i : ℕ) (p : Posting) (q : Posted)
+    (earlier qs : List Posted) → i < length ps → p ≡ get_or ps i p
+    → AreAsWritten (reverse (take i ps)) earlier → IsAsWritten i p q → qs ≡ earlier ++ q ∷ []
+    → AreAsWritten (reverse (take (i + 1) ps)) qs
+one_more_written ps i p q earlier qs h e before is more =
+    subst (λ l. AreAsWritten l qs) (sym (latest ps i p h e)) (
+      earlier,
+      q,
+      before,
+      subst (λ n. IsAsWritten n p q) (sym (before_length ps i h)) is,
+      more,
+    )
+
+-- ---- the whole
+
+pub kept_as_written : (s : Setting) (ps : List Posting) (qs : List Posted)
+    → AreAsWritten (reverse ps) qs → AreInRange (booked_legs ps qs) → IsKept s ps qs
+kept_as_written s ps qs are range = record {
+  lines = lines_as qs;
+  lined = lined_as_written s (reverse ps) qs are;
+  completed = record {
+    fills = [];
+    completes = subst (λ legs. Completes legs (Ok [])) (sym (legs_as_written ps qs)) (
+      none_lack (booked_legs ps qs) (all_whole ps qs),
+      range,
+      none_filled (booked_legs ps qs) (all_whole ps qs),
+    );
+    posted_is = sym (posts_as_written 0 qs);
+  };
+}
+
+-- what stops the weighing stops the completion
+pub wide_as_written : (ps : List Posting) (qs : List Posted) (e : WeighFault)
+    → Judges (booked_legs ps qs) (Err e) → Completes (booked_legs ps qs) (Err (Weighing e))
+wide_as_written ps qs TooWide wide =
+    (none_lack (booked_legs ps qs) (all_whole ps qs), λ both. wide both.0)
+wide_as_written ps qs OutOfMemory lacks = tt
+
+pub stopped_as_written : (s : Setting) (ps : List Posting) (qs : List Posted) (e : Stop)
+    → AreAsWritten (reverse ps) qs → is_outside ps ≡ false
+    → StopsAt (LacksOrIsWide s.head.line (booked_legs ps qs)) e
+    → StopsAt (λ f. Tries s ps (Err f)) e
+stopped_as_written s ps qs (stop.Fault f) are inside why =
+    inr (
+      inside,
+      inr (record {
+        lines = lines_as qs;
+        lined = lined_as_written s (reverse ps) qs are;
+        why = subst (λ legs. LacksOrIsWide s.head.line legs f) (sym (legs_as_written ps qs)) why;
+      }),
+    )
+stopped_as_written s ps qs stop.OutOfMemory are inside why = tt

@@ -1,0 +1,9 @@
+use Rattle.std.proofs.Common.{◌≡◌, ◌++◌}
+use Rattle.bean_transactions.specs.Lines.{IsKeeping}
+use Rattle.bean_transactions.proofs.lines.Lines.push_all.Given as goal
+
+abbrev pub invariant-loop-line : goal.invariant-loop-line
+invariant-loop-line l = record {
+  keeping : IsKeeping l.self;
+  lines : l.self.lines.items ≡ l.initial.self.lines.items ++ l.yielded;
+}

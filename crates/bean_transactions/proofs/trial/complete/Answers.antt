@@ -1,0 +1,13 @@
+use Rattle.std.proofs.Common.{ap, subst, ◌∙◌, Err}
+use Rattle.bean_interp.specs.Completion.{Completes}
+use Rattle.bean_transactions.specs.Tried as spec
+use Rattle.bean_transactions.specs.Tried.{LacksOrIsWide}
+use Rattle.bean_transactions.proofs.trial.complete.Goals as goal
+
+pub returns-clause-err : goal.returns-clause-err
+returns-clause-err c =
+    let legs = spec.legs_of c.args.postings.now c.args.lines.items in
+    let is =
+    c.deref-2.ensures.value ∙ c.in_ok-legs.ensures
+    ∙ ap (spec.legs_of c.args.postings.now) c.deref.ensures.value in
+    c.stop_of.ensures legs (subst (λ legs. Completes legs (Err c.in-Err.fault)) is c.in-Err.ensures)

@@ -1,0 +1,12 @@
+-- What is left in an account.
+use Rattle.std.specs.Prelude.{◌^◌, List}
+use Rattle.bean_reductions.specs.After.{AreSmall, after}
+use Rattle.bean_lots.specs.declared.lot.Position.{Position}
+use Rattle.bean_transactions.specs.declared.stock.Stock.{Stock}
+
+abbrev pub rest_of : Stock → List Position
+rest_of k = after k.held.now k.taken.now
+
+pub record IsSmallStock (k : Stock) : Type 0 where
+  pub held : AreSmall (2 ^ 125) k.held.now
+  pub taken : AreSmall (2 ^ 125) k.taken.now

@@ -1,0 +1,162 @@
+//! Transactions as their completion sees them.
+ghost use Rattle.std.specs.Prelude.{◌≡◌, [], slice_get, Err, IfOk, OnOk};
+ghost use Rattle.std.specs.Prelude as prelude;
+ghost use Rattle.bean_interp.specs.Balance.{Judges};
+ghost use Rattle.bean_interp.specs.Residual.{AreInRange};
+ghost use Rattle.bean_interp.specs.Scales.{AreNoted, AreSet, AreWeighed};
+ghost use Rattle.bean_postings.specs.declared.price.Price as prices;
+ghost use Rattle.bean_transactions.specs.Tried as spec;
+ghost use Rattle.bean_transactions.specs.Tried.{whole_at};
+
+use crate::line::{Line, Posted};
+use bean_base::{Apart, Num};
+use bean_interp::{Leg, Scales, WeighFault, Whole, Worth};
+use bean_lots::Lot;
+use bean_postings::{Posting, Price, Units};
+use std::alloc::{AllocError, Global};
+
+/// What units are worth of which this is known without a cost: a cost goes before a price.
+fn worth_of<'a>(lot: &Option<Apart<Lot<'a>>>, without: Worth<'a>) -> Worth<'a>
+    ensures { (price : prices.Price) → without.entry ≡ spec.worth_of prelude.None price
+        → result ≡ spec.worth_of lot.now price }
+{
+    match lot {
+        Some(lot) => Worth::Cost(lot.get().cost.lend()),
+        None => without,
+    }
+}
+
+/// What units without a cost are worth.
+fn worth_without<'a>(written: &Posting<'a>) -> Worth<'a>
+    ensures { result ≡ spec.worth_of prelude.None written.now.details.price }
+{
+    let Some(parts) = written.details.get() else {
+        return Worth::Units;
+    };
+    match &parts.price {
+        Price::Absent | Price::OutsideProfile => Worth::Units,
+        Price::PerUnit(amount) => Worth::PerUnit(amount.get().lend()),
+        Price::Total(amount) => Worth::Total(amount.get().lend()),
+    }
+}
+
+/// The number that is written for units.
+fn number_in(units: &Units<'_>) -> Option<Num>
+    ensures { result ≡ spec.number_in units.now }
+{
+    match units {
+        Units::Amount(amount) => Some(amount.number),
+        _ => None,
+    }
+}
+
+fn whole_of<'a>(number: Option<Num>, worth: Worth<'a>, posted: &Posted<'a>) -> Whole<'a>
+    ensures units { result.units ≡ posted.now.units }
+    ensures decimals { result.decimals ≡ spec.decimals_of number }
+    ensures worth { result.worth ≡ worth.entry }
+{
+    Whole {
+        units: posted.units.lend(),
+        decimals: match number {
+            Some(number) => number.places,
+            None => 0,
+        },
+        worth,
+    }
+}
+
+/// A booked posting of a transaction with these written ones, as a leg.
+pub fn whole<'a>(postings: &[Posting<'a>], posted: &Posted<'a>) -> Whole<'a>
+    ensures { result ≡ whole_at (slice_get postings.now posted.now.written) posted.now }
+{
+    match postings.get(posted.written) {
+        Some(written) => whole_of(
+            number_in(&written.units),
+            worth_of(&posted.lot, worth_without(written)),
+            posted,
+        ),
+        None => whole_of(None, worth_of(&posted.lot, Worth::Units), posted),
+    }
+}
+
+fn leg_of<'a>(postings: &[Posting<'a>], line: &Line<'a>) -> Leg<'a>
+    ensures { result ≡ spec.leg_of postings.now line.now }
+{
+    match line {
+        Line::Posted(posted) => Leg::Whole(whole(postings, posted)),
+        Line::Take(take) => Leg::Whole(whole(postings, take)),
+        Line::MissingNumber(_, currency, _) => Leg::MissingNumber(currency.lend()),
+        Line::MissingAmount(_, _) => Leg::MissingAmount,
+    }
+}
+
+/// The legs that lines are.
+pub(crate) fn legs_of<'a>(
+    alloc: Global,
+    postings: &[Posting<'a>],
+    lines: &[Line<'a>],
+) -> Result<Vec<Leg<'a>>, AllocError>
+    ensures { IfOk result (λ legs. legs.items ≡ spec.legs_of postings.now lines.now) }
+{
+    let mut legs = Vec::with_capacity(alloc, lines.len())?;
+    for line in lines {
+        legs.push(leg_of(postings, line))?;
+    }
+    Ok(legs)
+}
+
+/// Lays the booked postings of a transaction on the scales, in place of what lay there.
+fn lay<'a>(
+    scales: &mut Scales<'a>,
+    postings: &[Posting<'a>],
+    posted: &[Posted<'a>],
+) -> Result<(), WeighFault>
+    ensures weighed { OnOk result
+        (AreWeighed scales.new (spec.booked_legs postings.now posted.now)) }
+    ensures noted { OnOk result (AreNoted scales.new []) }
+    ensures wide { result ≡ Err WeighFault.TooWide
+        → ¬ AreInRange (spec.booked_legs postings.now posted.now) }
+{
+    scales.clear();
+    for one in posted {
+        match scales.add(&Leg::Whole(whole(postings, one))) {
+            Ok(()) => {}
+            Err(fault) => return Err(fault),
+        }
+    }
+    Ok(())
+}
+
+/// Notes the decimals of the booked postings of a transaction, which lie on the scales.
+fn note<'a>(
+    scales: &mut Scales<'a>,
+    postings: &[Posting<'a>],
+    posted: &[Posted<'a>],
+) -> Result<(), AllocError>
+    requires weighed { AreWeighed scales.old (spec.booked_legs postings.now posted.now) }
+    requires noted { AreNoted scales.old [] }
+    ensures { OnOk result (AreSet scales.new (spec.booked_legs postings.now posted.now)) }
+{
+    for one in posted {
+        scales.note(&Leg::Whole(whole(postings, one)))?;
+    }
+    Ok(())
+}
+
+/// Whether a transaction balances by the postings that it is booked as, or that they are too wide.
+pub(crate) fn judge<'a>(
+    scales: &mut Scales<'a>,
+    postings: &[Posting<'a>],
+    posted: &[Posted<'a>],
+) -> Result<bool, WeighFault>
+    ensures { Judges (spec.booked_legs postings.now posted.now) result }
+{
+    if let Err(fault) = lay(scales, postings, posted) {
+        return Err(fault);
+    }
+    if scales.are_zero() {
+        return Ok(true);
+    }
+    note(scales, postings, posted)?;
+    Ok(scales.are_even())
+}

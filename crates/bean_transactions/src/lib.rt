@@ -1,0 +1,82 @@
+//! Transactions that are tried against what is held: what one is booked as, or its first fault.
+//!
+//! ```text
+//! // 2014-02-01 * "Sell"
+//! //   Assets:Shares  -12 X {}
+//! //   Assets:Cash    1300.00 USD
+//! //   Income:Gain
+//! let methods = Methods::new(alloc, Method::Fifo);
+//! let mut holdings = Holdings::new(alloc);        // Assets:Shares has lots of 10 at 100 USD and
+//! let mut scales = Scales::new(alloc);            // of 5 at 110 USD
+//! let head = Head { day: parse_day("2014-02-01")?, line: 7 };
+//! match try_transaction(alloc, &holdings, &methods, &mut scales, head, postings) {
+//!     // -10 X at 100 USD, -2 X at 110 USD, 1300.00 USD, and -80.00 USD for Income:Gain
+//!     Ok(tried) => holdings.post_all(alloc, tried.posted.as_slice())?,
+//!     Err(Stop::Fault(fault)) => report(fault),
+//!     Err(Stop::OutOfMemory) => return Err(AllocError),
+//! }
+//! ```
+//!
+//! A trial changes nothing: what is held changes once the whole transaction is known, when its
+//! postings are posted one by one. So a transaction is booked whole or not at all, and nothing has
+//! to be taken back.
+//!
+//! # What a posting comes to
+//!
+//! Units with a cost in braces are a reduction where a lot of their currency that is left in the
+//! account has the opposite sign, unless the account's method is `None`. What is left is what the
+//! account held before the transaction, less what the transaction's own earlier postings took; its
+//! own additions don't count. A reduction becomes one posting for each lot that it takes, as
+//! [`bean_reductions::reduce`] says.
+//!
+//! All other units in braces are added as a lot, of the cost in the braces, of their day or else
+//! the transaction's, and of their label. Units without braces are held as they are.
+//!
+//! Then the transaction is completed: postings without a number or an amount take what is lacking,
+//! as [`bean_interp::Scales::complete`] says. The decimals that count are those of the numbers that
+//! are written; the takes of a reduction have those of its number.
+//!
+//! # Faults
+//!
+//! The first of these, in this order; `F13` to `F16` at the posting, the others at the transaction:
+//!
+//! - `F12`, where the form of a posting is outside the profile,
+//! - posting by posting: of a reduction `F13`, `F14` or `F15`, as [`bean_reductions::reduce`] answers
+//!   them; of an addition `F12`, where its braces have no cost, and `F16`, where that is below 0,
+//! - `F11`, where too much is lacking to be filled in,
+//! - `F17`, where a weight, a sum of weights or what is filled in is too wide.
+//!
+//! One thing comes of a transaction: its postings or its fault, by a law of this crate. Whether one
+//! that is kept balances is told by [`balances`], and with the trial where no posting has a cost or
+//! lacks something: such a transaction is booked as it is written, and is weighed once.
+//!
+//! # Cost
+//!
+//! For each posting in braces, and for no other, a look-up in its account and what a reduction
+//! costs in [`bean_lots`]. One that lacks something looks through all that is filled in.
+//! [`Holdings`] keep an inventory for each account, change it where it stands, and count their
+//! additions: each sum is at most `10^20` times that count, which is below `2^40`. No contract
+//! shows how they are kept.
+#![tactic(auto)]
+
+mod completed;
+mod holdings;
+mod laws;
+mod legs;
+mod line;
+mod lines;
+mod methods;
+mod outcome;
+mod plain;
+mod setting;
+mod stock;
+mod stop;
+mod trial;
+
+pub use holdings::Holdings;
+pub use legs::whole;
+pub use line::{Line, Posted, Tried};
+pub use methods::Methods;
+pub use setting::Head;
+pub use stop::{LineFault, Stop};
+pub use trial::{balances, try_transaction};

@@ -1,0 +1,91 @@
+//! Transactions that are booked as they are written.
+ghost use Rattle.std.specs.Prelude.{◌≡◌, IfOk, false, reverse, true};
+ghost use Rattle.std.specs.List.{list_all};
+ghost use Rattle.bean_transactions.specs.Lined.{Setting};
+ghost use Rattle.bean_transactions.specs.Plain as spec;
+ghost use Rattle.bean_transactions.specs.Plain.{AreAsWritten, IsAsWritten};
+ghost use Rattle.bean_transactions.specs.Tried.{KnowsBalance, TriesOrLacks, is_outside};
+
+use crate::legs::judge;
+use crate::line::{Posted, Tried};
+use crate::setting::Head;
+use crate::stop::{Stop, stop_of};
+use bean_base::List;
+use bean_interp::{CompletionFault, Scales};
+use bean_postings::{Cost, Posting, Units};
+use std::alloc::{AllocError, Global};
+
+/// Whether a posting has no cost.
+fn has_no_cost(posting: &Posting<'_>) -> bool
+    ensures { result ≡ spec.is_absent posting.now.details.cost }
+{
+    match posting.details.get() {
+        Some(parts) => matches!(parts.cost, Cost::Absent),
+        None => true,
+    }
+}
+
+/// Whether a posting is booked as it is written: its units are an amount, without a cost.
+fn is_plain(posting: &Posting<'_>) -> bool
+    ensures { result ≡ spec.is_plain posting.now }
+{
+    matches!(posting.units, Units::Amount(_)) && has_no_cost(posting)
+}
+
+/// Whether all postings are booked as they are written, as those of most transactions.
+pub(crate) fn are_plain(postings: &[Posting<'_>]) -> bool
+    ensures { result ≡ list_all spec.is_plain postings.now }
+{
+    postings.iter().all(|posting| is_plain(posting))
+}
+
+/// The posting of that index as it is booked.
+fn posted_as_written<'a>(index: usize, posting: &Posting<'a>) -> Posted<'a>
+    requires { spec.is_plain posting.now ≡ true }
+    ensures { IsAsWritten index posting.now result }
+{
+    match &posting.units {
+        Units::Amount(units) => Posted {
+            account: posting.account.lend(),
+            units: units.lend(),
+            lot: None,
+            written: index,
+        },
+        _ => unreachable!(),
+    }
+}
+
+/// The postings as they are booked.
+fn as_written<'a>(alloc: Global, postings: &[Posting<'a>]) -> Result<Vec<Posted<'a>>, AllocError>
+    requires { list_all spec.is_plain postings.now ≡ true }
+    ensures { IfOk result (λ posted. AreAsWritten (reverse postings.now) posted.items) }
+{
+    let mut posted = Vec::with_capacity(alloc, postings.len())?;
+    for index in 0..postings.len() {
+        posted.push(posted_as_written(index, &postings[index]))?;
+    }
+    Ok(posted)
+}
+
+/// Tries a transaction whose postings are all booked as they are written. They are its lines, which
+/// lack nothing, so one weighing tells whether it is too wide and whether it balances.
+pub(crate) fn try_plain<'a>(
+    alloc: Global,
+    scales: &mut Scales<'a>,
+    head: Head,
+    postings: &[Posting<'a>],
+) -> Result<Tried<'a>, Stop>
+    requires plain { list_all spec.is_plain postings.now ≡ true }
+    requires inside { is_outside postings.now ≡ false }
+    ensures tried { (s : Setting) → s.head ≡ head → TriesOrLacks s postings.now result }
+    ensures balances { IfOk result (KnowsBalance postings.now) }
+{
+    let posted = as_written(alloc, postings)?;
+    match judge(scales, postings, posted.as_slice()) {
+        Ok(balances) => Ok(Tried {
+            posted: List::new(posted),
+            balances: Some(balances),
+        }),
+        Err(fault) => Err(stop_of(CompletionFault::Weighing(fault), head.line)),
+    }
+}

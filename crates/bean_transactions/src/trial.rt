@@ -1,0 +1,105 @@
+//! Transactions that are tried: nothing is booked until all of one is known.
+ghost use Rattle.std.specs.Prelude.{◌≡◌, ◌≤◌, ◌^◌, IfOk, IfErr, length};
+ghost use Rattle.std.specs.List.{AllByRecursion};
+ghost use Rattle.bean_interp.specs.Balance.{is_balanced};
+ghost use Rattle.bean_interp.specs.Residual.{IsLight};
+ghost use Rattle.bean_transactions.specs.Holdings.{IsBounded, additions_in};
+ghost use Rattle.bean_transactions.specs.Lined.{Setting};
+ghost use Rattle.bean_transactions.specs.Lines.{IsSettled};
+ghost use Rattle.bean_transactions.specs.Outcome.{StopsAt};
+ghost use Rattle.bean_transactions.specs.Tried as spec;
+ghost use Rattle.bean_transactions.specs.Tried.{IsCompleted, KnowsBalance, LacksOrIsWide, TriesOrLacks};
+
+use crate::completed::completed;
+use crate::holdings::Holdings;
+use crate::legs::{judge, legs_of};
+use crate::line::{Line, Posted, Tried};
+use crate::lines::line_up;
+use crate::methods::Methods;
+use crate::plain::{are_plain, try_plain};
+use crate::setting::Head;
+use crate::stop::{LineFault, Stop, stop_of};
+use bean_base::{FaultKind, List};
+use bean_interp::{Scales, WeighFault};
+use bean_postings::Posting;
+use std::alloc::{AllocError, Global};
+
+fn are_outside_profile(postings: &[Posting<'_>]) -> bool
+    ensures { result ≡ spec.is_outside postings.now }
+{
+    postings.iter().any(|posting| posting.is_outside_profile())
+}
+
+/// The postings that lines are booked as, once what they lack is filled in.
+fn complete<'a>(
+    alloc: Global,
+    scales: &mut Scales<'a>,
+    head: Head,
+    postings: &[Posting<'a>],
+    lines: Vec<Line<'a>>,
+) -> Result<Tried<'a>, Stop>
+    ensures ok { IfOk result (λ t. IsCompleted postings.now lines.entry.items t.posted) }
+    ensures balances { IfOk result (KnowsBalance postings.now) }
+    ensures err { IfErr result
+        (StopsAt (LacksOrIsWide head.line (spec.legs_of postings.now lines.entry.items))) }
+{
+    let legs = legs_of(alloc, postings, &lines)?;
+    match scales.complete(alloc, &legs) {
+        Ok(fills) => {
+            let posted = completed(alloc, fills.as_slice(), lines)?;
+            Ok(Tried {
+                posted: List::new(posted),
+                balances: None,
+            })
+        }
+        Err(fault) => Err(stop_of(fault, head.line)),
+    }
+}
+
+/// The postings that a transaction is booked as, or its first fault. Nothing that is held is
+/// changed. Where all are booked as they are written, it is known as well whether they balance.
+pub fn try_transaction<'a>(
+    alloc: Global,
+    holdings: &Holdings<'a>,
+    methods: &Methods<'a>,
+    scales: &mut Scales<'a>,
+    head: Head,
+    postings: &[Posting<'a>],
+) -> Result<Tried<'a>, Stop>
+    requires bounded { IsBounded holdings.now }
+    requires few { additions_in holdings.now ≤ 2 ^ 40 }
+    ensures tried { (s : Setting) → IsSettled s holdings.now methods.now head
+        → TriesOrLacks s postings.now result }
+    ensures balances { IfOk result (KnowsBalance postings.now) }
+{
+    if are_outside_profile(postings) {
+        return Err(Stop::Fault(LineFault {
+            kind: FaultKind::OutsideProfile,
+            line: head.line,
+        }));
+    }
+    if are_plain(postings) {
+        return try_plain(alloc, scales, head, postings);
+    }
+    match line_up(alloc, holdings, methods, head, postings) {
+        Ok(lines) => complete(alloc, scales, head, postings, lines.into_vec()),
+        Err(stop) => Err(stop),
+    }
+}
+
+/// Whether a transaction balances by the postings that it is booked as.
+pub fn balances<'a>(
+    scales: &mut Scales<'a>,
+    postings: &[Posting<'a>],
+    posted: &[Posted<'a>],
+) -> Result<bool, AllocError>
+    requires few { length posted.now ≤ 10 ^ 9 }
+    requires light { AllByRecursion IsLight (spec.booked_legs postings.now posted.now) }
+    ensures { IfOk result (λ b. b ≡ is_balanced (spec.booked_legs postings.now posted.now)) }
+{
+    match judge(scales, postings, posted) {
+        Ok(balances) => Ok(balances),
+        Err(WeighFault::OutOfMemory) => Err(AllocError),
+        Err(WeighFault::TooWide) => unreachable!(),
+    }
+}

@@ -1,5 +1,0 @@
-use Rattle.bean_trial.proofs.EachTrial as lemmas
-use Rattle.bean_trial.proofs.laws.each_transaction_is_tried.Goals as goal
-
-pub returns : goal.returns
-returns c = lemmas.none_is_left

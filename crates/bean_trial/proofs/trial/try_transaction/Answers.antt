@@ -1,4 +1,0 @@
-use Rattle.bean_trial.proofs.trial.try_transaction.Goals as goal
-
-pub returns-then-are_plain-clause-tried : goal.returns-then-are_plain-clause-tried
-returns-then-are_plain-clause-tried c = λ s is. c.try_plain.ensures.tried s is.head_is

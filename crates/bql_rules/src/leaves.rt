@@ -1,0 +1,30 @@
+//! The shapes of expressions without parts.
+ghost use Rattle.std.specs.Prelude.{◌≡◌};
+ghost use Rattle.bql_rules.specs.Rules as rule;
+ghost use Rattle.query_columns.specs.ColumnShape.{AreBounds};
+
+use bean_base::Bounds;
+use bql_tree::Leaf;
+use query_columns::column_shape;
+use query_shapes::rules::whole;
+use query_shapes::{Misfit, Shape};
+
+/// The shape of an expression without parts. A NULL has none of its own.
+pub fn leaf_shape(bounds: &Bounds, leaf: &Leaf<'_>) -> Result<Shape, Misfit>
+    requires { AreBounds bounds.now }
+    ensures { result ≡ rule.leaf_shape bounds.now leaf.now }
+{
+    match leaf {
+        Leaf::Column(column) => Ok(column_shape(bounds, *column)),
+        Leaf::Null => Err(Misfit::Kind),
+        Leaf::Number(number) => Ok(Shape::Number {
+            places: number.places,
+            most: number.count.unsigned_abs(),
+        }),
+        Leaf::TooWide(_) => Err(Misfit::TooWide),
+        Leaf::Text(_) | Leaf::Meta(_, _) => Ok(Shape::Text),
+        Leaf::Day(_) => Ok(Shape::Day),
+        Leaf::Truth(_) | Leaf::HasAccount(_) => Ok(Shape::Truth),
+        Leaf::Rows => Ok(whole(bounds.postings as u128)),
+    }
+}
