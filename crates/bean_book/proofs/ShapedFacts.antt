@@ -15,7 +15,7 @@ use Rattle.bean_base.specs.declared.amounts.Amount.{Amount}
 use Rattle.bean_base.specs.declared.num.Num.{Num}
 use Rattle.bean_grammar.specs.declared.mark.Mark.{Mark}
 use Rattle.bean_grammar.specs.declared.mark.Mark.TheVariants.{Tag, Link}
-use Rattle.bean_grammar.specs.declared.metadata.Entry as grammar
+use Rattle.bean_grammar.specs.declared.metadata.MetaEntry as grammar
 use Rattle.bean_grammar.specs.declared.metadata.Value.{Value}
 use Rattle.bean_grammar.specs.declared.metadata.Value.TheVariants as value
 use Rattle.bean_postings.specs.declared.posting.Posting.{Posting}
@@ -82,7 +82,7 @@ short_value (value.Amount a) h =
     ≡ length (num_text a.number) + (1 + length a.currency) = omega arith in e) in
     omega (arith, number, e, h)
 
-short_items : (es : List grammar.Entry) → AllByRecursion IsShortEntry es → AreShort (items_of es)
+short_items : (es : List grammar.MetaEntry) → AllByRecursion IsShortEntry es → AreShort (items_of es)
 short_items es h =
     all_mapped IsShortEntry (λ item. IsShortIfThere item.text) item_of
     (λ e k. short_value e.value k.1) es h

@@ -2,7 +2,7 @@
 use Rattle.std.specs.Prelude.{ℕ, List, ◌++◌, Bool, true, false, codes, map, Option, Some, None}
 use Rattle.bean_base.specs.declared.amounts.Amount.{Amount}
 use Rattle.bean_base.specs.declared.num.Num.{Num}
-use Rattle.bean_grammar.specs.declared.metadata.Entry.{Entry}
+use Rattle.bean_grammar.specs.declared.metadata.MetaEntry.{MetaEntry}
 use Rattle.bean_grammar.specs.declared.metadata.Value.{Value}
 use Rattle.bean_grammar.specs.declared.metadata.Value.TheVariants as value
 use Rattle.posting_table.specs.declared.metadata.MetaItem.{MetaItem}
@@ -31,8 +31,8 @@ text_of (value.Truth truth) = Some (truth_text truth)
 text_of (value.Number n) = Some (num_text n)
 text_of (value.Amount a) = Some (amount_text a)
 
-abbrev pub item_of : Entry → MetaItem
+abbrev pub item_of : MetaEntry → MetaItem
 item_of e = record { key = e.key; text = text_of e.value }
 
-abbrev pub items_of : List Entry → List MetaItem
+abbrev pub items_of : List MetaEntry → List MetaItem
 items_of es = map item_of es

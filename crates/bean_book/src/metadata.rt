@@ -6,7 +6,7 @@ ghost use Rattle.number_texts.specs.Digits.{day_text};
 ghost use Rattle.bean_book.specs.Metadata as spec;
 
 use bean_base::{Amount, Day, Num, Slice};
-use bean_grammar::{Entry, Value};
+use bean_grammar::{MetaEntry, Value};
 use number_texts::{push_day, push_number};
 use posting_table::{MetaItem, Metadata, PlainText};
 use std::alloc::{AllocError, Global};
@@ -77,7 +77,7 @@ fn text_of<'a>(alloc: Global, value: &Value<'a>) -> Result<Option<PlainText<'a>>
 /// Entries as texts under their keys.
 pub(crate) fn metadata_of<'a>(
     alloc: Global,
-    entries: &[Entry<'a>],
+    entries: &[MetaEntry<'a>],
 ) -> Result<Metadata<'a>, AllocError>
     ensures { IfOk result (λ metadata. metadata ≡ spec.items_of entries.now) }
 {

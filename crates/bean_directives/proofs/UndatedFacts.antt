@@ -4,7 +4,7 @@ use Rattle.std.specs.Prelude.{codes, if◌then◌else◌}
 use Rattle.std.specs.Str.{bytes_eq}
 use Rattle.theory.specs.Form.{Reads, HasNone, made, ◌<+>◌, due}
 use Rattle.bean_grammar.proofs.AppliedFacts.{reads_first, no_first, reads_next}
-use Rattle.bean_grammar.specs.declared.metadata.Entry.{Entry}
+use Rattle.bean_grammar.specs.declared.metadata.MetaEntry.{MetaEntry}
 use Rattle.bean_grammar.specs.declared.ranged.Ranged.{Ranged}
 use Rattle.bean_grammar.specs.declared.ranged.Ranged.TheVariants.{Within}
 use Rattle.bean_grammar.specs.Lexeme.{Lexeme, begins_with_text}
@@ -31,7 +31,7 @@ reads_plugin ls n mid t rest q r =
     reads_next (made plugin_of <+> text) (due begins_with_text text) ls (plugin_of n) mid t rest
     (λ r. refl) (reads_first plugin_of text ls n mid q) r
 
-pub reads_push_entry : (ls : List Lexeme) (e : Ranged Entry) (rest : List Lexeme)
+pub reads_push_entry : (ls : List Lexeme) (e : Ranged MetaEntry) (rest : List Lexeme)
     → Reads entry ls e rest → Reads push_entry ls (push_entry_of e) rest
 reads_push_entry ls e rest r = reads_first push_entry_of entry ls e rest r
 

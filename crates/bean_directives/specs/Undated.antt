@@ -6,7 +6,7 @@ use Rattle.std.specs.Prelude.{◌≡◌, ℕ, false, List, ◌∷◌, Option, co
 use Rattle.std.specs.Str.{bytes_eq}
 use Rattle.theory.specs.Form.{Form, Is, word, made, ◌<+>◌, due}
 use Rattle.bean_lexer.specs.declared.kind.Keyword.TheVariants as keyword
-use Rattle.bean_grammar.specs.declared.metadata.Entry.{Entry}
+use Rattle.bean_grammar.specs.declared.metadata.MetaEntry.{MetaEntry}
 use Rattle.bean_grammar.specs.declared.ranged.Ranged.{Ranged}
 use Rattle.bean_grammar.specs.declared.ranged.Ranged.TheVariants.{Within}
 use Rattle.bean_grammar.specs.Lexeme.{Lexeme, Tag, Key, Keyword, begins_with_text}
@@ -60,7 +60,7 @@ pop_tag_of tag = Within (kinds.Bound (bounds.Pop (names.Tag tag)))
 abbrev pub pop_tag : Form Lexeme (Ranged UndatedKind)
 pop_tag = made pop_tag_of <+> word Tag
 
-abbrev pub push_entry_of : Ranged Entry → Ranged UndatedKind
+abbrev pub push_entry_of : Ranged MetaEntry → Ranged UndatedKind
 push_entry_of entry = ranged_map (λ e. kinds.Bound (bounds.Push (pushed.Entry e))) entry
 
 abbrev pub push_entry : Form Lexeme (Ranged UndatedKind)

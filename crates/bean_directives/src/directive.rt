@@ -5,7 +5,7 @@ use crate::notes::{Custom, Document, Event, Note, Query};
 use crate::numbers::{Balance, Commodity, Price};
 use crate::transaction::Transaction;
 use bean_base::{Apart, Day, Few};
-use bean_grammar::Entry;
+use bean_grammar::MetaEntry;
 
 /// What a directive does. What few directives have, and is large, lies apart.
 #[derive(Debug, Drop)]
@@ -32,6 +32,6 @@ pub struct Directive<'a> {
     pub line: usize,
     /// Its own entries in the order in which they are written, then those that are pushed to it,
     /// the latest push first. The first entry of a key stands.
-    pub metadata: Few<Entry<'a>>,
+    pub metadata: Few<MetaEntry<'a>>,
     pub kind: DirectiveKind<'a>,
 }

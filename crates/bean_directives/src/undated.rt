@@ -9,7 +9,7 @@ use bean_base::Text;
 use bean_grammar::entry::entry;
 use bean_grammar::front::{after_key, after_tag, next};
 use bean_grammar::literal::{text, text_if_due};
-use bean_grammar::{Entry, Ranged};
+use bean_grammar::{MetaEntry, Ranged};
 use bean_lexer::{Keyword, Kind, MetaKey, Tag, Token};
 
 /// What a ledger says of itself, and which other texts belong to it.
@@ -35,7 +35,7 @@ pub struct Setting<'a> {
 #[derive(Debug, Drop)]
 pub enum Pushed<'a> {
     Tag(Tag<'a>),
-    Entry(Entry<'a>),
+    MetaEntry(MetaEntry<'a>),
 }
 
 /// What a pop takes back: a tag, or the entry of a key.
@@ -135,12 +135,12 @@ fn pop_tag<'t, 'a>(tokens: &'t [Token<'a>]) -> Option<(Ranged<UndatedKind<'a>>, 
     Some((Ranged::Within(pop), rest))
 }
 
-fn push_entry_of<'a>(entry: Ranged<Entry<'a>>) -> Ranged<UndatedKind<'a>>
+fn push_entry_of<'a>(entry: Ranged<MetaEntry<'a>>) -> Ranged<UndatedKind<'a>>
     ensures { result ≡ rule.push_entry_of entry.entry }
 {
     match entry {
         Ranged::Within(entry) => {
-            Ranged::Within(UndatedKind::Bound(Bound::Push(Pushed::Entry(entry))))
+            Ranged::Within(UndatedKind::Bound(Bound::Push(Pushed::MetaEntry(entry))))
         }
         Ranged::Outside => Ranged::Outside,
     }

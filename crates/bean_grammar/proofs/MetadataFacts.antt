@@ -12,7 +12,7 @@ use Rattle.bean_base.specs.declared.num.Num.{Num}
 use Rattle.bean_lexer.specs.declared.kind.Kind.{Kind}
 use Rattle.bean_grammar.specs.declared.metadata.Value as values
 use Rattle.bean_grammar.specs.declared.metadata.Value.TheVariants as value_kind
-use Rattle.bean_grammar.specs.declared.metadata.Entry.{Entry}
+use Rattle.bean_grammar.specs.declared.metadata.MetaEntry.{MetaEntry}
 use Rattle.bean_grammar.specs.declared.ranged.Ranged.{Ranged}
 use Rattle.bean_grammar.specs.declared.ranged.Ranged.TheVariants.{Within, Outside}
 use Rattle.bean_grammar.specs.Amount.{currency_if_due}
@@ -230,7 +230,7 @@ one_all_values =
 
 -- Entries.
 
-abbrev keyed : Form Lexeme (Option (Ranged values.Value) → Ranged Entry)
+abbrev keyed : Form Lexeme (Option (Ranged values.Value) → Ranged MetaEntry)
 keyed = made entry_of <+> word Key
 
 key_told : Tells begins_with_key (word Key)

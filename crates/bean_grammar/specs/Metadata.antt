@@ -10,7 +10,7 @@ use Rattle.bean_lexer.specs.declared.kind.Keyword as keywords
 use Rattle.bean_lexer.specs.declared.kind.Keyword.TheVariants as keyword
 use Rattle.bean_grammar.specs.declared.metadata.Value as values
 use Rattle.bean_grammar.specs.declared.metadata.Value.TheVariants as value_kind
-use Rattle.bean_grammar.specs.declared.metadata.Entry.{Entry}
+use Rattle.bean_grammar.specs.declared.metadata.MetaEntry.{MetaEntry}
 use Rattle.bean_grammar.specs.declared.ranged.Ranged.{Ranged}
 use Rattle.bean_grammar.specs.declared.ranged.Ranged.TheVariants.{Within}
 use Rattle.bean_grammar.specs.Amount.{currency_if_due}
@@ -79,13 +79,13 @@ with_value vs v = ranged_map2 snoc vs v
 abbrev pub all_values : Form Lexeme (Ranged (List values.Value))
 all_values = row is_more (made (Within [])) (λ vs. vs) value with_value
 
-abbrev pub entry_with : List ℕ → values.Value → Entry
+abbrev pub entry_with : List ℕ → values.Value → MetaEntry
 entry_with key value = record { key = key; value = value }
 
 -- a value that isn't written is nothing
-abbrev pub entry_of : List ℕ → Option (Ranged values.Value) → Ranged Entry
+abbrev pub entry_of : List ℕ → Option (Ranged values.Value) → Ranged MetaEntry
 entry_of key (Some v) = ranged_map (entry_with key) v
 entry_of key None = Within (entry_with key value_kind.Nothing)
 
-abbrev pub entry : Form Lexeme (Ranged Entry)
+abbrev pub entry : Form Lexeme (Ranged MetaEntry)
 entry = made entry_of <+> word Key <+> due is_more value

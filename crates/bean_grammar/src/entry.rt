@@ -13,7 +13,7 @@ use crate::amount::currency_if_due;
 use crate::expression::expression;
 use crate::front::{after_key, behind_sign, next};
 use crate::literal::{between_quotes, day_of};
-use crate::metadata::{Entry, Value};
+use crate::metadata::{MetaEntry, Value};
 use crate::ranged::Ranged;
 use bean_base::{Account, Amount, Currency, Day, List, Num, Text};
 use bean_lexer::{Keyword, Kind, MetaKey, Tag, Token};
@@ -125,18 +125,18 @@ pub fn all_values<'a>(
     }
 }
 
-fn entry_of<'a>(key: MetaKey<'a>, value: Ranged<Value<'a>>) -> Ranged<Entry<'a>>
+fn entry_of<'a>(key: MetaKey<'a>, value: Ranged<Value<'a>>) -> Ranged<MetaEntry<'a>>
     ensures { result ≡ ranged_map (rule.entry_with key.entry) value.entry }
 {
     match value {
-        Ranged::Within(value) => Ranged::Within(Entry { key, value }),
+        Ranged::Within(value) => Ranged::Within(MetaEntry { key, value }),
         Ranged::Outside => Ranged::Outside,
     }
 }
 
 /// The entry at the front, whose value is nothing where no more stands behind its key, and what
 /// stands behind it.
-pub fn entry<'t, 'a>(tokens: &'t [Token<'a>]) -> Option<(Ranged<Entry<'a>>, &'t [Token<'a>])>
+pub fn entry<'t, 'a>(tokens: &'t [Token<'a>]) -> Option<(Ranged<MetaEntry<'a>>, &'t [Token<'a>])>
     ensures read { MatchOption result (HasNone rule.entry (lexemes tokens.now))
         (λ r. Reads rule.entry (lexemes tokens.now) r.0 (lexemes r.1.now)) }
     ensures shorter { IfSome result (λ r. length r.1.now < length tokens.now) }
@@ -144,7 +144,7 @@ pub fn entry<'t, 'a>(tokens: &'t [Token<'a>]) -> Option<(Ranged<Entry<'a>>, &'t 
     let (key, rest) = after_key(tokens)?;
     let Some(_) = next(rest) else {
         let value = Value::Nothing;
-        return Some((Ranged::Within(Entry { key, value }), rest));
+        return Some((Ranged::Within(MetaEntry { key, value }), rest));
     };
     let (value, rest) = value(rest)?;
     Some((entry_of(key, value), rest))

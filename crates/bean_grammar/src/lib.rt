@@ -34,5 +34,5 @@ mod ranged;
 
 pub use amount::AmountParts;
 pub use mark::Mark;
-pub use metadata::{Entry, Value};
+pub use metadata::{MetaEntry, Value};
 pub use ranged::Ranged;

@@ -39,17 +39,17 @@ impl<'a> Value<'a> {
 
 /// A metadata entry.
 #[derive(Debug, Drop)]
-pub struct Entry<'a> {
+pub struct MetaEntry<'a> {
     pub key: MetaKey<'a>,
     pub value: Value<'a>,
 }
 
-impl<'a> Entry<'a> {
+impl<'a> MetaEntry<'a> {
     /// The same entry once more.
-    pub fn lend(&self) -> Entry<'a>
+    pub fn lend(&self) -> MetaEntry<'a>
         ensures { result ≡ self.now }
     {
-        Entry {
+        MetaEntry {
             key: self.key.lend(),
             value: self.value.lend(),
         }

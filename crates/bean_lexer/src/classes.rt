@@ -50,9 +50,9 @@ impl ByteClass for InCurrency {
 }
 
 /// What neither ends a text nor escapes.
-pub struct PlainText;
+pub struct InText;
 
-impl ByteClass for PlainText {
+impl ByteClass for InText {
     ghost holds = { is_plain };
 
     fn has(b: u8) -> bool {

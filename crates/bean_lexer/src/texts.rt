@@ -5,7 +5,7 @@ ghost use Rattle.bean_base.specs.Character.{quote};
 ghost use Rattle.bean_lexer.specs.TokenForm.{is_text, is_escape};
 ghost use Rattle.bean_lexer.specs.Tokens.{IsToken, text_reach};
 
-use crate::classes::PlainText;
+use crate::classes::InText;
 use crate::found::Found;
 use crate::kind::Kind;
 use byte_runs::end_of_run;
@@ -56,7 +56,7 @@ fn text_reach(bytes: &[u8]) -> Reach
     let mut len = 1;
     let mut escapes_known = true;
     'pieces: loop {
-        let end = end_of_run::<PlainText>(bytes, len);
+        let end = end_of_run::<InText>(bytes, len);
         if end == bytes.len() {
             return Reach {
                 len: end,

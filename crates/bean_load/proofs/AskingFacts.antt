@@ -9,11 +9,11 @@ use Rattle.bean_load.specs.Gathered.{Gathered, is_too_large, with_asked}
 use Rattle.bean_load.specs.declared.fault.LoadFault.{LoadFault}
 use Rattle.bean_load.specs.declared.fault.LoadFault.TheVariants.{Unreadable, NotUtf8, TooLarge}
 use Rattle.bean_load.specs.declared.fault.LoadFault.TheVariants.{OutOfMemory}
-use Rattle.bean_load.specs.declared.gathering.Asked.{Asked}
+use Rattle.bean_load.specs.declared.gathering.SourceAnswer.{SourceAnswer}
 
 pub lacking :
     {S : Type 0} (s : SourceOf S) (a b : S) (name : List ℕ) (before after : Gathered)
-    (readings : List Reading) (result : Result Asked LoadFault)
+    (readings : List Reading) (result : Result SourceAnswer LoadFault)
     → Gave s a b readings → IsErrAnd result (λ fault. fault ≡ OutOfMemory)
     → Asks s a b name before after result
 lacking s a b name before after readings (Ok x) gave h = absurd h
@@ -22,7 +22,7 @@ lacking s a b name before after readings (Err fault) gave h =
 
 pub too_large :
     {S : Type 0} (s : SourceOf S) (a b : S) (name : List ℕ) (before mid after : Gathered)
-    (bytes : List ℕ) (n : ℕ) (fault : LoadFault) (result : Result Asked LoadFault)
+    (bytes : List ℕ) (n : ℕ) (fault : LoadFault) (result : Result SourceAnswer LoadFault)
     → Gave s a b ((name, Ok bytes) ∷ []) → n ≡ length bytes → mid ≡ with_asked name before
     → AddsBytes n mid after (Err fault) → IsErrAnd result (λ f. f ≡ fault)
     → Asks s a b name before after result

@@ -21,7 +21,7 @@ use Rattle.bean_load.specs.Include.{AreIncludes, Include}
 use Rattle.bean_load.specs.declared.fault.LoadFault.{LoadFault}
 use Rattle.bean_load.specs.declared.fault.LoadFault.TheVariants.{Unreadable, NotUtf8, TooLarge}
 use Rattle.bean_load.specs.declared.fault.LoadFault.TheVariants.{OutOfMemory}
-use Rattle.bean_load.specs.declared.gathering.Asked.TheVariants as asked
+use Rattle.bean_load.specs.declared.gathering.SourceAnswer.TheVariants as asked
 
 pub by_true : (b : Bool) (P Q : Type 0) → b ≡ true → P → MatchBool b P Q
 by_true b P Q is p = subst (λ (c : Bool). MatchBool c P Q) (sym is) p

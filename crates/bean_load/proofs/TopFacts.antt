@@ -17,7 +17,7 @@ use Rattle.bean_load.specs.Texts.{Texts}
 use Rattle.bean_load.specs.declared.fault.LoadFault.{LoadFault}
 use Rattle.bean_load.specs.declared.fault.LoadFault.TheVariants.{Unreadable, NotUtf8, TooLarge}
 use Rattle.bean_load.specs.declared.fault.LoadFault.TheVariants.{OutOfMemory}
-use Rattle.bean_load.specs.declared.gathering.Asked.TheVariants as asked
+use Rattle.bean_load.specs.declared.gathering.SourceAnswer.TheVariants as asked
 use Rattle.bean_load.specs.declared.gathering.TheConstants.{DEEPEST}
 use Rattle.bean_load.proofs.LineFacts.{Told, gave_more, by_true, by_false}
 

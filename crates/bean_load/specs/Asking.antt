@@ -10,8 +10,8 @@ use Rattle.stores.specs.declared.source.SourceFault.TheVariants as source
 use Rattle.bean_load.specs.Gathered.{Gathered, is_too_large, with_asked, with_bytes, with_read}
 use Rattle.bean_load.specs.declared.fault.LoadFault.{LoadFault}
 use Rattle.bean_load.specs.declared.fault.LoadFault.TheVariants.{TooLarge, OutOfMemory}
-use Rattle.bean_load.specs.declared.gathering.Asked.{Asked}
-use Rattle.bean_load.specs.declared.gathering.Asked.TheVariants.{Text, NotUtf8, Failed}
+use Rattle.bean_load.specs.declared.gathering.SourceAnswer.{SourceAnswer}
+use Rattle.bean_load.specs.declared.gathering.SourceAnswer.TheVariants.{Text, NotUtf8, Failed}
 
 -- bytes are counted where they aren't too many
 abbrev pub AddsBytes : ℕ → Gathered → Gathered → Result Unit LoadFault → Type 0
@@ -20,13 +20,13 @@ AddsBytes n before after (Err TooLarge) = is_too_large n before ≡ true
 AddsBytes n before after (Err fault) = ⊥
 
 -- the text that bytes are
-abbrev pub IsTextOf : List ℕ → Asked → Type 0
+abbrev pub IsTextOf : List ℕ → SourceAnswer → Type 0
 IsTextOf bytes (Text text) = (string_bytes text ≡ bytes) × (is_utf8 bytes ≡ true)
 IsTextOf bytes NotUtf8 = is_utf8 bytes ≡ false
 IsTextOf bytes Failed = ⊥
 
 -- an answer, and what is known behind it
-abbrev pub IsTold : List ℕ → Gathered → Result (List ℕ) SourceFault → Asked → Gathered → Type 0
+abbrev pub IsTold : List ℕ → Gathered → Result (List ℕ) SourceFault → SourceAnswer → Gathered → Type 0
 IsTold name before (Ok bytes) asked after =
     (is_too_large (length bytes) before ≡ false) × IsTextOf bytes asked
     × (after ≡ with_bytes name bytes before)
@@ -35,7 +35,7 @@ IsTold name before _ _ after = ⊥
 
 -- The source is asked once, and what it answers is told; L3 where it gave too much.
 abbrev pub Asks : {S : Type 0} → SourceOf S → S → S → List ℕ → Gathered → Gathered
-    → Result Asked LoadFault → Type 0
+    → Result SourceAnswer LoadFault → Type 0
 Asks s old new name before after (Ok asked) =
     (answer : Result (List ℕ) SourceFault) × Gave s old new ((name, answer) ∷ [])
     × IsTold name before answer asked after

@@ -6,7 +6,7 @@ ghost use Rattle.bean_load.specs.Gathering.{LineComes, LinesCome, TextComes};
 ghost use Rattle.bean_load.specs.Following.{Follows, Gathers, HasOneGathering};
 
 use crate::fault::LoadFault;
-use crate::gathering::{Asked, DEEPEST, Gathering};
+use crate::gathering::{DEEPEST, Gathering, SourceAnswer};
 use crate::include::{Include, includes_of};
 use crate::texts::Texts;
 use std::alloc::Global;
@@ -69,13 +69,13 @@ fn follow_line<S: Source>(
         return Err(LoadFault::TooLarge);
     }
     match gathering.ask(source, &include.name)? {
-        Asked::Text(text) => {
+        SourceAnswer::Text(text) => {
             let name = include.name.clone()?;
             follow_text(source, gathering, room - 1, name, text)?;
             gathering.add_part(file, include.line)?;
             Ok(())
         }
-        Asked::NotUtf8 | Asked::Failed => {
+        SourceAnswer::NotUtf8 | SourceAnswer::Failed => {
             gathering.add_fault(file, include.line)?;
             Ok(())
         }
@@ -88,13 +88,13 @@ pub fn gather<S: Source>(alloc: Global, source: &mut S, name: &str) -> Result<Te
 {
     let mut gathering = Gathering::new(alloc);
     match gathering.ask(source, name)? {
-        Asked::Text(text) => {
+        SourceAnswer::Text(text) => {
             let name = String::from_str(alloc, name)?;
             follow_text(source, &mut gathering, DEEPEST, name, text)?;
             Ok(gathering.texts())
         }
-        Asked::NotUtf8 => Err(LoadFault::NotUtf8),
-        Asked::Failed => Err(LoadFault::Unreadable),
+        SourceAnswer::NotUtf8 => Err(LoadFault::NotUtf8),
+        SourceAnswer::Failed => Err(LoadFault::Unreadable),
     }
 }
 

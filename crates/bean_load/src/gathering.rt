@@ -24,7 +24,7 @@ pub const DEEPEST: usize = 16;
 
 /// What the source has under a name.
 #[derive(Drop)]
-pub enum Asked {
+pub enum SourceAnswer {
     Text(String),
     NotUtf8,
     /// Nothing: it failed.
@@ -59,12 +59,12 @@ impl Model for Gathering {
 }
 
 /// The text that bytes are.
-fn text_of(bytes: Vec<u8>) -> Asked
+fn text_of(bytes: Vec<u8>) -> SourceAnswer
     ensures { IsTextOf bytes.items result }
 {
     match String::from_utf8(bytes) {
-        Ok(text) => Asked::Text(text),
-        Err(_) => Asked::NotUtf8,
+        Ok(text) => SourceAnswer::Text(text),
+        Err(_) => SourceAnswer::NotUtf8,
     }
 }
 
@@ -142,7 +142,7 @@ impl Gathering {
     }
 
     /// Asks the source for a text, which counts its name and its bytes.
-    pub fn ask<S: Source>(&mut self, source: &mut S, name: &str) -> Result<Asked, LoadFault>
+    pub fn ask<S: Source>(&mut self, source: &mut S, name: &str) -> Result<SourceAnswer, LoadFault>
         ensures { Asks S.Source source.old source.new name.now self.old self.new result }
     {
         self.add_name(name)?;
@@ -151,7 +151,7 @@ impl Gathering {
                 self.add_bytes(bytes.len())?;
                 Ok(text_of(bytes))
             }
-            Err(SourceFault::Failed) => Ok(Asked::Failed),
+            Err(SourceFault::Failed) => Ok(SourceAnswer::Failed),
             Err(SourceFault::OutOfMemory) => Err(LoadFault::OutOfMemory),
         }
     }

@@ -15,7 +15,7 @@ use Rattle.bean_lexer.specs.declared.kind.Sign.TheVariants as sign
 use Rattle.bean_lexer.specs.declared.token.Token.{Token}
 use Rattle.bean_grammar.specs.Lexeme.{Lexeme, Day, Number, Text, Account, Currency, Tag, Link, Key}
 use Rattle.bean_grammar.specs.Lexeme.{Keyword, Sign, Fault, begins_with_keyword, lexeme_of, lexemes}
-use Rattle.bean_grammar.specs.declared.metadata.Entry.{Entry}
+use Rattle.bean_grammar.specs.declared.metadata.MetaEntry.{MetaEntry}
 use Rattle.bean_grammar.specs.declared.ranged.Ranged.{Ranged}
 use Rattle.bean_grammar.specs.declared.ranged.Ranged.TheVariants.{Within, Outside}
 use Rattle.bean_grammar.specs.Ranged.{ranged_map2}
@@ -65,7 +65,7 @@ no_option k name value line h =
     ∙ option_gives (bytes_eq name (codes "title")) (bytes_eq name (codes "operating_currency"))
     (bytes_eq name (codes "booking_method")) value line
 
-no_entry : (k : UndatedKind) (e : Ranged Entry) (line : ℕ) → Within k ≡ push_entry_of e
+no_entry : (k : UndatedKind) (e : Ranged MetaEntry) (line : ℕ) → Within k ≡ push_entry_of e
     → include_of line k ≡ None
 no_entry k (Within e) line h = ap (include_of line) (within_is k _ h)
 no_entry k Outside line h = cc

@@ -8,7 +8,7 @@ use Rattle.bean_base.specs.declared.flags.Flag.TheVariants.{Complete, Incomplete
 use Rattle.bean_lexer.specs.declared.token.Token.{Token}
 use Rattle.bean_grammar.specs.declared.mark.Mark.{Mark}
 use Rattle.bean_grammar.specs.declared.mark.Mark.TheVariants as mark
-use Rattle.bean_grammar.specs.declared.metadata.Entry.{Entry}
+use Rattle.bean_grammar.specs.declared.metadata.MetaEntry.{MetaEntry}
 use Rattle.bean_postings.specs.declared.posting.Posting.{Posting}
 use Rattle.bean_grammar.specs.declared.ranged.Ranged.{Ranged}
 use Rattle.bean_grammar.specs.Lexeme.{Lexeme, Account, lexemes, begins_with_key}
@@ -60,7 +60,7 @@ both b e f = cc
 pub no_entry_line : (ls : List Lexeme) → HasNone entry ls → IsNone entry ls
 no_entry_line ls none = none_whole entry ls refl none
 
-pub more_than_entry : (ls : List Lexeme) (v : Ranged Entry) (l : Lexeme) (rest more : List Lexeme)
+pub more_than_entry : (ls : List Lexeme) (v : Ranged MetaEntry) (l : Lexeme) (rest more : List Lexeme)
     → Reads entry ls v rest → rest ≡ l ∷ more → IsNone entry ls
 more_than_entry ls v l rest more r at =
     more_than_whole entry ls v l more refl (subst (λ m. Reads entry ls v m) at r)

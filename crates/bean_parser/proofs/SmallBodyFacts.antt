@@ -5,7 +5,7 @@ use Rattle.std.proofs.Common.{None, IfSome, arith, ap, refl, length-append}
 use Rattle.std.specs.List.{AllByRecursion}
 use Rattle.theory.specs.Cut.{cut_before}
 use Rattle.bean_lexer.specs.declared.token.Token.{Token}
-use Rattle.bean_grammar.specs.declared.metadata.Entry.{Entry}
+use Rattle.bean_grammar.specs.declared.metadata.MetaEntry.{MetaEntry}
 use Rattle.bean_postings.specs.declared.posting.Posting.{Posting}
 use Rattle.bean_grammar.specs.declared.ranged.Ranged.TheVariants.{Within, Outside}
 use Rattle.bean_grammar.specs.Mark.{some_marks}
@@ -76,7 +76,7 @@ pub record IsSmallBody (b : Body) : Type 0 where
   pub before : AllByRecursion IsSmallPosting b.before
   pub last : IfSome b.last IsSmallPosting
 
-under_small : (p : Posting) (e : Entry) → IsSmallPosting p → IsShortEntry e
+under_small : (p : Posting) (e : MetaEntry) → IsSmallPosting p → IsShortEntry e
     → IsSmallPosting (under_posting p e)
 under_small p e h k =
     record {
@@ -88,7 +88,7 @@ under_small p e h k =
       metadata = all_pushed IsShortEntry p.details.metadata e h.metadata k;
     }
 
-entry_small : (b : Body) (o : Option Posting) (e : Entry) → IsSmallBody b → IfSome o IsSmallPosting
+entry_small : (b : Body) (o : Option Posting) (e : MetaEntry) → IsSmallBody b → IfSome o IsSmallPosting
     → IsShortEntry e → IsSmallBody (with_entry b o e)
 entry_small b None e h p k =
     record {
@@ -166,7 +166,7 @@ body_small t ls ks all are =
 
 -- Tags and links.
 
-entry_marks : (b : Body) (o : Option Posting) (e : Entry) → (with_entry b o e).marks ≡ b.marks
+entry_marks : (b : Body) (o : Option Posting) (e : MetaEntry) → (with_entry b o e).marks ≡ b.marks
 entry_marks b None e = refl
 entry_marks b (Some p) e = refl
 
@@ -200,7 +200,7 @@ body_marks t ls ks are = let m = lines_marks t ls ks no_lines are in omega arith
 
 -- Postings.
 
-entry_postings : (b : Body) (o : Option Posting) (e : Entry) → b.last ≡ o
+entry_postings : (b : Body) (o : Option Posting) (e : MetaEntry) → b.last ≡ o
     → length (postings_in (with_entry b o e)) ≡ length (postings_in b)
 entry_postings b None e is = refl
 entry_postings b (Some p) e is =

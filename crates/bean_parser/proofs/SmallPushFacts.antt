@@ -3,7 +3,7 @@ use Rattle.std.proofs.Common.{ℕ, suc, ◌+◌, ◌≤◌, Bool, true, false, c
 use Rattle.std.proofs.Common.{[], ◌∷◌, ◌++◌, length, Option, Some, None, arith, length-append}
 use Rattle.std.specs.List.{AllByRecursion, flat_map}
 use Rattle.bean_grammar.specs.declared.mark.Mark.TheVariants as mark
-use Rattle.bean_grammar.specs.declared.metadata.Entry.{Entry}
+use Rattle.bean_grammar.specs.declared.metadata.MetaEntry.{MetaEntry}
 use Rattle.bean_directives.specs.declared.directive.Directive.{Directive}
 use Rattle.bean_directives.specs.declared.directive.DirectiveKind.{DirectiveKind}
 use Rattle.bean_directives.specs.declared.directive.DirectiveKind.TheVariants as kinds
@@ -59,7 +59,7 @@ tag_marks tag (kinds.Transaction t) =
     let e = length-append t.marks (mark.Tag tag ∷ []) in omega arith
 tag_marks tag _ = omega arith
 
-entries_short : (k : DirectiveKind) (es : List Entry) (e : Entry) → AllByRecursion IsShortEntry es
+entries_short : (k : DirectiveKind) (es : List MetaEntry) (e : MetaEntry) → AllByRecursion IsShortEntry es
     → IsShortEntry e → AllByRecursion IsShortEntry (entries_with k es e)
 entries_short (kinds.Transaction t) es e h s = all_pushed IsShortEntry es e h s
 entries_short _ es e h s = h

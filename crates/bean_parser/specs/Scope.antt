@@ -5,7 +5,7 @@ use Rattle.std.specs.Str.{bytes_eq}
 use Rattle.bean_base.specs.declared.fault.Fault as faults
 use Rattle.bean_base.specs.declared.fault.FaultKind.TheVariants.{UnmatchedPushOrPop}
 use Rattle.bean_grammar.specs.declared.mark.Mark.TheVariants as mark
-use Rattle.bean_grammar.specs.declared.metadata.Entry.{Entry}
+use Rattle.bean_grammar.specs.declared.metadata.MetaEntry.{MetaEntry}
 use Rattle.bean_parser.specs.Outcome.{fault_at}
 use Rattle.bean_directives.specs.declared.directive.Directive.{Directive}
 use Rattle.bean_directives.specs.declared.directive.DirectiveKind.{DirectiveKind}
@@ -94,7 +94,7 @@ with_tag tag (kinds.Transaction t) =
     kinds.Transaction record t { marks = t.marks ++ mark.Tag tag ∷ [] }
 with_tag tag kind = kind
 
-abbrev pub entries_with : DirectiveKind → List Entry → Entry → List Entry
+abbrev pub entries_with : DirectiveKind → List MetaEntry → MetaEntry → List MetaEntry
 entries_with (kinds.Transaction t) entries e = entries ++ e ∷ []
 entries_with kind entries e = entries
 

@@ -6,7 +6,7 @@ use Rattle.bean_postings.specs.declared.cost.Cost.TheVariants.{Lot}
 use Rattle.bean_postings.specs.declared.cost.LotParts.{LotParts}
 use Rattle.bean_grammar.specs.declared.mark.Mark as marks
 use Rattle.bean_grammar.specs.declared.mark.Mark.TheVariants as mark
-use Rattle.bean_grammar.specs.declared.metadata.Entry.{Entry}
+use Rattle.bean_grammar.specs.declared.metadata.MetaEntry.{MetaEntry}
 use Rattle.bean_grammar.specs.declared.metadata.Value as values
 use Rattle.bean_grammar.specs.declared.metadata.Value.TheVariants as value
 use Rattle.bean_postings.specs.declared.posting.Posting.{Posting}
@@ -40,7 +40,7 @@ IsShortValue (value.Tag name) = IsShort name
 IsShortValue (value.Amount amount) = IsShortCurrency amount.currency
 IsShortValue v = Unit {0}
 
-abbrev pub IsShortEntry : Entry → Type 0
+abbrev pub IsShortEntry : MetaEntry → Type 0
 IsShortEntry e = IsShort e.key × IsShortValue e.value
 
 abbrev pub AreShortUnits : units_declared.Units → Type 0

@@ -1,7 +1,7 @@
 -- The lines under a directive's first one, and what each adds to those above it.
 use Rattle.std.specs.Prelude.{◌≡◌, Bool, true, false, List, [], ◌∷◌, ◌++◌, Option, Some, None}
 use Rattle.theory.specs.Form.{Is}
-use Rattle.bean_grammar.specs.declared.metadata.Entry.{Entry}
+use Rattle.bean_grammar.specs.declared.metadata.MetaEntry.{MetaEntry}
 use Rattle.bean_postings.specs.declared.posting.Posting.{Posting}
 use Rattle.bean_grammar.specs.declared.ranged.Ranged.TheVariants.{Within, Outside}
 use Rattle.bean_postings.specs.Details as below
@@ -31,11 +31,11 @@ AreLines in_transaction (l ∷ ls) (k ∷ ks) =
 abbrev pub no_lines : Body
 no_lines = record { metadata = []; marks = []; before = []; last = None; is_in_range = true }
 
-abbrev pub under_posting : Posting → Entry → Posting
+abbrev pub under_posting : Posting → MetaEntry → Posting
 under_posting p e = record p { details = below.with_entry p.details e }
 
 -- an entry belongs to the posting above it, or to the directive where no posting precedes
-abbrev pub with_entry : Body → Option Posting → Entry → Body
+abbrev pub with_entry : Body → Option Posting → MetaEntry → Body
 with_entry b None e = record b { metadata = b.metadata ++ e ∷ [] }
 with_entry b (Some p) e = record b { last = Some (under_posting p e) }
 

@@ -10,7 +10,7 @@ use crate::block::fault_at;
 use crate::matches::Opens;
 use bean_base::{Fault, FaultKind, Few};
 use bean_directives::{Bound, Directive, DirectiveKind, Pushed};
-use bean_grammar::{Entry, Mark};
+use bean_grammar::{Mark, MetaEntry};
 use bean_lexer::Tag;
 use std::alloc::{AllocError, Global};
 
@@ -89,9 +89,9 @@ fn give_tag<'a>(
 /// Gives an entry to a transaction.
 fn give_entry<'a>(
     alloc: Global,
-    entry: &Entry<'a>,
+    entry: &MetaEntry<'a>,
     kind: &DirectiveKind<'a>,
-    entries: &mut Few<Entry<'a>>,
+    entries: &mut Few<MetaEntry<'a>>,
 ) -> Result<(), AllocError>
     ensures { OnOk result (entries.new ≡ spec.entries_with kind.now entries.old entry.now) }
 {
@@ -111,7 +111,7 @@ fn give<'a>(
 {
     match pushed {
         Pushed::Tag(tag) => give_tag(alloc, tag, &mut directive.kind),
-        Pushed::Entry(entry) => {
+        Pushed::MetaEntry(entry) => {
             give_entry(alloc, entry, &directive.kind, &mut directive.metadata)
         }
     }

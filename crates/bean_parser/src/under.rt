@@ -13,7 +13,7 @@ use bean_base::{Few, List};
 use bean_grammar::entry::entry;
 use bean_grammar::front::{after_key, after_link, after_tag, next};
 use bean_grammar::mark::line_of_marks;
-use bean_grammar::{Entry, Mark, Ranged};
+use bean_grammar::{Mark, MetaEntry, Ranged};
 use bean_lexer::{Kind, Token};
 use bean_postings::Posting;
 use bean_postings::posting_line::posting;
@@ -22,7 +22,7 @@ use std::alloc::{AllocError, Global};
 /// What a line says.
 #[derive(Debug, Drop)]
 pub enum LineKind<'a> {
-    Entry(Ranged<Entry<'a>>),
+    MetaEntry(Ranged<MetaEntry<'a>>),
     Marks(List<Mark<'a>>),
     Posting(Ranged<Posting<'a>>),
 }
@@ -31,7 +31,7 @@ pub enum LineKind<'a> {
 #[derive(Debug, Drop)]
 pub struct Body<'a> {
     /// The entries above all postings.
-    pub metadata: Few<Entry<'a>>,
+    pub metadata: Few<MetaEntry<'a>>,
     pub marks: List<Mark<'a>>,
     /// The postings but the last.
     pub before: List<Posting<'a>>,
@@ -59,7 +59,7 @@ fn begins_with_mark(line: &[Token<'_>]) -> bool
 }
 
 /// The entry that a line is.
-fn entry_line<'a>(line: &[Token<'a>]) -> Option<Ranged<Entry<'a>>>
+fn entry_line<'a>(line: &[Token<'a>]) -> Option<Ranged<MetaEntry<'a>>>
     ensures { MatchOption result (IsNone metadata.entry (lexemes line.now))
         (Is metadata.entry (lexemes line.now)) }
 {
@@ -100,7 +100,7 @@ fn line_kind<'a>(
 {
     if begins_with_key(line) {
         return match entry_line(line) {
-            Some(entry) => Ok(Some(LineKind::Entry(entry))),
+            Some(entry) => Ok(Some(LineKind::MetaEntry(entry))),
             None => Ok(None),
         };
     }
@@ -125,7 +125,7 @@ impl<'a> Body<'a> {
     }
 
     /// Adds an entry.
-    fn add_entry(&mut self, alloc: Global, entry: Entry<'a>) -> Result<(), AllocError>
+    fn add_entry(&mut self, alloc: Global, entry: MetaEntry<'a>) -> Result<(), AllocError>
         ensures { OnOk result (self.new ≡ rule.with_entry self.old self.old.last entry.entry) }
     {
         match &mut self.last {
@@ -149,10 +149,10 @@ impl<'a> Body<'a> {
         ensures { OnOk result (self.new ≡ rule.with_line self.old line.entry) }
     {
         match line {
-            LineKind::Entry(Ranged::Within(entry)) => self.add_entry(alloc, entry),
+            LineKind::MetaEntry(Ranged::Within(entry)) => self.add_entry(alloc, entry),
             LineKind::Marks(marks) => self.marks.append(marks),
             LineKind::Posting(Ranged::Within(posting)) => self.add_posting(posting),
-            LineKind::Entry(Ranged::Outside) | LineKind::Posting(Ranged::Outside) => {
+            LineKind::MetaEntry(Ranged::Outside) | LineKind::Posting(Ranged::Outside) => {
                 self.is_in_range = false;
                 Ok(())
             }

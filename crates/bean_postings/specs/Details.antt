@@ -6,7 +6,7 @@ use Rattle.bean_postings.specs.declared.cost.Cost.TheVariants as cost_kind
 use Rattle.bean_postings.specs.declared.details.DetailParts.{DetailParts}
 use Rattle.bean_postings.specs.declared.details.Kept.{Kept}
 use Rattle.bean_postings.specs.declared.details.Kept.TheVariants as kept
-use Rattle.bean_grammar.specs.declared.metadata.Entry.{Entry}
+use Rattle.bean_grammar.specs.declared.metadata.MetaEntry.{MetaEntry}
 use Rattle.bean_postings.specs.declared.price.Price as prices
 use Rattle.bean_postings.specs.declared.price.Price.TheVariants as price_kind
 
@@ -28,5 +28,5 @@ pub record IsLineAlone (d : DetailParts) : Type 0 where
   pub flag : d.flag ≡ None
 
 -- with one more entry under the posting
-abbrev pub with_entry : DetailParts → Entry → DetailParts
+abbrev pub with_entry : DetailParts → MetaEntry → DetailParts
 with_entry parts e = record parts { metadata = parts.metadata ++ e ∷ [] }

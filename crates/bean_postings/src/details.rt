@@ -6,7 +6,7 @@ ghost use Rattle.bean_postings.specs.Details.{IsLineAlone};
 use crate::cost::Cost;
 use crate::price::Price;
 use bean_base::{Apart, Few, Flag};
-use bean_grammar::Entry;
+use bean_grammar::MetaEntry;
 use std::alloc::{AllocError, Global};
 use std::marker::Model;
 use std::mem::replace;
@@ -17,7 +17,7 @@ pub struct DetailParts<'a> {
     pub cost: Cost<'a>,
     pub price: Price<'a>,
     /// The entries that stand under the posting, in order.
-    pub metadata: Few<Entry<'a>>,
+    pub metadata: Few<MetaEntry<'a>>,
     /// The line on which the posting is written, from 1.
     pub line: usize,
     pub flag: Option<Flag>,
@@ -109,7 +109,7 @@ impl<'a> Details<'a> {
     }
 
     /// The entries that stand under the posting.
-    pub fn metadata(&self) -> &[Entry<'a>]
+    pub fn metadata(&self) -> &[MetaEntry<'a>]
         ensures { result.now ≡ self.now.metadata }
     {
         match &self.kept {
@@ -119,7 +119,7 @@ impl<'a> Details<'a> {
     }
 
     /// Adds an entry that stands under the posting.
-    pub fn push(&mut self, alloc: Global, entry: Entry<'a>) -> Result<(), AllocError>
+    pub fn push(&mut self, alloc: Global, entry: MetaEntry<'a>) -> Result<(), AllocError>
         ensures { OnOk result (self.new ≡ rule.with_entry self.old entry.entry) }
     {
         let mut parts = match replace(&mut self.kept, Kept::Line(0)) {

@@ -14,8 +14,8 @@ use Rattle.bql_tree.specs.Part as parts
 use Rattle.bql_tree.specs.Part.{Part}
 use Rattle.bql_tree.specs.declared.function.Scope.{Scope}
 use Rattle.bql_grammar.specs.declared.stuck.Stuck.{Stuck}
-use Rattle.bql_tree.specs.declared.tree.Binary.{Binary}
-use Rattle.bql_tree.specs.declared.tree.Binary.TheVariants as binary
+use Rattle.bql_tree.specs.declared.tree.BinaryOperator.{BinaryOperator}
+use Rattle.bql_tree.specs.declared.tree.BinaryOperator.TheVariants as binary
 use Rattle.bql_grammar.proofs.FormFacts.{IsFixed, reads_then}
 use Rattle.bql_grammar.proofs.FormFacts.{none_then_first, none_then, reads_behind, none_behind}
 use Rattle.bql_grammar.proofs.FormFacts.{none_here, reads_chosen, reads_other, none_chosen}
@@ -56,7 +56,7 @@ module _ (scope : Scope) (room : ℕ) where
   whole_none ts left mid r none = none_then s (compared_if_due room s) ts left mid (λ rest. refl)
       (λ v rest. refl) r none
 
-  pub compared_read : (ts : List Token) (left : Part) (mid : List Token) (op : Binary)
+  pub compared_read : (ts : List Token) (left : Part) (mid : List Token) (op : BinaryOperator)
       (behind : List Token) (right : Part) (rest : List Token)
       → Reads s ts left mid → front fronts.comparison mid ≡ Some (op, behind)
       → Reads s behind right rest → Reads (comparison scope room) ts (parts.two op left right) rest
@@ -69,7 +69,7 @@ module _ (scope : Scope) (room : ℕ) where
       (reads_then s (λ right. made (parts.two op left right)) behind right rest _ rest
       (λ rest. refl) (λ v rest. refl) q (reads_made (parts.two op left right) rest))))
 
-  pub compared_none : (ts : List Token) (left : Part) (mid : List Token) (op : Binary)
+  pub compared_none : (ts : List Token) (left : Part) (mid : List Token) (op : BinaryOperator)
       (behind : List Token)
       → Reads s ts left mid → front fronts.comparison mid ≡ Some (op, behind) → HasNone s behind
       → HasNone (comparison scope room) ts

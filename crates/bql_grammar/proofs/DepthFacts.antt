@@ -21,7 +21,7 @@ use Rattle.bql_tree.specs.Part.{Part}
 use Rattle.bql_tree.specs.declared.function.Scope.{Scope}
 use Rattle.bql_tree.specs.declared.level.Level.{Level}
 use Rattle.bql_tree.specs.declared.level.Level.TheVariants as level
-use Rattle.bql_tree.specs.declared.tree.Binary.{Binary}
+use Rattle.bql_tree.specs.declared.tree.BinaryOperator.{BinaryOperator}
 use Rattle.bql_grammar.proofs.ExpressionFacts.{links, another, joined, rows}
 use Rattle.bql_grammar.proofs.FormFacts.{present, absent}
 use Rattle.bql_grammar.proofs.StandingFacts.{Leads, leads_on, leads_kind, leads_operator}
@@ -100,7 +100,7 @@ faces_behind n os p q ts us leads at enough = record {
 -- Chains.
 
 pub in_chain : (l : Level) (scope : Scope) (room : ℕ) (ts : List Token) (v : Part)
-    (rest mid : List Token) (op : Binary) (e : Stuck)
+    (rest mid : List Token) (op : BinaryOperator) (e : Stuck)
     → InRow (links l (operand l scope room)) (another l (operand l scope room)) joined ts v rest
     → front (fronts.operator l) rest ≡ Some (op, mid)
     → IsInside (bound l) room mid e → IsInside (bound l) room ts e
@@ -229,7 +229,7 @@ module _ (scope : Scope) (room : ℕ) (ts : List Token) (v : Part) (mid : List T
         enough = ap (λ w. length w + room) (p.behind.same ∙ bare) ∙ enough;
       }
 
-  pub in_compared : (op : Binary) (us : List Token) (e : Stuck)
+  pub in_compared : (op : BinaryOperator) (us : List Token) (e : Stuck)
       → front fronts.comparison mid ≡ Some (op, us) → IsInside unsigned room us e
       → IsInside unsigned room ts e
   in_compared op us e at h =

@@ -24,7 +24,7 @@ use Rattle.bql_tree.specs.declared.level.Level.{Level}
 use Rattle.bql_tree.specs.declared.level.Level.TheVariants as levels
 use Rattle.bql_grammar.specs.declared.stuck.Stuck.{Stuck}
 use Rattle.bql_grammar.specs.declared.stuck.Stuck.TheVariants.{OutOfMemory, At}
-use Rattle.bql_tree.specs.declared.tree.Binary.{Binary}
+use Rattle.bql_tree.specs.declared.tree.BinaryOperator.{BinaryOperator}
 use Rattle.bql_grammar.proofs.FormFacts.{IsFixed, reads_told, reads_then}
 use Rattle.bql_grammar.proofs.FormFacts.{none_then_first, reads_behind, none_behind}
 use Rattle.bql_grammar.proofs.FormFacts.{reads_chosen, reads_other, none_chosen}
@@ -72,10 +72,10 @@ stuck_in a b f g ts us (At left is_deep) none h = none h
 
 -- Chains.
 
-abbrev pub another : Level → Form Token Part → Form Token (Binary × Part)
+abbrev pub another : Level → Form Token Part → Form Token (BinaryOperator × Part)
 another level a = made pair <+> told (fronts.operator level) <+> a
 
-abbrev pub joined : Part → Binary × Part → Part
+abbrev pub joined : Part → BinaryOperator × Part → Part
 joined v p = parts.two p.0 v p.1
 
 abbrev pub links : Level → Form Token Part → Form Token Part
@@ -106,7 +106,7 @@ module _ (level : Level) (a : Form Token Part) (fixed : IsFixed a) where
   no_chain ts none = none_ending (links level a) ts (no_row (begins (fronts.operator level)) a
       (λ v. v) (another level a) joined ts links_begin none)
 
-  pub reads_another : (ts mid : List Token) (op : Binary) (v : Part) (rest : List Token)
+  pub reads_another : (ts mid : List Token) (op : BinaryOperator) (v : Part) (rest : List Token)
       → front (fronts.operator level) ts ≡ Some (op, mid) → Reads a mid v rest
       → Reads (another level a) ts (op, v) rest
   reads_another ts mid op v rest at r =
@@ -116,7 +116,7 @@ module _ (level : Level) (a : Form Token Part) (fixed : IsFixed a) where
       (λ ls v rest p e f. refl) (reads_made pair ts)
       (reads_told (fronts.operator level) ts op mid at)) r
 
-  pub none_another : (ts mid : List Token) (op : Binary) → front (fronts.operator level) ts
+  pub none_another : (ts mid : List Token) (op : BinaryOperator) → front (fronts.operator level) ts
       ≡ Some (op, mid) → HasNone a mid → HasNone (another level a) ts
   none_another ts mid op at none =
       none_next (made pair <+> told (fronts.operator level)) a ts (pair op) mid
@@ -125,7 +125,7 @@ module _ (level : Level) (a : Form Token Part) (fixed : IsFixed a) where
       (λ ls v rest p e f. refl) (reads_made pair ts)
       (reads_told (fronts.operator level) ts op mid at)) none
 
-  pub chain_goes_on : (ts : List Token) (v : Part) (rest mid : List Token) (op : Binary) (w : Part)
+  pub chain_goes_on : (ts : List Token) (v : Part) (rest mid : List Token) (op : BinaryOperator) (w : Part)
       (more : List Token)
       → InRow (links level a) (another level a) joined ts v rest
       → front (fronts.operator level) rest ≡ Some (op, mid) → Reads a mid w more
@@ -135,7 +135,7 @@ module _ (level : Level) (a : Form Token Part) (fixed : IsFixed a) where
       rest (op, w) more links_end links_separate links_told p
       (reads_another rest mid op w more at r)
 
-  pub none_in_chain : (ts : List Token) (v : Part) (rest mid : List Token) (op : Binary)
+  pub none_in_chain : (ts : List Token) (v : Part) (rest mid : List Token) (op : BinaryOperator)
       → InRow (links level a) (another level a) joined ts v rest
       → front (fronts.operator level) rest ≡ Some (op, mid) → HasNone a mid
       → HasNone (chained level a) ts

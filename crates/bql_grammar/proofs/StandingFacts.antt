@@ -23,7 +23,7 @@ use Rattle.bql_grammar.specs.declared.stuck.Stuck.TheVariants.{At}
 use Rattle.bql_tree.specs.Level as level_rules
 use Rattle.bql_tree.specs.declared.level.Level.{Level}
 use Rattle.bql_tree.specs.declared.level.Level.TheVariants as level
-use Rattle.bql_tree.specs.declared.tree.Binary.{Binary}
+use Rattle.bql_tree.specs.declared.tree.BinaryOperator.{BinaryOperator}
 use Rattle.bql_tree.specs.declared.tree.Leaf.{Leaf}
 
 -- What is open.
@@ -134,7 +134,7 @@ IsWhole Wants = ⊥
 IsWhole Names = Unit {0}
 IsWhole Ends = Unit {0}
 
-operator_does : (l : Level) (k : Kind) (op : Binary) (os : List Open) (last : Last)
+operator_does : (l : Level) (k : Kind) (op : BinaryOperator) (os : List Open) (last : Last)
     → level_rules.operator_of l k ≡ Some op → IsWhole last
     → after (role k) os last ≡ wanting (bound l os)
 operator_does level.Or kind.Or op os last e w = refl
@@ -148,7 +148,7 @@ operator_does level.Sum kind.Minus op os Ends e w = refl
 operator_does level.Product kind.Star op os last e w = refl
 operator_does l k op os last e w = absurd cc
 
-pub leads_operator : (l : Level) (p : Standing) (ts : List Token) (op : Binary) (rest : List Token)
+pub leads_operator : (l : Level) (p : Standing) (ts : List Token) (op : BinaryOperator) (rest : List Token)
     → front (fronts.operator l) ts ≡ Some (op, rest) → IsWhole p.last
     → Leads p ts (wanting (bound l p.within)) rest
 leads_operator l p ts op rest e w =
@@ -156,7 +156,7 @@ leads_operator l p ts op rest e w =
     leads_by p ts o.token rest (wanting (bound l p.within)) o.at
     (operator_does l o.token.kind op p.within p.last o.is w)
 
-comparison_does : (k : Kind) (op : Binary) → level_rules.comparison_of k ≡ Some op → role k ≡ Joins
+comparison_does : (k : Kind) (op : BinaryOperator) → level_rules.comparison_of k ≡ Some op → role k ≡ Joins
 comparison_does kind.Equal op e = refl
 comparison_does kind.NotEqual op e = refl
 comparison_does kind.Less op e = refl
@@ -165,7 +165,7 @@ comparison_does kind.Greater op e = refl
 comparison_does kind.GreaterOrEqual op e = refl
 comparison_does k op e = absurd cc
 
-pub leads_comparison : (p : Standing) (ts : List Token) (op : Binary) (rest : List Token)
+pub leads_comparison : (p : Standing) (ts : List Token) (op : BinaryOperator) (rest : List Token)
     → front fronts.comparison ts ≡ Some (op, rest) → Leads p ts (wanting (unsigned p.within)) rest
 leads_comparison p ts op rest e =
     let o = fronts_of fronts.comparison ts op rest e in

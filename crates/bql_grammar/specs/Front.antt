@@ -11,7 +11,7 @@ use Rattle.bql_lexer.specs.declared.token.Token.{Token}
 use Rattle.bql_tree.specs.Level as level_rules
 use Rattle.bql_tree.specs.Number.{number}
 use Rattle.bql_tree.specs.declared.level.Level.{Level}
-use Rattle.bql_tree.specs.declared.tree.Binary.{Binary}
+use Rattle.bql_tree.specs.declared.tree.BinaryOperator.{BinaryOperator}
 use Rattle.bql_tree.specs.declared.tree.Leaf as leaves
 use Rattle.bql_tree.specs.declared.tree.Leaf.TheVariants as leaf
 
@@ -33,10 +33,10 @@ begins f ts = is_some (front f ts)
 abbrev pub of_kind : Kind → Token → Option Token
 of_kind k t = if same_kind t.kind k then Some t else None
 
-abbrev pub operator : Level → Token → Option Binary
+abbrev pub operator : Level → Token → Option BinaryOperator
 operator level t = level_rules.operator_of level t.kind
 
-abbrev pub comparison : Token → Option Binary
+abbrev pub comparison : Token → Option BinaryOperator
 comparison t = level_rules.comparison_of t.kind
 
 abbrev pub with_token : {V : Type 0} → Token → Option V → Option (Token × V)

@@ -18,7 +18,7 @@ use bql_lexer::{Kind, Token};
 use bql_tree::call::{called, is_count, listed};
 use bql_tree::level::Level;
 use bql_tree::part::{denied, group, leaf, matched, name, rows, signed, two};
-use bql_tree::{Binary, Part, Scope};
+use bql_tree::{BinaryOperator, Part, Scope};
 use std::alloc::Global;
 
 /// A chain of operators of a level at the front, and what stands behind it.
@@ -141,7 +141,7 @@ fn comparison<'t, 'a>(
             Err(stuck) => return Err(stuck),
         };
         let (right, rest) = found;
-        let value = two(alloc, Binary::In, left, right)?;
+        let value = two(alloc, BinaryOperator::In, left, right)?;
         return Ok((value, rest));
     }
     Ok((left, rest))

@@ -7,7 +7,7 @@ use bean_base::parse_day;
 use bql_lexer::{Kind, Token};
 use bql_tree::level::{Level, comparison_of, sign_of};
 use bql_tree::number::number;
-use bql_tree::{Binary, Leaf};
+use bql_tree::{BinaryOperator, Leaf};
 
 /// The first token, and what stands behind it.
 fn next<'t, 'a>(tokens: &'t [Token<'a>]) -> Option<(&'t Token<'a>, &'t [Token<'a>])>
@@ -40,7 +40,7 @@ pub fn after<'t, 'a>(
 pub fn after_operator<'t, 'a>(
     tokens: &'t [Token<'a>],
     level: Level,
-) -> Option<(Binary, &'t [Token<'a>])>
+) -> Option<(BinaryOperator, &'t [Token<'a>])>
     ensures front { MatchOption result (front (rule.operator level) tokens.now ≡ None)
         (λ r. front (rule.operator level) tokens.now ≡ Some (r.0, r.1.now)) }
     ensures shorter { IfSome result (λ r. length r.1.now < length tokens.now) }
@@ -51,7 +51,9 @@ pub fn after_operator<'t, 'a>(
 }
 
 /// The comparison at the front.
-pub fn after_comparison<'t, 'a>(tokens: &'t [Token<'a>]) -> Option<(Binary, &'t [Token<'a>])>
+pub fn after_comparison<'t, 'a>(
+    tokens: &'t [Token<'a>],
+) -> Option<(BinaryOperator, &'t [Token<'a>])>
     ensures front { MatchOption result (front rule.comparison tokens.now ≡ None)
         (λ r. front rule.comparison tokens.now ≡ Some (r.0, r.1.now)) }
     ensures shorter { IfSome result (λ r. length r.1.now < length tokens.now) }

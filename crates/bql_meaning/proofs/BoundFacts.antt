@@ -11,12 +11,12 @@ use Rattle.bql_rules.specs.Rules.{is_held_with, are_alike, call_shape, single, s
 use Rattle.bql_rules.specs.Rules.{leaf_shape, places_of}
 use Rattle.bql_tree.specs.declared.function.Function.{Function}
 use Rattle.bql_tree.specs.declared.function.Function.TheVariants as function
-use Rattle.bql_tree.specs.declared.tree.Binary.{Binary}
-use Rattle.bql_tree.specs.declared.tree.Binary.TheVariants as binary
+use Rattle.bql_tree.specs.declared.tree.BinaryOperator.{BinaryOperator}
+use Rattle.bql_tree.specs.declared.tree.BinaryOperator.TheVariants as binary
 use Rattle.bql_tree.specs.declared.tree.Leaf.{Leaf}
 use Rattle.bql_tree.specs.declared.tree.Leaf.TheVariants as leaf
-use Rattle.bql_tree.specs.declared.tree.Unary.{Unary}
-use Rattle.bql_tree.specs.declared.tree.Unary.TheVariants as unary
+use Rattle.bql_tree.specs.declared.tree.UnaryOperator.{UnaryOperator}
+use Rattle.bql_tree.specs.declared.tree.UnaryOperator.TheVariants as unary
 use Rattle.query_columns.specs.ColumnShape.{column_shape}
 use Rattle.query_columns.specs.declared.column.Column.{Column}
 use Rattle.query_columns.specs.declared.column.Column.TheVariants as column
@@ -98,7 +98,7 @@ by_one : (op : operation.Unary) (u s t : Shape) → IsBelow u s → machine.unar
 by_one op u s t h e =
     under (machine.unary_shape op u) (machine.unary_shape op s) t (unary_rises op u s h) e
 
-pub one_lesser : (op : Unary) (u s t : Shape) → IsBelow u s → rule.unary_shape op s ≡ Ok t
+pub one_lesser : (op : UnaryOperator) (u s t : Shape) → IsBelow u s → rule.unary_shape op s ≡ Ok t
     → Gives (rule.unary_shape op u) t
 one_lesser unary.Not u s t h e = by_one operation.Not u s t h e
 one_lesser unary.Minus u s t h e = by_one operation.Neg u s t h e
@@ -212,7 +212,7 @@ truths_lesser u v shape.Truth shape.Truth x h k e =
     truth_below u h = absurd h
 truths_lesser u v s t x h k e = absurd cc
 
-pub two_lesser : (op : Binary) (u v s t x : Shape) → IsBelow u s → IsBelow v t
+pub two_lesser : (op : BinaryOperator) (u v s t x : Shape) → IsBelow u s → IsBelow v t
     → rule.binary_shape op s t ≡ Ok x → Gives (rule.binary_shape op u v) x
 two_lesser binary.Or = truths_lesser
 two_lesser binary.And = truths_lesser

@@ -12,10 +12,10 @@ use Rattle.bql_parser.specs.Asked.{Target, Item, target_item, tree_item}
 use Rattle.bql_parser.specs.declared.standing.Valuation.TheVariants as valuation
 use Rattle.bql_tree.specs.Tree.{leaf_of, one_of, two_of, Tree, node, no_trees, trees}
 use Rattle.bql_tree.specs.declared.function.Function.TheVariants as function
-use Rattle.bql_tree.specs.declared.tree.Binary.{Binary}
-use Rattle.bql_tree.specs.declared.tree.Binary.TheVariants as binary
+use Rattle.bql_tree.specs.declared.tree.BinaryOperator.{BinaryOperator}
+use Rattle.bql_tree.specs.declared.tree.BinaryOperator.TheVariants as binary
 use Rattle.bql_tree.specs.declared.tree.Leaf.TheVariants as leaf
-use Rattle.bql_tree.specs.declared.tree.Unary.TheVariants as unary
+use Rattle.bql_tree.specs.declared.tree.UnaryOperator.TheVariants as unary
 use Rattle.bql_parser.specs.Standing as standing
 use Rattle.bql_parser.specs.Standing.{of_column, applied}
 use Rattle.query_columns.specs.declared.column.Column.TheVariants as column
@@ -36,7 +36,7 @@ widest = record { postings = 1000000; units_digits = 20; value_digits = 28 }
 abbrev of_text : List ℕ → Tree ℕ
 of_text t = node 0 (leaf_of (leaf.Text t)) no_trees
 
-abbrev two : Binary → Tree ℕ → Tree ℕ → Tree ℕ
+abbrev two : BinaryOperator → Tree ℕ → Tree ℕ → Tree ℕ
 two op t u = node 0 (two_of op) (trees t (trees u no_trees))
 
 abbrev target : Tree ℕ → Target

@@ -18,8 +18,8 @@ use Rattle.bql_tree.specs.contracts.tree.Binary as binaries
 use Rattle.bql_tree.specs.contracts.tree.Entry as entries
 use Rattle.bql_tree.specs.declared.tree.Leaf.{Leaf}
 use Rattle.bql_tree.specs.declared.tree.Leaf.TheVariants as leaf
-use Rattle.bql_tree.specs.declared.tree.Unary.{Unary}
-use Rattle.bql_tree.specs.declared.tree.Unary.TheVariants as unary
+use Rattle.bql_tree.specs.declared.tree.UnaryOperator.{UnaryOperator}
+use Rattle.bql_tree.specs.declared.tree.UnaryOperator.TheVariants as unary
 use Rattle.bql_types.specs.Same.{same, all_same, same_operation, same_leaf, same_unary, same_text}
 use Rattle.bql_types.specs.Same.{same_truth}
 use Rattle.bql_types.specs.Shaped.{shape_of, shapes_of, ruled, given, beside, operand, is_null}
@@ -89,13 +89,13 @@ leaf_is (leaf.Meta x k) (leaf.Meta y l) e =
 leaf_is (leaf.HasAccount a) (leaf.HasAccount b) e = ap leaf.HasAccount ((texts a b).0 e)
 leaf_is l m e = cc
 
-unary_self : (f : Unary) → same_unary f f ≡ true
+unary_self : (f : UnaryOperator) → same_unary f f ≡ true
 unary_self unary.Not = refl
 unary_self unary.Minus = refl
 unary_self (unary.Matches t) = (texts t t).1 refl
 unary_self (unary.Root n) = (Decides-eqb n n).1 refl
 
-unary_is : (f g : Unary) → same_unary f g ≡ true → f ≡ g
+unary_is : (f g : UnaryOperator) → same_unary f g ≡ true → f ≡ g
 unary_is unary.Not unary.Not e = refl
 unary_is unary.Minus unary.Minus e = refl
 unary_is (unary.Matches a) (unary.Matches b) e = ap unary.Matches ((texts a b).0 e)

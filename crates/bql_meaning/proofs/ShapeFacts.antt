@@ -9,10 +9,10 @@ use Rattle.bql_rules.specs.Rules.{greatest_places, sum_over}
 use Rattle.bql_rules.specs.Rules.{is_held_with, are_alike, call_shape, single}
 use Rattle.bql_tree.specs.declared.function.Function.{Function}
 use Rattle.bql_tree.specs.declared.function.Function.TheVariants as function
-use Rattle.bql_tree.specs.declared.tree.Binary.{Binary}
-use Rattle.bql_tree.specs.declared.tree.Binary.TheVariants as binary
-use Rattle.bql_tree.specs.declared.tree.Unary.{Unary}
-use Rattle.bql_tree.specs.declared.tree.Unary.TheVariants as unary
+use Rattle.bql_tree.specs.declared.tree.BinaryOperator.{BinaryOperator}
+use Rattle.bql_tree.specs.declared.tree.BinaryOperator.TheVariants as binary
+use Rattle.bql_tree.specs.declared.tree.UnaryOperator.{UnaryOperator}
+use Rattle.bql_tree.specs.declared.tree.UnaryOperator.TheVariants as unary
 use Rattle.bql_types.specs.Sought.{is_aggregate_function}
 use Rattle.std.specs.List.{list_all}
 use Rattle.query_shapes.proofs.BinaryFacts.{binary_keeps}
@@ -65,7 +65,7 @@ by_two op x y s t u h k e =
 
 -- ---- operators
 
-pub one_lies : (op : Unary) (x : Value) (s u : Shape) → LiesIn x s → rule.unary_shape op s ≡ Ok u
+pub one_lies : (op : UnaryOperator) (x : Value) (s u : Shape) → LiesIn x s → rule.unary_shape op s ≡ Ok u
     → LiesIn (one_value op x) u
 one_lies unary.Not x s u h e = by_one operation.Not x s u h e
 one_lies unary.Minus x s u h e = by_one operation.Neg x s u h e
@@ -99,7 +99,7 @@ truths_give s t u e = absurd cc
 truth_lies : (b : Bool) (u : Shape) → u ≡ shape.Truth → LiesIn (Truth b) u
 truth_lies b u e = subst (LiesIn (Truth b)) (sym e) tt
 
-pub two_lies : (op : Binary) (x y : Value) (s t u : Shape) → LiesIn x s → LiesIn y t
+pub two_lies : (op : BinaryOperator) (x y : Value) (s t u : Shape) → LiesIn x s → LiesIn y t
     → rule.binary_shape op s t ≡ Ok u → LiesIn (two_value op x y) u
 two_lies binary.Or x y s t u h k e = truth_lies (is_true x || is_true y) u (truths_give s t u e)
 two_lies binary.And x y s t u h k e = truth_lies (is_true x && is_true y) u (truths_give s t u e)
@@ -126,7 +126,7 @@ any_truth a b (shape.Position v w) h = absurd h
 any_truth a b (shape.Inventory p v w) h = absurd h
 
 -- what an equation gives
-pub equations_give_truth : (op : Binary) (s t u : Shape) (a : Bool)
+pub equations_give_truth : (op : BinaryOperator) (s t u : Shape) (a : Bool)
     → (op ≡ binary.Equal) ⊎ (op ≡ binary.NotEqual) → rule.binary_shape op s t ≡ Ok u
     → LiesIn (Truth a) u
 equations_give_truth op s t u a (inl is) e =

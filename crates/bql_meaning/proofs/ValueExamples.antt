@@ -8,20 +8,20 @@ use Rattle.bql_tree.specs.Tree.{leaf_of, one_of, two_of, call_of, Tree, node, no
 use Rattle.bql_tree.specs.Tree.{all_trees}
 use Rattle.bql_tree.specs.declared.function.Function.{Function}
 use Rattle.bql_tree.specs.declared.function.Function.TheVariants as function
-use Rattle.bql_tree.specs.declared.tree.Binary.{Binary}
-use Rattle.bql_tree.specs.declared.tree.Binary.TheVariants as binary
-use Rattle.bql_tree.specs.declared.tree.Entry.TheVariants.{Posting, Transaction, Any}
+use Rattle.bql_tree.specs.declared.tree.BinaryOperator.{BinaryOperator}
+use Rattle.bql_tree.specs.declared.tree.BinaryOperator.TheVariants as binary
+use Rattle.bql_tree.specs.declared.tree.MetadataOwner.TheVariants.{Posting, Transaction, Any}
 use Rattle.bql_tree.specs.declared.tree.Leaf as leaves
 use Rattle.bql_tree.specs.declared.tree.Leaf.TheVariants as leaf
-use Rattle.bql_tree.specs.declared.tree.Unary.{Unary}
-use Rattle.bql_tree.specs.declared.tree.Unary.TheVariants as unary
+use Rattle.bql_tree.specs.declared.tree.UnaryOperator.{UnaryOperator}
+use Rattle.bql_tree.specs.declared.tree.UnaryOperator.TheVariants as unary
 use Rattle.bql_parser.specs.Standing.{of_column, applied}
 use Rattle.query_columns.specs.declared.column.Column.{Column}
 use Rattle.query_columns.specs.declared.column.Column.TheVariants as column
 use Rattle.query_values.specs.declared.value.Value.{Value}
 use Rattle.query_values.specs.declared.value.Value.TheVariants.{Null, Truth, Number, Text, Amount}
 use Rattle.query_values.specs.declared.value.Value.TheVariants.{Inventory}
-use Rattle.query_rows.specs.Row.{Entry, Row}
+use Rattle.query_rows.specs.Row.{MetaText, Row}
 use Rattle.bql_meaning.specs.Meaning.{value_of}
 use Rattle.bql_meaning.specs.Reading.{Reading}
 use Rattle.bql_meaning.proofs.Worked.{units, minus, usd, at_100, at_110, inv, cash, posting}
@@ -32,10 +32,10 @@ widest = record { postings = 1000000; units_digits = 20; value_digits = 28 }
 
 -- ---- expressions
 
-abbrev one : Unary → Tree ℕ → Tree ℕ
+abbrev one : UnaryOperator → Tree ℕ → Tree ℕ
 one op t = node 0 (one_of op) (trees t no_trees)
 
-abbrev two : Binary → Tree ℕ → Tree ℕ → Tree ℕ
+abbrev two : BinaryOperator → Tree ℕ → Tree ℕ → Tree ℕ
 two op t u = node 0 (two_of op) (trees t (trees u no_trees))
 
 abbrev of_leaf : leaves.Leaf → Tree ℕ
@@ -199,7 +199,7 @@ day_of = refl
 -- ---- metadata
 
 -- the posting has a: 1, the transaction a: 2 and b: 3
-abbrev item : List ℕ → List ℕ → Entry
+abbrev item : List ℕ → List ℕ → MetaText
 item key text = record { key = key; text = Some text }
 
 abbrev with_entries : Reading

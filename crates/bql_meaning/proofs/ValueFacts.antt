@@ -11,10 +11,10 @@ use Rattle.bql_tree.specs.Tree.{Operation, leaf_of, one_of, two_of, call_of, Tre
 use Rattle.bql_tree.specs.Tree.{no_trees, trees}
 use Rattle.bql_tree.specs.declared.function.Function.{Function}
 use Rattle.bql_tree.specs.declared.function.Function.TheVariants as function
-use Rattle.bql_tree.specs.declared.tree.Binary.{Binary}
-use Rattle.bql_tree.specs.declared.tree.Binary.TheVariants as binary
-use Rattle.bql_tree.specs.declared.tree.Entry as entries
-use Rattle.bql_tree.specs.declared.tree.Entry.TheVariants.{Posting, Transaction, Any}
+use Rattle.bql_tree.specs.declared.tree.BinaryOperator.{BinaryOperator}
+use Rattle.bql_tree.specs.declared.tree.BinaryOperator.TheVariants as binary
+use Rattle.bql_tree.specs.declared.tree.MetadataOwner as entries
+use Rattle.bql_tree.specs.declared.tree.MetadataOwner.TheVariants.{Posting, Transaction, Any}
 use Rattle.bql_tree.specs.declared.tree.Leaf.{Leaf}
 use Rattle.bql_tree.specs.declared.tree.Leaf.TheVariants as leaf
 use Rattle.bql_types.specs.Shaped.{shape_of, shapes_of, ruled, given, rule, is_equation, beside}
@@ -56,7 +56,7 @@ column_lies b c [] read = tt
 column_lies b c (r ∷ rows) read = cell_lies b c r read.0
 
 -- a text of metadata
-entry_lies : (b : Bounds) (r : Row) → IsShaped b r → (x : entries.Entry) (key : List ℕ)
+entry_lies : (b : Bounds) (r : Row) → IsShaped b r → (x : entries.MetadataOwner) (key : List ℕ)
     → LiesIn (text x key r) shape.Text
 entry_lies b r is Posting key = (texts_lie b r is).posting key
 entry_lies b r is Transaction key = (texts_lie b r is).transaction key
@@ -114,7 +114,7 @@ applied_lies b (call_of f) rows read short plain xs ss s all eq e =
 
 -- ---- equations
 
-truths_lie : (op : Binary) → (op ≡ binary.Equal) ⊎ (op ≡ binary.NotEqual) → (b : Bounds)
+truths_lie : (op : BinaryOperator) → (op ≡ binary.Equal) ⊎ (op ≡ binary.NotEqual) → (b : Bounds)
     (ss : List Shape) (s : Shape) → rule b (two_of op) ss ≡ Ok s → beside_null op ≡ Ok shape.Truth
     → (a : Bool) → LiesIn (Truth a) s
 truths_lie op is b [] s e beside a = absurd cc
@@ -123,7 +123,7 @@ truths_lie op is b (t ∷ []) s e beside a =
 truths_lie op is b (t ∷ u ∷ []) s e beside a = equations_give_truth op t u s a is e
 truths_lie op is b (t ∷ u ∷ v ∷ ss) s e beside a = absurd cc
 
-equation_lies : (b : Bounds) (op : Binary) (rows : List Reading) → is_equality op ≡ true
+equation_lies : (b : Bounds) (op : BinaryOperator) (rows : List Reading) → is_equality op ≡ true
     → (xs : List Value) (ss : List Shape) (s : Shape) → rule b (two_of op) ss ≡ Ok s
     → LiesIn (applied (two_of op) rows xs) s
 equation_lies b op rows eq [] ss s e = tt
@@ -256,7 +256,7 @@ with_parts b at op parts s short eq all None is h = absurd h
 with_parts b at op parts s short eq all (Some ss) is h =
     plain_lies b at op parts ss s short eq is h (all ss is)
 
-with_null : (b : Bounds) (at : ℕ) (op : Binary) (parts : Trees ℕ) (s : Shape)
+with_null : (b : Bounds) (at : ℕ) (op : BinaryOperator) (parts : Trees ℕ) (s : Shape)
     → is_equality op ≡ true → (o : Option (List Shape)) → FromParts b (two_of op) o s
     → Lies b (node at (two_of op) parts) s
 with_null b at op parts s eq None h = absurd h

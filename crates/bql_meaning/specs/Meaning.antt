@@ -7,12 +7,12 @@ use Rattle.bql_tree.specs.Tree.{Operation, leaf_of, one_of, two_of, call_of, Tre
 use Rattle.bql_tree.specs.Tree.{no_trees, trees}
 use Rattle.bql_tree.specs.declared.function.Function.{Function}
 use Rattle.bql_tree.specs.declared.function.Function.TheVariants as function
-use Rattle.bql_tree.specs.declared.tree.Binary.{Binary}
-use Rattle.bql_tree.specs.declared.tree.Binary.TheVariants as binary
+use Rattle.bql_tree.specs.declared.tree.BinaryOperator.{BinaryOperator}
+use Rattle.bql_tree.specs.declared.tree.BinaryOperator.TheVariants as binary
 use Rattle.bql_tree.specs.declared.tree.Leaf.{Leaf}
 use Rattle.bql_tree.specs.declared.tree.Leaf.TheVariants as leaf
-use Rattle.bql_tree.specs.declared.tree.Unary.{Unary}
-use Rattle.bql_tree.specs.declared.tree.Unary.TheVariants as unary
+use Rattle.bql_tree.specs.declared.tree.UnaryOperator.{UnaryOperator}
+use Rattle.bql_tree.specs.declared.tree.UnaryOperator.TheVariants as unary
 use Rattle.bql_types.specs.Gathered.{aggregate_by}
 use Rattle.bql_types.specs.Shaped.{shapes_of}
 use Rattle.bql_types.specs.Sought.{is_aggregate}
@@ -40,14 +40,14 @@ leaf_value (leaf.Meta e key) rows = at_first (λ r. text e key r.row) rows
 leaf_value (leaf.HasAccount pattern) rows =
     unary_value (operation.MatchAny pattern) (at_first (cell column.Accounts) rows)
 
-abbrev pub one_value : Unary → Value → Value
+abbrev pub one_value : UnaryOperator → Value → Value
 one_value unary.Not x = unary_value operation.Not x
 one_value unary.Minus x = unary_value operation.Neg x
 one_value (unary.Matches pattern) x = unary_value (operation.Match pattern) x
 one_value (unary.Root n) x = unary_value (operation.Root n) x
 
 -- OR and AND take null as false; NULL is a value like others to = and !=
-abbrev pub two_value : Binary → Value → Value → Value
+abbrev pub two_value : BinaryOperator → Value → Value → Value
 two_value binary.Or x y = Truth (is_true x || is_true y)
 two_value binary.And x y = Truth (is_true x && is_true y)
 two_value binary.Equal x y = binary_value operations.Equal x y

@@ -1,7 +1,7 @@
 -- What an expression reads: the cells and the metadata of the first of some rows.
 use Rattle.std.specs.Prelude.{ℕ, List, [], ◌∷◌}
-use Rattle.bql_tree.specs.declared.tree.Entry as entry
-use Rattle.bql_tree.specs.declared.tree.Entry.TheVariants.{Posting, Transaction, Any}
+use Rattle.bql_tree.specs.declared.tree.MetadataOwner as entry
+use Rattle.bql_tree.specs.declared.tree.MetadataOwner.TheVariants.{Posting, Transaction, Any}
 use Rattle.query_rows.specs.Row.{Row, posting_text, transaction_text, any_text}
 use Rattle.query_columns.specs.declared.column.Column.{Column}
 use Rattle.query_columns.specs.declared.column.Column.TheVariants as column
@@ -18,7 +18,7 @@ cell column.Balance r = r.balance
 cell c r = r.row.cell c
 
 -- the text of a key of metadata
-abbrev pub text : entry.Entry → List ℕ → Row → Value
+abbrev pub text : entry.MetadataOwner → List ℕ → Row → Value
 text Posting key r = posting_text key r
 text Transaction key r = transaction_text key r
 text Any key r = any_text key r

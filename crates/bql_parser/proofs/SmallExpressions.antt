@@ -18,7 +18,7 @@ use Rattle.bql_tree.specs.Part.{Part}
 use Rattle.bql_tree.specs.declared.function.Scope.{Scope}
 use Rattle.bql_tree.specs.declared.level.Level.{Level}
 use Rattle.bql_tree.specs.declared.level.Level.TheVariants as level
-use Rattle.bql_tree.specs.declared.tree.Binary.TheVariants as binary
+use Rattle.bql_tree.specs.declared.tree.BinaryOperator.TheVariants as binary
 use Rattle.bql_tree.specs.declared.tree.Leaf.{Leaf}
 use Rattle.bql_grammar.specs.Front as fronts
 use Rattle.bql_grammar.specs.Front.{begins, of_kind, begins_with_list, begins_with_call}

@@ -9,8 +9,8 @@ use Rattle.bql_tree.specs.Tree.{no_trees, trees}
 use Rattle.bql_tree.specs.declared.function.Function.TheVariants as function
 use Rattle.bql_tree.specs.declared.tree.Leaf.{Leaf}
 use Rattle.bql_tree.specs.declared.tree.Leaf.TheVariants as leaf
-use Rattle.bql_tree.specs.declared.tree.Unary.{Unary}
-use Rattle.bql_tree.specs.declared.tree.Unary.TheVariants as unary
+use Rattle.bql_tree.specs.declared.tree.UnaryOperator.{UnaryOperator}
+use Rattle.bql_tree.specs.declared.tree.UnaryOperator.TheVariants as unary
 use Rattle.bql_parser.specs.Answer.{query_of}
 use Rattle.bql_parser.specs.Asked.{Asked, Target, Item, ItemKind, target_item, tree_item}
 use Rattle.bql_parser.specs.Small.{IsSmallLeaf, IsSmallUnary, IsSmallIn, IsSmallTree, AreSmallTrees}
@@ -24,7 +24,7 @@ leaf_prop (leaf.Meta entry key) = le_prop
 leaf_prop (leaf.HasAccount pattern) = le_prop
 leaf_prop l = hlevel props
 
-unary_prop : (op : Unary) → IsProp (IsSmallUnary op)
+unary_prop : (op : UnaryOperator) → IsProp (IsSmallUnary op)
 unary_prop (unary.Matches pattern) = le_prop
 unary_prop (unary.Root n) = hlevel props
 unary_prop op = hlevel props

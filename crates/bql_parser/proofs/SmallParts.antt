@@ -20,12 +20,12 @@ use Rattle.bql_tree.specs.declared.function.Function.{Function}
 use Rattle.bql_tree.specs.declared.function.Function.TheVariants as function
 use Rattle.bql_tree.specs.declared.function.Scope.{Scope}
 use Rattle.bql_tree.specs.declared.function.TheConstants.{FUNCTIONS}
-use Rattle.bql_tree.specs.declared.tree.Binary.{Binary}
-use Rattle.bql_tree.specs.declared.tree.Binary.TheVariants as binary
+use Rattle.bql_tree.specs.declared.tree.BinaryOperator.{BinaryOperator}
+use Rattle.bql_tree.specs.declared.tree.BinaryOperator.TheVariants as binary
 use Rattle.bql_tree.specs.declared.tree.Leaf.{Leaf}
 use Rattle.bql_tree.specs.declared.tree.Leaf.TheVariants as leaf
-use Rattle.bql_tree.specs.declared.tree.Unary.{Unary}
-use Rattle.bql_tree.specs.declared.tree.Unary.TheVariants as unary
+use Rattle.bql_tree.specs.declared.tree.UnaryOperator.{UnaryOperator}
+use Rattle.bql_tree.specs.declared.tree.UnaryOperator.TheVariants as unary
 use Rattle.bql_parser.specs.Small.{IsShort, IsSmallLeaf, IsSmallUnary, IsSmallIn, IsSmallTree}
 use Rattle.bql_parser.specs.Small.{AreSmallTrees, count}
 use Rattle.bql_parser.proofs.SmallForms.{all_pushed, pushed_length}
@@ -92,12 +92,12 @@ pub around_small : (start end : ℕ) (inner : Part) → IsSmallPart inner
 around_small start end inner h =
     high_found IsSmallTree start (parts.above inner.height) inner.tree h
 
-one_found : (at : ℕ) (op : Unary) (r : Result (Tree ℕ) Cause) → IsSmallUnary op
+one_found : (at : ℕ) (op : UnaryOperator) (r : Result (Tree ℕ) Cause) → IsSmallUnary op
     → Found IsSmallTree r → Found IsSmallTree (parts.one_tree at op r)
 one_found at op (Ok x) small h = (small, (h, tt))
 one_found at op (Err c) small h = tt
 
-one_small : (start end : ℕ) (op : Unary) (inner : Part) → IsSmallUnary op → IsSmallPart inner
+one_small : (start end : ℕ) (op : UnaryOperator) (inner : Part) → IsSmallUnary op → IsSmallPart inner
     → IsSmallPart (parts.one start end op inner)
 one_small start end op inner small h =
     one_found start op
@@ -141,18 +141,18 @@ plain_sides a b h k =
     both_found IsSmallTree IsSmallTree (parts.not_null a) (parts.not_null b)
     (not_null_found IsSmallTree a h) (not_null_found IsSmallTree b k)
 
-sides_found : (op : Binary) (a b : Result (Tree ℕ) Cause) → Found IsSmallTree a
+sides_found : (op : BinaryOperator) (a b : Result (Tree ℕ) Cause) → Found IsSmallTree a
     → Found IsSmallTree b → Found AreSmallSides (parts.sides op a b)
 sides_found binary.Equal a b h k = equated_found a b h k
 sides_found binary.NotEqual a b h k = equated_found a b h k
 sides_found op a b h k = plain_sides a b h k
 
-two_found : (at : ℕ) (op : Binary) (r : Result (Tree ℕ × Tree ℕ) Cause) → Found AreSmallSides r
+two_found : (at : ℕ) (op : BinaryOperator) (r : Result (Tree ℕ × Tree ℕ) Cause) → Found AreSmallSides r
     → Found IsSmallTree (parts.two_tree at op r)
 two_found at op (Ok p) h = (tt, (h.0, (h.1, tt)))
 two_found at op (Err c) h = tt
 
-two_high_small : (height : ℕ) (op : Binary) (left right : Part) → IsSmallPart left
+two_high_small : (height : ℕ) (op : BinaryOperator) (left right : Part) → IsSmallPart left
     → IsSmallPart right → IsSmallPart (parts.two_high height op left right)
 two_high_small height op left right h k =
     two_found left.start op
@@ -160,7 +160,7 @@ two_high_small height op left right h k =
     (high_found AreSmallSides left.start height (parts.sides op left.tree right.tree)
     (sides_found op left.tree right.tree h k))
 
-pub two_small : (op : Binary) (left right : Part) → IsSmallPart left → IsSmallPart right
+pub two_small : (op : BinaryOperator) (left right : Part) → IsSmallPart left → IsSmallPart right
     → IsSmallPart (parts.two op left right)
 two_small op left right h k = two_high_small _ op left right h k
 

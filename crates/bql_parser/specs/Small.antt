@@ -9,8 +9,8 @@ use Rattle.bql_tree.specs.declared.cause.Cause.{Cause}
 use Rattle.bql_tree.specs.declared.function.Function.TheVariants as function
 use Rattle.bql_tree.specs.declared.tree.Leaf.{Leaf}
 use Rattle.bql_tree.specs.declared.tree.Leaf.TheVariants as leaf
-use Rattle.bql_tree.specs.declared.tree.Unary.{Unary}
-use Rattle.bql_tree.specs.declared.tree.Unary.TheVariants as unary
+use Rattle.bql_tree.specs.declared.tree.UnaryOperator.{UnaryOperator}
+use Rattle.bql_tree.specs.declared.tree.UnaryOperator.TheVariants as unary
 
 -- a text of at most 65535 bytes, as many as a query may have
 abbrev pub IsShort : List ℕ → Type 0
@@ -31,7 +31,7 @@ IsSmallLeaf (leaf.HasAccount pattern) = IsShort pattern
 IsSmallLeaf l = Unit {0}
 
 -- its pattern is short, and ROOT takes from 1 to 255 components
-abbrev pub IsSmallUnary : Unary → Type 0
+abbrev pub IsSmallUnary : UnaryOperator → Type 0
 IsSmallUnary (unary.Matches pattern) = IsShort pattern
 IsSmallUnary (unary.Root n) = (1 ≤ n) × (n ≤ MOST_COMPONENTS)
 IsSmallUnary op = Unit {0}

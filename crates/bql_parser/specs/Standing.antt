@@ -12,7 +12,7 @@ use Rattle.query_columns.specs.declared.column.Column.TheVariants as column
 use Rattle.bql_tree.specs.declared.function.Function.{Function}
 use Rattle.bql_tree.specs.declared.function.Function.TheVariants as function
 use Rattle.bql_tree.specs.declared.tree.Leaf.TheVariants as leaf
-use Rattle.bql_tree.specs.declared.tree.Unary.TheVariants as unary
+use Rattle.bql_tree.specs.declared.tree.UnaryOperator.TheVariants as unary
 
 abbrev pub of_column : Column → Tree ℕ
 of_column c = node 0 (leaf_of (leaf.Column c)) no_trees

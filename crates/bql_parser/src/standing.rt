@@ -7,7 +7,7 @@ ghost use Rattle.bql_tree.specs.Tree.{tree_of};
 
 use crate::query::{Draft, Filters, Item, ItemKind, Order, Target};
 use bean_base::Slice;
-use bql_tree::{Column, Expr, Function, Leaf, Unary};
+use bql_tree::{Column, Expr, Function, Leaf, UnaryOperator};
 use std::alloc::{AllocError, Global};
 
 /// What AT makes of positions.
@@ -64,7 +64,10 @@ fn matching<'a>(
         return Ok(None);
     };
     let account = of_column(alloc, Column::Account)?;
-    Ok(Some(Box::new(alloc, Expr::One(0, Unary::Matches(pattern), account))?))
+    Ok(Some(Box::new(
+        alloc,
+        Expr::One(0, UnaryOperator::Matches(pattern), account),
+    )?))
 }
 
 /// One more target.

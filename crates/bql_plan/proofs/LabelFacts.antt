@@ -18,9 +18,9 @@ use denote.Hole.Carrier.{roll, out}
 use Rattle.bql_types.specs.Seen.{one_more, before, between}
 use Rattle.bql_tree.specs.Tree.{one_of, two_of, call_of, tree_of, trees_of}
 use Rattle.bql_tree.specs.declared.function.Function.{Function}
-use Rattle.bql_tree.specs.declared.tree.Binary.{Binary}
+use Rattle.bql_tree.specs.declared.tree.BinaryOperator.{BinaryOperator}
 use Rattle.bql_tree.specs.declared.tree.Expr.{Expr}
-use Rattle.bql_tree.specs.declared.tree.Unary.{Unary}
+use Rattle.bql_tree.specs.declared.tree.UnaryOperator.{UnaryOperator}
 use Rattle.bql_types.specs.Shaped.{given, ruled, is_equality, is_null}
 use Rattle.std.proofs.Common.{◌&&◌, ◌≤◌}
 use Rattle.bql_types.proofs.CauseFacts.{next_is}
@@ -123,7 +123,7 @@ next_label b es i e xs next x whole d g n is h =
 
 -- ---- an operation, by the shapes of its parts
 
-pub one_labelled : (b : Bounds) (e x : Tree ℕ) (at : ℕ) (op : Unary) (l : Label) (r : Option Shape)
+pub one_labelled : (b : Bounds) (e x : Tree ℕ) (at : ℕ) (op : UnaryOperator) (l : Label) (r : Option Shape)
     → e ≡ node at (one_of op) (trees x no_trees) → l ≡ labelled b x
     → r ≡ given (before op (root l)) → label r (labels l no_labels) ≡ labelled b e
 one_labelled b e x at op l r is h k =
@@ -133,7 +133,7 @@ one_labelled b e x at op l r is h k =
     (ap (before op) (root_is b x) ∙ before_is b op (shape_of b x))
     ∙ sym (ap (labelled b) is)
 
-pub two_labelled : (b : Bounds) (e x y : Tree ℕ) (at : ℕ) (op : Binary) (l m : Label)
+pub two_labelled : (b : Bounds) (e x y : Tree ℕ) (at : ℕ) (op : BinaryOperator) (l m : Label)
     (r : Option Shape) → e ≡ node at (two_of op) (trees x (trees y no_trees)) → l ≡ labelled b x
     → m ≡ labelled b y
     → r ≡ given (between op (operand (is_equality op && is_null x) (root l))

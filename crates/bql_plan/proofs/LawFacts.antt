@@ -19,12 +19,12 @@ use Rattle.bql_tree.specs.contracts.tree.Binary as binaries
 use Rattle.bql_tree.specs.contracts.tree.Entry as entries
 use Rattle.query_columns.specs.declared.column.Column.{Column}
 use Rattle.bql_tree.specs.declared.function.Function.{Function}
-use Rattle.bql_tree.specs.declared.tree.Binary.{Binary}
-use Rattle.bql_tree.specs.declared.tree.Entry.{Entry}
+use Rattle.bql_tree.specs.declared.tree.BinaryOperator.{BinaryOperator}
+use Rattle.bql_tree.specs.declared.tree.MetadataOwner.{MetadataOwner}
 use Rattle.bql_tree.specs.declared.tree.Leaf.{Leaf}
 use Rattle.bql_tree.specs.declared.tree.Leaf.TheVariants as leaf
-use Rattle.bql_tree.specs.declared.tree.Unary.{Unary}
-use Rattle.bql_tree.specs.declared.tree.Unary.TheVariants as unary
+use Rattle.bql_tree.specs.declared.tree.UnaryOperator.{UnaryOperator}
+use Rattle.bql_tree.specs.declared.tree.UnaryOperator.TheVariants as unary
 use Rattle.bql_types.specs.Same.{same, all_same, same_leaf, same_unary, same_operation, same_text}
 use Rattle.bql_types.specs.Same.{same_truth}
 use Rattle.bql_types.specs.Sought.{is_key}
@@ -58,10 +58,10 @@ column_self c = count_self _
 function_self : (f : Function) → sameb functions.the_type f f ≡ true
 function_self f = count_self _
 
-binary_self : (op : Binary) → sameb binaries.the_type op op ≡ true
+binary_self : (op : BinaryOperator) → sameb binaries.the_type op op ≡ true
 binary_self op = count_self _
 
-entry_self : (e : Entry) → sameb entries.the_type e e ≡ true
+entry_self : (e : MetadataOwner) → sameb entries.the_type e e ≡ true
 entry_self e = count_self _
 
 leaf_self : (l : Leaf) → same_leaf l l ≡ true
@@ -79,7 +79,7 @@ leaf_self (leaf.Meta e k) =
     both (sameb entries.the_type e e) (same_text k k) (entry_self e) (text_self k)
 leaf_self (leaf.HasAccount p) = text_self p
 
-unary_self : (op : Unary) → same_unary op op ≡ true
+unary_self : (op : UnaryOperator) → same_unary op op ≡ true
 unary_self unary.Not = refl
 unary_self unary.Minus = refl
 unary_self (unary.Matches p) = text_self p

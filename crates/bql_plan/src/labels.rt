@@ -8,7 +8,7 @@ ghost use Rattle.query_columns.specs.ColumnShape.{AreBounds};
 
 use bean_base::Bounds;
 use bql_rules::leaf_shape;
-use bql_tree::{Binary, Expr};
+use bql_tree::{BinaryOperator, Expr};
 use bql_types::shaped::{Operand, before, between, called, is_equality, is_null, one_more};
 use query_shapes::{Misfit, Shape};
 use std::alloc::{AllocError, Global};
@@ -48,7 +48,7 @@ fn operand(is_null: bool, shape: Option<Shape>) -> Operand
 }
 
 /// What is known of a side of an operation, of which an equation may have a NULL.
-fn side(op: Binary, e: &Expr<'_>, shape: Option<Shape>) -> Operand
+fn side(op: BinaryOperator, e: &Expr<'_>, shape: Option<Shape>) -> Operand
     ensures { result ≡ rule.operand (rule.is_equality op && rule.is_null (tree_of e.now)) shape }
 {
     operand(is_equality(op) && is_null(e), shape)

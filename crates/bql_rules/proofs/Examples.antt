@@ -3,7 +3,7 @@ use Rattle.std.proofs.Common.{◌≡◌, ◌^◌, ◌-◌, ◌*◌, ◌+◌, [],
 use Rattle.bean_base.specs.declared.bounds.Bounds.{Bounds}
 use Rattle.query_columns.specs.declared.column.Column.TheVariants as column
 use Rattle.bql_tree.specs.declared.function.Function.TheVariants.{Cost, Sum, OneOf, Units}
-use Rattle.bql_tree.specs.declared.tree.Binary.TheVariants.{Times, Plus}
+use Rattle.bql_tree.specs.declared.tree.BinaryOperator.TheVariants.{Times, Plus}
 use Rattle.query_shapes.specs.declared.shape.Misfit.TheVariants.{Kind, TooWide}
 use Rattle.query_shapes.specs.declared.shape.Shape.{Shape}
 use Rattle.query_shapes.specs.declared.shape.Shape.TheVariants.{Truth, Text, Number}

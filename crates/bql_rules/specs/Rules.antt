@@ -7,12 +7,12 @@ use Rattle.std.specs.Result.{is_ok}
 use Rattle.bean_base.specs.declared.bounds.Bounds.{Bounds}
 use Rattle.bql_tree.specs.declared.function.Function.{Function}
 use Rattle.bql_tree.specs.declared.function.Function.TheVariants as function
-use Rattle.bql_tree.specs.declared.tree.Binary.{Binary}
-use Rattle.bql_tree.specs.declared.tree.Binary.TheVariants as binary
+use Rattle.bql_tree.specs.declared.tree.BinaryOperator.{BinaryOperator}
+use Rattle.bql_tree.specs.declared.tree.BinaryOperator.TheVariants as binary
 use Rattle.bql_tree.specs.declared.tree.Leaf.{Leaf}
 use Rattle.bql_tree.specs.declared.tree.Leaf.TheVariants as leaf
-use Rattle.bql_tree.specs.declared.tree.Unary.{Unary}
-use Rattle.bql_tree.specs.declared.tree.Unary.TheVariants as unary
+use Rattle.bql_tree.specs.declared.tree.UnaryOperator.{UnaryOperator}
+use Rattle.bql_tree.specs.declared.tree.UnaryOperator.TheVariants as unary
 use Rattle.query_columns.specs.ColumnShape.{column_shape}
 use Rattle.query_shapes.specs.Rules as machine
 use Rattle.query_shapes.specs.Rules.{Ruled}
@@ -42,7 +42,7 @@ leaf_shape b (leaf.HasAccount p) = Ok Truth
 
 -- ---- operators
 
-abbrev pub unary_shape : Unary → Shape → Ruled
+abbrev pub unary_shape : UnaryOperator → Shape → Ruled
 unary_shape unary.Not s = machine.of_truth Truth s
 unary_shape unary.Minus s = machine.negated s
 unary_shape (unary.Matches pattern) s = machine.of_text Truth s
@@ -63,7 +63,7 @@ by_machine op (Number p m) (Number q n) =
     of_both op (machine.aligned (max p q) (Number p m)) (machine.aligned (max p q) (Number q n))
 by_machine op s t = machine.binary_shape op s t
 
-abbrev pub binary_shape : Binary → Shape → Shape → Ruled
+abbrev pub binary_shape : BinaryOperator → Shape → Shape → Ruled
 binary_shape binary.Or s t = of_truths s t
 binary_shape binary.And s t = of_truths s t
 binary_shape binary.Equal s t = by_machine operations.Equal s t

@@ -2,19 +2,19 @@
 ghost use Rattle.std.specs.Prelude.{◌≡◌};
 ghost use Rattle.bql_rules.specs.Rules as rule;
 
-use bql_tree::{Binary, Unary};
+use bql_tree::{BinaryOperator, UnaryOperator};
 use query_shapes::rules::{aligned, negated, of_text, of_truth};
 use query_shapes::{Misfit, Shape};
 
 /// What an operator gives on an operand of the shape.
-pub fn unary_shape(op: &Unary<'_>, shape: Shape) -> Result<Shape, Misfit>
+pub fn unary_shape(op: &UnaryOperator<'_>, shape: Shape) -> Result<Shape, Misfit>
     ensures { result ≡ rule.unary_shape op.now shape }
 {
     match op {
-        Unary::Not => of_truth(Shape::Truth, shape),
-        Unary::Minus => negated(shape),
-        Unary::Matches(_) => of_text(Shape::Truth, shape),
-        Unary::Root(_) => of_text(Shape::Text, shape),
+        UnaryOperator::Not => of_truth(Shape::Truth, shape),
+        UnaryOperator::Minus => negated(shape),
+        UnaryOperator::Matches(_) => of_text(Shape::Truth, shape),
+        UnaryOperator::Root(_) => of_text(Shape::Text, shape),
     }
 }
 
@@ -45,20 +45,20 @@ fn by_machine(op: query_values::Binary, a: Shape, b: Shape) -> Result<Shape, Mis
 }
 
 /// What an operator gives between operands of these shapes, neither of which is a NULL.
-pub fn binary_shape(op: Binary, a: Shape, b: Shape) -> Result<Shape, Misfit>
+pub fn binary_shape(op: BinaryOperator, a: Shape, b: Shape) -> Result<Shape, Misfit>
     ensures { result ≡ rule.binary_shape op a b }
 {
     match op {
-        Binary::Or | Binary::And => of_truths(a, b),
-        Binary::Equal => by_machine(query_values::Binary::Equal, a, b),
-        Binary::NotEqual => by_machine(query_values::Binary::NotEqual, a, b),
-        Binary::Less => by_machine(query_values::Binary::Less, a, b),
-        Binary::LessOrEqual => by_machine(query_values::Binary::AtMost, a, b),
-        Binary::Greater => by_machine(query_values::Binary::Greater, a, b),
-        Binary::GreaterOrEqual => by_machine(query_values::Binary::AtLeast, a, b),
-        Binary::In => query_shapes::binary_shape(query_values::Binary::InSet, a, b),
-        Binary::Plus => by_machine(query_values::Binary::Add, a, b),
-        Binary::Minus => by_machine(query_values::Binary::Sub, a, b),
-        Binary::Times => query_shapes::binary_shape(query_values::Binary::Mul, a, b),
+        BinaryOperator::Or | BinaryOperator::And => of_truths(a, b),
+        BinaryOperator::Equal => by_machine(query_values::Binary::Equal, a, b),
+        BinaryOperator::NotEqual => by_machine(query_values::Binary::NotEqual, a, b),
+        BinaryOperator::Less => by_machine(query_values::Binary::Less, a, b),
+        BinaryOperator::LessOrEqual => by_machine(query_values::Binary::AtMost, a, b),
+        BinaryOperator::Greater => by_machine(query_values::Binary::Greater, a, b),
+        BinaryOperator::GreaterOrEqual => by_machine(query_values::Binary::AtLeast, a, b),
+        BinaryOperator::In => query_shapes::binary_shape(query_values::Binary::InSet, a, b),
+        BinaryOperator::Plus => by_machine(query_values::Binary::Add, a, b),
+        BinaryOperator::Minus => by_machine(query_values::Binary::Sub, a, b),
+        BinaryOperator::Times => query_shapes::binary_shape(query_values::Binary::Mul, a, b),
     }
 }

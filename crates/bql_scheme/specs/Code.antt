@@ -1,8 +1,8 @@
 -- The instructions that compute an expression at a place of a section: operands from left to right,
 -- and behind them the operation.
 use Rattle.std.specs.Prelude.{ℕ, ◌+◌, Bool, true, false, max, List, [], ◌∷◌, ◌++◌, length}
-use Rattle.bql_tree.specs.declared.tree.Entry as entries
-use Rattle.bql_tree.specs.declared.tree.Entry.TheVariants.{Posting, Transaction, Any}
+use Rattle.bql_tree.specs.declared.tree.MetadataOwner as entries
+use Rattle.bql_tree.specs.declared.tree.MetadataOwner.TheVariants.{Posting, Transaction, Any}
 use Rattle.query_code.specs.declared.instruction.Instruction.{Instruction}
 use Rattle.query_code.specs.declared.instruction.Instruction.TheVariants.{Push, Unary, Binary, Jump}
 use Rattle.query_code.specs.declared.instruction.Instruction.TheVariants.{JumpIfFalse}
@@ -50,7 +50,7 @@ module _ (pool : List Constant) where
   of_truth false = push.False
 
   -- by the index of its key in the pool
-  abbrev pub of_entry : entries.Entry → ℕ → pushes.Push
+  abbrev pub of_entry : entries.MetadataOwner → ℕ → pushes.Push
   of_entry Posting index = push.Meta index
   of_entry Transaction index = push.EntryMeta index
   of_entry Any index = push.AnyMeta index

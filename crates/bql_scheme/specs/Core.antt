@@ -1,7 +1,7 @@
 -- What a section is to compute: what the machine loads, and its operations over it, before they
 -- stand at places.
 use Rattle.std.specs.Prelude.{ℕ, Bool, List}
-use Rattle.bql_tree.specs.declared.tree.Entry.{Entry}
+use Rattle.bql_tree.specs.declared.tree.MetadataOwner.{MetadataOwner}
 use Rattle.query_code.specs.declared.instruction.Unary.{Unary}
 use Rattle.query_code.specs.declared.program.Constant.{Constant}
 use Rattle.query_columns.specs.declared.column.Column.{Column}
@@ -13,7 +13,7 @@ pub data Load : Type 0 where
   truth : Bool → Load
   constant : Constant → Load
   column : Column → Load
-  entry : Entry → (key : List ℕ) → Load
+  entry : MetadataOwner → (key : List ℕ) → Load
   key : ℕ → Load
   aggregate : ℕ → Load
 

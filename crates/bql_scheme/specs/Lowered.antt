@@ -10,12 +10,12 @@ use Rattle.bql_tree.specs.Tree.{Operation, leaf_of, one_of, two_of, call_of, Tre
 use Rattle.bql_tree.specs.Tree.{no_trees, trees}
 use Rattle.bql_tree.specs.declared.function.Function.{Function}
 use Rattle.bql_tree.specs.declared.function.Function.TheVariants as function
-use Rattle.bql_tree.specs.declared.tree.Binary.{Binary}
-use Rattle.bql_tree.specs.declared.tree.Binary.TheVariants as binary
+use Rattle.bql_tree.specs.declared.tree.BinaryOperator.{BinaryOperator}
+use Rattle.bql_tree.specs.declared.tree.BinaryOperator.TheVariants as binary
 use Rattle.bql_tree.specs.declared.tree.Leaf.{Leaf}
 use Rattle.bql_tree.specs.declared.tree.Leaf.TheVariants as leaf
-use Rattle.bql_tree.specs.declared.tree.Unary.{Unary}
-use Rattle.bql_tree.specs.declared.tree.Unary.TheVariants as unary
+use Rattle.bql_tree.specs.declared.tree.UnaryOperator.{UnaryOperator}
+use Rattle.bql_tree.specs.declared.tree.UnaryOperator.TheVariants as unary
 use Rattle.bql_types.specs.Shaped.{is_null, shape_of}
 use Rattle.bql_types.specs.Sought.{is_aggregate, is_key}
 use Rattle.query_code.specs.declared.instruction.Unary as machine
@@ -63,18 +63,18 @@ of_leaf (leaf.Meta e k) = loading (entry e k)
 of_leaf (leaf.HasAccount p) = changing (some_matching p) (loading (column columns.Accounts))
 of_leaf l = loading (truth false)
 
-abbrev pub of_unary : Unary → Core → Core
+abbrev pub of_unary : UnaryOperator → Core → Core
 of_unary unary.Not x = on_one operation.Not x
 of_unary unary.Minus x = on_one operation.Neg x
 of_unary (unary.Matches p) x = changing (matching p) x
 of_unary (unary.Root n) x = on_one (operation.Root n) x
 
 -- a side that is NULL asks whether the other is null
-abbrev pub of_null : Binary → Core → Core
+abbrev pub of_null : BinaryOperator → Core → Core
 of_null binary.NotEqual x = on_one operation.Not (on_one operation.IsNull x)
 of_null op x = on_one operation.IsNull x
 
-abbrev pub of_binary : Binary → Option ℕ → Option ℕ → Core → Core → Core
+abbrev pub of_binary : BinaryOperator → Option ℕ → Option ℕ → Core → Core → Core
 of_binary binary.Or p q x y = either x y
 of_binary binary.And p q x y = both x y
 of_binary binary.Equal p q x y = joined operations.Equal p q x y

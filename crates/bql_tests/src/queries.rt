@@ -1,7 +1,7 @@
 //! Queries, their trees and their faults.
 
 use bql_parser::{QueryFault, parse_query};
-use bql_tree::{Binary, Expr};
+use bql_tree::{BinaryOperator, Expr};
 use std::alloc::{AllocError, Global};
 use std::test::Fail;
 
@@ -155,14 +155,22 @@ fn limits_and_one_more(rt: HostRuntime) -> Result<(), Fail> {
 }
 
 /// The operation of an expression, and those of its sides.
-fn operations(expr: &Expr<'_>) -> Option<(Binary, Option<Binary>, Option<Binary>)> {
+fn operations(
+    expr: &Expr<'_>,
+) -> Option<
+    (
+        BinaryOperator,
+        Option<BinaryOperator>,
+        Option<BinaryOperator>,
+    ),
+> {
     match expr {
         Expr::Two(_, op, left, right) => Some((*op, operation(left), operation(right))),
         _ => None,
     }
 }
 
-fn operation(expr: &Expr<'_>) -> Option<Binary> {
+fn operation(expr: &Expr<'_>) -> Option<BinaryOperator> {
     match expr {
         Expr::Two(_, op, _, _) => Some(*op),
         _ => None,
@@ -170,7 +178,16 @@ fn operation(expr: &Expr<'_>) -> Option<Binary> {
 }
 
 /// The operations of the first target.
-fn first_operations(alloc: Global, text: &str) -> Option<(Binary, Option<Binary>, Option<Binary>)> {
+fn first_operations(
+    alloc: Global,
+    text: &str,
+) -> Option<
+    (
+        BinaryOperator,
+        Option<BinaryOperator>,
+        Option<BinaryOperator>,
+    ),
+> {
     match parse_query(alloc, text) {
         Ok(query) => match query.targets.first() {
             Some(target) => operations(&target.expr),
@@ -183,31 +200,41 @@ fn first_operations(alloc: Global, text: &str) -> Option<(Binary, Option<Binary>
 #[test]
 fn levels_of_operators(rt: HostRuntime) -> Result<(), Fail> {
     let wanted = [
-        ("SELECT 1 - 2 - 3", Binary::Minus, Some(Binary::Minus), None),
+        (
+            "SELECT 1 - 2 - 3",
+            BinaryOperator::Minus,
+            Some(BinaryOperator::Minus),
+            None,
+        ),
         (
             "SELECT 1 - (2 - 3)",
-            Binary::Minus,
+            BinaryOperator::Minus,
             None,
-            Some(Binary::Minus),
+            Some(BinaryOperator::Minus),
         ),
-        ("SELECT 1 + 2 * 3", Binary::Plus, None, Some(Binary::Times)),
+        (
+            "SELECT 1 + 2 * 3",
+            BinaryOperator::Plus,
+            None,
+            Some(BinaryOperator::Times),
+        ),
         (
             "SELECT TRUE OR TRUE AND TRUE",
-            Binary::Or,
+            BinaryOperator::Or,
             None,
-            Some(Binary::And),
+            Some(BinaryOperator::And),
         ),
         (
             "SELECT TRUE AND 1 = 1 OR TRUE",
-            Binary::Or,
-            Some(Binary::And),
+            BinaryOperator::Or,
+            Some(BinaryOperator::And),
             None,
         ),
         (
             "SELECT 1 + 1 < 2 * 3",
-            Binary::Less,
-            Some(Binary::Plus),
-            Some(Binary::Times),
+            BinaryOperator::Less,
+            Some(BinaryOperator::Plus),
+            Some(BinaryOperator::Times),
         ),
     ];
     for (text, op, left, right) in wanted {

@@ -17,10 +17,10 @@ use Rattle.bql_tree.specs.declared.function.Function as functions
 use Rattle.bql_tree.specs.declared.function.Function.TheVariants as function
 use Rattle.bql_tree.specs.declared.function.Scope.{Scope}
 use Rattle.bql_tree.specs.declared.part.Alone.TheVariants.{No}
-use Rattle.bql_tree.specs.declared.tree.Entry.TheVariants.{Posting, Transaction, Any}
+use Rattle.bql_tree.specs.declared.tree.MetadataOwner.TheVariants.{Posting, Transaction, Any}
 use Rattle.bql_tree.specs.declared.tree.Leaf as leaves
 use Rattle.bql_tree.specs.declared.tree.Leaf.TheVariants as leaf
-use Rattle.bql_tree.specs.declared.tree.Unary.TheVariants as unary
+use Rattle.bql_tree.specs.declared.tree.UnaryOperator.TheVariants as unary
 
 abbrev pub is_count : Token → Bool
 is_count t = str_eq_ignore_ascii_case t.text (codes "count")

@@ -4,11 +4,11 @@ use Rattle.bql_lexer.specs.declared.kind.Kind.{Kind}
 use Rattle.bql_lexer.specs.declared.kind.Kind.TheVariants as kind
 use Rattle.bql_tree.specs.declared.level.Level.{Level}
 use Rattle.bql_tree.specs.declared.level.Level.TheVariants as level
-use Rattle.bql_tree.specs.declared.tree.Binary.{Binary}
-use Rattle.bql_tree.specs.declared.tree.Binary.TheVariants as binary
+use Rattle.bql_tree.specs.declared.tree.BinaryOperator.{BinaryOperator}
+use Rattle.bql_tree.specs.declared.tree.BinaryOperator.TheVariants as binary
 
 -- the operator of a level that a token is
-abbrev pub operator_of : Level → Kind → Option Binary
+abbrev pub operator_of : Level → Kind → Option BinaryOperator
 operator_of level.Or kind.Or = Some binary.Or
 operator_of level.And kind.And = Some binary.And
 operator_of level.Sum kind.Plus = Some binary.Plus
@@ -16,7 +16,7 @@ operator_of level.Sum kind.Minus = Some binary.Minus
 operator_of level.Product kind.Star = Some binary.Times
 operator_of level kind = None
 
-abbrev pub comparison_of : Kind → Option Binary
+abbrev pub comparison_of : Kind → Option BinaryOperator
 comparison_of kind.Equal = Some binary.Equal
 comparison_of kind.NotEqual = Some binary.NotEqual
 comparison_of kind.Less = Some binary.Less

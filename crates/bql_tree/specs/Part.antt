@@ -16,13 +16,13 @@ use Rattle.bql_tree.specs.declared.function.Scope.TheVariants.{Transactions, Pos
 use Rattle.bql_tree.specs.declared.part.Alone.{Alone}
 use Rattle.bql_tree.specs.declared.part.Alone.TheVariants.{No, Name, Number}
 use Rattle.bql_tree.specs.declared.part.Part as parts
-use Rattle.bql_tree.specs.declared.tree.Binary.{Binary}
-use Rattle.bql_tree.specs.declared.tree.Binary.TheVariants as binary
+use Rattle.bql_tree.specs.declared.tree.BinaryOperator.{BinaryOperator}
+use Rattle.bql_tree.specs.declared.tree.BinaryOperator.TheVariants as binary
 use Rattle.bql_tree.specs.declared.tree.Expr.{Expr}
 use Rattle.bql_tree.specs.declared.tree.Leaf as leaves
 use Rattle.bql_tree.specs.declared.tree.Leaf.TheVariants as leaf_kind
-use Rattle.bql_tree.specs.declared.tree.Unary as unaries
-use Rattle.bql_tree.specs.declared.tree.Unary.TheVariants as unary
+use Rattle.bql_tree.specs.declared.tree.UnaryOperator as unaries
+use Rattle.bql_tree.specs.declared.tree.UnaryOperator.TheVariants as unary
 
 -- from where to where an expression stands, how high it is, whether it is one token, and its tree,
 -- or else the least cause for which it is refused
@@ -175,11 +175,11 @@ around start end inner = record {
 abbrev pub group : Token → Part → Token → Part
 group opening inner close = around opening.start close.end inner
 
-abbrev pub one_tree : ℕ → unaries.Unary → Result (Tree ℕ) Cause → Result (Tree ℕ) Cause
+abbrev pub one_tree : ℕ → unaries.UnaryOperator → Result (Tree ℕ) Cause → Result (Tree ℕ) Cause
 one_tree at op (Ok x) = Ok (node at (one_of op) (trees x no_trees))
 one_tree at op (Err c) = Err c
 
-abbrev pub one : ℕ → ℕ → unaries.Unary → Part → Part
+abbrev pub one : ℕ → ℕ → unaries.UnaryOperator → Part → Part
 one start end op inner = record {
   start = start;
   end = end;
@@ -198,17 +198,17 @@ signed sign false inner = around sign.start inner.end inner
 abbrev pub matched : Part → Token → Part
 matched inner pattern = one inner.start pattern.end (unary.Matches pattern.text) inner
 
-abbrev pub sides : Binary → Result (Tree ℕ) Cause → Result (Tree ℕ) Cause
+abbrev pub sides : BinaryOperator → Result (Tree ℕ) Cause → Result (Tree ℕ) Cause
     → Result (Tree ℕ × Tree ℕ) Cause
 sides binary.Equal a b = equated a b
 sides binary.NotEqual a b = equated a b
 sides op a b = both (not_null a) (not_null b)
 
-abbrev pub two_tree : ℕ → Binary → Result (Tree ℕ × Tree ℕ) Cause → Result (Tree ℕ) Cause
+abbrev pub two_tree : ℕ → BinaryOperator → Result (Tree ℕ × Tree ℕ) Cause → Result (Tree ℕ) Cause
 two_tree at op (Ok p) = Ok (node at (two_of op) (trees p.0 (trees p.1 no_trees)))
 two_tree at op (Err c) = Err c
 
-abbrev pub two_high : ℕ → Binary → Part → Part → Part
+abbrev pub two_high : ℕ → BinaryOperator → Part → Part → Part
 two_high height op left right = record {
   start = left.start;
   end = right.end;
@@ -217,5 +217,5 @@ two_high height op left right = record {
   tree = two_tree left.start op (not_too_high left.start height (sides op left.tree right.tree));
 }
 
-abbrev pub two : Binary → Part → Part → Part
+abbrev pub two : BinaryOperator → Part → Part → Part
 two op left right = two_high (above (max left.height right.height)) op left right

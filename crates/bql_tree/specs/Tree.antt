@@ -2,15 +2,15 @@
 use Rattle.std.specs.Prelude.{ℕ, List, [], ◌∷◌}
 use Rattle.bql_tree.specs.declared.function.Function.{Function}
 use Rattle.bql_tree.specs.declared.tree.Leaf.{Leaf}
-use Rattle.bql_tree.specs.declared.tree.Unary.{Unary}
-use Rattle.bql_tree.specs.declared.tree.Binary.{Binary}
+use Rattle.bql_tree.specs.declared.tree.UnaryOperator.{UnaryOperator}
+use Rattle.bql_tree.specs.declared.tree.BinaryOperator.{BinaryOperator}
 use Rattle.bql_tree.specs.declared.tree.Expr.{Expr, Row_of-Expr, end_of-Expr, more_of-Expr}
 use Rattle.bql_tree.specs.declared.tree.Expr.TheVariants as expr
 
 pub data Operation : Type 0 where
   leaf_of : Leaf → Operation
-  one_of : Unary → Operation
-  two_of : Binary → Operation
+  one_of : UnaryOperator → Operation
+  two_of : BinaryOperator → Operation
   call_of : Function → Operation
 
 mutual

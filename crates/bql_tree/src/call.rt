@@ -6,7 +6,7 @@ ghost use Rattle.bql_tree.specs.Part.{part_of, parts_in, parts_of, tree_found, t
 use crate::cause::{Cause, both};
 use crate::function::{Function, Scope};
 use crate::part::{Alone, Part, above, not_null, not_too_high, unknown};
-use crate::tree::{Entry, Expr, Leaf, Unary};
+use crate::tree::{Expr, Leaf, MetadataOwner, UnaryOperator};
 use bean_base::Slice;
 use bean_base::limits::MOST_COMPONENTS;
 use bql_lexer::Token;
@@ -79,9 +79,9 @@ fn keyed<'a>(function: Function, key: Slice<'a>) -> Leaf<'a>
     ensures { result ≡ rule.keyed function key.entry }
 {
     match function {
-        Function::Meta => Leaf::Meta(Entry::Posting, key),
-        Function::EntryMeta => Leaf::Meta(Entry::Transaction, key),
-        Function::AnyMeta => Leaf::Meta(Entry::Any, key),
+        Function::Meta => Leaf::Meta(MetadataOwner::Posting, key),
+        Function::EntryMeta => Leaf::Meta(MetadataOwner::Transaction, key),
+        Function::AnyMeta => Leaf::Meta(MetadataOwner::Any, key),
         _ => Leaf::HasAccount(key),
     }
 }
@@ -123,7 +123,7 @@ fn root<'a>(
 {
     match both(not_null(account.expr), components(count)) {
         Ok((account, count)) => {
-            Ok(Ok(Box::new(alloc, Expr::One(start, Unary::Root(count), account))?))
+            Ok(Ok(Box::new(alloc, Expr::One(start, UnaryOperator::Root(count), account))?))
         }
         Err(cause) => Ok(Err(cause)),
     }

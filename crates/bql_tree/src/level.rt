@@ -2,7 +2,7 @@
 ghost use Rattle.std.specs.Prelude.{◌≡◌};
 ghost use Rattle.bql_tree.specs.Level as rule;
 
-use crate::tree::Binary;
+use crate::tree::BinaryOperator;
 use bql_lexer::Kind;
 
 /// Levels of operators that stand in chains and group to the left.
@@ -16,31 +16,31 @@ pub enum Level {
 
 impl Level {
     /// The operator of the level that a token is.
-    pub fn operator(self, kind: Kind) -> Option<Binary>
+    pub fn operator(self, kind: Kind) -> Option<BinaryOperator>
         ensures { result ≡ rule.operator_of self kind }
     {
         match (self, kind) {
-            (Level::Or, Kind::Or) => Some(Binary::Or),
-            (Level::And, Kind::And) => Some(Binary::And),
-            (Level::Sum, Kind::Plus) => Some(Binary::Plus),
-            (Level::Sum, Kind::Minus) => Some(Binary::Minus),
-            (Level::Product, Kind::Star) => Some(Binary::Times),
+            (Level::Or, Kind::Or) => Some(BinaryOperator::Or),
+            (Level::And, Kind::And) => Some(BinaryOperator::And),
+            (Level::Sum, Kind::Plus) => Some(BinaryOperator::Plus),
+            (Level::Sum, Kind::Minus) => Some(BinaryOperator::Minus),
+            (Level::Product, Kind::Star) => Some(BinaryOperator::Times),
             _ => None,
         }
     }
 }
 
 /// The comparison that a token is.
-pub fn comparison_of(kind: Kind) -> Option<Binary>
+pub fn comparison_of(kind: Kind) -> Option<BinaryOperator>
     ensures { result ≡ rule.comparison_of kind }
 {
     match kind {
-        Kind::Equal => Some(Binary::Equal),
-        Kind::NotEqual => Some(Binary::NotEqual),
-        Kind::Less => Some(Binary::Less),
-        Kind::LessOrEqual => Some(Binary::LessOrEqual),
-        Kind::Greater => Some(Binary::Greater),
-        Kind::GreaterOrEqual => Some(Binary::GreaterOrEqual),
+        Kind::Equal => Some(BinaryOperator::Equal),
+        Kind::NotEqual => Some(BinaryOperator::NotEqual),
+        Kind::Less => Some(BinaryOperator::Less),
+        Kind::LessOrEqual => Some(BinaryOperator::LessOrEqual),
+        Kind::Greater => Some(BinaryOperator::Greater),
+        Kind::GreaterOrEqual => Some(BinaryOperator::GreaterOrEqual),
         _ => None,
     }
 }

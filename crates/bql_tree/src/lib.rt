@@ -43,4 +43,4 @@ pub use cause::{Cause, CauseKind};
 pub use function::{Function, Scope};
 pub use part::{Alone, Part};
 pub use query_columns::Column;
-pub use tree::{Binary, Entry, Expr, Leaf, Unary};
+pub use tree::{BinaryOperator, Expr, Leaf, MetadataOwner, UnaryOperator};

@@ -6,7 +6,7 @@ ghost use Rattle.bql_tree.specs.Tree.{tree_of};
 
 use crate::cause::{Cause, both};
 use crate::function::{Scope, is_left_out};
-use crate::tree::{Binary, Expr, Leaf, Unary};
+use crate::tree::{BinaryOperator, Expr, Leaf, UnaryOperator};
 use bean_base::Slice;
 use bean_base::limits::GREATEST_HEIGHT;
 use bql_lexer::Token;
@@ -188,7 +188,7 @@ fn one<'a>(
     alloc: Global,
     start: usize,
     end: usize,
-    op: Unary<'a>,
+    op: UnaryOperator<'a>,
     inner: Part<'a>,
 ) -> Result<Part<'a>, AllocError>
     ensures { IfOk result (λ p. part_of p
@@ -213,7 +213,7 @@ pub fn denied<'a>(alloc: Global, not: &Token<'a>, inner: Part<'a>) -> Result<Par
     ensures { IfOk result (λ p. part_of p ≡ rule.denied not.now (part_of inner.entry)) }
 {
     let end = inner.end;
-    one(alloc, not.start, end, Unary::Not, inner)
+    one(alloc, not.start, end, UnaryOperator::Not, inner)
 }
 
 /// A sign and an expression; a plus changes nothing.
@@ -228,7 +228,7 @@ pub fn signed<'a>(
 {
     let (start, end) = (sign.start, inner.end);
     if is_minus {
-        return one(alloc, start, end, Unary::Minus, inner);
+        return one(alloc, start, end, UnaryOperator::Minus, inner);
     }
     let height = above(inner.height);
     Ok(Part {
@@ -253,14 +253,14 @@ pub fn matched<'a>(
         alloc,
         start,
         pattern.end,
-        Unary::Matches(pattern.text.lend()),
+        UnaryOperator::Matches(pattern.text.lend()),
         inner,
     )
 }
 
 /// The sides of an operation.
 fn sides<'a>(
-    op: Binary,
+    op: BinaryOperator,
     left: Result<Box<Expr<'a>>, Cause>,
     right: Result<Box<Expr<'a>>, Cause>,
 ) -> Result<(Box<Expr<'a>>, Box<Expr<'a>>), Cause>
@@ -268,7 +268,7 @@ fn sides<'a>(
         ≡ rule.sides op (tree_found left.entry) (tree_found right.entry) }
 {
     match op {
-        Binary::Equal | Binary::NotEqual => equated(left, right),
+        BinaryOperator::Equal | BinaryOperator::NotEqual => equated(left, right),
         _ => both(not_null(left), not_null(right)),
     }
 }
@@ -276,7 +276,7 @@ fn sides<'a>(
 /// An operation between two expressions.
 pub fn two<'a>(
     alloc: Global,
-    op: Binary,
+    op: BinaryOperator,
     left: Part<'a>,
     right: Part<'a>,
 ) -> Result<Part<'a>, AllocError>

@@ -7,7 +7,7 @@ use query_values::Decimal;
 
 /// Whose metadata an entry is.
 #[derive(Clone, Copy, Debug, Drop, PartialEq, Eq)]
-pub enum Entry {
+pub enum MetadataOwner {
     /// `META`: the posting's.
     Posting,
     /// `ENTRY_META`: the transaction's.
@@ -31,14 +31,14 @@ pub enum Leaf<'a> {
     /// `COUNT(*)`
     Rows,
     /// The value of a metadata key.
-    Meta(Entry, Slice<'a>),
+    Meta(MetadataOwner, Slice<'a>),
     /// Whether an account of the transaction matches a pattern.
     HasAccount(Slice<'a>),
 }
 
 /// An operation on one expression.
 #[derive(Debug, Drop)]
-pub enum Unary<'a> {
+pub enum UnaryOperator<'a> {
     Not,
     Minus,
     /// `~` and its pattern.
@@ -49,7 +49,7 @@ pub enum Unary<'a> {
 
 /// An operation that stands between two expressions.
 #[derive(Clone, Copy, Debug, Drop, PartialEq, Eq)]
-pub enum Binary {
+pub enum BinaryOperator {
     Or,
     And,
     Equal,
@@ -70,7 +70,7 @@ pub enum Binary {
 #[derive(Debug, Drop)]
 pub enum Expr<'a> {
     Leaf(usize, Leaf<'a>),
-    One(usize, Unary<'a>, Box<Expr<'a>>),
-    Two(usize, Binary, Box<Expr<'a>>, Box<Expr<'a>>),
+    One(usize, UnaryOperator<'a>, Box<Expr<'a>>),
+    Two(usize, BinaryOperator, Box<Expr<'a>>, Box<Expr<'a>>),
     Call(usize, Function, Vec<Expr<'a>>),
 }

@@ -9,7 +9,7 @@ use Rattle.query_columns.specs.declared.column.Column.{Column}
 use Rattle.query_columns.specs.declared.column.Column.TheVariants as column
 use Rattle.bql_tree.specs.declared.function.Function.{Function}
 use Rattle.bql_tree.specs.declared.function.Function.TheVariants.{Sum, Cost}
-use Rattle.bql_tree.specs.declared.tree.Binary.TheVariants.{Plus, Times}
+use Rattle.bql_tree.specs.declared.tree.BinaryOperator.TheVariants.{Plus, Times}
 use Rattle.bql_tree.specs.declared.tree.Leaf.TheVariants as leaf
 use Rattle.bql_types.specs.Cause.{cause_at, least_of}
 use Rattle.bql_types.specs.Typing.{causes}

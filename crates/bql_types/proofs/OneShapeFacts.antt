@@ -19,8 +19,8 @@ use Rattle.bql_tree.specs.contracts.tree.Binary as binaries
 use Rattle.bql_tree.specs.contracts.tree.Entry as entries
 use Rattle.bql_tree.specs.declared.tree.Leaf.{Leaf}
 use Rattle.bql_tree.specs.declared.tree.Leaf.TheVariants as leaf
-use Rattle.bql_tree.specs.declared.tree.Unary.{Unary}
-use Rattle.bql_tree.specs.declared.tree.Unary.TheVariants as unary
+use Rattle.bql_tree.specs.declared.tree.UnaryOperator.{UnaryOperator}
+use Rattle.bql_tree.specs.declared.tree.UnaryOperator.TheVariants as unary
 use Rattle.query_columns.specs.contracts.column.Column as columns
 use Rattle.query_shapes.specs.Rules.{Ruled}
 use Rattle.query_values.specs.declared.decimal.Decimal.{Decimal}
@@ -75,7 +75,7 @@ leaf_is (leaf.Meta x k) (leaf.Meta y l) e =
 leaf_is (leaf.HasAccount a) (leaf.HasAccount b) e = ap leaf.HasAccount ((texts a b).0 e)
 leaf_is l m e = cc
 
-unary_is : (f g : Unary) → same_unary f g ≡ true → f ≡ g
+unary_is : (f g : UnaryOperator) → same_unary f g ≡ true → f ≡ g
 unary_is unary.Not unary.Not e = refl
 unary_is unary.Minus unary.Minus e = refl
 unary_is (unary.Matches a) (unary.Matches b) e = ap unary.Matches ((texts a b).0 e)

@@ -6,9 +6,9 @@ use Rattle.bean_base.specs.declared.bounds.Bounds.{Bounds}
 use Rattle.bql_tree.specs.Tree.{Operation, one_of, two_of, call_of, Tree, node, Trees, trees}
 use Rattle.bql_tree.specs.Tree.{no_trees, tree_of, trees_of}
 use Rattle.bql_tree.specs.declared.function.Function.{Function}
-use Rattle.bql_tree.specs.declared.tree.Binary.{Binary}
+use Rattle.bql_tree.specs.declared.tree.BinaryOperator.{BinaryOperator}
 use Rattle.bql_tree.specs.declared.tree.Expr.{Expr}
-use Rattle.bql_tree.specs.declared.tree.Unary.{Unary}
+use Rattle.bql_tree.specs.declared.tree.UnaryOperator.{UnaryOperator}
 use Rattle.query_shapes.specs.Rules.{Ruled}
 use Rattle.query_shapes.specs.declared.shape.Shape.{Shape}
 use Rattle.bql_types.specs.Cause.{told}
@@ -75,12 +75,12 @@ concluded_is b at op parts found next r is told_is =
     told_with : Option Shape → Option Cause → Seen
     told_with s f = record { shape = s; found = f }
 
-pub before_is : (b : Bounds) (op : Unary) (s : Option Shape)
+pub before_is : (b : Bounds) (op : UnaryOperator) (s : Option Shape)
     → before op s ≡ ruled b (one_of op) (beside (operand false s) (Some []))
 before_is b op (Some s) = refl
 before_is b op None = refl
 
-pub between_is : (b : Bounds) (op : Binary) (x y : Operand)
+pub between_is : (b : Bounds) (op : BinaryOperator) (x y : Operand)
     → between op x y ≡ ruled b (two_of op) (beside x (beside y (Some [])))
 between_is b op (Shaped s) (Shaped t) = refl
 between_is b op (Shaped s) Null = refl
@@ -90,7 +90,7 @@ between_is b op Null Null = refl
 between_is b op Null Shapeless = refl
 between_is b op Shapeless y = refl
 
-pub one_seen : (b : Bounds) (e x : Tree ℕ) (at : ℕ) (op : Unary) (found : Option Cause) (s : Seen)
+pub one_seen : (b : Bounds) (e x : Tree ℕ) (at : ℕ) (op : UnaryOperator) (found : Option Cause) (s : Seen)
     → e ≡ node at (one_of op) (trees x no_trees) → s ≡ seen b found x
     → concluded at (before op s.shape) s.found ≡ seen b found e
 one_seen b e x at op found s is h =
@@ -99,7 +99,7 @@ one_seen b e x at op found s is h =
     (ap (λ z. z.found) h ∙ sym (told_append found (shape_causes b x) []))
     ∙ sym (ap (seen b found) is)
 
-pub two_seen : (b : Bounds) (e x y : Tree ℕ) (at : ℕ) (op : Binary) (found : Option Cause)
+pub two_seen : (b : Bounds) (e x y : Tree ℕ) (at : ℕ) (op : BinaryOperator) (found : Option Cause)
     (s t : SeenPart) → e ≡ node at (two_of op) (trees x (trees y no_trees))
     → s ≡ seen_part b op found x → t ≡ seen_part b op s.found y
     → concluded at (between op s.operand t.operand) t.found ≡ seen b found e

@@ -14,8 +14,8 @@ use Rattle.bql_tree.specs.contracts.tree.Binary as binaries
 use Rattle.bql_tree.specs.contracts.tree.Entry as entries
 use Rattle.bql_tree.specs.declared.tree.Leaf.{Leaf}
 use Rattle.bql_tree.specs.declared.tree.Leaf.TheVariants as leaf
-use Rattle.bql_tree.specs.declared.tree.Unary.{Unary}
-use Rattle.bql_tree.specs.declared.tree.Unary.TheVariants as unary
+use Rattle.bql_tree.specs.declared.tree.UnaryOperator.{UnaryOperator}
+use Rattle.bql_tree.specs.declared.tree.UnaryOperator.TheVariants as unary
 
 abbrev pub same_text : List ℕ → List ℕ → Bool
 same_text a b = pointwise nat_eq a b
@@ -36,7 +36,7 @@ same_leaf (leaf.Meta e k) (leaf.Meta f l) = sameb entries.the_type e f && same_t
 same_leaf (leaf.HasAccount a) (leaf.HasAccount b) = same_text a b
 same_leaf l m = false
 
-abbrev pub same_unary : Unary → Unary → Bool
+abbrev pub same_unary : UnaryOperator → UnaryOperator → Bool
 same_unary unary.Not unary.Not = true
 same_unary unary.Minus unary.Minus = true
 same_unary (unary.Matches a) (unary.Matches b) = same_text a b

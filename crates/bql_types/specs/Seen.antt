@@ -5,8 +5,8 @@ use Rattle.std.specs.declared.alloc.Global.{Global}
 use Rattle.bean_base.specs.declared.bounds.Bounds.{Bounds}
 use Rattle.bql_rules.specs.Rules.{binary_shape, unary_shape}
 use Rattle.bql_tree.specs.Tree.{Tree, Trees}
-use Rattle.bql_tree.specs.declared.tree.Binary.{Binary}
-use Rattle.bql_tree.specs.declared.tree.Unary.{Unary}
+use Rattle.bql_tree.specs.declared.tree.BinaryOperator.{BinaryOperator}
+use Rattle.bql_tree.specs.declared.tree.UnaryOperator.{UnaryOperator}
 use Rattle.query_shapes.specs.Rules.{Ruled}
 use Rattle.query_shapes.specs.declared.shape.Misfit.TheVariants.{Kind}
 use Rattle.query_shapes.specs.declared.shape.Shape.{Shape}
@@ -25,11 +25,11 @@ use Rattle.bql_types.specs.declared.shaped.SeenPart.{SeenPart}
 abbrev pub concluded : ℕ → Option Ruled → Option Cause → Seen
 concluded at r found = record { shape = given r; found = told found (misfit_at at r) }
 
-abbrev pub before : Unary → Option Shape → Option Ruled
+abbrev pub before : UnaryOperator → Option Shape → Option Ruled
 before op (Some s) = Some (unary_shape op s)
 before op None = None
 
-abbrev pub between : Binary → Operand → Operand → Option Ruled
+abbrev pub between : BinaryOperator → Operand → Operand → Option Ruled
 between op (Shaped s) (Shaped t) = Some (binary_shape op s t)
 between op (Shaped s) Null = Some (rule.beside_null op)
 between op Null (Shaped t) = Some (rule.beside_null op)
@@ -51,7 +51,7 @@ seen b found t = record { shape = shape_of b t; found = told found (shape_causes
 abbrev pub part_causes : Bounds → Bool → Tree ℕ → List Cause
 part_causes b eq t = if eq && is_null t then [] else shape_causes b t
 
-abbrev pub seen_part : Bounds → Binary → Option Cause → Tree ℕ → SeenPart
+abbrev pub seen_part : Bounds → BinaryOperator → Option Cause → Tree ℕ → SeenPart
 seen_part b op found t = record {
   operand = operand (is_equality op && is_null t) (shape_of b t);
   found = told found (part_causes b (is_equality op) t);

@@ -5,8 +5,8 @@ use Rattle.bean_base.specs.declared.bounds.Bounds.{Bounds}
 use Rattle.bql_rules.specs.Rules.{leaf_shape, unary_shape, binary_shape, call_shape}
 use Rattle.bql_tree.specs.Tree.{Operation, leaf_of, one_of, two_of, call_of, Tree, node, Trees}
 use Rattle.bql_tree.specs.Tree.{no_trees, trees}
-use Rattle.bql_tree.specs.declared.tree.Binary.{Binary}
-use Rattle.bql_tree.specs.declared.tree.Binary.TheVariants as binary
+use Rattle.bql_tree.specs.declared.tree.BinaryOperator.{BinaryOperator}
+use Rattle.bql_tree.specs.declared.tree.BinaryOperator.TheVariants as binary
 use Rattle.bql_tree.specs.declared.tree.Leaf.TheVariants as leaf
 use Rattle.query_shapes.specs.Rules.{Ruled}
 use Rattle.query_shapes.specs.declared.shape.Misfit.{Misfit}
@@ -24,7 +24,7 @@ abbrev pub is_null : Tree ℕ → Bool
 is_null (node at (leaf_of leaf.Null) no_trees) = true
 is_null t = false
 
-abbrev pub is_equality : Binary → Bool
+abbrev pub is_equality : BinaryOperator → Bool
 is_equality binary.Equal = true
 is_equality binary.NotEqual = true
 is_equality op = false
@@ -35,7 +35,7 @@ is_equation (two_of op) = is_equality op
 is_equation op = false
 
 -- beside a NULL stands any value
-abbrev pub beside_null : Binary → Ruled
+abbrev pub beside_null : BinaryOperator → Ruled
 beside_null op = if is_equality op then Ok Truth else Err Kind
 
 -- the shape that an operation gives over operands of these shapes, a NULL left out

@@ -3,7 +3,7 @@ ghost use Rattle.std.specs.Prelude.{◌≡◌};
 ghost use Rattle.bql_tree.specs.Tree.{tree_of, trees_of};
 ghost use Rattle.bql_types.specs.Same as rule;
 
-use bql_tree::{Expr, Leaf, Unary};
+use bql_tree::{Expr, Leaf, UnaryOperator};
 
 fn same_leaf(a: &Leaf<'_>, b: &Leaf<'_>) -> bool
     ensures { result ≡ rule.same_leaf a.now b.now }
@@ -23,14 +23,14 @@ fn same_leaf(a: &Leaf<'_>, b: &Leaf<'_>) -> bool
     }
 }
 
-fn same_unary(a: &Unary<'_>, b: &Unary<'_>) -> bool
+fn same_unary(a: &UnaryOperator<'_>, b: &UnaryOperator<'_>) -> bool
     ensures { result ≡ rule.same_unary a.now b.now }
 {
     match (a, b) {
-        (Unary::Not, Unary::Not) => true,
-        (Unary::Minus, Unary::Minus) => true,
-        (Unary::Matches(s), Unary::Matches(t)) => s == t,
-        (Unary::Root(m), Unary::Root(n)) => m == n,
+        (UnaryOperator::Not, UnaryOperator::Not) => true,
+        (UnaryOperator::Minus, UnaryOperator::Minus) => true,
+        (UnaryOperator::Matches(s), UnaryOperator::Matches(t)) => s == t,
+        (UnaryOperator::Root(m), UnaryOperator::Root(n)) => m == n,
         _ => false,
     }
 }

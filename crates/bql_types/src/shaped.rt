@@ -8,7 +8,7 @@ ghost use Rattle.bql_types.specs.Seen as seen_rule;
 use crate::cause::{Cause, CauseKind, sooner};
 use bean_base::Bounds;
 use bql_rules::{binary_shape, call_shape, leaf_shape, unary_shape};
-use bql_tree::{Binary, Expr, Function, Leaf, Unary};
+use bql_tree::{BinaryOperator, Expr, Function, Leaf, UnaryOperator};
 use query_shapes::{Misfit, Shape};
 use std::alloc::{AllocError, Global};
 
@@ -78,14 +78,14 @@ pub fn is_null(e: &Expr<'_>) -> bool
     }
 }
 
-pub fn is_equality(op: Binary) -> bool
+pub fn is_equality(op: BinaryOperator) -> bool
     ensures { result ≡ rule.is_equality op }
 {
-    op == Binary::Equal || op == Binary::NotEqual
+    op == BinaryOperator::Equal || op == BinaryOperator::NotEqual
 }
 
 /// What an operation between a value and a NULL gives.
-fn beside_null(op: Binary) -> Result<Shape, Misfit>
+fn beside_null(op: BinaryOperator) -> Result<Shape, Misfit>
     ensures { result ≡ rule.beside_null op }
 {
     if is_equality(op) {
@@ -96,7 +96,7 @@ fn beside_null(op: Binary) -> Result<Shape, Misfit>
 }
 
 /// What an operation on one part gives, if it has a shape.
-pub fn before(op: &Unary<'_>, x: Option<Shape>) -> Option<Result<Shape, Misfit>>
+pub fn before(op: &UnaryOperator<'_>, x: Option<Shape>) -> Option<Result<Shape, Misfit>>
     ensures { result ≡ seen_rule.before op.now x }
 {
     match x {
@@ -106,7 +106,7 @@ pub fn before(op: &Unary<'_>, x: Option<Shape>) -> Option<Result<Shape, Misfit>>
 }
 
 /// What an operation between two parts gives, if they have shapes.
-pub fn between(op: Binary, x: Operand, y: Operand) -> Option<Result<Shape, Misfit>>
+pub fn between(op: BinaryOperator, x: Operand, y: Operand) -> Option<Result<Shape, Misfit>>
     ensures { result ≡ seen_rule.between op x y }
 {
     match (x, y) {
@@ -184,7 +184,7 @@ pub(crate) fn look(
 fn look_at_side(
     alloc: Global,
     bounds: &Bounds,
-    op: Binary,
+    op: BinaryOperator,
     e: &Expr<'_>,
     found: Option<Cause>,
 ) -> Result<SeenPart, AllocError>

@@ -5,14 +5,14 @@ use bean_load::{LoadFault, gather};
 use std::alloc::Global;
 use std::test::Fail;
 use stores::MemoryStore;
-use stores::memory::Entry;
+use stores::memory::StoredFile;
 
 /// A file of so many spaces behind a text.
-fn padded(alloc: Global, name: &str, text: &str, spaces: usize) -> Result<Entry, Fail> {
+fn padded(alloc: Global, name: &str, text: &str, spaces: usize) -> Result<StoredFile, Fail> {
     let mut bytes = Vec::from_slice(alloc, text.as_bytes())?;
     let len = text.len().saturating_add(spaces);
     bytes.resize(len, b' ')?;
-    Ok(Entry {
+    Ok(StoredFile {
         name: String::from_str(alloc, name)?,
         bytes,
     })
@@ -22,7 +22,7 @@ fn padded(alloc: Global, name: &str, text: &str, spaces: usize) -> Result<Entry,
 fn store_with_bad_bytes(alloc: Global, top: &str) -> Result<MemoryStore, Fail> {
     let mut files = Vec::new(alloc);
     files.push(padded(alloc, "l", top, 0)?)?;
-    files.push(Entry {
+    files.push(StoredFile {
         name: String::from_str(alloc, "a")?,
         bytes: Vec::from_slice(alloc, b"\xff".as_slice())?,
     })?;

@@ -5,18 +5,18 @@ use Rattle.query_values.specs.declared.value.Value.{Value}
 use Rattle.query_values.specs.declared.value.Value.TheVariants.{Null, Number, Text}
 use Rattle.query_rows.specs.FinalRows.{Ranked, Finish, comes_before, once_if, shown_of}
 use Rattle.query_rows.specs.Grouping.{groups_of}
-use Rattle.query_rows.specs.Row.{Entry, Row, any_text}
+use Rattle.query_rows.specs.Row.{MetaText, Row, any_text}
 use Rattle.query_rows.proofs.FinalRowsFacts.{final_of}
 
 -- ---- metadata
 
-abbrev entry : List ℕ → List ℕ → Entry
+abbrev entry : List ℕ → List ℕ → MetaText
 entry key text = record { key = key; text = Some text }
 
-abbrev empty_entry : List ℕ → Entry
+abbrev empty_entry : List ℕ → MetaText
 empty_entry key = record { key = key; text = None }
 
-abbrev with_entries : List Entry → List Entry → Row
+abbrev with_entries : List MetaText → List MetaText → Row
 with_entries own others =
     record { cell = λ c. Null; posting_entries = own; transaction_entries = others }
 

@@ -6,11 +6,11 @@ use Rattle.query_values.specs.Order.{is_null}
 use Rattle.query_values.specs.declared.value.Value.{Value}
 use Rattle.query_shapes.specs.Shape.{LiesIn}
 use Rattle.query_shapes.specs.declared.shape.Shape.TheVariants.{Text}
-use Rattle.query_rows.specs.Row.{Entry, Row, text_under, text_or_null, posting_text}
+use Rattle.query_rows.specs.Row.{MetaText, Row, text_under, text_or_null, posting_text}
 use Rattle.query_rows.specs.Row.{transaction_text}
 use Rattle.query_rows.specs.Shaped.{AreShort, IsShortIfThere, IsShaped, TextsLieIn}
 
-found : (key : List ℕ) (es : List Entry) → AreShort es → IsShortIfThere (text_under key es)
+found : (key : List ℕ) (es : List MetaText) → AreShort es → IsShortIfThere (text_under key es)
 found key [] short = tt
 found key (e ∷ es) short = by (bytes_eq key e.key) (found key es short.1)
   where

@@ -7,18 +7,18 @@ use Rattle.query_values.specs.declared.value.Value.{Value}
 use Rattle.query_values.specs.declared.value.Value.TheVariants.{Null, Text}
 
 -- a key of metadata with its text, or with nothing behind it
-pub record Entry : Type 0 where
+pub record MetaText : Type 0 where
   pub key : List ℕ
   pub text : Option (List ℕ)
 
 -- a row has a cell in every column; the running inventory at it is none of its own
 pub record Row : Type 0 where
   pub cell : Column → Value
-  pub posting_entries : List Entry
-  pub transaction_entries : List Entry
+  pub posting_entries : List MetaText
+  pub transaction_entries : List MetaText
 
 -- the text of the first entry of a key; none where nothing stands behind it, or no entry is of it
-abbrev pub text_under : List ℕ → List Entry → Option (List ℕ)
+abbrev pub text_under : List ℕ → List MetaText → Option (List ℕ)
 text_under key [] = None
 text_under key (e ∷ es) = if bytes_eq key e.key then e.text else text_under key es
 

@@ -6,15 +6,15 @@ use Rattle.query_columns.specs.ColumnShape.{column_shape}
 use Rattle.query_columns.specs.declared.column.Column.{Column}
 use Rattle.query_shapes.specs.Shape.{IsShort, LiesIn}
 use Rattle.query_shapes.specs.declared.shape.Shape.TheVariants.{Text}
-use Rattle.query_rows.specs.Row.{Entry, Row, posting_text, transaction_text, any_text}
+use Rattle.query_rows.specs.Row.{MetaText, Row, posting_text, transaction_text, any_text}
 
 -- a text, where there is one, is short
 abbrev pub IsShortIfThere : Option (List ℕ) → Type 0
 IsShortIfThere None = ⊤
 IsShortIfThere (Some text) = IsShort text
 
-abbrev pub AreShort : List Entry → Type 0
-AreShort = AllByRecursion (λ (e : Entry). IsShortIfThere e.text)
+abbrev pub AreShort : List MetaText → Type 0
+AreShort = AllByRecursion (λ (e : MetaText). IsShortIfThere e.text)
 
 -- each cell lies in the shape of its column, and each text of metadata in that of texts
 pub record IsShaped (b : Bounds) (r : Row) : Type 0 where

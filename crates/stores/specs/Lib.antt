@@ -2,5 +2,5 @@ pub mod Reading
 pub mod Putting
 pub mod Source
 pub mod Shelf
-pub mod Entry
+pub mod Files
 pub mod MemoryStore

@@ -3,7 +3,7 @@ ghost use Rattle.std.specs.Prelude.{◌≡◌, ◌++◌, ◌∷◌, [], None, On
 ghost use Rattle.std.specs.Prelude.{map, option_map};
 ghost use Rattle.std.specs.Option.{option_copied};
 ghost use Rattle.std.specs.String.{string_bytes};
-ghost use Rattle.stores.specs.Entry.{reading_of, putting_of};
+ghost use Rattle.stores.specs.Files.{reading_of, putting_of};
 ghost use Rattle.stores.specs.MemoryStore.{GivesWhatItHolds, first_in, newer, held, next_call};
 ghost use Rattle.stores.specs.MemoryStore.{fails_at_next, Gives, Keeps};
 
@@ -13,14 +13,14 @@ use std::marker::Model;
 
 /// A name with bytes.
 #[derive(Drop)]
-pub struct Entry {
+pub struct StoredFile {
     pub name: String,
     pub bytes: Vec<u8>,
 }
 
 /// A name that was asked for, with the bytes that were given, or none where the store failed.
 #[derive(Drop)]
-pub struct Asked {
+pub struct Request {
     pub name: String,
     pub bytes: Option<Vec<u8>>,
 }
@@ -29,9 +29,9 @@ pub struct Asked {
 #[derive(Drop)]
 pub struct MemoryStore {
     alloc: Global,
-    files: Vec<Entry>,
-    told: Vec<Asked>,
-    kept: Vec<Entry>,
+    files: Vec<StoredFile>,
+    told: Vec<Request>,
+    kept: Vec<StoredFile>,
     failures: u64,
     calls: u64,
     fails_at: u64,
@@ -40,7 +40,7 @@ pub struct MemoryStore {
 impl Model for MemoryStore {
     ghost use Rattle.std.specs.Prelude.{map};
     ghost use Rattle.stores.specs.Shelf.{Shelf};
-    ghost use Rattle.stores.specs.Entry.{reading_of, putting_of};
+    ghost use Rattle.stores.specs.Files.{reading_of, putting_of};
 
     ghost Value = { Shelf };
 
@@ -56,7 +56,7 @@ impl Model for MemoryStore {
 
 impl MemoryStore {
     /// A store with these files, which fails at that call, from 1; at none where it is 0.
-    pub fn new(alloc: Global, files: Vec<Entry>, fails_at: u64) -> MemoryStore
+    pub fn new(alloc: Global, files: Vec<StoredFile>, fails_at: u64) -> MemoryStore
         ensures { result ≡ record {
           files = map putting_of files.items;
           kept = [];
@@ -78,7 +78,7 @@ impl MemoryStore {
     }
 
     /// What it was asked for, in order.
-    pub fn told(&self) -> &[Asked]
+    pub fn told(&self) -> &[Request]
         ensures { map reading_of result.now ≡ self.now.told }
     {
         &self.told
@@ -118,7 +118,7 @@ impl MemoryStore {
         }
     }
 
-    fn tell(&mut self, asked: Asked) -> Result<(), AllocError>
+    fn tell(&mut self, asked: Request) -> Result<(), AllocError>
         ensures ok { OnOk result
             (self.new ≡ record self.old { told = self.old.told ++ reading_of asked ∷ [] }) }
         ensures err { OnErr result (self.new ≡ self.old) }
@@ -127,7 +127,7 @@ impl MemoryStore {
         Ok(())
     }
 
-    fn keep(&mut self, file: Entry) -> Result<(), AllocError>
+    fn keep(&mut self, file: StoredFile) -> Result<(), AllocError>
         ensures ok { OnOk result
             (self.new ≡ record self.old { kept = self.old.kept ++ putting_of file ∷ [] }) }
         ensures err { OnErr result (self.new ≡ self.old) }
@@ -143,7 +143,7 @@ pub fn gives_what_it_holds()
 {}
 
 /// The bytes of the first file of that name.
-fn first_of<'a>(files: &'a [Entry], name: &str) -> Option<&'a [u8]>
+fn first_of<'a>(files: &'a [StoredFile], name: &str) -> Option<&'a [u8]>
     ensures { option_copied result ≡ first_in name.now (map putting_of files.now) }
 {
     for file in files {
@@ -155,7 +155,7 @@ fn first_of<'a>(files: &'a [Entry], name: &str) -> Option<&'a [u8]>
 }
 
 /// The bytes of a file of that name, else what was found before it.
-fn newer<'a>(name: &str, found: Option<&'a [u8]>, file: &'a Entry) -> Option<&'a [u8]>
+fn newer<'a>(name: &str, found: Option<&'a [u8]>, file: &'a StoredFile) -> Option<&'a [u8]>
     ensures { option_copied result
         ≡ newer name.now (option_copied found.entry) (putting_of file.now) }
 {
@@ -184,14 +184,14 @@ impl Source for MemoryStore {
         match self.found(&name, fails)? {
             Some(bytes) => {
                 let copy = Vec::from_slice(self.alloc, &bytes)?;
-                self.tell(Asked {
+                self.tell(Request {
                     name,
                     bytes: Some(copy),
                 })?;
                 Ok(bytes)
             }
             None => {
-                self.tell(Asked { name, bytes: None })?;
+                self.tell(Request { name, bytes: None })?;
                 self.failures += 1;
                 Err(SourceFault::Failed)
             }
@@ -220,7 +220,7 @@ impl Store for MemoryStore {
         }
         let name = String::from_str(self.alloc, name)?;
         let bytes = Vec::from_slice(self.alloc, bytes)?;
-        self.keep(Entry { name, bytes })?;
+        self.keep(StoredFile { name, bytes })?;
         Ok(())
     }
 }

@@ -2,14 +2,14 @@
 
 use std::alloc::Global;
 use std::test::Fail;
-use stores::memory::Entry;
+use stores::memory::StoredFile;
 use stores::{MemoryStore, Source, SourceFault, Store};
 
 /// A store with two files of one name, and one of another, which fails at that call.
 fn store_of_three(alloc: Global, fails_at: u64) -> Result<MemoryStore, Fail> {
     let mut files = Vec::new(alloc);
     for (name, text) in [("l", "first"), ("m", "other"), ("l", "second")] {
-        files.push(Entry {
+        files.push(StoredFile {
             name: String::from_str(alloc, name)?,
             bytes: Vec::from_slice(alloc, text.as_bytes())?,
         })?;

@@ -3,7 +3,7 @@ use Rattle.std.proofs.lemmas.Grind.{common_steps}
 use Rattle.std.specs.String.{string_bytes}
 use Rattle.bean_load.specs.Asking.{Asks}
 use Rattle.bean_load.specs.Following.{Follows}
-use Rattle.bean_load.specs.declared.gathering.Asked.TheVariants as asked
+use Rattle.bean_load.specs.declared.gathering.SourceAnswer.TheVariants as asked
 use Rattle.bean_load.specs.Gathered.{was_asked, with_fault, with_part}
 use Rattle.bean_load.specs.Gathering.{LineComes, LinesCome, TextComes}
 use Rattle.stores.proofs.GaveFacts.{gave_none}

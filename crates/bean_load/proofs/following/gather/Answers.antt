@@ -4,7 +4,7 @@ use Rattle.bean_load.specs.Asking.{Asks}
 use Rattle.bean_load.specs.Following.{Follows, Gathers}
 use Rattle.bean_load.specs.Gathered.{nothing}
 use Rattle.bean_load.specs.Gathering.{TextComes}
-use Rattle.bean_load.specs.declared.gathering.Asked.TheVariants as asked
+use Rattle.bean_load.specs.declared.gathering.SourceAnswer.TheVariants as asked
 use Rattle.bean_load.specs.declared.gathering.TheConstants.{DEEPEST}
 use Rattle.bean_load.proofs.LineFacts.{told_text}
 use Rattle.bean_load.proofs.TopFacts.{top_refused, top_stands, below_refused, top_no_text}

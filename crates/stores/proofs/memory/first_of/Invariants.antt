@@ -1,5 +1,5 @@
 use Rattle.std.proofs.Common.{◌≡◌, map, drop}
-use Rattle.stores.specs.Entry.{putting_of}
+use Rattle.stores.specs.Files.{putting_of}
 use Rattle.stores.specs.MemoryStore.{first_in}
 use Rattle.stores.proofs.memory.first_of.Given as goal
 

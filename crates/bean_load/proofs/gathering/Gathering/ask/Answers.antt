@@ -1,7 +1,7 @@
 use Rattle.std.proofs.Common.{◌≡◌, false, [], ◌∷◌, Ok, Err, sym, ap, ◌∙◌, subst, length, arith}
 use Rattle.stores.proofs.GaveFacts.{gave_none, gave_one}
 use Rattle.bean_load.specs.Asking.{IsTold}
-use Rattle.bean_load.specs.declared.gathering.Asked.TheVariants.{Failed}
+use Rattle.bean_load.specs.declared.gathering.SourceAnswer.TheVariants.{Failed}
 use Rattle.bean_load.specs.Gathered.{is_too_large, with_asked, with_read}
 use Rattle.bean_load.proofs.AskingFacts.{lacking, too_large}
 use Rattle.bean_load.proofs.gathering.Gathering.ask.Goals as goal

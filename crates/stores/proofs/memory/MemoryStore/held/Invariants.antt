@@ -1,6 +1,6 @@
 use Rattle.std.proofs.Common.{◌≡◌, map, drop, fold}
 use Rattle.std.specs.Option.{option_copied}
-use Rattle.stores.specs.Entry.{putting_of}
+use Rattle.stores.specs.Files.{putting_of}
 use Rattle.stores.specs.MemoryStore.{newer, held}
 use Rattle.stores.proofs.memory.MemoryStore.held.Given as goal
 

@@ -3,8 +3,8 @@ use Rattle.std.specs.Prelude.{ℕ, List, Option, Some, None, Result, Ok, Err, Ve
 use Rattle.std.specs.String.{string_bytes}
 use Rattle.stores.specs.Reading.{Reading}
 use Rattle.stores.specs.Putting.{Putting}
-use Rattle.stores.specs.declared.memory.Asked.{Asked}
-use Rattle.stores.specs.declared.memory.Entry.{Entry}
+use Rattle.stores.specs.declared.memory.Request.{Request}
+use Rattle.stores.specs.declared.memory.StoredFile.{StoredFile}
 use Rattle.stores.specs.declared.source.SourceFault.{SourceFault}
 use Rattle.stores.specs.declared.source.SourceFault.TheVariants.{Failed}
 
@@ -12,8 +12,8 @@ abbrev pub given : {Z : Type 0} → Option (Vec ℕ Z) → Result (List ℕ) Sou
 given (Some bytes) = Ok bytes.items
 given None = Err Failed
 
-abbrev pub reading_of : Asked → Reading
+abbrev pub reading_of : Request → Reading
 reading_of asked = (string_bytes asked.name, given asked.bytes)
 
-abbrev pub putting_of : Entry → Putting
+abbrev pub putting_of : StoredFile → Putting
 putting_of entry = (string_bytes entry.name, entry.bytes.items)
