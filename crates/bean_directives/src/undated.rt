@@ -35,7 +35,7 @@ pub struct Setting<'a> {
 #[derive(Debug, Drop)]
 pub enum Pushed<'a> {
     Tag(Tag<'a>),
-    MetaEntry(MetaEntry<'a>),
+    Entry(MetaEntry<'a>),
 }
 
 /// What a pop takes back: a tag, or the entry of a key.
@@ -140,7 +140,7 @@ fn push_entry_of<'a>(entry: Ranged<MetaEntry<'a>>) -> Ranged<UndatedKind<'a>>
 {
     match entry {
         Ranged::Within(entry) => {
-            Ranged::Within(UndatedKind::Bound(Bound::Push(Pushed::MetaEntry(entry))))
+            Ranged::Within(UndatedKind::Bound(Bound::Push(Pushed::Entry(entry))))
         }
         Ranged::Outside => Ranged::Outside,
     }

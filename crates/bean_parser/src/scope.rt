@@ -111,7 +111,7 @@ fn give<'a>(
 {
     match pushed {
         Pushed::Tag(tag) => give_tag(alloc, tag, &mut directive.kind),
-        Pushed::MetaEntry(entry) => {
+        Pushed::Entry(entry) => {
             give_entry(alloc, entry, &directive.kind, &mut directive.metadata)
         }
     }

@@ -22,7 +22,7 @@ use std::alloc::{AllocError, Global};
 /// What a line says.
 #[derive(Debug, Drop)]
 pub enum LineKind<'a> {
-    MetaEntry(Ranged<MetaEntry<'a>>),
+    Entry(Ranged<MetaEntry<'a>>),
     Marks(List<Mark<'a>>),
     Posting(Ranged<Posting<'a>>),
 }
@@ -100,7 +100,7 @@ fn line_kind<'a>(
 {
     if begins_with_key(line) {
         return match entry_line(line) {
-            Some(entry) => Ok(Some(LineKind::MetaEntry(entry))),
+            Some(entry) => Ok(Some(LineKind::Entry(entry))),
             None => Ok(None),
         };
     }
@@ -149,10 +149,10 @@ impl<'a> Body<'a> {
         ensures { OnOk result (self.new ≡ rule.with_line self.old line.entry) }
     {
         match line {
-            LineKind::MetaEntry(Ranged::Within(entry)) => self.add_entry(alloc, entry),
+            LineKind::Entry(Ranged::Within(entry)) => self.add_entry(alloc, entry),
             LineKind::Marks(marks) => self.marks.append(marks),
             LineKind::Posting(Ranged::Within(posting)) => self.add_posting(posting),
-            LineKind::MetaEntry(Ranged::Outside) | LineKind::Posting(Ranged::Outside) => {
+            LineKind::Entry(Ranged::Outside) | LineKind::Posting(Ranged::Outside) => {
                 self.is_in_range = false;
                 Ok(())
             }
