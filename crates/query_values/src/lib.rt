@@ -47,17 +47,17 @@
 //! inventories each entry is looked up by going through the others.
 #![tactic(auto)]
 
-mod arithmetic;
+pub mod arithmetic;
 mod bag;
 mod comparison;
 mod component;
 mod decimal;
 mod gathering;
 mod lent;
-mod membership;
+pub mod membership;
 mod number;
 mod operation;
-mod part;
+pub mod part;
 mod pattern;
 mod text_set;
 mod value;
