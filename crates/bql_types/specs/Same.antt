@@ -10,8 +10,8 @@ use Rattle.bql_tree.specs.Tree.{Operation, leaf_of, one_of, two_of, call_of, Tre
 use Rattle.bql_tree.specs.Tree.{no_trees, trees}
 use Rattle.query_columns.specs.contracts.column.Column as columns
 use Rattle.bql_tree.specs.contracts.function.Function as functions
-use Rattle.bql_tree.specs.contracts.tree.Binary as binaries
-use Rattle.bql_tree.specs.contracts.tree.Entry as entries
+use Rattle.bql_tree.specs.contracts.tree.BinaryOperator as binaries
+use Rattle.bql_tree.specs.contracts.tree.MetadataOwner as entries
 use Rattle.bql_tree.specs.declared.tree.Leaf.{Leaf}
 use Rattle.bql_tree.specs.declared.tree.Leaf.TheVariants as leaf
 use Rattle.bql_tree.specs.declared.tree.UnaryOperator.{UnaryOperator}

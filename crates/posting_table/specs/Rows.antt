@@ -6,10 +6,10 @@ use Rattle.posting_table.specs.Row.{cell_at}
 use Rattle.posting_table.specs.declared.metadata.MetaItem.{MetaItem}
 use Rattle.posting_table.specs.declared.row.Row.{Row}
 
-abbrev pub entry_of : MetaItem → rows.Entry
+abbrev pub entry_of : MetaItem → rows.MetaText
 entry_of m = record { key = m.key; text = m.text }
 
-abbrev pub entries_of : List MetaItem → List rows.Entry
+abbrev pub entries_of : List MetaItem → List rows.MetaText
 entries_of items = map entry_of items
 
 abbrev pub row_of : Row → rows.Row
