@@ -1,6 +1,6 @@
 //! The flags of transactions and postings.
 ghost use Rattle.std.specs.Prelude.{◌≡◌};
-ghost use Rattle.bean_base.specs.Flag.{spelling};
+ghost use Rattle.bean_base.specs.Flag as spec;
 
 /// Whether a transaction or a posting is marked as complete, by `*` or `txn`, or as incomplete, by
 /// `!`.
@@ -13,7 +13,7 @@ pub enum Flag {
 impl Flag {
     /// How a table shows the flag.
     pub fn spelling(self) -> &'static str
-        ensures { result.now ≡ spelling self }
+        ensures { result.now ≡ spec.spelling self }
     {
         match self {
             Flag::Complete => "*",

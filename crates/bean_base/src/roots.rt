@@ -1,6 +1,7 @@
 //! The five accounts that all others stand under.
 ghost use Rattle.std.specs.Prelude.{◌≡◌};
-ghost use Rattle.bean_base.specs.Root.{spelling, root_of};
+ghost use Rattle.bean_base.specs.Root.{root_of};
+ghost use Rattle.bean_base.specs.Root as spec;
 
 /// What an account may begin with, in the order in which a report shows them.
 #[derive(Clone, Copy, Debug, Drop, PartialEq, Eq, PartialOrd, Ord, Hash)]
@@ -15,7 +16,7 @@ pub enum Root {
 impl Root {
     /// How the root is written.
     pub fn spelling(self) -> &'static str
-        ensures { result.now ≡ spelling self }
+        ensures { result.now ≡ spec.spelling self }
     {
         match self {
             Root::Assets => "Assets",

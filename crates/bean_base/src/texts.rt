@@ -12,7 +12,8 @@ ghost use Rattle.std.specs.List.{flat_map};
 ghost use Rattle.std.specs.Cmp.Rules.{comparing, hashing};
 ghost use Rattle.std.proofs.Common.{rules};
 ghost use Rattle.bean_base.specs.Character.{backslash};
-ghost use Rattle.bean_base.specs.Text.{escaped, read_text};
+ghost use Rattle.bean_base.specs.Text.{read_text};
+ghost use Rattle.bean_base.specs.Text as spec;
 
 use std::alloc::AllocError;
 use std::cmp::Ordering;
@@ -32,6 +33,7 @@ pub struct Text<'a> {
 impl<'a> Model for Text<'a> {
     ghost use Rattle.std.specs.Prelude.{List, ℕ};
     ghost use Rattle.bean_base.specs.Text.{read_text};
+    ghost use Rattle.bean_base.specs.Text as spec;
 
     ghost Value = { List ℕ };
 
@@ -40,7 +42,7 @@ impl<'a> Model for Text<'a> {
 
 /// What a backslash and this character stand for.
 fn escaped(c: u8) -> u8
-    ensures { result ≡ escaped c }
+    ensures { result ≡ spec.escaped c }
 {
     match c {
         b'n' => b'\n',

@@ -6,7 +6,7 @@ ghost use Rattle.std.specs.Str.{IsUtf8, IsCharBoundary};
 ghost use Rattle.bean_base.specs.Numeral.{is_number};
 ghost use Rattle.bean_base.specs.Day.{is_day_form};
 ghost use Rattle.theory.specs.LongestFront.{IsLongestFront};
-ghost use Rattle.bean_lexer.specs.Lookahead.{has_more_digits};
+ghost use Rattle.bean_lexer.specs.Lookahead as spec;
 ghost use Rattle.bean_lexer.specs.Tokens.{IsToken};
 
 use crate::found::Found;
@@ -43,7 +43,7 @@ fn begins_with_day(bytes: &[u8]) -> bool
 /// A comma and a digit behind it stand at a place.
 fn has_more_digits(bytes: &[u8], at: usize) -> bool
     requires { at ≤ length bytes.now }
-    ensures { result ≡ has_more_digits bytes.now at }
+    ensures { result ≡ spec.has_more_digits bytes.now at }
 {
     at + 1 < bytes.len() && bytes[at] == b',' && bytes[at + 1].is_ascii_digit()
 }

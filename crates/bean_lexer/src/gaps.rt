@@ -1,7 +1,8 @@
 //! What stands between tokens: white space, line feeds, comments and skipped lines.
 ghost use Rattle.std.specs.Prelude.{◌≡◌, ◌≤◌, length, take, count_by};
 ghost use Rattle.bean_lexer.specs.Gap.{is_line_feed, gap_len, behind_gap, gap_step, place_of};
-ghost use Rattle.bean_lexer.specs.Gap.{behind_white, spot_at};
+ghost use Rattle.bean_lexer.specs.Gap as spec;
+ghost use Rattle.bean_lexer.specs.Gap.{spot_at};
 
 use crate::kind::Place;
 
@@ -49,7 +50,7 @@ impl Spot {
     }
 
     fn behind_white(self) -> Spot
-        ensures { result ≡ behind_white self }
+        ensures { result ≡ spec.behind_white self }
     {
         match self {
             Spot::LineStart => Spot::Indent,

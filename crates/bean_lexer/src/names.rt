@@ -5,10 +5,11 @@ ghost use Rattle.std.specs.List.{prefix_len};
 ghost use Rattle.std.specs.Char.{is_ascii_digit, is_ascii_uppercase};
 ghost use Rattle.std.specs.Str.{IsUtf8, IsCharBoundary};
 ghost use Rattle.bean_base.specs.Character.{hash, colon, caret};
-ghost use Rattle.bean_base.specs.Name.{is_account, begins_component, is_in_component};
+ghost use Rattle.bean_base.specs.Name.{is_account, is_in_component};
+ghost use Rattle.bean_base.specs.Name as spec;
 ghost use Rattle.theory.specs.LongestFront.{IsLongestFront, HasNoFront};
-ghost use Rattle.bean_lexer.specs.Lookahead.{root_len, begins_component_at, has_next_component};
-ghost use Rattle.bean_lexer.specs.Lookahead.{is_currency_form, ends_currency, has_bad_end};
+ghost use Rattle.bean_lexer.specs.Lookahead as lookahead;
+ghost use Rattle.bean_lexer.specs.Lookahead.{is_currency_form};
 ghost use Rattle.bean_lexer.specs.Tokens.{IsToken};
 
 use crate::classes::{InComponent, InCurrency, InName};
@@ -35,7 +36,7 @@ pub fn account_or_currency(bytes: &[u8]) -> Found
 
 /// The length of a root and its colon at the front, or 0.
 fn root_len(bytes: &[u8]) -> usize
-    ensures { result ≡ root_len bytes.now }
+    ensures { result ≡ lookahead.root_len bytes.now }
 {
     if has_front(bytes, b"Assets:") {
         7
@@ -53,13 +54,13 @@ fn root_len(bytes: &[u8]) -> usize
 }
 
 fn begins_component(b: u8) -> bool
-    ensures { result ≡ begins_component b }
+    ensures { result ≡ spec.begins_component b }
 {
     b.is_ascii_uppercase() || b.is_ascii_digit() || b >= 128
 }
 
 fn begins_component_at(bytes: &[u8], at: usize) -> bool
-    ensures { result ≡ begins_component_at bytes.now at }
+    ensures { result ≡ lookahead.begins_component_at bytes.now at }
 {
     at < bytes.len() && begins_component(bytes[at])
 }
@@ -67,7 +68,7 @@ fn begins_component_at(bytes: &[u8], at: usize) -> bool
 /// A colon and the first character of a component stand at a place.
 fn has_next_component(bytes: &[u8], at: usize) -> bool
     requires { at ≤ length bytes.now }
-    ensures { result ≡ has_next_component bytes.now at }
+    ensures { result ≡ lookahead.has_next_component bytes.now at }
 {
     at < bytes.len() && bytes[at] == b':' && begins_component_at(bytes, at + 1)
 }
@@ -123,7 +124,7 @@ fn currency_or_truth(bytes: &[u8]) -> Found
 }
 
 fn ends_currency(b: u8) -> bool
-    ensures { result ≡ ends_currency b }
+    ensures { result ≡ lookahead.ends_currency b }
 {
     b.is_ascii_uppercase() || b.is_ascii_digit()
 }
@@ -131,7 +132,7 @@ fn ends_currency(b: u8) -> bool
 /// The last of some characters ends no currency.
 fn has_bad_end(bytes: &[u8], len: usize) -> bool
     requires { len ≤ length bytes.now }
-    ensures { result ≡ has_bad_end bytes.now len }
+    ensures { result ≡ lookahead.has_bad_end bytes.now len }
 {
     len > 1 && !ends_currency(bytes[len - 1])
 }

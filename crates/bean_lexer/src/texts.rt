@@ -2,8 +2,10 @@
 ghost use Rattle.std.specs.Prelude.{◌≡◌, ◌+◌, ◌<◌, ◌≤◌, length, slice_index, take, drop, false};
 ghost use Rattle.std.specs.Str.{IsUtf8, IsCharBoundary};
 ghost use Rattle.bean_base.specs.Character.{quote};
-ghost use Rattle.bean_lexer.specs.TokenForm.{is_text, is_escape};
-ghost use Rattle.bean_lexer.specs.Tokens.{IsToken, text_reach};
+ghost use Rattle.bean_lexer.specs.TokenForm.{is_text};
+ghost use Rattle.bean_lexer.specs.TokenForm as spec;
+ghost use Rattle.bean_lexer.specs.Tokens.{IsToken};
+ghost use Rattle.bean_lexer.specs.Tokens as tokens;
 
 use crate::classes::InText;
 use crate::found::Found;
@@ -39,7 +41,7 @@ struct Reach {
 }
 
 fn is_escape(b: u8) -> bool
-    ensures { result ≡ is_escape b }
+    ensures { result ≡ spec.is_escape b }
 {
     b == b'"' || b == b'\\' || b == b'n' || b == b't'
 }
@@ -49,7 +51,7 @@ fn text_reach(bytes: &[u8]) -> Reach
     requires some { 0 < length bytes.now }
     requires quote { slice_index bytes.now 0 ≡ quote }
     ensures inside { result.len ≤ length bytes.now }
-    ensures len { result.len ≡ 1 + text_reach false (drop 1 bytes.now) }
+    ensures len { result.len ≡ 1 + tokens.text_reach false (drop 1 bytes.now) }
     ensures is_text { result.is_text ≡ is_text (take result.len bytes.now) }
     ensures boundary { IsUtf8 bytes.now → IsCharBoundary bytes.now result.len }
 {

@@ -7,8 +7,8 @@ ghost use Rattle.std.specs.Char.{is_ascii_lowercase};
 ghost use Rattle.std.specs.Str.{IsUtf8, IsCharBoundary};
 ghost use Rattle.bean_base.specs.Character.{is_ascii};
 ghost use Rattle.bean_lexer.specs.TokenForm.{sign_spelling};
-ghost use Rattle.bean_lexer.specs.Lookahead.{begins_other, sign_of, doubled_sign_of};
-ghost use Rattle.bean_lexer.specs.Lookahead.{doubled_sign_at, keyword_at, has_colon};
+ghost use Rattle.bean_lexer.specs.Lookahead.{begins_other};
+ghost use Rattle.bean_lexer.specs.Lookahead as spec;
 ghost use Rattle.bean_lexer.specs.Tokens.{IsToken, goes_on_character};
 
 use crate::classes::{GoesOnCharacter, InKey};
@@ -43,14 +43,14 @@ pub fn key_or_keyword(bytes: &[u8]) -> Found
 }
 
 fn has_colon(bytes: &[u8], at: usize) -> bool
-    ensures { result ≡ has_colon bytes.now at }
+    ensures { result ≡ spec.has_colon bytes.now at }
 {
     at < bytes.len() && bytes[at] == b':'
 }
 
 /// The word in small letters at the front.
 fn keyword_at(bytes: &[u8]) -> Option<Keyword>
-    ensures { result ≡ keyword_at bytes.now }
+    ensures { result ≡ spec.keyword_at bytes.now }
 {
     WORDS
         .iter()
@@ -60,7 +60,7 @@ fn keyword_at(bytes: &[u8]) -> Option<Keyword>
 
 /// The sign of one byte, but for `#`.
 fn sign_of(b: u8) -> Option<Sign>
-    ensures value { result ≡ sign_of b }
+    ensures value { result ≡ spec.sign_of b }
     ensures spelling { IfSome result (λ sign. sign_spelling sign ≡ b ∷ []) }
 {
     match b {
@@ -81,7 +81,7 @@ fn sign_of(b: u8) -> Option<Sign>
 
 /// The sign that a byte is twice.
 fn doubled_sign_of(b: u8) -> Option<Sign>
-    ensures value { result ≡ doubled_sign_of b }
+    ensures value { result ≡ spec.doubled_sign_of b }
     ensures spelling { IfSome result (λ sign. sign_spelling sign ≡ b ∷ (b ∷ [])) }
 {
     match b {
@@ -95,7 +95,7 @@ fn doubled_sign_of(b: u8) -> Option<Sign>
 /// The sign of two bytes at the front.
 fn doubled_sign_at(bytes: &[u8]) -> Option<Sign>
     requires { 0 < length bytes.now }
-    ensures { result ≡ doubled_sign_at bytes.now }
+    ensures { result ≡ spec.doubled_sign_at bytes.now }
 {
     if bytes.len() > 1 && bytes[1] == bytes[0] {
         doubled_sign_of(bytes[0])

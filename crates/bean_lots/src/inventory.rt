@@ -6,8 +6,9 @@ ghost use Rattle.std.specs.Int.{w128};
 ghost use Rattle.std.specs.Int.RustNames.{FitsSigned};
 ghost use Rattle.bean_lots.specs.Days.{RiseInDays};
 ghost use Rattle.bean_lots.specs.Inventory.{has_lot_against};
+ghost use Rattle.bean_lots.specs.Inventory as spec;
 ghost use Rattle.bean_lots.specs.Inventory.{count_of, added, negative_entry, MayBeNegated};
-ghost use Rattle.bean_lots.specs.Inventory.{IsInventory, has_lot, is_lot_of, position_of};
+ghost use Rattle.bean_lots.specs.Inventory.{IsInventory, position_of};
 ghost use Rattle.bean_lots.specs.Lot.{same_key};
 ghost use Rattle.bean_lots.specs.Part.{HasAllOf};
 ghost use Rattle.bean_lots.specs.declared.lot.Key.{Key};
@@ -38,11 +39,12 @@ pub struct Inventory<'a> {
 impl<'a> Model for Inventory<'a> {
     ghost use Rattle.std.specs.Prelude.{List};
     ghost use Rattle.bean_lots.specs.declared.lot.Position.{Position};
-    ghost use Rattle.bean_lots.specs.Slots.{IsKept, positions};
+    ghost use Rattle.bean_lots.specs.Slots.{IsKept};
+    ghost use Rattle.bean_lots.specs.Slots as slots_spec;
 
     ghost Value = { List Position };
 
-    ghost view = { λ a. positions a.slots.counts.entries };
+    ghost view = { λ a. slots_spec.positions a.slots.counts.entries };
 
     ghost invariant = { λ a. IsKept a.slots };
 }
@@ -58,7 +60,7 @@ impl Clone for Inventory<'_> {
 
 /// Whether a key is that of a lot of a currency.
 pub fn is_lot_of(key: &Key<'_>, currency: &Currency<'_>) -> bool
-    ensures { (n : ℤ) → result ≡ is_lot_of currency.now (position_of key.now n) }
+    ensures { (n : ℤ) → result ≡ spec.is_lot_of currency.now (position_of key.now n) }
 {
     key.currency == *currency && key.lot.is_some()
 }
@@ -83,7 +85,7 @@ impl<'a> Inventory<'a> {
 
     /// Whether some lot of a currency is held.
     pub fn has_lot(&self, currency: &Currency<'_>) -> bool
-        ensures { result ≡ has_lot currency.now self.now }
+        ensures { result ≡ spec.has_lot currency.now self.now }
     {
         let mut rest = self.positions();
         while let Some((key, _)) = rest.next_held() {

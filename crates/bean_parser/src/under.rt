@@ -1,8 +1,9 @@
 //! The lines under the first one of a directive.
 ghost use Rattle.std.specs.Prelude.{◌≡◌, true, false, MatchOption, IfOk, OnOk};
 ghost use Rattle.theory.specs.Form.{Is, IsNone};
-ghost use Rattle.bean_grammar.specs.Lexeme.{lexemes, begins_with_key};
-ghost use Rattle.bean_grammar.specs.Mark.{begins_with_mark};
+ghost use Rattle.bean_grammar.specs.Lexeme.{lexemes};
+ghost use Rattle.bean_grammar.specs.Lexeme as spec;
+ghost use Rattle.bean_grammar.specs.Mark as mark_spec;
 ghost use Rattle.bean_grammar.specs.Metadata as metadata;
 ghost use Rattle.bean_parser.specs.Block.{line_of, lines};
 ghost use Rattle.bean_parser.specs.Reading.{ReadsLines, ReadsLine};
@@ -47,13 +48,13 @@ struct Unread<'t, 'a> {
 }
 
 fn begins_with_key(line: &[Token<'_>]) -> bool
-    ensures { result ≡ begins_with_key (lexemes line.now) }
+    ensures { result ≡ spec.begins_with_key (lexemes line.now) }
 {
     after_key(line).is_some()
 }
 
 fn begins_with_mark(line: &[Token<'_>]) -> bool
-    ensures { result ≡ begins_with_mark (lexemes line.now) }
+    ensures { result ≡ mark_spec.begins_with_mark (lexemes line.now) }
 {
     after_tag(line).is_some() || after_link(line).is_some()
 }
@@ -75,7 +76,7 @@ fn transaction_line<'a>(
     alloc: Global,
     line: &[Token<'a>],
 ) -> Result<Option<LineKind<'a>>, AllocError>
-    requires { begins_with_key (lexemes line.now) ≡ false }
+    requires { spec.begins_with_key (lexemes line.now) ≡ false }
     ensures { IfOk result (ReadsLine true (line_of line.now)) }
 {
     if begins_with_mark(line) {

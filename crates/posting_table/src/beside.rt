@@ -2,7 +2,7 @@
 ghost use Rattle.std.specs.Prelude.{◌≡◌, IfOk};
 ghost use Rattle.std.specs.Option.{option_copied};
 ghost use Rattle.posting_table.specs.Rows.{entries_of};
-ghost use Rattle.query_rows.specs.Row.{text_under};
+ghost use Rattle.query_rows.specs.Row as row_spec;
 
 use crate::metadata::Metadata;
 use crate::row::Weight;
@@ -75,7 +75,7 @@ impl<'a> Beside<'a> {
 
     /// The text of the first item of its metadata under a key: none where nothing stands behind it.
     pub(crate) fn text_under(&self, key: &str) -> Option<&str>
-        ensures { option_copied result ≡ text_under key.now (entries_of self.now.metadata) }
+        ensures { option_copied result ≡ row_spec.text_under key.now (entries_of self.now.metadata) }
     {
         match &self.kept {
             Kept::Line(_) => None,

@@ -1,9 +1,10 @@
 //! Cells, and what the parts of a row have in their columns.
 ghost use Rattle.std.specs.Prelude.{◌≡◌};
-ghost use Rattle.posting_table.specs.Cells.{entry_cell, lot_cell};
-ghost use Rattle.posting_table.specs.Row.{flag_or_null};
-ghost use Rattle.query_rows.specs.Row.{text_or_null};
-ghost use Rattle.query_values.specs.Operation.{whole};
+ghost use Rattle.posting_table.specs.Cells.{entry_cell};
+ghost use Rattle.posting_table.specs.Cells as spec;
+ghost use Rattle.posting_table.specs.Row as row_spec;
+ghost use Rattle.query_rows.specs.Row as rows;
+ghost use Rattle.query_values.specs.Operation as operation;
 
 use crate::entry::Entry;
 use crate::plain_text::PlainText;
@@ -14,7 +15,7 @@ use query_values::{Lent, Value, part};
 
 /// A whole number.
 pub(crate) fn whole<'r>(number: usize) -> Value<'r>
-    ensures { result ≡ whole number }
+    ensures { result ≡ operation.whole number }
 {
     Value::Number {
         places: 0,
@@ -24,7 +25,7 @@ pub(crate) fn whole<'r>(number: usize) -> Value<'r>
 
 /// A text, or null where there is none.
 pub(crate) fn text_or_null<'r>(text: &'r Option<PlainText<'_>>) -> Value<'r>
-    ensures { result ≡ text_or_null text.now }
+    ensures { result ≡ rows.text_or_null text.now }
 {
     match text {
         Some(text) => Value::Text(Slice::new(text.as_str())),
@@ -34,7 +35,7 @@ pub(crate) fn text_or_null<'r>(text: &'r Option<PlainText<'_>>) -> Value<'r>
 
 /// A flag, or null where there is none.
 pub(crate) fn flag_or_null<'r>(flag: Option<Flag>) -> Value<'r>
-    ensures { result ≡ flag_or_null flag }
+    ensures { result ≡ row_spec.flag_or_null flag }
 {
     match flag {
         Some(flag) => Value::Text(Slice::new(flag.spelling())),
@@ -44,7 +45,7 @@ pub(crate) fn flag_or_null<'r>(flag: Option<Flag>) -> Value<'r>
 
 /// What a lot has in one of its columns but that of its label; null in any other.
 pub(crate) fn lot_cell<'r>(lot: &'r Lot<'_>, column: Column) -> Value<'r>
-    ensures { result ≡ lot_cell lot.now column }
+    ensures { result ≡ spec.lot_cell lot.now column }
 {
     match column {
         Column::CostNumber => Value::Number {

@@ -4,7 +4,7 @@ ghost use Rattle.std.specs.Int.RustNames.{unsigned_abs};
 ghost use Rattle.std.specs.Option.{option_copied};
 ghost use Rattle.posting_table.specs.Held.{weight_in};
 ghost use Rattle.posting_table.specs.Rows.{entries_of};
-ghost use Rattle.query_rows.specs.Row.{text_under};
+ghost use Rattle.query_rows.specs.Row as row_spec;
 ghost use Rattle.posting_table.specs.Row as spec;
 
 use crate::beside::{Beside, BesideParts};
@@ -109,7 +109,7 @@ impl<'a> HeldRow<'a> {
 
     /// What its own metadata has under a key: none where nothing stands behind it.
     pub(crate) fn text_under(&self, key: &str) -> Option<&str>
-        ensures { option_copied result ≡ text_under key.now (entries_of self.now.metadata) }
+        ensures { option_copied result ≡ row_spec.text_under key.now (entries_of self.now.metadata) }
     {
         self.beside.text_under(key)
     }

@@ -25,13 +25,13 @@ pub(crate) struct HeldKey<'a> {
 impl<'a> Model for HeldKey<'a> {
     ghost use Rattle.std.specs.Prelude.{◌≡◌};
     ghost use Rattle.bean_lots.specs.declared.lot.Key.{Key};
-    ghost use Rattle.posting_table.specs.Row.{label_of};
+    ghost use Rattle.posting_table.specs.Row as spec;
 
     ghost Value = { Key };
 
     ghost view = { λ h. h.key };
 
-    ghost invariant = { λ h. h.label ≡ label_of h.key.lot };
+    ghost invariant = { λ h. h.label ≡ spec.label_of h.key.lot };
 }
 
 /// What the label of a lot stands for.

@@ -6,7 +6,7 @@ ghost use Rattle.std.specs.FinMap as map;
 ghost use Rattle.posting_table.specs.Rows.{rows_of};
 ghost use Rattle.posting_table.specs.Shaped.{IsShaped};
 ghost use Rattle.query_columns.specs.ColumnShape.{widest};
-ghost use Rattle.query_rows.specs.Fits.{fits};
+ghost use Rattle.query_rows.specs.Fits as spec;
 ghost use Rattle.query_rows.specs.Row.{text_under};
 ghost use Rattle.query_rows.specs.Shaped as rows;
 
@@ -142,8 +142,8 @@ impl<'a> Ledger<'a> {
     /// Its cells then lie in the shapes that its columns have by these bounds. Each ledger is
     /// within the widest bounds. Takes no memory.
     pub fn fits(&self, bounds: &Bounds) -> bool
-        ensures fits { result ≡ fits bounds.now (rows_of self.now) }
-        ensures widest { fits widest (rows_of self.now) ≡ true }
+        ensures fits { result ≡ spec.fits bounds.now (rows_of self.now) }
+        ensures widest { spec.fits widest (rows_of self.now) ≡ true }
         ensures shaped { IsTrue result → All (rows.IsShaped bounds.now) (rows_of self.now) }
     {
         self.len() <= bounds.postings as usize && all_fit(bounds, &self.rows)

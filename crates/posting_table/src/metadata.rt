@@ -2,7 +2,7 @@
 ghost use Rattle.std.specs.Prelude.{◌≡◌, [], IfOk};
 ghost use Rattle.std.specs.Option.{option_copied};
 ghost use Rattle.posting_table.specs.Rows.{entries_of};
-ghost use Rattle.query_rows.specs.Row.{text_under};
+ghost use Rattle.query_rows.specs.Row as spec;
 
 use crate::plain_text::PlainText;
 use crate::shared::Shared;
@@ -78,7 +78,7 @@ impl<'a> Metadata<'a> {
 
     /// The text of the first item of a key: none where nothing stands behind it.
     pub fn text_under(&self, key: &str) -> Option<&str>
-        ensures { option_copied result ≡ text_under key.now (entries_of self.now) }
+        ensures { option_copied result ≡ spec.text_under key.now (entries_of self.now) }
     {
         for item in self.as_slice() {
             if key == item.key.text() {

@@ -2,7 +2,8 @@
 ghost use Rattle.std.specs.Prelude.{◌≡◌, ◌++◌, ◌∷◌, ◌+◌, [], OnOk, IfOk, decimal};
 ghost use Rattle.bean_base.specs.Character.{line_feed};
 ghost use Rattle.query_code.specs.InstructionForm.{operand_in};
-ghost use Rattle.query_code.specs.Listing.{name_of, name_of_push, name_of_unary, name_of_binary};
+ghost use Rattle.query_code.specs.Listing.{name_of};
+ghost use Rattle.query_code.specs.Listing as spec;
 ghost use Rattle.query_code.specs.Listing.{labelled, with_operand};
 ghost use Rattle.query_code.specs.Listing.{instruction_line, lines_from, section_lines};
 ghost use Rattle.query_code.specs.Listing.{bounds_line, grouped_line, mode_line, listing};
@@ -15,7 +16,7 @@ use query_values::Binary;
 use std::alloc::{AllocError, Global};
 
 fn name_of_push(push: Push) -> &'static str
-    ensures { result.now ≡ name_of_push push }
+    ensures { result.now ≡ spec.name_of_push push }
 {
     match push {
         Push::True => "TRUE",
@@ -31,7 +32,7 @@ fn name_of_push(push: Push) -> &'static str
 }
 
 fn name_of_unary(operation: Unary) -> &'static str
-    ensures { result.now ≡ name_of_unary operation }
+    ensures { result.now ≡ spec.name_of_unary operation }
 {
     match operation {
         Unary::Align(_) => "ALIGN",
@@ -58,7 +59,7 @@ fn name_of_unary(operation: Unary) -> &'static str
 }
 
 fn name_of_binary(operation: Binary) -> &'static str
-    ensures { result.now ≡ name_of_binary operation }
+    ensures { result.now ≡ spec.name_of_binary operation }
 {
     match operation {
         Binary::Add => "ADD",

@@ -1,7 +1,8 @@
 //! Inventories whose counts have any number of decimals.
 ghost use Rattle.std.specs.Prelude.{◌≡◌, ◌≤◌, [], All, IfOk, IsTrue, map};
 ghost use Rattle.bean_lots.specs.Inventory.{MayBeNegated};
-ghost use Rattle.query_values.specs.Total.{adds_up, at_cost, bare_key, cost_count, cost_currency};
+ghost use Rattle.query_values.specs.Total.{adds_up, at_cost, cost_count, cost_currency};
+ghost use Rattle.query_values.specs.Total as spec;
 ghost use Rattle.query_values.specs.Total.{cost_total, is_count, total_from, units_total};
 ghost use Rattle.query_values.specs.Total.{without_lot};
 
@@ -29,7 +30,7 @@ impl Clone for Bag<'_> {
 
 /// Units of a currency without a lot.
 pub(crate) fn bare_key<'r>(currency: Currency<'r>) -> Key<'r>
-    ensures { result ≡ bare_key currency.entry }
+    ensures { result ≡ spec.bare_key currency.entry }
 {
     Key {
         currency,

@@ -5,9 +5,11 @@ ghost use Rattle.std.specs.Cmp.{IsEquivalence, IsTotalOrder};
 ghost use Rattle.std.specs.Cmp.Lexicographic.{pointwise};
 ghost use Rattle.std.specs.List.{list_all};
 ghost use Rattle.bean_lots.specs.Lot.{same_key, same_text};
-ghost use Rattle.query_values.specs.Equality.{agree_at, same, same_bag};
-ghost use Rattle.query_values.specs.Order.{is_at_most, is_less, is_null, kind_rank, order_of};
-ghost use Rattle.query_values.specs.Operation.{is_true};
+ghost use Rattle.query_values.specs.Equality.{same};
+ghost use Rattle.query_values.specs.Equality as spec;
+ghost use Rattle.query_values.specs.Order.{is_at_most, is_less, order_of};
+ghost use Rattle.query_values.specs.Order as order_spec;
+ghost use Rattle.query_values.specs.Operation as operation;
 
 use crate::bag::Bag;
 use crate::number::{number_order, same_number};
@@ -18,14 +20,14 @@ use std::cmp::Ordering;
 
 /// Whether it is null.
 pub fn is_null(x: &Value<'_>) -> bool
-    ensures { result ≡ is_null x.now }
+    ensures { result ≡ order_spec.is_null x.now }
 {
     matches!(x, Value::Null)
 }
 
 /// Whether it is the truth value that is true.
 pub fn is_true(x: &Value<'_>) -> bool
-    ensures { result ≡ is_true x.now }
+    ensures { result ≡ operation.is_true x.now }
 {
     matches!(x, Value::Truth(true))
 }
@@ -39,14 +41,14 @@ fn same_texts(a: &[Slice<'_>], b: &[Slice<'_>]) -> bool
 
 /// Whether two inventories have the same count under a key.
 fn agree_at(key: &Key<'_>, a: &Bag<'_>, b: &Bag<'_>) -> bool
-    ensures { (n : ℤ) → result ≡ agree_at a.now b.now (record { key = key.now; count = n }) }
+    ensures { (n : ℤ) → result ≡ spec.agree_at a.now b.now (record { key = key.now; count = n }) }
 {
     same_number(a.places, a.held.get(key), b.places, b.held.get(key))
 }
 
 /// Whether two inventories have the same count under each key of a third.
 fn agree_in(held: &Inventory<'_>, a: &Bag<'_>, b: &Bag<'_>) -> bool
-    ensures { result ≡ list_all (agree_at a.now b.now) held.now }
+    ensures { result ≡ list_all (spec.agree_at a.now b.now) held.now }
 {
     let mut rest = held.positions();
     while let Some(entry) = rest.next() {
@@ -58,7 +60,7 @@ fn agree_in(held: &Inventory<'_>, a: &Bag<'_>, b: &Bag<'_>) -> bool
 }
 
 fn same_bag(a: &Bag<'_>, b: &Bag<'_>) -> bool
-    ensures { result ≡ same_bag a.now b.now }
+    ensures { result ≡ spec.same_bag a.now b.now }
 {
     agree_in(&a.held, a, b) && agree_in(&b.held, a, b)
 }
@@ -113,7 +115,7 @@ pub fn equal(a: &Value<'_>, b: &Value<'_>) -> bool
 
 /// The place of a value's kind among the kinds.
 fn kind_rank(x: &Value<'_>) -> u8
-    ensures { result ≡ kind_rank x.now }
+    ensures { result ≡ order_spec.kind_rank x.now }
 {
     match x {
         Value::Null => 0,

@@ -2,7 +2,7 @@
 ghost use Rattle.std.specs.Prelude.{◌≡◌, ◌≤◌, ◌<◌, ◌^◌};
 ghost use Rattle.std.specs.Int.RustNames.{unsigned_abs};
 ghost use Rattle.bean_base.specs.declared.limits.TheConstants.{COUNT_BOUND, MOST_PLACES};
-ghost use Rattle.query_values.specs.WideCount.{is_wide};
+ghost use Rattle.query_values.specs.WideCount as spec;
 
 use bean_base::Num;
 use bean_base::limits::MOST_PLACES;
@@ -17,7 +17,7 @@ pub struct Decimal {
 }
 
 fn is_wide(count: i128, places: u8) -> bool
-    ensures { result ≡ is_wide places count }
+    ensures { result ≡ spec.is_wide places count }
 {
     places <= MOST_PLACES && count != i128::MIN
 }

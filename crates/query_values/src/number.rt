@@ -1,8 +1,8 @@
 //! Numbers of any decimals, compared by value.
 ghost use Rattle.std.specs.Prelude.{◌≡◌, ◌≤◌, ◌^◌, ◌*ℤ◌, pos};
 ghost use Rattle.std.specs.Ordering.{int_cmp};
-ghost use Rattle.query_values.specs.Equality.{same_number};
-ghost use Rattle.query_values.specs.Order.{number_order};
+ghost use Rattle.query_values.specs.Equality as spec;
+ghost use Rattle.query_values.specs.Order as order;
 
 use bean_base::power_of_ten;
 use std::cmp::Ordering;
@@ -27,7 +27,7 @@ fn scaled_order(count: i128, exponent: u8, other: i128) -> Ordering
 
 /// How `m * 10^-p` stands to `n * 10^-q`.
 pub(crate) fn number_order(p: u8, m: i128, q: u8, n: i128) -> Ordering
-    ensures { result ≡ number_order p m q n }
+    ensures { result ≡ order.number_order p m q n }
 {
     if p <= q {
         scaled_order(m, q - p, n)
@@ -38,7 +38,7 @@ pub(crate) fn number_order(p: u8, m: i128, q: u8, n: i128) -> Ordering
 
 /// Whether they are the same number.
 pub(crate) fn same_number(p: u8, m: i128, q: u8, n: i128) -> bool
-    ensures { result ≡ same_number p m q n }
+    ensures { result ≡ spec.same_number p m q n }
 {
     number_order(p, m, q, n) == Ordering::Equal
 }

@@ -4,7 +4,8 @@ ghost use Rattle.std.specs.Prelude.{◌≡◌, ◌<◌, IsTrue, IfOk};
 ghost use Rattle.query_values.specs.Held.{is_held};
 ghost use Rattle.query_values.specs.Operand.{has_cost, has_units};
 ghost use Rattle.query_values.specs.Operation.{cost_of, currency_of, length_of, number_of};
-ghost use Rattle.query_values.specs.Operation.{unary_value, units_of, whole};
+ghost use Rattle.query_values.specs.Operation as operation;
+ghost use Rattle.query_values.specs.Operation.{unary_value, units_of};
 ghost use Rattle.query_values.specs.Total.{cost_count, cost_currency, is_count};
 ghost use Rattle.query_values.specs.Unary as spec;
 ghost use Rattle.query_values.specs.declared.value.Value.TheVariants.{Amount};
@@ -24,7 +25,7 @@ const COST_PLACES: u8 = 16;
 
 /// A whole number.
 fn whole<'r>(number: usize) -> Value<'r>
-    ensures { result ≡ whole number }
+    ensures { result ≡ operation.whole number }
 {
     Value::Number {
         places: 0,

@@ -6,8 +6,9 @@ ghost use Rattle.std.specs.String.{string_bytes};
 ghost use Rattle.posting_table.specs.Decimals.{decimals_of};
 ghost use Rattle.number_texts.specs.Digits.{number_text};
 ghost use Rattle.table_printer.specs.Table.{text_width};
-ghost use Rattle.table_printer.specs.CellText.{between_members, cell_text, clean_text, is_number};
-ghost use Rattle.table_printer.specs.CellText.{set_text, shown_character, truth_text, units_text};
+ghost use Rattle.table_printer.specs.CellText.{between_members, cell_text, clean_text};
+ghost use Rattle.table_printer.specs.CellText as spec;
+ghost use Rattle.table_printer.specs.CellText.{set_text, units_text};
 ghost use Rattle.theory.specs.Joined.{gap_before};
 
 use crate::cell::Cell;
@@ -45,13 +46,13 @@ impl Scratch {
 
 /// Whether a cell stands at the right of its column.
 pub(crate) fn is_number(cell: &Cell<'_>) -> bool
-    ensures { result ≡ is_number cell.now }
+    ensures { result ≡ spec.is_number cell.now }
 {
     matches!(cell.value(), Value::Number { .. })
 }
 
 fn shown_character(c: char) -> char
-    ensures { result ≡ shown_character c }
+    ensures { result ≡ spec.shown_character c }
 {
     if c.is_control() { ' ' } else { c }
 }
@@ -149,15 +150,15 @@ fn set_width(set: &TextSet<'_>, clean: &mut String) -> Result<usize, AllocError>
 }
 
 fn truth_text(truth: bool) -> &'static str
-    ensures { result.now ≡ truth_text truth }
+    ensures { result.now ≡ spec.truth_text truth }
 {
     if truth { "TRUE" } else { "FALSE" }
 }
 
 /// Adds a truth value, and tells its width.
 fn push_truth(out: &mut Vec<u8>, truth: bool) -> Result<usize, AllocError>
-    ensures text { OnOk result (out.new.items ≡ out.old.items ++ truth_text truth) }
-    ensures width { IfOk result (λ n. n ≡ text_width (truth_text truth)) }
+    ensures text { OnOk result (out.new.items ≡ out.old.items ++ spec.truth_text truth) }
+    ensures width { IfOk result (λ n. n ≡ text_width (spec.truth_text truth)) }
 {
     let text = truth_text(truth);
     out.extend_from_slice(text.as_bytes())?;

@@ -1,6 +1,7 @@
 //! Where the lots of a day stand, among slots in the order of their days.
 ghost use Rattle.std.specs.Prelude.{◌<◌, ◌≡◌, length, IfSome};
-ghost use Rattle.bean_lots.specs.Part.{HasAllSlots, side_of};
+ghost use Rattle.bean_lots.specs.Part.{HasAllSlots};
+ghost use Rattle.bean_lots.specs.Part as spec;
 ghost use Rattle.bean_lots.specs.Slots.{AreInOrder};
 
 use super::positions::slot_at;
@@ -11,7 +12,7 @@ use std::cmp::Ordering;
 
 /// On which side of a day a key stands that is that of a lot.
 fn side_of(key: &Key<'_>, day: Day) -> Ordering
-    ensures { result ≡ side_of day key.now.lot }
+    ensures { result ≡ spec.side_of day key.now.lot }
 {
     match &key.lot {
         Some(lot) => lot.day.cmp(&day),

@@ -1,6 +1,7 @@
 //! How many lots are held with a count above 0, and how many with one below.
 ghost use Rattle.std.specs.Prelude.{◌≡◌, ◌+◌, ◌≤◌, ◌<◌, ◌^◌};
-ghost use Rattle.bean_lots.specs.Slots.{as_long, as_short, long_at, short_at};
+ghost use Rattle.bean_lots.specs.Slots.{long_at, short_at};
+ghost use Rattle.bean_lots.specs.Slots as spec;
 
 use crate::lot::Key;
 
@@ -52,13 +53,13 @@ impl Signs {
 }
 
 fn as_long(count: i128) -> usize
-    ensures { result ≡ as_long count }
+    ensures { result ≡ spec.as_long count }
 {
     if count > 0 { 1 } else { 0 }
 }
 
 fn as_short(count: i128) -> usize
-    ensures { result ≡ as_short count }
+    ensures { result ≡ spec.as_short count }
 {
     if count < 0 { 1 } else { 0 }
 }

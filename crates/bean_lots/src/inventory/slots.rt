@@ -16,7 +16,8 @@ ghost use Rattle.bean_lots.specs.Inventory.{IsInventory, MayBeNegated, added, co
 ghost use Rattle.bean_lots.specs.Inventory.{negative_entry};
 ghost use Rattle.bean_lots.specs.Lot.{same_key};
 ghost use Rattle.bean_lots.specs.Part.{HasAllOf};
-ghost use Rattle.bean_lots.specs.Slots.{IsKept, is_full, long_at, positions, short_at, slot_of};
+ghost use Rattle.bean_lots.specs.Slots.{IsKept, is_full, long_at, short_at};
+ghost use Rattle.bean_lots.specs.Slots as spec;
 ghost use Rattle.bean_lots.specs.declared.lot.Key.{Key as KeyValue};
 
 use super::days::Days;
@@ -71,7 +72,7 @@ impl Clone for Slots<'_> {
 impl<'a> Slots<'a> {
     /// Nothing is held. Takes no memory.
     pub(crate) fn new(alloc: Global) -> Slots<'a>
-        ensures nothing { positions result.counts.entries ≡ [] }
+        ensures nothing { spec.positions result.counts.entries ≡ [] }
         ensures kept { IsKept result }
     {
         Slots {
@@ -85,8 +86,8 @@ impl<'a> Slots<'a> {
 
     /// The count under a key.
     pub(crate) fn get(&self, key: &Key<'_>) -> i128
-        ensures count { result ≡ count_of (positions self.now.counts.entries) key.now }
-        ensures inventory { IsInventory (positions self.now.counts.entries) }
+        ensures count { result ≡ count_of (spec.positions self.now.counts.entries) key.now }
+        ensures inventory { IsInventory (spec.positions self.now.counts.entries) }
     {
         if self.counts.len() == 0 {
             return 0;
@@ -99,8 +100,8 @@ impl<'a> Slots<'a> {
 
     /// Whether there are no slots, not even holes.
     pub(crate) fn is_bare(&self) -> bool
-        ensures bare { result ≡ true → positions self.now.counts.entries ≡ [] }
-        ensures inventory { IsInventory (positions self.now.counts.entries) }
+        ensures bare { result ≡ true → spec.positions self.now.counts.entries ≡ [] }
+        ensures inventory { IsInventory (spec.positions self.now.counts.entries) }
     {
         self.counts.len() == 0
     }
@@ -108,7 +109,7 @@ impl<'a> Slots<'a> {
     /// What is held, in order of entry.
     pub(crate) fn positions(&self) -> Positions<'_, 'a>
         requires { IsKept self.now }
-        ensures { result ≡ positions self.now.counts.entries }
+        ensures { result ≡ spec.positions self.now.counts.entries }
     {
         let (_, held) = self.counts.as_slice().split_at(self.first);
         Positions::new(held)
@@ -117,7 +118,7 @@ impl<'a> Slots<'a> {
     /// What is held about a day, in order of entry: all lots of that day.
     pub(crate) fn positions_about(&self, day: Day) -> Positions<'_, 'a>
         requires { IsKept self.now }
-        ensures { HasAllOf (Some day) result (positions self.now.counts.entries) }
+        ensures { HasAllOf (Some day) result (spec.positions self.now.counts.entries) }
     {
         if !self.days.in_order {
             return self.positions();
@@ -152,7 +153,7 @@ impl<'a> Slots<'a> {
     fn drop_last_holes(&mut self)
         requires { IsKept self.old }
         ensures kept { IsKept self.new }
-        ensures same { positions self.new.counts.entries ≡ positions self.old.counts.entries }
+        ensures same { spec.positions self.new.counts.entries ≡ spec.positions self.old.counts.entries }
     {
         let end = self.end_of_held();
         self.holes = self
@@ -188,8 +189,8 @@ impl<'a> Slots<'a> {
         requires some { before ≢ pos 0 }
         ensures kept { IsKept self.new }
         ensures written { (n : ℤ) → after ≡ before +ℤ n
-            → positions self.new.counts.entries
-            ≡ added (positions self.old.counts.entries) key.now n }
+            → spec.positions self.new.counts.entries
+            ≡ added (spec.positions self.old.counts.entries) key.now n }
     {
         self.signs = self.signs_with(key, before, after);
         self.counts[index] = after;
@@ -204,7 +205,7 @@ impl<'a> Slots<'a> {
     fn sweep(&mut self)
         requires { IsKept self.old }
         ensures kept { IsKept self.new }
-        ensures same { positions self.new.counts.entries ≡ positions self.old.counts.entries }
+        ensures same { spec.positions self.new.counts.entries ≡ spec.positions self.old.counts.entries }
         ensures absent { (k : KeyValue) → lookup (same_key k) self.old.counts.entries ≡ None
             → lookup (same_key k) self.new.counts.entries ≡ None }
     {
@@ -219,7 +220,7 @@ impl<'a> Slots<'a> {
     fn sweep_where_due(&mut self)
         requires { IsKept self.old }
         ensures kept { IsKept self.new }
-        ensures same { positions self.new.counts.entries ≡ positions self.old.counts.entries }
+        ensures same { spec.positions self.new.counts.entries ≡ spec.positions self.old.counts.entries }
         ensures absent { (k : KeyValue) → lookup (same_key k) self.old.counts.entries ≡ None
             → lookup (same_key k) self.new.counts.entries ≡ None }
     {
@@ -233,10 +234,10 @@ impl<'a> Slots<'a> {
         requires kept { IsKept self.old }
         requires absent { lookup (same_key key) self.old.counts.entries ≡ None }
         ensures kept { IsKept self.new }
-        ensures ok { OnOk result (positions self.new.counts.entries
-            ≡ added (positions self.old.counts.entries) key.entry count) }
+        ensures ok { OnOk result (spec.positions self.new.counts.entries
+            ≡ added (spec.positions self.old.counts.entries) key.entry count) }
         ensures err { OnErr result
-            (positions self.new.counts.entries ≡ positions self.old.counts.entries) }
+            (spec.positions self.new.counts.entries ≡ spec.positions self.old.counts.entries) }
     {
         let days = self.days.with(&key);
         let signs = self.signs_with(&key, 0, count);
@@ -251,7 +252,7 @@ impl<'a> Slots<'a> {
         requires kept { IsKept self.old }
         requires hole { lookup (same_key key.now) self.old.counts.entries ≡ Some (pos 0) }
         ensures kept { IsKept self.new }
-        ensures same { positions self.new.counts.entries ≡ positions self.old.counts.entries }
+        ensures same { spec.positions self.new.counts.entries ≡ spec.positions self.old.counts.entries }
         ensures absent { lookup (same_key key.now) self.new.counts.entries ≡ None }
     {
         self.counts.shift_remove(key);
@@ -261,7 +262,7 @@ impl<'a> Slots<'a> {
 
     /// Whether the first slot is that of a key.
     fn is_first(&self, key: &Key<'_>) -> bool
-        ensures { IsTrue result → slot_of key.now self.now.counts.entries ≡ Some 0 }
+        ensures { IsTrue result → spec.slot_of key.now self.now.counts.entries ≡ Some 0 }
     {
         match self.counts.get_index(0) {
             Some((first, _)) => *key == *first,
@@ -272,7 +273,7 @@ impl<'a> Slots<'a> {
     /// Which slot is that of a key, where there is one. What is held of one currency alone has one
     /// slot, and its key isn't hashed.
     fn slot_of(&self, key: &Key<'_>) -> Option<usize>
-        ensures slot { result ≡ slot_of key.now self.now.counts.entries }
+        ensures slot { result ≡ spec.slot_of key.now self.now.counts.entries }
         ensures inside { IfSome result (λ slot. slot < length self.now.counts.entries) }
         ensures value { IfSome result (λ slot. slice_get (values_of self.now.counts.entries) slot
             ≡ lookup (same_key key.now) self.now.counts.entries) }
@@ -288,12 +289,12 @@ impl<'a> Slots<'a> {
     /// Adds to the count under a key.
     pub(crate) fn add(&mut self, key: Key<'a>, count: i128) -> Result<(), AllocError>
         requires kept { IsKept self.old }
-        requires fits { FitsSigned w128 (count_of (positions self.old.counts.entries) key +ℤ count) }
+        requires fits { FitsSigned w128 (count_of (spec.positions self.old.counts.entries) key +ℤ count) }
         ensures kept { IsKept self.new }
-        ensures ok { OnOk result (positions self.new.counts.entries
-            ≡ added (positions self.old.counts.entries) key.entry count) }
+        ensures ok { OnOk result (spec.positions self.new.counts.entries
+            ≡ added (spec.positions self.old.counts.entries) key.entry count) }
         ensures err { OnErr result
-            (positions self.new.counts.entries ≡ positions self.old.counts.entries) }
+            (spec.positions self.new.counts.entries ≡ spec.positions self.old.counts.entries) }
     {
         let Some(index) = self.slot_of(&key) else {
             self.sweep_where_due();
@@ -311,10 +312,10 @@ impl<'a> Slots<'a> {
     /// Changes the sign of every count.
     pub(crate) fn negate(&mut self)
         requires kept { IsKept self.old }
-        requires wide { All MayBeNegated (positions self.old.counts.entries) }
+        requires wide { All MayBeNegated (spec.positions self.old.counts.entries) }
         ensures kept { IsKept self.new }
-        ensures negated { positions self.new.counts.entries
-            ≡ map negative_entry (positions self.old.counts.entries) }
+        ensures negated { spec.positions self.new.counts.entries
+            ≡ map negative_entry (spec.positions self.old.counts.entries) }
     {
         for index in 0..self.counts.len() {
             let count = self.counts[index];
