@@ -52,7 +52,7 @@ mod texts;
 
 pub use amounts::Amount;
 pub use apart::Apart;
-pub use bounds::Bounds;
+pub use bounds::{Bounds, Version};
 pub use days::{Day, NotADay, parse_day};
 pub use fault::{Fault, FaultKind};
 pub use few::Few;

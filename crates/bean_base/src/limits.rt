@@ -1,7 +1,10 @@
 //! The limits of ledgers, of queries and of programs, each told once.
 
 /// The most postings of a ledger.
-pub const MOST_POSTINGS: usize = 1_000_000;
+pub const MOST_POSTINGS: usize = 4_000_000;
+
+/// The most postings of a ledger that a query file of the first version may speak of.
+pub const FIRST_MOST_POSTINGS: usize = 1_000_000;
 
 /// The most bytes of a text of a ledger, 16 MiB: so a line has no greater number.
 pub const LARGEST_TEXT: usize = 16_777_216;

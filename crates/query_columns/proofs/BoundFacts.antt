@@ -4,12 +4,23 @@ use Rattle.std.specs.Prelude.{nat_lt}
 use Rattle.std.proofs.lemmas.Bool.{lt-ltb}
 use Rattle.std.proofs.Math.Nat.{mul-le-mul_left, mul-le-mul_right}
 use Rattle.bean_base.proofs.PowerFacts.{pow_le}
+use Rattle.bean_base.specs.Version.{most_postings}
 use Rattle.bean_base.specs.declared.bounds.Bounds.{Bounds}
+use Rattle.bean_base.specs.declared.bounds.Version.{Version}
+use Rattle.bean_base.specs.declared.bounds.Version.TheVariants.{First, Second}
 use Rattle.bean_base.specs.declared.limits.TheConstants.{MOST_POSTINGS}
 use Rattle.query_columns.specs.declared.column.Column.{Column}
 use Rattle.query_columns.specs.declared.column.Column.TheVariants as column
 use Rattle.query_shapes.specs.Shape.{is_held}
 use Rattle.query_columns.specs.ColumnShape.{AreBounds, column_shape}
+
+-- no version allows more postings than a ledger holds
+allowed : (v : Version) → most_postings v ≤ MOST_POSTINGS
+allowed First = omega arith
+allowed Second = omega arith
+
+pub few_postings : (b : Bounds) → AreBounds b → b.postings ≤ MOST_POSTINGS
+few_postings b are = let few = are.postings in let h = allowed b.schema in omega (arith, few, h)
 
 -- so many postings of so many digits each
 narrow : (n d : ℕ) → n ≤ MOST_POSTINGS → d ≤ 28 → n * (10 ^ d - 1) < 2 ^ 127
@@ -59,7 +70,8 @@ column_is_held b column.Position are =
     both _ _ (units_fit b.units_digits are.units) (value_fits b.value_digits are.value)
 column_is_held b column.Weight are = value_fits b.value_digits are.value
 column_is_held b column.Balance are =
-    both _ _ (sums_fit b.postings b.units_digits are.postings (omega (arith, are.units)))
-    (sums_fit b.postings b.value_digits are.postings are.value)
+    both _ _ (sums_fit b.postings b.units_digits (few_postings b are) (omega (arith, are.units)))
+    (sums_fit b.postings b.value_digits (few_postings b are) are.value)
 column_is_held b column.Lineno are = refl
 column_is_held b column.Accounts are = refl
+column_is_held b column.Price are = units_fit b.units_digits are.units

@@ -1,11 +1,12 @@
 -- Worked names and shapes.
-use Rattle.std.proofs.Common.{◌≡◌, Some, None, refl}
+use Rattle.std.proofs.Common.{◌≡◌, false, Some, None, refl}
 use Rattle.std.specs.Prelude.{codes}
 use Rattle.bean_base.specs.declared.bounds.Bounds.{Bounds}
-use Rattle.query_columns.specs.Column.{named, number, numbered}
+use Rattle.bean_base.specs.declared.bounds.Version.TheVariants.{First, Second}
+use Rattle.query_columns.specs.Column.{is_in, named, number, numbered}
 use Rattle.query_columns.specs.ColumnShape.{column_shape}
 use Rattle.query_columns.specs.declared.column.Column.TheVariants.{CostNumber, Position, Weight}
-use Rattle.query_columns.specs.declared.column.Column.TheVariants.{Accounts}
+use Rattle.query_columns.specs.declared.column.Column.TheVariants.{Accounts, Price}
 use Rattle.query_shapes.specs.declared.shape.Shape.TheVariants as shape
 
 in_any_letters : named (codes "Cost_NUMBER") ≡ Some CostNumber
@@ -16,7 +17,7 @@ no_name : named (codes "accounts") ≡ None
 no_name = refl
 
 abbrev narrow : Bounds
-narrow = record { postings = 10; units_digits = 3; value_digits = 4 }
+narrow = record { schema = Second; postings = 10; units_digits = 3; value_digits = 4 }
 
 costs : column_shape narrow CostNumber ≡ shape.Number 8 999
 costs = refl
@@ -34,5 +35,15 @@ in_a_file = refl
 twenty_one : numbered 21 ≡ Some Accounts
 twenty_one = refl
 
-no_column : numbered 22 ≡ None
+twenty_two : numbered 22 ≡ Some Price
+twenty_two = refl
+
+no_column : numbered 23 ≡ None
 no_column = refl
+
+-- prices came with the second schema
+no_prices : is_in First Price ≡ false
+no_prices = refl
+
+prices : column_shape narrow Price ≡ shape.Amount 8 999
+prices = refl

@@ -31,6 +31,7 @@ has_number column.Weight = refl
 has_number column.Balance = refl
 has_number column.Lineno = refl
 has_number column.Accounts = refl
+has_number column.Price = refl
 
 -- numbers one after the other
 abbrev AreFrom : ℕ → List ℕ → Type 0
@@ -70,7 +71,7 @@ in_order = (
                         refl,
                         (
                           refl,
-                          (refl, (refl, (refl, (refl, (refl, (refl, (refl, (refl, (refl, tt))))))))),
+                          (refl, (refl, (refl, (refl, (refl, (refl, (refl, (refl, (refl, (refl, tt)))))))))),
                         ),
                       ),
                     ),

@@ -3,6 +3,8 @@ use Rattle.std.specs.Prelude.{◌≡◌, ◌&&◌, ℕ, Bool, true, false, List,
 use Rattle.std.specs.Prelude.{slice_get}
 use Rattle.std.specs.List.{find}
 use Rattle.std.specs.Str.{str_eq_ignore_ascii_case}
+use Rattle.bean_base.specs.declared.bounds.Version.{Version}
+use Rattle.bean_base.specs.declared.bounds.Version.TheVariants.{First, Second}
 use Rattle.query_columns.specs.declared.column.Column as columns
 use Rattle.query_columns.specs.declared.column.Column.TheVariants.{Date, Year, Month, Day, Flag}
 use Rattle.query_columns.specs.declared.column.Column.TheVariants.{Payee, Narration, Tags, Links}
@@ -11,6 +13,7 @@ use Rattle.query_columns.specs.declared.column.Column.TheVariants.{Currency, Cos
 use Rattle.query_columns.specs.declared.column.Column.TheVariants.{CostCurrency, CostDate}
 use Rattle.query_columns.specs.declared.column.Column.TheVariants.{CostLabel, Position, Weight}
 use Rattle.query_columns.specs.declared.column.Column.TheVariants.{Balance, Lineno, Accounts}
+use Rattle.query_columns.specs.declared.column.Column.TheVariants.{Price}
 use Rattle.query_columns.specs.declared.column.TheConstants.{COLUMNS}
 
 abbrev pub name : columns.Column → List ℕ
@@ -36,6 +39,7 @@ name Weight = codes "weight"
 name Balance = codes "balance"
 name Lineno = codes "lineno"
 name Accounts = codes "accounts"
+name Price = codes "price"
 
 -- the accounts of a transaction have no name in queries
 abbrev pub has_name : columns.Column → Bool
@@ -71,6 +75,7 @@ number Weight = 18
 number Balance = 19
 number Lineno = 20
 number Accounts = 21
+number Price = 22
 
 abbrev pub numbered : ℕ → Option columns.Column
 numbered n = slice_get COLUMNS n
@@ -82,6 +87,11 @@ NumbersAreOfColumns =
 
 abbrev pub ColumnsHaveNumbers : Type 0
 ColumnsHaveNumbers = (c : columns.Column) → numbered (number c) ≡ Some c
+
+-- the columns of a schema: the first has no prices
+abbrev pub is_in : Version → columns.Column → Bool
+is_in First Price = false
+is_in schema c = true
 
 -- those that FROM knows
 abbrev pub is_of_transaction : columns.Column → Bool

@@ -1,6 +1,8 @@
 -- What is known of the values of a column, by the bounds of ledgers.
 use Rattle.std.specs.Prelude.{ℕ, ◌-◌, ◌*◌, ◌^◌, ◌≤◌}
+use Rattle.bean_base.specs.Version.{most_postings}
 use Rattle.bean_base.specs.declared.bounds.Bounds.{Bounds}
+use Rattle.bean_base.specs.declared.bounds.Version.TheVariants.{Second}
 use Rattle.bean_base.specs.declared.limits.TheConstants.{MOST_POSTINGS, LARGEST_TEXT}
 use Rattle.bean_base.specs.declared.limits.TheConstants.{MOST_UNITS_DIGITS, MOST_VALUE_DIGITS}
 use Rattle.query_columns.specs.declared.column.Column.{Column}
@@ -13,7 +15,7 @@ use Rattle.query_shapes.specs.declared.shape.Shape.TheVariants.{Amount, Position
 -- bounds that a query may have: each is at least 1, and at most its limit
 pub record AreBounds (b : Bounds) : Type 0 where
   pub some_postings : 1 ≤ b.postings
-  pub postings : b.postings ≤ MOST_POSTINGS
+  pub postings : b.postings ≤ most_postings b.schema
   pub some_units : 1 ≤ b.units_digits
   pub units : b.units_digits ≤ MOST_UNITS_DIGITS
   pub some_value : 1 ≤ b.value_digits
@@ -22,12 +24,13 @@ pub record AreBounds (b : Bounds) : Type 0 where
 -- the widest of them
 abbrev pub widest : Bounds
 widest = record {
+  schema = Second;
   postings = MOST_POSTINGS;
   units_digits = MOST_UNITS_DIGITS;
   value_digits = MOST_VALUE_DIGITS;
 }
 
--- the greatest count of units, and of what they are worth
+-- the greatest count of units, of costs and of prices, and of what units are worth
 abbrev pub units_most : Bounds → ℕ
 units_most b = 10 ^ b.units_digits - 1
 
@@ -58,3 +61,4 @@ column_shape b column.Balance =
     Inventory 8 (b.postings * units_most b) (b.postings * value_most b)
 column_shape b column.Lineno = whole LARGEST_TEXT
 column_shape b column.Accounts = Set
+column_shape b column.Price = Amount 8 (units_most b)

@@ -2,6 +2,8 @@
 ghost use Rattle.std.specs.Prelude.{◌≡◌};
 ghost use Rattle.query_columns.specs.Column as columns;
 
+use bean_base::Version;
+
 /// A column of the postings.
 #[derive(Clone, Copy, Debug, Drop, PartialEq, Eq)]
 pub enum Column {
@@ -28,10 +30,12 @@ pub enum Column {
     Lineno,
     /// The accounts of all postings of the transaction.
     Accounts,
+    /// What a unit of the posting is priced at, behind `@`.
+    Price,
 }
 
 /// All columns, by their numbers.
-pub const COLUMNS: [Column; 22] = [
+pub const COLUMNS: [Column; 23] = [
     Column::Date,
     Column::Year,
     Column::Month,
@@ -54,6 +58,7 @@ pub const COLUMNS: [Column; 22] = [
     Column::Balance,
     Column::Lineno,
     Column::Accounts,
+    Column::Price,
 ];
 
 impl Column {
@@ -84,6 +89,7 @@ impl Column {
             Column::Balance => "balance",
             Column::Lineno => "lineno",
             Column::Accounts => "accounts",
+            Column::Price => "price",
         }
     }
 
@@ -120,6 +126,13 @@ impl Column {
         } else {
             None
         }
+    }
+
+    /// Whether postings have the column in a schema: the first knows no prices.
+    pub fn is_in(self, schema: Version) -> bool
+        ensures { result ≡ columns.is_in schema self }
+    {
+        !matches!((schema, self), (Version::First, Column::Price))
     }
 
     /// Whether the column is the transaction's, and one of those that FROM knows.

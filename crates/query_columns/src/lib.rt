@@ -5,13 +5,19 @@
 //! let name = Column::CostNumber.name();                  // cost_number
 //! Column::CostNumber.is_of_transaction();                // false
 //! Column::CostNumber.number();                           // 13, in the file of a query
-//! let bounds = Bounds { postings: 1_000_000, units_digits: 20, value_digits: 28 };
+//! let bounds = Bounds {
+//!     schema: Version::Second,
+//!     postings: 4_000_000,
+//!     units_digits: 20,
+//!     value_digits: 28,
+//! };
 //! column_shape(&bounds, Column::CostNumber)              // 8 decimals, below 10^20
 //! ```
 //!
 //! Names are the same in small and in capital letters. A column of a transaction is the same for
 //! all its postings, and FROM knows it. The accounts of a transaction are a column as well, which
-//! no query can name: `HAS_ACCOUNT` reads it.
+//! no query can name: `HAS_ACCOUNT` reads it. Prices belong to the second schema
+//! ([`bean_base::Version`]), all other columns to both.
 //!
 //! # Shapes
 //!

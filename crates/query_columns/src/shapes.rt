@@ -53,5 +53,9 @@ pub fn column_shape(bounds: &Bounds, column: Column) -> Shape
             value: postings * value,
         },
         Column::Lineno => whole(LARGEST_TEXT as u128),
+        Column::Price => Shape::Amount {
+            places: 8,
+            most: units,
+        },
     }
 }
