@@ -4,6 +4,7 @@ use Rattle.std.proofs.Common.{arith}
 use Rattle.std.specs.Int.RustNames.{unsigned_abs}
 use Rattle.std.specs.Prelude.{codes}
 use Rattle.bean_base.specs.declared.bounds.Bounds.{Bounds}
+use Rattle.bean_base.specs.declared.bounds.Version.TheVariants.{First, Second}
 use Rattle.bean_base.specs.declared.days.Day as day
 use Rattle.bean_lots.specs.declared.lot.Lot.{Lot}
 use Rattle.posting_table.specs.Row.{cell_at, entry_spelling, of_lot}
@@ -62,7 +63,7 @@ four_digits : has_digits 3 1000 ≡ false
 four_digits = refl
 
 abbrev narrow : Bounds
-narrow = record { postings = 10; units_digits = 3; value_digits = 4 }
+narrow = record { schema = Second; postings = 10; units_digits = 3; value_digits = 4 }
 
 small : unsigned_abs (pos 250) < 10 ^ 20
 small = omega arith

@@ -11,19 +11,23 @@ use Rattle.std.specs.Int.{w128}
 use Rattle.std.specs.List.{list_all}
 use Rattle.std.specs.Int.RustNames.{unsigned_abs}
 use Rattle.std.proofs.lemmas.Bool.{le-leb, lt-ltb, ltb-true, and_from, and_parts}
-use Rattle.bean_base.proofs.PowerFacts.{pow_le, pow_pos}
+use Rattle.bean_base.proofs.PowerFacts.{pow_le, pow_pos, scaled_lt}
+use Rattle.bean_base.specs.declared.amounts.Amount.{Amount}
+use Rattle.bean_base.specs.declared.bounds.Version.{Version}
+use Rattle.bean_base.specs.declared.bounds.Version.TheVariants.{First, Second}
 use Rattle.bean_base.specs.declared.bounds.Bounds.{Bounds}
 use Rattle.bean_base.specs.declared.limits.TheConstants.{MOST_POSTINGS}
 use Rattle.bean_lots.specs.declared.lot.Lot.{Lot}
-use Rattle.posting_table.specs.Row.{cell_at, of_lot}
+use Rattle.posting_table.specs.Row.{cell_at, of_lot, price_or_null}
 use Rattle.posting_table.specs.Rows.{row_of}
 use Rattle.posting_table.specs.Shaped.{IsShaped}
 use Rattle.posting_table.specs.declared.row.Row.{Row}
+use Rattle.query_columns.specs.Column.{is_in}
 use Rattle.query_columns.specs.ColumnShape.{column_shape, value_most, widest}
 use Rattle.query_columns.specs.declared.column.Column.{Column}
 use Rattle.query_columns.specs.declared.column.Column.TheVariants as column
 use Rattle.query_rows.specs.Fits as rows
-use Rattle.query_rows.specs.Fits.{fits, has_digits, lot_fits}
+use Rattle.query_rows.specs.Fits.{fits, has_digits, lot_fits, price_fits}
 use Rattle.query_shapes.specs.Mass.{value_of}
 use Rattle.query_shapes.specs.Shape.{LiesIn}
 use Rattle.query_values.specs.declared.value.Value.TheVariants.{Number}
@@ -51,21 +55,26 @@ pub small_value : (lot : Option Lot) (n : ℤ) → unsigned_abs n < 10 ^ 28
     → value_of lot n < 10 ^ 28 → value_of lot (to_z w128 (of_z w128 n)) < 10 ^ 28
 small_value lot n small value = rw (same_count n small) value
 
--- ---- what is known of the counts of a shaped row
+-- ---- what is known of a shaped row
+
+-- the widest bounds are of the second schema, which has all columns
+pub cell_of : (r : Row) → IsShaped widest r → (c : Column)
+    → LiesIn (cell_at r c) (column_shape widest c)
+cell_of r is c = is.cells c refl
 
 below : (d n : ℕ) → n ≤ 10 ^ d - 1 → n < 10 ^ d
 below d n most = let some = pow_pos d in omega (arith, most, some)
 
 pub units_are_small : (r : Row) → IsShaped widest r → unsigned_abs r.position.count < 10 ^ 28
 units_are_small r is =
-    let small = below 20 _ (is.cells column.Number).1 in omega (arith, small)
+    let small = below 20 _ (cell_of r is column.Number).1 in omega (arith, small)
 
 pub value_is_small : (r : Row) → IsShaped widest r
     → value_of r.position.key.lot r.position.count < 10 ^ 28
-value_is_small r is = below 28 _ (is.cells column.Position).1
+value_is_small r is = below 28 _ (cell_of r is column.Position).1
 
 pub weight_is_small : (r : Row) → IsShaped widest r → unsigned_abs r.weight.count < 10 ^ 28
-weight_is_small r is = below 28 _ (is.cells column.Weight).1
+weight_is_small r is = below 28 _ (cell_of r is column.Weight).1
 
 -- ---- the cells of a shaped row that is within bounds
 
@@ -79,41 +88,53 @@ value : (b : Bounds) (lot : Option Lot) (n : ℤ) → lot_fits b lot n ≡ true
 value b None n fits = omega arith
 value b (Some lot) n fits = at_most b.value_digits _ (and_parts _ _ fits).1
 
+-- a price is of the second schema alone
+price_lies : (b : Bounds) (v : Version) (price : Option Amount)
+    → LiesIn (price_or_null price) (column_shape widest column.Price)
+    → price_fits v b (price_or_null price) ≡ true → is_in v column.Price ≡ true
+    → LiesIn (price_or_null price) (column_shape b column.Price)
+price_lies b First price is fits known = absurd cc
+price_lies b Second None is fits known = tt
+price_lies b Second (Some price) is fits known = (refl, at_most b.units_digits _ fits, is.2)
+
 cell_lies : (b : Bounds) (r : Row) → IsShaped widest r
     → has_digits b.units_digits (unsigned_abs r.position.count) ≡ true
     → lot_fits b r.position.key.lot r.position.count ≡ true
     → has_digits b.value_digits (unsigned_abs r.weight.count) ≡ true
-    → (c : Column) → LiesIn (cell_at r c) (column_shape b c)
-cell_lies b r is units lot weight column.Date = is.cells column.Date
-cell_lies b r is units lot weight column.Year = is.cells column.Year
-cell_lies b r is units lot weight column.Month = is.cells column.Month
-cell_lies b r is units lot weight column.Day = is.cells column.Day
-cell_lies b r is units lot weight column.Flag = is.cells column.Flag
-cell_lies b r is units lot weight column.Payee = is.cells column.Payee
-cell_lies b r is units lot weight column.Narration = is.cells column.Narration
-cell_lies b r is units lot weight column.Tags = is.cells column.Tags
-cell_lies b r is units lot weight column.Links = is.cells column.Links
-cell_lies b r is units lot weight column.Account = is.cells column.Account
-cell_lies b r is units lot weight column.PostingFlag = is.cells column.PostingFlag
-cell_lies b r is units lot weight column.Number = (refl, at_most b.units_digits _ units)
-cell_lies b r is units lot weight column.Currency = is.cells column.Currency
-cell_lies b r is units lot weight column.CostNumber =
+    → price_fits b.schema b (price_or_null r.price) ≡ true
+    → (c : Column) → is_in b.schema c ≡ true → LiesIn (cell_at r c) (column_shape b c)
+cell_lies b r is units lot weight price column.Date known = cell_of r is column.Date
+cell_lies b r is units lot weight price column.Year known = cell_of r is column.Year
+cell_lies b r is units lot weight price column.Month known = cell_of r is column.Month
+cell_lies b r is units lot weight price column.Day known = cell_of r is column.Day
+cell_lies b r is units lot weight price column.Flag known = cell_of r is column.Flag
+cell_lies b r is units lot weight price column.Payee known = cell_of r is column.Payee
+cell_lies b r is units lot weight price column.Narration known = cell_of r is column.Narration
+cell_lies b r is units lot weight price column.Tags known = cell_of r is column.Tags
+cell_lies b r is units lot weight price column.Links known = cell_of r is column.Links
+cell_lies b r is units lot weight price column.Account known = cell_of r is column.Account
+cell_lies b r is units lot weight price column.PostingFlag known = cell_of r is column.PostingFlag
+cell_lies b r is units lot weight price column.Number known = (refl, at_most b.units_digits _ units)
+cell_lies b r is units lot weight price column.Currency known = cell_of r is column.Currency
+cell_lies b r is units lot weight price column.CostNumber known =
     cost_number b r.position.key.lot r.position.count lot
-cell_lies b r is units lot weight column.CostCurrency = is.cells column.CostCurrency
-cell_lies b r is units lot weight column.CostDate = is.cells column.CostDate
-cell_lies b r is units lot weight column.CostLabel = is.cells column.CostLabel
-cell_lies b r is units lot weight column.Position =
-    let known = is.cells column.Position in (
+cell_lies b r is units lot weight price column.CostCurrency known = cell_of r is column.CostCurrency
+cell_lies b r is units lot weight price column.CostDate known = cell_of r is column.CostDate
+cell_lies b r is units lot weight price column.CostLabel known = cell_of r is column.CostLabel
+cell_lies b r is units lot weight price column.Position known =
+    let known = cell_of r is column.Position in (
       at_most b.units_digits _ units,
       value b r.position.key.lot r.position.count lot,
       known.2,
       known.3,
     )
-cell_lies b r is units lot weight column.Weight =
-    (refl, at_most b.value_digits _ weight, (is.cells column.Weight).2)
-cell_lies b r is units lot weight column.Balance = tt
-cell_lies b r is units lot weight column.Lineno = is.cells column.Lineno
-cell_lies b r is units lot weight column.Accounts = is.cells column.Accounts
+cell_lies b r is units lot weight price column.Weight known =
+    (refl, at_most b.value_digits _ weight, (cell_of r is column.Weight).2)
+cell_lies b r is units lot weight price column.Balance known = tt
+cell_lies b r is units lot weight price column.Lineno known = cell_of r is column.Lineno
+cell_lies b r is units lot weight price column.Accounts known = cell_of r is column.Accounts
+cell_lies b r is units lot weight price column.Price known =
+    price_lies b b.schema r.price (cell_of r is column.Price) price known
 
 -- a row is within bounds as queries see it
 abbrev pub row_fits : Bounds → Row → Bool
@@ -128,9 +149,10 @@ fits_alike b rs = λ i.
 row_lies : (b : Bounds) (r : Row) → IsShaped widest r → row_fits b r ≡ true → IsShaped b r
 row_lies b r is all =
     let outer = and_parts _ _ all in
-    let inner = and_parts _ _ outer.0 in
+    let counts = and_parts _ _ outer.0 in
+    let inner = and_parts _ _ counts.0 in
     record {
-      cells = cell_lies b r is inner.0 inner.1 outer.1;
+      cells = cell_lies b r is inner.0 inner.1 counts.1 outer.1;
       posting_texts = is.posting_texts;
       transaction_texts = is.transaction_texts;
     }
@@ -154,12 +176,21 @@ lot_is_within (Some lot) n small =
     let cost = lot.cost.small in
     and_from _ _ (lt-ltb _ (10 ^ 20) (omega (arith, cost))) (lt-ltb _ (10 ^ 28) small)
 
+price_is_within : (price : Option Amount)
+    → price_fits widest.schema widest (price_or_null price) ≡ true
+price_is_within None = refl
+price_is_within (Some price) =
+    lt-ltb _ (10 ^ 20) (scaled_lt price.number.count price.number.places 8 price.number.in_range.1
+    price.number.in_range.0 (omega arith))
+
 row_is_within : (r : Row) → IsShaped widest r → row_fits widest r ≡ true
 row_is_within r is =
     and_from _ _
-    (and_from _ _ (lt-ltb _ (10 ^ 20) (below 20 _ (is.cells column.Number).1))
+    (and_from _ _
+    (and_from _ _ (lt-ltb _ (10 ^ 20) (below 20 _ (cell_of r is column.Number).1))
     (lot_is_within r.position.key.lot r.position.count (value_is_small r is)))
-    (lt-ltb _ (10 ^ 28) (weight_is_small r is))
+    (lt-ltb _ (10 ^ 28) (weight_is_small r is)))
+    (price_is_within r.price)
 
 pub rows_are_within : (rs : List Row) → length rs ≤ MOST_POSTINGS → All (IsShaped widest) rs
     → fits widest (map row_of rs) ≡ true
@@ -172,4 +203,4 @@ rows_are_within rs few are =
 -- ---- what a row holds of its units
 
 pub few_units : (r : Row) → IsShaped widest r → unsigned_abs r.position.count < 10 ^ 20
-few_units r is = below 20 _ (is.cells column.Number).1
+few_units r is = below 20 _ (cell_of r is column.Number).1

@@ -3,12 +3,15 @@ use Rattle.std.proofs.Common.{ℕ, ◌≤◌, arith, refl, Option, Some, None, L
 use Rattle.jiff_core.proofs.CalendarLemmas.{days_in_month_bounds}
 use Rattle.std.proofs.lemmas.Int.{ints}
 use Rattle.std.specs.Int.RustNames.{unsigned_abs}
+use Rattle.bean_base.proofs.PowerFacts.{scaled_lt}
+use Rattle.bean_base.specs.declared.amounts.Amount.{Amount}
 use Rattle.bean_base.specs.declared.days.Day as day
 use Rattle.bean_base.specs.declared.flags.Flag.{Flag}
 use Rattle.bean_base.specs.declared.flags.Flag.TheVariants.{Complete, Incomplete}
 use Rattle.bean_lots.specs.declared.lot.Lot.{Lot}
-use Rattle.posting_table.specs.Parts.{HasSmallParts, IsShortLot}
+use Rattle.posting_table.specs.Parts.{HasSmallParts, IsShortLot, IsShortPrice}
 use Rattle.posting_table.specs.Row.{cell_at, entry_spelling, flag_or_null, label_of, of_lot}
+use Rattle.posting_table.specs.Row.{price_or_null}
 use Rattle.posting_table.specs.Rows.{entries_of}
 use Rattle.posting_table.specs.Shaped.{IsShaped, AreShort}
 use Rattle.posting_table.specs.declared.metadata.MetaItem.{MetaItem}
@@ -73,6 +76,14 @@ short_cost_currency : (currency : List ℕ) (lot : Option Lot) → IsShort curre
 short_cost_currency currency None short are = short
 short_cost_currency currency (Some lot) short are = are.0
 
+-- a price has at most 12 whole digits, and 8 decimals
+pub price_lies : (price : Option Amount) → IsShortPrice price
+    → LiesIn (price_or_null price) (column_shape widest column.Price)
+price_lies None short = tt
+price_lies (Some price) short =
+    let small = scaled_lt price.number.count price.number.places 8 price.number.in_range.1
+    price.number.in_range.0 (omega arith) in (refl, omega (arith, small), short)
+
 cell_lies : (r : Row) → HasSmallParts r → (c : Column)
     → LiesIn (cell_at r c) (column_shape widest c)
 cell_lies r has column.Date = tt
@@ -105,6 +116,7 @@ cell_lies r has column.Weight =
 cell_lies r has column.Balance = tt
 cell_lies r has column.Lineno = (refl, has.line)
 cell_lies r has column.Accounts = has.entry.accounts
+cell_lies r has column.Price = price_lies r.price has.price
 
 short_entries : (items : List MetaItem) → AreShort items → rows.AreShort (entries_of items)
 short_entries [] short = tt
@@ -112,7 +124,7 @@ short_entries (m ∷ ms) short = (short.0, short_entries ms short.1)
 
 pub row_lies : (r : Row) → HasSmallParts r → IsShaped widest r
 row_lies r has = record {
-  cells = cell_lies r has;
+  cells = λ c known. cell_lies r has c;
   posting_texts = short_entries r.metadata has.texts;
   transaction_texts = short_entries r.entry.metadata has.entry.texts;
 }

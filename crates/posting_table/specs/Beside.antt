@@ -6,7 +6,7 @@ use Rattle.posting_table.specs.declared.beside.Kept.TheVariants as kept
 
 -- a line with nothing else
 abbrev pub line_alone : ℕ → BesideParts
-line_alone line = record { weight = None; metadata = []; line = line; flag = None }
+line_alone line = record { weight = None; price = None; metadata = []; line = line; flag = None }
 
 -- the parts that are kept
 abbrev pub parts_of : Kept → BesideParts

@@ -2,6 +2,7 @@
 use Rattle.std.specs.Prelude.{ℕ, ◌<◌, ◌≤◌, ◌^◌, List, length, Option, Some, None, ⊤}
 use Rattle.std.specs.Int.RustNames.{unsigned_abs}
 use Rattle.std.specs.List.{AllByRecursion}
+use Rattle.bean_base.specs.declared.amounts.Amount.{Amount}
 use Rattle.bean_lots.specs.declared.lot.Lot.{Lot}
 use Rattle.bean_base.specs.declared.limits.TheConstants.{LARGEST_TEXT}
 use Rattle.posting_table.specs.Shaped.{AreShort}
@@ -28,6 +29,11 @@ abbrev pub IsShortLot : Option Lot → Type 0
 IsShortLot None = ⊤
 IsShortLot (Some lot) = IsShort lot.cost.currency × IsShortIfThere lot.label
 
+-- the currency of a price is short
+abbrev pub IsShortPrice : Option Amount → Type 0
+IsShortPrice None = ⊤
+IsShortPrice (Some price) = IsShort price.currency
+
 -- the texts of a row are short and its counts small
 pub record HasSmallParts (r : Row) : Type 0 where
   pub entry : HasShortTexts r.entry
@@ -38,5 +44,6 @@ pub record HasSmallParts (r : Row) : Type 0 where
   pub value : value_of r.position.key.lot r.position.count < 10 ^ 28
   pub weight : unsigned_abs r.weight.count < 10 ^ 28
   pub weight_currency : IsShort r.weight.currency
+  pub price : IsShortPrice r.price
   pub line : r.line ≤ LARGEST_TEXT
   pub texts : AreShort r.metadata

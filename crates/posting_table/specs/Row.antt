@@ -1,7 +1,9 @@
 -- The cells of a row.
 use Rattle.std.specs.Prelude.{ℕ, List, codes, Option, Some, None}
 use Rattle.std.specs.Int.RustNames.{unsigned_abs}
+use Rattle.bean_base.specs.Decimal.{scaled}
 use Rattle.bean_base.specs.Flag.{spelling}
+use Rattle.bean_base.specs.declared.amounts.Amount as amounts
 use Rattle.bean_base.specs.declared.flags.Flag.{Flag}
 use Rattle.bean_lots.specs.declared.lot.Lot.{Lot}
 use Rattle.posting_table.specs.declared.entry.EntryFlag.{EntryFlag}
@@ -29,6 +31,12 @@ flag_or_null (Some flag) = Text (spelling flag)
 abbrev pub of_lot : (Lot → Value) → Option Lot → Value
 of_lot told None = Null
 of_lot told (Some lot) = told lot
+
+-- a price, as a count of 10^-8
+abbrev pub price_or_null : Option amounts.Amount → Value
+price_or_null None = Null
+price_or_null (Some price) =
+    Amount 8 (scaled price.number.count price.number.places 8) price.currency
 
 -- the label of a lot
 abbrev pub label_of : Option Lot → Option (List ℕ)
@@ -59,3 +67,4 @@ cell_at r column.Weight = Amount 16 r.weight.count r.weight.currency
 cell_at r column.Balance = Null
 cell_at r column.Lineno = whole r.line
 cell_at r column.Accounts = Set r.entry.accounts
+cell_at r column.Price = price_or_null r.price

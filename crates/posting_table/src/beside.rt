@@ -6,15 +6,16 @@ ghost use Rattle.query_rows.specs.Row as row_spec;
 
 use crate::metadata::Metadata;
 use crate::row::Weight;
-use bean_base::{Apart, Flag};
+use bean_base::{Amount, Apart, Flag};
 use std::alloc::{AllocError, Global};
 use std::marker::Model;
 
-/// The line of a row, and a weight, metadata and a flag, each of which may be absent.
+/// The line of a row, and a weight, a price, metadata and a flag, each of which may be absent.
 #[derive(Debug, Drop)]
 pub(crate) struct BesideParts<'a> {
     /// What the posting weighs, where that isn't what its units weigh by themselves.
     pub weight: Option<Weight<'a>>,
+    pub price: Option<Amount<'a>>,
     pub metadata: Metadata<'a>,
     pub line: usize,
     pub flag: Option<Flag>,
@@ -50,7 +51,8 @@ impl<'a> Beside<'a> {
         ensures { IfOk result (λ b. b ≡ parts.entry) }
     {
         let has_metadata = !parts.metadata.as_slice().is_empty();
-        if has_metadata || parts.weight.is_some() || parts.flag.is_some() {
+        let has_amount = parts.weight.is_some() || parts.price.is_some();
+        if has_metadata || has_amount || parts.flag.is_some() {
             return Ok(Beside {
                 kept: Kept::Parts(Apart::new(alloc, parts)?),
             });
@@ -68,6 +70,19 @@ impl<'a> Beside<'a> {
             Kept::Line(_) => None,
             Kept::Parts(parts) => match &parts.get().weight {
                 Some(weight) => Some(weight.lend()),
+                None => None,
+            },
+        }
+    }
+
+    /// What a unit is priced at.
+    pub(crate) fn price(&self) -> Option<Amount<'a>>
+        ensures { result ≡ self.now.price }
+    {
+        match &self.kept {
+            Kept::Line(_) => None,
+            Kept::Parts(parts) => match &parts.get().price {
+                Some(price) => Some(price.lend()),
                 None => None,
             },
         }

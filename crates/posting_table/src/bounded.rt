@@ -1,6 +1,7 @@
 //! Whether rows are within bounds.
 ghost use Rattle.std.specs.Prelude.{◌≡◌, ◌<◌, ◌^◌, All};
 ghost use Rattle.std.specs.List.{list_all};
+ghost use Rattle.posting_table.specs.Row.{price_or_null};
 ghost use Rattle.posting_table.specs.Rows.{row_of};
 ghost use Rattle.posting_table.specs.Shaped.{IsShaped};
 ghost use Rattle.query_columns.specs.ColumnShape.{widest};
@@ -8,7 +9,7 @@ ghost use Rattle.query_rows.specs.Fits as spec;
 ghost use Rattle.query_shapes.specs.Mass.{value_of};
 
 use crate::held::HeldRow;
-use bean_base::{Bounds, power_of_ten};
+use bean_base::{Amount, Bounds, Version, power_of_ten};
 use bean_lots::Lot;
 
 /// Whether a number has at most so many digits.
@@ -34,6 +35,18 @@ fn lot_fits(bounds: &Bounds, lot: &Option<Lot<'_>>, count: i128) -> bool
     }
 }
 
+/// Whether a price is within bounds. The first schema knows none.
+fn price_fits(bounds: &Bounds, price: Option<Amount<'_>>) -> bool
+    ensures { result ≡ spec.price_fits bounds.now.schema bounds.now (price_or_null price.entry) }
+{
+    match (bounds.schema, price) {
+        (Version::Second, Some(price)) => {
+            has_digits(bounds.units_digits, price.number.scaled(8).unsigned_abs())
+        }
+        _ => true,
+    }
+}
+
 /// Whether the counts of a row are within bounds.
 fn row_fits(bounds: &Bounds, row: &HeldRow<'_>) -> bool
     requires { IsShaped widest row.now }
@@ -42,6 +55,7 @@ fn row_fits(bounds: &Bounds, row: &HeldRow<'_>) -> bool
     has_digits(bounds.units_digits, row.count().unsigned_abs())
         && lot_fits(bounds, &row.key().lot, row.count())
         && has_digits(bounds.value_digits, row.weight().count.unsigned_abs())
+        && price_fits(bounds, row.price())
 }
 
 /// Whether the counts of all rows are within bounds.

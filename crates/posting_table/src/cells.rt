@@ -3,12 +3,13 @@ ghost use Rattle.std.specs.Prelude.{◌≡◌};
 ghost use Rattle.posting_table.specs.Cells.{entry_cell};
 ghost use Rattle.posting_table.specs.Cells as spec;
 ghost use Rattle.posting_table.specs.Row as row_spec;
+ghost use Rattle.posting_table.specs.Row.{price_or_null};
 ghost use Rattle.query_rows.specs.Row as rows;
 ghost use Rattle.query_values.specs.Operation as operation;
 
 use crate::entry::Entry;
 use crate::plain_text::PlainText;
-use bean_base::{Flag, Slice};
+use bean_base::{Amount, Flag, Slice};
 use bean_lots::Lot;
 use query_columns::Column;
 use query_values::{Lent, Value, part};
@@ -39,6 +40,20 @@ pub(crate) fn flag_or_null<'r>(flag: Option<Flag>) -> Value<'r>
 {
     match flag {
         Some(flag) => Value::Text(Slice::new(flag.spelling())),
+        None => Value::Null,
+    }
+}
+
+/// A price, or null where there is none.
+pub(crate) fn price_cell<'r>(price: Option<Amount<'r>>) -> Value<'r>
+    ensures { result ≡ price_or_null price.entry }
+{
+    match price {
+        Some(price) => Value::Amount {
+            places: 8,
+            count: price.number.scaled(8),
+            currency: price.currency,
+        },
         None => Value::Null,
     }
 }

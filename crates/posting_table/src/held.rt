@@ -8,12 +8,12 @@ ghost use Rattle.query_rows.specs.Row as row_spec;
 ghost use Rattle.posting_table.specs.Row as spec;
 
 use crate::beside::{Beside, BesideParts};
-use crate::cells::{flag_or_null, whole};
+use crate::cells::{flag_or_null, price_cell, whole};
 use crate::entry::Entry;
 use crate::keys::{HeldKey, Keys};
 use crate::row::{Row, Weight};
 use crate::shared::Shared;
-use bean_base::{Account, Slice};
+use bean_base::{Account, Amount, Slice};
 use bean_lots::{Key, Position};
 use query_columns::Column;
 use query_values::{Lent, Value};
@@ -44,6 +44,7 @@ impl<'a> Model for HeldRow<'a> {
       account = h.account;
       position = record { key = h.key; count = h.count };
       weight = weight_in h.key.currency h.count h.beside.weight;
+      price = h.beside.price;
       metadata = h.beside.metadata;
       line = h.beside.line;
       flag = h.beside.flag;
@@ -87,6 +88,7 @@ impl<'a> HeldRow<'a> {
         let position = row.position;
         let beside = BesideParts {
             weight: weight_beside(&position, row.weight),
+            price: row.price,
             metadata: row.metadata,
             line: row.line,
             flag: row.flag,
@@ -150,6 +152,13 @@ impl<'a> HeldRow<'a> {
         }
     }
 
+    /// What a unit of the posting is priced at.
+    pub(crate) fn price(&self) -> Option<Amount<'a>>
+        ensures { result ≡ self.now.price }
+    {
+        self.beside.price()
+    }
+
     /// What the row has in a column; of its balance it knows nothing.
     pub(crate) fn cell(&self, column: Column) -> Value<'_>
         ensures { result ≡ spec.cell_at self.now column }
@@ -173,6 +182,7 @@ impl<'a> HeldRow<'a> {
             Column::Weight => self.weight_cell(),
             Column::Balance => Value::Null,
             Column::Lineno => whole(self.beside.line()),
+            Column::Price => price_cell(self.price()),
             _ => self.entry().cell(column),
         }
     }

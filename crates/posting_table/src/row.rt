@@ -4,7 +4,7 @@ ghost use Rattle.std.specs.Prelude.{◌≡◌};
 use crate::entry::Entry;
 use crate::metadata::Metadata;
 use crate::shared::Shared;
-use bean_base::{Account, Currency, Flag};
+use bean_base::{Account, Amount, Currency, Flag};
 use bean_lots::Position;
 
 /// What a posting weighs in its transaction, as a count of `10^-16`.
@@ -34,6 +34,8 @@ pub struct Row<'a> {
     pub account: Account<'a>,
     pub position: Position<'a>,
     pub weight: Weight<'a>,
+    /// What a unit is priced at, behind `@`.
+    pub price: Option<Amount<'a>>,
     pub metadata: Metadata<'a>,
     /// The line of the written posting, or of the pad.
     pub line: usize,

@@ -5,6 +5,8 @@ use Rattle.std.specs.Prelude.{Option, Some, None}
 use Rattle.std.specs.Int.RustNames.{unsigned_abs}
 use Rattle.std.specs.List.{list_all}
 use Rattle.bean_base.specs.declared.bounds.Bounds.{Bounds}
+use Rattle.bean_base.specs.declared.bounds.Version.{Version}
+use Rattle.bean_base.specs.declared.bounds.Version.TheVariants.{First, Second}
 use Rattle.bean_lots.specs.declared.lot.Lot.{Lot}
 use Rattle.query_columns.specs.declared.column.Column.TheVariants as column
 use Rattle.query_values.specs.declared.value.Value.{Value}
@@ -32,8 +34,16 @@ abbrev pub weight_fits : Bounds → Value → Bool
 weight_fits b (Amount places n currency) = has_digits b.value_digits (unsigned_abs n)
 weight_fits b x = true
 
+-- a price; of the first schema, which knows none, nothing is asked
+abbrev pub price_fits : Version → Bounds → Value → Bool
+price_fits First b x = true
+price_fits Second b (Amount places n currency) = has_digits b.units_digits (unsigned_abs n)
+price_fits Second b x = true
+
 abbrev pub row_fits : Bounds → Row → Bool
-row_fits b r = position_fits b (r.cell column.Position) && weight_fits b (r.cell column.Weight)
+row_fits b r =
+    position_fits b (r.cell column.Position) && weight_fits b (r.cell column.Weight)
+    && price_fits b.schema b (r.cell column.Price)
 
 abbrev pub fits : Bounds → List Row → Bool
 fits b rows = nat_le (length rows) b.postings && list_all (row_fits b) rows

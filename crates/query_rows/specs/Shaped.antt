@@ -1,7 +1,8 @@
 -- What is known of a row by the bounds of its ledger.
-use Rattle.std.specs.Prelude.{ℕ, List, Option, Some, None, ⊤}
+use Rattle.std.specs.Prelude.{◌≡◌, true, ℕ, List, Option, Some, None, ⊤}
 use Rattle.std.specs.List.{AllByRecursion}
 use Rattle.bean_base.specs.declared.bounds.Bounds.{Bounds}
+use Rattle.query_columns.specs.Column.{is_in}
 use Rattle.query_columns.specs.ColumnShape.{column_shape}
 use Rattle.query_columns.specs.declared.column.Column.{Column}
 use Rattle.query_shapes.specs.Shape.{IsShort, LiesIn}
@@ -16,9 +17,10 @@ IsShortIfThere (Some text) = IsShort text
 abbrev pub AreShort : List MetaText → Type 0
 AreShort = AllByRecursion (λ (e : MetaText). IsShortIfThere e.text)
 
--- each cell lies in the shape of its column, and each text of metadata in that of texts
+-- each cell of the schema's columns lies in the shape of its column, and each text of metadata in
+-- that of texts
 pub record IsShaped (b : Bounds) (r : Row) : Type 0 where
-  pub cells : (c : Column) → LiesIn (r.cell c) (column_shape b c)
+  pub cells : (c : Column) → is_in b.schema c ≡ true → LiesIn (r.cell c) (column_shape b c)
   pub posting_texts : AreShort r.posting_entries
   pub transaction_texts : AreShort r.transaction_entries
 
