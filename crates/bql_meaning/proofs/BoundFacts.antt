@@ -1,10 +1,11 @@
 -- By lesser bounds expressions have lesser shapes, of the same kinds and decimals.
 use Rattle.std.proofs.Common.{◌≡◌, ℕ, ◌≤◌, max, Bool, true, false, ◌&&◌, ◌==◌, List, []}
-use Rattle.std.proofs.Common.{◌∷◌, Some, Ok, Err, refl, sym, ap, subst, ◌∙◌, cond, arith}
-use Rattle.std.specs.Prelude.{fold}
+use Rattle.std.proofs.Common.{◌∷◌, ◌×◌, Some, Ok, Err, refl, sym, ap, subst, ◌∙◌, cond, arith}
+use Rattle.std.specs.Prelude.{fold, if◌then◌else◌}
 use Rattle.std.specs.List.{list_all}
 use Rattle.std.specs.Result.{is_ok}
 use Rattle.bean_base.specs.declared.bounds.Bounds.{Bounds}
+use Rattle.bean_base.specs.declared.bounds.Version.TheVariants.{Second}
 use Rattle.bql_rules.specs.Rules as rule
 use Rattle.bql_rules.specs.Rules.{by_machine, of_both, of_truths, listed, one_of, greatest_places}
 use Rattle.bql_rules.specs.Rules.{is_held_with, are_alike, call_shape, single, sum_over, gathered}
@@ -17,6 +18,8 @@ use Rattle.bql_tree.specs.declared.tree.Leaf.{Leaf}
 use Rattle.bql_tree.specs.declared.tree.Leaf.TheVariants as leaf
 use Rattle.bql_tree.specs.declared.tree.UnaryOperator.{UnaryOperator}
 use Rattle.bql_tree.specs.declared.tree.UnaryOperator.TheVariants as unary
+use Rattle.query_columns.proofs.NumberFacts.{second_has_all}
+use Rattle.query_columns.specs.Column.{is_in}
 use Rattle.query_columns.specs.ColumnShape.{column_shape}
 use Rattle.query_columns.specs.declared.column.Column.{Column}
 use Rattle.query_columns.specs.declared.column.Column.TheVariants as column
@@ -38,7 +41,7 @@ use Rattle.query_values.specs.declared.operation.Binary.TheVariants as machines
 
 -- the least bounds
 abbrev pub least : Bounds
-least = record { postings = 0; units_digits = 0; value_digits = 0 }
+least = record { schema = Second; postings = 0; units_digits = 0; value_digits = 0 }
 
 -- a rule gives a shape that is below another
 pub record Gives (r : Ruled) (s : Shape) : Type 0 where
@@ -75,11 +78,25 @@ column_below b column.Weight = (refl, omega arith)
 column_below b column.Balance = (refl, omega arith, omega arith)
 column_below b column.Lineno = (refl, omega arith)
 column_below b column.Accounts = tt
+column_below b column.Price = (refl, omega arith)
+
+abbrev pub shape_if : Shape → Bool → Ruled
+shape_if t known = if known then Ok t else Err Kind
+
+-- a column has a shape where the schema knows it
+pub column_with_shape : (known : Bool) (t s : Shape) → shape_if t known ≡ Ok s
+    → (known ≡ true) × (t ≡ s)
+column_with_shape true t s e = (refl, cc)
+column_with_shape false t s e = absurd cc
 
 pub leaf_lesser : (b : Bounds) (l : Leaf) (s : Shape) → leaf_shape b l ≡ Ok s
     → Gives (leaf_shape least l) s
 leaf_lesser b (leaf.Column c) s e =
-    under (leaf_shape least (leaf.Column c)) (leaf_shape b (leaf.Column c)) s (column_below b c) e
+    let known = column_with_shape (is_in b.schema c) (column_shape b c) s e in record {
+      given = column_shape least c;
+      is = ap (shape_if (column_shape least c)) (second_has_all c);
+      below = subst (IsBelow (column_shape least c)) known.1 (column_below b c);
+    }
 leaf_lesser b leaf.Null s e = absurd cc
 leaf_lesser b (leaf.Number n) s e = record { given = s; is = e; below = reflexive s }
 leaf_lesser b (leaf.TooWide t) s e = absurd cc

@@ -6,6 +6,7 @@ use Rattle.jiff_core.specs.Calendar.{days_from_civil, day_count, days_of_years, 
 use Rattle.bean_base.proofs.WorkedDays.{january_2, january_3}
 use Rattle.bean_base.specs.declared.bounds.Bounds.{Bounds}
 use Rattle.bean_base.specs.declared.days.Day as day
+use Rattle.bean_base.specs.declared.bounds.Version.TheVariants.{First}
 use Rattle.bean_lots.specs.declared.lot.Key.{Key}
 use Rattle.bql_parser.specs.Clause as clause
 use Rattle.bql_parser.specs.Asked.{Target, Item, target_item, tree_item}
@@ -29,7 +30,7 @@ use Rattle.bql_meaning.proofs.Worked.{units, minus, usd, at_100, at_110, inv, ca
 use Rattle.bql_meaning.proofs.Worked.{february_1, held, bag, posting}
 
 abbrev widest : Bounds
-widest = record { postings = 1000000; units_digits = 20; value_digits = 28 }
+widest = record { schema = First; postings = 1000000; units_digits = 20; value_digits = 28 }
 
 -- ---- queries
 

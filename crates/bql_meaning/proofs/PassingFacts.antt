@@ -52,7 +52,7 @@ balanced_are : (b : Bounds) → AreBounds b → (before : List Value) (rows : Li
     → AllByRecursion (IsRead b) (balanced before rows)
 balanced_are b are before [] few all shaped = tt
 balanced_are b are before (r ∷ rows) few all shaped =
-    let position = shaped.0.cells column.Position in
+    let position = shaped.0.cells column.Position refl in
     let longer = one_longer before (r.cell column.Position) in
     let more = all_behind (column_shape b column.Position) before (r.cell column.Position) all
     position in (

@@ -4,6 +4,7 @@ use Rattle.std.proofs.Common.{◌∷◌, Some, codes, refl, arith}
 use Rattle.std.specs.Str.{chars}
 use Rattle.bean_base.proofs.WorkedDays.{january_2, january_3}
 use Rattle.bean_base.specs.declared.bounds.Bounds.{Bounds}
+use Rattle.bean_base.specs.declared.bounds.Version.TheVariants.{First}
 use Rattle.bql_tree.specs.Tree.{leaf_of, one_of, two_of, call_of, Tree, node, no_trees, trees}
 use Rattle.bql_tree.specs.Tree.{all_trees}
 use Rattle.bql_tree.specs.declared.function.Function.{Function}
@@ -28,7 +29,7 @@ use Rattle.bql_meaning.proofs.Worked.{units, minus, usd, at_100, at_110, inv, ca
 use Rattle.bql_meaning.proofs.Worked.{held, bag}
 
 abbrev widest : Bounds
-widest = record { postings = 1000000; units_digits = 20; value_digits = 28 }
+widest = record { schema = First; postings = 1000000; units_digits = 20; value_digits = 28 }
 
 -- ---- expressions
 

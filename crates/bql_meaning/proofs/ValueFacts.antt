@@ -20,6 +20,7 @@ use Rattle.bql_tree.specs.declared.tree.Leaf.TheVariants as leaf
 use Rattle.bql_types.specs.Shaped.{shape_of, shapes_of, ruled, given, rule, is_equation, beside}
 use Rattle.bql_types.specs.Shaped.{operand, is_equality, beside_null}
 use Rattle.bql_types.specs.Sought.{is_aggregate, is_aggregate_function}
+use Rattle.query_columns.specs.Column.{is_in}
 use Rattle.query_columns.specs.ColumnShape.{column_shape}
 use Rattle.query_columns.specs.declared.column.Column.{Column}
 use Rattle.query_columns.specs.declared.column.Column.TheVariants as column
@@ -40,20 +41,21 @@ use Rattle.bql_meaning.specs.Shaped.{IsRead, HasShortTexts, AllHaveShortTexts, I
 use Rattle.bql_meaning.specs.Meaning.{value_of, values_of, applied, leaf_value, input_of}
 use Rattle.bql_types.specs.Gathered.{aggregate_by, of_call}
 use Rattle.bql_meaning.specs.Reading.{Reading, cell, text}
+use Rattle.bql_meaning.proofs.BoundFacts.{column_with_shape}
 use Rattle.bql_meaning.proofs.ShapeFacts.{one_lies, two_lies, equations_give_truth, AllLie}
 use Rattle.bql_meaning.proofs.ShapeFacts.{call_lies, gathered_lies}
 
 -- ---- leaves
 
-cell_lies : (b : Bounds) (c : Column) (r : Reading) → IsRead b r
+cell_lies : (b : Bounds) (c : Column) (r : Reading) → IsRead b r → is_in b.schema c ≡ true
     → LiesIn (cell c r) (column_shape b c)
-cell_lies b column.Balance r is = is.balance
-cell_lies b c r is = is.row.cells c
+cell_lies b column.Balance r is known = is.balance
+cell_lies b c r is known = is.row.cells c known
 
 column_lies : (b : Bounds) (c : Column) (rows : List Reading) → AllByRecursion (IsRead b) rows
-    → LiesIn (leaf_value (leaf.Column c) rows) (column_shape b c)
-column_lies b c [] read = tt
-column_lies b c (r ∷ rows) read = cell_lies b c r read.0
+    → is_in b.schema c ≡ true → LiesIn (leaf_value (leaf.Column c) rows) (column_shape b c)
+column_lies b c [] read known = tt
+column_lies b c (r ∷ rows) read known = cell_lies b c r read.0 known
 
 -- a text of metadata
 entry_lies : (b : Bounds) (r : Row) → IsShaped b r → (x : entries.MetadataOwner) (key : List ℕ)
@@ -65,8 +67,8 @@ entry_lies b r is Any key = (texts_lie b r is).any key
 text_lies : (b : Bounds) (l : Leaf) (rows : List Reading) → AllByRecursion (IsRead b) rows
     → (s : Shape) → leaf_shape b l ≡ Ok s → IsShortIn (leaf_of l) → LiesIn (leaf_value l rows) s
 text_lies b (leaf.Column c) rows read s e short =
-    let is : column_shape b c ≡ s = cc in
-    subst (LiesIn (leaf_value (leaf.Column c) rows)) is (column_lies b c rows read)
+    let known = column_with_shape (is_in b.schema c) (column_shape b c) s e in
+    subst (LiesIn (leaf_value (leaf.Column c) rows)) known.1 (column_lies b c rows read known.0)
 text_lies b leaf.Null rows read s e short = tt
 text_lies b (leaf.Number n) rows read s e short =
     let is : shape.Number n.places (unsigned_abs n.count) ≡ s = cc in

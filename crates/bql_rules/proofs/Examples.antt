@@ -1,6 +1,7 @@
 -- Worked shapes.
 use Rattle.std.proofs.Common.{◌≡◌, ◌^◌, ◌-◌, ◌*◌, ◌+◌, [], ◌∷◌, Ok, Err, refl}
 use Rattle.bean_base.specs.declared.bounds.Bounds.{Bounds}
+use Rattle.bean_base.specs.declared.bounds.Version.TheVariants.{First}
 use Rattle.query_columns.specs.declared.column.Column.TheVariants as column
 use Rattle.bql_tree.specs.declared.function.Function.TheVariants.{Cost, Sum, OneOf, Units}
 use Rattle.bql_tree.specs.declared.tree.BinaryOperator.TheVariants.{Times, Plus}
@@ -12,10 +13,10 @@ use Rattle.bql_rules.specs.Rules.{binary_shape, call_shape}
 use Rattle.query_columns.specs.ColumnShape.{column_shape}
 
 abbrev widest : Bounds
-widest = record { postings = 1000000; units_digits = 20; value_digits = 28 }
+widest = record { schema = First; postings = 1000000; units_digits = 20; value_digits = 28 }
 
 abbrev narrow : Bounds
-narrow = record { postings = 1000000; units_digits = 14; value_digits = 28 }
+narrow = record { schema = First; postings = 1000000; units_digits = 14; value_digits = 28 }
 
 -- number * number
 too_wide_product :

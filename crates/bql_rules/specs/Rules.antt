@@ -13,6 +13,7 @@ use Rattle.bql_tree.specs.declared.tree.Leaf.{Leaf}
 use Rattle.bql_tree.specs.declared.tree.Leaf.TheVariants as leaf
 use Rattle.bql_tree.specs.declared.tree.UnaryOperator.{UnaryOperator}
 use Rattle.bql_tree.specs.declared.tree.UnaryOperator.TheVariants as unary
+use Rattle.query_columns.specs.Column.{is_in}
 use Rattle.query_columns.specs.ColumnShape.{column_shape}
 use Rattle.query_shapes.specs.Rules as machine
 use Rattle.query_shapes.specs.Rules.{Ruled}
@@ -27,9 +28,9 @@ use Rattle.query_values.specs.declared.operation.Binary.TheVariants as operation
 
 -- ---- leaves
 
--- a NULL has no shape of its own
+-- a NULL has no shape of its own, and a column that the schema doesn't know has none
 abbrev pub leaf_shape : Bounds → Leaf → Ruled
-leaf_shape b (leaf.Column c) = Ok (column_shape b c)
+leaf_shape b (leaf.Column c) = if is_in b.schema c then Ok (column_shape b c) else Err Kind
 leaf_shape b leaf.Null = Err Kind
 leaf_shape b (leaf.Number n) = Ok (Number n.places (unsigned_abs n.count))
 leaf_shape b (leaf.TooWide digits) = Err TooWide

@@ -9,14 +9,15 @@ use query_columns::column_shape;
 use query_shapes::rules::whole;
 use query_shapes::{Misfit, Shape};
 
-/// The shape of an expression without parts. A NULL has none of its own.
+/// The shape of an expression without parts. A NULL has none of its own, and neither has a column
+/// that the schema doesn't know.
 pub fn leaf_shape(bounds: &Bounds, leaf: &Leaf<'_>) -> Result<Shape, Misfit>
     requires { AreBounds bounds.now }
     ensures { result ≡ rule.leaf_shape bounds.now leaf.now }
 {
     match leaf {
-        Leaf::Column(column) => Ok(column_shape(bounds, *column)),
-        Leaf::Null => Err(Misfit::Kind),
+        Leaf::Column(column) if column.is_in(bounds.schema) => Ok(column_shape(bounds, *column)),
+        Leaf::Column(_) | Leaf::Null => Err(Misfit::Kind),
         Leaf::Number(number) => Ok(Shape::Number {
             places: number.places,
             most: number.count.unsigned_abs(),

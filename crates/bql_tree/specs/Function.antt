@@ -69,10 +69,9 @@ is_clause_left_out bs =
     || is_word bs (codes "having") || is_word bs (codes "pivot") || is_word bs (codes "flatten")
     || is_word bs (codes "print") || is_word bs (codes "run")
 
--- and functions and columns
+-- and functions
 abbrev pub is_left_out : List ℕ → Bool
 is_left_out bs =
     is_clause_left_out bs || is_word bs (codes "safediv") || is_word bs (codes "avg")
     || is_word bs (codes "convert")
     || is_word bs (codes "value") || is_word bs (codes "today") || is_word bs (codes "maxwidth")
-    || is_word bs (codes "price")

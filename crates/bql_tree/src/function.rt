@@ -169,5 +169,4 @@ pub fn is_left_out(name: &str) -> bool
         || is_word(name, "value")
         || is_word(name, "today")
         || is_word(name, "maxwidth")
-        || is_word(name, "price")
 }

@@ -1,6 +1,7 @@
 -- Worked queries.
 use Rattle.std.proofs.Common.{◌≡◌, ℕ, ◌+◌, false, List, [], ◌∷◌, map, Option, Some, None, refl}
 use Rattle.bean_base.specs.declared.bounds.Bounds.{Bounds}
+use Rattle.bean_base.specs.declared.bounds.Version.TheVariants.{First}
 use Rattle.bql_parser.specs.Asked.{Asked, Target, Item, tree_item, target_item}
 use Rattle.bql_parser.specs.Standing as standing
 use Rattle.bql_parser.specs.declared.standing.Valuation.TheVariants as valuation
@@ -19,10 +20,10 @@ use Rattle.bql_types.specs.declared.cause.CauseKind.TheVariants.{NotGrouped, Not
 use Rattle.bql_types.specs.declared.cause.CauseKind.TheVariants.{BalanceMisplaced}
 
 abbrev widest : Bounds
-widest = record { postings = 1000000; units_digits = 20; value_digits = 28 }
+widest = record { schema = First; postings = 1000000; units_digits = 20; value_digits = 28 }
 
 abbrev narrower : Bounds
-narrower = record { postings = 1000000; units_digits = 14; value_digits = 28 }
+narrower = record { schema = First; postings = 1000000; units_digits = 14; value_digits = 28 }
 
 abbrev of_column : ℕ → Column → Tree ℕ
 of_column at c = node at (leaf_of (leaf.Column c)) no_trees

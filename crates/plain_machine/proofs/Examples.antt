@@ -1,6 +1,7 @@
 -- What programs do over a few rows, computed.
 use Rattle.std.proofs.Common.{◌≡◌, ◌<◌, ◌≤◌, ◌^◌, ◌-◌, ℕ, ℤ, pos, negsuc, Bool, true, false, List}
 use Rattle.std.proofs.Common.{[], ◌∷◌, ◌++◌, map, replicate, Some, None, codes, refl, arith}
+use Rattle.bean_base.specs.declared.bounds.Version.TheVariants.{First}
 use Rattle.bean_lots.specs.declared.lot.Key.{Key}
 use Rattle.query_columns.specs.declared.column.Column.{Column}
 use Rattle.query_columns.specs.declared.column.Column.TheVariants as column
@@ -71,7 +72,7 @@ plain_output targets =
 -- one column, of each posting that passes the filter
 abbrev plain : List Constant → List Instruction → List Instruction → Parts
 plain pool filter row = record {
-  bounds = record { postings = 1000000; units_digits = 20; value_digits = 28 };
+  bounds = record { schema = First; postings = 1000000; units_digits = 20; value_digits = 28 };
   mode = Plain;
   output = plain_output (codes "a" ∷ []);
   code = record { keys = 0; aggregates = []; pool = pool; filter = filter; row = row; last = [] };
@@ -80,7 +81,7 @@ plain pool filter row = record {
 -- one column, of each group
 abbrev grouped : ℕ → List Aggregate → List Instruction → List Instruction → Parts
 grouped keys aggregates row last = record {
-  bounds = record { postings = 1000000; units_digits = 20; value_digits = 28 };
+  bounds = record { schema = First; postings = 1000000; units_digits = 20; value_digits = 28 };
   mode = Grouped;
   output = plain_output (codes "a" ∷ []);
   code = record {

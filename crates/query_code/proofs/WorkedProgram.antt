@@ -1,5 +1,6 @@
 -- A program for worked values, here and in the crates above.
 use Rattle.std.proofs.Common.{[], ◌∷◌, None, codes, false}
+use Rattle.bean_base.specs.declared.bounds.Version.TheVariants.{First}
 use Rattle.query_values.specs.declared.operation.Aggregate.TheVariants.{CountRows}
 use Rattle.query_code.specs.declared.instruction.Push.TheVariants as push
 use Rattle.query_code.specs.declared.instruction.Instruction.TheVariants.{Push}
@@ -9,7 +10,7 @@ use Rattle.query_code.specs.declared.program.Parts.{Parts}
 -- SELECT count(*), grouped without keys
 abbrev pub counted : Parts
 counted = record {
-  bounds = record { postings = 1000000; units_digits = 20; value_digits = 28 };
+  bounds = record { schema = First; postings = 1000000; units_digits = 20; value_digits = 28 };
   mode = Grouped;
   output = record {
     is_distinct = false;

@@ -1,9 +1,10 @@
 -- Each column has a number of its own.
-use Rattle.std.proofs.Common.{◌≡◌, ℕ, zero, suc, ◌+◌, List, [], ◌∷◌, map, Some, refl, sym, ap}
+use Rattle.std.proofs.Common.{◌≡◌, true, ℕ, zero, suc, ◌+◌, List, [], ◌∷◌, map, Some, refl, sym, ap}
 use Rattle.std.proofs.Common.{◌∙◌, arith}
 use Rattle.std.specs.Prelude.{slice_get, option_map, ⊤}
 use Rattle.std.proofs.lemmas.Option.{slice_get-map}
-use Rattle.query_columns.specs.Column.{number, numbered}
+use Rattle.bean_base.specs.declared.bounds.Version.TheVariants.{Second}
+use Rattle.query_columns.specs.Column.{is_in, number, numbered}
 use Rattle.query_columns.specs.declared.column.TheConstants.{COLUMNS}
 use Rattle.query_columns.specs.declared.column.Column.{Column}
 use Rattle.query_columns.specs.declared.column.Column.TheVariants as column
@@ -32,6 +33,32 @@ has_number column.Balance = refl
 has_number column.Lineno = refl
 has_number column.Accounts = refl
 has_number column.Price = refl
+
+-- the second schema has all columns
+pub second_has_all : (c : Column) → is_in Second c ≡ true
+second_has_all column.Date = refl
+second_has_all column.Year = refl
+second_has_all column.Month = refl
+second_has_all column.Day = refl
+second_has_all column.Flag = refl
+second_has_all column.Payee = refl
+second_has_all column.Narration = refl
+second_has_all column.Tags = refl
+second_has_all column.Links = refl
+second_has_all column.Account = refl
+second_has_all column.PostingFlag = refl
+second_has_all column.Number = refl
+second_has_all column.Currency = refl
+second_has_all column.CostNumber = refl
+second_has_all column.CostCurrency = refl
+second_has_all column.CostDate = refl
+second_has_all column.CostLabel = refl
+second_has_all column.Position = refl
+second_has_all column.Weight = refl
+second_has_all column.Balance = refl
+second_has_all column.Lineno = refl
+second_has_all column.Accounts = refl
+second_has_all column.Price = refl
 
 -- numbers one after the other
 abbrev AreFrom : ℕ → List ℕ → Type 0

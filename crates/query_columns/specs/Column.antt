@@ -88,9 +88,14 @@ NumbersAreOfColumns =
 abbrev pub ColumnsHaveNumbers : Type 0
 ColumnsHaveNumbers = (c : columns.Column) → numbered (number c) ≡ Some c
 
--- the columns of a schema: the first has no prices
+-- the first schema has no prices
+abbrev pub has_prices : Version → Bool
+has_prices First = false
+has_prices Second = true
+
+-- the columns of a schema
 abbrev pub is_in : Version → columns.Column → Bool
-is_in First Price = false
+is_in schema Price = has_prices schema
 is_in schema c = true
 
 -- those that FROM knows

@@ -6,6 +6,7 @@ use Rattle.std.proofs.lemmas.Bool.{leb-true}
 use Rattle.std.proofs.lemmas.List.{length-reverse}
 use Rattle.bean_base.specs.declared.bounds.Bounds.{Bounds}
 use Rattle.bean_base.specs.declared.limits.TheConstants.{SLOTS}
+use Rattle.bean_base.specs.declared.bounds.Version.TheVariants.{First}
 use Rattle.query_values.specs.declared.operation.Binary.TheVariants as binary
 use Rattle.query_shapes.specs.Shape.{IsBelow}
 use Rattle.query_shapes.specs.declared.shape.Shape.{Shape}
@@ -249,7 +250,7 @@ might_be_unset shaped = goes_further halfway shaped 4 (LoadSlot 0) start jumped 
 -- ---- bounds
 
 abbrev of_no_postings : Bounds
-of_no_postings = record { postings = 0; units_digits = 20; value_digits = 28 }
+of_no_postings = record { schema = First; postings = 0; units_digits = 20; value_digits = 28 }
 
 no_postings : IsWellShaped (filtered_at of_no_postings (Push push.True ∷ [])) → ⊥
 no_postings shaped = let e = shaped.bounds.some_postings in omega (arith, e)
