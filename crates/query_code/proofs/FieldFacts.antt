@@ -1,11 +1,17 @@
 -- The form of each field, and of the file, is exact.
 use Rattle.std.proofs.Common.{◌≡◌, ℕ, ℤ, ◌+◌, ◌^◌, true, false, [], ◌∷◌, length, Some, None, refl}
-use Rattle.std.proofs.Common.{ap, ap₂}
+use Rattle.std.proofs.Common.{Bool, eqb, ap, ap₂, sym, ◌∙◌}
+use Rattle.std.proofs.lemmas.Bool.{eqb-true}
 use Rattle.std.proofs.Common.{List, rules}
-use Rattle.std.specs.Prelude.{◌||◌, ◌==◌, nat_lt, nat_le, codes}
+use Rattle.std.specs.Prelude.{◌||◌, ◌==◌, nat_lt, nat_le, codes, if◌then◌else◌}
 use Rattle.std.specs.Int.{w16, w32, w128, cast_signed, cast_unsigned}
 use Rattle.std.specs.Str.{is_utf8}
 use Rattle.bean_base.specs.CalendarDay as calendar
+use Rattle.bean_base.specs.Version.{numbered}
+use Rattle.bean_base.specs.Version.{number as version_number}
+use Rattle.bean_base.specs.declared.bounds.Bounds.{Bounds}
+use Rattle.bean_base.specs.declared.bounds.Version as versions
+use Rattle.bean_base.specs.declared.bounds.Version.TheVariants.{First, Second}
 use Rattle.query_values.specs.declared.operation.Binary.TheVariants as binary
 use Rattle.query_values.specs.declared.operation.Aggregate.TheVariants as aggregates
 use Rattle.query_code.specs.declared.refusal.Cause.TheVariants.{Magic, Version, BadField, NotUtf8}
@@ -15,6 +21,7 @@ use Rattle.query_code.specs.declared.instruction.Instruction.{Instruction}
 use Rattle.query_code.specs.declared.instruction.Instruction.TheVariants.{Push, Unary, Binary}
 use Rattle.query_code.specs.declared.instruction.Instruction.TheVariants.{LoadSlot, StoreSlot, Jump}
 use Rattle.query_code.specs.declared.instruction.Instruction.TheVariants.{JumpIfFalse}
+use Rattle.query_code.specs.declared.program.Parts.{Parts}
 use Rattle.query_code.specs.declared.program.Mode.{Mode}
 use Rattle.query_code.specs.declared.program.Mode.TheVariants.{Plain, Grouped}
 use Rattle.query_code.specs.declared.program.Constant.TheVariants as constants
@@ -36,7 +43,8 @@ use Rattle.query_code.specs.QueryFile.{day_from, day, numbers_of, numbers, kind_
 use Rattle.query_code.specs.QueryFile.{its_number, its_day, its_texts, its_numbers, its_days}
 use Rattle.query_code.specs.QueryFile.{constant, constant_cases, aggregate_number, its_places}
 use Rattle.query_code.specs.QueryFile.{aggregate, aggregate_cases, bounds_of, bounds, place_below}
-use Rattle.query_code.specs.QueryFile.{columns, output, section, code, parts, file}
+use Rattle.query_code.specs.QueryFile.{columns, output, section, code, parts, version, versioned}
+use Rattle.query_code.specs.QueryFile.{file}
 use Rattle.query_code.proofs.ByteFormFacts.{IsExact, AreCases, is_case, is_just, wide16, wide32}
 use Rattle.query_code.proofs.ByteFormFacts.{exact_raw, exact_mapped, exact_such_that}
 use Rattle.query_code.proofs.ByteFormFacts.{exact_standing_for, exact_before, exact_both}
@@ -226,10 +234,28 @@ exact_aggregate = exact_told aggregate_number aggregate_cases (
 
 -- ---- the file
 
-pub exact_bounds : IsExact bounds
+-- a number of one of the versions is that version's
+number_if : (one two : Bool) (n : ℕ) (v : versions.Version) → (one ≡ true → n ≡ 1)
+    → (two ≡ true → n ≡ 2)
+    → (if one then Some First else if two then Some Second else None) ≡ Some v
+    → version_number v ≡ n
+number_if true two n v is_one is_two e =
+    let first : First ≡ v = cc in ap version_number (sym first) ∙ sym (is_one refl)
+number_if false true n v is_one is_two e =
+    let second : Second ≡ v = cc in ap version_number (sym second) ∙ sym (is_two refl)
+number_if false false n v is_one is_two e = absurd cc
+
+number_back : (n : ℕ) (v : versions.Version) → numbered n ≡ Some v → version_number v ≡ n
+number_back n v e = number_if (eqb n 1) (eqb n 2) n v (eqb-true n 1) (eqb-true n 2) e
+
+pub exact_version : IsExact version
+unfolding version
+exact_version = exact_standing_for Version numbered version_number word number_back exact_word
+
+pub exact_bounds : (v : versions.Version) → IsExact (bounds v)
 unfolding bounds
-exact_bounds =
-    exact_mapped (λ p. bounds_of p.0 p.1.0 p.1.1)
+exact_bounds v =
+    exact_mapped (λ p. bounds_of v p.0 p.1.0 p.1.1)
     (λ b. (b.postings, (b.units_digits, b.value_digits))) (both long (both byte byte))
     (λ p fits. refl)
     (exact_both long (both byte byte) exact_long (exact_both byte byte exact_byte exact_byte))
@@ -289,18 +315,28 @@ exact_code m = exact_mapped
     (exact_both section _ exact_section
     (exact_counted (only m word) instruction (exact_only m word exact_word) exact_instruction))))))
 
-pub exact_parts : IsExact parts
+pub exact_parts : (v : versions.Version) → IsExact (parts v)
 unfolding parts
-exact_parts =
+exact_parts v =
     exact_mapped (λ p. record { bounds = p.0; mode = p.1.0; output = p.1.1.0; code = p.1.1.1 })
     (λ q. (q.bounds, (q.mode, (q.output, q.code))))
-    (both bounds (before mode (λ m. both output (code m)))) (λ p fits. refl)
-    (exact_both bounds (before mode (λ m. both output (code m))) exact_bounds
+    (both (bounds v) (before mode (λ m. both output (code m)))) (λ p fits. refl)
+    (exact_both (bounds v) (before mode (λ m. both output (code m))) (exact_bounds v)
     (exact_before mode (λ m. both output (code m)) exact_mode
     (λ m fits. exact_both output (code m) exact_output (exact_code m))))
 
+-- the schema of the bounds is the version
+schema_is : (v : versions.Version) (q : Parts) → (parts v).fits q → q.bounds.schema ≡ v
+unfolding parts bounds
+schema_is v q fits = sym (ap (λ (b : Bounds). b.schema) fits.0.0.1)
+
+pub exact_versioned : IsExact versioned
+unfolding versioned
+exact_versioned =
+    exact_mapped (λ p. p.1) (λ q. (q.bounds.schema, q)) (before version parts)
+    (λ p fits. ap (λ (v : versions.Version). (v, p.1)) (schema_is p.0 p.1 fits.1))
+    (exact_before version parts exact_version (λ v fits. exact_parts v))
+
 pub exact_file : IsExact file
 unfolding file
-exact_file =
-    exact_marked Magic (codes "BQLC") (marked Version (0 ∷ 1 ∷ []) parts)
-    (exact_marked Version (0 ∷ 1 ∷ []) parts exact_parts)
+exact_file = exact_marked Magic (codes "BQLC") versioned exact_versioned

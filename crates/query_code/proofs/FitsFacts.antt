@@ -31,13 +31,17 @@ use Rattle.query_code.specs.InstructionForm.{bare_before, with_before, operand_c
 use Rattle.query_code.specs.InstructionForm.{cases, instruction}
 use Rattle.bean_base.specs.declared.days.Day.{Day}
 use Rattle.query_values.specs.declared.decimal.Decimal.{Decimal}
+use Rattle.bean_base.specs.Version.{numbered}
+use Rattle.bean_base.specs.Version.{number as version_number}
 use Rattle.bean_base.specs.declared.bounds.Bounds.{Bounds}
+use Rattle.bean_base.specs.declared.bounds.Version as versions
 use Rattle.query_code.specs.declared.program.Output.{Output}
 use Rattle.query_code.specs.declared.program.Code.{Code}
 use Rattle.query_code.specs.ByteForm.{Form, raw, mapped, such_that, standing_for, before, both}
 use Rattle.query_code.specs.ByteForm.{AllFit, row, counted, byte, number, marked, just, Case, case}
 use Rattle.query_code.specs.ByteForm.{chosen, told}
 use Rattle.query_code.specs.TextForm.{text}
+use Rattle.query_code.specs.QueryFile.{version, versioned}
 use Rattle.query_code.specs.QueryFile.{long, wide_integer, is_count, count, bit_of, flag, has}
 use Rattle.query_code.specs.QueryFile.{limit, mode_number, mode, is_grouped, only, places}
 use Rattle.query_code.specs.QueryFile.{some_number, decimal_from, places_and_count, decimal}
@@ -300,10 +304,18 @@ sound_aggregate = sound_told aggregate_number aggregate_cases aggregate_set (
 bounds_set : IsSet Bounds
 bounds_set = hlevel props
 
-sound_bounds : IsSound bounds
+version_set : IsSet (Option versions.Version)
+version_set = hlevel props
+
+sound_version : IsSound version
+unfolding version
+sound_version =
+    sound_standing_for Version numbered version_number word version_set sound_word
+
+sound_bounds : (v : versions.Version) → IsSound (bounds v)
 unfolding bounds
-sound_bounds =
-    sound_mapped (λ p. bounds_of p.0 p.1.0 p.1.1)
+sound_bounds v =
+    sound_mapped (λ p. bounds_of v p.0 p.1.0 p.1.1)
     (λ b. (b.postings, (b.units_digits, b.value_digits))) (both long (both byte byte)) bounds_set
     (sound_both long (both byte byte) (sound_number w32 (2 ^ 32))
     (sound_both byte byte sound_byte sound_byte))
@@ -389,21 +401,25 @@ sound_code m = sound_mapped
 pub parts_set : IsSet Parts
 parts_set = hlevel (props, bounds_set, mode_set, output_set, code_set)
 
-sound_parts : IsSound parts
+sound_parts : (v : versions.Version) → IsSound (parts v)
 unfolding parts
-sound_parts =
+sound_parts v =
     sound_mapped (λ p. record { bounds = p.0; mode = p.1.0; output = p.1.1.0; code = p.1.1.1 })
     (λ q. (q.bounds, (q.mode, (q.output, q.code))))
-    (both bounds (before mode (λ m. both output (code m)))) parts_set
-    (sound_both bounds (before mode (λ m. both output (code m))) sound_bounds
+    (both (bounds v) (before mode (λ m. both output (code m)))) parts_set
+    (sound_both (bounds v) (before mode (λ m. both output (code m))) (sound_bounds v)
     (sound_before mode (λ m. both output (code m)) sound_mode
     (λ m. sound_both output (code m) sound_output (sound_code m))))
 
+sound_versioned : IsSound versioned
+unfolding versioned
+sound_versioned =
+    sound_mapped (λ p. p.1) (λ q. (q.bounds.schema, q)) (before version parts) parts_set
+    (sound_before version parts sound_version sound_parts)
+
 sound_file : IsSound file
 unfolding file
-sound_file =
-    sound_marked Magic (codes "BQLC") (marked Version (0 ∷ 1 ∷ []) parts) parts_set
-    (sound_marked Version (0 ∷ 1 ∷ []) parts parts_set sound_parts)
+sound_file = sound_marked Magic (codes "BQLC") versioned parts_set sound_versioned
 
 pub prop_file : (q : Parts) → IsProp (file.fits q)
 prop_file q = sound_file.prop q

@@ -17,6 +17,7 @@ use Rattle.query_code.specs.declared.program.Mode.{Mode}
 use Rattle.query_code.specs.declared.program.Mode.TheVariants.{Plain, Grouped}
 use Rattle.query_code.specs.declared.program.Code.{Code}
 use Rattle.query_code.specs.declared.program.Parts.{Parts}
+use Rattle.bean_base.specs.Version.{number as version_number}
 use Rattle.bean_base.specs.declared.bounds.Bounds.{Bounds}
 
 abbrev pub name_of_push : pushes.Push → List ℕ
@@ -95,9 +96,10 @@ section_lines name is = labelled name (length is) ++ (line_feed ∷ lines_from 0
 
 abbrev pub bounds_line : Bounds → List ℕ
 bounds_line b =
-    labelled (codes "version 1 postings") b.postings
+    labelled (codes "version") (version_number b.schema)
+    ++ (labelled (codes " postings") b.postings
     ++ (labelled (codes " digits") b.units_digits
-    ++ (labelled (codes " value-digits") b.value_digits ++ line_feed ∷ []))
+    ++ (labelled (codes " value-digits") b.value_digits ++ line_feed ∷ [])))
 
 abbrev pub grouped_line : ℕ → ℕ → List ℕ
 grouped_line keys aggregates =

@@ -7,7 +7,10 @@ use Rattle.std.specs.Int.RustNames.{unsigned_abs}
 use Rattle.bean_base.specs.declared.limits.TheConstants.{COUNT_BOUND, MOST_PLACES}
 use Rattle.bean_base.specs.CalendarDay as calendar
 use Rattle.query_values.specs.Wide as wide
+use Rattle.bean_base.specs.Version.{numbered}
+use Rattle.bean_base.specs.Version.{number as version_number}
 use Rattle.bean_base.specs.declared.bounds.Bounds.{Bounds}
+use Rattle.bean_base.specs.declared.bounds.Version as versions
 use Rattle.bean_base.specs.declared.days.Day.{Day}
 use Rattle.query_values.specs.declared.decimal.Decimal.{Decimal}
 use Rattle.query_values.specs.declared.operation.Aggregate.{Aggregate}
@@ -194,11 +197,16 @@ aggregate = told aggregate_number aggregate_cases
 
 -- ---- the file
 
-abbrev pub bounds_of : ℕ → ℕ → ℕ → Bounds
-bounds_of n d e = record { postings = n; units_digits = d; value_digits = e }
+-- 1 or 2
+unfoldable pub version : Form versions.Version
+version = standing_for Version numbered version_number word
 
-unfoldable pub bounds : Form Bounds
-bounds = mapped (λ p. bounds_of p.0 p.1.0 p.1.1)
+abbrev pub bounds_of : versions.Version → ℕ → ℕ → ℕ → Bounds
+bounds_of v n d e = record { schema = v; postings = n; units_digits = d; value_digits = e }
+
+-- their schema is the file's version
+unfoldable pub bounds : versions.Version → Form Bounds
+bounds v = mapped (λ p. bounds_of v p.0 p.1.0 p.1.1)
     (λ b. (b.postings, (b.units_digits, b.value_digits))) (both long (both byte byte))
 
 unfoldable pub place_below : ℕ → Form ℕ
@@ -247,13 +255,17 @@ code m = mapped
     (both section
     (counted (only m word) instruction))))))
 
-unfoldable pub parts : Form Parts
-parts = mapped (λ p. record { bounds = p.0; mode = p.1.0; output = p.1.1.0; code = p.1.1.1 })
+unfoldable pub parts : versions.Version → Form Parts
+parts v = mapped (λ p. record { bounds = p.0; mode = p.1.0; output = p.1.1.0; code = p.1.1.1 })
     (λ q. (q.bounds, (q.mode, (q.output, q.code))))
-    (both bounds (before mode (λ m. both output (code m))))
+    (both (bounds v) (before mode (λ m. both output (code m))))
+
+-- the parts behind their version
+unfoldable pub versioned : Form Parts
+versioned = mapped (λ p. p.1) (λ q. (q.bounds.schema, q)) (before version parts)
 
 unfoldable pub file : Form Parts
-file = marked Magic (codes "BQLC") (marked Version (0 ∷ 1 ∷ []) parts)
+file = marked Magic (codes "BQLC") versioned
 
 -- The bytes are the file of a program with these parts.
 pub record IsFile (bytes : List ℕ) (program : Parts) : Type 0 where

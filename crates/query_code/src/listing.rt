@@ -196,7 +196,8 @@ fn push_section(
 fn push_bounds(out: &mut Vec<u8>, bounds: Bounds) -> Result<(), AllocError>
     ensures { OnOk result (out.new.items ≡ out.old.items ++ bounds_line bounds) }
 {
-    push_labelled(out, "version 1 postings", bounds.postings as u64)?;
+    push_labelled(out, "version", bounds.schema.number() as u64)?;
+    push_labelled(out, " postings", bounds.postings as u64)?;
     push_labelled(out, " digits", bounds.units_digits as u64)?;
     push_labelled(out, " value-digits", bounds.value_digits as u64)?;
     end_line(out)

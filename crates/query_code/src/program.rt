@@ -1,9 +1,10 @@
 //! Programs: compiled queries.
+ghost use Rattle.std.specs.Prelude.{◌≡◌};
 ghost use Rattle.query_code.specs.QueryFile.{file};
 
 use crate::instruction::Instruction;
 use crate::text_list::TextList;
-use bean_base::{Bounds, Day, List, Slice};
+use bean_base::{Bounds, Day, List, Slice, Version};
 use query_values::{Aggregate, Decimal};
 
 /// Whether the rows of a query are postings or groups.
@@ -79,4 +80,13 @@ pub struct Parts<'a> {
 pub struct Program<'a> {
     pub parts: Parts<'a>,
     ghost has_file: { ∥ file.fits parts ∥₁ },
+}
+
+impl Program<'_> {
+    /// The version of its file, which is the schema of its bounds.
+    pub fn version(&self) -> Version
+        ensures { result ≡ self.now.parts.bounds.schema }
+    {
+        self.parts.bounds.schema
+    }
 }

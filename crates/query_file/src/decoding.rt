@@ -4,25 +4,38 @@ ghost use Rattle.std.specs.Str.{bytes_eq};
 ghost use Rattle.query_code.specs.ByteForm.{raw, such_that};
 ghost use Rattle.query_file.specs.FieldReading.{Gives};
 ghost use Rattle.query_code.specs.QueryFile.{bounds, mode, parts, file, whole, decoded, IsFile};
+ghost use Rattle.query_code.specs.QueryFile.{version, versioned};
 ghost use Rattle.query_code.specs.QueryFile.{refusal_of, HasOneFile, IsOneProgram};
 ghost use Rattle.query_file.specs.Decoding.{Decodes};
 ghost use Rattle.query_code.specs.declared.program.Parts.{Parts};
 
 use crate::code_reading::{code_at, output_at};
 use crate::fault::{DecodeFault, Fault};
-use crate::reading::{byte_at, long_at, stopped, truncated};
-use bean_base::Bounds;
+use crate::reading::{byte_at, long_at, stopped, truncated, word_at};
+use bean_base::{Bounds, Version};
 use query_code::{Cause, Mode, Parts, Program, Refusal, Stop};
 use std::alloc::Global;
 
+#[tactic(auto, unfolding(query_code::specs::QueryFile::version))]
+fn version_at(bytes: &[u8]) -> Result<(Version, &[u8]), Fault>
+    ensures { Gives (λ x. (x.0, x.1.now)) result (version.read bytes.now) }
+{
+    let (number, rest) = word_at(bytes)?;
+    match Version::numbered(number) {
+        Some(version) => Ok((version, rest)),
+        None => Err(stopped(Cause::Version, bytes)),
+    }
+}
+
 #[tactic(auto, unfolding(query_code::specs::QueryFile::bounds))]
-fn bounds_at(bytes: &[u8]) -> Result<(Bounds, &[u8]), Fault>
-    ensures { Gives (λ x. (x.0, x.1.now)) result (bounds.read bytes.now) }
+fn bounds_at(schema: Version, bytes: &[u8]) -> Result<(Bounds, &[u8]), Fault>
+    ensures { Gives (λ x. (x.0, x.1.now)) result ((bounds schema).read bytes.now) }
 {
     let (postings, rest) = long_at(bytes)?;
     let (units_digits, rest) = byte_at(rest)?;
     let (value_digits, rest) = byte_at(rest)?;
     let bounds = Bounds {
+        schema,
         postings,
         units_digits,
         value_digits,
@@ -43,10 +56,10 @@ fn mode_at(bytes: &[u8]) -> Result<(Mode, &[u8]), Fault>
 }
 
 #[tactic(auto, unfolding(query_code::specs::QueryFile::parts))]
-fn parts_at(alloc: Global, bytes: &[u8]) -> Result<(Parts<'_>, &[u8]), Fault>
-    ensures { Gives (λ x. (x.0, x.1.now)) result (parts.read bytes.now) }
+fn parts_at(alloc: Global, version: Version, bytes: &[u8]) -> Result<(Parts<'_>, &[u8]), Fault>
+    ensures { Gives (λ x. (x.0, x.1.now)) result ((parts version).read bytes.now) }
 {
-    let (bounds, rest) = bounds_at(bytes)?;
+    let (bounds, rest) = bounds_at(version, bytes)?;
     let (mode, rest) = mode_at(rest)?;
     let (output, rest) = output_at(alloc, rest)?;
     let (code, rest) = code_at(alloc, mode, rest)?;
@@ -74,13 +87,20 @@ fn behind<'a>(cause: Cause, mark: &[u8], bytes: &'a [u8]) -> Result<&'a [u8], Fa
     Ok(rest)
 }
 
+#[tactic(auto, unfolding(query_code::specs::QueryFile::versioned))]
+fn versioned_at(alloc: Global, bytes: &[u8]) -> Result<(Parts<'_>, &[u8]), Fault>
+    ensures { Gives (λ x. (x.0, x.1.now)) result (versioned.read bytes.now) }
+{
+    let (version, rest) = version_at(bytes)?;
+    parts_at(alloc, version, rest)
+}
+
 #[tactic(auto, unfolding(query_code::specs::QueryFile::file))]
 fn file_at(alloc: Global, bytes: &[u8]) -> Result<(Parts<'_>, &[u8]), Fault>
     ensures { Gives (λ x. (x.0, x.1.now)) result (file.read bytes.now) }
 {
     let rest = behind(Cause::Magic, b"BQLC", bytes)?;
-    let rest = behind(Cause::Version, b"\x00\x01", rest)?;
-    parts_at(alloc, rest)
+    versioned_at(alloc, rest)
 }
 
 #[tactic(auto, unfolding(query_code::specs::QueryFile::whole))]

@@ -5,10 +5,11 @@ ghost use Rattle.query_code.specs.InstructionForm.{word, instruction};
 ghost use Rattle.query_code.specs.QueryFile.{long, count, flag, limit, mode, decimal, day};
 ghost use Rattle.query_code.specs.QueryFile.{numbers, constant, aggregate, section, place_below};
 ghost use Rattle.query_code.specs.QueryFile.{columns, output, code, bounds, parts, file, only};
+ghost use Rattle.query_code.specs.QueryFile.{version};
 ghost use Rattle.query_code.specs.QueryFile.{some_number, IsFile};
 ghost use Rattle.query_code.specs.TextForm.{text};
 
-use bean_base::{Bounds, Day, Slice};
+use bean_base::{Bounds, Day, Slice, Version};
 use query_code::text_list::put_text;
 use query_code::{Code, Constant, Instruction, Mode, Numbers, Output, Parts, Program, Push, Unary};
 use query_values::{Aggregate, Binary, Decimal};
@@ -433,19 +434,28 @@ fn put_code(out: &mut Vec<u8>, mode: Mode, written: &Code<'_>) -> Result<(), All
 
 #[tactic(auto, unfolding(query_code::specs::QueryFile::bounds))]
 fn put_bounds(out: &mut Vec<u8>, written: Bounds) -> Result<(), AllocError>
-    ensures { OnOk result (out.new.items ≡ out.old.items ++ bounds.written written) }
+    ensures { OnOk result (out.new.items
+        ≡ out.old.items ++ (bounds written.schema).written written) }
 {
     put_long(out, written.postings)?;
     put_byte(out, written.units_digits)?;
     put_byte(out, written.value_digits)
 }
 
-#[tactic(auto, unfolding(query_code::specs::QueryFile::parts, query_code::specs::QueryFile::file))]
+#[tactic(auto, unfolding(query_code::specs::QueryFile::version))]
+fn put_version(out: &mut Vec<u8>, written: Version) -> Result<(), AllocError>
+    ensures { OnOk result (out.new.items ≡ out.old.items ++ version.written written) }
+{
+    put_word(out, written.number())
+}
+
+#[tactic(auto, unfolding(query_code::specs::QueryFile::parts, query_code::specs::QueryFile::versioned, query_code::specs::QueryFile::file))]
 fn put_parts(out: &mut Vec<u8>, written: &Parts<'_>) -> Result<(), AllocError>
     requires { file.fits written.now }
     ensures { OnOk result (out.new.items ≡ out.old.items ++ file.written written.now) }
 {
-    out.extend_from_slice(b"BQLC\x00\x01")?;
+    out.extend_from_slice(b"BQLC")?;
+    put_version(out, written.bounds.schema)?;
     put_bounds(out, written.bounds)?;
     put_mode(out, written.mode)?;
     put_output(out, &written.output)?;
