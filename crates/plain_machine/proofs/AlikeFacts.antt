@@ -200,7 +200,7 @@ module _ {X Y : Type 0} (f : X
   step_as (InLast g rest rows q s) =
       in_last_as g rest rows (one_step p.code.last (last_acts K p g) (Standing q s))
       ∙ ap (λ v. in_last L p (group_as f g) (map (group_as f) rest) rows
-      (one_step p.code.last (value_acts p.code.pool (last_loads g.0 v)) (Standing q s)))
+      (one_step p.code.last (value_acts p.code.pool (last_loads p.bounds.schema g.0 v)) (Standing q s)))
       (sym (c.values g.1))
   step_as (Done rows) = refl
   step_as Fault = refl

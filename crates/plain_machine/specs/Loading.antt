@@ -1,7 +1,8 @@
 -- What the instructions of a section load, and what operations give there.
 use Rattle.std.specs.Prelude.{ℕ, true, false, List, Option, Some, None, slice_get, option_map}
 use Rattle.std.specs.Prelude.{option_and_then}
-use Rattle.query_columns.specs.Column.{numbered}
+use Rattle.bean_base.specs.declared.bounds.Version.{Version}
+use Rattle.query_columns.specs.Column.{numbered_in}
 use Rattle.query_columns.specs.declared.column.Column.{Column}
 use Rattle.query_columns.specs.declared.column.Column.TheVariants.{Balance}
 use Rattle.query_values.specs.Held.{checked}
@@ -18,8 +19,9 @@ use Rattle.plain_machine.specs.Pool.{value_at, key_at, operation_of}
 use Rattle.query_rows.specs.Row.{Row, posting_text, transaction_text, any_text}
 use Rattle.plain_machine.specs.SectionRun.{Acts}
 
--- a posting's row, the running inventory, a group's keys and its aggregates, where they may be read
+-- a posting's row, of which the columns of a schema are known, the running inventory, a group's keys and its aggregates, where they may be read
 pub record Loads : Type 0 where
+  pub schema : Version
   pub row : Option Row
   pub balance : Option Value
   pub keys : List Value
@@ -30,9 +32,9 @@ abbrev pub cell_in : Loads → Column → Option Value
 cell_in l Balance = l.balance
 cell_in l c = option_map (λ (r : Row). r.cell c) l.row
 
--- none where no column has the number
+-- none where no column of the schema has the number
 abbrev pub column_at : Loads → ℕ → Option Value
-column_at l n = option_and_then (cell_in l) (numbered n)
+column_at l n = option_and_then (cell_in l) (numbered_in l.schema n)
 
 -- a text of the row's metadata, under a key of the pool
 abbrev pub text_at : Loads → (List ℕ → Row → Value) → Option (List ℕ) → Option Value

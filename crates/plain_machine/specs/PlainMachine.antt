@@ -3,6 +3,7 @@
 use Rattle.std.specs.Prelude.{ℕ, zero, suc, ◌+◌, ◌==◌, Bool, true, false, List, [], ◌∷◌, ◌++◌}
 use Rattle.std.specs.Prelude.{length, take, drop, reverse, Option, Some, None, option_map}
 use Rattle.std.specs.Prelude.{option_and_then, if◌then◌else◌}
+use Rattle.bean_base.specs.declared.bounds.Version.{Version}
 use Rattle.query_values.specs.Aggregate.{aggregate_of}
 use Rattle.query_values.specs.declared.operation.Aggregate.TheVariants.{SumInventory}
 use Rattle.query_values.specs.declared.value.Value.{Value}
@@ -37,21 +38,37 @@ pub data Stand (X : Type 0) : Type 0 where
 
 -- ---- what sections load
 
-abbrev pub filter_loads : Row → Loads
-filter_loads r = record { row = Some r; balance = None; keys = []; aggregates = [] }
+abbrev pub filter_loads : Version → Row → Loads
+filter_loads v r = record {
+  schema = v;
+  row = Some r;
+  balance = None;
+  keys = [];
+  aggregates = [];
+}
 
 -- the running inventory is no column where postings are grouped
 abbrev pub balance_in : Mode → Value → Option Value
 balance_in Plain running = Some running
 balance_in Grouped running = None
 
-abbrev pub row_loads : Mode → Value → Row → Loads
-row_loads mode running r =
-    record { row = Some r; balance = balance_in mode running; keys = []; aggregates = [] }
+abbrev pub row_loads : Version → Mode → Value → Row → Loads
+row_loads v mode running r = record {
+  schema = v;
+  row = Some r;
+  balance = balance_in mode running;
+  keys = [];
+  aggregates = [];
+}
 
-abbrev pub last_loads : List Value → List Value → Loads
-last_loads keys aggregates =
-    record { row = None; balance = None; keys = keys; aggregates = aggregates }
+abbrev pub last_loads : Version → List Value → List Value → Loads
+last_loads v keys aggregates = record {
+  schema = v;
+  row = None;
+  balance = None;
+  keys = keys;
+  aggregates = aggregates;
+}
 
 -- ---- what sections leave
 
@@ -85,10 +102,10 @@ with_row k row = record { running = k.running; groups = k.groups; rows = k.rows 
 -- ---- from section to section
 
 abbrev pub filter_acts : Parts → Row → Acts Value
-filter_acts p r = value_acts p.code.pool (filter_loads r)
+filter_acts p r = value_acts p.code.pool (filter_loads p.bounds.schema r)
 
 abbrev pub row_acts : Parts → Value → Row → Acts Value
-row_acts p running r = value_acts p.code.pool (row_loads p.mode running r)
+row_acts p running r = value_acts p.code.pool (row_loads p.bounds.schema p.mode running r)
 
 module _ {X : Type 0} (p : Parts) where
   -- at the end, where the rows can be ordered
@@ -167,7 +184,7 @@ module _ {X : Type 0} (keep : Keeping X) (p : Parts) where
       if q == length p.code.last then end_last p rest rows s.stack else InLast g rest rows q s
 
   abbrev pub last_acts : Group X → Acts Value
-  last_acts g = value_acts p.code.pool (last_loads g.0 (keep.values g.1))
+  last_acts g = value_acts p.code.pool (last_loads p.bounds.schema g.0 (keep.values g.1))
 
   abbrev pub step : Stand X → Stand X
   step (InFilter r rest k q s) =

@@ -1,6 +1,6 @@
 -- The columns of the postings, and their names.
 use Rattle.std.specs.Prelude.{◌≡◌, ◌&&◌, ℕ, Bool, true, false, List, codes, Option, Some}
-use Rattle.std.specs.Prelude.{slice_get}
+use Rattle.std.specs.Prelude.{None, slice_get, option_and_then, if◌then◌else◌}
 use Rattle.std.specs.List.{find}
 use Rattle.std.specs.Str.{str_eq_ignore_ascii_case}
 use Rattle.bean_base.specs.declared.bounds.Version.{Version}
@@ -97,6 +97,13 @@ has_prices Second = true
 abbrev pub is_in : Version → columns.Column → Bool
 is_in schema Price = has_prices schema
 is_in schema c = true
+
+abbrev pub if_in : Version → columns.Column → Option columns.Column
+if_in schema c = if is_in schema c then Some c else None
+
+-- the column of a schema that has the number
+abbrev pub numbered_in : Version → ℕ → Option columns.Column
+numbered_in schema n = option_and_then (if_in schema) (numbered n)
 
 -- those that FROM knows
 abbrev pub is_of_transaction : columns.Column → Bool

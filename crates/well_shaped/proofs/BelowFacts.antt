@@ -22,7 +22,7 @@ use Rattle.query_code.specs.declared.program.Constant.{Constant}
 use Rattle.plain_machine.specs.Pool.{key_at, operation_of}
 use Rattle.plain_machine.specs.SectionRun.{State}
 use Rattle.well_shaped.specs.Laws.{AreLoadsBelow}
-use Rattle.well_shaped.specs.Sections.{Loads, given, shape_at, shape_of, text_at, loaded}
+use Rattle.well_shaped.specs.Sections.{Loads, given, shape_at, shape_by, shape_of, text_at, loaded}
 use Rattle.well_shaped.specs.Sections.{is_truth, shape_acts}
 use Rattle.well_shaped.specs.StateShape.{IfSet, AreActs, IsStateBelow}
 use Rattle.well_shaped.proofs.FrameFacts.{each_at, each_itself, if_set_itself, states_then}
@@ -57,9 +57,15 @@ module _ (pool : List Constant) (k l : Loads) (less : AreLoadsBelow k l) where
       subst (λ x. IfSet IsBelow (option_map f k.posting) (option_map f x)) less.posting
       (same_below (option_map f k.posting))
 
+  of_columns : (f : Bounds → Option Shape)
+      → IfSet IsBelow (option_and_then f k.posting) (option_and_then f l.posting)
+  of_columns f =
+      subst (λ x. IfSet IsBelow (option_and_then f k.posting) (option_and_then f x)) less.posting
+      (same_below (option_and_then f k.posting))
+
   column_below : (c : Column) → IfSet IsBelow (shape_of k c) (shape_of l c)
   column_below Balance = less.balance
-  column_below c = of_posting (λ b. column_shape b c)
+  column_below c = of_columns (shape_by c)
 
   numbered_below : (o : Option Column)
       → IfSet IsBelow (option_and_then (shape_of k) o) (option_and_then (shape_of l) o)

@@ -1,7 +1,7 @@
 -- What instructions do with shapes, in each of the three sections of a program: none where what
 -- they name isn't there, or where they don't take their operands.
 use Rattle.std.specs.Prelude.{ℕ, Bool, true, false, List, [], Option, Some, None, Ok, Err}
-use Rattle.std.specs.Prelude.{slice_get, option_map, option_and_then}
+use Rattle.std.specs.Prelude.{slice_get, option_map, option_and_then, if◌then◌else◌}
 use Rattle.std.specs.Int.RustNames.{unsigned_abs}
 use Rattle.bean_base.specs.declared.bounds.Bounds.{Bounds}
 use Rattle.query_values.specs.declared.operation.Binary.{Binary}
@@ -9,7 +9,7 @@ use Rattle.query_shapes.specs.Rules.{Ruled, unary_shape, binary_shape}
 use Rattle.query_shapes.specs.Shape.{fitting}
 use Rattle.query_shapes.specs.declared.shape.Shape.{Shape}
 use Rattle.query_shapes.specs.declared.shape.Shape.TheVariants as shape
-use Rattle.query_columns.specs.Column.{numbered}
+use Rattle.query_columns.specs.Column.{is_in, numbered}
 use Rattle.query_columns.specs.ColumnShape.{column_shape}
 use Rattle.query_columns.specs.declared.column.Column.{Column}
 use Rattle.query_columns.specs.declared.column.Column.TheVariants.{Balance}
@@ -47,9 +47,13 @@ shape_in c = None
 abbrev pub shape_at : List Constant → ℕ → Option Shape
 shape_at pool i = option_and_then shape_in (slice_get pool i)
 
+-- none where the schema has no such column
+abbrev pub shape_by : Column → Bounds → Option Shape
+shape_by c b = if is_in b.schema c then Some (column_shape b c) else None
+
 abbrev pub shape_of : Loads → Column → Option Shape
 shape_of l Balance = l.balance
-shape_of l c = option_map (λ b. column_shape b c) l.posting
+shape_of l c = option_and_then (shape_by c) l.posting
 
 -- the shape of the column that has the number
 abbrev pub column_at : Loads → ℕ → Option Shape
