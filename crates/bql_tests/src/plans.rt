@@ -1,7 +1,7 @@
 //! What is computed for queries.
 
 use crate::shapes::push_letters;
-use bean_base::Bounds;
+use bean_base::{Bounds, Version};
 use bql_parser::parse_query;
 use bql_plan::{Gathered, Plan, Shaped, planned};
 use bql_types::type_query;
@@ -10,6 +10,7 @@ use std::alloc::{AllocError, Global};
 use std::test::Fail;
 
 const WIDEST: Bounds = Bounds {
+    schema: Version::First,
     postings: 1_000_000,
     units_digits: 20,
     value_digits: 28,

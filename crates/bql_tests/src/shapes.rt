@@ -1,6 +1,6 @@
 //! Shapes of expressions and of their parts.
 
-use bean_base::Bounds;
+use bean_base::{Bounds, Version};
 use bql_parser::parse_query;
 use bql_plan::{Shapes, shapes_of};
 use query_shapes::Shape;
@@ -8,6 +8,7 @@ use std::alloc::{AllocError, Global};
 use std::test::Fail;
 
 const WIDEST: Bounds = Bounds {
+    schema: Version::First,
     postings: 1_000_000,
     units_digits: 20,
     value_digits: 28,

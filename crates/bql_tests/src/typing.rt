@@ -2,13 +2,14 @@
 
 ghost use Rattle.query_columns.specs.ColumnShape.{AreBounds};
 
-use bean_base::Bounds;
+use bean_base::{Bounds, Version};
 use bql_parser::parse_query;
 use bql_types::{TypeFault, type_query};
 use std::alloc::{AllocError, Global};
 use std::test::Fail;
 
 const WIDEST: Bounds = Bounds {
+    schema: Version::First,
     postings: 1_000_000,
     units_digits: 20,
     value_digits: 28,
@@ -16,6 +17,7 @@ const WIDEST: Bounds = Bounds {
 
 /// Numbers of at most six digits before the point, so that their products can be held.
 const NARROWER: Bounds = Bounds {
+    schema: Version::First,
     postings: 1_000_000,
     units_digits: 14,
     value_digits: 28,

@@ -9,6 +9,8 @@ use Rattle.bean_base.proofs.PowerFacts.{pow_le}
 use Rattle.bean_base.specs.declared.bounds.Bounds.{Bounds}
 use Rattle.bql_parser.specs.declared.standing.Valuation.{Valuation}
 use Rattle.bql_parser.specs.declared.standing.Valuation.TheVariants as valuation
+use Rattle.bean_base.specs.declared.limits.TheConstants.{MOST_POSTINGS}
+use Rattle.query_columns.proofs.BoundFacts.{few_postings}
 use Rattle.query_columns.specs.ColumnShape.{AreBounds, units_most, value_most}
 use Rattle.bql_rules.specs.Rules.{of_one}
 use Rattle.bql_tree.specs.Tree.{Tree, call_of}
@@ -40,10 +42,10 @@ units_narrow b are =
 value_narrow : (b : Bounds) → AreBounds b → value_most b ≤ 10 ^ 28
 value_narrow b are = let wide = pow_le b.value_digits 28 are.value in omega (arith, wide)
 
-all_narrow : (n m : ℕ) → n ≤ 1000000 → m ≤ 10 ^ 28 → n * m ≤ 10 ^ 34
+all_narrow : (n m : ℕ) → n ≤ MOST_POSTINGS → m ≤ 10 ^ 28 → n * m ≤ 10 ^ 35
 all_narrow n m few small =
     let one : n * m ≤ n * 10 ^ 28 = mul-le-mul_left n small in
-    let all : n * 10 ^ 28 ≤ 1000000 * 10 ^ 28 = mul-le-mul_right (10 ^ 28) few in
+    let all : n * 10 ^ 28 ≤ MOST_POSTINGS * 10 ^ 28 = mul-le-mul_right (10 ^ 28) few in
     omega (arith, one, all)
 
 units_alone : (u : ℕ) → u * 10 ^ 8 ≤ 10 ^ 28 → u ≤ 10 ^ 28
@@ -52,15 +54,15 @@ units_alone u h = omega (arith, h)
 greater : (u w : ℕ) → u * 10 ^ 8 ≤ 10 ^ 28 → w ≤ 10 ^ 28 → max w (u * 10 ^ 8) ≤ 10 ^ 28
 greater u w h k = omega (arith, h, k)
 
-costs : (n u w : ℕ) → n ≤ 1000000 → u * 10 ^ 8 ≤ 10 ^ 28 → w ≤ 10 ^ 28
-    → n * w + n * u * 10 ^ 8 ≤ 2 * 10 ^ 34
+costs : (n u w : ℕ) → n ≤ MOST_POSTINGS → u * 10 ^ 8 ≤ 10 ^ 28 → w ≤ 10 ^ 28
+    → n * w + n * u * 10 ^ 8 ≤ 2 * 10 ^ 35
 costs n u w few h k =
     let a = all_narrow n w few k in
     let c = all_narrow n (u * 10 ^ 8) few h in
     let same : n * u * 10 ^ 8 ≡ n * (u * 10 ^ 8) = grind arith in
     omega (arith, a, c, same)
 
-held : (m : ℕ) → m ≤ 2 * 10 ^ 34 → nat_lt m (2 ^ 127) ≡ true
+held : (m : ℕ) → m ≤ 2 * 10 ^ 35 → nat_lt m (2 ^ 127) ≡ true
 held m h = lt-ltb _ _ (omega (arith, h))
 
 fits : (s : Shape) → is_held s ≡ true → given (Some (fitting s)) ≡ Some s
@@ -91,13 +93,13 @@ position_causes b (Some valuation.Cost) are =
 
 units_sum : (b : Bounds) → AreBounds b → nat_lt (b.postings * units_most b) (2 ^ 127) ≡ true
 units_sum b are =
-    let h = all_narrow b.postings (units_most b) are.postings
+    let h = all_narrow b.postings (units_most b) (few_postings b are)
     (units_alone (units_most b) (units_narrow b are)) in
     held (b.postings * units_most b) (omega (arith, h))
 
 value_sum : (b : Bounds) → AreBounds b → nat_lt (b.postings * value_most b) (2 ^ 127) ≡ true
 value_sum b are =
-    let h = all_narrow b.postings (value_most b) are.postings (value_narrow b are) in
+    let h = all_narrow b.postings (value_most b) (few_postings b are) (value_narrow b are) in
     held (b.postings * value_most b) (omega (arith, h))
 
 balance_causes : (b : Bounds) (at : Option Valuation) → AreBounds b
@@ -111,7 +113,7 @@ balance_causes b (Some valuation.Cost) are =
     let m = b.postings * value_most b + b.postings * units_most b * 10 ^ 8 in
     typed_as b (applied function.Cost (of_column column.Balance)) (Inventory 16 m 0) refl
     (both (nat_lt m (2 ^ 127)) true
-    (held m (costs b.postings (units_most b) (value_most b) are.postings (units_narrow b are)
+    (held m (costs b.postings (units_most b) (value_most b) (few_postings b are) (units_narrow b are)
     (value_narrow b are)))
     refl)
 
@@ -137,7 +139,7 @@ sum_causes b (Some valuation.Cost) are =
     let m = max (value_most b) (units_most b * 10 ^ 8) in
     let h = greater (units_most b) (value_most b) (units_narrow b are) (value_narrow b are) in
     let t = applied function.Cost (of_column column.Position) in
-    let k = all_narrow b.postings m are.postings h in
+    let k = all_narrow b.postings m (few_postings b are) h in
     typed_as b (applied function.Sum t) (Inventory 16 (b.postings * m) 0)
     (given_is b (Amount 16 m) t (fits (Amount 16 m) (held m (omega (arith, h)))))
     (both (nat_lt (b.postings * m) (2 ^ 127)) true (held (b.postings * m) (omega (arith, k))) refl)

@@ -2,7 +2,12 @@
 //! what they ask stands where it may.
 //!
 //! ```text
-//! let bounds = Bounds { postings: 1_000_000, units_digits: 20, value_digits: 28 };
+//! let bounds = Bounds {
+//!     schema: Version::Second,
+//!     postings: 4_000_000,
+//!     units_digits: 20,
+//!     value_digits: 28,
+//! };
 //! let query = parse_query(alloc, "SELECT account, sum(position)")?;
 //! type_query(alloc, &query, &bounds)              // Ok: the query with these bounds
 //! // "SELECT account + 1"                            TypeFault::KindClash(7)
