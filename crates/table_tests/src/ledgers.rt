@@ -4,7 +4,9 @@ ghost use Rattle.std.specs.Int.RustNames.{unsigned_abs};
 ghost use Rattle.posting_table.specs.Parts.{HasShortTexts, HasSmallParts, IsShortSet};
 ghost use Rattle.posting_table.specs.Shaped.{AreShort};
 
-use bean_base::{Bounds, Flag, Num, Slice, Text, parse_account, parse_currency, parse_day};
+use bean_base::{
+    Amount, Bounds, Flag, Num, Slice, Text, Version, parse_account, parse_currency, parse_day,
+};
 use bean_lots::{Cost, Key, Lot, Position};
 use posting_table::{
     Column, Entry, EntryFlag, Ledger, MetaItem, Metadata, PlainText, Row, Shared, Weight,
@@ -74,6 +76,7 @@ fn cash(entry: Shared<Entry<'static>>) -> Result<Row<'static>, Fail>
             count: -25_000_000_000_000_000,
             currency: parse_currency("USD")?,
         },
+        price: None,
         metadata: Metadata::empty(),
         line: 7,
         flag: None,
@@ -104,6 +107,10 @@ fn shares(alloc: Global, entry: Shared<Entry<'static>>) -> Result<Row<'static>, 
             count: 25_000_000_000_000_000,
             currency: parse_currency("EUR")?,
         },
+        price: Some(Amount {
+            number: Num::parse("100")?,
+            currency: parse_currency("USD")?,
+        }),
         metadata: receipt(alloc)?,
         line: 8,
         flag: Some(Flag::Incomplete),
@@ -183,6 +190,7 @@ fn cells_of_counts(rt: HostRuntime) -> Result<(), Fail> {
         (1, Column::CostNumber, 500_000_000),
         (1, Column::Position, 50_000_000),
         (1, Column::Weight, 25_000_000_000_000_000),
+        (1, Column::Price, 10_000_000_000),
     ] {
         assert_eq!(rt; count_of(&cell(&ledger, row, column)), Some(count));
     }
@@ -225,16 +233,21 @@ fn metadata_by_its_key(rt: HostRuntime) -> Result<(), Fail> {
 }
 
 #[test]
-fn bounds_of_postings_units_and_values(rt: HostRuntime) -> Result<(), Fail> {
+fn bounds_of_postings_units_values_and_prices(rt: HostRuntime) -> Result<(), Fail> {
     let ledger = lunch_ledger(rt.alloc())?;
-    for (postings, units_digits, value_digits, fits) in [
-        (2, 9, 17, true),
-        (1, 9, 17, false),
-        (2, 8, 17, false),
-        (2, 9, 16, false),
-        (u32::MAX, u8::MAX, u8::MAX, true),
+    for (schema, postings, units_digits, value_digits, fits) in [
+        (Version::First, 2, 9, 17, true),
+        (Version::First, 1, 9, 17, false),
+        (Version::First, 2, 8, 17, false),
+        (Version::First, 2, 9, 16, false),
+        (Version::First, u32::MAX, u8::MAX, u8::MAX, true),
+        // A price of 100 USD counts in the second schema alone.
+        (Version::First, 2, 10, 17, true),
+        (Version::Second, 2, 10, 17, false),
+        (Version::Second, 2, 11, 17, true),
     ] {
         let bounds = Bounds {
+            schema,
             postings,
             units_digits,
             value_digits,

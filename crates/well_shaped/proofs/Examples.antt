@@ -96,6 +96,16 @@ bounds = record {
   value = leb-true _ _ refl;
 }
 
+first_bounds : AreBounds counted.bounds
+first_bounds = record {
+  some_postings = leb-true _ _ refl;
+  postings = leb-true _ _ refl;
+  some_units = leb-true _ _ refl;
+  units = leb-true _ _ refl;
+  some_value = leb-true _ _ refl;
+  value = leb-true _ _ refl;
+}
+
 -- nothing, and then a value of this shape
 abbrev one_more : Shape → ℕ → State Shape
 one_more s zero = start
@@ -136,7 +146,7 @@ count = Number 0 1000000
 
 counted_is_well_shaped : IsWellShaped counted
 counted_is_well_shaped = record {
-  bounds = bounds;
+  bounds = first_bounds;
   filter = one_value (filter_acts counted) push.True Truth refl;
   values = [];
   row = no_values (row_acts counted);
