@@ -5,4 +5,5 @@ pub mod TextListFacts
 pub mod FitsFacts
 pub mod QueryFileFacts
 pub mod WorkedProgram
+pub mod UpgradeFacts
 mod Examples

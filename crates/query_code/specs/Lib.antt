@@ -4,3 +4,4 @@ pub mod TextForm
 pub mod QueryFile
 pub mod Listing
 pub mod Cause
+pub mod Upgrade

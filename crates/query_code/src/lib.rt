@@ -1,7 +1,8 @@
 //! The program of a compiled query: its parts, its instructions, and what its file is.
 //!
 //! ```text
-//! let text = show(alloc, &program)?;   // "version 1 postings 1000000 digits 20 ..", a line each
+//! let text = show(alloc, &program)?;      // "version 1 postings 1000000 digits 20 ..", a line each
+//! let again = upgrade(alloc, &program)?;  // the same in version 2, of 1000000 postings as before
 //! ```
 //!
 //! A [`Program`] keeps the limits of a query file, so each has one; `specs/QueryFile` says which
@@ -9,6 +10,9 @@
 //! Operations on two values and aggregates are those of `query_values`. What a program means is
 //! told in `plain_machine`; whether it can be run without a fault is another question, which the
 //! verifier answers.
+//!
+//! Files have two versions: the second knows the prices of postings, and ledgers of more of them
+//! ([`bean_base::Version`]). [`upgrade`] brings a program to the second, with all else as it was.
 //!
 //! # Faults
 //!
@@ -26,9 +30,11 @@ mod listing;
 mod program;
 mod refusal;
 pub mod text_list;
+mod upgrading;
 
 pub use instruction::{Instruction, Push, Unary};
 pub use listing::show;
 pub use program::{Code, Constant, Mode, Numbers, Output, Parts, Program};
 pub use refusal::{Cause, Refusal, Stop};
 pub use text_list::TextList;
+pub use upgrading::{upgrade, upgraded_files_differ_in_version};

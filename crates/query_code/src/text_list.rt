@@ -1,5 +1,5 @@
 //! Lists of texts, kept as a query file has them.
-ghost use Rattle.std.specs.Prelude.{◌≡◌, ◌<◌, ◌+◌, ◌^◌, ◌++◌, ◌∷◌, [], length, OnOk, OnErr};
+ghost use Rattle.std.specs.Prelude.{◌≡◌, ◌<◌, ◌+◌, ◌^◌, ◌++◌, ◌∷◌, [], length, IfOk, OnOk, OnErr};
 ghost use Rattle.query_code.specs.ByteForm.{all_written};
 ghost use Rattle.query_code.specs.TextForm.{text, texts_in, AreTexts};
 
@@ -63,6 +63,17 @@ impl<'a> TextList<'a> {
             added: Vec::new(alloc),
             len,
         }
+    }
+
+    /// The same texts once more.
+    pub(crate) fn again(&self, alloc: Global) -> Result<TextList<'a>, AllocError>
+        ensures { IfOk result (λ again. again ≡ self.now) }
+    {
+        Ok(TextList {
+            lent: self.lent,
+            added: Vec::from_slice(alloc, self.added.as_slice())?,
+            len: self.len,
+        })
     }
 
     /// How many they are.
