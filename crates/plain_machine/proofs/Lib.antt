@@ -5,4 +5,5 @@ pub mod CountFacts
 pub mod GroupingFacts
 pub mod AlikeFacts
 pub mod AnswerFacts
+pub mod UpgradeFacts
 mod Examples

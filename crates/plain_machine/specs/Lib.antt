@@ -8,3 +8,4 @@ pub mod PlainMachine
 pub mod WholeRun
 pub mod Alike
 pub mod Answer
+pub mod Upgrade

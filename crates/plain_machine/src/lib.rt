@@ -37,6 +37,7 @@ ghost use Rattle.plain_machine.specs.Answer.{AnswersAreWithinBudget, AnswersWith
 ghost use Rattle.plain_machine.specs.Answer.{NoFaultWithAnswer};
 ghost use Rattle.plain_machine.specs.Gathering.{all_inputs, running_values};
 ghost use Rattle.plain_machine.specs.Grouping.{MakesGroups};
+ghost use Rattle.plain_machine.specs.Upgrade.{UpgradesRunAlike};
 ghost use Rattle.plain_machine.specs.WholeRun.{AnswersAreReached, ComesToItsAnswer};
 
 /// The steps of each program come to what its sections leave, row after row and group after group,
@@ -74,4 +75,10 @@ pub fn programs_have_one_answer()
     ensures one { AnswersAreOne }
     ensures sections { AnswersAreOfSections }
     ensures budget { AnswersAreWithinBudget }
+{}
+
+/// A program that names the columns of its schema stands, when it is brought to the second version,
+/// after each step where it stood before.
+pub fn upgrades_run_alike()
+    ensures { UpgradesRunAlike }
 {}
