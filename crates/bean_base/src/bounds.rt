@@ -8,7 +8,7 @@ use crate::limits::{FIRST_MOST_POSTINGS, MOST_POSTINGS};
 /// postings they may have, and which columns.
 #[derive(Clone, Copy, Debug, Drop, PartialEq, Eq)]
 pub enum Version {
-    /// A million postings, and no prices.
+    /// At most a million postings, and no prices.
     First,
     /// As many postings as a ledger holds, with their prices.
     Second,

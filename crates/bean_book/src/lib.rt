@@ -22,7 +22,7 @@
 //!
 //! # Faults
 //!
-//! `B1`: there are more than 1,000,000 postings. It is answered exactly there.
+//! `B1`: there are more than 4,000,000 postings. It is answered exactly there.
 //!
 //! # Cost
 //!

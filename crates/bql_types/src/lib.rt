@@ -17,7 +17,7 @@
 //!
 //! # What is taken for granted
 //!
-//! That the bounds are some that a query may have: at most 1,000,000 postings, 20 digits of units
+//! That the bounds are some that a query may have: at most 4,000,000 postings (1,000,000 in the first schema), 20 digits of units
 //! and 28 of values. Nothing of the query.
 //!
 //! # Faults
