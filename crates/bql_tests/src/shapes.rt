@@ -8,8 +8,8 @@ use std::alloc::{AllocError, Global};
 use std::test::Fail;
 
 const WIDEST: Bounds = Bounds {
-    schema: Version::First,
-    postings: 1_000_000,
+    schema: Version::Second,
+    postings: 4_000_000,
     units_digits: 20,
     value_digits: 28,
 };

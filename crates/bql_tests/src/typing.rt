@@ -9,8 +9,8 @@ use std::alloc::{AllocError, Global};
 use std::test::Fail;
 
 const WIDEST: Bounds = Bounds {
-    schema: Version::First,
-    postings: 1_000_000,
+    schema: Version::Second,
+    postings: 4_000_000,
     units_digits: 20,
     value_digits: 28,
 };
@@ -41,6 +41,8 @@ fn queries_that_have_a_type(rt: HostRuntime) -> Result<(), Fail> {
         "SELECT date, flag, account, position",
         "SELECT *",
         "SELECT balance",
+        "SELECT position, price",
+        "SELECT number(price) * 2, currency(price), price = NULL",
         "SELECT units(balance), cost(balance)",
         "JOURNAL 'cash' AT cost FROM year = 2014",
         "BALANCES AT units WHERE account ~ 'a'",

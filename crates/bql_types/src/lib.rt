@@ -17,8 +17,8 @@
 //!
 //! # What is taken for granted
 //!
-//! That the bounds are some that a query may have: at most 4,000,000 postings (1,000,000 in the first schema), 20 digits of units
-//! and 28 of values. Nothing of the query.
+//! That the bounds are some that a query may have: at most 4,000,000 postings, or 1,000,000 in the
+//! first schema, 20 digits of units and 28 of values. Nothing of the query.
 //!
 //! # Faults
 //!
