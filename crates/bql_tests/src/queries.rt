@@ -65,6 +65,7 @@ fn names_that_are_unknown(rt: HostRuntime) -> Result<(), Fail> {
         ("SELECT root_rank(account)", 7),
         ("SELECT account FROM account = 'a'", 20),
         ("SELECT account FROM meta('k') = 'a'", 20),
+        ("SELECT account FROM price = NULL", 20),
         ("SELECT foo + NULL", 7),
         ("JOURNAL AT foo", 11),
     ];
