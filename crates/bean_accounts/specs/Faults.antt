@@ -5,13 +5,13 @@ use Rattle.std.specs.Option.{is_some}
 use Rattle.bean_base.specs.declared.fault.Fault.{Fault}
 use Rattle.bean_base.specs.declared.fault.FaultKind.{FaultKind}
 use Rattle.bean_base.specs.declared.fault.FaultKind.TheVariants as kind
+use Rattle.bean_base.specs.declared.span.Place.{Place}
 use Rattle.bean_accounts.specs.Life.{is_closed, is_opened, life, may_hold}
 use Rattle.bean_accounts.specs.Method.{method_named}
-use Rattle.bean_accounts.specs.declared.accounts.Place.{Place}
 use Rattle.bean_accounts.specs.declared.step.Step.{Step}
 
 abbrev pub fault_at : Place → FaultKind → Fault
-fault_at at k = record { kind = k; file = at.file; line = at.line }
+fault_at at k = record { kind = k; place = at }
 
 abbrev pub faults_at : Place → List FaultKind → List Fault
 faults_at at ks = map (fault_at at) ks

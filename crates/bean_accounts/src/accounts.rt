@@ -12,31 +12,9 @@ ghost use Rattle.bean_accounts.specs.declared.step.Step.TheVariants as step;
 
 use crate::life::Life;
 use crate::method::method_named;
-use bean_base::{Account, Currency, Fault, FaultKind, Text};
+use bean_base::{Account, Currency, Fault, FaultKind, Place, Text};
 use indexmap::IndexMap;
 use std::alloc::{AllocError, Global};
-
-/// Where something is written.
-#[derive(Clone, Copy, Debug, PartialEq, Eq)]
-pub struct Place {
-    /// The number of its text, from 0.
-    pub file: usize,
-    /// Its line there, from 1.
-    pub line: usize,
-}
-
-impl Place {
-    /// A fault at this place.
-    pub fn fault(self, kind: FaultKind) -> Fault
-        ensures { result ≡ spec.fault_at self kind }
-    {
-        Fault {
-            kind,
-            file: self.file,
-            line: self.line,
-        }
-    }
-}
 
 /// Adds a fault at a place, where it is one.
 fn note_if(
@@ -49,7 +27,7 @@ fn note_if(
         ≡ faults.old.items ++ faults_at at (spec.kind_if is_fault kind)) }
 {
     if is_fault {
-        faults.push(at.fault(kind))?;
+        faults.push(Fault { kind, place: at })?;
     }
     Ok(())
 }

@@ -34,7 +34,7 @@ mod life;
 mod method;
 mod step;
 
-pub use accounts::{Accounts, Place};
+pub use accounts::Accounts;
 pub use life::Life;
 pub use method::method_named;
 pub use step::Step;

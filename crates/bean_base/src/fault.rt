@@ -2,6 +2,7 @@
 ghost use Rattle.std.specs.Prelude.{◌≡◌};
 ghost use Rattle.bean_base.specs.Fault.{number_of, text_of};
 
+use crate::span::Place;
 use std::fmt;
 
 /// What is wrong, with its number.
@@ -83,10 +84,9 @@ impl fmt::Display for FaultKind {
     }
 }
 
-/// A fault of a ledger, in a file that is counted in reading order from 0, at a line from 1.
+/// A fault of a ledger, at a place.
 #[derive(Clone, Copy, Debug, PartialEq, Eq)]
 pub struct Fault {
     pub kind: FaultKind,
-    pub file: usize,
-    pub line: usize,
+    pub place: Place,
 }

@@ -24,7 +24,7 @@
 //!   `10^12` or more,
 //! - `N2` to `N5`, where a text is no number, account, currency or day.
 //!
-//! [`Fault`] is what a ledger's text has wrong, with its file and line.
+//! [`Fault`] is what a ledger's text has wrong, with its [`Place`].
 //!
 //! # Cost
 //!
@@ -63,5 +63,5 @@ pub use num::{Num, NumFault};
 pub use power::power_of_ten;
 pub use roots::Root;
 pub use slice::Slice;
-pub use span::Span;
+pub use span::{Place, Span};
 pub use texts::Text;

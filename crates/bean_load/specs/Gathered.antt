@@ -53,7 +53,10 @@ with_bytes name bytes s = with_read (length bytes) (with_asked name s)
 -- F22 at a line
 abbrev pub with_fault : ℕ → ℕ → Gathered → Gathered
 with_fault file line s =
-    record s { faults = s.faults ++ record { kind = IncludeFault; file = file; line = line } ∷ [] }
+    record s {
+      faults = s.faults
+          ++ record { kind = IncludeFault; place = record { file = file; line = line } } ∷ [];
+    }
 
 abbrev pub with_part : ℕ → ℕ → Gathered → Gathered
 with_part file behind s =

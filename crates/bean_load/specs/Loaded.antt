@@ -44,7 +44,7 @@ settings_in parts n (p ∷ ps) =
     map (placed_setting n (parts_of n 0 parts)) p.settings ++ settings_in parts (n + 1) ps
 
 abbrev pub fault_in : ℕ → Fault → Fault
-fault_in n f = record f { file = n }
+fault_in n f = record f { place = record f.place { file = n } }
 
 abbrev pub faults_in : ℕ → List Parsed → List Fault
 faults_in n [] = []
@@ -63,7 +63,8 @@ operating_of (kind.OperatingCurrency c) = c ∷ []
 operating_of other = []
 
 abbrev pub method_of : ℕ → ℕ → SettingKind → List MethodLine
-method_of file line (kind.BookingMethod m) = record { file = file; line = line; method = m } ∷ []
+method_of file line (kind.BookingMethod m) =
+    record { place = record { file = file; line = line }; method = m } ∷ []
 method_of file line other = []
 
 pub record IsLoaded (texts : Texts) (l : Loaded) : Type 0 where

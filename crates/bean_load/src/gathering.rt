@@ -8,7 +8,7 @@ ghost use Rattle.bean_load.specs.Small.{AreLimited};
 use crate::fault::LoadFault;
 use crate::texts::{File, Part, Texts};
 use bean_base::limits::LARGEST_TEXT;
-use bean_base::{Fault, FaultKind};
+use bean_base::{Fault, FaultKind, Place};
 use std::alloc::{AllocError, Global};
 use std::marker::Model;
 use stores::{Source, SourceFault};
@@ -162,8 +162,7 @@ impl Gathering {
     {
         self.faults.push(Fault {
             kind: FaultKind::IncludeFault,
-            file,
-            line,
+            place: Place { file, line },
         })?;
         Ok(())
     }

@@ -10,7 +10,7 @@ ghost use Rattle.bean_load.specs.Small.{AreSmall};
 use crate::order::{order_directives, order_settings};
 use crate::placed::{Own, Placed, add_directives, add_settings, parts_of};
 use crate::texts::Texts;
-use bean_base::{Apart, Fault, Text};
+use bean_base::{Apart, Fault, Place, Text};
 use bean_parser::parse::parse;
 use bean_parser::{Directive, Parsed, Setting, SettingKind};
 use std::alloc::{AllocError, Global};
@@ -19,10 +19,7 @@ use std::marker::Model;
 /// A line of a booking method.
 #[derive(Debug, Drop)]
 pub struct MethodLine<'a> {
-    /// The number of its text, from 0.
-    pub file: usize,
-    /// The line on which it is written, from 1.
-    pub line: usize,
+    pub place: Place,
     /// The name of the method, known or not.
     pub method: Text<'a>,
 }
@@ -118,7 +115,11 @@ fn add_faults(file: usize, faults: &[Fault], out: &mut Vec<Fault>) -> Result<(),
         ≡ out.old.items ++ map (spec.fault_in file) faults.now) }
 {
     for fault in faults {
-        out.push(Fault { file, ..*fault })?;
+        let place = Place {
+            file,
+            ..fault.place
+        };
+        out.push(Fault { place, ..*fault })?;
     }
     Ok(())
 }
@@ -163,8 +164,10 @@ impl<'a> Books<'a> {
             SettingKind::Title(title) => self.title = Some(title.lend()),
             SettingKind::OperatingCurrency(currency) => self.operating.push(currency.lend())?,
             SettingKind::BookingMethod(method) => self.methods.push(MethodLine {
-                file: setting.file,
-                line: setting.item.line,
+                place: Place {
+                    file: setting.file,
+                    line: setting.item.line,
+                },
                 method: method.lend(),
             })?,
             SettingKind::Include(_) => {}

@@ -14,6 +14,7 @@ use Rattle.bean_pad.specs.Outcome.{count_in}
 use Rattle.bean_pad.specs.Padded.{faults_with}
 use Rattle.bean_pad.specs.Tolerance.{tolerance_by}
 use Rattle.bean_pad.specs.declared.note.NotedPad.{NotedPad}
+use Rattle.bean_base.specs.declared.span.Place.{Place}
 use Rattle.bean_pad.specs.declared.step.Step.{Step}
 use Rattle.bean_pad.specs.declared.step.Step.TheVariants as step
 
@@ -60,26 +61,20 @@ eur = codes "EUR"
 
 abbrev posting : List ℕ → List ℕ → Num → Step
 posting account currency number =
-    step.Posting record {
-      account = account;
-      units =
-          record { number = number; currency = currency };
-    }
+    step.Posting account (record { number = number; currency = currency })
+
+abbrev on_line : ℕ → Place
+on_line line = record { file = 0; line = line }
 
 abbrev pad : ℕ → List ℕ → Step
 pad line account =
-    step.Pad record { account = account; source = equity; day = january_3; file = 0; line = line }
+    step.Pad (record { account = account; source = equity }) january_3 (on_line line)
 
 abbrev balance : ℕ → List ℕ → List ℕ → Num → Bool → Step
-balance line account currency number is_at_cost = step.Balance record {
-  account = account;
-  currency = currency;
-  number = number;
-  tolerance = None;
-  file = 0;
-  line = line;
-  is_at_cost = is_at_cost;
-}
+balance line account currency number is_at_cost =
+    step.Balance
+    (record { account = account; currency = currency; number = number; tolerance = None })
+    (on_line line) is_at_cost
 
 -- what is padded, in counts of 10^-8, pad by pad
 abbrev paddings : List Step → List (List (List ℕ × ℤ))
@@ -87,7 +82,7 @@ paddings past =
     map (λ (p : NotedPad). map (λ n. (n.currency, count_in n.outcome)) p.notes) (noted_pads past)
 
 abbrev faults_in : List Step → List (FaultKind × ℕ)
-faults_in past = map (λ (f : faults.Fault). (f.kind, f.line)) (faults_with (noted_pads past) past)
+faults_in past = map (λ (f : faults.Fault). (f.kind, f.place.line)) (faults_with (noted_pads past) past)
 
 -- 30.00 USD are held, and there is a pad
 abbrev start : List Step

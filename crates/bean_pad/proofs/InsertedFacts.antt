@@ -7,7 +7,7 @@ use Rattle.bean_pad.specs.Held.{Units}
 use Rattle.bean_pad.specs.Standing.{all_inserted, inserted, inserted_at}
 use Rattle.bean_pad.specs.declared.note.Note.{Note}
 use Rattle.bean_pad.specs.declared.note.NotedPad.{NotedPad}
-use Rattle.bean_pad.specs.declared.step.Pad.{Pad}
+use Rattle.bean_directives.specs.declared.accounts.Pad.{Pad}
 
 inserted_more : (p : Pad) (ns : List Note) (n : Note) (us : List Units)
     → all_inserted p (ns ++ n ∷ []) us ≡ inserted p n.currency n.outcome (all_inserted p ns us)

@@ -7,11 +7,13 @@ use Rattle.bean_pad.specs.declared.note.NotedPad.{NotedPad}
 
 pub noted_is : (ps : List NotedPad) (k : ℕ) (note : Note) (p : NotedPad) (ns : List Note)
     → k < length ps → p ≡ slice_index_or ps k p → ns ≡ p.notes ++ note ∷ []
-    → slice_set ps k (record { pad = p.pad; notes = ns }) ≡ noted_at k note ps
+    → slice_set ps k (record { pad = p.pad; day = p.day; place = p.place; notes = ns }) ≡ noted_at k note ps
 noted_is [] k note p ns within is notes = absurd (omega arith)
 noted_is (q ∷ ps) zero note p ns within is notes =
     λ i. record {
       pad = (is i).pad;
+      day = (is i).day;
+      place = (is i).place;
       notes =
           (notes ∙ ap (λ (x : NotedPad). x.notes ++ note ∷ []) is) i;
     } ∷ ps

@@ -20,7 +20,7 @@ use Rattle.bean_pad.specs.declared.note.Note.{Note}
 use Rattle.bean_pad.specs.declared.note.NotedPad.{NotedPad}
 use Rattle.bean_pad.specs.declared.note.Outcome.{Outcome}
 use Rattle.bean_pad.specs.declared.note.Outcome.TheVariants as outcome
-use Rattle.bean_pad.specs.declared.step.Pad.{Pad}
+use Rattle.bean_directives.specs.declared.accounts.Pad.{Pad}
 use Rattle.bean_pad.specs.declared.step.Step.{Step}
 use Rattle.bean_pad.specs.declared.step.Step.TheVariants as step
 
@@ -88,22 +88,22 @@ more_written u xs ws ps a k h = by (is_of a k u)
 
 pads_on_trail : (past : List Step) → pads_on (trail_of past) ≡ pads_in past
 pads_on_trail [] = refl
-pads_on_trail (step.Posting p ∷ past) = pads_on_trail past
-pads_on_trail (step.Pad p ∷ past) = ap suc (pads_on_trail past)
-pads_on_trail (step.Balance b ∷ past) = pads_on_trail past
+pads_on_trail (step.Posting p u ∷ past) = pads_on_trail past
+pads_on_trail (step.Pad p day at ∷ past) = ap suc (pads_on_trail past)
+pads_on_trail (step.Balance b at cost ∷ past) = pads_on_trail past
 
 pub standing_is : (ps : List NotedPad) (past : List Step) (a k : List ℕ)
     → More (held (written past) a k) (standing ps past) (padded_on ps (trail_of past)) a k
 standing_is ps [] a k = refl
-standing_is ps (step.Posting p ∷ past) a k =
-    more_written (units_of p) (standing ps past) (written past) (padded_on ps (trail_of past)) a k
+standing_is ps (step.Posting p u ∷ past) a k =
+    more_written (units_of p u) (standing ps past) (written past) (padded_on ps (trail_of past)) a k
     (standing_is ps past a k)
-standing_is ps (step.Pad p ∷ past) a k =
+standing_is ps (step.Pad p day at ∷ past) a k =
     more_at (held (written past) a k) ps (pads_in past) (standing ps past)
     (padded_on ps (trail_of past)) a k (standing_is ps past a k)
     ∙ ap (λ i. held (written past) a k
     +ℤ held (inserted_at ps i (padded_on ps (trail_of past))) a k) (sym (pads_on_trail past))
-standing_is ps (step.Balance b ∷ past) a k = standing_is ps past a k
+standing_is ps (step.Balance b at cost ∷ past) a k = standing_is ps past a k
 
 left : (n s w p : ℤ) → s ≡ w +ℤ p → n -ℤ s ≡ n -ℤ w -ℤ p
 left n s w p h = omega (arith, ints)
@@ -111,11 +111,11 @@ left n s w p h = omega (arith, ints)
 pub failing_is : (ps : List NotedPad) (past : List Step)
     → failing ps past ≡ failing_on ps (trail_of past)
 failing_is ps [] = refl
-failing_is ps (step.Posting p ∷ past) = failing_is ps past
-failing_is ps (step.Pad p ∷ past) = failing_is ps past
-failing_is ps (step.Balance b ∷ past) =
+failing_is ps (step.Posting p u ∷ past) = failing_is ps past
+failing_is ps (step.Pad p day at ∷ past) = failing_is ps past
+failing_is ps (step.Balance b at cost ∷ past) =
     λ i. failing_is ps past i
-    ++ cond (is_out (off i) (tolerance_of b)) (fault_at BalanceFails b.file b.line ∷ []) []
+    ++ cond (is_out (off i) (tolerance_of b)) (fault_at BalanceFails at ∷ []) []
   where
     off : at_8 b.number -ℤ held (standing ps past) b.account b.currency
         ≡ at_8 b.number -ℤ held (written past) b.account b.currency

@@ -14,17 +14,17 @@ use Rattle.bean_pad.specs.declared.step.Step.TheVariants as step
 -- the number of the latest pad on the account
 abbrev pub latest_pad : List Step → List ℕ → Option ℕ
 latest_pad [] account = None
-latest_pad (step.Posting p ∷ past) account = latest_pad past account
-latest_pad (step.Pad p ∷ past) account =
+latest_pad (step.Posting p u ∷ past) account = latest_pad past account
+latest_pad (step.Pad p day at ∷ past) account =
     if bytes_eq p.account account then Some (pads_in past) else latest_pad past account
-latest_pad (step.Balance b ∷ past) account = latest_pad past account
+latest_pad (step.Balance b at cost ∷ past) account = latest_pad past account
 
 -- how many pads stand before the latest balance on the account in the currency
 abbrev pub pads_before : List Step → List ℕ → List ℕ → ℕ
 pads_before [] account currency = 0
-pads_before (step.Posting p ∷ past) account currency = pads_before past account currency
-pads_before (step.Pad p ∷ past) account currency = pads_before past account currency
-pads_before (step.Balance b ∷ past) account currency =
+pads_before (step.Posting p u ∷ past) account currency = pads_before past account currency
+pads_before (step.Pad p day at ∷ past) account currency = pads_before past account currency
+pads_before (step.Balance b at cost ∷ past) account currency =
     if is_on account currency b then pads_in past else pads_before past account currency
 
 -- a pad, unless it stands before the latest balance

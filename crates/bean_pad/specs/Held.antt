@@ -4,8 +4,8 @@ use Rattle.std.specs.Prelude.{length, take}
 use Rattle.std.specs.Str.{bytes_eq}
 use Rattle.bean_base.specs.Character.{colon}
 use Rattle.bean_base.specs.Decimal.{scaled}
+use Rattle.bean_base.specs.declared.amounts.Amount.{Amount}
 use Rattle.bean_base.specs.declared.num.Num.{Num}
-use Rattle.bean_pad.specs.declared.step.Posting.{Posting}
 use Rattle.bean_pad.specs.declared.step.Step.{Step}
 use Rattle.bean_pad.specs.declared.step.Step.TheVariants as step
 
@@ -19,9 +19,9 @@ pub record Units : Type 0 where
 abbrev pub at_8 : Num → ℤ
 at_8 n = scaled n.count n.places 8
 
-abbrev pub units_of : Posting → Units
-units_of p =
-    record { account = p.account; currency = p.units.currency; count = at_8 p.units.number }
+-- what a posting adds
+abbrev pub units_of : List ℕ → Amount → Units
+units_of account a = record { account = account; currency = a.currency; count = at_8 a.number }
 
 -- the name goes on behind that of the account, with a colon
 abbrev pub is_below : List ℕ → List ℕ → Bool
@@ -46,6 +46,6 @@ held us account currency = total (filter (is_of account currency) us)
 -- latest step stands first
 abbrev pub written : List Step → List Units
 written [] = []
-written (step.Posting p ∷ past) = units_of p ∷ written past
-written (step.Pad p ∷ past) = written past
-written (step.Balance b ∷ past) = written past
+written (step.Posting p u ∷ past) = units_of p u ∷ written past
+written (step.Pad p day at ∷ past) = written past
+written (step.Balance b at cost ∷ past) = written past

@@ -9,16 +9,16 @@ use Rattle.bean_pad.specs.Outcome.{outcome_of}
 use Rattle.bean_pad.specs.Tolerance.{is_out, tolerance_of}
 use Rattle.bean_pad.specs.declared.note.Note.{Note}
 use Rattle.bean_pad.specs.declared.note.NotedPad.{NotedPad}
-use Rattle.bean_pad.specs.declared.step.Balance.{Balance}
+use Rattle.bean_directives.specs.declared.numbers.Balance.{Balance}
 use Rattle.bean_pad.specs.declared.step.Step.{Step}
 use Rattle.bean_pad.specs.declared.step.Step.TheVariants as step
 
 -- the pads are numbered from 0
 abbrev pub pads_in : List Step → ℕ
 pads_in [] = 0
-pads_in (step.Posting p ∷ past) = pads_in past
-pads_in (step.Pad p ∷ past) = suc (pads_in past)
-pads_in (step.Balance b ∷ past) = pads_in past
+pads_in (step.Posting p u ∷ past) = pads_in past
+pads_in (step.Pad p day at ∷ past) = suc (pads_in past)
+pads_in (step.Balance b at cost ∷ past) = pads_in past
 
 abbrev pub is_on : List ℕ → List ℕ → Balance → Bool
 is_on account currency b = bytes_eq b.account account && bytes_eq b.currency currency
@@ -27,23 +27,23 @@ is_on account currency b = bytes_eq b.account account && bytes_eq b.currency cur
 -- unless such a balance stands after it
 abbrev pub waiting : List Step → List ℕ → List ℕ → Option ℕ
 waiting [] account currency = None
-waiting (step.Posting p ∷ past) account currency = waiting past account currency
-waiting (step.Pad p ∷ past) account currency =
+waiting (step.Posting p u ∷ past) account currency = waiting past account currency
+waiting (step.Pad p day at ∷ past) account currency =
     if bytes_eq p.account account then Some (pads_in past) else waiting past account currency
-waiting (step.Balance b ∷ past) account currency =
+waiting (step.Balance b at cost ∷ past) account currency =
     if is_on account currency b then None else waiting past account currency
 
 -- what comes of a balance that is out of tolerance, off by so much
-abbrev pub note_of : ℤ → Balance → Note
-note_of difference b =
-    record { currency = b.currency; outcome = outcome_of difference b.is_at_cost }
+abbrev pub note_of : ℤ → Balance → Bool → Note
+note_of difference b is_at_cost =
+    record { currency = b.currency; outcome = outcome_of difference is_at_cost }
 
 -- what comes of a balance that is off by so much, with the number of the pad that waits for it:
 -- nothing where none waits, or within its tolerance
-abbrev pub noted_of : Option ℕ → ℤ → Balance → Option (ℕ × Note)
-noted_of None difference b = None
-noted_of (Some pad) difference b =
-    if is_out difference (tolerance_of b) then Some (pad, note_of difference b) else None
+abbrev pub noted_of : Option ℕ → ℤ → Balance → Bool → Option (ℕ × Note)
+noted_of None difference b is_at_cost = None
+noted_of (Some pad) difference b is_at_cost =
+    if is_out difference (tolerance_of b) then Some (pad, note_of difference b is_at_cost) else None
 
 -- what is added to the account of the pad
 abbrev pub count_in : Option (ℕ × Note) → ℤ
@@ -58,25 +58,26 @@ difference_with past padded b = at_8 b.number -ℤ held (written past) b.account
 -- what the paddings of the account's own pads add to it
 abbrev pub padded : List Step → List ℕ → List ℕ → ℤ
 padded [] account currency = pos 0
-padded (step.Posting p ∷ past) account currency = padded past account currency
-padded (step.Pad p ∷ past) account currency = padded past account currency
-padded (step.Balance b ∷ past) account currency =
+padded (step.Posting p u ∷ past) account currency = padded past account currency
+padded (step.Pad p day at ∷ past) account currency = padded past account currency
+padded (step.Balance b at cost ∷ past) account currency =
     if is_on account currency b
     then padded past account currency
     +ℤ count_in
     (noted_of (waiting past b.account b.currency)
-    (difference_with past (padded past b.account b.currency) b) b)
+    (difference_with past (padded past b.account b.currency) b) b cost)
     else padded past account currency
 
 abbrev pub difference : List Step → Balance → ℤ
 difference past b = difference_with past (padded past b.account b.currency) b
 
--- what comes of a balance
-abbrev pub noted : List Step → Balance → Option (ℕ × Note)
-noted past b = noted_of (waiting past b.account b.currency) (difference past b) b
+-- what comes of a balance, whose account holds a lot of the currency or not
+abbrev pub noted : List Step → Balance → Bool → Option (ℕ × Note)
+noted past b is_at_cost =
+    noted_of (waiting past b.account b.currency) (difference past b) b is_at_cost
 
 abbrev pub with_note : NotedPad → Note → NotedPad
-with_note p note = record { pad = p.pad; notes = p.notes ++ note ∷ [] }
+with_note p note = record p { notes = p.notes ++ note ∷ [] }
 
 -- with a note more at the pad of that number
 abbrev pub noted_at : ℕ → Note → List NotedPad → List NotedPad
@@ -91,9 +92,10 @@ with_noted (Some noted) ps = noted_at noted.0 noted.1 ps
 -- the pads in their order, each with what comes of it in the order of the balances
 abbrev pub noted_pads : List Step → List NotedPad
 noted_pads [] = []
-noted_pads (step.Posting p ∷ past) = noted_pads past
-noted_pads (step.Pad p ∷ past) = noted_pads past ++ record { pad = p; notes = [] } ∷ []
-noted_pads (step.Balance b ∷ past) = with_noted (noted past b) (noted_pads past)
+noted_pads (step.Posting p u ∷ past) = noted_pads past
+noted_pads (step.Pad p day at ∷ past) =
+    noted_pads past ++ record { pad = p; day = day; place = at; notes = [] } ∷ []
+noted_pads (step.Balance b at cost ∷ past) = with_noted (noted past b cost) (noted_pads past)
 
 -- ---- numbers of pads
 

@@ -6,6 +6,7 @@ use Rattle.bean_base.specs.declared.fault.Fault.{Fault}
 use Rattle.bean_base.specs.declared.fault.FaultKind.{FaultKind}
 use Rattle.bean_base.specs.declared.fault.FaultKind.TheVariants.{TooWide, BalanceFails, UnusedPad}
 use Rattle.bean_base.specs.declared.fault.FaultKind.TheVariants.{PadAtCost}
+use Rattle.bean_base.specs.declared.span.Place.{Place}
 use Rattle.bean_pad.specs.Held.{Units, at_8, held, units_of}
 use Rattle.bean_pad.specs.Note.{pads_in}
 use Rattle.bean_pad.specs.Tolerance.{is_out, tolerance_of}
@@ -13,8 +14,8 @@ use Rattle.bean_pad.specs.declared.note.Note.{Note}
 use Rattle.bean_pad.specs.declared.note.NotedPad.{NotedPad}
 use Rattle.bean_pad.specs.declared.note.Outcome.{Outcome}
 use Rattle.bean_pad.specs.declared.note.Outcome.TheVariants as outcome
-use Rattle.bean_pad.specs.declared.step.Balance.{Balance}
-use Rattle.bean_pad.specs.declared.step.Pad.{Pad}
+use Rattle.bean_directives.specs.declared.numbers.Balance.{Balance}
+use Rattle.bean_directives.specs.declared.accounts.Pad.{Pad}
 use Rattle.bean_pad.specs.declared.step.Step.{Step}
 use Rattle.bean_pad.specs.declared.step.Step.TheVariants as step
 
@@ -42,33 +43,31 @@ inserted_at (p ∷ ps) (suc k) us = inserted_at ps k us
 -- what all postings add, those of written transactions and of these pads' paddings
 abbrev pub standing : List NotedPad → List Step → List Units
 standing ps [] = []
-standing ps (step.Posting p ∷ past) = units_of p ∷ standing ps past
-standing ps (step.Pad p ∷ past) = inserted_at ps (pads_in past) (standing ps past)
-standing ps (step.Balance b ∷ past) = standing ps past
+standing ps (step.Posting p u ∷ past) = units_of p u ∷ standing ps past
+standing ps (step.Pad p day at ∷ past) = inserted_at ps (pads_in past) (standing ps past)
+standing ps (step.Balance b at cost ∷ past) = standing ps past
 
 -- ---- faults
 
-abbrev pub fault_at : FaultKind → ℕ → ℕ → Fault
-fault_at kind file line = record { kind = kind; file = file; line = line }
+abbrev pub fault_at : FaultKind → Place → Fault
+fault_at kind at = record { kind = kind; place = at }
 
-abbrev pub pad_fault : FaultKind → Pad → List Fault
-pad_fault kind p = fault_at kind p.file p.line ∷ []
+-- at a pad
+abbrev pub faults_of_outcome : Place → Outcome → List Fault
+faults_of_outcome at (outcome.Padding n) = []
+faults_of_outcome at outcome.AtCost = fault_at PadAtCost at ∷ []
+faults_of_outcome at outcome.TooWide = fault_at TooWide at ∷ []
 
-abbrev pub faults_of_outcome : Pad → Outcome → List Fault
-faults_of_outcome p (outcome.Padding n) = []
-faults_of_outcome p outcome.AtCost = pad_fault PadAtCost p
-faults_of_outcome p outcome.TooWide = pad_fault TooWide p
-
-abbrev pub faults_of_note : Pad → Note → List Fault
-faults_of_note p n = faults_of_outcome p n.outcome
+abbrev pub faults_of_note : Place → Note → List Fault
+faults_of_note at n = faults_of_outcome at n.outcome
 
 -- a pad that nothing came of is unused
-abbrev pub faults_by : Pad → List Note → List Fault
-faults_by p [] = pad_fault UnusedPad p
-faults_by p (n ∷ ns) = flat_map (faults_of_note p) (n ∷ ns)
+abbrev pub faults_by : Place → List Note → List Fault
+faults_by at [] = fault_at UnusedPad at ∷ []
+faults_by at (n ∷ ns) = flat_map (faults_of_note at) (n ∷ ns)
 
 abbrev pub faults_of_pad : NotedPad → List Fault
-faults_of_pad p = faults_by p.pad p.notes
+faults_of_pad p = faults_by p.place p.notes
 
 -- whether a balance fails where these units stand before it
 abbrev pub fails : List Units → Balance → Bool
@@ -77,8 +76,8 @@ fails us b = is_out (at_8 b.number -ℤ held us b.account b.currency) (tolerance
 -- the faults of balances, in their order
 abbrev pub failing : List NotedPad → List Step → List Fault
 failing ps [] = []
-failing ps (step.Posting p ∷ past) = failing ps past
-failing ps (step.Pad p ∷ past) = failing ps past
-failing ps (step.Balance b ∷ past) =
+failing ps (step.Posting p u ∷ past) = failing ps past
+failing ps (step.Pad p day at ∷ past) = failing ps past
+failing ps (step.Balance b at cost ∷ past) =
     failing ps past ++ (if fails (standing ps past) b then
-    fault_at BalanceFails b.file b.line ∷ [] else [])
+    fault_at BalanceFails at ∷ [] else [])

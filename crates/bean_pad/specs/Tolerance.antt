@@ -4,7 +4,7 @@ use Rattle.std.specs.Prelude.{if◌then◌else◌}
 use Rattle.std.specs.Int.Signed.{lt_z}
 use Rattle.bean_base.specs.declared.num.Num.{Num}
 use Rattle.bean_pad.specs.Held.{at_8}
-use Rattle.bean_pad.specs.declared.step.Balance.{Balance}
+use Rattle.bean_directives.specs.declared.numbers.Balance.{Balance}
 
 -- a unit in the number's last decimal; 0 where it is whole
 abbrev pub last_unit : Num → ℤ

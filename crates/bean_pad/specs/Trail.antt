@@ -6,6 +6,7 @@ use Rattle.std.specs.Int.RustNames.{unsigned_abs}
 use Rattle.std.specs.List.{AllByRecursion}
 use Rattle.bean_base.specs.declared.fault.Fault.{Fault}
 use Rattle.bean_base.specs.declared.fault.FaultKind.TheVariants.{BalanceFails}
+use Rattle.bean_base.specs.declared.span.Place.{Place}
 use Rattle.bean_pad.specs.Held.{Units, at_8, held, written}
 use Rattle.bean_pad.specs.Standing.{fault_at, inserted_at}
 use Rattle.bean_pad.specs.Tolerance.{is_out, tolerance_of}
@@ -13,26 +14,25 @@ use Rattle.bean_pad.specs.declared.check.Check.{Check}
 use Rattle.bean_pad.specs.declared.check.Passed.{Passed}
 use Rattle.bean_pad.specs.declared.check.Passed.TheVariants as passed
 use Rattle.bean_pad.specs.declared.note.NotedPad.{NotedPad}
-use Rattle.bean_pad.specs.declared.step.Balance.{Balance}
+use Rattle.bean_directives.specs.declared.numbers.Balance.{Balance}
 use Rattle.bean_pad.specs.declared.step.Step.{Step}
 use Rattle.bean_pad.specs.declared.step.Step.TheVariants as step
 
-abbrev pub check_of : List Step → Balance → Check
-check_of past b = record {
+abbrev pub check_of : List Step → Balance → Place → Check
+check_of past b at = record {
   account = b.account;
   currency = b.currency;
   short = at_8 b.number -ℤ held (written past) b.account b.currency;
   tolerance = tolerance_of b;
-  file = b.file;
-  line = b.line;
+  place = at;
 }
 
 -- the latest first
 abbrev pub trail_of : List Step → List Passed
 trail_of [] = []
-trail_of (step.Posting p ∷ past) = trail_of past
-trail_of (step.Pad p ∷ past) = passed.Pad ∷ trail_of past
-trail_of (step.Balance b ∷ past) = passed.Balance (check_of past b) ∷ trail_of past
+trail_of (step.Posting p u ∷ past) = trail_of past
+trail_of (step.Pad p day at ∷ past) = passed.Pad ∷ trail_of past
+trail_of (step.Balance b at cost ∷ past) = passed.Balance (check_of past b at) ∷ trail_of past
 
 abbrev pub pads_on : List Passed → ℕ
 pads_on [] = 0
@@ -50,7 +50,7 @@ abbrev pub fails_with : List Units → Check → Bool
 fails_with us c = is_out (c.short -ℤ held us c.account c.currency) c.tolerance
 
 abbrev pub fault_with : List Units → Check → List Fault
-fault_with us c = if fails_with us c then fault_at BalanceFails c.file c.line ∷ [] else []
+fault_with us c = if fails_with us c then fault_at BalanceFails c.place ∷ [] else []
 
 abbrev pub failing_on : List NotedPad → List Passed → List Fault
 failing_on ps [] = []

@@ -16,10 +16,10 @@ ghost use Rattle.bean_pad.specs.declared.note.NotedPad.{NotedPad};
 ghost use Rattle.bean_pad.specs.declared.note.Outcome.TheVariants as outcomes;
 
 use crate::note::{Note, NotedPad, Outcome};
-use crate::step::Pad;
 use crate::sums::Sums;
 use crate::tolerance::is_out;
-use bean_base::{Account, Currency, Fault, FaultKind, Num};
+use bean_base::{Account, Currency, Fault, FaultKind, Num, Place};
+use bean_directives::Pad;
 use std::alloc::{AllocError, Global};
 
 /// A balance that is to be checked once all paddings stand.
@@ -31,8 +31,7 @@ pub(crate) struct Check<'a> {
     pub short: i128,
     /// How far the account may be off, as a count of `10^-8`.
     pub tolerance: i128,
-    pub file: usize,
-    pub line: usize,
+    pub place: Place,
 }
 
 /// The pads and balances of a ledger, one after the other.
@@ -129,12 +128,11 @@ fn push_if(faults: &mut Vec<Fault>, holds: bool, fault: Fault) -> Result<(), All
 
 impl Check<'_> {
     fn fault(&self) -> Fault
-        ensures { result ≡ standing.fault_at FaultKind.BalanceFails self.now.file self.now.line }
+        ensures { result ≡ standing.fault_at FaultKind.BalanceFails self.now.place }
     {
         Fault {
             kind: FaultKind::BalanceFails,
-            file: self.file,
-            line: self.line,
+            place: self.place,
         }
     }
 }
@@ -232,43 +230,31 @@ pub(crate) fn add_failing<'a>(
     Ok(())
 }
 
-impl Pad<'_> {
-    fn fault(&self, kind: FaultKind) -> Fault
-        ensures { result ∷ [] ≡ standing.pad_fault kind self.now }
-    {
-        Fault {
-            kind,
-            file: self.file,
-            line: self.line,
-        }
-    }
-}
-
-/// Adds the fault of what came of a pad, if it is one.
-fn add_fault(pad: &Pad<'_>, outcome: Outcome, faults: &mut Vec<Fault>) -> Result<(), AllocError>
+/// Adds the fault of what came of a pad at a place, if it is one.
+fn add_fault(place: Place, outcome: Outcome, faults: &mut Vec<Fault>) -> Result<(), AllocError>
     ensures { OnOk result (faults.new.items
-        ≡ faults.old.items ++ faults_of_outcome pad.now outcome) }
+        ≡ faults.old.items ++ faults_of_outcome place outcome) }
 {
     let kind = match outcome {
         Outcome::Padding(_) => return Ok(()),
         Outcome::AtCost => FaultKind::PadAtCost,
         Outcome::TooWide => FaultKind::TooWide,
     };
-    faults.push(pad.fault(kind))?;
+    faults.push(Fault { kind, place })?;
     Ok(())
 }
 
-/// Adds the faults of the notes of a pad.
+/// Adds the faults of the notes of a pad at a place.
 fn add_faults_of_notes(
-    pad: &Pad<'_>,
+    place: Place,
     notes: &[Note<'_>],
     faults: &mut Vec<Fault>,
 ) -> Result<(), AllocError>
     ensures { OnOk result (faults.new.items
-        ≡ faults.old.items ++ flat_map (faults_of_note pad.now) notes.now) }
+        ≡ faults.old.items ++ flat_map (faults_of_note place) notes.now) }
 {
     for note in notes {
-        add_fault(pad, note.outcome, faults)?;
+        add_fault(place, note.outcome, faults)?;
     }
     Ok(())
 }
@@ -279,10 +265,13 @@ fn add_faults_of(pad: &NotedPad<'_>, faults: &mut Vec<Fault>) -> Result<(), Allo
 {
     let notes = pad.notes.as_slice();
     if notes.is_empty() {
-        faults.push(pad.pad.fault(FaultKind::UnusedPad))?;
+        faults.push(Fault {
+            kind: FaultKind::UnusedPad,
+            place: pad.place,
+        })?;
         return Ok(());
     }
-    add_faults_of_notes(&pad.pad, notes, faults)
+    add_faults_of_notes(pad.place, notes, faults)
 }
 
 /// Adds the faults of pads, in their order.

@@ -12,10 +12,10 @@
 //! // 2014-01-03 pad Assets:Cash Equity:Open
 //! // 2014-01-05 balance Assets:Cash 100.00 USD
 //! let mut padder = Padder::new(alloc);
-//! padder.post(&Posting { account: cash.lend(), units: thirty_usd })?;
-//! padder.post(&Posting { account: open.lend(), units: minus_thirty_usd })?;
-//! padder.pad(pad)?;
-//! padder.balance(&balance)?;
+//! padder.post(&cash, &thirty_usd)?;
+//! padder.post(&open, &minus_thirty_usd)?;
+//! padder.pad(pad, day, place)?;
+//! padder.balance(&balance, place, false)?;
 //! let padded = padder.finish()?;
 //! // padded.pads: the pad, with one note: a padding of 70.00 USD; padded.faults: none
 //! ```
@@ -34,7 +34,7 @@
 //! # Faults
 //!
 //! - `F21`, at the pad, where the account itself holds a lot of the currency: nothing is inserted.
-//!   Whether it does is told with the balance, as [`Balance::is_at_cost`].
+//!   Whether it does is told with the balance.
 //! - `F17`, at the pad, else, where the difference has more than 12 whole digits.
 //! - `F20`, at the pad, where nothing came of it: no padding, no `F21` and no `F17`.
 //! - `F19`, at the balance, where it is out of tolerance once all paddings stand, those of accounts
@@ -63,4 +63,4 @@ mod tolerance;
 
 pub use note::{Note, NotedPad, Outcome};
 pub use padder::{Padded, Padder};
-pub use step::{Balance, Pad, Posting, Step};
+pub use step::Step;

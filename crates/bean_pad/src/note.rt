@@ -5,8 +5,8 @@ ghost use Rattle.bean_pad.specs.Note as spec;
 ghost use Rattle.bean_pad.specs.Note.{IsAmong, noted_at, with_noted};
 ghost use Rattle.bean_pad.specs.Outcome as outcomes;
 
-use crate::step::Pad;
-use bean_base::{Currency, List, Num};
+use bean_base::{Currency, Day, List, Num, Place};
+use bean_directives::Pad;
 use std::alloc::{AllocError, Global};
 
 /// What comes of a balance that is out of tolerance where a pad waits for it.
@@ -31,6 +31,8 @@ pub struct Note<'a> {
 #[derive(Debug, Drop)]
 pub struct NotedPad<'a> {
     pub pad: Pad<'a>,
+    pub day: Day,
+    pub place: Place,
     pub notes: List<Note<'a>>,
 }
 
@@ -62,12 +64,16 @@ impl Outcome {
 
 impl<'a> NotedPad<'a> {
     /// A pad that nothing has come of yet. Takes no memory.
-    pub(crate) fn new(alloc: Global, pad: Pad<'a>) -> NotedPad<'a>
+    pub(crate) fn new(alloc: Global, pad: Pad<'a>, day: Day, place: Place) -> NotedPad<'a>
         ensures pad { result.pad ≡ pad.entry }
+        ensures day { result.day ≡ day }
+        ensures place { result.place ≡ place }
         ensures notes { result.notes ≡ [] }
     {
         NotedPad {
             pad,
+            day,
+            place,
             notes: List::new(Vec::new(alloc)),
         }
     }

@@ -16,10 +16,11 @@ ghost use Rattle.bean_pad.specs.declared.step.Step.TheVariants as step;
 use crate::balanced::{Balanced, Latest, Seen};
 use crate::check::{Check, Passed, add_failing, add_faults};
 use crate::note::{Note, NotedPad, Outcome, count_in, keep};
-use crate::step::{Balance, Pad, Posting, Step};
+use crate::step::Step;
 use crate::sums::Sums;
 use crate::tolerance::{is_out, tolerance_of};
-use bean_base::{Fault, List};
+use bean_base::{Account, Amount, Day, Fault, List, Place};
+use bean_directives::{Balance, Pad};
 use std::alloc::{AllocError, Global};
 
 /// What pads and balances come to.
@@ -53,12 +54,12 @@ fn unless_used(pad: Option<usize>, before: usize) -> Option<usize>
 }
 
 /// What comes of a balance that is out of tolerance, off by so much.
-fn note_of<'a>(difference: i128, balance: &Balance<'a>) -> Note<'a>
-    ensures { result ≡ spec.note_of difference balance.now }
+fn note_of<'a>(difference: i128, balance: &Balance<'a>, is_at_cost: bool) -> Note<'a>
+    ensures { result ≡ spec.note_of difference balance.now is_at_cost }
 {
     Note {
         currency: balance.currency.lend(),
-        outcome: Outcome::of(difference, balance.is_at_cost),
+        outcome: Outcome::of(difference, is_at_cost),
     }
 }
 
@@ -67,14 +68,15 @@ fn noted_of<'a>(
     pad: Option<usize>,
     difference: i128,
     balance: &Balance<'a>,
+    is_at_cost: bool,
 ) -> Option<(usize, Note<'a>)>
     requires { unsigned_abs difference < 2 ^ 127 }
-    ensures is { result ≡ spec.noted_of pad difference balance.now }
+    ensures is { result ≡ spec.noted_of pad difference balance.now is_at_cost }
     ensures among { (n : prelude.ℕ) → IsBelow n pad → IsAmong n result }
 {
     let pad = pad?;
     if is_out(difference, tolerance_of(balance)) {
-        Some((pad, note_of(difference, balance)))
+        Some((pad, note_of(difference, balance, is_at_cost)))
     } else {
         None
     }
@@ -99,32 +101,31 @@ impl<'a> Padder<'a> {
     }
 
     /// The next step is a posting of a written transaction.
-    pub fn post(&mut self, posting: &Posting<'a>) -> Result<(), AllocError>
+    pub fn post(&mut self, account: &Account<'a>, units: &Amount<'a>) -> Result<(), AllocError>
         requires bounded { IsBounded self.old }
         requires few { steps_in self.old < 2 ^ 40 }
         ensures follows { OnOk result ((past : prelude.List Step) → Follows past self.old
-            → Follows (step.Posting posting.now ∷ past) self.new) }
+            → Follows (step.Posting account.now units.now ∷ past) self.new) }
         ensures bounded { OnOk result (IsBounded self.new) }
         ensures steps { OnOk result (steps_in self.new ≡ steps_in self.old + 1) }
     {
-        let units = &posting.units;
         self.written
-            .add(&posting.account, &units.currency, units.number.scaled(8))?;
+            .add(account, &units.currency, units.number.scaled(8))?;
         self.steps += 1;
         Ok(())
     }
 
     /// The next step is a pad.
-    pub fn pad(&mut self, pad: Pad<'a>) -> Result<(), AllocError>
+    pub fn pad(&mut self, pad: Pad<'a>, day: Day, place: Place) -> Result<(), AllocError>
         requires bounded { IsBounded self.old }
         requires few { steps_in self.old < 2 ^ 40 }
         ensures follows { OnOk result ((past : prelude.List Step) → Follows past self.old
-            → Follows (step.Pad pad.entry ∷ past) self.new) }
+            → Follows (step.Pad pad.entry day place ∷ past) self.new) }
         ensures bounded { OnOk result (IsBounded self.new) }
         ensures steps { OnOk result (steps_in self.new ≡ steps_in self.old + 1) }
     {
         self.latest.set(&pad.account, self.pads.len())?;
-        self.pads.push(NotedPad::new(self.alloc, pad))?;
+        self.pads.push(NotedPad::new(self.alloc, pad, day, place))?;
         self.trail.push(Passed::Pad)?;
         self.steps += 1;
         Ok(())
@@ -168,22 +169,27 @@ impl<'a> Padder<'a> {
     }
 
     /// What comes of a balance.
-    fn noted(&self, balance: &Balance<'a>) -> Option<(usize, Note<'a>)>
+    fn noted(&self, balance: &Balance<'a>, is_at_cost: bool) -> Option<(usize, Note<'a>)>
         requires bounded { IsBounded self.now }
         requires few { steps_in self.now < 2 ^ 40 }
         ensures is { (past : prelude.List Step) → Follows past self.now → result
-            ≡ spec.noted past balance.now }
+            ≡ spec.noted past balance.now is_at_cost }
         ensures among { IsAmong (prelude.length self.now.pads.items) result }
     {
-        noted_of(self.waiting(balance), self.difference(balance), balance)
+        noted_of(
+            self.waiting(balance),
+            self.difference(balance),
+            balance,
+            is_at_cost,
+        )
     }
 
     /// What is to be checked of a balance once all paddings stand.
-    fn check(&self, balance: &Balance<'a>) -> Check<'a>
+    fn check(&self, balance: &Balance<'a>, place: Place) -> Check<'a>
         requires bounded { IsBounded self.now }
         requires few { steps_in self.now < 2 ^ 40 }
         ensures is { (past : prelude.List Step) → Follows past self.now → result
-            ≡ check_of past balance.now }
+            ≡ check_of past balance.now place }
         ensures near { IsNear (passed.Balance result) }
     {
         Check {
@@ -191,22 +197,26 @@ impl<'a> Padder<'a> {
             currency: balance.currency.lend(),
             short: self.short(balance),
             tolerance: tolerance_of(balance),
-            file: balance.file,
-            line: balance.line,
+            place,
         }
     }
 
-    /// The next step is a balance.
-    pub fn balance(&mut self, balance: &Balance<'a>) -> Result<(), AllocError>
+    /// The next step is a balance. Its account itself holds a lot of its currency, or not.
+    pub fn balance(
+        &mut self,
+        balance: &Balance<'a>,
+        place: Place,
+        is_at_cost: bool,
+    ) -> Result<(), AllocError>
         requires bounded { IsBounded self.old }
         requires few { steps_in self.old < 2 ^ 40 }
         ensures follows { OnOk result ((past : prelude.List Step) → Follows past self.old
-            → Follows (step.Balance balance.now ∷ past) self.new) }
+            → Follows (step.Balance balance.now place is_at_cost ∷ past) self.new) }
         ensures bounded { OnOk result (IsBounded self.new) }
         ensures steps { OnOk result (steps_in self.new ≡ steps_in self.old + 1) }
     {
-        let check = self.check(balance);
-        let noted = self.noted(balance);
+        let check = self.check(balance, place);
+        let noted = self.noted(balance, is_at_cost);
         let seen = self.balanced.get(&balance.account, &balance.currency);
         let seen = Seen {
             padded: seen.padded + count_in(&noted),
@@ -230,9 +240,11 @@ impl<'a> Padder<'a> {
         ensures steps { OnOk result (steps_in self.new ≡ steps_in self.old + 1) }
     {
         match step {
-            Step::Posting(posting) => self.post(&posting),
-            Step::Pad(pad) => self.pad(pad),
-            Step::Balance(balance) => self.balance(&balance),
+            Step::Posting(account, units) => self.post(&account, &units),
+            Step::Pad(pad, day, place) => self.pad(pad, day, place),
+            Step::Balance(balance, place, is_at_cost) => {
+                self.balance(&balance, place, is_at_cost)
+            }
         }
     }
 

@@ -3,8 +3,8 @@ ghost use Rattle.std.specs.Prelude.{◌≡◌, ◌<◌, ◌^◌};
 ghost use Rattle.std.specs.Int.RustNames.{unsigned_abs};
 ghost use Rattle.bean_pad.specs.Tolerance as spec;
 
-use crate::step::Balance;
 use bean_base::Num;
+use bean_directives::Balance;
 
 /// A unit in the last decimal of a number, 0 of a whole one, as a count of `10^-8`.
 fn last_unit(number: Num) -> i128

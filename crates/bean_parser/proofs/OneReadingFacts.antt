@@ -63,7 +63,7 @@ one_giving (block ∷ blocks) (o ∷ os) (p ∷ ps) g h =
     (λ i. first i ∷ others i)
 
 one_order : (xs ys zs : List faults.Fault) → AreByLine xs ys → AreByLine xs zs → ys ≡ zs
-one_order = one_by_key (λ f. f.line) nat_cmp nat_cmp_total
+one_order = one_by_key (λ f. f.place.line) nat_cmp nat_cmp_total
 
 one_coming : (os : List Outcome) (p q : Parsed) → ComeTo os p → ComeTo os q → p ≡ q
 one_coming os p q c d =

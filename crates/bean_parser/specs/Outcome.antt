@@ -12,7 +12,7 @@ use Rattle.bean_parser.specs.declared.block.Outcome as outcomes
 use Rattle.bean_parser.specs.declared.block.Outcome.TheVariants.{Statement, Fault}
 
 abbrev pub fault_at : FaultKind → ℕ → faults.Fault
-fault_at kind line = record { kind = kind; file = 0; line = line }
+fault_at kind line = record { kind = kind; place = record { file = 0; line = line } }
 
 -- without a fault token: what its one tree says, F2 where it has none, F3 where the tree is out of
 -- range

@@ -62,7 +62,7 @@ all_bounds place (o ∷ os) = bounds_in place o ++ all_bounds (place + length (d
 
 -- faults stand by their lines
 abbrev pub AreByLine : List faults.Fault → List faults.Fault → Type 0
-AreByLine = IsArrangedByKey (λ f. f.line) nat_cmp
+AreByLine = IsArrangedByKey (λ f. f.place.line) nat_cmp
 
 -- what blocks come to, by what each of them gives
 pub record ComeTo (os : List Outcome) (p : Parsed) : Type 0 where

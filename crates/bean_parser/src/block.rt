@@ -9,7 +9,7 @@ ghost use Rattle.bean_parser.specs.Reading.{ReadsBlock, ReadsDated, ReadsUndated
 use crate::part::{Part, first_line, first_part};
 use crate::statement::Statement;
 use crate::under::{Body, all_postings, read_lines};
-use bean_base::{Day, Fault, FaultKind, List};
+use bean_base::{Day, Fault, FaultKind, List, Place};
 use bean_directives::head::head;
 use bean_directives::undated::undated_line;
 use bean_directives::{Directive, DirectiveKind, Transaction, Undated};
@@ -182,8 +182,7 @@ pub fn fault_at(kind: FaultKind, line: usize) -> Fault
 {
     Fault {
         kind,
-        file: 0,
-        line,
+        place: Place { file: 0, line },
     }
 }
 

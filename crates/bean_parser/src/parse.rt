@@ -35,7 +35,7 @@ pub struct Gathered<'a> {
 fn sort_by_line(faults: &mut Vec<Fault>) -> Result<(), AllocError>
     ensures { OnOk result (AreByLine faults.old.items faults.new.items) }
 {
-    faults.sort_by_key(|fault| fault.line)
+    faults.sort_by_key(|fault| fault.place.line)
 }
 
 impl<'a> Gathered<'a> {

@@ -8,6 +8,7 @@ use Rattle.bean_reductions.specs.declared.reduction.Method.{Method}
 use Rattle.bean_transactions.proofs.EachLine.{Comes, comes, behind}
 use Rattle.bean_transactions.proofs.EachTrial.{each_trial}
 use Rattle.bean_replay.specs.Stand.{IsStepBy, LeadsTo, Stand, after_trial, setting_of, start}
+use Rattle.bean_replay.specs.Stand.{written_in}
 
 abbrev Step : (List ℕ → Method) → List (Placed Directive) → Stand → Placed Directive → DirectiveKind
     → Type 0
@@ -17,8 +18,8 @@ each_step :
     (m : List ℕ → Method) (past : List (Placed Directive)) (st : Stand) (d : Placed Directive)
     (k : DirectiveKind) → Comes (Step m past st d k)
 each_step m past st d (kind.Transaction t) =
-    behind (each_trial (setting_of m st d) t.postings)
-    (λ h. comes (after_trial past st d t.postings h.0, (h.0, h.1, refl)))
+    behind (each_trial (setting_of m st (written_in d t)) t.postings)
+    (λ h. comes (after_trial past st (written_in d t) h.0, (h.0, h.1, refl)))
 each_step m past st d (kind.Open o) = comes (_, refl)
 each_step m past st d (kind.Close c) = comes (_, refl)
 each_step m past st d (kind.Pad p) = comes (_, refl)

@@ -1,13 +1,11 @@
 -- What is booked stays booked.
 use Rattle.std.proofs.Common.{◌≡◌, ℕ, suc, ◌+◌, ◌<◌, ◌≤◌, List, [], ◌∷◌, ◌++◌, append_assoc, length}
-use Rattle.std.proofs.Common.{get_or}
-use Rattle.std.proofs.Common.{take, drop, reverse, Result, Ok, Err, sym, ap, ◌∙◌, subst}
+use Rattle.std.proofs.Common.{reverse, Result, Ok, Err, sym, ap, ◌∙◌, subst}
 use Rattle.std.proofs.Common.{arith}
-use Rattle.std.proofs.Math.Seq.{drop-cons}
-use Rattle.std.proofs.lemmas.Grind.{flat_map-append}
-use Rattle.std.proofs.lemmas.List.{append-nil, length-append, reverse-append, take-append-drop}
+use Rattle.std.proofs.lemmas.List.{reverse-append}
+use Rattle.bean_base.specs.declared.fault.Fault.{Fault}
 use Rattle.bean_base.specs.declared.limits.TheConstants.{MOST_POSTINGS}
-use Rattle.bean_postings.specs.declared.posting.Posting.{Posting}
+use Rattle.bean_pad.specs.declared.step.Step.{Step}
 use Rattle.bean_directives.specs.declared.directive.Directive.{Directive}
 use Rattle.bean_directives.specs.declared.directive.DirectiveKind.{DirectiveKind}
 use Rattle.bean_directives.specs.declared.directive.DirectiveKind.TheVariants as kind
@@ -18,57 +16,60 @@ use Rattle.bean_transactions.specs.Tried.{Tries}
 use Rattle.bean_transactions.specs.declared.line.Posted.{Posted}
 use Rattle.bean_transactions.specs.declared.stop.LineFault.{LineFault}
 use Rattle.bean_replay.proofs.OneBooking.{one_stand}
+use Rattle.bean_replay.proofs.ShownFacts.{count_more}
 use Rattle.bean_replay.specs.Stand.{IsFull, IsStepBy, LeadsTo, Stand, after_trial, postings_of}
-use Rattle.bean_replay.specs.Stand.{setting_of}
+use Rattle.bean_accounts.specs.Faults.{faults_at, of_use}
+use Rattle.bean_pad.specs.declared.step.Step.TheVariants as step
+use Rattle.bean_replay.specs.Stand.{account_steps, place_of, setting_of, with_pad, written_in}
 use Rattle.bean_replay.specs.declared.booker.BookFault.{BookFault}
 use Rattle.bean_replay.specs.declared.booker.BookFault.TheVariants.{OutOfMemory}
-use Rattle.bean_replay.specs.declared.kept.Kept.{Kept}
+use Rattle.bean_replay.specs.declared.booking.Draft.{Draft}
+use Rattle.bean_replay.specs.declared.booking.Draft.TheVariants as draft
+use Rattle.bean_replay.specs.declared.booking.Written.{Written}
 
-pub counted : (ks : List Kept) (n : ℕ) (posted : List Posted)
-    → length (postings_of (ks ++ record { directive = n; postings = posted } ∷ []))
-    ≡ length (postings_of ks) + length posted
-counted ks n posted =
-    ap length
-    (flat_map-append (λ (k : Kept). k.postings) ks (record {
-      directive = n;
-      postings =
-          posted;
-    } ∷ [])
-    ∙ ap (λ l. postings_of ks ++ l) (append-nil posted))
-    ∙ length-append (postings_of ks) posted
+kept : Written → List Posted → Draft
+kept w posted = draft.Transaction (record { written = w; postings = posted })
 
-pub full_kept : (m : List ℕ → Method) (past : List (Placed Directive)) (st : Stand)
-    (d : Placed Directive) (ps : List Posting) (posted : List Posted)
-    (r : Result (List Posted) LineFault) → Tries (setting_of m st d) ps (Ok posted)
-    → Tries (setting_of m st d) ps r
-    → MOST_POSTINGS < length (postings_of st.kept) + length posted
-    → IsFull (after_trial past st d ps r)
-full_kept m past st d ps posted r h g many =
-    subst (λ r. IsFull (after_trial past st d ps r))
-    (one_trial (setting_of m st d) ps (Ok posted) r h g)
-    (subst (λ n. MOST_POSTINGS < n) (sym (counted st.kept (length past) posted)) many)
+pub full_kept : (m : List ℕ → Method) (past : List (Placed Directive)) (st : Stand) (w : Written)
+    (posted : List Posted) (r : Result (List Posted) LineFault)
+    → Tries (setting_of m st w) w.transaction.postings (Ok posted)
+    → Tries (setting_of m st w) w.transaction.postings r
+    → MOST_POSTINGS < length (postings_of st.drafts) + length posted
+    → IsFull (after_trial past st w r)
+unfolding kept
+full_kept m past st w posted r h g many =
+    subst (λ r. IsFull (after_trial past st w r))
+    (one_trial (setting_of m st w) w.transaction.postings (Ok posted) r h g)
+    (subst (λ n. MOST_POSTINGS < n) (sym (count_more st.drafts (kept w posted))) many)
 
 abbrev size : Stand → ℕ
-size st = length (postings_of st.kept)
+size st = length (postings_of st.drafts)
 
 same_size : (a b : Stand) → b ≡ a → size a ≤ size b
 same_size a b e = subst (λ s. size a ≤ size s) (sym e) (omega arith)
 
-after_size : (past : List (Placed Directive)) (st : Stand) (d : Placed Directive)
-    (ps : List Posting) (r : Result (List Posted) LineFault)
-    → size st ≤ size (after_trial past st d ps r)
-after_size past st d ps (Ok posted) =
-    let n = counted st.kept (length past) posted in omega (arith, n)
-after_size past st d ps (Err f) = omega arith
+after_size : (past : List (Placed Directive)) (st : Stand) (w : Written)
+    (r : Result (List Posted) LineFault) → size st ≤ size (after_trial past st w r)
+unfolding kept
+after_size past st w (Ok posted) =
+    let n = count_more st.drafts (kept w posted) in omega (arith, n)
+after_size past st w (Err f) = omega arith
+
+pad_size : (st : Stand) (s : Step) (fs : List Fault) → size st ≤ size (with_pad st s fs)
+pad_size st s fs = let n = count_more st.drafts draft.Pad in omega (arith, n)
 
 step_size : (m : List ℕ → Method) (past : List (Placed Directive)) (st : Stand)
     (d : Placed Directive) (k : DirectiveKind) (new : Stand) → IsStepBy m past st d k new
     → size st ≤ size new
 step_size m past st d (kind.Transaction t) new h =
-    subst (λ s. size st ≤ size s) (sym h.2) (after_size past st d t.postings h.0)
+    subst (λ s. size st ≤ size s) (sym h.2) (after_size past st (written_in d t) h.0)
 step_size m past st d (kind.Open o) new h = subst (λ s. size st ≤ size s) (sym h) (omega arith)
 step_size m past st d (kind.Close c) new h = subst (λ s. size st ≤ size s) (sym h) (omega arith)
-step_size m past st d (kind.Pad p) new h = subst (λ s. size st ≤ size s) (sym h) (omega arith)
+step_size m past st d (kind.Pad p) new h =
+    subst (λ s. size st ≤ size s) (sym h)
+    (pad_size st (step.Pad p d.item.day (place_of d))
+    (faults_at (place_of d) (of_use p.account (account_steps past))
+    ++ faults_at (place_of d) (of_use p.source (account_steps past))))
 step_size m past st d (kind.Balance b) new h = subst (λ s. size st ≤ size s) (sym h) (omega arith)
 step_size m past st d (kind.Commodity x) new h = same_size st new h
 step_size m past st d (kind.Note x) new h = same_size st new h
@@ -90,22 +91,18 @@ led_by m (d ∷ later) past new h =
     )
 
 -- where a directive fills the books, all directives do
-pub full_for_good : (m : List ℕ → Method) (ds : List (Placed Directive)) (i : ℕ)
-    (d : Placed Directive) (st new : Stand) → i < length ds → d ≡ get_or ds i d
-    → LeadsTo m (reverse (take i ds)) st
-    → ((next : Stand) → IsStepBy m (reverse (take i ds)) st d d.item.kind next → IsFull next)
-    → LeadsTo m (reverse ds) new → IsFull new
-full_for_good m ds i d st new h e led full all =
-    let past = reverse (take i ds) in
-    let cut : ds ≡ take i ds ++ d ∷ drop (suc i) ds =
-    sym (take-append-drop i ds)
-    ∙ ap (λ l. take i ds ++ l) (drop-cons ds i d h ∙ ap (λ q. q ∷ drop (suc i) ds) (sym e)) in
-    let turned : reverse ds ≡ reverse (drop (suc i) ds) ++ d ∷ past =
-    ap reverse cut ∙ reverse-append (take i ds) (d ∷ drop (suc i) ds)
-    ∙ ap (λ l. l ++ past) (reverse-append (d ∷ []) (drop (suc i) ds))
-    ∙ append_assoc (reverse (drop (suc i) ds)) (d ∷ []) past in
+pub full_for_good : (m : List ℕ → Method) (before after : List (Placed Directive))
+    (d : Placed Directive) (st new : Stand) → LeadsTo m (reverse before) st
+    → ((next : Stand) → IsStepBy m (reverse before) st d d.item.kind next → IsFull next)
+    → LeadsTo m (reverse (before ++ d ∷ after)) new → IsFull new
+full_for_good m before after d st new led full all =
+    let past = reverse before in
+    let turned : reverse (before ++ d ∷ after) ≡ reverse after ++ d ∷ past =
+    reverse-append before (d ∷ after)
+    ∙ ap (λ l. l ++ past) (reverse-append (d ∷ []) after)
+    ∙ append_assoc (reverse after) (d ∷ []) past in
     let mid =
-    led_by m (reverse (drop (suc i) ds)) (d ∷ past) new
+    led_by m (reverse after) (d ∷ past) new
     (subst (λ l. LeadsTo m l new) turned all) in
     let same = one_stand m past mid.1.0 st mid.1.1 led in
     let filled =

@@ -6,18 +6,19 @@ use Rattle.bean_directives.specs.declared.directive.DirectiveKind.TheVariants as
 use Rattle.bean_load.specs.Loaded.{Loaded}
 use Rattle.bean_load.specs.declared.placed.Placed.{Placed}
 use Rattle.bean_reductions.specs.declared.reduction.Method.{Method}
-use Rattle.bean_pad.specs.Note.{noted_pads}
 use Rattle.bean_transactions.proofs.OneTrial.{one_trial}
-use Rattle.bean_replay.specs.Booked.{IsBooked, faults_of, method_in_ledger}
+use Rattle.bean_replay.specs.Booked.{IsBooked, bookings_of, faults_of, method_in_ledger}
 use Rattle.bean_replay.specs.Stand.{IsStepBy, LeadsTo, Stand, after_trial, setting_of}
+use Rattle.bean_replay.specs.Stand.{written_in}
 use Rattle.bean_replay.specs.declared.booked.Booked.{Booked}
 
 one_step : (m : List ℕ → Method) (past : List (Placed Directive)) (st : Stand)
     (d : Placed Directive) (k : DirectiveKind) (a b : Stand) → IsStepBy m past st d k a
     → IsStepBy m past st d k b → a ≡ b
 one_step m past st d (kind.Transaction t) a b h g =
-    let same = one_trial (setting_of m st d) t.postings h.0 g.0 h.1 g.1 in
-    h.2 ∙ ap (after_trial past st d t.postings) same ∙ sym g.2
+    let w = written_in d t in
+    let same = one_trial (setting_of m st w) t.postings h.0 g.0 h.1 g.1 in
+    h.2 ∙ ap (after_trial past st w) same ∙ sym g.2
 one_step m past st d (kind.Open o) a b h g = h ∙ sym g
 one_step m past st d (kind.Close c) a b h g = h ∙ sym g
 one_step m past st d (kind.Pad p) a b h g = h ∙ sym g
@@ -42,8 +43,7 @@ pub one_booking : (l : Loaded) (a b : Booked) → IsBooked l a → IsBooked l b 
 one_booking l a b h g =
     let same =
     one_stand (method_in_ledger l) (reverse l.directives) h.stand g.stand h.leads g.leads in
-    let kept = h.finished.kept_is ∙ ap (λ (st : Stand). st.kept) same ∙ sym g.finished.kept_is in
-    let pads =
-    h.finished.pads_are ∙ ap (λ (st : Stand). noted_pads st.steps) same ∙ sym g.finished.pads_are in
+    let bookings =
+    h.finished.bookings_are ∙ ap bookings_of same ∙ sym g.finished.bookings_are in
     let faults = h.finished.faults_are ∙ ap (faults_of l) same ∙ sym g.finished.faults_are in
-    λ i. record { kept = kept i; pads = pads i; faults = faults i }
+    λ i. record { bookings = bookings i; faults = faults i }

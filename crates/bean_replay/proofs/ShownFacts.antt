@@ -13,50 +13,51 @@ use Rattle.bean_pad.specs.declared.note.NotedPad.{NotedPad}
 use Rattle.bean_pad.specs.declared.padder.Padded.{Padded}
 use Rattle.bean_pad.specs.declared.step.Step.{Step}
 use Rattle.bean_transactions.specs.declared.line.Posted.{Posted}
-use Rattle.bean_replay.specs.Stand.{posting_step, postings_of, steps_of, steps_of_postings}
-use Rattle.bean_replay.specs.declared.kept.Kept.{Kept}
+use Rattle.bean_replay.specs.Stand.{posting_step, postings_in, postings_of, steps_of}
+use Rattle.bean_replay.specs.Stand.{steps_of_postings}
+use Rattle.bean_replay.specs.declared.booking.Draft.{Draft}
 
--- ---- one more transaction
+-- ---- one more booking
 
-pub postings_more : (ks : List Kept) (k : Kept)
-    → postings_of (ks ++ k ∷ []) ≡ postings_of ks ++ k.postings
+pub postings_more : (ks : List Draft) (k : Draft)
+    → postings_of (ks ++ k ∷ []) ≡ postings_of ks ++ postings_in k
 postings_more ks k =
-    flat_map-append (λ (k : Kept). k.postings) ks (k ∷ [])
-    ∙ ap (λ l. postings_of ks ++ l) (append-nil k.postings)
+    flat_map-append postings_in ks (k ∷ [])
+    ∙ ap (λ l. postings_of ks ++ l) (append-nil (postings_in k))
 
-pub steps_more : (ks : List Kept) (k : Kept)
-    → steps_of (ks ++ k ∷ []) ≡ steps_of_postings k.postings ++ steps_of ks
+pub steps_more : (ks : List Draft) (k : Draft)
+    → steps_of (ks ++ k ∷ []) ≡ steps_of_postings (postings_in k) ++ steps_of ks
 steps_more ks k =
     ap steps_of_postings (postings_more ks k)
-    ∙ ap reverse (map-append posting_step (postings_of ks) k.postings)
-    ∙ reverse-append (map posting_step (postings_of ks)) (map posting_step k.postings)
+    ∙ ap reverse (map-append posting_step (postings_of ks) (postings_in k))
+    ∙ reverse-append (map posting_step (postings_of ks)) (map posting_step (postings_in k))
 
-pub count_more : (ks : List Kept) (k : Kept)
-    → length (postings_of (ks ++ k ∷ [])) ≡ length (postings_of ks) + length k.postings
+pub count_more : (ks : List Draft) (k : Draft)
+    → length (postings_of (ks ++ k ∷ [])) ≡ length (postings_of ks) + length (postings_in k)
 count_more ks k =
-    ap length (postings_more ks k) ∙ length-append (postings_of ks) k.postings
+    ap length (postings_more ks k) ∙ length-append (postings_of ks) (postings_in k)
 
 -- the first ones have no more postings than all
-pub few_taken : (n : ℕ) (ks : List Kept)
+pub few_taken : (n : ℕ) (ks : List Draft)
     → length (postings_of (take n ks)) ≤ length (postings_of ks)
 few_taken zero ks = omega arith
 few_taken (suc n) [] = omega arith
 few_taken (suc n) (k ∷ ks) =
-    let some = length-append k.postings (postings_of (take n ks)) in
-    let all = length-append k.postings (postings_of ks) in
+    let some = length-append (postings_in k) (postings_of (take n ks)) in
+    let all = length-append (postings_in k) (postings_of ks) in
     let later = few_taken n ks in omega (arith, some, all, later)
 
-pub unseen_more : (n : ℕ) (ks : List Kept) (k : Kept) → n ≤ length ks
+pub unseen_more : (n : ℕ) (ks : List Draft) (k : Draft) → n ≤ length ks
     → drop n (ks ++ k ∷ []) ≡ drop n ks ++ k ∷ []
 unseen_more zero ks k few = refl
 unseen_more (suc n) [] k few = absurd (omega (arith, few))
 unseen_more (suc n) (x ∷ ks) k few = unseen_more n ks k (omega (arith, few))
 
-pub none_unseen : (ks : List Kept) → drop (length ks) ks ≡ []
+pub none_unseen : (ks : List Draft) → drop (length ks) ks ≡ []
 none_unseen [] = refl
 none_unseen (k ∷ ks) = none_unseen ks
 
-pub from_on : (n : ℕ) (ks : List Kept) → take (length ks - n) (drop n ks) ≡ drop n ks
+pub from_on : (n : ℕ) (ks : List Draft) → take (length ks - n) (drop n ks) ≡ drop n ks
 from_on n ks =
     take_all (length ks - n) (drop n ks) (let left = length-drop n ks in omega (arith, left))
 
@@ -88,7 +89,7 @@ faults_alone ps past =
     ∙ ap (λ l. flat_map faults_of_pad (noted_pads past) ++ l) (failing_alone (noted_pads past) ps past)
 
 -- what is seen decides what pads and balances come to
-pub padded_by_seen : (ks : List Kept) (seen steps : List Step) (r : Padded)
+pub padded_by_seen : (ks : List Draft) (seen steps : List Step) (r : Padded)
     → steps ≡ steps_of ks ++ seen → IsPadded seen r → IsPadded steps r
 padded_by_seen ks seen steps r e h = record {
   pads = h.pads ∙ sym (ap noted_pads e ∙ pads_alone (postings_of ks) seen);

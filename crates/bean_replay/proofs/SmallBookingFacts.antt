@@ -3,36 +3,42 @@ use Rattle.std.proofs.Common.{ℕ, ◌≤◌, List, [], ◌∷◌, length, sym, 
 use Rattle.std.proofs.Common.{length-append}
 use Rattle.std.specs.List.{AllByRecursion}
 use Rattle.bean_base.specs.declared.limits.TheConstants.{MOST_POSTINGS}
-use Rattle.bean_replay.specs.Booked.{IsBooked, method_in_ledger}
+use Rattle.bean_replay.specs.Booked.{IsBooked, method_in_ledger, with_pads}
 use Rattle.bean_replay.specs.Stand.{postings_of}
 use Rattle.bean_replay.specs.declared.booked.Booked.{Booked}
-use Rattle.bean_replay.specs.declared.kept.Kept.{Kept}
+use Rattle.bean_replay.specs.declared.booking.Booking.{Booking}
+use Rattle.bean_replay.specs.declared.booking.Booking.TheVariants as booking
+use Rattle.bean_replay.specs.declared.booking.Draft.{Draft}
+use Rattle.bean_replay.specs.declared.booking.Draft.TheVariants as draft
 use Rattle.bean_load.specs.Loaded.{Loaded}
-use Rattle.bean_replay.specs.Small.{IsSmallNoted}
 use Rattle.bean_load.specs.Small.{IsSmall}
-use Rattle.bean_replay.proofs.SmallBookedFacts.{IsSmallKept, ledger_small}
+use Rattle.bean_pad.specs.Note.{noted_pads}
+use Rattle.bean_pad.specs.declared.note.NotedPad.{NotedPad}
+use Rattle.bean_replay.specs.Small.{IsSmallBooking}
+use Rattle.bean_replay.proofs.SmallBookedFacts.{ledger_small}
 
 -- where no more than n are booked, none of the transactions has more postings
-abbrev pub HasUpTo : ℕ → Kept → Type 0
-HasUpTo n k = length k.postings ≤ n
+abbrev pub HasUpTo : ℕ → Booking → Type 0
+HasUpTo n (booking.Transaction k) = length k.postings ≤ n
+HasUpTo n (booking.Pad p) = Unit {0}
 
-pub each_few : (n : ℕ) (ks : List Kept) → length (postings_of ks) ≤ n
-    → AllByRecursion (HasUpTo n) ks
-each_few n [] few = tt
-each_few n (k ∷ ks) few =
-    let sum = length-append k.postings (postings_of ks) in
-    (omega (arith, sum, few), each_few n ks (omega (arith, sum, few)))
+each_few : (n : ℕ) (ds : List Draft) (ps : List NotedPad) → length (postings_of ds) ≤ n
+    → AllByRecursion (HasUpTo n) (with_pads ds ps)
+each_few n [] ps few = tt
+each_few n (draft.Transaction k ∷ ds) ps few =
+    let sum = length-append k.postings (postings_of ds) in
+    (omega (arith, sum, few), each_few n ds ps (omega (arith, sum, few)))
+each_few n (draft.Pad ∷ ds) [] few = each_few n ds [] few
+each_few n (draft.Pad ∷ ds) (p ∷ ps) few = (tt, each_few n ds ps few)
 
 pub booking_small : (l : Loaded) (b : Booked) → IsBooked l b → AllByRecursion IsSmall l.directives
-    → AllByRecursion IsSmallKept b.kept × AllByRecursion IsSmallNoted b.pads
+    → AllByRecursion IsSmallBooking b.bookings
 booking_small l b h all =
-    let small = ledger_small (method_in_ledger l) l.directives h.stand h.leads all in (
-      subst (AllByRecursion IsSmallKept) (sym h.finished.kept_is) small.0,
-      subst (AllByRecursion IsSmallNoted) (sym h.finished.pads_are) small.1,
-    )
+    subst (AllByRecursion IsSmallBooking) (sym h.finished.bookings_are)
+    (ledger_small (method_in_ledger l) l.directives h.stand h.leads all)
 
 pub booking_few : (l : Loaded) (b : Booked) → IsBooked l b
-    → AllByRecursion (HasUpTo MOST_POSTINGS) b.kept
+    → AllByRecursion (HasUpTo MOST_POSTINGS) b.bookings
 booking_few l b h =
-    subst (AllByRecursion (HasUpTo MOST_POSTINGS)) (sym h.finished.kept_is)
-    (each_few MOST_POSTINGS h.stand.kept h.few)
+    subst (AllByRecursion (HasUpTo MOST_POSTINGS)) (sym h.finished.bookings_are)
+    (each_few MOST_POSTINGS h.stand.drafts (noted_pads h.stand.steps) h.few)

@@ -1,7 +1,7 @@
 -- One more of a list that is gone through.
 use Rattle.std.proofs.Common.{◌≡◌, ℕ, suc, ◌+◌, ◌<◌, List, [], ◌∷◌, ◌++◌, append_assoc, length}
 use Rattle.std.proofs.Common.{get_or}
-use Rattle.std.proofs.Common.{take, drop, map, reverse, fold, sym, ap, ◌∙◌, add-one}
+use Rattle.std.proofs.Common.{take, drop, map, reverse, fold, refl, sym, ap, ◌∙◌, add-one, arith}
 use Rattle.std.proofs.Math.Seq.{take-suc, drop-cons}
 use Rattle.std.proofs.lemmas.Grind.{flat_map-append}
 use Rattle.std.proofs.lemmas.List.{append-nil, map-append, reverse-append}
@@ -37,3 +37,7 @@ latest_mapped f xs i x h e =
     ap (λ l. reverse (map f l)) (taken_more xs i x h e)
     ∙ ap reverse (map-append f (take i xs) (x ∷ []))
     ∙ reverse-append (map f (take i xs)) (f x ∷ [])
+
+pub empty : {X : Type 0} (xs : List X) → length xs ≡ 0 → xs ≡ []
+empty [] none = refl
+empty (x ∷ xs) none = absurd (omega (arith, none))

@@ -1,8 +1,7 @@
 -- One more directive.
-use Rattle.std.proofs.Common.{◌≡◌, ℕ, List, [], ◌∷◌, ◌++◌}
-use Rattle.std.proofs.Common.{refl, sym, ap, ◌∙◌, subst}
+use Rattle.std.proofs.Common.{◌≡◌, ℕ, suc, ◌+◌, List, [], ◌∷◌, ◌++◌, length}
+use Rattle.std.proofs.Common.{refl, sym, ap, ◌∙◌, subst, arith}
 use Rattle.bean_accounts.specs.Kept.{IsKept}
-use Rattle.bean_accounts.specs.declared.accounts.Place.{Place}
 use Rattle.bean_directives.specs.declared.accounts.Close as closes
 use Rattle.bean_directives.specs.declared.accounts.Open as opens
 use Rattle.bean_directives.specs.declared.accounts.Pad as pads
@@ -15,20 +14,26 @@ use Rattle.bean_interp.specs.declared.scales.Scales.{Scales}
 use Rattle.bean_load.specs.declared.placed.Placed.{Placed}
 use Rattle.bean_reductions.specs.declared.reduction.Method.{Method}
 use Rattle.bean_transactions.specs.Lines.{IsSettled}
-use Rattle.bean_replay.specs.Booker.{IsStanding}
-use Rattle.bean_replay.specs.Stand.{IsStepBy, Stand, account_step, account_steps, place_of}
-use Rattle.bean_replay.specs.Stand.{setting_of}
+use Rattle.bean_replay.specs.Booker.{HasRoom, IsStanding}
+use Rattle.bean_replay.specs.Stand.{IsStepBy, Stand, account_step, account_steps, setting_of}
 use Rattle.bean_replay.specs.declared.booker.Booker.{Booker}
+use Rattle.bean_replay.specs.declared.booking.Written.{Written}
 
 -- the setting of a transaction is what the program has
-pub settled : (m : List ℕ → Method) (past : List (Placed Directive)) (st : Stand)
-    (d : Placed Directive) (b : Booker) (at : Place) → IsStanding m past st b → at ≡ place_of d
-    → IsSettled (setting_of m st d) b.holdings b.methods
-    (record { day = d.item.day; line = at.line })
-settled m past st d b at is e = record {
-  held = is.held;
-  methods = is.methods;
-  head_is = λ k. record { day = d.item.day; line = (sym e k).line };
+pub settled : (m : List ℕ → Method) (past : List (Placed Directive)) (st : Stand) (w : Written)
+    (b : Booker) → IsStanding m past st b
+    → IsSettled (setting_of m st w) b.holdings b.methods
+    (record { day = w.day; line = w.place.line })
+settled m past st w b is = record { held = is.held; methods = is.methods; head_is = refl }
+
+-- so many directives and one more have as much room
+pub one_more : (n : ℕ) (b : Booker) → HasRoom n b → HasRoom (n + 1) b
+one_more n b room = record {
+  bounded = room.bounded;
+  near = room.near;
+  few = room.few;
+  shown = room.shown;
+  steps = let few = room.steps in omega (arith, few);
 }
 
 -- scales are used again, and say nothing of what is booked
@@ -42,8 +47,15 @@ reweighed m past st b s is = record {
   seen = is.seen;
   follows = is.follows;
   steps_are = is.steps_are;
-  kept_is = is.kept_is;
+  drafts_are = is.drafts_are;
   faults_are = is.faults_are;
+  room = record {
+    bounded = is.room.bounded;
+    near = is.room.near;
+    few = is.room.few;
+    shown = is.room.shown;
+    steps = is.room.steps;
+  };
 }
 
 -- what happens to no account leaves them as they are
@@ -58,9 +70,13 @@ later m past st d b e is = record {
   seen = is.seen;
   follows = is.follows;
   steps_are = is.steps_are;
-  kept_is = is.kept_is;
+  drafts_are = is.drafts_are;
   faults_are = is.faults_are;
+  room = subst (λ n. HasRoom n b) (next (length past)) (one_more (length past) b is.room);
 }
+  where
+    next : (n : ℕ) → n + 1 ≡ suc n
+    next n = omega arith
 
 -- a directive of that kind was taken
 pub stepped : (m : List ℕ → Method) (past : List (Placed Directive)) (st new : Stand)

@@ -1,35 +1,53 @@
 -- What a loaded ledger is booked as.
-use Rattle.std.specs.Prelude.{◌≡◌, ◌≤◌, ℕ, List, ◌++◌, length, reverse}
+use Rattle.std.specs.Prelude.{◌≡◌, ◌≤◌, ℕ, List, [], ◌∷◌, ◌++◌, length, reverse}
 use Rattle.bean_base.specs.declared.limits.TheConstants.{MOST_POSTINGS}
 use Rattle.bean_base.specs.declared.fault.Fault.{Fault}
 use Rattle.bean_load.specs.Loaded.{Loaded}
 use Rattle.bean_reductions.specs.declared.reduction.Method as methods
 use Rattle.bean_pad.specs.Note.{noted_pads}
 use Rattle.bean_pad.specs.Padded.{faults_with}
+use Rattle.bean_pad.specs.declared.note.NotedPad.{NotedPad}
 use Rattle.bean_replay.specs.Method.{method_of, otherwise, unknown_in}
 use Rattle.bean_replay.specs.Stand.{IsFull, LeadsTo, Stand, postings_of}
 use Rattle.bean_replay.specs.declared.booked.Booked as declared
+use Rattle.bean_replay.specs.declared.booking.Booking.{Booking}
+use Rattle.bean_replay.specs.declared.booking.Booking.TheVariants as booking
+use Rattle.bean_replay.specs.declared.booking.Draft.{Draft}
+use Rattle.bean_replay.specs.declared.booking.Draft.TheVariants as draft
 
 abbrev pub method_in_ledger : Loaded → List ℕ → methods.Method
 method_in_ledger l a = method_of (otherwise l.methods) l.directives a
 
--- the faults of the texts, of the lines of booking methods, of the directives, and of pads and
--- balances
+-- what is booked, with these pads in their order
+abbrev pub with_pads : List Draft → List NotedPad → List Booking
+with_pads [] ps = []
+with_pads (draft.Transaction k ∷ ds) ps = booking.Transaction k ∷ with_pads ds ps
+with_pads (draft.Pad ∷ ds) [] = with_pads ds []
+with_pads (draft.Pad ∷ ds) (p ∷ ps) = booking.Pad p ∷ with_pads ds ps
+
+-- the transactions that are kept and the pads, each with what comes of it, in their order
+abbrev pub bookings_of : Stand → List Booking
+bookings_of st = with_pads st.drafts (noted_pads st.steps)
+
+-- the faults of the texts and of the lines of booking methods
+abbrev pub faults_before : Loaded → List Fault
+faults_before l = l.faults ++ unknown_in l.methods
+
+-- and of the directives, and of pads and balances
 abbrev pub faults_of : Loaded → Stand → List Fault
 faults_of l st =
-    l.faults ++ (unknown_in l.methods ++ (st.faults ++ faults_with (noted_pads st.steps) st.steps))
+    faults_before l ++ (st.faults ++ faults_with (noted_pads st.steps) st.steps)
 
 -- what all the directives led to, put together
 pub record IsFinished (l : Loaded) (st : Stand) (b : declared.Booked) : Type 0 where
-  pub kept_is : b.kept ≡ st.kept
-  pub pads_are : b.pads ≡ noted_pads st.steps
+  pub bookings_are : b.bookings ≡ bookings_of st
   pub faults_are : b.faults ≡ faults_of l st
 
 -- the transactions that are kept have at most a million postings
 pub record IsBooked (l : Loaded) (b : declared.Booked) : Type 0 where
   pub stand : Stand
   pub leads : LeadsTo (method_in_ledger l) (reverse l.directives) stand
-  pub few : length (postings_of stand.kept) ≤ MOST_POSTINGS
+  pub few : length (postings_of stand.drafts) ≤ MOST_POSTINGS
   pub finished : IsFinished l stand b
 
 -- the transactions that are kept have more than a million postings

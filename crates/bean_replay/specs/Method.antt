@@ -25,7 +25,7 @@ otherwise lines = fold behind Strict lines
 abbrev pub unknown_of : MethodLine → List Fault
 unknown_of l =
     if not (is_some (method_named l.method))
-    then record { kind = UnknownMethod; file = l.file; line = l.line } ∷ [] else []
+    then record { kind = UnknownMethod; place = l.place } ∷ [] else []
 
 -- F23 of each line that names none
 abbrev pub unknown_in : List MethodLine → List Fault

@@ -1,29 +1,24 @@
 -- What was booked so far.
-use Rattle.std.specs.Prelude.{◌<◌, ℕ, ◌≡◌, Bool, not, List, [], ◌∷◌, ◌++◌, map, reverse, slice_get}
+use Rattle.std.specs.Prelude.{◌<◌, ℕ, ◌≡◌, not, List, [], ◌∷◌, ◌++◌, map, reverse, slice_get}
 use Rattle.std.specs.Prelude.{Option}
 use Rattle.std.specs.Prelude.{Some, None, Result, Ok, Err, length}
 use Rattle.std.specs.List.{flat_map}
 use Rattle.bean_base.specs.declared.limits.TheConstants.{MOST_POSTINGS}
 use Rattle.bean_accounts.specs.Faults.{faults_at, kind_if, of_close, of_open, of_posting, of_use}
-use Rattle.bean_accounts.specs.declared.accounts.Place.{Place}
 use Rattle.bean_accounts.specs.declared.step.Step as lives
 use Rattle.bean_accounts.specs.declared.step.Step.TheVariants as life
-use Rattle.bean_base.specs.declared.days.Day.{Day}
 use Rattle.bean_base.specs.declared.fault.Fault.{Fault}
 use Rattle.bean_base.specs.declared.fault.FaultKind.TheVariants as kinds
+use Rattle.bean_base.specs.declared.span.Place.{Place}
 use Rattle.bean_postings.specs.declared.posting.Posting.{Posting}
-use Rattle.bean_directives.specs.declared.accounts.Pad as pads
 use Rattle.bean_directives.specs.declared.directive.Directive.{Directive}
 use Rattle.bean_directives.specs.declared.directive.DirectiveKind.{DirectiveKind}
 use Rattle.bean_directives.specs.declared.directive.DirectiveKind.TheVariants as kind
-use Rattle.bean_directives.specs.declared.numbers.Balance as balances
+use Rattle.bean_directives.specs.declared.transaction.Transaction.{Transaction}
 use Rattle.bean_interp.specs.Balance.{is_balanced}
 use Rattle.bean_load.specs.declared.placed.Placed.{Placed}
 use Rattle.bean_lots.specs.Inventory.{has_lot}
 use Rattle.bean_reductions.specs.declared.reduction.Method.{Method}
-use Rattle.bean_pad.specs.declared.step.Balance as balance_steps
-use Rattle.bean_pad.specs.declared.step.Pad as pad_steps
-use Rattle.bean_pad.specs.declared.step.Posting as pad_postings
 use Rattle.bean_pad.specs.declared.step.Step.{Step}
 use Rattle.bean_pad.specs.declared.step.Step.TheVariants as step
 use Rattle.bean_transactions.specs.Held.{held}
@@ -31,21 +26,28 @@ use Rattle.bean_transactions.specs.Lined.{Setting}
 use Rattle.bean_transactions.specs.Tried.{Tries, booked_legs}
 use Rattle.bean_transactions.specs.declared.line.Posted.{Posted}
 use Rattle.bean_transactions.specs.declared.stop.LineFault.{LineFault}
-use Rattle.bean_replay.specs.declared.kept.Kept.{Kept}
+use Rattle.bean_replay.specs.declared.booking.Draft.{Draft}
+use Rattle.bean_replay.specs.declared.booking.Draft.TheVariants as draft
+use Rattle.bean_replay.specs.declared.booking.Written.{Written}
 
--- the transactions that are kept, in their order; what pads and balances see, the latest first; and
+-- what is booked, in the order of the directives; what pads and balances see, the latest first; and
 -- the faults
 pub record Stand : Type 0 where
-  pub kept : List Kept
+  pub drafts : List Draft
   pub steps : List Step
   pub faults : List Fault
 
 abbrev pub start : Stand
-start = record { kept = []; steps = []; faults = [] }
+start = record { drafts = []; steps = []; faults = [] }
 
 -- the booked postings, in their order
-abbrev pub postings_of : List Kept → List Posted
-postings_of ks = flat_map (λ k. k.postings) ks
+
+abbrev pub postings_in : Draft → List Posted
+postings_in (draft.Transaction k) = k.postings
+postings_in draft.Pad = []
+
+abbrev pub postings_of : List Draft → List Posted
+postings_of ds = flat_map postings_in ds
 
 -- ---- accounts
 
@@ -67,7 +69,7 @@ place_of d = record { file = d.file; line = d.item.line }
 -- the place of a written posting, and the transaction's where there is none
 abbrev pub place_in : Place → Option Posting → Place
 place_in at None = at
-place_in at (Some p) = record { file = at.file; line = p.details.line }
+place_in at (Some p) = record at { line = p.details.line }
 
 -- F6, F7 and F8 of a booked posting, at the written one
 abbrev pub posted_faults : List lives.Step → Place → List Posting → Posted → List Fault
@@ -75,81 +77,72 @@ posted_faults past at ps p =
     faults_at (place_in at (slice_get ps p.written)) (of_posting p.account p.units.currency past)
 
 -- F18 where it doesn't balance; then those of each booked posting
-abbrev pub kept_faults : List (Placed Directive) → Placed Directive → List Posting → List Posted
-    → List Fault
-kept_faults past d ps posted =
-    faults_at (place_of d) (kind_if (not (is_balanced (booked_legs ps posted))) kinds.Unbalanced)
-    ++ flat_map (posted_faults (account_steps past) (place_of d) ps) posted
+abbrev pub kept_faults : List (Placed Directive) → Place → List Posting → List Posted → List Fault
+kept_faults past at ps posted =
+    faults_at at (kind_if (not (is_balanced (booked_legs ps posted))) kinds.Unbalanced)
+    ++ flat_map (posted_faults (account_steps past) at ps) posted
 
 -- what pads and balances see of a booked posting
-abbrev pub posting_seen : Posted → pad_postings.Posting
-posting_seen p = record { account = p.account; units = p.units }
-
 abbrev pub posting_step : Posted → Step
-posting_step p = step.Posting (posting_seen p)
+posting_step p = step.Posting p.account p.units
 
 -- what they see of postings, the latest first
 abbrev pub steps_of_postings : List Posted → List Step
 steps_of_postings posted = reverse (map posting_step posted)
 
--- of transactions
-abbrev pub steps_of : List Kept → List Step
-steps_of ks = steps_of_postings (postings_of ks)
+-- of what is booked
+abbrev pub steps_of : List Draft → List Step
+steps_of ds = steps_of_postings (postings_of ds)
 
 abbrev pub with_faults : Stand → List Fault → Stand
-with_faults st fs = record { kept = st.kept; steps = st.steps; faults = st.faults ++ fs }
+with_faults st fs = record st { faults = st.faults ++ fs }
 
--- behind a transaction that is kept, or dropped with a fault
-abbrev pub after_trial : List (Placed Directive) → Stand → Placed Directive → List Posting
-    → Result (List Posted) LineFault → Stand
-after_trial past st d ps (Ok posted) = record {
-  kept = st.kept ++ record { directive = length past; postings = posted } ∷ [];
+-- a transaction that is written in a directive
+abbrev pub written_in : Placed Directive → Transaction → Written
+written_in d t = record {
+  day = d.item.day;
+  place = place_of d;
+  metadata = d.item.metadata;
+  transaction = t;
+}
+
+-- behind a transaction that is kept stands one booking more; one that is dropped leaves its fault
+abbrev pub after_trial : List (Placed Directive) → Stand → Written → Result (List Posted) LineFault
+    → Stand
+after_trial past st w (Ok posted) = record {
+  drafts = st.drafts ++ draft.Transaction (record { written = w; postings = posted }) ∷ [];
   steps = steps_of_postings posted ++ st.steps;
-  faults = st.faults ++ kept_faults past d ps posted;
+  faults = st.faults ++ kept_faults past w.place w.transaction.postings posted;
 }
-after_trial past st d ps (Err f) =
-    with_faults st (record { kind = f.kind; file = d.file; line = f.line } ∷ [])
+after_trial past st w (Err f) =
+    with_faults st (record { kind = f.kind; place = record w.place { line = f.line } } ∷ [])
 
-abbrev pub setting_of : (List ℕ → Method) → Stand → Placed Directive → Setting
-setting_of m st d = record {
+abbrev pub setting_of : (List ℕ → Method) → Stand → Written → Setting
+setting_of m st w = record {
   method_of = m;
-  before = postings_of st.kept;
-  head = record { day = d.item.day; line = d.item.line };
-}
-
--- ---- pads and balances
-
-abbrev pub pad_at : Day → Place → pads.Pad → pad_steps.Pad
-pad_at day at p = record {
-  account = p.account;
-  source = p.source;
-  day = day;
-  file = at.file;
-  line = at.line;
-}
-
-abbrev pub balance_at : Place → balances.Balance → Bool → balance_steps.Balance
-balance_at at b is_at_cost = record {
-  account = b.account;
-  currency = b.currency;
-  number = b.number;
-  tolerance = b.tolerance;
-  file = at.file;
-  line = at.line;
-  is_at_cost = is_at_cost;
+  before = postings_of st.drafts;
+  head = record { day = w.day; line = w.place.line };
 }
 
 -- ---- one directive after the other
 
-abbrev pub with_step : Stand → Step → List Fault → Stand
-with_step st s fs = record { kept = st.kept; steps = s ∷ st.steps; faults = st.faults ++ fs }
+-- behind a pad too
+abbrev pub with_pad : Stand → Step → List Fault → Stand
+with_pad st s fs = record {
+  drafts = st.drafts ++ draft.Pad ∷ [];
+  steps = s ∷ st.steps;
+  faults = st.faults ++ fs;
+}
+
+abbrev pub with_balance : Stand → Step → List Fault → Stand
+with_balance st s fs = record st { steps = s ∷ st.steps; faults = st.faults ++ fs }
 
 -- what a directive leads to, behind those that are past, the latest of which stands first
 abbrev pub IsStepBy : (List ℕ → Method) → List (Placed Directive) → Stand → Placed Directive
     → DirectiveKind → Stand → Type 0
 IsStepBy m past st d (kind.Transaction t) new =
-    (r : Result (List Posted) LineFault) × Tries (setting_of m st d) t.postings r
-    × (new ≡ after_trial past st d t.postings r)
+    (r : Result (List Posted) LineFault) × Tries (setting_of m st (written_in d t)) t.postings r
+    × (new ≡ after_trial past st (written_in d t) r)
 IsStepBy m past st d (kind.Open o) new =
     new
     ≡ with_faults st (faults_at (place_of d) (of_open o.account o.method (account_steps past)))
@@ -157,15 +150,14 @@ IsStepBy m past st d (kind.Close c) new =
     new ≡ with_faults st (faults_at (place_of d) (of_close c.account (account_steps past)))
 IsStepBy m past st d (kind.Pad p) new =
     new
-    ≡ with_step st
-    (step.Pad (pad_at d.item.day (place_of d) p))
+    ≡ with_pad st
+    (step.Pad p d.item.day (place_of d))
     (faults_at (place_of d) (of_use p.account (account_steps past))
     ++ faults_at (place_of d) (of_use p.source (account_steps past)))
 IsStepBy m past st d (kind.Balance b) new =
     new
-    ≡ with_step st
-    (step.Balance
-    (balance_at (place_of d) b (has_lot b.currency (held b.account (postings_of st.kept)))))
+    ≡ with_balance st
+    (step.Balance b (place_of d) (has_lot b.currency (held b.account (postings_of st.drafts))))
     (faults_at (place_of d) (of_use b.account (account_steps past)))
 IsStepBy m past st d other new = new ≡ st
 
@@ -177,4 +169,4 @@ LeadsTo m (d ∷ past) new =
 
 -- there are more than a million booked postings
 abbrev pub IsFull : Stand → Type 0
-IsFull st = MOST_POSTINGS < length (postings_of st.kept)
+IsFull st = MOST_POSTINGS < length (postings_of st.drafts)

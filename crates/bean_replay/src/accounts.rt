@@ -5,16 +5,14 @@ ghost use Rattle.bean_accounts.specs.Faults.{faults_at, of_close, of_open, of_us
 ghost use Rattle.bean_accounts.specs.Kept.{IsKept};
 ghost use Rattle.bean_accounts.specs.declared.step.Step as lives;
 ghost use Rattle.bean_accounts.specs.declared.step.Step.TheVariants as life;
-ghost use Rattle.bean_replay.specs.Stand as spec;
 ghost use Rattle.bean_lots.specs.Inventory.{has_lot};
 ghost use Rattle.bean_pad.specs.Following.{Follows, IsBounded, steps_in};
 ghost use Rattle.bean_pad.specs.declared.step.Step.{Step};
 ghost use Rattle.bean_pad.specs.declared.step.Step.TheVariants as step;
 ghost use Rattle.bean_transactions.specs.Holdings.{holding};
 
-use crate::steps::{balance_of, pad_of};
-use bean_accounts::{Accounts, Place};
-use bean_base::{Apart, Day, Fault};
+use bean_accounts::Accounts;
+use bean_base::{Day, Fault, Place};
 use bean_directives::{Balance, Close, Open, Pad};
 use bean_lots::Inventory;
 use bean_pad::Padder;
@@ -64,22 +62,22 @@ pub(crate) fn take_pad<'a>(
     faults: &mut Vec<Fault>,
     day: Day,
     at: Place,
-    pad: &Pad<'a>,
+    pad: Pad<'a>,
 ) -> Result<(), AllocError>
     requires near { IsBounded padder.old }
     requires few { steps_in padder.old < 2 ^ 40 }
     ensures faults { (past : prelude.List lives.Step) → IsKept past accounts.now
         → OnOk result (faults.new.items ≡ (faults.old.items
-        ++ faults_at at (of_use pad.now.account past))
-        ++ faults_at at (of_use pad.now.source past)) }
+        ++ faults_at at (of_use pad.entry.account past))
+        ++ faults_at at (of_use pad.entry.source past)) }
     ensures follows { OnOk result ((past : prelude.List Step) → Follows past padder.old
-        → Follows (step.Pad (spec.pad_at day at pad.now) ∷ past) padder.new) }
+        → Follows (step.Pad pad.entry day at ∷ past) padder.new) }
     ensures near { OnOk result (IsBounded padder.new) }
     ensures steps { OnOk result (steps_in padder.new ≡ steps_in padder.old + 1) }
 {
     accounts.note_use(&pad.account, at, faults)?;
     accounts.note_use(&pad.source, at, faults)?;
-    padder.pad(pad_of(day, at, pad))
+    padder.pad(pad, day, at)
 }
 
 /// Whether the account of a balance itself holds a lot of its currency.
@@ -99,7 +97,7 @@ pub(crate) fn take_balance<'a>(
     padder: &mut Padder<'a>,
     faults: &mut Vec<Fault>,
     at: Place,
-    balance: &Apart<Balance<'a>>,
+    balance: &Balance<'a>,
 ) -> Result<(), AllocError>
     requires near { IsBounded padder.old }
     requires few { steps_in padder.old < 2 ^ 40 }
@@ -107,14 +105,13 @@ pub(crate) fn take_balance<'a>(
         → OnOk result (faults.new.items ≡ faults.old.items
         ++ faults_at at (of_use balance.now.account past)) }
     ensures follows { OnOk result ((past : prelude.List Step) → Follows past padder.old
-        → Follows (step.Balance (spec.balance_at at balance.now
-        (has_lot balance.now.currency (holding holdings.now balance.now.account))) ∷ past)
+        → Follows (step.Balance balance.now at
+        (has_lot balance.now.currency (holding holdings.now balance.now.account)) ∷ past)
         padder.new) }
     ensures near { OnOk result (IsBounded padder.new) }
     ensures steps { OnOk result (steps_in padder.new ≡ steps_in padder.old + 1) }
 {
-    let balance = balance.get();
     accounts.note_use(&balance.account, at, faults)?;
     let is_at_cost = is_at_cost(alloc, holdings, balance);
-    padder.balance(&balance_of(at, balance, is_at_cost))
+    padder.balance(balance, at, is_at_cost)
 }

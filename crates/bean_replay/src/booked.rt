@@ -1,17 +1,18 @@
 //! What a ledger is booked as.
 ghost use Rattle.std.specs.Prelude.{◌≡◌, ◌≢◌, ◌≤◌, ◌^◌, ◌++◌, ℕ, IfOk, length, reverse};
 ghost use Rattle.std.specs.Prelude as prelude;
+ghost use Rattle.std.specs.List.{AllByRecursion};
+ghost use Rattle.bean_replay.specs.Booked as spec;
 ghost use Rattle.bean_replay.specs.Booked.{HasTooMany, IsBooked, IsFinished};
-ghost use Rattle.bean_replay.specs.Booker.{HasRoom, IsStanding};
-ghost use Rattle.bean_replay.specs.Method.{unknown_in};
+ghost use Rattle.bean_replay.specs.Booker.{IsStanding, Stands, Wherever};
 ghost use Rattle.bean_replay.specs.Stand.{IsFull, LeadsTo, Stand};
-ghost use Rattle.bean_directives.specs.declared.directive.Directive as declared;
-ghost use Rattle.bean_load.specs.declared.placed.Placed as placed;
+ghost use Rattle.bean_replay.specs.Small.{IsSmallBooking};
+ghost use Rattle.bean_load.specs.Loaded as loading;
 ghost use Rattle.bean_reductions.specs.declared.reduction.Method.{Method};
 ghost use Rattle.bean_transactions.specs.Methods.{method_in};
 
 use crate::booker::{BookFault, Booker};
-use crate::kept::Kept;
+use crate::booking::{Booking, Draft};
 use crate::methods::{methods_of, note_unknown, otherwise};
 use bean_base::{Apart, Fault, List};
 use bean_load::{Loaded, Placed};
@@ -23,10 +24,8 @@ use std::alloc::{AllocError, Global};
 /// What a ledger is booked as.
 #[derive(Debug, Drop)]
 pub struct Booked<'a> {
-    /// The transactions that are kept, in their order.
-    pub kept: List<Kept<'a>>,
-    /// The pads in their order, each with what comes of it.
-    pub pads: List<NotedPad<'a>>,
+    /// What is booked, in the order of the directives.
+    pub bookings: List<Booking<'a>>,
     /// All that is wrong, in no order.
     pub faults: List<Fault>,
 }
@@ -34,26 +33,26 @@ pub struct Booked<'a> {
 /// More directives than any memory holds.
 const MOST_DIRECTIVES: usize = 1 << 39;
 
-/// Takes all directives.
+/// Takes all directives. Each is given up as soon as it is taken, but for what is booked of it.
 fn take_all<'a>(
     alloc: Global,
     methods: Methods<'a>,
-    directives: &[Apart<Placed<Directive<'a>>>],
+    directives: Vec<Apart<Placed<Directive<'a>>>>,
 ) -> Result<Booker<'a>, BookFault>
-    requires { length directives.now ≤ 2 ^ 39 }
+    requires { length directives.items ≤ 2 ^ 39 }
+    ensures stands { IfOk result Stands }
     ensures leads { IfOk result (λ booker. (m : prelude.List ℕ → Method)
         → ((a : prelude.List ℕ) → m a ≡ method_in methods.entry a)
-        → (st : Stand) × LeadsTo m (reverse directives.now) st
-        × IsStanding m (reverse directives.now) st booker) }
-    ensures room { IfOk result (λ booker. HasRoom (length directives.now) booker) }
+        → (st : Stand) × LeadsTo m (reverse directives.entry.items) st
+        × IsStanding m (reverse directives.entry.items) st booker) }
     ensures full { result ≡ prelude.Err BookFault.TooManyPostings
         → (m : prelude.List ℕ → Method)
         → ((a : prelude.List ℕ) → m a ≡ method_in methods.entry a) → (st : Stand)
-        → LeadsTo m (reverse directives.now) st → IsFull st }
+        → LeadsTo m (reverse directives.entry.items) st → IsFull st }
 {
     let mut booker = Booker::new(alloc, methods);
-    for number in 0..directives.len() {
-        match booker.take(number, directives[number].get()) {
+    for placed in directives {
+        match booker.take(placed.into_inner()) {
             Ok(()) => {}
             Err(fault) => return Err(fault),
         }
@@ -61,58 +60,74 @@ fn take_all<'a>(
     Ok(booker)
 }
 
-/// All faults: of texts, of lines of methods, of directives, and of pads and balances.
-fn faults_of(
+/// What is booked, now that it is known what comes of the pads.
+fn with_pads<'a>(
     alloc: Global,
-    loaded: &Loaded<'_>,
-    booked: &[Fault],
-    padded: &[Fault],
-) -> Result<Vec<Fault>, AllocError>
-    ensures { IfOk result (λ faults. faults.items ≡ loaded.now.faults
-        ++ (unknown_in loaded.now.methods ++ (booked.now ++ padded.now))) }
+    drafts: Vec<Draft<'a>>,
+    pads: Vec<NotedPad<'a>>,
+) -> Result<Vec<Booking<'a>>, AllocError>
+    ensures { IfOk result (λ bookings. bookings.items
+        ≡ spec.with_pads drafts.entry.items pads.entry.items) }
+{
+    let mut bookings = Vec::with_capacity(alloc, drafts.len())?;
+    let mut left = pads.into_iter();
+    for draft in drafts {
+        match draft {
+            Draft::Transaction(kept) => bookings.push(Booking::Transaction(kept))?,
+            Draft::Pad => {
+                if let Some(pad) = left.next() {
+                    bookings.push(Booking::Pad(Apart::new(alloc, pad)?))?;
+                }
+            }
+        }
+    }
+    Ok(bookings)
+}
+
+/// The faults that are told before the first directive is taken: those of texts, and those of
+/// lines of methods.
+fn faults_before(alloc: Global, loaded: &Loaded<'_>) -> Result<Vec<Fault>, AllocError>
+    ensures { IfOk result (λ faults. faults.items ≡ spec.faults_before loaded.now) }
 {
     let mut faults = Vec::new(alloc);
     faults.extend_from_slice(loaded.faults())?;
     note_unknown(loaded.methods(), &mut faults)?;
-    faults.extend_from_slice(booked)?;
-    faults.extend_from_slice(padded)?;
     Ok(faults)
 }
 
-/// Puts together what is booked, once all directives are taken.
-fn finish<'a>(
-    alloc: Global,
-    loaded: &Loaded<'a>,
-    booker: Booker<'a>,
-) -> Result<Booked<'a>, BookFault>
-    requires room { HasRoom (2 ^ 39) booker }
-    ensures booked { (m : prelude.List ℕ → Method)
-        (past : prelude.List (placed.Placed declared.Directive)) (st : Stand)
-        → IsStanding m past st booker.entry
-        → IfOk result (IsFinished loaded.now st) }
+/// Puts together what is booked, once all directives are taken, with the faults that were told
+/// before.
+fn finish<'a>(alloc: Global, told: Vec<Fault>, booker: Booker<'a>) -> Result<Booked<'a>, BookFault>
+    requires { Stands booker }
+    ensures booked { (l : loading.Loaded) → told.items ≡ spec.faults_before l
+        → Wherever booker.entry (λ m past st. IfOk result (IsFinished l st)) }
     ensures full { result ≢ prelude.Err BookFault.TooManyPostings }
 {
     let padded = booker.padder.finish()?;
-    let faults = faults_of(alloc, loaded, &booker.faults, padded.faults.as_slice())?;
+    let bookings = with_pads(alloc, booker.drafts, padded.pads.into_vec())?;
+    let mut faults = told;
+    faults.extend_from_slice(&booker.faults)?;
+    faults.extend_from_slice(padded.faults.as_slice())?;
     Ok(Booked {
-        kept: List::new(booker.kept),
-        pads: padded.pads,
+        bookings: List::new(bookings),
         faults: List::new(faults),
     })
 }
 
 /// What the directives of a loaded ledger are booked as.
-pub fn book_directives<'a>(alloc: Global, loaded: &Loaded<'a>) -> Result<Booked<'a>, BookFault>
-    ensures booked { IfOk result (IsBooked loaded.now) }
-    ensures full { result ≡ prelude.Err BookFault.TooManyPostings → HasTooMany loaded.now }
+pub fn book_directives<'a>(alloc: Global, loaded: Loaded<'a>) -> Result<Booked<'a>, BookFault>
+    ensures booked { IfOk result (IsBooked loaded.entry) }
+    ensures small { IfOk result (λ booked. AllByRecursion IsSmallBooking booked.bookings) }
+    ensures full { result ≡ prelude.Err BookFault.TooManyPostings → HasTooMany loaded.entry }
 {
     let directives = loaded.directives();
     if directives.len() > MOST_DIRECTIVES {
         return Err(BookFault::OutOfMemory);
     }
     let methods = methods_of(alloc, otherwise(loaded.methods()), directives)?;
-    match take_all(alloc, methods, directives) {
-        Ok(booker) => finish(alloc, loaded, booker),
+    let told = faults_before(alloc, &loaded)?;
+    match take_all(alloc, methods, loaded.into_directives()) {
+        Ok(booker) => finish(alloc, told, booker),
         Err(fault) => Err(fault),
     }
 }

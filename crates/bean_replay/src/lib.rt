@@ -2,9 +2,10 @@
 //!
 //! ```text
 //! let loaded = load(alloc, &texts)?;
-//! let booked = book_directives(alloc, &loaded)?;
-//! // booked.kept: the transactions that are kept, with the postings that they are booked as;
-//! // booked.pads: each pad, with what it inserts; booked.faults: all that is wrong
+//! let booked = book_directives(alloc, loaded)?;
+//! // booked.bookings: the transactions that are kept, each with the postings that it is booked as,
+//! // and the pads, each with what it inserts, in the order of the directives;
+//! // booked.faults: all that is wrong
 //! ```
 //!
 //! Directives are taken in their order. A transaction is tried against what accounts hold, by the
@@ -29,7 +30,7 @@
 mod accounts;
 mod booked;
 mod booker;
-mod kept;
+mod booking;
 mod laws;
 mod methods;
 mod postings;
@@ -38,6 +39,6 @@ mod steps;
 
 pub use booked::{Booked, book_directives};
 pub use booker::BookFault;
-pub use kept::Kept;
+pub use booking::{Booking, Kept, Written};
 pub use laws::one_booking;
 pub use sizes::booked_ledgers_are_small;

@@ -36,8 +36,7 @@ fn note_line(line: &MethodLine<'_>, faults: &mut Vec<Fault>) -> Result<(), Alloc
     if method_named(&line.method).is_none() {
         faults.push(Fault {
             kind: FaultKind::UnknownMethod,
-            file: line.file,
-            line: line.line,
+            place: line.place,
         })?;
     }
     Ok(())

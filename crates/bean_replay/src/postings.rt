@@ -10,8 +10,8 @@ ghost use Rattle.bean_interp.specs.Balance.{is_balanced};
 ghost use Rattle.bean_interp.specs.Residual.{IsLight};
 ghost use Rattle.bean_transactions.specs.Tried.{KnowsBalance, booked_legs};
 
-use bean_accounts::{Accounts, Place};
-use bean_base::{Fault, FaultKind};
+use bean_accounts::Accounts;
+use bean_base::{Fault, FaultKind, Place};
 use bean_interp::Scales;
 use bean_postings::Posting;
 use bean_transactions::{Posted, Tried, balances};
@@ -23,8 +23,8 @@ fn place_in(at: Place, postings: &[Posting<'_>], written: usize) -> Place
 {
     match postings.get(written) {
         Some(posting) => Place {
-            file: at.file,
             line: posting.details.line(),
+            ..at
         },
         None => at,
     }
@@ -98,7 +98,10 @@ pub(crate) fn note_balance<'a>(
         FaultKind.Unbalanced)) }
 {
     if !balances_as(scales, postings, tried)? {
-        faults.push(at.fault(FaultKind::Unbalanced))?;
+        faults.push(Fault {
+            kind: FaultKind::Unbalanced,
+            place: at,
+        })?;
     }
     Ok(())
 }

@@ -20,8 +20,8 @@ name_of files number = name_in (slice_get files number)
 -- FILE:LINE: CODE TEXT
 abbrev pub line_of : List File → Fault → List ℕ
 line_of files f =
-    name_of files f.file ++ codes ":" ++ decimal f.line ++ codes ": " ++ text_of f.kind
-    ++ codes "\n"
+    name_of files f.place.file ++ codes ":" ++ decimal f.place.line ++ codes ": "
+    ++ text_of f.kind ++ codes "\n"
 
 abbrev pub lines_of : List File → List Fault → List ℕ
 lines_of files fs = flat_map (line_of files) fs

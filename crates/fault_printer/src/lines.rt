@@ -21,9 +21,9 @@ fn name_of(files: &[File], number: usize) -> &str
 fn push_line(out: &mut Vec<u8>, files: &[File], fault: &Fault) -> Result<(), AllocError>
     ensures { OnOk result (out.new.items ≡ out.old.items ++ spec.line_of files.now fault.now) }
 {
-    out.extend_from_slice(name_of(files, fault.file).as_bytes())?;
+    out.extend_from_slice(name_of(files, fault.place.file).as_bytes())?;
     out.push(b':')?;
-    out.extend_from_slice(Buffer::new().format(fault.line).as_bytes())?;
+    out.extend_from_slice(Buffer::new().format(fault.place.line).as_bytes())?;
     out.extend_from_slice(b": ")?;
     out.extend_from_slice(fault.kind.text().as_bytes())?;
     out.push(b'\n')?;

@@ -126,7 +126,7 @@ fn settings_and_ignored_lines(rt: HostRuntime) -> Result<(), Fail> {
     assert_eq!(rt; parsed.settings.as_slice()[3].line, 4);
     assert_eq!(rt; parsed.faults.as_slice().len(), 2);
     assert_eq!(rt; parsed.faults.as_slice()[1].kind, FaultKind::Ignored);
-    assert_eq!(rt; parsed.faults.as_slice()[1].line, 6);
+    assert_eq!(rt; parsed.faults.as_slice()[1].place.line, 6);
     Ok(())
 }
 
@@ -178,7 +178,7 @@ fn pushes_and_pops_that_do_not_match(rt: HostRuntime) -> Result<(), Fail> {
     assert_eq!(rt; parsed.faults.as_slice().len(), 2);
     for (fault, line) in parsed.faults.as_slice().iter().zip([15, 16]) {
         assert_eq!(rt; fault.kind, FaultKind::UnmatchedPushOrPop);
-        assert_eq!(rt; fault.line, line);
+        assert_eq!(rt; fault.place.line, line);
     }
     Ok(())
 }

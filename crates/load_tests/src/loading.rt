@@ -89,7 +89,7 @@ fn settings_in_reading_order(rt: HostRuntime) -> Result<(), Fail> {
     assert_eq!(rt; methods.len(), 2);
     assert!(rt; methods[0].method == Text::new("FIFO"));
     assert!(rt; methods[1].method == Text::new("NONE"));
-    assert_eq!(rt; methods[1].file, 1);
+    assert_eq!(rt; methods[1].place.file, 1);
     assert_eq!(rt; methods[1].line, 3);
     Ok(())
 }
@@ -107,10 +107,10 @@ fn faults_name_their_file(rt: HostRuntime) -> Result<(), Fail> {
     let faults = loaded.faults();
     assert_eq!(rt; faults.len(), 3);
     assert_eq!(rt; faults[0].kind, FaultKind::Ignored);
-    assert_eq!(rt; faults[0].line, 3);
+    assert_eq!(rt; faults[0].place.line, 3);
     assert_eq!(rt; faults[1].kind, FaultKind::UnmatchedPushOrPop);
-    assert_eq!(rt; faults[1].file, 1);
+    assert_eq!(rt; faults[1].place.file, 1);
     assert_eq!(rt; faults[2].kind, FaultKind::IncludeFault);
-    assert_eq!(rt; faults[2].line, 2);
+    assert_eq!(rt; faults[2].place.line, 2);
     Ok(())
 }

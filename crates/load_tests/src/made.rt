@@ -53,7 +53,7 @@ pub fn are_faults(texts: &Texts, places: &[(usize, usize)]) -> bool {
         return false;
     }
     for (fault, place) in faults.iter().zip(places) {
-        if fault.file != place.0 || fault.line != place.1 {
+        if fault.place.file != place.0 || fault.place.line != place.1 {
             return false;
         }
     }

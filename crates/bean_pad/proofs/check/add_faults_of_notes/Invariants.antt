@@ -6,4 +6,4 @@ use Rattle.bean_pad.proofs.check.add_faults_of_notes.Given as goal
 abbrev pub invariant-loop-note : goal.invariant-loop-note
 invariant-loop-note l =
     l.faults.items ≡ l.initial.faults.items
-    ++ flat_map (faults_of_note l.pad) (take l.note-index l.notes)
+    ++ flat_map (faults_of_note l.place) (take l.note-index l.notes)

@@ -9,5 +9,5 @@ returns c =
     let fits : to_z w128 (of_z w128 c.args.difference) ≡ c.args.difference = omega (arith, ints) in
     λ i. record {
       currency = c.lend.ensures i;
-      outcome = (c.of.ensures ∙ ap (λ d. outcome_of d c.args.balance.now.is_at_cost) fits) i;
+      outcome = (c.of.ensures ∙ ap (λ d. outcome_of d c.args.is_at_cost) fits) i;
     }

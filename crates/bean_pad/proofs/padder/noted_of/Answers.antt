@@ -23,6 +23,6 @@ returns-then-is_out-clause-is c =
     ∙ c.tolerance_of.ensures.is in
     let out : is_out d (tolerance_of b) ≡ true =
     sym (λ i. is_out (difference i) (tolerance i)) ∙ sym c.is_out.ensures ∙ c.if-is_out.true in
-    (λ i. Some (c.in_ok-pad.pad, (c.note_of.ensures ∙ ap (λ d. note_of d b) difference) i))
-    ∙ (λ i. cond (sym out i) (Some (c.in_ok-pad.pad, note_of d b)) None)
-    ∙ ap (λ pad. noted_of pad d b) (sym c.in_ok-pad.was)
+    (λ i. Some (c.in_ok-pad.pad, (c.note_of.ensures ∙ ap (λ d. note_of d b c.args.is_at_cost) difference) i))
+    ∙ (λ i. cond (sym out i) (Some (c.in_ok-pad.pad, note_of d b c.args.is_at_cost)) None)
+    ∙ ap (λ pad. noted_of pad d b c.args.is_at_cost) (sym c.in_ok-pad.was)

@@ -1,20 +1,24 @@
-use Rattle.std.proofs.Common.{◌++◌, ◌∙◌}
+use Rattle.std.proofs.Common.{◌++◌, ◌∙◌, ap, append_assoc}
+use Rattle.bean_pad.specs.Padded.{faults_with}
+use Rattle.bean_replay.specs.Booked.{faults_before, with_pads}
 use Rattle.bean_replay.specs.Booker.{unseen}
-use Rattle.bean_replay.specs.Method.{unknown_in}
 use Rattle.bean_replay.proofs.ShownFacts.{padded_by_seen}
 use Rattle.bean_replay.proofs.booked.finish.Goals as goal
 
 pub returns-clause-booked : goal.returns-clause-booked
-returns-clause-booked c = λ m past st is.
+returns-clause-booked c = λ l told m past st is.
     let padded =
     padded_by_seen (unseen c.args.booker) is.seen st.steps c.in_ok-padded.padded is.steps_are
     (c.in_ok-padded.ensures is.seen is.follows) in
     let own = c.deref.ensures.value ∙ is.faults_are in
-    let pads = c.as_slice.ensures ∙ padded.faults in
-    let l = c.args.loaded.now in record {
-      kept_is = c.new.ensures ∙ is.kept_is;
-      pads_are = padded.pads;
+    let found = c.as_slice.ensures ∙ padded.faults in
+    let pads = c.into_vec.ensures ∙ padded.pads in record {
+      bookings_are =
+          c.new.ensures ∙ c.in_ok-bookings.ensures
+          ∙ (λ k. with_pads (is.drafts_are k) (pads k));
       faults_are =
-          c.new-2.ensures ∙ c.in_ok-faults.ensures
-          ∙ (λ k. l.faults ++ (unknown_in l.methods ++ (own k ++ pads k)));
+          c.new-2.ensures ∙ c.in_ok-extend_from_slice-2.ensures.items
+          ∙ ap (λ l. l ++ c.as_slice.result.now) c.in_ok-extend_from_slice.ensures.items
+          ∙ (λ k. (told k ++ own k) ++ found k)
+          ∙ append_assoc (faults_before l) st.faults _;
     }

@@ -18,6 +18,5 @@ loop-one-preserved c =
           let before = steps_of_postings (take i posted) ++ past in
           subst (λ l. Follows (l ++ past) c.post.new.self)
           (sym (latest_mapped posting_step posted i item (omega arith) c.one-item.is))
-          (subst (λ p. Follows (step.Posting p ∷ before) c.post.new.self) c.posting_of.ensures
-          (c.in_ok-post.ensures.follows before (c.loop-one.invariant.follows past follows)));
+          (c.in_ok-post.ensures.follows before (c.loop-one.invariant.follows past follows));
     }

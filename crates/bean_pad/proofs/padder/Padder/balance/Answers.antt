@@ -35,6 +35,7 @@ exact s x n few a b = omega (arith, ints)
 pub returns-clause-follows : goal.returns-clause-follows
 returns-clause-follows c = λ past h.
     let b = c.args.balance.now in
+    let cost = c.args.is_at_cost in
     let old = c.args.self.now in
     let noted_is = c.noted-noted.ensures.is past h in
     let count = c.count_in.ensures.is ∙ ap count_in noted_is in
@@ -50,7 +51,7 @@ returns-clause-follows c = λ past h.
       paddings = λ a k.
           c.in_ok-set.ensures.padded a k
           ∙ chosen (bytes_eq b.account a) (bytes_eq b.currency k) (padded past) b.account b.currency
-          a k (count_in (noted past b)) _ _
+          a k (count_in (noted past b cost)) _ _
           (bytes_eq-Decides b.account a).0 (bytes_eq-Decides b.currency k).0 sum (h.paddings a k);
       before = λ a k.
           c.in_ok-set.ensures.pads a k
@@ -62,7 +63,7 @@ returns-clause-follows c = λ past h.
       trail =
           c.in_ok-push.ensures.items
           ∙ (λ i. h.trail i ++ passed.Balance (c.check-check.ensures.is past h i) ∷ [])
-          ∙ sym (reverse-append (passed.Balance (check_of past b) ∷ []) (trail_of past));
+          ∙ sym (reverse-append (passed.Balance (check_of past b c.args.place) ∷ []) (trail_of past));
       steps = let e = h.steps in omega (arith, e);
     }
 

@@ -9,44 +9,53 @@ use Rattle.bean_replay.proofs.TakeFacts.{reweighed, settled}
 use Rattle.bean_replay.proofs.FullFacts.{full_kept}
 use Rattle.bean_replay.proofs.booker.Booker.transaction.Goals as goal
 
+pub keep-requires-clause-stands : goal.keep-requires-clause-stands
+keep-requires-clause-stands c =
+    let z = c.requires in record {
+      method_of = z.method_of;
+      past = z.past;
+      stand = z.stand;
+      is = reweighed z.method_of z.past z.stand c.args.self.now _ z.is;
+      few = z.few;
+    }
+
 pub keep-requires-clause-light : goal.keep-requires-clause-light
 keep-requires-clause-light c =
-    let z = c.requires.stands in
-    let d = c.args.directive.now in
-    kept_light (setting_of z.method_of z.stand d) c.args.postings.now c.in-Ok.tried.posted
-    (c.in-Ok.ensures.tried (setting_of z.method_of z.stand d)
-    (settled z.method_of z.past z.stand d c.args.self.now c.place_of-at.result z.is
-    c.place_of-at.ensures))
+    let z = c.requires in
+    let w = c.args.written in
+    let s = setting_of z.method_of z.stand w in
+    kept_light s w.transaction.postings c.in-Ok.tried.posted
+    (subst (λ ps. Tries s ps (Ok c.in-Ok.tried.posted)) c.as_slice.ensures
+    (c.in-Ok.ensures.tried s (settled z.method_of z.past z.stand w c.args.self.now z.is)))
 
 pub returns-in-Ok-clause-standing : goal.returns-in-Ok-clause-standing
-returns-in-Ok-clause-standing c = λ m past st is count.
-    let d = c.args.directive.now in
+returns-in-Ok-clause-standing c = λ m past st is.
+    let w = c.args.written in
+    let s = setting_of m st w in
     let tries =
-    c.in-Ok.ensures.tried (setting_of m st d)
-    (settled m past st d c.args.self.now c.place_of-at.result is c.place_of-at.ensures) in
+    subst (λ ps. Tries s ps (Ok c.in-Ok.tried.posted)) c.as_slice.ensures
+    (c.in-Ok.ensures.tried s (settled m past st w c.args.self.now is)) in
     on_ok_weaker c.keep.result (λ standing. (Ok c.in-Ok.tried.posted, tries, standing))
-    (c.keep.ensures.standing m past st d (reweighed m past st c.args.self.now _ is)
-    c.place_of-at.ensures count)
+    (c.keep.ensures.standing m past st (reweighed m past st c.args.self.now _ is))
 
 pub returns-in-Err-Fault-clause-standing : goal.returns-in-Err-Fault-clause-standing
-returns-in-Err-Fault-clause-standing c = λ m past st is count.
-    let d = c.args.directive.now in
-    let ps = c.args.postings.now in
-    let s = setting_of m st d in
+returns-in-Err-Fault-clause-standing c = λ m past st is.
+    let w = c.args.written in
+    let s = setting_of m st w in
     let told =
-    c.in-Err-Fault.ensures.tried s
-    (settled m past st d c.args.self.now c.place_of-at.result is c.place_of-at.ensures) in
-    let tries = subst (StopsAt (λ f. Tries s ps (Err f))) c.in-Err-Fault.field-0-is told in
+    c.in-Err-Fault.ensures.tried s (settled m past st w c.args.self.now is) in
+    let tries =
+    subst (λ ps. Tries s ps (Err c.in-Err-Fault.fault)) c.as_slice.ensures
+    (subst (StopsAt (λ f. Tries s c.as_slice.result.now (Err f))) c.in-Err-Fault.field-0-is told) in
     on_ok_weaker c.drop_with.result (λ standing. (Err c.in-Err-Fault.fault, tries, standing))
-    (c.drop_with.ensures.standing m past st d ps (reweighed m past st c.args.self.now _ is)
-    c.place_of-at.ensures)
+    (c.drop_with.ensures.standing m past st (reweighed m past st c.args.self.now _ is))
 
 pub returns-in-Ok-clause-full : goal.returns-in-Ok-clause-full
 returns-in-Ok-clause-full c = λ is_full m past st is r tries.
-    let d = c.args.directive.now in
-    let ps = c.args.postings.now in
+    let w = c.args.written in
+    let s = setting_of m st w in
     let own =
-    c.in-Ok.ensures.tried (setting_of m st d)
-    (settled m past st d c.args.self.now c.place_of-at.result is c.place_of-at.ensures) in
-    full_kept m past st d ps c.in-Ok.tried.posted r own tries
+    subst (λ ps. Tries s ps (Ok c.in-Ok.tried.posted)) c.as_slice.ensures
+    (c.in-Ok.ensures.tried s (settled m past st w c.args.self.now is)) in
+    full_kept m past st w c.in-Ok.tried.posted r own tries
     (subst (λ n. MOST_POSTINGS < n + length c.in-Ok.tried.posted) is.count (c.keep.ensures.full is_full))
