@@ -26,7 +26,7 @@ by_number f = record {
 
 pub fault_total : IsTotalOrder fault_cmp
 fault_total =
-    then_total (then_total (by_number (λ f. f.file)) (by_number (λ f. f.line)))
+    then_total (then_total (by_number (λ f. f.place.file)) (by_number (λ f. f.place.line)))
     (by_number (λ f. number_of f.kind))
 
 all_kinds : List FaultKind
@@ -96,20 +96,20 @@ parts Equal b e = (refl, e)
 parts Greater b e = cc
 
 fault : (k : FaultKind) (file line : ℕ) → Fault
-fault k file line = record { kind = k; file = file; line = line }
+fault k file line = record { kind = k; place = record { file = file; line = line } }
 
 pub fault_told : (x y : Fault) → fault_cmp x y ≡ Equal → x ≡ y
 unfolding fault
 fault_told x y e =
-    let outer = parts (ordering_then (nat_cmp x.file y.file) (nat_cmp x.line y.line)) _ e in
-    let inner = parts (nat_cmp x.file y.file) _ outer.0 in
-    let file : x.file ≡ y.file = exact_unsigned x.file y.file inner.0 in
-    let line : x.line ≡ y.line = exact_unsigned x.line y.line inner.1 in
+    let outer = parts (ordering_then (nat_cmp x.place.file y.place.file) (nat_cmp x.place.line y.place.line)) _ e in
+    let inner = parts (nat_cmp x.place.file y.place.file) _ outer.0 in
+    let file : x.place.file ≡ y.place.file = exact_unsigned x.place.file y.place.file inner.0 in
+    let line : x.place.line ≡ y.place.line = exact_unsigned x.place.line y.place.line inner.1 in
     let kind : x.kind ≡ y.kind =
     kind_told x.kind y.kind (exact_unsigned (number_of x.kind) (number_of y.kind) outer.1) in
-    ap (λ k. fault k x.file x.line) kind
-    ∙ ap (λ n. fault y.kind n x.line) file
-    ∙ ap (λ n. fault y.kind y.file n) line
+    ap (λ k. fault k x.place.file x.place.line) kind
+    ∙ ap (λ n. fault y.kind n x.place.line) file
+    ∙ ap (λ n. fault y.kind y.place.file n) line
 
 -- ---- what == tells
 
@@ -145,15 +145,15 @@ both false true false = refl
 both false false l = refl
 
 pub ties : (x y : Fault)
-    → (sameb the_type x.kind y.kind && (eqb x.file y.file && eqb x.line y.line))
+    → (sameb the_type x.kind y.kind && (eqb x.place.file y.place.file && eqb x.place.line y.place.line))
     ≡ is_eq (fault_cmp x y)
 ties x y =
-    let f = nat_cmp x.file y.file in
-    let l = nat_cmp x.line y.line in
+    let f = nat_cmp x.place.file y.place.file in
+    let l = nat_cmp x.place.line y.place.line in
     let k = nat_cmp (number_of x.kind) (number_of y.kind) in
-    ap (λ b. b && (eqb x.file y.file && eqb x.line y.line)) (same_kinds x.kind y.kind)
-    ∙ ap (λ b. is_eq k && (b && eqb x.line y.line)) (tie x.file y.file)
-    ∙ ap (λ b. is_eq k && (is_eq f && b)) (tie x.line y.line)
+    ap (λ b. b && (eqb x.place.file y.place.file && eqb x.place.line y.place.line)) (same_kinds x.kind y.kind)
+    ∙ ap (λ b. is_eq k && (b && eqb x.place.line y.place.line)) (tie x.place.file y.place.file)
+    ∙ ap (λ b. is_eq k && (is_eq f && b)) (tie x.place.line y.place.line)
     ∙ both (is_eq k) (is_eq f) (is_eq l)
     ∙ ap (λ b. b && is_eq k) (tied_then f l)
     ∙ tied_then (ordering_then f l) k

@@ -2,7 +2,7 @@
 use Rattle.std.proofs.Common.{◌≡◌, ℕ, ◌+◌, ◌<◌, ◌≤◌, max, List, [], ◌∷◌, length, map, fold}
 use Rattle.std.proofs.Common.{reverse}
 use Rattle.std.proofs.Common.{Ok, Err, Bool, true, false, cond, refl, sym, ap, ◌∙◌, arith}
-use Rattle.std.proofs.Common.{unwrap_or}
+use Rattle.std.proofs.Common.{subst, unwrap_or}
 use Rattle.std.specs.Cmp.Lexicographic.{slice_cmp}
 use Rattle.std.specs.FinMap.{empty, get-empty, insert}
 use Rattle.std.specs.List.{flat_map}
@@ -13,24 +13,19 @@ use Rattle.bean_base.specs.declared.limits.TheConstants.{MOST_POSTINGS}
 use Rattle.bean_base.specs.declared.amounts.Amount.{Amount}
 use Rattle.bean_base.specs.declared.fault.Fault.{Fault}
 use Rattle.bean_replay.proofs.OneBooking.{one_stand}
-use Rattle.bean_replay.specs.Booked.{IsBooked, method_in_ledger}
-use Rattle.bean_replay.specs.Stand.{postings_of}
+use Rattle.bean_replay.specs.Booked.{IsBooked, bookings_of, method_in_ledger}
+use Rattle.bean_replay.specs.declared.booking.Booking.{Booking}
 use Rattle.bean_replay.specs.declared.booked.Booked as booker
 use Rattle.bean_replay.specs.declared.booker.BookFault.{BookFault}
 use Rattle.bean_replay.specs.declared.booker.BookFault.TheVariants.{OutOfMemory, TooManyPostings}
 use Rattle.bean_load.specs.Loaded.{Loaded}
-use Rattle.bean_pad.specs.Note.{noted_pads}
 use Rattle.posting_table.proofs.DecimalsFacts.{decimals_of-insert}
 use Rattle.posting_table.specs.Decimals.{Decimals, decimals_of}
 use Rattle.posting_table.specs.Ledger.{Ledger}
-use Rattle.bean_book.specs.Booked.{Books, IsLedgerOf, bookings_of, decimals_from}
+use Rattle.bean_book.specs.Booked.{AreTooMany, Books, IsLedgerOf, decimals_from}
 use Rattle.bean_book.specs.Booked.{rows_of_all, written_in_all}
-use Rattle.bean_book.specs.Entries.{Booking}
 use Rattle.bean_book.specs.Found.{FindsFaults}
 use Rattle.bean_book.specs.Reported.{reported}
-use Rattle.bean_book.specs.Rows.{rows_of_pad}
-use Rattle.bean_book.proofs.BookFacts.{in_order}
-use Rattle.bean_book.proofs.CountFacts.{noted_length, pads_turned, rows_are, stand_pads}
 use Rattle.bean_book.proofs.ListFacts.{decimals_from-append}
 
 -- ---- the ledger of bookings
@@ -91,48 +86,29 @@ is_made bs few = record {
       (get-empty (slice_cmp nat_cmp) name);
 }
 
--- ---- how many rows there are
-
-abbrev row_count : booker.Booked → ℕ
-row_count b = length (postings_of b.kept) + length (flat_map rows_of_pad b.pads)
-
-rows_counted : (l : Loaded) (b : booker.Booked) (h : IsBooked l b)
-    → length (rows_of_all (bookings_of l h.stand)) ≡ row_count b
-rows_counted l b h =
-    let st = h.stand in
-    let one = noted_length st.steps in
-    let two = stand_pads (method_in_ledger l) (reverse l.directives) st h.leads in
-    let three = pads_turned l.directives in
-    let rows = rows_are l.directives st.kept (noted_pads st.steps) (in_order l st h.leads)
-    (omega (arith, one, two, three)) in
-    let kept = ap (λ ks. length (postings_of ks)) h.finished.kept_is in
-    let pads = ap (λ ps. length (flat_map rows_of_pad ps)) h.finished.pads_are in
-    omega (arith, rows, kept, pads)
-
 -- ---- what is found
 
-pub found : (l : Loaded) (b : booker.Booked) → IsBooked l b → row_count b ≤ MOST_POSTINGS
+pub found : (l : Loaded) (b : booker.Booked) → IsBooked l b
+    → length (rows_of_all b.bookings) ≤ MOST_POSTINGS
     → (faults : List Fault) → faults ≡ reported b.faults → FindsFaults l (Ok faults)
-found l b h few faults is =
-    let rows = rows_counted l b h in (
-      record { ledger = made (bookings_of l h.stand); faults = faults },
-      record {
-        stand = h.stand;
-        leads = h.leads;
-        ledger = is_made (bookings_of l h.stand) (omega (arith, rows, few));
-        faults = is ∙ ap reported h.finished.faults_are;
-      },
-      refl,
-    )
+found l b h few faults is = (
+  record { ledger = made (bookings_of h.stand); faults = faults },
+  record {
+    stand = h.stand;
+    leads = h.leads;
+    ledger = is_made (bookings_of h.stand)
+        (subst (λ bs. length (rows_of_all bs) ≤ MOST_POSTINGS) h.finished.bookings_are few);
+    faults = is ∙ ap reported h.finished.faults_are;
+  },
+  refl,
+)
 
 pub too_many_found : (l : Loaded) (b : booker.Booked) → IsBooked l b → (fault : BookFault)
-    → (fault ≡ TooManyPostings → MOST_POSTINGS < row_count b) → FindsFaults l (Err fault)
+    → (fault ≡ TooManyPostings → AreTooMany b.bookings) → FindsFaults l (Err fault)
 too_many_found l b h TooManyPostings full = λ st leads.
     let same =
     one_stand (method_in_ledger l) (reverse l.directives) h.stand st h.leads leads in
-    let rows = rows_counted l b h in
-    let here = ap (λ s. length (rows_of_all (bookings_of l s))) same in
-    let many = full refl in omega (arith, rows, here, many)
+    subst AreTooMany (h.finished.bookings_are ∙ ap bookings_of same) (full refl)
 too_many_found l b h OutOfMemory full = tt
 
 pub none_found : (l : Loaded) (fault : BookFault) → Books l (Err fault)

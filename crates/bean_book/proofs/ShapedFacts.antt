@@ -9,7 +9,6 @@ use Rattle.std.specs.Cmp.Lexicographic.{slice_cmp}
 use Rattle.std.specs.Ordering.{nat_cmp}
 use Rattle.std.proofs.lemmas.Int.{unsigned_abs-mul}
 use Rattle.std.proofs.lemmas.List.{length-map}
-use Rattle.bean_base.specs.declared.limits.TheConstants.{MOST_POSTINGS}
 use Rattle.bean_base.proofs.PowerFacts.{scaled_lt}
 use Rattle.bean_base.specs.declared.amounts.Amount.{Amount}
 use Rattle.bean_base.specs.declared.num.Num.{Num}
@@ -21,20 +20,17 @@ use Rattle.bean_grammar.specs.declared.metadata.Value.TheVariants as value
 use Rattle.bean_postings.specs.declared.posting.Posting.{Posting}
 use Rattle.bean_postings.specs.declared.price.Price as prices
 use Rattle.bean_postings.specs.declared.price.Price.TheVariants as price
-use Rattle.bean_directives.specs.declared.directive.Directive.{Directive}
-use Rattle.bean_directives.specs.declared.directive.DirectiveKind.TheVariants as kind
 use Rattle.bean_directives.specs.declared.transaction.Transaction.{Transaction}
 use Rattle.bean_interp.specs.Residual.{IsLight}
 use Rattle.bean_interp.specs.Weight.{at_8, count_of, currency_of}
 use Rattle.bean_interp.specs.declared.leg.Leg.TheVariants as leg
 use Rattle.bean_lots.specs.declared.lot.Lot.{Lot}
-use Rattle.bean_pad.specs.declared.step.Pad.{Pad}
+use Rattle.bean_pad.specs.declared.note.NotedPad.{NotedPad}
 use Rattle.bean_replay.proofs.SmallListFacts.{all_at, all_flat, all_mapped}
-use Rattle.bean_replay.proofs.SmallPlaceFacts.{transaction_small}
-use Rattle.bean_replay.specs.Small.{IsSmallLot, IsSmallPad, IsSmallPosted}
+use Rattle.bean_replay.specs.Small.{IsSmallLot, IsSmallNoted, IsSmallPad, IsSmallPosted}
+use Rattle.bean_replay.specs.declared.booking.Kept.{Kept}
 use Rattle.bean_parser.specs.SmallPart.{IsShort, IsShortCurrency, IsShortEntry, IsShortMark}
 use Rattle.bean_parser.specs.SmallPart.{IsShortPrice, IsShortValue, IsSmallPosting, most}
-use Rattle.bean_parser.specs.Small.{IsSmallDirective}
 use Rattle.bean_transactions.specs.Tried.{booked_leg, whole_at, worth_of}
 use Rattle.bean_transactions.specs.declared.line.Posted.{Posted}
 use Rattle.number_texts.proofs.LengthFacts.{length-day, short_number}
@@ -48,6 +44,7 @@ use Rattle.theory.proofs.OnceFacts.{all_once, few_once}
 use Rattle.bean_book.specs.Metadata.{amount_text, item_of, items_of, num_text, text_of}
 use Rattle.bean_book.specs.Rows.{entry_of, link_in, padding_entry, padding_row}
 use Rattle.bean_book.specs.Rows.{row_by, row_of, tag_in}
+use Rattle.bean_book.specs.Tame.{IsTameKept}
 
 -- ---- texts
 
@@ -113,24 +110,25 @@ short_link : (m : Mark) → IsShortMark m → AllByRecursion IsShort (link_in m)
 short_link (Tag name) h = tt
 short_link (Link name) h = (h, tt)
 
-pub entry_short : (d : Directive) (t : Transaction) (posted : List Posted) → IsSmallDirective d
-    → d.kind ≡ kind.Transaction t → AllByRecursion IsSmallPosted posted
-    → length posted ≤ MOST_POSTINGS → HasShortTexts (entry_of d t posted)
-entry_short d t posted small is booked few =
-    let h = transaction_small d t small is in
+pub entry_short : (k : Kept) → IsTameKept k → HasShortTexts (entry_of k)
+entry_short k h =
+    let t : Transaction = k.written.transaction in
+    let small = h.small in
     let tags = few_tags t.marks in
     let links = few_links t.marks in
-    let accounts = length-map posted (λ (p : Posted). p.account) in
-    let few_marks = h.1 in record {
-      payee = if_there t.payee h.0.payee;
-      narration = h.0.narration;
+    let accounts = length-map k.postings (λ (p : Posted). p.account) in
+    let few = h.few in
+    let few_marks = small.few_marks in record {
+      payee = if_there t.payee small.transaction.payee;
+      narration = small.transaction.narration;
       tags = short_set (flat_map tag_in t.marks) (omega (arith, tags, few_marks))
-          (all_flat IsShortMark IsShort tag_in short_tag t.marks h.0.marks);
+          (all_flat IsShortMark IsShort tag_in short_tag t.marks small.transaction.marks);
       links = short_set (flat_map link_in t.marks) (omega (arith, links, few_marks))
-          (all_flat IsShortMark IsShort link_in short_link t.marks h.0.marks);
-      accounts = short_set (map (λ p. p.account) posted) (omega (arith, accounts, few))
-          (all_mapped IsSmallPosted IsShort (λ p. p.account) (λ p k. k.account) posted booked);
-      texts = short_items d.metadata small.metadata;
+          (all_flat IsShortMark IsShort link_in short_link t.marks small.transaction.marks);
+      accounts = short_set (map (λ p. p.account) k.postings) (omega (arith, accounts, few))
+          (all_mapped IsSmallPosted IsShort (λ p. p.account) (λ p k. k.account) k.postings
+          small.postings);
+      texts = short_items k.written.metadata small.metadata;
     }
 
 -- ---- rows of transactions
@@ -196,22 +194,22 @@ row_small e line ps p texts small light written at =
 
 -- ---- rows of pads
 
-padding_short : (p : Pad) → IsSmallPad p → HasShortTexts (padding_entry p)
-padding_short p h = record {
+padding_short : (n : NotedPad) → IsSmallPad n.pad → HasShortTexts (padding_entry n)
+padding_short n h = record {
   payee = tt;
   narration = omega arith;
   tags = (omega arith, tt);
   links = (omega arith, tt);
-  accounts = short_set (p.account ∷ p.source ∷ []) (omega arith) (h.account, (h.source, tt));
+  accounts = short_set (n.pad.account ∷ n.pad.source ∷ []) (omega arith) (h.account, (h.source, tt));
   texts = tt;
 }
 
-pub padding_small : (p : Pad) (account currency : List ℕ) (count : ℤ) → IsSmallPad p
+pub padding_small : (n : NotedPad) (account currency : List ℕ) (count : ℤ) → IsSmallNoted n
     → IsShort account → IsShortCurrency currency → unsigned_abs count < 10 ^ 20
-    → HasSmallParts (padding_row p account currency count)
-padding_small p account currency count h a c few =
+    → HasSmallParts (padding_row n account currency count)
+padding_small n account currency count h a c few =
     let wide = unsigned_abs-mul count (pos (10 ^ 8)) in record {
-      entry = padding_short p h;
+      entry = padding_short n h.pad;
       account = a;
       currency = short_currency currency c;
       lot = tt;

@@ -4,17 +4,16 @@ use Rattle.std.specs.Prelude.{reverse, Result, Ok, Err}
 use Rattle.std.specs.List.{flat_map}
 use Rattle.std.specs.Str.{bytes_eq}
 use Rattle.bean_base.specs.declared.amounts.Amount.{Amount}
-use Rattle.bean_replay.specs.Booked.{faults_of, method_in_ledger}
+use Rattle.bean_replay.specs.Booked.{bookings_of, faults_of, method_in_ledger}
 use Rattle.bean_replay.specs.Stand.{LeadsTo, Stand}
+use Rattle.bean_replay.specs.declared.booking.Booking.{Booking}
 use Rattle.bean_replay.specs.declared.booker.BookFault.{BookFault}
 use Rattle.bean_replay.specs.declared.booker.BookFault.TheVariants.{TooManyPostings, OutOfMemory}
 use Rattle.bean_load.specs.Loaded.{Loaded}
-use Rattle.bean_pad.specs.Note.{noted_pads}
 use Rattle.posting_table.specs.Decimals.{decimals_of}
 use Rattle.posting_table.specs.Ledger as tables
 use Rattle.bean_base.specs.declared.limits.TheConstants.{MOST_POSTINGS}
 use Rattle.posting_table.specs.declared.row.Row.{Row}
-use Rattle.bean_book.specs.Entries.{Booking, bookings}
 use Rattle.bean_book.specs.Reported.{reported}
 use Rattle.bean_book.specs.Rows.{rows_of, written_of}
 use Rattle.bean_book.specs.declared.booked.Booked as declared
@@ -31,12 +30,12 @@ rows_of_all bs = flat_map rows_of bs
 abbrev pub written_in_all : List Booking → List Amount
 written_in_all bs = flat_map written_of bs
 
--- one ledger has the rows of these bookings behind those of another, and shows their decimals too
-pub record Adds (bs : List Booking) (old new : tables.Ledger) : Type 0 where
-  pub rows : new.rows ≡ old.rows ++ rows_of_all bs
+-- one ledger has the rows of a booking behind those of another, and shows its decimals too
+pub record Adds (b : Booking) (old new : tables.Ledger) : Type 0 where
+  pub rows : new.rows ≡ old.rows ++ rows_of b
   pub decimals : (currency : List ℕ)
       → decimals_of new.decimals currency
-      ≡ decimals_from (decimals_of old.decimals currency) currency (written_in_all bs)
+      ≡ decimals_from (decimals_of old.decimals currency) currency (written_of b)
 
 -- a ledger has the rows of these bookings, and shows for each currency the most decimals that are
 -- written for it in a transaction of theirs
@@ -55,22 +54,18 @@ MakesLedger bs (Ok ledger) = IsLedgerOf bs ledger
 MakesLedger bs (Err TooManyPostings) = AreTooMany bs
 MakesLedger bs (Err OutOfMemory) = ⊤
 
--- what is booked of a loaded ledger, where its directives lead here
-abbrev pub bookings_of : Loaded → Stand → List Booking
-bookings_of l st = bookings l.directives st.kept (noted_pads st.steps)
-
 -- The ledger of what is booked, and all faults.
 pub record IsBookOf (l : Loaded) (b : declared.Booked) : Type 0 where
   pub stand : Stand
   pub leads : LeadsTo (method_in_ledger l) (reverse l.directives) stand
-  pub ledger : IsLedgerOf (bookings_of l stand) b.ledger
+  pub ledger : IsLedgerOf (bookings_of stand) b.ledger
   pub faults : b.faults ≡ reported (faults_of l stand)
 
 -- what is booked has too many rows
 abbrev pub HasTooMany : Loaded → Type 0
 HasTooMany l =
     (st : Stand) → LeadsTo (method_in_ledger l) (reverse l.directives) st
-    → AreTooMany (bookings_of l st)
+    → AreTooMany (bookings_of st)
 
 -- what is booked of a loaded ledger, or B1 exactly where it has too many postings
 abbrev pub Books : Loaded → Result declared.Booked BookFault → Type 0

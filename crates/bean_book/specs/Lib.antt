@@ -1,9 +1,7 @@
 pub mod Metadata
-pub mod Entries
-pub mod Left
 pub mod Rows
 pub mod Reported
-pub mod Kept
+pub mod Tame
 pub mod Booked
 pub mod Found
 pub mod OneBook

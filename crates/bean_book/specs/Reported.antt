@@ -11,7 +11,7 @@ abbrev pub Key : Type 0
 Key = (ℕ × ℕ) × ℕ
 
 abbrev pub key_of : Fault → Key
-key_of f = ((f.file, f.line), number_of f.kind)
+key_of f = ((f.place.file, f.place.line), number_of f.kind)
 
 abbrev pub line_cmp : ℕ × ℕ → ℕ × ℕ → Ordering
 line_cmp a b = ordering_then (nat_cmp a.0 b.0) (nat_cmp a.1 b.1)

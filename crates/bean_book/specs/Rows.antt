@@ -10,8 +10,6 @@ use Rattle.bean_grammar.specs.declared.mark.Mark.TheVariants.{Tag, Link}
 use Rattle.bean_postings.specs.declared.posting.Posting.{Posting}
 use Rattle.bean_postings.specs.declared.posting.Units.{Units}
 use Rattle.bean_postings.specs.declared.posting.Units.TheVariants as units
-use Rattle.bean_directives.specs.declared.directive.Directive.{Directive}
-use Rattle.bean_directives.specs.declared.transaction.Transaction.{Transaction}
 use Rattle.bean_interp.specs.Weight.{at_8, currency_of, weight_of}
 use Rattle.bean_interp.specs.declared.leg.Whole.{Whole}
 use Rattle.bean_lots.specs.declared.lot.Position.{Position}
@@ -19,7 +17,6 @@ use Rattle.bean_pad.specs.declared.note.Note.{Note}
 use Rattle.bean_pad.specs.declared.note.NotedPad.{NotedPad}
 use Rattle.bean_pad.specs.declared.note.Outcome as outcomes
 use Rattle.bean_pad.specs.declared.note.Outcome.TheVariants as outcome
-use Rattle.bean_pad.specs.declared.step.Pad.{Pad}
 use Rattle.bean_transactions.specs.Tried.{whole_at}
 use Rattle.bean_transactions.specs.declared.line.Posted.{Posted}
 use Rattle.posting_table.specs.declared.entry.Entry.{Entry}
@@ -28,7 +25,9 @@ use Rattle.posting_table.specs.declared.metadata.MetaItem.{MetaItem}
 use Rattle.posting_table.specs.declared.row.Row.{Row}
 use Rattle.posting_table.specs.declared.row.Weight.{Weight}
 use Rattle.query_values.specs.TextSet.{set_of}
-use Rattle.bean_book.specs.Entries.{Booking, transaction, padding}
+use Rattle.bean_replay.specs.declared.booking.Booking.{Booking}
+use Rattle.bean_replay.specs.declared.booking.Booking.TheVariants as booking
+use Rattle.bean_replay.specs.declared.booking.Kept.{Kept}
 use Rattle.bean_book.specs.Metadata.{items_of}
 
 -- ---- transactions
@@ -42,16 +41,16 @@ link_in (Tag name) = []
 link_in (Link name) = name ∷ []
 
 -- what the postings of a transaction have in common
-abbrev pub entry_of : Directive → Transaction → List Posted → Entry
-entry_of d t posted = record {
-  payee = t.payee;
-  narration = t.narration;
-  tags = set_of (flat_map tag_in t.marks);
-  links = set_of (flat_map link_in t.marks);
-  accounts = set_of (map (λ p. p.account) posted);
-  metadata = items_of d.metadata;
-  date = d.day;
-  flag = Written t.flag;
+abbrev pub entry_of : Kept → Entry
+entry_of k = record {
+  payee = k.written.transaction.payee;
+  narration = k.written.transaction.narration;
+  tags = set_of (flat_map tag_in k.written.transaction.marks);
+  links = set_of (flat_map link_in k.written.transaction.marks);
+  accounts = set_of (map (λ p. p.account) k.postings);
+  metadata = items_of k.written.metadata;
+  date = k.written.day;
+  flag = Written k.written.transaction.flag;
 }
 
 -- what a booked posting has from the one that it was written as
@@ -90,53 +89,54 @@ row_by e line written p = record {
 abbrev pub row_of : Entry → ℕ → List Posting → Posted → Row
 row_of e line ps p = row_by e line (slice_get ps p.written) p
 
-abbrev pub rows_of_transaction : Directive → Transaction → List Posted → List Row
-rows_of_transaction d t posted = map (row_of (entry_of d t posted) d.line t.postings) posted
+abbrev pub rows_of_transaction : Kept → List Row
+rows_of_transaction k =
+    map (row_of (entry_of k) k.written.place.line k.written.transaction.postings) k.postings
 
 -- ---- paddings
 
-abbrev pub padding_entry : Pad → Entry
-padding_entry p = record {
+abbrev pub padding_entry : NotedPad → Entry
+padding_entry n = record {
   payee = None;
   narration = codes "Padding";
   tags = [];
   links = [];
-  accounts = set_of (p.account ∷ p.source ∷ []);
+  accounts = set_of (n.pad.account ∷ n.pad.source ∷ []);
   metadata = [];
-  date = p.day;
+  date = n.day;
   flag = Padding;
 }
 
 -- so much in an account, as a count of 10^-8
-abbrev pub padding_row : Pad → List ℕ → List ℕ → ℤ → Row
-padding_row p account currency count = record {
-  entry = padding_entry p;
+abbrev pub padding_row : NotedPad → List ℕ → List ℕ → ℤ → Row
+padding_row n account currency count = record {
+  entry = padding_entry n;
   account = account;
   position = record { key = record { currency = currency; lot = None }; count = count };
   weight = record { count = count *ℤ pos (10 ^ 8); currency = currency };
   metadata = [];
-  line = p.line;
+  line = n.place.line;
   flag = None;
 }
 
 -- what is inserted goes to the account, and comes from the source
-abbrev pub rows_by : Pad → List ℕ → outcomes.Outcome → List Row
-rows_by p currency (outcome.Padding n) =
-    padding_row p p.account currency (at_8 n)
-    ∷ padding_row p p.source currency (neg_ℤ (at_8 n)) ∷ []
-rows_by p currency other = []
+abbrev pub rows_by : NotedPad → List ℕ → outcomes.Outcome → List Row
+rows_by n currency (outcome.Padding number) =
+    padding_row n n.pad.account currency (at_8 number)
+    ∷ padding_row n n.pad.source currency (neg_ℤ (at_8 number)) ∷ []
+rows_by n currency other = []
 
-abbrev pub rows_of_note : Pad → Note → List Row
-rows_of_note p note = rows_by p note.currency note.outcome
+abbrev pub rows_of_note : NotedPad → Note → List Row
+rows_of_note n note = rows_by n note.currency note.outcome
 
 abbrev pub rows_of_pad : NotedPad → List Row
-rows_of_pad noted = flat_map (rows_of_note noted.pad) noted.notes
+rows_of_pad n = flat_map (rows_of_note n) n.notes
 
 -- ---- both
 
 abbrev pub rows_of : Booking → List Row
-rows_of (transaction d t posted) = rows_of_transaction d t posted
-rows_of (padding noted) = rows_of_pad noted
+rows_of (booking.Transaction k) = rows_of_transaction k
+rows_of (booking.Pad n) = rows_of_pad n
 
 -- ---- written numbers
 
@@ -149,5 +149,5 @@ written_in p = amount_in p.units
 
 -- the numbers that are written for units
 abbrev pub written_of : Booking → List Amount
-written_of (transaction d t posted) = flat_map written_in t.postings
-written_of (padding noted) = []
+written_of (booking.Transaction k) = flat_map written_in k.written.transaction.postings
+written_of (booking.Pad n) = []

@@ -24,17 +24,11 @@ pub struct Booked<'a> {
 pub fn book<'a>(alloc: Global, loaded: Loaded<'a>) -> Result<Booked<'a>, BookFault>
     ensures { Books loaded.entry result }
 {
-    let booked = match book_directives(alloc, &loaded) {
+    let booked = match book_directives(alloc, loaded) {
         Ok(booked) => booked,
         Err(fault) => return Err(fault),
     };
-    let ledger = ledger_of(
-        alloc,
-        loaded.into_directives(),
-        booked.kept.as_slice(),
-        booked.pads.as_slice(),
-    );
-    let ledger = match ledger {
+    let ledger = match ledger_of(alloc, booked.bookings.into_vec()) {
         Ok(ledger) => ledger,
         Err(fault) => return Err(fault),
     };
@@ -47,14 +41,14 @@ pub fn book<'a>(alloc: Global, loaded: Loaded<'a>) -> Result<Booked<'a>, BookFau
 }
 
 /// The faults of a loaded ledger as it is booked: those that [`book`] gives, without the postings.
-pub fn find_faults(alloc: Global, loaded: &Loaded<'_>) -> Result<List<Fault>, BookFault>
-    ensures { FindsFaults loaded.now result }
+pub fn find_faults(alloc: Global, loaded: Loaded<'_>) -> Result<List<Fault>, BookFault>
+    ensures { FindsFaults loaded.entry result }
 {
     let booked = match book_directives(alloc, loaded) {
         Ok(booked) => booked,
         Err(fault) => return Err(fault),
     };
-    match count_rows(booked.kept.as_slice(), booked.pads.as_slice()) {
+    match count_rows(booked.bookings.as_slice()) {
         Ok(_) => {}
         Err(fault) => return Err(fault),
     }

@@ -6,9 +6,9 @@ ghost use Rattle.bean_book.specs.Rows as spec;
 
 use crate::metadata::metadata_of;
 use bean_base::{Slice, Text};
-use bean_directives::{Directive, Transaction};
 use bean_grammar::Mark;
-use bean_pad::Pad;
+use bean_pad::NotedPad;
+use bean_replay::Kept;
 use bean_transactions::Posted;
 use posting_table::{Entry, EntryFlag, Metadata, PlainText, Shared};
 use query_values::TextSet;
@@ -65,24 +65,20 @@ fn payee_of<'a>(
 }
 
 /// What the booked postings of a transaction have in common.
-pub(crate) fn entry_of<'a>(
-    alloc: Global,
-    directive: &Directive<'a>,
-    transaction: &Transaction<'a>,
-    posted: &[Posted<'a>],
-) -> Result<Shared<Entry<'a>>, AllocError>
-    ensures { IfOk result (λ entry. entry
-        ≡ spec.entry_of directive.now transaction.now posted.now) }
+pub(crate) fn entry_of<'a>(alloc: Global, kept: &Kept<'a>) -> Result<Shared<Entry<'a>>, AllocError>
+    ensures { IfOk result (λ entry. entry ≡ spec.entry_of kept.now) }
 {
+    let written = &kept.written;
+    let transaction = &written.transaction;
     let marks = transaction.marks.as_slice();
     let entry = Entry {
         payee: payee_of(alloc, &transaction.payee)?,
         narration: PlainText::of(alloc, &transaction.narration)?,
         tags: tags_of(alloc, marks)?,
         links: links_of(alloc, marks)?,
-        accounts: accounts_of(alloc, posted)?,
-        metadata: metadata_of(alloc, directive.metadata.as_slice())?,
-        date: directive.day,
+        accounts: accounts_of(alloc, kept.postings.as_slice())?,
+        metadata: metadata_of(alloc, written.metadata.as_slice())?,
+        date: written.day,
         flag: EntryFlag::Written(transaction.flag),
     };
     Shared::new(alloc, entry)
@@ -91,13 +87,13 @@ pub(crate) fn entry_of<'a>(
 /// What the two postings have in common that a pad inserts.
 pub(crate) fn padding_entry<'a>(
     alloc: Global,
-    pad: &Pad<'a>,
+    noted: &NotedPad<'a>,
 ) -> Result<Shared<Entry<'a>>, AllocError>
-    ensures { IfOk result (λ entry. entry ≡ spec.padding_entry pad.now) }
+    ensures { IfOk result (λ entry. entry ≡ spec.padding_entry noted.now) }
 {
     let names = [
-        Slice::new(pad.account.text()),
-        Slice::new(pad.source.text()),
+        Slice::new(noted.pad.account.text()),
+        Slice::new(noted.pad.source.text()),
     ];
     let entry = Entry {
         payee: None,
@@ -106,7 +102,7 @@ pub(crate) fn padding_entry<'a>(
         links: TextSet::new(Vec::new(alloc)),
         accounts: TextSet::new(Vec::from_array(alloc, names)?),
         metadata: Metadata::empty(),
-        date: pad.day,
+        date: noted.day,
         flag: EntryFlag::Padding,
     };
     Shared::new(alloc, entry)

@@ -10,7 +10,7 @@ use std::alloc::AllocError;
 pub(crate) fn report(faults: &mut Vec<Fault>) -> Result<(), AllocError>
     ensures { OnOk result (faults.new.items ≡ reported faults.old.items) }
 {
-    faults.sort_by_key(|fault| ((fault.file, fault.line), fault.kind.number()))?;
+    faults.sort_by_key(|fault| ((fault.place.file, fault.place.line), fault.kind.number()))?;
     faults.dedup();
     Ok(())
 }

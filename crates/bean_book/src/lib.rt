@@ -7,7 +7,7 @@
 //! booked.ledger.len()                    // how many postings there are
 //! booked.faults.as_slice()               // by file, line and number, equal ones once
 //!
-//! let faults = find_faults(alloc, &loaded)?;   // the same faults, where no posting is wanted
+//! let faults = find_faults(alloc, loaded)?;    // the same faults, where no posting is wanted
 //! ```
 //!
 //! What the directives come to is told by [`bean_replay`]. In their order, each transaction that is
@@ -26,7 +26,7 @@
 //!
 //! # Cost
 //!
-//! What [`bean_replay`] costs; then one pass, which gives each directive up as its rows are made.
+//! What [`bean_replay`] costs; then one pass, which gives each booking up as its rows are made.
 //! Rows hold slices of the ledger's texts, and no text is copied but those with an escape; what the
 //! postings of a transaction have in common stands once. [`find_faults`] makes no row, and counts
 //! those that there would be.

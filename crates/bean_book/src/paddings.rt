@@ -1,7 +1,7 @@
 //! The rows that pads insert.
 ghost use Rattle.std.specs.Prelude.{◌≡◌, ◌<◌, ◌≤◌, ◌+◌, ◌++◌, ◌^◌, Err, IfOk, OnOk, length};
 ghost use Rattle.std.specs.Int.RustNames.{unsigned_abs};
-ghost use Rattle.bean_replay.specs.Small.{IsSmallNote, IsSmallNoted, IsSmallPad};
+ghost use Rattle.bean_replay.specs.Small.{IsSmallNote, IsSmallNoted};
 ghost use Rattle.bean_book.specs.Rows as spec;
 
 use crate::entries::padding_entry;
@@ -9,7 +9,7 @@ use crate::rows::push_row;
 use bean_base::limits::MOST_POSTINGS;
 use bean_base::{Account, Currency};
 use bean_lots::{Key, Position};
-use bean_pad::{Note, NotedPad, Outcome, Pad};
+use bean_pad::{Note, NotedPad, Outcome};
 use bean_replay::BookFault;
 use posting_table::{Entry, Ledger, Metadata, Row, Shared, Weight};
 use std::alloc::{AllocError, Global};
@@ -17,15 +17,15 @@ use std::alloc::{AllocError, Global};
 /// So much in an account, as a count of `10^-8`.
 fn padding_row<'a>(
     entry: &Shared<Entry<'a>>,
-    pad: &Pad<'a>,
+    noted: &NotedPad<'a>,
     account: &Account<'a>,
     currency: &Currency<'a>,
     count: i128,
 ) -> Result<Row<'a>, AllocError>
-    requires entry { entry.now ≡ spec.padding_entry pad.now }
+    requires entry { entry.now ≡ spec.padding_entry noted.now }
     requires small { unsigned_abs count < 10 ^ 20 }
     ensures { IfOk result (λ row. row
-        ≡ spec.padding_row pad.now account.now currency.now count) }
+        ≡ spec.padding_row noted.now account.now currency.now count) }
 {
     Ok(Row {
         entry: entry.share()?,
@@ -42,7 +42,7 @@ fn padding_row<'a>(
             currency: currency.lend(),
         },
         metadata: Metadata::empty(),
-        line: pad.line,
+        line: noted.place.line,
         flag: None,
     })
 }
@@ -51,30 +51,30 @@ fn padding_row<'a>(
 fn push_note<'a>(
     ledger: &mut Ledger<'a>,
     entry: &Shared<Entry<'a>>,
-    pad: &Pad<'a>,
+    noted: &NotedPad<'a>,
     note: &Note<'a>,
 ) -> Result<(), BookFault>
-    requires entry { entry.now ≡ spec.padding_entry pad.now }
-    requires pad { IsSmallPad pad.now }
+    requires entry { entry.now ≡ spec.padding_entry noted.now }
+    requires pad { IsSmallNoted noted.now }
     requires note { IsSmallNote note.now }
     requires room { length ledger.old.rows ≤ MOST_POSTINGS }
     ensures rows { OnOk result (ledger.new.rows
-        ≡ ledger.old.rows ++ spec.rows_of_note pad.now note.now) }
+        ≡ ledger.old.rows ++ spec.rows_of_note noted.now note.now) }
     ensures decimals { OnOk result (ledger.new.decimals ≡ ledger.old.decimals) }
     ensures full { result ≡ Err BookFault.TooManyPostings
-        → MOST_POSTINGS < length ledger.old.rows + length (spec.rows_of_note pad.now note.now) }
+        → MOST_POSTINGS < length ledger.old.rows + length (spec.rows_of_note noted.now note.now) }
     ensures room { OnOk result (length ledger.new.rows ≤ MOST_POSTINGS) }
 {
     let Outcome::Padding(number) = note.outcome else {
         return Ok(());
     };
     let count = number.scaled(8);
-    let row = padding_row(entry, pad, &pad.account, &note.currency, count)?;
+    let row = padding_row(entry, noted, &noted.pad.account, &note.currency, count)?;
     match push_row(ledger, row) {
         Ok(()) => {}
         Err(fault) => return Err(fault),
     }
-    let row = padding_row(entry, pad, &pad.source, &note.currency, -count)?;
+    let row = padding_row(entry, noted, &noted.pad.source, &note.currency, -count)?;
     push_row(ledger, row)
 }
 
@@ -92,9 +92,9 @@ pub(crate) fn push_pad<'a>(
         → MOST_POSTINGS < length ledger.old.rows + length (spec.rows_of_pad noted.now) }
     ensures room { OnOk result (length ledger.new.rows ≤ MOST_POSTINGS) }
 {
-    let entry = padding_entry(alloc, &noted.pad)?;
+    let entry = padding_entry(alloc, noted)?;
     for note in noted.notes.as_slice() {
-        match push_note(ledger, &entry, &noted.pad, note) {
+        match push_note(ledger, &entry, noted, note) {
             Ok(()) => {}
             Err(fault) => return Err(fault),
         }

@@ -1,25 +1,19 @@
 //! The rows of kept transactions.
 ghost use Rattle.std.specs.Prelude.{◌≡◌, ◌<◌, ◌≤◌, ◌+◌, ◌++◌, ◌∷◌, [], Err, IfOk, OnOk, length};
-ghost use Rattle.std.specs.Prelude.{map};
 ghost use Rattle.std.specs.Prelude.{slice_get};
-ghost use Rattle.std.specs.List.{AllByRecursion};
 ghost use Rattle.bean_interp.specs.Residual.{IsLight};
-ghost use Rattle.bean_replay.specs.Small.{IsSmallPosted};
-ghost use Rattle.bean_parser.specs.SmallPart.{IsSmallPosting, most};
-ghost use Rattle.bean_parser.specs.Small.{IsSmallDirective};
-ghost use Rattle.bean_transactions.specs.Tried.{booked_leg, booked_legs, whole_at};
+ghost use Rattle.bean_transactions.specs.Tried.{booked_leg, whole_at};
 ghost use Rattle.posting_table.specs.Shaped.{IsShaped};
 ghost use Rattle.query_columns.specs.ColumnShape.{widest};
 ghost use Rattle.bean_book.specs.Rows as spec;
-ghost use Rattle.posting_table.specs.Parts.{HasShortTexts};
+ghost use Rattle.bean_book.specs.Tame.{IsTameKept};
 
 use crate::entries::entry_of;
 use crate::metadata::metadata_of;
 use bean_base::limits::MOST_POSTINGS;
-use bean_directives::{Directive, DirectiveKind, Transaction};
 use bean_lots::{Key, Position};
 use bean_postings::Posting;
-use bean_replay::BookFault;
+use bean_replay::{BookFault, Kept};
 use bean_transactions::{Posted, whole};
 use posting_table::{Entry, Ledger, Metadata, Row, Shared, Weight};
 use std::alloc::{AllocError, Global};
@@ -140,30 +134,27 @@ fn row_of<'a>(
     })
 }
 
-/// Adds the rows of booked postings.
+/// Adds the rows of the postings of a transaction that is kept.
 fn push_posted<'a>(
     alloc: Global,
     ledger: &mut Ledger<'a>,
     entry: &Shared<Entry<'a>>,
-    line: usize,
-    postings: &[Posting<'a>],
-    posted: &[Posted<'a>],
+    kept: &Kept<'a>,
 ) -> Result<(), BookFault>
-    requires light { AllByRecursion IsLight (booked_legs postings.now posted.now) }
-    requires small { AllByRecursion IsSmallPosted posted.now }
-    requires written { AllByRecursion IsSmallPosting postings.now }
-    requires at { line ≤ most }
-    requires of { HasShortTexts entry.now }
+    requires entry { entry.now ≡ spec.entry_of kept.now }
+    requires tame { IsTameKept kept.now }
     requires room { length ledger.old.rows ≤ MOST_POSTINGS }
     ensures rows { OnOk result (ledger.new.rows
-        ≡ ledger.old.rows ++ map (spec.row_of entry.now line postings.now) posted.now) }
+        ≡ ledger.old.rows ++ spec.rows_of_transaction kept.now) }
     ensures decimals { OnOk result (ledger.new.decimals ≡ ledger.old.decimals) }
     ensures full { result ≡ Err BookFault.TooManyPostings
-        → MOST_POSTINGS < length ledger.old.rows + length posted.now }
+        → MOST_POSTINGS < length ledger.old.rows + length kept.now.postings }
     ensures room { OnOk result (length ledger.new.rows ≤ MOST_POSTINGS) }
 {
+    let line = kept.written.place.line;
+    let postings = kept.written.transaction.postings.as_slice();
     let mut noted = noted_at(alloc, postings, 0)?;
-    for one in posted {
+    for one in kept.postings.as_slice() {
         noted = next_noted(alloc, postings, noted, one.written)?;
         let metadata = noted.metadata.share()?;
         let row = row_of(entry, line, postings, metadata, one)?;
@@ -179,25 +170,17 @@ fn push_posted<'a>(
 pub(crate) fn push_transaction<'a>(
     alloc: Global,
     ledger: &mut Ledger<'a>,
-    directive: &Directive<'a>,
-    transaction: &Transaction<'a>,
-    posted: &[Posted<'a>],
+    kept: &Kept<'a>,
 ) -> Result<(), BookFault>
-    requires light { AllByRecursion IsLight (booked_legs transaction.now.postings posted.now) }
-    requires small { AllByRecursion IsSmallPosted posted.now }
-    requires few { length posted.now ≤ MOST_POSTINGS }
-    requires directive { IsSmallDirective directive.now }
-    requires is { directive.now.kind ≡ DirectiveKind.Transaction transaction.now }
+    requires tame { IsTameKept kept.now }
     requires room { length ledger.old.rows ≤ MOST_POSTINGS }
-    ensures rows { OnOk result (ledger.new.rows ≡ ledger.old.rows
-        ++ spec.rows_of_transaction directive.now transaction.now posted.now) }
+    ensures rows { OnOk result (ledger.new.rows
+        ≡ ledger.old.rows ++ spec.rows_of_transaction kept.now) }
     ensures decimals { OnOk result (ledger.new.decimals ≡ ledger.old.decimals) }
     ensures full { result ≡ Err BookFault.TooManyPostings
-        → MOST_POSTINGS < length ledger.old.rows
-        + length (spec.rows_of_transaction directive.now transaction.now posted.now) }
+        → MOST_POSTINGS < length ledger.old.rows + length kept.now.postings }
     ensures room { OnOk result (length ledger.new.rows ≤ MOST_POSTINGS) }
 {
-    let postings = transaction.postings.as_slice();
-    let entry = entry_of(alloc, directive, transaction, posted)?;
-    push_posted(alloc, ledger, &entry, directive.line, postings, posted)
+    let entry = entry_of(alloc, kept)?;
+    push_posted(alloc, ledger, &entry, kept)
 }

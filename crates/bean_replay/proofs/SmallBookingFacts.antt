@@ -1,7 +1,7 @@
 -- What a booked ledger holds is small, and how much of it there is: for callers.
-use Rattle.std.proofs.Common.{ℕ, ◌≤◌, List, [], ◌∷◌, length, sym, subst, arith}
+use Rattle.std.proofs.Common.{◌≡◌, ℕ, ◌≤◌, List, [], ◌∷◌, ◌++◌, length, refl, sym, ap, subst, arith}
 use Rattle.std.proofs.Common.{length-append}
-use Rattle.std.specs.List.{AllByRecursion}
+use Rattle.std.specs.List.{AllByRecursion, flat_map}
 use Rattle.bean_base.specs.declared.limits.TheConstants.{MOST_POSTINGS}
 use Rattle.bean_replay.specs.Booked.{IsBooked, method_in_ledger, with_pads}
 use Rattle.bean_replay.specs.Stand.{postings_of}
@@ -15,7 +15,21 @@ use Rattle.bean_load.specs.Small.{IsSmall}
 use Rattle.bean_pad.specs.Note.{noted_pads}
 use Rattle.bean_pad.specs.declared.note.NotedPad.{NotedPad}
 use Rattle.bean_replay.specs.Small.{IsSmallBooking}
+use Rattle.bean_transactions.specs.declared.line.Posted.{Posted}
 use Rattle.bean_replay.proofs.SmallBookedFacts.{ledger_small}
+
+-- the postings of a booking
+abbrev pub booked_in : Booking → List Posted
+booked_in (booking.Transaction k) = k.postings
+booked_in (booking.Pad p) = []
+
+-- pads add no posting of a written transaction
+pub same_postings : (ds : List Draft) (ps : List NotedPad)
+    → postings_of ds ≡ flat_map booked_in (with_pads ds ps)
+same_postings [] ps = refl
+same_postings (draft.Transaction k ∷ ds) ps = ap (λ l. k.postings ++ l) (same_postings ds ps)
+same_postings (draft.Pad ∷ ds) [] = same_postings ds []
+same_postings (draft.Pad ∷ ds) (p ∷ ps) = same_postings ds ps
 
 -- where no more than n are booked, none of the transactions has more postings
 abbrev pub HasUpTo : ℕ → Booking → Type 0

@@ -4,12 +4,12 @@ use Rattle.std.proofs.Common.{sym, ap, ◌∙◌, subst, arith}
 use Rattle.bean_base.specs.declared.fault.Fault.{Fault}
 use Rattle.bean_book.specs.Found as found
 use Rattle.bean_book.specs.Booked as booked
-use Rattle.bean_book.specs.Booked.{bookings_of, decimals_from, rows_of_all, written_in_all}
+use Rattle.bean_book.specs.Booked.{decimals_from, rows_of_all, written_in_all}
 use Rattle.bean_book.specs.OneBook.{AreAlike}
 use Rattle.bean_book.specs.Reported.{reported}
 use Rattle.bean_book.specs.declared.booked.Booked.{Booked}
 use Rattle.bean_replay.proofs.OneBooking.{one_stand}
-use Rattle.bean_replay.specs.Booked.{faults_of, method_in_ledger}
+use Rattle.bean_replay.specs.Booked.{bookings_of, faults_of, method_in_ledger}
 use Rattle.bean_replay.specs.declared.booker.BookFault.{BookFault}
 use Rattle.bean_replay.specs.declared.booker.BookFault.TheVariants.{TooManyPostings, OutOfMemory}
 use Rattle.bean_load.specs.Loaded.{IsLoaded, Loaded}
@@ -27,7 +27,7 @@ not_too_many texts b is many =
     let book = is.2 in
     let more : booked.HasTooMany l =
     subst booked.HasTooMany (one_loading texts many.0 l many.1 is.1) many.2 in
-    too_many MOST_POSTINGS (length b.ledger.rows) (length (rows_of_all (bookings_of l book.stand)))
+    too_many MOST_POSTINGS (length b.ledger.rows) (length (rows_of_all (bookings_of book.stand)))
     book.ledger.few (ap length book.ledger.rows) (more book.stand book.leads)
 
 alike : (l : Loaded) (a b : Booked) → booked.IsBookOf l a → booked.IsBookOf l b → AreAlike a b
@@ -35,9 +35,9 @@ alike l a b h g =
     let same =
     one_stand (method_in_ledger l) (reverse l.directives) h.stand g.stand h.leads g.leads in
     record {
-      rows = h.ledger.rows ∙ ap (λ st. rows_of_all (bookings_of l st)) same ∙ sym g.ledger.rows;
+      rows = h.ledger.rows ∙ ap (λ st. rows_of_all (bookings_of st)) same ∙ sym g.ledger.rows;
       decimals = λ currency. h.ledger.decimals currency
-          ∙ ap (λ st. decimals_from 0 currency (written_in_all (bookings_of l st))) same
+          ∙ ap (λ st. decimals_from 0 currency (written_in_all (bookings_of st))) same
           ∙ sym (g.ledger.decimals currency);
       faults = h.faults ∙ ap (λ st. reported (faults_of l st)) same ∙ sym g.faults;
     }

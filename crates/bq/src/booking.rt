@@ -5,7 +5,6 @@ use bean_base::{Fault, List};
 use bean_book::{BookFault, Booked, book, find_faults};
 use bean_load::{Texts, load};
 use std::alloc::Global;
-use std::mem::forget;
 
 /// The book of texts: their postings and their faults.
 pub fn book_of<'a>(alloc: Global, texts: &'a Texts) -> Result<Booked<'a>, BookFault>
@@ -20,8 +19,5 @@ pub fn faults_in(alloc: Global, texts: &Texts) -> Result<List<Fault>, BookFault>
     ensures { FindsFaults texts.now result }
 {
     let loaded = load(alloc, texts)?;
-    let faults = find_faults(alloc, &loaded);
-    // The process ends soon, and takes all memory back at once.
-    forget(loaded);
-    faults
+    find_faults(alloc, loaded)
 }

@@ -7,6 +7,6 @@ use Rattle.bean_book.proofs.counts.count_pad.Given as goal
 abbrev pub invariant-loop-note : goal.invariant-loop-note
 invariant-loop-note l = record {
   sum : l.sum ≡ l.count
-      + length (flat_map (rows_of_note l.noted.pad) (take l.note-index l.noted.notes));
+      + length (flat_map (rows_of_note l.noted) (take l.note-index l.noted.notes));
   few : l.sum ≤ MOST_POSTINGS;
 }

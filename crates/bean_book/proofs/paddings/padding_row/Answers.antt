@@ -17,6 +17,6 @@ returns c =
       };
       weight = record { count = weight i; currency = c.lend-3.ensures i };
       metadata = c.empty.ensures i;
-      line = c.args.pad.now.line;
+      line = c.args.noted.now.place.line;
       flag = None;
     }

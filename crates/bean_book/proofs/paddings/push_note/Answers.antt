@@ -11,55 +11,55 @@ use Rattle.bean_book.proofs.paddings.push_note.Goals as goal
 
 pub push_row-requires : goal.push_row-requires
 push_row-requires c =
-    let pad = c.args.pad.now in
+    let pad = c.args.noted.now in
     let currency = c.args.note.now.currency in
     let n = c.scaled-count.result in
     let small = c.scaled-count.ensures.bound in
-    let is : c.in_ok-row.row ≡ padding_row pad pad.account currency n =
+    let is : c.in_ok-row.row ≡ padding_row pad pad.pad.account currency n =
     c.in_ok-row.ensures
-    ∙ ap (padding_row pad pad.account currency) (same n (omega (arith, small))) in
+    ∙ ap (padding_row pad pad.pad.account currency) (same n (omega (arith, small))) in
     subst (IsShaped widest) (sym is)
-    (row_lies (padding_row pad pad.account currency n)
-    (padding_small pad pad.account currency n c.requires.pad c.requires.pad.account c.requires.note
+    (row_lies (padding_row pad pad.pad.account currency n)
+    (padding_small pad pad.pad.account currency n c.requires.pad c.requires.pad.pad.account c.requires.note
     small))
 
 pub push_row-requires-2 : goal.push_row-requires-2
 push_row-requires-2 c =
-    let pad = c.args.pad.now in
+    let pad = c.args.noted.now in
     let currency = c.args.note.now.currency in
     let n = c.scaled-count.result in
     let small = c.scaled-count.ensures.bound in
     let e = unsigned_abs-neg n in
-    let is : c.in_ok-row-2.row ≡ padding_row pad pad.source currency (neg_ℤ n) =
-    c.in_ok-row-2.ensures ∙ ap (padding_row pad pad.source currency) (turned n small) in
+    let is : c.in_ok-row-2.row ≡ padding_row pad pad.pad.source currency (neg_ℤ n) =
+    c.in_ok-row-2.ensures ∙ ap (padding_row pad pad.pad.source currency) (turned n small) in
     subst (IsShaped widest) (sym is)
-    (row_lies (padding_row pad pad.source currency (neg_ℤ n))
-    (padding_small pad pad.source currency (neg_ℤ n) c.requires.pad c.requires.pad.source
+    (row_lies (padding_row pad pad.pad.source currency (neg_ℤ n))
+    (padding_small pad pad.pad.source currency (neg_ℤ n) c.requires.pad c.requires.pad.pad.source
     c.requires.note (omega (arith, small, e))))
 
 pub returns-clause-rows : goal.returns-clause-rows
 returns-clause-rows c =
-    let pad = c.args.pad.now in
+    let pad = c.args.noted.now in
     let currency = c.args.note.now.currency in
     let n = c.scaled-count.result in
     let small = c.scaled-count.ensures.bound in
     let old = c.args.ledger.now.rows in
-    let first : c.in_ok-row.row ≡ padding_row pad pad.account currency n =
+    let first : c.in_ok-row.row ≡ padding_row pad pad.pad.account currency n =
     c.in_ok-row.ensures
-    ∙ ap (padding_row pad pad.account currency) (same n (omega (arith, small))) in
-    let second : c.in_ok-row-2.row ≡ padding_row pad pad.source currency (neg_ℤ n) =
-    c.in_ok-row-2.ensures ∙ ap (padding_row pad pad.source currency) (turned n small) in
+    ∙ ap (padding_row pad pad.pad.account currency) (same n (omega (arith, small))) in
+    let second : c.in_ok-row-2.row ≡ padding_row pad pad.pad.source currency (neg_ℤ n) =
+    c.in_ok-row-2.ensures ∙ ap (padding_row pad pad.pad.source currency) (turned n small) in
     on_ok_weaker c.push_row-2.result (λ rows.
     rows ∙ ap (λ l. l ++ c.in_ok-row-2.row ∷ []) c.in-Ok.ensures.rows
     ∙ append_assoc old (c.in_ok-row.row ∷ []) (c.in_ok-row-2.row ∷ [])
     ∙ (λ i. old ++ first i ∷ second i ∷ [])
-    ∙ ap (λ m. old ++ padding_row pad pad.account currency m
-    ∷ padding_row pad pad.source currency (neg_ℤ m) ∷ []) c.scaled-count.ensures.value
+    ∙ ap (λ m. old ++ padding_row pad pad.pad.account currency m
+    ∷ padding_row pad pad.pad.source currency (neg_ℤ m) ∷ []) c.scaled-count.ensures.value
     ∙ ap (λ o. old ++ rows_by pad currency o) (sym c.in-Padding.is)) c.push_row-2.ensures.rows
 
 pub returns-clause-full : goal.returns-clause-full
 returns-clause-full c = λ refused.
-    let pad = c.args.pad.now in
+    let pad = c.args.noted.now in
     let currency = c.args.note.now.currency in
     let old = c.args.ledger.now.rows in
     let full = c.push_row-2.ensures.full refused in

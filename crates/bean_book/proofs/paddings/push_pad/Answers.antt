@@ -6,7 +6,7 @@ use Rattle.bean_book.proofs.paddings.push_pad.Goals as goal
 
 pub returns-in-Err-clause-full : goal.returns-in-Err-clause-full
 returns-in-Err-clause-full c = λ refused.
-    let rows = rows_of_note c.args.noted.now.pad in
+    let rows = rows_of_note c.args.noted.now in
     let old = c.args.ledger.now.rows in
     let notes = c.as_slice-note-items.result.now in
     let are = c.as_slice-note-items.ensures in

@@ -14,8 +14,8 @@ use Rattle.bean_transactions.specs.declared.line.Posted.{Posted}
 use Rattle.posting_table.specs.Shaped.{IsShaped}
 use Rattle.query_columns.specs.ColumnShape.{widest}
 use Rattle.posting_table.proofs.PartFacts.{row_lies}
-use Rattle.bean_book.specs.Rows.{items_in, row_of}
-use Rattle.bean_book.proofs.ShapedFacts.{row_small}
+use Rattle.bean_book.specs.Rows.{entry_of, items_in, row_of}
+use Rattle.bean_book.proofs.ShapedFacts.{entry_short, row_small}
 use Rattle.bean_book.proofs.rows.push_posted.Goals as goal
 
 -- one of light postings is light
@@ -29,52 +29,77 @@ light_at ps posted i p within is light =
 
 pub row_of-requires-clause-light : goal.row_of-requires-clause-light
 row_of-requires-clause-light c =
-    light_at c.args.postings.now c.args.posted.now c.loop-one.one-index c.one-item.result
-    (omega arith) c.one-item.is c.requires.light
+    let k = c.args.kept.now in
+    let posted = c.as_slice-one-items.result.now in
+    subst (λ ps. IsLight (booked_leg ps c.one-item.result)) (sym c.as_slice-postings.ensures)
+    (light_at k.written.transaction.postings posted c.loop-one.one-index c.one-item.result
+    (omega arith) c.one-item.is
+    (subst (λ l. AllByRecursion IsLight (booked_legs k.written.transaction.postings l))
+    (sym c.as_slice-one-items.ensures) c.requires.tame.small.light))
 
 pub push_row-requires : goal.push_row-requires
 push_row-requires c =
+    let k = c.args.kept.now in
     let p = c.one-item.result in
-    let ps = c.args.postings.now in
-    let light = light_at ps c.args.posted.now c.loop-one.one-index p (omega arith) c.one-item.is
-    c.requires.light in
-    let small = found_at IsSmallPosted c.args.posted.now c.loop-one.one-index p (omega arith)
-    c.one-item.is c.requires.small in
-    subst (IsShaped widest) (sym c.in_ok-row.ensures)
-    (row_lies (row_of c.args.entry.now c.args.line ps p)
-    (row_small c.args.entry.now c.args.line ps p c.requires.of small light c.requires.written
-    c.requires.at))
+    let ps = k.written.transaction.postings in
+    let line = k.written.place.line in
+    let posted = c.as_slice-one-items.result.now in
+    let small = c.requires.tame.small in
+    let same = sym c.as_slice-one-items.ensures in
+    let light = light_at ps posted c.loop-one.one-index p (omega arith) c.one-item.is
+    (subst (λ l. AllByRecursion IsLight (booked_legs ps l)) same small.light) in
+    let own = found_at IsSmallPosted posted c.loop-one.one-index p (omega arith) c.one-item.is
+    (subst (AllByRecursion IsSmallPosted) same small.postings) in
+    let is =
+    c.in_ok-row.ensures ∙ ap (λ e. row_of e line c.as_slice-postings.result.now p) c.requires.entry
+    ∙ ap (λ ps. row_of (entry_of k) line ps p) c.as_slice-postings.ensures in
+    subst (IsShaped widest) (sym is)
+    (row_lies (row_of (entry_of k) line ps p)
+    (row_small (entry_of k) line ps p (entry_short k c.requires.tame) own light
+    small.transaction.postings small.line))
 
 pub returns-in-Err-clause-full : goal.returns-in-Err-clause-full
 returns-in-Err-clause-full c = λ refused.
+    let k = c.args.kept.now in
     let full = c.in-Err.ensures.full refused in
-    let row = row_of c.args.entry.now c.args.line c.args.postings.now in
-    let taken = take c.loop-one.one-index c.args.posted.now in
+    let row = row_of (entry_of k) k.written.place.line k.written.transaction.postings in
+    let taken = take c.loop-one.one-index k.postings in
     let before =
     ap length c.loop-one.invariant.rows ∙ length-append c.args.ledger.now.rows (map row taken)
     in
     let as_many = length-map taken row in
-    let few = length-take-le c.loop-one.one-index c.args.posted.now (omega arith) in
-    omega (arith, full, before, as_many, few)
+    let count = ap length c.as_slice-one-items.ensures in
+    let few = length-take-le c.loop-one.one-index k.postings (omega (arith, count)) in
+    omega (arith, full, before, as_many, few, count)
 
 pub loop-one-preserved : goal.loop-one-preserved
 loop-one-preserved c =
-    let row = row_of c.args.entry.now c.args.line c.args.postings.now in
-    let posted = c.args.posted.now in
+    let k = c.args.kept.now in
+    let line = k.written.place.line in
+    let ps = k.written.transaction.postings in
+    let row = row_of (entry_of k) line ps in
+    let items = c.as_slice-one-items.result.now in
+    let posted = k.postings in
+    let are = c.as_slice-one-items.ensures in
     let i = c.loop-one.one-index in
     let p = c.one-item.result in
     let old = c.args.ledger.now.rows in
+    let is =
+    c.in_ok-row.ensures ∙ ap (λ e. row_of e line c.as_slice-postings.result.now p) c.requires.entry
+    ∙ ap (λ ps. row_of (entry_of k) line ps p) c.as_slice-postings.ensures in
     let more : map row (take (i + 1) posted) ≡ map row (take i posted) ++ row p ∷ [] =
-    ap (map row) (take_more posted i p (omega arith))
-    ∙ map-append row (take i posted) (get_or posted i p ∷ [])
-    ∙ ap (λ q. map row (take i posted) ++ row q ∷ []) (sym c.one-item.is) in record {
+    ap (λ l. map row (take (i + 1) l)) (sym are)
+    ∙ ap (map row) (take_more items i p (omega arith))
+    ∙ map-append row (take i items) (get_or items i p ∷ [])
+    ∙ ap (λ q. map row (take i items) ++ row q ∷ []) (sym c.one-item.is)
+    ∙ ap (λ l. map row (take i l) ++ row p ∷ []) are in record {
       rows = c.in-Ok.ensures.rows
-          ∙ (λ k. c.loop-one.invariant.rows k ++ c.in_ok-row.ensures k ∷ [])
+          ∙ (λ j. c.loop-one.invariant.rows j ++ is j ∷ [])
           ∙ append_assoc old (map row (take i posted)) (row p ∷ [])
           ∙ ap (λ l. old ++ l) (sym more);
       decimals = c.in-Ok.ensures.decimals ∙ c.loop-one.invariant.decimals;
       room = c.in-Ok.ensures.room;
       noted = c.in_ok-noted-2.ensures.items
-          ∙ ap (λ n. items_in (slice_get c.args.postings.now n))
+          ∙ ap (λ n. items_in (slice_get c.as_slice-postings.result.now n))
           (sym c.in_ok-noted-2.ensures.number);
     }

@@ -1,13 +1,14 @@
 use Rattle.bean_base.specs.declared.limits.TheConstants.{MOST_POSTINGS}
 use Rattle.std.proofs.Common.{length, ◌≤◌, ◌≡◌, ◌++◌, map, slice_get, take}
-use Rattle.bean_book.specs.Rows.{items_in, row_of}
+use Rattle.bean_book.specs.Rows.{entry_of, items_in, row_of}
 use Rattle.bean_book.proofs.rows.push_posted.Given as goal
 
 abbrev pub invariant-loop-one : goal.invariant-loop-one
 invariant-loop-one l = record {
   rows : l.ledger.rows
       ≡ l.initial.ledger.rows
-      ++ map (row_of l.entry l.line l.postings) (take l.one-index l.posted);
+      ++ map (row_of (entry_of l.kept) l.kept.written.place.line l.kept.written.transaction.postings)
+      (take l.one-index l.kept.postings);
   decimals : l.ledger.decimals ≡ l.initial.ledger.decimals;
   room : length l.ledger.rows ≤ MOST_POSTINGS;
   noted : l.noted.metadata ≡ items_in (slice_get l.postings l.noted.written);
