@@ -287,8 +287,7 @@ module _ (s : Form Token Part) (f : Agains true s) (left : Part) where
       let whole = whole_of x.passed rest
       (subst (λ m. Passing unsigned [] (wanting []) m rest) cut
       (subst (λ m. Passing unsigned [] (wanting []) r.1 m) same (passes r.1 r.3.0 r.3.1 r.3.2 [])))
-      in
-      (
+      in (
         record {
           passed = o.token ∷ x.passed;
           cut = o.at ∙ ap (λ m. o.token ∷ m) cut;
@@ -321,8 +320,8 @@ module _ (s : Form Token Part) (f : Agains true s) (left : Part) where
       present (of_kind kind.In) (y.0.passed ++ other) (q.0, q.1) q.2)) y.1)
   past_list passes room ts v rest none (inr r) =
       let no_in = λ (other : List Token) (alike : Alike rest other). none_alike (of_kind kind.In)
-          (inner_kind kind.In refl) rest other alike
-          (ap (begins (of_kind kind.In)) (sym r.1.1) ∙ r.0) in
+      (inner_kind kind.In refl) rest other alike
+      (ap (begins (of_kind kind.In)) (sym r.1.1) ∙ r.0) in
       record {
         passed = [];
         cut = r.1.1;

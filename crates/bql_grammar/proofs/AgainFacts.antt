@@ -57,7 +57,6 @@ none_alike f inner [] (t ∷ us) (inr s) e = absurd s
 none_alike f inner (u ∷ vs) (t ∷ us) (inr s) e =
     subst (λ x. begins f (x ∷ us) ≡ false) s (same_first f u us vs ∙ e)
 
-
 pub inner_kind : (k : Kind) → same_kind kind.CloseParenthesis k ≡ false → IsInner (of_kind k)
 inner_kind k e t c =
     not_kind k t (ap (λ j. same_kind j k) c ∙ e)

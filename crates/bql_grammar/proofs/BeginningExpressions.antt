@@ -11,7 +11,7 @@ use Rattle.bql_lexer.specs.declared.kind.Kind.TheVariants as kind
 use Rattle.bql_lexer.specs.declared.token.Token.{Token}
 use Rattle.bql_grammar.specs.Beginning.{IsEnd, BeginsOne, Before, IsBegun}
 use Rattle.bql_grammar.specs.Expression.{token, told, then, choice, chained, behind_comma, list_of}
-use Rattle.bql_grammar.specs.Expression.{literal, literals, list_behind, list, sum_of, compared}
+use Rattle.bql_grammar.specs.Expression.{nothing, literal, literals, list_behind, list, sum_of, compared}
 use Rattle.bql_grammar.specs.Expression.{matched, contained, compared_if_due, comparison_of}
 use Rattle.bql_grammar.specs.Expression.{denied_of, signed_of, or_of, group_of, arguments_of}
 use Rattle.bql_grammar.specs.Expression.{counted, inside_call, call_of, name, atom_of, unary_of}
@@ -22,7 +22,7 @@ use Rattle.bql_grammar.specs.Front.{front, before, begins, of_kind, begins_with_
 use Rattle.bql_grammar.specs.Front.{begins_with_list, ends_literal, with_token, leaf_by}
 use Rattle.bql_grammar.specs.declared.stuck.Stuck.{Stuck}
 use Rattle.bql_grammar.specs.declared.stuck.Stuck.TheVariants.{OutOfMemory, At}
-use Rattle.bql_tree.specs.Call.{is_count, called}
+use Rattle.bql_tree.specs.Call.{is_count, called, listed}
 use Rattle.bql_tree.specs.Level as level_rules
 use Rattle.bql_tree.specs.Part as parts
 use Rattle.bql_tree.specs.Part.{Part}
@@ -32,6 +32,7 @@ use Rattle.bql_tree.specs.declared.level.Level.TheVariants as level
 use Rattle.bql_tree.specs.declared.tree.BinaryOperator.{BinaryOperator}
 use Rattle.bql_tree.specs.declared.tree.BinaryOperator.TheVariants as binary
 use Rattle.bql_tree.specs.declared.tree.Leaf.{Leaf}
+use Rattle.bql_tree.specs.declared.tree.Leaf.TheVariants as leaf
 use Rattle.bql_grammar.proofs.AgainFacts.{Alike, IsInner, same_first, inner_kind, test_again}
 use Rattle.bql_grammar.proofs.AgainFacts.{inner_comparison, Again, Agains, list_again}
 use Rattle.bql_grammar.proofs.AgainExpressions.{opens_list, same_opening, literal_again}
@@ -105,8 +106,7 @@ module _ (room : ℕ) (s : Form Token Part) (left : Part) where
   pub nothing_compared : (rest : List Token) → IsEnd rest
       → (w : Part) × (compared_if_due room s left).reads rest w rest
   nothing_compared rest e =
-      let no_in = none_at_end (of_kind kind.In) (inner_kind kind.In refl) rest e in
-      (
+      let no_in = none_at_end (of_kind kind.In) (inner_kind kind.In refl) rest e in (
         left,
         inr (
           none_at_end fronts.comparison inner_comparison rest e,
@@ -125,8 +125,7 @@ module _ (room : ℕ) (s : Form Token Part) (left : Part) where
   past_nothing =
       begins_whole past_comparison []
       (λ rest e.
-      let no_in = none_at_end (of_kind kind.In) (inner_kind kind.In refl) rest e in
-      (
+      let no_in = none_at_end (of_kind kind.In) (inner_kind kind.In refl) rest e in (
         left,
         inr (
           none_at_end (of_kind kind.Tilde) (inner_kind kind.Tilde refl) rest e,
@@ -372,3 +371,480 @@ one_listed room left t v opening o l f is opens told rest e = (
     ),
   ),
 )
+
+-- at the innermost level no sum begins with a parenthesis
+opens_no_literal : (ts : List Token) → begins (of_kind kind.OpenParenthesis) ts ≡ true
+    → begins fronts.literal ts ≡ true → ⊥
+opens_no_literal [] e f = absurd (cc e)
+opens_no_literal (t ∷ ts) e f = by (of_kind kind.OpenParenthesis t) refl
+  where
+    by : (o : Option Token) → of_kind kind.OpenParenthesis t ≡ o → ⊥
+    by None is = let no = not_first (of_kind kind.OpenParenthesis) t ts is in cc (no, e)
+    by (Some o) is =
+        let none : begins fronts.literal (t ∷ ts) ≡ false = not_first fronts.literal t ts
+        (ap (λ k. with_token t (leaf_by k t.text)) (kind_is kind.OpenParenthesis t o is)) in
+        cc (none, f)
+
+no_sum_opens : (scope : Scope) (ts : List Token) (v : Part) (rest : List Token)
+    → (chain_at level.Sum scope zero).reads ts v rest
+    → begins (of_kind kind.OpenParenthesis) ts ≡ true → ⊥
+no_sum_opens scope ts v rest r opens =
+    let q = r.0.3.0 in
+    no_unary (subst (λ f. f.reads ts q.0 q.2) (unary_is scope zero) q.3)
+  where
+    no_name : (w : Part) (mid : List Token)
+        → (choice (begins (of_kind kind.OpenParenthesis)) nothing
+        (choice begins_with_call nothing (name scope))).reads ts w mid → ⊥
+    no_name w mid (inl q) = q.1
+    no_name w mid (inr q) = cc (opens, q.0)
+
+    no_atom : (w : Part) (mid : List Token) → (atom_of scope nothing nothing).reads ts w mid → ⊥
+    no_atom w mid (inl q) = opens_no_literal ts opens q.0
+    no_atom w mid (inr q) = no_name w mid q.1
+
+    no_unary : {w : Part} {mid : List Token}
+        → (unary_of scope nothing nothing nothing).reads ts w mid → ⊥
+    no_unary {w} {mid} (inl q) = q.1
+    no_unary {w} {mid} (inr q) = no_atom w mid q.1
+
+some_of : {V : Type 0} (test : List Token → Bool) (us : List Token) (o : Option V)
+    → and_behind test (before us o) ≡ true → (v : V) × (o ≡ Some v) × (test us ≡ true)
+some_of test us (Some v) e = (v, refl, e)
+some_of test us None e = absurd (cc e)
+
+abbrev opens_item : List Token → Bool
+opens_item ts = and_behind ends_literal (front fronts.literal ts)
+
+opens_first : (ts : List Token) → opens_list ts ≡ true
+    → begins (of_kind kind.OpenParenthesis) ts ≡ true
+opens_first [] e = absurd (cc e)
+opens_first (t ∷ ts) e =
+    let o = some_of opens_item ts (of_kind kind.OpenParenthesis t) e in
+    at_first (of_kind kind.OpenParenthesis) t o.0 ts o.1
+
+module _ (scope : Scope) (left : Part) (t v : Token) (is : of_kind kind.In t ≡ Some v) where
+  -- where the tail would make a list of it, another one ends the list
+  ended_as_list : (room : ℕ) (ys more us : List Token) (w : Part) (rest : List Token)
+      → opens_list (ys ++ more) ≡ false → opens_list (ys ++ us) ≡ true
+      → (chain_at level.Sum scope room).reads (ys ++ us) w rest → IsEnd rest
+      → (tail : List Token) × (w : Part)
+      × (compared_if_due room (chain_at level.Sum scope room) left).reads (t ∷ (ys ++ (tail ++ rest))) w rest
+  ended_as_list zero ys more us w rest none opens r e =
+      absurd (no_sum_opens scope (ys ++ us) w rest r (opens_first (ys ++ us) opens))
+  ended_as_list (suc room) [] more us w rest none opens r e =
+      let s = chain_at level.Sum scope (suc room) in
+      let n = sum_named scope (suc room) rest e in
+      (word ∷ [], _, operand_in (suc room) s left t v is (word ∷ rest) n.0 rest refl n.1)
+  ended_as_list (suc room) (a ∷ []) more us w rest none opens r e =
+      let s = chain_at level.Sum scope (suc room) in
+      let o = some_of opens_item us (of_kind kind.OpenParenthesis a) opens in
+      let l = one_listed room left t v a o.0 (sample kind.Text) (sample kind.Text, leaf.Text []) is
+      o.1 refl rest e in (
+        sample kind.Text ∷ close ∷ [],
+        l.0,
+        list_in (suc room) s left t v is (a ∷ sample kind.Text ∷ close ∷ rest) l.0 rest l.1,
+      )
+  ended_as_list (suc room) (a ∷ b ∷ []) more us w rest none opens r e =
+      let s = chain_at level.Sum scope (suc room) in
+      let o = some_of opens_item (b ∷ us) (of_kind kind.OpenParenthesis a) opens in
+      let f = some_of ends_literal us (fronts.literal b) o.2 in
+      let l = one_listed room left t v a o.0 b f.0 is o.1 f.1 rest e in (
+        close ∷ [],
+        l.0,
+        list_in (suc room) s left t v is (a ∷ b ∷ close ∷ rest) l.0 rest l.1,
+      )
+  ended_as_list (suc room) (a ∷ b ∷ c ∷ ys) more us w rest none opens r e =
+      let same = same_opening a b c (ys ++ more) (ys ++ us) in
+      absurd (cc (same, none, opens))
+
+  begins_contained : (room : ℕ) (ys more : List Token) → opens_list (ys ++ more) ≡ false
+      → BeginsOne (chain_at level.Sum scope room) ys
+      → BeginsOne (compared_if_due room (chain_at level.Sum scope room) left) (t ∷ ys)
+  begins_contained room ys more none h rest e =
+      let r = h rest e in
+      by r.0 r.1 r.2 (opens_list (ys ++ (r.0 ++ rest))) refl
+    where
+      by : (tail : List Token) (w : Part)
+          → (chain_at level.Sum scope room).reads (ys ++ (tail ++ rest)) w rest
+          → (b : Bool) → opens_list (ys ++ (tail ++ rest)) ≡ b
+          → (tail : List Token) × (w : Part)
+          × (compared_if_due room (chain_at level.Sum scope room) left).reads
+          (t ∷ (ys ++ (tail ++ rest))) w rest
+      by tail w r false closed = (
+        tail,
+        _,
+        operand_in room (chain_at level.Sum scope room) left t v is
+            (ys ++ (tail ++ rest)) w rest closed r,
+      )
+      by tail w r true opens =
+          ended_as_list room ys more (tail ++ rest) w rest none opens r e
+
+pub contained_begun : (scope : Scope) (room : ℕ) (left : Part) (ts : List Token) (t : Token)
+    (us : List Token) (e : Stuck) → begins_with_list ts ≡ false
+    → front (of_kind kind.In) ts ≡ Some (t, us) → IsBegun (chain_at level.Sum scope room) us e
+    → IsBegun (compared_if_due room (chain_at level.Sum scope room) left) ts e
+contained_begun scope room left ts t us e none at h =
+    let o = fronts_of (of_kind kind.In) ts t us at in
+    begun_by (chain_at level.Sum scope room)
+    (compared_if_due room (chain_at level.Sum scope room) left) (o.token ∷ []) us ts e o.at
+    (λ ys rest cut h. begins_contained scope left o.token t o.is room ys rest
+    (ap opens_list (sym cut) ∙ (ap (and_behind opens_list) (sym at) ∙ none)) h) h
+
+-- Lists.
+
+pub begins_literal : BeginsOne literal []
+begins_literal =
+    begins_with literal [] (sample kind.Text ∷ [])
+    (λ rest e. (_, ((sample kind.Text, leaf.Text []), rest, refl, (refl, refl))))
+
+pub begins_literals : BeginsOne literals []
+begins_literals = begins_list literal (λ rest. refl) [] begins_literal
+
+module _ (scope : Scope) (room : ℕ) (left : Part) (ts : List Token) (e : Stuck) where
+  pub no_in_begun : (deep : Bool) → e ≡ At (length ts) deep
+      → IsBegun (compared_if_due room (chain_at level.Sum scope room) left) ts e
+  no_in_begun deep is =
+      begun_here (compared_if_due room (chain_at level.Sum scope room) left) ts deep e is
+      (begins_nothing room (chain_at level.Sum scope room) left)
+
+  pub no_list_begun : (t : Token) (mid : List Token) (deep : Bool) → e ≡ At (length mid) deep
+      → front (of_kind kind.In) ts ≡ Some (t, mid)
+      → IsBegun (compared_if_due room (chain_at level.Sum scope room) left) ts e
+  no_list_begun t mid deep is at =
+      let s = chain_at level.Sum scope room in
+      let o = fronts_of (of_kind kind.In) ts t mid at in
+      begun_before (compared_if_due room s left) ts (o.token ∷ []) mid deep e is o.at
+      (named_in room s left o.token t o.is (sum_named scope room))
+
+module _ (scope : Scope) (left : Part) where
+  abbrev shut_list : List Part → Form Token Part
+  shut_list items = then (token kind.CloseParenthesis) (λ close. made (listed left items close))
+
+  begins_listed : (room : ℕ) (t v p o : Token) (ys : List Token) → of_kind kind.In t ≡ Some v
+      → of_kind kind.OpenParenthesis p ≡ Some o → BeginsOne (then literals shut_list) ys
+      → BeginsOne (compared_if_due (suc room) (chain_at level.Sum scope (suc room)) left)
+      (t ∷ p ∷ ys)
+  begins_listed room t v p o ys is opens h rest e =
+      let r = h rest e in
+      let us = ys ++ (r.0 ++ rest) in (
+        r.0,
+        r.1,
+        list_in (suc room) (chain_at level.Sum scope (suc room)) left t v is (p ∷ us) r.1 rest
+            (v, p ∷ us, ap (before (p ∷ us)) is, (o, us, ap (before us) opens, r.2)),
+      )
+
+  module _ (ts : List Token) (t : Token) (mid : List Token) (p : Token) (us : List Token)
+      (e : Stuck) (at : front (of_kind kind.In) ts ≡ Some (t, mid))
+      (opens : front (of_kind kind.OpenParenthesis) mid ≡ Some (p, us)) where
+    pub items_begun : (room : ℕ) → (room ≡ 0 → ⊥) → IsBegun literals us e
+        → IsBegun (compared_if_due room (chain_at level.Sum scope room) left) ts e
+    items_begun zero some h = absurd (some refl)
+    items_begun (suc room) some h =
+        let i = fronts_of (of_kind kind.In) ts t mid at in
+        let o = fronts_of (of_kind kind.OpenParenthesis) mid p us opens in
+        begun_by literals (compared_if_due (suc room) (chain_at level.Sum scope (suc room)) left)
+        (i.token ∷ o.token ∷ []) us ts e (i.at ∙ ap (λ m. i.token ∷ m) o.at)
+        (λ ys rest cut h. begins_listed room i.token t o.token p ys i.is o.is
+        (begins_shut literals shut_list ys (λ v rest. (_, (close, rest, refl, (refl, refl)))) h)) h
+
+    pub list_not_shut_begun : (room : ℕ) → (room ≡ 0 → ⊥) → (vs : List Part) → (rest : List Token)
+        → (deep : Bool) → e ≡ At (length rest) deep → Reads literals us vs rest
+        → IsBegun (compared_if_due room (chain_at level.Sum scope room) left) ts e
+    list_not_shut_begun zero some vs rest deep is r = absurd (some refl)
+    list_not_shut_begun (suc room) some vs rest deep is r =
+        let i = fronts_of (of_kind kind.In) ts t mid at in
+        let o = fronts_of (of_kind kind.OpenParenthesis) mid p us opens in
+        let x = list_again literal (λ rest. refl) literal_again us vs rest r.read in
+        begun_before (compared_if_due (suc room) (chain_at level.Sum scope (suc room)) left) ts
+        (i.token ∷ o.token ∷ x.passed) rest deep e is
+        (i.at ∙ ap (λ m. i.token ∷ m) (o.at ∙ ap (λ m. o.token ∷ m) x.cut))
+        (begins_listed room i.token t o.token p x.passed i.is o.is
+        (begins_unshut true literals shut_list us vs rest x
+        (λ rest. (_, (close, rest, refl, (refl, refl))))))
+
+-- Atoms.
+
+module _ (scope : Scope) where
+  pub literal_begun : (room : ℕ) (ts : List Token) (e : Stuck) → begins fronts.literal ts ≡ true
+      → IsBegun literal ts e → IsBegun (atom scope room) ts e
+  literal_begun room ts e is h =
+      begun_as literal (atom scope room) ts e
+      (λ ys rest cut. begins_chosen fronts.literal literal
+      (choice (begins (of_kind kind.OpenParenthesis)) (grouped scope room)
+      (choice begins_with_call (call scope room) (name scope))) ys rest
+      (ap (begins fronts.literal) (sym cut) ∙ is)
+      (begins_named (atom scope room) (atom_named scope room))) h
+
+  pub no_atom_begun : (room : ℕ) (ts : List Token) (deep : Bool) (e : Stuck)
+      → e ≡ At (length ts) deep → IsBegun (atom scope room) ts e
+  no_atom_begun room ts deep e is =
+      begun_here (atom scope room) ts deep e is
+      (begins_named (atom scope room) (atom_named scope room))
+
+  -- Groups.
+
+  abbrev shut_group : Token → Part → Form Token Part
+  shut_group opening inner =
+      then (token kind.CloseParenthesis) (λ close. made (parts.group opening inner close))
+
+  begins_group : (room : ℕ) (t v : Token) (ys : List Token) → of_kind kind.OpenParenthesis t ≡ Some v
+      → BeginsOne (then (chain_at level.Or scope room) (shut_group v)) ys
+      → BeginsOne (atom scope (suc room)) (t ∷ ys)
+  begins_group room t v ys is h rest e =
+      let r = h rest e in
+      let us = ys ++ (r.0 ++ rest) in (
+        r.0,
+        r.1,
+        inr (
+          not_first fronts.literal t us
+              (ap (λ k. with_token t (leaf_by k t.text)) (kind_is kind.OpenParenthesis t v is)),
+          inl (
+            at_first (of_kind kind.OpenParenthesis) t v us is,
+            (v, us, ap (before us) is, r.2),
+          ),
+        ),
+      )
+
+  module _ (ts : List Token) (t : Token) (mid : List Token) (e : Stuck)
+      (at : front (of_kind kind.OpenParenthesis) ts ≡ Some (t, mid)) where
+    pub group_begun : (room : ℕ) → (room ≡ 0 → ⊥)
+        → IsBegun (chain_at level.Or scope (room - 1)) mid e → IsBegun (atom scope room) ts e
+    group_begun zero some h = absurd (some refl)
+    group_begun (suc room) some h =
+        let o = fronts_of (of_kind kind.OpenParenthesis) ts t mid at in
+        let or = chain_at level.Or scope room in
+        begun_by or (atom scope (suc room)) (o.token ∷ []) mid ts e o.at
+        (λ ys rest cut h. begins_group room o.token t ys o.is
+        (begins_shut or (shut_group t) ys (λ v rest. (_, (close, rest, refl, (refl, refl)))) h))
+        (subst (λ i. IsBegun (chain_at level.Or scope i) mid e) (back room) h)
+
+    pub group_not_shut_begun : (room : ℕ) → (room ≡ 0 → ⊥) → (v : Part) → (rest : List Token)
+        → (deep : Bool) → e ≡ At (length rest) deep
+        → Reads (chain_at level.Or scope (room - 1)) mid v rest → IsBegun (atom scope room) ts e
+    group_not_shut_begun zero some v rest deep is r = absurd (some refl)
+    group_not_shut_begun (suc room) some v rest deep is r =
+        let o = fronts_of (of_kind kind.OpenParenthesis) ts t mid at in
+        let or = chain_at level.Or scope room in
+        let x = chain_repeats level.Or scope room mid v rest
+        (subst (λ i. (chain_at level.Or scope i).reads mid v rest) (back room) r.read) in
+        begun_before (atom scope (suc room)) ts (o.token ∷ x.passed) rest deep e is
+        (o.at ∙ ap (λ m. o.token ∷ m) x.cut)
+        (begins_group room o.token t x.passed o.is
+        (begins_unshut true or (shut_group t) mid v rest x
+        (λ rest. (_, (close, rest, refl, (refl, refl))))))
+
+-- Calls.
+
+pub begins_counted : (n : Token) → BeginsOne (counted n) []
+begins_counted n =
+    begins_with (counted n) [] (sample kind.Star ∷ close ∷ [])
+    (λ rest e. (_, (sample kind.Star, close ∷ rest, refl, (close, rest, refl, (refl, refl)))))
+
+pub no_close_begun : (n : Token) (ts : List Token) (star : Token) (mid : List Token) (deep : Bool)
+    (e : Stuck) → e ≡ At (length mid) deep → front (of_kind kind.Star) ts ≡ Some (star, mid)
+    → IsBegun (counted n) ts e
+no_close_begun n ts star mid deep e is at =
+    let o = fronts_of (of_kind kind.Star) ts star mid at in
+    begun_before (counted n) ts (o.token ∷ []) mid deep e is o.at
+    (begins_with (counted n) (o.token ∷ []) (close ∷ [])
+    (λ rest e. (_, (star, close ∷ rest, ap (before (close ∷ rest)) o.is, (close, rest, refl, (refl, refl))))))
+
+both_true : (a b : Bool) → a ≡ true → b ≡ true → (a && b) ≡ true
+both_true true b e f = f
+both_true false b e f = e
+
+first_true : (a b : Bool) → (a && b) ≡ true → a ≡ true
+first_true true b e = refl
+first_true false b e = e
+
+never : (b : Bool) → (b && false) ≡ false
+never true = refl
+never false = refl
+
+module _ (scope : Scope) (or : Form Token Part) (n : Token) where
+  abbrev shut_call : List Part → Form Token Part
+  shut_call ps = then (token kind.CloseParenthesis) (λ close. made (called scope n ps close))
+
+  begins_inside : Named (list_of or) → (ys more : List Token)
+      → begins_with_count n (ys ++ more) ≡ false → BeginsOne (then (arguments_of or) shut_call) ys
+      → BeginsOne (inside_call scope or n) ys
+  begins_inside named [] more none h rest e =
+      let r = named (close ∷ rest) refl in (
+        word ∷ close ∷ [],
+        _,
+        inr (
+          never (is_count n),
+          (r.0, close ∷ rest, inr (refl, r.1), (close, rest, refl, (refl, refl))),
+        ),
+      )
+  begins_inside named (y ∷ ys) more none h rest e =
+      let r = h rest e in (
+        r.0,
+        r.1,
+        inr (
+          ap (λ b. is_count n && b)
+              (same_first (of_kind kind.Star) y (ys ++ (r.0 ++ rest)) (ys ++ more)) ∙ none,
+          r.2,
+        ),
+      )
+
+  begins_rows : is_count n ≡ true → (ys : List Token) → BeginsOne (counted n) ys
+      → BeginsOne (inside_call scope or n) ys
+  begins_rows is ys h rest e =
+      let r = h rest e in
+      let us = ys ++ (r.0 ++ rest) in (
+        r.0,
+        r.1,
+        inl (
+          both_true (is_count n) (begins (of_kind kind.Star) us) is
+              (present (of_kind kind.Star) us (r.2.0, r.2.1) r.2.2),
+          r.2,
+        ),
+      )
+
+begins_arguments : (or : Form Token Part) → Named (list_of or) → (ys more : List Token)
+    → begins (of_kind kind.CloseParenthesis) (ys ++ more) ≡ false → BeginsOne (list_of or) ys
+    → BeginsOne (arguments_of or) ys
+begins_arguments or named ys more none h =
+    begins_other (of_kind kind.CloseParenthesis) (made []) (list_of or) ys more none
+    (begins_named (arguments_of or) (λ rest e. let r = named rest e in (r.0, inr (refl, r.1)))) h
+
+module _ (scope : Scope) where
+  list_named : (room : ℕ) → Named (list_of (chain_at level.Or scope room))
+  list_named room rest e =
+      let r = or_named scope room rest e in
+      list_alone (chain_at level.Or scope room) (λ rest. refl) (word ∷ rest) r.0 rest e r.1
+
+  pub arguments_begun : (room : ℕ) (ts : List Token) (e : Stuck)
+      → begins (of_kind kind.CloseParenthesis) ts ≡ false
+      → IsBegun (list_of (chain_at level.Or scope room)) ts e → IsBegun (arguments scope room) ts e
+  arguments_begun room ts e none h =
+      begun_as (list_of (chain_at level.Or scope room)) (arguments scope room) ts e
+      (λ ys rest cut h. begins_arguments (chain_at level.Or scope room) (list_named room) ys rest
+      (ap (begins (of_kind kind.CloseParenthesis)) (sym cut) ∙ none) h) h
+
+  module _ (ts : List Token) (t : Token) (mid : List Token) (e : Stuck)
+      (at : front (of_kind kind.Name) ts ≡ Some (t, mid)) where
+    pub name_begun : (room : ℕ) (deep : Bool) → e ≡ At (length mid) deep
+        → IsBegun (atom scope room) ts e
+    name_begun room deep is =
+        let o = fronts_of (of_kind kind.Name) ts t mid at in
+        let here = kind_is kind.Name o.token t o.is in
+        begun_before (atom scope room) ts (o.token ∷ []) mid deep e is o.at
+        (begins_whole (atom scope room) (o.token ∷ [])
+        (λ rest e. (
+          _,
+          inr (
+            not_first fronts.literal o.token rest
+                (ap (λ k. with_token o.token (leaf_by k o.token.text)) here),
+            inr (
+              not_first (of_kind kind.OpenParenthesis) o.token rest
+                  (not_kind kind.OpenParenthesis o.token
+                  (ap (λ k. same_kind k kind.OpenParenthesis) here)),
+              inr (
+                ap (λ p. and_behind (begins (of_kind kind.OpenParenthesis)) (before rest p)) o.is
+                    ∙ name_at_end rest e,
+                (t, rest, ap (before rest) o.is, (refl, refl)),
+              ),
+            ),
+          ),
+        )))
+
+    module _ (p : Token) (us : List Token)
+        (opens : front (of_kind kind.OpenParenthesis) mid ≡ Some (p, us)) where
+      -- what stands inside the parenthesis of a call
+      called_begun : {V : Type 0} (room : ℕ) (a : Form Token V)
+          → ((ys rest : List Token) → us ≡ ys ++ rest → BeginsOne a ys
+          → BeginsOne (inside_call scope (chain_at level.Or scope room) t) ys)
+          → IsBegun a us e → IsBegun (atom scope (suc room)) ts e
+      called_begun room a f h =
+          let o = fronts_of (of_kind kind.Name) ts t mid at in
+          let q = fronts_of (of_kind kind.OpenParenthesis) mid p us opens in
+          let here = kind_is kind.Name o.token t o.is in
+          begun_by a (atom scope (suc room)) (o.token ∷ q.token ∷ []) us ts e
+          (o.at ∙ ap (λ m. o.token ∷ m) q.at)
+          (λ ys rest cut h end is_end.
+          let r = f ys rest cut h end is_end in
+          let xs = ys ++ (r.0 ++ end) in (
+            r.0,
+            r.1,
+            inr (
+              not_first fronts.literal o.token (q.token ∷ xs)
+                  (ap (λ k. with_token o.token (leaf_by k o.token.text)) here),
+              inr (
+                not_first (of_kind kind.OpenParenthesis) o.token (q.token ∷ xs)
+                    (not_kind kind.OpenParenthesis o.token
+                    (ap (λ k. same_kind k kind.OpenParenthesis) here)),
+                inl (
+                  ap (λ p. and_behind (begins (of_kind kind.OpenParenthesis))
+                      (before (q.token ∷ xs) p)) o.is
+                      ∙ at_first (of_kind kind.OpenParenthesis) q.token p xs q.is,
+                  (
+                    t,
+                    q.token ∷ xs,
+                    ap (before (q.token ∷ xs)) o.is,
+                    (p, xs, ap (before xs) q.is, r.2),
+                  ),
+                ),
+              ),
+            ),
+          )) h
+
+      pub counted_begun : (room : ℕ) → (room ≡ 0 → ⊥) → begins_with_count t us ≡ true
+          → IsBegun (counted t) us e → IsBegun (atom scope room) ts e
+      counted_begun zero some is h = absurd (some refl)
+      counted_begun (suc room) some is h =
+          called_begun room (counted t)
+          (λ ys rest cut. begins_rows scope (chain_at level.Or scope room) t
+          (first_true (is_count t) (begins (of_kind kind.Star) us) is) ys) h
+
+      pub call_begun : (room : ℕ) → (room ≡ 0 → ⊥) → begins_with_count t us ≡ false
+          → IsBegun (arguments scope (room - 1)) us e → IsBegun (atom scope room) ts e
+      call_begun zero some none h = absurd (some refl)
+      call_begun (suc room) some none h =
+          let or = chain_at level.Or scope room in
+          called_begun room (arguments scope room)
+          (λ ys rest cut h. begins_inside scope or t (list_named room) ys rest
+          (ap (begins_with_count t) (sym cut) ∙ none)
+          (begins_shut (arguments_of or) (shut_call scope or t) ys
+          (λ v rest. (_, (close, rest, refl, (refl, refl)))) h))
+          (subst (λ i. IsBegun (arguments scope i) us e) (back room) h)
+
+      pub call_not_shut_begun : (room : ℕ) → (room ≡ 0 → ⊥) → begins_with_count t us ≡ false
+          → (vs : List Part) → (rest : List Token) → (deep : Bool) → e ≡ At (length rest) deep
+          → begins (of_kind kind.CloseParenthesis) rest ≡ false
+          → Reads (arguments scope (room - 1)) us vs rest → IsBegun (atom scope room) ts e
+      call_not_shut_begun zero some none vs rest deep is open_at r = absurd (some refl)
+      call_not_shut_begun (suc room) some none vs rest deep is open_at r =
+          let or = chain_at level.Or scope room in
+          let whole = then (arguments_of or) (shut_call scope or t) in
+          called_begun room whole
+          (λ ys rest cut. begins_inside scope or t (list_named room) ys rest
+          (ap (begins_with_count t) (sym cut) ∙ none))
+          (shut (subst (λ i. (arguments scope i).reads us vs rest) (back room) r.read))
+        where
+          shut : (arguments scope room).reads us vs rest
+              → IsBegun (then (arguments_of (chain_at level.Or scope room))
+              (shut_call scope (chain_at level.Or scope room) t)) us e
+          shut (inl q) =
+              let same = ap (begins (of_kind kind.CloseParenthesis)) q.1.1 in
+              absurd (cc (same, open_at, q.0))
+          shut (inr q) =
+              let or = chain_at level.Or scope room in
+              let x = list_again or (λ rest. refl) (chain_repeats level.Or scope room) us vs rest q.1 in
+              begun_before (then (arguments_of or) (shut_call scope or t)) us x.passed rest deep e is
+              x.cut
+              (λ end is_end. (
+                close ∷ [],
+                _,
+                (
+                  vs,
+                  close ∷ end,
+                  inr (
+                    test_again (of_kind kind.CloseParenthesis) x.passed (close ∷ end) rest x.filled
+                        ∙ ap (begins (of_kind kind.CloseParenthesis)) (sym x.cut) ∙ q.0,
+                    x.again (close ∷ end) (inl refl),
+                  ),
+                  (close, end, refl, (refl, refl)),
+                ),
+              ))

@@ -122,8 +122,7 @@ begins_then wanted a k ts v mid x [] more cut first h rest e =
     (subst (BeginsOne (then a k)) (sym (append-nil x.passed)) first) rest e
 begins_then wanted a k ts v mid x (y ∷ ys) more cut first h rest e =
     let r = h rest e in
-    let us = ys ++ (r.0 ++ rest) in
-    (
+    let us = ys ++ (r.0 ++ rest) in (
       r.0,
       r.1,
       (
@@ -152,8 +151,7 @@ pub begins_shut : {V W : Type 0} (a : Form Token V) (k : V → Form Token W) (ys
     → BeginsOne a ys → BeginsOne (then a k) ys
 begins_shut a k ys shuts h rest e =
     let r = h (close ∷ rest) refl in
-    let s = shuts r.1 rest in
-    (
+    let s = shuts r.1 rest in (
       r.0 ++ close ∷ [],
       s.0,
       (
@@ -248,8 +246,7 @@ module _ (l : Level) (a : Form Token Part) (fixed : IsFixed a) where
       (x.cut ∙ ap (λ m. x.passed ++ m) o.at ∙ sym (append_assoc x.passed (o.token ∷ []) mid))
       (λ ys more cut g end is_end.
       let r = g end is_end in
-      let us = ys ++ (r.0 ++ end) in
-      (
+      let us = ys ++ (r.0 ++ end) in (
         r.0,
         joined v (op, r.1),
         (
@@ -258,8 +255,7 @@ module _ (l : Level) (a : Form Token Part) (fixed : IsFixed a) where
               ∙ append_assoc x.passed (o.token ∷ []) us))
               (row_and (begins (fronts.operator l)) a (λ v. v) (another l a) joined
               (x.passed ++ o.token ∷ us) v (o.token ∷ us) (op, r.1) end
-              (x.again (o.token ∷ us) (subst (λ m. Alike m (o.token ∷ us)) (sym o.at) (inr refl)))
-              (
+              (x.again (o.token ∷ us) (subst (λ m. Alike m (o.token ∷ us)) (sym o.at) (inr refl))) (
                 _,
                 r.1,
                 us,
@@ -303,8 +299,7 @@ module _ {V : Type 0} (a : Form Token V) (fixed : IsFixed a) where
       (x.cut ∙ ap (λ m. x.passed ++ m) o.at ∙ sym (append_assoc x.passed (o.token ∷ []) mid))
       (λ ys more cut g end is_end.
       let r = g end is_end in
-      let us = ys ++ (r.0 ++ end) in
-      (
+      let us = ys ++ (r.0 ++ end) in (
         r.0,
         snoc vs r.1,
         (
