@@ -67,7 +67,7 @@ same_place from ts p at = record { there = p; leads = leads_here p ts; at = at }
 -- a word begins a clause
 pub reaches_fresh : (k : Kind) (ts : List Token) (t : Token) (mid : List Token) → role k ≡ Parts
     → front (of_kind k) ts ≡ Some (t, mid) → Reaches IsClear IsFresh ts mid
-reaches_fresh k ts t mid e at = word_moves k e ts t mid at
+reaches_fresh k ts t mid e at = (word_moves k e).goes ts t mid at
 
 -- One behind the other: what the second gives the whole gives, and what the first lacks it lacks.
 
@@ -80,7 +80,7 @@ gives_then from to a k f ts v mid r fixed fixed_k moves read h =
     given_as from to (k v) (then a k) f mid ts r
     (λ w rest p. reads_then a k ts v mid w rest fixed fixed_k read p)
     (λ none. none_then a k ts v mid fixed fixed_k read none)
-    (moves ts v mid read.read) h
+    (moves.goes ts v mid read.read) h
 
 pub stuck_first : {V W X Y : Type 0} (from : Where) (a : Form Token V) (k : V → Form Token W)
     (f : X → V) (g : Y → W) (ts : List Token) (e : Stuck) → IsFixed a → GivesFrom from a f ts (Err e)
@@ -111,7 +111,7 @@ word_stands from k g z f ts t mid r fixed moves at h =
     (present (of_kind k) ts (t, mid) at) (reads_behind (of_kind k) g ts t mid w rest fixed at p))
     (λ none. none_chosen (begins (of_kind k)) (then (token k) g) z ts (λ rest. refl)
     (present (of_kind k) ts (t, mid) at) (none_behind (of_kind k) g ts t mid fixed at none))
-    (moves ts t mid at) h
+    (moves.goes ts t mid at) h
 
 pub word_lacks : {V X : Type 0} (from : Where) (k : Kind) (g : Token → Form Token V)
     (z : Form Token V) (f : X → V) (ts : List Token) (r : Result (X × Bor (List Token)) Stuck)
@@ -145,7 +145,7 @@ pub reaches_another : {V : Type 0} (a : Form Token V) → Moves IsFresh IsClear 
 reaches_another a moves ts vs rest mid comma row at p here =
     let g = rows_move a moves ts vs rest (row.goes [] rest refl) p here in
     goes_on IsFresh p ts g.there rest mid g.leads
-    (word_moves kind.Comma refl rest comma mid at g.there g.at)
+    ((word_moves kind.Comma refl).goes rest comma mid at g.there g.at)
 
 -- Expressions, where they begin.
 pub expression_stuck : (scope : Scope) (ts : List Token) (e : Stuck)

@@ -32,10 +32,11 @@ pub returns : goal.returns
 returns c =
     let read = read_of c.in-Ok.found.0 in
     let rest = c.flag.result.1.now in
-    ends_short c.args.text.now c.args.tokens.now read rest _ c.before-else-is_empty.ensures
-    (then_moves IsFresh IsClear IsClear (clauses c.args.text.now)
+    let moves = then_moves IsFresh IsClear IsClear (clauses c.args.text.now)
     (λ r. flag kind.Semicolon) (clauses_move c.args.text.now)
-    (λ r. flag_moves kind.Semicolon refl) c.args.tokens.now c.flag.result.0 rest
+    (λ r. flag_moves kind.Semicolon refl) in
+    ends_short c.args.text.now c.args.tokens.now read rest _ c.before-else-is_empty.ensures
+    (moves.goes c.args.tokens.now c.flag.result.0 rest
     (read, c.in-Ok.found.1.now, c.in-Ok.ensures.read, c.flag.ensures.read) (wanting []) refl)
     (reads_then (clauses c.args.text.now) behind_clauses c.args.tokens.now read
     c.in-Ok.found.1.now read rest (λ rest. refl) (λ v rest. refl) c.in-Ok.ensures
