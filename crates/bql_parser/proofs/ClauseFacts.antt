@@ -137,8 +137,7 @@ begins_word : {V : Type 0} (k : Kind) (g : Token → Form Token V) (z : Form Tok
     → BeginsOne (behind_word k g z) (t ∷ ys)
 begins_word k g z t w ys is h rest e =
     let r = h rest e in
-    let us = ys ++ (r.0 ++ rest) in
-    (
+    let us = ys ++ (r.0 ++ rest) in (
       r.0,
       r.1,
       inl (ap (λ o. is_some (fronts.before us o)) is, (w, us, ap (fronts.before us) is, r.2)),

@@ -184,8 +184,7 @@ begins_select text =
     begins_with (select text) [] (sample kind.Name ∷ [])
     (λ rest e.
     let s = one_target text rest e in
-    let b = lacks_behind_targets false s.0 rest e in
-    (
+    let b = lacks_behind_targets false s.0 rest e in (
       b.0,
       (
         false,
@@ -201,8 +200,7 @@ undistinct : (text : List ℕ) (ts : List Token) (d : Bool) (mid ys rest : List 
 undistinct text ts d mid [] more none is same cut h rest e = begins_select text rest e
 undistinct text ts d mid (y ∷ ys) more none is same cut h rest e =
     let r = h rest e in
-    let us = ys ++ (r.0 ++ rest) in
-    (
+    let us = ys ++ (r.0 ++ rest) in (
       r.0,
       r.1,
       (
@@ -227,8 +225,7 @@ distinct_begun text ts d mid (inl r) e h =
     (o.at ∙ ap (λ m. o.token ∷ m) q.3.1)
     (λ ys more cut h rest e.
     let s = h rest e in
-    let us = ys ++ (s.0 ++ rest) in
-    (
+    let us = ys ++ (s.0 ++ rest) in (
       s.0,
       s.1,
       (
