@@ -18,8 +18,8 @@ use Rattle.bql_grammar.specs.Expression.{chain_at, begins_with_count, token}
 use Rattle.bql_grammar.specs.Front as fronts
 use Rattle.bql_grammar.specs.Front.{front, before, begins, of_kind, begins_with_call, and_behind}
 use Rattle.bql_grammar.specs.Front.{begins_with_list, ends_literal, with_token, leaf_by}
-use Rattle.bql_grammar.specs.Nesting.{Open, Parenthesis, Wants, wanting, behind, Ends, unsigned}
-use Rattle.bql_grammar.specs.Nesting.{through, after, role, Standing}
+use Rattle.bql_grammar.specs.Nesting.{Parenthesis, Wants, wanting, unsigned}
+use Rattle.bql_grammar.specs.Nesting.{through, after, role}
 use Rattle.bql_tree.specs.Call.{is_count, called}
 use Rattle.bql_tree.specs.Level as level_rules
 use Rattle.bql_tree.specs.Part.{Part}

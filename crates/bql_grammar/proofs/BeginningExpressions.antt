@@ -2,26 +2,24 @@
 use Rattle.std.proofs.Common.{◌≡◌, ℕ, zero, suc, ◌-◌, Bool, true, false, List, [], ◌∷◌, ◌++◌}
 use Rattle.std.proofs.Common.{inl, inr, Option, Some, None, is_some, refl, sym, ap, ◌∙◌, subst}
 use Rattle.std.proofs.Common.{length, arith}
-use Rattle.std.proofs.lemmas.List.{append_assoc}
-use Rattle.std.specs.Prelude.{◌==◌, ◌&&◌}
-use Rattle.theory.specs.Form.{Form, Reads, made, snoc}
-use Rattle.theory.proofs.RowFacts.{InRow}
+use Rattle.std.specs.Prelude.{◌&&◌}
+use Rattle.theory.specs.Form.{Form, Reads, made}
 use Rattle.bql_lexer.specs.Kind.{same_kind}
 use Rattle.bql_lexer.specs.declared.kind.Kind.TheVariants as kind
 use Rattle.bql_lexer.specs.declared.token.Token.{Token}
-use Rattle.bql_grammar.specs.Beginning.{IsEnd, BeginsOne, Before, IsBegun}
-use Rattle.bql_grammar.specs.Expression.{token, told, then, choice, chained, behind_comma, list_of}
-use Rattle.bql_grammar.specs.Expression.{nothing, literal, literals, list_behind, list, sum_of, compared}
-use Rattle.bql_grammar.specs.Expression.{matched, contained, compared_if_due, comparison_of}
-use Rattle.bql_grammar.specs.Expression.{denied_of, signed_of, or_of, group_of, arguments_of}
-use Rattle.bql_grammar.specs.Expression.{counted, inside_call, call_of, name, atom_of, unary_of}
-use Rattle.bql_grammar.specs.Expression.{negation_of, unary, negation, comparison, operand}
+use Rattle.bql_grammar.specs.Beginning.{IsEnd, BeginsOne, IsBegun}
+use Rattle.bql_grammar.specs.Expression.{token, told, then, choice, chained, list_of}
+use Rattle.bql_grammar.specs.Expression.{nothing, literal, literals, list, compared}
+use Rattle.bql_grammar.specs.Expression.{matched, contained, compared_if_due}
+use Rattle.bql_grammar.specs.Expression.{denied_of, signed_of, arguments_of}
+use Rattle.bql_grammar.specs.Expression.{counted, inside_call, name, atom_of, unary_of}
+use Rattle.bql_grammar.specs.Expression.{negation_of, unary, negation, comparison}
 use Rattle.bql_grammar.specs.Expression.{chain_at, begins_with_count, grouped, call, atom, arguments}
 use Rattle.bql_grammar.specs.Front as fronts
 use Rattle.bql_grammar.specs.Front.{front, before, begins, of_kind, begins_with_call, and_behind}
 use Rattle.bql_grammar.specs.Front.{begins_with_list, ends_literal, with_token, leaf_by}
 use Rattle.bql_grammar.specs.declared.stuck.Stuck.{Stuck}
-use Rattle.bql_grammar.specs.declared.stuck.Stuck.TheVariants.{OutOfMemory, At}
+use Rattle.bql_grammar.specs.declared.stuck.Stuck.TheVariants.{At}
 use Rattle.bql_tree.specs.Call.{is_count, called, listed}
 use Rattle.bql_tree.specs.Level as level_rules
 use Rattle.bql_tree.specs.Part as parts
@@ -33,18 +31,18 @@ use Rattle.bql_tree.specs.declared.tree.BinaryOperator.{BinaryOperator}
 use Rattle.bql_tree.specs.declared.tree.BinaryOperator.TheVariants as binary
 use Rattle.bql_tree.specs.declared.tree.Leaf.{Leaf}
 use Rattle.bql_tree.specs.declared.tree.Leaf.TheVariants as leaf
-use Rattle.bql_grammar.proofs.AgainFacts.{Alike, IsInner, same_first, inner_kind, test_again}
-use Rattle.bql_grammar.proofs.AgainFacts.{inner_comparison, Again, Agains, list_again}
+use Rattle.bql_grammar.proofs.AgainFacts.{same_first, inner_kind, test_again}
+use Rattle.bql_grammar.proofs.AgainFacts.{inner_comparison, list_again}
 use Rattle.bql_grammar.proofs.AgainExpressions.{opens_list, same_opening, literal_again}
 use Rattle.bql_grammar.proofs.AgainExpressions.{list_tells, no_in_no_list, chain_repeats}
 use Rattle.bql_grammar.proofs.BeginningFacts.{none_at_end, sample, close, begun_here, begun_before}
 use Rattle.bql_grammar.proofs.BeginningFacts.{begun_by, begun_as, begins_whole, begins_with}
-use Rattle.bql_grammar.proofs.BeginningFacts.{begins_as, begins_behind, begins_first, begins_then}
+use Rattle.bql_grammar.proofs.BeginningFacts.{begins_behind, begins_first, begins_then}
 use Rattle.bql_grammar.proofs.BeginningFacts.{begins_read, begins_shut, begins_unshut}
 use Rattle.bql_grammar.proofs.BeginningFacts.{begins_chosen, begins_other, chain_alone, list_alone}
-use Rattle.bql_grammar.proofs.BeginningFacts.{first_in_chain, begins_list}
+use Rattle.bql_grammar.proofs.BeginningFacts.{begins_list}
 use Rattle.bql_grammar.proofs.ExpressionFacts.{unary_is, negation_is, unary_ends, negation_ends}
-use Rattle.bql_grammar.proofs.ExpressionFacts.{operand_ends, signed, denied}
+use Rattle.bql_grammar.proofs.ExpressionFacts.{signed, denied}
 use Rattle.bql_grammar.proofs.FormFacts.{IsFixed, present, absent}
 use Rattle.bql_grammar.proofs.StandingFacts.{fronts_of, kind_is, not_kind}
 

@@ -1,14 +1,13 @@
 -- What stands before the place where a reader stops begins something of its form.
-use Rattle.std.proofs.Common.{◌≡◌, ℕ, zero, suc, Bool, true, false, List, [], ◌∷◌, ◌++◌, inl, inr}
-use Rattle.std.proofs.Common.{Option, Some, None, is_some, refl, sym, ap, ◌∙◌, subst, length}
+use Rattle.std.proofs.Common.{◌≡◌, Bool, true, false, List, [], ◌∷◌, ◌++◌, inl, inr}
+use Rattle.std.proofs.Common.{Option, Some, refl, sym, ap, ◌∙◌, subst, length}
 use Rattle.std.proofs.lemmas.List.{append_assoc, append-nil}
-use Rattle.std.specs.Prelude.{◌||◌, ◌==◌}
-use Rattle.theory.specs.Form.{Form, made, row, ItemsRead, steps, snoc, alone}
+use Rattle.theory.specs.Form.{Form, row, ItemsRead, steps, snoc, alone}
 use Rattle.theory.proofs.RowFacts.{InRow}
 use Rattle.bql_lexer.specs.declared.kind.Kind.{Kind}
 use Rattle.bql_lexer.specs.declared.kind.Kind.TheVariants as kind
 use Rattle.bql_lexer.specs.declared.token.Token.{Token}
-use Rattle.bql_grammar.specs.Beginning.{IsEnd, BeginsOne, Before, IsBegun}
+use Rattle.bql_grammar.specs.Beginning.{IsEnd, BeginsOne, IsBegun}
 use Rattle.bql_grammar.specs.Expression.{told, then, choice, chained, behind_comma, list_of}
 use Rattle.bql_grammar.specs.Front as fronts
 use Rattle.bql_grammar.specs.Front.{front, before, begins, of_kind}
@@ -17,7 +16,7 @@ use Rattle.bql_grammar.specs.declared.stuck.Stuck.TheVariants.{OutOfMemory, At}
 use Rattle.bql_tree.specs.Part.{Part}
 use Rattle.bql_tree.specs.declared.level.Level.{Level}
 use Rattle.bql_tree.specs.declared.tree.BinaryOperator.{BinaryOperator}
-use Rattle.bql_grammar.proofs.AgainFacts.{Alike, alike_behind, IsInner, same_first, none_alike}
+use Rattle.bql_grammar.proofs.AgainFacts.{Alike, IsInner, same_first, none_alike}
 use Rattle.bql_grammar.proofs.AgainFacts.{inner_kind, inner_operator, Again, links_again}
 use Rattle.bql_grammar.proofs.AgainFacts.{Agains, rows_again, rows_ended, chain_ended}
 use Rattle.bql_grammar.proofs.ExpressionFacts.{links, another, joined, rows}

@@ -7,8 +7,8 @@ use Rattle.bql_lexer.specs.declared.kind.Kind.{Kind}
 use Rattle.bql_lexer.specs.declared.kind.Kind.TheVariants as kind
 use Rattle.bql_lexer.specs.declared.token.Token.{Token}
 use Rattle.bql_grammar.specs.Beginning.{IsEnd, BeginsOne, IsBegun}
-use Rattle.bql_grammar.specs.Expression.{told, token, then, expression, list_of}
-use Rattle.bql_grammar.specs.Front.{front, before, begins, of_kind}
+use Rattle.bql_grammar.specs.Expression.{told, token, then, expression}
+use Rattle.bql_grammar.specs.Front.{before, begins, of_kind}
 use Rattle.bql_grammar.specs.Nesting.{role, Parts}
 use Rattle.bql_grammar.specs.declared.stuck.Stuck.{Stuck}
 use Rattle.bql_tree.specs.Part.{Part}
@@ -21,12 +21,12 @@ use Rattle.bql_grammar.proofs.BeginningExpressions.{or_named}
 use Rattle.bql_grammar.proofs.StandingFacts.{fronts_of}
 use Rattle.bql_parser.specs.Clause as clause
 use Rattle.bql_parser.specs.Grammar.{behind_word, flag, filter, filtered, filters, behind_from}
-use Rattle.bql_parser.specs.Grammar.{in_filters, items_by, by_items, some, with_name, targets, shown}
-use Rattle.bql_parser.specs.Grammar.{target, all_shown, direction, ordered, order, limit, in_order}
+use Rattle.bql_parser.specs.Grammar.{in_filters, items_by, by_items, with_name, targets, shown}
+use Rattle.bql_parser.specs.Grammar.{target, direction, ordered, order, limit, in_order}
 use Rattle.bql_parser.specs.Grammar.{named, behind_targets, behind_filters, behind_group}
-use Rattle.bql_parser.specs.Grammar.{behind_order, in_select, behind_distinct, select, at, journal}
+use Rattle.bql_parser.specs.Grammar.{behind_order, in_select, behind_distinct, select, at}
 use Rattle.bql_parser.specs.Grammar.{behind_pattern, behind_at, in_journal, balances, filters_behind}
-use Rattle.bql_parser.specs.Grammar.{in_balances, clauses, fixed_clauses, a_select, a_journal}
+use Rattle.bql_parser.specs.Grammar.{in_balances, clauses, fixed_clauses}
 use Rattle.bql_parser.specs.Grammar.{some_balances, name_at, behind_clauses, ended, items_in}
 use Rattle.bql_parser.specs.Piece.{whole}
 use Rattle.bql_parser.specs.Read.{Target, Read}
