@@ -8,4 +8,8 @@ pub mod ArgumentsFacts
 pub mod StandingFacts
 pub mod PassingFacts
 pub mod DepthFacts
+pub mod AgainFacts
+pub mod AgainExpressions
+pub mod BeginningFacts
+pub mod BeginningExpressions
 pub mod Examples

@@ -162,7 +162,7 @@ pub literal_passes : (ends : List Open → List Open) → Passes ends literal
 literal_passes ends ts v rest r os =
     alone_passes ends os ts r.1 rest Ends r.3.1 tt (leads_literal (wanting os) ts r.0 r.1 r.2)
 
-no_call_begins : (ts : List Token) (t : Token) (mid : List Token)
+pub no_call_begins : (ts : List Token) (t : Token) (mid : List Token)
     → front (of_kind kind.Name) ts ≡ Some (t, mid) → begins_with_call ts ≡ false
     → begins (of_kind kind.OpenParenthesis) mid ≡ false
 no_call_begins ts t mid at none =

@@ -121,6 +121,9 @@ pub kind_is : (k : Kind) (t v : Token) → of_kind k t ≡ Some v → t.kind ≡
 kind_is k t v e = same_true kind_type.the_type (search rules) t.kind k
     (if_is k t v (same_kind t.kind k) e)
 
+pub not_kind : (k : Kind) (t : Token) → same_kind t.kind k ≡ false → of_kind k t ≡ None
+not_kind k t e = ap (λ b. if b then Some t else None) e
+
 pub leads_kind : (k : Kind) (p : Standing) (ts : List Token) (v : Token) (rest : List Token)
     → front (of_kind k) ts ≡ Some (v, rest) → Leads p ts (after (role k) p.within p.last) rest
 leads_kind k p ts v rest e =
@@ -172,7 +175,7 @@ leads_comparison p ts op rest e =
     leads_by p ts o.token rest (wanting (unsigned p.within)) o.at
     (ap (λ r. after r p.within p.last) (comparison_does o.token.kind op o.is))
 
-with_is : {V : Type 0} (t : Token) (o : Option V) (v : Token × V) → with_token t o ≡ Some v
+pub with_is : {V : Type 0} (t : Token) (o : Option V) (v : Token × V) → with_token t o ≡ Some v
     → o ≡ Some v.1
 with_is t (Some w) v e = let e : Some (t, w) ≡ Some v = e in cc
 with_is t None v e = absurd cc
@@ -190,7 +193,7 @@ leads_sign os ts v rest e =
     leads_by (wanting os) ts o.token rest (wanting (Sign ∷ os)) o.at
     (sign_does o.token.kind v.1 os (with_is o.token (level_rules.sign_of o.token.kind) v o.is))
 
-literal_does : (k : Kind) (bs : List ℕ) (l : Leaf) → leaf_by k bs ≡ Some l → role k ≡ IsLiteral
+pub literal_does : (k : Kind) (bs : List ℕ) (l : Leaf) → leaf_by k bs ≡ Some l → role k ≡ IsLiteral
 literal_does kind.Number bs l e = refl
 literal_does kind.Text bs l e = refl
 literal_does kind.Day bs l e = refl

@@ -2,3 +2,4 @@ pub mod Front
 pub mod Expression
 pub mod Gives
 pub mod Nesting
+pub mod Beginning

@@ -3,10 +3,13 @@ ghost use Rattle.std.specs.Prelude.{◌≡◌, ◌<◌, ◌≤◌, true, length,
 ghost use Rattle.bean_base.specs.declared.limits.TheConstants.{MOST_NESTED};
 ghost use Rattle.bql_grammar.specs.Expression as rule;
 ghost use Rattle.bql_grammar.specs.Front.{begins_with_call};
+ghost use Rattle.bql_grammar.specs.Beginning.{IsBegun};
 ghost use Rattle.bql_grammar.specs.Gives.{Gives};
 ghost use Rattle.bql_grammar.specs.Nesting as nesting;
 ghost use Rattle.bql_grammar.specs.Nesting.{IsInside, IsInsideList};
 ghost use Rattle.bql_tree.specs.Part.{part_of, parts_of};
+ghost use Rattle.bql_tree.specs.declared.function.Scope.{Scope};
+ghost use Rattle.bql_tree.specs.declared.level.Level.TheVariants as levels;
 
 use crate::front::{
     after, after_comparison, after_literal, after_operator, after_sign, begins_with_call,
@@ -33,6 +36,7 @@ fn chain<'t, 'a>(
     ensures read { Gives (rule.chain_at level scope room) part_of tokens.now result }
     ensures shorter { IfOk result (λ r. length r.1.now < length tokens.now) }
     ensures inside { IfErr result (λ e. IsInside (nesting.bound level) room tokens.now e) }
+    ensures begun { IfErr result (λ e. IsBegun (rule.chain_at level scope room) tokens.now e) }
 {
     let found = match operand(alloc, tokens, level, scope, room) {
         Ok(found) => found,
@@ -63,6 +67,7 @@ fn operand<'t, 'a>(
     ensures read { Gives (rule.operand level scope room) part_of tokens.now result }
     ensures shorter { IfOk result (λ r. length r.1.now < length tokens.now) }
     ensures inside { IfErr result (λ e. IsInside (nesting.bound level) room tokens.now e) }
+    ensures begun { IfErr result (λ e. IsBegun (rule.operand level scope room) tokens.now e) }
 {
     match level {
         Level::Or => chain(alloc, tokens, Level::And, scope, room),
@@ -83,6 +88,7 @@ fn negation<'t, 'a>(
     ensures read { Gives (rule.negation scope room) part_of tokens.now result }
     ensures shorter { IfOk result (λ r. length r.1.now < length tokens.now) }
     ensures inside { IfErr result (λ e. IsInside nesting.unsigned room tokens.now e) }
+    ensures begun { IfErr result (λ e. IsBegun (rule.negation scope room) tokens.now e) }
 {
     let Some((not, behind)) = after(tokens, Kind::Not) else {
         return comparison(alloc, tokens, scope, room);
@@ -110,6 +116,7 @@ fn comparison<'t, 'a>(
     ensures read { Gives (rule.comparison scope room) part_of tokens.now result }
     ensures shorter { IfOk result (λ r. length r.1.now < length tokens.now) }
     ensures inside { IfErr result (λ e. IsInside nesting.unsigned room tokens.now e) }
+    ensures begun { IfErr result (λ e. IsBegun (rule.comparison scope room) tokens.now e) }
 {
     let found = match chain(alloc, tokens, Level::Sum, scope, room) {
         Ok(found) => found,
@@ -158,6 +165,7 @@ fn unary<'t, 'a>(
     ensures read { Gives (rule.unary scope room) part_of tokens.now result }
     ensures shorter { IfOk result (λ r. length r.1.now < length tokens.now) }
     ensures inside { IfErr result (λ e. IsInside nesting.all room tokens.now e) }
+    ensures begun { IfErr result (λ e. IsBegun (rule.unary scope room) tokens.now e) }
 {
     let Some((sign, is_minus, behind)) = after_sign(tokens) else {
         return atom(alloc, tokens, scope, room);
@@ -185,6 +193,7 @@ fn atom<'t, 'a>(
     ensures read { Gives (rule.atom scope room) part_of tokens.now result }
     ensures shorter { IfOk result (λ r. length r.1.now < length tokens.now) }
     ensures inside { IfErr result (λ e. IsInside nesting.all room tokens.now e) }
+    ensures begun { IfErr result (λ e. IsBegun (rule.atom scope room) tokens.now e) }
 {
     if after_literal(tokens).is_some() {
         return literal(alloc, tokens, room);
@@ -213,6 +222,7 @@ fn grouped<'t, 'a>(
     ensures read { Gives (rule.grouped scope room) part_of tokens.now result }
     ensures shorter { IfOk result (λ r. length r.1.now < length tokens.now) }
     ensures inside { IfErr result (λ e. IsInside nesting.all room tokens.now e) }
+    ensures begun { IfErr result (λ e. IsBegun (rule.atom scope room) tokens.now e) }
 {
     let Some((open, behind)) = after(tokens, Kind::OpenParenthesis) else {
         return Err(Stuck::before(tokens, room));
@@ -243,6 +253,7 @@ fn call<'t, 'a>(
     ensures shorter { IfOk result (λ r. length r.1.now < length tokens.now) }
     ensures inside { begins_with_call tokens.now ≡ true
         → IfErr result (λ e. IsInside nesting.all room tokens.now e) }
+    ensures begun { IfErr result (λ e. IsBegun (rule.atom scope room) tokens.now e) }
 {
     let Some((name, behind)) = after(tokens, Kind::Name) else {
         return Err(Stuck::before(tokens, room));
@@ -285,6 +296,7 @@ fn counted<'t, 'a>(
     ensures read { Gives (rule.counted name.now) part_of tokens.now result }
     ensures shorter { IfOk result (λ r. length r.1.now < length tokens.now) }
     ensures inside { IfErr result (λ e. IsInside nesting.enclosing room tokens.now e) }
+    ensures begun { IfErr result (λ e. IsBegun (rule.counted name.now) tokens.now e) }
 {
     let Some((_, rest)) = after(tokens, Kind::Star) else {
         return Err(Stuck::before(tokens, room));
@@ -307,6 +319,7 @@ fn arguments<'t, 'a>(
     ensures read { Gives (rule.arguments scope room) parts_of tokens.now result }
     ensures no_longer { IfOk result (λ r. length r.1.now ≤ length tokens.now) }
     ensures inside { IfErr result (λ e. IsInside nesting.enclosing room tokens.now e) }
+    ensures begun { IfErr result (λ e. IsBegun (rule.arguments scope room) tokens.now e) }
 {
     let mut parts = Vec::new(alloc);
     if after(tokens, Kind::CloseParenthesis).is_some() {
@@ -340,6 +353,8 @@ fn list<'t, 'a>(
     ensures read { Gives (rule.list room (part_of left.entry)) part_of tokens.now result }
     ensures shorter { IfOk result (λ r. length r.1.now < length tokens.now) }
     ensures inside { IfErr result (λ e. IsInsideList room tokens.now e) }
+    ensures begun { (scope : Scope) → IfErr result (λ e. IsBegun (rule.compared_if_due room
+        (rule.chain_at levels.Sum scope room) (part_of left.entry)) tokens.now e) }
 {
     let Some((_, behind)) = after(tokens, Kind::In) else {
         return Err(Stuck::before(tokens, room));
@@ -371,6 +386,7 @@ fn literals<'t, 'a>(
     ensures read { Gives rule.literals parts_of tokens.now result }
     ensures shorter { IfOk result (λ r. length r.1.now < length tokens.now) }
     ensures inside { IfErr result (λ e. IsInside nesting.enclosing room tokens.now e) }
+    ensures begun { IfErr result (λ e. IsBegun rule.literals tokens.now e) }
 {
     let mut parts = Vec::new(alloc);
     let found = match literal(alloc, tokens, room) {
@@ -400,6 +416,7 @@ fn literal<'t, 'a>(
     ensures read { Gives rule.literal part_of tokens.now result }
     ensures shorter { IfOk result (λ r. length r.1.now < length tokens.now) }
     ensures inside { IfErr result (λ e. IsInside nesting.all room tokens.now e) }
+    ensures begun { IfErr result (λ e. IsBegun rule.literal tokens.now e) }
 {
     let Some(found) = after_literal(tokens) else {
         return Err(Stuck::before(tokens, room));
@@ -419,6 +436,7 @@ pub fn expression<'t, 'a>(
     ensures read { Gives (rule.expression scope) part_of tokens.now result }
     ensures shorter { IfOk result (λ r. length r.1.now < length tokens.now) }
     ensures inside { IfErr result (λ e. IsInside nesting.enclosing MOST_NESTED tokens.now e) }
+    ensures begun { IfErr result (λ e. IsBegun (rule.expression scope) tokens.now e) }
 {
     chain(alloc, tokens, Level::Or, scope, MOST_NESTED)
 }

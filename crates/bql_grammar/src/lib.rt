@@ -13,11 +13,12 @@
 //!
 //! # What is refused
 //!
-//! Where no expression stands, the reader tells the first token that can't go on ([`Stuck`]), and
-//! whether it stands inside 200 others: parentheses that are not closed, and signs and NOTs whose
-//! operand still goes on (`specs/Nesting`). An expression of the grammar may still name what isn't
-//! known, or what the profile leaves out: then its part has the cause at the least place in place of
-//! its tree, and reading goes on, so that what is no query at all is told first.
+//! Where no expression stands, the reader tells the token that can't go on ([`Stuck`]): those before
+//! it begin an expression (`specs/Beginning`). And it tells whether the token stands inside 200
+//! others: parentheses that are not closed, and signs and NOTs whose operand still goes on
+//! (`specs/Nesting`). An expression of the grammar may still name what isn't known, or what the
+//! profile leaves out: then its part has the cause at the least place in place of its tree, and
+//! reading goes on, so that what is no query at all is told first.
 //!
 //! # Cost
 //!

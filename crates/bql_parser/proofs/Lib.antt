@@ -1,4 +1,5 @@
 pub mod MovingFacts
+pub mod LackingFacts
 pub mod ClauseFacts
 pub mod SettlingFacts
 pub mod ParseFacts

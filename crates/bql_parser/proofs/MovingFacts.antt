@@ -10,9 +10,13 @@ use Rattle.bql_grammar.specs.Expression.{expression}
 use Rattle.bql_grammar.specs.Front.{begins, of_kind}
 use Rattle.bql_grammar.specs.Nesting.{Standing, behind, wanting, role, Parts}
 use Rattle.bql_grammar.specs.Nesting.{after, still_open, Last, Wants, Names, Ends, IsLiteral}
+use Rattle.bql_grammar.proofs.AgainFacts.{IsInner, Agains, loosely, told_again, made_again}
+use Rattle.bql_grammar.proofs.AgainFacts.{then_again, choice_again, list_again, inner_kind}
+use Rattle.bql_grammar.proofs.AgainExpressions.{chain_repeats}
 use Rattle.bql_grammar.proofs.ExpressionFacts.{rows}
+use Rattle.bql_grammar.proofs.FormFacts.{IsFixed}
 use Rattle.bql_grammar.proofs.StandingFacts.{Leads, leads_here, leads_on, leads_kind, leads_by}
-use Rattle.bql_grammar.proofs.StandingFacts.{fronts_of}
+use Rattle.bql_grammar.proofs.StandingFacts.{fronts_of, kind_is}
 use Rattle.bql_grammar.proofs.PassingFacts.{any_chain}
 use Rattle.bql_grammar.proofs.DepthFacts.{ended_others}
 use Rattle.bql_tree.specs.Part.{Part}
@@ -27,7 +31,8 @@ use Rattle.bql_parser.specs.Grammar.{behind_targets, behind_filters, behind_grou
 use Rattle.bql_parser.specs.Grammar.{in_select, at, pattern, journal, behind_pattern, behind_at}
 use Rattle.bql_parser.specs.Grammar.{in_journal, balances, filters_behind, in_balances, clauses}
 use Rattle.bql_parser.specs.Grammar.{a_select, a_journal, some_balances, fixed_clauses, made_select}
-use Rattle.bql_parser.specs.Grammar.{made_journal, made_balances, name_at}
+use Rattle.bql_parser.specs.Grammar.{made_journal, made_balances, name_at, query, behind_clauses}
+use Rattle.bql_parser.specs.Grammar.{ended}
 use Rattle.bql_parser.specs.Piece.{whole, whole_of}
 use Rattle.bql_parser.specs.Stopping.{IsFresh, IsClear, IsClearFor}
 
@@ -39,11 +44,11 @@ pub record Goes (to : Where) (p : Standing) (ts rest : List Token) : Type 0 wher
   pub leads : Leads p ts there rest
   pub at : to there rest
 
--- what is read leads from the one to the other
-abbrev pub Moves : {V : Type 0} → Where → Where → Form Token V → Type 0
-Moves {V} from to a =
-    (ts : List Token) (v : V) (rest : List Token) → a.reads ts v rest → (p : Standing) → from p ts
-    → Goes to p ts rest
+-- What is read leads from the one to the other, and before another rest too.
+pub record Moves {V : Type 0} (from to : Where) (a : Form Token V) : Type 0 where
+  pub goes : (ts : List Token) (v : V) (rest : List Token) → a.reads ts v rest → (p : Standing)
+      → from p ts → Goes to p ts rest
+  pub again : Agains false a
 
 pub goes_on : (to : Where) (p : Standing) (ts : List Token) (q : Standing) (mid rest : List Token)
     → Leads p ts q mid → Goes to q mid rest → Goes to p ts rest
@@ -59,40 +64,84 @@ fresh_is_clear p ts e =
 
 pub from_fresh : {V : Type 0} (to : Where) (a : Form Token V) → Moves IsClear to a
     → Moves IsFresh to a
-from_fresh to a moves ts v rest r p at = moves ts v rest r p (fresh_is_clear p ts at)
+from_fresh to a moves = record {
+  goes = λ ts v rest r p at. moves.goes ts v rest r p (fresh_is_clear p ts at);
+  again = moves.again;
+}
 
 pub to_clear : {V : Type 0} (from : Where) (a : Form Token V) → Moves from IsFresh a
     → Moves from IsClear a
-to_clear from a moves ts v rest r p at =
-    let g = moves ts v rest r p at in
-    record { there = g.there; leads = g.leads; at = fresh_is_clear g.there rest g.at }
+to_clear from a moves = record {
+  goes = λ ts v rest r p at.
+      let g = moves.goes ts v rest r p at in
+      record { there = g.there; leads = g.leads; at = fresh_is_clear g.there rest g.at };
+  again = moves.again;
+}
 
 pub then_moves : {V W : Type 0} (from mid to : Where) (a : Form Token V) (k : V → Form Token W)
     → Moves from mid a → ((v : V) → Moves mid to (k v)) → Moves from to (then a k)
-then_moves from mid to a k f g ts w rest r p at =
-    let first = f ts r.0 r.1 r.2 p at in
-    goes_on to p ts first.there r.1 rest first.leads (g r.0 r.1 w rest r.3 first.there first.at)
+then_moves from mid to a k f g = record {
+  goes = λ ts w rest r p at.
+      let first = f.goes ts r.0 r.1 r.2 p at in
+      goes_on to p ts first.there r.1 rest first.leads
+      ((g r.0).goes r.1 w rest r.3 first.there first.at);
+  again = then_again false a k f.again (λ v. (g v).again);
+}
 
-pub choice_moves : {V : Type 0} (from to : Where) (test : List Token → Bool) (a b : Form Token V)
-    → Moves from to a → Moves from to b → Moves from to (choice test a b)
-choice_moves from to test a b f g ts v rest (inl r) p at = f ts v rest r.1 p at
-choice_moves from to test a b f g ts v rest (inr r) p at = g ts v rest r.1 p at
+choice_goes : {V : Type 0} (from to : Where) (test : List Token → Bool) (a b : Form Token V)
+    → Moves from to a → Moves from to b → (ts : List Token) (v : V) (rest : List Token)
+    → (choice test a b).reads ts v rest → (p : Standing) → from p ts → Goes to p ts rest
+choice_goes from to test a b f g ts v rest (inl r) p at = f.goes ts v rest r.1 p at
+choice_goes from to test a b f g ts v rest (inr r) p at = g.goes ts v rest r.1 p at
+
+-- behind a word where it stands, or else
+choice_moves : {V : Type 0} (from mid to : Where) (k : Kind) (g : Token → Form Token V)
+    (z : Form Token V) → IsInner (of_kind k) → Moves from mid (token k)
+    → ((t : Token) → Moves mid to (g t)) → Moves from to z → Moves from to (behind_word k g z)
+choice_moves from mid to k g z inner word f h = record {
+  goes = choice_goes from to (begins (of_kind k)) (then (token k) g) z
+      (then_moves from mid to (token k) g word f) h;
+  again = choice_again false (of_kind k) (then (token k) g) z inner
+      (then_again true (token k) g (told_again (of_kind k)) (λ t. (f t).again)) h.again;
+}
 
 pub made_moves : {V : Type 0} (from : Where) (v : V) → Moves from from (made v)
-made_moves from v ts w rest r p at =
-    subst (λ us. Goes from p ts us) r.1 record { there = p; leads = leads_here p ts; at = at }
+made_moves from v = record {
+  goes = λ ts w rest r p at.
+      subst (λ us. Goes from p ts us) r.1 record { there = p; leads = leads_here p ts; at = at };
+  again = made_again v;
+}
+
+once_told : {V : Type 0} (f : Token → Option V) → Agains false (told f)
+once_told f = loosely (told f) (told_again f)
+
+-- a word of clauses closes nothing
+pub inner_word : (k : Kind) → role k ≡ Parts → IsInner (of_kind k)
+inner_word k e t c = by (of_kind k t) refl
+  where
+    by : (o : Option Token) → of_kind k t ≡ o → of_kind k t ≡ None
+    by None is = is
+    by (Some v) is =
+        let same = ap role (sym c ∙ kind_is k t v is) in
+        absurd (cc (same, e))
 
 -- Tokens.
 
 pub word_moves : (k : Kind) → role k ≡ Parts → Moves IsClear IsFresh (token k)
-word_moves k e ts v rest r p at = record {
-  there = after (role k) p.within p.last;
-  leads = leads_kind k p ts v rest r;
-  at = ap (λ o. after o p.within p.last) e ∙ ap wanting at.none;
+word_moves k e = record {
+  goes = λ ts v rest r p at. record {
+    there = after (role k) p.within p.last;
+    leads = leads_kind k p ts v rest r;
+    at = ap (λ o. after o p.within p.last) e ∙ ap wanting at.none;
+  };
+  again = once_told (of_kind k);
 }
 
 pub any_word_moves : (k : Kind) → Moves (IsClearFor k) IsFresh (token k)
-any_word_moves k ts v rest r p at = word_moves k at.0 ts v rest r p at.1
+any_word_moves k = record {
+  goes = λ ts v rest r p at. (word_moves k at.0).goes ts v rest r p at.1;
+  again = once_told (of_kind k);
+}
 
 alone_by : (last : Last) (b : Bool) → length (still_open last b []) ≡ 0
 alone_by Names true = refl
@@ -117,47 +166,66 @@ ends_clear ts p q last rest at leads e =
     }
 
 pub name_moves : Moves IsFresh IsClear (token kind.Name)
-name_moves ts v rest r p at =
-    ends_clear ts p (behind [] Names) Names rest at (leads_kind kind.Name (wanting []) ts v rest r)
-    refl
+name_moves = record {
+  goes = λ ts v rest r p at.
+      ends_clear ts p (behind [] Names) Names rest at
+      (leads_kind kind.Name (wanting []) ts v rest r) refl;
+  again = once_told (of_kind kind.Name);
+}
 
 pub text_moves : Moves IsFresh IsClear (token kind.Text)
-text_moves ts v rest r p at =
-    ends_clear ts p (behind [] Ends) Ends rest at (leads_kind kind.Text (wanting []) ts v rest r)
-    refl
+text_moves = record {
+  goes = λ ts v rest r p at.
+      ends_clear ts p (behind [] Ends) Ends rest at
+      (leads_kind kind.Text (wanting []) ts v rest r) refl;
+  again = once_told (of_kind kind.Text);
+}
 
 whole_is : (k : Kind) (bs : List ℕ) (n : ℕ) → whole_of k bs ≡ Some n → role k ≡ IsLiteral
 whole_is kind.Number bs n e = refl
 whole_is k bs n e = absurd cc
 
 pub whole_moves : Moves IsFresh IsClear (told whole)
-whole_moves ts n rest r p at =
-    let o = fronts_of whole ts n rest r in
-    ends_clear ts p (behind [] Ends) Ends rest at
-    (leads_by (wanting []) ts o.token rest (behind [] Ends) o.at
-    (ap (λ r. after r [] Wants) (whole_is o.token.kind o.token.text n o.is))) refl
+whole_moves = record {
+  goes = λ ts n rest r p at.
+      let o = fronts_of whole ts n rest r in
+      ends_clear ts p (behind [] Ends) Ends rest at
+      (leads_by (wanting []) ts o.token rest (behind [] Ends) o.at
+      (ap (λ r. after r [] Wants) (whole_is o.token.kind o.token.text n o.is))) refl;
+  again = once_told whole;
+}
 
 star_moves : Moves IsFresh IsFresh (token kind.Star)
-star_moves ts v rest r p at =
-    subst (λ s. Goes IsFresh s ts rest) (sym at)
-    record { there = wanting []; leads = leads_kind kind.Star (wanting []) ts v rest r; at = refl }
+star_moves = record {
+  goes = λ ts v rest r p at.
+      subst (λ s. Goes IsFresh s ts rest) (sym at)
+      record {
+        there = wanting [];
+        leads = leads_kind kind.Star (wanting []) ts v rest r;
+        at = refl;
+      };
+  again = once_told (of_kind kind.Star);
+}
 
 -- Expressions.
 
 pub expression_moves : (scope : Scope) → Moves IsFresh IsClear (expression scope)
-expression_moves scope ts v rest r p at =
-    let passing = any_chain level.Or scope 200 ts v rest r [] in
-    let q = passing.to in
-    subst (λ s. Goes IsClear s ts rest) (sym at)
-    record {
-      there = q;
-      leads = passing.leads;
-      at = record {
-        none = passing.behind.same;
-        alone = ap length (ended_others q.last q.within rest passing.behind.whole
-            ∙ passing.behind.same);
+expression_moves scope = record {
+  goes = λ ts v rest r p at.
+      let passing = any_chain level.Or scope 200 ts v rest r [] in
+      let q = passing.to in
+      subst (λ s. Goes IsClear s ts rest) (sym at)
+      record {
+        there = q;
+        leads = passing.leads;
+        at = record {
+          none = passing.behind.same;
+          alone = ap length (ended_others q.last q.within rest passing.behind.whole
+              ∙ passing.behind.same);
+        };
       };
-    }
+  again = loosely (expression scope) (chain_repeats level.Or scope 200);
+}
 
 -- Lists.
 
@@ -167,36 +235,41 @@ items_move : {V : Type 0} (a : Form Token V) → Moves IsFresh IsClear a → (vs
 items_move a moves [] ts rest e p at =
     subst (λ us. Goes IsClear p ts us) e record { there = p; leads = leads_here p ts; at = at }
 items_move a moves (v ∷ vs) ts rest r p at =
-    let next = then_moves IsClear IsFresh IsClear (token kind.Comma) (λ comma. a)
-    (word_moves kind.Comma refl) (λ comma. moves) ts v r.0 r.1 p at in
+    let link = then_moves IsClear IsFresh IsClear (token kind.Comma) (λ comma. a)
+    (word_moves kind.Comma refl) (λ comma. moves) in
+    let next = link.goes ts v r.0 r.1 p at in
     goes_on IsClear p ts next.there r.0 rest next.leads
     (items_move a moves vs r.0 rest r.2 next.there next.at)
 
-pub rows_move : {V : Type 0} (a : Form Token V) → Moves IsFresh IsClear a
-    → Moves IsFresh IsClear (rows a)
+pub rows_move : {V : Type 0} (a : Form Token V) → Moves IsFresh IsClear a → (ts : List Token)
+    (vs : List V) (rest : List Token) → (rows a).reads ts vs rest → (p : Standing) → IsFresh p ts
+    → Goes IsClear p ts rest
 rows_move a moves ts s rest r p at =
-    let first = moves ts r.0 r.2 r.3 p at in
+    let first = moves.goes ts r.0 r.2 r.3 p at in
     goes_on IsClear p ts first.there r.2 rest first.leads
     (items_move a moves r.1 r.2 rest r.4 first.there first.at)
 
-pub list_moves : {V : Type 0} (a : Form Token V) → Moves IsFresh IsClear a
+list_moves : {V : Type 0} (a : Form Token V) → IsFixed a → Agains true a → Moves IsFresh IsClear a
     → Moves IsFresh IsClear (list_of a)
-list_moves a moves ts s rest r p at = rows_move a moves ts s rest r.0 p at
+list_moves a fixed again moves = record {
+  goes = λ ts s rest r p at. rows_move a moves ts s rest r.0 p at;
+  again = loosely (list_of a) (list_again a fixed again);
+}
 
 -- Words and what stands behind them.
 
 pub behind_word_moves : {V : Type 0} (from : Where) (k : Kind) (g : Token → Form Token V)
-    (z : Form Token V) → Moves from IsFresh (token k) → ((t : Token) → Moves IsFresh IsClear (g t))
-    → Moves from IsClear z → Moves from IsClear (behind_word k g z)
-behind_word_moves from k g z word f h =
-    choice_moves from IsClear (begins (of_kind k)) (then (token k) g) z
-    (then_moves from IsFresh IsClear (token k) g word f) h
+    (z : Form Token V) → IsInner (of_kind k) → Moves from IsFresh (token k)
+    → ((t : Token) → Moves IsFresh IsClear (g t)) → Moves from IsClear z
+    → Moves from IsClear (behind_word k g z)
+behind_word_moves from k g z inner word f h = choice_moves from IsFresh IsClear k g z inner word f h
 
 -- where the word stands, or nothing
 due_moves : {V : Type 0} (k : Kind) (g : Token → Form Token V) (v : V) → role k ≡ Parts
     → ((t : Token) → Moves IsFresh IsClear (g t)) → Moves IsClear IsClear (behind_word k g (made v))
 due_moves k g v e f =
-    behind_word_moves IsClear k g (made v) (word_moves k e) f (made_moves IsClear v)
+    behind_word_moves IsClear k g (made v) (inner_word k e) (word_moves k e) f
+    (made_moves IsClear v)
 
 made_clear : {V : Type 0} (v : V) → Moves IsFresh IsClear (made v)
 made_clear v = from_fresh IsClear (made v) (made_moves IsClear v)
@@ -204,13 +277,13 @@ made_clear v = from_fresh IsClear (made v) (made_moves IsClear v)
 pub flag_moves : (k : Kind) → role k ≡ Parts → Moves IsClear IsClear (flag k)
 flag_moves k e = due_moves k (λ word. made true) false e (λ t. made_clear true)
 
+pub first_word : (k : Kind) → role k ≡ Parts → Moves IsFresh IsFresh (token k)
+first_word k e = from_fresh IsFresh (token k) (word_moves k e)
+
 pub distinct_moves : Moves IsFresh IsFresh (flag kind.Distinct)
 distinct_moves =
-    choice_moves IsFresh IsFresh (begins (of_kind kind.Distinct))
-    (then (token kind.Distinct) (λ word. made true)) (made false)
-    (from_fresh IsFresh (then (token kind.Distinct) (λ word. made true))
-    (then_moves IsClear IsFresh IsFresh (token kind.Distinct) (λ word. made true)
-    (word_moves kind.Distinct refl) (λ t. made_moves IsFresh true)))
+    choice_moves IsFresh IsFresh IsFresh kind.Distinct (λ word. made true) (made false)
+    (inner_word kind.Distinct refl) (first_word kind.Distinct refl) (λ t. made_moves IsFresh true)
     (made_moves IsFresh false)
 
 pub filter_moves : (k : Kind) (scope : Scope) → role k ≡ Parts
@@ -229,7 +302,9 @@ filters_move =
     (λ passing. made_moves IsClear record { from = from; filter = passing }))
 
 pub items_move_whole : Moves IsFresh IsClear items
-items_move_whole = list_moves (expression Postings) (expression_moves Postings)
+items_move_whole =
+    list_moves (expression Postings) (λ rest. refl) (chain_repeats level.Or Postings 200)
+    (expression_moves Postings)
 
 pub by_moves : Moves IsFresh IsFresh (token kind.By)
 by_moves = from_fresh IsFresh (token kind.By) (word_moves kind.By refl)
@@ -252,15 +327,22 @@ target_moves text =
     then_moves IsFresh IsClear IsClear (expression Postings) (with_name text)
     (expression_moves Postings) (with_name_moves text)
 
+pub target_again : (text : List ℕ) → Agains true (target text)
+target_again text =
+    then_again true (expression Postings) (with_name text) (chain_repeats level.Or Postings 200)
+    (λ p. (with_name_moves text p).again)
+
 pub shown_moves : (text : List ℕ) → Moves IsFresh IsClear (shown text)
 shown_moves text =
-    behind_word_moves IsFresh kind.Star all_shown (targets text) star_moves
-    (λ star. made_clear _) (list_moves (target text) (target_moves text))
+    behind_word_moves IsFresh kind.Star all_shown (targets text) (inner_kind kind.Star refl)
+    star_moves (λ star. made_clear _)
+    (list_moves (target text) (λ rest. refl) (target_again text) (target_moves text))
 
 direction_moves : Moves IsClear IsClear direction
 direction_moves =
     behind_word_moves IsClear kind.Desc (λ word. made true)
-    (then (flag kind.Asc) (λ ascends. made false)) (word_moves kind.Desc refl) (λ t. made_clear true)
+    (then (flag kind.Asc) (λ ascends. made false)) (inner_word kind.Desc refl)
+    (word_moves kind.Desc refl) (λ t. made_clear true)
     (then_moves IsClear IsClear IsClear (flag kind.Asc) (λ ascends. made false)
     (flag_moves kind.Asc refl) (λ ascends. made_moves IsClear false))
 
@@ -290,10 +372,8 @@ at_moves =
 
 pub pattern_moves : Moves IsFresh IsClear pattern
 pattern_moves =
-    choice_moves IsFresh IsClear (begins (of_kind kind.Text))
-    (then (token kind.Text) (λ text. made (Some text.text))) (made None)
-    (then_moves IsFresh IsClear IsClear (token kind.Text) (λ text. made (Some text.text)) text_moves
-    (λ text. made_moves IsClear (Some text.text)))
+    choice_moves IsFresh IsClear IsClear kind.Text (λ text. made (Some text.text)) (made None)
+    (inner_kind kind.Text refl) text_moves (λ text. made_moves IsClear (Some text.text))
     (made_clear None)
 
 -- Whole clauses.
@@ -323,13 +403,10 @@ balances_move =
     (λ name. then_moves IsClear IsClear IsClear filters (in_balances name) filters_move
     (λ fs. made_moves IsClear record { at = name; filters = fs }))
 
-pub first_word : (k : Kind) → role k ≡ Parts → Moves IsFresh IsFresh (token k)
-first_word k e = from_fresh IsFresh (token k) (word_moves k e)
-
 fixed_move : Moves IsFresh IsClear fixed_clauses
 fixed_move =
     behind_word_moves IsFresh kind.Journal a_journal (then (token kind.Balances) some_balances)
-    (first_word kind.Journal refl)
+    (inner_word kind.Journal refl) (first_word kind.Journal refl)
     (λ t. then_moves IsFresh IsClear IsClear journal made_journal journal_moves
     (λ j. made_moves IsClear _))
     (then_moves IsFresh IsFresh IsClear (token kind.Balances) some_balances
@@ -340,7 +417,13 @@ fixed_move =
 pub clauses_move : (text : List ℕ) → Moves IsFresh IsClear (clauses text)
 clauses_move text =
     behind_word_moves IsFresh kind.Select (a_select text) fixed_clauses
-    (first_word kind.Select refl)
+    (inner_word kind.Select refl) (first_word kind.Select refl)
     (λ t. then_moves IsFresh IsClear IsClear (select text) made_select (select_moves text)
     (λ s. made_moves IsClear _))
     fixed_move
+
+pub query_again : (text : List ℕ) → Agains false (query text)
+query_again text =
+    then_again false (clauses text) behind_clauses (clauses_move text).again
+    (λ read. then_again false (flag kind.Semicolon) (ended read)
+    (flag_moves kind.Semicolon refl).again (λ ends. made_again read))

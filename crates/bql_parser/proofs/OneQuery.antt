@@ -134,7 +134,7 @@ not_at_end text ts place q tokens at =
 one_kind : (text : List ℕ) (ts : List Token) (place : ℕ) → AreTokens text ts
     → Stops text ts (fault.Syntax place) → Stops text ts (fault.OutsideProfile place) → ⊥
 one_kind text ts place tokens (inl p) q = one_test text ts place p q tokens
-one_kind text ts place tokens (inr e) q = not_at_end text ts place q tokens e
+one_kind text ts place tokens (inr e) q = not_at_end text ts place q tokens e.0
 
 pub never_both : (text : List ℕ) (place : ℕ) → StopsAt text (fault.Syntax place)
     → StopsAt text (fault.OutsideProfile place) → ⊥

@@ -1,8 +1,8 @@
 -- What is found comes to.
 use Rattle.std.proofs.Common.{◌≡◌, ℕ, Bool, List, [], Option, Some, None, Result, Ok, Err, length}
-use Rattle.std.proofs.Common.{refl, ◌-◌, ◌<◌, get_or, ◌∷◌, ◌++◌, is_some, subst, arith}
+use Rattle.std.proofs.Common.{refl, ◌-◌, ◌<◌, ◌≤◌, get_or, ◌∷◌, ◌++◌, is_some, subst, arith}
 use Rattle.std.specs.Prelude.{nat_le}
-use Rattle.std.proofs.lemmas.List.{length-append}
+use Rattle.std.proofs.lemmas.List.{length-append, append-nil}
 use Rattle.std.proofs.Common.{sym, ap, ◌∙◌, inl, inr}
 use Rattle.theory.specs.Form.{Reads, IsNone}
 use Rattle.bql_lexer.specs.Tokens.{AreTokens}
@@ -12,6 +12,7 @@ use Rattle.bql_tree.specs.declared.cause.Cause.{Cause}
 use Rattle.bql_tree.specs.declared.cause.CauseKind.{CauseKind}
 use Rattle.bql_tree.specs.declared.cause.CauseKind.TheVariants.{UnknownName, OutsideProfile}
 use Rattle.bql_lexer.specs.declared.kind.Kind.TheVariants as kind
+use Rattle.bql_grammar.specs.Beginning.{BeginsOne, Before}
 use Rattle.bql_grammar.specs.Front as fronts
 use Rattle.bql_grammar.specs.Front.{of_kind}
 use Rattle.bql_grammar.specs.Nesting as nesting
@@ -21,7 +22,7 @@ use Rattle.bql_grammar.specs.declared.stuck.Stuck.TheVariants.{OutOfMemory, At}
 use Rattle.bql_parser.specs.Asked.{Asked}
 use Rattle.bql_parser.specs.Grammar.{query}
 use Rattle.bql_parser.specs.Parse.{Parses, IsQuery, HasCause, Stops, is_cause, IsAnswered, Meets}
-use Rattle.bql_parser.specs.Parse.{is_deep, is_left, IsFaultBy}
+use Rattle.bql_parser.specs.Parse.{is_deep, is_left, IsFaultBy, BeginsAQuery}
 use Rattle.bql_parser.specs.Read.{Read}
 use Rattle.bql_parser.specs.Settled.{mapped, refused_at, byte_beyond, settled, answer}
 use Rattle.bql_parser.specs.Whole.{IsRead}
@@ -94,6 +95,7 @@ pub record Met (ts : List Token) (t : Token) (deep : Bool) : Type 0 where
   pub behind : List Token
   pub cut : ts ≡ before ++ t ∷ behind
   pub deep_there : deep ≡ is_deep before t
+  pub begun : BeginsAQuery before
 
 is_some_before : {V : Type 0} (o : Option V) (ts us : List Token)
     → is_some (fronts.before ts o) ≡ is_some (fronts.before us o)
@@ -115,23 +117,51 @@ at_seam [] (u ∷ us) t some e = (us, ap (λ v. v ∷ us) (sym (e u)))
 at_seam (b ∷ before) us t some e = at_seam before us t some e
 
 met_at : (ts passed rest : List Token) (t : Token) (deep : Bool) → ts ≡ passed ++ rest
-    → deep ≡ is_full (through (wanting []) passed) rest
+    → deep ≡ is_full (through (wanting []) passed) rest → BeginsAQuery passed
     → (behind : List Token) × (rest ≡ t ∷ behind) → Met ts t deep
-met_at ts passed rest t deep cut full b = record {
+met_at ts passed rest t deep cut full begun b = record {
   before = passed;
   behind = b.0;
   cut = cut ∙ ap (λ us. passed ++ us) b.1;
   deep_there = full ∙ ap (is_full (through (wanting []) passed)) b.1
       ∙ same_depth (through (wanting []) passed) t b.0 [];
+  begun = begun;
 }
 
+-- as many tokens are left, so the same stand before
+same_before : (xs ys us vs : List Token) → xs ++ us ≡ ys ++ vs → length us ≡ length vs → xs ≡ ys
+same_before [] [] us vs e n = refl
+same_before [] (y ∷ ys) us vs e n =
+    let long = ap length e in
+    let more = length-append ys vs in
+    absurd (omega (arith, long, more, n))
+same_before (x ∷ xs) [] us vs e n =
+    let long = ap length e in
+    let more = length-append xs us in
+    absurd (omega (arith, long, more, n))
+same_before (x ∷ xs) (y ∷ ys) us vs e n =
+    let first : x ≡ y = cc in
+    let rest = same_before xs ys us vs (cc) n in
+    ap (λ z. z ∷ xs) first ∙ ap (λ zs. y ∷ zs) rest
+
+pub all_begin : (ts : List Token) (left i : ℕ) → Before BeginsAQuery ts left → i ≡ length ts - left
+    → length ts ≤ i → BeginsAQuery ts
+all_begin ts left i b at end =
+    let long = ap length b.cut ∙ length-append b.passed b.rest in
+    let here : length b.rest ≡ length {A = Token} [] = omega (arith, at, end, long, b.are_left) in
+    subst BeginsAQuery (sym (same_before ts b.passed [] b.rest (append-nil ts ∙ b.cut) (sym here)))
+    b.so
+
 pub met : (ts : List Token) (left : ℕ) (deep : Bool) (i : ℕ) (t : Token)
-    → nesting.Stops (wanting []) ts left deep → i ≡ length ts - left → i < length ts
+    → nesting.Stops (wanting []) ts left deep → Before BeginsAQuery ts left
+    → i ≡ length ts - left → i < length ts
     → ((d : Token) → t ≡ get_or ts i d) → Met ts t deep
-met ts left deep i t s at inside found =
+met ts left deep i t s b at inside found =
     let long = ap length s.cut ∙ length-append s.passed s.rest in
     let here : i ≡ length s.passed = omega (arith, at, long, s.are_left) in
-    met_at ts s.passed s.rest t deep s.cut s.full
+    let same = same_before b.passed s.passed b.rest s.rest (sym b.cut ∙ s.cut)
+    (b.are_left ∙ sym s.are_left) in
+    met_at ts s.passed s.rest t deep s.cut s.full (subst BeginsAQuery same b.so)
     (at_seam s.passed s.rest t (omega (arith, long, here, inside))
     (λ d. found d ∙ ap (λ us. get_or us i d) s.cut
     ∙ ap (λ n. get_or (s.passed ++ s.rest) n d) here))
@@ -144,7 +174,18 @@ meets ts t deep is m h = (
   t,
   record { behind = m.behind; cut = m.cut; starts = refl },
   sym (h m.before m.deep_there),
+  m.begun,
 )
+
+begun : (text : List ℕ) (ts : List Token) (left : ℕ) → Before (BeginsOne (query text)) ts left
+    → Before BeginsAQuery ts left
+begun text ts left b = record {
+  passed = b.passed;
+  rest = b.rest;
+  cut = b.cut;
+  are_left = b.are_left;
+  so = let r = b.so [] tt in (text, r.0 ++ [], r.1, r.2);
+}
 
 -- Texts outside the grammar.
 stopped : (text : List ℕ) (ts : List Token) (e : QueryFault) → AreTokens text ts
@@ -159,4 +200,5 @@ stopped text ts (fault.Syntax place) tokens none h =
 pub not_read : (text : List ℕ) (ts : List Token) (s : Stuck) (e : QueryFault) → AreTokens text ts
     → IsRead text ts (Err s) → IsFaultBy text ts s e → Parses text (Err e)
 not_read text ts OutOfMemory e tokens h is = subst (λ e. Parses text (Err e)) (sym is) tt
-not_read text ts (At left deep) e tokens h is = stopped text ts e tokens h.0 (is h.1)
+not_read text ts (At left deep) e tokens h is =
+    stopped text ts e tokens h.0 (is h.1 (begun text ts left h.2))

@@ -1,11 +1,12 @@
 -- Texts of queries.
 use Rattle.std.specs.Prelude.{◌≡◌, ℕ, ◌||◌, ◌&&◌, Bool, true, false, List, [], ◌∷◌, ◌++◌, length}
 use Rattle.std.specs.Prelude.{Result, Ok, Err, ◌⊎◌}
-use Rattle.theory.specs.Form.{Reads, IsNone}
+use Rattle.theory.specs.Form.{Reads, Is, IsNone}
 use Rattle.bql_lexer.specs.Kind.{same_kind}
 use Rattle.bql_lexer.specs.Tokens.{AreTokens}
 use Rattle.bql_lexer.specs.declared.kind.Kind.TheVariants as kind
 use Rattle.bql_lexer.specs.declared.token.Token.{Token}
+use Rattle.bql_grammar.specs.Beginning.{Before}
 use Rattle.bql_grammar.specs.Nesting as nesting
 use Rattle.bql_grammar.specs.Nesting.{wanting, through, is_full}
 use Rattle.bql_grammar.specs.declared.stuck.Stuck.{Stuck}
@@ -33,6 +34,11 @@ pub record IsOutside (text : List ℕ) (ts : List Token) : Type 0 where
   pub tokens : AreTokens text ts
   pub none : IsNone (query text) ts
 
+-- some query of the grammar begins with the tokens
+abbrev pub BeginsAQuery : List Token → Type 0
+BeginsAQuery before =
+    (text : List ℕ) × (tail : List Token) × (r : Read) × Is (query text) (before ++ tail) r
+
 -- a parenthesis, a sign or NOT
 abbrev pub nests : Token → Bool
 nests t =
@@ -56,14 +62,17 @@ pub record StandsAt (ts : List Token) (place : ℕ) (before : List Token) (t : T
   pub cut : ts ≡ before ++ t ∷ behind
   pub starts : t.start ≡ place
 
--- a token stands at the place, of which the test says this
+-- a token stands at the place, of which the test says this, and those before it begin a query
 abbrev pub Meets : List Token → ℕ → (List Token → Token → Bool) → Bool → Type 0
 Meets ts place test is =
     (before : List Token) × (t : Token) × StandsAt ts place before t × (test before t ≡ is)
+    × BeginsAQuery before
 
--- why a text is none, whose tokens are these: Q3 where the token is left, and else Q1
+-- why a text is none, whose tokens are these: Q3 where the token is left, and else Q1; at the
+-- text's end where they all begin a query
 abbrev pub Stops : List ℕ → List Token → QueryFault → Type 0
-Stops text ts (fault.Syntax place) = Meets ts place is_left false ⊎ (place ≡ length text)
+Stops text ts (fault.Syntax place) =
+    Meets ts place is_left false ⊎ ((place ≡ length text) × BeginsAQuery ts)
 Stops text ts (fault.OutsideProfile place) = Meets ts place is_left true
 Stops text ts (fault.UnknownName place) = ⊥
 Stops text ts fault.OutOfMemory = ⊥
@@ -72,7 +81,7 @@ Stops text ts fault.OutOfMemory = ⊥
 abbrev pub IsFaultBy : List ℕ → List Token → Stuck → QueryFault → Type 0
 IsFaultBy text ts OutOfMemory e = e ≡ fault.OutOfMemory
 IsFaultBy text ts (At left is_deep) e =
-    nesting.Stops (wanting []) ts left is_deep → Stops text ts e
+    nesting.Stops (wanting []) ts left is_deep → Before BeginsAQuery ts left → Stops text ts e
 
 abbrev pub is_cause : CauseKind → ℕ → QueryFault
 is_cause causes.UnknownName place = fault.UnknownName place

@@ -17,8 +17,8 @@
 //! The grammar stands in `specs/Grammar`, over the tokens of the text, and what is asked in
 //! `specs/Settled`. [`parse_query`] accepts exactly the texts of the grammar that have no cause.
 //!
-//! - `Q1` ([`QueryFault::Syntax`]): the text is outside the grammar. The place is that of a token
-//!   that can't go on, or the text's end.
+//! - `Q1` ([`QueryFault::Syntax`]): the text is outside the grammar. The place is that of the token
+//!   that can't go on, or the text's end: the tokens before it begin a query.
 //! - `Q2` ([`QueryFault::UnknownName`]): a name, or the number of a target, that isn't known.
 //! - `Q3` ([`QueryFault::OutsideProfile`]): the language has it, and the profile leaves it out; or
 //!   it stands above a limit: 65,535 bytes, 255 targets, 255 items of GROUP BY, 255 of ORDER BY,

@@ -1,7 +1,7 @@
 //! Texts of queries.
 ghost use Rattle.std.specs.Prelude.{◌≡◌, ◌≤◌, List, [], length};
 ghost use Rattle.bean_base.specs.declared.limits.TheConstants.{LARGEST_QUERY};
-ghost use Rattle.bql_grammar.specs.Nesting as nesting;
+ghost use Rattle.bql_grammar.specs.declared.stuck.Stuck.TheVariants as Stuck;
 ghost use Rattle.bql_lexer.specs.declared.token.Token.{Token};
 ghost use Rattle.bql_parser.specs.Parse as rule;
 ghost use Rattle.bql_parser.specs.Settled as settled;
@@ -42,8 +42,7 @@ fn is_left(token: &Token<'_>, is_deep: bool) -> bool
 
 /// Why a text is no query whose tokens can't go on there.
 fn fault_at(text: &str, tokens: &[Token<'_>], left: usize, is_deep: bool) -> QueryFault
-    ensures { nesting.Stops (nesting.wanting []) tokens.now left is_deep
-        → rule.Stops text.now tokens.now result }
+    ensures { rule.IsFaultBy text.now tokens.now (Stuck.At left is_deep) result }
 {
     match tokens.get(tokens.len().saturating_sub(left)) {
         Some(token) if is_left(token, is_deep) => QueryFault::OutsideProfile(token.start),

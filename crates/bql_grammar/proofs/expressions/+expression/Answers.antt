@@ -7,7 +7,9 @@ use Rattle.bql_tree.specs.Part.{part_of, parts_of}
 use Rattle.bql_tree.specs.declared.level.Level.TheVariants as level
 use Rattle.bql_tree.proofs.CallFacts.{parts_more}
 use Rattle.bql_grammar.specs.Expression.{chain_at, operand, comparison, negation, unary, atom}
-use Rattle.bql_grammar.specs.Expression.{grouped, call, arguments, behind_comma}
+use Rattle.bql_grammar.specs.Beginning.{IsBegun}
+use Rattle.bql_grammar.specs.Expression.{grouped, call, arguments, behind_comma, literal, counted}
+use Rattle.bql_grammar.specs.Expression.{compared_if_due}
 use Rattle.bql_grammar.specs.Front as fronts
 use Rattle.bql_grammar.specs.Front.{begins, of_kind}
 use Rattle.bql_grammar.specs.Gives.{Gives}
@@ -27,10 +29,22 @@ use Rattle.bql_grammar.proofs.ExpressionFacts.{chain_begins, chain_goes_on, none
 use Rattle.bql_grammar.proofs.ExpressionFacts.{chain_is_read, undenied, no_room_for_not}
 use Rattle.bql_grammar.proofs.ExpressionFacts.{none_behind_not, denied_read, unsigned}
 use Rattle.bql_grammar.proofs.ExpressionFacts.{no_room_for_sign, none_behind_sign, signed_read}
+use Rattle.bql_grammar.proofs.AgainExpressions.{operand_repeats, chain_repeats}
+use Rattle.bql_grammar.proofs.BeginningFacts.{first_in_chain, next_in_chain, first_in_list}
+use Rattle.bql_grammar.proofs.BeginningFacts.{next_in_list}
+use Rattle.bql_grammar.proofs.BeginningExpressions.{undenied_begun, no_room_begun, denied_begun}
+use Rattle.bql_grammar.proofs.BeginningExpressions.{unsigned_begun, no_room_to_sign, signed_begun}
+use Rattle.bql_grammar.proofs.BeginningExpressions.{sum_begun, behind_sum, compared_begun}
+use Rattle.bql_grammar.proofs.BeginningExpressions.{no_pattern_begun, contained_begun}
+use Rattle.bql_grammar.proofs.BeginningExpressions.{literal_begun, no_atom_begun, group_begun}
+use Rattle.bql_grammar.proofs.BeginningExpressions.{group_not_shut_begun, name_begun, counted_begun}
+use Rattle.bql_grammar.proofs.BeginningExpressions.{call_begun, call_not_shut_begun}
+use Rattle.bql_grammar.proofs.BeginningExpressions.{arguments_begun}
 use Rattle.bql_grammar.proofs.DepthFacts as depth
 use Rattle.bql_grammar.proofs.DepthFacts.{in_chain, in_not, in_sign, in_compared, no_pattern}
 use Rattle.bql_grammar.proofs.DepthFacts.{in_contained, in_group, group_not_shut, call_too_deep}
 use Rattle.bql_grammar.proofs.DepthFacts.{in_call, in_list, in_listed, inside_looser, same_if_err}
+use Rattle.bql_grammar.proofs.FormFacts.{absent}
 use Rattle.bql_grammar.proofs.ItemsFacts.{parts_first}
 use Rattle.bql_grammar.proofs.PassingFacts.{any_chain}
 use Rattle.bql_grammar.proofs.StandingFacts.{no_signs_either}
@@ -493,3 +507,202 @@ arguments-returns-in-Err-chain-clause-inside t c =
     in_list (chain_at level.Or c.args.scope c.args.room) c.args.room c.args.tokens.now _ _ _ _
     c.in-Err-chain.stuck (any_chain level.Or c.args.scope c.args.room)
     c.loop-behind.invariant.read c.in-Some.ensures.front c.in-Err-chain.ensures.inside
+
+-- What stands before begins an expression.
+
+pub chain-returns-in-Err-clause-begun : goal.chain-returns-in-Err-clause-begun
+chain-returns-in-Err-clause-begun t c =
+    first_in_chain c.args.level (operand c.args.level c.args.scope c.args.room)
+    (operand_ends c.args.level c.args.scope c.args.room) c.args.tokens.now c.in-Err.stuck
+    c.in-Err.ensures.begun
+
+pub chain-returns-in-Err-operand-clause-begun : goal.chain-returns-in-Err-operand-clause-begun
+chain-returns-in-Err-operand-clause-begun t c =
+    next_in_chain c.args.level (operand c.args.level c.args.scope c.args.room)
+    (operand_ends c.args.level c.args.scope c.args.room)
+    (operand_repeats c.args.level c.args.scope c.args.room) c.args.tokens.now
+    (part_of c.loop-operator.value) c.loop-operator.rest.now c.in-Some.after.now
+    c.in-Some.operator c.in-Err-operand.stuck c.loop-operator.invariant.read
+    c.in-Some.ensures.front c.in-Err-operand.ensures.begun
+
+pub operand-returns-in-Or-clause-begun : goal.operand-returns-in-Or-clause-begun
+operand-returns-in-Or-clause-begun t c =
+    subst (λ l. IfErr c.chain.result (λ e. IsBegun (operand l c.args.scope c.args.room)
+    c.args.tokens.now e)) (sym c.in-Or.is) c.chain.ensures.begun
+
+pub operand-returns-in-And-clause-begun : goal.operand-returns-in-And-clause-begun
+operand-returns-in-And-clause-begun t c =
+    subst (λ l. IfErr c.negation.result (λ e. IsBegun (operand l c.args.scope c.args.room)
+    c.args.tokens.now e)) (sym c.in-And.is) c.negation.ensures.begun
+
+pub operand-returns-in-Sum-clause-begun : goal.operand-returns-in-Sum-clause-begun
+operand-returns-in-Sum-clause-begun t c =
+    subst (λ l. IfErr c.chain-in-Sum.result (λ e. IsBegun (operand l c.args.scope c.args.room)
+    c.args.tokens.now e)) (sym c.in-Sum.is) c.chain-in-Sum.ensures.begun
+
+pub operand-returns-in-Product-clause-begun : goal.operand-returns-in-Product-clause-begun
+operand-returns-in-Product-clause-begun t c =
+    subst (λ l. IfErr c.unary.result (λ e. IsBegun (operand l c.args.scope c.args.room)
+    c.args.tokens.now e)) (sym c.in-Product.is) c.unary.ensures.begun
+
+pub negation-returns-in_default-clause-begun : goal.negation-returns-in_default-clause-begun
+negation-returns-in_default-clause-begun t c =
+    same_if_err (IsBegun (comparison c.args.scope c.args.room) c.args.tokens.now)
+    (IsBegun (negation c.args.scope c.args.room) c.args.tokens.now) c.comparison.result
+    (λ e. undenied_begun c.args.scope c.args.room c.args.tokens.now e c.in_default.ensures.front)
+    c.comparison.ensures.begun
+
+pub negation-returns-then-room-eq0-clause-begun : goal.negation-returns-then-room-eq0-clause-begun
+negation-returns-then-room-eq0-clause-begun t c =
+    no_room_begun c.args.scope c.args.room c.args.tokens.now _ _ c.before-then-room-eq0.ensures
+
+pub negation-returns-in-Err-clause-begun : goal.negation-returns-in-Err-clause-begun
+negation-returns-in-Err-clause-begun t c =
+    denied_begun c.args.scope c.args.room c.args.tokens.now _ _ c.in-Err.stuck
+    (λ none. omega (arith, c.if-room-eq0.false, none)) c.in-Some.ensures.front
+    c.in-Err.ensures.begun
+
+pub comparison-returns-in-Err-clause-begun : goal.comparison-returns-in-Err-clause-begun
+comparison-returns-in-Err-clause-begun t c =
+    sum_begun c.args.scope c.args.room c.args.tokens.now c.in-Err.stuck c.in-Err.ensures.begun
+
+pub comparison-returns-in-Err-chain-clause-begun : goal.comparison-returns-in-Err-chain-clause-begun
+comparison-returns-in-Err-chain-clause-begun t c =
+    behind_sum c.args.scope c.args.room c.args.tokens.now c.in-Err-chain.stuck
+    (part_of c.in-Ok.found.0) c.in-Ok.found.1.now c.in-Ok.ensures.read
+    (compared_begun c.args.scope c.args.room c.in-Ok.found.1.now c.in-Err-chain.stuck
+    (part_of c.in-Ok.found.0) _ _ c.in-Some.ensures.front c.in-Err-chain.ensures.begun)
+
+pub comparison-returns-in_default-after-2-clause-begun :
+    goal.comparison-returns-in_default-after-2-clause-begun
+comparison-returns-in_default-after-2-clause-begun t c =
+    behind_sum c.args.scope c.args.room c.args.tokens.now _ (part_of c.in-Ok.found.0)
+    c.in-Ok.found.1.now c.in-Ok.ensures.read
+    (no_pattern_begun c.args.scope c.args.room c.in-Ok.found.1.now _ (part_of c.in-Ok.found.0) _ _ _
+    c.before-in_default-after-2.ensures c.in_default.ensures.front c.in-Some-after.ensures.front)
+
+pub comparison-returns-then-begins_with_list-clause-begun :
+    goal.comparison-returns-then-begins_with_list-clause-begun
+comparison-returns-then-begins_with_list-clause-begun t c =
+    same_if_err (IsBegun (compared_if_due c.args.room
+    (chain_at level.Sum c.args.scope c.args.room) (part_of c.in-Ok.found.0)) c.in-Ok.found.1.now)
+    (IsBegun (comparison c.args.scope c.args.room) c.args.tokens.now) c.list.result
+    (λ e. behind_sum c.args.scope c.args.room c.args.tokens.now e (part_of c.in-Ok.found.0)
+    c.in-Ok.found.1.now c.in-Ok.ensures.read) (c.list.ensures.begun c.args.scope)
+
+pub comparison-returns-in-Err-chain-2-clause-begun :
+    goal.comparison-returns-in-Err-chain-2-clause-begun
+comparison-returns-in-Err-chain-2-clause-begun t c =
+    behind_sum c.args.scope c.args.room c.args.tokens.now c.in-Err-chain-2.stuck
+    (part_of c.in-Ok.found.0) c.in-Ok.found.1.now c.in-Ok.ensures.read
+    (contained_begun c.args.scope c.args.room (part_of c.in-Ok.found.0) c.in-Ok.found.1.now _ _
+    c.in-Err-chain-2.stuck (sym c.if-begins_with_list.ensures) c.in-Some-after-3.ensures.front
+    c.in-Err-chain-2.ensures.begun)
+
+pub unary-returns-in_default-clause-begun : goal.unary-returns-in_default-clause-begun
+unary-returns-in_default-clause-begun t c =
+    same_if_err (IsBegun (atom c.args.scope c.args.room) c.args.tokens.now)
+    (IsBegun (unary c.args.scope c.args.room) c.args.tokens.now) c.atom.result
+    (λ e. unsigned_begun c.args.scope c.args.room c.args.tokens.now e c.in_default.ensures.front)
+    c.atom.ensures.begun
+
+pub unary-returns-then-room-eq0-clause-begun : goal.unary-returns-then-room-eq0-clause-begun
+unary-returns-then-room-eq0-clause-begun t c =
+    no_room_to_sign c.args.scope c.args.room c.args.tokens.now _ _ c.before-then-room-eq0.ensures
+
+pub unary-returns-in-Err-clause-begun : goal.unary-returns-in-Err-clause-begun
+unary-returns-in-Err-clause-begun t c =
+    signed_begun c.args.scope c.args.room c.args.tokens.now _ _ c.in-Err.stuck
+    (λ none. omega (arith, c.if-room-eq0.false, none)) c.in-Some.ensures.front
+    c.in-Err.ensures.begun
+
+pub atom-returns-then-is_some-clause-begun : goal.atom-returns-then-is_some-clause-begun
+atom-returns-then-is_some-clause-begun t c =
+    same_if_err (IsBegun literal c.args.tokens.now)
+    (IsBegun (atom c.args.scope c.args.room) c.args.tokens.now) c.literal.result
+    (λ e. literal_begun c.args.scope c.args.room c.args.tokens.now e
+    (sym (literal_where fronts.literal c.args.tokens.now c.after_literal.result
+    c.after_literal.ensures.front) ∙ sym c.if-is_some.ensures))
+    c.literal.ensures.begun
+
+pub atom-returns-in_default-clause-begun : goal.atom-returns-in_default-clause-begun
+atom-returns-in_default-clause-begun t c =
+    no_atom_begun c.args.scope c.args.room c.args.tokens.now _ _ c.before-in_default.ensures
+
+pub grouped-returns-in_default-clause-begun : goal.grouped-returns-in_default-clause-begun
+grouped-returns-in_default-clause-begun t c =
+    no_atom_begun c.args.scope c.args.room c.args.tokens.now _ _ c.before-in_default.ensures
+
+pub grouped-returns-then-room-eq0-clause-begun : goal.grouped-returns-then-room-eq0-clause-begun
+grouped-returns-then-room-eq0-clause-begun t c =
+    no_atom_begun c.args.scope c.args.room c.args.tokens.now _ _ c.before-then-room-eq0.ensures
+
+pub grouped-returns-in-Err-clause-begun : goal.grouped-returns-in-Err-clause-begun
+grouped-returns-in-Err-clause-begun t c =
+    group_begun c.args.scope c.args.tokens.now _ _ c.in-Err.stuck c.in-Some.ensures.front
+    c.args.room (λ none. omega (arith, c.if-room-eq0.false, none)) c.in-Err.ensures.begun
+
+pub grouped-returns-in_default-after-clause-begun :
+    goal.grouped-returns-in_default-after-clause-begun
+grouped-returns-in_default-after-clause-begun t c =
+    group_not_shut_begun c.args.scope c.args.tokens.now _ _ _ c.in-Some.ensures.front
+    c.args.room (λ none. omega (arith, c.if-room-eq0.false, none)) _ _ _
+    c.before-in_default-after.ensures c.in-Ok.ensures.read
+
+pub call-returns-in_default-clause-begun : goal.call-returns-in_default-clause-begun
+call-returns-in_default-clause-begun t c =
+    no_atom_begun c.args.scope c.args.room c.args.tokens.now _ _ c.before-in_default.ensures
+
+pub call-returns-in_default-after-clause-begun : goal.call-returns-in_default-after-clause-begun
+call-returns-in_default-after-clause-begun t c =
+    name_begun c.args.scope c.args.tokens.now _ _ _ c.in-Some.ensures.front c.args.room _
+    c.before-in_default-after.ensures
+
+pub call-returns-then-room-eq0-clause-begun : goal.call-returns-then-room-eq0-clause-begun
+call-returns-then-room-eq0-clause-begun t c =
+    name_begun c.args.scope c.args.tokens.now _ _ _ c.in-Some.ensures.front c.args.room _
+    c.before-then-room-eq0.ensures
+
+pub call-returns-then-begins_with_count-clause-begun :
+    goal.call-returns-then-begins_with_count-clause-begun
+call-returns-then-begins_with_count-clause-begun t c =
+    same_if_err (IsBegun (counted c.in-Some.name.now) c.in-Some-after.inside.now)
+    (IsBegun (atom c.args.scope c.args.room) c.args.tokens.now) c.counted.result
+    (λ e. counted_begun c.args.scope c.args.tokens.now c.in-Some.name.now c.in-Some.behind.now e
+    c.in-Some.ensures.front c.in-Some-after.field-0-0.now c.in-Some-after.inside.now
+    c.in-Some-after.ensures.front c.args.room (λ none. omega (arith, c.if-room-eq0.false, none))
+    (sym c.if-begins_with_count.ensures))
+    c.counted.ensures.begun
+
+pub call-returns-in-Err-clause-begun : goal.call-returns-in-Err-clause-begun
+call-returns-in-Err-clause-begun t c =
+    call_begun c.args.scope c.args.tokens.now _ _ c.in-Err.stuck c.in-Some.ensures.front _ _
+    c.in-Some-after.ensures.front c.args.room (λ none. omega (arith, c.if-room-eq0.false, none))
+    (sym c.if-begins_with_count.ensures) c.in-Err.ensures.begun
+
+pub call-returns-in_default-after-2-clause-begun : goal.call-returns-in_default-after-2-clause-begun
+call-returns-in_default-after-2-clause-begun t c =
+    call_not_shut_begun c.args.scope c.args.tokens.now _ _ _ c.in-Some.ensures.front _ _
+    c.in-Some-after.ensures.front c.args.room (λ none. omega (arith, c.if-room-eq0.false, none))
+    (sym c.if-begins_with_count.ensures) (parts_of c.in-Ok.found.0) c.in-Ok.found.1.now _
+    c.before-in_default-after-2.ensures
+    (absent (of_kind kind.CloseParenthesis) c.in-Ok.found.1.now
+    c.in_default-after-2.ensures.front) c.in-Ok.ensures.read
+
+pub arguments-returns-in-Err-clause-begun : goal.arguments-returns-in-Err-clause-begun
+arguments-returns-in-Err-clause-begun t c =
+    arguments_begun c.args.scope c.args.room c.args.tokens.now c.in-Err.stuck
+    (sym (begins_where (of_kind kind.CloseParenthesis) c.args.tokens.now c.after.result
+    c.after.ensures.front) ∙ sym c.if-is_some.ensures)
+    (first_in_list (chain_at level.Or c.args.scope c.args.room) (λ rest. refl) c.args.tokens.now
+    c.in-Err.stuck c.in-Err.ensures.begun)
+
+pub arguments-returns-in-Err-chain-clause-begun : goal.arguments-returns-in-Err-chain-clause-begun
+arguments-returns-in-Err-chain-clause-begun t c =
+    arguments_begun c.args.scope c.args.room c.args.tokens.now c.in-Err-chain.stuck
+    (sym (begins_where (of_kind kind.CloseParenthesis) c.args.tokens.now c.after.result
+    c.after.ensures.front) ∙ sym c.if-is_some.ensures)
+    (next_in_list (chain_at level.Or c.args.scope c.args.room) (λ rest. refl)
+    (chain_repeats level.Or c.args.scope c.args.room) c.args.tokens.now _ _ _ _
+    c.in-Err-chain.stuck c.loop-behind.invariant.read c.in-Some.ensures.front
+    c.in-Err-chain.ensures.begun)

@@ -3,6 +3,8 @@ use Rattle.theory.specs.Form.{Reads}
 use Rattle.bql_grammar.specs.Expression.{literals, list}
 use Rattle.bql_tree.specs.Part.{part_of, parts_of}
 use Rattle.bql_grammar.proofs.ExpressionFacts.{stuck_in, gives_none}
+use Rattle.bql_grammar.proofs.BeginningExpressions.{no_in_begun, no_list_begun, items_begun}
+use Rattle.bql_grammar.proofs.BeginningExpressions.{list_not_shut_begun}
 use Rattle.bql_grammar.proofs.DepthFacts.{no_list_opens, in_items, list_not_shut}
 use Rattle.bql_grammar.proofs.ItemsFacts.{no_items, items_not_shut, list_read}
 use Rattle.bql_grammar.proofs.expressions.list.Goals as goal
@@ -52,3 +54,31 @@ returns-in_default-after-2-clause-inside c =
     (λ none. omega (arith, c.if-room-eq0.false, none)) _ _ c.in-Some-after.ensures.front
     (parts_of c.in-Ok.found.0) c.in-Ok.found.1.now _ c.before-in_default-after-2.ensures
     c.in-Ok.ensures.read
+
+pub returns-in_default-clause-begun : goal.returns-in_default-clause-begun
+returns-in_default-clause-begun c = λ scope.
+    no_in_begun scope c.args.room (part_of c.args.left) c.args.tokens.now _ _
+    c.before-in_default.ensures
+
+pub returns-in_default-after-clause-begun : goal.returns-in_default-after-clause-begun
+returns-in_default-after-clause-begun c = λ scope.
+    no_list_begun scope c.args.room (part_of c.args.left) c.args.tokens.now _ _ _ _
+    c.before-in_default-after.ensures c.in-Some.ensures.front
+
+pub returns-then-room-eq0-clause-begun : goal.returns-then-room-eq0-clause-begun
+returns-then-room-eq0-clause-begun c = λ scope.
+    no_list_begun scope c.args.room (part_of c.args.left) c.args.tokens.now _ _ _ _
+    c.before-then-room-eq0.ensures c.in-Some.ensures.front
+
+pub returns-in-Err-clause-begun : goal.returns-in-Err-clause-begun
+returns-in-Err-clause-begun c = λ scope.
+    items_begun scope (part_of c.args.left) c.args.tokens.now _ _ _ _ c.in-Err.stuck
+    c.in-Some.ensures.front c.in-Some-after.ensures.front c.args.room
+    (λ none. omega (arith, c.if-room-eq0.false, none)) c.in-Err.ensures.begun
+
+pub returns-in_default-after-2-clause-begun : goal.returns-in_default-after-2-clause-begun
+returns-in_default-after-2-clause-begun c = λ scope.
+    list_not_shut_begun scope (part_of c.args.left) c.args.tokens.now _ _ _ _ _
+    c.in-Some.ensures.front c.in-Some-after.ensures.front c.args.room
+    (λ none. omega (arith, c.if-room-eq0.false, none)) (parts_of c.in-Ok.found.0)
+    c.in-Ok.found.1.now _ c.before-in_default-after-2.ensures c.in-Ok.ensures.read

@@ -8,6 +8,8 @@ use Rattle.bql_grammar.proofs.ExpressionFacts.{rows, no_list, list_begins, stuck
 use Rattle.bql_grammar.proofs.ExpressionFacts.{list_goes_on}
 use Rattle.bql_grammar.proofs.ExpressionFacts.{list_is_read}
 use Rattle.bql_grammar.specs.Nesting.{enclosing, all}
+use Rattle.bql_grammar.proofs.AgainExpressions.{literal_again}
+use Rattle.bql_grammar.proofs.BeginningFacts.{first_in_list, next_in_list}
 use Rattle.bql_grammar.proofs.DepthFacts.{in_list, inside_looser}
 use Rattle.bql_grammar.proofs.ItemsFacts.{parts_first}
 use Rattle.bql_grammar.proofs.PassingFacts.{literal_passes}
@@ -59,3 +61,13 @@ returns-in-Err-literal-clause-inside c =
     (literal_passes enclosing) c.loop-behind.invariant.read c.in-Some.ensures.front
     (inside_looser enclosing all c.args.room c.in-Some.behind.now c.in-Err-literal.stuck
     (λ os bare. refl) c.in-Err-literal.ensures.inside)
+
+pub returns-in-Err-clause-begun : goal.returns-in-Err-clause-begun
+returns-in-Err-clause-begun c =
+    first_in_list literal (λ rest. refl) c.args.tokens.now c.in-Err.stuck c.in-Err.ensures.begun
+
+pub returns-in-Err-literal-clause-begun : goal.returns-in-Err-literal-clause-begun
+returns-in-Err-literal-clause-begun c =
+    next_in_list literal (λ rest. refl) literal_again c.args.tokens.now _ _ _ _
+    c.in-Err-literal.stuck c.loop-behind.invariant.read c.in-Some.ensures.front
+    c.in-Err-literal.ensures.begun

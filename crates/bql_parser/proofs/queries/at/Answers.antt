@@ -4,6 +4,7 @@ use Rattle.bql_lexer.specs.declared.kind.Kind.TheVariants as kind
 use Rattle.bql_grammar.specs.Front.{of_kind}
 use Rattle.bql_parser.specs.Grammar.{name_at}
 use Rattle.bql_parser.specs.Read.{same}
+use Rattle.bql_parser.proofs.LackingFacts.{begins_name}
 use Rattle.bql_parser.proofs.ClauseFacts.{nothing_behind}
 use Rattle.bql_parser.proofs.queries.at.Goals as goal
 
@@ -12,3 +13,4 @@ returns-in_default-after c =
     nothing_behind kind.At refl (of_kind kind.Name) (λ word name. made (Some (name_at name)))
     (made None) same c.args.tokens.now _ c.in-Some.behind.now _ c.before-in_default-after.ensures
     c.in-Some.ensures.front c.in_default-after.ensures.front
+    (λ t. begins_name (λ name. Some (name_at name)))

@@ -5,21 +5,23 @@ use Rattle.bql_parser.specs.Grammar.{at, filters, filters_behind, in_balances}
 use Rattle.bql_parser.specs.Read.{same, filters_of, balances_of}
 use Rattle.bql_parser.specs.Stopping.{IsClear}
 use Rattle.bql_parser.proofs.MovingFacts.{at_moves}
+use Rattle.bql_parser.proofs.LackingFacts.{lacks_made, lacks_filters_behind}
 use Rattle.bql_parser.proofs.ClauseFacts.{stuck_first, gives_then}
 use Rattle.bql_parser.proofs.queries.balances.Goals as goal
 
 pub returns-in-Err : goal.returns-in-Err
 returns-in-Err c =
     stuck_first IsClear at filters_behind same balances_of c.args.tokens.now c.in-Err.stuck
-    (λ rest. refl) c.in-Err.ensures
+    (λ rest. refl) lacks_filters_behind c.in-Err.ensures
 
 pub returns-in-Err-filters : goal.returns-in-Err-filters
 returns-in-Err-filters c =
     gives_then IsClear IsClear at filters_behind balances_of c.args.tokens.now c.in-Ok.found.0
     c.in-Ok.found.1.now (Err c.in-Err-filters.stuck) (λ rest. refl) (λ v rest. refl)
-    at_moves c.in-Ok.ensures
+    lacks_filters_behind at_moves c.in-Ok.ensures
     (stuck_first IsClear filters (in_balances c.in-Ok.found.0) filters_of balances_of
-    c.in-Ok.found.1.now c.in-Err-filters.stuck (λ rest. refl) c.in-Err-filters.ensures)
+    c.in-Ok.found.1.now c.in-Err-filters.stuck (λ rest. refl) (λ fs. lacks_made _)
+    c.in-Err-filters.ensures)
 
 pub returns : goal.returns
 returns c =

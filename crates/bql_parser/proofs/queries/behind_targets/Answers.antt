@@ -7,13 +7,15 @@ use Rattle.bql_parser.specs.Grammar.{behind_group, behind_order, in_select}
 use Rattle.bql_parser.specs.Read.{same, filters_of, group_of, order_of, targets_of, select_of}
 use Rattle.bql_parser.specs.Stopping.{IsClear}
 use Rattle.bql_parser.proofs.MovingFacts.{filters_move, items_by_moves, order_moves}
+use Rattle.bql_parser.proofs.LackingFacts.{lacks_made, lacks_behind_filters, lacks_behind_group, lacks_behind_order}
 use Rattle.bql_parser.proofs.ClauseFacts.{stuck_first, gives_then, clear_before}
 use Rattle.bql_parser.proofs.queries.behind_targets.Goals as goal
 
 pub returns-in-Err : goal.returns-in-Err
 returns-in-Err c =
     stuck_first IsClear filters (behind_filters c.args.distinct (targets_of c.args.targets)) filters_of
-    select_of c.args.tokens.now c.in-Err.stuck (λ rest. refl) c.in-Err.ensures
+    select_of c.args.tokens.now c.in-Err.stuck (λ rest. refl)
+    (lacks_behind_filters c.args.distinct (targets_of c.args.targets)) c.in-Err.ensures
 
 pub returns-in-Err-items_by : goal.returns-in-Err-items_by
 returns-in-Err-items_by c =
@@ -22,9 +24,10 @@ returns-in-Err-items_by c =
     gives_then IsClear IsClear filters (behind_filters c.args.distinct shown) select_of
     c.args.tokens.now fs
     c.in-Ok.found.1.now (Err c.in-Err-items_by.stuck) (λ rest. refl) (λ v rest. refl)
-    filters_move c.in-Ok.ensures
+    (lacks_behind_filters c.args.distinct shown) filters_move c.in-Ok.ensures
     (stuck_first IsClear (items_by kind.Group) (behind_group c.args.distinct shown fs) group_of
     select_of c.in-Ok.found.1.now c.in-Err-items_by.stuck (λ rest. refl)
+    (lacks_behind_group c.args.distinct shown fs)
     (clear_before kind.Group refl (items_by kind.Group) group_of c.in-Ok.found.1.now _
     c.in-Err-items_by.ensures))
 
@@ -36,12 +39,14 @@ returns-in-Err-order c =
     gives_then IsClear IsClear filters (behind_filters c.args.distinct shown) select_of
     c.args.tokens.now fs
     c.in-Ok.found.1.now (Err c.in-Err-order.stuck) (λ rest. refl) (λ v rest. refl)
-    filters_move c.in-Ok.ensures
+    (lacks_behind_filters c.args.distinct shown) filters_move c.in-Ok.ensures
     (gives_then IsClear IsClear (items_by kind.Group) (behind_group c.args.distinct shown fs)
     select_of c.in-Ok.found.1.now group c.in-Ok-items_by.found.1.now (Err c.in-Err-order.stuck)
-    (λ rest. refl) (λ v rest. refl) (items_by_moves kind.Group refl) c.in-Ok-items_by.ensures
+    (λ rest. refl) (λ v rest. refl) (lacks_behind_group c.args.distinct shown fs)
+    (items_by_moves kind.Group refl) c.in-Ok-items_by.ensures
     (stuck_first IsClear order (behind_order c.args.distinct shown fs group) order_of select_of
     c.in-Ok-items_by.found.1.now c.in-Err-order.stuck (λ rest. refl)
+    (lacks_behind_order c.args.distinct shown fs group)
     c.in-Err-order.ensures))
 
 pub returns-in-Err-limit : goal.returns-in-Err-limit
@@ -53,15 +58,17 @@ returns-in-Err-limit c =
     gives_then IsClear IsClear filters (behind_filters c.args.distinct shown) select_of
     c.args.tokens.now fs
     c.in-Ok.found.1.now (Err c.in-Err-limit.stuck) (λ rest. refl) (λ v rest. refl)
-    filters_move c.in-Ok.ensures
+    (lacks_behind_filters c.args.distinct shown) filters_move c.in-Ok.ensures
     (gives_then IsClear IsClear (items_by kind.Group) (behind_group c.args.distinct shown fs)
     select_of c.in-Ok.found.1.now group c.in-Ok-items_by.found.1.now (Err c.in-Err-limit.stuck)
-    (λ rest. refl) (λ v rest. refl) (items_by_moves kind.Group refl) c.in-Ok-items_by.ensures
+    (λ rest. refl) (λ v rest. refl) (lacks_behind_group c.args.distinct shown fs)
+    (items_by_moves kind.Group refl) c.in-Ok-items_by.ensures
     (gives_then IsClear IsClear order (behind_order c.args.distinct shown fs group) select_of
     c.in-Ok-items_by.found.1.now ordered c.in-Ok-order.found.1.now
-    (Err c.in-Err-limit.stuck) (λ rest. refl) (λ v rest. refl) order_moves c.in-Ok-order.ensures
+    (Err c.in-Err-limit.stuck) (λ rest. refl) (λ v rest. refl)
+    (lacks_behind_order c.args.distinct shown fs group) order_moves c.in-Ok-order.ensures
     (stuck_first IsClear limit (in_select c.args.distinct shown fs group ordered) same select_of
-    c.in-Ok-order.found.1.now c.in-Err-limit.stuck (λ rest. refl)
+    c.in-Ok-order.found.1.now c.in-Err-limit.stuck (λ rest. refl) (λ n. lacks_made _)
     c.in-Err-limit.ensures)))
 
 pub returns : goal.returns

@@ -7,13 +7,15 @@ use Rattle.bql_parser.specs.Read.{select_of, read_of}
 use Rattle.bql_parser.specs.declared.clauses.QueryRead.TheVariants.{Select}
 use Rattle.bql_parser.specs.Stopping.{IsFresh}
 use Rattle.bql_parser.proofs.MovingFacts.{first_word}
+use Rattle.bql_parser.proofs.LackingFacts.{lacks_made, begins_clauses}
 use Rattle.bql_parser.proofs.ClauseFacts.{word_stands, word_lacks, stuck_first}
 use Rattle.bql_parser.proofs.queries.clauses.Goals as goal
 
 pub returns-in_default : goal.returns-in_default
 returns-in_default c =
     word_lacks IsFresh kind.Select (a_select c.args.text.now) fixed_clauses read_of c.args.tokens.now
-    c.fixed_clauses.result (λ rest. refl) c.in_default.ensures.front c.fixed_clauses.ensures
+    c.fixed_clauses.result (λ rest. refl) c.in_default.ensures.front
+    (begins_clauses c.args.text.now) c.fixed_clauses.ensures
 
 pub returns-in-Err : goal.returns-in-Err
 returns-in-Err c =
@@ -21,7 +23,7 @@ returns-in-Err c =
     _ _ (Err c.in-Err.stuck) (λ t rest. refl) (first_word kind.Select refl)
     c.in-Some.ensures.front
     (stuck_first IsFresh (select c.args.text.now) made_select select_of read_of c.in-Some.behind.now
-    c.in-Err.stuck (λ rest. refl) c.in-Err.ensures)
+    c.in-Err.stuck (λ rest. refl) (λ s. lacks_made _) c.in-Err.ensures)
 
 pub returns : goal.returns
 returns c =

@@ -7,6 +7,7 @@ use Rattle.bql_parser.specs.Grammar.{pattern, at, filter, behind_pattern, behind
 use Rattle.bql_parser.specs.Read.{same, filter_of, journal_of}
 use Rattle.bql_parser.specs.Stopping.{IsFresh, IsClear}
 use Rattle.bql_parser.proofs.MovingFacts.{pattern_moves, at_moves}
+use Rattle.bql_parser.proofs.LackingFacts.{lacks_made, lacks_behind_pattern, lacks_behind_at}
 use Rattle.bql_parser.proofs.ClauseFacts.{stuck_first, gives_then, clear_before}
 use Rattle.bql_parser.proofs.queries.journal.Goals as goal
 
@@ -14,21 +15,23 @@ pub returns-in-Err : goal.returns-in-Err
 returns-in-Err c =
     gives_then IsFresh IsClear pattern behind_pattern journal_of c.args.tokens.now c.pattern-pattern.result.0
     c.pattern-pattern.result.1.now (Err c.in-Err.stuck) (λ rest. refl) (λ v rest. refl)
-    pattern_moves c.pattern-pattern.ensures
+    lacks_behind_pattern pattern_moves c.pattern-pattern.ensures
     (stuck_first IsClear at (behind_at c.pattern-pattern.result.0) same journal_of
-    c.pattern-pattern.result.1.now c.in-Err.stuck (λ rest. refl) c.in-Err.ensures)
+    c.pattern-pattern.result.1.now c.in-Err.stuck (λ rest. refl)
+    (lacks_behind_at c.pattern-pattern.result.0) c.in-Err.ensures)
 
 pub returns-in-Err-filter : goal.returns-in-Err-filter
 returns-in-Err-filter c =
     gives_then IsFresh IsClear pattern behind_pattern journal_of c.args.tokens.now c.pattern-pattern.result.0
     c.pattern-pattern.result.1.now (Err c.in-Err-filter.stuck) (λ rest. refl)
-    (λ v rest. refl) pattern_moves c.pattern-pattern.ensures
+    (λ v rest. refl) lacks_behind_pattern pattern_moves c.pattern-pattern.ensures
     (gives_then IsClear IsClear at (behind_at c.pattern-pattern.result.0) journal_of
     c.pattern-pattern.result.1.now c.in-Ok.found.0 c.in-Ok.found.1.now
-    (Err c.in-Err-filter.stuck) (λ rest. refl) (λ v rest. refl) at_moves c.in-Ok.ensures
+    (Err c.in-Err-filter.stuck) (λ rest. refl) (λ v rest. refl)
+    (lacks_behind_at c.pattern-pattern.result.0) at_moves c.in-Ok.ensures
     (stuck_first IsClear (filter kind.From Transactions)
     (in_journal c.pattern-pattern.result.0 c.in-Ok.found.0) filter_of journal_of
-    c.in-Ok.found.1.now c.in-Err-filter.stuck (λ rest. refl)
+    c.in-Ok.found.1.now c.in-Err-filter.stuck (λ rest. refl) (λ from. lacks_made _)
     (clear_before kind.From refl (filter kind.From Transactions) filter_of c.in-Ok.found.1.now _
     c.in-Err-filter.ensures)))
 

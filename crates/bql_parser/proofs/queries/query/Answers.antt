@@ -8,6 +8,7 @@ use Rattle.bql_parser.specs.Read.{read_of}
 use Rattle.bql_parser.specs.Stopping.{IsFresh, IsClear}
 use Rattle.bql_parser.proofs.MovingFacts.{then_moves, clauses_move, flag_moves}
 use Rattle.bql_grammar.specs.Nesting.{wanting}
+use Rattle.bql_parser.proofs.LackingFacts.{lacks_behind_clauses}
 use Rattle.bql_parser.proofs.ClauseFacts.{stuck_first, stuck_whole, ends_short, empty_is, not_empty}
 use Rattle.bql_parser.proofs.queries.query.Goals as goal
 
@@ -15,7 +16,7 @@ pub returns-in-Err : goal.returns-in-Err
 returns-in-Err c =
     stuck_whole c.args.text.now c.args.tokens.now c.in-Err.stuck
     (stuck_first IsFresh (clauses c.args.text.now) behind_clauses read_of read_of c.args.tokens.now
-    c.in-Err.stuck (λ rest. refl) c.in-Err.ensures)
+    c.in-Err.stuck (λ rest. refl) lacks_behind_clauses c.in-Err.ensures)
 
 pub returns-then-is_empty : goal.returns-then-is_empty
 returns-then-is_empty c =
@@ -32,10 +33,11 @@ pub returns : goal.returns
 returns c =
     let read = read_of c.in-Ok.found.0 in
     let rest = c.flag.result.1.now in
-    ends_short c.args.text.now c.args.tokens.now read rest _ c.before-else-is_empty.ensures
-    (then_moves IsFresh IsClear IsClear (clauses c.args.text.now)
+    let moves = then_moves IsFresh IsClear IsClear (clauses c.args.text.now)
     (λ r. flag kind.Semicolon) (clauses_move c.args.text.now)
-    (λ r. flag_moves kind.Semicolon refl) c.args.tokens.now c.flag.result.0 rest
+    (λ r. flag_moves kind.Semicolon refl) in
+    ends_short c.args.text.now c.args.tokens.now read rest _ c.before-else-is_empty.ensures
+    (moves.goes c.args.tokens.now c.flag.result.0 rest
     (read, c.in-Ok.found.1.now, c.in-Ok.ensures.read, c.flag.ensures.read) (wanting []) refl)
     (reads_then (clauses c.args.text.now) behind_clauses c.args.tokens.now read
     c.in-Ok.found.1.now read rest (λ rest. refl) (λ v rest. refl) c.in-Ok.ensures

@@ -7,6 +7,7 @@ use Rattle.bql_parser.specs.Grammar.{filtered, some}
 use Rattle.bql_parser.specs.Read.{filter_of}
 use Rattle.bql_parser.specs.Stopping.{IsFresh, IsClear, IsClearFor}
 use Rattle.bql_parser.proofs.MovingFacts.{expression_moves, any_word_moves}
+use Rattle.bql_parser.proofs.LackingFacts.{lacks_made}
 use Rattle.bql_parser.proofs.ClauseFacts.{word_stands, stuck_first, gives_then}
 use Rattle.bql_parser.proofs.ClauseFacts.{expression_stuck}
 use Rattle.bql_parser.proofs.reading.filter.Goals as goal
@@ -17,9 +18,9 @@ returns-in-Err c =
     c.args.tokens.now _ _ (Err c.in-Err.stuck) (λ t rest. refl) (any_word_moves c.args.word)
     c.in-Some.ensures.front
     (stuck_first IsFresh (expression c.args.scope) some part_of filter_of c.in-Some.behind.now
-    c.in-Err.stuck (λ rest. refl)
+    c.in-Err.stuck (λ rest. refl) (λ p. lacks_made (Some p))
     (expression_stuck c.args.scope c.in-Some.behind.now c.in-Err.stuck c.in-Err.ensures.read
-    c.in-Err.ensures.inside))
+    c.in-Err.ensures.inside c.in-Err.ensures.begun))
 
 pub returns : goal.returns
 returns c =
@@ -28,5 +29,5 @@ returns c =
     (any_word_moves c.args.word) c.in-Some.ensures.front
     (gives_then IsFresh IsClear (expression c.args.scope) some filter_of c.in-Some.behind.now
     (part_of c.in-Ok.found.0) c.in-Ok.found.1.now (Ok (Some c.in-Ok.found.0, c.in-Ok.found.1))
-    (λ rest. refl) (λ v rest. refl) (expression_moves c.args.scope) c.in-Ok.ensures.read
+    (λ rest. refl) (λ v rest. refl) (λ p. lacks_made (Some p)) (expression_moves c.args.scope) c.in-Ok.ensures.read
     (reads_made (Some (part_of c.in-Ok.found.0)) c.in-Ok.found.1.now))

@@ -7,6 +7,9 @@ use Rattle.bql_tree.proofs.CallFacts.{parts_more}
 use Rattle.bql_grammar.specs.Expression.{expression, behind_comma}
 use Rattle.bql_grammar.proofs.ExpressionFacts.{rows, no_list, list_begins}
 use Rattle.bql_grammar.proofs.ExpressionFacts.{none_in_list, list_goes_on, list_is_read}
+use Rattle.bql_grammar.proofs.AgainExpressions.{chain_repeats}
+use Rattle.bql_grammar.proofs.BeginningFacts.{first_in_list, next_in_list}
+use Rattle.bql_tree.specs.declared.level.Level.TheVariants as level
 use Rattle.bql_grammar.proofs.ItemsFacts.{parts_first}
 use Rattle.bql_parser.specs.Grammar.{items}
 use Rattle.bql_parser.specs.Stopping.{IsFresh}
@@ -21,8 +24,9 @@ returns-in-Err c =
     c.args.tokens.now c.in-Err.stuck
     (no_list (expression Postings) (λ rest. refl) c.args.tokens.now)
     (same_place IsFresh c.args.tokens.now)
+    (first_in_list (expression Postings) (λ rest. refl) c.args.tokens.now)
     (expression_stuck Postings c.args.tokens.now c.in-Err.stuck c.in-Err.ensures.read
-    c.in-Err.ensures.inside)
+    c.in-Err.ensures.inside c.in-Err.ensures.begun)
 
 pub loop-behind-init : goal.loop-behind-init
 loop-behind-init c =
@@ -41,8 +45,11 @@ returns-in-Err-expression c =
     c.loop-behind.invariant c.in-Some.ensures.front none)
     (reaches_another (expression Postings) (expression_moves Postings) c.args.tokens.now _ _ _ _
     c.loop-behind.invariant c.in-Some.ensures.front)
+    (λ e. next_in_list (expression Postings) (λ rest. refl) (chain_repeats level.Or Postings 200)
+    c.args.tokens.now _ _ _ _ e c.loop-behind.invariant c.in-Some.ensures.front)
     (expression_stuck Postings c.in-Some.behind.now c.in-Err-expression.stuck
-    c.in-Err-expression.ensures.read c.in-Err-expression.ensures.inside)
+    c.in-Err-expression.ensures.read c.in-Err-expression.ensures.inside
+    c.in-Err-expression.ensures.begun)
 
 pub loop-behind-preserved : goal.loop-behind-preserved
 loop-behind-preserved c =

@@ -4,13 +4,14 @@ use Rattle.bql_grammar.proofs.FormFacts.{reads_then}
 use Rattle.bql_parser.specs.Grammar.{items_by, ordered}
 use Rattle.bql_parser.specs.Read.{group_of, order_of}
 use Rattle.bql_parser.specs.Stopping.{IsClear}
+use Rattle.bql_parser.proofs.LackingFacts.{lacks_ordered}
 use Rattle.bql_parser.proofs.ClauseFacts.{stuck_first, ordered_ends, clear_before}
 use Rattle.bql_parser.proofs.reading.order.Goals as goal
 
 pub returns-in-Err : goal.returns-in-Err
 returns-in-Err c =
     stuck_first IsClear (items_by kind.Order) ordered group_of order_of c.args.tokens.now
-    c.in-Err.stuck (λ rest. refl)
+    c.in-Err.stuck (λ rest. refl) lacks_ordered
     (clear_before kind.Order refl (items_by kind.Order) group_of c.args.tokens.now _
     c.in-Err.ensures)
 

@@ -4,10 +4,11 @@ use Rattle.theory.proofs.RowFacts.{InRow}
 use Rattle.bql_grammar.specs.Expression.{behind_comma}
 use Rattle.bql_grammar.proofs.ExpressionFacts.{rows, no_list, list_begins}
 use Rattle.bql_grammar.proofs.ExpressionFacts.{none_in_list, list_goes_on, list_is_read}
+use Rattle.bql_grammar.proofs.BeginningFacts.{first_in_list, next_in_list}
 use Rattle.bql_parser.specs.Grammar.{target, targets}
 use Rattle.bql_parser.specs.Read.{target_of, targets_of}
 use Rattle.bql_parser.specs.Stopping.{IsFresh}
-use Rattle.bql_parser.proofs.MovingFacts.{target_moves}
+use Rattle.bql_parser.proofs.MovingFacts.{target_moves, target_again}
 use Rattle.bql_parser.proofs.ClauseFacts.{targets_first, targets_more, stuck_from}
 use Rattle.bql_parser.proofs.ClauseFacts.{same_place, reaches_another}
 use Rattle.bql_parser.proofs.reading.targets.Goals as goal
@@ -17,7 +18,8 @@ returns-in-Err c =
     let t = target c.args.text.now in
     stuck_from IsFresh IsFresh t (targets c.args.text.now) target_of targets_of c.args.tokens.now
     c.args.tokens.now c.in-Err.stuck (no_list t (λ rest. refl) c.args.tokens.now)
-    (same_place IsFresh c.args.tokens.now) c.in-Err.ensures.read
+    (same_place IsFresh c.args.tokens.now) (first_in_list t (λ rest. refl) c.args.tokens.now)
+    c.in-Err.ensures.read
 
 pub loop-behind-init : goal.loop-behind-init
 loop-behind-init c =
@@ -35,6 +37,8 @@ returns-in-Err-target c =
     (λ none. none_in_list t (λ rest. refl) c.args.tokens.now _ _ _ _ c.loop-behind.invariant
     c.in-Some.ensures.front none)
     (reaches_another t (target_moves c.args.text.now) c.args.tokens.now _ _ _ _
+    c.loop-behind.invariant c.in-Some.ensures.front)
+    (λ e. next_in_list t (λ rest. refl) (target_again c.args.text.now) c.args.tokens.now _ _ _ _ e
     c.loop-behind.invariant c.in-Some.ensures.front)
     c.in-Err-target.ensures.read
 

@@ -6,6 +6,7 @@ use Rattle.bql_tree.specs.Part.{part_of}
 use Rattle.bql_parser.specs.Grammar.{named}
 use Rattle.bql_parser.specs.Piece.{piece}
 use Rattle.bql_parser.specs.Read.{target_of}
+use Rattle.bql_parser.proofs.LackingFacts.{begins_name}
 use Rattle.bql_parser.proofs.ClauseFacts.{nothing_behind}
 use Rattle.bql_parser.proofs.reading.with_name.Goals as goal
 
@@ -15,4 +16,4 @@ returns-in_default-after c =
     nothing_behind kind.As refl (of_kind kind.Name) (λ word name. made (named p name))
     (made record { name = piece c.args.text.now p.start p.end; part = p }) target_of
     c.args.tokens.now _ c.in-Some.behind.now _ c.before-in_default-after.ensures
-    c.in-Some.ensures.front c.in_default-after.ensures.front
+    c.in-Some.ensures.front c.in_default-after.ensures.front (λ t. begins_name (named p))
