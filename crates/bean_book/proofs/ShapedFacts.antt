@@ -34,6 +34,7 @@ use Rattle.bean_parser.specs.SmallPart.{IsShortPrice, IsShortValue, IsSmallPosti
 use Rattle.bean_transactions.specs.Tried.{booked_leg, whole_at, worth_of}
 use Rattle.bean_transactions.specs.declared.line.Posted.{Posted}
 use Rattle.number_texts.proofs.LengthFacts.{length-day, short_number}
+use Rattle.posting_table.specs.Parts as parts
 use Rattle.posting_table.specs.Parts.{HasShortTexts, HasSmallParts, IsShortLot, IsShortSet}
 use Rattle.posting_table.specs.Shaped.{AreShort}
 use Rattle.query_rows.specs.Shaped.{IsShortIfThere}
@@ -43,7 +44,7 @@ use Rattle.query_values.specs.TextSet.{set_of}
 use Rattle.theory.proofs.OnceFacts.{all_once, few_once}
 use Rattle.bean_book.specs.Metadata.{amount_text, item_of, items_of, num_text, text_of}
 use Rattle.bean_book.specs.Rows.{entry_of, link_in, padding_entry, padding_row}
-use Rattle.bean_book.specs.Rows.{row_by, row_of, tag_in}
+use Rattle.bean_book.specs.Rows.{row_by, row_of, tag_in, unit_price}
 use Rattle.bean_book.specs.Tame.{IsTameKept}
 
 -- ---- texts
@@ -156,6 +157,13 @@ worth_short units None (price.PerUnit a) u h k = short_currency a.currency k
 worth_short units None (price.Total a) u h k = short_currency a.currency k
 worth_short units None price.OutsideProfile u h k = short_currency units.currency u
 
+-- the currency of a price
+price_short : (p : prices.Price) → IsShortPrice p → parts.IsShortPrice (unit_price p)
+price_short price.Absent h = tt
+price_short (price.PerUnit amount) h = short_currency amount.currency h
+price_short (price.Total amount) h = tt
+price_short price.OutsideProfile h = tt
+
 row_by_small : (e : Entry) (line : ℕ) (w : Option Posting) (p : Posted) → HasShortTexts e
     → IsSmallPosted p → IsLight (leg.Whole (whole_at w p)) → IfSome w IsSmallPosting
     → line ≤ most → HasSmallParts (row_by e line w p)
@@ -168,6 +176,7 @@ row_by_small e line None p texts small light written at = record {
   value = value_small p.units p.lot price.Absent light;
   weight = light;
   weight_currency = worth_short p.units p.lot price.Absent small.currency small.lot tt;
+  price = tt;
   line = at;
   texts = tt;
 }
@@ -181,6 +190,7 @@ row_by_small e line (Some w) p texts small light written at = record {
   weight = light;
   weight_currency =
       worth_short p.units p.lot w.details.price small.currency small.lot written.price;
+  price = price_short w.details.price written.price;
   line = written.line;
   texts = short_items w.details.metadata written.metadata;
 }
@@ -217,6 +227,7 @@ padding_small n account currency count h a c few =
       value = omega arith;
       weight = omega (arith, wide, few);
       weight_currency = short_currency currency c;
+      price = tt;
       line = h.line;
       texts = tt;
     }

@@ -8,6 +8,8 @@ use Rattle.bean_base.specs.declared.flags.Flag.{Flag}
 use Rattle.bean_grammar.specs.declared.mark.Mark.{Mark}
 use Rattle.bean_grammar.specs.declared.mark.Mark.TheVariants.{Tag, Link}
 use Rattle.bean_postings.specs.declared.posting.Posting.{Posting}
+use Rattle.bean_postings.specs.declared.price.Price as prices
+use Rattle.bean_postings.specs.declared.price.Price.TheVariants.{PerUnit}
 use Rattle.bean_postings.specs.declared.posting.Units.{Units}
 use Rattle.bean_postings.specs.declared.posting.Units.TheVariants as units
 use Rattle.bean_interp.specs.Weight.{at_8, currency_of, weight_of}
@@ -66,6 +68,14 @@ abbrev pub items_in : Option Posting → List MetaItem
 items_in None = []
 items_in (Some w) = items_of w.details.metadata
 
+-- what a unit is priced at
+abbrev pub unit_price : prices.Price → Option Amount
+unit_price (PerUnit amount) = Some amount
+unit_price other = None
+
+abbrev pub price_in : Option Posting → Option Amount
+price_in written = option_and_then (λ w. unit_price w.details.price) written
+
 abbrev pub position_of : Posted → Position
 position_of p = record {
   key = record { currency = p.units.currency; lot = p.lot };
@@ -81,6 +91,7 @@ row_by e line written p = record {
   account = p.account;
   position = position_of p;
   weight = weight_by (whole_at written p);
+  price = price_in written;
   metadata = items_in written;
   line = line_in line written;
   flag = flag_in written;
@@ -114,6 +125,7 @@ padding_row n account currency count = record {
   account = account;
   position = record { key = record { currency = currency; lot = None }; count = count };
   weight = record { count = count *ℤ pos (10 ^ 8); currency = currency };
+  price = None;
   metadata = [];
   line = n.place.line;
   flag = None;

@@ -41,6 +41,7 @@ fn padding_row<'a>(
             count: count * 100_000_000,
             currency: currency.lend(),
         },
+        price: None,
         metadata: Metadata::empty(),
         line: noted.place.line,
         flag: None,

@@ -10,9 +10,10 @@ ghost use Rattle.bean_book.specs.Tame.{IsTameKept};
 
 use crate::entries::entry_of;
 use crate::metadata::metadata_of;
+use bean_base::Amount;
 use bean_base::limits::MOST_POSTINGS;
 use bean_lots::{Key, Position};
-use bean_postings::Posting;
+use bean_postings::{Posting, Price};
 use bean_replay::{BookFault, Kept};
 use bean_transactions::{Posted, whole};
 use posting_table::{Entry, Ledger, Metadata, Row, Shared, Weight};
@@ -105,7 +106,17 @@ fn position_of<'a>(posted: &Posted<'a>) -> Position<'a>
     }
 }
 
-/// The row of a booked posting, which has the metadata of the written one.
+/// What a unit of a written posting is priced at.
+fn price_of<'a>(written: &Posting<'a>) -> Option<Amount<'a>>
+    ensures { result ≡ spec.unit_price written.now.details.price }
+{
+    match &written.details.get()?.price {
+        Price::PerUnit(price) => Some(price.get().lend()),
+        _ => None,
+    }
+}
+
+/// The row of a booked posting, which has the metadata and the price of the written one.
 fn row_of<'a>(
     entry: &Shared<Entry<'a>>,
     line: usize,
@@ -119,15 +130,20 @@ fn row_of<'a>(
     ensures { IfOk result (λ row. row
         ≡ spec.row_of entry.now line postings.now posted.now) }
 {
-    let (line, flag) = match postings.get(posted.written) {
-        Some(written) => (written.details.line(), written.details.flag()),
-        None => (line, None),
+    let (line, flag, price) = match postings.get(posted.written) {
+        Some(written) => (
+            written.details.line(),
+            written.details.flag(),
+            price_of(written),
+        ),
+        None => (line, None, None),
     };
     Ok(Row {
         entry: entry.share()?,
         account: posted.account.lend(),
         position: position_of(posted),
         weight: weight_of(postings, posted),
+        price,
         metadata,
         line,
         flag,
