@@ -39,7 +39,7 @@
 #![tactic(auto)]
 
 mod due;
-mod fault;
+mod cause;
 mod fill;
 mod lacks;
 mod leg;
@@ -48,7 +48,7 @@ mod scales;
 mod sums;
 mod weight;
 
-pub use fault::{CompletionFault, WeighFault};
+pub use cause::{CompletionCause, WeighCause, completion_refusal};
 pub use fill::Fill;
 pub use leg::{Leg, Whole, Worth};
 pub use scales::Scales;

@@ -30,7 +30,8 @@ use bean_load::Placed;
 use bean_pad::Padder;
 use bean_parser::{Directive, DirectiveKind};
 use bean_postings::Posting;
-use bean_transactions::{Head, Holdings, LineFault, Methods, Stop, Tried, try_transaction};
+use bean_transactions::{Head, Holdings, LineFault, Methods, Tried, try_transaction};
+use refusals::Refusal;
 use std::alloc::{AllocError, AllocFailed, Global};
 
 /// Why nothing is booked.
@@ -206,8 +207,8 @@ impl<'a> Booker<'a> {
             postings,
         ) {
             Ok(tried) => self.keep(number, at, postings, tried),
-            Err(Stop::Fault(fault)) => self.drop_with(number, at, fault),
-            Err(Stop::OutOfMemory) => Err(BookFault::OutOfMemory),
+            Err(Refusal::Refused(fault)) => self.drop_with(number, at, fault),
+            Err(Refusal::OutOfMemory) => Err(BookFault::OutOfMemory),
         }
     }
 

@@ -8,7 +8,7 @@ use Rattle.std.specs.Str.{is_utf8}
 use Rattle.bean_base.specs.CalendarDay as calendar
 use Rattle.query_values.specs.declared.operation.Binary.TheVariants as binary
 use Rattle.query_values.specs.declared.operation.Aggregate.TheVariants as aggregates
-use Rattle.query_code.specs.declared.refusal.Cause.TheVariants.{Magic, Version, BadField, NotUtf8}
+use Rattle.query_code.specs.declared.cause.FileCauseKind.TheVariants.{Magic, Version, BadField, NotUtf8}
 use Rattle.query_code.specs.declared.instruction.Push.TheVariants as push
 use Rattle.query_code.specs.declared.instruction.Unary.TheVariants as unary
 use Rattle.query_code.specs.declared.instruction.Instruction.{Instruction}

@@ -3,4 +3,4 @@ pub mod InstructionForm
 pub mod TextForm
 pub mod QueryFile
 pub mod Listing
-pub mod Cause
+pub mod FileCause

@@ -26,7 +26,7 @@ returns-clause-tried c = λ s is.
     subst (λ l. Judges (booked_legs ps l) (Err c.in-Err.fault)) c.as_slice.ensures.value
     c.in-Err.ensures in
     let stops =
-    c.stop_of.ensures (booked_legs ps qs) (wide_as_written ps qs c.in-Err.fault judged) in
-    stopped_as_written s ps qs c.stop_of.result c.in_ok-posted.ensures c.requires.inside
-    (subst (λ n. StopsAt (LacksOrIsWide n (booked_legs ps qs)) c.stop_of.result)
+    c.refusal_of.ensures (booked_legs ps qs) (wide_as_written ps qs c.in-Err.fault judged) in
+    stopped_as_written s ps qs c.refusal_of.result c.in_ok-posted.ensures c.requires.inside
+    (subst (λ n. StopsAt (LacksOrIsWide n (booked_legs ps qs)) c.refusal_of.result)
     (sym (ap (λ (h : Head). h.line) is)) stops)

@@ -28,16 +28,16 @@ returns-in-Ok-clause-standing c = λ m past st is count.
     (c.keep.ensures.standing m past st d (reweighed m past st c.args.self.now _ is)
     c.place_of-at.ensures count)
 
-pub returns-in-Err-Fault-clause-standing : goal.returns-in-Err-Fault-clause-standing
-returns-in-Err-Fault-clause-standing c = λ m past st is count.
+pub returns-in-Err-Refused-clause-standing : goal.returns-in-Err-Refused-clause-standing
+returns-in-Err-Refused-clause-standing c = λ m past st is count.
     let d = c.args.directive.now in
     let ps = c.args.postings.now in
     let s = setting_of m st d in
     let told =
-    c.in-Err-Fault.ensures.tried s
+    c.in-Err-Refused.ensures.tried s
     (settled m past st d c.args.self.now c.place_of-at.result is c.place_of-at.ensures) in
-    let tries = subst (StopsAt (λ f. Tries s ps (Err f))) c.in-Err-Fault.field-0-is told in
-    on_ok_weaker c.drop_with.result (λ standing. (Err c.in-Err-Fault.fault, tries, standing))
+    let tries = subst (StopsAt (λ f. Tries s ps (Err f))) c.in-Err-Refused.field-0-is told in
+    on_ok_weaker c.drop_with.result (λ standing. (Err c.in-Err-Refused.fault, tries, standing))
     (c.drop_with.ensures.standing m past st d ps (reweighed m past st c.args.self.now _ is)
     c.place_of-at.ensures)
 
