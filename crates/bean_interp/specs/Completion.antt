@@ -7,6 +7,7 @@ use Rattle.bean_interp.specs.Due.{IsDue}
 use Rattle.bean_interp.specs.Lacking.{lack_too_much}
 use Rattle.bean_interp.specs.Residual.{AreInRange, lacking, residual}
 use Rattle.bean_interp.specs.Tolerance.{precision}
+use Rattle.refusals.specs.declared.refusal.Refusal.{Refusal}
 use Rattle.bean_interp.specs.declared.cause.CompletionCause.{CompletionCause}
 use Rattle.bean_interp.specs.declared.cause.CompletionCause.TheVariants as completion
 use Rattle.bean_interp.specs.declared.cause.WeighCause.TheVariants.{TooWide}

@@ -17,6 +17,7 @@ impl Cause for WeighCause {
     ghost use Rattle.bean_interp.specs.Causes as rule;
 
     ghost code_of = { rule.weighing_code };
+
     ghost place_of = { rule.weighing_place };
 
     fn code(&self) -> &'static str {
@@ -45,6 +46,7 @@ impl Cause for CompletionCause {
     ghost use Rattle.bean_interp.specs.Causes as rule;
 
     ghost code_of = { rule.completion_code };
+
     ghost place_of = { rule.completion_place };
 
     fn code(&self) -> &'static str {

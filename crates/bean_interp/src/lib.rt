@@ -38,8 +38,8 @@
 //! only where legs lack something, or where more currencies come than before.
 #![tactic(auto)]
 
-mod due;
 mod cause;
+mod due;
 mod fill;
 mod lacks;
 mod leg;

@@ -6,15 +6,15 @@ ghost use Rattle.std.specs.Prelude.{length, true};
 ghost use Rattle.std.specs.List.{list_all};
 ghost use Rattle.bean_interp.specs.Lacking.{is_whole};
 
-use crate::due::number_due;
 use crate::cause::{CompletionCause, WeighCause, completion_refusal};
-use refusals::Refusal;
+use crate::due::number_due;
 use crate::fill::Fill;
 use crate::lacks::lack_too_much;
 use crate::leg::Leg;
 use crate::precision::{Precisions, half_unit};
 use crate::sums::Sums;
 use bean_base::{Amount, Currency, List};
+use refusals::Refusal;
 use std::alloc::{AllocError, Global};
 
 /// What the legs of one transaction weigh together, and the decimals to which it is exact.
@@ -143,7 +143,12 @@ impl<'a> Scales<'a> {
     }
 
     /// Adds what a leg takes of the currency at an index, where that lacks something.
-    fn fill_at(&self, leg: usize, index: usize, fills: &mut Vec<Fill<'a>>) -> Result<(), Refusal<WeighCause>>
+    fn fill_at(
+        &self,
+        leg: usize,
+        index: usize,
+        fills: &mut Vec<Fill<'a>>,
+    ) -> Result<(), Refusal<WeighCause>>
         requires { index < length self.now.sums }
         ensures filled { (legs : prelude.List Leg) (d : prelude.List ℕ) → AreSet self.now legs
             → OnOk result (AreFilled legs (gaps_in legs leg (currency_at legs index d ∷ []))
@@ -199,7 +204,11 @@ impl<'a> Scales<'a> {
     }
 
     /// Adds what the legs on the scales take.
-    fn fill_all(&self, legs: &[Leg<'a>], fills: &mut Vec<Fill<'a>>) -> Result<(), Refusal<WeighCause>>
+    fn fill_all(
+        &self,
+        legs: &[Leg<'a>],
+        fills: &mut Vec<Fill<'a>>,
+    ) -> Result<(), Refusal<WeighCause>>
         requires { AreSet self.now legs.now }
         ensures filled { OnOk result
             (AreFilled legs.now (gaps legs.now) fills.old.items fills.new.items) }

@@ -10,11 +10,11 @@ ghost use Rattle.bean_interp.specs.Sums.{Fits, IsNarrow, added, entry_of, is_zer
 ghost use Rattle.bean_interp.specs.Sums.{with_leg};
 
 use crate::cause::WeighCause;
-use refusals::Refusal;
 use crate::leg::Leg;
 use crate::weight::{TooWide, Weight};
 use bean_base::Currency;
 use indexmap::IndexMap;
+use refusals::Refusal;
 use std::alloc::Global;
 use std::marker::Model;
 

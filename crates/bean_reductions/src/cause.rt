@@ -17,6 +17,7 @@ impl Cause for LotCause {
     ghost use Rattle.bean_reductions.specs.LotCause as rule;
 
     ghost code_of = { rule.code_of };
+
     ghost place_of = { rule.place_of };
 
     fn code(&self) -> &'static str {

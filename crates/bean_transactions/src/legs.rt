@@ -11,9 +11,9 @@ ghost use Rattle.bean_transactions.specs.Tried.{whole_at};
 use crate::line::{Line, Posted};
 use bean_base::{Apart, Num};
 use bean_interp::{Leg, Scales, WeighCause, Whole, Worth};
-use refusals::Refusal;
 use bean_lots::Lot;
 use bean_postings::{Posting, Price, Units};
+use refusals::Refusal;
 use std::alloc::{AllocError, Global};
 
 /// What units are worth of which this is known without a cost: a cost goes before a price.

@@ -14,14 +14,14 @@ ghost use Rattle.bean_transactions.specs.declared.line.Posted.{Posted};
 
 use crate::holdings::Holdings;
 use crate::line::{Line, Posted};
+use crate::line_fault::LineFault;
 use crate::methods::Methods;
 use crate::outcome::{Outcome, outcome_of};
 use crate::setting::Head;
 use crate::stock::Stock;
-use crate::line_fault::LineFault;
-use refusals::Refusal;
 use bean_lots::Inventory;
 use bean_postings::{Cost, Posting};
+use refusals::Refusal;
 use std::alloc::{AllocError, Global};
 
 /// More takes than any memory holds.

@@ -8,13 +8,12 @@ ghost use Rattle.bean_transactions.specs.Tried.{KnowsBalance, TriesOrLacks, is_o
 
 use crate::legs::judge;
 use crate::line::{Posted, Tried};
-use crate::setting::Head;
 use crate::line_fault::{LineFault, refusal_of};
-use refusals::Refusal;
+use crate::setting::Head;
 use bean_base::List;
 use bean_interp::{Scales, completion_refusal};
-use refusals::Refusal;
 use bean_postings::{Cost, Posting, Units};
+use refusals::Refusal;
 use std::alloc::{AllocError, Global};
 
 /// Whether a posting has no cost.

@@ -14,16 +14,15 @@ use crate::completed::completed;
 use crate::holdings::Holdings;
 use crate::legs::{judge, legs_of};
 use crate::line::{Line, Posted, Tried};
+use crate::line_fault::{LineFault, refusal_of};
 use crate::lines::line_up;
 use crate::methods::Methods;
 use crate::plain::{are_plain, try_plain};
 use crate::setting::Head;
-use crate::line_fault::{LineFault, refusal_of};
-use refusals::Refusal;
 use bean_base::{FaultKind, List};
 use bean_interp::{Scales, WeighCause};
-use refusals::Refusal;
 use bean_postings::Posting;
+use refusals::Refusal;
 use std::alloc::{AllocError, Global};
 
 fn are_outside_profile(postings: &[Posting<'_>]) -> bool

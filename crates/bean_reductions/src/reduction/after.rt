@@ -17,10 +17,10 @@ use super::queue::{Candidate, is_opposite, push_candidate, selects};
 use super::takes::reduce_candidates;
 use super::{Method, Selector};
 use crate::cause::LotCause;
-use refusals::Refusal;
 use bean_base::{Currency, Num};
 use bean_lots::inventory::{Positions, is_lot_of};
 use bean_lots::{Inventory, Key, Lot};
+use refusals::Refusal;
 use std::alloc::{AllocError, Global};
 
 /// Adds the candidate that is left of what is held under a key, where one is, and tells its units.

@@ -13,10 +13,10 @@ use super::queue::Candidate;
 use super::takes::reduce_candidates;
 use super::{Method, Selector};
 use crate::cause::LotCause;
-use refusals::Refusal;
 use bean_base::Num;
 use bean_lots::inventory::Positions;
 use bean_lots::{Inventory, Key, Lot};
+use refusals::Refusal;
 use std::alloc::{AllocError, Global};
 
 /// Whether a key is that of a lot of an earlier day than the candidate that was found last.

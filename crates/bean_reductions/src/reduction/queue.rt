@@ -10,8 +10,8 @@ ghost use Rattle.bean_reductions.specs.Filling.{Judges};
 
 use super::{Method, Selector};
 use crate::cause::LotCause;
-use refusals::Refusal;
 use bean_lots::{Inventory, Key, Lot};
+use refusals::Refusal;
 use std::alloc::{AllocError, Global};
 use std::cmp::Reverse;
 use std::marker::Model;
@@ -169,7 +169,11 @@ fn comes_to(queue: &[Candidate<'_>], want: u128) -> bool
 }
 
 /// Whether a queue can be taken from.
-pub(crate) fn judge(method: Method, queue: &[Candidate<'_>], want: u128) -> Result<(), Refusal<LotCause>>
+pub(crate) fn judge(
+    method: Method,
+    queue: &[Candidate<'_>],
+    want: u128,
+) -> Result<(), Refusal<LotCause>>
     ensures { Judges method queue.now want result }
 {
     if queue.is_empty() {

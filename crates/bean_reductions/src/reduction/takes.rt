@@ -14,9 +14,9 @@ ghost use Rattle.bean_reductions.specs.declared.reduction.Method.{Method};
 use super::queue::{Candidate, arrange, candidates, judge};
 use super::{Method, Selector};
 use crate::cause::LotCause;
-use refusals::Refusal;
 use bean_base::Num;
 use bean_lots::{Inventory, Lot};
+use refusals::Refusal;
 use std::alloc::{AllocError, Global};
 
 /// The number of that many units, with the sign of the want.

@@ -1,6 +1,6 @@
 //! What the commands share that ask about a ledger.
 ghost use Rattle.std.specs.Prelude.{List, ℕ};
-ghost use Rattle.bean_load.specs.Texts as texts;
+ghost use Rattle.bean_load.specs.Texts as gathered;
 ghost use Rattle.bq.specs.Ledgers.{about_ledger};
 ghost use Rattle.bq.specs.Runs.{ComesOf, Finds};
 ghost use Rattle.bq.specs.declared.verdict.Verdict as verdicts;
@@ -13,7 +13,7 @@ use stores::Source;
 
 /// What is asked about a ledger.
 pub trait Question {
-    ghost says: { texts.Texts → verdicts.Verdict → List ℕ → Type 0 };
+    ghost says: { gathered.Texts → verdicts.Verdict → List ℕ → Type 0 };
 
     /// What its texts answer.
     fn answer(&self, alloc: Global, texts: &Texts) -> Result<Answer, Refusal>
