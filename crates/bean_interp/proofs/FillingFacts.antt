@@ -15,8 +15,10 @@ use Rattle.std.specs.List.{AllByRecursion}
 use Rattle.bean_interp.specs.Completion.{Fills, gap_of}
 use Rattle.bean_interp.specs.Filling.{AreFilled, HaveNumbers, all_currencies, currency_at, gaps_in}
 use Rattle.bean_interp.specs.Scales.{GivesFill, HasNoFill, IsFill}
-use Rattle.bean_interp.specs.declared.fault.WeighFault.{WeighFault}
-use Rattle.bean_interp.specs.declared.fault.WeighFault.TheVariants.{OutOfMemory, TooWide}
+use Rattle.refusals.specs.declared.refusal.Refusal.{Refusal}
+use Rattle.bean_interp.specs.declared.cause.WeighCause.{WeighCause}
+use Rattle.bean_interp.specs.declared.cause.WeighCause.TheVariants.{TooWide}
+use Rattle.refusals.specs.declared.refusal.Refusal.TheVariants.{OutOfMemory, Refused}
 use Rattle.bean_interp.specs.declared.fill.Fill.{Fill}
 use Rattle.bean_interp.specs.declared.leg.Leg.{Leg}
 
@@ -52,9 +54,9 @@ joined legs gs hs a b c first second = record {
 }
 
 -- the cause of a refusal
-pub no_fill : (legs : List Leg) (leg : ℕ) (c : List ℕ) (fault : WeighFault)
+pub no_fill : (legs : List Leg) (leg : ℕ) (c : List ℕ) (fault : Refusal WeighCause)
     → GivesFill legs leg c (Err fault) → HasNoFill legs c
-no_fill legs leg c TooWide gives = gives
+no_fill legs leg c (Refused TooWide) gives = gives
 no_fill legs leg c OutOfMemory gives = absurd gives
 
 -- ---- gaps with numbers

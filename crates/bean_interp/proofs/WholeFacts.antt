@@ -5,9 +5,11 @@ use Rattle.std.specs.List.{list_all}
 use Rattle.bean_interp.specs.Completion.{AreFills, Completes, gaps_from}
 use Rattle.bean_interp.specs.Lacking.{is_whole, lack_too_much}
 use Rattle.bean_interp.specs.Residual.{AreInRange}
-use Rattle.bean_interp.specs.declared.fault.CompletionFault.TheVariants.{Weighing}
-use Rattle.bean_interp.specs.declared.fault.WeighFault.{WeighFault}
-use Rattle.bean_interp.specs.declared.fault.WeighFault.TheVariants as fault
+use Rattle.bean_interp.specs.Causes.{of_weighing}
+use Rattle.refusals.specs.declared.refusal.Refusal.{Refusal}
+use Rattle.bean_interp.specs.declared.cause.WeighCause.{WeighCause}
+use Rattle.bean_interp.specs.declared.cause.WeighCause.TheVariants as weigh
+use Rattle.refusals.specs.declared.refusal.Refusal.TheVariants.{OutOfMemory, Refused}
 use Rattle.bean_interp.specs.declared.leg.Leg.{Leg}
 use Rattle.bean_interp.specs.declared.leg.Leg.TheVariants.{Whole, MissingNumber, MissingAmount}
 use Rattle.bean_interp.proofs.LackingFacts.{none_clash}
@@ -33,8 +35,8 @@ none_filled legs whole = record {
 }
 
 -- what is too wide of such legs is a weight or a sum
-pub too_wide : (legs : List Leg) (r : Result (Unit {0}) WeighFault) (e : WeighFault)
-    → list_all is_whole legs ≡ true → r ≡ Err e → (r ≡ Err fault.TooWide → ¬ AreInRange legs)
-    → Completes legs (Err (Weighing e))
-too_wide legs r fault.TooWide whole is wide = (none_lack legs whole, λ both. wide is both.0)
-too_wide legs r fault.OutOfMemory whole is wide = tt
+pub too_wide : (legs : List Leg) (r : Result (Unit {0}) (Refusal WeighCause)) (e : Refusal WeighCause)
+    → list_all is_whole legs ≡ true → r ≡ Err e → (r ≡ Err (Refused weigh.TooWide) → ¬ AreInRange legs)
+    → Completes legs (Err (of_weighing e))
+too_wide legs r (Refused weigh.TooWide) whole is wide = (none_lack legs whole, λ both. wide is both.0)
+too_wide legs r OutOfMemory whole is wide = tt

@@ -4,8 +4,10 @@ use Rattle.std.specs.Int.RustNames.{unsigned_abs}
 use Rattle.std.specs.List.{list_all}
 use Rattle.bean_interp.specs.Residual.{AreInRange, currencies, residual, weighed}
 use Rattle.bean_interp.specs.Tolerance.{tolerance}
-use Rattle.bean_interp.specs.declared.fault.WeighFault.{WeighFault}
-use Rattle.bean_interp.specs.declared.fault.WeighFault.TheVariants.{TooWide, OutOfMemory}
+use Rattle.refusals.specs.declared.refusal.Refusal.{Refusal}
+use Rattle.bean_interp.specs.declared.cause.WeighCause.{WeighCause}
+use Rattle.bean_interp.specs.declared.cause.WeighCause.TheVariants.{TooWide}
+use Rattle.refusals.specs.declared.refusal.Refusal.TheVariants.{OutOfMemory, Refused}
 use Rattle.bean_interp.specs.declared.leg.Leg.{Leg}
 
 -- the weights in a currency sum to no more than its tolerance, sign left off
@@ -15,7 +17,7 @@ is_even legs c = nat_le (unsigned_abs (residual legs c)) (tolerance legs c)
 abbrev pub is_balanced : List Leg → Bool
 is_balanced legs = list_all (is_even legs) (currencies (weighed legs))
 
-abbrev pub Judges : List Leg → Result Bool WeighFault → Type 0
+abbrev pub Judges : List Leg → Result Bool (Refusal WeighCause) → Type 0
 Judges legs (Ok b) = (b ≡ is_balanced legs) × AreInRange legs
-Judges legs (Err TooWide) = ¬ AreInRange legs
+Judges legs (Err (Refused TooWide)) = ¬ AreInRange legs
 Judges legs (Err OutOfMemory) = ⊤

@@ -7,9 +7,11 @@ use Rattle.bean_interp.specs.Due.{IsDue}
 use Rattle.bean_interp.specs.Lacking.{lack_too_much}
 use Rattle.bean_interp.specs.Residual.{AreInRange, lacking, residual}
 use Rattle.bean_interp.specs.Tolerance.{precision}
-use Rattle.bean_interp.specs.declared.fault.CompletionFault.{CompletionFault}
-use Rattle.bean_interp.specs.declared.fault.CompletionFault.TheVariants.{LackTooMuch, Weighing}
-use Rattle.bean_interp.specs.declared.fault.WeighFault.TheVariants.{TooWide, OutOfMemory}
+use Rattle.refusals.specs.declared.refusal.Refusal.{Refusal}
+use Rattle.bean_interp.specs.declared.cause.CompletionCause.{CompletionCause}
+use Rattle.bean_interp.specs.declared.cause.CompletionCause.TheVariants as completion
+use Rattle.bean_interp.specs.declared.cause.WeighCause.TheVariants.{TooWide}
+use Rattle.refusals.specs.declared.refusal.Refusal.TheVariants.{OutOfMemory, Refused}
 use Rattle.bean_interp.specs.declared.fill.Fill.{Fill}
 use Rattle.bean_interp.specs.declared.leg.Leg.{Leg}
 use Rattle.bean_interp.specs.declared.leg.Leg.TheVariants.{Whole, MissingNumber, MissingAmount}
@@ -49,9 +51,9 @@ abbrev pub CanBeFilled : List Leg → Type 0
 CanBeFilled legs = AllByRecursion (λ g. (n : Num) × Fills legs g.1 n) (gaps legs)
 
 -- what the legs take; too much may lack, or a weight, a sum or what is due may be too wide
-abbrev pub Completes : List Leg → Result (List Fill) CompletionFault → Type 0
+abbrev pub Completes : List Leg → Result (List Fill) (Refusal CompletionCause) → Type 0
 Completes legs (Ok fills) = (lack_too_much legs ≡ false) × AreInRange legs × AreFills legs fills
-Completes legs (Err LackTooMuch) = lack_too_much legs ≡ true
-Completes legs (Err (Weighing TooWide)) =
+Completes legs (Err (Refused completion.LackTooMuch)) = lack_too_much legs ≡ true
+Completes legs (Err (Refused completion.TooWide)) =
     (lack_too_much legs ≡ false) × ¬ (AreInRange legs × CanBeFilled legs)
-Completes legs (Err (Weighing OutOfMemory)) = ⊤
+Completes legs (Err OutOfMemory) = ⊤

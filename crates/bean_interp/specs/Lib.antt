@@ -9,3 +9,4 @@ pub mod Filling
 pub mod Evened
 pub mod Scales
 pub mod Sums
+pub mod Causes

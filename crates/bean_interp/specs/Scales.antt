@@ -7,8 +7,10 @@ use Rattle.bean_interp.specs.Due.{HasNoDue}
 use Rattle.bean_interp.specs.Residual.{AreInRange, residual, weighed}
 use Rattle.bean_interp.specs.Sums.{table}
 use Rattle.bean_interp.specs.Tolerance.{precision}
-use Rattle.bean_interp.specs.declared.fault.WeighFault.{WeighFault}
-use Rattle.bean_interp.specs.declared.fault.WeighFault.TheVariants.{TooWide}
+use Rattle.refusals.specs.declared.refusal.Refusal.{Refusal}
+use Rattle.bean_interp.specs.declared.cause.WeighCause.{WeighCause}
+use Rattle.bean_interp.specs.declared.cause.WeighCause.TheVariants.{TooWide}
+use Rattle.refusals.specs.declared.refusal.Refusal.TheVariants.{Refused}
 use Rattle.bean_interp.specs.declared.fill.Fill.{Fill}
 use Rattle.bean_interp.specs.declared.leg.Leg.{Leg}
 use Rattle.bean_interp.specs.declared.scales.Scales.{Scales}
@@ -36,7 +38,7 @@ pub record IsFill (legs : List Leg) (leg : ℕ) (c : List ℕ) (f : Fill) : Type
   pub currency_is : f.amount.currency ≡ c
   pub fills : Fills legs c f.amount.number
 
-abbrev pub GivesFill : List Leg → ℕ → List ℕ → Result Fill WeighFault → Type 0
+abbrev pub GivesFill : List Leg → ℕ → List ℕ → Result Fill (Refusal WeighCause) → Type 0
 GivesFill legs leg c (Ok f) = IsFill legs leg c f
-GivesFill legs leg c (Err TooWide) = HasNoFill legs c
+GivesFill legs leg c (Err (Refused TooWide)) = HasNoFill legs c
 GivesFill legs leg c (Err e) = ⊥

@@ -38,8 +38,8 @@
 //! only where legs lack something, or where more currencies come than before.
 #![tactic(auto)]
 
+mod cause;
 mod due;
-mod fault;
 mod fill;
 mod lacks;
 mod leg;
@@ -48,7 +48,7 @@ mod scales;
 mod sums;
 mod weight;
 
-pub use fault::{CompletionFault, WeighFault};
+pub use cause::{CompletionCause, WeighCause, completion_refusal};
 pub use fill::Fill;
 pub use leg::{Leg, Whole, Worth};
 pub use scales::Scales;

@@ -6,14 +6,15 @@ ghost use Rattle.std.specs.Prelude.{length, true};
 ghost use Rattle.std.specs.List.{list_all};
 ghost use Rattle.bean_interp.specs.Lacking.{is_whole};
 
+use crate::cause::{CompletionCause, WeighCause, completion_refusal};
 use crate::due::number_due;
-use crate::fault::{CompletionFault, WeighFault};
 use crate::fill::Fill;
 use crate::lacks::lack_too_much;
 use crate::leg::Leg;
 use crate::precision::{Precisions, half_unit};
 use crate::sums::Sums;
 use bean_base::{Amount, Currency, List};
+use refusals::Refusal;
 use std::alloc::{AllocError, Global};
 
 /// What the legs of one transaction weigh together, and the decimals to which it is exact.
@@ -62,12 +63,12 @@ impl<'a> Scales<'a> {
     }
 
     /// Lays one more leg on the scales. Its decimals aren't noted.
-    pub fn add(&mut self, leg: &Leg<'a>) -> Result<(), WeighFault>
+    pub fn add(&mut self, leg: &Leg<'a>) -> Result<(), Refusal<WeighCause>>
         ensures weighed { OnOk result ((legs : prelude.List Leg) → AreWeighed self.old legs
             → AreWeighed self.new (legs ++ leg.now ∷ [])) }
         ensures noted { (legs : prelude.List Leg) → AreNoted self.old legs
             → AreNoted self.new legs }
-        ensures wide { result ≡ Err WeighFault.TooWide
+        ensures wide { result ≡ Err (Refusal.Refused WeighCause.TooWide)
             → (legs later : prelude.List Leg) → AreWeighed self.old legs
             → ¬ AreInRange (legs ++ leg.now ∷ later) }
     {
@@ -94,16 +95,16 @@ impl<'a> Scales<'a> {
     }
 
     /// Lays the legs of a transaction on the scales, in place of those that were there.
-    pub fn set(&mut self, legs: &[Leg<'a>]) -> Result<(), WeighFault>
+    pub fn set(&mut self, legs: &[Leg<'a>]) -> Result<(), Refusal<WeighCause>>
         ensures set { OnOk result (AreSet self.new legs.now) }
-        ensures wide { result ≡ Err WeighFault.TooWide → ¬ AreInRange legs.now }
+        ensures wide { result ≡ Err (Refusal.Refused WeighCause.TooWide) → ¬ AreInRange legs.now }
     {
         self.precisions.read(legs)?;
         self.sums.weigh(legs)
     }
 
     /// What a leg takes of a currency.
-    fn fill(&self, leg: usize, currency: &Currency<'a>) -> Result<Fill<'a>, WeighFault>
+    fn fill(&self, leg: usize, currency: &Currency<'a>) -> Result<Fill<'a>, Refusal<WeighCause>>
         ensures { (legs : prelude.List Leg) → AreSet self.now legs
             → GivesFill legs leg currency.now result }
     {
@@ -115,7 +116,7 @@ impl<'a> Scales<'a> {
                     currency: currency.lend(),
                 },
             }),
-            Err(_) => Err(WeighFault::TooWide),
+            Err(_) => Err(Refusal::Refused(WeighCause::TooWide)),
         }
     }
 
@@ -125,12 +126,12 @@ impl<'a> Scales<'a> {
         leg: usize,
         currency: &Currency<'a>,
         fills: &mut Vec<Fill<'a>>,
-    ) -> Result<(), WeighFault>
+    ) -> Result<(), Refusal<WeighCause>>
         ensures filled { (legs : prelude.List Leg) → AreSet self.now legs
             → OnOk result (AreFilled legs ((leg, currency.now) ∷ [])
             fills.old.items fills.new.items) }
         ensures none { (legs : prelude.List Leg) → AreSet self.now legs
-            → result ≡ Err WeighFault.TooWide → HasNoFill legs currency.now }
+            → result ≡ Err (Refusal.Refused WeighCause.TooWide) → HasNoFill legs currency.now }
     {
         match self.fill(leg, currency) {
             Ok(fill) => {
@@ -142,13 +143,18 @@ impl<'a> Scales<'a> {
     }
 
     /// Adds what a leg takes of the currency at an index, where that lacks something.
-    fn fill_at(&self, leg: usize, index: usize, fills: &mut Vec<Fill<'a>>) -> Result<(), WeighFault>
+    fn fill_at(
+        &self,
+        leg: usize,
+        index: usize,
+        fills: &mut Vec<Fill<'a>>,
+    ) -> Result<(), Refusal<WeighCause>>
         requires { index < length self.now.sums }
         ensures filled { (legs : prelude.List Leg) (d : prelude.List ℕ) → AreSet self.now legs
             → OnOk result (AreFilled legs (gaps_in legs leg (currency_at legs index d ∷ []))
             fills.old.items fills.new.items) }
         ensures none { (legs : prelude.List Leg) (d : prelude.List ℕ) → AreSet self.now legs
-            → result ≡ Err WeighFault.TooWide
+            → result ≡ Err (Refusal.Refused WeighCause.TooWide)
             → ¬ HaveNumbers legs (gaps_in legs leg (currency_at legs index d ∷ [])) }
     {
         let (currency, sum) = self.sums.at(index);
@@ -159,12 +165,12 @@ impl<'a> Scales<'a> {
     }
 
     /// Adds what a leg takes of each currency that lacks something, in order of first appearance.
-    fn fill_lacking(&self, leg: usize, fills: &mut Vec<Fill<'a>>) -> Result<(), WeighFault>
+    fn fill_lacking(&self, leg: usize, fills: &mut Vec<Fill<'a>>) -> Result<(), Refusal<WeighCause>>
         ensures filled { (legs : prelude.List Leg) → AreSet self.now legs
             → OnOk result (AreFilled legs (gaps_in legs leg (all_currencies legs))
             fills.old.items fills.new.items) }
         ensures none { (legs : prelude.List Leg) → AreSet self.now legs
-            → result ≡ Err WeighFault.TooWide
+            → result ≡ Err (Refusal.Refused WeighCause.TooWide)
             → ¬ HaveNumbers legs (gaps_in legs leg (all_currencies legs)) }
     {
         for index in 0..self.sums.len() {
@@ -182,12 +188,12 @@ impl<'a> Scales<'a> {
         number: usize,
         leg: &Leg<'a>,
         fills: &mut Vec<Fill<'a>>,
-    ) -> Result<(), WeighFault>
+    ) -> Result<(), Refusal<WeighCause>>
         ensures filled { (legs : prelude.List Leg) → AreSet self.now legs
             → OnOk result (AreFilled legs (gaps_of legs number leg.now)
             fills.old.items fills.new.items) }
         ensures none { (legs : prelude.List Leg) → AreSet self.now legs
-            → result ≡ Err WeighFault.TooWide
+            → result ≡ Err (Refusal.Refused WeighCause.TooWide)
             → ¬ HaveNumbers legs (gaps_of legs number leg.now) }
     {
         match leg {
@@ -198,11 +204,15 @@ impl<'a> Scales<'a> {
     }
 
     /// Adds what the legs on the scales take.
-    fn fill_all(&self, legs: &[Leg<'a>], fills: &mut Vec<Fill<'a>>) -> Result<(), WeighFault>
+    fn fill_all(
+        &self,
+        legs: &[Leg<'a>],
+        fills: &mut Vec<Fill<'a>>,
+    ) -> Result<(), Refusal<WeighCause>>
         requires { AreSet self.now legs.now }
         ensures filled { OnOk result
             (AreFilled legs.now (gaps legs.now) fills.old.items fills.new.items) }
-        ensures none { result ≡ Err WeighFault.TooWide → ¬ CanBeFilled legs.now }
+        ensures none { result ≡ Err (Refusal.Refused WeighCause.TooWide) → ¬ CanBeFilled legs.now }
     {
         for number in 0..legs.len() {
             match self.fill_leg(number, &legs[number], fills) {
@@ -218,13 +228,13 @@ impl<'a> Scales<'a> {
         &mut self,
         alloc: Global,
         legs: &[Leg<'a>],
-    ) -> Result<List<Fill<'a>>, CompletionFault>
+    ) -> Result<List<Fill<'a>>, Refusal<CompletionCause>>
         requires { list_all is_whole legs.now ≡ true }
         ensures { Completes legs.now result }
     {
         match self.sums.weigh(legs) {
             Ok(()) => Ok(List::new(Vec::new(alloc))),
-            Err(fault) => Err(CompletionFault::Weighing(fault)),
+            Err(fault) => Err(completion_refusal(fault)),
         }
     }
 
@@ -235,22 +245,22 @@ impl<'a> Scales<'a> {
         &mut self,
         alloc: Global,
         legs: &[Leg<'a>],
-    ) -> Result<List<Fill<'a>>, CompletionFault>
+    ) -> Result<List<Fill<'a>>, Refusal<CompletionCause>>
         ensures { Completes legs.now result }
     {
         if are_whole(legs) {
             return self.weigh_whole(alloc, legs);
         }
         if lack_too_much(alloc, legs)? {
-            return Err(CompletionFault::LackTooMuch);
+            return Err(Refusal::Refused(CompletionCause::LackTooMuch));
         }
         if let Err(fault) = self.set(legs) {
-            return Err(CompletionFault::Weighing(fault));
+            return Err(completion_refusal(fault));
         }
         let mut fills = Vec::new(alloc);
         match self.fill_all(legs, &mut fills) {
             Ok(()) => Ok(List::new(fills)),
-            Err(fault) => Err(CompletionFault::Weighing(fault)),
+            Err(fault) => Err(completion_refusal(fault)),
         }
     }
 

@@ -9,11 +9,12 @@ ghost use Rattle.bean_interp.specs.Residual.{AreInRange, Weighed, weighed};
 ghost use Rattle.bean_interp.specs.Sums.{Fits, IsNarrow, added, entry_of, is_zero, sum_with, table};
 ghost use Rattle.bean_interp.specs.Sums.{with_leg};
 
-use crate::fault::WeighFault;
+use crate::cause::WeighCause;
 use crate::leg::Leg;
 use crate::weight::{TooWide, Weight};
 use bean_base::Currency;
 use indexmap::IndexMap;
+use refusals::Refusal;
 use std::alloc::Global;
 use std::marker::Model;
 
@@ -117,23 +118,23 @@ impl<'a> Sums<'a> {
     }
 
     /// Adds the first weight in its currency.
-    fn push(&mut self, weight: Weight<'a>) -> Result<(), WeighFault>
+    fn push(&mut self, weight: Weight<'a>) -> Result<(), Refusal<WeighCause>>
         requires { entry_of self.old weight.currency ≡ pos 0 }
         ensures added { OnOk result
             (self.new ≡ added self.old weight.entry.currency weight.entry.count) }
         ensures narrow { OnOk result (IsNarrow (sum_with self.old weight.entry)) }
-        ensures memory { result ≢ Err WeighFault.TooWide }
+        ensures memory { result ≢ Err (Refusal.Refused WeighCause.TooWide) }
     {
         self.by_currency.insert(weight.currency, weight.count)?;
         Ok(())
     }
 
     /// Adds a weight, unless the sum of its currency would be too wide.
-    fn add(&mut self, weight: Weight<'a>) -> Result<(), WeighFault>
+    fn add(&mut self, weight: Weight<'a>) -> Result<(), Refusal<WeighCause>>
         ensures added { OnOk result
             (self.new ≡ added self.old weight.entry.currency weight.entry.count) }
         ensures narrow { OnOk result (IsNarrow (sum_with self.old weight.entry)) }
-        ensures wide { result ≡ Err WeighFault.TooWide
+        ensures wide { result ≡ Err (Refusal.Refused WeighCause.TooWide)
             → ¬ IsNarrow (sum_with self.old weight.entry) }
     {
         let Some(index) = self.index_of(&weight.currency) else {
@@ -141,7 +142,7 @@ impl<'a> Sums<'a> {
         };
         let sum = self.by_currency[index] + weight.count;
         if sum.unsigned_abs() >= MOST {
-            return Err(WeighFault::TooWide);
+            return Err(Refusal::Refused(WeighCause::TooWide));
         }
         self.by_currency[index] = sum;
         Ok(())
@@ -155,25 +156,25 @@ impl<'a> Sums<'a> {
     }
 
     /// Adds what a leg weighs.
-    pub fn add_leg(&mut self, leg: &Leg<'a>) -> Result<(), WeighFault>
+    pub fn add_leg(&mut self, leg: &Leg<'a>) -> Result<(), Refusal<WeighCause>>
         ensures added { OnOk result (self.new ≡ with_leg self.old leg.now) }
         ensures fits { OnOk result (Fits self.old leg.now) }
-        ensures wide { result ≡ Err WeighFault.TooWide → ¬ Fits self.old leg.now }
+        ensures wide { result ≡ Err (Refusal.Refused WeighCause.TooWide) → ¬ Fits self.old leg.now }
     {
         match leg {
             Leg::Whole(whole) => match whole.weight() {
                 Ok(weight) => self.add(weight),
-                Err(TooWide) => Err(WeighFault::TooWide),
+                Err(TooWide) => Err(Refusal::Refused(WeighCause::TooWide)),
             },
             Leg::MissingNumber(_) | Leg::MissingAmount => Ok(()),
         }
     }
 
     /// Takes the weights of legs, in place of those that it had.
-    pub fn weigh(&mut self, legs: &[Leg<'a>]) -> Result<(), WeighFault>
+    pub fn weigh(&mut self, legs: &[Leg<'a>]) -> Result<(), Refusal<WeighCause>>
         ensures table { OnOk result (self.new ≡ table (weighed legs.now)) }
         ensures in_range { OnOk result (AreInRange legs.now) }
-        ensures wide { result ≡ Err WeighFault.TooWide → ¬ AreInRange legs.now }
+        ensures wide { result ≡ Err (Refusal.Refused WeighCause.TooWide) → ¬ AreInRange legs.now }
     {
         self.clear();
         for leg in legs {

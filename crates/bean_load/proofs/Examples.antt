@@ -2,12 +2,13 @@
 use Rattle.std.proofs.Common.{◌≡◌, true, false, [], ◌∷◌, Ok, Err, refl}
 use Rattle.std.specs.Prelude.{codes}
 use Rattle.stores.specs.declared.source.SourceFault.TheVariants as source
+use Rattle.refusals.specs.declared.refusal.Refusal.TheVariants.{Refused}
 use Rattle.bean_load.specs.Gathered.{is_full, is_too_large, nothing, with_asked, with_fault}
 use Rattle.bean_load.specs.Gathered.{with_read}
 use Rattle.bean_load.specs.Gathering.{Comes, LineComes}
 use Rattle.bean_load.specs.Include.{joined}
 use Rattle.bean_load.specs.Placed.{part_at, parts_of}
-use Rattle.bean_load.specs.declared.fault.LoadFault.TheVariants.{Unreadable, TooLarge}
+use Rattle.bean_load.specs.declared.cause.LoadCause.TheVariants.{Unreadable, TooLarge}
 
 -- names
 beside : joined (codes "books/main") (codes "2014") ≡ codes "books/2014"
@@ -42,7 +43,7 @@ deepest : is_full 0 nothing ≡ true
 deepest = refl
 
 -- a ledger that can't be read
-unreadable : Comes (codes "l") ((codes "l", Err source.Failed) ∷ []) (Err Unreadable)
+unreadable : Comes (codes "l") ((codes "l", Err source.Failed) ∷ []) (Err (Refused Unreadable))
 unreadable = (Err source.Failed, [], refl, (refl, refl))
 
 -- a text that includes itself: F22 at its line, and nothing is asked
@@ -70,7 +71,7 @@ too_deep :
       line = 7;
       name =
           codes "a";
-    } (with_asked (codes "l") nothing) [] [] (Err TooLarge)
+    } (with_asked (codes "l") nothing) [] [] (Err (Refused TooLarge))
 too_deep = (refl, refl)
 
 -- the lines of a text with another at line 3: those before it stand in its first part, which is

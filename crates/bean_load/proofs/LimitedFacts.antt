@@ -7,6 +7,7 @@ use Rattle.std.specs.Str.{is_utf8}
 use Rattle.stores.specs.Reading.{Reading}
 use Rattle.stores.specs.declared.source.SourceFault.{SourceFault}
 use Rattle.stores.specs.declared.source.SourceFault.TheVariants as source
+use Rattle.refusals.specs.declared.refusal.Refusal.TheVariants.{Refused}
 use Rattle.bean_load.specs.Following.{IsGathered, texts_in}
 use Rattle.bean_load.specs.Gathered.{Gathered, is_full, is_too_large, nothing, texts_of, was_asked}
 use Rattle.bean_load.specs.Gathered.{with_asked, with_bytes, with_fault, with_file}
@@ -15,8 +16,9 @@ use Rattle.bean_load.specs.Gathering.{LineBy, Then, LinesBy, TextBy, TextBelow, 
 use Rattle.bean_load.specs.Gathering.{TextComes, Comes}
 use Rattle.bean_load.specs.Include.{Include}
 use Rattle.bean_load.specs.Texts.{Texts}
-use Rattle.bean_load.specs.declared.fault.LoadFault.{LoadFault}
-use Rattle.bean_load.specs.declared.fault.LoadFault.TheVariants.{Unreadable, NotUtf8, TooLarge}
+use Rattle.refusals.specs.declared.refusal.Refusal.{Refusal}
+use Rattle.bean_load.specs.declared.cause.LoadCause.{LoadCause}
+use Rattle.bean_load.specs.declared.cause.LoadCause.TheVariants.{Unreadable, NotUtf8, TooLarge}
 use Rattle.bean_load.specs.declared.gathering.TheConstants.{DEEPEST}
 use Rattle.bean_parser.specs.SmallPart.{most, IsShort}
 use Rattle.bean_load.specs.Small.{AreLimited}
@@ -25,18 +27,18 @@ use Rattle.bean_parser.proofs.ShortFacts.{all_pushed}
 abbrev HasShort : Gathered → Type 0
 HasShort s = AllByRecursion (λ f. IsShort f.text) s.files
 
-abbrev EndsShort : Result Gathered LoadFault → Type 0
+abbrev EndsShort : Result Gathered (Refusal LoadCause) → Type 0
 EndsShort (Ok s) = HasShort s
 EndsShort (Err fault) = Unit {0}
 
 -- of texts that are short it comes to no others
 abbrev Stays : Step → Type 0
 Stays step =
-    (s : Gathered) (todo rest : List Reading) (result : Result Gathered LoadFault) → HasShort s
+    (s : Gathered) (todo rest : List Reading) (result : Result Gathered (Refusal LoadCause)) → HasShort s
     → step s todo rest result → EndsShort result
 
-ends : (end : Result Gathered LoadFault) (todo rest : List Reading)
-    (result : Result Gathered LoadFault) → EndsShort end → Ends end todo rest result
+ends : (end : Result Gathered (Refusal LoadCause)) (todo rest : List Reading)
+    (result : Result Gathered (Refusal LoadCause)) → EndsShort end → Ends end todo rest result
     → EndsShort result
 ends end todo rest result h e = subst EndsShort (sym e.1) h
 
@@ -50,28 +52,28 @@ not_large s bytes h = ltb-false most (length bytes) (first_false (nat_lt most (l
 -- What an answer comes to.
 
 abbrev Reads : Type 1
-Reads = List ℕ → List Reading → List Reading → Result Gathered LoadFault → Type 0
+Reads = List ℕ → List Reading → List Reading → Result Gathered (Refusal LoadCause) → Type 0
 
 bytes_end :
-    (no_text : List ℕ → Result Gathered LoadFault) (Text : Reads) (s : Gathered) (bytes : List ℕ)
-    (todo rest : List Reading) (result : Result Gathered LoadFault) → EndsShort (no_text bytes)
+    (no_text : List ℕ → Result Gathered (Refusal LoadCause)) (Text : Reads) (s : Gathered) (bytes : List ℕ)
+    (todo rest : List Reading) (result : Result Gathered (Refusal LoadCause)) → EndsShort (no_text bytes)
     → (IsShort bytes → Text bytes todo rest result → EndsShort result)
     → BytesCome no_text Text s bytes todo rest result → EndsShort result
 bytes_end no_text Text s bytes todo rest result h go =
     by (is_too_large (length bytes) s) refl (is_utf8 bytes)
   where
     by : (b : Bool) → is_too_large (length bytes) s ≡ b → (u : Bool)
-        → MatchBool b (Ends (Err TooLarge) todo rest result)
+        → MatchBool b (Ends (Err (Refused TooLarge)) todo rest result)
         (MatchBool u (Text bytes todo rest result) (Ends (no_text bytes) todo rest result))
         → EndsShort result
-    by true is u e = ends (Err TooLarge) todo rest result tt e
+    by true is u e = ends (Err (Refused TooLarge)) todo rest result tt e
     by false is true t = go (not_large s bytes is) t
     by false is false e = ends (no_text bytes) todo rest result h e
 
 answer_end :
-    (unread : Result Gathered LoadFault) (no_text : List ℕ → Result Gathered LoadFault)
+    (unread : Result Gathered (Refusal LoadCause)) (no_text : List ℕ → Result Gathered (Refusal LoadCause))
     (Text : Reads) (s : Gathered) (answer : Result (List ℕ) SourceFault) (todo rest : List Reading)
-    (result : Result Gathered LoadFault) → EndsShort unread
+    (result : Result Gathered (Refusal LoadCause)) → EndsShort unread
     → ((bytes : List ℕ) → EndsShort (no_text bytes))
     → ((bytes : List ℕ) → IsShort bytes → Text bytes todo rest result → EndsShort result)
     → AnswerComes unread no_text Text s answer todo rest result → EndsShort result
@@ -86,7 +88,7 @@ answer_end unread no_text Text s (Err source.OutOfMemory) todo rest result h k g
 abbrev TextStays : (List ℕ → List ℕ → Step) → Type 0
 TextStays Text = (name bytes : List ℕ) → IsShort bytes → Stays (Text name bytes)
 
-gone_short : (file line : ℕ) (end : Result Gathered LoadFault) → EndsShort end
+gone_short : (file line : ℕ) (end : Result Gathered (Refusal LoadCause)) → EndsShort end
     → EndsShort (gone_on file line end)
 gone_short file line (Ok s) h = h
 gone_short file line (Err fault) h = tt
@@ -106,7 +108,7 @@ line_stays Text room file line h s todo rest result short =
 
     by : (a f : Bool)
         → MatchBool a (Ends (Ok (with_fault file line.line s)) todo rest result)
-        (MatchBool f (Ends (Err TooLarge) todo rest result)
+        (MatchBool f (Ends (Err (Refused TooLarge)) todo rest result)
         (AsksFor line.name todo (λ answer left. AnswerComes
         (Ok (with_fault file line.line (with_asked line.name s)))
         (λ bytes. Ok (with_fault file line.line (with_bytes line.name bytes s)))
@@ -114,15 +116,15 @@ line_stays Text room file line h s todo rest result short =
         result)))
         → EndsShort result
     by true f e = ends (Ok (with_fault file line.line s)) todo rest result short e
-    by false true e = ends (Err TooLarge) todo rest result tt e
+    by false true e = ends (Err (Refused TooLarge)) todo rest result tt e
     by false false p =
         answer_end (Ok (with_fault file line.line (with_asked line.name s)))
         (λ bytes. Ok (with_fault file line.line (with_bytes line.name bytes s)))
         (λ bytes. Stands Text file line bytes (with_bytes line.name bytes s)) s p.0 p.1 rest result
         short (λ bytes. short) (stands p.1) p.3
 
-then_stays : (Next : Step) → Stays Next → (mid : Result Gathered LoadFault)
-    (left rest : List Reading) (result : Result Gathered LoadFault) → EndsShort mid
+then_stays : (Next : Step) → Stays Next → (mid : Result Gathered (Refusal LoadCause))
+    (left rest : List Reading) (result : Result Gathered (Refusal LoadCause)) → EndsShort mid
     → Then Next mid left rest result → EndsShort result
 then_stays Next h (Ok s) left rest result short p = h s left rest result short p
 then_stays Next h (Err fault) left rest result short p = ends (Err fault) left rest result tt p
@@ -148,10 +150,10 @@ below_stays (suc room) =
     text_stays (LineBy (TextBelow room) room)
     (λ file line. line_stays (TextBelow room) room file line (below_stays room))
 
-comes_short : (name : List ℕ) (readings : List Reading) (result : Result Gathered LoadFault)
+comes_short : (name : List ℕ) (readings : List Reading) (result : Result Gathered (Refusal LoadCause))
     → Comes name readings result → EndsShort result
 comes_short name readings result p =
-    answer_end (Err Unreadable) (λ bytes. Err NotUtf8)
+    answer_end (Err (Refused Unreadable)) (λ bytes. Err (Refused NotUtf8))
     (λ bytes todo rest end.
     TextComes DEEPEST name bytes (with_bytes name bytes nothing) todo rest end) nothing p.0 p.1 []
     result tt (λ bytes. tt)
@@ -161,7 +163,7 @@ comes_short name readings result p =
     line_stays (TextBelow DEEPEST) DEEPEST file line (below_stays DEEPEST)) name bytes b
     (with_bytes name bytes nothing) p.1 [] result tt t) p.3
 
-texts_limited : (end : Result Gathered LoadFault) (texts : Texts) → EndsShort end
+texts_limited : (end : Result Gathered (Refusal LoadCause)) (texts : Texts) → EndsShort end
     → Ok texts ≡ texts_in end → AreLimited texts.files
 texts_limited (Ok s) texts h e =
     let same : texts ≡ texts_of s = cc in subst (λ t. AreLimited t.files) (sym same) h

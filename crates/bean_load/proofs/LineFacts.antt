@@ -18,9 +18,10 @@ use Rattle.bean_load.specs.Gathered.{with_bytes, with_fault, with_file, with_par
 use Rattle.bean_load.specs.Gathering.{AnswerComes, LineComes, LinesCome, Stands, TextBelow}
 use Rattle.bean_load.specs.Gathering.{TextComes, gone_on}
 use Rattle.bean_load.specs.Include.{AreIncludes, Include}
-use Rattle.bean_load.specs.declared.fault.LoadFault.{LoadFault}
-use Rattle.bean_load.specs.declared.fault.LoadFault.TheVariants.{Unreadable, NotUtf8, TooLarge}
-use Rattle.bean_load.specs.declared.fault.LoadFault.TheVariants.{OutOfMemory}
+use Rattle.refusals.specs.declared.refusal.Refusal.{Refusal}
+use Rattle.bean_load.specs.declared.cause.LoadCause.{LoadCause}
+use Rattle.bean_load.specs.declared.cause.LoadCause.TheVariants.{Unreadable, NotUtf8, TooLarge}
+use Rattle.refusals.specs.declared.refusal.Refusal.TheVariants.{OutOfMemory, Refused}
 use Rattle.bean_load.specs.declared.gathering.SourceAnswer.TheVariants as asked
 
 pub by_true : (b : Bool) (P Q : Type 0) → b ≡ true → P → MatchBool b P Q
@@ -38,12 +39,12 @@ repeated room file line s rest h = by_true (was_asked line.name s) _ _ h (refl, 
 
 no_room : (room file : ℕ) (line : Include) (s : Gathered) (rest : List Reading)
     → was_asked line.name s ≡ false → is_full room s ≡ true
-    → LineComes room file line s rest rest (Err TooLarge)
+    → LineComes room file line s rest rest (Err (Refused TooLarge))
 no_room room file line s rest h k =
     by_false (was_asked line.name s) _ _ h (by_true (is_full room s) _ _ k (refl, refl))
 
 abbrev AnswerOf : ℕ → ℕ → Include → Gathered → Result (List ℕ) SourceFault → List Reading
-    → List Reading → Result Gathered LoadFault → Type 0
+    → List Reading → Result Gathered (Refusal LoadCause) → Type 0
 AnswerOf room file line s answer left rest result = AnswerComes
     (Ok (with_fault file line.line (with_asked line.name s)))
     (λ bytes. Ok (with_fault file line.line (with_bytes line.name bytes s)))
@@ -52,7 +53,7 @@ AnswerOf room file line s answer left rest result = AnswerComes
 
 asked_for :
     (room file : ℕ) (line : Include) (s : Gathered) (answer : Result (List ℕ) SourceFault)
-    (left rest : List Reading) (result : Result Gathered LoadFault)
+    (left rest : List Reading) (result : Result Gathered (Refusal LoadCause))
     → was_asked line.name s ≡ false → is_full room s ≡ false
     → AnswerOf room file line s answer left rest result
     → LineComes room file line s ((line.name, answer) ∷ left) rest result
@@ -62,7 +63,7 @@ asked_for room file line s answer left rest result h k comes =
 
 too_large : (room file : ℕ) (line : Include) (s : Gathered) (bytes : List ℕ) (rest : List Reading)
     → is_too_large (length bytes) s ≡ true
-    → AnswerOf room file line s (Ok bytes) rest rest (Err TooLarge)
+    → AnswerOf room file line s (Ok bytes) rest rest (Err (Refused TooLarge))
 too_large room file line s bytes rest h = by_true (is_too_large (length bytes) s) _ _ h (refl, refl)
 
 no_text : (room file : ℕ) (line : Include) (s : Gathered) (bytes : List ℕ) (rest : List Reading)
@@ -73,7 +74,7 @@ no_text room file line s bytes rest h k =
     by_false (is_too_large (length bytes) s) _ _ h (by_false (is_utf8 bytes) _ _ k (refl, refl))
 
 below : (room : ℕ) (name bytes : List ℕ) (s t : Gathered) (todo rest : List Reading)
-    (end : Result Gathered LoadFault) → is_full room s ≡ false
+    (end : Result Gathered (Refusal LoadCause)) → is_full room s ≡ false
     → TextComes (room - 1) name bytes t todo rest end → TextBelow room name bytes t todo rest end
 unfolding TextBelow
 below zero name bytes s t todo rest end h comes = cc
@@ -82,7 +83,7 @@ below (suc room) name bytes s t todo rest end h comes =
     subst (λ r. TextComes r name bytes t todo rest end) same comes
 
 stands : (room file : ℕ) (line : Include) (s : Gathered) (bytes : List ℕ) (todo rest : List Reading)
-    (end : Result Gathered LoadFault)
+    (end : Result Gathered (Refusal LoadCause))
     → is_full room s ≡ false → is_too_large (length bytes) s ≡ false → is_utf8 bytes ≡ true
     → TextComes (room - 1) line.name bytes (with_bytes line.name bytes s) todo rest end
     → AnswerOf room file line s (Ok bytes) todo rest (gone_on file line.line end)
@@ -98,8 +99,8 @@ stands room file line s bytes todo rest end full large utf8 comes =
 
 pub lacking :
     {S T : Type 0} (s : SourceOf S) (a b : S) (readings : List Reading) (Come : List Reading
-    → List Reading → Result Gathered LoadFault → Type 0) (after : Gathered) (result :
-    Result T LoadFault)
+    → List Reading → Result Gathered (Refusal LoadCause) → Type 0) (after : Gathered) (result :
+    Result T (Refusal LoadCause))
     → Gave s a b readings → IsErrAnd result (λ fault. fault ≡ OutOfMemory)
     → Follows s a b Come after result
 lacking s a b readings Come after (Ok x) gave h = absurd h
@@ -108,16 +109,16 @@ lacking {T = T} s a b readings Come after (Err fault) gave h =
 
 pub failing :
     {S T : Type 0} (s : SourceOf S) (a b : S) (Come : List Reading → List Reading
-    → Result Gathered LoadFault → Type 0) (after before : Gathered) (fault : LoadFault) (result :
-    Result T LoadFault)
+    → Result Gathered (Refusal LoadCause) → Type 0) (after before : Gathered) (fault : Refusal LoadCause) (result :
+    Result T (Refusal LoadCause))
     → Follows {T = T} s a b Come before (Err fault) → IsErrAnd result (λ f. f ≡ fault)
     → Follows s a b Come after result
 failing s a b Come after before fault (Ok x) follows h = absurd h
-failing {T = T} s a b Come after before Unreadable (Err f) follows h =
+failing {T = T} s a b Come after before (Refused Unreadable) (Err f) follows h =
     subst (λ f. Follows {T = T} s a b Come after (Err f)) (sym h) follows
-failing {T = T} s a b Come after before NotUtf8 (Err f) follows h =
+failing {T = T} s a b Come after before (Refused NotUtf8) (Err f) follows h =
     subst (λ f. Follows {T = T} s a b Come after (Err f)) (sym h) follows
-failing {T = T} s a b Come after before TooLarge (Err f) follows h =
+failing {T = T} s a b Come after before (Refused TooLarge) (Err f) follows h =
     subst (λ f. Follows {T = T} s a b Come after (Err f)) (sym h) follows
 failing {T = T} s a b Come after before OutOfMemory (Err f) follows h =
     subst (λ f. Follows {T = T} s a b Come after (Err f)) (sym h) follows
@@ -140,22 +141,22 @@ pub was_full :
     → was_asked line.name before ≡ false → is_full room before ≡ true
     → (readings : List Reading) × Gave s a a readings
     × ((rest : List Reading)
-    → LineComes room file line before (readings ++ rest) rest (Err TooLarge))
+    → LineComes room file line before (readings ++ rest) rest (Err (Refused TooLarge)))
 was_full s a room file line before h k =
     ([], gave_none s a, λ rest. no_room room file line before rest h k)
 
 pub ask_failed :
     {S : Type 0} (s : SourceOf S) (a b : S) (room file : ℕ) (line : Include)
-    (before mid after : Gathered) (fault : LoadFault)
+    (before mid after : Gathered) (fault : Refusal LoadCause)
     → was_asked line.name before ≡ false → is_full room before ≡ false
     → Asks s a b line.name before mid (Err fault)
     → Follows {T = Unit} s a b (LineComes room file line before) after (Err fault)
-ask_failed s a b room file line before mid after Unreadable h k asks = absurd asks
-ask_failed s a b room file line before mid after NotUtf8 h k asks = absurd asks
-ask_failed s a b room file line before mid after TooLarge h k asks = (
+ask_failed s a b room file line before mid after (Refused Unreadable) h k asks = absurd asks
+ask_failed s a b room file line before mid after (Refused NotUtf8) h k asks = absurd asks
+ask_failed s a b room file line before mid after (Refused TooLarge) h k asks = (
   (line.name, Ok asks.0) ∷ [],
   asks.1,
-  λ rest. asked_for room file line before (Ok asks.0) rest rest (Err TooLarge) h k
+  λ rest. asked_for room file line before (Ok asks.0) rest rest (Err (Refused TooLarge)) h k
       (too_large room file line before asks.0 rest asks.2),
 )
 ask_failed s a b room file line before mid after OutOfMemory h k asks = asks
@@ -195,7 +196,7 @@ gave_more s a b c name bytes before mid readings told more =
 
 line_of_text :
     {S : Type 0} (s : SourceOf S) (a b c : S) (room file : ℕ) (line : Include)
-    (before mid : Gathered) (bytes : List ℕ) (end : Result Gathered LoadFault)
+    (before mid : Gathered) (bytes : List ℕ) (end : Result Gathered (Refusal LoadCause))
     → was_asked line.name before ≡ false → is_full room before ≡ false
     → Told s a b line.name before mid bytes
     → (readings : List Reading) × Gave s b c readings
@@ -215,17 +216,17 @@ line_of_text s a b c room file line before mid bytes end h k told text = (
 
 pub text_failed :
     {S : Type 0} (s : SourceOf S) (a b c : S) (room file : ℕ) (line : Include)
-    (before mid after last : Gathered) (bytes : List ℕ) (fault : LoadFault)
+    (before mid after last : Gathered) (bytes : List ℕ) (fault : Refusal LoadCause)
     → was_asked line.name before ≡ false → is_full room before ≡ false
     → Told s a b line.name before mid bytes
     → Follows {T = Unit} s b c (TextComes (room - 1) line.name bytes mid) after (Err fault)
     → Follows {T = Unit} s a c (LineComes room file line before) last (Err fault)
-text_failed s a b c room file line before mid after last bytes Unreadable h k told text =
-    line_of_text s a b c room file line before mid bytes (Err Unreadable) h k told text
-text_failed s a b c room file line before mid after last bytes NotUtf8 h k told text =
-    line_of_text s a b c room file line before mid bytes (Err NotUtf8) h k told text
-text_failed s a b c room file line before mid after last bytes TooLarge h k told text =
-    line_of_text s a b c room file line before mid bytes (Err TooLarge) h k told text
+text_failed s a b c room file line before mid after last bytes (Refused Unreadable) h k told text =
+    line_of_text s a b c room file line before mid bytes (Err (Refused Unreadable)) h k told text
+text_failed s a b c room file line before mid after last bytes (Refused NotUtf8) h k told text =
+    line_of_text s a b c room file line before mid bytes (Err (Refused NotUtf8)) h k told text
+text_failed s a b c room file line before mid after last bytes (Refused TooLarge) h k told text =
+    line_of_text s a b c room file line before mid bytes (Err (Refused TooLarge)) h k told text
 text_failed s a b c room file line before mid after last bytes OutOfMemory h k told text = (
   (line.name, Ok bytes)
       ∷ text.0,
@@ -307,7 +308,7 @@ abbrev pub Continues : {S : Type 0} → SourceOf S → S → S → ℕ → ℕ �
     → List Include → Gathered → Type 0
 Continues s a b room file lines before left now =
     (readings : List Reading) × Gave s a b readings
-    × ((todo rest : List Reading) (result : Result Gathered LoadFault)
+    × ((todo rest : List Reading) (result : Result Gathered (Refusal LoadCause))
     → LinesCome room file left now todo rest result
     → LinesCome room file lines before (readings ++ todo) rest result)
 
@@ -333,7 +334,7 @@ goes_on s a b c room file lines before now after line left so_far one = (
 
 lines_end :
     {S : Type 0} (s : SourceOf S) (a b c : S) (room file : ℕ) (lines : List Include)
-    (before now : Gathered) (line : Include) (left : List Include) (fault : LoadFault)
+    (before now : Gathered) (line : Include) (left : List Include) (fault : Refusal LoadCause)
     → Continues s a b room file lines before (line ∷ left) now
     → (readings : List Reading) × Gave s b c readings
     × ((rest : List Reading) → LineComes room file line now (readings ++ rest) rest (Err fault))
@@ -349,16 +350,16 @@ lines_end s a b c room file lines before now line left fault so_far one = (
 
 pub line_failed :
     {S : Type 0} (s : SourceOf S) (a b c : S) (room file : ℕ) (lines : List Include)
-    (before now after last : Gathered) (line : Include) (left : List Include) (fault : LoadFault)
+    (before now after last : Gathered) (line : Include) (left : List Include) (fault : Refusal LoadCause)
     → Continues s a b room file lines before (line ∷ left) now
     → Follows {T = Unit} s b c (LineComes room file line now) after (Err fault)
     → Follows {T = Unit} s a c (LinesCome room file lines before) last (Err fault)
-line_failed s a b c room file lines before now after last line left Unreadable so_far one =
-    lines_end s a b c room file lines before now line left Unreadable so_far one
-line_failed s a b c room file lines before now after last line left NotUtf8 so_far one =
-    lines_end s a b c room file lines before now line left NotUtf8 so_far one
-line_failed s a b c room file lines before now after last line left TooLarge so_far one =
-    lines_end s a b c room file lines before now line left TooLarge so_far one
+line_failed s a b c room file lines before now after last line left (Refused Unreadable) so_far one =
+    lines_end s a b c room file lines before now line left (Refused Unreadable) so_far one
+line_failed s a b c room file lines before now after last line left (Refused NotUtf8) so_far one =
+    lines_end s a b c room file lines before now line left (Refused NotUtf8) so_far one
+line_failed s a b c room file lines before now after last line left (Refused TooLarge) so_far one =
+    lines_end s a b c room file lines before now line left (Refused TooLarge) so_far one
 line_failed s a b c room file lines before now after last line left OutOfMemory so_far one =
     (so_far.0 ++ one.0, gave_behind s a b c so_far.0 one.0 so_far.1 one.1)
 
@@ -375,17 +376,17 @@ all_came s a b room file lines before now so_far =
 
 pub text_came :
     {S T : Type 0} (s : SourceOf S) (a b : S) (room : ℕ) (name bytes : List ℕ)
-    (lines : List Include) (before after : Gathered) (result : Result T LoadFault)
+    (lines : List Include) (before after : Gathered) (result : Result T (Refusal LoadCause))
     → AreIncludes name bytes lines
     → Follows s a b (LinesCome room (length before.files) lines (with_file name bytes before)) after
     result
     → Follows s a b (TextComes room name bytes before) after result
 text_came s a b room name bytes lines before after (Ok x) are come =
     (come.0, come.1, λ rest. (lines, are, come.2 rest))
-text_came s a b room name bytes lines before after (Err Unreadable) are come =
+text_came s a b room name bytes lines before after (Err (Refused Unreadable)) are come =
     (come.0, come.1, λ rest. (lines, are, come.2 rest))
-text_came s a b room name bytes lines before after (Err NotUtf8) are come =
+text_came s a b room name bytes lines before after (Err (Refused NotUtf8)) are come =
     (come.0, come.1, λ rest. (lines, are, come.2 rest))
-text_came s a b room name bytes lines before after (Err TooLarge) are come =
+text_came s a b room name bytes lines before after (Err (Refused TooLarge)) are come =
     (come.0, come.1, λ rest. (lines, are, come.2 rest))
 text_came s a b room name bytes lines before after (Err OutOfMemory) are come = come

@@ -6,26 +6,28 @@ use Rattle.std.specs.Str.{is_utf8}
 use Rattle.stores.specs.Reading.{Reading}
 use Rattle.stores.specs.declared.source.SourceFault.{SourceFault}
 use Rattle.stores.specs.declared.source.SourceFault.TheVariants as source
+use Rattle.refusals.specs.declared.refusal.Refusal.TheVariants.{Refused}
 use Rattle.bean_load.specs.Following.{HasOneGathering, texts_in}
 use Rattle.bean_load.specs.Gathered.{Gathered, is_full, is_too_large, nothing, was_asked}
 use Rattle.bean_load.specs.Gathered.{with_asked, with_bytes, with_fault, with_file}
 use Rattle.bean_load.specs.Gathering.{AnswerComes, AsksFor, Ends, LineBy, LinesBy, Stands, Step}
 use Rattle.bean_load.specs.Gathering.{TextBelow, TextBy, TextComes, Then, gone_on}
 use Rattle.bean_load.specs.Include.{AreIncludes, Include, include_of}
-use Rattle.bean_load.specs.declared.fault.LoadFault.{LoadFault}
-use Rattle.bean_load.specs.declared.fault.LoadFault.TheVariants.{TooLarge, Unreadable, NotUtf8}
+use Rattle.refusals.specs.declared.refusal.Refusal.{Refusal}
+use Rattle.bean_load.specs.declared.cause.LoadCause.{LoadCause}
+use Rattle.bean_load.specs.declared.cause.LoadCause.TheVariants.{TooLarge, Unreadable, NotUtf8}
 use Rattle.bean_load.specs.declared.gathering.TheConstants.{DEEPEST}
 use Rattle.bean_parser.proofs.IncludesFacts.{one_list_of_includes}
 
-abbrev Are : List Reading → List Reading → Result Gathered LoadFault → Result Gathered LoadFault
+abbrev Are : List Reading → List Reading → Result Gathered (Refusal LoadCause) → Result Gathered (Refusal LoadCause)
     → Type 0
 Are rest others result other = (rest ≡ others) × (result ≡ other)
 
-abbrev IsOne : (List Reading → List Reading → Result Gathered LoadFault → Type 0) → Type 0
-IsOne Come = (todo rest others : List Reading) (result other : Result Gathered LoadFault)
+abbrev IsOne : (List Reading → List Reading → Result Gathered (Refusal LoadCause) → Type 0) → Type 0
+IsOne Come = (todo rest others : List Reading) (result other : Result Gathered (Refusal LoadCause))
     → Come todo rest result → Come todo others other → Are rest others result other
 
-one_end : (end : Result Gathered LoadFault) → IsOne (Ends end)
+one_end : (end : Result Gathered (Refusal LoadCause)) → IsOne (Ends end)
 one_end end todo rest others result other h k = (sym h.0 ∙ k.0, h.1 ∙ sym k.1)
 
 one_bool : (b : Bool) (P Q P' Q' R : Type 0) → (P → P' → R) → (Q → Q' → R) → MatchBool b P Q
@@ -52,13 +54,13 @@ one_asked name todo N M R f h k =
     let more : k.1 ≡ h.1 = ap behind_in (sym k.2 ∙ h.2) in
     f h.0 h.1 h.3 (subst (λ left. M h.0 left) more (subst (λ answer. M answer k.1) same k.3))
 
-one_answer : (unread : Result Gathered LoadFault) (no_text : List ℕ → Result Gathered LoadFault)
-    (Text : List ℕ → List Reading → List Reading → Result Gathered LoadFault
+one_answer : (unread : Result Gathered (Refusal LoadCause)) (no_text : List ℕ → Result Gathered (Refusal LoadCause))
+    (Text : List ℕ → List Reading → List Reading → Result Gathered (Refusal LoadCause)
     → Type 0) (s : Gathered) → ((bytes : List ℕ) → IsOne (Text bytes))
     → (answer : Result (List ℕ) SourceFault) → IsOne (AnswerComes unread no_text Text s answer)
 one_answer unread no_text Text s one (Ok bytes) todo rest others result other h k =
     one_bool (is_too_large (length bytes) s) _ _ _ _ (Are rest others result other)
-    (one_end (Err TooLarge) todo rest others result other)
+    (one_end (Err (Refused TooLarge)) todo rest others result other)
     (one_bool (is_utf8 bytes) _ _ _ _ (Are rest others result other)
     (one bytes todo rest others result other)
     (one_end (no_text bytes) todo rest others result other)) h k
@@ -76,7 +78,7 @@ one_line Text one room file line s todo rest others result other h k =
     one_bool (was_asked line.name s) _ _ _ _ (Are rest others result other)
     (one_end (Ok (with_fault file line.line s)) todo rest others result other)
     (one_bool (is_full room s) _ _ _ _ (Are rest others result other)
-    (one_end (Err TooLarge) todo rest others result other)
+    (one_end (Err (Refused TooLarge)) todo rest others result other)
     (one_asked line.name todo _ _ (Are rest others result other) (λ answer left.
     one_answer (Ok (with_fault file line.line (with_asked line.name s)))
     (λ bytes. Ok (with_fault file line.line (with_bytes line.name bytes s)))
@@ -89,7 +91,7 @@ one_line Text one room file line s todo rest others result other h k =
         one line.name bytes (with_bytes line.name bytes s) todo rest others h.0 k.0 h.1 k.1 in
         (same.0, h.2 ∙ ap (gone_on file line.line) same.1 ∙ sym k.2)
 
-one_then : (Next : Step) → ((s : Gathered) → IsOne (Next s)) → (mid : Result Gathered LoadFault)
+one_then : (Next : Step) → ((s : Gathered) → IsOne (Next s)) → (mid : Result Gathered (Refusal LoadCause))
     → IsOne (Then Next mid)
 one_then Next one (Ok s) todo rest others result other h k = one s todo rest others result other h k
 one_then Next one (Err fault) todo rest others result other h k =
@@ -133,7 +135,7 @@ one_top room =
 pub one_gathering : HasOneGathering
 one_gathering name readings a b h k =
     let same = one_asked name readings _ _ (Are [] [] h.0 k.0) (λ answer left.
-    one_answer (Err Unreadable) (λ bytes. Err NotUtf8)
+    one_answer (Err (Refused Unreadable)) (λ bytes. Err (Refused NotUtf8))
     (λ bytes todo rest end.
     TextComes DEEPEST name bytes (with_bytes name bytes nothing) todo rest end) nothing
     (λ bytes. one_top DEEPEST name bytes (with_bytes name bytes nothing)) answer left [] [] h.0 k.0)

@@ -14,16 +14,17 @@ use Rattle.bean_load.specs.Following.{Follows, Gathers, texts_in}
 use Rattle.bean_load.specs.Gathered.{Gathered, is_too_large, nothing, texts_of, with_bytes}
 use Rattle.bean_load.specs.Gathering.{Comes, TextComes}
 use Rattle.bean_load.specs.Texts.{Texts}
-use Rattle.bean_load.specs.declared.fault.LoadFault.{LoadFault}
-use Rattle.bean_load.specs.declared.fault.LoadFault.TheVariants.{Unreadable, NotUtf8, TooLarge}
-use Rattle.bean_load.specs.declared.fault.LoadFault.TheVariants.{OutOfMemory}
+use Rattle.refusals.specs.declared.refusal.Refusal.{Refusal}
+use Rattle.bean_load.specs.declared.cause.LoadCause.{LoadCause}
+use Rattle.bean_load.specs.declared.cause.LoadCause.TheVariants.{Unreadable, NotUtf8, TooLarge}
+use Rattle.refusals.specs.declared.refusal.Refusal.TheVariants.{OutOfMemory, Refused}
 use Rattle.bean_load.specs.declared.gathering.SourceAnswer.TheVariants as asked
 use Rattle.bean_load.specs.declared.gathering.TheConstants.{DEEPEST}
 use Rattle.bean_load.proofs.LineFacts.{Told, gave_more, by_true, by_false}
 
 pub lacking :
     {S : Type 0} (s : SourceOf S) (a b : S) (name : List ℕ) (readings : List Reading)
-    (result : Result Texts LoadFault)
+    (result : Result Texts (Refusal LoadCause))
     → Gave s a b readings → IsErrAnd result (λ fault. fault ≡ OutOfMemory)
     → Gathers s a b name result
 lacking s a b name readings (Ok x) gave h = absurd h
@@ -31,15 +32,15 @@ lacking s a b name readings (Err fault) gave h =
     subst (λ f. Gathers s a b name (Err f)) (sym h) (readings, gave)
 
 top_failed :
-    {S : Type 0} (s : SourceOf S) (a b : S) (name : List ℕ) (mid : Gathered) (fault : LoadFault)
+    {S : Type 0} (s : SourceOf S) (a b : S) (name : List ℕ) (mid : Gathered) (fault : Refusal LoadCause)
     → Asks s a b name nothing mid (Err fault) → Gathers s a b name (Err fault)
-top_failed s a b name mid Unreadable asks = absurd asks
-top_failed s a b name mid NotUtf8 asks = absurd asks
-top_failed s a b name mid TooLarge asks = (
+top_failed s a b name mid (Refused Unreadable) asks = absurd asks
+top_failed s a b name mid (Refused NotUtf8) asks = absurd asks
+top_failed s a b name mid (Refused TooLarge) asks = (
   (name, Ok asks.0) ∷ [],
   asks.1,
   (
-    Err TooLarge,
+    Err (Refused TooLarge),
     (
       Ok asks.0,
       [],
@@ -53,8 +54,8 @@ top_failed s a b name mid TooLarge asks = (
 top_failed s a b name mid OutOfMemory asks = asks
 
 pub top_refused :
-    {S : Type 0} (s : SourceOf S) (a b : S) (name : List ℕ) (mid : Gathered) (fault : LoadFault)
-    (result : Result Texts LoadFault)
+    {S : Type 0} (s : SourceOf S) (a b : S) (name : List ℕ) (mid : Gathered) (fault : Refusal LoadCause)
+    (result : Result Texts (Refusal LoadCause))
     → Asks s a b name nothing mid (Err fault) → IsErrAnd result (λ f. f ≡ fault)
     → Gathers s a b name result
 top_refused s a b name mid fault (Ok x) asks h = absurd h
@@ -62,7 +63,7 @@ top_refused s a b name mid fault (Err f) asks h =
     subst (λ f. Gathers s a b name (Err f)) (sym h) (top_failed s a b name mid fault asks)
 
 came : (name bytes : List ℕ) (mid : Gathered) (readings : List Reading)
-    (end : Result Gathered LoadFault)
+    (end : Result Gathered (Refusal LoadCause))
     → is_too_large (length bytes) nothing ≡ false → is_utf8 bytes ≡ true
     → mid ≡ with_bytes name bytes nothing
     → ((rest : List Reading) → TextComes DEEPEST name bytes mid (readings ++ rest) rest end)
@@ -90,11 +91,11 @@ top_stands s a b c name bytes mid after told text = (
 
 text_failed :
     {S : Type 0} (s : SourceOf S) (a b c : S) (name bytes : List ℕ) (mid : Gathered)
-    (fault : LoadFault) → Told s a b name nothing mid bytes
+    (fault : Refusal LoadCause) → Told s a b name nothing mid bytes
     → (readings : List Reading) × Gave s b c readings
     × ((rest : List Reading) → TextComes DEEPEST name bytes mid (readings ++ rest) rest (Err fault))
     → (readings : List Reading) × Gave s a c readings
-    × ((end : Result Gathered LoadFault) × Comes name readings end × (Err fault ≡ texts_in end))
+    × ((end : Result Gathered (Refusal LoadCause)) × Comes name readings end × (Err fault ≡ texts_in end))
 text_failed s a b c name bytes mid fault told text = (
   (name, Ok bytes) ∷ text.0,
   gave_more s a b c name bytes nothing mid text.0 told text.1,
@@ -103,21 +104,21 @@ text_failed s a b c name bytes mid fault told text = (
 
 below_failed :
     {S : Type 0} (s : SourceOf S) (a b c : S) (name bytes : List ℕ) (mid after : Gathered)
-    (fault : LoadFault) → Told s a b name nothing mid bytes
+    (fault : Refusal LoadCause) → Told s a b name nothing mid bytes
     → Follows {T = Unit} s b c (TextComes DEEPEST name bytes mid) after (Err fault)
     → Gathers s a c name (Err fault)
-below_failed s a b c name bytes mid after Unreadable told text =
-    text_failed s a b c name bytes mid Unreadable told text
-below_failed s a b c name bytes mid after NotUtf8 told text =
-    text_failed s a b c name bytes mid NotUtf8 told text
-below_failed s a b c name bytes mid after TooLarge told text =
-    text_failed s a b c name bytes mid TooLarge told text
+below_failed s a b c name bytes mid after (Refused Unreadable) told text =
+    text_failed s a b c name bytes mid (Refused Unreadable) told text
+below_failed s a b c name bytes mid after (Refused NotUtf8) told text =
+    text_failed s a b c name bytes mid (Refused NotUtf8) told text
+below_failed s a b c name bytes mid after (Refused TooLarge) told text =
+    text_failed s a b c name bytes mid (Refused TooLarge) told text
 below_failed s a b c name bytes mid after OutOfMemory told text =
     ((name, Ok bytes) ∷ text.0, gave_more s a b c name bytes nothing mid text.0 told text.1)
 
 pub below_refused :
     {S : Type 0} (s : SourceOf S) (a b c : S) (name bytes : List ℕ) (mid after : Gathered)
-    (fault : LoadFault) (result : Result Texts LoadFault)
+    (fault : Refusal LoadCause) (result : Result Texts (Refusal LoadCause))
     → Told s a b name nothing mid bytes
     → Follows {T = Unit} s b c (TextComes DEEPEST name bytes mid) after (Err fault)
     → IsErrAnd result (λ f. f ≡ fault) → Gathers s a c name result
@@ -127,16 +128,16 @@ below_refused s a b c name bytes mid after fault (Err f) told text h =
     (below_failed s a b c name bytes mid after fault told text)
 
 pub top_no_text : {S : Type 0} (s : SourceOf S) (a b : S) (name : List ℕ) (mid : Gathered)
-    → Asks s a b name nothing mid (Ok asked.NotUtf8) → Gathers s a b name (Err NotUtf8)
+    → Asks s a b name nothing mid (Ok asked.NotUtf8) → Gathers s a b name (Err (Refused NotUtf8))
 top_no_text s a b name mid asks = from asks.0 asks.1 asks.2
   where
     from : (answer : Result (List ℕ) SourceFault) → Gave s a b ((name, answer) ∷ [])
-        → IsTold name nothing answer asked.NotUtf8 mid → Gathers s a b name (Err NotUtf8)
+        → IsTold name nothing answer asked.NotUtf8 mid → Gathers s a b name (Err (Refused NotUtf8))
     from (Ok bytes) gave told = (
       (name, Ok bytes) ∷ [],
       gave,
       (
-        Err NotUtf8,
+        Err (Refused NotUtf8),
         (
           Ok bytes,
           [],
@@ -151,16 +152,16 @@ top_no_text s a b name mid asks = from asks.0 asks.1 asks.2
     from (Err source.OutOfMemory) gave told = absurd told
 
 pub top_nothing : {S : Type 0} (s : SourceOf S) (a b : S) (name : List ℕ) (mid : Gathered)
-    → Asks s a b name nothing mid (Ok asked.Failed) → Gathers s a b name (Err Unreadable)
+    → Asks s a b name nothing mid (Ok asked.Failed) → Gathers s a b name (Err (Refused Unreadable))
 top_nothing s a b name mid asks = from asks.0 asks.1 asks.2
   where
     from : (answer : Result (List ℕ) SourceFault) → Gave s a b ((name, answer) ∷ [])
-        → IsTold name nothing answer asked.Failed mid → Gathers s a b name (Err Unreadable)
+        → IsTold name nothing answer asked.Failed mid → Gathers s a b name (Err (Refused Unreadable))
     from (Ok bytes) gave told = absurd told.1
     from (Err source.Failed) gave told = (
       (name, Err source.Failed)
           ∷ [],
       gave,
-      (Err Unreadable, (Err source.Failed, [], refl, (refl, refl)), refl),
+      (Err (Refused Unreadable), (Err source.Failed, [], refl, (refl, refl)), refl),
     )
     from (Err source.OutOfMemory) gave told = absurd told

@@ -8,15 +8,17 @@ use Rattle.stores.specs.declared.source.Source.{Ghosts as SourceOf}
 use Rattle.stores.specs.declared.source.SourceFault.{SourceFault}
 use Rattle.stores.specs.declared.source.SourceFault.TheVariants as source
 use Rattle.bean_load.specs.Gathered.{Gathered, is_too_large, with_asked, with_bytes, with_read}
-use Rattle.bean_load.specs.declared.fault.LoadFault.{LoadFault}
-use Rattle.bean_load.specs.declared.fault.LoadFault.TheVariants.{TooLarge, OutOfMemory}
+use Rattle.refusals.specs.declared.refusal.Refusal.{Refusal}
+use Rattle.bean_load.specs.declared.cause.LoadCause.{LoadCause}
+use Rattle.refusals.specs.declared.refusal.Refusal.TheVariants.{OutOfMemory, Refused}
+use Rattle.bean_load.specs.declared.cause.LoadCause.TheVariants.{TooLarge}
 use Rattle.bean_load.specs.declared.gathering.SourceAnswer.{SourceAnswer}
 use Rattle.bean_load.specs.declared.gathering.SourceAnswer.TheVariants.{Text, NotUtf8, Failed}
 
 -- bytes are counted where they aren't too many
-abbrev pub AddsBytes : ℕ → Gathered → Gathered → Result Unit LoadFault → Type 0
+abbrev pub AddsBytes : ℕ → Gathered → Gathered → Result Unit (Refusal LoadCause) → Type 0
 AddsBytes n before after (Ok x) = (is_too_large n before ≡ false) × (after ≡ with_read n before)
-AddsBytes n before after (Err TooLarge) = is_too_large n before ≡ true
+AddsBytes n before after (Err (Refused TooLarge)) = is_too_large n before ≡ true
 AddsBytes n before after (Err fault) = ⊥
 
 -- the text that bytes are
@@ -35,11 +37,11 @@ IsTold name before _ _ after = ⊥
 
 -- The source is asked once, and what it answers is told; L3 where it gave too much.
 abbrev pub Asks : {S : Type 0} → SourceOf S → S → S → List ℕ → Gathered → Gathered
-    → Result SourceAnswer LoadFault → Type 0
+    → Result SourceAnswer (Refusal LoadCause) → Type 0
 Asks s old new name before after (Ok asked) =
     (answer : Result (List ℕ) SourceFault) × Gave s old new ((name, answer) ∷ [])
     × IsTold name before answer asked after
-Asks s old new name before after (Err TooLarge) =
+Asks s old new name before after (Err (Refused TooLarge)) =
     (bytes : List ℕ) × Gave s old new ((name, Ok bytes) ∷ [])
     × (is_too_large (length bytes) before ≡ true)
 Asks s old new name before after (Err OutOfMemory) =

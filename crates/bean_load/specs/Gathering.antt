@@ -5,21 +5,23 @@ use Rattle.std.specs.Str.{is_utf8}
 use Rattle.stores.specs.Reading.{Reading}
 use Rattle.stores.specs.declared.source.SourceFault.{SourceFault}
 use Rattle.stores.specs.declared.source.SourceFault.TheVariants as source
+use Rattle.refusals.specs.declared.refusal.Refusal.TheVariants.{Refused}
 use Rattle.bean_load.specs.Gathered.{Gathered, is_full, is_too_large, nothing, was_asked}
 use Rattle.bean_load.specs.Gathered.{with_asked, with_bytes, with_fault, with_file, with_part}
 use Rattle.bean_load.specs.Include.{AreIncludes, Include}
-use Rattle.bean_load.specs.declared.fault.LoadFault.{LoadFault}
-use Rattle.bean_load.specs.declared.fault.LoadFault.TheVariants.{Unreadable, NotUtf8, TooLarge}
+use Rattle.refusals.specs.declared.refusal.Refusal.{Refusal}
+use Rattle.bean_load.specs.declared.cause.LoadCause.{LoadCause}
+use Rattle.bean_load.specs.declared.cause.LoadCause.TheVariants.{Unreadable, NotUtf8, TooLarge}
 use Rattle.bean_load.specs.declared.gathering.TheConstants.{DEEPEST}
 
 -- What comes of what is known so far: which readings are left of those to come from the source, and
 -- what is known then, or why
 -- there are no texts.
 abbrev pub Step : Type 1
-Step = Gathered → List Reading → List Reading → Result Gathered LoadFault → Type 0
+Step = Gathered → List Reading → List Reading → Result Gathered (Refusal LoadCause) → Type 0
 
-abbrev pub Ends : Result Gathered LoadFault → List Reading → List Reading
-    → Result Gathered LoadFault → Type 0
+abbrev pub Ends : Result Gathered (Refusal LoadCause) → List Reading → List Reading
+    → Result Gathered (Refusal LoadCause) → Type 0
 Ends end todo rest result = (todo ≡ rest) × (result ≡ end)
 
 -- the next reading is of that name
@@ -30,17 +32,17 @@ AsksFor name todo Next =
     × Next answer left
 
 -- L3 for bytes that are too many; else those that are a text are read
-abbrev pub BytesCome : (List ℕ → Result Gathered LoadFault)
-    → (List ℕ → List Reading → List Reading → Result Gathered LoadFault → Type 0) → Gathered
-    → List ℕ → List Reading → List Reading → Result Gathered LoadFault → Type 0
+abbrev pub BytesCome : (List ℕ → Result Gathered (Refusal LoadCause))
+    → (List ℕ → List Reading → List Reading → Result Gathered (Refusal LoadCause) → Type 0) → Gathered
+    → List ℕ → List Reading → List Reading → Result Gathered (Refusal LoadCause) → Type 0
 BytesCome no_text Text s bytes todo rest result =
-    MatchBool (is_too_large (length bytes) s) (Ends (Err TooLarge) todo rest result)
+    MatchBool (is_too_large (length bytes) s) (Ends (Err (Refused TooLarge)) todo rest result)
     (MatchBool (is_utf8 bytes) (Text bytes todo rest result)
     (Ends (no_text bytes) todo rest result))
 
-abbrev pub AnswerComes : Result Gathered LoadFault → (List ℕ → Result Gathered LoadFault)
-    → (List ℕ → List Reading → List Reading → Result Gathered LoadFault → Type 0) → Gathered
-    → Result (List ℕ) SourceFault → List Reading → List Reading → Result Gathered LoadFault → Type 0
+abbrev pub AnswerComes : Result Gathered (Refusal LoadCause) → (List ℕ → Result Gathered (Refusal LoadCause))
+    → (List ℕ → List Reading → List Reading → Result Gathered (Refusal LoadCause) → Type 0) → Gathered
+    → Result (List ℕ) SourceFault → List Reading → List Reading → Result Gathered (Refusal LoadCause) → Type 0
 AnswerComes unread no_text Text s (Ok bytes) todo rest result =
     BytesCome no_text Text s bytes todo rest result
 AnswerComes unread no_text Text s (Err source.Failed) todo rest result =
@@ -48,14 +50,14 @@ AnswerComes unread no_text Text s (Err source.Failed) todo rest result =
 AnswerComes unread no_text Text s (Err source.OutOfMemory) todo rest result = ⊥
 
 -- the text goes on behind a line where another text stands
-abbrev pub gone_on : ℕ → ℕ → Result Gathered LoadFault → Result Gathered LoadFault
+abbrev pub gone_on : ℕ → ℕ → Result Gathered (Refusal LoadCause) → Result Gathered (Refusal LoadCause)
 gone_on file line (Ok s) = Ok (with_part file line s)
 gone_on file line (Err fault) = Err fault
 
 -- a text stands at a line
 abbrev pub Stands : (List ℕ → List ℕ → Step) → ℕ → Include → List ℕ → Step
 Stands Text file line bytes s todo rest result =
-    (end : Result Gathered LoadFault) × Text line.name bytes s todo rest end
+    (end : Result Gathered (Refusal LoadCause)) × Text line.name bytes s todo rest end
     × (result ≡ gone_on file line.line end)
 
 -- what an include line comes to: F22 where its name was asked before; L3 where there is no room for
@@ -64,15 +66,15 @@ Stands Text file line bytes s todo rest result =
 abbrev pub LineBy : (List ℕ → List ℕ → Step) → ℕ → ℕ → Include → Step
 LineBy Text room file line s todo rest result =
     MatchBool (was_asked line.name s) (Ends (Ok (with_fault file line.line s)) todo rest result)
-    (MatchBool (is_full room s) (Ends (Err TooLarge) todo rest result)
+    (MatchBool (is_full room s) (Ends (Err (Refused TooLarge)) todo rest result)
     (AsksFor line.name todo (λ answer left. AnswerComes
     (Ok (with_fault file line.line (with_asked line.name s)))
     (λ bytes. Ok (with_fault file line.line (with_bytes line.name bytes s)))
     (λ bytes. Stands Text file line bytes (with_bytes line.name bytes s)) s answer left rest
     result)))
 
-abbrev pub Then : Step → Result Gathered LoadFault → List Reading → List Reading
-    → Result Gathered LoadFault → Type 0
+abbrev pub Then : Step → Result Gathered (Refusal LoadCause) → List Reading → List Reading
+    → Result Gathered (Refusal LoadCause) → Type 0
 Then Next (Ok s) todo rest result = Next s todo rest result
 Then Next (Err fault) todo rest result = Ends (Err fault) todo rest result
 
@@ -80,7 +82,7 @@ Then Next (Err fault) todo rest result = Ends (Err fault) todo rest result
 abbrev pub LinesBy : (Include → Step) → List Include → Step
 LinesBy Line [] s todo rest result = Ends (Ok s) todo rest result
 LinesBy Line (line ∷ lines) s todo rest result =
-    (mid : Result Gathered LoadFault) × (left : List Reading) × Line line s todo left mid
+    (mid : Result Gathered (Refusal LoadCause)) × (left : List Reading) × Line line s todo left mid
     × Then (LinesBy Line lines) mid left rest result
 
 -- a text is the next one, and its include lines come
@@ -107,9 +109,9 @@ TextComes room = TextBy (LineComes room)
 
 -- what a ledger comes to whose top text has that name, given all that the source answered: L1, L3,
 -- L2, or its text is read
-abbrev pub Comes : List ℕ → List Reading → Result Gathered LoadFault → Type 0
+abbrev pub Comes : List ℕ → List Reading → Result Gathered (Refusal LoadCause) → Type 0
 Comes name readings result =
-    AsksFor name readings (λ answer left. AnswerComes (Err Unreadable) (λ bytes. Err NotUtf8)
+    AsksFor name readings (λ answer left. AnswerComes (Err (Refused Unreadable)) (λ bytes. Err (Refused NotUtf8))
     (λ bytes todo rest end.
     TextComes DEEPEST name bytes (with_bytes name bytes nothing) todo rest end)
     nothing answer left [] result)

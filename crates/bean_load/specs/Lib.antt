@@ -1,4 +1,4 @@
-pub mod LoadFault
+pub mod LoadCause
 pub mod Include
 pub mod Texts
 pub mod Gathered

@@ -5,10 +5,11 @@ ghost use Rattle.bean_load.specs.Gathered as spec;
 ghost use Rattle.bean_load.specs.Gathering.{LineComes, LinesCome, TextComes};
 ghost use Rattle.bean_load.specs.Following.{Follows, Gathers, HasOneGathering};
 
-use crate::fault::LoadFault;
+use crate::cause::LoadCause;
 use crate::gathering::{DEEPEST, Gathering, SourceAnswer};
 use crate::include::{Include, includes_of};
 use crate::texts::Texts;
+use refusals::Refusal;
 use std::alloc::Global;
 use stores::Source;
 
@@ -20,7 +21,7 @@ fn follow_text<S: Source>(
     room: usize,
     name: String,
     text: String,
-) -> Result<(), LoadFault>
+) -> Result<(), Refusal<LoadCause>>
     ensures { Follows S.Source source.old source.new
         (TextComes room (string_bytes name) (string_bytes text) gathering.old)
         gathering.new result }
@@ -39,7 +40,7 @@ fn follow_lines<S: Source>(
     room: usize,
     file: usize,
     lines: &[Include],
-) -> Result<(), LoadFault>
+) -> Result<(), Refusal<LoadCause>>
     ensures { Follows S.Source source.old source.new
         (LinesCome room file lines.now gathering.old) gathering.new result }
 {
@@ -57,7 +58,7 @@ fn follow_line<S: Source>(
     room: usize,
     file: usize,
     include: &Include,
-) -> Result<(), LoadFault>
+) -> Result<(), Refusal<LoadCause>>
     ensures { Follows S.Source source.old source.new
         (LineComes room file include.now gathering.old) gathering.new result }
 {
@@ -66,7 +67,7 @@ fn follow_line<S: Source>(
         return Ok(());
     }
     if gathering.is_full(room) {
-        return Err(LoadFault::TooLarge);
+        return Err(Refusal::Refused(LoadCause::TooLarge));
     }
     match gathering.ask(source, &include.name)? {
         SourceAnswer::Text(text) => {
@@ -83,7 +84,11 @@ fn follow_line<S: Source>(
 }
 
 /// The texts of a ledger whose top one has that name.
-pub fn gather<S: Source>(alloc: Global, source: &mut S, name: &str) -> Result<Texts, LoadFault>
+pub fn gather<S: Source>(
+    alloc: Global,
+    source: &mut S,
+    name: &str,
+) -> Result<Texts, Refusal<LoadCause>>
     ensures { Gathers S.Source source.old source.new name.now result }
 {
     let mut gathering = Gathering::new(alloc);
@@ -93,8 +98,8 @@ pub fn gather<S: Source>(alloc: Global, source: &mut S, name: &str) -> Result<Te
             follow_text(source, &mut gathering, DEEPEST, name, text)?;
             Ok(gathering.texts())
         }
-        SourceAnswer::NotUtf8 => Err(LoadFault::NotUtf8),
-        SourceAnswer::Failed => Err(LoadFault::Unreadable),
+        SourceAnswer::NotUtf8 => Err(Refusal::Refused(LoadCause::NotUtf8)),
+        SourceAnswer::Failed => Err(Refusal::Refused(LoadCause::Unreadable)),
     }
 }
 

@@ -5,10 +5,11 @@ ghost use Rattle.bean_load.specs.Asking.{AddsBytes, Asks, IsTextOf};
 ghost use Rattle.bean_load.specs.Gathered as spec;
 ghost use Rattle.bean_load.specs.Small.{AreLimited};
 
-use crate::fault::LoadFault;
+use crate::cause::LoadCause;
 use crate::texts::{File, Part, Texts};
 use bean_base::limits::LARGEST_TEXT;
 use bean_base::{Fault, FaultKind, Place};
+use refusals::Refusal;
 use std::alloc::{AllocError, Global};
 use std::marker::Model;
 use stores::{Source, SourceFault};
@@ -131,18 +132,22 @@ impl Gathering {
     }
 
     /// Counts bytes that were read, where they aren't too many.
-    fn add_bytes(&mut self, bytes: usize) -> Result<(), LoadFault>
+    fn add_bytes(&mut self, bytes: usize) -> Result<(), Refusal<LoadCause>>
         ensures { AddsBytes bytes self.old self.new result }
     {
         if self.is_too_large(bytes) {
-            return Err(LoadFault::TooLarge);
+            return Err(Refusal::Refused(LoadCause::TooLarge));
         }
         self.read += bytes;
         Ok(())
     }
 
     /// Asks the source for a text, which counts its name and its bytes.
-    pub fn ask<S: Source>(&mut self, source: &mut S, name: &str) -> Result<SourceAnswer, LoadFault>
+    pub fn ask<S: Source>(
+        &mut self,
+        source: &mut S,
+        name: &str,
+    ) -> Result<SourceAnswer, Refusal<LoadCause>>
         ensures { Asks S.Source source.old source.new name.now self.old self.new result }
     {
         self.add_name(name)?;
@@ -152,7 +157,7 @@ impl Gathering {
                 Ok(text_of(bytes))
             }
             Err(SourceFault::Failed) => Ok(SourceAnswer::Failed),
-            Err(SourceFault::OutOfMemory) => Err(LoadFault::OutOfMemory),
+            Err(SourceFault::OutOfMemory) => Err(Refusal::OutOfMemory),
         }
     }
 

@@ -38,7 +38,7 @@
 //! The directives are moved once and sorted, which takes memory for half of them.
 #![tactic(auto)]
 
-mod fault;
+mod cause;
 mod following;
 mod gathering;
 mod include;
@@ -48,7 +48,7 @@ mod placed;
 mod rank;
 mod texts;
 
-pub use fault::LoadFault;
+pub use cause::LoadCause;
 pub use following::{gather, one_gathering};
 pub use gathering::{DEEPEST, LARGEST_LEDGER, MOST_NAMES};
 pub use loaded::{Loaded, MethodLine, load, one_loading};

@@ -19,7 +19,8 @@ use Rattle.bean_reductions.specs.Back.{AreEarlier, IsBack}
 use Rattle.bean_reductions.specs.Candidate.{IsHeld}
 use Rattle.bean_reductions.specs.Reduction.{IsReduction, Reduces}
 use Rattle.bean_reductions.specs.Take.{IsQueue, day_of, order_of, units_of}
-use Rattle.bean_reductions.specs.declared.reduction.LotFault.{LotFault}
+use Rattle.refusals.specs.declared.refusal.Refusal.{Refusal}
+use Rattle.bean_reductions.specs.declared.cause.LotCause.{LotCause}
 use Rattle.bean_reductions.specs.declared.reduction.Method.TheVariants.{Strict, Lifo}
 use Rattle.bean_reductions.proofs.EnoughFacts.{longer, of_enough}
 use Rattle.bean_reductions.proofs.InTurn.{TakesInTurn}
@@ -121,7 +122,7 @@ pub back_some : (rest f : List (Lot × ℕ)) → 0 < length f → 0 < length (re
 back_some [] f p = p
 back_some (c ∷ rest) f p = omega arith
 
-enough : (rest f : List (Lot × ℕ)) (want : ℤ) (a : Result (Vec (Lot × Num) Global) LotFault)
+enough : (rest f : List (Lot × ℕ)) (want : ℤ) (a : Result (Vec (Lot × Num) Global) (Refusal LotCause))
     → AreEarlier rest f → AllByRecursion IsHeld (rest ++ f)
     → (0 < length (rest ++ f) → 0 < unsigned_abs want) → unsigned_abs want ≤ sum_by units_of f
     → Reduces Lifo f want a → Reduces Lifo (rest ++ f) want a
@@ -134,7 +135,7 @@ enough rest f want a earlier held wanted le h =
     not_strict : Lifo ≡ Strict → ⊥
     not_strict e = cc
 
-pub of_back : (f cs : List (Lot × ℕ)) (want : ℤ) (a : Result (Vec (Lot × Num) Global) LotFault)
+pub of_back : (f cs : List (Lot × ℕ)) (want : ℤ) (a : Result (Vec (Lot × Num) Global) (Refusal LotCause))
     → IsBack (unsigned_abs want) f cs → AllByRecursion IsHeld cs
     → (0 < length cs → 0 < unsigned_abs want) → Reduces Lifo f want a → Reduces Lifo cs want a
 of_back f cs want a back held wanted h =

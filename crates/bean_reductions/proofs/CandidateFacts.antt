@@ -17,7 +17,8 @@ use Rattle.bean_reductions.specs.Take.{IsQueue}
 use Rattle.bean_reductions.specs.Filling.{filled, Judges}
 use Rattle.bean_reductions.specs.Reduction.{IsReduction, Reduces}
 use Rattle.bean_reductions.specs.declared.reduction.Method.{Method}
-use Rattle.bean_reductions.specs.declared.reduction.LotFault.{LotFault}
+use Rattle.refusals.specs.declared.refusal.Refusal.{Refusal}
+use Rattle.bean_reductions.specs.declared.cause.LotCause.{LotCause}
 use Rattle.bean_reductions.specs.Candidate.{IsHeld}
 use Rattle.bean_reductions.proofs.ReductionFacts.{made, refused}
 
@@ -79,7 +80,7 @@ queue_held cs q h p =
     (All-permutation IsHeld cs q p (All-from_recursion IsHeld cs h))
 
 -- with the equations that a call leaves
-pub refused_at : (m : Method) (want : ℤ) (cs q r : List (Lot × ℕ)) (n : ℕ) (e : LotFault)
+pub refused_at : (m : Method) (want : ℤ) (cs q r : List (Lot × ℕ)) (n : ℕ) (e : Refusal LotCause)
     → IsQueue m cs q → IsPermutation cs q → r ≡ q → n ≡ unsigned_abs want
     → Judges m r n (Err e) → Reduces m cs want (Err e)
 refused_at m want cs q r n e a p i k j =

@@ -11,9 +11,11 @@ use Rattle.bean_reductions.specs.Candidate.{IsHeld}
 use Rattle.bean_reductions.specs.Filling.{filled}
 use Rattle.bean_reductions.specs.Reduction.{IsReduction, Reduces}
 use Rattle.bean_reductions.specs.Take.{IsQueue, units_of}
-use Rattle.bean_reductions.specs.declared.reduction.LotFault.{LotFault}
-use Rattle.bean_reductions.specs.declared.reduction.LotFault.TheVariants.{NoLotMatches, AmbiguousLots}
-use Rattle.bean_reductions.specs.declared.reduction.LotFault.TheVariants.{NotEnoughUnits, OutOfMemory}
+use Rattle.refusals.specs.declared.refusal.Refusal.{Refusal}
+use Rattle.bean_reductions.specs.declared.cause.LotCause.{LotCause}
+use Rattle.bean_reductions.specs.declared.cause.LotCause.TheVariants.{NoLotMatches, AmbiguousLots}
+use Rattle.bean_reductions.specs.declared.cause.LotCause.TheVariants.{NotEnoughUnits}
+use Rattle.refusals.specs.declared.refusal.Refusal.TheVariants.{OutOfMemory, Refused}
 use Rattle.bean_reductions.specs.declared.reduction.Method.{Method}
 use Rattle.bean_reductions.specs.declared.reduction.Method.TheVariants.{Strict}
 use Rattle.bean_reductions.proofs.InTurn.{TakesInTurn}
@@ -40,7 +42,7 @@ sum_of_none (c ∷ f) e = absurd (omega (arith, e))
 
 -- some candidates f, which come to the want, and whose queue is q
 pub of_enough : (m : Method) (f cs q : List (Lot × ℕ)) (want : ℤ)
-    (a : Result (Vec (Lot × Num) Global) LotFault) → (m ≡ Strict → ⊥) → IsQueue m f q
+    (a : Result (Vec (Lot × Num) Global) (Refusal LotCause)) → (m ≡ Strict → ⊥) → IsQueue m f q
     → ((ts : List (Lot × ℕ)) → IsReduction m f (unsigned_abs want) ts
     → IsReduction m cs (unsigned_abs want) ts) → AllByRecursion IsHeld q
     → sum_by units_of q ≡ sum_by units_of f → unsigned_abs want ≤ sum_by units_of f
@@ -48,13 +50,13 @@ pub of_enough : (m : Method) (f cs q : List (Lot × ℕ)) (want : ℤ)
     → (0 < length cs → 0 < unsigned_abs want) → Reduces m f want a → Reduces m cs want a
 of_enough m f cs q want (Ok v) not_strict own all held same le some wanted h =
     (h.0, h.1, all h.0 h.2)
-of_enough m f cs q want (Err NoLotMatches) not_strict own all held same le some wanted h =
+of_enough m f cs q want (Err (Refused NoLotMatches)) not_strict own all held same le some wanted h =
     let zero = sum_of_none f h.0 in
     let none = no_candidates cs (unsigned_abs want) (omega (arith, zero, le)) wanted in
     (none, none_at m cs (unsigned_abs want) none)
-of_enough m f cs q want (Err AmbiguousLots) not_strict own all held same le some wanted h =
+of_enough m f cs q want (Err (Refused AmbiguousLots)) not_strict own all held same le some wanted h =
     absurd (not_strict h.0)
-of_enough m f cs q want (Err NotEnoughUnits) not_strict own all held same le some wanted h =
+of_enough m f cs q want (Err (Refused NotEnoughUnits)) not_strict own all held same le some wanted h =
     let p = wanted (some h.0) in
     let below : unsigned_abs want ≤ sum_by units_of q = omega (arith, le, same) in
     absurd

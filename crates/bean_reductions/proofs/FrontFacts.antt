@@ -25,7 +25,8 @@ use Rattle.bean_reductions.specs.Reduction.{IsReduction, Reduces}
 use Rattle.bean_reductions.specs.Take.{IsQueue, day_of, units_of}
 use Rattle.bean_lots.specs.declared.lot.Lot.{Lot}
 use Rattle.bean_lots.specs.declared.lot.Position.{Position}
-use Rattle.bean_reductions.specs.declared.reduction.LotFault.{LotFault}
+use Rattle.refusals.specs.declared.refusal.Refusal.{Refusal}
+use Rattle.bean_reductions.specs.declared.cause.LotCause.{LotCause}
 use Rattle.bean_reductions.specs.declared.reduction.Method.{Method}
 use Rattle.bean_reductions.specs.declared.reduction.Method.TheVariants.{Strict, Fifo}
 use Rattle.bean_reductions.specs.declared.reduction.Selector.{Selector}
@@ -144,7 +145,7 @@ reduction f r want ts a h = record {
     not_strict : Fifo ≡ Strict → ⊥
     not_strict e = cc
 
-enough : (f r : List (Lot × ℕ)) (want : ℤ) (a : Result (Vec (Lot × Num) Global) LotFault)
+enough : (f r : List (Lot × ℕ)) (want : ℤ) (a : Result (Vec (Lot × Num) Global) (Refusal LotCause))
     → AreByDay (f ++ r) → AllByRecursion IsHeld (f ++ r)
     → (0 < length (f ++ r) → 0 < unsigned_abs want) → unsigned_abs want ≤ sum_by units_of f
     → Reduces Fifo f want a → Reduces Fifo (f ++ r) want a
@@ -157,7 +158,7 @@ enough f r want a days held wanted le h =
     not_strict e = cc
 
 pub of_all : (m : Method) (b : Bool) (f cs : List (Lot × ℕ)) (want : ℤ)
-    (a : Result (Vec (Lot × Num) Global) LotFault) → IsFront b (unsigned_abs want) f cs
+    (a : Result (Vec (Lot × Num) Global) (Refusal LotCause)) → IsFront b (unsigned_abs want) f cs
     → (b ≡ true → (m ≡ Fifo) × AreByDay cs) → AllByRecursion IsHeld cs
     → (0 < length cs → 0 < unsigned_abs want) → Reduces m f want a → Reduces m cs want a
 of_all m b f cs want a front days held wanted h =

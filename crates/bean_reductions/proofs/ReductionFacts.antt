@@ -12,9 +12,11 @@ use Rattle.bean_reductions.specs.Reduction.{IsReduction, HasNoReduction, Reduces
 use Rattle.bean_reductions.specs.declared.reduction.Method.{Method}
 use Rattle.bean_reductions.specs.declared.reduction.Method.TheVariants.{Strict, Fifo, Lifo}
 use Rattle.bean_reductions.specs.declared.reduction.Method.TheVariants.{None as method_None}
-use Rattle.bean_reductions.specs.declared.reduction.LotFault.{LotFault}
-use Rattle.bean_reductions.specs.declared.reduction.LotFault.TheVariants.{NoLotMatches, AmbiguousLots}
-use Rattle.bean_reductions.specs.declared.reduction.LotFault.TheVariants.{NotEnoughUnits, OutOfMemory}
+use Rattle.refusals.specs.declared.refusal.Refusal.{Refusal}
+use Rattle.bean_reductions.specs.declared.cause.LotCause.{LotCause}
+use Rattle.bean_reductions.specs.declared.cause.LotCause.TheVariants.{NoLotMatches, AmbiguousLots}
+use Rattle.bean_reductions.specs.declared.cause.LotCause.TheVariants.{NotEnoughUnits}
+use Rattle.refusals.specs.declared.refusal.Refusal.TheVariants.{OutOfMemory, Refused}
 use Rattle.bean_reductions.specs.Candidate.{IsHeld}
 use Rattle.bean_reductions.proofs.InTurn.{TakesInTurn, taken, only, held, whole}
 use Rattle.bean_reductions.proofs.TakeFacts.{to_first, to_takes}
@@ -78,18 +80,18 @@ none m [] want e ts r =
     )
 none m (c ∷ cs) want e ts r = omega (arith, e)
 
-pub refused : (m : Method) (cs q : List (Lot × ℕ)) (want : ℤ) (e : LotFault) → IsQueue m cs q
+pub refused : (m : Method) (cs q : List (Lot × ℕ)) (want : ℤ) (e : Refusal LotCause) → IsQueue m cs q
     → length q ≡ length cs → Judges m q (unsigned_abs want) (Err e) → Reduces m cs want (Err e)
-refused m cs q want NoLotMatches a l j = let empty = sym l ∙ j in
+refused m cs q want (Refused NoLotMatches) a l j = let empty = sym l ∙ j in
     (empty, none m cs (unsigned_abs want) empty)
-refused m cs q want AmbiguousLots a l j = (
+refused m cs q want (Refused AmbiguousLots) a l j = (
   j.0,
   omega (arith, l, j.1),
   λ ts r.
       several q r.queue (unsigned_abs want) ts (one_queue m cs q r.queue a r.arranged) j.1 j.2
       r.taken (r.strict j.0),
 )
-refused m cs q want NotEnoughUnits a l j = (
+refused m cs q want (Refused NotEnoughUnits) a l j = (
   omega (arith, l, j.0),
   λ e. sym l ∙ j.1 e,
   λ ts r.

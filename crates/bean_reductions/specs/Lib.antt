@@ -5,3 +5,4 @@ pub mod Reduction
 pub mod After
 pub mod Front
 pub mod Back
+pub mod LotCause

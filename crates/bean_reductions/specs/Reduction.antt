@@ -8,9 +8,11 @@ use Rattle.bean_lots.specs.declared.lot.Lot.{Lot}
 use Rattle.bean_reductions.specs.Take.{IsQueue, AreTakes, signed_takes, take_counts}
 use Rattle.bean_reductions.specs.declared.reduction.Method.{Method}
 use Rattle.bean_reductions.specs.declared.reduction.Method.TheVariants.{Strict}
-use Rattle.bean_reductions.specs.declared.reduction.LotFault.{LotFault}
-use Rattle.bean_reductions.specs.declared.reduction.LotFault.TheVariants.{NoLotMatches, AmbiguousLots}
-use Rattle.bean_reductions.specs.declared.reduction.LotFault.TheVariants.{NotEnoughUnits, OutOfMemory}
+use Rattle.refusals.specs.declared.refusal.Refusal.{Refusal}
+use Rattle.bean_reductions.specs.declared.cause.LotCause.{LotCause}
+use Rattle.bean_reductions.specs.declared.cause.LotCause.TheVariants.{NoLotMatches, AmbiguousLots}
+use Rattle.bean_reductions.specs.declared.cause.LotCause.TheVariants.{NotEnoughUnits}
+use Rattle.refusals.specs.declared.refusal.Refusal.TheVariants.{OutOfMemory, Refused}
 
 -- one or more takes of the candidates cs in their order; under STRICT there is one candidate, or
 -- all are exhausted
@@ -27,13 +29,13 @@ HasNoReduction m cs want = (ts : List (Lot × ℕ)) → ¬ IsReduction m cs want
 
 -- the reduction; where there is none: no candidate, or else several under STRICT, or else too few
 -- units
-abbrev pub Reduces : Method → List (Lot × ℕ) → ℤ → Result (Vec (Lot × Num) Global) LotFault → Type 0
+abbrev pub Reduces : Method → List (Lot × ℕ) → ℤ → Result (Vec (Lot × Num) Global) (Refusal LotCause) → Type 0
 Reduces m cs want (Ok v) =
     (ts : List (Lot × ℕ)) × (map take_counts v.items ≡ signed_takes want ts)
     × IsReduction m cs (unsigned_abs want) ts
-Reduces m cs want (Err NoLotMatches) = (length cs ≡ 0) × HasNoReduction m cs (unsigned_abs want)
-Reduces m cs want (Err AmbiguousLots) =
+Reduces m cs want (Err (Refused NoLotMatches)) = (length cs ≡ 0) × HasNoReduction m cs (unsigned_abs want)
+Reduces m cs want (Err (Refused AmbiguousLots)) =
     (m ≡ Strict) × (1 < length cs) × HasNoReduction m cs (unsigned_abs want)
-Reduces m cs want (Err NotEnoughUnits) =
+Reduces m cs want (Err (Refused NotEnoughUnits)) =
     (0 < length cs) × (m ≡ Strict → length cs ≡ 1) × HasNoReduction m cs (unsigned_abs want)
 Reduces m cs want (Err OutOfMemory) = Unit {0}

@@ -42,6 +42,8 @@
 //! finds; where none that is held has the opposite sign, it looks at what was taken alone.
 #![tactic(auto)]
 
+mod cause;
 mod reduction;
 
-pub use reduction::{LotFault, Method, Selector, has_opposite, reduce, reduce_after};
+pub use cause::LotCause;
+pub use reduction::{Method, Selector, has_opposite, reduce, reduce_after};

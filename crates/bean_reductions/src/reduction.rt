@@ -9,9 +9,7 @@ mod takes;
 pub use after::{has_opposite, reduce_after};
 use bean_base::{Currency, Day, Text};
 use bean_lots::{Cost, Lot};
-use std::alloc::AllocError;
 pub use takes::{one_reduction, reduce};
-use thiserror::Error;
 
 /// How an account chooses among its lots.
 #[derive(Clone, Copy, Debug, Drop, PartialEq, Eq)]
@@ -33,29 +31,6 @@ pub struct Selector<'a> {
     pub cost: Option<Cost<'a>>,
     pub day: Option<Day>,
     pub label: Option<Text<'a>>,
-}
-
-/// What keeps a reduction from being made.
-#[derive(Clone, Copy, Debug, Drop, PartialEq, Eq, Error)]
-pub enum LotFault {
-    #[error("F13 no lot matches")]
-    NoLotMatches,
-    #[error("F14 ambiguous lots")]
-    AmbiguousLots,
-    #[error("F15 not enough units")]
-    NotEnoughUnits,
-    #[error("out of memory")]
-    OutOfMemory,
-}
-
-impl From<AllocError> for LotFault {
-    ghost use Rattle.bean_reductions.specs.declared.reduction.LotFault.TheVariants.{OutOfMemory};
-
-    ghost from_gives = { λ _ fault. fault ≡ OutOfMemory };
-
-    fn from(_: AllocError) -> LotFault {
-        LotFault::OutOfMemory
-    }
 }
 
 impl Selector<'_> {

@@ -25,7 +25,8 @@ use bean_interp::Scales;
 use bean_load::Placed;
 use bean_pad::Padder;
 use bean_parser::{Directive, DirectiveKind};
-use bean_transactions::{Head, Holdings, LineFault, Methods, Stop, Tried, try_transaction};
+use bean_transactions::{Head, Holdings, LineFault, Methods, Tried, try_transaction};
+use refusals::Refusal;
 use std::alloc::{AllocError, AllocFailed, Global};
 
 /// Why nothing is booked.
@@ -186,8 +187,8 @@ impl<'a> Booker<'a> {
             written.transaction.postings.as_slice(),
         ) {
             Ok(tried) => self.keep(written, tried),
-            Err(Stop::Fault(fault)) => self.drop_with(&written, fault),
-            Err(Stop::OutOfMemory) => Err(BookFault::OutOfMemory),
+            Err(Refusal::Refused(fault)) => self.drop_with(&written, fault),
+            Err(Refusal::OutOfMemory) => Err(BookFault::OutOfMemory),
         }
     }
 

@@ -24,13 +24,13 @@ use Rattle.bean_transactions.specs.declared.lines.Lines.{Lines}
 use Rattle.bean_transactions.specs.declared.methods.Methods.{Methods}
 use Rattle.bean_transactions.specs.declared.outcome.Outcome.{Outcome}
 use Rattle.bean_transactions.specs.declared.setting.Head.{Head}
-use Rattle.bean_transactions.specs.declared.stop.Stop.{Stop}
-use Rattle.bean_transactions.specs.declared.stop.Stop.TheVariants as stop
+use Rattle.refusals.specs.declared.refusal.Refusal.{Refusal}
+use Rattle.refusals.specs.declared.refusal.Refusal.TheVariants as stop
 
 -- what the program says of a posting, said of the setting
 pub next_of :
     (s : Setting) (h : Holdings) (ms : Methods) (head : Head) (ls : Lines) (m : Method)
-    (before taken : List Position) (i : ℕ) (p : Posting) (r : Result Outcome Stop)
+    (before taken : List Position) (i : ℕ) (p : Posting) (r : Result Outcome (Refusal LineFault))
     → IsSettled s h ms head → IsKeeping ls → m ≡ method_in ms p.account
     → before ≡ holding h p.account → taken ≡ holding ls.taken p.account
     → ComesOf (IsLinedByUnits m (after before taken) head p.account p.units p.details.cost i
@@ -105,10 +105,10 @@ one_more_lined s ps i p earlier ls h e lined next =
     )
 
 pub first_fault :
-    (s : Setting) (ps : List Posting) (i : ℕ) (p : Posting) (lines : List Line) (e : Stop)
+    (s : Setting) (ps : List Posting) (i : ℕ) (p : Posting) (lines : List Line) (e : Refusal LineFault)
     → i < length ps → p ≡ get_or ps i p → AreLined s (reverse (take i ps)) lines
     → StopsAt (λ f. IsNext s lines i p (Err f)) e → StopsAt (IsFirstFault s ps) e
-first_fault s ps i p lines (stop.Fault f) h e lined fault = record {
+first_fault s ps i p lines (stop.Refused f) h e lined fault = record {
   earlier = reverse (take i ps);
   at = p;
   later = drop (suc i) ps;

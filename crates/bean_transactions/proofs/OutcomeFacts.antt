@@ -14,9 +14,9 @@ use Rattle.bean_transactions.specs.declared.line.Line.{Line}
 use Rattle.bean_transactions.specs.declared.line.Line.TheVariants as line
 use Rattle.bean_transactions.specs.declared.setting.Head.{Head}
 use Rattle.bean_transactions.specs.Outcome.{StopsWith}
-use Rattle.bean_transactions.specs.declared.stop.LineFault.{LineFault}
-use Rattle.bean_transactions.specs.declared.stop.Stop.{Stop}
-use Rattle.bean_transactions.specs.declared.stop.Stop.TheVariants as stop
+use Rattle.bean_transactions.specs.declared.line_fault.LineFault.{LineFault}
+use Rattle.refusals.specs.declared.refusal.Refusal.{Refusal}
+use Rattle.refusals.specs.declared.refusal.Refusal.TheVariants as stop
 
 pub augmented_by :
     (head : Head) (parts : LotParts) (o : Option Amount) (cost : Amount) (account a : List ℕ)
@@ -54,7 +54,7 @@ pub mapped_more : {X Y : Type 0} (f : X → Y) (xs : List X) (i : ℕ) (x : X) �
     → x ≡ get_or xs i x → map f (take (i + 1) xs) ≡ map f (take i xs) ++ f x ∷ []
 mapped_more f xs i x h e = ap (map f) (taken_more xs i x h e) ∙ map-append f (take i xs) (x ∷ [])
 
-pub stops_more : (P Q : Result (List Line) LineFault → Type 0) (e : Stop)
+pub stops_more : (P Q : Result (List Line) LineFault → Type 0) (e : Refusal LineFault)
     → ((r : Result (List Line) LineFault) → P r → Q r) → StopsWith P e → StopsWith Q e
-stops_more P Q (stop.Fault f) more h = more (Err f) h
+stops_more P Q (stop.Refused f) more h = more (Err f) h
 stops_more P Q stop.OutOfMemory more h = tt

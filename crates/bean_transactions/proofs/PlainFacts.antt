@@ -8,9 +8,11 @@ use Rattle.bean_interp.specs.Balance.{Judges}
 use Rattle.bean_interp.specs.Completion.{Completes}
 use Rattle.bean_interp.specs.Lacking.{is_whole}
 use Rattle.bean_interp.specs.Residual.{AreInRange}
-use Rattle.bean_interp.specs.declared.fault.CompletionFault.TheVariants.{Weighing}
-use Rattle.bean_interp.specs.declared.fault.WeighFault.{WeighFault}
-use Rattle.bean_interp.specs.declared.fault.WeighFault.TheVariants.{TooWide, OutOfMemory}
+use Rattle.bean_interp.specs.Causes.{of_weighing}
+use Rattle.refusals.specs.declared.refusal.Refusal.{Refusal}
+use Rattle.bean_interp.specs.declared.cause.WeighCause.{WeighCause}
+use Rattle.bean_interp.specs.declared.cause.WeighCause.TheVariants.{TooWide}
+use Rattle.refusals.specs.declared.refusal.Refusal.TheVariants.{OutOfMemory, Refused}
 use Rattle.bean_interp.proofs.WholeFacts.{none_filled, none_lack}
 use Rattle.bean_postings.specs.declared.posting.Posting.{Posting}
 use Rattle.bean_transactions.specs.Held.{left}
@@ -22,8 +24,8 @@ use Rattle.bean_transactions.specs.Tried.{leg_of, legs_of, posts_from}
 use Rattle.bean_transactions.specs.declared.line.Line.{Line}
 use Rattle.bean_transactions.specs.declared.line.Line.TheVariants as line
 use Rattle.bean_transactions.specs.declared.line.Posted.{Posted}
-use Rattle.bean_transactions.specs.declared.stop.Stop.{Stop}
-use Rattle.bean_transactions.specs.declared.stop.Stop.TheVariants as stop
+use Rattle.refusals.specs.declared.refusal.Refusal.{Refusal}
+use Rattle.refusals.specs.declared.refusal.Refusal.TheVariants as stop
 use Rattle.bean_transactions.proofs.LinedFacts.{before_length, latest}
 
 -- the lines of such postings
@@ -107,17 +109,17 @@ kept_as_written s ps qs are range = record {
 }
 
 -- what stops the weighing stops the completion
-pub wide_as_written : (ps : List Posting) (qs : List Posted) (e : WeighFault)
-    → Judges (booked_legs ps qs) (Err e) → Completes (booked_legs ps qs) (Err (Weighing e))
-wide_as_written ps qs TooWide wide =
+pub wide_as_written : (ps : List Posting) (qs : List Posted) (e : Refusal WeighCause)
+    → Judges (booked_legs ps qs) (Err e) → Completes (booked_legs ps qs) (Err (of_weighing e))
+wide_as_written ps qs (Refused TooWide) wide =
     (none_lack (booked_legs ps qs) (all_whole ps qs), λ both. wide both.0)
 wide_as_written ps qs OutOfMemory lacks = tt
 
-pub stopped_as_written : (s : Setting) (ps : List Posting) (qs : List Posted) (e : Stop)
+pub stopped_as_written : (s : Setting) (ps : List Posting) (qs : List Posted) (e : Refusal LineFault)
     → AreAsWritten (reverse ps) qs → is_outside ps ≡ false
     → StopsAt (LacksOrIsWide s.head.line (booked_legs ps qs)) e
     → StopsAt (λ f. Tries s ps (Err f)) e
-stopped_as_written s ps qs (stop.Fault f) are inside why =
+stopped_as_written s ps qs (stop.Refused f) are inside why =
     inr (
       inside,
       inr (record {

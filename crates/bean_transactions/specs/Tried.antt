@@ -15,8 +15,9 @@ use Rattle.bean_postings.specs.declared.price.Price as prices
 use Rattle.bean_postings.specs.declared.price.Price.TheVariants as price_kind
 use Rattle.bean_interp.specs.Balance.{is_balanced}
 use Rattle.bean_interp.specs.Completion.{Completes}
-use Rattle.bean_interp.specs.declared.fault.CompletionFault.TheVariants.{LackTooMuch, Weighing}
-use Rattle.bean_interp.specs.declared.fault.WeighFault.TheVariants.{TooWide}
+use Rattle.bean_interp.specs.declared.cause.CompletionCause.TheVariants as completion
+use Rattle.bean_interp.specs.declared.cause.WeighCause.TheVariants.{TooWide}
+use Rattle.refusals.specs.declared.refusal.Refusal.TheVariants.{Refused}
 use Rattle.bean_interp.specs.declared.fill.Fill.{Fill}
 use Rattle.bean_interp.specs.declared.leg.Leg.{Leg}
 use Rattle.bean_interp.specs.declared.leg.Leg.TheVariants as leg
@@ -30,8 +31,8 @@ use Rattle.bean_transactions.specs.declared.line.Line.{Line}
 use Rattle.bean_transactions.specs.declared.line.Line.TheVariants as line
 use Rattle.bean_transactions.specs.declared.line.Posted.{Posted}
 use Rattle.bean_transactions.specs.declared.line.Tried as tried
-use Rattle.bean_transactions.specs.declared.stop.LineFault.{LineFault}
-use Rattle.bean_transactions.specs.declared.stop.Stop.{Stop}
+use Rattle.bean_transactions.specs.declared.line_fault.LineFault.{LineFault}
+use Rattle.refusals.specs.declared.refusal.Refusal.{Refusal}
 
 -- ---- what lines weigh and lack
 
@@ -127,8 +128,8 @@ pub record IsKept (s : Setting) (ps : List postings.Posting) (posted : List Post
 -- F11, else F17, at the first line
 abbrev pub LacksOrIsWide : ℕ → List Leg → LineFault → Type 0
 LacksOrIsWide n legs f =
-    (Completes legs (Err LackTooMuch) × (f ≡ fault_at kind.SeveralMissingAmounts n))
-    ⊎ (Completes legs (Err (Weighing TooWide)) × (f ≡ fault_at kind.TooWide n))
+    (Completes legs (Err (Refused completion.LackTooMuch)) × (f ≡ fault_at kind.SeveralMissingAmounts n))
+    ⊎ (Completes legs (Err (Refused completion.TooWide)) × (f ≡ fault_at kind.TooWide n))
 
 -- each posting has lines, which can't be completed
 pub record IsIncomplete (s : Setting) (ps : List postings.Posting) (f : LineFault) : Type 0 where
@@ -145,7 +146,7 @@ Tries s ps (Err f) =
     ⊎ ((is_outside ps ≡ false) × (IsFirstFault s ps f ⊎ IsIncomplete s ps f))
 
 -- what the program answers, of whose want of memory nothing is said
-abbrev pub TriesOrLacks : Setting → List postings.Posting → Result tried.Tried Stop → Type 0
+abbrev pub TriesOrLacks : Setting → List postings.Posting → Result tried.Tried (Refusal LineFault) → Type 0
 TriesOrLacks s ps (Ok t) = Tries s ps (Ok t.posted)
 TriesOrLacks s ps (Err e) = StopsAt (λ f. Tries s ps (Err f)) e
 

@@ -10,9 +10,10 @@ ghost use Rattle.bean_transactions.specs.Tried.{whole_at};
 
 use crate::line::{Line, Posted};
 use bean_base::{Apart, Num};
-use bean_interp::{Leg, Scales, WeighFault, Whole, Worth};
+use bean_interp::{Leg, Scales, WeighCause, Whole, Worth};
 use bean_lots::Lot;
 use bean_postings::{Posting, Price, Units};
+use refusals::Refusal;
 use std::alloc::{AllocError, Global};
 
 /// What units are worth of which this is known without a cost: a cost goes before a price.
@@ -110,11 +111,11 @@ fn lay<'a>(
     scales: &mut Scales<'a>,
     postings: &[Posting<'a>],
     posted: &[Posted<'a>],
-) -> Result<(), WeighFault>
+) -> Result<(), Refusal<WeighCause>>
     ensures weighed { OnOk result
         (AreWeighed scales.new (spec.booked_legs postings.now posted.now)) }
     ensures noted { OnOk result (AreNoted scales.new []) }
-    ensures wide { result ≡ Err WeighFault.TooWide
+    ensures wide { result ≡ Err (Refusal.Refused WeighCause.TooWide)
         → ¬ AreInRange (spec.booked_legs postings.now posted.now) }
 {
     scales.clear();
@@ -148,7 +149,7 @@ pub(crate) fn judge<'a>(
     scales: &mut Scales<'a>,
     postings: &[Posting<'a>],
     posted: &[Posted<'a>],
-) -> Result<bool, WeighFault>
+) -> Result<bool, Refusal<WeighCause>>
     ensures { Judges (spec.booked_legs postings.now posted.now) result }
 {
     if let Err(fault) = lay(scales, postings, posted) {

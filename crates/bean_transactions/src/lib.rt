@@ -12,8 +12,8 @@
 //! match try_transaction(alloc, &holdings, &methods, &mut scales, head, postings) {
 //!     // -10 X at 100 USD, -2 X at 110 USD, 1300.00 USD, and -80.00 USD for Income:Gain
 //!     Ok(tried) => holdings.post_all(alloc, tried.posted.as_slice())?,
-//!     Err(Stop::Fault(fault)) => report(fault),
-//!     Err(Stop::OutOfMemory) => return Err(AllocError),
+//!     Err(Refusal::Refused(fault)) => report(fault),
+//!     Err(Refusal::OutOfMemory) => return Err(AllocError),
 //! }
 //! ```
 //!
@@ -64,19 +64,19 @@ mod holdings;
 mod laws;
 mod legs;
 mod line;
+mod line_fault;
 mod lines;
 mod methods;
 mod outcome;
 mod plain;
 mod setting;
 mod stock;
-mod stop;
 mod trial;
 
 pub use holdings::Holdings;
 pub use legs::whole;
 pub use line::{Line, Posted, Tried};
+pub use line_fault::LineFault;
 pub use methods::Methods;
 pub use setting::Head;
-pub use stop::{LineFault, Stop};
 pub use trial::{balances, try_transaction};

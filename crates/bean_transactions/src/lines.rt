@@ -14,13 +14,14 @@ ghost use Rattle.bean_transactions.specs.declared.line.Posted.{Posted};
 
 use crate::holdings::Holdings;
 use crate::line::{Line, Posted};
+use crate::line_fault::LineFault;
 use crate::methods::Methods;
 use crate::outcome::{Outcome, outcome_of};
 use crate::setting::Head;
 use crate::stock::Stock;
-use crate::stop::Stop;
 use bean_lots::Inventory;
 use bean_postings::{Cost, Posting};
+use refusals::Refusal;
 use std::alloc::{AllocError, Global};
 
 /// More takes than any memory holds.
@@ -149,7 +150,7 @@ impl<'a> Lines<'a> {
         head: Head,
         index: usize,
         posting: &Posting<'a>,
-    ) -> Result<Outcome<'a>, Stop>
+    ) -> Result<Outcome<'a>, Refusal<LineFault>>
         requires keeping { IsKeeping self.now }
         requires bounded { IsBounded holdings.now }
         requires few { additions_in holdings.now ≤ 2 ^ 40 }
@@ -178,7 +179,7 @@ impl<'a> Lines<'a> {
         head: Head,
         index: usize,
         posting: &Posting<'a>,
-    ) -> Result<(), Stop>
+    ) -> Result<(), Refusal<LineFault>>
         requires keeping { IsKeeping self.old }
         requires bounded { IsBounded holdings.now }
         requires few { additions_in holdings.now ≤ 2 ^ 40 }
@@ -208,7 +209,7 @@ pub(crate) fn line_up<'a>(
     methods: &Methods<'a>,
     head: Head,
     postings: &[Posting<'a>],
-) -> Result<Lines<'a>, Stop>
+) -> Result<Lines<'a>, Refusal<LineFault>>
     requires bounded { IsBounded holdings.now }
     requires few { additions_in holdings.now ≤ 2 ^ 40 }
     requires inside { list_any is_outside_profile postings.now ≡ false }

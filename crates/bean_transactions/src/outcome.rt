@@ -13,13 +13,14 @@ ghost use Rattle.bean_transactions.specs.Outcome.{ComesOf, StopsWith, lines_of};
 ghost use Rattle.bean_transactions.specs.Stock.{IsSmallStock, rest_of};
 
 use crate::line::{Line, Posted};
+use crate::line_fault::LineFault;
 use crate::setting::Head;
 use crate::stock::Stock;
-use crate::stop::{LineFault, Stop};
 use bean_base::{Account, Amount, Apart, Currency, FaultKind, Num, Text};
 use bean_lots::Lot;
 use bean_postings::{Cost, LotParts, Posting, Units};
-use bean_reductions::{LotFault, Method, Selector, has_opposite, reduce_after};
+use bean_reductions::{LotCause, Method, Selector, has_opposite, reduce_after};
+use refusals::Refusal;
 use std::alloc::{AllocError, Global};
 
 /// What comes of a posting.
@@ -78,22 +79,22 @@ fn selector_of<'a>(units: &Amount<'a>, parts: &LotParts<'a>) -> Selector<'a>
     }
 }
 
-fn stop_at(kind: FaultKind, line: usize) -> Stop
-    ensures { result ≡ Stop.Fault (spec.fault_at kind line) }
+fn refusal_at(kind: FaultKind, line: usize) -> Refusal<LineFault>
+    ensures { result ≡ Refusal.Refused (spec.fault_at kind line) }
 {
-    Stop::Fault(LineFault { kind, line })
+    Refusal::Refused(LineFault { kind, line })
 }
 
-fn stop_of(fault: LotFault, line: usize) -> Stop
+fn refusal_of(refusal: Refusal<LotCause>, line: usize) -> Refusal<LineFault>
     ensures { (m : Method) (cs : List (Lot × ℕ)) (account : List ℕ) (units : Amount) (i : ℕ)
-        → Reduces m cs (at_8 units.number) (Err fault)
+        → Reduces m cs (at_8 units.number) (Err refusal)
         → StopsWith (IsReduced m cs account units i line) result }
 {
-    match fault {
-        LotFault::NoLotMatches => stop_at(FaultKind::NoLotMatches, line),
-        LotFault::AmbiguousLots => stop_at(FaultKind::AmbiguousLots, line),
-        LotFault::NotEnoughUnits => stop_at(FaultKind::NotEnoughUnits, line),
-        LotFault::OutOfMemory => Stop::OutOfMemory,
+    match refusal {
+        Refusal::Refused(LotCause::NoLotMatches) => refusal_at(FaultKind::NoLotMatches, line),
+        Refusal::Refused(LotCause::AmbiguousLots) => refusal_at(FaultKind::AmbiguousLots, line),
+        Refusal::Refused(LotCause::NotEnoughUnits) => refusal_at(FaultKind::NotEnoughUnits, line),
+        Refusal::OutOfMemory => Refusal::OutOfMemory,
     }
 }
 
@@ -146,7 +147,7 @@ fn reduced<'a>(
     posting: &Posting<'a>,
     units: &Amount<'a>,
     parts: &LotParts<'a>,
-) -> Result<Outcome<'a>, Stop>
+) -> Result<Outcome<'a>, Refusal<LineFault>>
     requires chooses { stock.method ≢ Method.None }
     requires small { IsSmallStock stock }
     ensures { ComesOf (IsReducedBy stock.entry.method (rest_of stock.entry) parts.now
@@ -165,7 +166,7 @@ fn reduced<'a>(
             let lines = take_lines(alloc, &posting.account, &units.currency, index, &takes)?;
             Ok(Outcome::Takes(lines))
         }
-        Err(fault) => Err(stop_of(fault, posting.details.line())),
+        Err(fault) => Err(refusal_of(fault, posting.details.line())),
     }
 }
 
@@ -188,15 +189,15 @@ fn augmented<'a>(
     posting: &Posting<'a>,
     units: &Amount<'a>,
     parts: &LotParts<'a>,
-) -> Result<Outcome<'a>, Stop>
+) -> Result<Outcome<'a>, Refusal<LineFault>>
     ensures { ComesOf (IsAugmented head parts.now parts.now.amount posting.now.account units.now
         index posting.now.details.line) result }
 {
     let Some(cost) = &parts.amount else {
-        return Err(stop_at(FaultKind::OutsideProfile, head.line));
+        return Err(refusal_at(FaultKind::OutsideProfile, head.line));
     };
     if cost.number.count < 0 {
-        return Err(stop_at(FaultKind::NegativeCost, posting.details.line()));
+        return Err(refusal_at(FaultKind::NegativeCost, posting.details.line()));
     }
     let lot = Apart::new(alloc, lot_of(head, parts, cost))?;
     Ok(Outcome::Line(Line::Posted(Posted {
@@ -216,7 +217,7 @@ fn in_braces<'a>(
     posting: &Posting<'a>,
     units: &Amount<'a>,
     parts: &LotParts<'a>,
-) -> Result<Outcome<'a>, Stop>
+) -> Result<Outcome<'a>, Refusal<LineFault>>
     requires { IsSmallStock stock }
     ensures { ComesOf (IsInBraces stock.entry.method (rest_of stock.entry) head parts.now
         posting.now.account units.now index posting.now.details.line) result }
@@ -248,7 +249,7 @@ fn outcome_by_cost<'a>(
     index: usize,
     posting: &Posting<'a>,
     units: &Amount<'a>,
-) -> Result<Outcome<'a>, Stop>
+) -> Result<Outcome<'a>, Refusal<LineFault>>
     requires small { IsSmallStock stock }
     requires inside { is_outside_profile posting.now ≡ false }
     ensures { ComesOf (IsLinedByCost stock.entry.method (rest_of stock.entry) head
@@ -272,7 +273,7 @@ pub(crate) fn outcome_of<'a>(
     head: Head,
     index: usize,
     posting: &Posting<'a>,
-) -> Result<Outcome<'a>, Stop>
+) -> Result<Outcome<'a>, Refusal<LineFault>>
     requires small { IsSmallStock stock }
     requires inside { is_outside_profile posting.now ≡ false }
     ensures { ComesOf (IsLinedByUnits stock.entry.method (rest_of stock.entry) head

@@ -8,11 +8,12 @@ ghost use Rattle.bean_transactions.specs.Tried.{KnowsBalance, TriesOrLacks, is_o
 
 use crate::legs::judge;
 use crate::line::{Posted, Tried};
+use crate::line_fault::{LineFault, refusal_of};
 use crate::setting::Head;
-use crate::stop::{Stop, stop_of};
 use bean_base::List;
-use bean_interp::{CompletionFault, Scales};
+use bean_interp::{Scales, completion_refusal};
 use bean_postings::{Cost, Posting, Units};
+use refusals::Refusal;
 use std::alloc::{AllocError, Global};
 
 /// Whether a posting has no cost.
@@ -74,7 +75,7 @@ pub(crate) fn try_plain<'a>(
     scales: &mut Scales<'a>,
     head: Head,
     postings: &[Posting<'a>],
-) -> Result<Tried<'a>, Stop>
+) -> Result<Tried<'a>, Refusal<LineFault>>
     requires plain { list_all spec.is_plain postings.now ≡ true }
     requires inside { is_outside postings.now ≡ false }
     ensures tried { (s : Setting) → s.head ≡ head → TriesOrLacks s postings.now result }
@@ -86,6 +87,6 @@ pub(crate) fn try_plain<'a>(
             posted: List::new(posted),
             balances: Some(balances),
         }),
-        Err(fault) => Err(stop_of(CompletionFault::Weighing(fault), head.line)),
+        Err(fault) => Err(refusal_of(completion_refusal(fault), head.line)),
     }
 }

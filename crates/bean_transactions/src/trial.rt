@@ -14,14 +14,15 @@ use crate::completed::completed;
 use crate::holdings::Holdings;
 use crate::legs::{judge, legs_of};
 use crate::line::{Line, Posted, Tried};
+use crate::line_fault::{LineFault, refusal_of};
 use crate::lines::line_up;
 use crate::methods::Methods;
 use crate::plain::{are_plain, try_plain};
 use crate::setting::Head;
-use crate::stop::{LineFault, Stop, stop_of};
 use bean_base::{FaultKind, List};
-use bean_interp::{Scales, WeighFault};
+use bean_interp::{Scales, WeighCause};
 use bean_postings::Posting;
+use refusals::Refusal;
 use std::alloc::{AllocError, Global};
 
 fn are_outside_profile(postings: &[Posting<'_>]) -> bool
@@ -37,7 +38,7 @@ fn complete<'a>(
     head: Head,
     postings: &[Posting<'a>],
     lines: Vec<Line<'a>>,
-) -> Result<Tried<'a>, Stop>
+) -> Result<Tried<'a>, Refusal<LineFault>>
     ensures ok { IfOk result (λ t. IsCompleted postings.now lines.entry.items t.posted) }
     ensures balances { IfOk result (KnowsBalance postings.now) }
     ensures err { IfErr result
@@ -52,7 +53,7 @@ fn complete<'a>(
                 balances: None,
             })
         }
-        Err(fault) => Err(stop_of(fault, head.line)),
+        Err(fault) => Err(refusal_of(fault, head.line)),
     }
 }
 
@@ -65,7 +66,7 @@ pub fn try_transaction<'a>(
     scales: &mut Scales<'a>,
     head: Head,
     postings: &[Posting<'a>],
-) -> Result<Tried<'a>, Stop>
+) -> Result<Tried<'a>, Refusal<LineFault>>
     requires bounded { IsBounded holdings.now }
     requires few { additions_in holdings.now ≤ 2 ^ 40 }
     ensures tried { (s : Setting) → IsSettled s holdings.now methods.now head
@@ -73,7 +74,7 @@ pub fn try_transaction<'a>(
     ensures balances { IfOk result (KnowsBalance postings.now) }
 {
     if are_outside_profile(postings) {
-        return Err(Stop::Fault(LineFault {
+        return Err(Refusal::Refused(LineFault {
             kind: FaultKind::OutsideProfile,
             line: head.line,
         }));
@@ -99,7 +100,7 @@ pub fn balances<'a>(
 {
     match judge(scales, postings, posted) {
         Ok(balances) => Ok(balances),
-        Err(WeighFault::OutOfMemory) => Err(AllocError),
-        Err(WeighFault::TooWide) => unreachable!(),
+        Err(Refusal::OutOfMemory) => Err(AllocError),
+        Err(Refusal::Refused(WeighCause::TooWide)) => unreachable!(),
     }
 }

@@ -1,7 +1,7 @@
 -- Worked words.
 use Rattle.std.proofs.Common.{◌≡◌, [], ◌∷◌, Some, None, codes, refl}
 use Rattle.clap.proofs.OnLiterals.{clap_on_literals}
-use Rattle.bq.specs.Words.{ListLedger, CheckLedger, ShowFile, request_in}
+use Rattle.bq.specs.Commands.{ListLedger, CheckLedger, ShowFile, request_in}
 
 asks_for_a_file : request_in (codes "list" ∷ codes "l" ∷ []) ≡ Some (ListLedger (codes "l"))
 unfolding clap_on_literals

@@ -6,12 +6,12 @@ use Rattle.posting_table.specs.Decimals.{decimals_of}
 use Rattle.posting_table.specs.Ledger.{Ledger}
 use Rattle.query_code.specs.Listing.{listing}
 use Rattle.table_printer.specs.Table.{table_text}
-use Rattle.bq.specs.Checking.{Checks}
-use Rattle.bq.specs.Listing.{Lists, headers, shown_row, table_of}
+use Rattle.bq.specs.Check.{Checks}
+use Rattle.bq.specs.List.{Lists, headers, shown_row, table_of}
 use Rattle.bq.specs.Runs.{HasOneAnswer}
-use Rattle.bq.specs.Showing.{Shows}
+use Rattle.bq.specs.Show.{Shows}
 use Rattle.bq.specs.Verdict.{verdict_of}
-use Rattle.bq.specs.Words.{ListLedger, CheckLedger, ShowFile}
+use Rattle.bq.specs.Commands.{ListLedger, CheckLedger, ShowFile}
 use Rattle.bq.specs.declared.verdict.Verdict.{Verdict}
 use Rattle.bq.specs.declared.verdict.Verdict.TheVariants.{Fine, Faulty}
 use Rattle.bq.proofs.OneBook.{one_book}

@@ -11,7 +11,7 @@ use Rattle.query_rows.specs.Row as query
 use Rattle.query_values.specs.declared.value.Value.{Value}
 use Rattle.table_printer.specs.CellText.{row_at}
 use Rattle.bq.specs.Columns.{column_at}
-use Rattle.bq.specs.Listing.{shown_row}
+use Rattle.bq.specs.List.{shown_row}
 
 in_column : (r : Row) (n : ℕ) → n < length (shown_row r)
     → Some (cell_at r (column_at n)) ≡ slice_get (shown_row r) n

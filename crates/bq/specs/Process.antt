@@ -4,12 +4,13 @@ use Rattle.std.specs.declared.io.ErrorKind.{ErrorKind}
 use Rattle.std.specs.declared.io.ErrorKind.TheVariants as kinds
 use Rattle.bq.specs.Runs.{status_of_run}
 use Rattle.bq.specs.declared.refusal.Refusal.{Refusal}
-use Rattle.bq.specs.declared.refusal.Refusal.TheVariants.{Words, OutOfMemory}
+use Rattle.bq.specs.declared.refusal.Cause.TheVariants.{Words}
+use Rattle.bq.specs.declared.refusal.Refusal.TheVariants.{OutOfMemory, Refused}
 use Rattle.bq.specs.declared.verdict.Verdict.{Verdict}
 
 -- why the words can't be had, by the kind of the error: memory lacked, or they are no text
 abbrev pub IsRefusedBy : ErrorKind → Refusal → Type 0
-IsRefusedBy kind Words = ¬ (kind ≡ kinds.OutOfMemory)
+IsRefusedBy kind (Refused Words) = ¬ (kind ≡ kinds.OutOfMemory)
 IsRefusedBy kind OutOfMemory = kind ≡ kinds.OutOfMemory
 IsRefusedBy kind _ = ⊥
 
@@ -20,4 +21,4 @@ IsStatus status = (result : Result Verdict Refusal) × (status ≡ status_of_run
 -- a run ends with the status of its answer or refusal; where there is none, the words weren't had
 abbrev pub EndsOrLacksWords : Result ℕ Refusal → Type 0
 EndsOrLacksWords (Ok status) = IsStatus status
-EndsOrLacksWords (Err r) = (r ≡ Words) ⊎ (r ≡ OutOfMemory)
+EndsOrLacksWords (Err r) = (r ≡ Refused Words) ⊎ (r ≡ OutOfMemory)

@@ -1,25 +1,22 @@
 -- What a run of the program comes to.
-use Rattle.std.specs.Prelude.{◌≡◌, ℕ, ◌<◌, ◌⊎◌, IsErrAnd, IsTrue, List, length, Option, Some, None}
-use Rattle.std.specs.Prelude.{Result, Ok, Err}
+use Rattle.std.specs.Prelude.{◌≡◌, ℕ, ◌<◌, ◌⊎◌, ⊤, IsErrAnd, List, length, Option, Result, Ok, Err}
 use Rattle.clap.specs.Walk.{Text}
 use Rattle.outputs.specs.Output.{TookFront}
 use Rattle.outputs.specs.declared.output.Output.{Ghosts as OutputOf}
 use Rattle.stores.specs.Reading.{Reading}
 use Rattle.stores.specs.Source.{Gave}
 use Rattle.stores.specs.declared.source.Source.{Ghosts as SourceOf}
-use Rattle.table_printer.specs.declared.writing.PrintFault.TheVariants.{NotWritten}
-use Rattle.bean_replay.specs.declared.booker.BookFault.TheVariants.{TooManyPostings}
 use Rattle.bean_load.specs.Texts.{Texts}
-use Rattle.bq.specs.Causes.{GaveFile, GaveTexts, HasCause, IsAnswerable}
 use Rattle.bq.specs.Booking.{HasTooMany}
-use Rattle.bq.specs.Checking.{Checks}
-use Rattle.bq.specs.Listing.{Lists}
-use Rattle.bq.specs.Refusal.{lacks_memory, line_of, status_of}
-use Rattle.bq.specs.Showing.{Shows}
+use Rattle.bq.specs.Command.{Due}
+use Rattle.bq.specs.Commands.{Request, due, due_to}
+use Rattle.bq.specs.Refusal.{line_of, status_of}
 use Rattle.bq.specs.Verdict as verdicts
-use Rattle.bq.specs.Words.{Request, ListLedger, CheckLedger, ShowFile, request_in}
+use Rattle.bq.specs.declared.answer.Answer.{Answer}
+use Rattle.bq.specs.declared.refusal.Cause.{Cause}
+use Rattle.bq.specs.declared.refusal.Cause.TheVariants.{NotWritten, TooManyPostings}
 use Rattle.bq.specs.declared.refusal.Refusal.{Refusal}
-use Rattle.bq.specs.declared.refusal.Refusal.TheVariants.{Book, Print}
+use Rattle.bq.specs.declared.refusal.Refusal.TheVariants.{OutOfMemory, Refused}
 use Rattle.bq.specs.declared.verdict.Verdict.{Verdict}
 
 -- What an output took: of this text so many bytes, from the front on, and the rest refused; or
@@ -47,74 +44,84 @@ abbrev pub WritesFront : Written → (List ℕ → Type 0) → ℕ → Type 0
 WritesFront out IsText n =
     (text : List ℕ) × IsText text × ((n < length text) × out.took text n)
 
--- The text that is due, and what it says of books: the table of the ledger's postings, the lines of
--- its faults, or the listing of the file's program.
-abbrev pub IsAnswer : Option Request → List Reading → Verdict → List ℕ → Type 0
-IsAnswer None readings verdict text = ⊥
-IsAnswer (Some (ListLedger name)) readings verdict text =
-    GaveTexts name readings (λ texts. Lists texts verdict text)
-IsAnswer (Some (CheckLedger name)) readings verdict text =
-    GaveTexts name readings (λ texts. Checks texts verdict text)
-IsAnswer (Some (ShowFile name)) readings verdict text =
-    GaveFile name readings (λ bytes. Shows bytes verdict text)
+-- nothing speaks against an answer
+abbrev pub IsAnswerable : Due → List Reading → Type 0
+IsAnswerable due readings = (cause : Cause) → ¬ due.HasCause readings cause
 
 -- a text that is due, whatever it says of books
-abbrev pub HasVerdict : (Verdict → List ℕ → Type 0) → List ℕ → Type 0
-HasVerdict IsText text = (verdict : Verdict) × IsText verdict text
+abbrev pub IsText : Due → List Reading → List ℕ → Type 0
+IsText due readings text = (verdict : Verdict) × due.IsAnswer readings verdict text
 
--- which answer comes, given what the words ask for and what the store gave: a text where nothing
--- speaks against it, a refusal where its cause holds, want of memory at any time
-abbrev pub IsDue : Option Request → List Reading → Result Verdict Refusal → Type 0
-IsDue request readings (Ok verdict) = IsAnswerable request readings
-IsDue request readings (Err (Print (NotWritten n))) = IsAnswerable request readings
-IsDue request readings (Err r) = IsTrue (lacks_memory r) ⊎ HasCause request readings r
+-- Which answer comes, given what is due and what the store gave: a text where nothing speaks
+-- against it, a refusal where its cause holds, want of memory at any time.
+abbrev pub IsDue : Due → List Reading → Result Verdict Refusal → Type 0
+IsDue due readings (Ok verdict) = IsAnswerable due readings
+IsDue due readings (Err (Refused (NotWritten n))) = IsAnswerable due readings
+IsDue due readings (Err (Refused cause)) = due.HasCause readings cause
+IsDue due readings (Err OutOfMemory) = ⊤
 
 -- what is written with it: the whole text that says so of books, a front of one, or nothing
-abbrev pub Writes : Option Request → List Reading → Written → Result Verdict Refusal → Type 0
-Writes request readings out (Ok verdict) = WritesWhole out (IsAnswer request readings verdict)
-Writes request readings out (Err (Print (NotWritten n))) =
-    WritesFront out (HasVerdict (IsAnswer request readings)) n
-Writes request readings out (Err r) = out.nothing
+abbrev pub Writes : Due → List Reading → Written → Result Verdict Refusal → Type 0
+Writes due readings out (Ok verdict) = WritesWhole out (due.IsAnswer readings verdict)
+Writes due readings out (Err (Refused (NotWritten n))) = WritesFront out (IsText due readings) n
+Writes due readings out (Err refusal) = out.nothing
 
-abbrev pub Comes : Option Request → List Reading → Written → Result Verdict Refusal → Type 0
-Comes request readings out result =
-    IsDue request readings result × Writes request readings out result
+abbrev pub Comes : Due → List Reading → Written → Result Verdict Refusal → Type 0
+Comes due readings out result = IsDue due readings result × Writes due readings out result
+
+-- no two causes of a refusal hold at once
+abbrev pub CausesExclude : Type 0
+CausesExclude =
+    (request : Option Request) (readings : List Reading) (c d : Cause)
+    → (due request).HasCause readings c → (due request).HasCause readings d → c ≡ d
 
 -- want of memory aside, a refusal comes where its cause holds
 abbrev pub RefusesExactly : Type 0
 RefusesExactly =
     (request : Option Request) (readings : List Reading) (result : Result Verdict Refusal)
-    (r : Refusal) → IsDue request readings result → HasCause request readings r
-    → IsErrAnd result (λ s. IsTrue (lacks_memory s) ⊎ (s ≡ r))
+    (c : Cause) → IsDue (due request) readings result → (due request).HasCause readings c
+    → IsErrAnd result (λ r. (r ≡ OutOfMemory) ⊎ (r ≡ Refused c))
 
 -- What is asked for and what the store gave have one answer, so that they decide the text, and
 -- what it says of books.
 abbrev pub HasOneAnswer : Type 0
 HasOneAnswer =
     (request : Option Request) (readings : List Reading) (v w : Verdict) (a b : List ℕ)
-    → IsAnswer request readings v a → IsAnswer request readings w b → (v ≡ w) × (a ≡ b)
+    → (due request).IsAnswer readings v a → (due request).IsAnswer readings w b
+    → (v ≡ w) × (a ≡ b)
 
--- what a run comes to that does what is asked for
-abbrev pub Does : Deeds → Option Request → Result Verdict Refusal → Type 0
-Does run request result =
-    (readings : List Reading) × run.gave readings × Comes request readings run.out result
+-- what a run comes to that does what is due
+abbrev pub Does : Deeds → Due → Result Verdict Refusal → Type 0
+Does run due result = (readings : List Reading) × run.gave readings × Comes due readings run.out result
 
 abbrev pub Runs : Deeds → List Text → Result Verdict Refusal → Type 0
-Runs run words result = Does run (request_in words) result
+Runs run words result = Does run (due_to words) result
+
+-- what is found before anything is written: a text that is due, or why there is none
+abbrev pub IsFound : Due → List Reading → Result Answer Refusal → Type 0
+IsFound due readings (Ok answer) =
+    IsAnswerable due readings × due.IsAnswer readings answer.verdict answer.text.items
+IsFound due readings (Err (Refused (NotWritten n))) = ⊥
+IsFound due readings (Err (Refused cause)) = due.HasCause readings cause
+IsFound due readings (Err OutOfMemory) = ⊤
+
+-- the store gave what it was asked for, and with it this is found
+abbrev pub Finds : {S : Type 0} → SourceOf S → S → S → Due → Result Answer Refusal → Type 0
+Finds s old new due result =
+    (readings : List Reading) × Gave s old new readings × IsFound due readings result
 
 -- what comes of texts, of which this is said
-abbrev pub ComesOf : Written → Texts → (Verdict → List ℕ → Type 0) → Result Verdict Refusal → Type 0
-ComesOf out texts IsText (Ok verdict) = ¬ HasTooMany texts × WritesWhole out (IsText verdict)
-ComesOf out texts IsText (Err (Print (NotWritten n))) =
-    ¬ HasTooMany texts × WritesFront out (HasVerdict IsText) n
-ComesOf out texts IsText (Err (Book TooManyPostings)) = HasTooMany texts × out.nothing
-ComesOf out texts IsText (Err r) = IsTrue (lacks_memory r) × out.nothing
+abbrev pub ComesOf : Texts → (Verdict → List ℕ → Type 0) → Result Answer Refusal → Type 0
+ComesOf texts Says (Ok answer) = ¬ HasTooMany texts × Says answer.verdict answer.text.items
+ComesOf texts Says (Err (Refused TooManyPostings)) = HasTooMany texts
+ComesOf texts Says (Err (Refused cause)) = ⊥
+ComesOf texts Says (Err OutOfMemory) = ⊤
 
 -- a text is written whole, or the output refuses behind a front of it
 abbrev pub WritesText : Written → List ℕ → Result Unit Refusal → Type 0
 WritesText out text (Ok x) = out.took text (length text)
-WritesText out text (Err (Print (NotWritten n))) = (n < length text) × out.took text n
-WritesText out text (Err r) = ⊥
+WritesText out text (Err (Refused (NotWritten n))) = (n < length text) × out.took text n
+WritesText out text (Err refusal) = ⊥
 
 -- that of the answer, 0 or 1, or of the refusal, 2 to 4
 abbrev pub status_of_run : Result Verdict Refusal → ℕ

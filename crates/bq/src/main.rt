@@ -2,28 +2,28 @@
 //!
 //! `run_words` is the program over any store and any outputs, and has the promise of the whole:
 //! which answer comes for which words and which texts, what is written with it, and the status.
-//! `words` reads the command, `booking` makes the book of texts, `shown` says what `list` shows of
-//! it, `verdict` what its faults say of it, `showing` lists a query file, `refusal` says what a
-//! user is told where there is no answer. `in_memory` is the same over a store and outputs of
-//! memory, and `main` the program on the host's.
+//! `commands` has the commands: the words that ask for each, and a module for what each answers.
+//! `booking` makes the book of texts, `shown` says what `list` shows of it, `verdict` what its
+//! faults say of it, `refusal` what a user is told where there is no answer. `in_memory` is the
+//! same over a store and outputs of memory, and `main` the program on the host's.
 #![tactic(auto)]
 
 ghost use Rattle.std.specs.IoError.{error_kind};
 ghost use Rattle.std.specs.Process.{exit_status};
 ghost use Rattle.bq.specs.Process.{EndsOrLacksWords, IsRefusedBy, IsStatus};
 
+mod answer;
 mod arguments;
 mod booking;
+mod commands;
 mod in_memory;
 mod refusal;
 mod run;
-mod showing;
 mod shown;
 mod verdict;
-mod words;
 
 use crate::arguments::run_args;
-use crate::refusal::Refusal;
+use crate::refusal::{Cause, Refusal};
 use bean_base::limits::LARGEST_TEXT;
 use outputs::Stream;
 use std::process::ExitCode;
@@ -39,7 +39,7 @@ fn refusal_of(error: &io::Error) -> Refusal
 {
     match error.kind() {
         io::ErrorKind::OutOfMemory => Refusal::OutOfMemory,
-        _ => Refusal::Words,
+        _ => Refusal::Refused(Cause::Words),
     }
 }
 

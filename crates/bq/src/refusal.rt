@@ -1,67 +1,110 @@
 //! Why the program gives no answer, and the status that it ends with.
-ghost use Rattle.std.specs.Prelude.{◌≡◌, ◌≤◌, None, length};
-ghost use Rattle.bq.specs.Refusal.{status_of, code_of, place_of, line_of};
+ghost use Rattle.std.specs.Prelude.{◌≡◌, ◌≤◌, length};
+ghost use Rattle.bq.specs.Refusal as rule;
 
 use arrayvec::ArrayString;
 use bean_book::BookFault;
-use bean_load::LoadFault;
+use bean_load::LoadCause;
 use itoa::Buffer;
-use query_file::DecodeFault;
+use query_code::FileCause;
 use std::alloc::AllocError;
-use table_printer::PrintFault;
+
+/// Why there is no answer, or not all of it, in the order in which a command looks for it.
+#[derive(Clone, Copy, Debug, Drop, PartialEq, Eq)]
+pub enum Cause {
+    /// The words are no command.
+    Words,
+    /// A file or a ledger can't be read.
+    Load(LoadCause),
+    /// A file is no query file.
+    File(FileCause),
+    /// A ledger has more postings than a book holds.
+    TooManyPostings,
+    /// The output failed or took nothing, behind so many bytes.
+    NotWritten(u64),
+}
+
+impl Cause {
+    /// 2 where input is refused, 3 where reading or writing failed.
+    fn status(self) -> u8
+        ensures { result ≡ rule.status_by self }
+    {
+        match self {
+            Cause::Words
+            | Cause::Load(LoadCause::TooLarge | LoadCause::NotUtf8)
+            | Cause::File(_)
+            | Cause::TooManyPostings => 2,
+            Cause::Load(LoadCause::Unreadable) | Cause::NotWritten(_) => 3,
+        }
+    }
+
+    /// The number that users see, or `words`.
+    fn code(self) -> &'static str
+        ensures is { result.now ≡ rule.code_by self }
+        ensures short { length result.now ≤ 5 }
+    {
+        match self {
+            Cause::Words => "words",
+            Cause::Load(cause) => refusals::Cause::code(&cause),
+            Cause::File(cause) => refusals::Cause::code(&cause),
+            Cause::TooManyPostings => "B1",
+            Cause::NotWritten(_) => "P1",
+        }
+    }
+
+    /// The place that it names, in bytes: that of a query file does.
+    fn place(self) -> Option<usize>
+        ensures { result ≡ rule.place_by self }
+    {
+        match self {
+            Cause::File(cause) => refusals::Cause::place(&cause),
+            _ => None,
+        }
+    }
+}
 
 /// What a user is told in one line on standard error.
 #[derive(Clone, Copy, Debug, Drop, PartialEq, Eq)]
 pub enum Refusal {
-    /// The words are no command.
-    Words,
-    Load(LoadFault),
-    Book(BookFault),
-    /// The file is no query file.
-    Query(query_code::Refusal),
-    Print(PrintFault),
     OutOfMemory,
+    Refused(Cause),
 }
 
-impl From<LoadFault> for Refusal {
-    ghost use Rattle.bq.specs.declared.refusal.Refusal.TheVariants.{Load};
+impl From<refusals::Refusal<LoadCause>> for Refusal {
+    ghost use Rattle.bq.specs.Refusal.{unread};
 
-    ghost from_gives = { λ fault refusal. refusal ≡ Load fault };
+    ghost from_gives = { λ refusal own. own ≡ unread refusal };
 
-    fn from(fault: LoadFault) -> Refusal {
-        Refusal::Load(fault)
+    fn from(refusal: refusals::Refusal<LoadCause>) -> Refusal {
+        match refusal {
+            refusals::Refusal::Refused(cause) => Refusal::Refused(Cause::Load(cause)),
+            refusals::Refusal::OutOfMemory => Refusal::OutOfMemory,
+        }
+    }
+}
+
+impl From<refusals::Refusal<FileCause>> for Refusal {
+    ghost use Rattle.bq.specs.Refusal.{undecoded};
+
+    ghost from_gives = { λ refusal own. own ≡ undecoded refusal };
+
+    fn from(refusal: refusals::Refusal<FileCause>) -> Refusal {
+        match refusal {
+            refusals::Refusal::Refused(cause) => Refusal::Refused(Cause::File(cause)),
+            refusals::Refusal::OutOfMemory => Refusal::OutOfMemory,
+        }
     }
 }
 
 impl From<BookFault> for Refusal {
-    ghost use Rattle.bq.specs.declared.refusal.Refusal.TheVariants.{Book};
+    ghost use Rattle.bq.specs.Refusal.{unbooked};
 
-    ghost from_gives = { λ fault refusal. refusal ≡ Book fault };
+    ghost from_gives = { λ fault own. own ≡ unbooked fault };
 
     fn from(fault: BookFault) -> Refusal {
-        Refusal::Book(fault)
-    }
-}
-
-impl From<PrintFault> for Refusal {
-    ghost use Rattle.bq.specs.declared.refusal.Refusal.TheVariants.{Print};
-
-    ghost from_gives = { λ fault refusal. refusal ≡ Print fault };
-
-    fn from(fault: PrintFault) -> Refusal {
-        Refusal::Print(fault)
-    }
-}
-
-impl From<DecodeFault> for Refusal {
-    ghost use Rattle.bq.specs.Refusal.{refused_by};
-
-    ghost from_gives = { λ fault refusal. refusal ≡ refused_by fault };
-
-    fn from(fault: DecodeFault) -> Refusal {
         match fault {
-            DecodeFault::Refused(refusal) => Refusal::Query(refusal),
-            DecodeFault::OutOfMemory => Refusal::OutOfMemory,
+            BookFault::TooManyPostings => Refusal::Refused(Cause::TooManyPostings),
+            BookFault::OutOfMemory => Refusal::OutOfMemory,
         }
     }
 }
@@ -69,7 +112,7 @@ impl From<DecodeFault> for Refusal {
 impl From<AllocError> for Refusal {
     ghost use Rattle.bq.specs.declared.refusal.Refusal.TheVariants.{OutOfMemory};
 
-    ghost from_gives = { λ _ refusal. refusal ≡ OutOfMemory };
+    ghost from_gives = { λ _ own. own ≡ OutOfMemory };
 
     fn from(_error: AllocError) -> Refusal {
         Refusal::OutOfMemory
@@ -82,50 +125,38 @@ const LONGEST_LINE: usize = 64;
 impl Refusal {
     /// 2 where input is refused, 3 where reading or writing failed, 4 where memory lacked.
     pub fn status(self) -> u8
-        ensures { result ≡ status_of self }
+        ensures { result ≡ rule.status_of self }
     {
         match self {
-            Refusal::Words
-            | Refusal::Load(LoadFault::TooLarge | LoadFault::NotUtf8)
-            | Refusal::Book(BookFault::TooManyPostings)
-            | Refusal::Query(_) => 2,
-            Refusal::Load(LoadFault::Unreadable) | Refusal::Print(PrintFault::NotWritten { .. }) =>
-                3,
-            Refusal::Load(LoadFault::OutOfMemory)
-            | Refusal::Book(BookFault::OutOfMemory)
-            | Refusal::Print(PrintFault::OutOfMemory)
-            | Refusal::OutOfMemory => 4,
+            Refusal::Refused(cause) => cause.status(),
+            Refusal::OutOfMemory => 4,
         }
     }
 
-    /// The code of the fault.
+    /// The number that users see, or `words`; `M2` where memory lacked.
     pub fn code(self) -> &'static str
-        ensures is { result.now ≡ code_of self }
+        ensures is { result.now ≡ rule.code_of self }
         ensures short { length result.now ≤ 5 }
     {
         match self {
-            Refusal::Words => "words",
-            Refusal::Load(fault) => fault.code(),
-            Refusal::Book(fault) => fault.code(),
-            Refusal::Query(refusal) => refusal.code.code(),
-            Refusal::Print(fault) => fault.code(),
+            Refusal::Refused(cause) => cause.code(),
             Refusal::OutOfMemory => "M2",
         }
     }
 
-    /// The place that the fault names, in bytes: that of a query file does.
+    /// The place that its cause names, in bytes.
     pub fn place(self) -> Option<usize>
-        ensures { result ≡ place_of self }
+        ensures { result ≡ rule.place_of self }
     {
         match self {
-            Refusal::Query(refusal) => Some(refusal.place),
-            _ => None,
+            Refusal::Refused(cause) => cause.place(),
+            Refusal::OutOfMemory => None,
         }
     }
 
     /// The line that tells it, with its line feed. Takes no memory.
     pub fn line(self) -> ArrayString<LONGEST_LINE>
-        ensures { result.bytes ≡ line_of self }
+        ensures { result.bytes ≡ rule.line_of self }
     {
         let mut line = ArrayString::new();
         line.push_str("bq: ");

@@ -1,7 +1,7 @@
 //! What `list` shows of a ledger.
 ghost use Rattle.std.specs.Prelude.{◌≡◌, ◌<◌, length, map, slice_get, Some};
 ghost use Rattle.bq.specs.Columns.{column_at};
-ghost use Rattle.bq.specs.Listing.{shown_row};
+ghost use Rattle.bq.specs.List.{shown_row};
 ghost use Rattle.table_printer.specs.CellText.{row_at};
 
 use posting_table::Ledger;
@@ -40,7 +40,7 @@ impl Postings<'_, '_> {
 
 impl Rows for Postings<'_, '_> {
     ghost use Rattle.std.specs.Prelude.{map};
-    ghost use Rattle.bq.specs.Listing.{headers, shown_row};
+    ghost use Rattle.bq.specs.List.{headers, shown_row};
 
     ghost names = { λ _. headers };
 

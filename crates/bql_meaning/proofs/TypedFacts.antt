@@ -33,7 +33,7 @@ use Rattle.bql_types.specs.Typing.{group_item_causes, plain_targets, filters_cau
 use Rattle.bql_types.specs.Typing.{row_causes, plain_target}
 use Rattle.bql_types.specs.Typing.{named_group_causes, group_causes_by, key_by}
 use Rattle.bql_types.specs.Typing.{tree_of_found, key_of, causes}
-use Rattle.bql_types.specs.declared.cause.Cause.{Cause}
+use Rattle.bql_types.specs.declared.cause.TypeCause.{TypeCause}
 use Rattle.query_shapes.specs.declared.shape.Shape.{Shape}
 use Rattle.bql_meaning.specs.Keys.{IsTypedKey}
 use Rattle.bql_meaning.proofs.BoundlessFacts.{null_part, shaped_part}
@@ -66,7 +66,7 @@ mutual
 
 -- ---- where no aggregate is misplaced that is at fault anywhere, there is none
 
-not_told : (is : Bool) (c : Cause) → where_true is c ≡ [] → is ≡ false
+not_told : (is : Bool) (c : TypeCause) → where_true is c ≡ [] → is ≡ false
 not_told true c e = absurd cc
 not_told false c e = refl
 
@@ -93,7 +93,7 @@ no_equation (one_of op) e = refl
 no_equation (two_of op) e = absurd cc
 no_equation (call_of f) e = refl
 
-here_plain : (b : Bounds) (at : ℕ) (op : Operation) (parts : Trees ℕ) (s : Shape) (c : Cause)
+here_plain : (b : Bounds) (at : ℕ) (op : Operation) (parts : Trees ℕ) (s : Shape) (c : TypeCause)
     → FromParts b op (shapes_of b (is_equation op) parts) s
     → where_true (is_told b (is_aggregate op && true) parts) c ≡ [] → is_aggregate op ≡ false
 here_plain b at op parts s c h none = by (is_aggregate op) refl
@@ -191,7 +191,7 @@ at_index P [] index t e all = absurd cc
 at_index P (x ∷ ts) zero t e all = let is : x ≡ t = cc in subst P is all.0
 at_index P (x ∷ ts) (suc index) t e all = at_index P ts index t e all.1
 
-isnt_some : (o : Option Cause) → is_some o ≡ false → o ≡ None
+isnt_some : (o : Option TypeCause) → is_some o ≡ false → o ≡ None
 isnt_some None e = refl
 isnt_some (Some c) e = absurd cc
 

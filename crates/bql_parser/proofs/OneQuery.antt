@@ -9,9 +9,10 @@ use Rattle.bql_lexer.specs.Tokens.{IsToken, TokensFrom, AreTokens}
 use Rattle.bql_lexer.specs.declared.found.Found.{Found}
 use Rattle.bql_lexer.specs.declared.kind.Kind.{Kind}
 use Rattle.bql_lexer.specs.declared.token.Token.{Token}
+use Rattle.bql_tree.specs.Cause.{outside_profile}
 use Rattle.bql_parser.specs.Grammar.{query}
 use Rattle.bql_parser.specs.Parse.{IsQuery, IsOutside, Stops, StopsAt, Meets, is_left}
-use Rattle.bql_parser.specs.declared.fault.QueryFault.TheVariants as fault
+use Rattle.bql_parser.specs.declared.cause.QueryCause.TheVariants as cause
 use Rattle.bql_parser.specs.Read.{Read}
 
 abbrev token_of : List ℕ → ℕ → ℕ → Kind → Token
@@ -132,13 +133,13 @@ not_at_end text ts place q tokens at =
     omega (arith, inside, starts, at)
 
 one_kind : (text : List ℕ) (ts : List Token) (place : ℕ) → AreTokens text ts
-    → Stops text ts (fault.Syntax place) → Stops text ts (fault.OutsideProfile place) → ⊥
-one_kind text ts place tokens (inl p) q = one_test text ts place p q tokens
-one_kind text ts place tokens (inr e) q = not_at_end text ts place q tokens e.0
+    → Stops text ts (cause.Syntax place) → Stops text ts (cause.Part (outside_profile place)) → ⊥
+one_kind text ts place tokens (inl p) q = one_test text ts place p q.1 tokens
+one_kind text ts place tokens (inr e) q = not_at_end text ts place q.1 tokens e.0
 
-pub never_both : (text : List ℕ) (place : ℕ) → StopsAt text (fault.Syntax place)
-    → StopsAt text (fault.OutsideProfile place) → ⊥
+pub never_both : (text : List ℕ) (place : ℕ) → StopsAt text (cause.Syntax place)
+    → StopsAt text (cause.Part (outside_profile place)) → ⊥
 never_both text place p q =
     let same = tokens_from (length text) text q.0 p.0 q.1.tokens p.1.tokens in
     one_kind text p.0 place p.1.tokens p.2
-    (subst (λ ts. Stops text ts (fault.OutsideProfile place)) same q.2)
+    (subst (λ ts. Stops text ts (cause.Part (outside_profile place))) same q.2)

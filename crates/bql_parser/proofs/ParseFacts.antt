@@ -8,9 +8,7 @@ use Rattle.theory.specs.Form.{Reads, IsNone}
 use Rattle.bql_lexer.specs.Tokens.{AreTokens}
 use Rattle.bql_lexer.specs.declared.token.Token.{Token}
 use Rattle.bql_tree.specs.Cause.{both}
-use Rattle.bql_tree.specs.declared.cause.Cause.{Cause}
-use Rattle.bql_tree.specs.declared.cause.CauseKind.{CauseKind}
-use Rattle.bql_tree.specs.declared.cause.CauseKind.TheVariants.{UnknownName, OutsideProfile}
+use Rattle.bql_tree.specs.declared.cause.PartCause.{PartCause}
 use Rattle.bql_lexer.specs.declared.kind.Kind.TheVariants as kind
 use Rattle.bql_grammar.specs.Beginning.{BeginsOne, Before}
 use Rattle.bql_grammar.specs.Front as fronts
@@ -21,13 +19,15 @@ use Rattle.bql_grammar.specs.declared.stuck.Stuck.{Stuck}
 use Rattle.bql_grammar.specs.declared.stuck.Stuck.TheVariants.{OutOfMemory, At}
 use Rattle.bql_parser.specs.Asked.{Asked}
 use Rattle.bql_parser.specs.Grammar.{query}
-use Rattle.bql_parser.specs.Parse.{Parses, IsQuery, HasCause, Stops, is_cause, IsAnswered, Meets}
-use Rattle.bql_parser.specs.Parse.{is_deep, is_left, IsFaultBy, BeginsAQuery}
+use Rattle.bql_parser.specs.Parse.{Parses, IsQuery, HasCause, Stops, IsAnswered, Meets}
+use Rattle.bql_parser.specs.Parse.{is_deep, is_left, IsRefusalBy, BeginsAQuery}
 use Rattle.bql_parser.specs.Read.{Read}
 use Rattle.bql_parser.specs.Settled.{mapped, refused_at, byte_beyond, settled, answer}
 use Rattle.bql_parser.specs.Whole.{IsRead}
-use Rattle.bql_parser.specs.declared.fault.QueryFault.{QueryFault}
-use Rattle.bql_parser.specs.declared.fault.QueryFault.TheVariants as fault
+use Rattle.bql_parser.specs.declared.cause.QueryCause.{QueryCause}
+use Rattle.bql_parser.specs.declared.cause.QueryCause.TheVariants as cause
+use Rattle.refusals.specs.declared.refusal.Refusal.{Refusal}
+use Rattle.refusals.specs.declared.refusal.Refusal.TheVariants as refusal
 use Rattle.bql_parser.specs.declared.query.Query.{Query}
 
 -- Both of two, by views of them.
@@ -35,7 +35,7 @@ use Rattle.bql_parser.specs.declared.query.Query.{Query}
 abbrev each : {A B C D : Type 0} → (A → B) → (C → D) → A × C → B × D
 each f g p = (f p.0, g p.1)
 
-both_mapped : {A B C D : Type 0} (f : A → B) (g : C → D) (a : Result A Cause) (c : Result C Cause)
+both_mapped : {A B C D : Type 0} (f : A → B) (g : C → D) (a : Result A PartCause) (c : Result C PartCause)
     → both (mapped f a) (mapped g c) ≡ mapped (each f g) (both a c)
 both_mapped f g (Ok a) (Ok c) = refl
 both_mapped f g (Ok a) (Err d) = refl
@@ -43,9 +43,9 @@ both_mapped f g (Err d) (Ok c) = refl
 both_mapped f g (Err d) (Err e) = refl
 
 pub all_refused : {A B C D A' B' C' D' S : Type 0} (fa : A → A') (fb : B → B') (fc : C → C')
-    (fd : D → D') (whole : ((A' × B') × C') × D' → S) (a : Result A Cause) (b : Result B Cause)
-    (c : Result C Cause) (d : Result D Cause) (a' : Result A' Cause) (b' : Result B' Cause)
-    (c' : Result C' Cause) (d' : Result D' Cause) (e : Cause) → mapped fa a ≡ a' → mapped fb b ≡ b'
+    (fd : D → D') (whole : ((A' × B') × C') × D' → S) (a : Result A PartCause) (b : Result B PartCause)
+    (c : Result C PartCause) (d : Result D PartCause) (a' : Result A' PartCause) (b' : Result B' PartCause)
+    (c' : Result C' PartCause) (d' : Result D' PartCause) (e : PartCause) → mapped fa a ≡ a' → mapped fb b ≡ b'
     → mapped fc c ≡ c' → mapped fd d ≡ d' → both (both (both a b) c) d ≡ Err e
     → Err e ≡ mapped whole (both (both (both a' b') c') d')
 all_refused fa fb fc fd whole a b c d a' b' c' d' e pa pb pc pd is =
@@ -61,27 +61,22 @@ all_refused fa fb fc fd whole a b c d a' b' c' d' e pa pb pc pd is =
 
 -- Texts of the grammar.
 
-has_cause : (text : List ℕ) (place : ℕ) (k : CauseKind)
-    → HasCause text record { place = place; kind = k } → Parses text (Err (is_cause k place))
-has_cause text place UnknownName h = h
-has_cause text place OutsideProfile h = inl h
-
-is_parsed : (text : List ℕ) (r : Read) (found : Result Asked Cause) (result : Result Query QueryFault)
+is_parsed : (text : List ℕ) (r : Read) (found : Result Asked PartCause) (result : Result Query (Refusal QueryCause))
     → IsQuery text r → answer text r ≡ found → IsAnswered found result → Parses text result
 is_parsed text r found (Ok q) is e h = (r, is, e ∙ h)
-is_parsed text r found (Err fault) is e h =
-    subst (λ f. Parses text (Err f)) (sym h.2)
-    (has_cause text h.0.place h.0.kind (r, is, e ∙ h.1))
+is_parsed text r found (Err (refusal.Refused (cause.Part c))) is e h = inl (r, is, e ∙ h)
+is_parsed text r found (Err (refusal.Refused (cause.Syntax place))) is e h = absurd h
+is_parsed text r found (Err refusal.OutOfMemory) is e h = absurd h
 
-pub parsed : (text : List ℕ) (ts : List Token) (r : Read) (found : Result Asked Cause)
-    (result : Result Query QueryFault) → AreTokens text ts → Reads (query text) ts r []
+pub parsed : (text : List ℕ) (ts : List Token) (r : Read) (found : Result Asked PartCause)
+    (result : Result Query (Refusal QueryCause)) → AreTokens text ts → Reads (query text) ts r []
     → found ≡ settled r → IsAnswered (refused_at (byte_beyond (length text)) found) result
     → Parses text result
 parsed text ts r found result tokens read e h =
     is_parsed text r (refused_at (byte_beyond (length text)) found) result (ts, tokens, read)
     (ap (refused_at (byte_beyond (length text))) (sym e)) h
 
-pub refused_mapped : {A B : Type 0} (f : A → B) (place : Option ℕ) (found : Result A Cause)
+pub refused_mapped : {A B : Type 0} (f : A → B) (place : Option ℕ) (found : Result A PartCause)
     → mapped f (refused_at place found) ≡ refused_at place (mapped f found)
 refused_mapped f None found = refl
 refused_mapped f (Some place) (Ok a) = refl
@@ -188,17 +183,16 @@ begun text ts left b = record {
 }
 
 -- Texts outside the grammar.
-stopped : (text : List ℕ) (ts : List Token) (e : QueryFault) → AreTokens text ts
-    → IsNone (query text) ts → Stops text ts e → Parses text (Err e)
-stopped text ts fault.OutOfMemory tokens none h = tt
-stopped text ts (fault.UnknownName place) tokens none h = absurd h
-stopped text ts (fault.OutsideProfile place) tokens none h =
+stopped : (text : List ℕ) (ts : List Token) (c : QueryCause) → AreTokens text ts
+    → IsNone (query text) ts → Stops text ts c → Parses text (Err (refusal.Refused c))
+stopped text ts (cause.Part c) tokens none h =
     inr (ts, record { tokens = tokens; none = none }, h)
-stopped text ts (fault.Syntax place) tokens none h =
+stopped text ts (cause.Syntax place) tokens none h =
     (ts, record { tokens = tokens; none = none }, h)
 
-pub not_read : (text : List ℕ) (ts : List Token) (s : Stuck) (e : QueryFault) → AreTokens text ts
-    → IsRead text ts (Err s) → IsFaultBy text ts s e → Parses text (Err e)
-not_read text ts OutOfMemory e tokens h is = subst (λ e. Parses text (Err e)) (sym is) tt
-not_read text ts (At left deep) e tokens h is =
-    stopped text ts e tokens h.0 (is h.1 (begun text ts left h.2))
+pub not_read : (text : List ℕ) (ts : List Token) (s : Stuck) (e : Refusal QueryCause)
+    → AreTokens text ts → IsRead text ts (Err s) → IsRefusalBy text ts s e → Parses text (Err e)
+not_read text ts s refusal.OutOfMemory tokens h is = tt
+not_read text ts OutOfMemory (refusal.Refused c) tokens h is = absurd is
+not_read text ts (At left deep) (refusal.Refused c) tokens h is =
+    stopped text ts c tokens h.0 (is h.1 (begun text ts left h.2))

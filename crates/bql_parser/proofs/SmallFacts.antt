@@ -14,7 +14,7 @@ use Rattle.bql_lexer.specs.declared.token.Token.{Token}
 use Rattle.bql_tree.specs.Cause.{both, unknown_name}
 use Rattle.bql_tree.specs.Part.{Part, too_high, not_null}
 use Rattle.bql_tree.specs.Tree.{Tree}
-use Rattle.bql_tree.specs.declared.cause.Cause.{Cause}
+use Rattle.bql_tree.specs.declared.cause.PartCause.{PartCause}
 use Rattle.bql_tree.specs.declared.part.Alone.{Alone}
 use Rattle.bql_tree.specs.declared.part.Alone.TheVariants.{No, Name, Number}
 use Rattle.query_columns.specs.declared.column.Column.{Column}
@@ -41,7 +41,7 @@ use Rattle.bql_parser.proofs.SmallForms.{all_pushed, pushed_length}
 use Rattle.bql_parser.proofs.SmallParts.{Found, IsSmallPart, Both, both_found, not_null_found}
 use Rattle.bql_parser.proofs.SmallTokens.{small_tokens}
 
-mapped_found : {A B : Type 0} (P : A → Type 0) (Q : B → Type 0) (f : A → B) (r : Result A Cause)
+mapped_found : {A B : Type 0} (P : A → Type 0) (Q : B → Type 0) (f : A → B) (r : Result A PartCause)
     → Found P r → ((a : A) → P a → Q (f a)) → Found Q (mapped f r)
 mapped_found P Q f (Ok a) h go = go a h
 mapped_found P Q f (Err c) h go = tt
@@ -52,7 +52,7 @@ mapped_found P Q f (Err c) h go = tt
 abbrev AreAll : {A : Type 0} → (A → Type 0) → ℕ → List A → Type 0
 AreAll P n xs = AllByRecursion P xs × (length xs ≡ n)
 
-pushed_found : {A : Type 0} (P : A → Type 0) (n : ℕ) (r : Result (List A × A) Cause)
+pushed_found : {A : Type 0} (P : A → Type 0) (n : ℕ) (r : Result (List A × A) PartCause)
     → Found (Both (AreAll P n) P) r → Found (AreAll P (n + 1)) (pushed r)
 pushed_found P n (Ok p) h =
     let l = pushed_length p.0 p.1 in
@@ -60,12 +60,12 @@ pushed_found P n (Ok p) h =
     (all_pushed P p.0 p.1 h.0.0 h.1, omega (arith, l, e))
 pushed_found P n (Err c) h = tt
 
-abbrev with_one : {A B : Type 0} → (A → Result B Cause) → Result (List B) Cause → A
-    → Result (List B) Cause
+abbrev with_one : {A B : Type 0} → (A → Result B PartCause) → Result (List B) PartCause → A
+    → Result (List B) PartCause
 with_one g found x = pushed (both found (g x))
 
-each_from : {A B : Type 0} (R : A → Type 0) (P : B → Type 0) (g : A → Result B Cause)
-    → ((x : A) → R x → Found P (g x)) → (n m : ℕ) (r : Result (List B) Cause) (xs : List A)
+each_from : {A B : Type 0} (R : A → Type 0) (P : B → Type 0) (g : A → Result B PartCause)
+    → ((x : A) → R x → Found P (g x)) → (n m : ℕ) (r : Result (List B) PartCause) (xs : List A)
     → Found (AreAll P n) r → AllByRecursion R xs → m ≡ n + length xs
     → Found (AreAll P m) (steps (with_one g) r xs)
 each_from R P g go n m r [] h all e = subst (λ k. Found (AreAll P k) r) (omega (arith, e)) h
@@ -74,7 +74,7 @@ each_from R P g go n m r (x ∷ xs) h all e =
     (pushed_found P n (both r (g x)) (both_found (AreAll P n) P r (g x) h (go x all.0))) all.1
     (omega (arith, e))
 
-each_found : {A B : Type 0} (R : A → Type 0) (P : B → Type 0) (g : A → Result B Cause)
+each_found : {A B : Type 0} (R : A → Type 0) (P : B → Type 0) (g : A → Result B PartCause)
     → ((x : A) → R x → Found P (g x)) → (xs : List A) → AllByRecursion R xs
     → Found (AreAll P (length xs)) (steps (with_one g) (Ok []) xs)
 each_found R P g go xs all = each_from R P g go 0 (length xs) (Ok []) xs (tt, refl) all (omega arith)
@@ -101,19 +101,19 @@ few_by xs false e none = grind (arith, nat_tests, e)
 abbrev AreFew : {A : Type 0} → (A → Type 0) → ℕ → List A → Type 0
 AreFew P n xs = AreAll P n xs × (n ≤ 255)
 
-too_many : {A : Type 0} (P : A → Type 0) (place : ℕ) (r : Result A Cause)
+too_many : {A : Type 0} (P : A → Type 0) (place : ℕ) (r : Result A PartCause)
     → Found P (too_high place r)
 too_many P place (Ok a) = tt
 too_many P place (Err c) = tt
 
-limited_by : {A : Type 0} (P : A → Type 0) (n : ℕ) (o : Option ℕ) (r : Result (List A) Cause)
+limited_by : {A : Type 0} (P : A → Type 0) (n : ℕ) (o : Option ℕ) (r : Result (List A) PartCause)
     → (o ≡ None → n ≤ 255) → Found (AreAll P n) r → Found (AreFew P n) (refused_at o r)
 limited_by P n (Some place) r few h = too_many (AreFew P n) place r
 limited_by P n None (Ok xs) few h = (h, few refl)
 limited_by P n None (Err c) few h = tt
 
 limited : {A B : Type 0} (P : B → Type 0) (start : A → ℕ) (xs : List A)
-    (r : Result (List B) Cause) → Found (AreAll P (length xs)) r
+    (r : Result (List B) PartCause) → Found (AreAll P (length xs)) r
     → Found (AreFew P (length xs)) (refused_at (slice_get (map start xs) 255) r)
 limited P start xs r h =
     limited_by P (length xs) (slice_get (map start xs) 255) r
@@ -158,7 +158,7 @@ filters_found f h =
 
 -- ---- items
 
-plain_found : (n : ℕ) (r : Result (Tree ℕ) Cause) → Found IsSmallTree r
+plain_found : (n : ℕ) (r : Result (Tree ℕ) PartCause) → Found IsSmallTree r
     → Found (IsSmallKind n) (settled.plain r)
 plain_found n r h =
     mapped_found IsSmallTree (IsSmallKind n) tree_item (not_null r)
@@ -177,7 +177,7 @@ named_within ts name =
     let test : read.Target → Bool = λ t. str_eq_ignore_ascii_case t.name name in
     within (position_or_len test ts) (length ts) (nat_lt (position_or_len test ts) (length ts)) refl
 
-name_found : (n : ℕ) (o : Option ℕ) (r : Result (Tree ℕ) Cause) → IsIndex n o
+name_found : (n : ℕ) (o : Option ℕ) (r : Result (Tree ℕ) PartCause) → IsIndex n o
     → Found IsSmallTree r → Found (IsSmallKind n) (settled.name_item o r)
 name_found n (Some index) r h small = h
 name_found n None r h small = plain_found n r small
@@ -192,19 +192,19 @@ by_index_found : (n place : ℕ) (t : Tree ℕ) (o : Option ℕ) → IsSmallTree
 by_index_found n place t (Some index) h = index_found n place index (nat_lt index n) refl
 by_index_found n place t None h = h
 
-great_found : (n place : ℕ) (is : Bool) (r : Result ItemKind Cause) → Found (IsSmallKind n) r
+great_found : (n place : ℕ) (is : Bool) (r : Result ItemKind PartCause) → Found (IsSmallKind n) r
     → Found (IsSmallKind n) (if is then Err (unknown_name place) else r)
 great_found n place true r h = tt
 great_found n place false r h = h
 
-number_found : (n place : ℕ) (r : Result (Tree ℕ) Cause) → Found IsSmallTree r
+number_found : (n place : ℕ) (r : Result (Tree ℕ) PartCause) → Found IsSmallTree r
     → Found (IsSmallKind n) (settled.number_item n place r)
 number_found n place (Ok t) h =
     great_found n place (settled.is_great t) (settled.by_index n place t (settled.index_in t))
     (by_index_found n place t (settled.index_in t) h)
 number_found n place (Err c) h = tt
 
-kind_found : (ts : List read.Target) (place : ℕ) (a : Alone) (r : Result (Tree ℕ) Cause)
+kind_found : (ts : List read.Target) (place : ℕ) (a : Alone) (r : Result (Tree ℕ) PartCause)
     → Found IsSmallTree r → Found (IsSmallKind (length ts)) (settled.kind_by ts place a r)
 kind_found ts place (Name name) r h =
     name_found (length ts) (settled.target_named ts name) r (named_within ts name) h
@@ -228,7 +228,7 @@ items_few ts ps all =
     limited (IsSmallItem (length ts)) settled.part_start ps (settled.each_item ts ps)
     (each_found IsSmallPart (IsSmallItem (length ts)) (settled.item ts) (item_found ts) ps all)
 
-found_few : (n m : ℕ) (r : Result (List Item) Cause) → Found (AreFew (IsSmallItem n) m) r
+found_few : (n m : ℕ) (r : Result (List Item) PartCause) → Found (AreFew (IsSmallItem n) m) r
     → Found (AreSmallItems n) r
 found_few n m (Ok is) h = some_few n m is h
 found_few n m (Err c) h = tt
@@ -303,7 +303,7 @@ select_found s h =
 abbrev AnyValuation : Option Valuation → Type 0
 AnyValuation at = Unit {0}
 
-at_found : (r : Result (Option Valuation) Cause) → Found AnyValuation r
+at_found : (r : Result (Option Valuation) PartCause) → Found AnyValuation r
 at_found (Ok at) = tt
 at_found (Err c) = tt
 
@@ -368,12 +368,12 @@ settled_found (selecting s) h = select_found s h
 settled_found (journaling j) h = journal_found j h.0 h.1
 settled_found (balancing b) h = balances_found b h
 
-is_found : (r : Result Asked Cause) → Found IsSmall r → IsSmallFound r
+is_found : (r : Result Asked PartCause) → Found IsSmall r → IsSmallFound r
 is_found (Ok s) h = h
 is_found (Err c) h = tt
 
 -- what is settled of a text that is short is small
-pub small_settled : (text : List ℕ) (ts : List Token) (r : Read) (found : Result Asked Cause)
+pub small_settled : (text : List ℕ) (ts : List Token) (r : Read) (found : Result Asked PartCause)
     → AreTokens text ts → (query text).reads ts r [] → found ≡ settled.settled r → IsShort text
     → IsSmallFound found
 small_settled text ts r found are reads e short =
@@ -383,13 +383,13 @@ small_settled text ts r found are reads e short =
 
 -- and a text that isn't short is refused
 
-short_by : (n : ℕ) (long : Bool) (r : Result Draft Cause) (d : Draft) → nat_lt 65535 n ≡ long
+short_by : (n : ℕ) (long : Bool) (r : Result Draft PartCause) (d : Draft) → nat_lt 65535 n ≡ long
     → refused_at (if long then Some 65535 else None) r ≡ Ok d → (n ≤ 65535) × (r ≡ Ok d)
 short_by n true (Ok c) d e is = absurd cc
 short_by n true (Err c) d e is = absurd cc
 short_by n false r d e is = (grind (arith, nat_tests, e), is)
 
-pub answered_small : (n : ℕ) (r : Result Draft Cause) (d : Draft)
+pub answered_small : (n : ℕ) (r : Result Draft PartCause) (d : Draft)
     → (n ≤ 65535 → IsSmallFound (mapped draft_of r)) → refused_at (byte_beyond n) r ≡ Ok d
     → IsSmall (draft_of d)
 answered_small n r d h is =

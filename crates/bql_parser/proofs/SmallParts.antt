@@ -15,7 +15,7 @@ use Rattle.bql_tree.specs.Part as parts
 use Rattle.bql_tree.specs.Part.{Part}
 use Rattle.bql_tree.specs.Tree.{leaf_of, call_of, Tree, node}
 use Rattle.bql_tree.specs.Tree.{Trees, trees, all_trees}
-use Rattle.bql_tree.specs.declared.cause.Cause.{Cause}
+use Rattle.bql_tree.specs.declared.cause.PartCause.{PartCause}
 use Rattle.bql_tree.specs.declared.function.Function.{Function}
 use Rattle.bql_tree.specs.declared.function.Function.TheVariants as function
 use Rattle.bql_tree.specs.declared.function.Scope.{Scope}
@@ -31,7 +31,7 @@ use Rattle.bql_parser.specs.Small.{AreSmallTrees, count}
 use Rattle.bql_parser.proofs.SmallForms.{all_pushed, pushed_length}
 
 -- P holds of what is found
-abbrev pub Found : {A : Type 0} → (A → Type 0) → Result A Cause → Type 0
+abbrev pub Found : {A : Type 0} → (A → Type 0) → Result A PartCause → Type 0
 Found P (Ok a) = P a
 Found P (Err c) = Unit {0}
 
@@ -40,13 +40,13 @@ IsSmallPart p = Found IsSmallTree p.tree
 
 -- ---- heights and NULL
 
-high_by : {A : Type 0} (P : A → Type 0) (start : ℕ) (r : Result A Cause) (low : Bool) → Found P r
+high_by : {A : Type 0} (P : A → Type 0) (start : ℕ) (r : Result A PartCause) (low : Bool) → Found P r
     → Found P (if low then r else parts.too_high start r)
 high_by P start r true h = h
 high_by P start (Ok a) false h = tt
 high_by P start (Err c) false h = tt
 
-pub high_found : {A : Type 0} (P : A → Type 0) (start height : ℕ) (r : Result A Cause) → Found P r
+pub high_found : {A : Type 0} (P : A → Type 0) (start height : ℕ) (r : Result A PartCause) → Found P r
     → Found P (parts.not_too_high start height r)
 high_found P start height r h = high_by P start r (nat_le height 200) h
 
@@ -55,7 +55,7 @@ unless_found : (P : Tree ℕ → Type 0) (o : Option ℕ) (t : Tree ℕ) → P t
 unless_found P (Some at) t h = tt
 unless_found P None t h = h
 
-pub not_null_found : (P : Tree ℕ → Type 0) (r : Result (Tree ℕ) Cause) → Found P r
+pub not_null_found : (P : Tree ℕ → Type 0) (r : Result (Tree ℕ) PartCause) → Found P r
     → Found P (parts.not_null r)
 not_null_found P (Ok t) h = unless_found P (parts.null_at t) t h
 not_null_found P (Err c) h = tt
@@ -63,8 +63,8 @@ not_null_found P (Err c) h = tt
 abbrev pub Both : {A B : Type 0} → (A → Type 0) → (B → Type 0) → A × B → Type 0
 Both P Q p = P p.0 × Q p.1
 
-pub both_found : {A B : Type 0} (P : A → Type 0) (Q : B → Type 0) (a : Result A Cause)
-    (b : Result B Cause) → Found P a → Found Q b → Found (Both P Q) (both a b)
+pub both_found : {A B : Type 0} (P : A → Type 0) (Q : B → Type 0) (a : Result A PartCause)
+    (b : Result B PartCause) → Found P a → Found Q b → Found (Both P Q) (both a b)
 both_found P Q (Ok a) (Ok b) h k = (h, k)
 both_found P Q (Ok a) (Err d) h k = tt
 both_found P Q (Err c) (Ok b) h k = tt
@@ -92,7 +92,7 @@ pub around_small : (start end : ℕ) (inner : Part) → IsSmallPart inner
 around_small start end inner h =
     high_found IsSmallTree start (parts.above inner.height) inner.tree h
 
-one_found : (at : ℕ) (op : UnaryOperator) (r : Result (Tree ℕ) Cause) → IsSmallUnary op
+one_found : (at : ℕ) (op : UnaryOperator) (r : Result (Tree ℕ) PartCause) → IsSmallUnary op
     → Found IsSmallTree r → Found IsSmallTree (parts.one_tree at op r)
 one_found at op (Ok x) small h = (small, (h, tt))
 one_found at op (Err c) small h = tt
@@ -128,26 +128,26 @@ nulls_found (Some a) (Some b) x y h k = tt
 nulls_found (Some a) None x y h k = (h, k)
 nulls_found None b x y h k = (h, k)
 
-equated_found : (a b : Result (Tree ℕ) Cause) → Found IsSmallTree a → Found IsSmallTree b
+equated_found : (a b : Result (Tree ℕ) PartCause) → Found IsSmallTree a → Found IsSmallTree b
     → Found AreSmallSides (parts.equated a b)
 equated_found (Ok x) (Ok y) h k = nulls_found (parts.null_at x) (parts.null_at y) x y h k
 equated_found (Ok x) (Err d) h k = tt
 equated_found (Err c) (Ok y) h k = tt
 equated_found (Err c) (Err d) h k = tt
 
-plain_sides : (a b : Result (Tree ℕ) Cause) → Found IsSmallTree a → Found IsSmallTree b
+plain_sides : (a b : Result (Tree ℕ) PartCause) → Found IsSmallTree a → Found IsSmallTree b
     → Found AreSmallSides (both (parts.not_null a) (parts.not_null b))
 plain_sides a b h k =
     both_found IsSmallTree IsSmallTree (parts.not_null a) (parts.not_null b)
     (not_null_found IsSmallTree a h) (not_null_found IsSmallTree b k)
 
-sides_found : (op : BinaryOperator) (a b : Result (Tree ℕ) Cause) → Found IsSmallTree a
+sides_found : (op : BinaryOperator) (a b : Result (Tree ℕ) PartCause) → Found IsSmallTree a
     → Found IsSmallTree b → Found AreSmallSides (parts.sides op a b)
 sides_found binary.Equal a b h k = equated_found a b h k
 sides_found binary.NotEqual a b h k = equated_found a b h k
 sides_found op a b h k = plain_sides a b h k
 
-two_found : (at : ℕ) (op : BinaryOperator) (r : Result (Tree ℕ × Tree ℕ) Cause) → Found AreSmallSides r
+two_found : (at : ℕ) (op : BinaryOperator) (r : Result (Tree ℕ × Tree ℕ) PartCause) → Found AreSmallSides r
     → Found IsSmallTree (parts.two_tree at op r)
 two_found at op (Ok p) h = (tt, (h.0, (h.1, tt)))
 two_found at op (Err c) h = tt
@@ -170,7 +170,7 @@ text_in_short : (start : ℕ) (t : Tree ℕ) → IsSmallTree t → Found IsShort
 text_in_short start (node at (leaf_of (leaf.Text bs)) ts) h = h.0
 text_in_short start t h = tt
 
-text_short : (start : ℕ) (r : Result (Tree ℕ) Cause) → Found IsSmallTree r
+text_short : (start : ℕ) (r : Result (Tree ℕ) PartCause) → Found IsSmallTree r
     → Found IsShort (call.text_found start r)
 text_short start (Ok t) h = text_in_short start t h
 text_short start (Err c) h = tt
@@ -181,7 +181,7 @@ keyed_small function.EntryMeta key h = h
 keyed_small function.AnyMeta key h = h
 keyed_small f key h = h
 
-key_found : (at : ℕ) (f : Function) (r : Result (List ℕ) Cause) → Found IsShort r
+key_found : (at : ℕ) (f : Function) (r : Result (List ℕ) PartCause) → Found IsShort r
     → Found IsSmallTree (call.key_tree at f r)
 key_found at f (Ok key) h = (keyed_small f key h, tt)
 key_found at f (Err c) h = tt
@@ -215,12 +215,12 @@ components_in start (node at (leaf_of (leaf.Number d)) ts) =
     outside_found start (call.whole_components d) (whole_by (d.places == 0) d.count)
 components_in start t = tt
 
-components_found : (start : ℕ) (r : Result (Tree ℕ) Cause)
+components_found : (start : ℕ) (r : Result (Tree ℕ) PartCause)
     → Found IsCount (call.components_found start r)
 components_found start (Ok t) = components_in start t
 components_found start (Err c) = tt
 
-root_found : (at : ℕ) (r : Result (Tree ℕ × ℕ) Cause) → Found (Both IsSmallTree IsCount) r
+root_found : (at : ℕ) (r : Result (Tree ℕ × ℕ) PartCause) → Found (Both IsSmallTree IsCount) r
     → Found IsSmallTree (call.root_tree at r)
 root_found at (Ok p) h = (h.1, (h.0, tt))
 root_found at (Err c) h = tt
@@ -230,7 +230,7 @@ root_found at (Err c) h = tt
 abbrev AreTrees : ℕ → List (Tree ℕ) → Type 0
 AreTrees n ts = AllByRecursion IsSmallTree ts × (length ts ≡ n)
 
-pushed_found : (n : ℕ) (r : Result (List (Tree ℕ) × Tree ℕ) Cause)
+pushed_found : (n : ℕ) (r : Result (List (Tree ℕ) × Tree ℕ) PartCause)
     → Found (Both (AreTrees n) IsSmallTree) r → Found (AreTrees (n + 1)) (call.pushed r)
 pushed_found n (Ok p) h =
     let l = pushed_length p.0 p.1 in
@@ -238,14 +238,14 @@ pushed_found n (Ok p) h =
     (all_pushed IsSmallTree p.0 p.1 h.0.0 h.1, omega (arith, l, e))
 pushed_found n (Err c) h = tt
 
-one_more_found : (n : ℕ) (r : Result (List (Tree ℕ)) Cause) (p : Part) → Found (AreTrees n) r
+one_more_found : (n : ℕ) (r : Result (List (Tree ℕ)) PartCause) (p : Part) → Found (AreTrees n) r
     → IsSmallPart p → Found (AreTrees (n + 1)) (call.one_more r p)
 one_more_found n r p h k =
     pushed_found n (both r (parts.not_null p.tree))
     (both_found (AreTrees n) IsSmallTree r (parts.not_null p.tree) h
     (not_null_found IsSmallTree p.tree k))
 
-all_from : (n m : ℕ) (r : Result (List (Tree ℕ)) Cause) (ps : List Part) → Found (AreTrees n) r
+all_from : (n m : ℕ) (r : Result (List (Tree ℕ)) PartCause) (ps : List Part) → Found (AreTrees n) r
     → AllByRecursion IsSmallPart ps → m ≡ n + length ps
     → Found (AreTrees m) (steps call.one_more r ps)
 all_from n m r [] h all e = subst (λ k. Found (AreTrees k) r) (omega (arith, e)) h
@@ -276,7 +276,7 @@ by_name : (f : Function) → IsNoList f → (ts : Trees ℕ) → IsSmallIn (call
 by_name function.OneOf h ts = absurd h
 by_name f h ts = tt
 
-call_found : (at : ℕ) (f : Function) (n : ℕ) (r : Result (List (Tree ℕ)) Cause) → IsNoList f
+call_found : (at : ℕ) (f : Function) (n : ℕ) (r : Result (List (Tree ℕ)) PartCause) → IsNoList f
     → Found (AreTrees n) r → Found IsSmallTree (call.call_tree at f r)
 call_found at f n (Ok ts) h k = (by_name f h (all_trees ts), small_all ts k.0)
 call_found at f n (Err c) h k = tt
@@ -310,7 +310,7 @@ applied_by_found true at f (key ∷ []) h all =
 applied_by_found true at f (p ∷ q ∷ ps) h all = plain_found at f (p ∷ q ∷ ps) h all
 applied_by_found false at f ps h all = rooted_found at f ps h all
 
-refused_found : {A : Type 0} (P : Tree ℕ → Type 0) (c : Cause) (r : Result A Cause)
+refused_found : {A : Type 0} (P : Tree ℕ → Type 0) (c : PartCause) (r : Result A PartCause)
     → Found P (call.refused_by c r)
 refused_found P c (Ok a) = tt
 refused_found P c (Err d) = tt
@@ -350,7 +350,7 @@ call_by_found : (t : Token) (ps : List Part) (o : Option Function) → IfSome o 
 call_by_found t ps (Some f) h all = applied_by_found (call.takes_key f) t.start f ps h all
 call_by_found t ps None h all = refused_found IsSmallTree (parts.unknown t) (call.all_of ps)
 
-high_small : (start end height : ℕ) (r : Result (Tree ℕ) Cause) → Found IsSmallTree r
+high_small : (start end height : ℕ) (r : Result (Tree ℕ) PartCause) → Found IsSmallTree r
     → IsSmallPart (call.high start end height r)
 high_small start end height r h = high_found IsSmallTree start height r h
 
@@ -368,7 +368,7 @@ members_few : (n : ℕ) (ts : List (Tree ℕ)) → length ts ≡ suc n → n ≤
 members_few n [] e few = tt
 members_few n (t ∷ ts) e few = let c = count_all ts in omega (arith, c, e, few)
 
-list_found : (at n : ℕ) (r : Result (List (Tree ℕ)) Cause) → n ≤ 65535
+list_found : (at n : ℕ) (r : Result (List (Tree ℕ)) PartCause) → n ≤ 65535
     → Found (AreTrees (suc n)) r → Found IsSmallTree (call.call_tree at function.OneOf r)
 list_found at n (Ok ts) few h = (members_few n ts h.1 few, small_all ts h.0)
 list_found at n (Err c) few h = tt

@@ -12,3 +12,4 @@ pub mod Small
 pub mod Answer
 pub mod Kept
 pub mod Parse
+pub mod QueryCause

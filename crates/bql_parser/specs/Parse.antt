@@ -11,18 +11,18 @@ use Rattle.bql_grammar.specs.Nesting as nesting
 use Rattle.bql_grammar.specs.Nesting.{wanting, through, is_full}
 use Rattle.bql_grammar.specs.declared.stuck.Stuck.{Stuck}
 use Rattle.bql_grammar.specs.declared.stuck.Stuck.TheVariants.{OutOfMemory, At}
-use Rattle.bql_tree.specs.Cause.{unknown_name, outside_profile}
+use Rattle.bql_tree.specs.Cause.{outside_profile}
 use Rattle.bql_tree.specs.Function.{is_left_out}
-use Rattle.bql_tree.specs.declared.cause.Cause.{Cause}
-use Rattle.bql_tree.specs.declared.cause.CauseKind.{CauseKind}
-use Rattle.bql_tree.specs.declared.cause.CauseKind.TheVariants as causes
+use Rattle.bql_tree.specs.declared.cause.PartCause.{PartCause}
+use Rattle.refusals.specs.declared.refusal.Refusal.{Refusal}
+use Rattle.refusals.specs.declared.refusal.Refusal.TheVariants as refusal
 use Rattle.bql_parser.specs.Answer.{query_of}
 use Rattle.bql_parser.specs.Asked.{Asked}
 use Rattle.bql_parser.specs.Grammar.{query}
 use Rattle.bql_parser.specs.Read.{Read}
 use Rattle.bql_parser.specs.Settled.{answer}
-use Rattle.bql_parser.specs.declared.fault.QueryFault.{QueryFault}
-use Rattle.bql_parser.specs.declared.fault.QueryFault.TheVariants as fault
+use Rattle.bql_parser.specs.declared.cause.QueryCause.{QueryCause}
+use Rattle.bql_parser.specs.declared.cause.QueryCause.TheVariants as cause
 use Rattle.bql_parser.specs.declared.query.Query.{Query}
 
 -- the text is a query of the grammar, and is read so alone
@@ -70,44 +70,36 @@ Meets ts place test is =
 
 -- why a text is none, whose tokens are these: Q3 where the token is left, and else Q1; at the
 -- text's end where they all begin a query
-abbrev pub Stops : List ℕ → List Token → QueryFault → Type 0
-Stops text ts (fault.Syntax place) =
+abbrev pub Stops : List ℕ → List Token → QueryCause → Type 0
+Stops text ts (cause.Syntax place) =
     Meets ts place is_left false ⊎ ((place ≡ length text) × BeginsAQuery ts)
-Stops text ts (fault.OutsideProfile place) = Meets ts place is_left true
-Stops text ts (fault.UnknownName place) = ⊥
-Stops text ts fault.OutOfMemory = ⊥
+Stops text ts (cause.Part c) = (c ≡ outside_profile c.place) × Meets ts c.place is_left true
 
 -- what is told of a text whose reader stopped so
-abbrev pub IsFaultBy : List ℕ → List Token → Stuck → QueryFault → Type 0
-IsFaultBy text ts OutOfMemory e = e ≡ fault.OutOfMemory
-IsFaultBy text ts (At left is_deep) e =
-    nesting.Stops (wanting []) ts left is_deep → Before BeginsAQuery ts left → Stops text ts e
+abbrev pub IsRefusalBy : List ℕ → List Token → Stuck → Refusal QueryCause → Type 0
+IsRefusalBy text ts (At left is_deep) (refusal.Refused c) =
+    nesting.Stops (wanting []) ts left is_deep → Before BeginsAQuery ts left → Stops text ts c
+IsRefusalBy text ts OutOfMemory refusal.OutOfMemory = Unit {0}
+IsRefusalBy text ts stuck refused = ⊥
 
-abbrev pub is_cause : CauseKind → ℕ → QueryFault
-is_cause causes.UnknownName place = fault.UnknownName place
-is_cause causes.OutsideProfile place = fault.OutsideProfile place
-
-abbrev pub fault_of : Cause → QueryFault
-fault_of c = is_cause c.kind c.place
-
--- the query that is found, or the least cause as its fault
-abbrev pub IsAnswered : Result Asked Cause → Result Query QueryFault → Type 0
+-- the query that is found, or the least cause
+abbrev pub IsAnswered : Result Asked PartCause → Result Query (Refusal QueryCause) → Type 0
 IsAnswered found (Ok q) = found ≡ Ok (query_of q)
-IsAnswered found (Err e) = (c : Cause) × (found ≡ Err c) × (e ≡ fault_of c)
+IsAnswered found (Err (refusal.Refused (cause.Part c))) = found ≡ Err c
+IsAnswered found (Err e) = ⊥
 
 -- the text is a query of the grammar with this as its least cause
-abbrev pub HasCause : List ℕ → Cause → Type 0
+abbrev pub HasCause : List ℕ → PartCause → Type 0
 HasCause text c = (r : Read) × IsQuery text r × (answer text r ≡ Err c)
 
 -- the text is outside the grammar, and stops there
-abbrev pub StopsAt : List ℕ → QueryFault → Type 0
-StopsAt text e = (ts : List Token) × IsOutside text ts × Stops text ts e
+abbrev pub StopsAt : List ℕ → QueryCause → Type 0
+StopsAt text c = (ts : List Token) × IsOutside text ts × Stops text ts c
 
--- the text is a query of the grammar without a cause, and this one; or it has the fault
-abbrev pub Parses : List ℕ → Result Query QueryFault → Type 0
+-- the text is a query of the grammar without a cause, and this one; or it is refused for the cause
+abbrev pub Parses : List ℕ → Result Query (Refusal QueryCause) → Type 0
 Parses text (Ok q) = (r : Read) × IsQuery text r × (answer text r ≡ Ok (query_of q))
-Parses text (Err (fault.UnknownName place)) = HasCause text (unknown_name place)
-Parses text (Err (fault.OutsideProfile place)) =
-    HasCause text (outside_profile place) ⊎ StopsAt text (fault.OutsideProfile place)
-Parses text (Err (fault.Syntax place)) = StopsAt text (fault.Syntax place)
-Parses text (Err fault.OutOfMemory) = Unit {0}
+Parses text (Err (refusal.Refused (cause.Part c))) =
+    HasCause text c ⊎ StopsAt text (cause.Part c)
+Parses text (Err (refusal.Refused (cause.Syntax place))) = StopsAt text (cause.Syntax place)
+Parses text (Err refusal.OutOfMemory) = Unit {0}

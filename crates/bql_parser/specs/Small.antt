@@ -5,7 +5,7 @@ use Rattle.bean_base.specs.declared.limits.TheConstants.{LARGEST_QUERY, MOST_COM
 use Rattle.bql_parser.specs.Asked.{Asked, Target, Item, ItemKind, target_item, tree_item}
 use Rattle.bql_tree.specs.Tree.{Operation, leaf_of, one_of, call_of, Tree, node, Trees, no_trees}
 use Rattle.bql_tree.specs.Tree.{trees}
-use Rattle.bql_tree.specs.declared.cause.Cause.{Cause}
+use Rattle.bql_tree.specs.declared.cause.PartCause.{PartCause}
 use Rattle.bql_tree.specs.declared.function.Function.TheVariants as function
 use Rattle.bql_tree.specs.declared.tree.Leaf.{Leaf}
 use Rattle.bql_tree.specs.declared.tree.Leaf.TheVariants as leaf
@@ -83,6 +83,6 @@ pub record IsSmall (s : Asked) : Type 0 where
   pub order : AreSmallItems (length s.targets) s.order.items
 
 -- what is found, if it is found
-abbrev pub IsSmallFound : Result Asked Cause → Type 0
+abbrev pub IsSmallFound : Result Asked PartCause → Type 0
 IsSmallFound (Ok s) = IsSmall s
 IsSmallFound (Err c) = Unit {0}

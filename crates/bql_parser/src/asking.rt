@@ -9,12 +9,15 @@ use crate::query::Draft;
 use crate::settling::{filter, filters, group, order, targets};
 use crate::standing;
 use crate::standing::Valuation;
-use bql_tree::Cause;
+use bql_tree::PartCause;
 use bql_tree::cause::both;
 use bql_tree::function::is_left_out;
 use std::alloc::{AllocError, Global};
 
-fn select<'a>(alloc: Global, read: SelectRead<'a>) -> Result<Result<Draft<'a>, Cause>, AllocError>
+fn select<'a>(
+    alloc: Global,
+    read: SelectRead<'a>,
+) -> Result<Result<Draft<'a>, PartCause>, AllocError>
     ensures { IfOk result (λ r. rule.mapped draft_of r ≡ rule.select (views.select_of read.entry)) }
 {
     let (distinct, limit) = (read.distinct, read.limit);
@@ -37,7 +40,7 @@ fn select<'a>(alloc: Global, read: SelectRead<'a>) -> Result<Result<Draft<'a>, C
     }
 }
 
-fn valuation_of(name: &NameRead<'_>) -> Result<Valuation, Cause>
+fn valuation_of(name: &NameRead<'_>) -> Result<Valuation, PartCause>
     ensures { result ≡ rule.valuation_of name.now }
 {
     let word = name.text.text();
@@ -46,14 +49,14 @@ fn valuation_of(name: &NameRead<'_>) -> Result<Valuation, Cause>
     } else if word.eq_ignore_ascii_case("cost") {
         Ok(Valuation::Cost)
     } else if is_left_out(word) {
-        Err(Cause::outside_profile(name.start))
+        Err(PartCause::outside_profile(name.start))
     } else {
-        Err(Cause::unknown_name(name.start))
+        Err(PartCause::unknown_name(name.start))
     }
 }
 
 /// What AT names.
-fn at(name: Option<NameRead<'_>>) -> Result<Option<Valuation>, Cause>
+fn at(name: Option<NameRead<'_>>) -> Result<Option<Valuation>, PartCause>
     ensures { result ≡ rule.at name.entry }
 {
     let Some(name) = name else {
@@ -65,7 +68,10 @@ fn at(name: Option<NameRead<'_>>) -> Result<Option<Valuation>, Cause>
     }
 }
 
-fn journal<'a>(alloc: Global, read: JournalRead<'a>) -> Result<Result<Draft<'a>, Cause>, AllocError>
+fn journal<'a>(
+    alloc: Global,
+    read: JournalRead<'a>,
+) -> Result<Result<Draft<'a>, PartCause>, AllocError>
     ensures { IfOk result (λ r. rule.mapped draft_of r ≡ rule.journal (views.journal_of read.entry)) }
 {
     let pattern = read.pattern;
@@ -78,7 +84,7 @@ fn journal<'a>(alloc: Global, read: JournalRead<'a>) -> Result<Result<Draft<'a>,
 fn balances<'a>(
     alloc: Global,
     read: BalancesRead<'a>,
-) -> Result<Result<Draft<'a>, Cause>, AllocError>
+) -> Result<Result<Draft<'a>, PartCause>, AllocError>
     ensures { IfOk result (λ r. rule.mapped draft_of r ≡ rule.balances (views.balances_of read.entry)) }
 {
     match both(at(read.at), filters(read.filters)) {
@@ -91,7 +97,7 @@ fn balances<'a>(
 pub fn settled<'a>(
     alloc: Global,
     read: QueryRead<'a>,
-) -> Result<Result<Draft<'a>, Cause>, AllocError>
+) -> Result<Result<Draft<'a>, PartCause>, AllocError>
     ensures { IfOk result (λ r. rule.mapped draft_of r ≡ rule.settled (views.read_of read.entry)) }
 {
     match read {

@@ -3,9 +3,9 @@
 //! ```text
 //! let query = parse_query(alloc, "SELECT account, sum(position) AS total ORDER BY total")?;
 //! // the targets `account` and `total`, ordered by the target of index 1
-//! parse_query(alloc, "SELECT foo")               // QueryFault::UnknownName(7)
-//! parse_query(alloc, "SELECT number / 2")        // QueryFault::OutsideProfile(14)
-//! parse_query(alloc, "SELECT account WHERE")     // QueryFault::Syntax(20)
+//! parse_query(alloc, "SELECT foo")               // Part(PartCause::unknown_name(7))
+//! parse_query(alloc, "SELECT number / 2")        // Part(PartCause::outside_profile(14))
+//! parse_query(alloc, "SELECT account WHERE")     // Syntax(20)
 //! ```
 //!
 //! A query is a SELECT, or a JOURNAL or a BALANCES, which stand for one, with at most one `;` behind
@@ -17,10 +17,12 @@
 //! The grammar stands in `specs/Grammar`, over the tokens of the text, and what is asked in
 //! `specs/Settled`. [`parse_query`] accepts exactly the texts of the grammar that have no cause.
 //!
-//! - `Q1` ([`QueryFault::Syntax`]): the text is outside the grammar. The place is that of the token
+//! - `Q1` ([`QueryCause::Syntax`]): the text is outside the grammar. The place is that of the token
 //!   that can't go on, or the text's end: the tokens before it begin a query.
-//! - `Q2` ([`QueryFault::UnknownName`]): a name, or the number of a target, that isn't known.
-//! - `Q3` ([`QueryFault::OutsideProfile`]): the language has it, and the profile leaves it out; or
+//! - `Q2` ([`bql_tree::PartCauseKind::UnknownName`]): a name, or the number of a target, that isn't
+//!   known.
+//! - `Q3` ([`bql_tree::PartCauseKind::OutsideProfile`]): the language has it, and the profile leaves
+//!   it out; or
 //!   it stands above a limit: 65,535 bytes, 255 targets, 255 items of GROUP BY, 255 of ORDER BY,
 //!   expressions 200 high. Of a text outside the grammar it is told where the token that can't go
 //!   on is a `/`, a word that is left out, or a parenthesis, sign or NOT inside 200 others.
@@ -34,8 +36,8 @@
 #![tactic(auto)]
 
 mod asking;
+mod cause;
 mod clauses;
-mod fault;
 mod laws;
 mod parse;
 mod queries;
@@ -44,6 +46,6 @@ mod reading;
 mod settling;
 mod standing;
 
-pub use fault::QueryFault;
+pub use cause::QueryCause;
 pub use parse::parse_query;
 pub use query::{Filters, Item, ItemKind, Order, Query, Target};

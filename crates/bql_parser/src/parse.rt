@@ -1,7 +1,8 @@
 //! Texts of queries.
 ghost use Rattle.std.specs.Prelude.{◌≡◌, ◌≤◌, List, [], length};
 ghost use Rattle.bean_base.specs.declared.limits.TheConstants.{LARGEST_QUERY};
-ghost use Rattle.bql_grammar.specs.declared.stuck.Stuck.TheVariants as Stuck;
+ghost use Rattle.bql_grammar.specs.Beginning.{Before};
+ghost use Rattle.bql_grammar.specs.Nesting as nesting;
 ghost use Rattle.bql_lexer.specs.declared.token.Token.{Token};
 ghost use Rattle.bql_parser.specs.Parse as rule;
 ghost use Rattle.bql_parser.specs.Settled as settled;
@@ -9,15 +10,16 @@ ghost use Rattle.bql_parser.specs.Small.{IsSmallFound};
 ghost use Rattle.bql_parser.specs.View.{draft_of};
 
 use crate::asking::settled;
-use crate::fault::{QueryFault, fault_of};
+use crate::cause::QueryCause;
 use crate::queries::query;
 use crate::query::{Draft, Query};
 use crate::settling::refused_at;
 use bean_base::limits::LARGEST_QUERY;
 use bql_grammar::Stuck;
 use bql_lexer::{Kind, Token, tokens};
-use bql_tree::Cause;
+use bql_tree::PartCause;
 use bql_tree::function::is_left_out;
+use refusals::Refusal;
 use std::alloc::Global;
 
 /// Whether a token is a parenthesis, a sign or NOT.
@@ -41,23 +43,26 @@ fn is_left(token: &Token<'_>, is_deep: bool) -> bool
 }
 
 /// Why a text is no query whose tokens can't go on there.
-fn fault_at(text: &str, tokens: &[Token<'_>], left: usize, is_deep: bool) -> QueryFault
-    ensures { rule.IsFaultBy text.now tokens.now (Stuck.At left is_deep) result }
+fn cause_at(text: &str, tokens: &[Token<'_>], left: usize, is_deep: bool) -> QueryCause
+    ensures { nesting.Stops (nesting.wanting []) tokens.now left is_deep
+        → Before rule.BeginsAQuery tokens.now left → rule.Stops text.now tokens.now result }
 {
     match tokens.get(tokens.len().saturating_sub(left)) {
-        Some(token) if is_left(token, is_deep) => QueryFault::OutsideProfile(token.start),
-        Some(token) => QueryFault::Syntax(token.start),
-        None => QueryFault::Syntax(text.len()),
+        Some(token) if is_left(token, is_deep) => QueryCause::Part(PartCause::outside_profile(
+            token.start,
+        )),
+        Some(token) => QueryCause::Syntax(token.start),
+        None => QueryCause::Syntax(text.len()),
     }
 }
 
 /// Why a text is no query that was read so far.
-fn fault_by(text: &str, tokens: &[Token<'_>], stuck: Stuck) -> QueryFault
-    ensures { rule.IsFaultBy text.now tokens.now stuck result }
+fn refusal_by(text: &str, tokens: &[Token<'_>], stuck: Stuck) -> Refusal<QueryCause>
+    ensures { rule.IsRefusalBy text.now tokens.now stuck result }
 {
     match stuck {
-        Stuck::OutOfMemory => QueryFault::OutOfMemory,
-        Stuck::At { left, is_deep } => fault_at(text, tokens, left, is_deep),
+        Stuck::OutOfMemory => Refusal::OutOfMemory,
+        Stuck::At { left, is_deep } => Refusal::Refused(cause_at(text, tokens, left, is_deep)),
     }
 }
 
@@ -73,7 +78,10 @@ fn byte_beyond(text: &str) -> Option<usize>
 }
 
 /// A query, unless its text is too long.
-fn answered<'a>(text: &str, found: Result<Draft<'a>, Cause>) -> Result<Query<'a>, QueryFault>
+fn answered<'a>(
+    text: &str,
+    found: Result<Draft<'a>, PartCause>,
+) -> Result<Query<'a>, Refusal<QueryCause>>
     requires { length text.now ≤ LARGEST_QUERY → IsSmallFound (settled.mapped draft_of found) }
     ensures { rule.IsAnswered (settled.refused_at (settled.byte_beyond (length text.now))
         (settled.mapped draft_of found.entry)) result }
@@ -87,17 +95,17 @@ fn answered<'a>(text: &str, found: Result<Draft<'a>, Cause>) -> Result<Query<'a>
             order: draft.order,
             limit: draft.limit,
         }),
-        Err(cause) => Err(fault_of(cause)),
+        Err(cause) => Err(Refusal::Refused(QueryCause::Part(cause))),
     }
 }
 
 /// The query that a text is.
-pub fn parse_query<'a>(alloc: Global, text: &'a str) -> Result<Query<'a>, QueryFault>
+pub fn parse_query<'a>(alloc: Global, text: &'a str) -> Result<Query<'a>, Refusal<QueryCause>>
     ensures { rule.Parses text.now result }
 {
     let found = tokens(alloc, text)?;
     match query(alloc, text, found.as_slice()) {
         Ok(read) => answered(text, settled(alloc, read)?),
-        Err(stuck) => Err(fault_by(text, found.as_slice(), stuck)),
+        Err(stuck) => Err(refusal_by(text, found.as_slice(), stuck)),
     }
 }

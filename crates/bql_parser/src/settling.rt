@@ -14,21 +14,24 @@ use crate::query::{Filters, Item, ItemKind, Order, Target};
 use bean_base::limits::MOST_ITEMS;
 use bql_tree::cause::both;
 use bql_tree::part::not_null;
-use bql_tree::{Alone, Cause, Expr, Leaf, Part};
+use bql_tree::{Alone, Expr, Leaf, Part, PartCause};
 use std::alloc::{AllocError, Global};
 
 /// What is found, or its least cause, where something stands at a place that may not.
-pub fn refused_at<T: Drop>(place: Option<usize>, found: Result<T, Cause>) -> Result<T, Cause>
+pub fn refused_at<T: Drop>(
+    place: Option<usize>,
+    found: Result<T, PartCause>,
+) -> Result<T, PartCause>
     ensures { result ≡ rule.refused_at place found }
 {
     match (place, found) {
         (None, found) => found,
-        (Some(place), Ok(_found)) => Err(Cause::outside_profile(place)),
-        (Some(place), Err(cause)) => Err(cause.least(Cause::outside_profile(place))),
+        (Some(place), Ok(_found)) => Err(PartCause::outside_profile(place)),
+        (Some(place), Err(cause)) => Err(cause.least(PartCause::outside_profile(place))),
     }
 }
 
-fn target<'a>(read: TargetRead<'a>) -> Result<Target<'a>, Cause>
+fn target<'a>(read: TargetRead<'a>) -> Result<Target<'a>, PartCause>
     ensures { rule.mapped view.target_of result ≡ rule.target (views.target_of read.entry) }
 {
     match not_null(read.part.expr) {
@@ -42,9 +45,9 @@ fn target<'a>(read: TargetRead<'a>) -> Result<Target<'a>, Cause>
 
 /// One more target behind those that were found, or the least cause.
 fn one_target<'a>(
-    found: Result<Vec<Target<'a>>, Cause>,
+    found: Result<Vec<Target<'a>>, PartCause>,
     read: TargetRead<'a>,
-) -> Result<Result<Vec<Target<'a>>, Cause>, AllocError>
+) -> Result<Result<Vec<Target<'a>>, PartCause>, AllocError>
     ensures { IfOk result (λ r. rule.mapped view.targets_of r
         ≡ rule.one_target (rule.mapped view.targets_of found.entry) (views.target_of read.entry)) }
 {
@@ -71,7 +74,7 @@ fn target_beyond(reads: &[TargetRead<'_>]) -> Option<usize>
 fn each_target<'a>(
     alloc: Global,
     reads: Vec<TargetRead<'a>>,
-) -> Result<Result<Vec<Target<'a>>, Cause>, AllocError>
+) -> Result<Result<Vec<Target<'a>>, PartCause>, AllocError>
     ensures { IfOk result (λ r. rule.mapped view.targets_of r
         ≡ rule.each_target (views.targets_of reads.entry)) }
 {
@@ -85,7 +88,7 @@ fn each_target<'a>(
 pub fn targets<'a>(
     alloc: Global,
     reads: Vec<TargetRead<'a>>,
-) -> Result<Result<Vec<Target<'a>>, Cause>, AllocError>
+) -> Result<Result<Vec<Target<'a>>, PartCause>, AllocError>
     ensures { IfOk result (λ r. rule.mapped view.targets_of r
         ≡ rule.targets (views.targets_of reads.entry)) }
 {
@@ -94,7 +97,7 @@ pub fn targets<'a>(
     Ok(refused_at(beyond, found))
 }
 
-pub fn filter<'a>(part: Option<Part<'a>>) -> Result<Option<Box<Expr<'a>>>, Cause>
+pub fn filter<'a>(part: Option<Part<'a>>) -> Result<Option<Box<Expr<'a>>>, PartCause>
     ensures { rule.mapped view.filter_of result ≡ rule.filter (views.filter_of part.entry) }
 {
     let Some(part) = part else {
@@ -106,7 +109,7 @@ pub fn filter<'a>(part: Option<Part<'a>>) -> Result<Option<Box<Expr<'a>>>, Cause
     }
 }
 
-pub fn filters<'a>(read: FiltersRead<'a>) -> Result<Filters<'a>, Cause>
+pub fn filters<'a>(read: FiltersRead<'a>) -> Result<Filters<'a>, PartCause>
     ensures { rule.mapped view.filters_of result ≡ rule.filters (views.filters_of read.entry) }
 {
     match both(filter(read.from), filter(read.filter)) {
@@ -160,21 +163,21 @@ fn has_point(digits: &str) -> bool
 }
 
 /// A whole number from 1 is a target, and other numbers are themselves.
-fn by_number<'a>(count: usize, place: usize, expr: Box<Expr<'a>>) -> Result<ItemKind<'a>, Cause>
+fn by_number<'a>(count: usize, place: usize, expr: Box<Expr<'a>>) -> Result<ItemKind<'a>, PartCause>
     ensures { rule.mapped view.kind_of result
         ≡ rule.by_number count place (tree_of expr.entry.value) }
 {
     if is_great(&expr) {
-        return Err(Cause::unknown_name(place));
+        return Err(PartCause::unknown_name(place));
     }
     match index_in(&expr) {
         Some(index) if index < count as u128 => Ok(ItemKind::Target(index as usize)),
-        Some(_) => Err(Cause::unknown_name(place)),
+        Some(_) => Err(PartCause::unknown_name(place)),
         None => Ok(ItemKind::Expr(expr)),
     }
 }
 
-fn plain<'a>(found: Result<Box<Expr<'a>>, Cause>) -> Result<ItemKind<'a>, Cause>
+fn plain<'a>(found: Result<Box<Expr<'a>>, PartCause>) -> Result<ItemKind<'a>, PartCause>
     ensures { rule.mapped view.kind_of result ≡ rule.plain (tree_found found.entry) }
 {
     match not_null(found) {
@@ -188,8 +191,8 @@ fn item_kind<'a>(
     targets: &[TargetRead<'_>],
     place: usize,
     alone: Alone<'a>,
-    found: Result<Box<Expr<'a>>, Cause>,
-) -> Result<ItemKind<'a>, Cause>
+    found: Result<Box<Expr<'a>>, PartCause>,
+) -> Result<ItemKind<'a>, PartCause>
     ensures { rule.mapped view.kind_of result
         ≡ rule.kind_by (views.targets_in targets.now) place alone.entry (tree_found found.entry) }
 {
@@ -206,7 +209,7 @@ fn item_kind<'a>(
     }
 }
 
-fn item<'a>(targets: &[TargetRead<'_>], part: Part<'a>) -> Result<Item<'a>, Cause>
+fn item<'a>(targets: &[TargetRead<'_>], part: Part<'a>) -> Result<Item<'a>, PartCause>
     ensures { rule.mapped view.item_of result
         ≡ rule.item (views.targets_in targets.now) (part_of part.entry) }
 {
@@ -220,9 +223,9 @@ fn item<'a>(targets: &[TargetRead<'_>], part: Part<'a>) -> Result<Item<'a>, Caus
 /// One more item behind those that were found, or the least cause.
 fn one_item<'a>(
     targets: &[TargetRead<'_>],
-    found: Result<Vec<Item<'a>>, Cause>,
+    found: Result<Vec<Item<'a>>, PartCause>,
     part: Part<'a>,
-) -> Result<Result<Vec<Item<'a>>, Cause>, AllocError>
+) -> Result<Result<Vec<Item<'a>>, PartCause>, AllocError>
     ensures { IfOk result (λ r. rule.mapped view.items_of r
         ≡ rule.one_item (views.targets_in targets.now) (rule.mapped view.items_of found.entry)
         (part_of part.entry)) }
@@ -241,7 +244,7 @@ fn each_item<'a>(
     alloc: Global,
     targets: &[TargetRead<'_>],
     parts: Vec<Part<'a>>,
-) -> Result<Result<Vec<Item<'a>>, Cause>, AllocError>
+) -> Result<Result<Vec<Item<'a>>, PartCause>, AllocError>
     ensures { IfOk result (λ r. rule.mapped view.items_of r
         ≡ rule.each_item (views.targets_in targets.now) (parts_of parts.entry)) }
 {
@@ -266,7 +269,7 @@ fn items<'a>(
     alloc: Global,
     targets: &[TargetRead<'_>],
     parts: Vec<Part<'a>>,
-) -> Result<Result<Vec<Item<'a>>, Cause>, AllocError>
+) -> Result<Result<Vec<Item<'a>>, PartCause>, AllocError>
     ensures { IfOk result (λ r. rule.mapped view.items_of r
         ≡ rule.items (views.targets_in targets.now) (parts_of parts.entry)) }
 {
@@ -279,7 +282,7 @@ pub fn group<'a>(
     alloc: Global,
     targets: &[TargetRead<'_>],
     parts: Option<Vec<Part<'a>>>,
-) -> Result<Result<Option<Vec<Item<'a>>>, Cause>, AllocError>
+) -> Result<Result<Option<Vec<Item<'a>>>, PartCause>, AllocError>
     ensures { IfOk result (λ r. rule.mapped view.group_of r
         ≡ rule.group (views.targets_in targets.now) (views.group_of parts.entry)) }
 {
@@ -296,7 +299,7 @@ pub fn order<'a>(
     alloc: Global,
     targets: &[TargetRead<'_>],
     read: OrderRead<'a>,
-) -> Result<Result<Order<'a>, Cause>, AllocError>
+) -> Result<Result<Order<'a>, PartCause>, AllocError>
     ensures { IfOk result (λ r. rule.mapped view.order_of r
         ≡ rule.order (views.targets_in targets.now) (views.order_of read.entry)) }
 {

@@ -1,11 +1,20 @@
 //! Queries, their trees and their faults.
 
-use bql_parser::{QueryFault, parse_query};
-use bql_tree::{BinaryOperator, Expr};
+use bql_parser::{QueryCause, parse_query};
+use bql_tree::{BinaryOperator, Expr, PartCause};
+use refusals::Refusal;
 use std::alloc::{AllocError, Global};
 use std::test::Fail;
 
-fn fault(alloc: Global, text: &str) -> Option<QueryFault> {
+fn syntax_at(place: usize) -> Option<Refusal<QueryCause>> {
+    Some(Refusal::Refused(QueryCause::Syntax(place)))
+}
+
+fn part_at(cause: PartCause) -> Option<Refusal<QueryCause>> {
+    Some(Refusal::Refused(QueryCause::Part(cause)))
+}
+
+fn fault(alloc: Global, text: &str) -> Option<Refusal<QueryCause>> {
     parse_query(alloc, text).err()
 }
 
@@ -47,7 +56,7 @@ fn texts_outside_the_grammar(rt: HostRuntime) -> Result<(), Fail> {
         ("SELECT account;;", 15),
     ];
     for (text, place) in wanted {
-        assert_eq!(rt; fault(rt.alloc(), text), Some(QueryFault::Syntax(place)));
+        assert_eq!(rt; fault(rt.alloc(), text), syntax_at(place));
     }
     Ok(())
 }
@@ -72,7 +81,7 @@ fn names_that_are_unknown(rt: HostRuntime) -> Result<(), Fail> {
     for (text, place) in wanted {
         assert_eq!(rt;
             fault(rt.alloc(), text),
-            Some(QueryFault::UnknownName(place))
+            part_at(PartCause::unknown_name(place))
         );
     }
     Ok(())
@@ -94,7 +103,7 @@ fn what_the_profile_leaves_out(rt: HostRuntime) -> Result<(), Fail> {
     for (text, place) in wanted {
         assert_eq!(rt;
             fault(rt.alloc(), text),
-            Some(QueryFault::OutsideProfile(place))
+            part_at(PartCause::outside_profile(place))
         );
     }
     Ok(())
@@ -150,7 +159,7 @@ fn limits_and_one_more(rt: HostRuntime) -> Result<(), Fail> {
     for (head, piece, times, tail, place) in wanted {
         let text = repeated(rt.alloc(), head, piece, times, tail)?;
         let found = fault(rt.alloc(), text.as_str());
-        assert_eq!(rt; found, Some(QueryFault::OutsideProfile(place)));
+        assert_eq!(rt; found, part_at(PartCause::outside_profile(place)));
     }
     Ok(())
 }

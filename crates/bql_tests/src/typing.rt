@@ -4,7 +4,8 @@ ghost use Rattle.query_columns.specs.ColumnShape.{AreBounds};
 
 use bean_base::{Bounds, Version};
 use bql_parser::parse_query;
-use bql_types::{TypeFault, type_query};
+use bql_types::{TypeCause, TypeCauseKind, type_query};
+use refusals::Refusal;
 use std::alloc::{AllocError, Global};
 use std::test::Fail;
 
@@ -23,13 +24,17 @@ const NARROWER: Bounds = Bounds {
     value_digits: 28,
 };
 
+fn at(kind: TypeCauseKind, place: usize) -> Option<Refusal<TypeCause>> {
+    Some(Refusal::Refused(TypeCause { kind, place }))
+}
+
 /// Why the query has no type within the bounds.
-fn fault(alloc: Global, text: &str, bounds: &Bounds) -> Option<TypeFault>
+fn fault(alloc: Global, text: &str, bounds: &Bounds) -> Option<Refusal<TypeCause>>
     requires { AreBounds bounds.now }
 {
     match parse_query(alloc, text) {
         Ok(query) => type_query(alloc, &query, bounds).err(),
-        Err(_) => Some(TypeFault::OutOfMemory),
+        Err(_) => Some(Refusal::OutOfMemory),
     }
 }
 
@@ -110,7 +115,7 @@ fn kinds_that_clash(rt: HostRuntime) -> Result<(), Fail> {
     for (text, place) in wanted {
         assert_eq!(rt;
             fault(rt.alloc(), text, &WIDEST),
-            Some(TypeFault::KindClash(place))
+            at(TypeCauseKind::KindClash, place)
         );
     }
     Ok(())
@@ -143,7 +148,7 @@ fn kinds_of_arguments_that_clash(rt: HostRuntime) -> Result<(), Fail> {
     for (text, place) in wanted {
         assert_eq!(rt;
             fault(rt.alloc(), text, &WIDEST),
-            Some(TypeFault::KindClash(place))
+            at(TypeCauseKind::KindClash, place)
         );
     }
     Ok(())
@@ -161,7 +166,7 @@ fn aggregates_that_may_not_stand_there(rt: HostRuntime) -> Result<(), Fail> {
     for (text, place) in wanted {
         assert_eq!(rt;
             fault(rt.alloc(), text, &WIDEST),
-            Some(TypeFault::AggregateMisplaced(place))
+            at(TypeCauseKind::AggregateMisplaced, place)
         );
     }
     Ok(())
@@ -190,7 +195,7 @@ fn columns_outside_aggregates_and_keys(rt: HostRuntime) -> Result<(), Fail> {
     for (text, place) in wanted {
         assert_eq!(rt;
             fault(rt.alloc(), text, &WIDEST),
-            Some(TypeFault::NotGrouped(place))
+            at(TypeCauseKind::NotGrouped, place)
         );
     }
     Ok(())
@@ -208,7 +213,7 @@ fn what_rows_are_not_ordered_by(rt: HostRuntime) -> Result<(), Fail> {
     for (text, place) in wanted {
         assert_eq!(rt;
             fault(rt.alloc(), text, &WIDEST),
-            Some(TypeFault::NotOrderable(place))
+            at(TypeCauseKind::NotOrderable, place)
         );
     }
     Ok(())
@@ -235,7 +240,7 @@ fn values_that_may_be_too_wide(rt: HostRuntime) -> Result<(), Fail> {
     for (text, place) in wanted {
         assert_eq!(rt;
             fault(rt.alloc(), text, &WIDEST),
-            Some(TypeFault::TooWide(place))
+            at(TypeCauseKind::TooWide, place)
         );
     }
     Ok(())
@@ -250,7 +255,7 @@ fn balances_that_may_not_stand_there(rt: HostRuntime) -> Result<(), Fail> {
     for (text, place) in wanted {
         assert_eq!(rt;
             fault(rt.alloc(), text, &WIDEST),
-            Some(TypeFault::BalanceMisplaced(place))
+            at(TypeCauseKind::BalanceMisplaced, place)
         );
     }
     Ok(())
@@ -288,17 +293,17 @@ fn one_target_for_255_items(rt: HostRuntime) -> Result<(), Fail> {
         (
             "SELECT year + month ORDER BY ",
             "(tags)",
-            Some(TypeFault::NotOrderable(538)),
+            at(TypeCauseKind::NotOrderable, 538),
         ),
         (
             "SELECT sum(number) GROUP BY ",
             "1",
-            Some(TypeFault::AggregateMisplaced(28)),
+            at(TypeCauseKind::AggregateMisplaced, 28),
         ),
         (
             "SELECT position ORDER BY ",
             "1",
-            Some(TypeFault::NotOrderable(25)),
+            at(TypeCauseKind::NotOrderable, 25),
         ),
     ];
     for (head, last, fault_wanted) in wanted {

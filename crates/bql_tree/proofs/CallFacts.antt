@@ -12,7 +12,7 @@ use mathlib.Core.Former.{Count}
 use Rattle.bql_tree.specs.Tree.{call_of, node, trees, all_trees, tree_of}
 use Rattle.bql_tree.specs.Tree.{trees_of, row_trees}
 use Rattle.bql_tree.specs.declared.function.Function.{Function}
-use Rattle.bql_tree.specs.declared.cause.Cause.{Cause}
+use Rattle.bql_tree.specs.declared.cause.PartCause.{PartCause}
 use Rattle.bql_tree.specs.declared.part.Part.{Part}
 use Rattle.bql_tree.specs.declared.tree.Expr.{Expr, Row_of-Expr, end_of-Expr, more_of-Expr}
 use Rattle.bql_tree.specs.declared.tree.Expr.{items-the_row-Expr, items_hidden-the_row-Expr-0}
@@ -21,7 +21,7 @@ use Rattle.bql_tree.specs.declared.tree.Expr.{Call', Call}
 ok_is : {A E : Type 0} (a b : A) → ◌≡◌ {A = Result A E} (Ok a) (Ok b) → a ≡ b
 ok_is a b e = cc
 
-pub pushed_is : (found : Result (Vec Expr Global) Cause) (next : Result (Box Expr Global) Cause)
+pub pushed_is : (found : Result (Vec Expr Global) PartCause) (next : Result (Box Expr Global) PartCause)
     (exprs : Vec Expr Global) (e : Box Expr Global) (all : List Expr) (p : specs.Part)
     → both found next ≡ Ok (exprs, e) → tree_found next ≡ not_null p.tree
     → all ≡ exprs.items ++ e.value ∷ [] → Ok (list_of_trees all) ≡ one_more (trees_found found) p

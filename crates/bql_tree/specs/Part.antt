@@ -9,7 +9,7 @@ use Rattle.query_columns.specs.Column as columns
 use Rattle.bql_tree.specs.Function.{is_left_out}
 use Rattle.bql_tree.specs.Tree.{leaf_of, one_of, two_of, Tree, node, no_trees}
 use Rattle.bql_tree.specs.Tree.{trees, tree_of}
-use Rattle.bql_tree.specs.declared.cause.Cause.{Cause}
+use Rattle.bql_tree.specs.declared.cause.PartCause.{PartCause}
 use Rattle.query_columns.specs.declared.column.Column.{Column}
 use Rattle.bql_tree.specs.declared.function.Scope.{Scope}
 use Rattle.bql_tree.specs.declared.function.Scope.TheVariants.{Transactions, Postings}
@@ -31,21 +31,21 @@ pub record Part : Type 0 where
   pub end : ℕ
   pub height : ℕ
   pub alone : Alone
-  pub tree : Result (Tree ℕ) Cause
+  pub tree : Result (Tree ℕ) PartCause
 
-abbrev pub tree_found : Result (Box Expr Global) Cause → Result (Tree ℕ) Cause
+abbrev pub tree_found : Result (Box Expr Global) PartCause → Result (Tree ℕ) PartCause
 tree_found (Ok e) = Ok (tree_of e.value)
 tree_found (Err c) = Err c
 
-abbrev pub pair_found : Result (Box Expr Global × Box Expr Global) Cause
-    → Result (Tree ℕ × Tree ℕ) Cause
+abbrev pub pair_found : Result (Box Expr Global × Box Expr Global) PartCause
+    → Result (Tree ℕ × Tree ℕ) PartCause
 pair_found (Ok p) = Ok (tree_of p.0.value, tree_of p.1.value)
 pair_found (Err c) = Err c
 
 abbrev pub list_of_trees : List Expr → List (Tree ℕ)
 list_of_trees es = map tree_of es
 
-abbrev pub trees_found : Result (Vec Expr Global) Cause → Result (List (Tree ℕ)) Cause
+abbrev pub trees_found : Result (Vec Expr Global) PartCause → Result (List (Tree ℕ)) PartCause
 trees_found (Ok v) = Ok (list_of_trees v.items)
 trees_found (Err c) = Err c
 
@@ -71,12 +71,12 @@ parts_of v = parts_in v.items
 abbrev pub above : ℕ → ℕ
 above height = if nat_lt GREATEST_HEIGHT height then height else height + 1
 
-abbrev pub too_high : {A : Type 0} → ℕ → Result A Cause → Result A Cause
+abbrev pub too_high : {A : Type 0} → ℕ → Result A PartCause → Result A PartCause
 too_high start (Ok a) = Err (outside_profile start)
 too_high start (Err c) = Err (least c (outside_profile start))
 
 -- an expression above the height of 200 is refused at its first byte
-abbrev pub not_too_high : {A : Type 0} → ℕ → ℕ → Result A Cause → Result A Cause
+abbrev pub not_too_high : {A : Type 0} → ℕ → ℕ → Result A PartCause → Result A PartCause
 not_too_high start height found = if nat_le height GREATEST_HEIGHT then found else too_high start found
 
 -- NULL.
@@ -85,21 +85,21 @@ abbrev pub null_at : Tree ℕ → Option ℕ
 null_at (node at (leaf_of leaf_kind.Null) ts) = Some at
 null_at t = None
 
-abbrev pub unless_null : Option ℕ → Tree ℕ → Result (Tree ℕ) Cause
+abbrev pub unless_null : Option ℕ → Tree ℕ → Result (Tree ℕ) PartCause
 unless_null (Some at) t = Err (outside_profile at)
 unless_null None t = Ok t
 
 -- a NULL is refused at its own place
-abbrev pub not_null : Result (Tree ℕ) Cause → Result (Tree ℕ) Cause
+abbrev pub not_null : Result (Tree ℕ) PartCause → Result (Tree ℕ) PartCause
 not_null (Ok t) = unless_null (null_at t) t
 not_null (Err c) = Err c
 
-abbrev pub with_nulls : Option ℕ → Option ℕ → Tree ℕ → Tree ℕ → Result (Tree ℕ × Tree ℕ) Cause
+abbrev pub with_nulls : Option ℕ → Option ℕ → Tree ℕ → Tree ℕ → Result (Tree ℕ × Tree ℕ) PartCause
 with_nulls (Some at) (Some b) x y = Err (outside_profile at)
 with_nulls a b x y = Ok (x, y)
 
 -- not both sides of an equation may be NULL
-abbrev pub equated : Result (Tree ℕ) Cause → Result (Tree ℕ) Cause → Result (Tree ℕ × Tree ℕ) Cause
+abbrev pub equated : Result (Tree ℕ) PartCause → Result (Tree ℕ) PartCause → Result (Tree ℕ × Tree ℕ) PartCause
 equated (Ok x) (Ok y) = with_nulls (null_at x) (null_at y) x y
 equated a b = both a b
 
@@ -123,7 +123,7 @@ leaf t l = record {
       (leaf_at t.start l);
 }
 
-abbrev pub unknown : Token → Cause
+abbrev pub unknown : Token → PartCause
 unknown t = if is_left_out t.text then outside_profile t.start else unknown_name t.start
 
 abbrev pub is_everywhere : Scope → Bool
@@ -139,7 +139,7 @@ column_in scope None = None
 abbrev pub column : Scope → Token → Option Column
 column scope t = column_in scope (columns.named t.text)
 
-abbrev pub column_tree : Token → Option Column → Result (Tree ℕ) Cause
+abbrev pub column_tree : Token → Option Column → Result (Tree ℕ) PartCause
 column_tree t (Some c) = Ok (leaf_at t.start (leaf_kind.Column c))
 column_tree t None = Err (unknown t)
 
@@ -175,7 +175,7 @@ around start end inner = record {
 abbrev pub group : Token → Part → Token → Part
 group opening inner close = around opening.start close.end inner
 
-abbrev pub one_tree : ℕ → unaries.UnaryOperator → Result (Tree ℕ) Cause → Result (Tree ℕ) Cause
+abbrev pub one_tree : ℕ → unaries.UnaryOperator → Result (Tree ℕ) PartCause → Result (Tree ℕ) PartCause
 one_tree at op (Ok x) = Ok (node at (one_of op) (trees x no_trees))
 one_tree at op (Err c) = Err c
 
@@ -198,13 +198,13 @@ signed sign false inner = around sign.start inner.end inner
 abbrev pub matched : Part → Token → Part
 matched inner pattern = one inner.start pattern.end (unary.Matches pattern.text) inner
 
-abbrev pub sides : BinaryOperator → Result (Tree ℕ) Cause → Result (Tree ℕ) Cause
-    → Result (Tree ℕ × Tree ℕ) Cause
+abbrev pub sides : BinaryOperator → Result (Tree ℕ) PartCause → Result (Tree ℕ) PartCause
+    → Result (Tree ℕ × Tree ℕ) PartCause
 sides binary.Equal a b = equated a b
 sides binary.NotEqual a b = equated a b
 sides op a b = both (not_null a) (not_null b)
 
-abbrev pub two_tree : ℕ → BinaryOperator → Result (Tree ℕ × Tree ℕ) Cause → Result (Tree ℕ) Cause
+abbrev pub two_tree : ℕ → BinaryOperator → Result (Tree ℕ × Tree ℕ) PartCause → Result (Tree ℕ) PartCause
 two_tree at op (Ok p) = Ok (node at (two_of op) (trees p.0 (trees p.1 no_trees)))
 two_tree at op (Err c) = Err c
 

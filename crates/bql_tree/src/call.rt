@@ -3,7 +3,7 @@ ghost use Rattle.std.specs.Prelude.{◌≡◌, ◌∷◌, IfOk};
 ghost use Rattle.bql_tree.specs.Call as rule;
 ghost use Rattle.bql_tree.specs.Part.{part_of, parts_in, parts_of, tree_found, trees_found};
 
-use crate::cause::{Cause, both};
+use crate::cause::{PartCause, both};
 use crate::function::{Function, Scope};
 use crate::part::{Alone, Part, above, not_null, not_too_high, unknown};
 use crate::tree::{Expr, Leaf, MetadataOwner, UnaryOperator};
@@ -31,9 +31,9 @@ fn greatest_height(parts: &[Part<'_>]) -> usize
 
 /// One more expression behind those that were found, or the least cause.
 fn one_more<'a>(
-    found: Result<Vec<Expr<'a>>, Cause>,
+    found: Result<Vec<Expr<'a>>, PartCause>,
     part: Part<'a>,
-) -> Result<Result<Vec<Expr<'a>>, Cause>, AllocError>
+) -> Result<Result<Vec<Expr<'a>>, PartCause>, AllocError>
     ensures { IfOk result (λ r. trees_found r
         ≡ rule.one_more (trees_found found.entry) (part_of part.entry)) }
 {
@@ -50,7 +50,7 @@ fn one_more<'a>(
 fn all_of<'a>(
     alloc: Global,
     parts: Vec<Part<'a>>,
-) -> Result<Result<Vec<Expr<'a>>, Cause>, AllocError>
+) -> Result<Result<Vec<Expr<'a>>, PartCause>, AllocError>
     ensures { IfOk result (λ r. trees_found r ≡ rule.all_of (parts_of parts.entry)) }
 {
     let mut found = Ok(Vec::new(alloc));
@@ -61,10 +61,10 @@ fn all_of<'a>(
 }
 
 /// A text literal, as a key or a pattern.
-fn text_of<'a>(part: Part<'a>) -> Result<Slice<'a>, Cause>
+fn text_of<'a>(part: Part<'a>) -> Result<Slice<'a>, PartCause>
     ensures { result ≡ rule.text_of (part_of part.entry) }
 {
-    let outside = Cause::outside_profile(part.start);
+    let outside = PartCause::outside_profile(part.start);
     match part.expr {
         Ok(expr) => match Box::into_inner(expr) {
             Expr::Leaf(_place, Leaf::Text(text)) => Ok(text),
@@ -96,10 +96,10 @@ fn takes_key(function: Function) -> bool
 }
 
 /// A literal that counts components.
-fn components(part: Part<'_>) -> Result<u8, Cause>
+fn components(part: Part<'_>) -> Result<u8, PartCause>
     ensures { result ≡ rule.components (part_of part.entry) }
 {
-    let outside = Cause::outside_profile(part.start);
+    let outside = PartCause::outside_profile(part.start);
     match part.expr {
         Ok(expr) => match Box::into_inner(expr) {
             Expr::Leaf(_, Leaf::Number(n))
@@ -117,7 +117,7 @@ fn root<'a>(
     start: usize,
     account: Part<'a>,
     count: Part<'a>,
-) -> Result<Result<Box<Expr<'a>>, Cause>, AllocError>
+) -> Result<Result<Box<Expr<'a>>, PartCause>, AllocError>
     ensures { IfOk result (λ r. tree_found r
         ≡ rule.root start (part_of account.entry) (part_of count.entry)) }
 {
@@ -135,7 +135,7 @@ fn of_text<'a>(
     start: usize,
     function: Function,
     key: Part<'a>,
-) -> Result<Result<Box<Expr<'a>>, Cause>, AllocError>
+) -> Result<Result<Box<Expr<'a>>, PartCause>, AllocError>
     ensures { IfOk result (λ r. tree_found r
         ≡ rule.key_tree start function (rule.text_of (part_of key.entry))) }
 {
@@ -151,7 +151,7 @@ fn plain<'a>(
     start: usize,
     function: Function,
     parts: Vec<Part<'a>>,
-) -> Result<Result<Box<Expr<'a>>, Cause>, AllocError>
+) -> Result<Result<Box<Expr<'a>>, PartCause>, AllocError>
     ensures { IfOk result (λ r. tree_found r
         ≡ rule.plain start function (parts_of parts.entry)) }
 {
@@ -162,7 +162,12 @@ fn plain<'a>(
 }
 
 /// What stands from `start` to `end`, where it isn't too high.
-fn high<'a>(start: usize, end: usize, height: usize, expr: Result<Box<Expr<'a>>, Cause>) -> Part<'a>
+fn high<'a>(
+    start: usize,
+    end: usize,
+    height: usize,
+    expr: Result<Box<Expr<'a>>, PartCause>,
+) -> Part<'a>
     ensures { part_of result ≡ rule.high start end height (tree_found expr.entry) }
 {
     Part {
@@ -180,7 +185,7 @@ fn applied<'a>(
     start: usize,
     function: Function,
     parts: Vec<Part<'a>>,
-) -> Result<Result<Box<Expr<'a>>, Cause>, AllocError>
+) -> Result<Result<Box<Expr<'a>>, PartCause>, AllocError>
     ensures { IfOk result (λ r. tree_found r
         ≡ rule.applied start function (parts_of parts.entry)) }
 {
@@ -201,9 +206,9 @@ fn applied<'a>(
 /// A call of a function that isn't known.
 fn refused<'a>(
     alloc: Global,
-    cause: Cause,
+    cause: PartCause,
     parts: Vec<Part<'a>>,
-) -> Result<Result<Box<Expr<'a>>, Cause>, AllocError>
+) -> Result<Result<Box<Expr<'a>>, PartCause>, AllocError>
     ensures { IfOk result (λ r. tree_found r ≡ rule.refused cause (parts_of parts.entry)) }
 {
     match all_of(alloc, parts)? {

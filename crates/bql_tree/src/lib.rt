@@ -12,12 +12,12 @@
 //!
 //! An [`Expr`] is a tree whose parts each have the place of their first byte. Parentheses and a `+`
 //! in front are no parts of it. A [`Part`] is what was read of an expression: from where to where
-//! it stands, how high it is, and its tree or else the least [`Cause`].
+//! it stands, how high it is, and its tree or else the least [`PartCause`].
 //!
 //! # Causes
 //!
-//! A name that no column and no function has is unknown ([`CauseKind::UnknownName`]). The profile
-//! leaves out ([`CauseKind::OutsideProfile`]): the names of columns and functions of other tools,
+//! A name that no column and no function has is unknown ([`PartCauseKind::UnknownName`]). The profile
+//! leaves out ([`PartCauseKind::OutsideProfile`]): the names of columns and functions of other tools,
 //! NULL other than as one side of `=` or `!=`, keys and patterns that are no text in quotes, a
 //! count of components other than 1 to 255, and what is higher than 200. Of several causes the one
 //! at the least place counts, and at one place that a name is unknown.
@@ -39,7 +39,7 @@ pub mod number;
 pub mod part;
 mod tree;
 
-pub use cause::{Cause, CauseKind};
+pub use cause::{PartCause, PartCauseKind};
 pub use function::{Function, Scope};
 pub use part::{Alone, Part};
 pub use query_columns::Column;

@@ -4,7 +4,7 @@ ghost use Rattle.bql_tree.specs.Part as rule;
 ghost use Rattle.bql_tree.specs.Part.{part_of, tree_found};
 ghost use Rattle.bql_tree.specs.Tree.{tree_of};
 
-use crate::cause::{Cause, both};
+use crate::cause::{PartCause, both};
 use crate::function::{Scope, is_left_out};
 use crate::tree::{BinaryOperator, Expr, Leaf, UnaryOperator};
 use bean_base::Slice;
@@ -31,7 +31,7 @@ pub struct Part<'a> {
     /// most 201.
     pub height: usize,
     pub alone: Alone<'a>,
-    pub expr: Result<Box<Expr<'a>>, Cause>,
+    pub expr: Result<Box<Expr<'a>>, PartCause>,
 }
 
 /// The height of what stands around something.
@@ -49,16 +49,16 @@ pub fn above(height: usize) -> usize
 pub fn not_too_high<T: Drop>(
     start: usize,
     height: usize,
-    found: Result<T, Cause>,
-) -> Result<T, Cause>
+    found: Result<T, PartCause>,
+) -> Result<T, PartCause>
     ensures { result ≡ rule.not_too_high start height found }
 {
     if height <= GREATEST_HEIGHT {
         return found;
     }
     match found {
-        Ok(_found) => Err(Cause::outside_profile(start)),
-        Err(cause) => Err(cause.least(Cause::outside_profile(start))),
+        Ok(_found) => Err(PartCause::outside_profile(start)),
+        Err(cause) => Err(cause.least(PartCause::outside_profile(start))),
     }
 }
 
@@ -73,12 +73,12 @@ fn null_place(expr: &Expr<'_>) -> Option<usize>
 }
 
 /// An expression that may not be a NULL.
-pub fn not_null<'a>(found: Result<Box<Expr<'a>>, Cause>) -> Result<Box<Expr<'a>>, Cause>
+pub fn not_null<'a>(found: Result<Box<Expr<'a>>, PartCause>) -> Result<Box<Expr<'a>>, PartCause>
     ensures { tree_found result ≡ rule.not_null (tree_found found.entry) }
 {
     match found {
         Ok(expr) => match null_place(&expr) {
-            Some(place) => Err(Cause::outside_profile(place)),
+            Some(place) => Err(PartCause::outside_profile(place)),
             None => Ok(expr),
         },
         Err(cause) => Err(cause),
@@ -87,15 +87,15 @@ pub fn not_null<'a>(found: Result<Box<Expr<'a>>, Cause>) -> Result<Box<Expr<'a>>
 
 /// The sides of an equation, of which one may be NULL.
 fn equated<'a>(
-    left: Result<Box<Expr<'a>>, Cause>,
-    right: Result<Box<Expr<'a>>, Cause>,
-) -> Result<(Box<Expr<'a>>, Box<Expr<'a>>), Cause>
+    left: Result<Box<Expr<'a>>, PartCause>,
+    right: Result<Box<Expr<'a>>, PartCause>,
+) -> Result<(Box<Expr<'a>>, Box<Expr<'a>>), PartCause>
     ensures { rule.pair_found result
         ≡ rule.equated (tree_found left.entry) (tree_found right.entry) }
 {
     match (left, right) {
         (Ok(left), Ok(right)) => match (null_place(&left), null_place(&right)) {
-            (Some(place), Some(_)) => Err(Cause::outside_profile(place)),
+            (Some(place), Some(_)) => Err(PartCause::outside_profile(place)),
             _ => Ok((left, right)),
         },
         (left, right) => both(left, right),
@@ -120,13 +120,13 @@ pub fn leaf<'a>(alloc: Global, token: &Token<'a>, leaf: Leaf<'a>) -> Result<Part
 }
 
 /// Why a name that stands for nothing is refused.
-pub fn unknown(token: &Token<'_>) -> Cause
+pub fn unknown(token: &Token<'_>) -> PartCause
     ensures { result ≡ rule.unknown token.now }
 {
     if is_left_out(token.text.text()) {
-        Cause::outside_profile(token.start)
+        PartCause::outside_profile(token.start)
     } else {
-        Cause::unknown_name(token.start)
+        PartCause::unknown_name(token.start)
     }
 }
 
@@ -261,9 +261,9 @@ pub fn matched<'a>(
 /// The sides of an operation.
 fn sides<'a>(
     op: BinaryOperator,
-    left: Result<Box<Expr<'a>>, Cause>,
-    right: Result<Box<Expr<'a>>, Cause>,
-) -> Result<(Box<Expr<'a>>, Box<Expr<'a>>), Cause>
+    left: Result<Box<Expr<'a>>, PartCause>,
+    right: Result<Box<Expr<'a>>, PartCause>,
+) -> Result<(Box<Expr<'a>>, Box<Expr<'a>>), PartCause>
     ensures { rule.pair_found result
         ≡ rule.sides op (tree_found left.entry) (tree_found right.entry) }
 {

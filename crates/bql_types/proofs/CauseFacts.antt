@@ -16,10 +16,10 @@ use Rattle.bql_types.specs.Sought.{is_key, is_aggregate, is_aggregate_function, 
 use Rattle.bql_types.specs.Sought.{ungrouped}
 use Rattle.bql_types.specs.Sought.{all_ungrouped, misplaced, all_misplaced, is_told}
 use Rattle.bean_base.specs.declared.bounds.Bounds.{Bounds}
-use Rattle.bql_types.specs.declared.cause.CauseKind.TheVariants as kind
-use Rattle.bql_types.specs.declared.cause.Cause.{Cause}
+use Rattle.bql_types.specs.declared.cause.TypeCauseKind.TheVariants as kind
+use Rattle.bql_types.specs.declared.cause.TypeCause.{TypeCause}
 
-pub told_append : (found : Option Cause) (xs ys : List Cause)
+pub told_append : (found : Option TypeCause) (xs ys : List TypeCause)
     → told found (xs ++ ys) ≡ told (told found xs) ys
 told_append found [] ys = refl
 told_append found (x ∷ xs) ys = told_append (sooner found x) xs ys
@@ -63,9 +63,9 @@ next_is es i e b g =
     drops es i e b g ∙ ap (λ k. trees (tree_of e) (trees_of (drop k es))) (sym (succ i))
 
 -- what was found on the way, and what the arguments that are left add to it
-pub one_less : (one : Tree ℕ → List Cause) (all : Trees ℕ → List Cause)
+pub one_less : (one : Tree ℕ → List TypeCause) (all : Trees ℕ → List TypeCause)
     → ((t : Tree ℕ) (ts : Trees ℕ) → all (trees t ts) ≡ one t ++ all ts)
-    → (es : List Expr) (i : ℕ) (e : Expr) (found next whole : Option Cause)
+    → (es : List Expr) (i : ℕ) (e : Expr) (found next whole : Option TypeCause)
     → i < length es → e ≡ get_or es i e → next ≡ told found (one (tree_of e))
     → told found (all (trees_of (drop i es))) ≡ whole
     → told next (all (trees_of (drop (i + 1) es))) ≡ whole
@@ -103,7 +103,7 @@ plain_call b is_inside e at f ts is a =
     ++ all_misplaced b (z || is_inside) ts) a
 
 pub aggregate_call : (b : Bounds) (is_inside : Bool) (e : Tree ℕ) (at : ℕ) (f : Function)
-    (ts : Trees ℕ) (found next : Option Cause) (is_cause : Bool) (cause : Cause)
+    (ts : Trees ℕ) (found next : Option TypeCause) (is_cause : Bool) (cause : TypeCause)
     → e ≡ node at (call_of f) ts → is_aggregate_function f ≡ true
     → is_cause ≡ is_told b is_inside ts → cause ≡ cause_at kind.AggregateMisplaced at
     → next ≡ told found (where_true is_cause cause)

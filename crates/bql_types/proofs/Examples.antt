@@ -14,10 +14,10 @@ use Rattle.bql_tree.specs.declared.tree.BinaryOperator.TheVariants.{Plus, Times}
 use Rattle.bql_tree.specs.declared.tree.Leaf.TheVariants as leaf
 use Rattle.bql_types.specs.Cause.{cause_at, least_of}
 use Rattle.bql_types.specs.Typing.{causes}
-use Rattle.bql_types.specs.declared.cause.Cause.{Cause}
-use Rattle.bql_types.specs.declared.cause.CauseKind.TheVariants.{KindClash, AggregateMisplaced}
-use Rattle.bql_types.specs.declared.cause.CauseKind.TheVariants.{NotGrouped, NotOrderable, TooWide}
-use Rattle.bql_types.specs.declared.cause.CauseKind.TheVariants.{BalanceMisplaced}
+use Rattle.bql_types.specs.declared.cause.TypeCause.{TypeCause}
+use Rattle.bql_types.specs.declared.cause.TypeCauseKind.TheVariants.{KindClash, AggregateMisplaced}
+use Rattle.bql_types.specs.declared.cause.TypeCauseKind.TheVariants.{NotGrouped, NotOrderable, TooWide}
+use Rattle.bql_types.specs.declared.cause.TypeCauseKind.TheVariants.{BalanceMisplaced}
 
 abbrev widest : Bounds
 widest = record { schema = First; postings = 1000000; units_digits = 20; value_digits = 28 }
@@ -51,7 +51,7 @@ asked ts group items = record {
   limit = None;
 }
 
-abbrev told : Bounds → Asked → Option Cause
+abbrev told : Bounds → Asked → Option TypeCause
 told b q = least_of (causes b q)
 
 -- account + year

@@ -10,7 +10,7 @@ use Rattle.bql_types.specs.Typing.{each, all_keys, Grouping, grouping_of, target
 use Rattle.bql_types.specs.Typing.{filters_causes, group_causes, order_item_causes, causes_by}
 use Rattle.bql_parser.specs.Asked.{Asked}
 use Rattle.bql_types.specs.Typing.{causes}
-use Rattle.bql_types.specs.declared.cause.Cause.{Cause}
+use Rattle.bql_types.specs.declared.cause.TypeCause.{TypeCause}
 use Rattle.bql_types.specs.declared.targets.SeenTarget.{SeenTarget}
 use Rattle.query_shapes.specs.declared.shape.Shape.{Shape}
 use Rattle.bql_types.proofs.CauseFacts.{told_append}
@@ -30,8 +30,8 @@ pub next_is : {A : Type 0} (xs : List A) (i : ℕ) (x : A) → i < length xs →
 next_is xs i x b g = drops xs i x b g ∙ ap (λ k. x ∷ drop k xs) (sym (succ i))
 
 -- what was found on the way, and what those that are left add to it
-pub one_less : {A B : Type 0} (f : B → List Cause) (g : A → B) (xs : List A) (i : ℕ) (x : A)
-    (found next whole : Option Cause) → i < length xs → x ≡ get_or xs i x
+pub one_less : {A B : Type 0} (f : B → List TypeCause) (g : A → B) (xs : List A) (i : ℕ) (x : A)
+    (found next whole : Option TypeCause) → i < length xs → x ≡ get_or xs i x
     → next ≡ told found (f (g x)) → told found (each f (map g (drop i xs))) ≡ whole
     → told next (each f (map g (drop (i + 1) xs))) ≡ whole
 one_less f g xs i x found next whole b is n h =
@@ -70,7 +70,7 @@ one_seen_less f g xs i x seen next whole b is n h =
 
 -- ---- queries
 
-pub select_found : (b : Bounds) (s : Asked) (g : Grouping) (f1 f2 f3 : Option Cause)
+pub select_found : (b : Bounds) (s : Asked) (g : Grouping) (f1 f2 f3 : Option TypeCause)
     → g ≡ grouping_of s → f1 ≡ told None (each (target_causes b g) s.targets)
     → f2 ≡ told f1 (filters_causes b s.filters) → f3 ≡ told f2 (group_causes b s.targets s.group)
     → told f3 (each (order_item_causes b g s.targets) s.order.items)
@@ -85,16 +85,16 @@ select_found b s g f1 f2 f3 is h1 h2 h3 =
     ∙ told_append (told (told None ts) fs) gs os)
     ∙ ap (λ z. least_of (causes_by b z s)) is
 
-told_by : (is : Bool) (c d : Cause) (cs : List Cause) → (told (Some c) cs ≡ None → ⊥)
+told_by : (is : Bool) (c d : TypeCause) (cs : List TypeCause) → (told (Some c) cs ≡ None → ⊥)
     → (told (Some d) cs ≡ None → ⊥) → told (if is then Some d else Some c) cs ≡ None → ⊥
 told_by true c d cs h k e = k e
 told_by false c d cs h k e = h e
 
-told_on : (c : Cause) (cs : List Cause) → told (Some c) cs ≡ None → ⊥
+told_on : (c : TypeCause) (cs : List TypeCause) → told (Some c) cs ≡ None → ⊥
 told_on c [] e = cc
 told_on c (d ∷ cs) e = told_by (is_before d c) c d cs (told_on c cs) (told_on d cs) e
 
 -- where no cause is told there is none
-pub none_told : (cs : List Cause) → least_of cs ≡ None → cs ≡ []
+pub none_told : (cs : List TypeCause) → least_of cs ≡ None → cs ≡ []
 none_told [] e = refl
 none_told (c ∷ cs) e = absurd (told_on c cs e)

@@ -13,7 +13,7 @@ use Rattle.bql_types.specs.Laws.{LeastIsTold, ShapesAreFound, ShapesHaveNoCauses
 use Rattle.bql_types.specs.Shaped.{shape_of, shapes_of, shape_causes, all_shape_causes, ruled}
 use Rattle.bql_types.specs.Shaped.{given}
 use Rattle.bql_types.specs.Shaped.{rule, misfit_at, is_equation, is_null, operand, beside}
-use Rattle.bql_types.specs.declared.cause.Cause.{Cause}
+use Rattle.bql_types.specs.declared.cause.TypeCause.{TypeCause}
 
 -- ---- the order of causes
 
@@ -29,14 +29,14 @@ order_turned p m q n h = grind (arith, nat_tests, h)
 order_same : (p m : ℕ) → (nat_lt p p || (p == p && nat_lt m m)) ≡ false
 order_same p m = grind (arith, nat_tests)
 
-kept : (a b c : Cause) → is_before a b ≡ false → is_before b c ≡ false → is_before a c ≡ false
+kept : (a b c : TypeCause) → is_before a b ≡ false → is_before b c ≡ false → is_before a c ≡ false
 kept a b c h g =
     order_kept a.place (number_of a.kind) b.place (number_of b.kind) c.place (number_of c.kind) h g
 
-turned : (a b : Cause) → is_before a b ≡ true → is_before b a ≡ false
+turned : (a b : TypeCause) → is_before a b ≡ true → is_before b a ≡ false
 turned a b h = order_turned a.place (number_of a.kind) b.place (number_of b.kind) h
 
-same : (a : Cause) → is_before a a ≡ false
+same : (a : TypeCause) → is_before a a ≡ false
 same a = order_same a.place (number_of a.kind)
 
 -- ---- the least cause
@@ -52,25 +52,25 @@ behind : {A : Type 0} (x : A) (xs : List A) (v : A) → IsAmong xs v → IsAmong
 behind x xs v (i, (b, e)) = (suc i, (omega (arith, b), e))
 
 -- the least of what was found before and of some causes
-record IsLeastFrom (found : Option Cause) (cs : List Cause) (c : Cause) : Type 0 where
+record IsLeastFrom (found : Option TypeCause) (cs : List TypeCause) (c : TypeCause) : Type 0 where
   pub among : (found ≡ Some c) ⊎ IsAmong cs c
-  pub before : (a : Cause) → found ≡ Some a → is_before a c ≡ false
-  pub least : (d : Cause) → IsAmong cs d → is_before d c ≡ false
+  pub before : (a : TypeCause) → found ≡ Some a → is_before a c ≡ false
+  pub least : (d : TypeCause) → IsAmong cs d → is_before d c ≡ false
 
-some_is : (a b : Cause) → Some a ≡ Some b → a ≡ b
+some_is : (a b : TypeCause) → Some a ≡ Some b → a ≡ b
 some_is a b e = cc
 
-or_head : (x c : Cause) (cs : List Cause) → (Some x ≡ Some c) ⊎ IsAmong cs c → IsAmong (x ∷ cs) c
+or_head : (x c : TypeCause) (cs : List TypeCause) → (Some x ≡ Some c) ⊎ IsAmong cs c → IsAmong (x ∷ cs) c
 or_head x c cs (inl e) = subst (λ z. IsAmong (x ∷ cs) z) (some_is x c e) (first x cs)
 or_head x c cs (inr m) = behind x cs c m
 
-least_by : (x c : Cause) (cs : List Cause) → is_before x c ≡ false
-    → ((d : Cause) → IsAmong cs d → is_before d c ≡ false) → (d : Cause) → (d ≡ x) ⊎ IsAmong cs d
+least_by : (x c : TypeCause) (cs : List TypeCause) → is_before x c ≡ false
+    → ((d : TypeCause) → IsAmong cs d → is_before d c ≡ false) → (d : TypeCause) → (d ≡ x) ⊎ IsAmong cs d
     → is_before d c ≡ false
 least_by x c cs h k d (inl e) = ap (λ z. is_before z c) e ∙ h
 least_by x c cs h k d (inr m) = k d m
 
-from_none : (x c : Cause) (cs : List Cause) → IsLeastFrom (Some x) cs c
+from_none : (x c : TypeCause) (cs : List TypeCause) → IsLeastFrom (Some x) cs c
     → IsLeastFrom None (x ∷ cs) c
 from_none x c cs h = record {
   among = inr (or_head x c cs h.among);
@@ -78,15 +78,15 @@ from_none x c cs h = record {
   least = λ d m. least_by x c cs (h.before x refl) h.least d (split x cs d m);
 }
   where
-    not_some : (a : Cause) → None ≡ Some a → ⊥
+    not_some : (a : TypeCause) → None ≡ Some a → ⊥
     not_some a e = cc
 
-keep_or : (a c : Cause) (x : Cause) (cs : List Cause) → (Some a ≡ Some c) ⊎ IsAmong cs c
+keep_or : (a c : TypeCause) (x : TypeCause) (cs : List TypeCause) → (Some a ≡ Some c) ⊎ IsAmong cs c
     → (Some a ≡ Some c) ⊎ IsAmong (x ∷ cs) c
 keep_or a c x cs (inl e) = inl e
 keep_or a c x cs (inr m) = inr (behind x cs c m)
 
-from_some : (is : Bool) (a x c : Cause) (cs : List Cause) → is_before x a ≡ is
+from_some : (is : Bool) (a x c : TypeCause) (cs : List TypeCause) → is_before x a ≡ is
     → told (if is then Some x else Some a) cs ≡ Some c
     → (told (Some x) cs ≡ Some c → IsLeastFrom (Some x) cs c)
     → (told (Some a) cs ≡ Some c → IsLeastFrom (Some a) cs c) → IsLeastFrom (Some a) (x ∷ cs) c
@@ -107,10 +107,10 @@ from_some false a x c cs is e hx ha =
       least = λ d m. least_by x c cs le h.least d (split x cs d m);
     }
 
-none_among : (d : Cause) → IsAmong [] d → ⊥
+none_among : (d : TypeCause) → IsAmong [] d → ⊥
 none_among d (i, (b, e)) = omega (arith, b)
 
-told_least : (found : Option Cause) (cs : List Cause) (c : Cause) → told found cs ≡ Some c
+told_least : (found : Option TypeCause) (cs : List TypeCause) (c : TypeCause) → told found cs ≡ Some c
     → IsLeastFrom found cs c
 told_least found [] c e = record {
   among = inl e;
@@ -122,7 +122,7 @@ told_least (Some a) (x ∷ cs) c e =
     from_some (is_before x a) a x c cs refl e (told_least (Some x) cs c)
     (told_least (Some a) cs c)
 
-least_among : (c : Cause) (cs : List Cause) → (None ≡ Some c) ⊎ IsAmong cs c → IsAmong cs c
+least_among : (c : TypeCause) (cs : List TypeCause) → (None ≡ Some c) ⊎ IsAmong cs c → IsAmong cs c
 least_among c cs (inl e) = absurd cc
 least_among c cs (inr m) = m
 
@@ -204,7 +204,7 @@ beside_ok false None q us e = absurd cc
 both_none : {A : Type 0} (xs ys : List A) → xs ≡ [] → ys ≡ [] → xs ++ ys ≡ []
 both_none xs ys e h = ap (λ z. z ++ ys) e ∙ h
 
-skipped : (skips : Bool) (cs : List Cause) → (skips ≡ false → cs ≡ [])
+skipped : (skips : Bool) (cs : List TypeCause) → (skips ≡ false → cs ≡ [])
     → (if skips then [] else cs) ≡ []
 skipped true cs h = refl
 skipped false cs h = h refl

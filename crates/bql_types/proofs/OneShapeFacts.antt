@@ -29,8 +29,8 @@ use Rattle.bql_types.specs.Same.{same, all_same, same_operation, same_leaf, same
 use Rattle.bql_types.specs.Same.{same_truth}
 use Rattle.bql_types.specs.Shaped.{shape_of, shapes_of, ruled, given, beside, operand, is_null}
 use Rattle.bql_types.specs.Shaped.{is_equation, shape_causes, all_shape_causes, misfit_at}
-use Rattle.bql_types.specs.declared.cause.Cause.{Cause}
-use Rattle.bql_types.specs.declared.cause.CauseKind.{CauseKind}
+use Rattle.bql_types.specs.declared.cause.TypeCause.{TypeCause}
+use Rattle.bql_types.specs.declared.cause.TypeCauseKind.{TypeCauseKind}
 
 texts : (a b : List ℕ) → Decides (same_text a b) (a ≡ b)
 texts a b = slice_eq-Decides Decides-eqb a b (same_text a b) refl
@@ -126,10 +126,10 @@ same_have_one_shape b t u e = one_shape b t u e
 
 -- ---- causes
 
-abbrev kinds : List Cause → List CauseKind
+abbrev kinds : List TypeCause → List TypeCauseKind
 kinds cs = map cause_kind cs
 
-kinds_behind : (cs ds : List Cause) → kinds (cs ++ ds) ≡ kinds cs ++ kinds ds
+kinds_behind : (cs ds : List TypeCause) → kinds (cs ++ ds) ≡ kinds cs ++ kinds ds
 kinds_behind [] ds = refl
 kinds_behind (c ∷ cs) ds = ap (λ z. cause_kind c ∷ z) (kinds_behind cs ds)
 
@@ -138,10 +138,10 @@ anywhere p q (Some (Err m)) = refl
 anywhere p q (Some (Ok s)) = refl
 anywhere p q None = refl
 
-abbrev unless : Bool → List Cause → List Cause
+abbrev unless : Bool → List TypeCause → List TypeCause
 unless skips cs = if skips then [] else cs
 
-kinds_unless : (skips : Bool) (cs : List Cause)
+kinds_unless : (skips : Bool) (cs : List TypeCause)
     → kinds (unless skips cs) ≡ (if skips then [] else kinds cs)
 kinds_unless true cs = refl
 kinds_unless false cs = refl

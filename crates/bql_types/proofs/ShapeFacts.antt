@@ -16,7 +16,7 @@ use Rattle.bql_types.specs.Seen.{one_more, concluded, before, between, seen, see
 use Rattle.bql_types.specs.Seen.{all_of, list_of, part_causes}
 use Rattle.bql_types.specs.Shaped.{beside, operand, shape_of, shapes_of, ruled, given, misfit_at}
 use Rattle.bql_types.specs.Shaped.{is_equation, is_equality, shape_causes, all_shape_causes}
-use Rattle.bql_types.specs.declared.cause.Cause.{Cause}
+use Rattle.bql_types.specs.declared.cause.TypeCause.{TypeCause}
 use Rattle.bql_types.specs.declared.shaped.Operand.{Operand}
 use Rattle.bql_types.specs.declared.shaped.Operand.TheVariants.{Null, Shaped, Shapeless}
 use Rattle.bql_types.specs.declared.shaped.Seen.{Seen}
@@ -61,7 +61,7 @@ one_shape_less b es i e ss next whole d g n h =
 -- ---- an operation, by what is known of its parts
 
 pub concluded_is : (b : Bounds) (at : ℕ) (op : Operation) (parts : Trees ℕ)
-    (found next : Option Cause) (r : Option Ruled)
+    (found next : Option TypeCause) (r : Option Ruled)
     → r ≡ ruled b op (shapes_of b (is_equation op) parts)
     → next ≡ told found (all_shape_causes b (is_equation op) parts)
     → concluded at r next ≡ seen b found (node at op parts)
@@ -72,7 +72,7 @@ concluded_is b at op parts found next r is told_is =
     ∙ ap (concluded at given_is) told_is
     ∙ ap (λ z. told_with (given given_is) z) (sym (told_append found all (misfit_at at given_is)))
   where
-    told_with : Option Shape → Option Cause → Seen
+    told_with : Option Shape → Option TypeCause → Seen
     told_with s f = record { shape = s; found = f }
 
 pub before_is : (b : Bounds) (op : UnaryOperator) (s : Option Shape)
@@ -90,7 +90,7 @@ between_is b op Null Null = refl
 between_is b op Null Shapeless = refl
 between_is b op Shapeless y = refl
 
-pub one_seen : (b : Bounds) (e x : Tree ℕ) (at : ℕ) (op : UnaryOperator) (found : Option Cause) (s : Seen)
+pub one_seen : (b : Bounds) (e x : Tree ℕ) (at : ℕ) (op : UnaryOperator) (found : Option TypeCause) (s : Seen)
     → e ≡ node at (one_of op) (trees x no_trees) → s ≡ seen b found x
     → concluded at (before op s.shape) s.found ≡ seen b found e
 one_seen b e x at op found s is h =
@@ -99,7 +99,7 @@ one_seen b e x at op found s is h =
     (ap (λ z. z.found) h ∙ sym (told_append found (shape_causes b x) []))
     ∙ sym (ap (seen b found) is)
 
-pub two_seen : (b : Bounds) (e x y : Tree ℕ) (at : ℕ) (op : BinaryOperator) (found : Option Cause)
+pub two_seen : (b : Bounds) (e x y : Tree ℕ) (at : ℕ) (op : BinaryOperator) (found : Option TypeCause)
     (s t : SeenPart) → e ≡ node at (two_of op) (trees x (trees y no_trees))
     → s ≡ seen_part b op found x → t ≡ seen_part b op s.found y
     → concluded at (between op s.operand t.operand) t.found ≡ seen b found e
@@ -116,7 +116,7 @@ two_seen b e x y at op found s t is h k =
     ∙ sym (ap (seen b found) is)
 
 pub call_seen : (b : Bounds) (e : Tree ℕ) (at : ℕ) (f : Function) (ts : Trees ℕ)
-    (found : Option Cause) (s : SeenAll) (r : Option Ruled) → e ≡ node at (call_of f) ts
+    (found : Option TypeCause) (s : SeenAll) (r : Option Ruled) → e ≡ node at (call_of f) ts
     → all_of s ≡ seen_all b found ts → r ≡ ruled b (call_of f) (list_of s.shapes)
     → concluded at r s.found ≡ seen b found e
 call_seen b e at f ts found s r is h k =

@@ -27,7 +27,7 @@ use Rattle.bql_parser.specs.Standing.{of_column, applied, valued, matching}
 use Rattle.bql_types.specs.Laws.{JournalsAreTyped, BalancesAreTyped}
 use Rattle.bql_types.specs.Typing.{filter_causes, filters_causes, each, Grouping}
 use Rattle.bql_types.specs.Typing.{grouping_of, target_causes, shown_causes}
-use Rattle.bql_types.specs.declared.cause.Cause.{Cause}
+use Rattle.bql_types.specs.declared.cause.TypeCause.{TypeCause}
 use Rattle.bql_types.proofs.LawFacts.{shapes_have_no_causes}
 
 -- ---- how wide they are
@@ -146,15 +146,15 @@ sum_causes b (Some valuation.Cost) are =
 
 -- ---- the queries
 
-append_nil : (cs : List Cause) → cs ++ [] ≡ cs
+append_nil : (cs : List TypeCause) → cs ++ [] ≡ cs
 append_nil [] = refl
 append_nil (c ∷ cs) = ap (λ z. c ∷ z) (append_nil cs)
 
-none_of_two : (xs ys : List Cause) → xs ≡ [] → ys ≡ [] → xs ++ ys ≡ []
+none_of_two : (xs ys : List TypeCause) → xs ≡ [] → ys ≡ [] → xs ++ ys ≡ []
 none_of_two xs ys e h = ap (λ z. z ++ ys) e ∙ h
 
 -- where nothing is found before, and nothing behind
-between : (ts fs os : List Cause) → ts ≡ [] → os ≡ [] → ts ++ (fs ++ os) ≡ fs
+between : (ts fs os : List TypeCause) → ts ≡ [] → os ≡ [] → ts ++ (fs ++ os) ≡ fs
 between ts fs os e h =
     ap (λ z. z ++ (fs ++ os)) e ∙ ap (λ z. fs ++ z) h ∙ append_nil fs
 

@@ -17,17 +17,17 @@ use Rattle.bql_types.specs.Typing.{filter_causes, filters_causes, target_causes,
 use Rattle.bql_types.specs.Typing.{order_item_causes, isnt_ordered, is_ordered, grouped_causes}
 use Rattle.bql_types.specs.Typing.{order_causes_at, order_causes_by}
 use Rattle.bql_types.specs.Typing.{named_order_causes}
-use Rattle.bql_types.specs.declared.cause.Cause.{Cause}
+use Rattle.bql_types.specs.declared.cause.TypeCause.{TypeCause}
 use Rattle.bql_types.proofs.LawFacts.{no_more, shapes_are_found}
 
-among : {A : Type 0} (f : A → List Cause) (xs : List A) (x : A) → each f xs ≡ [] → IsAmong xs x
+among : {A : Type 0} (f : A → List TypeCause) (xs : List A) (x : A) → each f xs ≡ [] → IsAmong xs x
     → f x ≡ []
 among f [] x e (i, (b, h)) = absurd (omega (arith, b))
 among f (y ∷ ys) x e (zero, (b, h)) = ap f h ∙ (no_more (f y) (each f ys) e).0
 among f (y ∷ ys) x e (suc i, (b, h)) =
     among f ys x (no_more (f y) (each f ys) e).1 (i, (omega (arith, b), h))
 
-not_told : (is : Bool) (c : Cause) → where_true is c ≡ [] → is ≡ false
+not_told : (is : Bool) (c : TypeCause) → where_true is c ≡ [] → is ≡ false
 not_told true c e = absurd cc
 not_told false c e = refl
 

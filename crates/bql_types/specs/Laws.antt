@@ -17,25 +17,25 @@ use Rattle.bql_types.specs.Cause.{least_of, is_before}
 use Rattle.bql_types.specs.Same.{same}
 use Rattle.bql_types.specs.Shaped.{shape_of, shape_causes}
 use Rattle.bql_types.specs.Typing.{IsTyped, is_ordered, causes, filter_causes, filters_causes}
-use Rattle.bql_types.specs.declared.cause.Cause.{Cause}
-use Rattle.bql_types.specs.declared.cause.CauseKind.{CauseKind}
-use Rattle.bql_types.specs.declared.fault.TypeFault.{TypeFault}
-use Rattle.bql_types.specs.declared.fault.TypeFault.TheVariants.{OutOfMemory}
+use Rattle.bql_types.specs.declared.cause.TypeCause.{TypeCause}
+use Rattle.bql_types.specs.declared.cause.TypeCauseKind.{TypeCauseKind}
+use Rattle.refusals.specs.declared.refusal.Refusal.{Refusal}
+use Rattle.refusals.specs.declared.refusal.Refusal.TheVariants.{OutOfMemory}
 use Rattle.bql_types.specs.declared.typed.Typed.{Typed}
 
-abbrev pub cause_kind : Cause → CauseKind
+abbrev pub cause_kind : TypeCause → TypeCauseKind
 cause_kind c = c.kind
 
 -- one of the causes, of which none stands before it
-pub record IsLeast (cs : List Cause) (c : Cause) : Type 0 where
+pub record IsLeast (cs : List TypeCause) (c : TypeCause) : Type 0 where
   pub among : IsAmong cs c
-  pub least : (d : Cause) → IsAmong cs d → is_before d c ≡ false
+  pub least : (d : TypeCause) → IsAmong cs d → is_before d c ≡ false
 
 abbrev pub LeastIsTold : Type 0
-LeastIsTold = (cs : List Cause) (c : Cause) → least_of cs ≡ Some c → IsLeast cs c
+LeastIsTold = (cs : List TypeCause) (c : TypeCause) → least_of cs ≡ Some c → IsLeast cs c
 
 abbrev pub NoneIsTold : Type 0
-NoneIsTold = (cs : List Cause) → least_of cs ≡ None → cs ≡ []
+NoneIsTold = (cs : List TypeCause) → least_of cs ≡ None → cs ≡ []
 
 -- an expression without causes has a shape
 abbrev pub ShapesAreFound : Type 0
@@ -58,12 +58,12 @@ SameHaveCausesAlike = (b : Bounds) (t u : Tree ℕ) → same t u ≡ true
 
 -- a query has a type, or it is refused, where memory doesn't lack
 abbrev pub TypedIsNotRefused : Type 0
-TypedIsNotRefused = (b : Bounds) (q : Query) (t : Typed) (f : TypeFault)
+TypedIsNotRefused = (b : Bounds) (q : Query) (t : Typed) (f : Refusal TypeCause)
     → Answers b q (Ok t) → Answers b q (Err f) → f ≡ OutOfMemory
 
 -- and it is refused in one way
 abbrev pub OneRefusal : Type 0
-OneRefusal = (b : Bounds) (q : Query) (f g : TypeFault) → Answers b q (Err f) → Answers b q (Err g)
+OneRefusal = (b : Bounds) (q : Query) (f g : Refusal TypeCause) → Answers b q (Err f) → Answers b q (Err g)
     → f ≢ OutOfMemory → g ≢ OutOfMemory → f ≡ g
 
 -- what stands behind a list of causes that is empty

@@ -7,8 +7,8 @@ use Rattle.bql_types.specs.Cause.{cause_at, where_true, least_of}
 use Rattle.bql_types.specs.Shaped.{shape_of}
 use Rattle.bql_types.specs.Sought.{misplaced}
 use Rattle.bql_types.specs.Typing.{nothing_at, isnt_ordered}
-use Rattle.bql_types.specs.declared.cause.Cause.{Cause}
-use Rattle.bql_types.specs.declared.cause.CauseKind.TheVariants as kind
+use Rattle.bql_types.specs.declared.cause.TypeCause.{TypeCause}
+use Rattle.bql_types.specs.declared.cause.TypeCauseKind.TheVariants as kind
 use Rattle.bql_types.specs.declared.targets.SeenTarget.{SeenTarget}
 
 abbrev pub seen_of : Bounds → Target → SeenTarget
@@ -21,10 +21,10 @@ seen_of b t = record {
 abbrev pub AreSeen : Bounds → List Target → List SeenTarget → Type 0
 AreSeen b ts seen = seen ≡ map (seen_of b) ts
 
-abbrev pub group_causes : ℕ → Option SeenTarget → List Cause
+abbrev pub group_causes : ℕ → Option SeenTarget → List TypeCause
 group_causes place (Some t) = where_true t.has_aggregate (cause_at kind.AggregateMisplaced place)
 group_causes place None = nothing_at place
 
-abbrev pub order_causes : ℕ → Option SeenTarget → List Cause
+abbrev pub order_causes : ℕ → Option SeenTarget → List TypeCause
 order_causes place (Some t) = where_true (isnt_ordered t.shape) (cause_at kind.NotOrderable place)
 order_causes place None = nothing_at place

@@ -15,14 +15,14 @@ use Rattle.bql_types.specs.Shaped as rule
 use Rattle.bql_types.specs.Shaped.{given, misfit_at, shape_of, shapes_of, shape_causes, is_null}
 use Rattle.bql_types.specs.Shaped.{all_shape_causes, operand, is_equality}
 use Rattle.bql_types.specs.Typing.{Grouping, shown_causes, row_causes}
-use Rattle.bql_types.specs.declared.cause.Cause.{Cause}
+use Rattle.bql_types.specs.declared.cause.TypeCause.{TypeCause}
 use Rattle.bql_types.specs.declared.shaped.Operand.{Operand}
 use Rattle.bql_types.specs.declared.shaped.Operand.TheVariants.{Null, Shaped}
 use Rattle.bql_types.specs.declared.shaped.Seen.{Seen}
 use Rattle.bql_types.specs.declared.shaped.SeenAll.{SeenAll}
 use Rattle.bql_types.specs.declared.shaped.SeenPart.{SeenPart}
 
-abbrev pub concluded : ℕ → Option Ruled → Option Cause → Seen
+abbrev pub concluded : ℕ → Option Ruled → Option TypeCause → Seen
 concluded at r found = record { shape = given r; found = told found (misfit_at at r) }
 
 abbrev pub before : UnaryOperator → Option Shape → Option Ruled
@@ -45,13 +45,13 @@ one_more (Some ss) (Some s) = Some (ss ++ s ∷ [])
 one_more ss s = None
 
 -- the shape, and the least of what was found before and of the causes
-abbrev pub seen : Bounds → Option Cause → Tree ℕ → Seen
+abbrev pub seen : Bounds → Option TypeCause → Tree ℕ → Seen
 seen b found t = record { shape = shape_of b t; found = told found (shape_causes b t) }
 
-abbrev pub part_causes : Bounds → Bool → Tree ℕ → List Cause
+abbrev pub part_causes : Bounds → Bool → Tree ℕ → List TypeCause
 part_causes b eq t = if eq && is_null t then [] else shape_causes b t
 
-abbrev pub seen_part : Bounds → BinaryOperator → Option Cause → Tree ℕ → SeenPart
+abbrev pub seen_part : Bounds → BinaryOperator → Option TypeCause → Tree ℕ → SeenPart
 seen_part b op found t = record {
   operand = operand (is_equality op && is_null t) (shape_of b t);
   found = told found (part_causes b (is_equality op) t);
@@ -59,21 +59,21 @@ seen_part b op found t = record {
 
 pub record AllSeen : Type 0 where
   pub shapes : Option (List Shape)
-  pub found : Option Cause
+  pub found : Option TypeCause
 
 abbrev pub all_of : SeenAll → AllSeen
 all_of s = record { shapes = list_of s.shapes; found = s.found }
 
-abbrev pub seen_all : Bounds → Option Cause → Trees ℕ → AllSeen
+abbrev pub seen_all : Bounds → Option TypeCause → Trees ℕ → AllSeen
 seen_all b found ts = record {
   shapes = shapes_of b false ts;
   found = told found (all_shape_causes b false ts);
 }
 
 -- a target or an order item
-abbrev pub shown : Bounds → Grouping → Option Cause → Tree ℕ → Seen
+abbrev pub shown : Bounds → Grouping → Option TypeCause → Tree ℕ → Seen
 shown b g found t = record { shape = shape_of b t; found = told found (shown_causes b g t) }
 
 -- a filter or a group item
-abbrev pub of_row : Bounds → Option Cause → Tree ℕ → Seen
+abbrev pub of_row : Bounds → Option TypeCause → Tree ℕ → Seen
 of_row b found t = record { shape = shape_of b t; found = told found (row_causes b t) }

@@ -14,9 +14,9 @@ use Rattle.query_shapes.specs.declared.shape.Misfit.TheVariants.{Kind, TooWide}
 use Rattle.query_shapes.specs.declared.shape.Shape.{Shape}
 use Rattle.query_shapes.specs.declared.shape.Shape.TheVariants.{Truth}
 use Rattle.bql_types.specs.Cause.{cause_at}
-use Rattle.bql_types.specs.declared.cause.Cause.{Cause}
-use Rattle.bql_types.specs.declared.cause.CauseKind.{CauseKind}
-use Rattle.bql_types.specs.declared.cause.CauseKind.TheVariants as kind
+use Rattle.bql_types.specs.declared.cause.TypeCause.{TypeCause}
+use Rattle.bql_types.specs.declared.cause.TypeCauseKind.{TypeCauseKind}
+use Rattle.bql_types.specs.declared.cause.TypeCauseKind.TheVariants as kind
 use Rattle.bql_types.specs.declared.shaped.Operand.{Operand}
 use Rattle.bql_types.specs.declared.shaped.Operand.TheVariants.{Null, Shaped, Shapeless}
 
@@ -78,22 +78,22 @@ abbrev mutual
   shapes_of b eq (trees t ts) =
       beside (operand (eq && is_null t) (shape_of b t)) (shapes_of b eq ts)
 
-abbrev pub kind_of : Misfit → CauseKind
+abbrev pub kind_of : Misfit → TypeCauseKind
 kind_of Kind = kind.KindClash
 kind_of TooWide = kind.TooWide
 
-abbrev pub misfit_at : ℕ → Option Ruled → List Cause
+abbrev pub misfit_at : ℕ → Option Ruled → List TypeCause
 misfit_at at (Some (Err m)) = cause_at (kind_of m) at ∷ []
 misfit_at at r = []
 
 -- what is at fault in the parts, and what the rule refuses where these have shapes
 abbrev mutual
-  pub shape_causes : Bounds → Tree ℕ → List Cause
+  pub shape_causes : Bounds → Tree ℕ → List TypeCause
   shape_causes b (node at op parts) =
       all_shape_causes b (is_equation op) parts
       ++ misfit_at at (ruled b op (shapes_of b (is_equation op) parts))
 
-  pub all_shape_causes : Bounds → Bool → Trees ℕ → List Cause
+  pub all_shape_causes : Bounds → Bool → Trees ℕ → List TypeCause
   all_shape_causes b eq no_trees = []
   all_shape_causes b eq (trees t ts) =
       (if eq && is_null t then [] else shape_causes b t) ++ all_shape_causes b eq ts

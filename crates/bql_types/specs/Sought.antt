@@ -14,8 +14,8 @@ use Rattle.bql_tree.specs.declared.tree.Leaf.TheVariants as leaf
 use Rattle.bql_types.specs.Cause.{cause_at, where_true}
 use Rattle.bql_types.specs.Same.{same}
 use Rattle.bql_types.specs.Shaped.{shapes_of}
-use Rattle.bql_types.specs.declared.cause.Cause.{Cause}
-use Rattle.bql_types.specs.declared.cause.CauseKind.TheVariants as kind
+use Rattle.bql_types.specs.declared.cause.TypeCause.{TypeCause}
+use Rattle.bql_types.specs.declared.cause.TypeCauseKind.TheVariants as kind
 
 -- ---- aggregates
 
@@ -55,13 +55,13 @@ is_told b is_misplaced ts = is_misplaced && have_shapes b ts
 -- an aggregate may not stand inside an aggregate, and nowhere where the whole may have none;
 -- one whose parts have no shapes isn't told
 abbrev mutual
-  pub misplaced : Bounds → Bool → Tree ℕ → List Cause
+  pub misplaced : Bounds → Bool → Tree ℕ → List TypeCause
   misplaced b inside (node at op parts) =
       where_true (is_told b (is_aggregate op && inside) parts)
       (cause_at kind.AggregateMisplaced at)
       ++ all_misplaced b (is_aggregate op || inside) parts
 
-  pub all_misplaced : Bounds → Bool → Trees ℕ → List Cause
+  pub all_misplaced : Bounds → Bool → Trees ℕ → List TypeCause
   all_misplaced b inside no_trees = []
   all_misplaced b inside (trees t ts) = misplaced b inside t ++ all_misplaced b inside ts
 
@@ -76,11 +76,11 @@ is_balance (leaf_of l) = is_balance_leaf l
 is_balance op = false
 
 abbrev mutual
-  pub balances : Tree ℕ → List Cause
+  pub balances : Tree ℕ → List TypeCause
   balances (node at op parts) =
       where_true (is_balance op) (cause_at kind.BalanceMisplaced at) ++ all_balances parts
 
-  pub all_balances : Trees ℕ → List Cause
+  pub all_balances : Trees ℕ → List TypeCause
   all_balances no_trees = []
   all_balances (trees t ts) = balances t ++ all_balances ts
 
@@ -101,11 +101,11 @@ is_key keys t = list_any (same t) keys
 
 -- a column or a metadata entry stands in an aggregate, or in what is equal to a key
 abbrev mutual
-  pub ungrouped : List (Tree ℕ) → Tree ℕ → List Cause
+  pub ungrouped : List (Tree ℕ) → Tree ℕ → List TypeCause
   ungrouped keys (node at op parts) =
       if is_key keys (node at op parts) || is_aggregate op then []
       else (where_true (reads_row op) (cause_at kind.NotGrouped at) ++ all_ungrouped keys parts)
 
-  pub all_ungrouped : List (Tree ℕ) → Trees ℕ → List Cause
+  pub all_ungrouped : List (Tree ℕ) → Trees ℕ → List TypeCause
   all_ungrouped keys no_trees = []
   all_ungrouped keys (trees t ts) = ungrouped keys t ++ all_ungrouped keys ts

@@ -12,14 +12,14 @@ use Rattle.query_shapes.specs.declared.shape.Shape.TheVariants as shape
 use Rattle.bql_types.specs.Cause.{cause_at, where_true, least_of}
 use Rattle.bql_types.specs.Shaped.{shape_of, shape_causes}
 use Rattle.bql_types.specs.Sought.{aggregates, misplaced, balances, ungrouped}
-use Rattle.bql_types.specs.declared.cause.Cause.{Cause}
-use Rattle.bql_types.specs.declared.cause.CauseKind.TheVariants as kind
+use Rattle.bql_types.specs.declared.cause.TypeCause.{TypeCause}
+use Rattle.bql_types.specs.declared.cause.TypeCauseKind.TheVariants as kind
 
 abbrev pub place_of : Tree ℕ → ℕ
 place_of (node at op parts) = at
 
 -- all that is found for each
-abbrev pub each : {A : Type 0} → (A → List Cause) → List A → List Cause
+abbrev pub each : {A : Type 0} → (A → List TypeCause) → List A → List TypeCause
 each f [] = []
 each f (x ∷ xs) = f x ++ each f xs
 
@@ -85,15 +85,15 @@ grouping_of s = grouping_by s.targets s.group
 
 -- a target or an order item: aggregates stand in queries that aggregate, not in one another; there
 -- a column is grouped, and the running balance stands nowhere
-abbrev pub grouped_causes : Grouping → Tree ℕ → List Cause
+abbrev pub grouped_causes : Grouping → Tree ℕ → List TypeCause
 grouped_causes g t = if g.is_aggregating then ungrouped g.keys t ++ balances t else []
 
-abbrev pub shown_causes : Bounds → Grouping → Tree ℕ → List Cause
+abbrev pub shown_causes : Bounds → Grouping → Tree ℕ → List TypeCause
 shown_causes b g t =
     shape_causes b t ++ (misplaced b (not g.is_aggregating) t ++ grouped_causes g t)
 
 -- a filter or a group item: there are no aggregates and no running balance
-abbrev pub row_causes : Bounds → Tree ℕ → List Cause
+abbrev pub row_causes : Bounds → Tree ℕ → List TypeCause
 row_causes b t = shape_causes b t ++ (misplaced b true t ++ balances t)
 
 abbrev pub isnt_truth : Option Shape → Bool
@@ -101,41 +101,41 @@ isnt_truth (Some shape.Truth) = false
 isnt_truth (Some s) = true
 isnt_truth None = false
 
-abbrev pub tree_filter_causes : Bounds → Tree ℕ → List Cause
+abbrev pub tree_filter_causes : Bounds → Tree ℕ → List TypeCause
 tree_filter_causes b t =
     row_causes b t
     ++ where_true (isnt_truth (shape_of b t)) (cause_at kind.KindClash (place_of t))
 
-abbrev pub filter_causes : Bounds → Option (Tree ℕ) → List Cause
+abbrev pub filter_causes : Bounds → Option (Tree ℕ) → List TypeCause
 filter_causes b (Some t) = tree_filter_causes b t
 filter_causes b None = []
 
-abbrev pub filters_causes : Bounds → clause.Filters (Tree ℕ) → List Cause
+abbrev pub filters_causes : Bounds → clause.Filters (Tree ℕ) → List TypeCause
 filters_causes b f = filter_causes b f.from ++ filter_causes b f.filter
 
 -- ---- targets and items
 
-abbrev pub target_causes : Bounds → Grouping → Target → List Cause
+abbrev pub target_causes : Bounds → Grouping → Target → List TypeCause
 target_causes b g t = shown_causes b g t.tree
 
 -- what an item names that isn't there has no shape
-abbrev pub nothing_at : ℕ → List Cause
+abbrev pub nothing_at : ℕ → List TypeCause
 nothing_at place = cause_at kind.KindClash place ∷ []
 
-abbrev pub named_group_causes : Bounds → ℕ → Option Target → List Cause
+abbrev pub named_group_causes : Bounds → ℕ → Option Target → List TypeCause
 named_group_causes b place (Some t) =
     where_true (is_some (least_of (misplaced b true t.tree)))
     (cause_at kind.AggregateMisplaced place)
 named_group_causes b place None = nothing_at place
 
-abbrev pub group_causes_by : Bounds → List Target → ℕ → ItemKind → List Cause
+abbrev pub group_causes_by : Bounds → List Target → ℕ → ItemKind → List TypeCause
 group_causes_by b ts place (target_item index) = named_group_causes b place (slice_get ts index)
 group_causes_by b ts place (tree_item t) = row_causes b t
 
-abbrev pub group_item_causes : Bounds → List Target → Item → List Cause
+abbrev pub group_item_causes : Bounds → List Target → Item → List TypeCause
 group_item_causes b ts i = group_causes_by b ts i.place i.kind
 
-abbrev pub group_causes : Bounds → List Target → Option (List Item) → List Cause
+abbrev pub group_causes : Bounds → List Target → Option (List Item) → List TypeCause
 group_causes b ts (Some is) = each (group_item_causes b ts) is
 group_causes b ts None = []
 
@@ -150,28 +150,28 @@ abbrev pub isnt_ordered : Option Shape → Bool
 isnt_ordered (Some s) = not (is_ordered s)
 isnt_ordered None = false
 
-abbrev pub order_causes_at : Bounds → ℕ → Tree ℕ → List Cause
+abbrev pub order_causes_at : Bounds → ℕ → Tree ℕ → List TypeCause
 order_causes_at b place t =
     where_true (isnt_ordered (shape_of b t)) (cause_at kind.NotOrderable place)
 
-abbrev pub named_order_causes : Bounds → ℕ → Option Target → List Cause
+abbrev pub named_order_causes : Bounds → ℕ → Option Target → List TypeCause
 named_order_causes b place (Some t) = order_causes_at b place t.tree
 named_order_causes b place None = nothing_at place
 
-abbrev pub own_order_causes : Bounds → Grouping → Tree ℕ → List Cause
+abbrev pub own_order_causes : Bounds → Grouping → Tree ℕ → List TypeCause
 own_order_causes b g t = shown_causes b g t ++ order_causes_at b (place_of t) t
 
-abbrev pub order_causes_by : Bounds → Grouping → List Target → ℕ → ItemKind → List Cause
+abbrev pub order_causes_by : Bounds → Grouping → List Target → ℕ → ItemKind → List TypeCause
 order_causes_by b g ts place (target_item index) =
     named_order_causes b place (slice_get ts index)
 order_causes_by b g ts place (tree_item t) = own_order_causes b g t
 
-abbrev pub order_item_causes : Bounds → Grouping → List Target → Item → List Cause
+abbrev pub order_item_causes : Bounds → Grouping → List Target → Item → List TypeCause
 order_item_causes b g ts i = order_causes_by b g ts i.place i.kind
 
 -- ---- queries
 
-abbrev pub causes_by : Bounds → Grouping → Asked → List Cause
+abbrev pub causes_by : Bounds → Grouping → Asked → List TypeCause
 causes_by b g s =
     each (target_causes b g) s.targets
     ++ (filters_causes b s.filters
@@ -179,7 +179,7 @@ causes_by b g s =
     ++ each (order_item_causes b g s.targets) s.order.items))
 
 -- all causes for which a query has no type
-abbrev pub causes : Bounds → Asked → List Cause
+abbrev pub causes : Bounds → Asked → List TypeCause
 causes b s = causes_by b (grouping_of s) s
 
 -- the query has a type

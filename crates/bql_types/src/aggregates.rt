@@ -5,7 +5,7 @@ ghost use Rattle.bql_tree.specs.Tree.{tree_of, trees_of, leaf_of, call_of};
 ghost use Rattle.bql_types.specs.Cause.{told};
 ghost use Rattle.bql_types.specs.Sought as rule;
 
-use crate::cause::{Cause, CauseKind, where_true};
+use crate::cause::{TypeCause, TypeCauseKind, where_true};
 use crate::shaped::look_at_all;
 use bean_base::Bounds;
 use bql_tree::{Expr, Function, Leaf};
@@ -91,8 +91,8 @@ pub(crate) fn misplaced(
     bounds: &Bounds,
     is_inside: bool,
     e: &Expr<'_>,
-    found: Option<Cause>,
-) -> Result<Option<Cause>, AllocError>
+    found: Option<TypeCause>,
+) -> Result<Option<TypeCause>, AllocError>
     requires { AreBounds bounds.now }
     ensures { IfOk result (λ r. r
         ≡ told found (rule.misplaced bounds.now is_inside (tree_of e.now))) }
@@ -103,7 +103,7 @@ pub(crate) fn misplaced(
             Ok(where_true(
                 found,
                 is_cause,
-                Cause::at(CauseKind::AggregateMisplaced, *place),
+                TypeCause::at(TypeCauseKind::AggregateMisplaced, *place),
             ))
         }
         Expr::One(_, _, x) => misplaced(alloc, bounds, is_inside, x, found),
@@ -116,7 +116,7 @@ pub(crate) fn misplaced(
                 return all_misplaced(alloc, bounds, is_inside, xs, found);
             }
             let is_cause = is_told(alloc, bounds, is_inside, xs)?;
-            let cause = Cause::at(CauseKind::AggregateMisplaced, *place);
+            let cause = TypeCause::at(TypeCauseKind::AggregateMisplaced, *place);
             all_misplaced(alloc, bounds, true, xs, where_true(found, is_cause, cause))
         }
     }
@@ -129,8 +129,8 @@ fn all_misplaced(
     bounds: &Bounds,
     is_inside: bool,
     es: &[Expr<'_>],
-    found: Option<Cause>,
-) -> Result<Option<Cause>, AllocError>
+    found: Option<TypeCause>,
+) -> Result<Option<TypeCause>, AllocError>
     requires { AreBounds bounds.now }
     ensures { IfOk result (λ r. r
         ≡ told found (rule.all_misplaced bounds.now is_inside (trees_of es.now))) }

@@ -6,7 +6,7 @@ ghost use Rattle.bql_types.specs.Keys.{lent_trees};
 ghost use Rattle.bql_types.specs.Sought as rule;
 
 use crate::aggregates::{is_aggregate_function, is_rows};
-use crate::cause::{Cause, CauseKind, where_true};
+use crate::cause::{TypeCause, TypeCauseKind, where_true};
 use crate::same::same;
 use bql_tree::{Expr, Leaf};
 
@@ -40,7 +40,7 @@ pub fn is_key(keys: &[Key<'_, '_>], e: &Expr<'_>) -> bool
 /// The least of the causes that were found before, and of what stands outside aggregates and keys.
 #[cycle(ungrouped)]
 #[tactic(auto, using(crate::proofs::CauseFacts::told_append))]
-pub(crate) fn ungrouped(keys: &[Key<'_, '_>], e: &Expr<'_>, found: Option<Cause>) -> Option<Cause>
+pub(crate) fn ungrouped(keys: &[Key<'_, '_>], e: &Expr<'_>, found: Option<TypeCause>) -> Option<TypeCause>
     ensures { result ≡ told found (rule.ungrouped (lent_trees keys.now) (tree_of e.now)) }
 {
     if is_key(keys, e) {
@@ -48,7 +48,7 @@ pub(crate) fn ungrouped(keys: &[Key<'_, '_>], e: &Expr<'_>, found: Option<Cause>
     }
     match e {
         Expr::Leaf(place, leaf) => {
-            let cause = Cause::at(CauseKind::NotGrouped, *place);
+            let cause = TypeCause::at(TypeCauseKind::NotGrouped, *place);
             where_true(found, is_of_row(leaf), cause)
         }
         Expr::One(_, _, x) => ungrouped(keys, x, found),
@@ -65,7 +65,7 @@ pub(crate) fn ungrouped(keys: &[Key<'_, '_>], e: &Expr<'_>, found: Option<Cause>
 
 #[cycle(ungrouped)]
 #[tactic(auto, using(crate::proofs::CauseFacts::told_append))]
-fn all_ungrouped(keys: &[Key<'_, '_>], es: &[Expr<'_>], found: Option<Cause>) -> Option<Cause>
+fn all_ungrouped(keys: &[Key<'_, '_>], es: &[Expr<'_>], found: Option<TypeCause>) -> Option<TypeCause>
     ensures { result ≡ told found (rule.all_ungrouped (lent_trees keys.now) (trees_of es.now)) }
 {
     let mut found = found;

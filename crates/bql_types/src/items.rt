@@ -12,7 +12,7 @@ ghost use Rattle.bql_types.specs.Typing as rule;
 
 use crate::aggregates::misplaced;
 use crate::balances::balances;
-use crate::cause::{Cause, CauseKind, where_true};
+use crate::cause::{TypeCause, TypeCauseKind, where_true};
 use crate::grouped::ungrouped;
 use crate::grouping::Grouping;
 use crate::shaped::{Seen, look};
@@ -37,7 +37,7 @@ fn place_of(e: &Expr<'_>) -> usize
 
 /// What is at fault in the groups of a target or an order item.
 #[tactic(auto, using(crate::proofs::CauseFacts::told_append))]
-fn grouped(grouping: &Grouping<'_, '_>, e: &Expr<'_>, found: Option<Cause>) -> Option<Cause>
+fn grouped(grouping: &Grouping<'_, '_>, e: &Expr<'_>, found: Option<TypeCause>) -> Option<TypeCause>
     ensures { result ≡ told found
         (rule.grouped_causes (view.grouping_of grouping.now) (tree_of e.now)) }
 {
@@ -55,7 +55,7 @@ pub(crate) fn shown(
     bounds: &Bounds,
     grouping: &Grouping<'_, '_>,
     e: &Expr<'_>,
-    found: Option<Cause>,
+    found: Option<TypeCause>,
 ) -> Result<Seen, AllocError>
     requires { AreBounds bounds.now }
     ensures { IfOk result (λ r. r
@@ -75,7 +75,7 @@ fn of_row(
     alloc: Global,
     bounds: &Bounds,
     e: &Expr<'_>,
-    found: Option<Cause>,
+    found: Option<TypeCause>,
 ) -> Result<Seen, AllocError>
     requires { AreBounds bounds.now }
     ensures { IfOk result (λ r. r ≡ seen_rule.of_row bounds.now found (tree_of e.now)) }
@@ -104,8 +104,8 @@ pub(crate) fn filter(
     alloc: Global,
     bounds: &Bounds,
     filter: &Option<Box<Expr<'_>>>,
-    found: Option<Cause>,
-) -> Result<Option<Cause>, AllocError>
+    found: Option<TypeCause>,
+) -> Result<Option<TypeCause>, AllocError>
     requires { AreBounds bounds.now }
     ensures { IfOk result (λ r. r
         ≡ told found (rule.filter_causes bounds.now (filter_of filter.now))) }
@@ -113,7 +113,7 @@ pub(crate) fn filter(
     match filter {
         Some(e) => {
             let seen = of_row(alloc, bounds, e, found)?;
-            let cause = Cause::at(CauseKind::KindClash, place_of(e));
+            let cause = TypeCause::at(TypeCauseKind::KindClash, place_of(e));
             Ok(where_true(seen.found, isnt_truth(seen.shape), cause))
         }
         None => Ok(found),
@@ -126,8 +126,8 @@ pub(crate) fn filters(
     alloc: Global,
     bounds: &Bounds,
     filters: &Filters<'_>,
-    found: Option<Cause>,
-) -> Result<Option<Cause>, AllocError>
+    found: Option<TypeCause>,
+) -> Result<Option<TypeCause>, AllocError>
     requires { AreBounds bounds.now }
     ensures { IfOk result (λ r. r
         ≡ told found (rule.filters_causes bounds.now (view.filters_of filters.now))) }
@@ -142,8 +142,8 @@ fn group_item(
     bounds: &Bounds,
     targets: &[SeenTarget],
     item: &Item<'_>,
-    found: Option<Cause>,
-) -> Result<Option<Cause>, AllocError>
+    found: Option<TypeCause>,
+) -> Result<Option<TypeCause>, AllocError>
     requires { AreBounds bounds.now }
     ensures { (ts : List Target) → AreSeen bounds.now ts targets.now → IfOk result (λ r. r
         ≡ told found (rule.group_item_causes bounds.now ts (item_of item.now))) }
@@ -160,8 +160,8 @@ fn group(
     bounds: &Bounds,
     targets: &[SeenTarget],
     items: &[Item<'_>],
-    found: Option<Cause>,
-) -> Result<Option<Cause>, AllocError>
+    found: Option<TypeCause>,
+) -> Result<Option<TypeCause>, AllocError>
     requires { AreBounds bounds.now }
     ensures { (ts : List Target) → AreSeen bounds.now ts targets.now → IfOk result (λ r. r
         ≡ told found (rule.each (rule.group_item_causes bounds.now ts) (map item_of items.now))) }
@@ -179,8 +179,8 @@ pub(crate) fn groups(
     bounds: &Bounds,
     targets: &[SeenTarget],
     items: &Option<Vec<Item<'_>>>,
-    found: Option<Cause>,
-) -> Result<Option<Cause>, AllocError>
+    found: Option<TypeCause>,
+) -> Result<Option<TypeCause>, AllocError>
     requires { AreBounds bounds.now }
     ensures { (ts : List Target) → AreSeen bounds.now ts targets.now → IfOk result (λ r. r
         ≡ told found (rule.group_causes bounds.now ts (view.group_of items.now))) }
@@ -208,14 +208,14 @@ fn own_order(
     bounds: &Bounds,
     grouping: &Grouping<'_, '_>,
     e: &Expr<'_>,
-    found: Option<Cause>,
-) -> Result<Option<Cause>, AllocError>
+    found: Option<TypeCause>,
+) -> Result<Option<TypeCause>, AllocError>
     requires { AreBounds bounds.now }
     ensures { IfOk result (λ r. r ≡ told found
         (rule.own_order_causes bounds.now (view.grouping_of grouping.now) (tree_of e.now))) }
 {
     let seen = shown(alloc, bounds, grouping, e, found)?;
-    let cause = Cause::at(CauseKind::NotOrderable, place_of(e));
+    let cause = TypeCause::at(TypeCauseKind::NotOrderable, place_of(e));
     Ok(where_true(seen.found, isnt_ordered(seen.shape), cause))
 }
 
@@ -226,8 +226,8 @@ fn order_item(
     grouping: &Grouping<'_, '_>,
     targets: &[SeenTarget],
     item: &Item<'_>,
-    found: Option<Cause>,
-) -> Result<Option<Cause>, AllocError>
+    found: Option<TypeCause>,
+) -> Result<Option<TypeCause>, AllocError>
     requires { AreBounds bounds.now }
     ensures { (ts : List Target) → AreSeen bounds.now ts targets.now → IfOk result (λ r. r
         ≡ told found (rule.order_item_causes bounds.now (view.grouping_of grouping.now) ts
@@ -246,8 +246,8 @@ pub(crate) fn order(
     grouping: &Grouping<'_, '_>,
     targets: &[SeenTarget],
     items: &[Item<'_>],
-    found: Option<Cause>,
-) -> Result<Option<Cause>, AllocError>
+    found: Option<TypeCause>,
+) -> Result<Option<TypeCause>, AllocError>
     requires { AreBounds bounds.now }
     ensures { (ts : List Target) → AreSeen bounds.now ts targets.now → IfOk result (λ r. r
         ≡ told found (rule.each (rule.order_item_causes bounds.now (view.grouping_of grouping.now)

@@ -10,9 +10,9 @@
 //! };
 //! let query = parse_query(alloc, "SELECT account, sum(position)")?;
 //! type_query(alloc, &query, &bounds)              // Ok: the query with these bounds
-//! // "SELECT account + 1"                            TypeFault::KindClash(7)
-//! // "SELECT sum(number * number)"                   TypeFault::TooWide(11)
-//! // "SELECT account, count(*) GROUP BY year"        TypeFault::NotGrouped(7)
+//! // "SELECT account + 1"                            KindClash at 7
+//! // "SELECT sum(number * number)"                   TooWide at 11
+//! // "SELECT account, count(*) GROUP BY year"        NotGrouped at 7
 //! ```
 //!
 //! # What is taken for granted
@@ -24,16 +24,16 @@
 //!
 //! A fault has the place of a byte, the first of the smallest expression at fault.
 //!
-//! - `Y1` ([`TypeFault::KindClash`]): an operand is of another kind than the operation takes, or
+//! - `Y1` ([`TypeCauseKind::KindClash`]): an operand is of another kind than the operation takes, or
 //!   there are more or fewer of them; a filter is no truth value.
-//! - `Y2` ([`TypeFault::AggregateMisplaced`]): an aggregate stands inside an aggregate, in a
+//! - `Y2` ([`TypeCauseKind::AggregateMisplaced`]): an aggregate stands inside an aggregate, in a
 //!   filter, in a group item, or in an order item of a query that doesn't aggregate.
-//! - `Y3` ([`TypeFault::NotGrouped`]): in a query that aggregates a column or a metadata entry
+//! - `Y3` ([`TypeCauseKind::NotGrouped`]): in a query that aggregates a column or a metadata entry
 //!   stands outside aggregates and outside what is the same as a key.
-//! - `Y4` ([`TypeFault::NotOrderable`]): an order item is no number, text or day.
-//! - `Y5` ([`TypeFault::TooWide`]): a value might be too wide to be held, on some ledger within the
+//! - `Y4` ([`TypeCauseKind::NotOrderable`]): an order item is no number, text or day.
+//! - `Y5` ([`TypeCauseKind::TooWide`]): a value might be too wide to be held, on some ledger within the
 //!   bounds.
-//! - `Y6` ([`TypeFault::BalanceMisplaced`]): the running balance stands in a filter, or in a query
+//! - `Y6` ([`TypeCauseKind::BalanceMisplaced`]): the running balance stands in a filter, or in a query
 //!   that aggregates.
 //!
 //! What stands where it may not has a shape all the same, so what is around it is looked at too.
@@ -50,7 +50,6 @@
 pub mod aggregates;
 mod balances;
 mod cause;
-mod fault;
 pub mod gathered;
 pub mod grouped;
 pub mod grouping;
@@ -62,7 +61,6 @@ mod targets;
 mod typed;
 mod typing;
 
-pub use cause::{Cause, CauseKind};
-pub use fault::TypeFault;
+pub use cause::{TypeCause, TypeCauseKind};
 pub use typed::Typed;
 pub use typing::type_query;

@@ -5,7 +5,7 @@ ghost use Rattle.bql_tree.specs.Tree.{leaf_of, one_of, two_of, call_of, tree_of,
 ghost use Rattle.bql_types.specs.Shaped as rule;
 ghost use Rattle.bql_types.specs.Seen as seen_rule;
 
-use crate::cause::{Cause, CauseKind, sooner};
+use crate::cause::{TypeCause, TypeCauseKind, sooner};
 use bean_base::Bounds;
 use bql_rules::{binary_shape, call_shape, leaf_shape, unary_shape};
 use bql_tree::{BinaryOperator, Expr, Function, Leaf, UnaryOperator};
@@ -26,34 +26,34 @@ pub enum Operand {
 #[derive(Clone, Copy, Debug, Drop)]
 pub(crate) struct Seen {
     pub shape: Option<Shape>,
-    pub found: Option<Cause>,
+    pub found: Option<TypeCause>,
 }
 
 /// The same of a part of an operation.
 #[derive(Clone, Copy, Debug, Drop)]
 pub(crate) struct SeenPart {
     pub operand: Operand,
-    pub found: Option<Cause>,
+    pub found: Option<TypeCause>,
 }
 
 /// The same of the parts of a call: their shapes, if all have one.
 #[derive(Debug, Drop)]
 pub(crate) struct SeenAll {
     pub shapes: Option<Vec<Shape>>,
-    pub found: Option<Cause>,
+    pub found: Option<TypeCause>,
 }
 
-fn kind_of(misfit: Misfit) -> CauseKind
+fn kind_of(misfit: Misfit) -> TypeCauseKind
     ensures { result ≡ rule.kind_of misfit }
 {
     match misfit {
-        Misfit::Kind => CauseKind::KindClash,
-        Misfit::TooWide => CauseKind::TooWide,
+        Misfit::Kind => TypeCauseKind::KindClash,
+        Misfit::TooWide => TypeCauseKind::TooWide,
     }
 }
 
 /// An operation to which its rule gave this, or nothing where a part has no shape.
-fn concluded(place: usize, ruled: Option<Result<Shape, Misfit>>, found: Option<Cause>) -> Seen
+fn concluded(place: usize, ruled: Option<Result<Shape, Misfit>>, found: Option<TypeCause>) -> Seen
     ensures { result ≡ seen_rule.concluded place ruled found }
 {
     match ruled {
@@ -63,7 +63,7 @@ fn concluded(place: usize, ruled: Option<Result<Shape, Misfit>>, found: Option<C
         },
         Some(Err(misfit)) => Seen {
             shape: None,
-            found: sooner(found, Cause::at(kind_of(misfit), place)),
+            found: sooner(found, TypeCause::at(kind_of(misfit), place)),
         },
         None => Seen { shape: None, found },
     }
@@ -155,7 +155,7 @@ pub(crate) fn look(
     alloc: Global,
     bounds: &Bounds,
     e: &Expr<'_>,
-    found: Option<Cause>,
+    found: Option<TypeCause>,
 ) -> Result<Seen, AllocError>
     requires { AreBounds bounds.now }
     ensures { IfOk result (λ r. r ≡ seen_rule.seen bounds.now found (tree_of e.now)) }
@@ -186,7 +186,7 @@ fn look_at_side(
     bounds: &Bounds,
     op: BinaryOperator,
     e: &Expr<'_>,
-    found: Option<Cause>,
+    found: Option<TypeCause>,
 ) -> Result<SeenPart, AllocError>
     requires { AreBounds bounds.now }
     ensures { IfOk result (λ r. r ≡ seen_rule.seen_part bounds.now op found (tree_of e.now)) }
@@ -214,7 +214,7 @@ pub(crate) fn look_at_all(
     alloc: Global,
     bounds: &Bounds,
     es: &[Expr<'_>],
-    found: Option<Cause>,
+    found: Option<TypeCause>,
 ) -> Result<SeenAll, AllocError>
     requires { AreBounds bounds.now }
     ensures { IfOk result (λ r. seen_rule.all_of r

@@ -12,7 +12,7 @@ ghost use Rattle.bql_types.specs.Typing as rule;
 ghost use Rattle.query_columns.specs.ColumnShape.{AreBounds};
 
 use crate::aggregates::misplaced;
-use crate::cause::{Cause, CauseKind, sooner, where_true};
+use crate::cause::{TypeCause, TypeCauseKind, sooner, where_true};
 use crate::grouping::Grouping;
 use crate::items::{isnt_ordered, shown};
 use bean_base::Bounds;
@@ -33,7 +33,7 @@ pub(crate) struct SeenTarget {
 #[derive(Debug, Drop)]
 pub(crate) struct SeenTargets {
     pub targets: Vec<SeenTarget>,
-    pub found: Option<Cause>,
+    pub found: Option<TypeCause>,
 }
 
 /// Whether an aggregate is misplaced in an expression by which rows are grouped.
@@ -51,7 +51,7 @@ pub(crate) fn targets(
     bounds: &Bounds,
     grouping: &Grouping<'_, '_>,
     targets: &[Target<'_>],
-    found: Option<Cause>,
+    found: Option<TypeCause>,
 ) -> Result<SeenTargets, AllocError>
     requires { AreBounds bounds.now }
     ensures seen { IfOk result (λ r. r.targets.items
@@ -81,16 +81,16 @@ pub(crate) fn named_group(
     targets: &[SeenTarget],
     index: usize,
     place: usize,
-    found: Option<Cause>,
-) -> Option<Cause>
+    found: Option<TypeCause>,
+) -> Option<TypeCause>
     ensures { result ≡ told found (named.group_causes place (slice_get targets.now index)) }
 {
     match targets.get(index) {
         Some(target) => {
-            let cause = Cause::at(CauseKind::AggregateMisplaced, place);
+            let cause = TypeCause::at(TypeCauseKind::AggregateMisplaced, place);
             where_true(found, target.has_aggregate, cause)
         }
-        None => sooner(found, Cause::at(CauseKind::KindClash, place)),
+        None => sooner(found, TypeCause::at(TypeCauseKind::KindClash, place)),
     }
 }
 
@@ -99,15 +99,15 @@ pub(crate) fn named_order(
     targets: &[SeenTarget],
     index: usize,
     place: usize,
-    found: Option<Cause>,
-) -> Option<Cause>
+    found: Option<TypeCause>,
+) -> Option<TypeCause>
     ensures { result ≡ told found (named.order_causes place (slice_get targets.now index)) }
 {
     match targets.get(index) {
         Some(target) => {
-            let cause = Cause::at(CauseKind::NotOrderable, place);
+            let cause = TypeCause::at(TypeCauseKind::NotOrderable, place);
             where_true(found, isnt_ordered(target.shape), cause)
         }
-        None => sooner(found, Cause::at(CauseKind::KindClash, place)),
+        None => sooner(found, TypeCause::at(TypeCauseKind::KindClash, place)),
     }
 }

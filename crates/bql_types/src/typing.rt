@@ -6,18 +6,18 @@ ghost use Rattle.bql_types.specs.Answer.{Answers};
 ghost use Rattle.bql_types.specs.Cause.{least_of};
 ghost use Rattle.bql_types.specs.Typing as rule;
 
-use crate::cause::Cause;
-use crate::fault::{TypeFault, fault_of};
+use crate::cause::TypeCause;
 use crate::grouping::grouped_by;
 use crate::items::{filters, groups, order};
 use crate::targets::targets;
 use crate::typed::Typed;
 use bean_base::Bounds;
 use bql_parser::Query;
+use refusals::Refusal;
 use std::alloc::{AllocError, Global};
 
 /// The least cause for which a query has no type.
-fn cause(alloc: Global, bounds: &Bounds, query: &Query<'_>) -> Result<Option<Cause>, AllocError>
+fn cause(alloc: Global, bounds: &Bounds, query: &Query<'_>) -> Result<Option<TypeCause>, AllocError>
     requires { AreBounds bounds.now }
     ensures { IfOk result (λ r. r ≡ least_of (rule.causes bounds.now (query_of query.now))) }
 {
@@ -41,12 +41,12 @@ pub fn type_query<'q, 'a>(
     alloc: Global,
     query: &'q Query<'a>,
     bounds: &Bounds,
-) -> Result<Typed<'q, 'a>, TypeFault>
+) -> Result<Typed<'q, 'a>, Refusal<TypeCause>>
     requires { AreBounds bounds.now }
     ensures { Answers bounds.now query.now result }
 {
     match cause(alloc, bounds, query)? {
-        Some(cause) => Err(fault_of(cause)),
+        Some(cause) => Err(Refusal::Refused(cause)),
         None => Ok(Typed {
             query,
             bounds: *bounds,

@@ -2,7 +2,8 @@
 
 use crate::made::{are_faults, are_texts, store_of, were_asked};
 use bean_base::FaultKind;
-use bean_load::{LoadFault, gather};
+use bean_load::{LoadCause, gather};
+use refusals::Refusal;
 use std::alloc::Global;
 use std::test::Fail;
 
@@ -114,7 +115,7 @@ fn leaves(alloc: Global, call: u64, line: usize, left: &[&str]) -> Result<bool, 
 fn a_source_that_fails_at_a_call(rt: HostRuntime) -> Result<(), Fail> {
     let alloc = rt.alloc();
     let mut store = store_of(alloc, &FILES, 1)?;
-    assert!(rt; matches!(gather(alloc, &mut store, "l"), Err(LoadFault::Unreadable)));
+    assert!(rt; matches!(gather(alloc, &mut store, "l"), Err(Refusal::Refused(LoadCause::Unreadable))));
     assert!(rt; leaves(alloc, 2, 1, &["l", "b", "c"])?);
     assert!(rt; leaves(alloc, 3, 2, &["l", "a", "c"])?);
     assert!(rt; leaves(alloc, 4, 3, &["l", "a", "b"])?);

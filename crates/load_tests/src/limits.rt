@@ -1,7 +1,8 @@
 //! Texts that are none, too large, too deep or too many.
 
 use crate::made::{are_faults, are_texts, store_of};
-use bean_load::{LoadFault, gather};
+use bean_load::{LoadCause, gather};
+use refusals::Refusal;
 use std::alloc::Global;
 use std::test::Fail;
 use stores::MemoryStore;
@@ -37,7 +38,7 @@ fn bytes_that_are_no_text(rt: HostRuntime) -> Result<(), Fail> {
     assert!(rt; are_texts(&texts, &["l"]));
     assert!(rt; are_faults(&texts, &[(0, 2)]));
     let mut store = store_with_bad_bytes(alloc, "")?;
-    assert!(rt; matches!(gather(alloc, &mut store, "a"), Err(LoadFault::NotUtf8)));
+    assert!(rt; matches!(gather(alloc, &mut store, "a"), Err(Refusal::Refused(LoadCause::NotUtf8))));
     Ok(())
 }
 
@@ -51,9 +52,9 @@ fn a_text_above_16_mib(rt: HostRuntime) -> Result<(), Fail> {
         let mut store = MemoryStore::new(alloc, files, 0);
         let read = gather(alloc, &mut store, "l");
         assert_eq!(rt; matches!(read, Ok(_)), is_read);
-        assert_eq!(rt; matches!(read, Err(LoadFault::TooLarge)), !is_read);
+        assert_eq!(rt; matches!(read, Err(Refusal::Refused(LoadCause::TooLarge))), !is_read);
         let read = gather(alloc, &mut store, "a");
-        assert_eq!(rt; matches!(read, Err(LoadFault::TooLarge)), !is_read);
+        assert_eq!(rt; matches!(read, Err(Refusal::Refused(LoadCause::TooLarge))), !is_read);
     }
     Ok(())
 }
@@ -71,7 +72,7 @@ fn five_texts_of_13_mib(rt: HostRuntime) -> Result<(), Fail> {
     }
     let mut store = MemoryStore::new(alloc, files, 0);
     let read = gather(alloc, &mut store, "five");
-    assert!(rt; matches!(read, Err(LoadFault::TooLarge)));
+    assert!(rt; matches!(read, Err(Refusal::Refused(LoadCause::TooLarge))));
     let texts = gather(alloc, &mut store, "four")?;
     assert!(rt; are_texts(&texts, &["four", "b", "c", "d"]));
     Ok(())
@@ -99,7 +100,7 @@ fn a_thousand_names_and_one(rt: HostRuntime) -> Result<(), Fail> {
     assert!(rt; are_faults(&texts, &[(0, 1_000)]));
     let mut store = store_of_many(alloc, 999, "include \"x\"\n")?;
     let read = gather(alloc, &mut store, "l");
-    assert!(rt; matches!(read, Err(LoadFault::TooLarge)));
+    assert!(rt; matches!(read, Err(Refusal::Refused(LoadCause::TooLarge))));
     assert_eq!(rt; store.told().len(), 1_000);
     Ok(())
 }
@@ -126,7 +127,7 @@ fn sixteen_texts_in_one_another_and_no_more(rt: HostRuntime) -> Result<(), Fail>
     assert!(rt; are_faults(&texts, &[(16, 1)]));
     let mut store = store_of_chain(alloc, 17, "")?;
     let read = gather(alloc, &mut store, "0");
-    assert!(rt; matches!(read, Err(LoadFault::TooLarge)));
+    assert!(rt; matches!(read, Err(Refusal::Refused(LoadCause::TooLarge))));
     assert_eq!(rt; store.told().len(), 17);
     Ok(())
 }

@@ -10,8 +10,8 @@ use Rattle.std.proofs.lemmas.List.{take_at, drop_at, take-append-drop, length-ap
 use Rattle.std.proofs.lemmas.List.{get_or-take, get_or_past}
 use Rattle.std.proofs.lemmas.Nat.{be_bytes_2, be_bytes_4, from_be_bytes-to_be_bytes_2}
 use Rattle.std.proofs.lemmas.Nat.{from_be_bytes-to_be_bytes_4}
-use Rattle.query_code.specs.declared.refusal.Cause.{Cause}
-use Rattle.query_code.specs.declared.refusal.Stop.{Stop}
+use Rattle.query_code.specs.declared.cause.FileCauseKind.{FileCauseKind}
+use Rattle.query_code.specs.declared.cause.Stop.{Stop}
 use Rattle.query_code.specs.ByteForm.{Form, ◌>>=◌, stop, raw, mapped, such_that, standing_for}
 use Rattle.query_code.specs.ByteForm.{taken_as, before, both, AllFit, all_written, read_all, row}
 use Rattle.query_code.specs.ByteForm.{counted, byte, read_byte, number, marked, just, Case, chosen}
@@ -97,7 +97,7 @@ exact_mapped {A} {B} to from a forth exact = record {
       );
 }
 
-pub exact_such_that : {A : Type 0} (cause : Cause) (test : A → Bool) (a : Form A) → IsExact a
+pub exact_such_that : {A : Type 0} (cause : FileCauseKind) (test : A → Bool) (a : Form A) → IsExact a
     → IsExact (such_that cause test a)
 exact_such_that {A} cause test a exact = record {
   again = λ v rest fits. rw (exact.again v rest fits.0, fits.1) refl;
@@ -110,7 +110,7 @@ exact_such_that {A} cause test a exact = record {
 }
 
 taken_ok :
-    {B : Type 0} (cause : Cause) (bytes : List ℕ) (o : Option B) (v : B) (rest after : List ℕ)
+    {B : Type 0} (cause : FileCauseKind) (bytes : List ℕ) (o : Option B) (v : B) (rest after : List ℕ)
     → taken_as cause bytes o rest ≡ Ok (v, after) → (o ≡ Some v) × (rest ≡ after)
 taken_ok cause bytes None v rest after e = absurd cc
 taken_ok {B} cause bytes (Some u) v rest after e =
@@ -118,7 +118,7 @@ taken_ok {B} cause bytes (Some u) v rest after e =
     (ap (λ (q : B × List ℕ). Some q.0) p, ap (λ (q : B × List ℕ). q.1) p)
 
 pub exact_standing_for :
-    {A B : Type 0} (cause : Cause) (to : A → Option B) (from : B → A) (a : Form A)
+    {A B : Type 0} (cause : FileCauseKind) (to : A → Option B) (from : B → A) (a : Form A)
     → ((x : A) (v : B) → to x ≡ Some v → from v ≡ x) → IsExact a
     → IsExact (standing_for cause to from a)
 exact_standing_for {A} {B} cause to from a back exact = record {
@@ -226,7 +226,7 @@ exact_counted {A} count a ec ea =
     (λ p fits. ap (λ (n : ℕ). (n, p.1)) fits.1.0)
     (exact_before count (λ n. row n a) ec (λ n fits. exact_row n a ea))
 
-pub exact_marked : {A : Type 0} (cause : Cause) (mark : List ℕ) (a : Form A) → IsExact a
+pub exact_marked : {A : Type 0} (cause : FileCauseKind) (mark : List ℕ) (a : Form A) → IsExact a
     → IsExact (marked cause mark a)
 exact_marked cause mark a exact =
     exact_mapped (λ p. p.1) (λ v. (mark, v))

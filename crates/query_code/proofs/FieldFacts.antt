@@ -14,7 +14,7 @@ use Rattle.bean_base.specs.declared.bounds.Version as versions
 use Rattle.bean_base.specs.declared.bounds.Version.TheVariants.{First, Second}
 use Rattle.query_values.specs.declared.operation.Binary.TheVariants as binary
 use Rattle.query_values.specs.declared.operation.Aggregate.TheVariants as aggregates
-use Rattle.query_code.specs.declared.refusal.Cause.TheVariants.{Magic, Version, BadField, NotUtf8}
+use Rattle.query_code.specs.declared.cause.FileCauseKind.TheVariants.{Magic, Version, BadField, NotUtf8}
 use Rattle.query_code.specs.declared.instruction.Push.TheVariants as push
 use Rattle.query_code.specs.declared.instruction.Unary.TheVariants as unary
 use Rattle.query_code.specs.declared.instruction.Instruction.{Instruction}

@@ -11,8 +11,8 @@ use Rattle.bean_base.specs.CalendarDay as calendar
 use Rattle.query_values.specs.declared.operation.Binary.TheVariants as binary
 use Rattle.query_values.specs.declared.operation.Aggregate.{Aggregate}
 use Rattle.query_values.specs.declared.operation.Aggregate.TheVariants as aggregates
-use Rattle.query_code.specs.declared.refusal.Cause.{Cause}
-use Rattle.query_code.specs.declared.refusal.Cause.TheVariants.{Magic, Version, BadField, NotUtf8}
+use Rattle.query_code.specs.declared.cause.FileCauseKind.{FileCauseKind}
+use Rattle.query_code.specs.declared.cause.FileCauseKind.TheVariants.{Magic, Version, BadField, NotUtf8}
 use Rattle.query_code.specs.declared.instruction.Push.TheVariants as push
 use Rattle.query_code.specs.declared.instruction.Unary.TheVariants as unary
 use Rattle.query_code.specs.declared.instruction.Instruction.{Instruction}
@@ -61,11 +61,11 @@ pub sound_mapped : {A B : Type 0} (to : A → B) (from : B → A) (a : Form A) �
     → IsSound (mapped to from a)
 sound_mapped to from a set sound = record { prop = λ v. hlevel (props, sound.prop, set) }
 
-pub sound_such_that : {A : Type 0} (cause : Cause) (test : A → Bool) (a : Form A) → IsSound a
+pub sound_such_that : {A : Type 0} (cause : FileCauseKind) (test : A → Bool) (a : Form A) → IsSound a
     → IsSound (such_that cause test a)
 sound_such_that cause test a sound = record { prop = λ v. hlevel (props, sound.prop) }
 
-sound_standing_for : {A B : Type 0} (cause : Cause) (to : A → Option B) (from : B → A) (a : Form A)
+sound_standing_for : {A B : Type 0} (cause : FileCauseKind) (to : A → Option B) (from : B → A) (a : Form A)
     → IsSet (Option B) → IsSound a → IsSound (standing_for cause to from a)
 sound_standing_for cause to from a set sound =
     record { prop = λ v. hlevel (props, sound.prop, set) }
@@ -126,7 +126,7 @@ sound_counted count a set sc sa =
     sound_mapped (λ p. p.1) (λ vs. (length vs, vs)) (before count (λ n. row n a)) set
     (sound_before count (λ n. row n a) sc (λ n. sound_row n a sa))
 
-sound_marked : {A : Type 0} (cause : Cause) (mark : List ℕ) (a : Form A) → IsSet A → IsSound a
+sound_marked : {A : Type 0} (cause : FileCauseKind) (mark : List ℕ) (a : Form A) → IsSet A → IsSound a
     → IsSound (marked cause mark a)
 sound_marked cause mark a set sound =
     sound_mapped (λ p. p.1) (λ v. (mark, v))

@@ -5,8 +5,8 @@ use Rattle.std.proofs.Props.{props}
 use Rattle.std.proofs.Math.Logic.{∥∥₁_elim}
 use Rattle.std.proofs.lemmas.Bool.{eqb-true}
 use Rattle.std.proofs.lemmas.List.{append-nil, nil_from_length}
-use Rattle.query_code.specs.declared.refusal.Cause.TheVariants.{TrailingBytes}
-use Rattle.query_code.specs.declared.refusal.Stop.{Stop}
+use Rattle.query_code.specs.declared.cause.FileCauseKind.TheVariants.{TrailingBytes}
+use Rattle.query_code.specs.declared.cause.Stop.{Stop}
 use Rattle.query_code.specs.declared.program.Parts.{Parts}
 use Rattle.query_code.specs.ByteForm.{stop}
 use Rattle.query_code.specs.QueryFile.{file, whole, IsFile}

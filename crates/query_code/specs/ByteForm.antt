@@ -4,10 +4,10 @@ use Rattle.std.specs.Prelude.{cond, ◌≡◌, ℕ, zero, suc, ◌<◌, ◌==◌
 use Rattle.std.specs.Prelude.{◌∷◌, ◌++◌, length, take, drop, Option, Some, None, Result, Ok, Err}
 use Rattle.std.specs.Prelude.{if◌then◌else◌}
 use Rattle.std.specs.Int.{Width, byte_len, from_be_bytes, to_be_bytes}
-use Rattle.query_code.specs.declared.refusal.Cause.{Cause}
-use Rattle.query_code.specs.declared.refusal.Cause.TheVariants.{Truncated, BadField}
+use Rattle.query_code.specs.declared.cause.FileCauseKind.{FileCauseKind}
+use Rattle.query_code.specs.declared.cause.FileCauseKind.TheVariants.{Truncated, BadField}
 use Rattle.std.specs.Str.{bytes_eq}
-use Rattle.query_code.specs.declared.refusal.Stop.{Stop}
+use Rattle.query_code.specs.declared.cause.Stop.{Stop}
 
 -- A value at the front with the bytes behind it, or the first field that fails.
 abbrev pub Read : Type 0 → Type 0
@@ -24,7 +24,7 @@ abbrev pub ◌>>=◌ : {A B : Type 0} → Result A Stop → (A → Result B Stop
 (Err e) >>= f = Err e
 
 -- the cause at the first of these bytes
-abbrev pub stop : {A : Type 0} → Cause → List ℕ → Result A Stop
+abbrev pub stop : {A : Type 0} → FileCauseKind → List ℕ → Result A Stop
 stop cause bytes = Err (record { cause = cause; left = length bytes })
 
 -- the bytes end within a field
@@ -49,20 +49,20 @@ mapped to from a = record {
 }
 
 -- only values that pass a test; what fails it fails at its own first byte
-abbrev pub such_that : {A : Type 0} → Cause → (A → Bool) → Form A → Form A
+abbrev pub such_that : {A : Type 0} → FileCauseKind → (A → Bool) → Form A → Form A
 such_that cause test a = record {
   fits = λ v. a.fits v × IsTrue (test v);
   written = a.written;
   read = λ bytes. a.read bytes >>= λ x. if test x.0 then Ok x else stop cause bytes;
 }
 
-abbrev pub taken_as : {B : Type 0} → Cause → List ℕ → Option B → List ℕ → Read B
+abbrev pub taken_as : {B : Type 0} → FileCauseKind → List ℕ → Option B → List ℕ → Read B
 taken_as cause bytes None rest = stop cause bytes
 taken_as cause bytes (Some v) rest = Ok (v, rest)
 
 -- What stands for another value where it stands for one; what stands for none fails at its first
 -- byte.
-abbrev pub standing_for : {A B : Type 0} → Cause → (A → Option B) → (B → A) → Form A → Form B
+abbrev pub standing_for : {A B : Type 0} → FileCauseKind → (A → Option B) → (B → A) → Form A → Form B
 standing_for cause to from a = record {
   fits = λ v. a.fits (from v) × (to (from v) ≡ Some v);
   written = λ v. a.written (from v);
@@ -128,7 +128,7 @@ number w limit = record {
 }
 
 -- behind a mark
-abbrev pub marked : {A : Type 0} → Cause → List ℕ → Form A → Form A
+abbrev pub marked : {A : Type 0} → FileCauseKind → List ℕ → Form A → Form A
 marked cause mark a =
     mapped (λ p. p.1) (λ v. (mark, v))
     (both (such_that cause (bytes_eq mark) (raw (length mark))) a)

@@ -2,7 +2,7 @@
 use Rattle.std.specs.Prelude.{ℕ, Bool, ◌^◌, nat_lt, List, [], ◌∷◌, Option, Some, None}
 use Rattle.std.specs.Int.{w16}
 use Rattle.query_values.specs.declared.operation.Binary.TheVariants as binary
-use Rattle.query_code.specs.declared.refusal.Cause.TheVariants.{BadField}
+use Rattle.query_code.specs.declared.cause.FileCauseKind.TheVariants.{BadField}
 use Rattle.query_code.specs.declared.instruction.Push.TheVariants as push
 use Rattle.query_code.specs.declared.instruction.Unary.TheVariants as unary
 use Rattle.query_code.specs.declared.instruction.Instruction.{Instruction}

@@ -3,5 +3,5 @@ pub mod InstructionForm
 pub mod TextForm
 pub mod QueryFile
 pub mod Listing
-pub mod Cause
+pub mod FileCause
 pub mod Upgrade

@@ -15,10 +15,10 @@ use Rattle.bean_base.specs.declared.days.Day.{Day}
 use Rattle.query_values.specs.declared.decimal.Decimal.{Decimal}
 use Rattle.query_values.specs.declared.operation.Aggregate.{Aggregate}
 use Rattle.query_values.specs.declared.operation.Aggregate.TheVariants as aggregates
-use Rattle.query_code.specs.declared.refusal.Cause.TheVariants.{Magic, Version, TrailingBytes}
-use Rattle.query_code.specs.declared.refusal.Cause.TheVariants.{BadField}
-use Rattle.query_code.specs.declared.refusal.Stop.{Stop}
-use Rattle.query_code.specs.declared.refusal.Refusal.{Refusal}
+use Rattle.query_code.specs.declared.cause.FileCauseKind.TheVariants.{Magic, Version, TrailingBytes}
+use Rattle.query_code.specs.declared.cause.FileCauseKind.TheVariants.{BadField}
+use Rattle.query_code.specs.declared.cause.Stop.{Stop}
+use Rattle.query_code.specs.declared.cause.FileCause.{FileCause}
 use Rattle.query_code.specs.declared.instruction.Instruction.{Instruction}
 use Rattle.query_code.specs.declared.program.Mode.{Mode}
 use Rattle.query_code.specs.declared.program.Mode.TheVariants.{Plain, Grouped}
@@ -277,15 +277,15 @@ unfoldable pub whole : List ℕ → Result Parts Stop
 whole bytes = file.read bytes >>= λ x. if length x.1 == 0 then Ok x.0 else stop TrailingBytes x.1
 
 -- the byte where so many are left
-abbrev pub refusal_of : List ℕ → Stop → Refusal
-refusal_of bytes s = record { code = s.cause; place = length bytes - s.left }
+abbrev pub cause_of : List ℕ → Stop → FileCause
+cause_of bytes s = record { kind = s.cause; place = length bytes - s.left }
 
-abbrev pub refused : {A : Type 0} → List ℕ → Result A Stop → Result A Refusal
+abbrev pub refused : {A : Type 0} → List ℕ → Result A Stop → Result A FileCause
 refused bytes (Ok q) = Ok q
-refused bytes (Err s) = Err (refusal_of bytes s)
+refused bytes (Err s) = Err (cause_of bytes s)
 
 -- What bytes are: the parts of the program whose file they are, or why they are no file.
-abbrev pub decoded : List ℕ → Result Parts Refusal
+abbrev pub decoded : List ℕ → Result Parts FileCause
 decoded bytes = refused bytes (whole bytes)
 
 -- no program has two files, and no bytes are the file of two programs

@@ -1,7 +1,7 @@
 -- How texts are written, and which texts bytes are.
 use Rattle.std.specs.Prelude.{◌≡◌, ℕ, List, [], length, Ok, Err}
 use Rattle.std.specs.Str.{is_utf8}
-use Rattle.query_code.specs.declared.refusal.Cause.TheVariants.{NotUtf8}
+use Rattle.query_code.specs.declared.cause.FileCauseKind.TheVariants.{NotUtf8}
 use Rattle.query_code.specs.ByteForm.{Form, Read, raw, mapped, such_that, before, read_all}
 use Rattle.query_code.specs.ByteForm.{AllFit, all_written}
 use Rattle.query_code.specs.InstructionForm.{word}

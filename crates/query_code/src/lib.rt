@@ -16,8 +16,8 @@
 //!
 //! # Faults
 //!
-//! None of its own; [`Cause`] numbers what keeps bytes from being a query file (`V1` to `V6`) and a
-//! query file from being run (`V7` to `V18`).
+//! None of its own; [`FileCause`] is what keeps bytes from being a query file (`V1` to `V6`), with
+//! its byte.
 //!
 //! # Cost
 //!
@@ -25,16 +25,16 @@
 //! a [`TextList`] is lent from the file as it stands there, or keeps its texts so.
 #![tactic(auto)]
 
+mod cause;
 mod instruction;
 mod listing;
 mod program;
-mod refusal;
 pub mod text_list;
 mod upgrading;
 
+pub use cause::{FileCause, FileCauseKind, Stop};
 pub use instruction::{Instruction, Push, Unary};
 pub use listing::show;
 pub use program::{Code, Constant, Mode, Numbers, Output, Parts, Program};
-pub use refusal::{Cause, Refusal, Stop};
 pub use text_list::TextList;
 pub use upgrading::{upgrade, upgraded_files_differ_in_version};

@@ -1,6 +1,7 @@
 -- Reading texts one after the other without keeping them, as a loop does.
 use Rattle.std.proofs.Common.{◌≡◌, ℕ, ◌-◌, ◌+◌, ◌≤◌, ◌<◌, List, [], ◌∷◌, ◌++◌, Ok, sym, ap, ◌∙◌}
-use Rattle.query_file.specs.declared.fault.Fault.{Fault}
+use Rattle.query_code.specs.declared.cause.Stop.{Stop}
+use Rattle.refusals.specs.declared.refusal.Refusal.{Refusal}
 use Rattle.query_code.specs.ByteForm.{Read, read_all}
 use Rattle.query_code.specs.TextForm.{text, texts_in, read_values}
 use Rattle.query_file.specs.FieldReading.{Fails}
@@ -23,7 +24,7 @@ goes_on count i rest t after bytes lt h p = record {
   so_far = row.goes_on text p.front count i rest t after bytes lt h p.so_far;
 }
 
-pub ends : (fault : Fault) (count i : ℕ) (rest bytes : List ℕ) → i < count
+pub ends : (fault : Refusal Stop) (count i : ℕ) (rest bytes : List ℕ) → i < count
     → Fails fault (text.read rest) → IsPassing (count - i) rest count bytes
     → Fails fault (read_all text count bytes)
 ends fault count i rest bytes lt h p = row.ends text fault p.front count i rest bytes lt h p.so_far

@@ -2,8 +2,9 @@
 use Rattle.std.proofs.Common.{◌≡◌, ℕ, zero, suc, ◌-◌, ◌+◌, ◌≤◌, ◌<◌, List, length, [], ◌∷◌, ◌++◌}
 use Rattle.std.proofs.Common.{Ok, Err, refl, sym, ap, ◌∙◌, append_assoc, arith}
 use Rattle.std.proofs.lemmas.List.{append-nil}
-use Rattle.query_file.specs.declared.fault.Fault.{Fault}
-use Rattle.query_file.specs.declared.fault.Fault.TheVariants.{OutOfMemory, Stopped}
+use Rattle.query_code.specs.declared.cause.Stop.{Stop}
+use Rattle.refusals.specs.declared.refusal.Refusal.{Refusal}
+use Rattle.refusals.specs.declared.refusal.Refusal.TheVariants.{OutOfMemory, Refused}
 use Rattle.query_code.proofs.ByteFormFacts.{bind_ok, ok_is}
 use Rattle.query_code.specs.ByteForm.{Form, Read, ◌>>=◌, read_all}
 use Rattle.query_file.specs.FieldReading.{Fails}
@@ -45,12 +46,12 @@ goes_on a front count i rest v after bytes lt h so_far =
     record { total = sym one ∙ so_far.total }
 
 pub ends :
-    {A : Type 0} (a : Form A) (fault : Fault) (front : List A) (count i : ℕ) (rest bytes : List ℕ)
+    {A : Type 0} (a : Form A) (fault : Refusal Stop) (front : List A) (count i : ℕ) (rest bytes : List ℕ)
     → i < count → Fails fault (a.read rest)
     → IsOnTheWay a front (count - i) rest count bytes → Fails fault (read_all a count bytes)
 unfolding read_all
 ends a OutOfMemory front count i rest bytes lt h so_far = tt
-ends a (Stopped f) front count i rest bytes lt h so_far =
+ends a (Refused f) front count i rest bytes lt h so_far =
     let k : count - i ≡ suc (count - (i + 1)) = omega arith in
     let one : with_front front (read_all a (count - i) rest) ≡ Err f = rw (k, h) refl in
     sym so_far.total ∙ one

@@ -1,6 +1,6 @@
 //! Reading the lists of a query file, and the sections and the pool that they make.
 ghost use Rattle.std.specs.Prelude.{◌≡◌, List, length, Ok, IfOk};
-ghost use Rattle.query_code.specs.declared.refusal.Cause.TheVariants.{BadField};
+ghost use Rattle.query_code.specs.declared.cause.FileCauseKind.TheVariants.{BadField};
 ghost use Rattle.query_code.specs.ByteForm.{byte, counted, read_all, such_that};
 ghost use Rattle.query_file.specs.FieldReading.{Gives};
 ghost use Rattle.query_code.specs.InstructionForm.{word, instruction};
@@ -9,15 +9,17 @@ ghost use Rattle.query_code.specs.TextForm.{text, texts_in};
 ghost use Rattle.query_code.specs.QueryFile.{section, some_number, place_below, columns, output};
 ghost use Rattle.query_code.specs.QueryFile.{only, code};
 
-use crate::fault::Fault;
 use crate::instruction_reading::instruction_at;
 use crate::reading::{
     byte_at, count_at, day_at, decimal_at, flag_at, limit_at, places_at, some_byte_at,
     some_number_at, stopped, text_at, word_at,
 };
 use bean_base::{Day, List, Slice};
-use query_code::{Cause, Code, Constant, Instruction, Mode, Numbers, Output, TextList};
+use query_code::{
+    Code, Constant, FileCauseKind, Instruction, Mode, Numbers, Output, Stop, TextList,
+};
 use query_values::Aggregate;
+use refusals::Refusal;
 use std::alloc::Global;
 
 /// So many instructions.
@@ -26,7 +28,7 @@ pub fn instructions_at(
     alloc: Global,
     len: usize,
     bytes: &[u8],
-) -> Result<(Vec<Instruction>, &[u8]), Fault>
+) -> Result<(Vec<Instruction>, &[u8]), Refusal<Stop>>
     ensures read { Gives (λ x. (x.0.items, x.1.now)) result (read_all instruction len bytes.now) }
     ensures number { IfOk result (λ x. length x.0.items ≡ len) }
 {
@@ -42,7 +44,11 @@ pub fn instructions_at(
 
 /// So many texts.
 #[tactic(auto, using(crate::proofs::RowFacts::in_a_row))]
-pub fn texts_at(alloc: Global, len: usize, bytes: &[u8]) -> Result<(Vec<Slice<'_>>, &[u8]), Fault>
+pub fn texts_at(
+    alloc: Global,
+    len: usize,
+    bytes: &[u8],
+) -> Result<(Vec<Slice<'_>>, &[u8]), Refusal<Stop>>
     ensures read { Gives (λ x. (x.0.items, x.1.now)) result (read_all text len bytes.now) }
     ensures number { IfOk result (λ x. length x.0.items ≡ len) }
 {
@@ -58,7 +64,11 @@ pub fn texts_at(alloc: Global, len: usize, bytes: &[u8]) -> Result<(Vec<Slice<'_
 
 /// So many counts.
 #[tactic(auto, using(crate::proofs::RowFacts::in_a_row))]
-pub fn counts_at(alloc: Global, len: usize, bytes: &[u8]) -> Result<(Vec<i128>, &[u8]), Fault>
+pub fn counts_at(
+    alloc: Global,
+    len: usize,
+    bytes: &[u8],
+) -> Result<(Vec<i128>, &[u8]), Refusal<Stop>>
     ensures read { Gives (λ x. (x.0.items, x.1.now)) result (read_all count len bytes.now) }
     ensures number { IfOk result (λ x. length x.0.items ≡ len) }
 {
@@ -74,7 +84,7 @@ pub fn counts_at(alloc: Global, len: usize, bytes: &[u8]) -> Result<(Vec<i128>, 
 
 /// So many days.
 #[tactic(auto, using(crate::proofs::RowFacts::in_a_row))]
-pub fn days_at(alloc: Global, len: usize, bytes: &[u8]) -> Result<(Vec<Day>, &[u8]), Fault>
+pub fn days_at(alloc: Global, len: usize, bytes: &[u8]) -> Result<(Vec<Day>, &[u8]), Refusal<Stop>>
     ensures read { Gives (λ x. (x.0.items, x.1.now)) result (read_all day len bytes.now) }
     ensures number { IfOk result (λ x. length x.0.items ≡ len) }
 {
@@ -89,7 +99,7 @@ pub fn days_at(alloc: Global, len: usize, bytes: &[u8]) -> Result<(Vec<Day>, &[u
 }
 
 #[tactic(auto, unfolding(query_code::specs::QueryFile::aggregate))]
-fn aggregate_at(bytes: &[u8]) -> Result<(Aggregate, &[u8]), Fault>
+fn aggregate_at(bytes: &[u8]) -> Result<(Aggregate, &[u8]), Refusal<Stop>>
     ensures { Gives (λ x. (x.0, x.1.now)) result (aggregate.read bytes.now) }
 {
     let (kind, rest) = byte_at(bytes)?;
@@ -108,7 +118,7 @@ fn aggregate_at(bytes: &[u8]) -> Result<(Aggregate, &[u8]), Fault>
         5 => Ok((Aggregate::Last, rest)),
         6 => Ok((Aggregate::Min, rest)),
         7 => Ok((Aggregate::Max, rest)),
-        _ => Err(stopped(Cause::BadField, bytes)),
+        _ => Err(stopped(FileCauseKind::BadField, bytes)),
     }
 }
 
@@ -118,7 +128,7 @@ pub fn aggregates_at(
     alloc: Global,
     len: usize,
     bytes: &[u8],
-) -> Result<(Vec<Aggregate>, &[u8]), Fault>
+) -> Result<(Vec<Aggregate>, &[u8]), Refusal<Stop>>
     ensures read { Gives (λ x. (x.0.items, x.1.now)) result (read_all aggregate len bytes.now) }
     ensures number { IfOk result (λ x. length x.0.items ≡ len) }
 {
@@ -133,7 +143,7 @@ pub fn aggregates_at(
 }
 
 #[tactic(auto, unfolding(query_code::specs::QueryFile::numbers))]
-fn numbers_at(alloc: Global, bytes: &[u8]) -> Result<(Numbers, &[u8]), Fault>
+fn numbers_at(alloc: Global, bytes: &[u8]) -> Result<(Numbers, &[u8]), Refusal<Stop>>
     ensures { Gives (λ x. (x.0, x.1.now)) result (numbers.read bytes.now) }
 {
     let (places, rest) = places_at(bytes)?;
@@ -145,7 +155,7 @@ fn numbers_at(alloc: Global, bytes: &[u8]) -> Result<(Numbers, &[u8]), Fault>
 
 /// What stands behind so many texts.
 #[tactic(auto, using(crate::proofs::PassingFacts::passing))]
-fn behind_texts(len: usize, bytes: &[u8]) -> Result<&[u8], Fault>
+fn behind_texts(len: usize, bytes: &[u8]) -> Result<&[u8], Refusal<Stop>>
     ensures { Gives (λ rest. (texts_in len bytes.now, rest.now)) result
         (read_all text len bytes.now) }
 {
@@ -158,7 +168,7 @@ fn behind_texts(len: usize, bytes: &[u8]) -> Result<&[u8], Fault>
 }
 
 /// A list of texts, which takes no memory: the file has it as it is kept.
-fn some_texts_at(alloc: Global, bytes: &[u8]) -> Result<(TextList<'_>, &[u8]), Fault>
+fn some_texts_at(alloc: Global, bytes: &[u8]) -> Result<(TextList<'_>, &[u8]), Refusal<Stop>>
     ensures { Gives (λ x. (x.0, x.1.now)) result ((counted some_number text).read bytes.now) }
 {
     let (len, rest) = some_number_at(bytes)?;
@@ -167,7 +177,7 @@ fn some_texts_at(alloc: Global, bytes: &[u8]) -> Result<(TextList<'_>, &[u8]), F
     Ok((TextList::lent(alloc, len, written), after))
 }
 
-fn some_days_at(alloc: Global, bytes: &[u8]) -> Result<(List<Day>, &[u8]), Fault>
+fn some_days_at(alloc: Global, bytes: &[u8]) -> Result<(List<Day>, &[u8]), Refusal<Stop>>
     ensures { Gives (λ x. (x.0, x.1.now)) result ((counted some_number day).read bytes.now) }
 {
     let (count, rest) = some_number_at(bytes)?;
@@ -176,7 +186,7 @@ fn some_days_at(alloc: Global, bytes: &[u8]) -> Result<(List<Day>, &[u8]), Fault
 }
 
 #[tactic(auto, unfolding(query_code::specs::QueryFile::constant))]
-fn constant_at(alloc: Global, bytes: &[u8]) -> Result<(Constant<'_>, &[u8]), Fault>
+fn constant_at(alloc: Global, bytes: &[u8]) -> Result<(Constant<'_>, &[u8]), Refusal<Stop>>
     ensures { Gives (λ x. (x.0, x.1.now)) result (constant.read bytes.now) }
 {
     let (kind, rest) = byte_at(bytes)?;
@@ -209,7 +219,7 @@ fn constant_at(alloc: Global, bytes: &[u8]) -> Result<(Constant<'_>, &[u8]), Fau
             let (days, rest) = some_days_at(alloc, rest)?;
             Ok((Constant::Days(days), rest))
         }
-        _ => Err(stopped(Cause::BadField, bytes)),
+        _ => Err(stopped(FileCauseKind::BadField, bytes)),
     }
 }
 
@@ -219,7 +229,7 @@ pub fn constants_at(
     alloc: Global,
     len: usize,
     bytes: &[u8],
-) -> Result<(Vec<Constant<'_>>, &[u8]), Fault>
+) -> Result<(Vec<Constant<'_>>, &[u8]), Refusal<Stop>>
     ensures read { Gives (λ x. (x.0.items, x.1.now)) result (read_all constant len bytes.now) }
     ensures number { IfOk result (λ x. length x.0.items ≡ len) }
 {
@@ -234,12 +244,12 @@ pub fn constants_at(
 }
 
 #[tactic(auto, unfolding(query_code::specs::QueryFile::place_below))]
-fn place_below_at(most: usize, bytes: &[u8]) -> Result<(u8, &[u8]), Fault>
+fn place_below_at(most: usize, bytes: &[u8]) -> Result<(u8, &[u8]), Refusal<Stop>>
     ensures { Gives (λ x. (x.0, x.1.now)) result ((place_below most).read bytes.now) }
 {
     let (place, rest) = byte_at(bytes)?;
     if place as usize >= most {
-        return Err(stopped(Cause::BadField, bytes));
+        return Err(stopped(FileCauseKind::BadField, bytes));
     }
     Ok((place, rest))
 }
@@ -251,7 +261,7 @@ pub fn order_at(
     most: usize,
     len: usize,
     bytes: &[u8],
-) -> Result<(Vec<u8>, &[u8]), Fault>
+) -> Result<(Vec<u8>, &[u8]), Refusal<Stop>>
     ensures read { Gives (λ x. (x.0.items, x.1.now)) result
         (read_all (place_below most) len bytes.now) }
     ensures number { IfOk result (λ x. length x.0.items ≡ len) }
@@ -276,7 +286,7 @@ struct Columns<'a> {
 }
 
 #[tactic(auto, unfolding(query_code::specs::QueryFile::columns))]
-fn columns_at(alloc: Global, bytes: &[u8]) -> Result<(Columns<'_>, &[u8]), Fault>
+fn columns_at(alloc: Global, bytes: &[u8]) -> Result<(Columns<'_>, &[u8]), Refusal<Stop>>
     ensures { Gives (λ x. ((x.0.targets, (x.0.hidden, x.0.order)), x.1.now)) result
         (columns.read bytes.now) }
 {
@@ -295,7 +305,7 @@ fn columns_at(alloc: Global, bytes: &[u8]) -> Result<(Columns<'_>, &[u8]), Fault
 }
 
 #[tactic(auto, unfolding(query_code::specs::QueryFile::output))]
-pub fn output_at(alloc: Global, bytes: &[u8]) -> Result<(Output<'_>, &[u8]), Fault>
+pub fn output_at(alloc: Global, bytes: &[u8]) -> Result<(Output<'_>, &[u8]), Refusal<Stop>>
     ensures { Gives (λ x. (x.0, x.1.now)) result (output.read bytes.now) }
 {
     let (is_distinct, rest) = flag_at(bytes)?;
@@ -314,29 +324,29 @@ pub fn output_at(alloc: Global, bytes: &[u8]) -> Result<(Output<'_>, &[u8]), Fau
 }
 
 /// A count, which is 0 unless the program groups.
-fn byte_if_grouped_at(mode: Mode, bytes: &[u8]) -> Result<(u8, &[u8]), Fault>
+fn byte_if_grouped_at(mode: Mode, bytes: &[u8]) -> Result<(u8, &[u8]), Refusal<Stop>>
     ensures { Gives (λ x. (x.0, x.1.now)) result ((only mode byte).read bytes.now) }
 {
     let (number, rest) = byte_at(bytes)?;
     if mode == Mode::Plain && number != 0 {
-        return Err(stopped(Cause::BadField, bytes));
+        return Err(stopped(FileCauseKind::BadField, bytes));
     }
     Ok((number, rest))
 }
 
 /// A count, which is 0 unless the program groups.
-fn word_if_grouped_at(mode: Mode, bytes: &[u8]) -> Result<(u16, &[u8]), Fault>
+fn word_if_grouped_at(mode: Mode, bytes: &[u8]) -> Result<(u16, &[u8]), Refusal<Stop>>
     ensures { Gives (λ x. (x.0, x.1.now)) result ((only mode word).read bytes.now) }
 {
     let (number, rest) = word_at(bytes)?;
     if mode == Mode::Plain && number != 0 {
-        return Err(stopped(Cause::BadField, bytes));
+        return Err(stopped(FileCauseKind::BadField, bytes));
     }
     Ok((number, rest))
 }
 
 #[tactic(auto, unfolding(query_code::specs::QueryFile::section))]
-fn section_at(alloc: Global, bytes: &[u8]) -> Result<(List<Instruction>, &[u8]), Fault>
+fn section_at(alloc: Global, bytes: &[u8]) -> Result<(List<Instruction>, &[u8]), Refusal<Stop>>
     ensures { Gives (λ x. (x.0, x.1.now)) result (section.read bytes.now) }
 {
     let (count, rest) = word_at(bytes)?;
@@ -348,7 +358,7 @@ fn grouped_aggregates_at(
     alloc: Global,
     mode: Mode,
     bytes: &[u8],
-) -> Result<(List<Aggregate>, &[u8]), Fault>
+) -> Result<(List<Aggregate>, &[u8]), Refusal<Stop>>
     ensures { Gives (λ x. (x.0, x.1.now)) result
         ((counted (only mode byte) aggregate).read bytes.now) }
 {
@@ -357,7 +367,7 @@ fn grouped_aggregates_at(
     Ok((List::new(aggregates), rest))
 }
 
-fn pool_at(alloc: Global, bytes: &[u8]) -> Result<(List<Constant<'_>>, &[u8]), Fault>
+fn pool_at(alloc: Global, bytes: &[u8]) -> Result<(List<Constant<'_>>, &[u8]), Refusal<Stop>>
     ensures { Gives (λ x. (x.0, x.1.now)) result ((counted word constant).read bytes.now) }
 {
     let (count, rest) = word_at(bytes)?;
@@ -369,7 +379,7 @@ fn grouped_section_at(
     alloc: Global,
     mode: Mode,
     bytes: &[u8],
-) -> Result<(List<Instruction>, &[u8]), Fault>
+) -> Result<(List<Instruction>, &[u8]), Refusal<Stop>>
     ensures { Gives (λ x. (x.0, x.1.now)) result
         ((counted (only mode word) instruction).read bytes.now) }
 {
@@ -379,7 +389,7 @@ fn grouped_section_at(
 }
 
 #[tactic(auto, unfolding(query_code::specs::QueryFile::code))]
-pub fn code_at(alloc: Global, mode: Mode, bytes: &[u8]) -> Result<(Code<'_>, &[u8]), Fault>
+pub fn code_at(alloc: Global, mode: Mode, bytes: &[u8]) -> Result<(Code<'_>, &[u8]), Refusal<Stop>>
     ensures { Gives (λ x. (x.0, x.1.now)) result ((code mode).read bytes.now) }
 {
     let (keys, rest) = byte_if_grouped_at(mode, bytes)?;

@@ -5,30 +5,30 @@ ghost use Rattle.query_code.specs.ByteForm.{raw, such_that};
 ghost use Rattle.query_file.specs.FieldReading.{Gives};
 ghost use Rattle.query_code.specs.QueryFile.{bounds, mode, parts, file, whole, decoded, IsFile};
 ghost use Rattle.query_code.specs.QueryFile.{version, versioned};
-ghost use Rattle.query_code.specs.QueryFile.{refusal_of, HasOneFile, IsOneProgram};
+ghost use Rattle.query_code.specs.QueryFile.{cause_of, HasOneFile, IsOneProgram};
 ghost use Rattle.query_file.specs.Decoding.{Decodes};
 ghost use Rattle.query_code.specs.declared.program.Parts.{Parts};
 
 use crate::code_reading::{code_at, output_at};
-use crate::fault::{DecodeFault, Fault};
 use crate::reading::{byte_at, long_at, stopped, truncated, word_at};
 use bean_base::{Bounds, Version};
-use query_code::{Cause, Mode, Parts, Program, Refusal, Stop};
+use query_code::{FileCause, FileCauseKind, Mode, Parts, Program, Stop};
+use refusals::Refusal;
 use std::alloc::Global;
 
 #[tactic(auto, unfolding(query_code::specs::QueryFile::version))]
-fn version_at(bytes: &[u8]) -> Result<(Version, &[u8]), Fault>
+fn version_at(bytes: &[u8]) -> Result<(Version, &[u8]), Refusal<Stop>>
     ensures { Gives (λ x. (x.0, x.1.now)) result (version.read bytes.now) }
 {
     let (number, rest) = word_at(bytes)?;
     match Version::numbered(number) {
         Some(version) => Ok((version, rest)),
-        None => Err(stopped(Cause::Version, bytes)),
+        None => Err(stopped(FileCauseKind::Version, bytes)),
     }
 }
 
 #[tactic(auto, unfolding(query_code::specs::QueryFile::bounds))]
-fn bounds_at(schema: Version, bytes: &[u8]) -> Result<(Bounds, &[u8]), Fault>
+fn bounds_at(schema: Version, bytes: &[u8]) -> Result<(Bounds, &[u8]), Refusal<Stop>>
     ensures { Gives (λ x. (x.0, x.1.now)) result ((bounds schema).read bytes.now) }
 {
     let (postings, rest) = long_at(bytes)?;
@@ -44,19 +44,23 @@ fn bounds_at(schema: Version, bytes: &[u8]) -> Result<(Bounds, &[u8]), Fault>
 }
 
 #[tactic(auto, unfolding(query_code::specs::QueryFile::mode))]
-fn mode_at(bytes: &[u8]) -> Result<(Mode, &[u8]), Fault>
+fn mode_at(bytes: &[u8]) -> Result<(Mode, &[u8]), Refusal<Stop>>
     ensures { Gives (λ x. (x.0, x.1.now)) result (mode.read bytes.now) }
 {
     let (mode, rest) = byte_at(bytes)?;
     match mode {
         0 => Ok((Mode::Plain, rest)),
         1 => Ok((Mode::Grouped, rest)),
-        _ => Err(stopped(Cause::BadField, bytes)),
+        _ => Err(stopped(FileCauseKind::BadField, bytes)),
     }
 }
 
 #[tactic(auto, unfolding(query_code::specs::QueryFile::parts))]
-fn parts_at(alloc: Global, version: Version, bytes: &[u8]) -> Result<(Parts<'_>, &[u8]), Fault>
+fn parts_at(
+    alloc: Global,
+    version: Version,
+    bytes: &[u8],
+) -> Result<(Parts<'_>, &[u8]), Refusal<Stop>>
     ensures { Gives (λ x. (x.0, x.1.now)) result ((parts version).read bytes.now) }
 {
     let (bounds, rest) = bounds_at(version, bytes)?;
@@ -73,7 +77,7 @@ fn parts_at(alloc: Global, version: Version, bytes: &[u8]) -> Result<(Parts<'_>,
 }
 
 /// The bytes behind the mark.
-fn behind<'a>(cause: Cause, mark: &[u8], bytes: &'a [u8]) -> Result<&'a [u8], Fault>
+fn behind<'a>(cause: FileCauseKind, mark: &[u8], bytes: &'a [u8]) -> Result<&'a [u8], Refusal<Stop>>
     ensures { Gives (λ x. (mark.now, x.now)) result
         ((such_that cause (bytes_eq mark.now) (raw (length mark.now))).read bytes.now) }
 {
@@ -88,7 +92,7 @@ fn behind<'a>(cause: Cause, mark: &[u8], bytes: &'a [u8]) -> Result<&'a [u8], Fa
 }
 
 #[tactic(auto, unfolding(query_code::specs::QueryFile::versioned))]
-fn versioned_at(alloc: Global, bytes: &[u8]) -> Result<(Parts<'_>, &[u8]), Fault>
+fn versioned_at(alloc: Global, bytes: &[u8]) -> Result<(Parts<'_>, &[u8]), Refusal<Stop>>
     ensures { Gives (λ x. (x.0, x.1.now)) result (versioned.read bytes.now) }
 {
     let (version, rest) = version_at(bytes)?;
@@ -96,37 +100,37 @@ fn versioned_at(alloc: Global, bytes: &[u8]) -> Result<(Parts<'_>, &[u8]), Fault
 }
 
 #[tactic(auto, unfolding(query_code::specs::QueryFile::file))]
-fn file_at(alloc: Global, bytes: &[u8]) -> Result<(Parts<'_>, &[u8]), Fault>
+fn file_at(alloc: Global, bytes: &[u8]) -> Result<(Parts<'_>, &[u8]), Refusal<Stop>>
     ensures { Gives (λ x. (x.0, x.1.now)) result (file.read bytes.now) }
 {
-    let rest = behind(Cause::Magic, b"BQLC", bytes)?;
+    let rest = behind(FileCauseKind::Magic, b"BQLC", bytes)?;
     versioned_at(alloc, rest)
 }
 
 #[tactic(auto, unfolding(query_code::specs::QueryFile::whole))]
-fn whole(alloc: Global, bytes: &[u8]) -> Result<Parts<'_>, Fault>
+fn whole(alloc: Global, bytes: &[u8]) -> Result<Parts<'_>, Refusal<Stop>>
     ensures { Gives (λ x. x) result (whole bytes.now) }
 {
     let (parts, rest) = file_at(alloc, bytes)?;
     if !rest.is_empty() {
-        return Err(stopped(Cause::TrailingBytes, rest));
+        return Err(stopped(FileCauseKind::TrailingBytes, rest));
     }
     Ok(parts)
 }
 
-/// The refusal at the byte where so many are left.
-fn refusal_of(bytes: &[u8], stop: Stop) -> Refusal
-    ensures { result ≡ refusal_of bytes.now stop }
+/// The cause at the byte where so many are left.
+fn cause_of(bytes: &[u8], stop: Stop) -> FileCause
+    ensures { result ≡ cause_of bytes.now stop }
 {
-    Refusal {
-        code: stop.cause,
+    FileCause {
+        kind: stop.cause,
         place: bytes.len().saturating_sub(stop.left),
     }
 }
 
 /// The program whose file the bytes are; or the first field, in the order of the file, that keeps
 /// them from being one.
-pub fn decode(alloc: Global, bytes: &[u8]) -> Result<Program<'_>, DecodeFault>
+pub fn decode(alloc: Global, bytes: &[u8]) -> Result<Program<'_>, Refusal<FileCause>>
     // Which answer it is.
     ensures exact { Decodes result (decoded bytes.now) }
     // The bytes are the file of the program.
@@ -136,8 +140,8 @@ pub fn decode(alloc: Global, bytes: &[u8]) -> Result<Program<'_>, DecodeFault>
 {
     match whole(alloc, bytes) {
         Ok(parts) => Ok(Program { parts }),
-        Err(Fault::OutOfMemory) => Err(DecodeFault::OutOfMemory),
-        Err(Fault::Stopped(stop)) => Err(DecodeFault::Refused(refusal_of(bytes, stop))),
+        Err(Refusal::OutOfMemory) => Err(Refusal::OutOfMemory),
+        Err(Refusal::Refused(stop)) => Err(Refusal::Refused(cause_of(bytes, stop))),
     }
 }
 

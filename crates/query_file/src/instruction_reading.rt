@@ -4,10 +4,10 @@ ghost use Rattle.query_code.specs.ByteForm.{chosen};
 ghost use Rattle.query_code.specs.InstructionForm.{instruction, operand_cases, word_cases};
 ghost use Rattle.query_file.specs.FieldReading.{Gives};
 
-use crate::fault::Fault;
 use crate::reading::{byte_at, some_byte_at, stopped, word_at};
-use query_code::{Cause, Instruction, Push, Unary};
+use query_code::{FileCauseKind, Instruction, Push, Stop, Unary};
 use query_values::Binary;
+use refusals::Refusal;
 
 /// Those with two bytes behind their opcode, which stands before `rest`.
 #[tactic(auto, unfolding(query_code::specs::InstructionForm::word_cases))]
@@ -15,7 +15,7 @@ fn with_word_at<'a>(
     opcode: u8,
     rest: &'a [u8],
     bytes: &'a [u8],
-) -> Result<(Instruction, &'a [u8]), Fault>
+) -> Result<(Instruction, &'a [u8]), Refusal<Stop>>
     requires { bytes.now ≡ opcode ∷ rest.now }
     ensures { Gives (λ x. (x.0, x.1.now)) result ((chosen word_cases opcode).read rest.now) }
 {
@@ -56,7 +56,7 @@ fn with_word_at<'a>(
             let (operand, rest) = word_at(rest)?;
             Ok((Instruction::Push(Push::AnyMeta(operand)), rest))
         }
-        _ => Err(stopped(Cause::BadField, bytes)),
+        _ => Err(stopped(FileCauseKind::BadField, bytes)),
     }
 }
 
@@ -66,7 +66,7 @@ fn with_operand_at<'a>(
     opcode: u8,
     rest: &'a [u8],
     bytes: &'a [u8],
-) -> Result<(Instruction, &'a [u8]), Fault>
+) -> Result<(Instruction, &'a [u8]), Refusal<Stop>>
     requires { bytes.now ≡ opcode ∷ rest.now }
     ensures { Gives (λ x. (x.0, x.1.now)) result ((chosen operand_cases opcode).read rest.now) }
 {
@@ -104,7 +104,7 @@ fn with_operand_at<'a>(
 }
 
 #[tactic(auto, unfolding(query_code::specs::InstructionForm::instruction))]
-pub fn instruction_at(bytes: &[u8]) -> Result<(Instruction, &[u8]), Fault>
+pub fn instruction_at(bytes: &[u8]) -> Result<(Instruction, &[u8]), Refusal<Stop>>
     ensures { Gives (λ x. (x.0, x.1.now)) result (instruction.read bytes.now) }
 {
     let (opcode, rest) = byte_at(bytes)?;

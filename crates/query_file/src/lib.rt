@@ -24,11 +24,9 @@
 
 mod code_reading;
 mod decoding;
-mod fault;
 mod instruction_reading;
 mod reading;
 mod writing;
 
 pub use decoding::{decode, one_file_each};
-pub use fault::DecodeFault;
 pub use writing::encode;

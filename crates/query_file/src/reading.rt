@@ -4,40 +4,40 @@ ghost use Rattle.std.specs.Str.{is_utf8};
 ghost use Rattle.query_code.specs.ByteForm.{byte, read_all, such_that};
 ghost use Rattle.query_file.specs.FieldReading.{Gives};
 ghost use Rattle.query_code.specs.InstructionForm.{word, at_least_one};
-ghost use Rattle.query_code.specs.declared.refusal.Cause.TheVariants.{Truncated, BadField};
-ghost use Rattle.query_file.specs.declared.fault.Fault.TheVariants.{Stopped};
+ghost use Rattle.query_code.specs.declared.cause.FileCauseKind.TheVariants.{Truncated, BadField};
+ghost use Rattle.refusals.specs.declared.refusal.Refusal.TheVariants.{Refused};
 ghost use Rattle.query_code.specs.QueryFile.{long, count, flag, limit, places, some_number};
 ghost use Rattle.query_code.specs.QueryFile.{decimal, day};
 ghost use Rattle.query_code.specs.TextForm.{text};
 
-use crate::fault::Fault;
 use bean_base::limits::MOST_PLACES;
 use bean_base::{Day, Slice};
-use query_code::{Cause, Stop};
+use query_code::{FileCauseKind, Stop};
 use query_values::Decimal;
+use refusals::Refusal;
 use std::alloc::Global;
 
 /// The cause at the first of these bytes.
-pub fn stopped(cause: Cause, bytes: &[u8]) -> Fault
-    ensures { result ≡ Stopped (record { cause = cause; left = length bytes.now }) }
+pub fn stopped(cause: FileCauseKind, bytes: &[u8]) -> Refusal<Stop>
+    ensures { result ≡ Refused (record { cause = cause; left = length bytes.now }) }
 {
-    Fault::Stopped(Stop {
+    Refusal::Refused(Stop {
         cause,
         left: bytes.len(),
     })
 }
 
 /// The bytes end within a field.
-pub fn truncated() -> Fault
-    ensures { result ≡ Stopped (record { cause = Truncated; left = 0 }) }
+pub fn truncated() -> Refusal<Stop>
+    ensures { result ≡ Refused (record { cause = Truncated; left = 0 }) }
 {
-    Fault::Stopped(Stop {
-        cause: Cause::Truncated,
+    Refusal::Refused(Stop {
+        cause: FileCauseKind::Truncated,
         left: 0,
     })
 }
 
-pub fn byte_at(bytes: &[u8]) -> Result<(u8, &[u8]), Fault>
+pub fn byte_at(bytes: &[u8]) -> Result<(u8, &[u8]), Refusal<Stop>>
     ensures { Gives (λ x. (x.0, x.1.now)) result (byte.read bytes.now) }
 {
     match bytes {
@@ -46,7 +46,7 @@ pub fn byte_at(bytes: &[u8]) -> Result<(u8, &[u8]), Fault>
     }
 }
 
-pub fn word_at(bytes: &[u8]) -> Result<(u16, &[u8]), Fault>
+pub fn word_at(bytes: &[u8]) -> Result<(u16, &[u8]), Refusal<Stop>>
     ensures { Gives (λ x. (x.0, x.1.now)) result (word.read bytes.now) }
 {
     if bytes.len() < 2 {
@@ -56,7 +56,7 @@ pub fn word_at(bytes: &[u8]) -> Result<(u16, &[u8]), Fault>
     Ok((u16::from_be_bytes([front[0], front[1]]), rest))
 }
 
-pub fn long_at(bytes: &[u8]) -> Result<(u32, &[u8]), Fault>
+pub fn long_at(bytes: &[u8]) -> Result<(u32, &[u8]), Refusal<Stop>>
     ensures { Gives (λ x. (x.0, x.1.now)) result (long.read bytes.now) }
 {
     if bytes.len() < 4 {
@@ -68,19 +68,19 @@ pub fn long_at(bytes: &[u8]) -> Result<(u32, &[u8]), Fault>
 }
 
 #[tactic(auto, unfolding(query_code::specs::QueryFile::flag))]
-pub fn flag_at(bytes: &[u8]) -> Result<(bool, &[u8]), Fault>
+pub fn flag_at(bytes: &[u8]) -> Result<(bool, &[u8]), Refusal<Stop>>
     ensures { Gives (λ x. (x.0, x.1.now)) result (flag.read bytes.now) }
 {
     let (value, rest) = byte_at(bytes)?;
     match value {
         0 => Ok((false, rest)),
         1 => Ok((true, rest)),
-        _ => Err(stopped(Cause::BadField, bytes)),
+        _ => Err(stopped(FileCauseKind::BadField, bytes)),
     }
 }
 
 #[tactic(auto, unfolding(query_code::specs::QueryFile::limit))]
-pub fn limit_at(bytes: &[u8]) -> Result<(Option<u32>, &[u8]), Fault>
+pub fn limit_at(bytes: &[u8]) -> Result<(Option<u32>, &[u8]), Refusal<Stop>>
     ensures { Gives (λ x. (x.0, x.1.now)) result (limit.read bytes.now) }
 {
     let (has, rest) = byte_at(bytes)?;
@@ -90,7 +90,7 @@ pub fn limit_at(bytes: &[u8]) -> Result<(Option<u32>, &[u8]), Fault>
             let (most, rest) = long_at(rest)?;
             Ok((Some(most), rest))
         }
-        _ => Err(stopped(Cause::BadField, bytes)),
+        _ => Err(stopped(FileCauseKind::BadField, bytes)),
     }
 }
 
@@ -107,7 +107,7 @@ fn as_text(bytes: &[u8]) -> Option<&str>
 
 /// A text behind its length in bytes.
 #[tactic(auto, unfolding(query_code::specs::TextForm::text))]
-pub fn text_at(bytes: &[u8]) -> Result<(Slice<'_>, &[u8]), Fault>
+pub fn text_at(bytes: &[u8]) -> Result<(Slice<'_>, &[u8]), Refusal<Stop>>
     ensures { Gives (λ x. (x.0, x.1.now)) result (text.read bytes.now) }
 {
     let (len, rest) = word_at(bytes)?;
@@ -118,13 +118,13 @@ pub fn text_at(bytes: &[u8]) -> Result<(Slice<'_>, &[u8]), Fault>
     let (front, after) = rest.split_at(len);
     match as_text(front) {
         Some(text) => Ok((Slice::new(text), after)),
-        None => Err(stopped(Cause::NotUtf8, rest)),
+        None => Err(stopped(FileCauseKind::NotUtf8, rest)),
     }
 }
 
 /// A count in 16 bytes, which isn't the least of these.
 #[tactic(auto, unfolding(query_code::specs::QueryFile::count))]
-pub fn count_at(bytes: &[u8]) -> Result<(i128, &[u8]), Fault>
+pub fn count_at(bytes: &[u8]) -> Result<(i128, &[u8]), Refusal<Stop>>
     ensures { Gives (λ x. (x.0, x.1.now)) result (count.read bytes.now) }
 {
     if bytes.len() < 16 {
@@ -136,59 +136,59 @@ pub fn count_at(bytes: &[u8]) -> Result<(i128, &[u8]), Fault>
         front[9], front[10], front[11], front[12], front[13], front[14], front[15],
     ]);
     if count == i128::MIN {
-        return Err(stopped(Cause::BadField, bytes));
+        return Err(stopped(FileCauseKind::BadField, bytes));
     }
     Ok((count, rest))
 }
 
-pub fn places_at(bytes: &[u8]) -> Result<(u8, &[u8]), Fault>
+pub fn places_at(bytes: &[u8]) -> Result<(u8, &[u8]), Refusal<Stop>>
     ensures { Gives (λ x. (x.0, x.1.now)) result (places.read bytes.now) }
 {
     let (places, rest) = byte_at(bytes)?;
     if places > MOST_PLACES {
-        return Err(stopped(Cause::BadField, bytes));
+        return Err(stopped(FileCauseKind::BadField, bytes));
     }
     Ok((places, rest))
 }
 
 /// A number of things, of which there has to be one.
-pub fn some_number_at(bytes: &[u8]) -> Result<(u16, &[u8]), Fault>
+pub fn some_number_at(bytes: &[u8]) -> Result<(u16, &[u8]), Refusal<Stop>>
     ensures { Gives (λ x. (x.0, x.1.now)) result (some_number.read bytes.now) }
 {
     let (number, rest) = word_at(bytes)?;
     if number == 0 {
-        return Err(stopped(Cause::BadField, bytes));
+        return Err(stopped(FileCauseKind::BadField, bytes));
     }
     Ok((number, rest))
 }
 
 /// A number of one byte, which isn't 0.
-pub fn some_byte_at(bytes: &[u8]) -> Result<(u8, &[u8]), Fault>
+pub fn some_byte_at(bytes: &[u8]) -> Result<(u8, &[u8]), Refusal<Stop>>
     ensures { Gives (λ x. (x.0, x.1.now)) result
         ((such_that BadField at_least_one byte).read bytes.now) }
 {
     let (number, rest) = byte_at(bytes)?;
     if number == 0 {
-        return Err(stopped(Cause::BadField, bytes));
+        return Err(stopped(FileCauseKind::BadField, bytes));
     }
     Ok((number, rest))
 }
 
 #[tactic(auto, unfolding(query_code::specs::QueryFile::decimal))]
-pub fn decimal_at(bytes: &[u8]) -> Result<(Decimal, &[u8]), Fault>
+pub fn decimal_at(bytes: &[u8]) -> Result<(Decimal, &[u8]), Refusal<Stop>>
     ensures { Gives (λ x. (x.0, x.1.now)) result (decimal.read bytes.now) }
 {
     let (places, rest) = places_at(bytes)?;
     let (count, rest) = count_at(rest)?;
     match Decimal::new(count, places) {
         Some(number) => Ok((number, rest)),
-        None => Err(stopped(Cause::BadField, bytes)),
+        None => Err(stopped(FileCauseKind::BadField, bytes)),
     }
 }
 
 /// A day of the calendar.
 #[tactic(auto, unfolding(query_code::specs::QueryFile::day))]
-pub fn day_at(bytes: &[u8]) -> Result<(Day, &[u8]), Fault>
+pub fn day_at(bytes: &[u8]) -> Result<(Day, &[u8]), Refusal<Stop>>
     ensures { Gives (λ x. (x.0, x.1.now)) result (day.read bytes.now) }
 {
     let (year, rest) = word_at(bytes)?;
@@ -196,6 +196,6 @@ pub fn day_at(bytes: &[u8]) -> Result<(Day, &[u8]), Fault>
     let (day, rest) = byte_at(rest)?;
     match Day::new(year, month, day) {
         Ok(day) => Ok((day, rest)),
-        Err(_) => Err(stopped(Cause::BadField, bytes)),
+        Err(_) => Err(stopped(FileCauseKind::BadField, bytes)),
     }
 }

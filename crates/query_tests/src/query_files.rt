@@ -1,9 +1,10 @@
 //! Query files that are decoded and written again, and bytes that are none.
 
 use bean_base::Day;
-use query_code::{Cause, Constant, Program, Refusal, TextList};
-use query_file::{DecodeFault, decode, encode};
+use query_code::{Constant, FileCause, FileCauseKind, Program, TextList};
+use query_file::{decode, encode};
 use query_values::Decimal;
+use refusals::Refusal;
 use std::alloc::Global;
 use std::test::Fail;
 
@@ -14,15 +15,15 @@ const COUNT: [u8; 43] = [
     0x00, 0x00, 0x00, 0x01, 0x00, 0x00, 0x00, 0x00, 0x01, 0x07, 0x00,
 ];
 
-fn refusal(alloc: Global, bytes: &[u8]) -> Option<Refusal> {
+fn cause(alloc: Global, bytes: &[u8]) -> Option<FileCause> {
     match decode(alloc, bytes) {
-        Err(DecodeFault::Refused(refusal)) => Some(refusal),
+        Err(Refusal::Refused(cause)) => Some(cause),
         _ => None,
     }
 }
 
-fn at(code: Cause, place: usize) -> Option<Refusal> {
-    Some(Refusal { code, place })
+fn at(kind: FileCauseKind, place: usize) -> Option<FileCause> {
+    Some(FileCause { kind, place })
 }
 
 fn program_of(alloc: Global, bytes: &[u8]) -> Result<Program<'_>, Fail> {
@@ -41,7 +42,7 @@ fn a_file_and_back(rt: HostRuntime) -> Result<(), Fail> {
 fn each_front_is_cut_short(rt: HostRuntime) -> Result<(), Fail> {
     for len in 0..COUNT.len() {
         let (front, _) = COUNT.split_at(len);
-        assert_eq!(rt; refusal(rt.alloc(), front), at(Cause::Truncated, len));
+        assert_eq!(rt; cause(rt.alloc(), front), at(FileCauseKind::Truncated, len));
     }
     Ok(())
 }
@@ -101,7 +102,7 @@ fn bad_entries_of_the_pool(rt: HostRuntime) -> Result<(), Fail> {
     let pools = [(1, no_day, 26), (1, no_texts, 26), (255, claims_more, 28)];
     for (count, entries, place) in pools {
         let file = with_pool(rt.alloc(), count, entries)?;
-        assert_eq!(rt; refusal(rt.alloc(), &file), at(Cause::BadField, place));
+        assert_eq!(rt; cause(rt.alloc(), &file), at(FileCauseKind::BadField, place));
     }
     Ok(())
 }

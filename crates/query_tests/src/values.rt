@@ -3,8 +3,9 @@
 use bean_base::{Slice, parse_currency};
 use bean_lots::{Inventory, Key};
 use query_values::{
-    Aggregate, Bag, Lent, Pattern, PatternFault, TextSet, Value, arithmetic, membership, part,
+    Aggregate, Bag, Lent, Pattern, PatternCause, TextSet, Value, arithmetic, membership, part,
 };
+use refusals::Refusal;
 use std::alloc::Global;
 use std::test::Fail;
 
@@ -57,7 +58,7 @@ fn patterns_without_regard_to_case(rt: HostRuntime) -> Result<(), Fail> {
 #[test]
 fn a_text_that_is_no_pattern(rt: HostRuntime) -> Result<(), Fail> {
     match Pattern::new(rt.alloc(), "(") {
-        Err(PatternFault::Refused) => Ok(()),
+        Err(Refusal::Refused(PatternCause::NotBuilt)) => Ok(()),
         _ => Err(Fail::from("a pattern")),
     }
 }

@@ -2,6 +2,7 @@ pub mod WideCount
 pub mod Wide
 pub mod TextSet
 pub mod Pattern
+pub mod PatternCause
 pub mod Component
 pub mod Total
 pub mod Bag

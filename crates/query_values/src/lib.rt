@@ -38,7 +38,7 @@
 //!
 //! # Faults
 //!
-//! `C2` ([`PatternFault`]), where a text is no regular expression or one that would be too large.
+//! `C2` ([`PatternCause`]), where a text is no regular expression or one that would be too large.
 //! Otherwise memory may lack, for patterns and for inventories alone.
 //!
 //! # Cost
@@ -49,6 +49,7 @@
 
 pub mod arithmetic;
 mod bag;
+mod cause;
 mod comparison;
 mod component;
 mod decimal;
@@ -63,9 +64,10 @@ mod text_set;
 mod value;
 
 pub use bag::Bag;
+pub use cause::PatternCause;
 pub use decimal::Decimal;
 pub use lent::Lent;
 pub use operation::{Aggregate, Binary};
-pub use pattern::{Finder, Pattern, PatternFault};
+pub use pattern::{Finder, Pattern};
 pub use text_set::TextSet;
 pub use value::Value;

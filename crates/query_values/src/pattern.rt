@@ -2,20 +2,11 @@
 ghost use Rattle.std.specs.Prelude.{◌≡◌, IfOk};
 ghost use Rattle.query_values.specs.Pattern.{is_found};
 
+use crate::cause::PatternCause;
+use refusals::Refusal;
 use regex::{Matcher, Regex, RegexBuilder};
 use std::alloc::{AllocError, Global};
 use std::marker::Model;
-use thiserror::Error;
-
-/// What keeps a text from being a pattern.
-#[derive(Clone, Copy, Debug, Drop, PartialEq, Eq, Error)]
-pub enum PatternFault {
-    /// It is no regular expression, or one that would be too large.
-    #[error("C2 pattern")]
-    Refused,
-    #[error("out of memory")]
-    OutOfMemory,
-}
 
 /// A regular expression, built to be searched for without regard to case. Its value is the text
 /// that writes it.
@@ -60,13 +51,13 @@ impl<'p> Model for Finder<'p> {
 
 impl Pattern {
     /// The pattern that a text writes.
-    pub fn new(alloc: Global, text: &str) -> Result<Pattern, PatternFault>
+    pub fn new(alloc: Global, text: &str) -> Result<Pattern, Refusal<PatternCause>>
         ensures { IfOk result (λ p. p ≡ text.now) }
     {
         match RegexBuilder::new(text).case_insensitive(true).build(alloc) {
             Ok(regex) => Ok(Pattern { regex }),
-            Err(regex::Error::OutOfMemory) => Err(PatternFault::OutOfMemory),
-            Err(_) => Err(PatternFault::Refused),
+            Err(regex::Error::OutOfMemory) => Err(Refusal::OutOfMemory),
+            Err(_) => Err(Refusal::Refused(PatternCause::NotBuilt)),
         }
     }
 

@@ -51,6 +51,7 @@
 #![tactic(auto)]
 
 mod answer;
+mod cause;
 mod cell;
 mod cells;
 mod headings;
@@ -62,7 +63,8 @@ mod table;
 mod writing;
 
 pub use answer::Answer;
+pub use cause::PrintCause;
 pub use cell::Cell;
 pub use rows::Rows;
 pub use table::print;
-pub use writing::{PrintFault, write_table};
+pub use writing::write_table;

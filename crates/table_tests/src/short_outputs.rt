@@ -3,8 +3,9 @@
 use bean_base::{List, Slice};
 use outputs::ShortWriter;
 use posting_table::Ledger;
+use refusals::Refusal;
 use std::test::Fail;
-use table_printer::{Answer, PrintFault, write_table};
+use table_printer::{Answer, PrintCause, write_table};
 
 #[test]
 fn a_short_table_is_told_with_its_count(rt: HostRuntime) -> Result<(), Fail> {
@@ -22,7 +23,8 @@ fn a_short_table_is_told_with_its_count(rt: HostRuntime) -> Result<(), Fail> {
     let ledger = Ledger::new(alloc);
     let mut out = ShortWriter::new(alloc, 5);
     let written = write_table(alloc, &answer, ledger.display(), &mut out);
-    assert_eq!(rt; written.err(), Some(PrintFault::NotWritten { written: 5 }));
+    let cause = PrintCause::NotWritten { written: 5 };
+    assert_eq!(rt; written.err(), Some(Refusal::Refused(cause)));
     assert_eq!(rt; out.taken(), b"date ".as_slice());
     Ok(())
 }

@@ -15,10 +15,12 @@ ghost use Rattle.bean_reductions.specs.Take.{units_of};
 use super::last::reduce_last;
 use super::queue::{Candidate, is_opposite, push_candidate, selects};
 use super::takes::reduce_candidates;
-use super::{LotFault, Method, Selector};
+use super::{Method, Selector};
+use crate::cause::LotCause;
 use bean_base::{Currency, Num};
 use bean_lots::inventory::{Positions, is_lot_of};
 use bean_lots::{Inventory, Key, Lot};
+use refusals::Refusal;
 use std::alloc::{AllocError, Global};
 
 /// Adds the candidate that is left of what is held under a key, where one is, and tells its units.
@@ -97,7 +99,7 @@ pub fn reduce_after<'a>(
     selector: &Selector<'_>,
     units: Num,
     method: Method,
-) -> Result<Vec<(Lot<'a>, Num)>, LotFault>
+) -> Result<Vec<(Lot<'a>, Num)>, Refusal<LotCause>>
     requires chooses { method ≢ Method.None }
     requires held { AreSmall (2 ^ 125) inventory.now }
     requires taken { AreSmall (2 ^ 125) taken.now }

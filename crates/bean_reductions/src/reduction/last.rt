@@ -11,10 +11,12 @@ ghost use Rattle.bean_reductions.specs.Reduction.{Reduces};
 use super::after::push_left;
 use super::queue::Candidate;
 use super::takes::reduce_candidates;
-use super::{LotFault, Method, Selector};
+use super::{Method, Selector};
+use crate::cause::LotCause;
 use bean_base::Num;
 use bean_lots::inventory::Positions;
 use bean_lots::{Inventory, Key, Lot};
+use refusals::Refusal;
 use std::alloc::{AllocError, Global};
 
 /// Whether a key is that of a lot of an earlier day than the candidate that was found last.
@@ -65,7 +67,7 @@ pub(crate) fn reduce_last<'a>(
     taken: &Inventory<'_>,
     selector: &Selector<'_>,
     want: i128,
-) -> Result<Vec<(Lot<'a>, Num)>, LotFault>
+) -> Result<Vec<(Lot<'a>, Num)>, Refusal<LotCause>>
     requires small { unsigned_abs want < 10 ^ 20 }
     requires held { AreSmall (2 ^ 125) positions }
     requires taken { AreSmall (2 ^ 125) taken.now }

@@ -8,8 +8,10 @@ ghost use Rattle.bean_reductions.specs.Candidate.{agrees, candidate_of, candidat
 ghost use Rattle.bean_reductions.specs.Take.{IsQueue, units_of};
 ghost use Rattle.bean_reductions.specs.Filling.{Judges};
 
-use super::{LotFault, Method, Selector};
+use super::{Method, Selector};
+use crate::cause::LotCause;
 use bean_lots::{Inventory, Key, Lot};
+use refusals::Refusal;
 use std::alloc::{AllocError, Global};
 use std::cmp::Reverse;
 use std::marker::Model;
@@ -167,20 +169,24 @@ fn comes_to(queue: &[Candidate<'_>], want: u128) -> bool
 }
 
 /// Whether a queue can be taken from.
-pub(crate) fn judge(method: Method, queue: &[Candidate<'_>], want: u128) -> Result<(), LotFault>
+pub(crate) fn judge(
+    method: Method,
+    queue: &[Candidate<'_>],
+    want: u128,
+) -> Result<(), Refusal<LotCause>>
     ensures { Judges method queue.now want result }
 {
     if queue.is_empty() {
-        return Err(LotFault::NoLotMatches);
+        return Err(Refusal::Refused(LotCause::NoLotMatches));
     }
     if method == Method::Strict && queue.len() > 1 {
         if comes_to(queue, want) {
             return Ok(());
         }
-        return Err(LotFault::AmbiguousLots);
+        return Err(Refusal::Refused(LotCause::AmbiguousLots));
     }
     if shortfall(queue, want) > 0 {
-        return Err(LotFault::NotEnoughUnits);
+        return Err(Refusal::Refused(LotCause::NotEnoughUnits));
     }
     Ok(())
 }

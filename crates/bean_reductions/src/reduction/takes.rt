@@ -12,9 +12,11 @@ ghost use Rattle.bean_reductions.specs.Reduction.{IsReduction, Reduces};
 ghost use Rattle.bean_reductions.specs.declared.reduction.Method.{Method};
 
 use super::queue::{Candidate, arrange, candidates, judge};
-use super::{LotFault, Method, Selector};
+use super::{Method, Selector};
+use crate::cause::LotCause;
 use bean_base::Num;
 use bean_lots::{Inventory, Lot};
+use refusals::Refusal;
 use std::alloc::{AllocError, Global};
 
 /// The number of that many units, with the sign of the want.
@@ -74,7 +76,7 @@ pub(crate) fn reduce_candidates<'a>(
     mut queue: Vec<Candidate<'a>>,
     want: i128,
     method: Method,
-) -> Result<Vec<(Lot<'a>, Num)>, LotFault>
+) -> Result<Vec<(Lot<'a>, Num)>, Refusal<LotCause>>
     requires small { unsigned_abs want < 10 ^ 20 }
     requires chooses { method ≢ Method.None }
     requires held { AllByRecursion IsHeld queue.items }
@@ -96,7 +98,7 @@ pub fn reduce<'a>(
     selector: &Selector<'_>,
     units: Num,
     method: Method,
-) -> Result<Vec<(Lot<'a>, Num)>, LotFault>
+) -> Result<Vec<(Lot<'a>, Num)>, Refusal<LotCause>>
     requires { method ≢ Method.None }
     ensures { let want = scaled units.count units.places 8 in
         Reduces method (candidates selector.now want inventory.now) want result }

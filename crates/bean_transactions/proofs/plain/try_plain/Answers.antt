@@ -1,4 +1,5 @@
 use Rattle.std.proofs.Common.{Err, ap, subst, sym}
+use Rattle.bean_interp.specs.Completion.{Completes}
 use Rattle.bean_interp.specs.Balance.{Judges}
 use Rattle.bean_interp.specs.Residual.{AreInRange}
 use Rattle.bean_transactions.specs.Outcome.{StopsAt}
@@ -26,7 +27,9 @@ returns-clause-tried c = λ s is.
     subst (λ l. Judges (booked_legs ps l) (Err c.in-Err.fault)) c.as_slice.ensures.value
     c.in-Err.ensures in
     let stops =
-    c.stop_of.ensures (booked_legs ps qs) (wide_as_written ps qs c.in-Err.fault judged) in
-    stopped_as_written s ps qs c.stop_of.result c.in_ok-posted.ensures c.requires.inside
-    (subst (λ n. StopsAt (LacksOrIsWide n (booked_legs ps qs)) c.stop_of.result)
+    c.refusal_of.ensures (booked_legs ps qs)
+    (subst (λ e. Completes (booked_legs ps qs) (Err e)) (sym c.completion_refusal.ensures)
+    (wide_as_written ps qs c.in-Err.fault judged)) in
+    stopped_as_written s ps qs c.refusal_of.result c.in_ok-posted.ensures c.requires.inside
+    (subst (λ n. StopsAt (LacksOrIsWide n (booked_legs ps qs)) c.refusal_of.result)
     (sym (ap (λ (h : Head). h.line) is)) stops)

@@ -10,4 +10,4 @@ returns-clause-err c =
     let is =
     c.deref-2.ensures.value ∙ c.in_ok-legs.ensures
     ∙ ap (spec.legs_of c.args.postings.now) c.deref.ensures.value in
-    c.stop_of.ensures legs (subst (λ legs. Completes legs (Err c.in-Err.fault)) is c.in-Err.ensures)
+    c.refusal_of.ensures legs (subst (λ legs. Completes legs (Err c.in-Err.fault)) is c.in-Err.ensures)

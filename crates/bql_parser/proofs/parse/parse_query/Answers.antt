@@ -1,6 +1,6 @@
 use Rattle.std.proofs.Common.{sym, subst, ◌∙◌}
 use Rattle.bql_lexer.specs.Tokens.{AreTokens}
-use Rattle.bql_parser.specs.Parse.{IsFaultBy}
+use Rattle.bql_parser.specs.Parse.{Parses, IsRefusalBy}
 use Rattle.bql_parser.specs.Read.{read_of}
 use Rattle.bql_parser.specs.Settled.{mapped}
 use Rattle.bql_parser.specs.View.{draft_of}
@@ -24,8 +24,8 @@ returns-in-Ok c =
 
 pub returns : goal.returns
 returns c =
-    not_read c.args.text.now c.as_slice.result.now c.in-Err.stuck c.fault_by.result
+    not_read c.args.text.now c.as_slice.result.now c.in-Err.stuck c.refusal_by.result
     (subst (AreTokens c.args.text.now) (sym c.as_slice.ensures.value) c.in_ok-found.ensures)
     c.in-Err.ensures
-    (subst (λ ts. IsFaultBy c.args.text.now ts c.in-Err.stuck c.fault_by.result)
-    (c.as_slice-in-Err.ensures.value ∙ sym c.as_slice.ensures.value) c.fault_by.ensures)
+    (subst (λ ts. IsRefusalBy c.args.text.now ts c.in-Err.stuck c.refusal_by.result)
+    (c.as_slice-in-Err.ensures.value ∙ sym c.as_slice.ensures.value) c.refusal_by.ensures)

@@ -21,9 +21,9 @@ returns-in-Ok-clause-only c =
     λ query is. ap (refused c.args.bytes.now)
     (sym (file_is c.args.bytes.now query is) ∙ c.in-Ok.ensures)
 
-pub returns-in-Err-Stopped-clause-only : goal.returns-in-Err-Stopped-clause-only
-returns-in-Err-Stopped-clause-only c =
+pub returns-in-Err-Refused-clause-only : goal.returns-in-Err-Refused-clause-only
+returns-in-Err-Refused-clause-only c =
     λ query is. ap (refused c.args.bytes.now)
     (sym (file_is c.args.bytes.now query is)
-    ∙ subst (λ fault. Fails fault (whole c.args.bytes.now)) c.in-Err-Stopped.field-0-is
-    c.in-Err-Stopped.ensures) ∙ ap Err (sym c.refusal_of.ensures)
+    ∙ subst (λ fault. Fails fault (whole c.args.bytes.now)) c.in-Err-Refused.field-0-is
+    c.in-Err-Refused.ensures) ∙ ap Err (sym c.cause_of.ensures)

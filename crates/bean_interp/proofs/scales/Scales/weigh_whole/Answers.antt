@@ -1,5 +1,5 @@
-use Rattle.std.proofs.Common.{◌∙◌, subst, sym}
-use Rattle.bean_interp.specs.Completion.{AreFills}
+use Rattle.std.proofs.Common.{Err, ◌∙◌, subst, sym}
+use Rattle.bean_interp.specs.Completion.{AreFills, Completes}
 use Rattle.bean_interp.proofs.WholeFacts.{none_filled, none_lack, too_wide}
 use Rattle.bean_interp.proofs.scales.Scales.weigh_whole.Goals as goal
 
@@ -13,4 +13,5 @@ returns-in-Ok c = (
 
 pub returns-in-Err : goal.returns-in-Err
 returns-in-Err c =
-    too_wide c.args.legs.now c.weigh.result _ c.requires c.in-Err.is c.weigh.ensures.wide
+    subst (λ r. Completes c.args.legs.now (Err r)) (sym c.completion_refusal.ensures)
+    (too_wide c.args.legs.now c.weigh.result _ c.requires c.in-Err.is c.weigh.ensures.wide)

@@ -38,16 +38,16 @@ returns-in-Ok-clause-standing c = λ m past st is.
     on_ok_weaker c.keep.result (λ standing. (Ok c.in-Ok.tried.posted, tries, standing))
     (c.keep.ensures.standing m past st (reweighed m past st c.args.self.now _ is))
 
-pub returns-in-Err-Fault-clause-standing : goal.returns-in-Err-Fault-clause-standing
-returns-in-Err-Fault-clause-standing c = λ m past st is.
+pub returns-in-Err-Refused-clause-standing : goal.returns-in-Err-Refused-clause-standing
+returns-in-Err-Refused-clause-standing c = λ m past st is.
     let w = c.args.written in
     let s = setting_of m st w in
     let told =
-    c.in-Err-Fault.ensures.tried s (settled m past st w c.args.self.now is) in
+    c.in-Err-Refused.ensures.tried s (settled m past st w c.args.self.now is) in
     let tries =
-    subst (λ ps. Tries s ps (Err c.in-Err-Fault.fault)) c.as_slice.ensures
-    (subst (StopsAt (λ f. Tries s c.as_slice.result.now (Err f))) c.in-Err-Fault.field-0-is told) in
-    on_ok_weaker c.drop_with.result (λ standing. (Err c.in-Err-Fault.fault, tries, standing))
+    subst (λ ps. Tries s ps (Err c.in-Err-Refused.fault)) c.as_slice.ensures
+    (subst (StopsAt (λ f. Tries s c.as_slice.result.now (Err f))) c.in-Err-Refused.field-0-is told) in
+    on_ok_weaker c.drop_with.result (λ standing. (Err c.in-Err-Refused.fault, tries, standing))
     (c.drop_with.ensures.standing m past st (reweighed m past st c.args.self.now _ is))
 
 pub returns-in-Ok-clause-full : goal.returns-in-Ok-clause-full

@@ -1,0 +1,32 @@
+use Rattle.std.proofs.Common.{◌≡◌, map, refl, ap, length, ◌∙◌}
+use Rattle.std.proofs.lemmas.List.Elements.{All-map}
+use Rattle.posting_table.specs.Decimals.{Decimals, decimals_of}
+use Rattle.posting_table.specs.Ledger.{Ledger}
+use Rattle.table_printer.specs.Table.{table_text}
+use Rattle.bq.specs.List.{headers, shown_row, table_of}
+use Rattle.bq.proofs.OneBook.{not_too_many}
+use Rattle.bq.proofs.commands.list.ListingQuestion.answer.Goals as goal
+
+-- the table that is printed is that of the ledger
+table_is : (ledger : Ledger) (decimals : Decimals) → decimals ≡ ledger.decimals
+    → table_text headers (map shown_row ledger.rows) (decimals_of decimals) ≡ table_of ledger
+table_is ledger decimals same =
+    ap (λ d. table_text headers (map shown_row ledger.rows) (decimals_of d)) same
+
+pub print-requires : goal.print-requires
+print-requires c =
+    All-map (λ row. length row ≡ 4) shown_row c.in_ok-booked.booked.ledger.rows
+    (λ k d within. refl)
+
+pub returns : goal.returns
+returns c =
+    let booked = c.in_ok-booked.booked in
+    let is = c.in_ok-booked.ensures in (
+      not_too_many c.args.texts.now booked is,
+      (
+        booked,
+        is,
+        c.in_ok-text.ensures
+            ∙ table_is booked.ledger c.display.result.now c.display.ensures,
+      ),
+    )

@@ -1,0 +1,34 @@
+//! `list LEDGER`: the table of the postings of a ledger.
+use crate::answer::Answer;
+use crate::booking::book_of;
+use crate::commands::ledger::Question;
+use crate::refusal::Refusal;
+use crate::shown::Postings;
+use crate::verdict::Verdict;
+use bean_load::Texts;
+use std::alloc::Global;
+use std::mem::forget;
+use table_printer::print;
+
+/// What the postings are that texts are booked as.
+pub struct Listing;
+
+impl Question for Listing {
+    ghost use Rattle.bq.specs.List.{Lists};
+
+    ghost says = { Lists };
+
+    fn answer(&self, alloc: Global, texts: &Texts) -> Result<Answer, Refusal> {
+        let booked = book_of(alloc, texts)?;
+        let postings = Postings {
+            ledger: &booked.ledger,
+        };
+        let text = print(alloc, &postings, booked.ledger.display())?;
+        // The process ends soon, and takes all memory back at once.
+        forget(booked);
+        Ok(Answer {
+            text,
+            verdict: Verdict::Fine,
+        })
+    }
+}
