@@ -17,7 +17,7 @@ use Rattle.bean_transactions.specs.Lined.{AreLined, IsFirstFault, IsNext, Settin
 use Rattle.bean_transactions.specs.Tried.{Tries, completed, is_outside, legs_of}
 use Rattle.bean_transactions.specs.declared.line.Line.{Line}
 use Rattle.bean_transactions.specs.declared.line.Posted.{Posted}
-use Rattle.bean_transactions.specs.declared.line_fault.LineFault.{LineFault}
+use Rattle.bean_transactions.specs.declared.stop.LineFault.{LineFault}
 use Rattle.bean_transactions.proofs.EachLine.{Comes, comes, behind, either_way, each_next}
 use Rattle.bean_transactions.proofs.LinedFacts.{reverse_twice}
 

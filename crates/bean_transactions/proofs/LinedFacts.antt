@@ -12,6 +12,7 @@ use Rattle.bean_postings.specs.declared.posting.Posting.{Posting}
 use Rattle.bean_reductions.specs.After.{after}
 use Rattle.bean_lots.specs.declared.lot.Position.{Position}
 use Rattle.bean_reductions.specs.declared.reduction.Method.{Method}
+use Rattle.bean_transactions.specs.declared.stop.LineFault.{LineFault}
 use Rattle.bean_transactions.specs.Held.{held, left}
 use Rattle.bean_transactions.specs.Holdings.{holding}
 use Rattle.bean_transactions.specs.Lined.{AreLined, IsFirstFault, IsLinedByUnits, IsNext, Setting}

@@ -15,6 +15,7 @@ use Rattle.bean_interp.specs.declared.cause.WeighCause.TheVariants.{TooWide}
 use Rattle.refusals.specs.declared.refusal.Refusal.TheVariants.{OutOfMemory, Refused}
 use Rattle.bean_interp.proofs.WholeFacts.{none_filled, none_lack}
 use Rattle.bean_postings.specs.declared.posting.Posting.{Posting}
+use Rattle.bean_transactions.specs.declared.stop.LineFault.{LineFault}
 use Rattle.bean_transactions.specs.Held.{left}
 use Rattle.bean_transactions.specs.Lined.{AreLined, IsLinedByCost, IsLinedByUnits, IsNext, Setting}
 use Rattle.bean_transactions.specs.Outcome.{StopsAt}
@@ -24,7 +25,6 @@ use Rattle.bean_transactions.specs.Tried.{leg_of, legs_of, posts_from}
 use Rattle.bean_transactions.specs.declared.line.Line.{Line}
 use Rattle.bean_transactions.specs.declared.line.Line.TheVariants as line
 use Rattle.bean_transactions.specs.declared.line.Posted.{Posted}
-use Rattle.refusals.specs.declared.refusal.Refusal.{Refusal}
 use Rattle.refusals.specs.declared.refusal.Refusal.TheVariants as stop
 use Rattle.bean_transactions.proofs.LinedFacts.{before_length, latest}
 

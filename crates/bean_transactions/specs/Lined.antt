@@ -29,7 +29,7 @@ use Rattle.bean_transactions.specs.declared.line.Line.{Line}
 use Rattle.bean_transactions.specs.declared.line.Line.TheVariants as line
 use Rattle.bean_transactions.specs.declared.line.Posted.{Posted}
 use Rattle.bean_transactions.specs.declared.setting.Head.{Head}
-use Rattle.bean_transactions.specs.declared.line_fault.LineFault.{LineFault}
+use Rattle.bean_transactions.specs.declared.stop.LineFault.{LineFault}
 
 -- what is the same for all postings of a transaction: the methods of accounts, what was booked
 -- before, and its day and first line

@@ -11,7 +11,7 @@ use Rattle.bean_transactions.specs.declared.line.Line.{Line}
 use Rattle.bean_transactions.specs.declared.lines.Lines.{Lines}
 use Rattle.bean_transactions.specs.declared.methods.Methods.{Methods}
 use Rattle.bean_transactions.specs.declared.setting.Head.{Head}
-use Rattle.bean_transactions.specs.declared.line_fault.LineFault.{LineFault}
+use Rattle.bean_transactions.specs.declared.stop.LineFault.{LineFault}
 
 -- what is taken is what the takes among the lines come to, and nothing is nothing
 pub record IsKeeping (ls : Lines) : Type 0 where

@@ -3,7 +3,7 @@ use Rattle.std.specs.Prelude.{List, [], ◌∷◌, Result, Ok, Err}
 use Rattle.bean_transactions.specs.declared.line.Line.{Line}
 use Rattle.bean_transactions.specs.declared.outcome.Outcome.{Outcome}
 use Rattle.bean_transactions.specs.declared.outcome.Outcome.TheVariants as outcome
-use Rattle.bean_transactions.specs.declared.line_fault.LineFault.{LineFault}
+use Rattle.bean_transactions.specs.declared.stop.LineFault.{LineFault}
 use Rattle.refusals.specs.declared.refusal.Refusal.{Refusal}
 use Rattle.refusals.specs.declared.refusal.Refusal.TheVariants as stop
 

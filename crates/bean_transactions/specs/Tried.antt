@@ -31,7 +31,7 @@ use Rattle.bean_transactions.specs.declared.line.Line.{Line}
 use Rattle.bean_transactions.specs.declared.line.Line.TheVariants as line
 use Rattle.bean_transactions.specs.declared.line.Posted.{Posted}
 use Rattle.bean_transactions.specs.declared.line.Tried as tried
-use Rattle.bean_transactions.specs.declared.line_fault.LineFault.{LineFault}
+use Rattle.bean_transactions.specs.declared.stop.LineFault.{LineFault}
 use Rattle.refusals.specs.declared.refusal.Refusal.{Refusal}
 
 -- ---- what lines weigh and lack

@@ -14,11 +14,11 @@ ghost use Rattle.bean_transactions.specs.declared.line.Posted.{Posted};
 
 use crate::holdings::Holdings;
 use crate::line::{Line, Posted};
-use crate::line_fault::LineFault;
 use crate::methods::Methods;
 use crate::outcome::{Outcome, outcome_of};
 use crate::setting::Head;
 use crate::stock::Stock;
+use crate::stop::LineFault;
 use bean_lots::Inventory;
 use bean_postings::{Cost, Posting};
 use refusals::Refusal;

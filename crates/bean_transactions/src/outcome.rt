@@ -13,9 +13,9 @@ ghost use Rattle.bean_transactions.specs.Outcome.{ComesOf, StopsWith, lines_of};
 ghost use Rattle.bean_transactions.specs.Stock.{IsSmallStock, rest_of};
 
 use crate::line::{Line, Posted};
-use crate::line_fault::LineFault;
 use crate::setting::Head;
 use crate::stock::Stock;
+use crate::stop::LineFault;
 use bean_base::{Account, Amount, Apart, Currency, FaultKind, Num, Text};
 use bean_lots::Lot;
 use bean_postings::{Cost, LotParts, Posting, Units};

@@ -8,8 +8,8 @@ ghost use Rattle.bean_transactions.specs.Tried.{KnowsBalance, TriesOrLacks, is_o
 
 use crate::legs::judge;
 use crate::line::{Posted, Tried};
-use crate::line_fault::{LineFault, refusal_of};
 use crate::setting::Head;
+use crate::stop::{LineFault, refusal_of};
 use bean_base::List;
 use bean_interp::{Scales, completion_refusal};
 use bean_postings::{Cost, Posting, Units};

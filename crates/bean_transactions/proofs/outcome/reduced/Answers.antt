@@ -18,9 +18,9 @@ returns-in-Err c =
     let s = c.selector_of-selector.result in
     let cs = candidates s (at_8 units.number) rest in
     subst
-    (λ n. StopsWith (IsReducedBy m rest c.args.parts.now account units i n) c.stop_of.result)
+    (λ n. StopsWith (IsReducedBy m rest c.args.parts.now account units i n) c.refusal_of.result)
     c.line.ensures
     (stops_more (IsReduced m cs account units i n)
     (IsReducedBy m rest c.args.parts.now account units i n)
-    c.stop_of.result (λ r h. (s, c.selector_of-selector.ensures, h))
-    (c.stop_of.ensures m cs account units i c.in-Err.ensures))
+    c.refusal_of.result (λ r h. (s, c.selector_of-selector.ensures, h))
+    (c.refusal_of.ensures m cs account units i c.in-Err.ensures))
