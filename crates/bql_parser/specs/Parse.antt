@@ -18,8 +18,8 @@ use Rattle.bql_tree.specs.declared.cause.CauseKind.{CauseKind}
 use Rattle.bql_tree.specs.declared.cause.CauseKind.TheVariants as causes
 use Rattle.bql_parser.specs.Answer.{query_of}
 use Rattle.bql_parser.specs.Asked.{Asked}
-use Rattle.bql_parser.specs.Grammar.{query}
-use Rattle.bql_parser.specs.Read.{Read}
+use Rattle.bql_clauses.specs.Grammar.{query}
+use Rattle.bql_clauses.specs.Read.{Read}
 use Rattle.bql_parser.specs.Settled.{answer}
 use Rattle.bql_parser.specs.declared.fault.QueryFault.{QueryFault}
 use Rattle.bql_parser.specs.declared.fault.QueryFault.TheVariants as fault

@@ -34,13 +34,10 @@
 #![tactic(auto)]
 
 mod asking;
-mod clauses;
 mod fault;
 mod laws;
 mod parse;
-mod queries;
 mod query;
-mod reading;
 mod settling;
 mod standing;
 
