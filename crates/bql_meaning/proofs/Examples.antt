@@ -8,7 +8,7 @@ use Rattle.bean_base.specs.declared.bounds.Bounds.{Bounds}
 use Rattle.bean_base.specs.declared.days.Day as day
 use Rattle.bean_base.specs.declared.bounds.Version.TheVariants.{First}
 use Rattle.bean_lots.specs.declared.lot.Key.{Key}
-use Rattle.bql_parser.specs.Clause as clause
+use Rattle.bql_clauses.specs.Clause as clause
 use Rattle.bql_parser.specs.Asked.{Target, Item, target_item, tree_item}
 use Rattle.bql_parser.specs.declared.standing.Valuation.TheVariants as valuation
 use Rattle.bql_tree.specs.Tree.{leaf_of, one_of, two_of, Tree, node, no_trees, trees}

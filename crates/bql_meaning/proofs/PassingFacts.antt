@@ -4,7 +4,7 @@ use Rattle.std.proofs.Common.{filter}
 use Rattle.std.proofs.Common.{Some, Ok, Err, refl, ap, cond, arith}
 use Rattle.std.specs.List.{AllByRecursion}
 use Rattle.bean_base.specs.declared.bounds.Bounds.{Bounds}
-use Rattle.bql_parser.specs.Clause.{Filters}
+use Rattle.bql_clauses.specs.Clause.{Filters}
 use Rattle.bql_tree.specs.Tree.{Tree}
 use Rattle.query_rows.specs.Row.{Row}
 use Rattle.query_columns.proofs.BoundFacts.{column_is_held}

@@ -2,7 +2,7 @@
 use Rattle.std.specs.Prelude.{ℕ, Bool, true, ◌&&◌, List, [], ◌∷◌, ◌++◌, map, filter, Option, Some}
 use Rattle.std.specs.Prelude.{None, slice_get, if◌then◌else◌}
 use Rattle.bean_base.specs.declared.bounds.Bounds.{Bounds}
-use Rattle.bql_parser.specs.Clause as clause
+use Rattle.bql_clauses.specs.Clause as clause
 use Rattle.bql_parser.specs.Asked.{Asked, Target, Item, ItemKind, target_item, tree_item}
 use Rattle.bql_tree.specs.Tree.{Tree}
 use Rattle.bql_types.specs.Typing.{Grouping, grouping_of}

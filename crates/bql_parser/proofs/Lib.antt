@@ -1,6 +1,3 @@
-pub mod MovingFacts
-pub mod LackingFacts
-pub mod ClauseFacts
 pub mod SettlingFacts
 pub mod ParseFacts
 pub mod OneQuery

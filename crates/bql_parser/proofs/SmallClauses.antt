@@ -12,11 +12,11 @@ use Rattle.bql_tree.specs.declared.function.Scope.TheVariants.{Transactions, Pos
 use Rattle.bql_tree.specs.declared.tree.Leaf.TheVariants as leaf
 use Rattle.bql_grammar.specs.Expression.{told, token, then, expression}
 use Rattle.bql_grammar.specs.Front.{begins, of_kind}
-use Rattle.bql_parser.specs.Clause as clause
-use Rattle.bql_parser.specs.Clause.{selecting, journaling, balancing}
-use Rattle.bql_parser.specs.Grammar as rules
-use Rattle.bql_parser.specs.Piece.{piece, whole}
-use Rattle.bql_parser.specs.Read.{Target, Read}
+use Rattle.bql_clauses.specs.Clause as clause
+use Rattle.bql_clauses.specs.Clause.{selecting, journaling, balancing}
+use Rattle.bql_clauses.specs.Grammar as rules
+use Rattle.bql_clauses.specs.Piece.{piece, whole}
+use Rattle.bql_clauses.specs.Read.{Target, Read}
 use Rattle.bql_parser.specs.Small.{IsShort}
 use Rattle.bql_parser.proofs.SmallTokens.{IsShortToken, piece_short}
 use Rattle.bql_parser.proofs.SmallForms.{Keeps, Any, AreSome, keeps_any, keeps_token, keeps_made}

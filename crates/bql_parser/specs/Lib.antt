@@ -1,9 +1,3 @@
-pub mod Clause
-pub mod Read
-pub mod Piece
-pub mod Grammar
-pub mod Stopping
-pub mod Whole
 pub mod Asked
 pub mod Standing
 pub mod Settled

@@ -2,7 +2,7 @@
 -- first byte.
 use Rattle.std.specs.Prelude.{ℕ, false, List, [], ◌∷◌, ◌++◌, codes, Option, Some, None}
 use Rattle.bql_parser.specs.Asked.{Asked, Target, Item, ItemKind, target_item, tree_item}
-use Rattle.bql_parser.specs.Clause as clause
+use Rattle.bql_clauses.specs.Clause as clause
 use Rattle.bql_parser.specs.declared.standing.Valuation.{Valuation}
 use Rattle.bql_parser.specs.declared.standing.Valuation.TheVariants as valuation
 use Rattle.query_columns.specs.Column.{name}

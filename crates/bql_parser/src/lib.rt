@@ -37,12 +37,9 @@
 
 mod asking;
 mod cause;
-mod clauses;
 mod laws;
 mod parse;
-mod queries;
 mod query;
-mod reading;
 mod settling;
 mod standing;
 

@@ -11,10 +11,10 @@ ghost use Rattle.bql_parser.specs.View.{draft_of};
 
 use crate::asking::settled;
 use crate::cause::QueryCause;
-use crate::queries::query;
 use crate::query::{Draft, Query};
 use crate::settling::refused_at;
 use bean_base::limits::LARGEST_QUERY;
+use bql_clauses::query;
 use bql_grammar::Stuck;
 use bql_lexer::{Kind, Token, tokens};
 use bql_tree::PartCause;

@@ -5,13 +5,13 @@ ghost use Rattle.bean_base.specs.declared.limits.TheConstants.{MOST_ITEMS};
 ghost use Rattle.bean_base.specs.Numeral.{is_point};
 ghost use Rattle.bql_tree.specs.Part.{part_of, parts_in, parts_of, tree_found};
 ghost use Rattle.bql_tree.specs.Tree.{tree_of};
-ghost use Rattle.bql_parser.specs.Read as views;
+ghost use Rattle.bql_clauses.specs.Read as views;
 ghost use Rattle.bql_parser.specs.Settled as rule;
 ghost use Rattle.bql_parser.specs.View as view;
 
-use crate::clauses::{FiltersRead, OrderRead, TargetRead};
 use crate::query::{Filters, Item, ItemKind, Order, Target};
 use bean_base::limits::MOST_ITEMS;
+use bql_clauses::clauses::{FiltersRead, OrderRead, TargetRead};
 use bql_tree::cause::both;
 use bql_tree::part::not_null;
 use bql_tree::{Alone, Expr, Leaf, Part, PartCause};

@@ -1,0 +1,3 @@
+pub mod MovingFacts
+pub mod LackingFacts
+pub mod ClauseFacts
