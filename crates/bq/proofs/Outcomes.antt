@@ -7,18 +7,20 @@ use Rattle.bean_load.specs.Gathered as gathered
 use Rattle.bean_load.specs.Texts.{Texts}
 use Rattle.bean_load.specs.declared.cause.LoadCause.{LoadCause}
 use Rattle.bean_load.proofs.OneGathering.{one_gathering}
+use Rattle.bean_replay.specs.declared.booker.BookFault.{BookFault}
+use Rattle.bean_replay.specs.declared.booker.BookFault.TheVariants as books
 use Rattle.clap.specs.Walk.{Text}
 use Rattle.query_code.specs.QueryFile.{decoded}
 use Rattle.refusals.specs.declared.refusal.Refusal as refusals
 use Rattle.refusals.specs.declared.refusal.Refusal.TheVariants as refusal
 use Rattle.stores.specs.Reading.{Reading}
 use Rattle.stores.specs.declared.source.Source.{Ghosts as SourceOf}
-use Rattle.bq.specs.Booking.{HasTooMany}
+use Rattle.bq.specs.Booking.{Books, FindsFaults, HasTooMany}
 use Rattle.bq.specs.Command.{Due}
 use Rattle.bq.specs.Commands.{due, due_to, request_in}
 use Rattle.bq.specs.Ledgers.{GaveTexts, IsCauseOfTexts, about_ledger}
 use Rattle.bq.specs.Named.{AskNothing}
-use Rattle.bq.specs.Refusal.{unread}
+use Rattle.bq.specs.Refusal.{unbooked, unread}
 use Rattle.bq.specs.Runs.{Comes, ComesOf, Finds, IsFound, RefusesExactly, WritesText, Written}
 use Rattle.bq.specs.Show.{FileComes, GaveFile, IsCauseOfFile, IsListingOf, ListsProgram, ReadsFile}
 use Rattle.bq.specs.Show.{about_file}
@@ -78,6 +80,17 @@ module _ (name : Text) (readings : List Reading) (texts : Texts)
   told Says (Err (Refused (cause.File f))) h = absurd h
   told Says (Err (Refused (cause.NotWritten n))) h = absurd h
   told Says (Err OutOfMemory) h = tt
+
+-- texts that have no book
+pub not_booked : (texts : Texts) (Says : Verdict → List ℕ → Type 0) (fault : BookFault)
+    → Books texts (Err fault) → ComesOf texts Says (Err (unbooked fault))
+not_booked texts Says books.TooManyPostings many = many
+not_booked texts Says books.OutOfMemory lacks = tt
+
+pub not_found : (texts : Texts) (Says : Verdict → List ℕ → Type 0) (fault : BookFault)
+    → FindsFaults texts (Err fault) → ComesOf texts Says (Err (unbooked fault))
+not_found texts Says books.TooManyPostings many = many
+not_found texts Says books.OutOfMemory lacks = tt
 
 -- there are no texts
 pub ungathered :

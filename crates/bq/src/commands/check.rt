@@ -9,6 +9,7 @@ use fault_printer::fault_lines;
 use std::alloc::Global;
 
 /// Which faults are found where texts are booked.
+#[derive(Clone, Copy)]
 pub struct Checking;
 
 impl Question for Checking {

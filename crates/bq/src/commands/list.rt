@@ -11,6 +11,7 @@ use std::mem::forget;
 use table_printer::print;
 
 /// What the postings are that texts are booked as.
+#[derive(Clone, Copy)]
 pub struct Listing;
 
 impl Question for Listing {

@@ -1,8 +1,20 @@
-use Rattle.std.proofs.Common.{ap, ap₂, ◌∙◌}
+use Rattle.std.proofs.Common.{sym, ap, ap₂, ◌∙◌, subst}
 use Rattle.fault_printer.specs.Lines.{lines_of}
+use Rattle.bq.specs.Check.{Checks}
+use Rattle.bq.specs.Refusal.{unbooked}
+use Rattle.bq.specs.Runs.{ComesOf}
 use Rattle.bq.specs.Verdict.{verdict_of}
 use Rattle.bq.proofs.OneBook.{not_too_many}
+use Rattle.bq.proofs.Outcomes.{converted, not_found}
 use Rattle.bq.proofs.commands.check.CheckingQuestion.answer.Goals as goal
+
+pub returns-in_err-faults : goal.returns-in_err-faults
+returns-in_err-faults c =
+    let texts = c.args.texts.now in
+    let fault = c.in_err-faults.field-0.0 in
+    subst (ComesOf texts (Checks texts))
+    (sym (converted c.from_residual.result (unbooked fault) c.from_residual.ensures.1))
+    (not_found texts (Checks texts) fault c.in_err-faults.ensures)
 
 pub returns : goal.returns
 returns c =

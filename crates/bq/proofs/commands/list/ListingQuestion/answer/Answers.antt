@@ -1,10 +1,13 @@
-use Rattle.std.proofs.Common.{◌≡◌, map, refl, ap, length, ◌∙◌}
+use Rattle.std.proofs.Common.{◌≡◌, map, refl, sym, ap, length, ◌∙◌, subst}
 use Rattle.std.proofs.lemmas.List.Elements.{All-map}
 use Rattle.posting_table.specs.Decimals.{Decimals, decimals_of}
 use Rattle.posting_table.specs.Ledger.{Ledger}
 use Rattle.table_printer.specs.Table.{table_text}
-use Rattle.bq.specs.List.{headers, shown_row, table_of}
+use Rattle.bq.specs.List.{Lists, headers, shown_row, table_of}
+use Rattle.bq.specs.Refusal.{unbooked}
+use Rattle.bq.specs.Runs.{ComesOf}
 use Rattle.bq.proofs.OneBook.{not_too_many}
+use Rattle.bq.proofs.Outcomes.{converted, not_booked}
 use Rattle.bq.proofs.commands.list.ListingQuestion.answer.Goals as goal
 
 -- the table that is printed is that of the ledger
@@ -17,6 +20,14 @@ pub print-requires : goal.print-requires
 print-requires c =
     All-map (λ row. length row ≡ 4) shown_row c.in_ok-booked.booked.ledger.rows
     (λ k d within. refl)
+
+pub returns-in_err-booked : goal.returns-in_err-booked
+returns-in_err-booked c =
+    let texts = c.args.texts.now in
+    let fault = c.in_err-booked.field-0.0 in
+    subst (ComesOf texts (Lists texts))
+    (sym (converted c.from_residual.result (unbooked fault) c.from_residual.ensures.1))
+    (not_booked texts (Lists texts) fault c.in_err-booked.ensures)
 
 pub returns : goal.returns
 returns c =
