@@ -5,24 +5,26 @@ use Rattle.bean_replay.proofs.OneBooking.{one_stand}
 use Rattle.bean_replay.specs.Booked as booker
 use Rattle.bean_replay.specs.Booked.{IsBooked, bookings_of, method_in_ledger}
 use Rattle.bean_replay.specs.declared.booked.Booked.{Booked}
-use Rattle.bean_replay.specs.declared.booker.BookFault.{BookFault}
-use Rattle.bean_replay.specs.declared.booker.BookFault.TheVariants.{OutOfMemory, TooManyPostings}
+use Rattle.bean_replay.specs.declared.cause.BookCause.{BookCause}
+use Rattle.bean_replay.specs.declared.cause.BookCause.TheVariants.{TooManyPostings}
+use Rattle.refusals.specs.declared.refusal.Refusal.{Refusal}
+use Rattle.refusals.specs.declared.refusal.Refusal.TheVariants.{OutOfMemory, Refused}
 use Rattle.bean_load.specs.Loaded.{Loaded}
 use Rattle.bean_book.specs.Booked.{AreTooMany, Books, MakesLedger}
 use Rattle.bean_book.proofs.LedgerFacts.{rows_hold}
 
 -- where the kept postings are too many, so are the rows
-pub too_many_kept : (l : Loaded) (fault : BookFault)
-    → (fault ≡ TooManyPostings → booker.HasTooMany l) → Books l (Err fault)
-too_many_kept l TooManyPostings full = λ st leads.
+pub too_many_kept : (l : Loaded) (fault : Refusal BookCause)
+    → (fault ≡ Refused TooManyPostings → booker.HasTooMany l) → Books l (Err fault)
+too_many_kept l (Refused TooManyPostings) full = λ st leads.
     let rows = rows_hold st in
     let many = full refl st leads in omega (arith, rows, many)
 too_many_kept l OutOfMemory full = tt
 
 -- where the rows are too many of what is booked, so are they of all that it may lead to
-pub too_many_rows : (l : Loaded) (b : Booked) → IsBooked l b → (fault : BookFault)
+pub too_many_rows : (l : Loaded) (b : Booked) → IsBooked l b → (fault : Refusal BookCause)
     → MakesLedger b.bookings (Err fault) → Books l (Err fault)
-too_many_rows l b h TooManyPostings many = λ st leads.
+too_many_rows l b h (Refused TooManyPostings) many = λ st leads.
     let same =
     one_stand (method_in_ledger l) (reverse l.directives) h.stand st h.leads leads in
     let here : AreTooMany (bookings_of h.stand) = subst AreTooMany h.finished.bookings_are many in

@@ -16,8 +16,10 @@ use Rattle.bean_replay.proofs.OneBooking.{one_stand}
 use Rattle.bean_replay.specs.Booked.{IsBooked, bookings_of, method_in_ledger}
 use Rattle.bean_replay.specs.declared.booking.Booking.{Booking}
 use Rattle.bean_replay.specs.declared.booked.Booked as booker
-use Rattle.bean_replay.specs.declared.booker.BookFault.{BookFault}
-use Rattle.bean_replay.specs.declared.booker.BookFault.TheVariants.{OutOfMemory, TooManyPostings}
+use Rattle.bean_replay.specs.declared.cause.BookCause.{BookCause}
+use Rattle.bean_replay.specs.declared.cause.BookCause.TheVariants.{TooManyPostings}
+use Rattle.refusals.specs.declared.refusal.Refusal.{Refusal}
+use Rattle.refusals.specs.declared.refusal.Refusal.TheVariants.{OutOfMemory, Refused}
 use Rattle.bean_load.specs.Loaded.{Loaded}
 use Rattle.posting_table.proofs.DecimalsFacts.{decimals_of-insert}
 use Rattle.posting_table.specs.Decimals.{Decimals, decimals_of}
@@ -103,15 +105,15 @@ found l b h few faults is = (
   refl,
 )
 
-pub too_many_found : (l : Loaded) (b : booker.Booked) → IsBooked l b → (fault : BookFault)
-    → (fault ≡ TooManyPostings → AreTooMany b.bookings) → FindsFaults l (Err fault)
-too_many_found l b h TooManyPostings full = λ st leads.
+pub too_many_found : (l : Loaded) (b : booker.Booked) → IsBooked l b → (fault : Refusal BookCause)
+    → (fault ≡ Refused TooManyPostings → AreTooMany b.bookings) → FindsFaults l (Err fault)
+too_many_found l b h (Refused TooManyPostings) full = λ st leads.
     let same =
     one_stand (method_in_ledger l) (reverse l.directives) h.stand st h.leads leads in
     subst AreTooMany (h.finished.bookings_are ∙ ap bookings_of same) (full refl)
 too_many_found l b h OutOfMemory full = tt
 
-pub none_found : (l : Loaded) (fault : BookFault) → Books l (Err fault)
+pub none_found : (l : Loaded) (fault : Refusal BookCause) → Books l (Err fault)
     → FindsFaults l (Err fault)
-none_found l TooManyPostings many = many
+none_found l (Refused TooManyPostings) many = many
 none_found l OutOfMemory h = tt

@@ -8,8 +8,10 @@ use Rattle.bean_replay.proofs.SmallBookingFacts.{HasUpTo, booked_in, same_postin
 use Rattle.bean_replay.specs.Booked.{bookings_of}
 use Rattle.bean_replay.specs.Small.{IsSmallBooking}
 use Rattle.bean_replay.specs.Stand.{Stand, postings_of}
-use Rattle.bean_replay.specs.declared.booker.BookFault.{BookFault}
-use Rattle.bean_replay.specs.declared.booker.BookFault.TheVariants.{OutOfMemory, TooManyPostings}
+use Rattle.bean_replay.specs.declared.cause.BookCause.{BookCause}
+use Rattle.bean_replay.specs.declared.cause.BookCause.TheVariants.{TooManyPostings}
+use Rattle.refusals.specs.declared.refusal.Refusal.{Refusal}
+use Rattle.refusals.specs.declared.refusal.Refusal.TheVariants.{OutOfMemory, Refused}
 use Rattle.bean_replay.specs.declared.booking.Booking.{Booking}
 use Rattle.bean_replay.specs.declared.booking.Booking.TheVariants as booking
 use Rattle.bean_pad.specs.Note.{noted_pads}
@@ -40,9 +42,9 @@ decimals_left b rest old new total name adds before =
     (written_in_all rest))
     ∙ before
 
-pub refused : (bs : List Booking) (fault : BookFault)
-    → (fault ≡ TooManyPostings → AreTooMany bs) → MakesLedger bs (Err fault)
-refused bs TooManyPostings full = full refl
+pub refused : (bs : List Booking) (fault : Refusal BookCause)
+    → (fault ≡ Refused TooManyPostings → AreTooMany bs) → MakesLedger bs (Err fault)
+refused bs (Refused TooManyPostings) full = full refl
 refused bs OutOfMemory full = tt
 
 -- what is too many with the next booking is too many in all

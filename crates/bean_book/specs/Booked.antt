@@ -7,8 +7,10 @@ use Rattle.bean_base.specs.declared.amounts.Amount.{Amount}
 use Rattle.bean_replay.specs.Booked.{bookings_of, faults_of, method_in_ledger}
 use Rattle.bean_replay.specs.Stand.{LeadsTo, Stand}
 use Rattle.bean_replay.specs.declared.booking.Booking.{Booking}
-use Rattle.bean_replay.specs.declared.booker.BookFault.{BookFault}
-use Rattle.bean_replay.specs.declared.booker.BookFault.TheVariants.{TooManyPostings, OutOfMemory}
+use Rattle.bean_replay.specs.declared.cause.BookCause.{BookCause}
+use Rattle.bean_replay.specs.declared.cause.BookCause.TheVariants.{TooManyPostings}
+use Rattle.refusals.specs.declared.refusal.Refusal.{Refusal}
+use Rattle.refusals.specs.declared.refusal.Refusal.TheVariants.{OutOfMemory, Refused}
 use Rattle.bean_load.specs.Loaded.{Loaded}
 use Rattle.posting_table.specs.Decimals.{decimals_of}
 use Rattle.posting_table.specs.Ledger as tables
@@ -49,9 +51,9 @@ abbrev pub AreTooMany : List Booking → Type 0
 AreTooMany bs = MOST_POSTINGS < length (rows_of_all bs)
 
 -- the ledger of bookings, or B1 where their rows are too many
-abbrev pub MakesLedger : List Booking → Result tables.Ledger BookFault → Type 0
+abbrev pub MakesLedger : List Booking → Result tables.Ledger (Refusal BookCause) → Type 0
 MakesLedger bs (Ok ledger) = IsLedgerOf bs ledger
-MakesLedger bs (Err TooManyPostings) = AreTooMany bs
+MakesLedger bs (Err (Refused TooManyPostings)) = AreTooMany bs
 MakesLedger bs (Err OutOfMemory) = ⊤
 
 -- The ledger of what is booked, and all faults.
@@ -68,7 +70,7 @@ HasTooMany l =
     → AreTooMany (bookings_of st)
 
 -- what is booked of a loaded ledger, or B1 exactly where it has too many postings
-abbrev pub Books : Loaded → Result declared.Booked BookFault → Type 0
+abbrev pub Books : Loaded → Result declared.Booked (Refusal BookCause) → Type 0
 Books l (Ok b) = IsBookOf l b
-Books l (Err TooManyPostings) = HasTooMany l
+Books l (Err (Refused TooManyPostings)) = HasTooMany l
 Books l (Err OutOfMemory) = ⊤

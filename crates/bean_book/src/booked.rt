@@ -7,8 +7,9 @@ use crate::faults::report;
 use crate::ledger::ledger_of;
 use bean_base::{Fault, List};
 use bean_load::Loaded;
-use bean_replay::{BookFault, book_directives};
+use bean_replay::{BookCause, book_directives};
 use posting_table::Ledger;
+use refusals::Refusal;
 use std::alloc::Global;
 
 /// A booked ledger.
@@ -21,7 +22,7 @@ pub struct Booked<'a> {
 }
 
 /// A loaded ledger as it is booked.
-pub fn book<'a>(alloc: Global, loaded: Loaded<'a>) -> Result<Booked<'a>, BookFault>
+pub fn book<'a>(alloc: Global, loaded: Loaded<'a>) -> Result<Booked<'a>, Refusal<BookCause>>
     ensures { Books loaded.entry result }
 {
     let booked = match book_directives(alloc, loaded) {
@@ -41,7 +42,7 @@ pub fn book<'a>(alloc: Global, loaded: Loaded<'a>) -> Result<Booked<'a>, BookFau
 }
 
 /// The faults of a loaded ledger as it is booked: those that [`book`] gives, without the postings.
-pub fn find_faults(alloc: Global, loaded: Loaded<'_>) -> Result<List<Fault>, BookFault>
+pub fn find_faults(alloc: Global, loaded: Loaded<'_>) -> Result<List<Fault>, Refusal<BookCause>>
     ensures { FindsFaults loaded.entry result }
 {
     let booked = match book_directives(alloc, loaded) {

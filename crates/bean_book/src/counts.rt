@@ -6,17 +6,18 @@ ghost use Rattle.bean_book.specs.Rows as spec;
 
 use bean_base::limits::MOST_POSTINGS;
 use bean_pad::{NotedPad, Outcome};
-use bean_replay::{BookFault, Booking};
+use bean_replay::{BookCause, Booking};
+use refusals::Refusal;
 
 /// The count with so many rows more, unless there are too many.
-fn more(count: usize, rows: usize) -> Result<usize, BookFault>
+fn more(count: usize, rows: usize) -> Result<usize, Refusal<BookCause>>
     requires { count ≤ MOST_POSTINGS }
     ensures sum { IfOk result (λ n. n ≡ count + rows) }
     ensures few { IfOk result (λ n. n ≤ MOST_POSTINGS) }
-    ensures full { result ≡ Err BookFault.TooManyPostings → MOST_POSTINGS < count + rows }
+    ensures full { result ≡ Err (Refusal.Refused BookCause.TooManyPostings) → MOST_POSTINGS < count + rows }
 {
     if rows > MOST_POSTINGS - count {
-        return Err(BookFault::TooManyPostings);
+        return Err(Refusal::Refused(BookCause::TooManyPostings));
     }
     Ok(count + rows)
 }
@@ -33,11 +34,11 @@ fn rows_in(outcome: Outcome) -> usize
 }
 
 /// The count with the rows of a pad.
-fn count_pad(count: usize, noted: &NotedPad<'_>) -> Result<usize, BookFault>
+fn count_pad(count: usize, noted: &NotedPad<'_>) -> Result<usize, Refusal<BookCause>>
     requires { count ≤ MOST_POSTINGS }
     ensures sum { IfOk result (λ n. n ≡ count + length (spec.rows_of_pad noted.now)) }
     ensures few { IfOk result (λ n. n ≤ MOST_POSTINGS) }
-    ensures full { result ≡ Err BookFault.TooManyPostings
+    ensures full { result ≡ Err (Refusal.Refused BookCause.TooManyPostings)
         → MOST_POSTINGS < count + length (spec.rows_of_pad noted.now) }
 {
     let mut sum = count;
@@ -51,11 +52,11 @@ fn count_pad(count: usize, noted: &NotedPad<'_>) -> Result<usize, BookFault>
 }
 
 /// The count with the rows of what is booked of a directive.
-fn count_booking(count: usize, booking: &Booking<'_>) -> Result<usize, BookFault>
+fn count_booking(count: usize, booking: &Booking<'_>) -> Result<usize, Refusal<BookCause>>
     requires { count ≤ MOST_POSTINGS }
     ensures sum { IfOk result (λ n. n ≡ count + length (spec.rows_of booking.now)) }
     ensures few { IfOk result (λ n. n ≤ MOST_POSTINGS) }
-    ensures full { result ≡ Err BookFault.TooManyPostings
+    ensures full { result ≡ Err (Refusal.Refused BookCause.TooManyPostings)
         → MOST_POSTINGS < count + length (spec.rows_of booking.now) }
 {
     match booking {
@@ -65,10 +66,10 @@ fn count_booking(count: usize, booking: &Booking<'_>) -> Result<usize, BookFault
 }
 
 /// The count of the rows of what is booked, unless they are too many.
-pub(crate) fn count_rows(bookings: &[Booking<'_>]) -> Result<usize, BookFault>
+pub(crate) fn count_rows(bookings: &[Booking<'_>]) -> Result<usize, Refusal<BookCause>>
     ensures sum { IfOk result (λ n. n ≡ length (rows_of_all bookings.now)) }
     ensures few { IfOk result (λ n. n ≤ MOST_POSTINGS) }
-    ensures full { result ≡ Err BookFault.TooManyPostings → AreTooMany bookings.now }
+    ensures full { result ≡ Err (Refusal.Refused BookCause.TooManyPostings) → AreTooMany bookings.now }
 {
     let mut sum = 0;
     for booking in bookings {

@@ -12,16 +12,21 @@ use crate::decimals::note_written;
 use crate::paddings::push_pad;
 use crate::rows::push_transaction;
 use bean_base::limits::MOST_POSTINGS;
-use bean_replay::{BookFault, Booking, Kept};
+use bean_replay::{BookCause, Booking, Kept};
 use posting_table::Ledger;
+use refusals::Refusal;
 use std::alloc::{AllocError, Global};
 
 /// Adds a transaction that is kept.
-fn push_kept<'a>(alloc: Global, ledger: &mut Ledger<'a>, kept: &Kept<'a>) -> Result<(), BookFault>
+fn push_kept<'a>(
+    alloc: Global,
+    ledger: &mut Ledger<'a>,
+    kept: &Kept<'a>,
+) -> Result<(), Refusal<BookCause>>
     requires tame { IsTameKept kept.now }
     requires room { length ledger.old.rows ≤ MOST_POSTINGS }
     ensures adds { OnOk result (Adds (booking.Transaction kept.now) ledger.old ledger.new) }
-    ensures full { result ≡ Err BookFault.TooManyPostings → MOST_POSTINGS
+    ensures full { result ≡ Err (Refusal.Refused BookCause.TooManyPostings) → MOST_POSTINGS
         < length ledger.old.rows + length (rows_of (booking.Transaction kept.now)) }
     ensures room { OnOk result (length ledger.new.rows ≤ MOST_POSTINGS) }
 {
@@ -38,11 +43,11 @@ fn push_booking<'a>(
     alloc: Global,
     ledger: &mut Ledger<'a>,
     booking: &Booking<'a>,
-) -> Result<(), BookFault>
+) -> Result<(), Refusal<BookCause>>
     requires tame { IsTame booking.now }
     requires room { length ledger.old.rows ≤ MOST_POSTINGS }
     ensures adds { OnOk result (Adds booking.now ledger.old ledger.new) }
-    ensures full { result ≡ Err BookFault.TooManyPostings
+    ensures full { result ≡ Err (Refusal.Refused BookCause.TooManyPostings)
         → MOST_POSTINGS < length ledger.old.rows + length (rows_of booking.now) }
     ensures room { OnOk result (length ledger.new.rows ≤ MOST_POSTINGS) }
 {
@@ -67,7 +72,7 @@ fn ledger_for<'a>(alloc: Global, bookings: &[Booking<'a>]) -> Result<Ledger<'a>,
 pub(crate) fn ledger_of<'a>(
     alloc: Global,
     bookings: Vec<Booking<'a>>,
-) -> Result<Ledger<'a>, BookFault>
+) -> Result<Ledger<'a>, Refusal<BookCause>>
     requires { AllByRecursion IsTame bookings.items }
     ensures { MakesLedger bookings.entry.items result }
 {

@@ -43,6 +43,6 @@ mod metadata;
 mod paddings;
 mod rows;
 
-pub use bean_replay::BookFault;
+pub use bean_replay::BookCause;
 pub use booked::{Booked, book, find_faults};
 pub use laws::one_book;

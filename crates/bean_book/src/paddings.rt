@@ -10,8 +10,9 @@ use bean_base::limits::MOST_POSTINGS;
 use bean_base::{Account, Currency};
 use bean_lots::{Key, Position};
 use bean_pad::{Note, NotedPad, Outcome};
-use bean_replay::BookFault;
+use bean_replay::BookCause;
 use posting_table::{Entry, Ledger, Metadata, Row, Shared, Weight};
+use refusals::Refusal;
 use std::alloc::{AllocError, Global};
 
 /// So much in an account, as a count of `10^-8`.
@@ -54,7 +55,7 @@ fn push_note<'a>(
     entry: &Shared<Entry<'a>>,
     noted: &NotedPad<'a>,
     note: &Note<'a>,
-) -> Result<(), BookFault>
+) -> Result<(), Refusal<BookCause>>
     requires entry { entry.now ≡ spec.padding_entry noted.now }
     requires pad { IsSmallNoted noted.now }
     requires note { IsSmallNote note.now }
@@ -62,7 +63,7 @@ fn push_note<'a>(
     ensures rows { OnOk result (ledger.new.rows
         ≡ ledger.old.rows ++ spec.rows_of_note noted.now note.now) }
     ensures decimals { OnOk result (ledger.new.decimals ≡ ledger.old.decimals) }
-    ensures full { result ≡ Err BookFault.TooManyPostings
+    ensures full { result ≡ Err (Refusal.Refused BookCause.TooManyPostings)
         → MOST_POSTINGS < length ledger.old.rows + length (spec.rows_of_note noted.now note.now) }
     ensures room { OnOk result (length ledger.new.rows ≤ MOST_POSTINGS) }
 {
@@ -84,12 +85,12 @@ pub(crate) fn push_pad<'a>(
     alloc: Global,
     ledger: &mut Ledger<'a>,
     noted: &NotedPad<'a>,
-) -> Result<(), BookFault>
+) -> Result<(), Refusal<BookCause>>
     requires small { IsSmallNoted noted.now }
     requires room { length ledger.old.rows ≤ MOST_POSTINGS }
     ensures rows { OnOk result (ledger.new.rows ≡ ledger.old.rows ++ spec.rows_of_pad noted.now) }
     ensures decimals { OnOk result (ledger.new.decimals ≡ ledger.old.decimals) }
-    ensures full { result ≡ Err BookFault.TooManyPostings
+    ensures full { result ≡ Err (Refusal.Refused BookCause.TooManyPostings)
         → MOST_POSTINGS < length ledger.old.rows + length (spec.rows_of_pad noted.now) }
     ensures room { OnOk result (length ledger.new.rows ≤ MOST_POSTINGS) }
 {

@@ -14,22 +14,23 @@ use bean_base::Amount;
 use bean_base::limits::MOST_POSTINGS;
 use bean_lots::{Key, Position};
 use bean_postings::{Posting, Price};
-use bean_replay::{BookFault, Kept};
+use bean_replay::{BookCause, Kept};
 use bean_transactions::{Posted, whole};
 use posting_table::{Entry, Ledger, Metadata, Row, Shared, Weight};
+use refusals::Refusal;
 use std::alloc::{AllocError, Global};
 
 /// Adds a row at the end.
-pub(crate) fn push_row<'a>(ledger: &mut Ledger<'a>, row: Row<'a>) -> Result<(), BookFault>
+pub(crate) fn push_row<'a>(ledger: &mut Ledger<'a>, row: Row<'a>) -> Result<(), Refusal<BookCause>>
     requires { IsShaped widest row }
     ensures rows { OnOk result (ledger.new.rows ≡ ledger.old.rows ++ row.entry ∷ []) }
     ensures decimals { OnOk result (ledger.new.decimals ≡ ledger.old.decimals) }
-    ensures full { result ≡ Err BookFault.TooManyPostings
+    ensures full { result ≡ Err (Refusal.Refused BookCause.TooManyPostings)
         → MOST_POSTINGS ≤ length ledger.old.rows }
     ensures room { OnOk result (length ledger.new.rows ≤ MOST_POSTINGS) }
 {
     if ledger.len() >= MOST_POSTINGS {
-        return Err(BookFault::TooManyPostings);
+        return Err(Refusal::Refused(BookCause::TooManyPostings));
     }
     ledger.push(row)?;
     Ok(())
@@ -156,14 +157,14 @@ fn push_posted<'a>(
     ledger: &mut Ledger<'a>,
     entry: &Shared<Entry<'a>>,
     kept: &Kept<'a>,
-) -> Result<(), BookFault>
+) -> Result<(), Refusal<BookCause>>
     requires entry { entry.now ≡ spec.entry_of kept.now }
     requires tame { IsTameKept kept.now }
     requires room { length ledger.old.rows ≤ MOST_POSTINGS }
     ensures rows { OnOk result (ledger.new.rows
         ≡ ledger.old.rows ++ spec.rows_of_transaction kept.now) }
     ensures decimals { OnOk result (ledger.new.decimals ≡ ledger.old.decimals) }
-    ensures full { result ≡ Err BookFault.TooManyPostings
+    ensures full { result ≡ Err (Refusal.Refused BookCause.TooManyPostings)
         → MOST_POSTINGS < length ledger.old.rows + length kept.now.postings }
     ensures room { OnOk result (length ledger.new.rows ≤ MOST_POSTINGS) }
 {
@@ -187,13 +188,13 @@ pub(crate) fn push_transaction<'a>(
     alloc: Global,
     ledger: &mut Ledger<'a>,
     kept: &Kept<'a>,
-) -> Result<(), BookFault>
+) -> Result<(), Refusal<BookCause>>
     requires tame { IsTameKept kept.now }
     requires room { length ledger.old.rows ≤ MOST_POSTINGS }
     ensures rows { OnOk result (ledger.new.rows
         ≡ ledger.old.rows ++ spec.rows_of_transaction kept.now) }
     ensures decimals { OnOk result (ledger.new.decimals ≡ ledger.old.decimals) }
-    ensures full { result ≡ Err BookFault.TooManyPostings
+    ensures full { result ≡ Err (Refusal.Refused BookCause.TooManyPostings)
         → MOST_POSTINGS < length ledger.old.rows + length kept.now.postings }
     ensures room { OnOk result (length ledger.new.rows ≤ MOST_POSTINGS) }
 {

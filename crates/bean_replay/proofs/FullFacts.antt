@@ -21,8 +21,9 @@ use Rattle.bean_replay.specs.Stand.{IsFull, IsStepBy, LeadsTo, Stand, after_tria
 use Rattle.bean_accounts.specs.Faults.{faults_at, of_use}
 use Rattle.bean_pad.specs.declared.step.Step.TheVariants as step
 use Rattle.bean_replay.specs.Stand.{account_steps, place_of, setting_of, with_pad, written_in}
-use Rattle.bean_replay.specs.declared.booker.BookFault.{BookFault}
-use Rattle.bean_replay.specs.declared.booker.BookFault.TheVariants.{OutOfMemory}
+use Rattle.bean_replay.specs.declared.cause.BookCause.{BookCause}
+use Rattle.refusals.specs.declared.refusal.Refusal.{Refusal}
+use Rattle.refusals.specs.declared.refusal.Refusal.TheVariants.{OutOfMemory}
 use Rattle.bean_replay.specs.declared.booking.Draft.{Draft}
 use Rattle.bean_replay.specs.declared.booking.Draft.TheVariants as draft
 use Rattle.bean_replay.specs.declared.booking.Written.{Written}
@@ -109,6 +110,6 @@ full_for_good m before after d st new led full all =
     full mid.0 (subst (λ s. IsStepBy m past s d d.item.kind mid.0) same mid.1.2) in
     omega (arith, filled, mid.2)
 
-abbrev pub fault_of : {X : Type 0} → Result X BookFault → BookFault
+abbrev pub fault_of : {X : Type 0} → Result X (Refusal BookCause) → Refusal BookCause
 fault_of (Ok x) = OutOfMemory
 fault_of (Err f) = f

@@ -2,5 +2,5 @@ pub mod Method
 pub mod Stand
 pub mod Booker
 pub mod Booked
-pub mod BookFault
+pub mod BookCause
 pub mod Small

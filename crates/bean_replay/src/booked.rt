@@ -11,14 +11,16 @@ ghost use Rattle.bean_load.specs.Loaded as loading;
 ghost use Rattle.bean_reductions.specs.declared.reduction.Method.{Method};
 ghost use Rattle.bean_transactions.specs.Methods.{method_in};
 
-use crate::booker::{BookFault, Booker};
+use crate::booker::Booker;
 use crate::booking::{Booking, Draft};
+use crate::cause::BookCause;
 use crate::methods::{methods_of, note_unknown, otherwise};
 use bean_base::{Apart, Fault, List};
 use bean_load::{Loaded, Placed};
 use bean_pad::NotedPad;
 use bean_parser::Directive;
 use bean_transactions::Methods;
+use refusals::Refusal;
 use std::alloc::{AllocError, Global};
 
 /// What a ledger is booked as.
@@ -38,14 +40,14 @@ fn take_all<'a>(
     alloc: Global,
     methods: Methods<'a>,
     directives: Vec<Apart<Placed<Directive<'a>>>>,
-) -> Result<Booker<'a>, BookFault>
+) -> Result<Booker<'a>, Refusal<BookCause>>
     requires { length directives.items ≤ 2 ^ 39 }
     ensures stands { IfOk result Stands }
     ensures leads { IfOk result (λ booker. (m : prelude.List ℕ → Method)
         → ((a : prelude.List ℕ) → m a ≡ method_in methods.entry a)
         → (st : Stand) × LeadsTo m (reverse directives.entry.items) st
         × IsStanding m (reverse directives.entry.items) st booker) }
-    ensures full { result ≡ prelude.Err BookFault.TooManyPostings
+    ensures full { result ≡ prelude.Err (Refusal.Refused BookCause.TooManyPostings)
         → (m : prelude.List ℕ → Method)
         → ((a : prelude.List ℕ) → m a ≡ method_in methods.entry a) → (st : Stand)
         → LeadsTo m (reverse directives.entry.items) st → IsFull st }
@@ -97,11 +99,15 @@ fn faults_before(alloc: Global, loaded: &Loaded<'_>) -> Result<Vec<Fault>, Alloc
 
 /// Puts together what is booked, once all directives are taken, with the faults that were told
 /// before.
-fn finish<'a>(alloc: Global, told: Vec<Fault>, booker: Booker<'a>) -> Result<Booked<'a>, BookFault>
+fn finish<'a>(
+    alloc: Global,
+    told: Vec<Fault>,
+    booker: Booker<'a>,
+) -> Result<Booked<'a>, Refusal<BookCause>>
     requires { Stands booker }
     ensures booked { (l : loading.Loaded) → told.items ≡ spec.faults_before l
         → Wherever booker.entry (λ m past st. IfOk result (IsFinished l st)) }
-    ensures full { result ≢ prelude.Err BookFault.TooManyPostings }
+    ensures full { result ≢ prelude.Err (Refusal.Refused BookCause.TooManyPostings) }
 {
     let padded = booker.padder.finish()?;
     let bookings = with_pads(alloc, booker.drafts, padded.pads.into_vec())?;
@@ -115,14 +121,17 @@ fn finish<'a>(alloc: Global, told: Vec<Fault>, booker: Booker<'a>) -> Result<Boo
 }
 
 /// What the directives of a loaded ledger are booked as.
-pub fn book_directives<'a>(alloc: Global, loaded: Loaded<'a>) -> Result<Booked<'a>, BookFault>
+pub fn book_directives<'a>(
+    alloc: Global,
+    loaded: Loaded<'a>,
+) -> Result<Booked<'a>, Refusal<BookCause>>
     ensures booked { IfOk result (IsBooked loaded.entry) }
     ensures small { IfOk result (λ booked. AllByRecursion IsSmallBooking booked.bookings) }
-    ensures full { result ≡ prelude.Err BookFault.TooManyPostings → HasTooMany loaded.entry }
+    ensures full { result ≡ prelude.Err (Refusal.Refused BookCause.TooManyPostings) → HasTooMany loaded.entry }
 {
     let directives = loaded.directives();
     if directives.len() > MOST_DIRECTIVES {
-        return Err(BookFault::OutOfMemory);
+        return Err(Refusal::OutOfMemory);
     }
     let methods = methods_of(alloc, otherwise(loaded.methods()), directives)?;
     let told = faults_before(alloc, &loaded)?;

@@ -16,6 +16,7 @@ ghost use Rattle.bean_transactions.specs.declared.stop.LineFault as trials;
 
 use crate::accounts::{take_balance, take_close, take_open, take_pad};
 use crate::booking::{Draft, Kept, Written};
+use crate::cause::BookCause;
 use crate::postings::{note_balance, note_postings};
 use crate::steps::show_drafts;
 use bean_accounts::Accounts;
@@ -27,49 +28,7 @@ use bean_pad::Padder;
 use bean_parser::{Directive, DirectiveKind};
 use bean_transactions::{Head, Holdings, LineFault, Methods, Tried, try_transaction};
 use refusals::Refusal;
-use std::alloc::{AllocError, AllocFailed, Global};
-
-/// Why nothing is booked.
-#[derive(Clone, Copy, Debug, Drop, PartialEq, Eq)]
-pub enum BookFault {
-    /// There are more than 1,000,000 postings.
-    TooManyPostings,
-    OutOfMemory,
-}
-
-impl BookFault {
-    ghost use Rattle.bean_replay.specs.BookFault.{code_of};
-
-    /// The number that users see.
-    pub fn code(self) -> &'static str
-        ensures { result.now ≡ code_of self }
-    {
-        match self {
-            BookFault::TooManyPostings => "B1",
-            BookFault::OutOfMemory => "M2",
-        }
-    }
-}
-
-impl From<AllocError> for BookFault {
-    ghost use Rattle.bean_replay.specs.declared.booker.BookFault.TheVariants.{OutOfMemory};
-
-    ghost from_gives = { λ _ fault. fault ≡ OutOfMemory };
-
-    fn from(_error: AllocError) -> BookFault {
-        BookFault::OutOfMemory
-    }
-}
-
-impl<T: Drop> From<AllocFailed<T>> for BookFault {
-    ghost use Rattle.bean_replay.specs.declared.booker.BookFault.TheVariants.{OutOfMemory};
-
-    ghost from_gives = { λ _ fault. fault ≡ OutOfMemory };
-
-    fn from(_error: AllocFailed<T>) -> BookFault {
-        BookFault::OutOfMemory
-    }
-}
+use std::alloc::{AllocError, Global};
 
 /// The place of a directive.
 fn place_of(placed: &Placed<Directive<'_>>) -> Place
@@ -118,18 +77,18 @@ impl<'a> Booker<'a> {
     }
 
     /// Books the postings of a transaction.
-    fn keep(&mut self, written: Written<'a>, tried: Tried<'a>) -> Result<(), BookFault>
+    fn keep(&mut self, written: Written<'a>, tried: Tried<'a>) -> Result<(), Refusal<BookCause>>
         requires stands { Stands self.old }
         requires light { AllByRecursion IsLight (booked_legs written.transaction.postings tried.posted) }
         requires balances { KnowsBalance written.transaction.postings tried }
         ensures standing { Wherever self.old (λ m past st. OnOk result
             (IsStanding m past (after_trial past st written.entry (Ok tried.entry.posted)) self.new)) }
-        ensures full { result ≡ prelude.Err BookFault.TooManyPostings
+        ensures full { result ≡ prelude.Err (Refusal.Refused BookCause.TooManyPostings)
             → MOST_POSTINGS < additions_in self.old.holdings + length tried.entry.posted }
     {
         let booked = tried.posted.as_slice();
         if booked.len() > MOST_POSTINGS - self.holdings.additions() {
-            return Err(BookFault::TooManyPostings);
+            return Err(Refusal::Refused(BookCause::TooManyPostings));
         }
         let at = written.place;
         let postings = written.transaction.postings.as_slice();
@@ -146,10 +105,14 @@ impl<'a> Booker<'a> {
     }
 
     /// Adds the fault with which a transaction is dropped.
-    fn drop_with(&mut self, written: &Written<'a>, fault: LineFault) -> Result<(), BookFault>
+    fn drop_with(
+        &mut self,
+        written: &Written<'a>,
+        fault: LineFault,
+    ) -> Result<(), Refusal<BookCause>>
         ensures standing { Wherever self.old (λ m past st. OnOk result
             (IsStanding m past (after_trial past st written.now (prelude.Err fault)) self.new)) }
-        ensures full { result ≢ prelude.Err BookFault.TooManyPostings }
+        ensures full { result ≢ prelude.Err (Refusal.Refused BookCause.TooManyPostings) }
     {
         self.faults.push(Fault {
             kind: fault.kind,
@@ -162,13 +125,13 @@ impl<'a> Booker<'a> {
     }
 
     /// Books a transaction, or drops it with its fault.
-    fn transaction(&mut self, written: Written<'a>) -> Result<(), BookFault>
+    fn transaction(&mut self, written: Written<'a>) -> Result<(), Refusal<BookCause>>
         requires { Stands self.old }
         ensures standing { Wherever self.old (λ m past st. OnOk result
             ((r : prelude.Result (prelude.List Posted) trials.LineFault)
             × Tries (setting_of m st written.entry) written.entry.transaction.postings r
             × IsStanding m past (after_trial past st written.entry r) self.new)) }
-        ensures full { result ≡ prelude.Err BookFault.TooManyPostings
+        ensures full { result ≡ prelude.Err (Refusal.Refused BookCause.TooManyPostings)
             → Wherever self.old (λ m past st.
             (r : prelude.Result (prelude.List Posted) trials.LineFault)
             → Tries (setting_of m st written.entry) written.entry.transaction.postings r
@@ -188,7 +151,7 @@ impl<'a> Booker<'a> {
         ) {
             Ok(tried) => self.keep(written, tried),
             Err(Refusal::Refused(fault)) => self.drop_with(&written, fault),
-            Err(Refusal::OutOfMemory) => Err(BookFault::OutOfMemory),
+            Err(Refusal::OutOfMemory) => Err(Refusal::OutOfMemory),
         }
     }
 
@@ -204,12 +167,12 @@ impl<'a> Booker<'a> {
     }
 
     /// Takes the next directive.
-    pub(crate) fn take(&mut self, placed: Placed<Directive<'a>>) -> Result<(), BookFault>
+    pub(crate) fn take(&mut self, placed: Placed<Directive<'a>>) -> Result<(), Refusal<BookCause>>
         requires { Stands self.old }
         ensures standing { Wherever self.old (λ m past st. OnOk result ((new : Stand)
             × IsStepBy m past st placed.entry placed.entry.item.kind new
             × IsStanding m (placed.entry ∷ past) new self.new)) }
-        ensures full { result ≡ prelude.Err BookFault.TooManyPostings
+        ensures full { result ≡ prelude.Err (Refusal.Refused BookCause.TooManyPostings)
             → Wherever self.old (λ m past st. (new : Stand)
             → IsStepBy m past st placed.entry placed.entry.item.kind new → IsFull new) }
     {

@@ -31,6 +31,7 @@ mod accounts;
 mod booked;
 mod booker;
 mod booking;
+mod cause;
 mod laws;
 mod methods;
 mod postings;
@@ -38,7 +39,7 @@ mod sizes;
 mod steps;
 
 pub use booked::{Booked, book_directives};
-pub use booker::BookFault;
 pub use booking::{Booking, Kept, Written};
+pub use cause::BookCause;
 pub use laws::one_booking;
 pub use sizes::booked_ledgers_are_small;

@@ -10,8 +10,10 @@ use Rattle.bean_book.specs.Reported.{reported}
 use Rattle.bean_book.specs.declared.booked.Booked.{Booked}
 use Rattle.bean_replay.proofs.OneBooking.{one_stand}
 use Rattle.bean_replay.specs.Booked.{bookings_of, faults_of, method_in_ledger}
-use Rattle.bean_replay.specs.declared.booker.BookFault.{BookFault}
-use Rattle.bean_replay.specs.declared.booker.BookFault.TheVariants.{TooManyPostings, OutOfMemory}
+use Rattle.bean_replay.specs.declared.cause.BookCause.{BookCause}
+use Rattle.bean_replay.specs.declared.cause.BookCause.TheVariants.{TooManyPostings}
+use Rattle.refusals.specs.declared.refusal.Refusal.{Refusal}
+use Rattle.refusals.specs.declared.refusal.Refusal.TheVariants.{OutOfMemory, Refused}
 use Rattle.bean_load.specs.Loaded.{IsLoaded, Loaded}
 use Rattle.bean_load.specs.Texts.{Texts}
 use Rattle.bean_load.proofs.OneLoading.{one_loading}
@@ -49,7 +51,7 @@ one_book texts a b h g =
 
 -- what is found in what texts say is found in the texts
 pub found_in : (texts : Texts) (l : Loaded) → IsLoaded texts l
-    → (r : Result (List Fault) BookFault) → found.FindsFaults l r → FindsFaults texts r
+    → (r : Result (List Fault) (Refusal BookCause)) → found.FindsFaults l r → FindsFaults texts r
 found_in texts l is (Ok faults) h = (h.0, (l, is, h.1), h.2)
-found_in texts l is (Err TooManyPostings) h = (l, is, h)
+found_in texts l is (Err (Refused TooManyPostings)) h = (l, is, h)
 found_in texts l is (Err OutOfMemory) h = tt

@@ -7,8 +7,8 @@ use Rattle.bean_load.specs.Gathered as gathered
 use Rattle.bean_load.specs.Texts.{Texts}
 use Rattle.bean_load.specs.declared.cause.LoadCause.{LoadCause}
 use Rattle.bean_load.proofs.OneGathering.{one_gathering}
-use Rattle.bean_replay.specs.declared.booker.BookFault.{BookFault}
-use Rattle.bean_replay.specs.declared.booker.BookFault.TheVariants as books
+use Rattle.bean_replay.specs.declared.cause.BookCause.{BookCause}
+use Rattle.bean_replay.specs.declared.cause.BookCause.TheVariants as books
 use Rattle.clap.specs.Walk.{Text}
 use Rattle.query_code.specs.QueryFile.{decoded}
 use Rattle.refusals.specs.declared.refusal.Refusal as refusals
@@ -82,15 +82,15 @@ module _ (name : Text) (readings : List Reading) (texts : Texts)
   told Says (Err OutOfMemory) h = tt
 
 -- texts that have no book
-pub not_booked : (texts : Texts) (Says : Verdict → List ℕ → Type 0) (fault : BookFault)
+pub not_booked : (texts : Texts) (Says : Verdict → List ℕ → Type 0) (fault : refusals.Refusal BookCause)
     → Books texts (Err fault) → ComesOf texts Says (Err (unbooked fault))
-not_booked texts Says books.TooManyPostings many = many
-not_booked texts Says books.OutOfMemory lacks = tt
+not_booked texts Says (refusal.Refused books.TooManyPostings) many = many
+not_booked texts Says refusal.OutOfMemory lacks = tt
 
-pub not_found : (texts : Texts) (Says : Verdict → List ℕ → Type 0) (fault : BookFault)
+pub not_found : (texts : Texts) (Says : Verdict → List ℕ → Type 0) (fault : refusals.Refusal BookCause)
     → FindsFaults texts (Err fault) → ComesOf texts Says (Err (unbooked fault))
-not_found texts Says books.TooManyPostings many = many
-not_found texts Says books.OutOfMemory lacks = tt
+not_found texts Says (refusal.Refused books.TooManyPostings) many = many
+not_found texts Says refusal.OutOfMemory lacks = tt
 
 -- there are no texts
 pub ungathered :

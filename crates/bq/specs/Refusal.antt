@@ -4,8 +4,8 @@ use Rattle.std.specs.Fmt.{decimal}
 use Rattle.bean_load.specs.LoadCause as load
 use Rattle.bean_load.specs.declared.cause.LoadCause.{LoadCause}
 use Rattle.bean_load.specs.declared.cause.LoadCause.TheVariants as loads
-use Rattle.bean_replay.specs.declared.booker.BookFault.{BookFault}
-use Rattle.bean_replay.specs.declared.booker.BookFault.TheVariants as books
+use Rattle.bean_replay.specs.declared.cause.BookCause.{BookCause}
+use Rattle.bean_replay.specs.declared.cause.BookCause.TheVariants as books
 use Rattle.query_code.specs.FileCause as file
 use Rattle.query_code.specs.declared.cause.FileCause.{FileCause}
 use Rattle.refusals.specs.declared.refusal.Refusal as refusals
@@ -72,6 +72,6 @@ abbrev pub undecoded : refusals.Refusal FileCause → Refusal
 undecoded (refusal.Refused cause) = Refused (File cause)
 undecoded refusal.OutOfMemory = OutOfMemory
 
-abbrev pub unbooked : BookFault → Refusal
-unbooked books.TooManyPostings = Refused TooManyPostings
-unbooked books.OutOfMemory = OutOfMemory
+abbrev pub unbooked : refusals.Refusal BookCause → Refusal
+unbooked (refusal.Refused books.TooManyPostings) = Refused TooManyPostings
+unbooked refusal.OutOfMemory = OutOfMemory

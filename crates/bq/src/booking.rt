@@ -2,12 +2,13 @@
 ghost use Rattle.bq.specs.Booking.{Books, FindsFaults};
 
 use bean_base::{Fault, List};
-use bean_book::{BookFault, Booked, book, find_faults};
+use bean_book::{BookCause, Booked, book, find_faults};
 use bean_load::{Texts, load};
+use refusals::Refusal;
 use std::alloc::Global;
 
 /// The book of texts: their postings and their faults.
-pub fn book_of<'a>(alloc: Global, texts: &'a Texts) -> Result<Booked<'a>, BookFault>
+pub fn book_of<'a>(alloc: Global, texts: &'a Texts) -> Result<Booked<'a>, Refusal<BookCause>>
     ensures { Books texts.now result }
 {
     let loaded = load(alloc, texts)?;
@@ -15,7 +16,7 @@ pub fn book_of<'a>(alloc: Global, texts: &'a Texts) -> Result<Booked<'a>, BookFa
 }
 
 /// The faults in the book of texts.
-pub fn faults_in(alloc: Global, texts: &Texts) -> Result<List<Fault>, BookFault>
+pub fn faults_in(alloc: Global, texts: &Texts) -> Result<List<Fault>, Refusal<BookCause>>
     ensures { FindsFaults texts.now result }
 {
     let loaded = load(alloc, texts)?;

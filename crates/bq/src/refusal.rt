@@ -3,7 +3,7 @@ ghost use Rattle.std.specs.Prelude.{◌≡◌, ◌≤◌, length};
 ghost use Rattle.bq.specs.Refusal as rule;
 
 use arrayvec::ArrayString;
-use bean_book::BookFault;
+use bean_book::BookCause;
 use bean_load::LoadCause;
 use itoa::Buffer;
 use query_code::FileCause;
@@ -96,15 +96,17 @@ impl From<refusals::Refusal<FileCause>> for Refusal {
     }
 }
 
-impl From<BookFault> for Refusal {
+impl From<refusals::Refusal<BookCause>> for Refusal {
     ghost use Rattle.bq.specs.Refusal.{unbooked};
 
-    ghost from_gives = { λ fault own. own ≡ unbooked fault };
+    ghost from_gives = { λ refusal own. own ≡ unbooked refusal };
 
-    fn from(fault: BookFault) -> Refusal {
-        match fault {
-            BookFault::TooManyPostings => Refusal::Refused(Cause::TooManyPostings),
-            BookFault::OutOfMemory => Refusal::OutOfMemory,
+    fn from(refusal: refusals::Refusal<BookCause>) -> Refusal {
+        match refusal {
+            refusals::Refusal::Refused(BookCause::TooManyPostings) => {
+                Refusal::Refused(Cause::TooManyPostings)
+            }
+            refusals::Refusal::OutOfMemory => Refusal::OutOfMemory,
         }
     }
 }
