@@ -1,7 +1,7 @@
 //! Query files that are decoded and written again, and bytes that are none.
 
 use bean_base::Day;
-use query_code::{Constant, FileCause, FileCauseKind, Program, TextList};
+use query_code::{Constant, FileCause, FileCauseKind, Program, TextList, upgrade};
 use query_file::{decode, encode};
 use query_values::Decimal;
 use refusals::Refusal;
@@ -35,6 +35,18 @@ fn a_file_and_back(rt: HostRuntime) -> Result<(), Fail> {
     let program = program_of(rt.alloc(), &COUNT)?;
     let bytes = encode(rt.alloc(), &program)?;
     assert_eq!(rt; bytes.as_slice(), COUNT.as_slice());
+    Ok(())
+}
+
+#[test]
+fn upgrade_with_ample_memory(rt: HostRuntime) -> Result<(), Fail> {
+    let program = program_of(rt.alloc(), &COUNT)?;
+    let upgraded = upgrade(rt.alloc(), &program)?;
+    let bytes = encode(rt.alloc(), &upgraded)?;
+    for (place, (new, old)) in bytes.iter().zip(COUNT.iter()).enumerate() {
+        assert_eq!(rt; *new, if place == 5 { 2 } else { *old });
+    }
+    assert_eq!(rt; bytes.len(), COUNT.len());
     Ok(())
 }
 
