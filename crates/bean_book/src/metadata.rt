@@ -2,7 +2,7 @@
 ghost use Rattle.std.specs.Prelude.{◌≡◌, ◌++◌, ◌∷◌, [], codes, IfOk, OnOk, length, map};
 ghost use Rattle.std.specs.String.{string_bytes};
 ghost use Rattle.std.specs.Str.{IsAscii};
-ghost use Rattle.number_texts.specs.Digits.{day_text};
+ghost use Rattle.number_texts.specs.Digits as digits;
 ghost use Rattle.bean_book.specs.Metadata as spec;
 
 use bean_base::{Amount, Day, Num, Slice};
@@ -49,7 +49,7 @@ fn amount_text<'a>(alloc: Global, amount: &Amount<'a>) -> Result<PlainText<'a>, 
 }
 
 fn day_text<'a>(alloc: Global, day: Day) -> Result<PlainText<'a>, AllocError>
-    ensures { IfOk result (λ text. text ≡ day_text day) }
+    ensures { IfOk result (λ text. text ≡ digits.day_text day) }
 {
     let mut out = Vec::new(alloc);
     push_day(&mut out, day)?;

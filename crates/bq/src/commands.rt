@@ -5,7 +5,8 @@ ghost use Rattle.clap.specs.Walk.{rows_of};
 ghost use Rattle.clap.specs.Words.{FailsBy, app_of, fault_of, found_of, subcommand_of};
 ghost use Rattle.clap.specs.Words.{subcommand_rows_of, with_subcommand};
 ghost use Rattle.bq.specs.Command.{with_word};
-ghost use Rattle.bq.specs.Commands.{asked_by, due_to, program, request_of};
+ghost use Rattle.bq.specs.Commands.{due_to, program, request_of};
+ghost use Rattle.bq.specs.Commands as spec;
 ghost use Rattle.bq.specs.Named.{AskFor, IsRefusedBy};
 ghost use Rattle.bq.specs.Runs.{Finds};
 
@@ -72,7 +73,7 @@ fn matches_of<'a>(alloc: Global, words: &'a [&'a str]) -> Result<ArgMatches<'a>,
 
 /// What a command asks for, by its name and its word.
 fn asked_by<'a>(name: &str, words: &ArgMatches<'a>) -> Option<Command<'a>>
-    ensures { option_map request_of result ≡ asked_by (name.now, rows_of (found_of words.now)) }
+    ensures { option_map request_of result ≡ spec.asked_by (name.now, rows_of (found_of words.now)) }
 {
     if name == "list" {
         return match words.get_str("LEDGER") {
@@ -98,7 +99,7 @@ fn asked_by<'a>(name: &str, words: &ArgMatches<'a>) -> Option<Command<'a>>
 /// What the command asks for that the words name.
 fn asked_in<'a>(matches: &ArgMatches<'a>) -> Option<Command<'a>>
     ensures { option_map request_of result
-        ≡ option_and_then asked_by (subcommand_rows_of matches.now) }
+        ≡ option_and_then spec.asked_by (subcommand_rows_of matches.now) }
 {
     match matches.subcommand() {
         Some((name, words)) => asked_by(name, words),

@@ -1,6 +1,6 @@
 //! What `list` shows of a ledger.
 ghost use Rattle.std.specs.Prelude.{◌≡◌, ◌<◌, length, map, slice_get, Some};
-ghost use Rattle.bq.specs.Columns.{column_at};
+ghost use Rattle.bq.specs.Columns as spec;
 ghost use Rattle.bq.specs.List.{shown_row};
 ghost use Rattle.table_printer.specs.CellText.{row_at};
 
@@ -17,7 +17,7 @@ pub struct Postings<'l, 'a> {
 
 /// The column of that number, from 0.
 fn column_at(number: usize) -> Column
-    ensures { result ≡ column_at number }
+    ensures { result ≡ spec.column_at number }
 {
     match number {
         0 => Column::Date,

@@ -1,6 +1,7 @@
 //! What an answer says of books, and the status that tells it.
 ghost use Rattle.std.specs.Prelude.{◌≡◌};
-ghost use Rattle.bq.specs.Verdict.{status_of, verdict_of};
+ghost use Rattle.bq.specs.Verdict.{status_of};
+ghost use Rattle.bq.specs.Verdict as spec;
 
 use bean_base::Fault;
 use fault_printer::are_serious;
@@ -28,7 +29,7 @@ impl Verdict {
 
 /// What the faults of books say of them.
 pub fn verdict_of(faults: &[Fault]) -> Verdict
-    ensures { result ≡ verdict_of faults.now }
+    ensures { result ≡ spec.verdict_of faults.now }
 {
     if are_serious(faults) {
         Verdict::Faulty
