@@ -1,6 +1,5 @@
 -- When what is booked is too much.
-use Rattle.std.proofs.Common.{◌≡◌, List, reverse, arith, refl, subst, Err}
-use Rattle.bean_base.specs.declared.limits.TheConstants.{MOST_POSTINGS}
+use Rattle.std.proofs.Common.{◌≡◌, reverse, arith, refl, subst, Err}
 use Rattle.bean_replay.proofs.OneBooking.{one_stand}
 use Rattle.bean_replay.specs.Booked as booker
 use Rattle.bean_replay.specs.Booked.{IsBooked, bookings_of, method_in_ledger}

@@ -5,7 +5,6 @@ use Rattle.std.proofs.Math.IntN.{+ℤ_idl}
 use Rattle.std.specs.Int.{w128}
 use Rattle.std.specs.Int.RustNames.{unsigned_abs}
 use Rattle.std.proofs.lemmas.Int.{fits_signed_from_abs, to_z-of_z, unsigned_abs-mul}
-use Rattle.bean_base.specs.declared.limits.TheConstants.{MOST_POSTINGS}
 
 pub unsigned_abs-neg : (n : ℤ) → unsigned_abs (neg_ℤ n) ≡ unsigned_abs n
 unsigned_abs-neg (pos zero) = refl
