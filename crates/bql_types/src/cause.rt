@@ -57,6 +57,7 @@ impl Cause for TypeCause {
     ghost use Rattle.bql_types.specs.Cause as rule;
 
     ghost code_of = { rule.code_of };
+
     ghost place_of = { rule.place_of };
 
     fn code(&self) -> &'static str {
@@ -101,7 +102,11 @@ pub(crate) fn sooner(found: Option<TypeCause>, cause: TypeCause) -> Option<TypeC
 }
 
 /// The least of the causes that were found and one more, if that holds.
-pub(crate) fn where_true(found: Option<TypeCause>, is_cause: bool, cause: TypeCause) -> Option<TypeCause>
+pub(crate) fn where_true(
+    found: Option<TypeCause>,
+    is_cause: bool,
+    cause: TypeCause,
+) -> Option<TypeCause>
     ensures { result ≡ rule.told found (rule.where_true is_cause cause) }
 {
     if is_cause {

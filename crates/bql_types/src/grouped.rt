@@ -40,7 +40,11 @@ pub fn is_key(keys: &[Key<'_, '_>], e: &Expr<'_>) -> bool
 /// The least of the causes that were found before, and of what stands outside aggregates and keys.
 #[cycle(ungrouped)]
 #[tactic(auto, using(crate::proofs::CauseFacts::told_append))]
-pub(crate) fn ungrouped(keys: &[Key<'_, '_>], e: &Expr<'_>, found: Option<TypeCause>) -> Option<TypeCause>
+pub(crate) fn ungrouped(
+    keys: &[Key<'_, '_>],
+    e: &Expr<'_>,
+    found: Option<TypeCause>,
+) -> Option<TypeCause>
     ensures { result ≡ told found (rule.ungrouped (lent_trees keys.now) (tree_of e.now)) }
 {
     if is_key(keys, e) {
@@ -65,7 +69,11 @@ pub(crate) fn ungrouped(keys: &[Key<'_, '_>], e: &Expr<'_>, found: Option<TypeCa
 
 #[cycle(ungrouped)]
 #[tactic(auto, using(crate::proofs::CauseFacts::told_append))]
-fn all_ungrouped(keys: &[Key<'_, '_>], es: &[Expr<'_>], found: Option<TypeCause>) -> Option<TypeCause>
+fn all_ungrouped(
+    keys: &[Key<'_, '_>],
+    es: &[Expr<'_>],
+    found: Option<TypeCause>,
+) -> Option<TypeCause>
     ensures { result ≡ told found (rule.all_ungrouped (lent_trees keys.now) (trees_of es.now)) }
 {
     let mut found = found;

@@ -115,7 +115,12 @@ fn leaves(alloc: Global, call: u64, line: usize, left: &[&str]) -> Result<bool, 
 fn a_source_that_fails_at_a_call(rt: HostRuntime) -> Result<(), Fail> {
     let alloc = rt.alloc();
     let mut store = store_of(alloc, &FILES, 1)?;
-    assert!(rt; matches!(gather(alloc, &mut store, "l"), Err(Refusal::Refused(LoadCause::Unreadable))));
+    assert!(rt;
+        matches!(
+            gather(alloc, &mut store, "l"),
+            Err(Refusal::Refused(LoadCause::Unreadable))
+        )
+    );
     assert!(rt; leaves(alloc, 2, 1, &["l", "b", "c"])?);
     assert!(rt; leaves(alloc, 3, 2, &["l", "a", "c"])?);
     assert!(rt; leaves(alloc, 4, 3, &["l", "a", "b"])?);

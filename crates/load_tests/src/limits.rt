@@ -38,7 +38,12 @@ fn bytes_that_are_no_text(rt: HostRuntime) -> Result<(), Fail> {
     assert!(rt; are_texts(&texts, &["l"]));
     assert!(rt; are_faults(&texts, &[(0, 2)]));
     let mut store = store_with_bad_bytes(alloc, "")?;
-    assert!(rt; matches!(gather(alloc, &mut store, "a"), Err(Refusal::Refused(LoadCause::NotUtf8))));
+    assert!(rt;
+        matches!(
+            gather(alloc, &mut store, "a"),
+            Err(Refusal::Refused(LoadCause::NotUtf8))
+        )
+    );
     Ok(())
 }
 
@@ -52,9 +57,15 @@ fn a_text_above_16_mib(rt: HostRuntime) -> Result<(), Fail> {
         let mut store = MemoryStore::new(alloc, files, 0);
         let read = gather(alloc, &mut store, "l");
         assert_eq!(rt; matches!(read, Ok(_)), is_read);
-        assert_eq!(rt; matches!(read, Err(Refusal::Refused(LoadCause::TooLarge))), !is_read);
+        assert_eq!(rt;
+            matches!(read, Err(Refusal::Refused(LoadCause::TooLarge))),
+            !is_read
+        );
         let read = gather(alloc, &mut store, "a");
-        assert_eq!(rt; matches!(read, Err(Refusal::Refused(LoadCause::TooLarge))), !is_read);
+        assert_eq!(rt;
+            matches!(read, Err(Refusal::Refused(LoadCause::TooLarge))),
+            !is_read
+        );
     }
     Ok(())
 }

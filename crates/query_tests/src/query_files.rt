@@ -102,7 +102,10 @@ fn bad_entries_of_the_pool(rt: HostRuntime) -> Result<(), Fail> {
     let pools = [(1, no_day, 26), (1, no_texts, 26), (255, claims_more, 28)];
     for (count, entries, place) in pools {
         let file = with_pool(rt.alloc(), count, entries)?;
-        assert_eq!(rt; cause(rt.alloc(), &file), at(FileCauseKind::BadField, place));
+        assert_eq!(rt;
+            cause(rt.alloc(), &file),
+            at(FileCauseKind::BadField, place)
+        );
     }
     Ok(())
 }
