@@ -1,4 +1,6 @@
-use Rattle.std.proofs.Common.{Err, sym, subst}
+use Rattle.std.proofs.Common.{ℕ, Err, sym, subst}
+use Rattle.std.specs.declared.alloc.Global.{Global}
+use Rattle.std.specs.declared.vec.Vec.{Vec}
 use Rattle.bq.specs.Refusal.{unread}
 use Rattle.bq.specs.Runs.{Finds, IsFound}
 use Rattle.bq.specs.Show.{IsListingOf, ListsProgram, about_file}
@@ -12,7 +14,7 @@ returns-in_err-bytes g c =
     let r = c.in_err-bytes.field-0.0 in
     subst (Finds s c.args.store.now c.file_bytes.new.store (about_file name))
     (sym (converted c.from_residual.result (unread r) c.from_residual.ensures.1))
-    (not_read s c.args.store.now c.file_bytes.new.store name (λ bytes. bytes.items) r
+    (not_read s c.args.store.now c.file_bytes.new.store name (λ (bytes : Vec ℕ Global). bytes.items) r
     c.in_err-bytes.ensures)
 
 pub returns-in_err-text : goal.returns-in_err-text
@@ -25,8 +27,8 @@ returns-in_err-text g c =
       read.0,
       read.1,
       subst (IsFound (about_file name) read.0) (sym (converted step.result r step.ensures.1))
-          (not_shown name read.0 bytes read.2 (λ text. text.items) r
-          (subst (λ bs. ListsProgram bs (λ text. text.items) (Err r)) c.deref.ensures.value
+          (not_shown name read.0 bytes read.2 (λ (text : Vec ℕ Global). text.items) r
+          (subst (λ bs. ListsProgram bs (λ (text : Vec ℕ Global). text.items) (Err r)) c.deref.ensures.value
           c.in_err-text.ensures)),
     )
 
