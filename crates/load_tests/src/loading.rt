@@ -90,7 +90,7 @@ fn settings_in_reading_order(rt: HostRuntime) -> Result<(), Fail> {
     assert!(rt; methods[0].method == Text::new("FIFO"));
     assert!(rt; methods[1].method == Text::new("NONE"));
     assert_eq!(rt; methods[1].place.file, 1);
-    assert_eq!(rt; methods[1].line, 3);
+    assert_eq!(rt; methods[1].place.line, 3);
     Ok(())
 }
 
