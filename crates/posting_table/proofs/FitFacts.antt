@@ -58,9 +58,13 @@ small_value lot n small value = rw (same_count n small) value
 -- ---- what is known of a shaped row
 
 -- the widest bounds are of the second schema, which has all columns
+widest_has : (c : Column) → is_in widest.schema c ≡ true
+widest_has column.Price = refl
+widest_has _ = refl
+
 pub cell_of : (r : Row) → IsShaped widest r → (c : Column)
     → LiesIn (cell_at r c) (column_shape widest c)
-cell_of r is c = is.cells c refl
+cell_of r is c = is.cells c (widest_has c)
 
 below : (d n : ℕ) → n ≤ 10 ^ d - 1 → n < 10 ^ d
 below d n most = let some = pow_pos d in omega (arith, most, some)
