@@ -16,6 +16,7 @@ returns c =
         count = count i;
       };
       weight = record { count = weight i; currency = c.lend-3.ensures i };
+      price = None;
       metadata = c.empty.ensures i;
       line = c.args.noted.now.place.line;
       flag = None;
