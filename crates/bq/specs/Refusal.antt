@@ -5,7 +5,6 @@ use Rattle.bean_load.specs.LoadCause as load
 use Rattle.bean_load.specs.declared.cause.LoadCause.{LoadCause}
 use Rattle.bean_load.specs.declared.cause.LoadCause.TheVariants as loads
 use Rattle.bean_replay.specs.declared.cause.BookCause.{BookCause}
-use Rattle.bean_replay.specs.declared.cause.BookCause.TheVariants as books
 use Rattle.query_code.specs.FileCause as file
 use Rattle.query_code.specs.declared.cause.FileCause.{FileCause}
 use Rattle.refusals.specs.declared.refusal.Refusal as refusals
@@ -73,5 +72,5 @@ undecoded (refusal.Refused cause) = Refused (File cause)
 undecoded refusal.OutOfMemory = OutOfMemory
 
 abbrev pub unbooked : refusals.Refusal BookCause → Refusal
-unbooked (refusal.Refused books.TooManyPostings) = Refused TooManyPostings
+unbooked (refusal.Refused cause) = Refused TooManyPostings
 unbooked refusal.OutOfMemory = OutOfMemory
