@@ -34,13 +34,11 @@
 
 mod amounts;
 mod apart;
-mod bounds;
 mod days;
 mod digits;
 mod fault;
 mod few;
 mod flags;
-pub mod limits;
 mod list;
 mod names;
 mod num;
@@ -52,7 +50,6 @@ mod texts;
 
 pub use amounts::Amount;
 pub use apart::Apart;
-pub use bounds::{Bounds, Version};
 pub use days::{Day, NotADay, parse_day};
 pub use fault::{Fault, FaultKind};
 pub use few::Few;

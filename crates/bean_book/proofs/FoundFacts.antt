@@ -8,7 +8,7 @@ use Rattle.std.specs.FinMap.{empty, get-empty, insert}
 use Rattle.std.specs.Ordering.{nat_cmp}
 use Rattle.std.specs.Str.{bytes_eq}
 use Rattle.std.proofs.lemmas.Slice.Eq.{bytes_eq-Decides}
-use Rattle.bean_base.specs.declared.limits.TheConstants.{MOST_POSTINGS}
+use Rattle.limits.specs.declared.counts.TheConstants.{MOST_POSTINGS}
 use Rattle.bean_base.specs.declared.amounts.Amount.{Amount}
 use Rattle.bean_base.specs.declared.fault.Fault.{Fault}
 use Rattle.bean_replay.proofs.OneBooking.{one_stand}

@@ -14,7 +14,7 @@ use Rattle.refusals.specs.declared.refusal.Refusal.TheVariants.{OutOfMemory, Ref
 use Rattle.bean_load.specs.Loaded.{Loaded}
 use Rattle.posting_table.specs.Decimals.{decimals_of}
 use Rattle.posting_table.specs.Ledger as tables
-use Rattle.bean_base.specs.declared.limits.TheConstants.{MOST_POSTINGS}
+use Rattle.limits.specs.declared.counts.TheConstants.{MOST_POSTINGS}
 use Rattle.posting_table.specs.declared.row.Row.{Row}
 use Rattle.bean_book.specs.Reported.{reported}
 use Rattle.bean_book.specs.Rows.{rows_of, written_of}

@@ -1,6 +1,6 @@
 -- That what is booked is small, and no more than a ledger has.
 use Rattle.std.specs.Prelude.{◌≤◌, length}
-use Rattle.bean_base.specs.declared.limits.TheConstants.{MOST_POSTINGS}
+use Rattle.limits.specs.declared.counts.TheConstants.{MOST_POSTINGS}
 use Rattle.bean_replay.specs.Small.{IsSmallKept, IsSmallNoted}
 use Rattle.bean_replay.specs.declared.booking.Booking.{Booking}
 use Rattle.bean_replay.specs.declared.booking.Booking.TheVariants as booking

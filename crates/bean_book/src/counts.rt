@@ -4,9 +4,9 @@ ghost use Rattle.bean_pad.specs.declared.note.NotedPad as pads;
 ghost use Rattle.bean_book.specs.Booked.{AreTooMany, rows_of_all};
 ghost use Rattle.bean_book.specs.Rows as spec;
 
-use bean_base::limits::MOST_POSTINGS;
 use bean_pad::{NotedPad, Outcome};
 use bean_replay::{BookCause, Booking};
+use limits::MOST_POSTINGS;
 use refusals::Refusal;
 
 /// The count with so many rows more, unless there are too many.

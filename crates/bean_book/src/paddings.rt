@@ -6,11 +6,11 @@ ghost use Rattle.bean_book.specs.Rows as spec;
 
 use crate::entries::padding_entry;
 use crate::rows::push_row;
-use bean_base::limits::MOST_POSTINGS;
 use bean_base::{Account, Currency};
 use bean_lots::{Key, Position};
 use bean_pad::{Note, NotedPad, Outcome};
 use bean_replay::BookCause;
+use limits::MOST_POSTINGS;
 use posting_table::{Entry, Ledger, Metadata, Row, Shared, Weight};
 use refusals::Refusal;
 use std::alloc::{AllocError, Global};

@@ -8,10 +8,10 @@ ghost use Rattle.bean_grammar.specs.Expression.{exactly};
 ghost use Rattle.bean_grammar.specs.Lexeme.{lexemes, begins_with_sign};
 ghost use Rattle.bean_directives.specs.Head.{IsBelowZero};
 
-use bean_base::limits::MOST_NESTED;
 use bean_grammar::front::{after_number, after_plus_or_minus, after_sign};
 use bean_lexer::{Sign, Token};
 use exact_numbers::ExactNumber;
+use limits::MOST_NESTED;
 use std::alloc::{AllocError, Global};
 
 fn joined(

@@ -7,8 +7,8 @@ ghost use Rattle.bean_load.specs.Small.{AreLimited};
 
 use crate::cause::LoadCause;
 use crate::texts::{File, Part, Texts};
-use bean_base::limits::LARGEST_TEXT;
 use bean_base::{Fault, FaultKind, Place};
+use limits::LARGEST_TEXT;
 use refusals::Refusal;
 use std::alloc::{AllocError, Global};
 use std::marker::Model;

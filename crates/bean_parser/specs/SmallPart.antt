@@ -14,7 +14,7 @@ use Rattle.bean_postings.specs.declared.posting.Units as units_declared
 use Rattle.bean_postings.specs.declared.posting.Units.TheVariants as units
 use Rattle.bean_postings.specs.declared.price.Price as prices
 use Rattle.bean_postings.specs.declared.price.Price.TheVariants.{PerUnit, Total}
-use Rattle.bean_base.specs.declared.limits.TheConstants.{LARGEST_TEXT}
+use Rattle.limits.specs.declared.counts.TheConstants.{LARGEST_TEXT}
 
 -- the most bytes of a text of a ledger, and so the most of whatever is counted of it
 abbrev pub most : ℕ

@@ -1,7 +1,7 @@
 //! What a text of a ledger says is no larger than the text.
 //!
 //! A name, a narration, a text of metadata has at most the 16 MiB of
-//! [`bean_base::limits::LARGEST_TEXT`]: it is read from a slice of its file, and no escape makes it
+//! [`limits::LARGEST_TEXT`]: it is read from a slice of its file, and no escape makes it
 //! longer. A currency has at most 24 bytes, by its form. The number of the line on which something
 //! stands is no more than the bytes before it and itself, and a transaction has no more postings,
 //! and no more tags and links, than its file has bytes: each comes of a token of its own, those that

@@ -4,7 +4,7 @@ use Rattle.std.proofs.Common.{reverse, Result, Ok, Err, sym, ap, ◌∙◌, subs
 use Rattle.std.proofs.Common.{arith}
 use Rattle.std.proofs.lemmas.List.{reverse-append}
 use Rattle.bean_base.specs.declared.fault.Fault.{Fault}
-use Rattle.bean_base.specs.declared.limits.TheConstants.{MOST_POSTINGS}
+use Rattle.limits.specs.declared.counts.TheConstants.{MOST_POSTINGS}
 use Rattle.bean_pad.specs.declared.step.Step.{Step}
 use Rattle.bean_directives.specs.declared.directive.Directive.{Directive}
 use Rattle.bean_directives.specs.declared.directive.DirectiveKind.{DirectiveKind}

@@ -2,7 +2,7 @@
 use Rattle.std.proofs.Common.{◌≡◌, ℕ, ◌≤◌, List, [], ◌∷◌, ◌++◌, length, refl, sym, ap, subst, arith}
 use Rattle.std.proofs.Common.{length-append}
 use Rattle.std.specs.List.{AllByRecursion, flat_map}
-use Rattle.bean_base.specs.declared.limits.TheConstants.{MOST_POSTINGS}
+use Rattle.limits.specs.declared.counts.TheConstants.{MOST_POSTINGS}
 use Rattle.bean_replay.specs.Booked.{IsBooked, method_in_ledger, with_pads}
 use Rattle.bean_replay.specs.Stand.{postings_of}
 use Rattle.bean_replay.specs.declared.booked.Booked.{Booked}

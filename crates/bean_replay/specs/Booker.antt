@@ -1,6 +1,6 @@
 -- What is kept while directives are taken.
 use Rattle.std.specs.Prelude.{◌≡◌, ◌≤◌, ◌+◌, ◌^◌, ℕ, List, ◌++◌, drop, length}
-use Rattle.bean_base.specs.declared.limits.TheConstants.{MOST_POSTINGS}
+use Rattle.limits.specs.declared.counts.TheConstants.{MOST_POSTINGS}
 use Rattle.bean_accounts.specs.Kept as accounts
 use Rattle.bean_directives.specs.declared.directive.Directive.{Directive}
 use Rattle.bean_load.specs.declared.placed.Placed.{Placed}

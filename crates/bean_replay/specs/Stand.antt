@@ -3,7 +3,7 @@ use Rattle.std.specs.Prelude.{◌<◌, ℕ, ◌≡◌, not, List, [], ◌∷◌,
 use Rattle.std.specs.Prelude.{Option}
 use Rattle.std.specs.Prelude.{Some, None, Result, Ok, Err, length}
 use Rattle.std.specs.List.{flat_map}
-use Rattle.bean_base.specs.declared.limits.TheConstants.{MOST_POSTINGS}
+use Rattle.limits.specs.declared.counts.TheConstants.{MOST_POSTINGS}
 use Rattle.bean_accounts.specs.Faults.{faults_at, kind_if, of_close, of_open, of_posting, of_use}
 use Rattle.bean_accounts.specs.declared.step.Step as lives
 use Rattle.bean_accounts.specs.declared.step.Step.TheVariants as life

@@ -2,7 +2,7 @@
 ghost use Rattle.std.specs.Prelude.{◌≡◌, ◌≢◌, ◌<◌, ◌+◌, ◌∷◌, [], ℕ, OnOk, Ok, length};
 ghost use Rattle.std.specs.Prelude as prelude;
 ghost use Rattle.std.specs.List.{AllByRecursion};
-ghost use Rattle.bean_base.specs.declared.limits.TheConstants.{MOST_POSTINGS};
+ghost use Rattle.limits.specs.declared.counts.TheConstants.{MOST_POSTINGS};
 ghost use Rattle.bean_replay.specs.Booker.{IsStanding, Stands, Wherever, unseen};
 ghost use Rattle.bean_replay.specs.Stand as spec;
 ghost use Rattle.bean_replay.specs.Stand.{IsFull, IsStepBy, Stand, after_trial, setting_of, start};
@@ -20,13 +20,13 @@ use crate::cause::BookCause;
 use crate::postings::{note_balance, note_postings};
 use crate::steps::show_drafts;
 use bean_accounts::Accounts;
-use bean_base::limits::MOST_POSTINGS;
 use bean_base::{Apart, Fault, Place};
 use bean_interp::Scales;
 use bean_load::Placed;
 use bean_pad::Padder;
 use bean_parser::{Directive, DirectiveKind};
 use bean_transactions::{Head, Holdings, LineFault, Methods, Tried, try_transaction};
+use limits::MOST_POSTINGS;
 use refusals::Refusal;
 use std::alloc::{AllocError, Global};
 

@@ -4,7 +4,7 @@ use refusals::Cause;
 /// Why nothing is booked.
 #[derive(Clone, Copy, Debug, Drop, PartialEq, Eq)]
 pub enum BookCause {
-    /// There are more postings than a ledger holds ([`bean_base::limits::MOST_POSTINGS`]).
+    /// There are more postings than a ledger holds ([`limits::MOST_POSTINGS`]).
     TooManyPostings,
 }
 

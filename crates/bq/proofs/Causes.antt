@@ -5,7 +5,7 @@ use Rattle.bean_load.specs.Following.{IsGathered}
 use Rattle.bean_load.specs.Texts.{Texts}
 use Rattle.bean_load.specs.declared.cause.LoadCause.{LoadCause}
 use Rattle.bean_load.specs.declared.cause.LoadCause.TheVariants.{Unreadable, TooLarge, NotUtf8}
-use Rattle.bean_base.specs.declared.limits.TheConstants.{LARGEST_TEXT}
+use Rattle.limits.specs.declared.counts.TheConstants.{LARGEST_TEXT}
 use Rattle.bean_load.proofs.OneGathering.{one_gathering}
 use Rattle.clap.specs.Walk.{Text}
 use Rattle.query_code.specs.QueryFile.{decoded}

@@ -17,7 +17,7 @@ use Rattle.refusals.specs.declared.refusal.Refusal.TheVariants.{OutOfMemory, Ref
 use Rattle.bean_load.specs.Loaded.{IsLoaded, Loaded}
 use Rattle.bean_load.specs.Texts.{Texts}
 use Rattle.bean_load.proofs.OneLoading.{one_loading}
-use Rattle.bean_base.specs.declared.limits.TheConstants.{MOST_POSTINGS}
+use Rattle.limits.specs.declared.counts.TheConstants.{MOST_POSTINGS}
 use Rattle.bq.specs.Booking.{FindsFaults, HasTooMany, IsBookOf}
 
 too_many : (most n m : ℕ) → n ≤ most → n ≡ m → most < m → ⊥

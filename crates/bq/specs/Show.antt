@@ -2,7 +2,7 @@
 use Rattle.std.specs.Prelude.{◌≡◌, ℕ, ◌<◌, ◌≤◌, ⊤, codes, List, [], ◌∷◌, length, Result, Ok, Err}
 use Rattle.bean_load.specs.declared.cause.LoadCause.{LoadCause}
 use Rattle.bean_load.specs.declared.cause.LoadCause.TheVariants.{Unreadable, TooLarge}
-use Rattle.bean_base.specs.declared.limits.TheConstants.{LARGEST_TEXT}
+use Rattle.limits.specs.declared.counts.TheConstants.{LARGEST_TEXT}
 use Rattle.clap.specs.Walk.{Text, first_of}
 use Rattle.query_code.specs.Listing.{listing}
 use Rattle.query_code.specs.QueryFile.{decoded}

@@ -24,7 +24,7 @@ mod verdict;
 
 use crate::arguments::run_args;
 use crate::refusal::{Cause, Refusal};
-use bean_base::limits::LARGEST_TEXT;
+use limits::LARGEST_TEXT;
 use outputs::Stream;
 use std::process::ExitCode;
 use std::{env, io};

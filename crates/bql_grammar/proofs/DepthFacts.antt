@@ -2,7 +2,7 @@
 use Rattle.std.proofs.Common.{◌≡◌, ℕ, suc, ◌+◌, ◌-◌, Bool, true, false, List, [], ◌∷◌}
 use Rattle.std.proofs.Common.{Option, Some, None, is_some, refl, sym, ap, ◌∙◌, subst, inl, inr, length, arith}
 use Rattle.std.specs.Prelude.{◌==◌, Result, Ok, Err, IfErr}
-use Rattle.bean_base.specs.declared.limits.TheConstants.{MOST_NESTED}
+use Rattle.limits.specs.declared.counts.TheConstants.{MOST_NESTED}
 use Rattle.theory.specs.Form.{Form, Reads, snoc}
 use Rattle.theory.proofs.RowFacts.{InRow}
 use Rattle.bql_lexer.specs.declared.kind.Kind.TheVariants as kind

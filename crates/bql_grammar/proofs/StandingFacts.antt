@@ -4,7 +4,7 @@ use Rattle.std.proofs.Common.{Option, Some, None, refl, sym, ap, ◌∙◌, subs
 use Rattle.std.proofs.lemmas.List.{append_assoc}
 use Rattle.std.specs.Prelude.{◌==◌, nat_le, if◌then◌else◌}
 use Rattle.std.proofs.lemmas.Bool.Decides.{nat_tests}
-use Rattle.bean_base.specs.declared.limits.TheConstants.{MOST_NESTED}
+use Rattle.limits.specs.declared.counts.TheConstants.{MOST_NESTED}
 use denote.Enum.Bare.{same_true}
 use Rattle.bql_lexer.specs.Kind.{same_kind}
 use Rattle.bql_lexer.specs.contracts.kind.Kind as kind_type

@@ -8,7 +8,7 @@
 -- atom = literal | name | name "(" ["*" | or {"," or}] ")" | "(" or ")"
 use Rattle.std.specs.Prelude.{◌≡◌, ℕ, zero, suc, ◌&&◌, ◌⊎◌, Bool, true, false, List, [], Option}
 use Rattle.std.specs.Prelude.{Some}
-use Rattle.bean_base.specs.declared.limits.TheConstants.{MOST_NESTED}
+use Rattle.limits.specs.declared.counts.TheConstants.{MOST_NESTED}
 use Rattle.theory.specs.Form.{Form, made, ending, row, chain, alone, snoc}
 use Rattle.bql_lexer.specs.declared.kind.Kind.{Kind}
 use Rattle.bql_lexer.specs.declared.kind.Kind.TheVariants as kind

@@ -1,7 +1,7 @@
 -- What is open behind some tokens: parentheses that are not closed, and signs and NOTs whose
 -- operand still goes on.
 use Rattle.std.specs.Prelude.{◌≡◌, ℕ, ◌+◌, Bool, true, false, nat_le, List, [], ◌∷◌, ◌++◌, length}
-use Rattle.bean_base.specs.declared.limits.TheConstants.{MOST_NESTED}
+use Rattle.limits.specs.declared.counts.TheConstants.{MOST_NESTED}
 use Rattle.bql_lexer.specs.declared.kind.Kind.{Kind}
 use Rattle.bql_lexer.specs.declared.kind.Kind.TheVariants as kind
 use Rattle.bql_lexer.specs.declared.token.Token.{Token}

@@ -1,6 +1,6 @@
 //! Expressions at the front of some tokens.
 ghost use Rattle.std.specs.Prelude.{◌≡◌, ◌<◌, ◌≤◌, true, length, IfOk, IfErr};
-ghost use Rattle.bean_base.specs.declared.limits.TheConstants.{MOST_NESTED};
+ghost use Rattle.limits.specs.declared.counts.TheConstants.{MOST_NESTED};
 ghost use Rattle.bql_grammar.specs.Expression as rule;
 ghost use Rattle.bql_grammar.specs.Front.{begins_with_call};
 ghost use Rattle.bql_grammar.specs.Beginning.{IsBegun};
@@ -16,12 +16,12 @@ use crate::front::{
     begins_with_list,
 };
 use crate::stuck::Stuck;
-use bean_base::limits::MOST_NESTED;
 use bql_lexer::{Kind, Token};
 use bql_tree::call::{called, is_count, listed};
 use bql_tree::level::Level;
 use bql_tree::part::{denied, group, leaf, matched, name, rows, signed, two};
 use bql_tree::{BinaryOperator, Part, Scope};
+use limits::MOST_NESTED;
 use std::alloc::Global;
 
 /// A chain of operators of a level at the front, and what stands behind it.

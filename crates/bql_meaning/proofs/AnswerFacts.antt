@@ -1,6 +1,6 @@
 -- A query has one answer.
 use Rattle.std.proofs.Common.{◌≡◌, List}
-use Rattle.bean_base.specs.declared.bounds.Bounds.{Bounds}
+use Rattle.limits.specs.declared.bounds.Bounds.{Bounds}
 use Rattle.bql_parser.specs.Asked.{Asked}
 use Rattle.query_rows.proofs.FinalRowsFacts.{are_one, final_of, is_final}
 use Rattle.query_rows.specs.Row.{Row}

@@ -4,8 +4,8 @@ use Rattle.std.proofs.Common.{◌∷◌, Some, Ok, Err, refl, sym, ap, subst, �
 use Rattle.std.specs.Prelude.{fold, if◌then◌else◌}
 use Rattle.std.specs.List.{list_all}
 use Rattle.std.specs.Result.{is_ok}
-use Rattle.bean_base.specs.declared.bounds.Bounds.{Bounds}
-use Rattle.bean_base.specs.declared.bounds.Version.TheVariants.{Second}
+use Rattle.limits.specs.declared.bounds.Bounds.{Bounds}
+use Rattle.limits.specs.declared.bounds.Version.TheVariants.{Second}
 use Rattle.bql_rules.specs.Rules as rule
 use Rattle.bql_rules.specs.Rules.{by_machine, of_both, of_truths, listed, one_of, greatest_places}
 use Rattle.bql_rules.specs.Rules.{is_held_with, are_alike, call_shape, single, sum_over, gathered}

@@ -4,9 +4,9 @@ use Rattle.std.proofs.Common.{◌∷◌, map}
 use Rattle.std.proofs.Common.{Option, Some, None, codes, length, refl, arith}
 use Rattle.jiff_core.specs.Calendar.{days_from_civil, day_count, days_of_years, days_of_months}
 use Rattle.bean_base.proofs.WorkedDays.{january_2, january_3}
-use Rattle.bean_base.specs.declared.bounds.Bounds.{Bounds}
+use Rattle.limits.specs.declared.bounds.Bounds.{Bounds}
 use Rattle.bean_base.specs.declared.days.Day as day
-use Rattle.bean_base.specs.declared.bounds.Version.TheVariants.{First}
+use Rattle.limits.specs.declared.bounds.Version.TheVariants.{First}
 use Rattle.bean_lots.specs.declared.lot.Key.{Key}
 use Rattle.bql_clauses.specs.Clause as clause
 use Rattle.bql_parser.specs.Asked.{Target, Item, target_item, tree_item}

@@ -3,7 +3,7 @@ use Rattle.std.proofs.Common.{◌≡◌, ℕ, zero, suc, Bool, true, false, ◌|
 use Rattle.std.proofs.Common.{filter, refl, sym, ap, ◌∙◌, cond, arith, true≢false, ◌⊎◌}
 use Rattle.std.proofs.Common.{inl, inr}
 use Rattle.std.specs.List.{IsAmong, AllByRecursion, list_any}
-use Rattle.bean_base.specs.declared.bounds.Bounds.{Bounds}
+use Rattle.limits.specs.declared.bounds.Bounds.{Bounds}
 use Rattle.bql_tree.specs.Tree.{Operation, leaf_of, one_of, two_of, call_of, Tree, node, Trees}
 use Rattle.bql_tree.specs.Tree.{no_trees, trees}
 use Rattle.bql_tree.specs.declared.tree.Leaf.{Leaf}

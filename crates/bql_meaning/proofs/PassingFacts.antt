@@ -3,7 +3,7 @@ use Rattle.std.proofs.Common.{◌≡◌, ℕ, ◌+◌, ◌≤◌, Bool, true, fa
 use Rattle.std.proofs.Common.{filter}
 use Rattle.std.proofs.Common.{Some, Ok, Err, refl, ap, cond, arith}
 use Rattle.std.specs.List.{AllByRecursion}
-use Rattle.bean_base.specs.declared.bounds.Bounds.{Bounds}
+use Rattle.limits.specs.declared.bounds.Bounds.{Bounds}
 use Rattle.bql_clauses.specs.Clause.{Filters}
 use Rattle.bql_tree.specs.Tree.{Tree}
 use Rattle.query_rows.specs.Row.{Row}

@@ -5,7 +5,7 @@ use Rattle.std.specs.Bool.{Decides}
 use Rattle.std.specs.List.{AllByRecursion, list_any, slice_get}
 use Rattle.std.specs.Prelude.{slice_index_or}
 use Rattle.theory.specs.Form.{steps}
-use Rattle.bean_base.specs.declared.bounds.Bounds.{Bounds}
+use Rattle.limits.specs.declared.bounds.Bounds.{Bounds}
 use Rattle.bql_parser.proofs.SmallLaw.{queries_are_small}
 use Rattle.bql_parser.specs.Answer.{query_of}
 use Rattle.bql_parser.specs.Asked.{Target, Item, ItemKind, target_item, tree_item}

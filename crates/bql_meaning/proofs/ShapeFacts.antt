@@ -2,7 +2,7 @@
 use Rattle.std.proofs.Common.{◌≡◌, ℕ, ◌≤◌, max, Bool, true, false, ◌&&◌, ◌||◌, List, [], ◌∷◌}
 use Rattle.std.proofs.Common.{length}
 use Rattle.std.proofs.Common.{Some, None, Ok, Err, refl, sym, ap, subst, ◌∙◌, cond, ◌⊎◌, inl, inr}
-use Rattle.bean_base.specs.declared.bounds.Bounds.{Bounds}
+use Rattle.limits.specs.declared.bounds.Bounds.{Bounds}
 use Rattle.bql_rules.specs.Rules as rule
 use Rattle.bql_rules.specs.Rules.{by_machine, of_both, of_truths, listed, one_of}
 use Rattle.bql_rules.specs.Rules.{greatest_places, sum_over}

@@ -3,8 +3,8 @@ use Rattle.std.proofs.Common.{◌≡◌, ◌<◌, ◌≤◌, ◌^◌, ◌*◌, �
 use Rattle.std.proofs.Common.{◌∷◌, Some, codes, refl, arith}
 use Rattle.std.specs.Str.{chars}
 use Rattle.bean_base.proofs.WorkedDays.{january_2, january_3}
-use Rattle.bean_base.specs.declared.bounds.Bounds.{Bounds}
-use Rattle.bean_base.specs.declared.bounds.Version.TheVariants.{First}
+use Rattle.limits.specs.declared.bounds.Bounds.{Bounds}
+use Rattle.limits.specs.declared.bounds.Version.TheVariants.{First}
 use Rattle.bql_tree.specs.Tree.{leaf_of, one_of, two_of, call_of, Tree, node, no_trees, trees}
 use Rattle.bql_tree.specs.Tree.{all_trees}
 use Rattle.bql_tree.specs.declared.function.Function.{Function}

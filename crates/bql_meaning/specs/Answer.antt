@@ -1,7 +1,7 @@
 -- What a query answers over the rows of a ledger.
 use Rattle.std.specs.Prelude.{ℕ, Bool, true, ◌&&◌, List, [], ◌∷◌, ◌++◌, map, filter, Option, Some}
 use Rattle.std.specs.Prelude.{None, slice_get, if◌then◌else◌}
-use Rattle.bean_base.specs.declared.bounds.Bounds.{Bounds}
+use Rattle.limits.specs.declared.bounds.Bounds.{Bounds}
 use Rattle.bql_clauses.specs.Clause as clause
 use Rattle.bql_parser.specs.Asked.{Asked, Target, Item, ItemKind, target_item, tree_item}
 use Rattle.bql_tree.specs.Tree.{Tree}

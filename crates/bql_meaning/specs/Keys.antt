@@ -1,7 +1,7 @@
 -- Keys are read at the first row of a group.
 use Rattle.std.specs.Prelude.{◌≡◌, ℕ, true, false, List, [], ◌∷◌, map, Some}
 use Rattle.std.specs.List.{IsAmong, AllByRecursion}
-use Rattle.bean_base.specs.declared.bounds.Bounds.{Bounds}
+use Rattle.limits.specs.declared.bounds.Bounds.{Bounds}
 use Rattle.bql_parser.specs.Answer.{query_of}
 use Rattle.bql_parser.specs.declared.query.Query.{Query}
 use Rattle.bql_tree.specs.Tree.{Tree}

@@ -2,7 +2,7 @@
 use Rattle.std.specs.Prelude.{◌≡◌, ℕ, true, List, Some}
 use Rattle.std.specs.Bool.{Decides}
 use Rattle.std.specs.List.{AllByRecursion}
-use Rattle.bean_base.specs.declared.bounds.Bounds.{Bounds}
+use Rattle.limits.specs.declared.bounds.Bounds.{Bounds}
 use Rattle.bql_parser.specs.Answer.{query_of}
 use Rattle.bql_parser.specs.declared.query.Query.{Query}
 use Rattle.bql_parser.specs.Asked.{Asked}

@@ -1,6 +1,6 @@
 -- The rows of a query, as they are computed by its plan.
 use Rattle.std.specs.Prelude.{◌≡◌, ℕ, List, length, map, take, slice_index_or}
-use Rattle.bean_base.specs.declared.bounds.Bounds.{Bounds}
+use Rattle.limits.specs.declared.bounds.Bounds.{Bounds}
 use Rattle.bql_parser.specs.Answer.{query_of}
 use Rattle.bql_parser.specs.declared.query.Query.{Query}
 use Rattle.bql_plan.specs.Plan.{plan}

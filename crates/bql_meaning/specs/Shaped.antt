@@ -1,7 +1,7 @@
 -- What is known of rows and of the values over them.
 use Rattle.std.specs.Prelude.{◌≡◌, ◌≤◌, ℕ, List, length, Some}
 use Rattle.std.specs.List.{AllByRecursion}
-use Rattle.bean_base.specs.declared.bounds.Bounds.{Bounds}
+use Rattle.limits.specs.declared.bounds.Bounds.{Bounds}
 use Rattle.bql_clauses.specs.Clause.{Filters}
 use Rattle.bql_tree.specs.Tree.{Operation, leaf_of, Tree, node, Trees, no_trees, trees}
 use Rattle.bql_tree.specs.declared.tree.Leaf.TheVariants as leaf

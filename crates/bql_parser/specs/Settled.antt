@@ -5,7 +5,7 @@ use Rattle.std.specs.Prelude.{Err}
 use Rattle.std.specs.Prelude.{if◌then◌else◌}
 use Rattle.std.specs.List.{slice_get, position, list_any}
 use Rattle.std.specs.Str.{str_eq_ignore_ascii_case}
-use Rattle.bean_base.specs.declared.limits.TheConstants.{LARGEST_QUERY, MOST_ITEMS}
+use Rattle.limits.specs.declared.counts.TheConstants.{LARGEST_QUERY, MOST_ITEMS}
 use Rattle.theory.specs.Form.{steps}
 use Rattle.bean_base.specs.Numeral.{is_point}
 use Rattle.bql_tree.specs.Cause.{unknown_name, outside_profile, both}

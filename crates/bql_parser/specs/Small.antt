@@ -1,7 +1,7 @@
 -- How large what a query asks may be.
 use Rattle.std.specs.Prelude.{ℕ, suc, ◌<◌, ◌≤◌, List, length, IfSome, Result, Ok, Err}
 use Rattle.std.specs.List.{AllByRecursion}
-use Rattle.bean_base.specs.declared.limits.TheConstants.{LARGEST_QUERY, MOST_COMPONENTS, MOST_ITEMS}
+use Rattle.limits.specs.declared.counts.TheConstants.{LARGEST_QUERY, MOST_COMPONENTS, MOST_ITEMS}
 use Rattle.bql_parser.specs.Asked.{Asked, Target, Item, ItemKind, target_item, tree_item}
 use Rattle.bql_tree.specs.Tree.{Operation, leaf_of, one_of, call_of, Tree, node, Trees, no_trees}
 use Rattle.bql_tree.specs.Tree.{trees}

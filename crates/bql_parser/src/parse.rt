@@ -1,6 +1,6 @@
 //! Texts of queries.
 ghost use Rattle.std.specs.Prelude.{◌≡◌, ◌≤◌, List, [], length};
-ghost use Rattle.bean_base.specs.declared.limits.TheConstants.{LARGEST_QUERY};
+ghost use Rattle.limits.specs.declared.counts.TheConstants.{LARGEST_QUERY};
 ghost use Rattle.bql_grammar.specs.Beginning.{Before};
 ghost use Rattle.bql_grammar.specs.Nesting as nesting;
 ghost use Rattle.bql_lexer.specs.declared.token.Token.{Token};
@@ -13,12 +13,12 @@ use crate::asking::settled;
 use crate::cause::QueryCause;
 use crate::query::{Draft, Query};
 use crate::settling::refused_at;
-use bean_base::limits::LARGEST_QUERY;
 use bql_clauses::query;
 use bql_grammar::Stuck;
 use bql_lexer::{Kind, Token, tokens};
 use bql_tree::PartCause;
 use bql_tree::function::is_left_out;
+use limits::LARGEST_QUERY;
 use refusals::Refusal;
 use std::alloc::Global;
 

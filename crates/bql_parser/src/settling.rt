@@ -1,7 +1,7 @@
 //! From clauses that were read to a query, or to the least cause for which it is refused.
 ghost use Rattle.std.specs.Prelude.{◌≡◌, map, IfOk};
 ghost use Rattle.std.specs.List.{slice_get, list_any};
-ghost use Rattle.bean_base.specs.declared.limits.TheConstants.{MOST_ITEMS};
+ghost use Rattle.limits.specs.declared.counts.TheConstants.{MOST_ITEMS};
 ghost use Rattle.bean_base.specs.Numeral.{is_point};
 ghost use Rattle.bql_tree.specs.Part.{part_of, parts_in, parts_of, tree_found};
 ghost use Rattle.bql_tree.specs.Tree.{tree_of};
@@ -10,11 +10,11 @@ ghost use Rattle.bql_parser.specs.Settled as rule;
 ghost use Rattle.bql_parser.specs.View as view;
 
 use crate::query::{Filters, Item, ItemKind, Order, Target};
-use bean_base::limits::MOST_ITEMS;
 use bql_clauses::clauses::{FiltersRead, OrderRead, TargetRead};
 use bql_tree::cause::both;
 use bql_tree::part::not_null;
 use bql_tree::{Alone, Expr, Leaf, Part, PartCause};
+use limits::MOST_ITEMS;
 use std::alloc::{AllocError, Global};
 
 /// What is found, or its least cause, where something stands at a place that may not.

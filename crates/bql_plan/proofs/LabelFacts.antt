@@ -3,7 +3,7 @@ use Rattle.std.proofs.Common.{◌≡◌, ℕ, zero, suc, ◌+◌, ◌<◌, false
 use Rattle.std.proofs.Common.{refl, sym, ap, ◌∙◌, get_or, drop, length, arith}
 use Rattle.std.specs.Prelude.{Vec}
 use Rattle.std.specs.declared.alloc.Global.{Global}
-use Rattle.bean_base.specs.declared.bounds.Bounds.{Bounds}
+use Rattle.limits.specs.declared.bounds.Bounds.{Bounds}
 use Rattle.bql_tree.specs.Tree.{Tree, node, Trees, no_trees, trees}
 use Rattle.query_shapes.specs.declared.shape.Shape.{Shape}
 use Rattle.bql_plan.specs.Labels.{Label, Labels, label, labels, no_labels, labelled, all_labelled}

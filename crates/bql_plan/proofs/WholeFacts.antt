@@ -5,7 +5,7 @@ use Rattle.std.proofs.Common.{if◌then◌else◌}
 use Rattle.std.specs.List.{AllByRecursion, slice_get}
 use Rattle.std.specs.Option.{option_map}
 use Rattle.theory.specs.Form.{steps}
-use Rattle.bean_base.specs.declared.bounds.Bounds.{Bounds}
+use Rattle.limits.specs.declared.bounds.Bounds.{Bounds}
 use Rattle.bql_parser.specs.Asked.{Asked, Target, Item, ItemKind, target_item, tree_item}
 use Rattle.bql_plan.specs.Labels.{labelled, all_labelled}
 use Rattle.bql_plan.specs.Plan.{added, tree_by, own_trees, shown, aggregates_in, all_aggregates}

@@ -1,6 +1,6 @@
 -- The shapes of an expression and of all its parts.
 use Rattle.std.specs.Prelude.{ℕ, false, List, [], ◌∷◌, Option, Some}
-use Rattle.bean_base.specs.declared.bounds.Bounds.{Bounds}
+use Rattle.limits.specs.declared.bounds.Bounds.{Bounds}
 use Rattle.bql_tree.specs.Tree.{Tree, node, Trees, no_trees, trees}
 use Rattle.query_shapes.specs.declared.shape.Shape.{Shape}
 use Rattle.bql_types.specs.Shaped.{shape_of, beside, operand}

@@ -1,7 +1,7 @@
 -- What is computed for a query, each expression with the shapes of it and of its parts.
 use Rattle.std.specs.Prelude.{ℕ, Bool, List, map, Option, Some, None}
 use Rattle.std.specs.Option.{option_map}
-use Rattle.bean_base.specs.declared.bounds.Bounds.{Bounds}
+use Rattle.limits.specs.declared.bounds.Bounds.{Bounds}
 use Rattle.bql_plan.specs.Labels.{Label, labelled}
 use Rattle.bql_plan.specs.Plan as numbered
 use Rattle.bql_plan.specs.Plan.{plan}

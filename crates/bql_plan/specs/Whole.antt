@@ -2,7 +2,7 @@
 use Rattle.std.specs.Prelude.{ℕ, ◌≡◌, Bool, true, ◌&&◌, List, [], ◌∷◌, ◌++◌, map, Option, Some}
 use Rattle.std.specs.Prelude.{None, ◌⊎◌}
 use Rattle.std.specs.List.{AllByRecursion}
-use Rattle.bean_base.specs.declared.bounds.Bounds.{Bounds}
+use Rattle.limits.specs.declared.bounds.Bounds.{Bounds}
 use Rattle.bql_parser.specs.Asked.{Asked, Item}
 use Rattle.bql_plan.specs.Labels.{Label, Labels, label, labels, no_labels, labelled}
 use Rattle.bql_plan.specs.Plan.{own_trees}

@@ -6,10 +6,10 @@ ghost use Rattle.bql_types.specs.Shaped as rule;
 ghost use Rattle.bql_types.specs.Seen as seen_rule;
 ghost use Rattle.query_columns.specs.ColumnShape.{AreBounds};
 
-use bean_base::Bounds;
 use bql_rules::leaf_shape;
 use bql_tree::{BinaryOperator, Expr};
 use bql_types::shaped::{Operand, before, between, called, is_equality, is_null, one_more};
+use limits::Bounds;
 use query_shapes::{Misfit, Shape};
 use std::alloc::{AllocError, Global};
 

@@ -11,12 +11,12 @@ ghost use Rattle.query_columns.specs.ColumnShape.{AreBounds};
 
 use crate::exprs::{aggregates, first_part, order, targets_shown, with_items};
 use crate::labels::{Shapes, shapes_of};
-use bean_base::Bounds;
 use bql_tree::Expr;
 use bql_types::Typed;
 use bql_types::gathered::aggregate_in;
 use bql_types::grouped::Key;
 use bql_types::grouping::grouped_by;
+use limits::Bounds;
 use query_values::Aggregate;
 use std::alloc::{AllocError, Global};
 

@@ -1,7 +1,7 @@
 -- Worked shapes.
 use Rattle.std.proofs.Common.{◌≡◌, ◌^◌, ◌-◌, ◌*◌, ◌+◌, [], ◌∷◌, Ok, Err, refl}
-use Rattle.bean_base.specs.declared.bounds.Bounds.{Bounds}
-use Rattle.bean_base.specs.declared.bounds.Version.TheVariants.{First}
+use Rattle.limits.specs.declared.bounds.Bounds.{Bounds}
+use Rattle.limits.specs.declared.bounds.Version.TheVariants.{First}
 use Rattle.query_columns.specs.declared.column.Column.TheVariants as column
 use Rattle.bql_tree.specs.declared.function.Function.TheVariants.{Cost, Sum, OneOf, Units}
 use Rattle.bql_tree.specs.declared.tree.BinaryOperator.TheVariants.{Times, Plus}

@@ -3,8 +3,8 @@ ghost use Rattle.std.specs.Prelude.{◌≡◌};
 ghost use Rattle.std.specs.List.{list_all};
 ghost use Rattle.bql_rules.specs.Rules as rule;
 
-use bean_base::Bounds;
 use bql_tree::Function;
+use limits::Bounds;
 use query_shapes::rules::{
     aligned, cost_of, currency_of, length_of, magnitude_of, number_of, of_day, of_text, units_of,
     whole,

@@ -3,8 +3,8 @@ ghost use Rattle.std.specs.Prelude.{◌≡◌};
 ghost use Rattle.bql_rules.specs.Rules as rule;
 ghost use Rattle.query_columns.specs.ColumnShape.{AreBounds};
 
-use bean_base::Bounds;
 use bql_tree::Leaf;
+use limits::Bounds;
 use query_columns::column_shape;
 use query_shapes::rules::whole;
 use query_shapes::{Misfit, Shape};

@@ -11,7 +11,7 @@
 //!
 //! # What is taken for granted
 //!
-//! Of the ledgers that a query runs on only their [`bean_base::Bounds`]: how many postings they
+//! Of the ledgers that a query runs on only their [`limits::Bounds`]: how many postings they
 //! have at most, and how wide their counts are. A column has the shape that `query_columns` tells.
 //!
 //! # One table

@@ -1,6 +1,6 @@
 -- Which programs carry a query: what comes out of them is the query's answer.
 use Rattle.std.specs.Prelude.{◌≡◌, List, map}
-use Rattle.bean_base.specs.declared.bounds.Bounds.{Bounds}
+use Rattle.limits.specs.declared.bounds.Bounds.{Bounds}
 use Rattle.bql_meaning.specs.Answer.{IsAnswer}
 use Rattle.bql_parser.specs.Asked.{Asked}
 use Rattle.plain_machine.specs.Answer.{Answer, Answers}

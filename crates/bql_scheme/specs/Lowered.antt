@@ -3,7 +3,7 @@
 -- where the machine wants equal ones.
 use Rattle.std.specs.Prelude.{ℕ, ℤ, pos, ◌*ℤ◌, ◌^◌, ◌-◌, ◌&&◌, nat_lt, Bool, true, false, max, List}
 use Rattle.std.specs.Prelude.{[], ◌∷◌, ◌++◌, map, Option, Some, None, if◌then◌else◌}
-use Rattle.bean_base.specs.declared.bounds.Bounds.{Bounds}
+use Rattle.limits.specs.declared.bounds.Bounds.{Bounds}
 use Rattle.bean_base.specs.declared.days.Day as days
 use Rattle.bql_plan.specs.Plan.{index_of}
 use Rattle.bql_tree.specs.Tree.{Operation, leaf_of, one_of, two_of, call_of, Tree, node, Trees}

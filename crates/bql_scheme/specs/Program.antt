@@ -2,8 +2,8 @@
 -- these there is none.
 use Rattle.std.specs.Prelude.{ℕ, ◌-◌, ◌<◌, ◌⊎◌, Bool, true, false, max, List, [], ◌∷◌, ◌++◌, map}
 use Rattle.std.specs.Prelude.{length, Option, Some, None, if◌then◌else◌}
-use Rattle.bean_base.specs.declared.bounds.Bounds.{Bounds}
-use Rattle.bean_base.specs.declared.limits.TheConstants.{LONGEST_SECTION, MOST_ITEMS, MOST_VALUES}
+use Rattle.limits.specs.declared.bounds.Bounds.{Bounds}
+use Rattle.limits.specs.declared.counts.TheConstants.{LONGEST_SECTION, MOST_ITEMS, MOST_VALUES}
 use Rattle.bql_parser.specs.Asked.{Asked, Target}
 use Rattle.bql_plan.specs.Plan.{Plan, plan}
 use Rattle.bql_tree.specs.Tree.{Tree, node, Trees, no_trees, trees}

@@ -1,10 +1,10 @@
 //! What is computed for queries.
 
 use crate::shapes::push_letters;
-use bean_base::{Bounds, Version};
 use bql_parser::parse_query;
 use bql_plan::{Gathered, Plan, Shaped, planned};
 use bql_types::type_query;
+use limits::{Bounds, Version};
 use query_values::Aggregate;
 use std::alloc::{AllocError, Global};
 use std::test::Fail;

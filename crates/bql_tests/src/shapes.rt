@@ -1,8 +1,8 @@
 //! Shapes of expressions and of their parts.
 
-use bean_base::{Bounds, Version};
 use bql_parser::parse_query;
 use bql_plan::{Shapes, shapes_of};
+use limits::{Bounds, Version};
 use query_shapes::Shape;
 use std::alloc::{AllocError, Global};
 use std::test::Fail;

@@ -2,9 +2,9 @@
 
 ghost use Rattle.query_columns.specs.ColumnShape.{AreBounds};
 
-use bean_base::{Bounds, Version};
 use bql_parser::parse_query;
 use bql_types::{TypeCause, TypeCauseKind, type_query};
+use limits::{Bounds, Version};
 use refusals::Refusal;
 use std::alloc::{AllocError, Global};
 use std::test::Fail;

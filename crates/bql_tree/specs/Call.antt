@@ -3,7 +3,7 @@ use Rattle.std.specs.Prelude.{ℕ, ◌==◌, ◌&&◌, max, Bool, true, false, L
 use Rattle.std.specs.Prelude.{negsuc, nat_le, codes, Option, Some, None, Result, Ok, Err}
 use Rattle.std.specs.Prelude.{if◌then◌else◌}
 use Rattle.std.specs.Str.{str_eq_ignore_ascii_case}
-use Rattle.bean_base.specs.declared.limits.TheConstants.{MOST_COMPONENTS}
+use Rattle.limits.specs.declared.counts.TheConstants.{MOST_COMPONENTS}
 use Rattle.theory.specs.Form.{steps}
 use Rattle.query_values.specs.declared.decimal.Decimal.{Decimal}
 use Rattle.bql_lexer.specs.declared.token.Token.{Token}

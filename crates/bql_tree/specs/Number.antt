@@ -1,7 +1,7 @@
 -- Numbers of a query: digits, and a point with digits behind it.
 use Rattle.std.specs.Prelude.{ℕ, ◌^◌, ◌==◌, min, Bool, List, drop, length, pos, Option, Some, None}
 use Rattle.std.specs.List.{prefix_len, after_first}
-use Rattle.bean_base.specs.declared.limits.TheConstants.{COUNT_BOUND}
+use Rattle.limits.specs.declared.counts.TheConstants.{COUNT_BOUND}
 use Rattle.bean_base.specs.Numeral.{count_of, is_point}
 use Rattle.query_values.specs.Wide.{decimal_of}
 use Rattle.query_values.specs.declared.decimal.Decimal.{Decimal}

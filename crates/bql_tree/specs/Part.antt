@@ -2,7 +2,7 @@
 use Rattle.std.specs.Prelude.{ℕ, ◌+◌, max, Bool, true, false, ◌||◌, List, map, nat_lt, nat_le}
 use Rattle.std.specs.Prelude.{Option, Some, None, Result, Ok, Err, if◌then◌else◌, Box, Vec}
 use Rattle.std.specs.declared.alloc.Global.{Global}
-use Rattle.bean_base.specs.declared.limits.TheConstants.{GREATEST_HEIGHT}
+use Rattle.limits.specs.declared.counts.TheConstants.{GREATEST_HEIGHT}
 use Rattle.bql_lexer.specs.declared.token.Token.{Token}
 use Rattle.bql_tree.specs.Cause.{outside_profile, unknown_name, least, both}
 use Rattle.query_columns.specs.Column as columns

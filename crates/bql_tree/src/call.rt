@@ -8,8 +8,8 @@ use crate::function::{Function, Scope};
 use crate::part::{Alone, Part, above, not_null, not_too_high, unknown};
 use crate::tree::{Expr, Leaf, MetadataOwner, UnaryOperator};
 use bean_base::Slice;
-use bean_base::limits::MOST_COMPONENTS;
 use bql_lexer::Token;
+use limits::MOST_COMPONENTS;
 use std::alloc::{AllocError, Global};
 
 /// Whether a name is COUNT.

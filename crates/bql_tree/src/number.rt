@@ -1,13 +1,13 @@
 //! Numbers of a query.
 ghost use Rattle.std.specs.Prelude.{◌≡◌, ◌^◌, ◌<◌, ◌≤◌, min, pos};
-ghost use Rattle.bean_base.specs.declared.limits.TheConstants.{COUNT_BOUND, MOST_PLACES};
+ghost use Rattle.limits.specs.declared.counts.TheConstants.{COUNT_BOUND, MOST_PLACES};
 ghost use Rattle.bean_base.specs.Numeral.{count_of};
 ghost use Rattle.bql_tree.specs.Number as rule;
 
 use crate::tree::Leaf;
 use bean_base::Slice;
-use bean_base::limits::{COUNT_BOUND, MOST_PLACES};
 use byte_runs::{ByteClass, end_of_run};
+use limits::{COUNT_BOUND, MOST_PLACES};
 use query_values::Decimal;
 
 /// The zeros in front of a number.

@@ -8,8 +8,8 @@ use crate::cause::{PartCause, both};
 use crate::function::{Scope, is_left_out};
 use crate::tree::{BinaryOperator, Expr, Leaf, UnaryOperator};
 use bean_base::Slice;
-use bean_base::limits::GREATEST_HEIGHT;
 use bql_lexer::Token;
+use limits::GREATEST_HEIGHT;
 use query_columns::Column;
 use std::alloc::{AllocError, Global};
 

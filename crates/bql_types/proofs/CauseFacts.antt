@@ -15,7 +15,7 @@ use Rattle.bql_types.specs.Cause.{told, sooner, where_true, cause_at}
 use Rattle.bql_types.specs.Sought.{is_key, is_aggregate, is_aggregate_function, reads_row}
 use Rattle.bql_types.specs.Sought.{ungrouped}
 use Rattle.bql_types.specs.Sought.{all_ungrouped, misplaced, all_misplaced, is_told}
-use Rattle.bean_base.specs.declared.bounds.Bounds.{Bounds}
+use Rattle.limits.specs.declared.bounds.Bounds.{Bounds}
 use Rattle.bql_types.specs.declared.cause.TypeCauseKind.TheVariants as kind
 use Rattle.bql_types.specs.declared.cause.TypeCause.{TypeCause}
 

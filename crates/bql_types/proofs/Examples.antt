@@ -1,7 +1,7 @@
 -- Worked queries.
 use Rattle.std.proofs.Common.{◌≡◌, ℕ, ◌+◌, false, List, [], ◌∷◌, map, Option, Some, None, refl}
-use Rattle.bean_base.specs.declared.bounds.Bounds.{Bounds}
-use Rattle.bean_base.specs.declared.bounds.Version.TheVariants.{First}
+use Rattle.limits.specs.declared.bounds.Bounds.{Bounds}
+use Rattle.limits.specs.declared.bounds.Version.TheVariants.{First}
 use Rattle.bql_parser.specs.Asked.{Asked, Target, Item, tree_item, target_item}
 use Rattle.bql_parser.specs.Standing as standing
 use Rattle.bql_parser.specs.declared.standing.Valuation.TheVariants as valuation

@@ -4,7 +4,7 @@ use Rattle.std.proofs.Common.{map}
 use Rattle.std.proofs.Common.{Option, Some, None, refl, sym, ap, ◌∙◌, get_or, drop, length, arith}
 use Rattle.std.proofs.Common.{append_assoc, if◌then◌else◌}
 use Rattle.bql_tree.specs.Tree.{Tree}
-use Rattle.bean_base.specs.declared.bounds.Bounds.{Bounds}
+use Rattle.limits.specs.declared.bounds.Bounds.{Bounds}
 use Rattle.bql_types.specs.Cause.{told, least_of, is_before}
 use Rattle.bql_types.specs.Typing.{each, all_keys, Grouping, grouping_of, target_causes}
 use Rattle.bql_types.specs.Typing.{filters_causes, group_causes, order_item_causes, causes_by}

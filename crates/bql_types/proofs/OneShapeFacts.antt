@@ -11,7 +11,7 @@ use Rattle.std.specs.Prelude.{Ok, Err}
 use mathlib.Core.HLevel.{is_prop→PathP}
 use denote.Enum.Bare.{sameb, same_true}
 use Rattle.bean_base.proofs.DayFacts.{same_day_Decides}
-use Rattle.bean_base.specs.declared.bounds.Bounds.{Bounds}
+use Rattle.limits.specs.declared.bounds.Bounds.{Bounds}
 use Rattle.bql_tree.specs.Tree.{Operation, leaf_of, one_of, two_of, call_of, Tree, node, Trees}
 use Rattle.bql_tree.specs.Tree.{no_trees, trees}
 use Rattle.bql_tree.specs.contracts.function.Function as functions

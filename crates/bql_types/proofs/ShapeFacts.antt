@@ -2,7 +2,7 @@
 use Rattle.std.proofs.Common.{◌≡◌, ℕ, ◌+◌, ◌<◌, false, List, [], ◌∷◌, ◌++◌, Option, Some, None}
 use Rattle.std.proofs.Common.{refl}
 use Rattle.std.proofs.Common.{sym, ap, ◌∙◌, get_or, drop, length, append_assoc}
-use Rattle.bean_base.specs.declared.bounds.Bounds.{Bounds}
+use Rattle.limits.specs.declared.bounds.Bounds.{Bounds}
 use Rattle.bql_tree.specs.Tree.{Operation, one_of, two_of, call_of, Tree, node, Trees, trees}
 use Rattle.bql_tree.specs.Tree.{no_trees, tree_of, trees_of}
 use Rattle.bql_tree.specs.declared.function.Function.{Function}

@@ -1,6 +1,6 @@
 -- Which aggregate an expression is.
 use Rattle.std.specs.Prelude.{ℕ, false, List, [], ◌∷◌, Option, Some}
-use Rattle.bean_base.specs.declared.bounds.Bounds.{Bounds}
+use Rattle.limits.specs.declared.bounds.Bounds.{Bounds}
 use Rattle.bql_rules.specs.Rules.{sum_over}
 use Rattle.bql_tree.specs.Tree.{Operation, call_of, Tree, node}
 use Rattle.bql_tree.specs.declared.function.Function.{Function}

@@ -2,7 +2,7 @@
 use Rattle.std.specs.Prelude.{◌≡◌, ◌≢◌, ℕ, false, List, [], map, Some, None}
 use Rattle.std.specs.Prelude.{Option, Ok, Err, true}
 use Rattle.std.specs.List.{IsAmong, slice_get}
-use Rattle.bean_base.specs.declared.bounds.Bounds.{Bounds}
+use Rattle.limits.specs.declared.bounds.Bounds.{Bounds}
 use Rattle.bql_parser.specs.Asked.{Asked, Target, Item, ItemKind, target_item, tree_item}
 use Rattle.bql_clauses.specs.Clause.{Filters}
 use Rattle.bql_parser.specs.Standing as standing

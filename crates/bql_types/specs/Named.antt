@@ -1,7 +1,7 @@
 -- What items that name a target ask of it, as it was seen once.
 use Rattle.std.specs.Prelude.{◌≡◌, ℕ, true, List, map, Option, Some, None}
 use Rattle.std.specs.Option.{is_some}
-use Rattle.bean_base.specs.declared.bounds.Bounds.{Bounds}
+use Rattle.limits.specs.declared.bounds.Bounds.{Bounds}
 use Rattle.bql_parser.specs.Asked.{Target}
 use Rattle.bql_types.specs.Cause.{cause_at, where_true, least_of}
 use Rattle.bql_types.specs.Shaped.{shape_of}

@@ -4,7 +4,7 @@ use Rattle.std.specs.Prelude.{ℕ, Bool, true, false, ◌&&◌, ◌||◌, List, 
 use Rattle.std.specs.Prelude.{if◌then◌else◌}
 use Rattle.std.specs.List.{list_any}
 use Rattle.std.specs.Option.{is_some}
-use Rattle.bean_base.specs.declared.bounds.Bounds.{Bounds}
+use Rattle.limits.specs.declared.bounds.Bounds.{Bounds}
 use Rattle.bql_tree.specs.Tree.{Operation, leaf_of, call_of, Tree, node, Trees, no_trees, trees}
 use Rattle.query_columns.specs.declared.column.Column.TheVariants.{Balance}
 use Rattle.bql_tree.specs.declared.function.Function.{Function}

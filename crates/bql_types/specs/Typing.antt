@@ -3,7 +3,7 @@ use Rattle.std.specs.Prelude.{ℕ, Bool, true, false, not, List, [], ◌∷◌, 
 use Rattle.std.specs.Prelude.{Option, Some, None, ◌≡◌, if◌then◌else◌}
 use Rattle.std.specs.List.{slice_get, list_any}
 use Rattle.std.specs.Option.{is_some}
-use Rattle.bean_base.specs.declared.bounds.Bounds.{Bounds}
+use Rattle.limits.specs.declared.bounds.Bounds.{Bounds}
 use Rattle.bql_clauses.specs.Clause as clause
 use Rattle.bql_parser.specs.Asked.{Target, Item, ItemKind, target_item, tree_item, Asked}
 use Rattle.bql_tree.specs.Tree.{Tree, node}

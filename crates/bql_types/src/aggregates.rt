@@ -7,8 +7,8 @@ ghost use Rattle.bql_types.specs.Sought as rule;
 
 use crate::cause::{TypeCause, TypeCauseKind, where_true};
 use crate::shaped::look_at_all;
-use bean_base::Bounds;
 use bql_tree::{Expr, Function, Leaf};
+use limits::Bounds;
 use std::alloc::{AllocError, Global};
 
 pub fn is_aggregate_function(function: Function) -> bool

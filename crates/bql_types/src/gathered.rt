@@ -6,9 +6,9 @@ ghost use Rattle.bql_types.specs.Seen.{list_of};
 ghost use Rattle.query_columns.specs.ColumnShape.{AreBounds};
 
 use crate::shaped::look_at_all;
-use bean_base::Bounds;
 use bql_rules::sum_over;
 use bql_tree::{Expr, Function};
+use limits::Bounds;
 use query_shapes::Shape;
 use query_values::Aggregate;
 use std::alloc::{AllocError, Global};

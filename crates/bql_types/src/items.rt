@@ -17,9 +17,9 @@ use crate::grouped::ungrouped;
 use crate::grouping::Grouping;
 use crate::shaped::{Seen, look};
 use crate::targets::{SeenTarget, named_group, named_order};
-use bean_base::Bounds;
 use bql_parser::{Filters, Item, ItemKind};
 use bql_tree::Expr;
+use limits::Bounds;
 use query_shapes::Shape;
 use std::alloc::{AllocError, Global};
 

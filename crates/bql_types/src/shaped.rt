@@ -6,9 +6,9 @@ ghost use Rattle.bql_types.specs.Shaped as rule;
 ghost use Rattle.bql_types.specs.Seen as seen_rule;
 
 use crate::cause::{TypeCause, TypeCauseKind, sooner};
-use bean_base::Bounds;
 use bql_rules::{binary_shape, call_shape, leaf_shape, unary_shape};
 use bql_tree::{BinaryOperator, Expr, Function, Leaf, UnaryOperator};
+use limits::Bounds;
 use query_shapes::{Misfit, Shape};
 use std::alloc::{AllocError, Global};
 

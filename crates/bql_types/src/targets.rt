@@ -15,9 +15,9 @@ use crate::aggregates::misplaced;
 use crate::cause::{TypeCause, TypeCauseKind, sooner, where_true};
 use crate::grouping::Grouping;
 use crate::items::{isnt_ordered, shown};
-use bean_base::Bounds;
 use bql_parser::Target;
 use bql_tree::Expr;
+use limits::Bounds;
 use query_shapes::Shape;
 use std::alloc::{AllocError, Global};
 

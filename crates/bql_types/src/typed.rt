@@ -3,8 +3,8 @@ ghost use Rattle.bql_parser.specs.Answer.{query_of};
 ghost use Rattle.query_columns.specs.ColumnShape.{AreBounds};
 ghost use Rattle.bql_types.specs.Typing.{IsTyped};
 
-use bean_base::Bounds;
 use bql_parser::Query;
+use limits::Bounds;
 
 /// A query that has a type within bounds: each of its expressions has a shape, and what it asks
 /// stands where it may.

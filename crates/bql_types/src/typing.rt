@@ -11,8 +11,8 @@ use crate::grouping::grouped_by;
 use crate::items::{filters, groups, order};
 use crate::targets::targets;
 use crate::typed::Typed;
-use bean_base::Bounds;
 use bql_parser::Query;
+use limits::Bounds;
 use refusals::Refusal;
 use std::alloc::{AllocError, Global};
 

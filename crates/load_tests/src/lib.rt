@@ -2,9 +2,9 @@
 #![tactic(auto)]
 
 #[cfg(test)]
-mod gathering;
+mod edges;
 #[cfg(test)]
-mod limits;
+mod gathering;
 #[cfg(test)]
 mod loading;
 #[cfg(test)]

@@ -1,7 +1,7 @@
 -- What programs do over a few rows, computed.
 use Rattle.std.proofs.Common.{◌≡◌, ◌<◌, ◌≤◌, ◌^◌, ◌-◌, ℕ, ℤ, pos, negsuc, Bool, true, false, List}
 use Rattle.std.proofs.Common.{[], ◌∷◌, ◌++◌, map, replicate, Some, None, codes, refl, arith}
-use Rattle.bean_base.specs.declared.bounds.Version.TheVariants.{First}
+use Rattle.limits.specs.declared.bounds.Version.TheVariants.{First}
 use Rattle.bean_lots.specs.declared.lot.Key.{Key}
 use Rattle.query_columns.specs.declared.column.Column.{Column}
 use Rattle.query_columns.specs.declared.column.Column.TheVariants as column

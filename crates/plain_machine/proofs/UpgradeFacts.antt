@@ -3,8 +3,8 @@ use Rattle.std.proofs.Common.{◌≡◌, ℕ, zero, suc, ◌+◌, Bool, true, fa
 use Rattle.std.proofs.Common.{Option, Some, None, refl, sym, ap, subst, ◌∙◌, cond, eqb}
 use Rattle.std.specs.Prelude.{slice_get, option_and_then, option_map, reverse, ⊤}
 use Rattle.std.specs.List.{AllByRecursion}
-use Rattle.bean_base.specs.declared.bounds.Version.{Version}
-use Rattle.bean_base.specs.declared.bounds.Version.TheVariants.{Second}
+use Rattle.limits.specs.declared.bounds.Version.{Version}
+use Rattle.limits.specs.declared.bounds.Version.TheVariants.{Second}
 use Rattle.query_columns.proofs.NumberFacts.{second_has_all}
 use Rattle.query_columns.specs.Column.{if_in, numbered, numbered_in}
 use Rattle.query_columns.specs.declared.column.Column.{Column}

@@ -8,4 +8,6 @@ pub mod PlainMachine
 pub mod WholeRun
 pub mod Alike
 pub mod Answer
+pub mod Depth
+pub mod Safety
 pub mod Upgrade

@@ -1,7 +1,7 @@
 -- What the instructions of a section load, and what operations give there.
 use Rattle.std.specs.Prelude.{ℕ, true, false, List, Option, Some, None, slice_get, option_map}
 use Rattle.std.specs.Prelude.{option_and_then}
-use Rattle.bean_base.specs.declared.bounds.Version.{Version}
+use Rattle.limits.specs.declared.bounds.Version.{Version}
 use Rattle.query_columns.specs.Column.{numbered_in}
 use Rattle.query_columns.specs.declared.column.Column.{Column}
 use Rattle.query_columns.specs.declared.column.Column.TheVariants.{Balance}

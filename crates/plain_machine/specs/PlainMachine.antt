@@ -3,7 +3,7 @@
 use Rattle.std.specs.Prelude.{ℕ, zero, suc, ◌+◌, ◌==◌, Bool, true, false, List, [], ◌∷◌, ◌++◌}
 use Rattle.std.specs.Prelude.{length, take, drop, reverse, Option, Some, None, option_map}
 use Rattle.std.specs.Prelude.{option_and_then, if◌then◌else◌}
-use Rattle.bean_base.specs.declared.bounds.Version.{Version}
+use Rattle.limits.specs.declared.bounds.Version.{Version}
 use Rattle.query_values.specs.Aggregate.{aggregate_of}
 use Rattle.query_values.specs.declared.operation.Aggregate.TheVariants.{SumInventory}
 use Rattle.query_values.specs.declared.value.Value.{Value}

@@ -2,7 +2,7 @@
 use Rattle.std.specs.Prelude.{ℕ, zero, suc, ◌+◌, nat_le, nat_lt, Bool, true, false, ◌&&◌, List, []}
 use Rattle.std.specs.Prelude.{◌∷◌, length, replicate, slice_get, slice_set, Option, Some, None}
 use Rattle.std.specs.Prelude.{option_map, if◌then◌else◌}
-use Rattle.bean_base.specs.declared.limits.TheConstants.{MOST_VALUES, SLOTS}
+use Rattle.limits.specs.declared.counts.TheConstants.{MOST_VALUES, SLOTS}
 use Rattle.query_values.specs.Operation.{is_true}
 use Rattle.query_values.specs.declared.operation.Binary as binary
 use Rattle.query_values.specs.declared.value.Value.{Value}

@@ -1,7 +1,7 @@
 -- What becomes of a program's runs where it is brought to the second version.
 use Rattle.std.specs.Prelude.{◌≡◌, ℕ, List, ⊤}
 use Rattle.std.specs.List.{AllByRecursion}
-use Rattle.bean_base.specs.declared.bounds.Version.{Version}
+use Rattle.limits.specs.declared.bounds.Version.{Version}
 use Rattle.query_columns.specs.Column.{numbered, numbered_in}
 use Rattle.query_code.specs.Upgrade.{upgraded}
 use Rattle.query_code.specs.declared.instruction.Instruction.{Instruction}

@@ -13,10 +13,10 @@ use Rattle.std.specs.Int.RustNames.{unsigned_abs}
 use Rattle.std.proofs.lemmas.Bool.{le-leb, lt-ltb, ltb-true, and_from, and_parts}
 use Rattle.bean_base.proofs.PowerFacts.{pow_le, pow_pos, scaled_lt}
 use Rattle.bean_base.specs.declared.amounts.Amount.{Amount}
-use Rattle.bean_base.specs.declared.bounds.Version.{Version}
-use Rattle.bean_base.specs.declared.bounds.Version.TheVariants.{First, Second}
-use Rattle.bean_base.specs.declared.bounds.Bounds.{Bounds}
-use Rattle.bean_base.specs.declared.limits.TheConstants.{MOST_POSTINGS}
+use Rattle.limits.specs.declared.bounds.Version.{Version}
+use Rattle.limits.specs.declared.bounds.Version.TheVariants.{First, Second}
+use Rattle.limits.specs.declared.bounds.Bounds.{Bounds}
+use Rattle.limits.specs.declared.counts.TheConstants.{MOST_POSTINGS}
 use Rattle.bean_lots.specs.declared.lot.Lot.{Lot}
 use Rattle.posting_table.specs.Row.{cell_at, of_lot, price_or_null}
 use Rattle.posting_table.specs.Rows.{row_of}

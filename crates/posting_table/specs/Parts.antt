@@ -4,7 +4,7 @@ use Rattle.std.specs.Int.RustNames.{unsigned_abs}
 use Rattle.std.specs.List.{AllByRecursion}
 use Rattle.bean_base.specs.declared.amounts.Amount.{Amount}
 use Rattle.bean_lots.specs.declared.lot.Lot.{Lot}
-use Rattle.bean_base.specs.declared.limits.TheConstants.{LARGEST_TEXT}
+use Rattle.limits.specs.declared.counts.TheConstants.{LARGEST_TEXT}
 use Rattle.posting_table.specs.Shaped.{AreShort}
 use Rattle.posting_table.specs.declared.entry.Entry.{Entry}
 use Rattle.posting_table.specs.declared.row.Row.{Row}

@@ -1,7 +1,7 @@
 -- What is known of each row by bounds.
 use Rattle.std.specs.Prelude.{List}
 use Rattle.std.specs.List.{AllByRecursion}
-use Rattle.bean_base.specs.declared.bounds.Bounds.{Bounds}
+use Rattle.limits.specs.declared.bounds.Bounds.{Bounds}
 use Rattle.query_rows.specs.Shaped as rows
 use Rattle.query_rows.specs.Shaped.{IsShortIfThere}
 use Rattle.posting_table.specs.Rows.{row_of}

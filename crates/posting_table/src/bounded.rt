@@ -9,8 +9,9 @@ ghost use Rattle.query_rows.specs.Fits as spec;
 ghost use Rattle.query_shapes.specs.Mass.{value_of};
 
 use crate::held::HeldRow;
-use bean_base::{Amount, Bounds, Version, power_of_ten};
+use bean_base::{Amount, power_of_ten};
 use bean_lots::Lot;
+use limits::{Bounds, Version};
 
 /// Whether a number has at most so many digits.
 fn has_digits(digits: u8, number: u128) -> bool

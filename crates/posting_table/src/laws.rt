@@ -1,6 +1,6 @@
 //! Laws of ledgers.
 ghost use Rattle.std.specs.Prelude.{◌≡◌, true, All, List, map};
-ghost use Rattle.bean_base.specs.declared.bounds.Bounds.{Bounds};
+ghost use Rattle.limits.specs.declared.bounds.Bounds.{Bounds};
 ghost use Rattle.posting_table.specs.Parts.{HasSmallParts};
 ghost use Rattle.posting_table.specs.Rows.{row_of};
 ghost use Rattle.posting_table.specs.Shaped.{IsShaped};

@@ -15,8 +15,8 @@ use crate::display::Display;
 use crate::held::HeldRow;
 use crate::keys::Keys;
 use crate::row::Row;
-use bean_base::limits::MOST_POSTINGS;
-use bean_base::{Bounds, Currency};
+use bean_base::Currency;
+use limits::{Bounds, MOST_POSTINGS};
 use query_columns::Column;
 use query_values::Value;
 use std::alloc::{AllocError, Global};
@@ -38,7 +38,7 @@ impl<'a> Model for Ledger<'a> {
     ghost use Rattle.posting_table.specs.Ledger.{Ledger};
     ghost use Rattle.posting_table.specs.Shaped.{IsShaped};
     ghost use Rattle.query_columns.specs.ColumnShape.{widest};
-    ghost use Rattle.bean_base.specs.declared.limits.TheConstants.{MOST_POSTINGS};
+    ghost use Rattle.limits.specs.declared.counts.TheConstants.{MOST_POSTINGS};
 
     ghost Value = { Ledger };
 

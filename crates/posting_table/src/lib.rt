@@ -46,7 +46,7 @@
 //!
 //! # What may be asked
 //!
-//! `push` wants room, since a ledger holds at most [`bean_base::limits::MOST_POSTINGS`], and a row whose cells lie in
+//! `push` wants room, since a ledger holds at most [`limits::MOST_POSTINGS`], and a row whose cells lie in
 //! the shapes that its columns have by the widest bounds: its texts are short and its counts small
 //! ([`rows_of_small_parts_are_shaped`]). So in a ledger that is within narrower bounds
 //! ([`Ledger::fits`]) they lie in the shapes by these. `cell`, `meta` and `entry_meta` want a row

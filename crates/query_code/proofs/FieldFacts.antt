@@ -7,11 +7,11 @@ use Rattle.std.specs.Prelude.{◌||◌, ◌==◌, nat_lt, nat_le, codes, if◌th
 use Rattle.std.specs.Int.{w16, w32, w128, cast_signed, cast_unsigned}
 use Rattle.std.specs.Str.{is_utf8}
 use Rattle.bean_base.specs.CalendarDay as calendar
-use Rattle.bean_base.specs.Version.{numbered}
-use Rattle.bean_base.specs.Version.{number as version_number}
-use Rattle.bean_base.specs.declared.bounds.Bounds.{Bounds}
-use Rattle.bean_base.specs.declared.bounds.Version as versions
-use Rattle.bean_base.specs.declared.bounds.Version.TheVariants.{First, Second}
+use Rattle.limits.specs.Version.{numbered}
+use Rattle.limits.specs.Version.{number as version_number}
+use Rattle.limits.specs.declared.bounds.Bounds.{Bounds}
+use Rattle.limits.specs.declared.bounds.Version as versions
+use Rattle.limits.specs.declared.bounds.Version.TheVariants.{First, Second}
 use Rattle.query_values.specs.declared.operation.Binary.TheVariants as binary
 use Rattle.query_values.specs.declared.operation.Aggregate.TheVariants as aggregates
 use Rattle.query_code.specs.declared.cause.FileCauseKind.TheVariants.{Magic, Version, BadField, NotUtf8}

@@ -31,10 +31,10 @@ use Rattle.query_code.specs.InstructionForm.{bare_before, with_before, operand_c
 use Rattle.query_code.specs.InstructionForm.{cases, instruction}
 use Rattle.bean_base.specs.declared.days.Day.{Day}
 use Rattle.query_values.specs.declared.decimal.Decimal.{Decimal}
-use Rattle.bean_base.specs.Version.{numbered}
-use Rattle.bean_base.specs.Version.{number as version_number}
-use Rattle.bean_base.specs.declared.bounds.Bounds.{Bounds}
-use Rattle.bean_base.specs.declared.bounds.Version as versions
+use Rattle.limits.specs.Version.{numbered}
+use Rattle.limits.specs.Version.{number as version_number}
+use Rattle.limits.specs.declared.bounds.Bounds.{Bounds}
+use Rattle.limits.specs.declared.bounds.Version as versions
 use Rattle.query_code.specs.declared.program.Output.{Output}
 use Rattle.query_code.specs.declared.program.Code.{Code}
 use Rattle.query_code.specs.ByteForm.{Form, raw, mapped, such_that, standing_for, before, both}

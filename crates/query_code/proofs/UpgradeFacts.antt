@@ -1,9 +1,9 @@
 -- A program has a file in the second version where it has one, and only the version differs.
 use Rattle.std.proofs.Common.{◌≡◌, ℕ, ◌^◌, ◌<◌, List, ◌∷◌, ◌++◌, refl, arith}
 use Rattle.std.proofs.Math.Logic.{∥∥₁_elim}
-use Rattle.bean_base.specs.declared.bounds.Version.{Version}
-use Rattle.bean_base.specs.declared.bounds.Version.TheVariants.{First, Second}
-use Rattle.bean_base.specs.Version.{number as version_number}
+use Rattle.limits.specs.declared.bounds.Version.{Version}
+use Rattle.limits.specs.declared.bounds.Version.TheVariants.{First, Second}
+use Rattle.limits.specs.Version.{number as version_number}
 use Rattle.query_code.specs.InstructionForm.{word}
 use Rattle.query_code.specs.QueryFile.{bounds, file, parts, version, versioned}
 use Rattle.query_code.specs.Upgrade.{upgraded, with_version_2}

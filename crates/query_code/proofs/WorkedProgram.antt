@@ -1,6 +1,6 @@
 -- A program for worked values, here and in the crates above.
 use Rattle.std.proofs.Common.{[], ◌∷◌, None, codes, false}
-use Rattle.bean_base.specs.declared.bounds.Version.TheVariants.{First}
+use Rattle.limits.specs.declared.bounds.Version.TheVariants.{First}
 use Rattle.query_values.specs.declared.operation.Aggregate.TheVariants.{CountRows}
 use Rattle.query_code.specs.declared.instruction.Push.TheVariants as push
 use Rattle.query_code.specs.declared.instruction.Instruction.TheVariants.{Push}

@@ -17,8 +17,8 @@ use Rattle.query_code.specs.declared.program.Mode.{Mode}
 use Rattle.query_code.specs.declared.program.Mode.TheVariants.{Plain, Grouped}
 use Rattle.query_code.specs.declared.program.Code.{Code}
 use Rattle.query_code.specs.declared.program.Parts.{Parts}
-use Rattle.bean_base.specs.Version.{number as version_number}
-use Rattle.bean_base.specs.declared.bounds.Bounds.{Bounds}
+use Rattle.limits.specs.Version.{number as version_number}
+use Rattle.limits.specs.declared.bounds.Bounds.{Bounds}
 
 abbrev pub name_of_push : pushes.Push → List ℕ
 name_of_push push.True = codes "TRUE"

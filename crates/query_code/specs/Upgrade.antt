@@ -1,7 +1,7 @@
 -- The same program in the second version.
 use Rattle.std.specs.Prelude.{◌≡◌, ℕ, List, ◌∷◌, ◌++◌, take, drop}
-use Rattle.bean_base.specs.declared.bounds.Bounds.{Bounds}
-use Rattle.bean_base.specs.declared.bounds.Version.TheVariants.{Second}
+use Rattle.limits.specs.declared.bounds.Bounds.{Bounds}
+use Rattle.limits.specs.declared.bounds.Version.TheVariants.{Second}
 use Rattle.query_code.specs.QueryFile.{file}
 use Rattle.query_code.specs.declared.program.Parts.{Parts}
 

@@ -12,7 +12,7 @@
 //! verifier answers.
 //!
 //! Files have two versions: the second knows the prices of postings, and ledgers of more of them
-//! ([`bean_base::Version`]). [`upgrade`] brings a program to the second, with all else as it was.
+//! ([`limits::Version`]). [`upgrade`] brings a program to the second, with all else as it was.
 //!
 //! # Faults
 //!

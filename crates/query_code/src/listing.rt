@@ -10,8 +10,8 @@ ghost use Rattle.query_code.specs.Listing.{bounds_line, grouped_line, mode_line,
 
 use crate::instruction::{Instruction, Push, Unary};
 use crate::program::{Code, Mode, Program};
-use bean_base::Bounds;
 use itoa::Buffer;
+use limits::Bounds;
 use query_values::Binary;
 use std::alloc::{AllocError, Global};
 

@@ -4,7 +4,8 @@ ghost use Rattle.query_code.specs.QueryFile.{file};
 
 use crate::instruction::Instruction;
 use crate::text_list::TextList;
-use bean_base::{Bounds, Day, List, Slice, Version};
+use bean_base::{Day, List, Slice};
+use limits::{Bounds, Version};
 use query_values::{Aggregate, Decimal};
 
 /// Whether the rows of a query are postings or groups.

@@ -83,6 +83,13 @@ impl<'a> TextList<'a> {
         self.len
     }
 
+    /// How many bytes they take in a file.
+    pub fn written_len(&self) -> usize
+        ensures { result ≡ length (all_written text self.now) }
+    {
+        self.lent.len() + self.added.len()
+    }
+
     /// Adds a text at the end.
     pub fn push(&mut self, added: &str) -> Result<(), AllocError>
         requires short { length added.now < 2 ^ 16 }

@@ -3,7 +3,8 @@ ghost use Rattle.std.specs.Prelude.{◌≡◌, IfOk};
 ghost use Rattle.query_code.specs.Upgrade.{FilesDifferInVersion, bounds_upgraded, upgraded};
 
 use crate::program::{Code, Constant, Numbers, Output, Parts, Program};
-use bean_base::{Bounds, List, Slice, Version};
+use bean_base::{List, Slice};
+use limits::{Bounds, Version};
 use std::alloc::{AllocError, Global};
 
 /// The same items once more.

@@ -4,11 +4,11 @@ use Rattle.std.specs.Prelude.{nat_lt}
 use Rattle.std.proofs.lemmas.Bool.{lt-ltb}
 use Rattle.std.proofs.Math.Nat.{mul-le-mul_left, mul-le-mul_right}
 use Rattle.bean_base.proofs.PowerFacts.{pow_le}
-use Rattle.bean_base.specs.Version.{most_postings}
-use Rattle.bean_base.specs.declared.bounds.Bounds.{Bounds}
-use Rattle.bean_base.specs.declared.bounds.Version.{Version}
-use Rattle.bean_base.specs.declared.bounds.Version.TheVariants.{First, Second}
-use Rattle.bean_base.specs.declared.limits.TheConstants.{MOST_POSTINGS}
+use Rattle.limits.specs.Version.{most_postings}
+use Rattle.limits.specs.declared.bounds.Bounds.{Bounds}
+use Rattle.limits.specs.declared.bounds.Version.{Version}
+use Rattle.limits.specs.declared.bounds.Version.TheVariants.{First, Second}
+use Rattle.limits.specs.declared.counts.TheConstants.{MOST_POSTINGS}
 use Rattle.query_columns.specs.declared.column.Column.{Column}
 use Rattle.query_columns.specs.declared.column.Column.TheVariants as column
 use Rattle.query_shapes.specs.Shape.{is_held}

@@ -1,8 +1,8 @@
 -- Worked names and shapes.
 use Rattle.std.proofs.Common.{◌≡◌, false, Some, None, refl}
 use Rattle.std.specs.Prelude.{codes}
-use Rattle.bean_base.specs.declared.bounds.Bounds.{Bounds}
-use Rattle.bean_base.specs.declared.bounds.Version.TheVariants.{First, Second}
+use Rattle.limits.specs.declared.bounds.Bounds.{Bounds}
+use Rattle.limits.specs.declared.bounds.Version.TheVariants.{First, Second}
 use Rattle.query_columns.specs.Column.{is_in, named, number, numbered}
 use Rattle.query_columns.specs.ColumnShape.{column_shape}
 use Rattle.query_columns.specs.declared.column.Column.TheVariants.{CostNumber, Position, Weight}

@@ -3,7 +3,7 @@ use Rattle.std.proofs.Common.{◌≡◌, true, ℕ, zero, suc, ◌+◌, List, []
 use Rattle.std.proofs.Common.{◌∙◌, arith}
 use Rattle.std.specs.Prelude.{slice_get, option_map, ⊤}
 use Rattle.std.proofs.lemmas.Option.{slice_get-map}
-use Rattle.bean_base.specs.declared.bounds.Version.TheVariants.{Second}
+use Rattle.limits.specs.declared.bounds.Version.TheVariants.{Second}
 use Rattle.query_columns.specs.Column.{is_in, number, numbered}
 use Rattle.query_columns.specs.declared.column.TheConstants.{COLUMNS}
 use Rattle.query_columns.specs.declared.column.Column.{Column}

@@ -1,10 +1,10 @@
 -- What is known of the values of a column, by the bounds of ledgers.
 use Rattle.std.specs.Prelude.{ℕ, ◌-◌, ◌*◌, ◌^◌, ◌≤◌}
-use Rattle.bean_base.specs.Version.{most_postings}
-use Rattle.bean_base.specs.declared.bounds.Bounds.{Bounds}
-use Rattle.bean_base.specs.declared.bounds.Version.TheVariants.{Second}
-use Rattle.bean_base.specs.declared.limits.TheConstants.{MOST_POSTINGS, LARGEST_TEXT}
-use Rattle.bean_base.specs.declared.limits.TheConstants.{MOST_UNITS_DIGITS, MOST_VALUE_DIGITS}
+use Rattle.limits.specs.Version.{most_postings}
+use Rattle.limits.specs.declared.bounds.Bounds.{Bounds}
+use Rattle.limits.specs.declared.bounds.Version.TheVariants.{Second}
+use Rattle.limits.specs.declared.counts.TheConstants.{MOST_POSTINGS, LARGEST_TEXT}
+use Rattle.limits.specs.declared.counts.TheConstants.{MOST_UNITS_DIGITS, MOST_VALUE_DIGITS}
 use Rattle.query_columns.specs.declared.column.Column.{Column}
 use Rattle.query_columns.specs.declared.column.Column.TheVariants as column
 use Rattle.query_shapes.specs.Rules.{whole}

@@ -2,7 +2,7 @@
 ghost use Rattle.std.specs.Prelude.{◌≡◌};
 ghost use Rattle.query_columns.specs.Column as columns;
 
-use bean_base::Version;
+use limits::Version;
 
 /// A column of the postings.
 #[derive(Clone, Copy, Debug, Drop, PartialEq, Eq)]

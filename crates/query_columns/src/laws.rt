@@ -1,6 +1,6 @@
 //! Laws of the shapes of columns.
 ghost use Rattle.std.specs.Prelude.{◌≡◌, true};
-ghost use Rattle.bean_base.specs.declared.bounds.Bounds.{Bounds};
+ghost use Rattle.limits.specs.declared.bounds.Bounds.{Bounds};
 ghost use Rattle.query_columns.specs.Column.{ColumnsHaveNumbers, NumbersAreOfColumns};
 ghost use Rattle.query_columns.specs.ColumnShape.{AreBounds, column_shape};
 ghost use Rattle.query_columns.specs.declared.column.Column.{Column};

@@ -17,11 +17,11 @@
 //! Names are the same in small and in capital letters. A column of a transaction is the same for
 //! all its postings, and FROM knows it. The accounts of a transaction are a column as well, which
 //! no query can name: `HAS_ACCOUNT` reads it. Prices belong to the second schema
-//! ([`bean_base::Version`]), all other columns to both.
+//! ([`limits::Version`]), all other columns to both.
 //!
 //! # Shapes
 //!
-//! Of the ledgers that a query runs on only their [`bean_base::Bounds`] are taken for granted: how
+//! Of the ledgers that a query runs on only their [`limits::Bounds`] are taken for granted: how
 //! many postings they have at most, and how wide their counts are. Within the limits of bounds each
 //! value of a column can be held ([`columns_are_held`]).
 //!

@@ -3,8 +3,8 @@ ghost use Rattle.std.specs.Prelude.{◌≡◌, ◌^◌, ◌-◌, ◌≤◌};
 ghost use Rattle.query_columns.specs.ColumnShape as spec;
 
 use crate::column::Column;
-use bean_base::limits::LARGEST_TEXT;
-use bean_base::{Bounds, power_of_ten};
+use bean_base::power_of_ten;
+use limits::{Bounds, LARGEST_TEXT};
 use query_shapes::Shape;
 use query_shapes::rules::whole;
 

@@ -11,7 +11,7 @@ ghost use Rattle.query_code.specs.declared.program.Parts.{Parts};
 
 use crate::code_reading::{code_at, output_at};
 use crate::reading::{byte_at, long_at, stopped, truncated, word_at};
-use bean_base::{Bounds, Version};
+use limits::{Bounds, Version};
 use query_code::{FileCause, FileCauseKind, Mode, Parts, Program, Stop};
 use refusals::Refusal;
 use std::alloc::Global;

@@ -10,8 +10,8 @@ ghost use Rattle.query_code.specs.QueryFile.{long, count, flag, limit, places, s
 ghost use Rattle.query_code.specs.QueryFile.{decimal, day};
 ghost use Rattle.query_code.specs.TextForm.{text};
 
-use bean_base::limits::MOST_PLACES;
 use bean_base::{Day, Slice};
+use limits::MOST_PLACES;
 use query_code::{FileCauseKind, Stop};
 use query_values::Decimal;
 use refusals::Refusal;

@@ -9,7 +9,8 @@ ghost use Rattle.query_code.specs.QueryFile.{version};
 ghost use Rattle.query_code.specs.QueryFile.{some_number, IsFile};
 ghost use Rattle.query_code.specs.TextForm.{text};
 
-use bean_base::{Bounds, Day, Slice, Version};
+use bean_base::{Day, Slice};
+use limits::{Bounds, Version};
 use query_code::text_list::put_text;
 use query_code::{Code, Constant, Instruction, Mode, Numbers, Output, Parts, Program, Push, Unary};
 use query_values::{Aggregate, Binary, Decimal};

@@ -1,7 +1,7 @@
 -- The texts of shaped rows.
 use Rattle.std.proofs.Common.{ℕ, List, [], ◌∷◌, Bool, true, false, cond, Option, Some, None}
 use Rattle.std.specs.Prelude.{bytes_eq}
-use Rattle.bean_base.specs.declared.bounds.Bounds.{Bounds}
+use Rattle.limits.specs.declared.bounds.Bounds.{Bounds}
 use Rattle.query_values.specs.Order.{is_null}
 use Rattle.query_values.specs.declared.value.Value.{Value}
 use Rattle.query_shapes.specs.Shape.{LiesIn}

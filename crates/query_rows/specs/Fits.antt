@@ -4,9 +4,9 @@ use Rattle.std.specs.Prelude.{ℕ, ◌*◌, ◌^◌, ◌&&◌, ℤ, Bool, true, 
 use Rattle.std.specs.Prelude.{Option, Some, None}
 use Rattle.std.specs.Int.RustNames.{unsigned_abs}
 use Rattle.std.specs.List.{list_all}
-use Rattle.bean_base.specs.declared.bounds.Bounds.{Bounds}
-use Rattle.bean_base.specs.declared.bounds.Version.{Version}
-use Rattle.bean_base.specs.declared.bounds.Version.TheVariants.{First, Second}
+use Rattle.limits.specs.declared.bounds.Bounds.{Bounds}
+use Rattle.limits.specs.declared.bounds.Version.{Version}
+use Rattle.limits.specs.declared.bounds.Version.TheVariants.{First, Second}
 use Rattle.bean_lots.specs.declared.lot.Lot.{Lot}
 use Rattle.query_columns.specs.declared.column.Column.TheVariants as column
 use Rattle.query_values.specs.declared.value.Value.{Value}

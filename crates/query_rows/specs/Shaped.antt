@@ -1,7 +1,7 @@
 -- What is known of a row by the bounds of its ledger.
 use Rattle.std.specs.Prelude.{◌≡◌, true, ℕ, List, Option, Some, None, ⊤}
 use Rattle.std.specs.List.{AllByRecursion}
-use Rattle.bean_base.specs.declared.bounds.Bounds.{Bounds}
+use Rattle.limits.specs.declared.bounds.Bounds.{Bounds}
 use Rattle.query_columns.specs.Column.{is_in}
 use Rattle.query_columns.specs.ColumnShape.{column_shape}
 use Rattle.query_columns.specs.declared.column.Column.{Column}

@@ -18,7 +18,7 @@ use Rattle.query_shapes.specs.Shape.{IsBelow, fitting, is_held, is_most}
 use Rattle.query_shapes.specs.declared.shape.Misfit.TheVariants.{Kind, TooWide}
 use Rattle.query_shapes.specs.declared.shape.Shape.{Shape}
 use Rattle.query_shapes.specs.declared.shape.Shape.TheVariants as shape
-use Rattle.bean_base.specs.declared.limits.TheConstants.{LARGEST_TEXT}
+use Rattle.limits.specs.declared.counts.TheConstants.{LARGEST_TEXT}
 use Rattle.query_shapes.proofs.OrderFacts.{OfPairs, below_cases, reflexive}
 
 -- ---- what fits

@@ -12,7 +12,7 @@ use Rattle.query_values.specs.declared.value.Value.TheVariants as value
 use Rattle.query_shapes.specs.Mass.{units_mass, value_mass, value_of}
 use Rattle.query_shapes.specs.Shape.{LiesIn, IsShort}
 use Rattle.query_shapes.specs.declared.shape.Shape.TheVariants as shape
-use Rattle.bean_base.specs.declared.limits.TheConstants.{LARGEST_TEXT}
+use Rattle.limits.specs.declared.counts.TheConstants.{LARGEST_TEXT}
 
 pub truth_cases : (P : Value → Type 0) → P value.Null
     → ((b : Bool) → P (value.Truth b))

@@ -44,7 +44,7 @@ use Rattle.query_shapes.specs.Shape.{IsShort, LiesIn, fitting}
 use Rattle.query_shapes.specs.declared.shape.Misfit.TheVariants.{Kind}
 use Rattle.query_shapes.specs.declared.shape.Shape.{Shape}
 use Rattle.query_shapes.specs.declared.shape.Shape.TheVariants as shape
-use Rattle.bean_base.specs.declared.limits.TheConstants.{LARGEST_TEXT}
+use Rattle.limits.specs.declared.counts.TheConstants.{LARGEST_TEXT}
 use Rattle.query_shapes.proofs.FittingFacts.{fits, fits_then, most_of_units}
 use Rattle.query_shapes.proofs.MassFacts.{bare_units, cost_units, cost_within, costs_low}
 use Rattle.query_shapes.proofs.MassFacts.{negative_units, negative_value, negative_values}

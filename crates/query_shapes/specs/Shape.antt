@@ -4,7 +4,7 @@ use Rattle.std.specs.Prelude.{◌≡◌, ℕ, ◌≤◌, ◌^◌, ◌&&◌, ◌=
 use Rattle.std.specs.Prelude.{length, Option, Some, None, Result, Ok, Err, if◌then◌else◌}
 use Rattle.std.specs.Int.RustNames.{unsigned_abs}
 use Rattle.std.specs.List.{AllByRecursion}
-use Rattle.bean_base.specs.declared.limits.TheConstants.{COUNT_BOUND, LARGEST_TEXT, MOST_PLACES}
+use Rattle.limits.specs.declared.counts.TheConstants.{COUNT_BOUND, LARGEST_TEXT, MOST_PLACES}
 use Rattle.query_values.specs.Total.{cost_currency}
 use Rattle.query_values.specs.declared.value.Value.{Value}
 use Rattle.query_values.specs.declared.value.Value.TheVariants as value

@@ -33,7 +33,7 @@ mod shape;
 ghost use Rattle.query_shapes.specs.Keeping.{AreMonotone, AreOrdered, GatherShapes, KeepShapes};
 
 pub use rules::{aggregate_shape, binary_shape};
-pub use shape::{Misfit, Shape, joined};
+pub use shape::{Misfit, Shape, fitting, joined};
 
 /// Where an operation gives a shape, its value is there and is of that shape.
 pub fn operations_keep_shapes()

@@ -1,12 +1,12 @@
 //! Which shape an operation gives.
 ghost use Rattle.std.specs.Prelude.{◌≡◌, ◌+◌, ◌*◌, IsTrue, nat_le};
-ghost use Rattle.bean_base.specs.declared.limits.TheConstants.{MOST_PLACES};
+ghost use Rattle.limits.specs.declared.counts.TheConstants.{MOST_PLACES};
 ghost use Rattle.query_shapes.specs.Rules as spec;
 ghost use Rattle.query_shapes.specs.Shape.{is_most};
 
 use crate::shape::{Misfit, Shape, fitting};
-use bean_base::limits::{LARGEST_TEXT, MOST_PLACES};
 use bean_base::power_of_ten;
+use limits::{LARGEST_TEXT, MOST_PLACES};
 use query_values::{Aggregate, Binary};
 
 /// A whole number of at most so many.
@@ -277,7 +277,7 @@ pub fn binary_shape(op: Binary, a: Shape, b: Shape) -> Result<Shape, Misfit>
 }
 
 /// Whether values of the shape have an order: texts, days and numbers do.
-fn is_ranked(shape: Shape) -> bool
+pub fn is_ranked(shape: Shape) -> bool
     ensures { result ≡ spec.is_ranked shape }
 {
     matches!(shape, Shape::Text | Shape::Day | Shape::Number { .. })

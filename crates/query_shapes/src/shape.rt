@@ -2,7 +2,7 @@
 ghost use Rattle.std.specs.Prelude.{◌≡◌};
 ghost use Rattle.query_shapes.specs.Shape as spec;
 
-use bean_base::limits::{COUNT_BOUND, LARGEST_TEXT, MOST_PLACES};
+use limits::{COUNT_BOUND, LARGEST_TEXT, MOST_PLACES};
 
 /// What is known of a value: its kind, its decimals, and the most that its counts may be, signs
 /// left off. Null is of every shape.
@@ -70,7 +70,7 @@ fn is_held(shape: Shape) -> bool
 }
 
 /// The shape, where each of its values can be held.
-pub(crate) fn fitting(shape: Shape) -> Result<Shape, Misfit>
+pub fn fitting(shape: Shape) -> Result<Shape, Misfit>
     ensures { result ≡ spec.fitting shape }
 {
     if is_held(shape) {

@@ -1,7 +1,7 @@
 -- Values that are held: at most 32 decimals, and counts of at most 2^127 - 1, signs left off.
 use Rattle.std.specs.Prelude.{Bool, true, ◌&&◌, nat_le, Option, Some, None, if◌then◌else◌}
 use Rattle.std.specs.List.{list_all}
-use Rattle.bean_base.specs.declared.limits.TheConstants.{MOST_PLACES}
+use Rattle.limits.specs.declared.counts.TheConstants.{MOST_PLACES}
 use Rattle.query_values.specs.WideCount.{is_wide}
 use Rattle.bean_lots.specs.declared.lot.Position as entry
 use Rattle.query_values.specs.Total.{is_count}

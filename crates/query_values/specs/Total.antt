@@ -2,7 +2,7 @@
 use Rattle.std.specs.Prelude.{ℕ, ◌^◌, Bool, true, ◌&&◌, nat_lt, List, [], ◌∷◌, map, ℤ, pos, ◌+ℤ◌}
 use Rattle.std.specs.Prelude.{◌*ℤ◌, Option, Some, None}
 use Rattle.std.specs.Int.RustNames.{unsigned_abs}
-use Rattle.bean_base.specs.declared.limits.TheConstants.{COUNT_BOUND}
+use Rattle.limits.specs.declared.counts.TheConstants.{COUNT_BOUND}
 use Rattle.bean_lots.specs.Inventory.{added, count_of}
 use Rattle.bean_lots.specs.declared.lot.Key.{Key}
 use Rattle.bean_lots.specs.declared.lot.Lot.{Lot}

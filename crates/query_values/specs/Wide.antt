@@ -4,7 +4,7 @@ use Rattle.std.specs.Prelude.{nat_lt, Option, Some, None, refl}
 use Rattle.std.specs.Int.RustNames.{unsigned_abs}
 use Rattle.std.proofs.Common.{arith}
 use Rattle.std.proofs.lemmas.Grind.{common_steps}
-use Rattle.bean_base.specs.declared.limits.TheConstants.{COUNT_BOUND, MOST_PLACES}
+use Rattle.limits.specs.declared.counts.TheConstants.{COUNT_BOUND, MOST_PLACES}
 use Rattle.query_values.specs.WideCount.{is_wide}
 use Rattle.query_values.specs.declared.decimal.Decimal.{Decimal}
 

@@ -1,11 +1,11 @@
 //! Numbers that are wider than those that a ledger writes: those of queries.
 ghost use Rattle.std.specs.Prelude.{◌≡◌, ◌≤◌, ◌<◌, ◌^◌};
 ghost use Rattle.std.specs.Int.RustNames.{unsigned_abs};
-ghost use Rattle.bean_base.specs.declared.limits.TheConstants.{COUNT_BOUND, MOST_PLACES};
+ghost use Rattle.limits.specs.declared.counts.TheConstants.{COUNT_BOUND, MOST_PLACES};
 ghost use Rattle.query_values.specs.WideCount as spec;
 
 use bean_base::Num;
-use bean_base::limits::MOST_PLACES;
+use limits::MOST_PLACES;
 
 /// `count * 10^-places`, with at most 32 places and a count of at most `2^127 - 1`, signs left off.
 #[derive(Clone, Copy, Debug, Drop, PartialEq, Eq)]

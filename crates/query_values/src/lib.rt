@@ -50,7 +50,7 @@
 pub mod arithmetic;
 mod bag;
 mod cause;
-mod comparison;
+pub mod comparison;
 mod component;
 mod decimal;
 mod gathering;

@@ -50,7 +50,7 @@
 //! each entry of an inventory while it is written.
 #![tactic(auto)]
 
-mod answer;
+mod answers;
 mod cause;
 mod cell;
 mod cells;
@@ -62,9 +62,9 @@ mod rows;
 mod table;
 mod writing;
 
-pub use answer::Answer;
 pub use cause::PrintCause;
 pub use cell::Cell;
+pub use query_answer::Answer;
 pub use rows::Rows;
 pub use table::print;
 pub use writing::write_table;

@@ -4,10 +4,9 @@ ghost use Rattle.std.specs.Int.RustNames.{unsigned_abs};
 ghost use Rattle.posting_table.specs.Parts.{HasShortTexts, HasSmallParts, IsShortSet};
 ghost use Rattle.posting_table.specs.Shaped.{AreShort};
 
-use bean_base::{
-    Amount, Bounds, Flag, Num, Slice, Text, Version, parse_account, parse_currency, parse_day,
-};
+use bean_base::{Amount, Flag, Num, Slice, Text, parse_account, parse_currency, parse_day};
 use bean_lots::{Cost, Key, Lot, Position};
+use limits::{Bounds, Version};
 use posting_table::{
     Column, Entry, EntryFlag, Ledger, MetaItem, Metadata, PlainText, Row, Shared, Weight,
 };

@@ -3,7 +3,7 @@ use Rattle.std.proofs.Common.{◌≡◌, ℕ, List, Option, Some, None, Ok, Err,
 use Rattle.std.proofs.Common.{subst}
 use Rattle.std.specs.Prelude.{option_map, option_and_then}
 use Rattle.std.proofs.lemmas.Bool.{false≢true}
-use Rattle.bean_base.specs.declared.bounds.Bounds.{Bounds}
+use Rattle.limits.specs.declared.bounds.Bounds.{Bounds}
 use Rattle.query_values.specs.Unary as operation
 use Rattle.query_shapes.proofs.OrderFacts.{reflexive, transitive}
 use Rattle.query_shapes.proofs.RisingFacts.{fitting_below, unary_rises, binary_rises}

@@ -5,7 +5,7 @@ use Rattle.std.proofs.Common.{⊎_elim, inl, inr, arith}
 use Rattle.std.specs.Prelude.{slice_get}
 use Rattle.std.proofs.lemmas.Bool.{ltb-true}
 use Rattle.std.proofs.lemmas.List.{length-set}
-use Rattle.bean_base.specs.declared.limits.TheConstants.{MOST_VALUES, SLOTS}
+use Rattle.limits.specs.declared.counts.TheConstants.{MOST_VALUES, SLOTS}
 use Rattle.query_shapes.specs.Shape.{IsBelow}
 use Rattle.query_shapes.specs.declared.shape.Shape.{Shape}
 use Rattle.query_code.specs.declared.instruction.Instruction.{Instruction}

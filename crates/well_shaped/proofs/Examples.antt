@@ -4,7 +4,7 @@ use Rattle.std.proofs.Common.{Option, Some, None, codes, true, false, refl, sym,
 use Rattle.std.proofs.Common.{⊎_elim, inl, inr}
 use Rattle.std.specs.Prelude.{slice_get, ⊤}
 use Rattle.std.proofs.lemmas.Bool.{leb-true}
-use Rattle.bean_base.specs.declared.limits.TheConstants.{SLOTS}
+use Rattle.limits.specs.declared.counts.TheConstants.{SLOTS}
 use Rattle.query_shapes.specs.declared.shape.Shape.{Shape}
 use Rattle.query_shapes.specs.declared.shape.Shape.TheVariants.{Truth, Text, Number}
 use Rattle.query_columns.specs.ColumnShape.{AreBounds, widest}

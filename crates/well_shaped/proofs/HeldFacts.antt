@@ -6,7 +6,7 @@ use Rattle.std.specs.Prelude.{⊤, slice_get, option_map, option_and_then, nat_e
 use Rattle.std.specs.List.{AllByRecursion, list_all}
 use Rattle.std.proofs.lemmas.Bool.{and_parts, and_from, ltb-true, lt-ltb}
 use Rattle.std.proofs.lemmas.Option.{slice_get_within}
-use Rattle.bean_base.specs.declared.limits.TheConstants.{COUNT_BOUND, MOST_PLACES, SLOTS}
+use Rattle.limits.specs.declared.counts.TheConstants.{COUNT_BOUND, MOST_PLACES, SLOTS}
 use Rattle.query_values.specs.Unary as operation
 use Rattle.query_values.specs.declared.operation.Binary.{Binary}
 use Rattle.query_values.specs.declared.operation.Binary.TheVariants as binary

@@ -5,7 +5,7 @@ use Rattle.std.proofs.Common.{cond, ltb, refl, sym, ap, ◌∙◌, subst, ⊎_el
 use Rattle.std.specs.Prelude.{slice_get, option_and_then}
 use Rattle.std.proofs.lemmas.Bool.{cases_lt, lt-ltb}
 use Rattle.std.proofs.lemmas.Option.{slice_get_past, slice_get_within}
-use Rattle.bean_base.specs.declared.limits.TheConstants.{SLOTS}
+use Rattle.limits.specs.declared.counts.TheConstants.{SLOTS}
 use Rattle.query_values.specs.Unary as operation
 use Rattle.query_shapes.specs.Rules.{unary_shape}
 use Rattle.query_shapes.specs.Shape.{fitting}

@@ -4,9 +4,9 @@ use Rattle.std.proofs.Common.{Some, None, refl, sym, ap, ◌∙◌, subst, arith
 use Rattle.std.specs.Prelude.{slice_get}
 use Rattle.std.proofs.lemmas.Bool.{leb-true}
 use Rattle.std.proofs.lemmas.List.{length-reverse}
-use Rattle.bean_base.specs.declared.bounds.Bounds.{Bounds}
-use Rattle.bean_base.specs.declared.limits.TheConstants.{SLOTS}
-use Rattle.bean_base.specs.declared.bounds.Version.TheVariants.{First}
+use Rattle.limits.specs.declared.bounds.Bounds.{Bounds}
+use Rattle.limits.specs.declared.counts.TheConstants.{SLOTS}
+use Rattle.limits.specs.declared.bounds.Version.TheVariants.{First}
 use Rattle.query_values.specs.declared.operation.Binary.TheVariants as binary
 use Rattle.query_shapes.specs.Shape.{IsBelow}
 use Rattle.query_shapes.specs.declared.shape.Shape.{Shape}

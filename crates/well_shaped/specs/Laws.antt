@@ -2,7 +2,7 @@
 use Rattle.std.specs.Prelude.{◌≡◌, ℕ, ◌≤◌, nat_lt, Bool, true, false, List, [], ◌∷◌, length, Option}
 use Rattle.std.specs.Prelude.{Some, None, slice_get, ⊤}
 use Rattle.std.specs.List.{AllByRecursion}
-use Rattle.bean_base.specs.declared.limits.TheConstants.{MOST_VALUES, SLOTS}
+use Rattle.limits.specs.declared.counts.TheConstants.{MOST_VALUES, SLOTS}
 use Rattle.query_shapes.specs.Shape.{IsBelow, is_held}
 use Rattle.query_shapes.specs.declared.shape.Shape.{Shape}
 use Rattle.query_shapes.specs.declared.shape.Shape.TheVariants.{Truth}

@@ -3,7 +3,7 @@
 use Rattle.std.specs.Prelude.{ℕ, Bool, true, false, List, [], Option, Some, None, Ok, Err}
 use Rattle.std.specs.Prelude.{slice_get, option_map, option_and_then, if◌then◌else◌}
 use Rattle.std.specs.Int.RustNames.{unsigned_abs}
-use Rattle.bean_base.specs.declared.bounds.Bounds.{Bounds}
+use Rattle.limits.specs.declared.bounds.Bounds.{Bounds}
 use Rattle.query_values.specs.declared.operation.Binary.{Binary}
 use Rattle.query_shapes.specs.Rules.{Ruled, unary_shape, binary_shape}
 use Rattle.query_shapes.specs.Shape.{fitting}

@@ -1,5 +1,5 @@
 use Rattle.std.proofs.Common.{◌≤◌, ap, length, subst, Err, ◌∙◌}
-use Rattle.bean_base.specs.declared.limits.TheConstants.{MOST_POSTINGS}
+use Rattle.limits.specs.declared.counts.TheConstants.{MOST_POSTINGS}
 use Rattle.bean_book.specs.Booked.{AreTooMany, rows_of_all}
 use Rattle.bean_book.specs.Reported.{reported}
 use Rattle.bean_book.proofs.BookFacts.{too_many_kept}

@@ -1,5 +1,5 @@
 use Rattle.std.proofs.Common.{◌≡◌, ◌≤◌, length, take}
-use Rattle.bean_base.specs.declared.limits.TheConstants.{MOST_POSTINGS}
+use Rattle.limits.specs.declared.counts.TheConstants.{MOST_POSTINGS}
 use Rattle.bean_book.specs.Booked.{rows_of_all}
 use Rattle.bean_book.proofs.counts.count_rows.Given as goal
 

@@ -1,7 +1,7 @@
 use Rattle.std.proofs.Common.{◌≡◌, ◌++◌, ◌≤◌, ℕ, List, length}
 use Rattle.std.specs.List.{AllByRecursion}
 use Rattle.posting_table.specs.Decimals.{decimals_of}
-use Rattle.bean_base.specs.declared.limits.TheConstants.{MOST_POSTINGS}
+use Rattle.limits.specs.declared.counts.TheConstants.{MOST_POSTINGS}
 use Rattle.bean_book.specs.Booked.{decimals_from, rows_of_all, written_in_all}
 use Rattle.bean_book.specs.Tame.{IsTame}
 use Rattle.bean_book.proofs.ledger.ledger_of.Given as goal

@@ -1,4 +1,4 @@
-use Rattle.bean_base.specs.declared.limits.TheConstants.{MOST_POSTINGS}
+use Rattle.limits.specs.declared.counts.TheConstants.{MOST_POSTINGS}
 use Rattle.std.proofs.Common.{length, ◌≤◌, ◌≡◌, ◌++◌, map, slice_get, take}
 use Rattle.bean_book.specs.Rows.{entry_of, items_in, row_of}
 use Rattle.bean_book.proofs.rows.push_posted.Given as goal

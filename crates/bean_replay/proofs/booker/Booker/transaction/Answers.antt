@@ -1,6 +1,6 @@
 use Rattle.std.proofs.Common.{◌+◌, ◌<◌, Ok, Err, length, subst}
 use Rattle.std.proofs.lemmas.Result.{on_ok_weaker}
-use Rattle.bean_base.specs.declared.limits.TheConstants.{MOST_POSTINGS}
+use Rattle.limits.specs.declared.counts.TheConstants.{MOST_POSTINGS}
 use Rattle.bean_transactions.proofs.LightFacts.{kept_light}
 use Rattle.bean_transactions.specs.Outcome.{StopsAt}
 use Rattle.bean_transactions.specs.Tried.{Tries}

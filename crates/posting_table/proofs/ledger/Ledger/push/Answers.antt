@@ -1,7 +1,7 @@
 use Rattle.std.proofs.Common.{arith, sym, subst, length, ◌<◌, ◌∷◌, []}
 use Rattle.std.proofs.lemmas.List.{length-append}
 use Rattle.std.proofs.lemmas.List.Elements.{All-push}
-use Rattle.bean_base.specs.declared.limits.TheConstants.{MOST_POSTINGS}
+use Rattle.limits.specs.declared.counts.TheConstants.{MOST_POSTINGS}
 use Rattle.posting_table.specs.Shaped.{IsShaped}
 use Rattle.query_columns.specs.ColumnShape.{widest}
 use Rattle.posting_table.proofs.FitFacts.{few_units}

@@ -1,8 +1,8 @@
 -- The versions of query files: their numbers, and how many postings a ledger may have for each.
 use Rattle.std.specs.Prelude.{ℕ, Option, Some, None, if◌then◌else◌, ◌==◌}
-use Rattle.bean_base.specs.declared.bounds.Version.{Version}
-use Rattle.bean_base.specs.declared.bounds.Version.TheVariants.{First, Second}
-use Rattle.bean_base.specs.declared.limits.TheConstants.{FIRST_MOST_POSTINGS, MOST_POSTINGS}
+use Rattle.limits.specs.declared.bounds.Version.{Version}
+use Rattle.limits.specs.declared.bounds.Version.TheVariants.{First, Second}
+use Rattle.limits.specs.declared.counts.TheConstants.{FIRST_MOST_POSTINGS, MOST_POSTINGS}
 
 abbrev pub most_postings : Version → ℕ
 most_postings First = FIRST_MOST_POSTINGS

@@ -1,8 +1,8 @@
 //! What a query takes for granted of the ledgers that it runs on.
 ghost use Rattle.std.specs.Prelude.{◌≡◌};
-ghost use Rattle.bean_base.specs.Version as spec;
+ghost use Rattle.limits.specs.Version as spec;
 
-use crate::limits::{FIRST_MOST_POSTINGS, MOST_POSTINGS};
+use crate::counts::{FIRST_MOST_POSTINGS, MOST_POSTINGS};
 
 /// The version of a query file, and with it the schema of the ledgers that it speaks of: how many
 /// postings they may have, and which columns.

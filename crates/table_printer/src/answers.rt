@@ -1,19 +1,7 @@
-//! What a query answers: named columns of values.
+//! The answer of a query, as rows of cells.
 use crate::cell::Cell;
 use crate::rows::Rows;
-use bean_base::{List, Slice};
-use query_values::Value;
-
-/// Rows of values under the names of their columns.
-#[derive(Drop)]
-pub struct Answer<'a> {
-    pub headers: List<Slice<'a>>,
-    pub rows: List<List<Value<'a>>>,
-    /// How many instructions were executed.
-    pub steps: u64,
-    /// How many groups there were, or how many postings passed where nothing was grouped.
-    pub groups: u64,
-}
+use query_answer::Answer;
 
 impl Rows for Answer<'_> {
     ghost names = { λ answer. answer.headers };

@@ -1,0 +1,86 @@
+//! What rows show, each once where that is asked for, and at most so many.
+ghost use Rattle.std.specs.Prelude.{◌≡◌, [], IfOk, map, take};
+ghost use Rattle.plain_machine.specs.Finishing.{ComesOut};
+ghost use Rattle.query_rows.specs.FinalRows.{limited};
+ghost use Rattle.query_rows.specs.Same.{each_once};
+
+use crate::ordering::arrange;
+use bean_base::List;
+use indexmap::IndexSet;
+use query_code::Output;
+use query_values::Value;
+use std::alloc::{AllocError, Global};
+use value_keys::ValueKey;
+
+/// The front of a row that is shown.
+fn front(row: List<Value<'_>>, width: usize) -> Vec<Value<'_>>
+    ensures { result.items ≡ take width row.entry }
+{
+    let mut values = row.into_vec();
+    values.truncate(width);
+    values
+}
+
+fn shown<'r>(
+    alloc: Global,
+    rows: Vec<List<Value<'r>>>,
+    width: usize,
+) -> Result<Vec<List<Value<'r>>>, AllocError>
+    ensures { IfOk result (λ shown. shown.items ≡ map (take width) rows.entry.items) }
+{
+    let mut shown = Vec::with_capacity(alloc, rows.len())?;
+    for row in rows {
+        shown.push(List::new(front(row, width)))?;
+    }
+    Ok(shown)
+}
+
+/// Only the first of rows that show the same.
+#[tactic(auto, using(crate::proofs::ShownFacts::once_on))]
+fn shown_once<'r>(
+    alloc: Global,
+    rows: Vec<List<Value<'r>>>,
+    width: usize,
+) -> Result<Vec<List<Value<'r>>>, AllocError>
+    ensures { IfOk result (λ shown. shown.items ≡ each_once [] (map (take width) rows.entry.items)) }
+{
+    let mut seen = IndexSet::new(alloc);
+    for row in rows {
+        seen.insert(ValueKey::new(front(row, width)))?;
+    }
+    let mut shown = Vec::with_capacity(alloc, seen.len())?;
+    for key in seen {
+        shown.push(List::new(key.into_vec()))?;
+    }
+    Ok(shown)
+}
+
+fn limit_to(rows: &mut Vec<List<Value<'_>>>, limit: Option<u32>)
+    ensures { rows.new.items ≡ limited limit rows.old.items }
+{
+    if let Some(most) = limit {
+        rows.truncate(most as usize);
+    }
+}
+
+/// The rows that come out of those at the end of a program: in its order, what is shown of them,
+/// each once where the program wants it, and no more than its limit.
+pub fn finish<'r>(
+    alloc: Global,
+    output: &Output<'_>,
+    rows: Vec<List<Value<'r>>>,
+) -> Result<Vec<List<Value<'r>>>, AllocError>
+    ensures { IfOk result (λ final. ComesOut output.now rows.entry.items final.items) }
+{
+    let mut rows = rows;
+    arrange(output, &mut rows)?;
+    let width = output.targets.as_slice().len();
+    if output.is_distinct {
+        let mut once = shown_once(alloc, rows, width)?;
+        limit_to(&mut once, output.limit);
+        Ok(once)
+    } else {
+        limit_to(&mut rows, output.limit);
+        shown(alloc, rows, width)
+    }
+}

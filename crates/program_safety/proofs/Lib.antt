@@ -1,0 +1,9 @@
+mod LoadFacts
+mod PlaceFacts
+mod GatheringFacts
+mod RunningFacts
+mod OrderFacts
+mod EndFacts
+mod StepFacts
+mod FileFacts
+mod SafetyFacts

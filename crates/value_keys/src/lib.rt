@@ -1,0 +1,25 @@
+//! Lists of values as the keys of tables.
+//!
+//! ```text
+//! let mut seen = IndexSet::new(alloc);
+//! let row = ValueKey::new(vec![in alloc; Value::Number { places: 1, count: 50 }, Value::Null]?);
+//! seen.insert(row)?;                   // 5.00 and null are there then, too
+//! ```
+//!
+//! Two keys are the same where they have as many values and each is the same as the other's: null
+//! as null, numbers by value, inventories by what they hold, in any order.
+//!
+//! # Faults
+//!
+//! None.
+//!
+//! # Cost
+//!
+//! Nothing takes memory. Of an inventory the hash says nothing, so keys that differ in inventories
+//! alone are looked through one after the other.
+#![tactic(auto)]
+
+mod feeding;
+mod key;
+
+pub use key::ValueKey;
