@@ -12,15 +12,9 @@ use Rattle.limits.specs.Version.{number as version_number}
 use Rattle.limits.specs.declared.bounds.Bounds.{Bounds}
 use Rattle.limits.specs.declared.bounds.Version as versions
 use Rattle.limits.specs.declared.bounds.Version.TheVariants.{First, Second}
-use Rattle.query_values.specs.declared.operation.Binary.TheVariants as binary
 use Rattle.query_values.specs.declared.operation.Aggregate.TheVariants as aggregates
 use Rattle.query_code.specs.declared.cause.FileCauseKind.TheVariants.{Magic, Version, BadField, NotUtf8}
-use Rattle.query_code.specs.declared.instruction.Push.TheVariants as push
-use Rattle.query_code.specs.declared.instruction.Unary.TheVariants as unary
 use Rattle.query_code.specs.declared.instruction.Instruction.{Instruction}
-use Rattle.query_code.specs.declared.instruction.Instruction.TheVariants.{Push, Unary, Binary}
-use Rattle.query_code.specs.declared.instruction.Instruction.TheVariants.{LoadSlot, StoreSlot, Jump}
-use Rattle.query_code.specs.declared.instruction.Instruction.TheVariants.{JumpIfFalse}
 use Rattle.query_code.specs.declared.program.Parts.{Parts}
 use Rattle.query_code.specs.declared.program.Mode.{Mode}
 use Rattle.query_code.specs.declared.program.Mode.TheVariants.{Plain, Grouped}
@@ -34,7 +28,7 @@ use Rattle.bean_base.proofs.DayFacts as days
 use Rattle.query_values.proofs.WideFacts as decimals
 use Rattle.std.proofs.lemmas.Int.{of_z-to_z}
 use Rattle.query_code.specs.ByteForm.{Form, Case, raw, mapped, such_that, before, both, counted}
-use Rattle.query_code.specs.ByteForm.{byte, number, marked, just, case}
+use Rattle.query_code.specs.ByteForm.{byte, number, just, case}
 use Rattle.query_code.specs.TextForm.{text}
 use Rattle.query_code.specs.QueryFile.{long, wide_integer, is_count, count, bit_of, flag, has}
 use Rattle.query_code.specs.QueryFile.{limit, mode_number, mode, is_grouped, only, places}

@@ -8,17 +8,11 @@ use Rattle.std.specs.Prelude.{◌||◌, ◌==◌, nat_lt, nat_le, codes}
 use Rattle.std.specs.Int.{w16, w32, w128, cast_signed, cast_unsigned}
 use Rattle.std.specs.Str.{is_utf8, bytes_eq}
 use Rattle.bean_base.specs.CalendarDay as calendar
-use Rattle.query_values.specs.declared.operation.Binary.TheVariants as binary
 use Rattle.query_values.specs.declared.operation.Aggregate.{Aggregate}
 use Rattle.query_values.specs.declared.operation.Aggregate.TheVariants as aggregates
 use Rattle.query_code.specs.declared.cause.FileCauseKind.{FileCauseKind}
 use Rattle.query_code.specs.declared.cause.FileCauseKind.TheVariants.{Magic, Version, BadField, NotUtf8}
-use Rattle.query_code.specs.declared.instruction.Push.TheVariants as push
-use Rattle.query_code.specs.declared.instruction.Unary.TheVariants as unary
 use Rattle.query_code.specs.declared.instruction.Instruction.{Instruction}
-use Rattle.query_code.specs.declared.instruction.Instruction.TheVariants.{Push, Unary, Binary}
-use Rattle.query_code.specs.declared.instruction.Instruction.TheVariants.{LoadSlot, StoreSlot, Jump}
-use Rattle.query_code.specs.declared.instruction.Instruction.TheVariants.{JumpIfFalse}
 use Rattle.query_code.specs.declared.program.Mode.{Mode}
 use Rattle.query_code.specs.declared.program.Mode.TheVariants.{Plain, Grouped}
 use Rattle.query_code.specs.declared.program.Constant.{Constant}

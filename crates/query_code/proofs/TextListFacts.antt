@@ -1,7 +1,7 @@
 -- Texts that bytes are, and one more behind them.
 use Rattle.std.specs.Str.{IsUtf8}
 use Rattle.std.proofs.lemmas.Str.{is_utf8-from_IsUtf8}
-use Rattle.std.proofs.Common.{◌≡◌, ℕ, zero, suc, ◌+◌, ◌<◌, ◌^◌, List, [], ◌∷◌, ◌++◌, length}
+use Rattle.std.proofs.Common.{◌≡◌, ℕ, suc, ◌+◌, ◌<◌, ◌^◌, List, [], ◌∷◌, ◌++◌, length}
 use Rattle.std.proofs.Common.{Ok, refl, sym, ap, subst, ◌∙◌, append_assoc, arith}
 use Rattle.std.proofs.Math.Logic.{∥∥₁_elim, ∥∥₁_prop}
 use Rattle.std.proofs.Props.{props}
@@ -73,7 +73,7 @@ written_is n bytes are =
     (λ texts. texts.written)
 
 -- texts that are written are those
-those : (n : ℕ) (ts : List (List ℕ)) → length ts ≡ n → AllFit text ts
+pub those : (n : ℕ) (ts : List (List ℕ)) → length ts ≡ n → AllFit text ts
     → texts_in n (all_written text ts) ≡ ts
 unfolding texts_in
 those n ts number fit = ap read_values (read_back text exact_text n ts number fit)
@@ -99,7 +99,7 @@ one_more_number : (n : ℕ) (bytes t : List ℕ) → AreTexts n bytes
 one_more_number n bytes t are =
     length_behind (texts_in n bytes) t ∙ ap suc are.number ∙ one_behind n
 
-one_more : (n : ℕ) (bytes t : List ℕ) → AreTexts n bytes → text.fits t
+pub one_more : (n : ℕ) (bytes t : List ℕ) → AreTexts n bytes → text.fits t
     → AreTexts (n + 1) (bytes ++ text.written t)
 one_more n bytes t are fits =
     subst (AreTexts (n + 1)) (sym (behind n bytes t are))

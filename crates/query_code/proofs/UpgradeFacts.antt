@@ -1,5 +1,5 @@
 -- A program has a file in the second version where it has one, and only the version differs.
-use Rattle.std.proofs.Common.{◌≡◌, ℕ, ◌^◌, ◌<◌, List, ◌∷◌, ◌++◌, refl, arith}
+use Rattle.std.proofs.Common.{◌≡◌, ℕ, List, ◌∷◌, ◌++◌, refl, arith}
 use Rattle.std.proofs.Math.Logic.{∥∥₁_elim}
 use Rattle.limits.specs.declared.bounds.Version.{Version}
 use Rattle.limits.specs.declared.bounds.Version.TheVariants.{First, Second}

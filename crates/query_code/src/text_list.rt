@@ -1,7 +1,9 @@
 //! Lists of texts, kept as a query file has them.
-ghost use Rattle.std.specs.Prelude.{◌≡◌, ◌<◌, ◌+◌, ◌^◌, ◌++◌, ◌∷◌, [], length, IfOk, OnOk, OnErr};
+ghost use Rattle.std.specs.Prelude.{◌≡◌, ◌<◌, ◌+◌, ◌^◌, ◌++◌, ◌∷◌, [], length, IfOk, OnOk, OnErr, ℕ, nat_eq, option_map};
+ghost use Rattle.std.specs.Cmp.Lexicographic.{pointwise};
+ghost use Rattle.std.specs.List.{list_any};
 ghost use Rattle.query_code.specs.ByteForm.{all_written};
-ghost use Rattle.query_code.specs.TextForm.{text, texts_in, AreTexts};
+ghost use Rattle.query_code.specs.TextForm.{text, texts_in, AreTexts, AreTwoParts, first_in};
 
 use std::alloc::{AllocError, Global};
 use std::marker::Model;
@@ -14,6 +16,7 @@ pub struct TextList<'a> {
     added: Vec<u8>,
     len: u16,
     ghost are_texts: { ∥ AreTexts len (lent.now ++ added.items) ∥₁ },
+    ghost are_two_parts: { ∥ AreTwoParts len lent.now added.items ∥₁ },
 }
 
 impl<'a> Model for TextList<'a> {
@@ -39,6 +42,35 @@ pub fn put_text(out: &mut Vec<u8>, added: &str) -> Result<(), AllocError>
         return Err(lacks);
     }
     Ok(())
+}
+
+/// The bytes of the first of texts that are written one behind the other, and the others.
+fn first_written(bytes: &[u8]) -> Option<(&[u8], &[u8])>
+    ensures { option_map (λ x. (x.0.now, x.1.now)) result ≡ first_in bytes.now }
+{
+    if bytes.len() < 2 {
+        return None;
+    }
+    let (size, rest) = bytes.split_at(2);
+    let len = u16::from_be_bytes([size[0], size[1]]) as usize;
+    if rest.len() < len {
+        return None;
+    }
+    Some(rest.split_at(len))
+}
+
+/// Whether a text is one of those that are written one behind the other.
+fn is_written_in(mut bytes: &[u8], sought: &str) -> bool
+    ensures { (n : ℕ) → AreTexts n bytes.entry.now
+        → result ≡ list_any (pointwise nat_eq sought.now) (texts_in n bytes.entry.now) }
+{
+    while let Some((written, others)) = first_written(bytes) {
+        if sought.as_bytes() == written {
+            return true;
+        }
+        bytes = others;
+    }
+    false
 }
 
 impl<'a> TextList<'a> {
@@ -99,6 +131,13 @@ impl<'a> TextList<'a> {
         put_text(&mut self.added, added)?;
         self.len += 1;
         Ok(())
+    }
+
+    /// Whether a text is one of them.
+    pub fn has(&self, sought: &str) -> bool
+        ensures { result ≡ list_any (pointwise nat_eq sought.now) self.now }
+    {
+        is_written_in(self.lent, sought) || is_written_in(self.added.as_slice(), sought)
     }
 
     /// Writes them as a file has them, one behind the other.

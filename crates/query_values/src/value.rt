@@ -34,6 +34,13 @@ pub enum Value<'r> {
     Inventory(Bag<'r>),
 }
 
+/// Null.
+impl Default for Value<'_> {
+    fn default() -> Self {
+        Value::Null
+    }
+}
+
 impl Clone for Value<'_> {
     ghost is_clone = { λ a b. b ≡ a };
 

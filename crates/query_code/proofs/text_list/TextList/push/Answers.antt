@@ -1,7 +1,8 @@
 use Rattle.std.proofs.Common.{◌≡◌, ◌+◌, ◌++◌, ◌∷◌, [], ℕ, List, length, arith, ap, sym, subst, ◌∙◌}
-use Rattle.std.proofs.Common.{append_assoc, refl}
-use Rattle.query_code.specs.TextForm.{text, texts_in, AreTexts}
+use Rattle.std.proofs.Common.{append_assoc}
+use Rattle.query_code.specs.TextForm.{text, texts_in, AreTexts, AreTwoParts}
 use Rattle.query_code.proofs.TextListFacts.{number_is, one_more_are, one_more_text, fits_text}
+use Rattle.query_code.proofs.TextListSearch.{one_more_behind}
 use Rattle.query_code.proofs.text_list.TextList.push.Goals as goal
 
 pub put_text-requires : goal.put_text-requires
@@ -27,7 +28,14 @@ invariant_of-self-inside-2 c = (
       c.args.added.now (c.in_ok-put_text.ensures.ok))
       (one_more_are c.self.inside.len _ c.args.added.now c.self.inside.are_texts
       (fits_text c.args.added.now c.requires.short c.utf8.added)),
-  tt,
+  (
+    subst (λ bs. ∥ AreTwoParts (c.self.inside.len + 1) c.self.inside.lent.now bs ∥₁)
+        (sym c.in_ok-put_text.ensures.ok)
+        (one_more_behind c.self.inside.len c.self.inside.lent.now c.self.inside.added.items
+        c.args.added.now c.self.inside.are_two_parts
+        (fits_text c.args.added.now c.requires.short c.utf8.added)),
+    tt,
+  ),
 )
 
 pub returns : goal.returns
