@@ -1,13 +1,14 @@
 -- Values in lists of texts, of days and of counts.
-use Rattle.std.proofs.Common.{◌≡◌, ℕ, ℤ, Bool, true, false, ◌||◌, ◌==◌, List, [], ◌∷◌, map, refl}
+use Rattle.std.proofs.Common.{◌≡◌, ℕ, ℤ, Bool, true, false, ◌&&◌, ◌||◌, ◌==◌, List, [], ◌∷◌, map, refl}
 use Rattle.std.proofs.Common.{sym, ap₂}
-use Rattle.std.specs.List.{list_any}
+use Rattle.std.specs.List.{list_all, list_any}
 use Rattle.std.specs.Ordering.{int_eq}
 use Rattle.bean_base.specs.declared.days.Day as day
 use Rattle.bean_lots.specs.Lot.{same_text}
 use Rattle.query_values.proofs.ArithmeticFacts.{same_at}
 use Rattle.query_values.specs.Choice.{text_choice, day_choice, number_choice, same_day}
 use Rattle.query_values.specs.Equality.{same}
+use Rattle.query_values.specs.Operand.{are_alike}
 use Rattle.query_values.specs.Operation.{is_among}
 use Rattle.query_values.specs.declared.value.Value.{Value}
 use Rattle.query_values.specs.declared.value.Value.TheVariants.{Null, Truth, Number, Text, Day, Set}
@@ -67,7 +68,16 @@ no_number (Amount p m c) places ns h = never (Amount p m c) (number_choice place
 no_number (Position k m) places ns h = never (Position k m) (number_choice places) ns (λ n. refl)
 no_number (Inventory b) places ns h = never (Inventory b) (number_choice places) ns (λ n. refl)
 
-pub among_numbers : (p places : ℕ) (m : ℤ) (ns : List ℤ) → (p == places) ≡ true
+both_hold : (a b : Bool) → (a && b) ≡ true → (a ≡ true) × (b ≡ true)
+both_hold true b h = (refl, h)
+both_hold false b h = absurd cc
+
+-- numbers of which each has as many decimals
+pub among_numbers : (p places : ℕ) (m : ℤ) (ns : List ℤ)
+    → list_all (are_alike (Number p m)) (map (number_choice places) ns) ≡ true
     → list_any (int_eq m) ns ≡ is_among (map (number_choice places) ns) (Number p m)
-among_numbers p places m ns h =
-    each (Number p m) (number_choice places) (int_eq m) ns (λ n. same_at p places m n h)
+among_numbers p places m [] h = refl
+among_numbers p places m (n ∷ ns) h =
+    let alike =
+    both_hold (p == places) (list_all (are_alike (Number p m)) (map (number_choice places) ns)) h in
+    ap₂ ◌||◌ (same_at p places m n alike.0) (among_numbers p places m ns alike.1)

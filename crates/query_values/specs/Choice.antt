@@ -1,5 +1,5 @@
 -- The members of a list of texts, of days or of counts of so many decimals, as values.
-use Rattle.std.specs.Prelude.{ℕ, ℤ, Bool, true, ◌==◌, List}
+use Rattle.std.specs.Prelude.{ℕ, ℤ, Bool, List}
 use Rattle.std.specs.Ordering.{int_eq}
 use Rattle.bean_base.specs.Day.{number}
 use Rattle.bean_base.specs.declared.days.Day as day
@@ -14,11 +14,6 @@ day_choice d = Day d
 
 abbrev pub number_choice : ℕ → ℤ → Value
 number_choice places count = Number places count
-
--- a number has so many decimals
-abbrev pub has_places : ℕ → Value → Bool
-has_places places (Number p n) = p == places
-has_places places x = true
 
 abbrev pub same_day : day.Day → day.Day → Bool
 same_day a b = int_eq (number a) (number b)

@@ -1,12 +1,13 @@
 //! Whether a value is in a set or a list, and whether a text or a member of a set has a pattern. Of
 //! null all of them are false.
 ghost use Rattle.std.specs.Prelude.{◌≡◌, IsTrue, map};
-ghost use Rattle.std.specs.List.{list_any};
+ghost use Rattle.std.specs.List.{list_all, list_any};
 ghost use Rattle.std.specs.Ordering.{int_eq};
 ghost use Rattle.bean_lots.specs.Lot.{same_text};
+ghost use Rattle.query_values.specs.Operand.{are_alike};
 ghost use Rattle.query_values.specs.Operation.{has_match, has_member, is_among, is_member};
 ghost use Rattle.query_values.specs.Pattern.{is_found};
-ghost use Rattle.query_values.specs.Choice.{day_choice, has_places, number_choice, same_day};
+ghost use Rattle.query_values.specs.Choice.{day_choice, number_choice, same_day};
 ghost use Rattle.query_values.specs.Choice.{text_choice};
 
 use crate::pattern::Finder;
@@ -51,9 +52,9 @@ pub fn in_texts(x: &Value<'_>, texts: &[Slice<'_>]) -> bool
     }
 }
 
-/// Whether a number is one of these, of as many decimals.
+/// Whether a number is one of these, which have as many decimals.
 pub fn in_numbers(x: &Value<'_>, places: u8, counts: &[i128]) -> bool
-    requires { IsTrue (has_places places x.now) }
+    requires { IsTrue (list_all (are_alike x.now) (map (number_choice places) counts.now)) }
     ensures { result ≡ is_among (map (number_choice places) counts.now) x.now }
 {
     match x {

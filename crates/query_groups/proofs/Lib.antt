@@ -1,0 +1,3 @@
+pub mod AddingFacts
+pub mod TakingFacts
+pub mod GroupFacts

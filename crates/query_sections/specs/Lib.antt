@@ -1,0 +1,5 @@
+pub mod Stack
+pub mod Slots
+pub mod Reading
+pub mod Room
+pub mod Standing
