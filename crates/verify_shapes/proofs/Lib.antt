@@ -1,0 +1,3 @@
+pub mod JoinFacts
+mod ListFacts
+mod CauseFacts
