@@ -1,3 +1,4 @@
 pub mod JoinFacts
+pub mod LeastFacts
 mod ListFacts
 mod CauseFacts

@@ -1,8 +1,9 @@
 -- The least state shape above two: where paths meet.
-use Rattle.std.specs.Prelude.{List, [], ◌∷◌, Option, Some, None, option_map, option_and_then}
+use Rattle.std.specs.Prelude.{◌≡◌, List, [], ◌∷◌, Option, Some, None}
 use Rattle.query_shapes.specs.Shape.{joined}
 use Rattle.query_shapes.specs.declared.shape.Shape.{Shape}
 use Rattle.plain_machine.specs.SectionRun.{State}
+use Rattle.well_shaped.specs.StateShape.{IsStateBelow}
 
 abbrev pub cons_if : {A : Type 0} → Option A → Option (List A) → Option (List A)
 cons_if None xs = None
@@ -37,3 +38,15 @@ both_if (Some xs) (Some ys) = Some (record { stack = xs; slots = ys })
 -- have nothing in common become unset.
 abbrev pub joined_state : State Shape → State Shape → Option (State Shape)
 joined_state s t = both_if (joined_stack s.stack t.stack) (joined_slots s.slots t.slots)
+
+-- what two join to, where it is below a third
+pub record LeastState (s t d : State Shape) : Type 0 where
+  pub state : State Shape
+  pub joins : joined_state s t ≡ Some state
+  pub below : IsStateBelow state d
+
+-- What two state shapes join to is above both, and below all that is.
+pub record JoinsAreLeast : Type 0 where
+  pub above : (s t u : State Shape) → joined_state s t ≡ Some u
+      → IsStateBelow s u × IsStateBelow t u
+  pub least : (s t d : State Shape) → IsStateBelow s d → IsStateBelow t d → LeastState s t d

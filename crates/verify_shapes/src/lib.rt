@@ -27,6 +27,8 @@
 //! copy are linear in the stack and the slots.
 #![tactic(auto)]
 
+ghost use Rattle.verify_shapes.specs.Joining.{JoinsAreLeast};
+
 mod cause;
 mod loads;
 mod rules;
@@ -35,3 +37,8 @@ mod state;
 pub use cause::CodeCause;
 pub use loads::Loads;
 pub use state::StateShape;
+
+/// What two state shapes join to is the least above both, and where they don't join there is none.
+pub fn joins_are_least()
+    ensures { JoinsAreLeast }
+{}
