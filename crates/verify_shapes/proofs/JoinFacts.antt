@@ -1,14 +1,13 @@
 -- Joins of two lists, from their first items on, and of turned lists.
 use Rattle.std.proofs.Common.{◌≡◌, ◌≢◌, ℕ, suc, ◌+◌, ◌<◌, List, [], ◌∷◌, ◌++◌, Option, Some, None}
 use Rattle.std.proofs.Common.{length, get_or, set, take, drop, reverse, refl, sym, ap, ◌∙◌, arith}
-use Rattle.std.proofs.Common.{append_assoc, add-one, drop-cons, ⊎_elim, subst}
+use Rattle.std.proofs.Common.{append_assoc, add-one, drop-cons, ⊎_elim}
 use Rattle.std.proofs.lemmas.Bool.{cases_eq}
 use Rattle.std.proofs.lemmas.Grind.{common_steps, reverse_onto}
 use Rattle.std.proofs.lemmas.List.{length-reverse, take_more_set, drop-set-lt}
 use Rattle.query_shapes.specs.Shape.{joined}
 use Rattle.query_shapes.specs.declared.shape.Shape.{Shape}
-use Rattle.plain_machine.specs.SectionRun.{State}
-use Rattle.verify_shapes.specs.Joining.{cons_if, joined_list, joined_slot, joined_slots, joined_stack}
+use Rattle.verify_shapes.specs.Joining.{cons_if, joined_list, joined_slots, joined_stack}
 use Rattle.verify_shapes.specs.Joining.{both_if, joined_state}
 
 abbrev pub prepend : {X : Type 0} → List X → Option (List X) → Option (List X)

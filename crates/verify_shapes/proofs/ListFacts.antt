@@ -1,12 +1,12 @@
 -- What is asked of a value that is sought in a list of the pool: the kind of the list's members.
-use Rattle.std.proofs.Common.{◌≡◌, ℕ, ℤ, List, [], ◌∷◌, map, true, false, Bool, cond, eqb, refl, sym}
+use Rattle.std.proofs.Common.{◌≡◌, ℕ, ℤ, List, [], ◌∷◌, map, true, false, cond, eqb, refl, sym}
 use Rattle.std.proofs.Common.{ap, ◌∙◌, Ok, Err}
 use Rattle.std.specs.List.{list_all}
 use Rattle.std.specs.Prelude.{◌&&◌}
 use Rattle.std.proofs.lemmas.Bool.{false≢true}
 use Rattle.bean_base.specs.declared.days.Day as days
 use Rattle.query_values.specs.Choice.{text_choice, number_choice, day_choice}
-use Rattle.query_shapes.specs.Rules.{Ruled, among, is_like, of_text, of_day}
+use Rattle.query_shapes.specs.Rules.{among, is_like, of_text, of_day}
 use Rattle.query_shapes.specs.declared.shape.Shape.{Shape}
 use Rattle.query_shapes.specs.declared.shape.Shape.TheVariants.{Truth, Text, Day, Set, Number}
 use Rattle.query_shapes.specs.declared.shape.Shape.TheVariants.{Amount, Position, Inventory}

@@ -11,7 +11,7 @@ use Rattle.plain_machine.specs.SectionRun.{State}
 use Rattle.well_shaped.specs.Sections.{Loads}
 use Rattle.verify_shapes.specs.Loading.{knows, has_entry}
 use Rattle.verify_shapes.specs.declared.cause.CodeCause.{CodeCause}
-use Rattle.verify_shapes.specs.declared.cause.CodeCause.TheVariants.{Unknown, PoolEntry}
+use Rattle.verify_shapes.specs.declared.cause.CodeCause.TheVariants.{Jump, Unknown, PoolEntry, Unreachable}
 
 -- the shape that a rule gives; none where a cause is answered
 abbrev pub Gives : Result Shape (Refusal CodeCause) → Option Shape → Type 0
@@ -32,22 +32,28 @@ IfRefused (Ok x) holds = Unit {0}
 IfRefused (Err OutOfMemory) holds = Unit {0}
 IfRefused (Err (Refused c)) holds = holds c
 
--- no cause by what an instruction names
+-- no cause by what an instruction names, by where it leads or by what leads there
 abbrev pub IsOther : CodeCause → Type 0
 IsOther Unknown = ⊥
 IsOther PoolEntry = ⊥
+IsOther Jump = ⊥
+IsOther Unreachable = ⊥
 IsOther c = Unit {0}
 
 -- where the cause is an entry of the pool, it isn't there
 abbrev pub IsEntryCause : Bool → CodeCause → Type 0
 IsEntryCause has Unknown = ⊥
 IsEntryCause has PoolEntry = has ≡ false
+IsEntryCause has Jump = ⊥
+IsEntryCause has Unreachable = ⊥
 IsEntryCause has c = Unit {0}
 
 -- where the cause is what is loaded, it isn't known
 abbrev pub IsUnknownCause : Bool → CodeCause → Type 0
 IsUnknownCause is_known Unknown = is_known ≡ false
 IsUnknownCause is_known PoolEntry = ⊥
+IsUnknownCause is_known Jump = ⊥
+IsUnknownCause is_known Unreachable = ⊥
 IsUnknownCause is_known c = Unit {0}
 
 -- what is answered of a list's members
@@ -55,8 +61,10 @@ abbrev pub Listed : Ruled → Option (List Value) → Shape → Type 0
 Listed ruled None s = Unit {0}
 Listed ruled (Some ys) s = ruled ≡ among ys s
 
--- What an instruction names isn't there, where that is the cause.
+-- What an instruction names isn't there, where that is the cause; where it leads isn't looked at.
 abbrev pub IsNamedCause : List Constant → Loads → CodeCause → Instruction → Type 0
 IsNamedCause pool l Unknown i = knows l i ≡ false
 IsNamedCause pool l PoolEntry i = has_entry pool i ≡ false
+IsNamedCause pool l Jump i = ⊥
+IsNamedCause pool l Unreachable i = ⊥
 IsNamedCause pool l c i = Unit {0}

@@ -1,5 +1,5 @@
 -- What instructions name: what they load, and entries of the pool.
-use Rattle.std.specs.Prelude.{ℕ, Bool, true, false, List, [], ◌∷◌, Option, Some, None, slice_get, ⊤}
+use Rattle.std.specs.Prelude.{Bool, true, false, List, [], ◌∷◌, Option, Some, None, slice_get, ⊤}
 use Rattle.std.specs.Prelude.{option_and_then}
 use Rattle.query_shapes.specs.declared.shape.Shape.{Shape}
 use Rattle.query_columns.specs.declared.column.Column.{Column}
