@@ -54,6 +54,8 @@ module _ (pool : List Constant) (l : Loads) (code : List Instruction) (n : ℕ)
       named : (c : CodeCause) → IsNamedCause pool l c i → HasCause pool l code c n
       named cause.Jump h = absurd h
       named cause.Unreachable h = absurd h
+      named cause.Pattern h = absurd h
+      named cause.Bounds h = absurd h
       named cause.Unknown h = record { instruction = i; stands = stands; holds = h }
       named cause.PoolEntry h = record { instruction = i; stands = stands; holds = h }
       named c h = tt

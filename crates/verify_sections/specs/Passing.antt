@@ -60,6 +60,8 @@ module _ (pool : List Constant) (l : Loads) (code : List Instruction) where
   HasCause cause.Unknown n = Standing n (λ i. knows l i ≡ false)
   HasCause cause.PoolEntry n = Standing n (λ i. has_entry pool i ≡ false)
   HasCause cause.Unreachable n = IsUnreached n
+  HasCause cause.Pattern n = ⊥
+  HasCause cause.Bounds n = ⊥
   HasCause c n = Unit {0}
 
   -- ---- answers

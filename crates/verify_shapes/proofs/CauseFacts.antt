@@ -8,7 +8,8 @@ use Rattle.well_shaped.specs.Sections.{Loads}
 use Rattle.verify_shapes.specs.Answers.{IfRefused, IsEntryCause, IsNamedCause, IsOther}
 use Rattle.verify_shapes.specs.Loading.{has_entry}
 use Rattle.verify_shapes.specs.declared.cause.CodeCause.{CodeCause}
-use Rattle.verify_shapes.specs.declared.cause.CodeCause.TheVariants.{Jump, Unknown, PoolEntry, Unreachable}
+use Rattle.verify_shapes.specs.declared.cause.CodeCause.TheVariants.{Jump, Unknown, PoolEntry, Pattern}
+use Rattle.verify_shapes.specs.declared.cause.CodeCause.TheVariants.{Bounds, Unreachable}
 
 pub weaker : {X C : Type 0} (r : Result X (Refusal C)) (P Q : C → Type 0) → ((c : C) → P c → Q c)
     → IfRefused r P → IfRefused r Q
@@ -22,6 +23,8 @@ by_other pool l i Unknown h = absurd h
 by_other pool l i PoolEntry h = absurd h
 by_other pool l i Jump h = absurd h
 by_other pool l i Unreachable h = absurd h
+by_other pool l i Pattern h = absurd h
+by_other pool l i Bounds h = absurd h
 by_other pool l i c h = tt
 
 pub by_entry : (pool : List Constant) (l : Loads) (i : Instruction) (c : CodeCause)
@@ -30,4 +33,6 @@ by_entry pool l i Unknown h = absurd h
 by_entry pool l i PoolEntry h = h
 by_entry pool l i Jump h = absurd h
 by_entry pool l i Unreachable h = absurd h
+by_entry pool l i Pattern h = absurd h
+by_entry pool l i Bounds h = absurd h
 by_entry pool l i c h = tt

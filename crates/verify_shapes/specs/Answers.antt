@@ -11,7 +11,8 @@ use Rattle.plain_machine.specs.SectionRun.{State}
 use Rattle.well_shaped.specs.Sections.{Loads}
 use Rattle.verify_shapes.specs.Loading.{knows, has_entry}
 use Rattle.verify_shapes.specs.declared.cause.CodeCause.{CodeCause}
-use Rattle.verify_shapes.specs.declared.cause.CodeCause.TheVariants.{Jump, Unknown, PoolEntry, Unreachable}
+use Rattle.verify_shapes.specs.declared.cause.CodeCause.TheVariants.{Jump, Unknown, PoolEntry, Pattern}
+use Rattle.verify_shapes.specs.declared.cause.CodeCause.TheVariants.{Bounds, Unreachable}
 
 -- the shape that a rule gives; none where a cause is answered
 abbrev pub Gives : Result Shape (Refusal CodeCause) → Option Shape → Type 0
@@ -32,12 +33,15 @@ IfRefused (Ok x) holds = Unit {0}
 IfRefused (Err OutOfMemory) holds = Unit {0}
 IfRefused (Err (Refused c)) holds = holds c
 
--- no cause by what an instruction names, by where it leads or by what leads there
+-- no cause by what an instruction names, by where it leads or by what leads there, nor one of the
+-- header or of a pattern
 abbrev pub IsOther : CodeCause → Type 0
 IsOther Unknown = ⊥
 IsOther PoolEntry = ⊥
 IsOther Jump = ⊥
 IsOther Unreachable = ⊥
+IsOther Pattern = ⊥
+IsOther Bounds = ⊥
 IsOther c = Unit {0}
 
 -- where the cause is an entry of the pool, it isn't there
@@ -46,6 +50,8 @@ IsEntryCause has Unknown = ⊥
 IsEntryCause has PoolEntry = has ≡ false
 IsEntryCause has Jump = ⊥
 IsEntryCause has Unreachable = ⊥
+IsEntryCause has Pattern = ⊥
+IsEntryCause has Bounds = ⊥
 IsEntryCause has c = Unit {0}
 
 -- where the cause is what is loaded, it isn't known
@@ -54,6 +60,8 @@ IsUnknownCause is_known Unknown = is_known ≡ false
 IsUnknownCause is_known PoolEntry = ⊥
 IsUnknownCause is_known Jump = ⊥
 IsUnknownCause is_known Unreachable = ⊥
+IsUnknownCause is_known Pattern = ⊥
+IsUnknownCause is_known Bounds = ⊥
 IsUnknownCause is_known c = Unit {0}
 
 -- what is answered of a list's members
@@ -67,4 +75,6 @@ IsNamedCause pool l Unknown i = knows l i ≡ false
 IsNamedCause pool l PoolEntry i = has_entry pool i ≡ false
 IsNamedCause pool l Jump i = ⊥
 IsNamedCause pool l Unreachable i = ⊥
+IsNamedCause pool l Pattern i = ⊥
+IsNamedCause pool l Bounds i = ⊥
 IsNamedCause pool l c i = Unit {0}
