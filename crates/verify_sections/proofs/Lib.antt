@@ -1,0 +1,4 @@
+pub mod WaitingFacts
+pub mod Flow
+pub mod StepFacts
+pub mod AnswerFacts

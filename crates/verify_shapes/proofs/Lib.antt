@@ -1,0 +1,4 @@
+pub mod JoinFacts
+pub mod LeastFacts
+mod ListFacts
+mod CauseFacts

@@ -1,0 +1,4 @@
+pub mod CodeCause
+pub mod Loading
+pub mod Answers
+pub mod Joining
