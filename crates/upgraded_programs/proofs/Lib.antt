@@ -1,0 +1,2 @@
+mod ShapeFacts
+mod NameFacts
