@@ -1,0 +1,3 @@
+pub mod GatheredFacts
+pub mod WholeFacts
+mod CarriedFacts
