@@ -27,9 +27,9 @@ use Rattle.query_shapes.specs.declared.shape.Shape.{Shape}
 use Rattle.query_shapes.specs.declared.shape.Shape.TheVariants.{Number}
 use Rattle.query_values.specs.declared.operation.Binary as two
 use Rattle.query_values.specs.declared.operation.Binary.TheVariants as operations
-use Rattle.bql_scheme.specs.Core.{truth, constant, column, entry, key, aggregate, Core, loading}
-use Rattle.bql_scheme.specs.Core.{changing, joining, both, either, plainly, matching}
-use Rattle.bql_scheme.specs.Core.{some_matching, among}
+use Rattle.bql_code.specs.Core.{truth, constant, column, entry, key, aggregate, Core, loading}
+use Rattle.bql_code.specs.Core.{changing, joining, both, either, plainly, matching}
+use Rattle.bql_code.specs.Core.{some_matching, among}
 
 -- ---- decimals
 

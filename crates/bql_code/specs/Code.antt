@@ -13,10 +13,10 @@ use Rattle.query_code.specs.declared.instruction.Unary.TheVariants as unary
 use Rattle.query_code.specs.declared.program.Constant.{Constant}
 use Rattle.query_code.specs.declared.program.Constant.TheVariants as constants
 use Rattle.query_columns.specs.Column.{number}
-use Rattle.bql_scheme.specs.Core.{Load, truth, constant, column, entry, key, aggregate, Change}
-use Rattle.bql_scheme.specs.Core.{plainly, matching, some_matching, among, Core, loading, changing}
-use Rattle.bql_scheme.specs.Core.{joining, both, either}
-use Rattle.bql_scheme.specs.Pool.{index_in}
+use Rattle.bql_code.specs.Core.{Load, truth, constant, column, entry, key, aggregate, Change}
+use Rattle.bql_code.specs.Core.{plainly, matching, some_matching, among, Core, loading, changing}
+use Rattle.bql_code.specs.Core.{joining, both, either}
+use Rattle.bql_code.specs.Pool.{index_in}
 
 -- Behind the second operand of AND and of OR, at this place: TRUE where it holds, and else FALSE.
 abbrev pub verdict : ℕ → List Instruction
@@ -85,6 +85,19 @@ module _ (pool : List Constant) where
   all_code place [] = []
   all_code place (x ∷ xs) =
       code place x ++ all_code (place + length (code place x)) xs
+
+-- ---- how many instructions these are
+
+abbrev pub size : Core → ℕ
+size (loading l) = 1
+size (changing op x) = size x + 1
+size (joining op x y) = size x + size y + 1
+size (both x y) = size x + size y + 5
+size (either x y) = size x + size y + 7
+
+abbrev pub all_size : List Core → ℕ
+all_size [] = 0
+all_size (x ∷ xs) = size x + all_size xs
 
 -- ---- how many values stand on the stack at most
 

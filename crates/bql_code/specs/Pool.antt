@@ -6,14 +6,18 @@ use Rattle.std.specs.List.{list_any}
 use Rattle.std.specs.Ordering.{int_eq}
 use Rattle.query_code.specs.declared.program.Constant.{Constant}
 use Rattle.query_code.specs.declared.program.Constant.TheVariants as constants
+use Rattle.query_code.specs.declared.program.Numbers.{Numbers}
 use Rattle.query_values.specs.Choice.{same_day}
-use Rattle.bql_scheme.specs.Core.{Load, constant, entry, Change, plainly, matching, some_matching}
-use Rattle.bql_scheme.specs.Core.{among, Core, loading, changing, joining, both, either}
+use Rattle.bql_code.specs.Core.{Load, constant, entry, Change, plainly, matching, some_matching}
+use Rattle.bql_code.specs.Core.{among, Core, loading, changing, joining, both, either}
 
 -- ---- equal constants
 
 abbrev pub same_text : List ℕ → List ℕ → Bool
 same_text = pointwise nat_eq
+
+abbrev pub same_numbers : Numbers → Numbers → Bool
+same_numbers ms ns = ms.places == ns.places && pointwise int_eq ms.counts ns.counts
 
 -- of one kind, and the same; numbers by their counts and decimals
 abbrev pub same_constant : Constant → Constant → Bool
@@ -23,8 +27,7 @@ same_constant (constants.Number m) (constants.Number n) =
 same_constant (constants.Day d) (constants.Day e) = same_day d e
 same_constant (constants.Pattern a) (constants.Pattern b) = same_text a b
 same_constant (constants.Texts ss) (constants.Texts ts) = pointwise same_text ss ts
-same_constant (constants.Numbers ms) (constants.Numbers ns) =
-    ms.places == ns.places && pointwise int_eq ms.counts ns.counts
+same_constant (constants.Numbers ms) (constants.Numbers ns) = same_numbers ms ns
 same_constant (constants.Days ds) (constants.Days es) = pointwise same_day ds es
 same_constant c d = false
 

@@ -1,5 +1,5 @@
 -- Code of a few expressions, computed.
-use Rattle.std.proofs.Common.{◌≡◌, ◌<◌, ◌≤◌, ◌^◌, ℕ, pos, true, List, [], ◌∷◌, None, codes, refl, arith}
+use Rattle.std.proofs.Common.{◌≡◌, List, [], ◌∷◌, codes, refl}
 use Rattle.query_code.specs.declared.instruction.Instruction.TheVariants.{Push, Unary, Binary, Jump}
 use Rattle.query_code.specs.declared.instruction.Instruction.TheVariants.{JumpIfFalse}
 use Rattle.query_code.specs.declared.instruction.Push.TheVariants as push
@@ -8,10 +8,10 @@ use Rattle.query_code.specs.declared.program.Constant.{Constant}
 use Rattle.query_code.specs.declared.program.Constant.TheVariants as constants
 use Rattle.query_columns.specs.declared.column.Column.TheVariants as columns
 use Rattle.query_values.specs.declared.operation.Binary.TheVariants as operations
-use Rattle.bql_scheme.specs.Code.{code, all_code, depth, all_depth}
-use Rattle.bql_scheme.specs.Core.{Core, truth, constant, column, loading, changing, joining, both}
-use Rattle.bql_scheme.specs.Core.{either, plainly, matching}
-use Rattle.bql_scheme.specs.Pool.{pooled, used}
+use Rattle.bql_code.specs.Code.{code, all_code, depth, all_depth}
+use Rattle.bql_code.specs.Core.{Core, constant, column, loading, changing, joining, both}
+use Rattle.bql_code.specs.Core.{either, matching}
+use Rattle.bql_code.specs.Pool.{pooled, used}
 
 abbrev account : Core
 account = loading (column columns.Account)

@@ -1,8 +1,10 @@
 -- Whatever is used stands in the pool.
-use Rattle.std.proofs.Common.{◌≡◌, ℕ, ℤ, zero, suc, ◌||◌, ◌&&◌, ◌==◌, Bool, true, false, cond, List}
+use Rattle.std.proofs.Common.{◌≡◌, ℕ, zero, suc, ◌||◌, ◌&&◌, ◌==◌, Bool, true, false, cond, List}
+use Rattle.std.proofs.Common.{length, ◌≢◌, ◌+◌, ◌<◌, get_or, drop}
 use Rattle.std.proofs.Common.{[], ◌∷◌, ◌++◌, Some, refl, sym, ap, ◌∙◌, arith, true≢false, nat_eq}
 use Rattle.std.proofs.lemmas.Bool.Decides.{nat_tests}
 use Rattle.std.proofs.lemmas.Cmp.{int_eq_equiv}
+use Rattle.std.proofs.lemmas.List.{map-append}
 use Rattle.std.specs.Cmp.Lexicographic.{pointwise}
 use Rattle.std.specs.List.{AllByRecursion, list_any, slice_get}
 use Rattle.std.specs.Ordering.{int_eq}
@@ -10,8 +12,11 @@ use Rattle.bean_base.specs.Day.{number}
 use Rattle.query_code.specs.declared.program.Constant.{Constant}
 use Rattle.query_code.specs.declared.program.Constant.TheVariants as constants
 use Rattle.query_values.specs.Choice.{same_day}
-use Rattle.bql_scheme.specs.Laws.{StandsIn}
-use Rattle.bql_scheme.specs.Pool.{index_in, pooled, same_constant, same_text}
+use Rattle.bql_code.specs.Kept.{entry_of, constants_of, core_of, cores_of}
+use Rattle.bql_code.specs.Laws.{StandsIn}
+use Rattle.bql_code.specs.Pool.{all_used, index_in, pooled, same_constant, same_text, used}
+use Rattle.bql_code.specs.declared.computed.Core as kept
+use Rattle.bql_code.specs.declared.entry.Entry.{Entry}
 
 -- ---- each constant is equal to itself
 
@@ -123,3 +128,68 @@ have_what_is_used pool (c ∷ cs) = (
   at_index (pooled (with_one pool c) cs) c (there_behind (with_one pool c) cs c (there_now pool c)),
   have_what_is_used (with_one pool c) cs,
 )
+
+-- ---- one behind the other
+
+pub pooled_behind : (pool cs ds : List Constant)
+    → pooled (pooled pool cs) ds ≡ pooled pool (cs ++ ds)
+pooled_behind pool [] ds = refl
+pooled_behind pool (c ∷ cs) ds = pooled_behind (with_one pool c) cs ds
+
+-- ---- one more
+
+pub not_there : (pool : List Constant) (c : Constant) → index_in pool c ≡ length pool
+    → is_there c pool ≡ false
+not_there [] c e = refl
+not_there (d ∷ ds) c e = by (same_constant c d) e (not_there ds c)
+  where
+    by : (b : Bool) → cond b 0 (suc (index_in ds c)) ≡ suc (length ds)
+        → (index_in ds c ≡ length ds → is_there c ds ≡ false) → (b || is_there c ds) ≡ false
+    by true e rest = absurd (omega (arith, e))
+    by false e rest = rest (omega (arith, e))
+
+pub is_there_at : (pool : List Constant) (c : Constant) → index_in pool c ≢ length pool
+    → is_there c pool ≡ true
+is_there_at [] c e = absurd (e refl)
+is_there_at (d ∷ ds) c e = by (same_constant c d) e (is_there_at ds c)
+  where
+    by : (b : Bool) → cond b 0 (suc (index_in ds c)) ≢ suc (length ds)
+        → (index_in ds c ≢ length ds → is_there c ds ≡ true) → (b || is_there c ds) ≡ true
+    by true e rest = refl
+    by false e rest = rest (λ same. e (ap suc same))
+
+pub pushed_one : (pool new : List Constant) (c : Constant) → index_in pool c ≡ length pool
+    → new ≡ pool ++ c ∷ [] → new ≡ pooled pool (c ∷ [])
+pushed_one pool new c e is = is ∙ sym (ap (λ b. cond b pool (pool ++ c ∷ [])) (not_there pool c e))
+
+pub kept_one : (pool : List Constant) (c : Constant) → index_in pool c ≢ length pool
+    → pool ≡ pooled pool (c ∷ [])
+kept_one pool c e = sym (ap (λ b. cond b pool (pool ++ c ∷ [])) (is_there_at pool c e))
+
+pub behind_entries : (es new : List Entry) (e : Entry) → new ≡ es ++ e ∷ []
+    → constants_of new ≡ constants_of es ++ entry_of e ∷ []
+behind_entries es new e is = ap constants_of is ∙ map-append entry_of es (e ∷ [])
+
+-- ---- those that are left
+
+drops : (cs : List kept.Core) (i : ℕ) (c : kept.Core) → i < length cs → c ≡ get_or cs i c
+    → cores_of (drop i cs) ≡ core_of c ∷ cores_of (drop (suc i) cs)
+drops [] i c h is = absurd (omega (arith, h))
+drops (d ∷ cs) zero c h is = ap (λ x. core_of x ∷ cores_of cs) (sym is)
+drops (d ∷ cs) (suc i) c h is = drops cs i c (omega (arith, h)) is
+
+succ : (i : ℕ) → i + 1 ≡ suc i
+succ i = omega arith
+
+pub collected : (pool new : List Constant) (cs : List kept.Core) (i : ℕ) (c : kept.Core)
+    (whole : List Constant) → i < length cs → c ≡ get_or cs i c
+    → new ≡ pooled pool (used (core_of c))
+    → pooled pool (all_used (cores_of (drop i cs))) ≡ whole
+    → pooled new (all_used (cores_of (drop (i + 1) cs))) ≡ whole
+collected pool new cs i c whole h is e w =
+    let rest = all_used (cores_of (drop (suc i) cs)) in
+    ap (λ k. pooled new (all_used (cores_of (drop k cs)))) (succ i)
+    ∙ ap (λ p. pooled p rest) e
+    ∙ pooled_behind pool (used (core_of c)) rest
+    ∙ sym (ap (λ xs. pooled pool (all_used xs)) (drops cs i c h is))
+    ∙ w

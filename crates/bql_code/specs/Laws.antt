@@ -1,8 +1,8 @@
 -- What holds of pools.
-use Rattle.std.specs.Prelude.{◌≡◌, ℕ, true, List, [], Some, slice_get}
+use Rattle.std.specs.Prelude.{◌≡◌, true, List, [], Some, slice_get}
 use Rattle.std.specs.List.{AllByRecursion}
 use Rattle.query_code.specs.declared.program.Constant.{Constant}
-use Rattle.bql_scheme.specs.Pool.{index_in, pooled, same_constant}
+use Rattle.bql_code.specs.Pool.{index_in, pooled, same_constant}
 
 -- an equal constant stands at its index
 pub record StandsIn (pool : List Constant) (c : Constant) : Type 0 where
