@@ -1,3 +1,2 @@
-pub mod Lowered
 pub mod Program
 pub mod Carried

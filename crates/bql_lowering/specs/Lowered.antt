@@ -1,13 +1,16 @@
 -- What the machine computes for an expression: over the columns of a row, or behind the last row
 -- over the keys and the aggregates of a group. Numbers are brought to the greater count of decimals
 -- where the machine wants equal ones.
-use Rattle.std.specs.Prelude.{ℕ, ℤ, pos, ◌*ℤ◌, ◌^◌, ◌-◌, ◌&&◌, nat_lt, Bool, true, false, max, List}
+use Rattle.std.specs.Prelude.{ℕ, ℤ, pos, ◌*ℤ◌, ◌^◌, ◌-◌, nat_lt, Bool, false, max, List}
 use Rattle.std.specs.Prelude.{[], ◌∷◌, ◌++◌, map, Option, Some, None, if◌then◌else◌}
 use Rattle.limits.specs.declared.bounds.Bounds.{Bounds}
 use Rattle.bean_base.specs.declared.days.Day as days
 use Rattle.bql_plan.specs.Plan.{index_of}
 use Rattle.bql_tree.specs.Tree.{Operation, leaf_of, one_of, two_of, call_of, Tree, node, Trees}
 use Rattle.bql_tree.specs.Tree.{no_trees, trees}
+use Rattle.bql_lowering.specs.Kind.{first_kind}
+use Rattle.bql_lowering.specs.declared.kind.ListKind.{ListKind}
+use Rattle.bql_lowering.specs.declared.kind.ListKind.TheVariants.{Texts, Days, Numbers}
 use Rattle.bql_tree.specs.declared.function.Function.{Function}
 use Rattle.bql_tree.specs.declared.function.Function.TheVariants as function
 use Rattle.bql_tree.specs.declared.tree.BinaryOperator.{BinaryOperator}
@@ -17,7 +20,7 @@ use Rattle.bql_tree.specs.declared.tree.Leaf.TheVariants as leaf
 use Rattle.bql_tree.specs.declared.tree.UnaryOperator.{UnaryOperator}
 use Rattle.bql_tree.specs.declared.tree.UnaryOperator.TheVariants as unary
 use Rattle.bql_types.specs.Shaped.{is_null, shape_of}
-use Rattle.bql_types.specs.Sought.{is_aggregate, is_key}
+use Rattle.bql_types.specs.Sought.{is_key}
 use Rattle.query_code.specs.declared.instruction.Unary as machine
 use Rattle.query_code.specs.declared.instruction.Unary.TheVariants as operation
 use Rattle.query_code.specs.declared.program.Constant.{Constant}
@@ -88,20 +91,28 @@ of_binary binary.Plus p q x y = joined operations.Add p q x y
 of_binary binary.Minus p q x y = joined operations.Sub p q x y
 of_binary binary.Times p q x y = joining operations.Mul x y
 
+-- the operation that a function of one argument is
+abbrev pub operation_of : Function → Option machine.Unary
+operation_of function.Parent = Some operation.Parent
+operation_of function.Leaf = Some operation.Leaf
+operation_of function.Length = Some operation.Length
+operation_of function.Units = Some operation.Units
+operation_of function.Cost = Some operation.Cost
+operation_of function.Year = Some operation.Year
+operation_of function.Month = Some operation.Month
+operation_of function.Day = Some operation.Day
+operation_of function.Number = Some operation.Number
+operation_of function.Currency = Some operation.Currency
+operation_of function.Abs = Some operation.Abs
+operation_of function.RootRank = Some operation.RootRank
+operation_of f = None
+
+abbrev pub by_one : Option machine.Unary → Core → Core
+by_one (Some op) x = on_one op x
+by_one None x = x
+
 abbrev pub of_function : Function → Core → Core
-of_function function.Parent x = on_one operation.Parent x
-of_function function.Leaf x = on_one operation.Leaf x
-of_function function.Length x = on_one operation.Length x
-of_function function.Units x = on_one operation.Units x
-of_function function.Cost x = on_one operation.Cost x
-of_function function.Year x = on_one operation.Year x
-of_function function.Month x = on_one operation.Month x
-of_function function.Day x = on_one operation.Day x
-of_function function.Number x = on_one operation.Number x
-of_function function.Currency x = on_one operation.Currency x
-of_function function.Abs x = on_one operation.Abs x
-of_function function.RootRank x = on_one operation.RootRank x
-of_function f x = x
+of_function f x = by_one (operation_of f) x
 
 -- ---- lists
 
@@ -129,23 +140,22 @@ most_places p no_trees = p
 most_places p (trees (node at (leaf_of (leaf.Number n)) parts) ts) = most_places (max p n.places) ts
 most_places p (trees t ts) = most_places p ts
 
--- texts, days or counts, by the first of the list; where it begins with a number, what is looked
--- for has so many decimals
-abbrev pub list_by : Leaf → ℕ → Trees ℕ → Constant
-list_by (leaf.Text t) places ts = constants.Texts (each_in text_in ts)
-list_by (leaf.Day d) places ts = constants.Days (each_in day_in ts)
-list_by l places ts =
+-- texts, days or counts, as the first of the list is; counts of so many decimals
+abbrev pub list_by : ListKind → ℕ → Trees ℕ → Constant
+list_by Texts places ts = constants.Texts (each_in text_in ts)
+list_by Days places ts = constants.Days (each_in day_in ts)
+list_by Numbers places ts =
     constants.Numbers record { places = places; counts = each_in (count_in places) ts }
 
-abbrev pub first_leaf : Trees ℕ → Leaf
-first_leaf (trees (node at (leaf_of l) parts) ts) = l
-first_leaf ts = leaf.Null
+-- the decimals of the numbers of a list
+abbrev pub list_places : Option ℕ → Trees ℕ → ℕ
+list_places (Some p) ts = most_places p ts
+list_places None ts = 0
 
 abbrev pub in_list : Option ℕ → Core → Trees ℕ → Core
-in_list (Some p) x ts =
-    changing (among (list_by (first_leaf ts) (most_places p ts) ts))
-    (aligned (Some p) (most_places p ts) x)
-in_list None x ts = changing (among (list_by (first_leaf ts) 0 ts)) x
+in_list p x ts =
+    changing (among (list_by (first_kind ts) (list_places p ts) ts))
+    (aligned p (list_places p ts) x)
 
 -- ---- expressions
 
