@@ -1,4 +1,5 @@
 -- Expressions of short tokens are small.
+use Rattle.std.proofs.Common.{◌∷◌}
 use Rattle.std.proofs.Common.{ℕ, zero, suc, ◌≤◌, Bool, true, false, List, []}
 use Rattle.std.proofs.Common.{length, Option, Some, None, IfSome, arith, ap}
 use Rattle.std.proofs.lemmas.List.{length-drop}
@@ -29,12 +30,13 @@ use Rattle.bql_grammar.specs.Expression.{comparison_of, denied_of, signed_of, or
 use Rattle.bql_grammar.specs.Expression.{arguments_of, counted, begins_with_count, inside_call}
 use Rattle.bql_grammar.specs.Expression.{call_of, name, atom_of, unary_of, negation_of, Inner}
 use Rattle.bql_grammar.specs.Expression.{innermost, unary_around, around, inner, expression}
-use Rattle.bql_parser.specs.Small.{IsShort, IsSmallLeaf}
+use Rattle.bql_parser.specs.Small.{IsShort, IsSmallLeaf, IsLiteralLeaf}
 use Rattle.bql_parser.proofs.SmallTokens.{AreSmallTokens}
 use Rattle.bql_parser.proofs.SmallForms.{Keeps, Takes, keeps_told, keeps_any}
 use Rattle.bql_parser.proofs.SmallForms.{keeps_token, keeps_made, keeps_nothing, keeps_then}
 use Rattle.bql_parser.proofs.SmallForms.{keeps_choice, keeps_ending, keeps_chain, keeps_list}
 use Rattle.bql_parser.proofs.SmallForms.{takes_told, list_counted}
+use Rattle.bql_parser.proofs.SmallParts.{IsLiteralPart}
 use Rattle.bql_parser.proofs.SmallParts.{IsSmallPart, leaf_small, name_small, rows_small}
 use Rattle.bql_parser.proofs.SmallParts.{around_small, denied_small, signed_small, matched_small}
 use Rattle.bql_parser.proofs.SmallParts.{two_small, called_small, listed_small}
@@ -67,20 +69,51 @@ leaf_some kind.False bs h = tt
 leaf_some kind.Null bs h = tt
 leaf_some k bs h = tt
 
+number_literal : (bs : List ℕ) (o : Option Decimal) → IsLiteralLeaf (numbers.number_by bs o)
+number_literal bs (Some d) = tt
+number_literal bs None = tt
+
+day_literal : (o : Option Day) → IfSome (fronts.day_leaf o) IsLiteralLeaf
+day_literal (Some d) = tt
+day_literal None = tt
+
+day_by_literal : (is : Bool) (bs : List ℕ) → IfSome (fronts.day_by is bs) IsLiteralLeaf
+day_by_literal true bs = day_literal (calendar.day_of (year_of bs) (month_of bs) (day_of bs))
+day_by_literal false bs = tt
+
+leaf_literal : (k : Kind) (bs : List ℕ) → IfSome (fronts.leaf_by k bs) IsLiteralLeaf
+leaf_literal kind.Number bs = number_literal bs _
+leaf_literal kind.Text bs = tt
+leaf_literal kind.Day bs = day_by_literal (is_day_form bs) bs
+leaf_literal kind.True bs = tt
+leaf_literal kind.False bs = tt
+leaf_literal kind.Null bs = tt
+leaf_literal k bs = tt
+
 abbrev IsSmallFound : Token × Leaf → Type 0
-IsSmallFound p = IsSmallLeaf p.1
+IsSmallFound p = IsSmallLeaf p.1 × IsLiteralLeaf p.1
 
-literal_by : (t : Token) (o : Option Leaf) → IfSome o IsSmallLeaf
+literal_by : (t : Token) (o : Option Leaf) → IfSome o IsSmallLeaf → IfSome o IsLiteralLeaf
     → IfSome (fronts.with_token t o) IsSmallFound
-literal_by t (Some l) h = h
-literal_by t None h = tt
+literal_by t (Some l) h k = (h, k)
+literal_by t None h k = tt
 
-keeps_literal : KeepsParts literal
-keeps_literal =
+abbrev IsMember : Part → Type 0
+IsMember p = IsSmallPart p × IsLiteralPart p
+
+keeps_member : Keeps IsMember literal
+keeps_member =
     keeps_then (told fronts.literal) (λ found. made (parts.leaf found.0 found.1))
     (keeps_told fronts.literal
-    (λ t short. literal_by t (fronts.leaf_of t) (leaf_some t.kind t.text short)))
-    (λ found small. keeps_made (parts.leaf found.0 found.1) (leaf_small found.0 found.1 small))
+    (λ t short. literal_by t (fronts.leaf_of t) (leaf_some t.kind t.text short)
+    (leaf_literal t.kind t.text)))
+    (λ found small. keeps_made (parts.leaf found.0 found.1)
+    (leaf_small found.0 found.1 small.0, small.1))
+
+keeps_literal : KeepsParts literal
+keeps_literal = record {
+  keeps = λ ts v rest all p. let m = keeps_member.keeps ts v rest all p in (m.0.0, m.1);
+}
 
 -- ---- lists of literals
 
@@ -97,15 +130,26 @@ takes_behind ts v rest p =
     omega (arith, one, more)
 
 abbrev AreFew : List Part → Type 0
-AreFew ps = AllByRecursion IsSmallPart ps × (length ps ≤ 65535)
+AreFew ps =
+    AllByRecursion IsSmallPart ps × (length ps ≤ 65535) × AllByRecursion IsLiteralPart ps
+
+members_small : (ps : List Part) → AllByRecursion IsMember ps → AllByRecursion IsSmallPart ps
+members_small [] h = tt
+members_small (p ∷ ps) h = (h.0.0, members_small ps h.1)
+
+members_literal : (ps : List Part) → AllByRecursion IsMember ps
+    → AllByRecursion IsLiteralPart ps
+members_literal [] h = tt
+members_literal (p ∷ ps) h = (h.0.1, members_literal ps h.1)
 
 literals_read : (ts : List Token) (ps : List Part) (rest : List Token) → AreSmallTokens ts
     → literals.reads ts ps rest → AreFew ps × AreSmallTokens rest
 literals_read ts ps rest all p =
-    let kept = (keeps_list literal keeps_literal).keeps ts ps rest all p in
+    let kept = (keeps_list literal keeps_member).keeps ts ps rest all p in
     let counted = list_counted literal takes_literal takes_behind ts ps rest p in
     let few = all.few in
-    ((kept.0.0, omega (arith, counted, few)), kept.1)
+    let members = kept.0.0 in
+    ((members_small ps members, omega (arith, counted, few), members_literal ps members), kept.1)
 
 keeps_literals : Keeps AreFew literals
 keeps_literals = record { keeps = literals_read }
@@ -117,7 +161,7 @@ keeps_list_behind left h =
     (λ opening s. keeps_then literals _ keeps_literals
     (λ items few. keeps_then (token kind.CloseParenthesis) _ (keeps_token kind.CloseParenthesis)
     (λ close s. keeps_made (listed left items close)
-    (listed_small left items close h few.0 few.1)))))
+    (listed_small left items close h few.0 few.1 few.2)))))
 
 keeps_with_room : (room : ℕ) (a : Form Token Part) → KeepsParts a → KeepsParts (with_room room a)
 keeps_with_room zero a h = keeps_nothing

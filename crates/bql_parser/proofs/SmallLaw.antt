@@ -14,6 +14,7 @@ use Rattle.bql_tree.specs.declared.tree.UnaryOperator.TheVariants as unary
 use Rattle.bql_parser.specs.Answer.{query_of}
 use Rattle.bql_parser.specs.Asked.{Asked, Target, Item, ItemKind, target_item, tree_item}
 use Rattle.bql_parser.specs.Small.{IsSmallLeaf, IsSmallUnary, IsSmallIn, IsSmallTree, AreSmallTrees}
+use Rattle.bql_parser.specs.Small.{IsLiteralLeaf, IsLiteral, AreLiterals}
 use Rattle.bql_parser.specs.Small.{IsSmallTarget, IsSmallKind, IsSmallItem, AreSmallItems, IsSmall}
 use Rattle.bql_parser.specs.Kept.{QueriesAreSmall}
 
@@ -29,12 +30,31 @@ unary_prop (unary.Matches pattern) = le_prop
 unary_prop (unary.Root n) = hlevel props
 unary_prop op = hlevel props
 
+literal_leaf_prop : (l : Leaf) → IsProp (IsLiteralLeaf l)
+literal_leaf_prop (leaf.Column c) = hlevel props
+literal_leaf_prop leaf.Rows = hlevel props
+literal_leaf_prop (leaf.Meta entry key) = hlevel props
+literal_leaf_prop (leaf.HasAccount pattern) = hlevel props
+literal_leaf_prop l = hlevel props
+
+literal_prop : (t : Tree ℕ) → IsProp (IsLiteral t)
+literal_prop (node at (leaf_of l) parts) = literal_leaf_prop l
+literal_prop (node at (one_of op) parts) = hlevel props
+literal_prop (node at (two_of op) parts) = hlevel props
+literal_prop (node at (call_of f) parts) = hlevel props
+
+literals_prop : (ts : Trees ℕ) → IsProp (AreLiterals ts)
+literals_prop no_trees = hlevel props
+literals_prop (trees t ts) =
+    let one = literal_prop t in let others = literals_prop ts in hlevel (props, one, others)
+
 in_prop : (op : Operation) (ts : Trees ℕ) → IsProp (IsSmallIn op ts)
 in_prop (leaf_of l) ts = leaf_prop l
 in_prop (one_of op) ts = unary_prop op
 in_prop (two_of op) ts = hlevel props
 in_prop (call_of function.OneOf) no_trees = hlevel props
-in_prop (call_of function.OneOf) (trees t members) = le_prop
+in_prop (call_of function.OneOf) (trees t members) =
+    let literals = literals_prop members in hlevel (props, le_prop, literals)
 in_prop (call_of f) ts = hlevel props
 
 mutual

@@ -1,4 +1,5 @@
 -- What is made of small parts is small.
+use Rattle.std.proofs.Common.{◌++◌}
 use Rattle.std.proofs.Common.{◌≡◌, ℕ, ℤ, pos, negsuc, suc, ◌+◌, ◌≤◌, Bool, true, false, ◌&&◌}
 use Rattle.std.proofs.Common.{List, [], ◌∷◌, length, Option, Some, None, IfSome, Result, Ok}
 use Rattle.std.proofs.Common.{Err, ap, subst, refl, arith, if◌then◌else◌, ◌==◌}
@@ -27,7 +28,7 @@ use Rattle.bql_tree.specs.declared.tree.Leaf.TheVariants as leaf
 use Rattle.bql_tree.specs.declared.tree.UnaryOperator.{UnaryOperator}
 use Rattle.bql_tree.specs.declared.tree.UnaryOperator.TheVariants as unary
 use Rattle.bql_parser.specs.Small.{IsShort, IsSmallLeaf, IsSmallUnary, IsSmallIn, IsSmallTree}
-use Rattle.bql_parser.specs.Small.{AreSmallTrees, count}
+use Rattle.bql_parser.specs.Small.{AreSmallTrees, count, IsLiteral, AreLiterals}
 use Rattle.bql_parser.proofs.SmallForms.{all_pushed, pushed_length}
 
 -- P holds of what is found
@@ -363,21 +364,64 @@ called_small scope t ps close all =
 
 -- ---- lists
 
-members_few : (n : ℕ) (ts : List (Tree ℕ)) → length ts ≡ suc n → n ≤ 65535
+abbrev pub IsLiteralPart : Part → Type 0
+IsLiteralPart p = Found IsLiteral p.tree
+
+-- behind the first all are literals
+abbrev HaveMembers : List (Tree ℕ) → Type 0
+HaveMembers [] = ⊥
+HaveMembers (t ∷ ts) = AllByRecursion IsLiteral ts
+
+member_pushed : (ts : List (Tree ℕ)) (t : Tree ℕ) → HaveMembers ts → IsLiteral t
+    → HaveMembers (ts ++ t ∷ [])
+member_pushed [] t h k = absurd h
+member_pushed (u ∷ ts) t h k = all_pushed IsLiteral ts t h k
+
+members_pushed : (r : Result (List (Tree ℕ) × Tree ℕ) PartCause)
+    → Found (Both HaveMembers IsLiteral) r → Found HaveMembers (call.pushed r)
+members_pushed (Ok p) h = member_pushed p.0 p.1 h.0 h.1
+members_pushed (Err c) h = tt
+
+members_from : (r : Result (List (Tree ℕ)) PartCause) (ps : List Part) → Found HaveMembers r
+    → AllByRecursion IsLiteralPart ps → Found HaveMembers (steps call.one_more r ps)
+members_from r [] h all = h
+members_from r (p ∷ ps) h all =
+    members_from (call.one_more r p) ps
+    (members_pushed (both r (parts.not_null p.tree))
+    (both_found HaveMembers IsLiteral r (parts.not_null p.tree) h
+    (not_null_found IsLiteral p.tree all.0))) all.1
+
+-- what is looked for, before any member
+first_alone : (r : Result (Tree ℕ) PartCause) → Found HaveMembers (call.pushed (both (Ok []) r))
+first_alone (Ok t) = tt
+first_alone (Err c) = tt
+
+members_found : (left : Part) (items : List Part) → AllByRecursion IsLiteralPart items
+    → Found HaveMembers (call.all_of (left ∷ items))
+members_found left items all =
+    members_from (call.one_more (Ok []) left) items (first_alone (parts.not_null left.tree)) all
+
+literals_all : (ts : List (Tree ℕ)) → AllByRecursion IsLiteral ts → AreLiterals (all_trees ts)
+literals_all [] h = tt
+literals_all (t ∷ ts) h = (h.0, literals_all ts h.1)
+
+members_few : (n : ℕ) (ts : List (Tree ℕ)) → length ts ≡ suc n → n ≤ 65535 → HaveMembers ts
     → IsSmallIn (call_of function.OneOf) (all_trees ts)
-members_few n [] e few = tt
-members_few n (t ∷ ts) e few = let c = count_all ts in omega (arith, c, e, few)
+members_few n [] e few h = absurd h
+members_few n (t ∷ ts) e few h =
+    let c = count_all ts in (omega (arith, c, e, few), literals_all ts h)
 
 list_found : (at n : ℕ) (r : Result (List (Tree ℕ)) PartCause) → n ≤ 65535
-    → Found (AreTrees (suc n)) r → Found IsSmallTree (call.call_tree at function.OneOf r)
-list_found at n (Ok ts) few h = (members_few n ts h.1 few, small_all ts h.0)
-list_found at n (Err c) few h = tt
+    → Found (AreTrees (suc n)) r → Found HaveMembers r
+    → Found IsSmallTree (call.call_tree at function.OneOf r)
+list_found at n (Ok ts) few h k = (members_few n ts h.1 few k, small_all ts h.0)
+list_found at n (Err c) few h k = tt
 
 pub listed_small : (left : Part) (items : List Part) (close : Token) → IsSmallPart left
     → AllByRecursion IsSmallPart items → length items ≤ 65535
-    → IsSmallPart (call.listed left items close)
-listed_small left items close h all few =
+    → AllByRecursion IsLiteralPart items → IsSmallPart (call.listed left items close)
+listed_small left items close h all few literals =
     high_small left.start close.end (parts.above left.height)
     (call.plain left.start function.OneOf (left ∷ items))
     (list_found left.start (length items) (call.all_of (left ∷ items)) few
-    (all_found (left ∷ items) (h, all)))
+    (all_found (left ∷ items) (h, all)) (members_found left items literals))

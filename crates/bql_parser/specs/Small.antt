@@ -36,11 +36,32 @@ IsSmallUnary (unary.Matches pattern) = IsShort pattern
 IsSmallUnary (unary.Root n) = (1 ≤ n) × (n ≤ MOST_COMPONENTS)
 IsSmallUnary op = Unit {0}
 
--- over these parts; behind what is looked for in a list stand its members, at most 65535
+-- ---- members of lists
+
+-- a number, a text, a day, a truth value or NULL
+abbrev pub IsLiteralLeaf : Leaf → Type 0
+IsLiteralLeaf (leaf.Column c) = ⊥
+IsLiteralLeaf leaf.Rows = ⊥
+IsLiteralLeaf (leaf.Meta entry key) = ⊥
+IsLiteralLeaf (leaf.HasAccount pattern) = ⊥
+IsLiteralLeaf l = Unit {0}
+
+abbrev pub IsLiteral : Tree ℕ → Type 0
+IsLiteral (node at (leaf_of l) parts) = IsLiteralLeaf l
+IsLiteral t = ⊥
+
+abbrev pub AreLiterals : Trees ℕ → Type 0
+AreLiterals no_trees = Unit {0}
+AreLiterals (trees t ts) = IsLiteral t × AreLiterals ts
+
+-- ---- operations
+
+-- over these parts; behind what is looked for in a list stand its members, literals, at most 65535
 abbrev pub IsSmallIn : Operation → Trees ℕ → Type 0
 IsSmallIn (leaf_of l) ts = IsSmallLeaf l
 IsSmallIn (one_of op) ts = IsSmallUnary op
-IsSmallIn (call_of function.OneOf) (trees t members) = count members ≤ LARGEST_QUERY
+IsSmallIn (call_of function.OneOf) (trees t members) =
+    (count members ≤ LARGEST_QUERY) × AreLiterals members
 IsSmallIn op ts = Unit {0}
 
 -- an expression in which all that is written is small

@@ -3,12 +3,14 @@ use Rattle.std.specs.Prelude.{ℕ, List, map, Option, Vec}
 use Rattle.std.specs.Option.{option_map}
 use Rattle.std.specs.declared.alloc.Global.{Global}
 use Rattle.bql_plan.specs.Labels.{label_of}
+use Rattle.bql_plan.specs.Plan as numbered
 use Rattle.bql_plan.specs.Planned as planned
 use Rattle.bql_plan.specs.declared.plan.Gathered.{Gathered}
+use Rattle.bql_plan.specs.declared.plan.Numbering.{Numbering}
 use Rattle.bql_plan.specs.declared.plan.Plan.{Plan}
 use Rattle.bql_plan.specs.declared.plan.Shaped.{Shaped}
 use Rattle.bql_tree.specs.Tree.{Tree, tree_of}
-use Rattle.bql_types.specs.Keys.{lent_tree}
+use Rattle.bql_types.specs.Keys.{lent_tree, lent_trees, grouping_of}
 use Rattle.bql_types.specs.declared.grouped.Key.{Key}
 
 abbrev pub shaped_of : Shaped → planned.Shaped
@@ -29,6 +31,14 @@ gathered_of g = record { aggregate = g.aggregate; input = shaped_if g.input }
 
 abbrev pub all_gathered_of : Vec Gathered Global → List planned.Gathered
 all_gathered_of v = map gathered_of v.items
+
+abbrev pub numbered_of : Numbering → numbered.Plan
+numbered_of n = record {
+  shown = lent_trees n.shown.items;
+  order = n.order.items;
+  grouping = grouping_of n.grouping;
+  aggregates = lent_trees n.aggregates.items;
+}
 
 abbrev pub plan_of : Plan → planned.Plan
 plan_of p = record {

@@ -117,7 +117,7 @@ fn first_of<'q, 'a>(es: &'q [Expr<'a>]) -> Option<Key<'q, 'a>>
 }
 
 /// The first part of an expression, if it has any.
-pub(crate) fn first_part<'q, 'a>(e: &'q Expr<'a>) -> Option<Key<'q, 'a>>
+pub fn first_part<'q, 'a>(e: &'q Expr<'a>) -> Option<Key<'q, 'a>>
     ensures { lent_if result ≡ part.first_part (tree_of e.now) }
 {
     match e {

@@ -112,6 +112,16 @@ pub fn shapes_of(alloc: Global, bounds: &Bounds, e: &Expr<'_>) -> Result<Shapes,
     }
 }
 
+/// The shape of an expression, if it has one.
+#[tactic(auto, using(crate::proofs::LabelFacts::root_is))]
+pub fn shape_in(alloc: Global, bounds: &Bounds, e: &Expr<'_>) -> Result<Option<Shape>, AllocError>
+    requires { AreBounds bounds.now }
+    ensures { IfOk result (λ r. r ≡ rule.shape_of bounds.now (tree_of e.now)) }
+{
+    let shapes = shapes_of(alloc, bounds, e)?;
+    Ok(root(&shapes))
+}
+
 /// The same of the parts of a call.
 #[cycle(labelled)]
 fn all_shapes_of(alloc: Global, bounds: &Bounds, es: &[Expr<'_>]) -> Result<Vec<Shapes>, AllocError>

@@ -38,5 +38,6 @@ mod labels;
 mod laws;
 mod plan;
 
-pub use labels::{Shapes, shapes_of};
-pub use plan::{Gathered, Plan, Shaped, planned};
+pub use exprs::first_part;
+pub use labels::{Shapes, shape_in, shapes_of};
+pub use plan::{Gathered, Numbering, Plan, Shaped, numbered, planned};

@@ -4,6 +4,7 @@ ghost use Rattle.std.specs.Option.{option_map};
 ghost use Rattle.bql_parser.specs.Answer.{query_of};
 ghost use Rattle.bql_parser.specs.View as answer;
 ghost use Rattle.bql_plan.specs.Kept as view;
+ghost use Rattle.bql_plan.specs.Plan.{plan};
 ghost use Rattle.bql_plan.specs.Planned as rule;
 ghost use Rattle.bql_plan.specs.Whole.{IsWholePlan};
 ghost use Rattle.bql_types.specs.Keys.{lent_tree, lent_trees};
@@ -11,11 +12,12 @@ ghost use Rattle.query_columns.specs.ColumnShape.{AreBounds};
 
 use crate::exprs::{aggregates, first_part, order, targets_shown, with_items};
 use crate::labels::{Shapes, shapes_of};
+use bql_parser::Query;
 use bql_tree::Expr;
 use bql_types::Typed;
 use bql_types::gathered::aggregate_in;
 use bql_types::grouped::Key;
-use bql_types::grouping::grouped_by;
+use bql_types::grouping::{Grouping, grouped_by};
 use limits::Bounds;
 use query_values::Aggregate;
 use std::alloc::{AllocError, Global};
@@ -34,7 +36,20 @@ pub struct Gathered<'q, 'a> {
     pub input: Option<Shaped<'q, 'a>>,
 }
 
-/// What is computed for a query. All expressions are lent from it.
+/// What is computed for a query, numbered as a program has it. All expressions are lent from it.
+#[derive(Drop)]
+pub struct Numbering<'q, 'a> {
+    /// The targets, and behind them what only orders rows, equal ones once.
+    pub shown: Vec<Key<'q, 'a>>,
+    /// What orders rows, as indices of what is shown.
+    pub order: Vec<usize>,
+    /// How rows come to be, and what they are grouped by.
+    pub grouping: Grouping<'q, 'a>,
+    /// The aggregates of all that is shown, in order of reading, equal ones once.
+    pub aggregates: Vec<Key<'q, 'a>>,
+}
+
+/// The same with shapes.
 #[derive(Drop)]
 pub struct Plan<'q, 'a> {
     /// Which transactions pass.
@@ -134,6 +149,27 @@ fn all_with_inputs<'q, 'a>(
         all.push(with_input(alloc, bounds, *key)?)?;
     }
     Ok(all)
+}
+
+/// What is computed for a query, numbered as a program has it.
+pub fn numbered<'q, 'a>(
+    alloc: Global,
+    query: &'q Query<'a>,
+) -> Result<Numbering<'q, 'a>, AllocError>
+    ensures { IfOk result (λ n. view.numbered_of n ≡ plan (query_of query.now)) }
+{
+    let targets = query.targets.as_slice();
+    let items = query.order.items.as_slice();
+    let shown = with_items(targets_shown(alloc, targets)?, items)?;
+    let order = order(alloc, shown.as_slice(), items)?;
+    let grouping = grouped_by(alloc, targets, &query.group)?;
+    let aggregates = aggregates(alloc, shown.as_slice())?;
+    Ok(Numbering {
+        shown,
+        order,
+        grouping,
+        aggregates,
+    })
 }
 
 /// What is computed for a query that has a type.

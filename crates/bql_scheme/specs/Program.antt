@@ -15,10 +15,10 @@ use Rattle.query_code.specs.declared.program.Mode.TheVariants.{Plain, Grouped}
 use Rattle.query_code.specs.declared.program.Output.{Output}
 use Rattle.query_code.specs.declared.program.Parts.{Parts}
 use Rattle.query_values.specs.declared.operation.Aggregate.{Aggregate}
-use Rattle.bql_scheme.specs.Code.{code, all_code, depth, all_depth}
-use Rattle.bql_scheme.specs.Core.{Core, truth, loading, both}
-use Rattle.bql_scheme.specs.Lowered.{Gathered, of_a_row, lowered, all_lowered}
-use Rattle.bql_scheme.specs.Pool.{used, all_used, pooled}
+use Rattle.bql_code.specs.Code.{code, all_code, depth, all_depth}
+use Rattle.bql_code.specs.Core.{Core, truth, loading, both}
+use Rattle.bql_lowering.specs.Lowered.{Gathered, of_a_row, lowered, all_lowered}
+use Rattle.bql_code.specs.Pool.{used, all_used, pooled}
 
 -- ---- what the sections compute
 

@@ -1,0 +1,9 @@
+use Rattle.bql_code.proofs.FormFacts.{text_fits}
+use Rattle.std.proofs.Math.Logic.{∥∥₁_elim, ∥∥₁_prop}
+use Rattle.bql_code.proofs.entry.Entry.text.Goals as goal
+
+pub invariant_of-result : goal.invariant_of-result
+invariant_of-result c = record {
+  has_form =
+      ∥∥₁_elim c.args.text.has_form ∥∥₁_prop (λ fits. ∣ text_fits c.args.text.text fits ∣₁);
+}

@@ -1,0 +1,45 @@
+//! What a section is to compute, before its instructions stand at places.
+
+use crate::entry::Entry;
+use crate::literal::ShortText;
+use bql_tree::MetadataOwner;
+use query_code::Unary;
+use query_columns::Column;
+use query_values::Binary;
+
+/// What puts a value on the stack.
+#[derive(Debug, Drop)]
+pub enum Load<'a> {
+    Truth(bool),
+    Constant(Entry<'a>),
+    Column(Column),
+    /// A text of metadata, by its key.
+    Metadata(MetadataOwner, ShortText<'a>),
+    /// A key of the group, by its index.
+    Key(u8),
+    /// An aggregate of the group, by its index.
+    Aggregate(u8),
+}
+
+/// An operation on one value.
+#[derive(Debug, Drop)]
+pub enum Change<'a> {
+    /// By itself.
+    Plain(Unary),
+    /// Whether a text matches a pattern.
+    Matches(ShortText<'a>),
+    /// Whether some member of a set does.
+    SomeMatch(ShortText<'a>),
+    /// Whether a value is in a list.
+    Among(Entry<'a>),
+}
+
+/// What a section is to compute.
+#[derive(Debug, Drop)]
+pub enum Core<'a> {
+    Load(Load<'a>),
+    Change(Change<'a>, Box<Core<'a>>),
+    Join(Binary, Box<Core<'a>>, Box<Core<'a>>),
+    And(Box<Core<'a>>, Box<Core<'a>>),
+    Or(Box<Core<'a>>, Box<Core<'a>>),
+}

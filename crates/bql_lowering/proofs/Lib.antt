@@ -1,0 +1,2 @@
+mod ListFacts
+mod CallFacts

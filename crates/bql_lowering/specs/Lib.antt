@@ -1,0 +1,4 @@
+pub mod Kind
+pub mod Lowered
+pub mod Listed
+pub mod Kept

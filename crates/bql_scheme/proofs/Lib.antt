@@ -1,2 +1,0 @@
-pub mod PoolFacts
-mod Examples

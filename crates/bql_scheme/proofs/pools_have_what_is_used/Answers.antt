@@ -1,6 +1,0 @@
-use Rattle.std.proofs.Common.{[]}
-use Rattle.bql_scheme.proofs.PoolFacts.{have_what_is_used}
-use Rattle.bql_scheme.proofs.pools_have_what_is_used.Goals as goal
-
-pub returns : goal.returns
-returns c = have_what_is_used []
