@@ -1,0 +1,2 @@
+pub mod CoreShape
+pub mod Shaped

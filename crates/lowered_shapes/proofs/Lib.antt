@@ -1,0 +1,6 @@
+mod ConstantFacts
+mod OperatorFacts
+mod ListFacts
+mod ExpressionFacts
+mod TypedFacts
+mod ReadFacts
