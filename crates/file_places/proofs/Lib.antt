@@ -1,0 +1,2 @@
+pub mod LengthFacts
+pub mod SuffixFacts

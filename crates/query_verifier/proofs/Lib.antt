@@ -1,0 +1,2 @@
+mod FileFacts
+mod VerdictFacts

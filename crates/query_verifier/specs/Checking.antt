@@ -1,0 +1,63 @@
+-- Which bytes are accepted, and why others aren't.
+use Rattle.std.specs.Prelude.{◌≡◌, ℕ, true, List, map, Result, Ok, Err}
+use Rattle.refusals.specs.declared.refusal.Refusal.{Refusal}
+use Rattle.refusals.specs.declared.refusal.Refusal.TheVariants.{OutOfMemory, Refused}
+use Rattle.query_columns.specs.ColumnShape.{AreBounds}
+use Rattle.query_code.specs.QueryFile.{IsFile, decoded}
+use Rattle.query_code.specs.declared.program.Parts.{Parts}
+use Rattle.plain_machine.specs.Pool.{pattern_at, pattern_in}
+use Rattle.well_shaped.specs.Laws.{is_some}
+use Rattle.well_shaped.specs.Program.{IsDepth, IsWellShaped}
+use Rattle.verified_program.specs.declared.checked.Checked.{Checked}
+use Rattle.verify_shapes.specs.declared.cause.CodeCause.{CodeCause}
+use Rattle.verify_shapes.specs.declared.cause.CodeCause.TheVariants as cause
+use Rattle.verify_programs.specs.Depths.{HasCauseAt}
+use Rattle.verify_programs.specs.declared.spot.Fault.{Fault}
+use Rattle.verify_programs.specs.declared.spot.Spot.{Spot}
+use Rattle.verify_programs.specs.declared.spot.Spot.TheVariants as spot
+use Rattle.query_verifier.specs.declared.cause.VerifierCause.{VerifierCause}
+use Rattle.query_verifier.specs.declared.cause.VerifierCause.TheVariants.{Code, File}
+use Rattle.query_verifier.specs.declared.checking.Verdict.{Verdict}
+
+module _ (p : Parts) where
+  -- The cause stands at the spot: bounds outside their limits, a pattern, or what the code of the
+  -- program has there.
+  abbrev pub StandsAt : CodeCause → Spot → Type 0
+  StandsAt cause.Bounds spot.Bounds = AreBounds p.bounds → ⊥
+  StandsAt cause.Bounds s = ⊥
+  StandsAt cause.Pattern (spot.Pool n) = is_some (pattern_at p.code.pool n) ≡ true
+  StandsAt cause.Pattern s = ⊥
+  StandsAt c s = HasCauseAt p c s
+
+  -- but for patterns, of which nothing is said, the program isn't well shaped
+  abbrev pub HasNoShapes : CodeCause → Type 0
+  HasNoShapes cause.Pattern = Unit {0}
+  HasNoShapes c = IsWellShaped p → ⊥
+
+  abbrev pub Verifies : Result Verdict (Refusal Fault) → Type 0
+  Verifies (Ok v) = (v.patterns ≡ map pattern_in p.code.pool) × IsDepth p v.depth
+  Verifies (Err OutOfMemory) = Unit {0}
+  Verifies (Err (Refused f)) = StandsAt f.cause f.spot × HasNoShapes f.cause
+
+-- The bytes are the file of a program that isn't accepted for a cause that stands somewhere in it.
+pub record IsRefused (bytes : List ℕ) (c : CodeCause) : Type 0 where
+  pub parts : Parts
+  pub is_file : IsFile bytes parts
+  pub spot : Spot
+  pub stands : StandsAt parts c spot
+  pub no_shapes : HasNoShapes parts c
+
+-- The program whose file the bytes are; or the first field that keeps them from being one, or why
+-- their program isn't accepted.
+abbrev pub Checks : List ℕ → Result Checked (Refusal VerifierCause) → Type 0
+Checks bytes (Ok checked) = IsFile bytes checked.program.parts
+Checks bytes (Err OutOfMemory) = Unit {0}
+Checks bytes (Err (Refused (File c))) = decoded bytes ≡ Err c
+Checks bytes (Err (Refused (Code c place))) = IsRefused bytes c
+
+-- accepted, unless memory lacks or a pattern isn't built
+abbrev pub IsAccepted : Result Checked (Refusal VerifierCause) → Type 0
+IsAccepted (Ok checked) = Unit {0}
+IsAccepted (Err OutOfMemory) = Unit {0}
+IsAccepted (Err (Refused (Code cause.Pattern place))) = Unit {0}
+IsAccepted (Err (Refused c)) = ⊥

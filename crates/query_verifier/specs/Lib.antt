@@ -1,0 +1,3 @@
+pub mod VerifierCause
+pub mod Patterns
+pub mod Checking
