@@ -1,0 +1,3 @@
+pub mod Stands
+pub mod Ends
+pub mod Turns

@@ -1,0 +1,209 @@
+//! What comes between two sections.
+ghost use Rattle.std.specs.Prelude.{◌≡◌, ◌≢◌, ◌<◌, ◌+◌, [], Some, None, OnOk, drop, length, reverse};
+ghost use Rattle.std.specs.Prelude.{option_and_then, slice_get};
+ghost use Rattle.plain_machine.specs.PlainMachine.{Fault, begin_filter, begin_last, grouped_with};
+ghost use Rattle.plain_machine.specs.PlainMachine.{kept_with, running_with, with_row};
+ghost use Rattle.query_runs.specs.Ends.{filter_ends, last_ends, row_begins, row_ends};
+ghost use Rattle.query_runs.specs.Stands.{keeps, kept_in, rows_in, stand_of};
+
+use crate::run::{Inputs, Run, Stage};
+use bean_base::List;
+use query_code::Mode;
+use query_columns::Column;
+use query_values::Aggregate;
+use query_values::comparison::is_true;
+use std::alloc::{AllocError, Global};
+
+/// Goes to the next group, or to the end.
+fn start_group(alloc: Global, input: &Inputs<'_, '_>, run: &mut Run<'_>) -> Result<(), AllocError>
+    requires { begin_last input.now.parts.now (drop run.old.group run.old.groups)
+        run.old.rows.items ≢ Fault }
+    ensures stand { OnOk result (stand_of (rows_in input.now) run.new ≡ begin_last
+        input.now.parts.now (drop run.old.group run.old.groups) run.old.rows.items) }
+    ensures finders { run.new.finders ≡ run.old.finders }
+    ensures room { run.new.frame.stack.room ≡ run.old.frame.stack.room }
+{
+    if run.group < run.groups.len() {
+        run.frame.begin(alloc)?;
+        run.stage = Stage::Last;
+    } else {
+        run.stage = Stage::Done;
+    }
+    Ok(())
+}
+
+/// Goes to the next posting, or to the groups.
+pub fn start_row(alloc: Global, input: &Inputs<'_, '_>, run: &mut Run<'_>) -> Result<(), AllocError>
+    requires { begin_filter input.now.parts.now (drop run.old.row (rows_in input.now))
+        (kept_in run.old) ≢ Fault }
+    ensures stand { OnOk result (stand_of (rows_in input.now) run.new ≡ begin_filter
+        input.now.parts.now (drop run.old.row (rows_in input.now)) (kept_in run.old)) }
+    ensures finders { run.new.finders ≡ run.old.finders }
+    ensures room { run.new.frame.stack.room ≡ run.old.frame.stack.room }
+{
+    if run.row < input.ledger.len() {
+        run.frame.begin(alloc)?;
+        run.stage = Stage::Filter;
+        return Ok(());
+    }
+    run.group = 0;
+    start_group(alloc, input, run)
+}
+
+/// Keeps what a section left as a row of the answer.
+fn keep_row(alloc: Global, run: &mut Run<'_>) -> Result<(), AllocError>
+    ensures kept { OnOk result
+        (kept_in run.new ≡ with_row (kept_in run.old) (reverse run.old.frame.stack.values)) }
+    ensures row { run.new.row ≡ run.old.row }
+    ensures group { run.new.group ≡ run.old.group }
+    ensures finders { run.new.finders ≡ run.old.finders }
+    ensures room { run.new.frame.stack.room ≡ run.old.frame.stack.room }
+{
+    let width = run.frame.stack.len();
+    let values = run.frame.stack.take_top(alloc, width)?;
+    run.rows.push(List::new(values))?;
+    Ok(())
+}
+
+/// Gathers what a row section left: keys, and inputs above them.
+fn gather(alloc: Global, input: &Inputs<'_, '_>, run: &mut Run<'_>) -> Result<(), AllocError>
+    requires { grouped_with (keeps input.now.parts.now) input.now.parts.now (kept_in run.old)
+        (reverse run.old.frame.stack.values) ≢ None }
+    ensures kept { OnOk result (grouped_with (keeps input.now.parts.now) input.now.parts.now
+        (kept_in run.old) (reverse run.old.frame.stack.values) ≡ Some (kept_in run.new)) }
+    ensures row { run.new.row ≡ run.old.row }
+    ensures finders { run.new.finders ≡ run.old.finders }
+    ensures room { run.new.frame.stack.room ≡ run.old.frame.stack.room }
+{
+    let count = input.parts.code.keys as usize;
+    let above = run.frame.stack.len() - count;
+    let inputs = run.frame.stack.take_top(alloc, above)?;
+    let keys = run.frame.stack.take_top(alloc, count)?;
+    run.groups
+        .put(input.parts.code.aggregates.as_slice(), keys, &inputs)
+}
+
+/// Keeps what a row section left: a row of the answer, or a member of a group.
+fn keep(alloc: Global, input: &Inputs<'_, '_>, run: &mut Run<'_>) -> Result<(), AllocError>
+    requires { kept_with (keeps input.now.parts.now) input.now.parts.now (kept_in run.old)
+        run.old.frame.stack.values ≢ None }
+    ensures kept { OnOk result (kept_with (keeps input.now.parts.now) input.now.parts.now
+        (kept_in run.old) run.old.frame.stack.values ≡ Some (kept_in run.new)) }
+    ensures row { run.new.row ≡ run.old.row }
+    ensures finders { run.new.finders ≡ run.old.finders }
+    ensures room { run.new.frame.stack.room ≡ run.old.frame.stack.room }
+{
+    match input.parts.mode {
+        Mode::Plain => keep_row(alloc, run),
+        Mode::Grouped => gather(alloc, input, run),
+    }
+}
+
+/// Goes to the posting behind this one.
+fn next_row(input: &Inputs<'_, '_>, run: &mut Run<'_>)
+    requires { run.old.row < length (rows_in input.now) }
+    ensures row { run.new.row ≡ run.old.row + 1 }
+    ensures kept { kept_in run.new ≡ kept_in run.old }
+    ensures finders { run.new.finders ≡ run.old.finders }
+    ensures frame { run.new.frame ≡ run.old.frame }
+{
+    let is_there = run.row < input.ledger.len();
+    prove!(is_there);
+    run.row += 1;
+}
+
+/// Goes on behind the end of the row section.
+pub fn end_row(alloc: Global, input: &Inputs<'_, '_>, run: &mut Run<'_>) -> Result<(), AllocError>
+    requires there { run.old.row < length (rows_in input.now) }
+    requires fine { row_ends input.now.parts.now (drop run.old.row (rows_in input.now))
+        (kept_in run.old) run.old.frame.stack.values ≢ Fault }
+    ensures stand { OnOk result (stand_of (rows_in input.now) run.new ≡ row_ends
+        input.now.parts.now (drop run.old.row (rows_in input.now)) (kept_in run.old)
+        run.old.frame.stack.values) }
+    ensures finders { run.new.finders ≡ run.old.finders }
+    ensures room { run.new.frame.stack.room ≡ run.old.frame.stack.room }
+{
+    keep(alloc, input, run)?;
+    next_row(input, run);
+    start_row(alloc, input, run)
+}
+
+/// Begins the row section at a posting that passes; one without instructions ends at once.
+fn begin_row(alloc: Global, input: &Inputs<'_, '_>, run: &mut Run<'_>) -> Result<(), AllocError>
+    requires there { run.old.row < length (rows_in input.now) }
+    requires fine { row_begins input.now.parts.now (drop run.old.row (rows_in input.now))
+        (kept_in run.old) ≢ Fault }
+    ensures stand { OnOk result (stand_of (rows_in input.now) run.new ≡ row_begins
+        input.now.parts.now (drop run.old.row (rows_in input.now)) (kept_in run.old)) }
+    ensures finders { run.new.finders ≡ run.old.finders }
+    ensures room { run.new.frame.stack.room ≡ run.old.frame.stack.room }
+{
+    run.frame.begin(alloc)?;
+    if input.parts.code.row.as_slice().is_empty() {
+        return end_row(alloc, input, run);
+    }
+    run.stage = Stage::Row;
+    Ok(())
+}
+
+/// The running inventory takes the position of the posting.
+fn take_position<'r>(input: &Inputs<'r, '_>, run: &mut Run<'r>) -> Result<(), AllocError>
+    requires there { run.old.row < length (rows_in input.now) }
+    requires fine { option_and_then (running_with run.old.running)
+        (slice_get (rows_in input.now) run.old.row) ≢ None }
+    ensures taken { OnOk result (option_and_then (running_with run.old.running)
+        (slice_get (rows_in input.now) run.old.row) ≡ Some run.new.running) }
+    ensures kept { kept_in run.new ≡ record {
+      running = run.new.running;
+      groups = run.old.groups;
+      rows = run.old.rows.items;
+    } }
+    ensures row { run.new.row ≡ run.old.row }
+    ensures finders { run.new.finders ≡ run.old.finders }
+    ensures room { run.new.frame.stack.room ≡ run.old.frame.stack.room }
+{
+    let position = input.ledger.cell(run.row, Column::Position);
+    Aggregate::SumInventory(8).add(&mut run.running, &position)
+}
+
+/// Goes on behind the end of the filter.
+pub fn end_filter<'r>(
+    alloc: Global,
+    input: &Inputs<'r, '_>,
+    run: &mut Run<'r>,
+) -> Result<(), AllocError>
+    requires there { run.old.row < length (rows_in input.now) }
+    requires fine { filter_ends input.now.parts.now (drop run.old.row (rows_in input.now))
+        (kept_in run.old) run.old.frame.stack.values ≢ Fault }
+    ensures stand { OnOk result (stand_of (rows_in input.now) run.new ≡ filter_ends
+        input.now.parts.now (drop run.old.row (rows_in input.now)) (kept_in run.old)
+        run.old.frame.stack.values) }
+    ensures finders { run.new.finders ≡ run.old.finders }
+    ensures room { run.new.frame.stack.room ≡ run.old.frame.stack.room }
+{
+    let passes = is_true(&run.frame.stack.pop());
+    if !passes {
+        next_row(input, run);
+        return start_row(alloc, input, run);
+    }
+    take_position(input, run)?;
+    begin_row(alloc, input, run)
+}
+
+/// Goes on behind the end of the last section.
+pub fn end_last(alloc: Global, input: &Inputs<'_, '_>, run: &mut Run<'_>) -> Result<(), AllocError>
+    requires there { run.old.group < length run.old.groups }
+    requires fine { last_ends input.now.parts.now (drop run.old.group run.old.groups)
+        run.old.rows.items run.old.frame.stack.values ≢ Fault }
+    ensures stand { OnOk result (stand_of (rows_in input.now) run.new ≡ last_ends
+        input.now.parts.now (drop run.old.group run.old.groups) run.old.rows.items
+        run.old.frame.stack.values) }
+    ensures finders { run.new.finders ≡ run.old.finders }
+    ensures room { run.new.frame.stack.room ≡ run.old.frame.stack.room }
+{
+    keep_row(alloc, run)?;
+    let is_there = run.group < run.groups.len();
+    prove!(is_there);
+    run.group += 1;
+    start_group(alloc, input, run)
+}

@@ -1,0 +1,44 @@
+//! What a run reads, and where it stands.
+
+use bean_base::List;
+use posting_table::Ledger;
+use query_code::Parts;
+use query_groups::Groups;
+use query_sections::{Finders, Frame};
+use query_values::Value;
+
+/// A program, and the ledger that it runs over.
+#[derive(Clone, Copy)]
+pub struct Inputs<'r, 'a> {
+    pub parts: &'r Parts<'r>,
+    pub ledger: &'r Ledger<'a>,
+}
+
+/// The section that a run is in.
+#[derive(Clone, Copy, Debug, Drop, PartialEq, Eq)]
+pub enum Stage {
+    /// At a posting, of which it is told whether it passes.
+    Filter,
+    /// At a posting that passes.
+    Row,
+    /// At a group, behind all postings.
+    Last,
+    Done,
+}
+
+/// A run that stands before an instruction, or has come to its end.
+#[derive(Drop)]
+pub struct Run<'r> {
+    pub stage: Stage,
+    /// The number of the posting.
+    pub row: usize,
+    /// The number of the group.
+    pub group: usize,
+    pub frame: Frame<'r>,
+    pub finders: Finders<'r>,
+    /// The sum of the positions of all postings that passed.
+    pub running: Value<'r>,
+    pub groups: Groups<'r>,
+    /// The rows that came out, in their order.
+    pub rows: Vec<List<Value<'r>>>,
+}
