@@ -131,7 +131,8 @@ takes_behind ts v rest p =
 
 abbrev AreFew : List Part → Type 0
 AreFew ps =
-    AllByRecursion IsSmallPart ps × (length ps ≤ 65535) × AllByRecursion IsLiteralPart ps
+    AllByRecursion IsSmallPart ps × (1 ≤ length ps) × (length ps ≤ 65535)
+    × AllByRecursion IsLiteralPart ps
 
 members_small : (ps : List Part) → AllByRecursion IsMember ps → AllByRecursion IsSmallPart ps
 members_small [] h = tt
@@ -148,8 +149,15 @@ literals_read ts ps rest all p =
     let kept = (keeps_list literal keeps_member).keeps ts ps rest all p in
     let counted = list_counted literal takes_literal takes_behind ts ps rest p in
     let few = all.few in
-    let members = kept.0.0 in
-    ((members_small ps members, omega (arith, counted, few), members_literal ps members), kept.1)
+    let members = kept.0.0 in (
+      (
+        members_small ps members,
+        kept.0.1,
+        omega (arith, counted, few),
+        members_literal ps members,
+      ),
+      kept.1,
+    )
 
 keeps_literals : Keeps AreFew literals
 keeps_literals = record { keeps = literals_read }
@@ -161,7 +169,7 @@ keeps_list_behind left h =
     (λ opening s. keeps_then literals _ keeps_literals
     (λ items few. keeps_then (token kind.CloseParenthesis) _ (keeps_token kind.CloseParenthesis)
     (λ close s. keeps_made (listed left items close)
-    (listed_small left items close h few.0 few.1 few.2)))))
+    (listed_small left items close h few.0 few.1 few.2 few.3)))))
 
 keeps_with_room : (room : ℕ) (a : Form Token Part) → KeepsParts a → KeepsParts (with_room room a)
 keeps_with_room zero a h = keeps_nothing

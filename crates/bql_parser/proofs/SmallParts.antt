@@ -405,23 +405,24 @@ literals_all : (ts : List (Tree ℕ)) → AllByRecursion IsLiteral ts → AreLit
 literals_all [] h = tt
 literals_all (t ∷ ts) h = (h.0, literals_all ts h.1)
 
-members_few : (n : ℕ) (ts : List (Tree ℕ)) → length ts ≡ suc n → n ≤ 65535 → HaveMembers ts
-    → IsSmallIn (call_of function.OneOf) (all_trees ts)
-members_few n [] e few h = absurd h
-members_few n (t ∷ ts) e few h =
-    let c = count_all ts in (omega (arith, c, e, few), literals_all ts h)
+members_few : (n : ℕ) (ts : List (Tree ℕ)) → length ts ≡ suc n → 1 ≤ n → n ≤ 65535
+    → HaveMembers ts → IsSmallIn (call_of function.OneOf) (all_trees ts)
+members_few n [] e some few h = absurd h
+members_few n (t ∷ ts) e some few h =
+    let c = count_all ts in
+    (omega (arith, c, e, some), omega (arith, c, e, few), literals_all ts h)
 
-list_found : (at n : ℕ) (r : Result (List (Tree ℕ)) PartCause) → n ≤ 65535
+list_found : (at n : ℕ) (r : Result (List (Tree ℕ)) PartCause) → 1 ≤ n → n ≤ 65535
     → Found (AreTrees (suc n)) r → Found HaveMembers r
     → Found IsSmallTree (call.call_tree at function.OneOf r)
-list_found at n (Ok ts) few h k = (members_few n ts h.1 few k, small_all ts h.0)
-list_found at n (Err c) few h k = tt
+list_found at n (Ok ts) some few h k = (members_few n ts h.1 some few k, small_all ts h.0)
+list_found at n (Err c) some few h k = tt
 
 pub listed_small : (left : Part) (items : List Part) (close : Token) → IsSmallPart left
-    → AllByRecursion IsSmallPart items → length items ≤ 65535
+    → AllByRecursion IsSmallPart items → 1 ≤ length items → length items ≤ 65535
     → AllByRecursion IsLiteralPart items → IsSmallPart (call.listed left items close)
-listed_small left items close h all few literals =
+listed_small left items close h all some few literals =
     high_small left.start close.end (parts.above left.height)
     (call.plain left.start function.OneOf (left ∷ items))
-    (list_found left.start (length items) (call.all_of (left ∷ items)) few
+    (list_found left.start (length items) (call.all_of (left ∷ items)) some few
     (all_found (left ∷ items) (h, all)) (members_found left items literals))

@@ -56,12 +56,12 @@ AreLiterals (trees t ts) = IsLiteral t × AreLiterals ts
 
 -- ---- operations
 
--- over these parts; behind what is looked for in a list stand its members, literals, at most 65535
+-- over these parts; behind what is looked for in a list stand its members, from 1 to 65535 literals
 abbrev pub IsSmallIn : Operation → Trees ℕ → Type 0
 IsSmallIn (leaf_of l) ts = IsSmallLeaf l
 IsSmallIn (one_of op) ts = IsSmallUnary op
 IsSmallIn (call_of function.OneOf) (trees t members) =
-    (count members ≤ LARGEST_QUERY) × AreLiterals members
+    (1 ≤ count members) × (count members ≤ LARGEST_QUERY) × AreLiterals members
 IsSmallIn op ts = Unit {0}
 
 -- an expression in which all that is written is small

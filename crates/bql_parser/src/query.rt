@@ -55,7 +55,7 @@ pub struct Draft<'a> {
 
 /// What is asked of the postings that pass: a SELECT, as it is written or as a JOURNAL or a
 /// BALANCES stands for it. It has from 1 to 255 targets, at most 255 items of GROUP BY and of ORDER
-/// BY, each, no text or list in it is longer than 65,535, and the members of lists are literals.
+/// BY, each, no text or list in it is longer than 65,535, and lists have members, all literals.
 #[derive(Debug, Drop)]
 pub struct Query<'a> {
     pub distinct: bool,
