@@ -60,9 +60,9 @@ ok_err p c e = cc
 no_file : (bytes : List ℕ) (p : Parts) (c : FileCause) → IsFile bytes p → decoded bytes ≡ Err c → ⊥
 no_file bytes p c is e = ok_err p c (sym (ap (refused bytes) (file_is bytes p is)) ∙ e)
 
-no_refusal : (bytes : List ℕ) (p : Parts) (c : CodeCause) → IsFile bytes p → IsWellShaped p
-    → IsRefused bytes c → (HasNoShapes p c → IsWellShaped p → ⊥) → ⊥
-no_refusal bytes p c is shaped r none =
+no_refusal : (bytes : List ℕ) (p : Parts) (c : CodeCause) (place : ℕ) → IsFile bytes p
+    → IsWellShaped p → IsRefused bytes c place → (HasNoShapes p c → IsWellShaped p → ⊥) → ⊥
+no_refusal bytes p c place is shaped r none =
     none (subst (λ q. HasNoShapes q c) (parts_same bytes r.parts p r.is_file is) r.no_shapes) shaped
 
 pub accepted : (bytes : List ℕ) (p : Parts) → IsFile bytes p → IsWellShaped p
@@ -72,4 +72,4 @@ accepted bytes p is shaped (Err OutOfMemory) h = tt
 accepted bytes p is shaped (Err (Refused (File c))) h = no_file bytes p c is h
 accepted bytes p is shaped (Err (Refused (Code cause.Pattern place))) h = tt
 accepted bytes p is shaped (Err (Refused (Code c place))) h =
-    no_refusal bytes p c is shaped h (λ none. none)
+    no_refusal bytes p c place is shaped h (λ none. none)

@@ -4,7 +4,9 @@ use Rattle.refusals.specs.declared.refusal.Refusal.{Refusal}
 use Rattle.refusals.specs.declared.refusal.Refusal.TheVariants.{OutOfMemory, Refused}
 use Rattle.query_columns.specs.ColumnShape.{AreBounds}
 use Rattle.query_code.specs.QueryFile.{IsFile, decoded}
+use Rattle.query_code.specs.declared.program.Code as program
 use Rattle.query_code.specs.declared.program.Parts.{Parts}
+use Rattle.file_places.specs.Places.{IsPlace, from_filter, from_last, from_pool, from_row}
 use Rattle.plain_machine.specs.Pool.{pattern_at, pattern_in}
 use Rattle.well_shaped.specs.Laws.{is_some}
 use Rattle.well_shaped.specs.Program.{IsDepth, IsWellShaped}
@@ -39,13 +41,23 @@ module _ (p : Parts) where
   Verifies (Err OutOfMemory) = Unit {0}
   Verifies (Err (Refused f)) = StandsAt f.cause f.spot × HasNoShapes f.cause
 
--- The bytes are the file of a program that isn't accepted for a cause that stands somewhere in it.
-pub record IsRefused (bytes : List ℕ) (c : CodeCause) : Type 0 where
+-- The spot is at this byte: there its entry or its instruction begins, or what follows the end of
+-- its section; the bounds stand behind the magic and the version.
+abbrev pub IsAt : List ℕ → program.Code → Spot → ℕ → Type 0
+IsAt bytes c spot.Bounds place = place ≡ 6
+IsAt bytes c (spot.Pool n) place = IsPlace bytes (from_pool c n) place
+IsAt bytes c (spot.Filter n) place = IsPlace bytes (from_filter c n) place
+IsAt bytes c (spot.Row n) place = IsPlace bytes (from_row c n) place
+IsAt bytes c (spot.Last n) place = IsPlace bytes (from_last c n) place
+
+-- The bytes are the file of a program that isn't accepted, for a cause that stands at this byte.
+pub record IsRefused (bytes : List ℕ) (c : CodeCause) (place : ℕ) : Type 0 where
   pub parts : Parts
   pub is_file : IsFile bytes parts
   pub spot : Spot
   pub stands : StandsAt parts c spot
   pub no_shapes : HasNoShapes parts c
+  pub at : IsAt bytes parts.code spot place
 
 -- The program whose file the bytes are; or the first field that keeps them from being one, or why
 -- their program isn't accepted.
@@ -53,7 +65,7 @@ abbrev pub Checks : List ℕ → Result Checked (Refusal VerifierCause) → Type
 Checks bytes (Ok checked) = IsFile bytes checked.program.parts
 Checks bytes (Err OutOfMemory) = Unit {0}
 Checks bytes (Err (Refused (File c))) = decoded bytes ≡ Err c
-Checks bytes (Err (Refused (Code c place))) = IsRefused bytes c
+Checks bytes (Err (Refused (Code c place))) = IsRefused bytes c place
 
 -- accepted, unless memory lacks or a pattern isn't built
 abbrev pub IsAccepted : Result Checked (Refusal VerifierCause) → Type 0

@@ -80,7 +80,7 @@ pub fn check_file(alloc: Global, bytes: &[u8]) -> Result<Checked<'_>, Refusal<Ve
         Err(Refusal::OutOfMemory) => Err(Refusal::OutOfMemory),
         Err(Refusal::Refused(fault)) => Err(Refusal::Refused(VerifierCause::Code {
             cause: fault.cause,
-            place: place_of(bytes.len(), &program.parts.code, fault.spot),
+            place: place_of(bytes, &program.parts, fault.spot),
         })),
     }
 }
