@@ -1,3 +1,5 @@
 pub mod Starts
 pub mod Ending
 pub mod Sections
+pub mod Readiness
+pub mod Stages

@@ -30,6 +30,7 @@
 #![tactic(auto)]
 
 mod ends;
+mod going;
 mod run;
 
 pub use ends::{end_filter, end_last, end_row, start_row};
