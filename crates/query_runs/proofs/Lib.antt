@@ -2,4 +2,6 @@ pub mod Starts
 pub mod Ending
 pub mod Sections
 pub mod Readiness
-pub mod Stages
+pub mod FilterStage
+pub mod RowStage
+pub mod LastStage

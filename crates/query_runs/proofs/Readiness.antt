@@ -46,11 +46,13 @@ step_within code m q s lt = at (slice_get code q)
     to : (n : ℕ) (o : Option (State Value)) → n ≤ length code → WithinEnd code (moved n o)
     to n None h = tt
     to n (Some t) h = h
+
     by : (i : Instruction) (b : Bool) → leads_on (length code) q i ≡ b
         → WithinEnd code (cond b (moved (next_place i q s.stack) (effect m i s)) Stopped)
     by i true e =
         to (next_place i q s.stack) (effect m i s) (next_within (length code) q i s.stack e lt)
     by i false e = tt
+
     at : (o : Option Instruction) → WithinEnd code (stepped (length code) m o q s)
     at None = omega arith
     at (Some i) = by i (leads_on (length code) q i) refl

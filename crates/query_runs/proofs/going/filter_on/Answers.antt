@@ -1,7 +1,7 @@
 use Rattle.std.proofs.Common.{◌∙◌, ◌+◌, sym, refl, arith}
 use Rattle.query_runs.specs.Stands.{rows_in}
-use Rattle.query_runs.proofs.Stages.{in_filter_there, filter_safely, filter_ended, filter_inside}
-use Rattle.query_runs.proofs.Stages.{filter_going, filter_at_next, some_made}
+use Rattle.query_runs.proofs.FilterStage.{in_filter_there, filter_safely, filter_ended, filter_inside}
+use Rattle.query_runs.proofs.FilterStage.{filter_going, filter_at_next, some_made}
 use Rattle.query_runs.proofs.going.filter_on.Goals as goal
 
 pub go_on-requires-clause-within : goal.go_on-requires-clause-within
@@ -117,4 +117,3 @@ returns-else-run-section-clause-stands c =
     c.as_slice.ensures c.as_slice-2.ensures c.requires.safe c.in_ok-made.made c.in_ok-made.ensures.inside c.go_on.new.frame
     c.in_ok-made.ensures.stands
     _ c.if-run-section.false refl refl refl c.requires.stage
-

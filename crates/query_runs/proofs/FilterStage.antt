@@ -1,11 +1,13 @@
--- Where a run stands in a section, and where it stands when the section went on.
+-- Where a run stands in the filter, and where it stands when the filter went on.
 use Rattle.std.proofs.Common.{◌≡◌, ◌≢◌, ℕ, zero, suc, ◌+◌, ◌<◌, ◌≤◌, List, [], ◌∷◌, length, drop, cond}
 use Rattle.std.proofs.Common.{Bool, true, false, Option, Some, None, refl, sym, ap, subst, ◌∙◌, arith}
 use Rattle.std.proofs.Common.{inl, inr}
 use Rattle.std.proofs.lemmas.Bool.{cases_lt, eq-eqb, ne_eqb}
 use Rattle.std.specs.Prelude.{slice_get}
 use Rattle.plain_machine.specs.PlainMachine.{Kept, Stand, InFilter, InRow, InLast, Fault}
-use Rattle.plain_machine.specs.PlainMachine.{end_filter, filter_acts, in_filter}
+use Rattle.plain_machine.specs.PlainMachine.{balance_in, end_filter, end_last, end_row, filter_acts}
+use Rattle.plain_machine.specs.PlainMachine.{in_filter, in_last, in_row, last_acts, row_acts}
+use Rattle.plain_machine.specs.Gathering.{Group}
 use Rattle.plain_machine.specs.SectionRun.{Acts, Outcome, Standing, State, after_steps}
 use Rattle.plain_machine.specs.Loading.{value_acts}
 use Rattle.plain_machine.specs.SectionRun.{Stopped}
@@ -17,8 +19,8 @@ use Rattle.query_sections.specs.Room.{AreInside, GoesSafely, IsInside}
 use Rattle.query_sections.specs.Standing.{standing, state_in}
 use Rattle.query_sections.specs.declared.frame.Frame.{Frame}
 use Rattle.query_values.specs.declared.value.Value.{Value}
-use Rattle.query_runs.specs.Ends.{filter_ends}
-use Rattle.query_runs.specs.Stands.{Gathered, in_filter_at, keeps, kept_in, run_after, stand_of}
+use Rattle.query_runs.specs.Ends.{filter_ends, last_ends, row_ends}
+use Rattle.query_runs.specs.Stands.{Gathered, in_filter_at, in_last_at, in_row_at, keeps, kept_in, run_after, stand_of}
 use Rattle.query_runs.specs.Stands.{by_stage}
 use Rattle.query_runs.specs.Turns.{AreGoing, IsSafe}
 use Rattle.query_runs.specs.declared.run.Run.{Run}
@@ -153,6 +155,7 @@ module _ (p : Parts) (rows : List Row) (run : Run) (before room : ℕ)
         place_of : Outcome → ℕ
         place_of (Standing q s) = q
         place_of Stopped = 0
+
         none_made : (n : ℕ) → n ≡ 0
             → standing frame ≡ after_steps code m n (standing run.frame)
             → frame.place ≡ length code → ⊥
