@@ -15,10 +15,10 @@
 //!
 //! # Causes
 //!
-//! Those of [`verify_shapes::CodeCause`] that an instruction may have, and besides a place that no
-//! instruction leads to, paths that meet with other kinds, decimals or depths, and jumps that don't
-//! lead on. At one instruction these come first, in this order but that what is wrong with a jump's
-//! own target comes behind the shapes that come to it.
+//! Those of [`verify_shapes::CodeCause`] that an instruction may have. At each place the first of
+//! these is answered: nothing leads to it (`V18`); the paths that meet there have no shape in common
+//! (`V10`); its instruction jumps back, or past the end (`V7`); or what the instruction answers to
+//! the shapes that come to it.
 //!
 //! # Cost
 //!
