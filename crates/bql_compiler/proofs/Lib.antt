@@ -1,0 +1,2 @@
+pub mod LowersFacts
+pub mod LimitFacts

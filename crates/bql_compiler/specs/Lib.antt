@@ -1,0 +1,4 @@
+pub mod CompileCause
+pub mod Lowers
+pub mod Kept
+pub mod Limits
