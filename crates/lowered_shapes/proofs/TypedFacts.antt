@@ -446,7 +446,7 @@ module _ (b : Bounds) (bounds : AreBounds b) (pool : List Constant) (l : Loads) 
       let x = lowered b g t in
       let st = subst (λ p. Stands (in_list p x ts)) (ap places_in h.first) stands in
       subst (λ p. HasShape pool l (in_list p x ts) s) (ap places_in (sym h.first))
-      (list_shape b pool l h.one s x ts h.more few.1 h.others
+      (list_shape b pool l h.one s x ts h.more few.2 h.others
       (ap rules.listed (sym h.are) ∙ r.gives)
       (shown.0 h.one h.first small.0 there.0
       (list_parts b bounds pool l (places_in (Some h.one)) x ts st)) st)
