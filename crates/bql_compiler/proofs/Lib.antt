@@ -1,2 +1,7 @@
 pub mod LowersFacts
 pub mod LimitFacts
+pub mod RefusalFacts
+pub mod NameFacts
+mod RootFacts
+pub mod PlannedFacts
+pub mod FileFacts

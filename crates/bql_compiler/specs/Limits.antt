@@ -1,5 +1,5 @@
 -- Which sections a program can have, and why a query has no program.
-use Rattle.std.specs.Prelude.{◌≡◌, Bool, true, false, ◌&&◌, nat_le, List}
+use Rattle.std.specs.Prelude.{◌≡◌, ◌<◌, ◌≤◌, ◌⊎◌, Bool, true, false, ◌&&◌, nat_le, List, length}
 use Rattle.std.specs.List.{list_any}
 use Rattle.bql_code.specs.Code.{all_depth, all_size, depth, size}
 use Rattle.bql_compiler.specs.declared.cause.CompileCause.{CompileCause}
@@ -7,12 +7,13 @@ use Rattle.bql_compiler.specs.declared.cause.CompileCause.TheVariants.{TooLong, 
 use Rattle.bql_parser.specs.Asked.{Asked}
 use Rattle.bql_plan.specs.Plan.{plan}
 use Rattle.bql_scheme.specs.Program.{IsTooDeep, IsTooLong, Sections, code_over, parts_of}
-use Rattle.bql_scheme.specs.Program.{sections_of}
+use Rattle.bql_scheme.specs.Program.{pool_of, sections_of}
 use Rattle.limits.specs.declared.bounds.Bounds.{Bounds}
 use Rattle.limits.specs.declared.counts.TheConstants.{LONGEST_SECTION, MOST_VALUES}
 use Rattle.query_code.specs.declared.program.Code.{Code}
 use Rattle.query_code.specs.declared.program.Constant.{Constant}
 use Rattle.query_code.specs.declared.program.Constant.TheVariants as constants
+use Rattle.query_code.specs.declared.program.Parts.{Parts}
 use Rattle.refusals.specs.declared.refusal.Refusal.{Refusal}
 use Rattle.refusals.specs.declared.refusal.Refusal.TheVariants.{OutOfMemory, Refused}
 
@@ -49,6 +50,29 @@ abbrev pub IsNotBuiltOf : Refusal CompileCause → List Constant → Type 0
 IsNotBuiltOf OutOfMemory pool = Unit {0}
 IsNotBuiltOf (Refused cause) pool = (cause ≡ NotBuilt) × (list_any is_pattern pool ≡ true)
 
+-- ---- sections
+
+-- each section has room, and their pool
+pub record HaveRoom (s : Sections) : Type 0 where
+  pub code : are_short s ≡ true
+  pub pool : length (pool_of s) ≤ LONGEST_SECTION
+
+-- memory lacks, or some section or the pool has none
+abbrev pub IsWithoutRoom : Refusal CompileCause → Sections → Type 0
+IsWithoutRoom OutOfMemory s = Unit {0}
+IsWithoutRoom (Refused cause) s =
+    (cause ≡ TooLong) × ((are_short s ≡ false) ⊎ (LONGEST_SECTION < length (pool_of s)))
+
+-- a pattern of the pool isn't built, or the stack has no room
+abbrev pub IsStoppedBy : CompileCause → List Constant → Sections → Type 0
+IsStoppedBy TooLong pool s = ⊥
+IsStoppedBy NotBuilt pool s = list_any is_pattern pool ≡ true
+IsStoppedBy TooDeep pool s = are_shallow s ≡ false
+
+abbrev pub IsStopped : Refusal CompileCause → List Constant → Sections → Type 0
+IsStopped OutOfMemory pool s = Unit {0}
+IsStopped (Refused cause) pool s = IsStoppedBy cause pool s
+
 -- ---- causes
 
 -- The least that holds: the program is too long, it has a pattern, or its stack is too deep.
@@ -74,3 +98,8 @@ code_in b q = code_over b (plan q) (sections_in b q)
 -- it has a program
 abbrev pub IsWithin : Bounds → Asked → Type 0
 IsWithin b q = ¬ IsTooLong (parts_of b q) × ¬ IsTooDeep b q
+
+-- A query is compiled to these parts: those of the scheme, where these keep within the limits.
+pub record IsCompiled (b : Bounds) (q : Asked) (p : Parts) : Type 0 where
+  pub parts : p ≡ parts_of b q
+  pub within : IsWithin b q

@@ -45,7 +45,7 @@ fn have_room(cores: &[Core<'_>]) -> bool
 }
 
 /// Whether each section has room for its code.
-pub fn are_short(sections: &Sections<'_>) -> bool
+pub(crate) fn are_short(sections: &Sections<'_>) -> bool
     ensures { result ≡ rule.are_short (view.sections_of sections.now) }
 {
     has_room(&sections.filter)
@@ -54,7 +54,7 @@ pub fn are_short(sections: &Sections<'_>) -> bool
 }
 
 /// Whether the stack has room for the values of each section.
-pub fn are_shallow(sections: &Sections<'_>) -> bool
+pub(crate) fn are_shallow(sections: &Sections<'_>) -> bool
     ensures { result ≡ rule.are_shallow (view.sections_of sections.now) }
 {
     is_within(&sections.filter, MOST_VALUES)
@@ -64,7 +64,7 @@ pub fn are_shallow(sections: &Sections<'_>) -> bool
 
 /// The constants of the sections, one behind the other.
 #[tactic(auto, using(crate::proofs::LimitFacts::pool_is))]
-pub fn pool_of<'a>(alloc: Global, sections: &Sections<'a>) -> Result<Pool<'a>, AllocError>
+pub(crate) fn pool_of<'a>(alloc: Global, sections: &Sections<'a>) -> Result<Pool<'a>, AllocError>
     ensures { IfOk result (λ pool. pool ≡ scheme.pool_of (view.sections_of sections.now)) }
 {
     let mut pool = Pool::new(alloc);
@@ -75,7 +75,7 @@ pub fn pool_of<'a>(alloc: Global, sections: &Sections<'a>) -> Result<Pool<'a>, A
 }
 
 /// The instructions of an expression.
-pub fn code_of(
+pub(crate) fn code_of(
     alloc: Global,
     pool: &Pool<'_>,
     core: &Core<'_>,
@@ -90,7 +90,7 @@ pub fn code_of(
 }
 
 /// The instructions of some expressions, one behind the other.
-pub fn code_of_all(
+pub(crate) fn code_of_all(
     alloc: Global,
     pool: &Pool<'_>,
     cores: &[Core<'_>],
@@ -142,7 +142,7 @@ fn build_constant(alloc: Global, constant: &Constant<'_>) -> Result<(), Refusal<
 }
 
 /// Builds each pattern of a pool.
-pub fn build_all(alloc: Global, pool: &[Constant<'_>]) -> Result<(), Refusal<CompileCause>>
+pub(crate) fn build_all(alloc: Global, pool: &[Constant<'_>]) -> Result<(), Refusal<CompileCause>>
     ensures { IfErr result (λ refusal. rule.IsNotBuiltOf refusal pool.now) }
 {
     for constant in pool {
@@ -155,7 +155,7 @@ pub fn build_all(alloc: Global, pool: &[Constant<'_>]) -> Result<(), Refusal<Com
 }
 
 /// How many aggregates a program gathers: none where rows aren't grouped.
-pub fn gathered(numbering: &Numbering<'_, '_>) -> usize
+pub(crate) fn gathered(numbering: &Numbering<'_, '_>) -> usize
     ensures { result ≡ length (scheme.of_groups (numbered_of numbering.now)
         (numbered_of numbering.now).aggregates) }
 {
@@ -167,7 +167,7 @@ pub fn gathered(numbering: &Numbering<'_, '_>) -> usize
 }
 
 /// How many keys a group has.
-pub fn keys_of(numbering: &Numbering<'_, '_>) -> u8
+pub(crate) fn keys_of(numbering: &Numbering<'_, '_>) -> u8
     requires { length (numbered_of numbering.now).grouping.keys ≤ MOST_ITEMS }
     ensures { result ≡ length (scheme.of_groups (numbered_of numbering.now)
         (numbered_of numbering.now).grouping.keys) }
@@ -180,7 +180,7 @@ pub fn keys_of(numbering: &Numbering<'_, '_>) -> u8
 }
 
 /// What a program gathers.
-pub fn gathered_by(
+pub(crate) fn gathered_by(
     alloc: Global,
     bounds: &Bounds,
     numbering: &Numbering<'_, '_>,

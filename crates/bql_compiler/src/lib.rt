@@ -1,17 +1,19 @@
-//! What queries are compiled of: what the rows and the groups of a program compute, its pool, its
-//! instructions, and whether these keep within the limits of a program.
+//! From typed queries to programs.
 //!
 //! ```text
-//! let row = row_of(alloc, &bounds, &numbering)?;
-//! let last = last_of(alloc, &bounds, &numbering)?;
-//! let sections = Sections { filter, row, last };
-//! let pool = pool_of(alloc, &sections)?;
-//! let row = code_of_all(alloc, &pool, sections.row.as_slice())?;
+//! let query = parse_query(alloc, "SELECT account, sum(number) WHERE number > 1.5")?;
+//! let typed = type_query(alloc, &query, &bounds)?;
+//! let program = compile(alloc, &typed)?;
+//! let bytes = encode(alloc, &program)?;
 //! ```
 //!
-//! Each is that of the scheme, whose definition is in `bql_scheme`.
+//! The program is that of the scheme, whose definition is in `bql_scheme`, with the bounds by which
+//! the query has its type. It is well shaped: so its file is accepted by the verifier, unless memory
+//! lacks or a pattern isn't built there.
 //!
 //! # Refusals
+//!
+//! The least that holds of these; and a query of which none holds is compiled, unless memory lacks.
 //!
 //! - `C1` ([`CompileCause::TooLong`]): a section of more than 65,535 instructions, a pool of more
 //!   than 65,535 entries, or more than 255 aggregates.
@@ -21,16 +23,15 @@
 //!
 //! # Cost
 //!
-//! That of lowering and of the pool; patterns are built once, and thrown away.
+//! That of lowering and of the pool. Whether the code has room is found before it is written;
+//! patterns are built once, and thrown away.
 #![tactic(auto)]
 
 mod cause;
 mod code;
+mod compiled;
+mod output;
 mod sections;
 
 pub use cause::CompileCause;
-pub use code::{
-    are_shallow, are_short, build_all, code_of, code_of_all, gathered, gathered_by, keys_of,
-    pool_of,
-};
-pub use sections::{Sections, last_of, row_of};
+pub use compiled::compile;
