@@ -22,7 +22,8 @@ use Rattle.query_values.specs.declared.value.Value.{Value}
 use Rattle.query_runs.specs.Ends.{filter_ends, last_ends, row_ends}
 use Rattle.query_runs.specs.Stands.{Gathered, in_filter_at, in_last_at, in_row_at, keeps, kept_in, run_after, stand_of}
 use Rattle.query_runs.specs.Stands.{by_stage}
-use Rattle.query_runs.specs.Turns.{AreGoing, IsSafe}
+use Rattle.query_runs.proofs.Turning.{AreGoing}
+use Rattle.query_runs.specs.Turns.{IsSafe}
 use Rattle.query_runs.specs.declared.run.Run.{Run}
 use Rattle.query_runs.specs.declared.run.Stage.TheVariants as stage
 use Rattle.query_runs.proofs.Readiness.{is_ready, ready_at}

@@ -22,7 +22,8 @@ use Rattle.query_values.specs.declared.value.Value.{Value}
 use Rattle.query_runs.specs.Ends.{filter_ends, last_ends, row_ends}
 use Rattle.query_runs.specs.Stands.{Gathered, in_filter_at, in_last_at, in_row_at, keeps, kept_in, run_after, stand_of}
 use Rattle.query_runs.specs.Stands.{by_stage}
-use Rattle.query_runs.specs.Turns.{AreGoing, IsSafe}
+use Rattle.query_runs.proofs.Turning.{AreGoing}
+use Rattle.query_runs.specs.Turns.{IsSafe}
 use Rattle.query_runs.specs.declared.run.Run.{Run}
 use Rattle.query_runs.specs.declared.run.Stage.TheVariants as stage
 use Rattle.query_runs.proofs.Readiness.{is_ready, ready_at}
@@ -87,6 +88,19 @@ in_last_there p rows run before room stage_is stands safe =
   where
     here : in_last_at (drop run.group run.groups) run ≡ run_after p rows before
     here = ap (λ s. by_stage s rows run) (sym stage_is) ∙ stands
+
+-- keys and totals that were read one after the other are those of one group
+pub group_of : (groups : List (Group Gathered)) (j : ℕ) (k t m u : List Value)
+    → ◌≡◌ {A = Option (List Value × List Value)} (Some (k, t)) (slice_get groups j)
+    → ◌≡◌ {A = Option (List Value × List Value)} (Some (m, u)) (slice_get groups j)
+    → ◌≡◌ {A = Option (List Value × List Value)} (Some (k, u)) (slice_get groups j)
+group_of groups j k t m u at is =
+    let same : (k, t) ≡ (m, u) = pair_is (k, t) (m, u) (at ∙ sym is) in
+    ap (λ x. Some (x, u)) (ap (λ (g : List Value × List Value). g.0) same) ∙ is
+  where
+    pair_is : (a b : List Value × List Value)
+        → ◌≡◌ {A = Option (List Value × List Value)} (Some a) (Some b) → a ≡ b
+    pair_is a b e = cc
 
 -- what instructions do at a group
 abbrev pub group_acts : Parts → List Constant → List Value → List Value → Acts Value

@@ -15,7 +15,8 @@ use Rattle.query_rows.specs.Row.{Row}
 use Rattle.query_sections.specs.Room.{AreInside, GoesSafely, IsInside, OutcomeHasRoom}
 use Rattle.query_values.specs.declared.value.Value.{Value}
 use Rattle.query_runs.specs.Stands.{Gathered, keeps, run_after}
-use Rattle.query_runs.specs.Turns.{AreGoing, IsSafe}
+use Rattle.query_runs.proofs.Turning.{AreGoing}
+use Rattle.query_runs.specs.Turns.{IsSafe}
 
 -- what a section's outcome is to the whole machine
 pub record IsSection (p : Parts) (code : List Instruction) (m : Acts Value)
