@@ -1,5 +1,5 @@
 -- A run that keeps what is gathered so far is as safe as the plain machine, which keeps all inputs.
-use Rattle.std.proofs.Common.{◌≡◌, ◌≢◌, ℕ, ◌≤◌, List, [], length, Bool, refl, sym, ap, subst, ◌∙◌, arith}
+use Rattle.std.proofs.Common.{◌≡◌, ◌≢◌, ℕ, ◌≤◌, List, [], length, refl, sym, ap, subst, ◌∙◌, arith}
 use Rattle.plain_machine.proofs.AlikeFacts.{stand_alike}
 use Rattle.plain_machine.specs.Alike.{stand_as}
 use Rattle.plain_machine.specs.Depth.{outcome_of, values_in}

@@ -1,5 +1,5 @@
 -- Steps of a run that are counted from where it stands.
-use Rattle.std.proofs.Common.{◌≡◌, ◌≢◌, ℕ, zero, suc, ◌+◌, ◌-◌, ◌<◌, ◌≤◌, List, true, refl, sym, ap, ◌∙◌}
+use Rattle.std.proofs.Common.{◌≡◌, ℕ, zero, suc, ◌+◌, ◌-◌, ◌<◌, ◌≤◌, List, true, sym, ap, ◌∙◌}
 use Rattle.std.proofs.Common.{arith, inl, inr, add-suc}
 use Rattle.std.proofs.lemmas.Bool.{cases_lt}
 use Rattle.plain_machine.specs.PlainMachine.{Stand, step, steps}

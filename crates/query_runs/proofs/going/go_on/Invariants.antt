@@ -1,5 +1,4 @@
-use Rattle.std.proofs.Common.{◌≡◌, ◌≤◌, ◌-◌, map}
-use Rattle.plain_machine.specs.Pool.{pattern_in}
+use Rattle.std.proofs.Common.{◌≡◌, ◌≤◌, ◌-◌}
 use Rattle.query_runs.specs.Stands.{rows_in, stand_of}
 use Rattle.query_runs.specs.Turns.{GoesOn}
 use Rattle.query_runs.proofs.going.go_on.Given as goal
