@@ -7,8 +7,8 @@
 //! no stack.
 //!
 //! ```text
-//! And(Greater(number, 1), Equal(day, 2))      true where both are, and else false
-//! 0 LOAD_COL 11   1 CONST 0   2 GT   3 JUMP_IF_FALSE 10   4 LOAD_COL 3   5 CONST 1   6 EQ
+//! And(Greater(year, 2013), Equal(day, 2))      true where both are, and else false
+//! 0 LOAD_COL 1   1 CONST 0   2 GT   3 JUMP_IF_FALSE 10   4 LOAD_COL 3   5 CONST 1   6 EQ
 //! 7 JUMP_IF_FALSE 10   8 TRUE   9 JUMP 11   10 FALSE
 //! ```
 //!
