@@ -1,6 +1,6 @@
-mod ConstantFacts
+pub mod ConstantFacts
 mod OperatorFacts
-mod ListFacts
+pub mod ListFacts
 mod ExpressionFacts
-mod TypedFacts
-mod ReadFacts
+pub mod TypedFacts
+pub mod ReadFacts

@@ -65,7 +65,7 @@ both_true true y e = e
 both_true false y e = cc
 
 -- an aggregate is no equation
-no_equation : (op : Operation) → is_aggregate op ≡ true → is_equation op ≡ false
+pub no_equation : (op : Operation) → is_aggregate op ≡ true → is_equation op ≡ false
 no_equation (leaf_of lf) e = refl
 no_equation (one_of op) e = refl
 no_equation (two_of op) e = cc

@@ -31,11 +31,11 @@ use Rattle.well_shaped.proofs.PlaceFacts.{everywhere}
 
 -- ---- what rules give can be held
 
-abbrev HeldIf : Ruled → Type 0
+abbrev pub HeldIf : Ruled → Type 0
 HeldIf (Err e) = ⊤
 HeldIf (Ok s) = IsHeld s
 
-fits : (s : Shape) → HeldIf (fitting s)
+pub fits : (s : Shape) → HeldIf (fitting s)
 fits s = by (is_held s) refl
   where
     by : (b : Bool) → is_held s ≡ b → HeldIf (cond b (Ok s) (Err TooWide))
@@ -104,7 +104,7 @@ of_currency (shape.Amount p m) = refl
 of_currency (shape.Position u v) = refl
 of_currency s = tt
 
-of_unary : (op : operation.Unary) (s : Shape) → HeldIf (unary_shape op s)
+pub of_unary : (op : operation.Unary) (s : Shape) → HeldIf (unary_shape op s)
 of_unary (operation.Align places) s = of_aligned places s
 of_unary operation.Neg s = of_negated s
 of_unary operation.Abs s = of_magnitude s
@@ -153,7 +153,7 @@ of_member : (s t : Shape) → HeldIf (rule.member_of s t)
 of_member shape.Text shape.Set = refl
 of_member s t = tt
 
-of_binary : (op : Binary) (s t : Shape) → HeldIf (binary_shape op s t)
+pub of_binary : (op : Binary) (s t : Shape) → HeldIf (binary_shape op s t)
 of_binary binary.Add s t = of_sum s t
 of_binary binary.Sub s t = of_sum s t
 of_binary binary.Mul s t = of_product s t

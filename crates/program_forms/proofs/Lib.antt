@@ -1,0 +1,5 @@
+mod FieldFacts
+mod InstructionFacts
+mod SectionFacts
+mod GroupFacts
+pub mod ProgramFacts

@@ -1,0 +1,5 @@
+pub mod ListFacts
+pub mod QueryFacts
+mod GatherFacts
+pub mod RowFacts
+pub mod ProgramFacts
