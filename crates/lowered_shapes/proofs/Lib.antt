@@ -1,6 +1,6 @@
 pub mod ConstantFacts
 mod OperatorFacts
-mod ListFacts
+pub mod ListFacts
 mod ExpressionFacts
 pub mod TypedFacts
 pub mod ReadFacts

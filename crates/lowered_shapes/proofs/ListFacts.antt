@@ -39,20 +39,20 @@ use Rattle.lowered_shapes.proofs.ConstantFacts.{HasMembersAt, days_at, none_at, 
 use Rattle.lowered_shapes.proofs.ConstantFacts.{texts_at}
 use Rattle.lowered_shapes.proofs.OperatorFacts.{aligned_shape, fits_as}
 
-both : (a b : Bool) → (a && b) ≡ true → (a ≡ true) × (b ≡ true)
+pub both : (a b : Bool) → (a && b) ≡ true → (a ≡ true) × (b ≡ true)
 both true b e = (refl, e)
 both false b e = cc
 
 -- ---- what the rule says
 
 -- what is looked for and the members are alike, and numbers may be brought to the greatest decimals
-record IsListed (s u : Shape) (ss : List Shape) : Type 0 where
-  is_truth : u ≡ shape.Truth
-  alike : list_all (are_alike s) ss ≡ true
-  itself : are_alike s s ≡ true
-  held : is_held_with (greatest_places s ss) s ≡ true
+pub record IsListed (s u : Shape) (ss : List Shape) : Type 0 where
+  pub is_truth : u ≡ shape.Truth
+  pub alike : list_all (are_alike s) ss ≡ true
+  pub itself : are_alike s s ≡ true
+  pub held : is_held_with (greatest_places s ss) s ≡ true
 
-is_listed : (s u : Shape) (ss : List Shape) → one_of s ss ≡ Ok u → IsListed s u ss
+pub is_listed : (s u : Shape) (ss : List Shape) → one_of s ss ≡ Ok u → IsListed s u ss
 is_listed s u ss e =
     by (are_alike s s && list_all (are_alike s) ss) refl
     (list_all (is_held_with (greatest_places s ss)) (s ∷ ss)) refl e
@@ -89,7 +89,7 @@ module _ (b : Bounds) where
 
   -- a literal like a text is a text, and so with days and numbers
 
-  text_leaf : (lf : Leaf) (s : Shape) → IsLiteralLeaf lf → rules.leaf_shape b lf ≡ Ok s
+  pub text_leaf : (lf : Leaf) (s : Shape) → IsLiteralLeaf lf → rules.leaf_shape b lf ≡ Ok s
       → are_alike shape.Text s ≡ true → (t : List ℕ) × (lf ≡ leaf.Text t)
   text_leaf (leaf.Text t) s is e alike = (t, refl)
   text_leaf (leaf.Number n) s is e alike = cc
@@ -102,7 +102,7 @@ module _ (b : Bounds) where
   text_leaf (leaf.Meta o k) s is e alike = absurd is
   text_leaf (leaf.HasAccount p) s is e alike = absurd is
 
-  day_leaf : (lf : Leaf) (s : Shape) → IsLiteralLeaf lf → rules.leaf_shape b lf ≡ Ok s
+  pub day_leaf : (lf : Leaf) (s : Shape) → IsLiteralLeaf lf → rules.leaf_shape b lf ≡ Ok s
       → are_alike shape.Day s ≡ true → (d : Day) × (lf ≡ leaf.Day d)
   day_leaf (leaf.Day d) s is e alike = (d, refl)
   day_leaf (leaf.Text t) s is e alike = cc
@@ -116,10 +116,10 @@ module _ (b : Bounds) where
   day_leaf (leaf.HasAccount p) s is e alike = absurd is
 
   -- with its number of decimals
-  abbrev IsNumberLeaf : Leaf → Shape → Type 0
+  abbrev pub IsNumberLeaf : Leaf → Shape → Type 0
   IsNumberLeaf lf s = (n : Decimal) × (lf ≡ leaf.Number n) × (places_of s ≡ n.places)
 
-  number_leaf : (p m : ℕ) (lf : Leaf) (s : Shape) → IsLiteralLeaf lf
+  pub number_leaf : (p m : ℕ) (lf : Leaf) (s : Shape) → IsLiteralLeaf lf
       → rules.leaf_shape b lf ≡ Ok s → are_alike (shape.Number p m) s ≡ true → IsNumberLeaf lf s
   number_leaf p m (leaf.Number n) s is e alike = (n, refl, of s e)
     where
@@ -146,19 +146,19 @@ module _ (b : Bounds) where
   -- ---- members
 
   -- the first member is a leaf, with the first shape; and the others have the others
-  record AreFirst (t : Tree ℕ) (ts : Trees ℕ) (ss : List Shape) : Type 0 where
-    at : ℕ
-    lf : Leaf
-    parts : Trees ℕ
-    is_leaf : t ≡ node at (leaf_of lf) parts
-    literal : IsLiteralLeaf lf
-    one : Shape
-    more : List Shape
-    first : rules.leaf_shape b lf ≡ Ok one
-    others : shapes_of b false ts ≡ Some more
-    are : ss ≡ one ∷ more
+  pub record AreFirst (t : Tree ℕ) (ts : Trees ℕ) (ss : List Shape) : Type 0 where
+    pub at : ℕ
+    pub lf : Leaf
+    pub parts : Trees ℕ
+    pub is_leaf : t ≡ node at (leaf_of lf) parts
+    pub literal : IsLiteralLeaf lf
+    pub one : Shape
+    pub more : List Shape
+    pub first : rules.leaf_shape b lf ≡ Ok one
+    pub others : shapes_of b false ts ≡ Some more
+    pub are : ss ≡ one ∷ more
 
-  are_first : (t : Tree ℕ) (ts : Trees ℕ) (ss : List Shape) → IsLiteral t
+  pub are_first : (t : Tree ℕ) (ts : Trees ℕ) (ss : List Shape) → IsLiteral t
       → shapes_of b false (trees t ts) ≡ Some ss → AreFirst t ts ss
   are_first (node at (leaf_of lf) parts) ts ss is e =
       by (shape_of b (node at (leaf_of lf) parts)) refl (shapes_of b false ts) refl e
@@ -207,7 +207,7 @@ module _ (b : Bounds) where
       ∙ most_is p0 m0 (max p n.0.places) ts h.more are.1 h.others a.1
       ∙ ap (λ t. most_places p (trees t ts)) (sym is)
 
-  more_places : (p : ℕ) (ts : Trees ℕ) → p ≤ most_places p ts
+  pub more_places : (p : ℕ) (ts : Trees ℕ) → p ≤ most_places p ts
   more_places p no_trees = omega arith
   more_places p (trees (node at (leaf_of (leaf.Number n)) parts) ts) =
       omega (arith, more_places (max p n.places) ts)

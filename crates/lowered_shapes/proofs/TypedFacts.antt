@@ -46,12 +46,12 @@ use Rattle.lowered_shapes.proofs.OperatorFacts.{binary_shape, function_shape, nu
 -- ---- what has a shape by its rule
 
 -- the parts have shapes, over which the rule gives one
-record ByRule (b : Bounds) (op : Operation) (parts : Trees ℕ) (s : Shape) : Type 0 where
-  shapes : List Shape
-  are : shapes_of b (is_equation op) parts ≡ Some shapes
-  gives : rule b op shapes ≡ Ok s
+pub record ByRule (b : Bounds) (op : Operation) (parts : Trees ℕ) (s : Shape) : Type 0 where
+  pub shapes : List Shape
+  pub are : shapes_of b (is_equation op) parts ≡ Some shapes
+  pub gives : rule b op shapes ≡ Ok s
 
-by_rule : (b : Bounds) (op : Operation) (parts : Trees ℕ) (s : Shape)
+pub by_rule : (b : Bounds) (op : Operation) (parts : Trees ℕ) (s : Shape)
     → shaped.given (ruled b op (shapes_of b (is_equation op) parts)) ≡ Some s
     → ByRule b op parts s
 by_rule b op parts s e = by (shapes_of b (is_equation op) parts) refl e
@@ -66,14 +66,14 @@ by_rule b op parts s e = by (shapes_of b (is_equation op) parts) refl e
     by (Some ss) eo e = record { shapes = ss; are = eo; gives = of_rule (rule b op ss) e }
 
 -- the first part has the first shape, and the others have the others
-record HasFirst (b : Bounds) (t : Tree ℕ) (ts : Trees ℕ) (ss : List Shape) : Type 0 where
-  one : Shape
-  more : List Shape
-  first : shape_of b t ≡ Some one
-  others : shapes_of b false ts ≡ Some more
-  are : ss ≡ one ∷ more
+pub record HasFirst (b : Bounds) (t : Tree ℕ) (ts : Trees ℕ) (ss : List Shape) : Type 0 where
+  pub one : Shape
+  pub more : List Shape
+  pub first : shape_of b t ≡ Some one
+  pub others : shapes_of b false ts ≡ Some more
+  pub are : ss ≡ one ∷ more
 
-has_first : (b : Bounds) (t : Tree ℕ) (ts : Trees ℕ) (ss : List Shape)
+pub has_first : (b : Bounds) (t : Tree ℕ) (ts : Trees ℕ) (ss : List Shape)
     → shapes_of b false (trees t ts) ≡ Some ss → HasFirst b t ts ss
 has_first b t ts ss e = by (shape_of b t) refl (shapes_of b false ts) refl e
   where
@@ -84,7 +84,7 @@ has_first b t ts ss e = by (shape_of b t) refl (shapes_of b false ts) refl e
     by None eo p ep e = cc
 
 -- NULL has no shape
-null_shapeless : (b : Bounds) (t : Tree ℕ) → is_null t ≡ true → shape_of b t ≡ None
+pub null_shapeless : (b : Bounds) (t : Tree ℕ) → is_null t ≡ true → shape_of b t ≡ None
 null_shapeless b (node at (leaf_of leaf.Null) no_trees) e = refl
 null_shapeless b (node at (leaf_of leaf.Null) (trees t ts)) e = cc
 null_shapeless b (node at (leaf_of (leaf.Column c)) ts) e = cc

@@ -6,4 +6,4 @@ mod OrderFacts
 mod EndFacts
 mod StepFacts
 mod FileFacts
-mod SafetyFacts
+pub mod SafetyFacts

@@ -1,16 +1,16 @@
 -- What a run does at a section's end is what the plain machine does.
-use Rattle.std.proofs.Common.{◌≡◌, ◌≢◌, ℕ, zero, suc, ◌+◌, ◌-◌, ◌<◌, ◌≤◌, List, [], ◌∷◌, ◌++◌, length}
+use Rattle.std.proofs.Common.{◌≡◌, ◌≢◌, ℕ, ◌+◌, ◌<◌, ◌≤◌, List, [], ◌∷◌, ◌++◌, length}
 use Rattle.std.proofs.Common.{take, drop, reverse, Bool, true, false, cond, Option, Some, None, refl}
 use Rattle.std.proofs.Common.{sym, ap, subst, ◌∙◌, arith}
 use Rattle.std.proofs.lemmas.Bool.{eq-eqb, eqb-true}
 use Rattle.std.proofs.lemmas.List.{reverse-append, length-reverse, length-drop, take-append-drop}
 use Rattle.std.proofs.lemmas.List.{take_at, drop_at, take_all}
-use Rattle.std.specs.Prelude.{nat_eq, slice_get, option_map, option_and_then, ◌==◌}
+use Rattle.std.specs.Prelude.{slice_get, option_map, option_and_then, ◌==◌}
 use Rattle.plain_machine.specs.Gathering.{Group, inputs_of, put}
-use Rattle.plain_machine.specs.PlainMachine.{Kept, Stand, InFilter, InRow, InLast, Done, Fault}
+use Rattle.plain_machine.specs.PlainMachine.{Kept, InRow, Fault}
 use Rattle.plain_machine.specs.PlainMachine.{begin_filter, begin_last, begin_row, end_filter, end_row}
-use Rattle.plain_machine.specs.PlainMachine.{end_last, go_on, go_on_last, grouped_with, judged}
-use Rattle.plain_machine.specs.PlainMachine.{kept_with, one_truth, row_of, running_with, width_of}
+use Rattle.plain_machine.specs.PlainMachine.{go_on, go_on_last, grouped_with}
+use Rattle.plain_machine.specs.PlainMachine.{kept_with, row_of, running_with, width_of}
 use Rattle.plain_machine.specs.PlainMachine.{with_groups, with_row, with_running}
 use Rattle.plain_machine.specs.SectionRun.{start}
 use Rattle.query_code.specs.declared.program.Output.{Output}

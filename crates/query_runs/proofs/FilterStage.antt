@@ -1,28 +1,28 @@
 -- Where a run stands in the filter, and where it stands when the filter went on.
-use Rattle.std.proofs.Common.{◌≡◌, ◌≢◌, ℕ, zero, suc, ◌+◌, ◌<◌, ◌≤◌, List, [], ◌∷◌, length, drop, cond}
-use Rattle.std.proofs.Common.{Bool, true, false, Option, Some, None, refl, sym, ap, subst, ◌∙◌, arith}
+use Rattle.std.proofs.Common.{◌≡◌, ◌≢◌, ℕ, zero, suc, ◌+◌, ◌<◌, List, [], ◌∷◌, length, drop, cond}
+use Rattle.std.proofs.Common.{Option, Some, None, refl, sym, ap, subst, ◌∙◌, arith}
 use Rattle.std.proofs.Common.{inl, inr}
 use Rattle.std.proofs.lemmas.Bool.{cases_lt, eq-eqb, ne_eqb}
 use Rattle.std.specs.Prelude.{slice_get}
-use Rattle.plain_machine.specs.PlainMachine.{Kept, Stand, InFilter, InRow, InLast, Fault}
-use Rattle.plain_machine.specs.PlainMachine.{balance_in, end_filter, end_last, end_row, filter_acts}
-use Rattle.plain_machine.specs.PlainMachine.{in_filter, in_last, in_row, last_acts, row_acts}
-use Rattle.plain_machine.specs.Gathering.{Group}
-use Rattle.plain_machine.specs.SectionRun.{Acts, Outcome, Standing, State, after_steps}
+use Rattle.plain_machine.specs.PlainMachine.{Kept, InFilter}
+use Rattle.plain_machine.specs.PlainMachine.{end_filter, filter_acts}
+use Rattle.plain_machine.specs.PlainMachine.{in_filter}
+use Rattle.plain_machine.specs.SectionRun.{Acts, Outcome, Standing, after_steps}
 use Rattle.plain_machine.specs.Loading.{value_acts}
 use Rattle.plain_machine.specs.SectionRun.{Stopped}
 use Rattle.query_code.specs.declared.instruction.Instruction.{Instruction}
 use Rattle.query_code.specs.declared.program.Constant.{Constant}
 use Rattle.query_code.specs.declared.program.Parts.{Parts}
 use Rattle.query_rows.specs.Row.{Row}
-use Rattle.query_sections.specs.Room.{AreInside, GoesSafely, IsInside}
+use Rattle.query_sections.specs.Room.{AreInside, GoesSafely}
 use Rattle.query_sections.specs.Standing.{standing, state_in}
 use Rattle.query_sections.specs.declared.frame.Frame.{Frame}
 use Rattle.query_values.specs.declared.value.Value.{Value}
-use Rattle.query_runs.specs.Ends.{filter_ends, last_ends, row_ends}
-use Rattle.query_runs.specs.Stands.{Gathered, in_filter_at, in_last_at, in_row_at, keeps, kept_in, run_after, stand_of}
+use Rattle.query_runs.specs.Ends.{filter_ends}
+use Rattle.query_runs.specs.Stands.{Gathered, in_filter_at, keeps, kept_in, run_after, stand_of}
 use Rattle.query_runs.specs.Stands.{by_stage}
-use Rattle.query_runs.specs.Turns.{AreGoing, IsSafe}
+use Rattle.query_runs.proofs.Turning.{AreGoing}
+use Rattle.query_runs.specs.Turns.{IsSafe}
 use Rattle.query_runs.specs.declared.run.Run.{Run}
 use Rattle.query_runs.specs.declared.run.Stage.TheVariants as stage
 use Rattle.query_runs.proofs.Readiness.{is_ready, ready_at}

@@ -1,28 +1,29 @@
 -- Where a run stands in the last section, and where it stands when that went on.
-use Rattle.std.proofs.Common.{◌≡◌, ◌≢◌, ℕ, zero, suc, ◌+◌, ◌<◌, ◌≤◌, List, [], ◌∷◌, length, drop, cond}
-use Rattle.std.proofs.Common.{Bool, true, false, Option, Some, None, refl, sym, ap, subst, ◌∙◌, arith}
+use Rattle.std.proofs.Common.{◌≡◌, ◌≢◌, ℕ, zero, suc, ◌+◌, ◌<◌, List, ◌∷◌, length, drop, cond}
+use Rattle.std.proofs.Common.{Option, Some, None, refl, sym, ap, subst, ◌∙◌, arith}
 use Rattle.std.proofs.Common.{inl, inr}
 use Rattle.std.proofs.lemmas.Bool.{cases_lt, eq-eqb, ne_eqb}
 use Rattle.std.specs.Prelude.{slice_get}
-use Rattle.plain_machine.specs.PlainMachine.{Kept, Stand, InFilter, InRow, InLast, Fault}
-use Rattle.plain_machine.specs.PlainMachine.{balance_in, end_filter, end_last, end_row, filter_acts}
-use Rattle.plain_machine.specs.PlainMachine.{in_filter, in_last, in_row, last_acts, row_acts}
+use Rattle.plain_machine.specs.PlainMachine.{InLast}
+use Rattle.plain_machine.specs.PlainMachine.{end_last}
+use Rattle.plain_machine.specs.PlainMachine.{in_last, last_acts}
 use Rattle.plain_machine.specs.Gathering.{Group}
-use Rattle.plain_machine.specs.SectionRun.{Acts, Outcome, Standing, State, after_steps}
+use Rattle.plain_machine.specs.SectionRun.{Acts, Outcome, Standing, after_steps}
 use Rattle.plain_machine.specs.Loading.{value_acts}
 use Rattle.plain_machine.specs.SectionRun.{Stopped}
 use Rattle.query_code.specs.declared.instruction.Instruction.{Instruction}
 use Rattle.query_code.specs.declared.program.Constant.{Constant}
 use Rattle.query_code.specs.declared.program.Parts.{Parts}
 use Rattle.query_rows.specs.Row.{Row}
-use Rattle.query_sections.specs.Room.{AreInside, GoesSafely, IsInside}
+use Rattle.query_sections.specs.Room.{AreInside, GoesSafely}
 use Rattle.query_sections.specs.Standing.{standing, state_in}
 use Rattle.query_sections.specs.declared.frame.Frame.{Frame}
 use Rattle.query_values.specs.declared.value.Value.{Value}
-use Rattle.query_runs.specs.Ends.{filter_ends, last_ends, row_ends}
-use Rattle.query_runs.specs.Stands.{Gathered, in_filter_at, in_last_at, in_row_at, keeps, kept_in, run_after, stand_of}
+use Rattle.query_runs.specs.Ends.{last_ends}
+use Rattle.query_runs.specs.Stands.{Gathered, in_last_at, keeps, run_after, stand_of}
 use Rattle.query_runs.specs.Stands.{by_stage}
-use Rattle.query_runs.specs.Turns.{AreGoing, IsSafe}
+use Rattle.query_runs.proofs.Turning.{AreGoing}
+use Rattle.query_runs.specs.Turns.{IsSafe}
 use Rattle.query_runs.specs.declared.run.Run.{Run}
 use Rattle.query_runs.specs.declared.run.Stage.TheVariants as stage
 use Rattle.query_runs.proofs.Readiness.{is_ready, ready_at}
@@ -87,6 +88,19 @@ in_last_there p rows run before room stage_is stands safe =
   where
     here : in_last_at (drop run.group run.groups) run ≡ run_after p rows before
     here = ap (λ s. by_stage s rows run) (sym stage_is) ∙ stands
+
+-- keys and totals that were read one after the other are those of one group
+pub group_of : (groups : List (Group Gathered)) (j : ℕ) (k t m u : List Value)
+    → ◌≡◌ {A = Option (List Value × List Value)} (Some (k, t)) (slice_get groups j)
+    → ◌≡◌ {A = Option (List Value × List Value)} (Some (m, u)) (slice_get groups j)
+    → ◌≡◌ {A = Option (List Value × List Value)} (Some (k, u)) (slice_get groups j)
+group_of groups j k t m u at is =
+    let same : (k, t) ≡ (m, u) = pair_is (k, t) (m, u) (at ∙ sym is) in
+    ap (λ x. Some (x, u)) (ap (λ (g : List Value × List Value). g.0) same) ∙ is
+  where
+    pair_is : (a b : List Value × List Value)
+        → ◌≡◌ {A = Option (List Value × List Value)} (Some a) (Some b) → a ≡ b
+    pair_is a b e = cc
 
 -- what instructions do at a group
 abbrev pub group_acts : Parts → List Constant → List Value → List Value → Acts Value

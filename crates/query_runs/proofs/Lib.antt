@@ -1,7 +1,9 @@
 pub mod Starts
 pub mod Ending
+pub mod Turning
 pub mod Sections
 pub mod Readiness
 pub mod FilterStage
 pub mod RowStage
 pub mod LastStage
+pub mod SafeRuns

@@ -1,9 +1,8 @@
 -- The steps of one section are steps of the whole machine.
 use Rattle.std.proofs.Common.{◌≡◌, ◌≢◌, ℕ, zero, suc, ◌+◌, ◌<◌, ◌≤◌, List, length, true, refl, sym, ap}
-use Rattle.std.proofs.Common.{subst, ◌∙◌, arith, inl, inr, ◌⊎◌, Some, None, Option, add-suc}
+use Rattle.std.proofs.Common.{subst, ◌∙◌, arith, inl, inr, ◌⊎◌, add-suc}
 use Rattle.std.proofs.lemmas.Bool.{cases_lt}
 use Rattle.std.proofs.lemmas.Option.{slice_get_past}
-use Rattle.std.specs.Prelude.{slice_get}
 use Rattle.plain_machine.specs.Depth.{outcome_of, values_in}
 use Rattle.plain_machine.specs.PlainMachine.{Stand, Fault, step}
 use Rattle.plain_machine.specs.SectionRun.{Acts, Outcome, Standing, State, Stopped, after_steps}
@@ -15,7 +14,8 @@ use Rattle.query_rows.specs.Row.{Row}
 use Rattle.query_sections.specs.Room.{AreInside, GoesSafely, IsInside, OutcomeHasRoom}
 use Rattle.query_values.specs.declared.value.Value.{Value}
 use Rattle.query_runs.specs.Stands.{Gathered, keeps, run_after}
-use Rattle.query_runs.specs.Turns.{AreGoing, IsSafe}
+use Rattle.query_runs.proofs.Turning.{AreGoing}
+use Rattle.query_runs.specs.Turns.{IsSafe}
 
 -- what a section's outcome is to the whole machine
 pub record IsSection (p : Parts) (code : List Instruction) (m : Acts Value)

@@ -1,17 +1,16 @@
 -- What begins a section is what the plain machine begins.
-use Rattle.std.proofs.Common.{◌≡◌, ◌≢◌, ℕ, zero, suc, ◌+◌, ◌<◌, ◌≤◌, List, [], ◌∷◌, length, map, drop}
-use Rattle.std.proofs.Common.{Bool, true, false, cond, Some, Option, refl, sym, ap, subst, ◌∙◌, arith}
-use Rattle.std.proofs.Common.{get_or, add-one}
+use Rattle.std.proofs.Common.{◌≡◌, ◌≢◌, ℕ, zero, suc, ◌+◌, ◌<◌, ◌≤◌, List, [], ◌∷◌, length, drop}
+use Rattle.std.proofs.Common.{Bool, true, false, cond, Some, refl, sym, ap, subst, ◌∙◌, arith}
+use Rattle.std.proofs.Common.{add-one}
 use Rattle.std.specs.Prelude.{nat_eq, slice_get}
-use Rattle.std.proofs.Math.Seq.{drop-cons}
 use Rattle.plain_machine.specs.Gathering.{Group}
-use Rattle.plain_machine.specs.PlainMachine.{Kept, Stand, InFilter, InRow, InLast, Done, Fault}
-use Rattle.plain_machine.specs.PlainMachine.{begin_filter, begin_last, ended}
+use Rattle.plain_machine.specs.PlainMachine.{Kept, Stand, InFilter, InLast, Done, Fault}
+use Rattle.plain_machine.specs.PlainMachine.{begin_filter, begin_last}
 use Rattle.plain_machine.specs.Finishing.{are_orderable}
 use Rattle.plain_machine.specs.SectionRun.{Outcome, Standing, Stopped, State, begun, start}
 use Rattle.query_code.specs.declared.program.Parts.{Parts}
 use Rattle.query_rows.specs.Row.{Row}
-use Rattle.query_runs.specs.Stands.{Gathered, in_filter_at, in_last_at, in_row_at, kept_in}
+use Rattle.query_runs.specs.Stands.{Gathered, in_filter_at, in_last_at, kept_in}
 use Rattle.query_runs.specs.declared.run.Run.{Run}
 use Rattle.query_sections.specs.Standing.{standing, state_in}
 use Rattle.query_sections.specs.declared.frame.Frame.{Frame}

@@ -1,5 +1,5 @@
 -- Where the plain machine stands when a run stands so.
-use Rattle.std.specs.Prelude.{◌≡◌, ℕ, List, [], ◌∷◌, drop, map, Option}
+use Rattle.std.specs.Prelude.{◌≡◌, ℕ, List, [], ◌∷◌, drop, map}
 use Rattle.plain_machine.specs.Gathering.{Group, Keeping, running_values}
 use Rattle.plain_machine.specs.PlainMachine.{Kept, Stand, InFilter, InRow, InLast, Done, Fault}
 use Rattle.plain_machine.specs.PlainMachine.{after}

@@ -1,14 +1,14 @@
 //! Runs that go on, instruction by instruction.
-ghost use Rattle.std.specs.Prelude.{◌≡◌, ◌<◌, ◌≤◌, ◌+◌, IfOk, map};
+ghost use Rattle.std.specs.Prelude.{◌≡◌, ◌≢◌, true, ◌<◌, ◌≤◌, IfOk, map};
 ghost use Rattle.std.specs.Option.{option_copied};
 ghost use Rattle.plain_machine.specs.PlainMachine.{balance_in};
 ghost use Rattle.plain_machine.specs.Pool.{pattern_in};
-ghost use Rattle.query_runs.specs.Stands.{rows_in, run_after, stand_of};
-ghost use Rattle.query_runs.specs.Turns.{AreGoing, IsSafe};
+ghost use Rattle.query_runs.specs.Stands.{rows_in, stand_of};
+ghost use Rattle.query_runs.specs.Turns.{GoesOn, IsReached, IsSafe, is_at_end};
 ghost use Rattle.query_runs.specs.declared.run.Stage.TheVariants as stage;
 
-use crate::ends::{end_filter, end_row};
-use crate::run::{Inputs, Run};
+use crate::ends::{end_filter, end_last, end_row};
+use crate::run::{Inputs, Run, Stage};
 use query_code::Mode;
 use query_sections as sections;
 use query_sections::{Loads, Posting, Section};
@@ -30,21 +30,18 @@ pub fn filter_on<'r>(
     alloc: Global,
     input: &Inputs<'r, '_>,
     run: &mut Run<'r>,
-    before: u64,
     most: u64,
 ) -> Result<u64, AllocError>
     requires stage { run.old.stage ≡ stage.Filter }
     requires more { 0 < most }
     requires built { run.old.finders ≡ map pattern_in input.now.parts.now.code.pool }
     requires safe { IsSafe input.now.parts.now (rows_in input.now) run.old.frame.stack.room }
-    requires stands { stand_of (rows_in input.now) run.old
-        ≡ run_after input.now.parts.now (rows_in input.now) before }
+    requires reached { IsReached input.now.parts.now (rows_in input.now)
+        (stand_of (rows_in input.now) run.old) }
     ensures few { IfOk result (λ made. made ≤ most) }
     ensures some { IfOk result (λ made. 0 < made) }
-    ensures stands { IfOk result (λ made. stand_of (rows_in input.now) run.new
-        ≡ run_after input.now.parts.now (rows_in input.now) (before + made)) }
-    ensures going { IfOk result (λ made.
-        AreGoing input.now.parts.now (rows_in input.now) before made) }
+    ensures goes { IfOk result (λ made. GoesOn input.now.parts.now made
+        (stand_of (rows_in input.now) run.old) (stand_of (rows_in input.now) run.new)) }
     ensures finders { run.new.finders ≡ run.old.finders }
     ensures room { run.new.frame.stack.room ≡ run.old.frame.stack.room }
 {
@@ -81,21 +78,18 @@ pub fn row_on<'r>(
     alloc: Global,
     input: &Inputs<'r, '_>,
     run: &mut Run<'r>,
-    before: u64,
     most: u64,
 ) -> Result<u64, AllocError>
     requires stage { run.old.stage ≡ stage.Row }
     requires more { 0 < most }
     requires built { run.old.finders ≡ map pattern_in input.now.parts.now.code.pool }
     requires safe { IsSafe input.now.parts.now (rows_in input.now) run.old.frame.stack.room }
-    requires stands { stand_of (rows_in input.now) run.old
-        ≡ run_after input.now.parts.now (rows_in input.now) before }
+    requires reached { IsReached input.now.parts.now (rows_in input.now)
+        (stand_of (rows_in input.now) run.old) }
     ensures few { IfOk result (λ made. made ≤ most) }
     ensures some { IfOk result (λ made. 0 < made) }
-    ensures stands { IfOk result (λ made. stand_of (rows_in input.now) run.new
-        ≡ run_after input.now.parts.now (rows_in input.now) (before + made)) }
-    ensures going { IfOk result (λ made.
-        AreGoing input.now.parts.now (rows_in input.now) before made) }
+    ensures goes { IfOk result (λ made. GoesOn input.now.parts.now made
+        (stand_of (rows_in input.now) run.old) (stand_of (rows_in input.now) run.new)) }
     ensures finders { run.new.finders ≡ run.old.finders }
     ensures room { run.new.frame.stack.room ≡ run.old.frame.stack.room }
 {
@@ -123,6 +117,111 @@ pub fn row_on<'r>(
     )?;
     if run.frame.place == section.instructions.len() {
         end_row(alloc, input, run)?;
+    }
+    Ok(made)
+}
+
+/// Goes on in the last section by so many instructions, at most to its end and what follows there.
+pub fn last_on<'r>(
+    alloc: Global,
+    input: &Inputs<'r, '_>,
+    run: &mut Run<'r>,
+    most: u64,
+) -> Result<u64, AllocError>
+    requires stage { run.old.stage ≡ stage.Last }
+    requires more { 0 < most }
+    requires built { run.old.finders ≡ map pattern_in input.now.parts.now.code.pool }
+    requires safe { IsSafe input.now.parts.now (rows_in input.now) run.old.frame.stack.room }
+    requires reached { IsReached input.now.parts.now (rows_in input.now)
+        (stand_of (rows_in input.now) run.old) }
+    ensures few { IfOk result (λ made. made ≤ most) }
+    ensures some { IfOk result (λ made. 0 < made) }
+    ensures goes { IfOk result (λ made. GoesOn input.now.parts.now made
+        (stand_of (rows_in input.now) run.old) (stand_of (rows_in input.now) run.new)) }
+    ensures finders { run.new.finders ≡ run.old.finders }
+    ensures room { run.new.frame.stack.room ≡ run.old.frame.stack.room }
+{
+    let section = Section {
+        instructions: input.parts.code.last.as_slice(),
+        pool: input.parts.code.pool.as_slice(),
+    };
+    let loads = Loads {
+        schema: input.parts.bounds.schema,
+        posting: None,
+        running: None,
+        keys: run.groups.get(run.group).keys,
+        aggregates: run.groups.get(run.group).totals,
+    };
+    let made = sections::go_on(
+        alloc,
+        &section,
+        &loads,
+        &mut run.finders,
+        &mut run.frame,
+        most,
+    )?;
+    if run.frame.place == section.instructions.len() {
+        end_last(alloc, input, run)?;
+    }
+    Ok(made)
+}
+
+/// Goes on in the section that the run is in.
+fn stage_on<'r>(
+    alloc: Global,
+    input: &Inputs<'r, '_>,
+    run: &mut Run<'r>,
+    most: u64,
+) -> Result<u64, AllocError>
+    requires stage { run.old.stage ≢ stage.Done }
+    requires more { 0 < most }
+    requires built { run.old.finders ≡ map pattern_in input.now.parts.now.code.pool }
+    requires safe { IsSafe input.now.parts.now (rows_in input.now) run.old.frame.stack.room }
+    requires reached { IsReached input.now.parts.now (rows_in input.now)
+        (stand_of (rows_in input.now) run.old) }
+    ensures few { IfOk result (λ made. made ≤ most) }
+    ensures some { IfOk result (λ made. 0 < made) }
+    ensures goes { IfOk result (λ made. GoesOn input.now.parts.now made
+        (stand_of (rows_in input.now) run.old) (stand_of (rows_in input.now) run.new)) }
+    ensures finders { run.new.finders ≡ run.old.finders }
+    ensures room { run.new.frame.stack.room ≡ run.old.frame.stack.room }
+{
+    match run.stage {
+        Stage::Filter => filter_on(alloc, input, run, most),
+        Stage::Row => row_on(alloc, input, run, most),
+        Stage::Last => last_on(alloc, input, run, most),
+        Stage::Done => unreachable!(),
+    }
+}
+
+/// Whether a run has come to its end.
+pub fn is_done(run: &Run<'_>) -> bool
+    ensures { result ≡ is_at_end run.now.stage }
+{
+    matches!(run.stage, Stage::Done)
+}
+
+/// Goes on by so many instructions, at most to the end, and tells how many they were.
+pub fn go_on<'r>(
+    alloc: Global,
+    input: &Inputs<'r, '_>,
+    run: &mut Run<'r>,
+    most: u64,
+) -> Result<u64, AllocError>
+    requires built { run.old.finders ≡ map pattern_in input.now.parts.now.code.pool }
+    requires safe { IsSafe input.now.parts.now (rows_in input.now) run.old.frame.stack.room }
+    requires reached { IsReached input.now.parts.now (rows_in input.now)
+        (stand_of (rows_in input.now) run.old) }
+    ensures few { IfOk result (λ made. made ≤ most) }
+    ensures ends { IfOk result (λ made. made < most → is_at_end run.new.stage ≡ true) }
+    ensures goes { IfOk result (λ made. GoesOn input.now.parts.now made
+        (stand_of (rows_in input.now) run.old) (stand_of (rows_in input.now) run.new)) }
+    ensures finders { run.new.finders ≡ run.old.finders }
+    ensures room { run.new.frame.stack.room ≡ run.old.frame.stack.room }
+{
+    let mut made = 0;
+    while made < most && !is_done(run) {
+        made += stage_on(alloc, input, run, most - made)?;
     }
     Ok(made)
 }

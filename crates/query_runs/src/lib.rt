@@ -1,16 +1,17 @@
-//! Runs of a program over a ledger: where one stands, how it goes on at a posting, and what comes
-//! between its sections.
+//! Runs of a program over a ledger: how one begins, how it goes on at a posting or at a group, and
+//! what comes between its sections.
 //!
 //! ```text
 //! let input = Inputs { parts: &program.parts, ledger: &ledger };
-//! start_row(alloc, &input, &mut run)?;        // before the first instruction, or at the end
-//! let made = filter_on(alloc, &input, &mut run, 0, 1000)?;       // so many instructions, at most
-//! let more = row_on(alloc, &input, &mut run, made, 1000 - made)?;     // where run.stage is so
+//! let mut run = start(alloc, &input, patterns, depth)?;   // before the first instruction
+//! let made = go_on(alloc, &input, &mut run, 1000)?;       // so many instructions, at most
+//! if is_done(&run) { .. }                                 // run.into_rows() are its rows
 //! ```
 //!
 //! A [`Run`] stands before an instruction of one of the program's sections, at a posting or at a
-//! group, or it is at its end. [`filter_on`] and [`row_on`] go on in their section by a number of
-//! instructions, at most to its end and what follows there, and tell how many they were.
+//! group, or it is at its end. [`go_on`] goes on by a number of instructions, at most to the end,
+//! and tells how many they were; [`filter_on`], [`row_on`] and [`last_on`] do so within their
+//! section, at most to its end and what follows there.
 //!
 //! What comes between two sections isn't counted as a step: the running inventory takes the
 //! posting's position, a row of the answer is kept, or its group gathers what the posting brings.
@@ -28,14 +29,16 @@
 //!
 //! # Cost
 //!
-//! A posting that doesn't pass takes no memory; one that does takes that of its row, or of its keys
-//! where these are new.
+//! A run takes the memory of its stack where it begins. A posting that doesn't pass takes none; one
+//! that does takes that of its row, or of its keys where these are new.
 #![tactic(auto)]
 
 mod ends;
 mod going;
 mod run;
+mod starting;
 
 pub use ends::{end_filter, end_last, end_row, start_row};
-pub use going::{filter_on, row_on};
+pub use going::{filter_on, go_on, is_done, last_on, row_on};
 pub use run::{Inputs, Run, Stage};
+pub use starting::start;

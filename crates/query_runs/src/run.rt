@@ -1,4 +1,5 @@
 //! What a run reads, and where it stands.
+ghost use Rattle.std.specs.Prelude.{◌≡◌};
 
 use bean_base::List;
 use posting_table::Ledger;
@@ -41,4 +42,13 @@ pub struct Run<'r> {
     pub groups: Groups<'r>,
     /// The rows that came out, in their order.
     pub rows: Vec<List<Value<'r>>>,
+}
+
+impl<'r> Run<'r> {
+    /// The rows that came out so far, in their order.
+    pub fn into_rows(self) -> Vec<List<Value<'r>>>
+        ensures { result.items ≡ self.entry.rows.items }
+    {
+        self.rows
+    }
 }

@@ -1,8 +1,7 @@
-use Rattle.std.proofs.Common.{ap, ◌∙◌, sym, List, drop}
+use Rattle.std.proofs.Common.{◌∙◌, sym}
 use Rattle.std.proofs.lemmas.Result.{on_ok_weaker}
-use Rattle.plain_machine.specs.PlainMachine.{begin_filter}
 use Rattle.query_runs.specs.Stands.{kept_in, rows_in}
-use Rattle.query_runs.proofs.Ending.{kept_there, row_goes_on, row_next}
+use Rattle.query_runs.proofs.Ending.{kept_there, row_next}
 use Rattle.query_runs.proofs.ends.end_row.Goals as goal
 
 pub keep-requires : goal.keep-requires

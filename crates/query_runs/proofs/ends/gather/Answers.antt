@@ -1,7 +1,7 @@
 use Rattle.std.proofs.Common.{ap, sym, ◌≡◌, ◌∙◌, ◌+◌, ◌-◌, arith, length}
 use Rattle.std.proofs.lemmas.Result.{on_ok_weaker}
 use Rattle.plain_machine.specs.Gathering.{put, running_values}
-use Rattle.query_runs.specs.Stands.{keeps, kept_in}
+use Rattle.query_runs.specs.Stands.{kept_in}
 use Rattle.query_runs.proofs.Ending.{gathered_is, keys_few, put_there}
 use Rattle.query_runs.proofs.ends.gather.Goals as goal
 

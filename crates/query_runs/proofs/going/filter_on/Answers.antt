@@ -2,6 +2,7 @@ use Rattle.std.proofs.Common.{◌∙◌, ◌+◌, sym, refl, arith}
 use Rattle.query_runs.specs.Stands.{rows_in}
 use Rattle.query_runs.proofs.FilterStage.{in_filter_there, filter_safely, filter_ended, filter_inside}
 use Rattle.query_runs.proofs.FilterStage.{filter_going, filter_at_next, some_made}
+use Rattle.query_runs.proofs.Turning.{goes_on_from}
 use Rattle.query_runs.proofs.going.filter_on.Goals as goal
 
 pub go_on-requires-clause-within : goal.go_on-requires-clause-within
@@ -10,9 +11,9 @@ go_on-requires-clause-within c =
     let rows = rows_in c.args.input.now in
     let run = c.args.run.now in
     let room = run.frame.stack.room in
-    let f = in_filter_there p rows run c.args.before room c.requires.stage c.requires.stands
+    let f = in_filter_there p rows run c.requires.reached.count room c.requires.stage c.requires.reached.is
     c.requires.safe in
-    let inside = filter_inside p rows run c.args.before room f c.as_slice.result.now c.as_slice-2.result.now
+    let inside = filter_inside p rows run c.requires.reached.count room f c.as_slice.result.now c.as_slice-2.result.now
     c.as_slice.ensures c.as_slice-2.ensures c.requires.safe in
     omega (arith, inside)
 
@@ -22,9 +23,9 @@ go_on-requires-clause-safe c =
     let rows = rows_in c.args.input.now in
     let run = c.args.run.now in
     let room = run.frame.stack.room in
-    let f = in_filter_there p rows run c.args.before room c.requires.stage c.requires.stands
+    let f = in_filter_there p rows run c.requires.reached.count room c.requires.stage c.requires.reached.is
     c.requires.safe in
-    filter_safely p rows run c.args.before room f c.as_slice.result.now c.as_slice-2.result.now
+    filter_safely p rows run c.requires.reached.count room f c.as_slice.result.now c.as_slice-2.result.now
     c.as_slice.ensures c.as_slice-2.ensures c.requires.safe
 
 pub end_filter-requires-clause-fine : goal.end_filter-requires-clause-fine
@@ -33,10 +34,10 @@ end_filter-requires-clause-fine c = λ fault.
     let rows = rows_in c.args.input.now in
     let run = c.args.run.now in
     let room = run.frame.stack.room in
-    let f = in_filter_there p rows run c.args.before room c.requires.stage c.requires.stands
+    let f = in_filter_there p rows run c.requires.reached.count room c.requires.stage c.requires.reached.is
     c.requires.safe in
-    c.requires.safe.never_faults (c.args.before + c.in_ok-made.made)
-    (filter_ended p rows run c.args.before room f c.as_slice.result.now c.as_slice-2.result.now
+    c.requires.safe.never_faults (c.requires.reached.count + c.in_ok-made.made)
+    (filter_ended p rows run c.requires.reached.count room f c.as_slice.result.now c.as_slice-2.result.now
     c.as_slice.ensures c.as_slice-2.ensures c.requires.safe c.in_ok-made.made c.in_ok-made.ensures.inside c.go_on.new.frame
     c.in_ok-made.ensures.stands
     c.if-run-section.true ∙ fault)
@@ -47,24 +48,12 @@ returns-in_ok-end_filter-clause-some c =
     let rows = rows_in c.args.input.now in
     let run = c.args.run.now in
     let room = run.frame.stack.room in
-    let f = in_filter_there p rows run c.args.before room c.requires.stage c.requires.stands
+    let f = in_filter_there p rows run c.requires.reached.count room c.requires.stage c.requires.reached.is
     c.requires.safe in
-    some_made p rows run c.args.before room f c.as_slice.result.now c.as_slice-2.result.now
+    some_made p rows run c.requires.reached.count room f c.as_slice.result.now c.as_slice-2.result.now
     c.as_slice.ensures c.as_slice-2.ensures c.requires.safe c.in_ok-made.made c.in_ok-made.ensures.inside c.go_on.new.frame
     c.in_ok-made.ensures.stands
     c.args.most c.requires.more c.in_ok-made.ensures.ends
-
-pub returns-in_ok-end_filter-clause-going : goal.returns-in_ok-end_filter-clause-going
-returns-in_ok-end_filter-clause-going c =
-    let p = c.args.input.now.parts.now in
-    let rows = rows_in c.args.input.now in
-    let run = c.args.run.now in
-    let room = run.frame.stack.room in
-    let f = in_filter_there p rows run c.args.before room c.requires.stage c.requires.stands
-    c.requires.safe in
-    filter_going p rows run c.args.before room f c.as_slice.result.now c.as_slice-2.result.now
-    c.as_slice.ensures c.as_slice-2.ensures c.requires.safe c.in_ok-made.made c.in_ok-made.ensures.inside c.go_on.new.frame
-    c.in_ok-made.ensures.stands
 
 pub returns-else-run-section-clause-some : goal.returns-else-run-section-clause-some
 returns-else-run-section-clause-some c =
@@ -72,48 +61,44 @@ returns-else-run-section-clause-some c =
     let rows = rows_in c.args.input.now in
     let run = c.args.run.now in
     let room = run.frame.stack.room in
-    let f = in_filter_there p rows run c.args.before room c.requires.stage c.requires.stands
+    let f = in_filter_there p rows run c.requires.reached.count room c.requires.stage c.requires.reached.is
     c.requires.safe in
-    some_made p rows run c.args.before room f c.as_slice.result.now c.as_slice-2.result.now
+    some_made p rows run c.requires.reached.count room f c.as_slice.result.now c.as_slice-2.result.now
     c.as_slice.ensures c.as_slice-2.ensures c.requires.safe c.in_ok-made.made c.in_ok-made.ensures.inside c.go_on.new.frame
     c.in_ok-made.ensures.stands
     c.args.most c.requires.more c.in_ok-made.ensures.ends
 
-pub returns-else-run-section-clause-going : goal.returns-else-run-section-clause-going
-returns-else-run-section-clause-going c =
+pub returns-in_ok-end_filter-clause-goes : goal.returns-in_ok-end_filter-clause-goes
+returns-in_ok-end_filter-clause-goes c =
     let p = c.args.input.now.parts.now in
     let rows = rows_in c.args.input.now in
     let run = c.args.run.now in
     let room = run.frame.stack.room in
-    let f = in_filter_there p rows run c.args.before room c.requires.stage c.requires.stands
+    let f = in_filter_there p rows run c.requires.reached.count room c.requires.stage c.requires.reached.is
     c.requires.safe in
-    filter_going p rows run c.args.before room f c.as_slice.result.now c.as_slice-2.result.now
+    goes_on_from p rows c.requires.reached.count c.in_ok-made.made _ _ c.requires.reached.is
+    (c.in_ok-end_filter.ensures.stand
+    ∙ sym (filter_ended p rows run c.requires.reached.count room f c.as_slice.result.now c.as_slice-2.result.now
     c.as_slice.ensures c.as_slice-2.ensures c.requires.safe c.in_ok-made.made c.in_ok-made.ensures.inside c.go_on.new.frame
     c.in_ok-made.ensures.stands
+    c.if-run-section.true))
+    (filter_going p rows run c.requires.reached.count room f c.as_slice.result.now c.as_slice-2.result.now
+    c.as_slice.ensures c.as_slice-2.ensures c.requires.safe c.in_ok-made.made c.in_ok-made.ensures.inside c.go_on.new.frame
+    c.in_ok-made.ensures.stands)
 
-pub returns-in_ok-end_filter-clause-stands : goal.returns-in_ok-end_filter-clause-stands
-returns-in_ok-end_filter-clause-stands c =
+pub returns-else-run-section-clause-goes : goal.returns-else-run-section-clause-goes
+returns-else-run-section-clause-goes c =
     let p = c.args.input.now.parts.now in
     let rows = rows_in c.args.input.now in
     let run = c.args.run.now in
     let room = run.frame.stack.room in
-    let f = in_filter_there p rows run c.args.before room c.requires.stage c.requires.stands
+    let f = in_filter_there p rows run c.requires.reached.count room c.requires.stage c.requires.reached.is
     c.requires.safe in
-    c.in_ok-end_filter.ensures.stand
-    ∙ sym (filter_ended p rows run c.args.before room f c.as_slice.result.now c.as_slice-2.result.now
+    goes_on_from p rows c.requires.reached.count c.in_ok-made.made _ _ c.requires.reached.is
+    (filter_at_next p rows run c.requires.reached.count room f c.as_slice.result.now c.as_slice-2.result.now
     c.as_slice.ensures c.as_slice-2.ensures c.requires.safe c.in_ok-made.made c.in_ok-made.ensures.inside c.go_on.new.frame
     c.in_ok-made.ensures.stands
-    c.if-run-section.true)
-
-pub returns-else-run-section-clause-stands : goal.returns-else-run-section-clause-stands
-returns-else-run-section-clause-stands c =
-    let p = c.args.input.now.parts.now in
-    let rows = rows_in c.args.input.now in
-    let run = c.args.run.now in
-    let room = run.frame.stack.room in
-    let f = in_filter_there p rows run c.args.before room c.requires.stage c.requires.stands
-    c.requires.safe in
-    filter_at_next p rows run c.args.before room f c.as_slice.result.now c.as_slice-2.result.now
+    _ c.if-run-section.false refl refl refl c.requires.stage)
+    (filter_going p rows run c.requires.reached.count room f c.as_slice.result.now c.as_slice-2.result.now
     c.as_slice.ensures c.as_slice-2.ensures c.requires.safe c.in_ok-made.made c.in_ok-made.ensures.inside c.go_on.new.frame
-    c.in_ok-made.ensures.stands
-    _ c.if-run-section.false refl refl refl c.requires.stage
+    c.in_ok-made.ensures.stands)

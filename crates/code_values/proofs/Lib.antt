@@ -1,0 +1,2 @@
+pub mod GivesFacts
+pub mod CodeFacts

@@ -1,0 +1,2 @@
+pub mod CoreValue
+pub mod Laws

@@ -1,0 +1,2 @@
+pub mod OwnTurns
+pub mod Joining

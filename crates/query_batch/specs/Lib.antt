@@ -1,0 +1,3 @@
+pub mod BatchCause
+pub mod Members
+pub mod Batch

@@ -1,0 +1,67 @@
+//! Runs side by side.
+ghost use Rattle.query_batch.specs.Batch.{AreJoined, TakesTurn};
+ghost use Rattle.std.specs.Prelude.{◌≡◌, IfOk};
+
+use crate::cause::BatchCause;
+use crate::member::Member;
+use posting_table::Ledger;
+use query_machine::Turn;
+use std::alloc::{AllocError, Global};
+use std::marker::Model;
+use verified_program::Checked;
+
+/// Runs of several programs over one ledger. Its value is the list of them.
+#[derive(Drop)]
+pub struct Batch<'r, 'a> {
+    runs: Vec<Member<'r, 'a>>,
+}
+
+impl<'r, 'a> Model for Batch<'r, 'a> {
+    ghost use Rattle.std.specs.Prelude.{List};
+    ghost use Rattle.std.specs.Coded.{codes};
+    ghost use Rattle.posting_table.specs.Decimals.{decimals_code};
+    ghost use Rattle.query_batch.specs.declared.member.Member.{Member};
+
+    ghost Value = { List Member };
+
+    ghost coded = { Prim.hlevel (codes, decimals_code) };
+
+    ghost view = { λ b. b.runs.items };
+}
+
+impl<'r, 'a> Batch<'r, 'a> {
+    /// A run of each program over the ledger, before its first turn. One whose bounds the ledger is
+    /// outside stands for that refusal.
+    pub fn new(
+        alloc: Global,
+        ledger: &'r Ledger<'a>,
+        programs: &'r [Checked<'r>],
+    ) -> Result<Batch<'r, 'a>, AllocError>
+        ensures { IfOk result (AreJoined ledger.now programs.now) }
+    {
+        let mut runs = Vec::with_capacity(alloc, programs.len())?;
+        for program in programs {
+            runs.push(Member::start(alloc, program, ledger)?)?;
+        }
+        Ok(Batch { runs })
+    }
+
+    /// A turn of so many steps for the run of this number. Nothing that one run meets changes
+    /// another.
+    pub fn turn(&mut self, number: usize, k: u64) -> Result<Turn, BatchCause>
+        ensures { TakesTurn number k self.old self.new result }
+    {
+        if number >= self.runs.len() {
+            return Err(BatchCause::NoSuchRun);
+        }
+        let run = &mut self.runs[number];
+        Ok(run.turn(k))
+    }
+
+    /// The runs in the order of their programs, each of which tells what it answers.
+    pub fn answers(&self) -> &[Member<'r, 'a>]
+        ensures { result.now ≡ self.now }
+    {
+        self.runs.as_slice()
+    }
+}

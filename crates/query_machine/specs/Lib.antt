@@ -1,0 +1,6 @@
+pub mod RunCause
+pub mod RunOf
+pub mod Run
+pub mod Turns
+pub mod Starts
+pub mod Progress

@@ -1,0 +1,22 @@
+//! How far runs have come.
+
+use query_answer::Answer;
+use query_runs::Run;
+
+/// A run that can go on, and how many steps it has made.
+#[derive(Drop)]
+pub struct Standing<'r> {
+    pub run: Run<'r>,
+    pub steps: u64,
+}
+
+/// How far a run has come.
+#[derive(Drop)]
+pub enum Progress<'r> {
+    /// Before an instruction, or before its first turn.
+    Standing(Standing<'r>),
+    /// At its end.
+    Ended(Answer<'r>),
+    /// Memory lacked.
+    Failed,
+}
