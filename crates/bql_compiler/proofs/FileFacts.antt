@@ -1,4 +1,4 @@
--- What is compiled is a program: its parts have a file.
+-- What is compiled is a program: its parts have a file. It is well shaped, and carries its query.
 use Rattle.std.proofs.Common.{◌≡◌, ℕ, ◌≤◌, ◌<◌, ◌^◌, Bool, true, false, cond, [], ◌++◌}
 use Rattle.std.proofs.Common.{map, length, Option, Some, None, refl, sym, ap, ◌∙◌, subst, arith}
 use Rattle.std.proofs.Common.{inl, inr}
@@ -13,6 +13,7 @@ use Rattle.bql_lowering.specs.Lowered.{all_lowered, of_a_row}
 use Rattle.bql_parser.specs.Asked.{Asked}
 use Rattle.bql_parser.specs.Small.{IsSmall, IsSmallTree}
 use Rattle.bql_plan.specs.Plan.{Plan, index_for, plan, shown}
+use Rattle.bql_scheme.specs.Carried.{Carries}
 use Rattle.bql_scheme.specs.Program.{IsTooLong, filter_of, filtering, gathered_of, inputs_in}
 use Rattle.bql_scheme.specs.Program.{mode_of, output_of, parts_of, sections_of, target_name}
 use Rattle.bql_tree.specs.Tree.{Tree}
@@ -178,3 +179,8 @@ module _ (b : Bounds) (q : Asked) (bounds : AreBounds b) (typed : IsTyped b q) (
       (λ pool. subst (λ p. AllFit text p.output.targets
       → IfSome p.output.limit (λ n. n < 2 ^ 32) → AllFit constant p.code.pool → ∥ file.fits p ∥₁)
       (sym is.parts) (λ names limit pool. ∣ fits is.within names limit pool ∣₁) names limit pool))
+
+-- what the program of the scheme carries, the same parts carry
+pub compiled_carries : (b : Bounds) (q : Asked) (p : Parts) → IsCompiled b q p
+    → Carries b (parts_of b q) q → Carries b p q
+compiled_carries b q p is carries = subst (λ p. Carries b p q) (sym is.parts) carries

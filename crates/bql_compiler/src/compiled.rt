@@ -5,6 +5,7 @@ ghost use Rattle.bql_compiler.specs.Limits as rule;
 ghost use Rattle.bql_parser.specs.Answer.{query_of};
 ghost use Rattle.bql_plan.specs.Kept.{numbered_of};
 ghost use Rattle.bql_plan.specs.Plan.{plan};
+ghost use Rattle.bql_scheme.specs.Carried.{Carries};
 ghost use Rattle.bql_scheme.specs.Program as scheme;
 ghost use Rattle.limits.specs.declared.counts.TheConstants.{LONGEST_SECTION, MOST_ITEMS};
 ghost use Rattle.query_code.specs.ByteForm.{AllFit};
@@ -148,6 +149,9 @@ pub fn compile<'a>(
     // The program is that of the scheme, which keeps within the limits.
     ensures answer { IfOk result (λ p.
         rule.IsCompiled typed.now.bounds (query_of typed.now.query.now) p.parts) }
+    // What comes out of it is what the query answers.
+    ensures carries { IfOk result (λ p.
+        Carries typed.now.bounds p.parts (query_of typed.now.query.now)) }
     // The verifier accepts it.
     ensures shaped { IfOk result (λ p. ∥ IsWellShaped p.parts ∥₁) }
     // What is refused is refused for the least cause that holds.

@@ -8,8 +8,9 @@
 //! ```
 //!
 //! The program is that of the scheme, whose definition is in `bql_scheme`, with the bounds by which
-//! the query has its type. It is well shaped: so its file is accepted by the verifier, unless memory
-//! lacks or a pattern isn't built there.
+//! the query has its type. It carries the query: what comes out of it is what the query answers. And
+//! it is well shaped: so its file is accepted by the verifier, unless memory lacks or a pattern isn't
+//! built there.
 //!
 //! # Refusals
 //!

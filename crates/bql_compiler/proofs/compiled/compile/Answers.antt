@@ -1,9 +1,11 @@
 use Rattle.std.proofs.Common.{sym, subst}
-use Rattle.bql_compiler.proofs.FileFacts.{compiled_fits, compiled_shaped, parts_are}
+use Rattle.bql_compiler.proofs.FileFacts.{compiled_carries, compiled_fits, compiled_shaped}
+use Rattle.bql_compiler.proofs.FileFacts.{parts_are}
 use Rattle.bql_compiler.proofs.PlannedFacts.{has_room}
 use Rattle.bql_compiler.specs.Output.{HasRoom}
 use Rattle.bql_parser.proofs.SmallLaw.{queries_are_small}
 use Rattle.bql_parser.specs.Answer.{query_of}
+use Rattle.carried_queries.proofs.CarriedFacts.{carries}
 use Rattle.bql_plan.specs.Kept.{numbered_of}
 use Rattle.bql_compiler.proofs.compiled.compile.Goals as goal
 
@@ -41,3 +43,13 @@ returns-clause-shaped c =
     (parts_are typed.bounds q (numbered_of c.in_ok-numbering.numbering) c.in_ok-numbering.ensures
     c.mode_of.result c.mode_of.ensures c.in_ok-output.output c.in_ok-output.ensures.output
     c.in-Ok.code c.in-Ok.ensures.code c.in-Ok.ensures.within)
+
+pub returns-clause-carries : goal.returns-clause-carries
+returns-clause-carries c =
+    let typed = c.args.typed.now in
+    let q = query_of typed.query.now in
+    compiled_carries typed.bounds q _
+    (parts_are typed.bounds q (numbered_of c.in_ok-numbering.numbering) c.in_ok-numbering.ensures
+    c.mode_of.result c.mode_of.ensures c.in_ok-output.output c.in_ok-output.ensures.output
+    c.in-Ok.code c.in-Ok.ensures.code c.in-Ok.ensures.within)
+    (carries typed.bounds typed.query.now typed.has_type)
