@@ -1,0 +1,109 @@
+//! Ledgers and programs that the tests run.
+ghost use Rattle.std.specs.Prelude.{IfOk, ◌≤◌, length};
+ghost use Rattle.posting_table.specs.Parts.{HasShortTexts, HasSmallParts, IsShortSet};
+
+use bean_base::{Flag, Slice, parse_account, parse_currency, parse_day};
+use bean_lots::{Key, Position};
+use limits::MOST_POSTINGS;
+use posting_table::{Entry, EntryFlag, Ledger, Metadata, PlainText, Row, Shared, Weight};
+use query_answer::Answer;
+use query_values::{TextSet, Value};
+use std::alloc::Global;
+use std::test::Fail;
+
+/// `SELECT count(*)` at the bounds 1000000, 20 and 28, in the first version.
+pub const COUNT: [u8; 43] = [
+    0x42, 0x51, 0x4c, 0x43, 0x00, 0x01, 0x00, 0x0f, 0x42, 0x40, 0x14, 0x1c, 0x01, 0x00, 0x00, 0x00,
+    0x01, 0x00, 0x08, 0x63, 0x6f, 0x75, 0x6e, 0x74, 0x28, 0x2a, 0x29, 0x00, 0x00, 0x00, 0x01, 0x00,
+    0x00, 0x00, 0x00, 0x01, 0x00, 0x00, 0x00, 0x00, 0x01, 0x07, 0x00,
+];
+
+/// The same with at most so many postings.
+pub fn count_of_few(postings: u8) -> [u8; 43] {
+    let mut bytes = COUNT;
+    bytes[7] = 0;
+    bytes[8] = 0;
+    bytes[9] = postings;
+    bytes
+}
+
+/// A set of one text.
+fn set_of<'a>(alloc: Global, text: &'a str) -> Result<TextSet<'a>, Fail>
+    requires { length text.now ≤ 100 }
+    ensures { IfOk result (λ set. IsShortSet set) }
+{
+    let texts = Vec::from_array(alloc, [Slice::new(text)])?;
+    Ok(TextSet::new(texts))
+}
+
+/// What the postings of a lunch have in common.
+fn lunch(alloc: Global) -> Result<Entry<'static>, Fail>
+    ensures { IfOk result (λ entry. HasShortTexts entry) }
+{
+    Ok(Entry {
+        payee: None,
+        narration: PlainText::lent("Lunch"),
+        tags: set_of(alloc, "trip")?,
+        links: set_of(alloc, "a-1")?,
+        accounts: set_of(alloc, "Assets:Cash")?,
+        metadata: Metadata::empty(),
+        date: parse_day("2014-01-02")?,
+        flag: EntryFlag::Written(Flag::Complete),
+    })
+}
+
+/// A dollar that was paid.
+fn dollar(entry: Shared<Entry<'static>>) -> Result<Row<'static>, Fail>
+    requires { HasShortTexts entry }
+    ensures { IfOk result (λ row. HasSmallParts row) }
+{
+    Ok(Row {
+        entry,
+        account: parse_account("Assets:Cash")?,
+        position: Position {
+            key: Key {
+                currency: parse_currency("USD")?,
+                lot: None,
+            },
+            count: -100_000_000,
+        },
+        weight: Weight {
+            count: -10_000_000_000_000_000,
+            currency: parse_currency("USD")?,
+        },
+        price: None,
+        metadata: Metadata::empty(),
+        line: 7,
+        flag: None,
+    })
+}
+
+/// A ledger of so many dollars.
+#[tactic(auto, using(posting_table::proofs::PartFacts::row_lies))]
+pub fn dollars(alloc: Global, count: usize) -> Result<Ledger<'static>, Fail> {
+    let mut ledger = Ledger::new(alloc);
+    for _ in 0..count {
+        let entry = Shared::new(alloc, lunch(alloc)?)?;
+        let row = dollar(entry)?;
+        if ledger.len() < MOST_POSTINGS {
+            ledger.push(row)?;
+        }
+    }
+    Ok(ledger)
+}
+
+/// The one number that an answer has, where it has one row of one value.
+pub fn number_in(answer: &Answer<'_>) -> Option<i128> {
+    let rows = answer.rows.as_slice();
+    if rows.len() != 1 {
+        return None;
+    }
+    let row = rows[0].as_slice();
+    if row.len() != 1 {
+        return None;
+    }
+    match &row[0] {
+        Value::Number { count, .. } => Some(*count),
+        _ => None,
+    }
+}
