@@ -1,0 +1,2 @@
+pub mod StandFacts
+pub mod ShownFacts
