@@ -1,0 +1,2 @@
+mod TableFacts
+mod FileFacts

@@ -1,0 +1,39 @@
+//! From a query file and a ledger to the table of its answer.
+//!
+//! ```text
+//! let text = answer_file(alloc, &bytes, &ledger)?;   // checked, run and printed
+//!
+//! let checked = check_file(alloc, &bytes)?;          // or checked once,
+//! let text = table(alloc, &checked, &ledger)?;       // and run over many ledgers
+//!
+//! // count(*)
+//! // --------
+//! //        3
+//! ```
+//!
+//! Here is said in one contract what the stages promise each for itself. A file that is accepted,
+//! whoever made it, ends over each ledger within the bounds of its header: without a fault, within
+//! its budget of steps, with the rows that the plain machine gives, and the text is their table. Of
+//! a file that the compiler made it is the table of what the query means over the booked postings.
+//!
+//! # Refusals
+//!
+//! [`answer_file`] tells those of `query_verifier` (`V1` to `V18`, with the byte), and then, as
+//! [`table`] does, `M1` exactly where the ledger is outside the bounds. Each says what holds of the
+//! bytes or of the ledger; only want of memory, and a pattern that isn't built, say nothing more.
+//!
+//! # Cost
+//!
+//! That of the check, of the run and of the table. The answer's rows are kept until they are
+//! printed.
+#![tactic(auto)]
+
+mod answering;
+mod cause;
+mod laws;
+mod tables;
+
+pub use answering::answer_file;
+pub use cause::AnswerCause;
+pub use laws::one_table_each;
+pub use tables::table;
