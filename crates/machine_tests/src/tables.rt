@@ -28,6 +28,6 @@ fn files_answer_tables(rt: HostRuntime) -> Result<(), Fail> {
     let three = "count(*)\n--------\n       3\n";
     assert!(rt; answers(rt.alloc(), &COUNT, &ledger, three));
     assert!(rt; is_refused(rt.alloc(), &count_of_few(2), &ledger, "M1"));
-    assert!(rt; is_refused(rt.alloc(), b"no query file", &ledger, "V1"));
+    assert!(rt; is_refused(rt.alloc(), b"no query file".as_slice(), &ledger, "V1"));
     Ok(())
 }

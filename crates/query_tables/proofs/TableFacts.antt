@@ -1,5 +1,5 @@
 -- The table of what a run answers.
-use Rattle.std.proofs.Common.{◌≡◌, ◌⊎◌, ℕ, List, [], ◌∷◌, length, All, true, refl, sym, ap, ◌∙◌, subst}
+use Rattle.std.proofs.Common.{◌≡◌, ◌⊎◌, ℕ, List, [], ◌∷◌, length, All, true, sym, ap, ◌∙◌, subst}
 use Rattle.std.proofs.Common.{inl, inr}
 use Rattle.std.proofs.Math.Logic.{∥∥₁_elim}
 use Rattle.std.proofs.Props.{props}
@@ -12,7 +12,6 @@ use Rattle.plain_machine.proofs.AnswerFacts.{one_answer, within_budget}
 use Rattle.plain_machine.proofs.UpgradeFacts.{runs_alike}
 use Rattle.plain_machine.specs.Answer as plain
 use Rattle.plain_machine.specs.Answer.{Answers}
-use Rattle.plain_machine.specs.PlainMachine.{stand_after}
 use Rattle.plain_machine.specs.Upgrade.{KnowsColumn, NamesItsColumns}
 use Rattle.plain_machine.specs.WholeRun.{is_going}
 use Rattle.posting_table.specs.Decimals.{decimals_of}

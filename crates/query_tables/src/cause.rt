@@ -1,6 +1,4 @@
 //! Why a file gives no table.
-ghost use Rattle.std.specs.Prelude.{◌≡◌};
-
 use query_machine::RunCause;
 use query_verifier::VerifierCause;
 use refusals::Cause;

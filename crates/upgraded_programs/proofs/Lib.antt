@@ -1,2 +1,2 @@
 mod ShapeFacts
-mod NameFacts
+pub mod NameFacts
