@@ -8,5 +8,3 @@ mod batches;
 mod ledgers;
 #[cfg(test)]
 mod runs;
-#[cfg(test)]
-mod tables;
