@@ -8,3 +8,5 @@ mod batches;
 mod ledgers;
 #[cfg(test)]
 mod runs;
+#[cfg(test)]
+mod tables;
