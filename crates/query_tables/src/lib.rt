@@ -24,8 +24,8 @@
 //!
 //! # Cost
 //!
-//! That of the check, of the run and of the table. The answer's rows are kept until they are
-//! printed.
+//! That of the check, of the run and of the table; the ledger is looked at twice for whether it is
+//! within the bounds. The answer's rows are kept until they are printed.
 #![tactic(auto)]
 
 mod answering;
