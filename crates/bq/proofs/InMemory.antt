@@ -1,21 +1,21 @@
 -- A run over a store and outputs of memory is one over any.
-use Rattle.std.proofs.Common.{ℕ, List, Option, Result, Ok, Err}
+use Rattle.std.proofs.Common.{inl, inr, ℕ, List, Result, Ok, Err}
 use Rattle.clap.specs.Walk.{Text}
 use Rattle.outputs.proofs.KeptFront.{keeps_front}
 use Rattle.outputs.specs.Holding.{Holding}
 use Rattle.outputs.specs.Output.{TookFront}
 use Rattle.outputs.specs.ShortWriter.{short_writer}
 use Rattle.stores.proofs.Held.{gives_what_it_holds}
-use Rattle.stores.specs.MemoryStore.{memory_source}
 use Rattle.stores.specs.Shelf.{Shelf}
 use Rattle.stores.specs.Reading.{Reading}
-use Rattle.bq.specs.MemoryRun.{KeptFront, in_memory, kept_in}
-use Rattle.bq.specs.Runs.{Comes, Ends, TellsWhy, deeds, written}
-use Rattle.bq.specs.Command.{Due}
+use Rattle.stores.specs.declared.source.SourceFault.{SourceFault}
+use Rattle.stores.specs.declared.source.SourceFault.TheVariants as store
+use Rattle.bq.specs.MemoryRun.{KeptFront, in_memory, kept_in, memory_store}
+use Rattle.bq.specs.Runs.{Comes, Ends, Keeps, TellsWhy, deeds, written}
+use Rattle.bq.specs.Due.{Due}
 use Rattle.bq.specs.Commands.{due_to}
 use Rattle.bq.specs.declared.refusal.Refusal.{Refusal}
-use Rattle.bq.specs.declared.refusal.Cause.TheVariants as cause
-use Rattle.bq.specs.declared.refusal.Refusal.TheVariants.{OutOfMemory, Refused}
+use Rattle.bq.specs.declared.refusal.Refusal.TheVariants.{OutOfMemory, Refused, NotWritten, NotKept}
 use Rattle.bq.specs.declared.verdict.Verdict.{Verdict}
 
 took : (old new : Holding) (text : List ℕ) (n : ℕ) → TookFront short_writer old new text n
@@ -28,29 +28,41 @@ tells : (old new : Holding) (result : Result Verdict Refusal)
 tells old new (Ok verdict) h = h
 tells old new (Err r) h = (h.0, took old new _ _ h.1)
 
-comes :
-    (d : Due) (readings : List Reading) (old new : Holding) (result : Result Verdict Refusal)
-    → Comes d readings (written short_writer old new) result
-    → Comes d readings (kept_in old new) result
-comes d readings old new (Ok verdict) h = (h.0, (h.1.0, h.1.1, took old new _ _ h.1.2))
-comes d readings old new (Err (Refused (cause.NotWritten n))) h =
-    (h.0, (h.1.0, h.1.1, (h.1.2.0, took old new _ _ h.1.2.1)))
-comes d readings old new (Err (Refused cause.Words)) h = h
-comes d readings old new (Err (Refused (cause.Load f))) h = h
-comes d readings old new (Err (Refused (cause.File f))) h = h
-comes d readings old new (Err (Refused cause.TooManyPostings)) h = h
-comes d readings old new (Err OutOfMemory) h = h
+module _ (d : Due) (readings : List Reading) (s t : Shelf) (old new : Holding) where
+  keeps : (answer : Result Unit SourceFault)
+      → Keeps d (deeds memory_store s t (written short_writer old new)) readings answer
+      → Keeps d (in_memory s t (kept_in old new)) readings answer
+  keeps answer h = (
+    h.0,
+    h.1,
+    h.2,
+    (h.3.0, gives_what_it_holds s h.3.0 readings h.3.1, h.3.2.may),
+    h.4,
+  )
 
-pub ends : (store store' : Shelf) (out out' err err' : Holding) (words : List Text) (status : ℕ)
-    → Ends (deeds memory_source store store' (written short_writer out out'))
+  comes : (result : Result Verdict Refusal)
+      → Comes d (deeds memory_store s t (written short_writer old new)) readings result
+      → Comes d (in_memory s t (kept_in old new)) readings result
+  comes (Ok verdict) (inl h) =
+      inl (h.0, (gives_what_it_holds s t readings h.1.0, h.1.1, took old new _ _ h.1.2))
+  comes (Ok verdict) (inr h) = inr (h.0, keeps (Ok tt) h.1)
+  comes (Err (Refused cause)) h = (gives_what_it_holds s t readings h.0, h.1, h.2)
+  comes (Err (NotWritten n)) h =
+      (h.0, h.1, (gives_what_it_holds s t readings h.2.0, h.2.1, took old new _ _ h.2.2), h.3)
+  comes (Err NotKept) h = keeps (Err store.Failed) h
+  comes (Err OutOfMemory) (inl h) = inl (gives_what_it_holds s t readings h.0, h.1)
+  comes (Err OutOfMemory) (inr h) = inr (keeps (Err store.OutOfMemory) h)
+
+pub ends : (s t : Shelf) (out out' err err' : Holding) (words : List Text) (status : ℕ)
+    → Ends (deeds memory_store s t (written short_writer out out'))
     (written short_writer err err') words status
-    → Ends (in_memory store store' (kept_in out out')) (kept_in err err') words status
-ends store store' out out' err err' words status h = record {
+    → Ends (in_memory s t (kept_in out out')) (kept_in err err') words status
+ends s t out out' err err' words status h = record {
   result = h.result;
   runs = (
     h.runs.0,
-    gives_what_it_holds store store' h.runs.0 h.runs.1,
-    comes (due_to words) h.runs.0 out out' h.result h.runs.2,
+    comes (due_to words) h.runs.0 s t out out' h.result h.runs.1,
+    h.runs.2,
   );
   status_is = h.status_is;
   tells = tells err err' h.result h.tells;

@@ -1,7 +1,10 @@
+pub mod NumberFacts
 pub mod OneBook
 pub mod ShownFacts
-pub mod Causes
+pub mod EndFacts
+pub mod AskingFacts
+pub mod OneEnd
 pub mod Outcomes
-pub mod OneAnswer
+pub mod Programmed
 pub mod InMemory
 pub mod Examples

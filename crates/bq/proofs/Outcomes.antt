@@ -1,36 +1,52 @@
--- From the steps of a run to its answer.
-use Rattle.std.proofs.Common.{◌≡◌, inl, inr, ℕ, List, [], Option, Some, Result, Ok, Err, refl}
-use Rattle.std.proofs.Common.{sym, ap, ◌∙◌, subst}
+-- From the stages of a command to what it comes to, and from that to what a run does.
+use Rattle.std.proofs.Common.{◌≡◌, inl, inr, ℕ, List, [], ◌++◌, length, Option, Some, None, Result, Ok, Err}
+use Rattle.std.proofs.Common.{refl, sym, ap, ◌∙◌, subst, false, true}
+use Rattle.std.proofs.lemmas.Bool.{false≢true}
 use Rattle.std.specs.Result.{IsErrAnd}
 use Rattle.bean_load.specs.Following.{Gathers, IsGathered}
-use Rattle.bean_load.specs.Gathered as gathered
 use Rattle.bean_load.specs.Texts.{Texts}
 use Rattle.bean_load.specs.declared.cause.LoadCause.{LoadCause}
-use Rattle.bean_load.proofs.OneGathering.{one_gathering}
+use Rattle.bean_book.specs.declared.booked.Booked.{Booked}
+use Rattle.bean_base.specs.declared.fault.Fault.{Fault}
 use Rattle.bean_replay.specs.declared.cause.BookCause.{BookCause}
 use Rattle.bean_replay.specs.declared.cause.BookCause.TheVariants as books
 use Rattle.clap.specs.Walk.{Text}
-use Rattle.query_code.specs.QueryFile.{decoded}
 use Rattle.refusals.specs.declared.refusal.Refusal as refusals
 use Rattle.refusals.specs.declared.refusal.Refusal.TheVariants as refusal
 use Rattle.stores.specs.Reading.{Reading}
+use Rattle.stores.specs.Source.{Gave}
 use Rattle.stores.specs.declared.source.Source.{Ghosts as SourceOf}
-use Rattle.bq.specs.Booking.{Books, FindsFaults, HasTooMany}
-use Rattle.bq.specs.Command.{Due}
+use Rattle.stores.specs.declared.source.SourceFault.{SourceFault}
+use Rattle.stores.specs.declared.source.SourceFault.TheVariants as store
+use Rattle.bq.specs.Booking.{Books, FindsFaults, HasTooMany, IsBookOf}
 use Rattle.bq.specs.Commands.{due, due_to, request_in}
-use Rattle.bq.specs.Ledgers.{GaveTexts, IsCauseOfTexts, about_ledger}
-use Rattle.bq.specs.Named.{AskNothing}
-use Rattle.bq.specs.Refusal.{unbooked, unread}
-use Rattle.bq.specs.Runs.{Comes, ComesOf, Finds, IsFound, RefusesExactly, WritesText, Written}
-use Rattle.bq.specs.Show.{FileComes, GaveFile, IsCauseOfFile, IsListingOf, ListsProgram, ReadsFile}
-use Rattle.bq.specs.Show.{about_file}
-use Rattle.bq.specs.declared.answer.Answer.{Answer}
+use Rattle.bq.specs.Due.{AreLike, ComesTo, Due, End, at_once, is_of_pattern}
+use Rattle.bq.specs.Files.{FileComes, ReadsFile, about_file}
+use Rattle.bq.specs.Ledgers.{about_book, about_ledger}
+use Rattle.bq.specs.Named.{AskFor}
+use Rattle.bq.specs.Ran.{Ran}
+use Rattle.bq.specs.Refusal.{unaccepted, unbooked, unread, unrun}
+use Rattle.bq.specs.Keeping.{Keeps, StoreOf}
+use Rattle.bq.specs.Runs.{Comes, Deeds, Finds, IsDue, RefusesExactly, WritesText, Written, deeds}
+use Rattle.bq.specs.declared.given.Given.{Given}
+use Rattle.bq.specs.declared.given.Given.TheVariants.{Told, Kept}
 use Rattle.bq.specs.declared.refusal.Cause.{Cause}
 use Rattle.bq.specs.declared.refusal.Cause.TheVariants as cause
 use Rattle.bq.specs.declared.refusal.Refusal.{Refusal}
-use Rattle.bq.specs.declared.refusal.Refusal.TheVariants.{OutOfMemory, Refused}
+use Rattle.bq.specs.declared.refusal.Refusal.TheVariants.{OutOfMemory, Refused, NotWritten, NotKept}
 use Rattle.bq.specs.declared.verdict.Verdict.{Verdict}
-use Rattle.bq.proofs.Causes.{causes_exclude, one_file}
+use Rattle.bq.specs.declared.verdict.Verdict.TheVariants.{Fine}
+use Rattle.bq.specs.declared.words.Request.{Request}
+use Rattle.bq.specs.Verified.{IsAccepted, about_program}
+use Rattle.query_code.specs.declared.program.Parts.{Parts}
+use Rattle.query_machine.specs.declared.cause.RunCause.{RunCause}
+use Rattle.query_machine.specs.declared.cause.RunCause.TheVariants.{OutsideBounds}
+use Rattle.query_tables.specs.Table.{Tabulates}
+use Rattle.query_verifier.specs.Checking.{Checks}
+use Rattle.query_verifier.specs.declared.cause.VerifierCause.{VerifierCause}
+use Rattle.query_verifier.specs.declared.cause.VerifierCause.TheVariants as verifier
+use Rattle.verified_program.specs.declared.checked.Checked.{Checked}
+use Rattle.bq.proofs.OneEnd.{have_one_end}
 
 -- what `?` makes of a refusal
 pub converted : {X : Type 0} (result : Result X Refusal) (r : Refusal)
@@ -39,145 +55,181 @@ converted (Ok x) r is = absurd is
 converted (Err e) r is = ap Err is
 
 -- words that ask for nothing, before anything is asked
-pub unasked : (words : List Text) (r : Refusal) → AskNothing words r
-    → IsFound (due_to words) [] (Err r)
+pub unasked : (words : List Text) (r : Refusal) → AskFor words (Err r)
+    → ComesTo (due_to words []) (Err r)
 unasked words (Refused cause.Words) none =
-    subst (λ q. IsFound (due q) [] (Err (Refused cause.Words))) (sym none) refl
+    subst (λ q. ComesTo (due q []) (Err (Refused cause.Words))) (sym none) (refl, refl)
 unasked words OutOfMemory none = tt
 unasked words (Refused (cause.Load f)) none = absurd none
+unasked words (Refused (cause.Query f)) none = absurd none
+unasked words (Refused (cause.Typing f)) none = absurd none
+unasked words (Refused (cause.Compile f)) none = absurd none
 unasked words (Refused (cause.File f)) none = absurd none
 unasked words (Refused cause.TooManyPostings) none = absurd none
-unasked words (Refused (cause.NotWritten n)) none = absurd none
+unasked words (Refused cause.OutsideBounds) none = absurd none
+unasked words (NotWritten n) none = absurd none
+unasked words NotKept none = absurd none
 
-texts_gathered : Result Texts (refusals.Refusal LoadCause) → Texts
-texts_gathered (Ok texts) = texts
-texts_gathered (Err refused) = gathered.texts_of gathered.nothing
+-- what is said of one thing, said of what it stands in
+pub within : (Is Says : End → Type 0) → ((end : End) → Is end → Says end)
+    → (result : Result Given Refusal) → ComesTo Is result → ComesTo Says result
+within Is Says says (Ok given) h = says (Ok given) h
+within Is Says says (Err (Refused c)) h = says (Err c) h
+within Is Says says (Err OutOfMemory) h = tt
+within Is Says says (Err (NotWritten n)) h = absurd h
+within Is Says says (Err NotKept) h = absurd h
 
--- what the store gave comes to texts
-module _ (name : Text) (readings : List Reading) (texts : Texts)
-    (are : IsGathered name readings (Ok texts)) where
-  pub same_texts : (Such : Texts → Type 0) → GaveTexts name readings Such → Such texts
-  unfolding texts_gathered
-  same_texts Such h =
-      subst Such
-      (sym (ap texts_gathered (one_gathering name readings (Ok texts) (Ok h.0) are h.1))) h.2
-
-  uncaused : ¬ HasTooMany texts → (c : Cause) → ¬ IsCauseOfTexts name readings c
-  uncaused few cause.Words h = h
-  uncaused few (cause.Load f) h =
-      let e = one_gathering name readings (Ok texts) (Err (refusal.Refused f)) are h in cc
-  uncaused few cause.TooManyPostings h = few (same_texts HasTooMany h)
-  uncaused few (cause.File f) h = h
-  uncaused few (cause.NotWritten n) h = h
-
-  -- what they answer is due about the ledger
-  pub told : (Says : Texts → Verdict → List ℕ → Type 0) (result : Result Answer Refusal)
-      → ComesOf texts (Says texts) result → IsFound (about_ledger Says name) readings result
-  told Says (Ok answer) h = (uncaused h.0, (texts, are, h.1))
-  told Says (Err (Refused cause.TooManyPostings)) h = (texts, are, h)
-  told Says (Err (Refused cause.Words)) h = absurd h
-  told Says (Err (Refused (cause.Load f))) h = absurd h
-  told Says (Err (Refused (cause.File f))) h = absurd h
-  told Says (Err (Refused (cause.NotWritten n))) h = absurd h
-  told Says (Err OutOfMemory) h = tt
-
--- texts that have no book
-pub not_booked : (texts : Texts) (Says : Verdict → List ℕ → Type 0) (fault : refusals.Refusal BookCause)
-    → Books texts (Err fault) → ComesOf texts Says (Err (unbooked fault))
-not_booked texts Says (refusal.Refused books.TooManyPostings) many = many
-not_booked texts Says refusal.OutOfMemory lacks = tt
-
-pub not_found : (texts : Texts) (Says : Verdict → List ℕ → Type 0) (fault : refusals.Refusal BookCause)
-    → FindsFaults texts (Err fault) → ComesOf texts Says (Err (unbooked fault))
-not_found texts Says (refusal.Refused books.TooManyPostings) many = many
-not_found texts Says refusal.OutOfMemory lacks = tt
+-- ---- a ledger
 
 -- there are no texts
 pub ungathered :
-    {S : Type 0} (s : SourceOf S) (old new : S) (Says : Texts → Verdict → List ℕ → Type 0)
-    (name : Text) (r : refusals.Refusal LoadCause) → Gathers s old new name (Err r)
+    {S : Type 0} (s : SourceOf S) (old new : S) (Says : Texts → End → Type 0) (name : Text)
+    (r : refusals.Refusal LoadCause) → Gathers s old new name (Err r)
     → Finds s old new (about_ledger Says name) (Err (unread r))
-ungathered s old new Says name (refusal.Refused f) come = come
+ungathered s old new Says name (refusal.Refused f) come =
+    (come.0, come.1, inl (f, come.2, refl))
 ungathered s old new Says name refusal.OutOfMemory come = (come.0, come.1, tt)
 
--- there is a file
-module _ (name : Text) (readings : List Reading) (bytes : List ℕ)
-    (comes : FileComes name readings (Ok bytes)) where
-  bytes_in : Result (List ℕ) LoadCause → List ℕ
-  bytes_in (Ok bytes) = bytes
-  bytes_in (Err f) = []
+-- what comes of its texts
+pub told : (name : Text) (readings : List Reading) (texts : Texts)
+    → IsGathered name readings (Ok texts) → (Says : Texts → End → Type 0)
+    (result : Result Given Refusal) → ComesTo (Says texts) result
+    → ComesTo (about_ledger Says name readings) result
+told name readings texts are Says result h =
+    within (Says texts) (about_ledger Says name readings) (λ end says. inr (texts, are, says))
+    result h
 
-  pub same_file : (Such : List ℕ → Type 0) → GaveFile name readings Such → Such bytes
-  unfolding bytes_in
-  same_file Such h =
-      subst Such (sym (ap bytes_in (one_file name readings (Ok bytes) (Ok h.0) comes h.1))) h.2
+-- texts that have no book
+pub not_booked : (texts : Texts) (Says : Booked → End → Type 0) (r : refusals.Refusal BookCause)
+    → Books texts (Err r) → ComesTo (about_book Says texts) (Err (unbooked r))
+not_booked texts Says (refusal.Refused books.TooManyPostings) many = inl (many, refl)
+not_booked texts Says refusal.OutOfMemory many = tt
 
-  -- nothing speaks against its listing
-  pub showable : (text : List ℕ) → IsListingOf bytes text → (c : Cause)
-      → ¬ IsCauseOfFile name readings c
-  showable text is cause.Words h = h
-  showable text is (cause.Load f) h =
-      let e = one_file name readings (Ok bytes) (Err f) comes h in cc
-  showable text is (cause.File f) h =
-      let e = sym is.1 ∙ same_file (λ bs. decoded bs ≡ Err f) h in cc
-  showable text is cause.TooManyPostings h = h
-  showable text is (cause.NotWritten n) h = h
+pub not_found : (texts : Texts) (Says : Booked → End → Type 0) (r : refusals.Refusal BookCause)
+    → FindsFaults texts (Err r) → ComesTo (about_book Says texts) (Err (unbooked r))
+not_found texts Says (refusal.Refused books.TooManyPostings) many = inl (many, refl)
+not_found texts Says refusal.OutOfMemory many = tt
 
-  -- it is no query file, or memory lacked
-  pub not_shown : {X : Type 0} (text_of : X → List ℕ) (r : Refusal)
-      → ListsProgram bytes text_of (Err r) → IsFound (about_file name) readings (Err r)
-  not_shown text_of (Refused (cause.File f)) is = (bytes, comes, is)
-  not_shown text_of (Refused cause.Words) is = absurd is
-  not_shown text_of (Refused (cause.Load f)) is = absurd is
-  not_shown text_of (Refused cause.TooManyPostings) is = absurd is
-  not_shown text_of (Refused (cause.NotWritten n)) is = absurd is
-  not_shown text_of OutOfMemory is = tt
+-- ---- a file
 
 -- there is no file
 pub not_read :
-    {S X : Type 0} (s : SourceOf S) (old new : S) (name : Text) (bytes_of : X → List ℕ)
-    (r : refusals.Refusal LoadCause) → ReadsFile s old new name bytes_of (Err r)
-    → Finds s old new (about_file name) (Err (unread r))
-not_read s old new name bytes_of (refusal.Refused f) come = come
-not_read s old new name bytes_of refusal.OutOfMemory come = (come.0, come.1, tt)
+    {S X : Type 0} (s : SourceOf S) (old new : S) (Of : List ℕ → Due) (name : Text)
+    (bytes_of : X → List ℕ) (r : refusals.Refusal LoadCause)
+    → ReadsFile s old new name bytes_of (Err r)
+    → Finds s old new (about_file Of name) (Err (unread r))
+not_read s old new Of name bytes_of (refusal.Refused f) come =
+    (come.0, come.1, inl (f, come.2, refl))
+not_read s old new Of name bytes_of refusal.OutOfMemory come = (come.0, come.1, tt)
 
--- What is found is written.
+-- what comes of its bytes, where nothing more is asked
+pub of_bytes : (Of : List ℕ → Due) (name : Text) (readings : List Reading) (bytes : List ℕ)
+    → FileComes name readings (Ok bytes) [] → (result : Result Given Refusal)
+    → ComesTo (Of bytes []) result → ComesTo (about_file Of name readings) result
+of_bytes Of name readings bytes comes result h =
+    within (Of bytes []) (about_file Of name readings)
+    (λ end says. inr (bytes, [], comes, says)) result h
 
-pub unfound : (d : Due) (readings : List Reading) (out : Written) → out.nothing → (r : Refusal)
-    → IsFound d readings (Err r) → Comes d readings out (Err r)
-unfound d readings out nothing (Refused cause.Words) h = (h, nothing)
-unfound d readings out nothing (Refused (cause.Load f)) h = (h, nothing)
-unfound d readings out nothing (Refused (cause.File f)) h = (h, nothing)
-unfound d readings out nothing (Refused cause.TooManyPostings) h = (h, nothing)
-unfound d readings out nothing (Refused (cause.NotWritten n)) h = absurd h
-unfound d readings out nothing OutOfMemory h = (tt, nothing)
+-- the same where more is asked behind it
+pub of_bytes_and :
+    (Of : List ℕ → Due) (name : Text) (readings rest : List Reading) (bytes : List ℕ)
+    → FileComes name readings (Ok bytes) [] → (result : Result Given Refusal)
+    → ComesTo (Of bytes rest) result → ComesTo (about_file Of name (readings ++ rest)) result
+of_bytes_and Of name readings rest bytes comes result h =
+    within (Of bytes rest) (about_file Of name (readings ++ rest))
+    (λ end says. inr
+    (bytes, rest, (comes.0, ap (λ rs. rs ++ rest) comes.1, comes.2), says)) result h
 
-pub whole : (d : Due) (readings : List Reading) (out : Written) (answer : Answer)
-    → IsFound d readings (Ok answer) → WritesText out answer.text.items (Ok tt)
-    → Comes d readings out (Ok answer.verdict)
-whole d readings out answer h took = (h.0, (answer.text.items, h.1, took))
+-- ---- a program
 
-pub cut : (d : Due) (readings : List Reading) (out : Written) (answer : Answer)
-    → IsFound d readings (Ok answer) → (r : Refusal) → WritesText out answer.text.items (Err r)
-    → Comes d readings out (Err r)
-cut d readings out answer h (Refused (cause.NotWritten n)) front =
-    (h.0, (answer.text.items, (answer.verdict, h.1), front))
-cut d readings out answer h (Refused cause.Words) front = absurd front
-cut d readings out answer h (Refused (cause.Load f)) front = absurd front
-cut d readings out answer h (Refused (cause.File f)) front = absurd front
-cut d readings out answer h (Refused cause.TooManyPostings) front = absurd front
-cut d readings out answer h OutOfMemory front = absurd front
+-- it isn't accepted
+pub not_accepted : (Of : Parts → ℕ → Due) (bytes : List ℕ) (r : refusals.Refusal VerifierCause)
+    → Checks bytes (Err r) → ComesTo (about_program Of bytes []) (Err (unaccepted r))
+not_accepted Of bytes (refusal.Refused (verifier.File c)) is =
+    inl (refl, verifier.File c, is, refl)
+not_accepted Of bytes (refusal.Refused (verifier.Code c place)) is =
+    inl (refl, verifier.Code c place, is, refl)
+not_accepted Of bytes refusal.OutOfMemory is = tt
+
+-- what comes of it
+pub of_program :
+    (Of : Parts → ℕ → Due) (bytes : List ℕ) (rest : List Reading) (checked : Checked)
+    → Checks bytes (Ok checked) → (result : Result Given Refusal)
+    → ComesTo (Of checked.program.parts checked.depth rest) result
+    → ComesTo (about_program Of bytes rest) result
+of_program Of bytes rest checked is result h =
+    let accepted : IsAccepted bytes checked.program.parts checked.depth =
+    record { is_file = is; is_depth = checked.is_well_shaped } in
+    within (Of checked.program.parts checked.depth rest) (about_program Of bytes rest)
+    (λ end says. inr (checked.program.parts, checked.depth, accepted, says)) result h
+
+-- ---- what is found is given
+
+pub unfound : (d : Due) (run : Deeds) (readings : List Reading) → run.gave readings
+    → run.out.nothing → (r : Refusal) → ComesTo (d readings) (Err r) → Comes d run readings (Err r)
+unfound d run readings gave nothing (Refused c) h = (gave, h, nothing)
+unfound d run readings gave nothing OutOfMemory h = inl (gave, nothing)
+unfound d run readings gave nothing (NotWritten n) h = absurd h
+unfound d run readings gave nothing NotKept h = absurd h
+
+pub cut : (d : Due) (run : Deeds) (readings : List Reading) → run.gave readings
+    → (verdict : Verdict) (text : List ℕ) → d readings (Ok (Told verdict text)) → (r : Refusal)
+    → WritesText run.out text (Err r) → Comes d run readings (Err r)
+cut d run readings gave verdict text is (NotWritten n) front =
+    (verdict, text, (gave, is, front.1), front.0)
+cut d run readings gave verdict text is (Refused c) front = absurd front
+cut d run readings gave verdict text is OutOfMemory front = absurd front
+cut d run readings gave verdict text is NotKept front = absurd front
+
+-- ---- that refusals are exact
+
+certain : (c : Cause) → is_of_pattern c ≡ false → is_of_pattern c ≡ true → ⊥
+certain c is not = absurd (false≢true (sym is ∙ not))
 
 pub refuses_exactly : RefusesExactly
-refuses_exactly request readings (Ok v) c is holds = is c holds
-refuses_exactly request readings (Err (Refused (cause.NotWritten n))) c is holds =
-    absurd (is c holds)
-refuses_exactly request readings (Err (Refused cause.Words)) c is holds =
-    inr (ap Refused (causes_exclude request readings cause.Words c is holds))
-refuses_exactly request readings (Err (Refused (cause.Load f))) c is holds =
-    inr (ap Refused (causes_exclude request readings (cause.Load f) c is holds))
-refuses_exactly request readings (Err (Refused (cause.File f))) c is holds =
-    inr (ap Refused (causes_exclude request readings (cause.File f) c is holds))
-refuses_exactly request readings (Err (Refused cause.TooManyPostings)) c is holds =
-    inr (ap Refused (causes_exclude request readings cause.TooManyPostings c is holds))
-refuses_exactly request readings (Err OutOfMemory) c is holds = inl refl
+refuses_exactly asked readings (Ok v) c is holds sure =
+    certain c sure (have_one_end asked readings (Ok is.0) (Err c) is.1 holds)
+refuses_exactly asked readings (Err (Refused d)) c is holds sure =
+    have_one_end asked readings (Err c) (Err d) holds is
+refuses_exactly asked readings (Err (NotWritten n)) c is holds sure =
+    certain c sure (have_one_end asked readings (Ok is.0) (Err c) is.1 holds)
+refuses_exactly asked readings (Err NotKept) c is holds sure =
+    certain c sure (have_one_end asked readings (Ok is.0) (Err c) is.1 holds)
+refuses_exactly asked readings (Err OutOfMemory) c is holds sure = tt
+
+-- ---- what comes of a run is due
+
+pub is_due : (d : Due) (run : Deeds) (readings : List Reading) (result : Result Verdict Refusal)
+    → Comes d run readings result → IsDue d readings result
+is_due d run readings (Ok v) (inl h) = (Told v h.0, h.1.1)
+is_due d run readings (Ok v) (inr h) = (Kept h.1.0 h.1.1, h.1.2)
+is_due d run readings (Err (Refused c)) h = h.1
+is_due d run readings (Err (NotWritten n)) h = (Told h.0 h.1, h.2.1)
+is_due d run readings (Err NotKept) h = (Kept h.0 h.1, h.2)
+is_due d run readings (Err OutOfMemory) h = tt
+
+-- ---- a program over a ledger
+
+-- it has no table
+pub not_run : (texts : Texts) (b : Booked) → IsBookOf texts b → (checked : Checked)
+    (r : refusals.Refusal RunCause) → Tabulates checked b.ledger (Err r)
+    → ComesTo (about_book (Ran checked.program.parts checked.depth) texts) (Err (unrun r))
+not_run texts b is checked (refusal.Refused OutsideBounds) outside =
+    inr (b, is, inl (outside, refl))
+not_run texts b is checked refusal.OutOfMemory within = tt
+
+-- ---- a file that is kept, or not
+
+module _ {S : Type 0} (s : StoreOf S) (old middle new : S) (out : Written) (d : Due)
+    (readings : List Reading) (gave : Gave s.source old middle readings) (name : Text)
+    (bytes : List ℕ) (is : d readings (Ok (Kept name bytes))) (nothing : out.nothing) where
+  pub kept : Keeps s middle new name bytes (Ok tt)
+      → Comes d (deeds s old new out) readings (Ok Fine)
+  kept put = inr (refl, (name, bytes, is, (middle, gave, put), nothing))
+
+  pub unkept : (r : Refusal) → Keeps s middle new name bytes (Err r)
+      → Comes d (deeds s old new out) readings (Err r)
+  unkept NotKept put = (name, bytes, is, (middle, gave, put), nothing)
+  unkept OutOfMemory put = inr (name, bytes, is, (middle, gave, put), nothing)
+  unkept (Refused c) put = absurd put
+  unkept (NotWritten n) put = absurd put

@@ -1,24 +1,26 @@
 -- `check LEDGER`: the lines of the faults of a ledger, and whether its books are fine.
-use Rattle.std.specs.Prelude.{◌≡◌, ℕ, List, codes}
+use Rattle.std.specs.Prelude.{◌≡◌, [], ◌∷◌, codes, Ok}
 use Rattle.bean_book.specs.declared.booked.Booked.{Booked}
-use Rattle.clap.specs.Walk.{Text, first_of}
 use Rattle.bean_load.specs.Texts.{Texts}
+use Rattle.clap.specs.Walk.{Text, first_of}
 use Rattle.fault_printer.specs.Lines.{lines_of}
-use Rattle.bq.specs.Booking.{IsBookOf}
-use Rattle.bq.specs.Command.{Command, with_word}
-use Rattle.bq.specs.Ledgers.{about_ledger}
+use Rattle.bq.specs.Command.{Command, named}
+use Rattle.bq.specs.Due.{End}
+use Rattle.bq.specs.Ledgers.{about_book, about_ledger}
 use Rattle.bq.specs.Verdict.{verdict_of}
-use Rattle.bq.specs.declared.verdict.Verdict.{Verdict}
+use Rattle.bq.specs.declared.given.Given.TheVariants.{Told}
 
--- the lines of the faults that are found where the texts are booked, and what they say
-abbrev pub Checks : Texts → Verdict → List ℕ → Type 0
-Checks texts verdict lines =
-    (b : Booked) × IsBookOf texts b × (lines ≡ lines_of texts.files b.faults)
-    × (verdict ≡ verdict_of b.faults)
+-- the lines of the faults in the book of texts, and what they say
+abbrev pub Checked : Texts → Booked → End → Type 0
+Checked texts b end = end ≡ Ok (Told (verdict_of b.faults) (lines_of texts.files b.faults))
+
+-- those of the faults that are found where the texts are booked
+abbrev pub Checks : Texts → End → Type 0
+Checks texts end = about_book (Checked texts) texts end
 
 abbrev pub check : Command Text
 check = record {
-  app = with_word (codes "check") (codes "LEDGER");
+  app = named (codes "check") (codes "LEDGER" ∷ []);
   words_in = first_of (codes "LEDGER");
   due = about_ledger Checks;
 }

@@ -1,19 +1,13 @@
--- What a command is: its words, why it is refused, and what it answers.
-use Rattle.std.specs.Prelude.{ℕ, true, codes, List, Option}
-use Rattle.clap.specs.Simple.{App, new_app, new_rule, on_top, with_rule}
+-- What a command is: its words, and what is due to them.
+use Rattle.std.specs.Prelude.{◌≡◌, true, false, List, [], ◌∷◌, Option}
+use Rattle.clap.specs.Simple.{App, app_of, new_app, new_rule, on_top, with_rule}
 use Rattle.clap.specs.Walk.{Row, Rule, Text}
-use Rattle.stores.specs.Reading.{Reading}
-use Rattle.bq.specs.declared.refusal.Cause.{Cause}
-use Rattle.bq.specs.declared.verdict.Verdict.{Verdict}
+use Rattle.clap.specs.declared.builder.command.Command.{Command as ClapCommand}
+use Rattle.clap.specs.declared.builder.command.Command.TheViews.{out-Command as fields_of}
+use Rattle.bq.specs.Due.{Due}
 
--- What is due where something is asked for, given what the store gave: the cause of each refusal,
--- and the text that answers, with what it says of books.
-pub record Due : Type 1 where
-  pub HasCause : List Reading → Cause → Type 0
-  pub IsAnswer : List Reading → Verdict → List ℕ → Type 0
-
--- A command: its name with the words that clap takes for it, those of them that it reads, and what
--- is due for these.
+-- Its name with the words that clap takes for it, those of them that it reads, and what is due to
+-- these.
 pub record Command (Words : Type 0) : Type 1 where
   pub app : App
   pub words_in : List Row → Option Words
@@ -23,7 +17,19 @@ pub record Command (Words : Type 0) : Type 1 where
 abbrev pub needed : Text → Rule
 needed name = record (new_rule name) { required = true }
 
--- a name with that word behind it
-abbrev pub with_word : Text → Text → App
-with_word name word =
-    with_rule (on_top (λ s. record s { disable_help_flag = true }) (new_app name)) (needed word)
+abbrev pub with_words : App → List Text → App
+with_words app [] = app
+with_words app (word ∷ words) = with_words (with_rule app (needed word)) words
+
+-- a name with these words behind it
+abbrev pub named : Text → List Text → App
+named name words =
+    with_words (on_top (λ s. record s { disable_help_flag = true }) (new_app name)) words
+
+-- none of its words are for all commands
+abbrev pub IsLocal : ClapCommand → Type 0
+IsLocal c = (fields_of c).has_globals ≡ false
+
+-- clap has these words for it
+abbrev pub IsCommand : ClapCommand → App → Type 0
+IsCommand c app = (app_of c ≡ app) × IsLocal c

@@ -1,56 +1,72 @@
 -- The commands of the program, and what the words ask for: one of them, with its words.
-use Rattle.std.specs.Prelude.{◌≡◌, List, [], ◌∷◌, Option, Some, None, codes, true}
-use Rattle.std.specs.Prelude.{if◌then◌else◌}
+use Rattle.std.specs.Prelude.{◌≡◌, List, [], ◌∷◌, Option, Some, None, Err, codes, true, find}
 use Rattle.std.specs.Option.{option_and_then, option_map}
 use Rattle.std.specs.Str.{bytes_eq}
 use Rattle.clap.specs.Faults.{fault_of}
 use Rattle.clap.specs.Kinds.{Kinds}
 use Rattle.clap.specs.Simple.{App, new_app, on_top, subcommand_of, with_subcommand}
 use Rattle.clap.specs.Walk.{Row, Text}
-use Rattle.stores.specs.Reading.{Reading}
 use Rattle.bq.specs.Check.{check}
-use Rattle.bq.specs.Command.{Command, Due}
+use Rattle.bq.specs.Compile.{Words, compile, words_of}
+use Rattle.bq.specs.Due.{Due, at_once}
 use Rattle.bq.specs.List.{list}
+use Rattle.bq.specs.Query.{query}
+use Rattle.bq.specs.RunFile.{run}
 use Rattle.bq.specs.Show.{show}
-use Rattle.bq.specs.declared.commands.Command as asked
-use Rattle.bq.specs.declared.commands.Command.TheVariants as command
-use Rattle.bq.specs.declared.refusal.Cause.{Cause}
-use Rattle.bq.specs.declared.refusal.Cause.TheVariants.{Words}
+use Rattle.bq.specs.Upgrade.{upgrade}
+use Rattle.bq.specs.Verify.{verify}
+use Rattle.bq.specs.declared.refusal.Cause.TheVariants as cause
+use Rattle.bq.specs.declared.words.Name.{Name}
+use Rattle.bq.specs.declared.words.Name.TheVariants as names
+use Rattle.bq.specs.declared.words.Request.{Request}
+use Rattle.bq.specs.declared.words.Request.TheVariants as request
 
--- What is asked for: a command, with its words.
-pub data Request : Type 0 where
-  ListLedger : Text → Request
-  CheckLedger : Text → Request
-  ShowFile : Text → Request
+abbrev pub commands : List Name
+commands = names.List ∷ names.Check ∷ names.Show ∷ names.Verify ∷ names.Upgrade ∷ names.Run ∷ names.Query
+    ∷ names.Compile ∷ []
 
--- A command among the others: its words, and the request that they make.
-pub record Entry : Type 0 where
-  pub app : App
-  pub asked : List Row → Option Request
+-- its words, as clap takes them
+abbrev pub app_of : Name → App
+app_of names.List = list.app
+app_of names.Check = check.app
+app_of names.Show = show.app
+app_of names.Verify = verify.app
+app_of names.Upgrade = upgrade.app
+app_of names.Run = run.app
+app_of names.Query = query.app
+app_of names.Compile = compile.app
 
-abbrev pub entry : {W : Type 0} → Command W → (W → Request) → Entry
-entry c ask = record { app = c.app; asked = λ rows. option_map ask (c.words_in rows) }
+abbrev pub text_of : Name → Text
+text_of name = (app_of name).top.name
 
-abbrev pub commands : List Entry
-commands = entry list ListLedger ∷ entry check CheckLedger ∷ entry show ShowFile ∷ []
+-- the request that its words make
+abbrev pub request_by : Name → List Row → Option Request
+request_by names.List rows = option_map request.List (list.words_in rows)
+request_by names.Check rows = option_map request.Check (check.words_in rows)
+request_by names.Show rows = option_map request.Show (show.words_in rows)
+request_by names.Verify rows = option_map request.Verify (verify.words_in rows)
+request_by names.Upgrade rows =
+    option_map (λ (w : Text × Text). request.Upgrade w.0 w.1) (upgrade.words_in rows)
+request_by names.Run rows =
+    option_map (λ (w : Text × Text). request.Run w.0 w.1) (run.words_in rows)
+request_by names.Query rows =
+    option_map (λ (w : Text × Text). request.Query w.0 w.1) (query.words_in rows)
+request_by names.Compile rows =
+    option_map (λ (w : Words). request.Compile w.text w.file w.bounds) (compile.words_in rows)
 
--- why nothing is asked: the words are no command, and the store is asked for nothing
-abbrev pub IsCauseOfNone : List Reading → Cause → Type 0
-IsCauseOfNone readings Words = readings ≡ []
-IsCauseOfNone readings _ = ⊥
-
-abbrev pub about_nothing : Due
-about_nothing = record {
-  HasCause = IsCauseOfNone;
-  IsAnswer = λ readings verdict text. ⊥;
-}
-
--- what is due to a request
+-- what is due to a request; where nothing is asked, the words are refused
 abbrev pub due : Option Request → Due
-due None = about_nothing
-due (Some (ListLedger name)) = list.due name
-due (Some (CheckLedger name)) = check.due name
-due (Some (ShowFile name)) = show.due name
+due None = at_once (λ end. end ≡ Err cause.Words)
+due (Some (request.List ledger)) = list.due ledger
+due (Some (request.Check ledger)) = check.due ledger
+due (Some (request.Show file)) = show.due file
+due (Some (request.Verify file)) = verify.due file
+due (Some (request.Upgrade old new)) = upgrade.due (old, new)
+due (Some (request.Run file ledger)) = run.due (file, ledger)
+due (Some (request.Query ledger text)) = query.due (ledger, text)
+due (Some (request.Compile text file bounds)) = compile.due (words_of text file bounds)
+
+-- ---- what words ask for
 
 abbrev pub top : App
 top =
@@ -61,37 +77,31 @@ top =
       subcommand_required = true;
     }) (new_app (codes "bq"))
 
-abbrev pub with_commands : App → List Entry → App
+abbrev pub with_commands : App → List Name → App
 with_commands app [] = app
-with_commands app (e ∷ es) = with_commands (with_subcommand app e.app.top) es
+with_commands app (name ∷ names) = with_commands (with_subcommand app (app_of name).top) names
 
 -- the program's words, as clap takes them
 abbrev pub program : App
 program = with_commands top commands
 
--- what a subcommand asks for, by its name and its words
-abbrev pub asked_among : List Entry → Text × List Row → Option Request
-asked_among [] p = None
-asked_among (e ∷ es) p = if bytes_eq p.0 e.app.top.name then e.asked p.1 else asked_among es p
+-- the command of a name
+abbrev pub named : Text → Option Name
+named text = find (λ name. bytes_eq text (text_of name)) commands
 
+-- what a subcommand asks for, by its name and its words
 abbrev pub asked_by : Text × List Row → Option Request
-asked_by p = asked_among commands p
+asked_by p = option_and_then (λ name. request_by name p.1) (named p.0)
 
 -- what the words ask for, where clap has no fault to find with them
-abbrev pub request_by : Kinds → List Text → Option Request
-request_by [] words = option_and_then asked_by (subcommand_of program words)
-request_by (fault ∷ faults) words = None
+abbrev pub request_without : Kinds → List Text → Option Request
+request_without [] words = option_and_then asked_by (subcommand_of program words)
+request_without (fault ∷ faults) words = None
 
 -- what the words ask for, where clap takes them
 abbrev pub request_in : List Text → Option Request
-request_in words = request_by (fault_of program words) words
+request_in words = request_without (fault_of program words) words
 
 -- what is due to the words
 abbrev pub due_to : List Text → Due
 due_to words = due (request_in words)
-
--- a command is a request
-abbrev pub request_of : asked.Command → Request
-request_of (command.List ledger) = ListLedger ledger.now
-request_of (command.Check ledger) = CheckLedger ledger.now
-request_of (command.Show file) = ShowFile file.now

@@ -1,28 +1,25 @@
--- What is due about a ledger: why nothing is said of it, and what its texts come to.
-use Rattle.std.specs.Prelude.{ℕ, List, Ok, Err}
+-- What is due about a ledger: why nothing is said of it, or what its texts or its book come to.
+use Rattle.std.specs.Prelude.{◌≡◌, ◌⊎◌, List, Ok, Err}
+use Rattle.bean_book.specs.declared.booked.Booked.{Booked}
 use Rattle.bean_load.specs.Following.{IsGathered}
 use Rattle.bean_load.specs.Texts.{Texts}
+use Rattle.bean_load.specs.declared.cause.LoadCause.{LoadCause}
+use Rattle.clap.specs.Walk.{Text}
 use Rattle.refusals.specs.declared.refusal.Refusal.TheVariants as refusal
 use Rattle.stores.specs.Reading.{Reading}
-use Rattle.bq.specs.Booking.{HasTooMany}
-use Rattle.bq.specs.Command.{Due}
-use Rattle.bq.specs.declared.refusal.Cause.{Cause}
+use Rattle.bq.specs.Booking.{HasTooMany, IsBookOf}
+use Rattle.bq.specs.Due.{Due, End}
 use Rattle.bq.specs.declared.refusal.Cause.TheVariants.{Load, TooManyPostings}
-use Rattle.bq.specs.declared.verdict.Verdict.{Verdict}
 
--- what the store gave comes to texts of which this holds
-abbrev pub GaveTexts : List ℕ → List Reading → (Texts → Type 0) → Type 0
-GaveTexts name readings Such = (texts : Texts) × IsGathered name readings (Ok texts) × Such texts
+-- what the store gave comes to no texts, or this comes of them
+abbrev pub about_ledger : (Texts → End → Type 0) → Text → Due
+about_ledger Says name readings end =
+    ((cause : LoadCause) × IsGathered name readings (Err (refusal.Refused cause))
+    × (end ≡ Err (Load cause)))
+    ⊎ ((texts : Texts) × IsGathered name readings (Ok texts) × Says texts end)
 
--- why nothing is said of a ledger: it comes to no texts, or they have too many postings
-abbrev pub IsCauseOfTexts : List ℕ → List Reading → Cause → Type 0
-IsCauseOfTexts name readings (Load cause) = IsGathered name readings (Err (refusal.Refused cause))
-IsCauseOfTexts name readings TooManyPostings = GaveTexts name readings HasTooMany
-IsCauseOfTexts name readings _ = ⊥
-
--- what is said of the texts of the ledger of that name
-abbrev pub about_ledger : (Texts → Verdict → List ℕ → Type 0) → List ℕ → Due
-about_ledger Says name = record {
-  HasCause = IsCauseOfTexts name;
-  IsAnswer = λ readings verdict text. GaveTexts name readings (λ texts. Says texts verdict text);
-}
+-- the texts have too many postings, or this comes of their book
+abbrev pub about_book : (Booked → End → Type 0) → Texts → End → Type 0
+about_book Says texts end =
+    (HasTooMany texts × (end ≡ Err TooManyPostings))
+    ⊎ ((b : Booked) × IsBookOf texts b × Says b end)

@@ -1,14 +1,14 @@
 -- `list LEDGER`: the table of the postings of a ledger.
-use Rattle.std.specs.Prelude.{◌≡◌, ℕ, List, map, codes}
+use Rattle.std.specs.Prelude.{◌≡◌, ℕ, List, [], ◌∷◌, map, codes, Ok}
 use Rattle.bean_book.specs.declared.booked.Booked.{Booked}
-use Rattle.clap.specs.Walk.{Text, first_of}
 use Rattle.bean_load.specs.Texts.{Texts}
-use Rattle.bq.specs.Booking.{IsBookOf}
+use Rattle.clap.specs.Walk.{Text, first_of}
 use Rattle.bq.specs.Columns.{shown}
-use Rattle.bq.specs.Command.{Command, with_word}
-use Rattle.bq.specs.Ledgers.{about_ledger}
-use Rattle.bq.specs.declared.verdict.Verdict.{Verdict}
-use Rattle.bq.specs.declared.verdict.Verdict.TheVariants.{Fine, Faulty}
+use Rattle.bq.specs.Command.{Command, named}
+use Rattle.bq.specs.Due.{End}
+use Rattle.bq.specs.Ledgers.{about_book, about_ledger}
+use Rattle.bq.specs.declared.given.Given.TheVariants.{Told}
+use Rattle.bq.specs.declared.verdict.Verdict.TheVariants.{Fine}
 use Rattle.posting_table.specs.Decimals.{decimals_of}
 use Rattle.posting_table.specs.Ledger.{Ledger}
 use Rattle.posting_table.specs.Row.{cell_at}
@@ -29,14 +29,17 @@ abbrev pub table_of : Ledger → List ℕ
 table_of ledger =
     table_text headers (map shown_row ledger.rows) (decimals_of ledger.decimals)
 
--- the table of the postings that the texts are booked as, which says nothing of faults
-abbrev pub Lists : Texts → Verdict → List ℕ → Type 0
-Lists texts Fine table = (b : Booked) × IsBookOf texts b × (table ≡ table_of b.ledger)
-Lists texts Faulty table = ⊥
+-- that of a book, which says nothing of faults
+abbrev pub Listed : Booked → End → Type 0
+Listed b end = end ≡ Ok (Told Fine (table_of b.ledger))
+
+-- the table of the postings that the texts are booked as
+abbrev pub Lists : Texts → End → Type 0
+Lists texts end = about_book Listed texts end
 
 abbrev pub list : Command Text
 list = record {
-  app = with_word (codes "list") (codes "LEDGER");
+  app = named (codes "list") (codes "LEDGER" ∷ []);
   words_in = first_of (codes "LEDGER");
   due = about_ledger Lists;
 }

@@ -5,50 +5,72 @@ use Rattle.bean_load.specs.LoadCause as load
 use Rattle.bean_load.specs.declared.cause.LoadCause.{LoadCause}
 use Rattle.bean_load.specs.declared.cause.LoadCause.TheVariants as loads
 use Rattle.bean_replay.specs.declared.cause.BookCause.{BookCause}
-use Rattle.query_code.specs.FileCause as file
+use Rattle.bql_compiler.specs.CompileCause as compiler
+use Rattle.bql_compiler.specs.declared.cause.CompileCause.{CompileCause}
+use Rattle.bql_parser.specs.QueryCause as query
+use Rattle.bql_parser.specs.declared.cause.QueryCause.{QueryCause}
+use Rattle.bql_types.specs.Cause as typing
+use Rattle.bql_types.specs.declared.cause.TypeCause.{TypeCause}
 use Rattle.query_code.specs.declared.cause.FileCause.{FileCause}
+use Rattle.query_machine.specs.declared.cause.RunCause.{RunCause}
+use Rattle.query_verifier.specs.VerifierCause as verifier
+use Rattle.query_verifier.specs.declared.cause.VerifierCause.{VerifierCause}
+use Rattle.query_verifier.specs.declared.cause.VerifierCause.TheVariants as files
 use Rattle.refusals.specs.declared.refusal.Refusal as refusals
 use Rattle.refusals.specs.declared.refusal.Refusal.TheVariants as refusal
 use Rattle.bq.specs.declared.refusal.Cause.{Cause}
-use Rattle.bq.specs.declared.refusal.Cause.TheVariants.{Words, Load, File, TooManyPostings}
-use Rattle.bq.specs.declared.refusal.Cause.TheVariants.{NotWritten}
+use Rattle.bq.specs.declared.refusal.Cause.TheVariants.{Words, Load, Query, Typing, Compile, File}
+use Rattle.bq.specs.declared.refusal.Cause.TheVariants.{TooManyPostings, OutsideBounds}
 use Rattle.bq.specs.declared.refusal.Refusal.{Refusal}
-use Rattle.bq.specs.declared.refusal.Refusal.TheVariants.{OutOfMemory, Refused}
+use Rattle.bq.specs.declared.refusal.Refusal.TheVariants.{OutOfMemory, Refused, NotWritten}
+use Rattle.bq.specs.declared.refusal.Refusal.TheVariants.{NotKept}
 
--- 2 where input is refused, 3 where reading or writing failed
+-- 2 where words or input are refused, 3 where they can't be read
 abbrev pub status_by : Cause → ℕ
 status_by Words = 2
 status_by (Load loads.TooLarge) = 2
 status_by (Load loads.NotUtf8) = 2
 status_by (Load loads.Unreadable) = 3
+status_by (Query cause) = 2
+status_by (Typing cause) = 2
+status_by (Compile cause) = 2
 status_by (File cause) = 2
 status_by TooManyPostings = 2
-status_by (NotWritten n) = 3
+status_by OutsideBounds = 2
 
--- and 4 where memory lacked
+-- 3 also where writing failed, and 4 where memory lacked
 abbrev pub status_of : Refusal → ℕ
 status_of (Refused cause) = status_by cause
+status_of (NotWritten n) = 3
+status_of NotKept = 3
 status_of OutOfMemory = 4
 
 abbrev pub code_by : Cause → List ℕ
 code_by Words = codes "words"
 code_by (Load cause) = load.code_of cause
-code_by (File cause) = file.code_of cause
+code_by (Query cause) = query.code_of cause
+code_by (Typing cause) = typing.code_of cause
+code_by (Compile cause) = compiler.code_of cause
+code_by (File cause) = verifier.code_of cause
 code_by TooManyPostings = codes "B1"
-code_by (NotWritten n) = codes "P1"
+code_by OutsideBounds = codes "M1"
 
 abbrev pub code_of : Refusal → List ℕ
 code_of (Refused cause) = code_by cause
+code_of (NotWritten n) = codes "P1"
+code_of NotKept = codes "P1"
 code_of OutOfMemory = codes "M2"
 
--- why bytes are no query file names the byte
+-- why a text is no query, or has no type, and why a query file isn't accepted, names the byte
 abbrev pub place_by : Cause → Option ℕ
-place_by (File cause) = file.place_of cause
+place_by (Query cause) = query.place_of cause
+place_by (Typing cause) = typing.place_of cause
+place_by (File cause) = verifier.place_of cause
 place_by cause = None
 
 abbrev pub place_of : Refusal → Option ℕ
 place_of (Refused cause) = place_by cause
-place_of OutOfMemory = None
+place_of refusal = None
 
 abbrev pub place_text : Option ℕ → List ℕ
 place_text None = []
@@ -68,8 +90,28 @@ unread (refusal.Refused cause) = Refused (Load cause)
 unread refusal.OutOfMemory = OutOfMemory
 
 abbrev pub undecoded : refusals.Refusal FileCause → Refusal
-undecoded (refusal.Refused cause) = Refused (File cause)
+undecoded (refusal.Refused cause) = Refused (File (files.File cause))
 undecoded refusal.OutOfMemory = OutOfMemory
+
+abbrev pub unparsed : refusals.Refusal QueryCause → Refusal
+unparsed (refusal.Refused cause) = Refused (Query cause)
+unparsed refusal.OutOfMemory = OutOfMemory
+
+abbrev pub untyped : refusals.Refusal TypeCause → Refusal
+untyped (refusal.Refused cause) = Refused (Typing cause)
+untyped refusal.OutOfMemory = OutOfMemory
+
+abbrev pub uncompiled : refusals.Refusal CompileCause → Refusal
+uncompiled (refusal.Refused cause) = Refused (Compile cause)
+uncompiled refusal.OutOfMemory = OutOfMemory
+
+abbrev pub unaccepted : refusals.Refusal VerifierCause → Refusal
+unaccepted (refusal.Refused cause) = Refused (File cause)
+unaccepted refusal.OutOfMemory = OutOfMemory
+
+abbrev pub unrun : refusals.Refusal RunCause → Refusal
+unrun (refusal.Refused cause) = Refused OutsideBounds
+unrun refusal.OutOfMemory = OutOfMemory
 
 abbrev pub unbooked : refusals.Refusal BookCause → Refusal
 unbooked (refusal.Refused cause) = Refused TooManyPostings

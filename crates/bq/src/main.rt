@@ -2,7 +2,7 @@
 //!
 //! `run_words` is the program over any store and any outputs, and has the promise of the whole:
 //! which answer comes for which words and which texts, what is written with it, and the status.
-//! `commands` has the commands: the words that ask for each, and a module for what each answers.
+//! `words` says what words ask for, and `commands` has a module for what each command answers.
 //! `booking` makes the book of texts, `shown` says what `list` shows of it, `verdict` what its
 //! faults say of it, `refusal` what a user is told where there is no answer. `in_memory` is the
 //! same over a store and outputs of memory, and `main` the program on the host's.
@@ -12,15 +12,17 @@ ghost use Rattle.std.specs.IoError.{error_kind};
 ghost use Rattle.std.specs.Process.{exit_status};
 ghost use Rattle.bq.specs.Process.{EndsOrLacksWords, IsRefusedBy, IsStatus};
 
-mod answer;
 mod arguments;
+mod asking;
 mod booking;
 mod commands;
+mod given;
 mod in_memory;
 mod refusal;
 mod run;
 mod shown;
 mod verdict;
+mod words;
 
 use crate::arguments::run_args;
 use crate::refusal::{Cause, Refusal};

@@ -5,36 +5,51 @@ ghost use Rattle.bq.specs.Refusal as rule;
 use arrayvec::ArrayString;
 use bean_book::BookCause;
 use bean_load::LoadCause;
+use bql_compiler::CompileCause;
+use bql_parser::QueryCause;
+use bql_types::TypeCause;
 use itoa::Buffer;
 use query_code::FileCause;
+use query_machine::RunCause;
+use query_verifier::VerifierCause;
 use std::alloc::AllocError;
 
-/// Why there is no answer, or not all of it, in the order in which a command looks for it.
+/// Why words or input are refused, in the order in which a command looks for it.
 #[derive(Clone, Copy, Debug, Drop, PartialEq, Eq)]
 pub enum Cause {
     /// The words are no command.
     Words,
     /// A file or a ledger can't be read.
     Load(LoadCause),
-    /// A file is no query file.
-    File(FileCause),
+    /// A text is no query.
+    Query(QueryCause),
+    /// A query has no type.
+    Typing(TypeCause),
+    /// A query has no program.
+    Compile(CompileCause),
+    /// A file is no query file, or one that isn't accepted.
+    File(VerifierCause),
     /// A ledger has more postings than a book holds.
     TooManyPostings,
-    /// The output failed or took nothing, behind so many bytes.
-    NotWritten(u64),
+    /// A ledger is outside the bounds of a program.
+    OutsideBounds,
 }
 
 impl Cause {
-    /// 2 where input is refused, 3 where reading or writing failed.
+    /// 2 where words or input are refused, 3 where they can't be read.
     fn status(self) -> u8
         ensures { result ≡ rule.status_by self }
     {
         match self {
             Cause::Words
             | Cause::Load(LoadCause::TooLarge | LoadCause::NotUtf8)
+            | Cause::Query(_)
+            | Cause::Typing(_)
+            | Cause::Compile(_)
             | Cause::File(_)
-            | Cause::TooManyPostings => 2,
-            Cause::Load(LoadCause::Unreadable) | Cause::NotWritten(_) => 3,
+            | Cause::TooManyPostings
+            | Cause::OutsideBounds => 2,
+            Cause::Load(LoadCause::Unreadable) => 3,
         }
     }
 
@@ -46,28 +61,37 @@ impl Cause {
         match self {
             Cause::Words => "words",
             Cause::Load(cause) => refusals::Cause::code(&cause),
+            Cause::Query(cause) => refusals::Cause::code(&cause),
+            Cause::Typing(cause) => refusals::Cause::code(&cause),
+            Cause::Compile(cause) => refusals::Cause::code(&cause),
             Cause::File(cause) => refusals::Cause::code(&cause),
             Cause::TooManyPostings => "B1",
-            Cause::NotWritten(_) => "P1",
+            Cause::OutsideBounds => "M1",
         }
     }
 
-    /// The place that it names, in bytes: that of a query file does.
+    /// The place that it names, in bytes: that of a query and of a query file does.
     fn place(self) -> Option<usize>
         ensures { result ≡ rule.place_by self }
     {
         match self {
+            Cause::Query(cause) => refusals::Cause::place(&cause),
+            Cause::Typing(cause) => refusals::Cause::place(&cause),
             Cause::File(cause) => refusals::Cause::place(&cause),
             _ => None,
         }
     }
 }
 
-/// What a user is told in one line on standard error.
+/// Why there is no answer, or not all of it: what a user is told in one line on standard error.
 #[derive(Clone, Copy, Debug, Drop, PartialEq, Eq)]
 pub enum Refusal {
     OutOfMemory,
     Refused(Cause),
+    /// The output failed or took nothing, behind so many bytes.
+    NotWritten(u64),
+    /// The store failed to keep a file.
+    NotKept,
 }
 
 impl From<refusals::Refusal<LoadCause>> for Refusal {
@@ -90,6 +114,60 @@ impl From<refusals::Refusal<FileCause>> for Refusal {
 
     fn from(refusal: refusals::Refusal<FileCause>) -> Refusal {
         match refusal {
+            refusals::Refusal::Refused(cause) => {
+                Refusal::Refused(Cause::File(VerifierCause::File(cause)))
+            }
+            refusals::Refusal::OutOfMemory => Refusal::OutOfMemory,
+        }
+    }
+}
+
+impl From<refusals::Refusal<QueryCause>> for Refusal {
+    ghost use Rattle.bq.specs.Refusal.{unparsed};
+
+    ghost from_gives = { λ refusal own. own ≡ unparsed refusal };
+
+    fn from(refusal: refusals::Refusal<QueryCause>) -> Refusal {
+        match refusal {
+            refusals::Refusal::Refused(cause) => Refusal::Refused(Cause::Query(cause)),
+            refusals::Refusal::OutOfMemory => Refusal::OutOfMemory,
+        }
+    }
+}
+
+impl From<refusals::Refusal<TypeCause>> for Refusal {
+    ghost use Rattle.bq.specs.Refusal.{untyped};
+
+    ghost from_gives = { λ refusal own. own ≡ untyped refusal };
+
+    fn from(refusal: refusals::Refusal<TypeCause>) -> Refusal {
+        match refusal {
+            refusals::Refusal::Refused(cause) => Refusal::Refused(Cause::Typing(cause)),
+            refusals::Refusal::OutOfMemory => Refusal::OutOfMemory,
+        }
+    }
+}
+
+impl From<refusals::Refusal<CompileCause>> for Refusal {
+    ghost use Rattle.bq.specs.Refusal.{uncompiled};
+
+    ghost from_gives = { λ refusal own. own ≡ uncompiled refusal };
+
+    fn from(refusal: refusals::Refusal<CompileCause>) -> Refusal {
+        match refusal {
+            refusals::Refusal::Refused(cause) => Refusal::Refused(Cause::Compile(cause)),
+            refusals::Refusal::OutOfMemory => Refusal::OutOfMemory,
+        }
+    }
+}
+
+impl From<refusals::Refusal<VerifierCause>> for Refusal {
+    ghost use Rattle.bq.specs.Refusal.{unaccepted};
+
+    ghost from_gives = { λ refusal own. own ≡ unaccepted refusal };
+
+    fn from(refusal: refusals::Refusal<VerifierCause>) -> Refusal {
+        match refusal {
             refusals::Refusal::Refused(cause) => Refusal::Refused(Cause::File(cause)),
             refusals::Refusal::OutOfMemory => Refusal::OutOfMemory,
         }
@@ -105,6 +183,21 @@ impl From<refusals::Refusal<BookCause>> for Refusal {
         match refusal {
             refusals::Refusal::Refused(BookCause::TooManyPostings) => {
                 Refusal::Refused(Cause::TooManyPostings)
+            }
+            refusals::Refusal::OutOfMemory => Refusal::OutOfMemory,
+        }
+    }
+}
+
+impl From<refusals::Refusal<RunCause>> for Refusal {
+    ghost use Rattle.bq.specs.Refusal.{unrun};
+
+    ghost from_gives = { λ refusal own. own ≡ unrun refusal };
+
+    fn from(refusal: refusals::Refusal<RunCause>) -> Refusal {
+        match refusal {
+            refusals::Refusal::Refused(RunCause::OutsideBounds) => {
+                Refusal::Refused(Cause::OutsideBounds)
             }
             refusals::Refusal::OutOfMemory => Refusal::OutOfMemory,
         }
@@ -131,6 +224,7 @@ impl Refusal {
     {
         match self {
             Refusal::Refused(cause) => cause.status(),
+            Refusal::NotWritten(_) | Refusal::NotKept => 3,
             Refusal::OutOfMemory => 4,
         }
     }
@@ -142,6 +236,7 @@ impl Refusal {
     {
         match self {
             Refusal::Refused(cause) => cause.code(),
+            Refusal::NotWritten(_) | Refusal::NotKept => "P1",
             Refusal::OutOfMemory => "M2",
         }
     }
@@ -152,7 +247,7 @@ impl Refusal {
     {
         match self {
             Refusal::Refused(cause) => cause.place(),
-            Refusal::OutOfMemory => None,
+            _ => None,
         }
     }
 

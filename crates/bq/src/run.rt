@@ -1,14 +1,16 @@
 //! What the program does with its words.
-ghost use Rattle.std.specs.Prelude.{map};
+ghost use Rattle.std.specs.Prelude.{◌≡◌, map};
+ghost use Rattle.bq.specs.Keeping.{Keeps, store_of};
 ghost use Rattle.bq.specs.Runs.{written, deeds, WritesText, Runs, Ends};
-ghost use Rattle.bq.specs.Runs.{CausesExclude, HasOneAnswer, RefusesExactly, StatusesTell};
+ghost use Rattle.bq.specs.Runs.{HaveOneEnd, RefusesExactly, StatusesTell};
 
 use crate::commands::find;
-use crate::refusal::{Cause, Refusal};
+use crate::given::Given;
+use crate::refusal::Refusal;
 use crate::verdict::Verdict;
 use outputs::{Output, write_bytes};
 use std::alloc::Global;
-use stores::Store;
+use stores::{SourceFault, Store};
 
 /// Writes a text.
 fn write_text<O: Output>(text: &[u8], out: &mut O) -> Result<(), Refusal>
@@ -16,9 +18,20 @@ fn write_text<O: Output>(text: &[u8], out: &mut O) -> Result<(), Refusal>
 {
     let written = write_bytes(out, text);
     if written < text.len() {
-        return Err(Refusal::Refused(Cause::NotWritten(written as u64)));
+        return Err(Refusal::NotWritten(written as u64));
     }
     Ok(())
+}
+
+/// Keeps a file.
+fn keep_file<S: Store>(name: &str, bytes: &[u8], store: &mut S) -> Result<(), Refusal>
+    ensures { Keeps (store_of S.Source S.kept S.may_keep) store.old store.new name.now bytes.now result }
+{
+    match store.put(name, bytes) {
+        Ok(()) => Ok(()),
+        Err(SourceFault::Failed) => Err(Refusal::NotKept),
+        Err(SourceFault::OutOfMemory) => Err(Refusal::OutOfMemory),
+    }
 }
 
 /// Does what the words say.
@@ -28,18 +41,27 @@ fn run<S: Store, O: Output>(
     store: &mut S,
     out: &mut O,
 ) -> Result<Verdict, Refusal>
-    ensures { Runs (deeds S.Source store.old store.new (written O.Output out.old out.new))
+    ensures { Runs (deeds (store_of S.Source S.kept S.may_keep) store.old store.new
+        (written O.Output out.old out.new))
         (map (λ w. w.now) words.now) result }
 {
-    let answer = find(alloc, words, store)?;
-    write_text(&answer.text, out)?;
-    Ok(answer.verdict)
+    let given = find(alloc, words, store)?;
+    match given {
+        Given::Told(verdict, text) => {
+            write_text(text.as_slice(), out)?;
+            Ok(verdict)
+        }
+        Given::Kept(name, bytes) => {
+            keep_file(name.text(), bytes.as_slice(), store)?;
+            Ok(Verdict::Fine)
+        }
+    }
 }
 
-/// Runs the program on its words, without its own name: the answer goes to `out`, and where there
-/// is none one line that says why to `err`. The status is 0 where it answered, 1 where the answer
-/// is that books have faults, 2 where the words or the input are refused, 3 where reading or
-/// writing failed and 4 where memory lacked.
+/// Runs the program on its words, without its own name: the answer goes to `out` or, where it is a
+/// file, to the store, and where there is none one line that says why to `err`. The status is 0
+/// where it answered, 1 where the answer is that books have faults, 2 where the words or the input
+/// are refused, 3 where reading or writing failed and 4 where memory lacked.
 pub fn run_words<S: Store, O: Output, E: Output>(
     alloc: Global,
     words: &[&str],
@@ -47,7 +69,8 @@ pub fn run_words<S: Store, O: Output, E: Output>(
     out: &mut O,
     err: &mut E,
 ) -> u8
-    ensures { Ends (deeds S.Source store.old store.new (written O.Output out.old out.new))
+    ensures { Ends (deeds (store_of S.Source S.kept S.may_keep) store.old store.new
+        (written O.Output out.old out.new))
         (written E.Output err.old err.new) (map (λ w. w.now) words.now) result }
 {
     match run(alloc, words, store, out) {
@@ -60,16 +83,16 @@ pub fn run_words<S: Store, O: Output, E: Output>(
     }
 }
 
-/// Want of memory aside, each refusal comes exactly where its cause holds; no two causes hold at
-/// once.
-pub fn refuses_exactly()
-    ensures exactly { RefusesExactly }
-    ensures one { CausesExclude }
+/// What is asked for and what the store gave decide what is due: the answer, or the cause of a
+/// refusal. (Which cause is told of a program that isn't well shaped, and whether a pattern is
+/// built, is not said.)
+pub fn one_end_is_due()
+    ensures { HaveOneEnd }
 {}
 
-/// What is asked for and what the store gave decide the answer, and the status tells whether there
-/// is one and what it says of books.
-pub fn answers_exactly()
-    ensures one { HasOneAnswer }
+/// Want of memory and patterns aside, each refusal comes exactly where its cause holds; and the
+/// status tells whether there is an answer, and what it says of books.
+pub fn refuses_exactly()
+    ensures exactly { RefusesExactly }
     ensures told { StatusesTell }
 {}

@@ -1,9 +1,10 @@
 //! `check LEDGER`: the lines of the faults of a ledger, and whether its books are fine.
-use crate::answer::Answer;
 use crate::booking::faults_in;
 use crate::commands::ledger::Question;
+use crate::given::Given;
 use crate::refusal::Refusal;
 use crate::verdict::verdict_of;
+use bean_base::List;
 use bean_load::Texts;
 use fault_printer::fault_lines;
 use std::alloc::Global;
@@ -15,14 +16,11 @@ pub struct Checking;
 impl Question for Checking {
     ghost use Rattle.bq.specs.Check.{Checks};
 
-    ghost says = { Checks };
+    ghost says = { λ _. Checks };
 
-    fn answer(&self, alloc: Global, texts: &Texts) -> Result<Answer, Refusal> {
+    fn answer<'w>(&self, alloc: Global, texts: &Texts) -> Result<Given<'w>, Refusal> {
         let faults = faults_in(alloc, texts)?;
         let text = fault_lines(alloc, texts.files(), faults.as_slice())?;
-        Ok(Answer {
-            text,
-            verdict: verdict_of(faults.as_slice()),
-        })
+        Ok(Given::Told(verdict_of(faults.as_slice()), List::new(text)))
     }
 }

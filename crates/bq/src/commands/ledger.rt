@@ -1,11 +1,10 @@
 //! What the commands share that ask about a ledger.
-ghost use Rattle.std.specs.Prelude.{List, ℕ};
 ghost use Rattle.bean_load.specs.Texts as gathered;
+ghost use Rattle.bq.specs.Due.{ComesTo, End};
 ghost use Rattle.bq.specs.Ledgers.{about_ledger};
-ghost use Rattle.bq.specs.Runs.{ComesOf, Finds};
-ghost use Rattle.bq.specs.declared.verdict.Verdict as verdicts;
+ghost use Rattle.bq.specs.Runs.{Finds};
 
-use crate::answer::Answer;
+use crate::given::Given;
 use crate::refusal::Refusal;
 use bean_load::{Texts, gather};
 use std::alloc::Global;
@@ -13,21 +12,22 @@ use stores::Source;
 
 /// What is asked about a ledger.
 pub trait Question {
-    ghost says: { gathered.Texts → verdicts.Verdict → List ℕ → Type 0 };
+    ghost says: { Self → gathered.Texts → End → Type 0 };
 
-    /// What its texts answer.
-    fn answer(&self, alloc: Global, texts: &Texts) -> Result<Answer, Refusal>
-        ensures { ComesOf texts.now (says texts.now) result };
+    /// What comes of its texts.
+    fn answer<'w>(&self, alloc: Global, texts: &Texts) -> Result<Given<'w>, Refusal>
+        ensures { ComesTo (says self.now texts.now) result };
 }
 
-/// What the texts of the ledger of that name answer.
-pub fn answer_about<S: Source, Q: Question>(
+/// What comes of the texts of the ledger of that name.
+pub fn answer_about<'w, S: Source, Q: Question>(
     alloc: Global,
     question: &Q,
     ledger: &str,
     store: &mut S,
-) -> Result<Answer, Refusal>
-    ensures { Finds S.Source store.old store.new (about_ledger Q.Question.says ledger.now) result }
+) -> Result<Given<'w>, Refusal>
+    ensures { Finds S.Source store.old store.new (about_ledger
+        (Q.Question.says question.now) ledger.now) result }
 {
     let texts = gather(alloc, store, ledger)?;
     question.answer(alloc, &texts)

@@ -1,10 +1,11 @@
 //! `list LEDGER`: the table of the postings of a ledger.
-use crate::answer::Answer;
 use crate::booking::book_of;
 use crate::commands::ledger::Question;
+use crate::given::Given;
 use crate::refusal::Refusal;
 use crate::shown::Postings;
 use crate::verdict::Verdict;
+use bean_base::List;
 use bean_load::Texts;
 use std::alloc::Global;
 use std::mem::forget;
@@ -17,9 +18,9 @@ pub struct Listing;
 impl Question for Listing {
     ghost use Rattle.bq.specs.List.{Lists};
 
-    ghost says = { Lists };
+    ghost says = { λ _. Lists };
 
-    fn answer(&self, alloc: Global, texts: &Texts) -> Result<Answer, Refusal> {
+    fn answer<'w>(&self, alloc: Global, texts: &Texts) -> Result<Given<'w>, Refusal> {
         let booked = book_of(alloc, texts)?;
         let postings = Postings {
             ledger: &booked.ledger,
@@ -27,9 +28,6 @@ impl Question for Listing {
         let text = print(alloc, &postings, booked.ledger.display())?;
         // The process ends soon, and takes all memory back at once.
         forget(booked);
-        Ok(Answer {
-            text,
-            verdict: Verdict::Fine,
-        })
+        Ok(Given::Told(Verdict::Fine, List::new(text)))
     }
 }

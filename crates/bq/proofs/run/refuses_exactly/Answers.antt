@@ -1,9 +1,5 @@
-use Rattle.bq.proofs.Causes.{causes_exclude}
 use Rattle.bq.proofs.Outcomes.{refuses_exactly}
 use Rattle.bq.proofs.run.refuses_exactly.Goals as goal
 
 pub returns-clause-exactly : goal.returns-clause-exactly
 returns-clause-exactly c = refuses_exactly
-
-pub returns-clause-one : goal.returns-clause-one
-returns-clause-one c = causes_exclude

@@ -1,12 +1,13 @@
-use Rattle.std.proofs.Common.{◌≡◌, map, refl, sym, ap, length, ◌∙◌, subst}
+use Rattle.std.proofs.Common.{◌≡◌, inr, map, Ok, refl, sym, ap, length, ◌∙◌, subst}
 use Rattle.std.proofs.lemmas.List.Elements.{All-map}
 use Rattle.posting_table.specs.Decimals.{Decimals, decimals_of}
 use Rattle.posting_table.specs.Ledger.{Ledger}
 use Rattle.table_printer.specs.Table.{table_text}
-use Rattle.bq.specs.List.{Lists, headers, shown_row, table_of}
+use Rattle.bq.specs.Due.{ComesTo}
+use Rattle.bq.specs.List.{Listed, Lists, headers, shown_row, table_of}
 use Rattle.bq.specs.Refusal.{unbooked}
-use Rattle.bq.specs.Runs.{ComesOf}
-use Rattle.bq.proofs.OneBook.{not_too_many}
+use Rattle.bq.specs.declared.given.Given.TheVariants.{Told}
+use Rattle.bq.specs.declared.verdict.Verdict.TheVariants.{Fine}
 use Rattle.bq.proofs.Outcomes.{converted, not_booked}
 use Rattle.bq.proofs.commands.list.ListingQuestion.answer.Goals as goal
 
@@ -25,19 +26,17 @@ pub returns-in_err-booked : goal.returns-in_err-booked
 returns-in_err-booked c =
     let texts = c.args.texts.now in
     let fault = c.in_err-booked.field-0.0 in
-    subst (ComesOf texts (Lists texts))
+    subst (ComesTo (Lists texts))
     (sym (converted c.from_residual.result (unbooked fault) c.from_residual.ensures.1))
-    (not_booked texts (Lists texts) fault c.in_err-booked.ensures)
+    (not_booked texts Listed fault c.in_err-booked.ensures)
 
 pub returns : goal.returns
 returns c =
     let booked = c.in_ok-booked.booked in
-    let is = c.in_ok-booked.ensures in (
-      not_too_many c.args.texts.now booked is,
-      (
-        booked,
-        is,
-        c.in_ok-text.ensures
-            ∙ table_is booked.ledger c.display.result.now c.display.ensures,
-      ),
+    inr (
+      booked,
+      c.in_ok-booked.ensures,
+      ap (λ t. Ok (Told Fine t))
+          (c.new.ensures ∙ c.in_ok-text.ensures
+          ∙ table_is booked.ledger c.display.result.now c.display.ensures),
     )

@@ -1,0 +1,164 @@
+-- One end is due to each command.
+use Rattle.std.proofs.Common.{◌≡◌, inl, inr, ℕ, List, None, Some, Ok, Err, map, sym, ap, ◌∙◌, subst}
+use Rattle.bean_book.specs.OneBook.{AreAlike as SameBooks}
+use Rattle.bql_meaning.specs.Answer.{IsAnswer, finish_of}
+use Rattle.bql_meaning.specs.Answer as meaning
+use Rattle.bql_parser.specs.Asked.{Asked}
+use Rattle.bql_scheme.specs.Program.{target_name}
+use Rattle.bean_book.specs.declared.booked.Booked.{Booked}
+use Rattle.bean_load.specs.Texts.{Texts}
+use Rattle.clap.specs.Walk.{Text}
+use Rattle.fault_printer.specs.Lines.{lines_of}
+use Rattle.plain_machine.proofs.AnswerFacts.{one_answer}
+use Rattle.plain_machine.specs.Answer.{Answer, Answers}
+use Rattle.posting_table.specs.Decimals.{decimals_of}
+use Rattle.posting_table.specs.Ledger.{Ledger}
+use Rattle.posting_table.specs.Rows.{row_of, rows_of}
+use Rattle.query_code.specs.QueryFile.{IsFile, decoded}
+use Rattle.query_code.specs.Upgrade.{upgraded}
+use Rattle.query_code.specs.declared.program.Parts.{Parts}
+use Rattle.limits.specs.declared.bounds.Bounds.{Bounds}
+use Rattle.query_rows.proofs.FinalRowsFacts.{are_one}
+use Rattle.query_rows.specs.Fits.{fits}
+use Rattle.query_tables.specs.Table.{IsTableOf, IsTableOfQuery}
+use Rattle.query_values.specs.declared.value.Value.{Value}
+use Rattle.std.proofs.lemmas.Bool.{false≢true}
+use Rattle.table_printer.specs.Table.{table_text}
+use Rattle.bq.specs.Check.{Checked, Checks}
+use Rattle.bq.specs.Compile.{Compiled}
+use Rattle.bq.specs.Due.{AreAlike, End, IsOneEnd, at_once}
+use Rattle.bq.specs.List.{Listed, Lists, headers, shown_row, table_of}
+use Rattle.bq.specs.Commands.{due}
+use Rattle.bq.specs.Ledgers.{about_book, about_ledger}
+use Rattle.bq.specs.Query.{Answered}
+use Rattle.bq.specs.Ran.{Ran}
+use Rattle.bq.specs.Runs.{HaveOneEnd}
+use Rattle.bq.specs.Show.{Shows, listed}
+use Rattle.bq.specs.Upgrade.{Upgrades}
+use Rattle.bq.specs.Verdict.{verdict_of}
+use Rattle.bq.specs.Verified.{about_program}
+use Rattle.bq.specs.Verify.{Verifies, line_of}
+use Rattle.bq.specs.declared.given.Given.TheVariants.{Told, Kept}
+use Rattle.bq.specs.declared.refusal.Cause.TheVariants as cause
+use Rattle.bq.specs.declared.verdict.Verdict.TheVariants.{Fine}
+use Rattle.bq.specs.declared.words.Request.TheVariants as request
+use Rattle.query_columns.specs.ColumnShape.{widest}
+use Rattle.bq.proofs.AskingFacts.{one_about_program_of}
+use Rattle.bq.proofs.EndFacts.{SaysOne, both_are, one_about_book, one_about_file, one_about_ledger}
+use Rattle.bq.proofs.EndFacts.{one_about_program, one_at_once, one_is}
+
+same_table : (x y : Ledger) → x.rows ≡ y.rows
+    → ((currency : List ℕ) → decimals_of x.decimals currency ≡ decimals_of y.decimals currency)
+    → table_of x ≡ table_of y
+same_table x y rows decimals =
+    λ k. table_text headers (map shown_row (rows k)) (λ currency. decimals currency k)
+
+one_listed : SaysOne Listed
+one_listed x y same a b h k =
+    both_are a b (Ok (Told Fine (table_of y.ledger)))
+    (h ∙ ap (λ t. Ok (Told Fine t)) (same_table x.ledger y.ledger same.rows same.decimals)) k
+
+one_checked : (texts : Texts) → SaysOne (Checked texts)
+one_checked texts x y same a b h k =
+    both_are a b (Ok (Told (verdict_of y.faults) (lines_of texts.files y.faults)))
+    (h ∙ ap (λ fs. Ok (Told (verdict_of fs) (lines_of texts.files fs))) same.faults) k
+
+one_upgraded : (new : Text) (p : Parts) → IsOneEnd (Upgrades new p)
+one_upgraded new p a b h k =
+    both_are a b (Ok (Kept new k.0))
+    (h.2 ∙ ap (λ bytes. Ok (Kept new bytes)) (h.1.written ∙ sym k.1.written)) k.2
+
+fits_alike : (p : Parts) (x y : Booked) → x.ledger.rows ≡ y.ledger.rows
+    → fits p.bounds (rows_of x.ledger) ≡ fits p.bounds (rows_of y.ledger)
+fits_alike p x y same = ap (λ rs. fits p.bounds (map row_of rs)) same
+
+-- one table of the same rows
+same_text : (names : List (List ℕ)) (x y : Ledger) (a b : List (List Value)) → a ≡ b
+    → ((currency : List ℕ) → decimals_of x.decimals currency ≡ decimals_of y.decimals currency)
+    → table_text names a (decimals_of x.decimals) ≡ table_text names b (decimals_of y.decimals)
+same_text names x y a b same decimals =
+    λ k. table_text names (same k) (λ currency. decimals currency k)
+
+same_final : (p : Parts) (x y : Ledger) (a b : Answer) → x.rows ≡ y.rows
+    → Answers p (rows_of x) a → Answers p (rows_of y) b → a.final ≡ b.final
+same_final p x y a b same h k =
+    ap (λ (c : Answer). c.final)
+    (one_answer p (rows_of y) a b (subst (λ rs. Answers p (map row_of rs) a) same h) k)
+
+same_ran : (p : Parts) (d : ℕ) (x y : Ledger) → x.rows ≡ y.rows
+    → ((currency : List ℕ) → decimals_of x.decimals currency ≡ decimals_of y.decimals currency)
+    → (t u : List ℕ) → IsTableOf p d x t → IsTableOf p d y u → t ≡ u
+same_ran p d x y rows decimals t u h k =
+    h.table
+    ∙ same_text p.output.targets x y h.answer.final k.answer.final
+    (same_final p x y h.answer k.answer rows h.answers k.answers) decimals
+    ∙ sym k.table
+
+told_alike : (t u : List ℕ) → t ≡ u → (a b : End) → a ≡ Ok (Told Fine t) → b ≡ Ok (Told Fine u)
+    → AreAlike a b
+told_alike t u same a b h k =
+    both_are a b (Ok (Told Fine u)) (h ∙ ap (λ s. Ok (Told Fine s)) same) k
+
+one_ran : (p : Parts) (d : ℕ) → SaysOne (Ran p d)
+one_ran p d x y same a b (inl h) (inl k) = both_are a b (Err cause.OutsideBounds) h.1 k.1
+one_ran p d x y same a b (inl h) (inr k) =
+    absurd (false≢true (sym h.0 ∙ fits_alike p x y same.rows ∙ k.1.within))
+one_ran p d x y same a b (inr h) (inl k) =
+    absurd (false≢true (sym k.0 ∙ sym (fits_alike p x y same.rows) ∙ h.1.within))
+one_ran p d x y same a b (inr h) (inr k) =
+    told_alike h.0 k.0 (same_ran p d x.ledger y.ledger same.rows same.decimals h.0 k.0 h.1 k.1) a b
+    h.2 k.2
+
+same_answered : (q : Asked) (x y : Ledger) → x.rows ≡ y.rows
+    → ((currency : List ℕ) → decimals_of x.decimals currency ≡ decimals_of y.decimals currency)
+    → (t u : List ℕ) → IsTableOfQuery widest q x t → IsTableOfQuery widest q y u → t ≡ u
+same_answered q x y rows decimals t u h k =
+    let one = are_one (finish_of q) (meaning.rows_of widest q (rows_of y)) h.rows k.rows
+    (subst (λ rs. IsAnswer widest q (map row_of rs) h.rows) rows h.answers) k.answers in
+    h.table ∙ same_text (map target_name q.targets) x y h.rows k.rows one decimals ∙ sym k.table
+
+one_answered : (q : Asked) → SaysOne (Answered q)
+one_answered q x y same a b h k =
+    told_alike h.0 k.0
+    (same_answered q x.ledger y.ledger same.rows same.decimals h.0 k.0 h.1 k.1) a b h.2 k.2
+
+-- one program of a query, and one file of it
+one_compiled : (b : Bounds) (file : Text) (q : Asked) → IsOneEnd (Compiled b file q)
+one_compiled b file q x y h k =
+    let same = h.1.parts ∙ sym k.1.parts in
+    both_are x y (Ok (Kept file k.2))
+    (h.4
+    ∙ ap (λ bytes. Ok (Kept file bytes))
+    ((subst (λ p. IsFile h.2 p) same h.3).written ∙ sym k.3.written)) k.4
+
+pub have_one_end : HaveOneEnd
+have_one_end None readings = one_at_once _ (one_is (Err cause.Words)) readings
+have_one_end (Some (request.List ledger)) readings =
+    one_about_ledger Lists (λ texts. one_about_book Listed one_listed texts) ledger readings
+have_one_end (Some (request.Check ledger)) readings =
+    one_about_ledger Checks (λ texts. one_about_book (Checked texts) (one_checked texts) texts)
+    ledger readings
+have_one_end (Some (request.Show file)) readings =
+    one_about_file (λ bytes. at_once (Shows bytes))
+    (λ bytes rest. one_at_once (Shows bytes) (one_is (listed (decoded bytes))) rest) file readings
+have_one_end (Some (request.Verify file)) readings =
+    one_about_file (about_program (λ p depth. at_once (Verifies p depth)))
+    (one_about_program (λ p depth. at_once (Verifies p depth))
+    (λ p depth rest. one_at_once (Verifies p depth) (one_is (Ok (Told Fine (line_of p depth))))
+    rest)) file readings
+have_one_end (Some (request.Upgrade old new)) readings =
+    one_about_file (about_program (λ p depth. at_once (Upgrades new p)))
+    (one_about_program (λ p depth. at_once (Upgrades new p))
+    (λ p depth rest. one_at_once (Upgrades new p) (one_upgraded new p) rest)) old readings
+have_one_end (Some (request.Run file ledger)) readings =
+    one_about_file (about_program (λ p depth. about_ledger (about_book (Ran p depth)) ledger))
+    (one_about_program (λ p depth. about_ledger (about_book (Ran p depth)) ledger)
+    (λ p depth rest. one_about_ledger (about_book (Ran p depth))
+    (λ texts. one_about_book (Ran p depth) (one_ran p depth) texts) ledger rest)) file readings
+have_one_end (Some (request.Query ledger text)) readings =
+    one_about_program_of widest (λ q. about_ledger (about_book (Answered q)) ledger)
+    (λ q rest. one_about_ledger (about_book (Answered q))
+    (λ texts. one_about_book (Answered q) (one_answered q) texts) ledger rest) text readings
+have_one_end (Some (request.Compile text file bounds)) readings =
+    one_about_program_of bounds (λ q. at_once (Compiled bounds file q))
+    (λ q rest. one_at_once (Compiled bounds file q) (one_compiled bounds file q) rest) text readings

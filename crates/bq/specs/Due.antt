@@ -1,0 +1,60 @@
+-- What is due to a command, given what the store gave.
+use Rattle.std.specs.Prelude.{◌≡◌, ◌⊎◌, ⊤, Bool, true, false, List, [], Result, Ok, Err}
+use Rattle.bql_compiler.specs.declared.cause.CompileCause.TheVariants.{NotBuilt}
+use Rattle.query_verifier.specs.declared.cause.VerifierCause.TheVariants.{Code}
+use Rattle.stores.specs.Reading.{Reading}
+use Rattle.verify_shapes.specs.declared.cause.CodeCause.TheVariants.{Pattern}
+use Rattle.bq.specs.declared.given.Given.{Given}
+use Rattle.bq.specs.declared.refusal.Cause.{Cause}
+use Rattle.bq.specs.declared.refusal.Cause.TheVariants.{Compile, File, Query}
+use Rattle.bq.specs.declared.refusal.Refusal.{Refusal}
+use Rattle.bq.specs.declared.refusal.Refusal.TheVariants as refusal
+
+-- What a command comes to: what it gives, or the cause for which its words or its input are
+-- refused.
+abbrev pub End : Type 0
+End = Result Given Cause
+
+-- which ends are due
+abbrev pub Due : Type 1
+Due = List Reading → End → Type 0
+
+-- this is due, and nothing more is asked of the store
+abbrev pub at_once : (End → Type 0) → Due
+at_once Is readings end = (readings ≡ []) × Is end
+
+-- A call comes to one of these ends. Memory may lack at any time, and nothing is written yet.
+abbrev pub ComesTo : (End → Type 0) → Result Given Refusal → Type 0
+ComesTo Is (Ok given) = Is (Ok given)
+ComesTo Is (Err (refusal.Refused cause)) = Is (Err cause)
+ComesTo Is (Err refusal.OutOfMemory) = ⊤
+ComesTo Is (Err (refusal.NotWritten n)) = ⊥
+ComesTo Is (Err refusal.NotKept) = ⊥
+
+-- ---- that one end is due
+
+-- whether a pattern is built isn't told, so where one stands this may be due or not
+abbrev pub is_of_pattern : Cause → Bool
+is_of_pattern (File (Code Pattern place)) = true
+is_of_pattern (Compile NotBuilt) = true
+is_of_pattern cause = false
+
+-- The same cause; but of a text that is no query, and of a program that isn't well shaped, it isn't
+-- told which of the causes is due.
+abbrev pub IsLike : Cause → Cause → Type 0
+IsLike (Query a) (Query b) = ⊤
+IsLike (File (Code a place)) (File (Code b spot)) = ⊤
+IsLike a b = a ≡ b
+
+abbrev pub AreLike : Cause → Cause → Type 0
+AreLike a b = IsLike a b ⊎ (is_of_pattern a ≡ true) ⊎ (is_of_pattern b ≡ true)
+
+-- two ends of one command
+abbrev pub AreAlike : End → End → Type 0
+AreAlike (Ok a) (Ok b) = a ≡ b
+AreAlike (Ok a) (Err c) = is_of_pattern c ≡ true
+AreAlike (Err c) (Ok b) = is_of_pattern c ≡ true
+AreAlike (Err a) (Err b) = AreLike a b
+
+abbrev pub IsOneEnd : (End → Type 0) → Type 0
+IsOneEnd Is = (a b : End) → Is a → Is b → AreAlike a b

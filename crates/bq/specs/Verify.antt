@@ -1,0 +1,28 @@
+-- `verify FILE`: whether a query file is accepted, and how long and how deep its program is.
+use Rattle.std.specs.Prelude.{◌≡◌, ℕ, List, [], ◌∷◌, ◌++◌, codes, length, Ok}
+use Rattle.std.specs.Fmt.{decimal}
+use Rattle.clap.specs.Walk.{Text, first_of}
+use Rattle.query_code.specs.declared.program.Parts.{Parts}
+use Rattle.bq.specs.Command.{Command, named}
+use Rattle.bq.specs.Due.{End, at_once}
+use Rattle.bq.specs.Files.{about_file}
+use Rattle.bq.specs.Verified.{about_program}
+use Rattle.bq.specs.declared.given.Given.TheVariants.{Told}
+use Rattle.bq.specs.declared.verdict.Verdict.TheVariants.{Fine}
+
+-- the depth of the stack, and the lengths of the sections
+abbrev pub line_of : Parts → ℕ → List ℕ
+line_of p depth =
+    codes "accepted depth " ++ decimal depth ++ codes " filter " ++ decimal (length p.code.filter)
+    ++ codes " row " ++ decimal (length p.code.row)
+    ++ codes " last " ++ decimal (length p.code.last) ++ codes "\n"
+
+abbrev pub Verifies : Parts → ℕ → End → Type 0
+Verifies p depth end = end ≡ Ok (Told Fine (line_of p depth))
+
+abbrev pub verify : Command Text
+verify = record {
+  app = named (codes "verify") (codes "FILE" ∷ []);
+  words_in = first_of (codes "FILE");
+  due = about_file (about_program (λ p depth. at_once (Verifies p depth)));
+}

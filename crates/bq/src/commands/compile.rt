@@ -1,0 +1,29 @@
+//! `compile TEXT FILE`: the file of a query's program.
+ghost use Rattle.std.specs.Prelude.{[]};
+ghost use Rattle.bq.specs.Compile as command;
+ghost use Rattle.bq.specs.Due.{ComesTo};
+ghost use Rattle.query_columns.specs.ColumnShape.{AreBounds};
+
+use crate::asking::program_of;
+use crate::given::Given;
+use crate::refusal::Refusal;
+use bean_base::{List, Slice};
+use limits::Bounds;
+use query_file::encode;
+use std::alloc::Global;
+
+/// The file of the program of the query that a text is, to be kept under that name.
+pub fn answer<'w>(
+    alloc: Global,
+    text: &str,
+    file: Slice<'w>,
+    bounds: &Bounds,
+) -> Result<Given<'w>, Refusal>
+    requires { AreBounds bounds.now }
+    ensures { ComesTo (command.compile.due (command.words_of text.now file.entry bounds.now) [])
+        result }
+{
+    let program = program_of(alloc, text, bounds)?;
+    let bytes = encode(alloc, &program)?;
+    Ok(Given::Kept(file, List::new(bytes)))
+}

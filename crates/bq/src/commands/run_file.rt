@@ -1,0 +1,66 @@
+//! `run FILE LEDGER`: the table of what a query file answers over a ledger.
+ghost use Rattle.bq.specs.RunFile as command;
+ghost use Rattle.bq.specs.Runs.{Finds};
+
+use crate::booking::book_of;
+use crate::commands::file::file_bytes;
+use crate::commands::ledger::{Question, answer_about};
+use crate::given::Given;
+use crate::refusal::Refusal;
+use crate::verdict::Verdict;
+use bean_base::List;
+use bean_load::Texts;
+use query_tables::table;
+use query_verifier::check_file;
+use std::alloc::Global;
+use std::mem::forget;
+use stores::Source;
+use verified_program::Checked;
+
+/// What a program answers over the postings that texts are booked as.
+#[derive(Clone, Copy)]
+struct Running<'c, 'f> {
+    checked: &'c Checked<'f>,
+}
+
+impl Question for Running<'_, '_> {
+    ghost use Rattle.bq.specs.Ledgers.{about_book};
+    ghost use Rattle.bq.specs.Ran.{Ran};
+
+    ghost says = { λ running.
+        about_book (Ran running.checked.now.program.parts running.checked.now.depth) };
+
+    fn answer<'w>(&self, alloc: Global, texts: &Texts) -> Result<Given<'w>, Refusal> {
+        let booked = book_of(alloc, texts)?;
+        let text = table(alloc, self.checked, &booked.ledger)?;
+        // The process ends soon, and takes all memory back at once.
+        forget(booked);
+        Ok(Given::Told(Verdict::Fine, List::new(text)))
+    }
+}
+
+/// What the query file of these bytes answers over the ledger of that name.
+fn answer_of<'w, S: Source>(
+    alloc: Global,
+    bytes: &[u8],
+    ledger: &str,
+    store: &mut S,
+) -> Result<Given<'w>, Refusal>
+    ensures { Finds S.Source store.old store.new (command.of_bytes ledger.now bytes.now) result }
+{
+    let checked = check_file(alloc, bytes)?;
+    answer_about(alloc, &Running { checked: &checked }, ledger, store)
+}
+
+/// What the query file of that name answers over the ledger of that name.
+pub fn answer<'w, S: Source>(
+    alloc: Global,
+    file: &str,
+    ledger: &str,
+    store: &mut S,
+) -> Result<Given<'w>, Refusal>
+    ensures { Finds S.Source store.old store.new (command.run.due (file.now, ledger.now)) result }
+{
+    let bytes = file_bytes(store, file)?;
+    answer_of(alloc, &bytes, ledger, store)
+}

@@ -1,0 +1,53 @@
+//! `verify FILE`: whether a query file is accepted, and how long and how deep its program is.
+ghost use Rattle.std.specs.Prelude.{◌≡◌, [], IfOk};
+ghost use Rattle.bq.specs.Due.{ComesTo, at_once};
+ghost use Rattle.bq.specs.Runs.{Finds};
+ghost use Rattle.bq.specs.Verified.{about_program};
+ghost use Rattle.bq.specs.Verify.{Verifies, line_of, verify};
+
+use crate::commands::file::file_bytes;
+use crate::given::Given;
+use crate::refusal::Refusal;
+use crate::verdict::Verdict;
+use bean_base::List;
+use query_verifier::check_file;
+use std::alloc::{AllocError, Global};
+use stores::Source;
+use verified_program::Checked;
+
+/// The line that tells the depth of a program's stack and the lengths of its sections.
+fn line(alloc: Global, checked: &Checked<'_>) -> Result<Vec<u8>, AllocError>
+    ensures { IfOk result (λ text. text.items
+        ≡ line_of checked.now.program.parts checked.now.depth) }
+{
+    let text = format!(
+        in alloc;
+        "accepted depth {} filter {} row {} last {}\n",
+        checked.depth(),
+        checked.filter().len(),
+        checked.row().len(),
+        checked.last().len()
+    )?;
+    Ok(text.into_bytes())
+}
+
+/// The line of the program whose file the bytes are.
+fn verdict_on<'w>(alloc: Global, bytes: &[u8]) -> Result<Given<'w>, Refusal>
+    ensures { ComesTo (about_program (λ p depth. at_once (Verifies p depth)) bytes.now []) result }
+{
+    let checked = check_file(alloc, bytes)?;
+    let text = line(alloc, &checked)?;
+    Ok(Given::Told(Verdict::Fine, List::new(text)))
+}
+
+/// The line of the query file of that name.
+pub fn answer<'w, S: Source>(
+    alloc: Global,
+    file: &str,
+    store: &mut S,
+) -> Result<Given<'w>, Refusal>
+    ensures { Finds S.Source store.old store.new (verify.due file.now) result }
+{
+    let bytes = file_bytes(store, file)?;
+    verdict_on(alloc, &bytes)
+}

@@ -1,0 +1,321 @@
+//! What the words ask for.
+ghost use Rattle.std.specs.Prelude.{◌≡◌, [], ◌∷◌, IfOk, IfSome, map};
+ghost use Rattle.std.specs.Option.{option_and_then};
+ghost use Rattle.clap.specs.Walk.{first_of, rows_of};
+ghost use Rattle.clap.specs.Words.{FailsBy, app_of, fault_of, found_of, subcommand_of};
+ghost use Rattle.clap.specs.Words.{subcommand_rows_of, with_rule, with_subcommand};
+ghost use Rattle.bq.specs.Command.{IsCommand, IsLocal};
+ghost use Rattle.bq.specs.Command as words_of;
+ghost use Rattle.bq.specs.Commands as spec;
+ghost use Rattle.bq.specs.Compile as compile;
+ghost use Rattle.bq.specs.declared.words.Name.TheVariants as names;
+ghost use Rattle.bq.specs.Commands.{program};
+ghost use Rattle.query_columns.specs.ColumnShape.{AreBounds};
+ghost use Rattle.bq.specs.Named.{AskFor, IsRefusedBy};
+
+use crate::refusal::{Cause, Refusal};
+use bean_base::Slice;
+use clap::error::ErrorKind;
+use limits::{Bounds, MOST_POSTINGS, MOST_UNITS_DIGITS, MOST_VALUE_DIGITS, Version};
+use clap::{Arg, ArgMatches, Error};
+use std::alloc::{AllocError, Global};
+
+/// A command.
+#[derive(Clone, Copy, Debug, Drop, PartialEq, Eq)]
+pub enum Name {
+    List,
+    Check,
+    Show,
+    Verify,
+    Upgrade,
+    Run,
+    Query,
+    Compile,
+}
+
+/// What the words ask for: a command, with its words.
+#[derive(Debug, Drop)]
+pub enum Request<'w> {
+    /// The table of a ledger's postings, by the ledger's name.
+    List(Slice<'w>),
+    /// The lines of a ledger's faults, by the ledger's name.
+    Check(Slice<'w>),
+    /// The listing of a query file, by the file's name.
+    Show(Slice<'w>),
+    /// Whether a query file is accepted, by the file's name.
+    Verify(Slice<'w>),
+    /// The file of a program in the second version, by the names of the old file and the new one.
+    Upgrade(Slice<'w>, Slice<'w>),
+    /// What a query file answers over a ledger, by the names of both.
+    Run(Slice<'w>, Slice<'w>),
+    /// What a query answers over a ledger, by the ledger's name and the query's text.
+    Query(Slice<'w>, Slice<'w>),
+    /// The file of a query's program, by the query's text, the file's name and the bounds.
+    Compile(Slice<'w>, Slice<'w>, Bounds),
+}
+
+impl Name {
+    fn text(self) -> &'static str
+        ensures { result.now ≡ spec.text_of self }
+    {
+        match self {
+            Name::List => "list",
+            Name::Check => "check",
+            Name::Show => "show",
+            Name::Verify => "verify",
+            Name::Upgrade => "upgrade",
+            Name::Run => "run",
+            Name::Query => "query",
+            Name::Compile => "compile",
+        }
+    }
+
+    /// The command of that name.
+    fn named(text: &str) -> Option<Name>
+        ensures { result ≡ spec.named text.now }
+    {
+        [
+            Name::List,
+            Name::Check,
+            Name::Show,
+            Name::Verify,
+            Name::Upgrade,
+            Name::Run,
+            Name::Query,
+            Name::Compile,
+        ]
+            .iter()
+            .copied()
+            .find(|name| text == name.text())
+    }
+
+    /// What its words ask for.
+    fn request<'w>(self, words: &ArgMatches<'w>) -> Option<Request<'w>>
+        ensures { result ≡ spec.request_by self (rows_of (found_of words.now)) }
+    {
+        match self {
+            Name::List => word(words, "LEDGER").map(Request::List),
+            Name::Check => word(words, "LEDGER").map(Request::Check),
+            Name::Show => word(words, "FILE").map(Request::Show),
+            Name::Verify => word(words, "FILE").map(Request::Verify),
+            Name::Upgrade => match (word(words, "OLD"), word(words, "NEW")) {
+                (Some(old), Some(new)) => Some(Request::Upgrade(old, new)),
+                _ => None,
+            },
+            Name::Run => match (word(words, "FILE"), word(words, "LEDGER")) {
+                (Some(file), Some(ledger)) => Some(Request::Run(file, ledger)),
+                _ => None,
+            },
+            Name::Query => match (word(words, "LEDGER"), word(words, "TEXT")) {
+                (Some(ledger), Some(text)) => Some(Request::Query(ledger, text)),
+                _ => None,
+            },
+            Name::Compile => compiling(words),
+        }
+    }
+}
+
+/// The word of that name.
+fn word<'w>(words: &ArgMatches<'w>, name: &str) -> Option<Slice<'w>>
+    ensures { result ≡ first_of name.now (rows_of (found_of words.now)) }
+{
+    match words.get_str(name) {
+        Some(word) => Some(Slice::new(word)),
+        None => None,
+    }
+}
+
+/// A number from 1 to the most.
+fn number_in(text: &str, most: u64) -> Option<u64>
+    ensures { result ≡ compile.number_in most text.now }
+{
+    let number = match text.parse::<u64>() {
+        Ok(number) => number,
+        Err(_) => return None,
+    };
+    if number < 1 {
+        return None;
+    }
+    if number > most {
+        return None;
+    }
+    Some(number)
+}
+
+/// The number of an option, from 1 to the most; where it isn't given, the most.
+fn bound(words: &ArgMatches<'_>, name: &str, most: u64) -> Option<u64>
+    ensures { result ≡ compile.bound_in name.now most (rows_of (found_of words.now)) }
+{
+    match words.get_str(name) {
+        Some(text) => number_in(text, most),
+        None => Some(most),
+    }
+}
+
+/// The bounds that the words of `compile` give.
+fn bounds(words: &ArgMatches<'_>) -> Option<Bounds>
+    ensures bounds { result ≡ compile.bounds_in (rows_of (found_of words.now)) }
+    ensures within { IfSome result AreBounds }
+{
+    Some(Bounds {
+        schema: Version::Second,
+        postings: bound(words, "postings", MOST_POSTINGS as u64)? as u32,
+        units_digits: bound(words, "digits", MOST_UNITS_DIGITS as u64)? as u8,
+        value_digits: bound(words, "value-digits", MOST_VALUE_DIGITS as u64)? as u8,
+    })
+}
+
+/// What the words of `compile` ask for.
+fn compiling<'w>(words: &ArgMatches<'w>) -> Option<Request<'w>>
+    ensures { result ≡ spec.request_by names.Compile (rows_of (found_of words.now)) }
+{
+    match (word(words, "TEXT"), word(words, "FILE"), bounds(words)) {
+        (Some(text), Some(file), Some(bounds)) => Some(Request::Compile(text, file, bounds)),
+        _ => None,
+    }
+}
+
+/// A subcommand, of which one word has to follow.
+fn with_word<'a>(
+    alloc: Global,
+    name: &'a str,
+    word: &'a str,
+) -> Result<clap::Command<'a>, AllocError>
+    ensures { IfOk result (λ c. IsCommand c (words_of.named name.entry.now (word.entry.now ∷ []))) }
+{
+    let word = Arg::new(alloc, word).required(true);
+    clap::Command::new(alloc, name)
+        .disable_help_flag(true)
+        .arg(word)
+}
+
+/// The same with a second word.
+fn with_words<'a>(
+    alloc: Global,
+    name: &'a str,
+    first: &'a str,
+    second: &'a str,
+) -> Result<clap::Command<'a>, AllocError>
+    ensures { IfOk result (λ c. IsCommand c
+        (words_of.named name.entry.now (first.entry.now ∷ second.entry.now ∷ []))) }
+{
+    let command = with_word(alloc, name, first)?;
+    command.arg(Arg::new(alloc, second).required(true))
+}
+
+/// A subcommand with an option more, which takes a value and may be left out.
+fn with_option<'a>(
+    alloc: Global,
+    subcommand: clap::Command<'a>,
+    name: &'a str,
+) -> Result<clap::Command<'a>, AllocError>
+    requires { IsLocal subcommand }
+    ensures { IfOk result (λ c. IsCommand c
+        (with_rule (app_of subcommand.entry) (compile.option name.entry.now))) }
+{
+    subcommand.arg(Arg::new(alloc, name).long(name))
+}
+
+/// The words of `compile`.
+fn with_bounds<'a>(alloc: Global) -> Result<clap::Command<'a>, AllocError>
+    ensures { IfOk result (λ c. IsCommand c (spec.app_of names.Compile)) }
+{
+    let plain = with_words(alloc, "compile", "TEXT", "FILE")?;
+    let counted = with_option(alloc, plain, "postings")?;
+    let measured = with_option(alloc, counted, "digits")?;
+    with_option(alloc, measured, "value-digits")
+}
+
+/// The words of a command, as clap takes them. There is no help by words: the README has it.
+fn subcommand<'a>(alloc: Global, name: Name) -> Result<clap::Command<'a>, AllocError>
+    ensures { IfOk result (λ c. IsCommand c (spec.app_of name)) }
+{
+    match name {
+        Name::List => with_word(alloc, "list", "LEDGER"),
+        Name::Check => with_word(alloc, "check", "LEDGER"),
+        Name::Show => with_word(alloc, "show", "FILE"),
+        Name::Verify => with_word(alloc, "verify", "FILE"),
+        Name::Upgrade => with_words(alloc, "upgrade", "OLD", "NEW"),
+        Name::Run => with_words(alloc, "run", "FILE", "LEDGER"),
+        Name::Query => with_words(alloc, "query", "LEDGER", "TEXT"),
+        Name::Compile => with_bounds(alloc),
+    }
+}
+
+/// The program's words with those of one command more.
+fn with_command<'a>(
+    alloc: Global,
+    words: clap::Command<'a>,
+    name: Name,
+) -> Result<clap::Command<'a>, AllocError>
+    ensures { IfOk result (λ c. app_of c
+        ≡ with_subcommand (app_of words.entry) (spec.app_of name).top) }
+{
+    words.subcommand(subcommand(alloc, name)?)
+}
+
+/// The words as those of a command.
+fn matches_of<'a>(alloc: Global, words: &'a [&'a str]) -> Result<ArgMatches<'a>, Error>
+    ensures rows { IfOk result (λ m. subcommand_rows_of m
+        ≡ subcommand_of program (map (λ w. w.now) words.entry.now)) }
+    ensures faults { FailsBy (fault_of program (map (λ w. w.now) words.entry.now)) result }
+{
+    let top = clap::Command::new(alloc, "bq")
+        .no_binary_name(true)
+        .disable_help_flag(true)
+        .disable_help_subcommand(true)
+        .subcommand_required(true);
+    let listing = with_command(alloc, top, Name::List)?;
+    let checking = with_command(alloc, listing, Name::Check)?;
+    let showing = with_command(alloc, checking, Name::Show)?;
+    let verifying = with_command(alloc, showing, Name::Verify)?;
+    let upgrading = with_command(alloc, verifying, Name::Upgrade)?;
+    let running = with_command(alloc, upgrading, Name::Run)?;
+    let asking = with_command(alloc, running, Name::Query)?;
+    let command = with_command(alloc, asking, Name::Compile)?;
+    command.try_get_matches_from(words)
+}
+
+/// What the words of a command ask for, by its name.
+fn asked_by<'w>(name: &str, words: &ArgMatches<'w>) -> Option<Request<'w>>
+    ensures { result ≡ spec.asked_by (name.now, rows_of (found_of words.now)) }
+{
+    match Name::named(name) {
+        Some(name) => name.request(words),
+        None => None,
+    }
+}
+
+/// What the command asks for that the words name.
+fn asked_in<'w>(matches: &ArgMatches<'w>) -> Option<Request<'w>>
+    ensures { result ≡ option_and_then spec.asked_by (subcommand_rows_of matches.now) }
+{
+    match matches.subcommand() {
+        Some((name, words)) => asked_by(name, words),
+        None => None,
+    }
+}
+
+/// Whether the words are refused, or memory lacked to read them.
+fn refusal_of(error: &Error) -> Refusal
+    ensures { IsRefusedBy error.now result }
+{
+    match error.kind() {
+        ErrorKind::OutOfMemory => Refusal::OutOfMemory,
+        _ => Refusal::Refused(Cause::Words),
+    }
+}
+
+/// What the words ask for.
+pub fn request_in<'w>(alloc: Global, words: &'w [&'w str]) -> Result<Request<'w>, Refusal>
+    ensures { AskFor (map (λ w. w.now) words.entry.now) result }
+{
+    let matches = match matches_of(alloc, words) {
+        Ok(matches) => matches,
+        Err(error) => return Err(refusal_of(&error)),
+    };
+    match asked_in(&matches) {
+        Some(request) => Ok(request),
+        None => Err(Refusal::Refused(Cause::Words)),
+    }
+}
