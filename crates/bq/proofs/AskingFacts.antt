@@ -107,12 +107,12 @@ one_about_compiled b of one q readings (Ok x) (Err y) (inr h) (inl k) =
 one_about_compiled b of one q readings (Err x) (Err y) (inr h) (inl k) =
     subst (λ e. AreAlike (Err x) e) (sym k.3) (inr (inr (of_pattern b q k.1 h.0 k.2)))
 one_about_compiled b of one q readings x y (inr h) (inr k) =
-    one (parts_of b q) readings x y h.1 k.1
+    one readings x y h.1 k.1
 
-pub one_about_program_of : (b : Bounds) (Of : Parts → Due)
-    → ((p : Parts) (rest : List Reading) → IsOneEnd (Of p rest)) → (text : Text)
+pub one_about_program_of : (b : Bounds) (Of : Asked → Due)
+    → ((q : Asked) (rest : List Reading) → IsOneEnd (Of q rest)) → (text : Text)
     (readings : List Reading) → IsOneEnd (about_program_of b Of text readings)
 one_about_program_of b Of one text readings =
-    one_about_query (λ q. about_typed b (about_compiled b Of q) q)
-    (λ q rest. one_about_typed b (about_compiled b Of q)
-    (λ more. one_about_compiled b of one q more) q rest) text readings
+    one_about_query (λ q. about_typed b (about_compiled b (Of q) q) q)
+    (λ q rest. one_about_typed b (about_compiled b (Of q) q)
+    (λ more. one_about_compiled b (Of q) (one q) q more) q rest) text readings

@@ -1,4 +1,5 @@
 pub mod NumberFacts
+pub mod BoundsFacts
 pub mod OneBook
 pub mod ShownFacts
 pub mod EndFacts

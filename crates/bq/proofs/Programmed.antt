@@ -4,10 +4,17 @@ use Rattle.std.proofs.lemmas.Bool.{false≢true}
 use Rattle.std.specs.List.{list_any}
 use Rattle.bean_book.specs.declared.booked.Booked.{Booked}
 use Rattle.bean_load.specs.Texts.{Texts}
-use Rattle.bql_compiler.specs.Limits.{IsCause, is_pattern}
+use Rattle.bql_compiler.specs.Limits.{IsCause, IsCompiled, IsRefusal, is_pattern}
+use Rattle.bql_compiler.specs.declared.cause.CompileCause.{CompileCause}
 use Rattle.bql_compiler.specs.declared.cause.CompileCause.TheVariants as compile
+use Rattle.bql_parser.specs.Answer.{query_of}
 use Rattle.bql_parser.specs.Asked.{Asked}
-use Rattle.bql_scheme.specs.Program.{parts_of}
+use Rattle.bql_parser.specs.Parse.{Parses}
+use Rattle.bql_parser.specs.declared.query.Query.{Query}
+use Rattle.bql_scheme.specs.Carried.{Carries}
+use Rattle.bql_types.specs.Answer.{Answers}
+use Rattle.bql_types.specs.declared.cause.TypeCause.{TypeCause}
+use Rattle.bql_types.specs.declared.typed.Typed.{Typed}
 use Rattle.clap.specs.Walk.{Text}
 use Rattle.limits.specs.declared.bounds.Bounds.{Bounds}
 use Rattle.query_code.specs.declared.program.Parts.{Parts}
@@ -24,14 +31,59 @@ use Rattle.bq.specs.Asking.{Compiles, IsOfPattern, IsProgramOf, about_program_of
 use Rattle.bq.specs.Due.{ComesTo, Due, End}
 use Rattle.bq.specs.Ledgers.{about_book, about_ledger}
 use Rattle.bq.specs.Query.{Answered, AnsweredBy}
-use Rattle.bq.specs.Refusal.{unrun}
+use Rattle.bq.specs.Refusal.{uncompiled, unrun, untyped}
 use Rattle.posting_table.specs.Rows.{rows_of}
 use Rattle.verified_program.specs.declared.checked.Checked.{Checked}
+use Rattle.well_shaped.specs.Program.{IsWellShaped}
 use Rattle.bq.specs.declared.given.Given.{Given}
 use Rattle.bq.specs.declared.refusal.Cause.TheVariants as cause
 use Rattle.bq.specs.declared.refusal.Refusal.{Refusal}
 use Rattle.bq.specs.declared.refusal.Refusal.TheVariants.{OutOfMemory, Refused, NotWritten, NotKept}
 use Rattle.bq.proofs.Outcomes.{within}
+
+-- ---- the program of a text
+
+module _ (b : Bounds) (text : Text) (q : Query) (is : Parses text (Ok q)) where
+  -- the query has no type
+  pub untypable : (r : refusals.Refusal TypeCause) → Answers b q (Err r)
+      → Compiles b text (Err (untyped r))
+  untypable (refusal.Refused c) not = (query_of q, is, not)
+  untypable refusal.OutOfMemory not = tt
+
+  module _ (t : Typed) (typed : Answers b q (Ok t)) where
+    -- what is said of the bounds and the query of what has a type is said of these
+    same : (Is : Bounds → Asked → Type 0) → Is t.bounds (query_of t.query.now) → Is b (query_of q)
+    same Is h =
+        subst (λ x. Is x (query_of q)) typed.2
+        (subst (λ (x : Query). Is t.bounds (query_of x)) typed.1 h)
+
+    -- it has no program
+    pub uncompilable : (r : refusals.Refusal CompileCause)
+        → IsRefusal t.bounds (query_of t.query.now) r → Compiles b text (Err (uncompiled r))
+    uncompilable (refusal.Refused c) not =
+        (query_of q, is, typed.0, same (λ x y. IsCause x y c) not)
+    uncompilable refusal.OutOfMemory not = tt
+
+    -- it has this one
+    pub compiled :
+        (p : Program) → IsCompiled t.bounds (query_of t.query.now) p.parts
+        → Carries t.bounds p.parts (query_of t.query.now) → ∥ IsWellShaped p.parts ∥₁
+        → Compiles b text (Ok p)
+    compiled p made carries shaped =
+        let of = same (λ x y. IsCompiled x y p.parts) made in (
+          query_of q,
+          is,
+          typed.0,
+          of.within,
+          record {
+            parts = of.parts;
+            bounds = ap (λ (x : Parts). x.bounds) of.parts;
+            shaped = shaped;
+            carries = same (λ x y. Carries x p.parts y) carries;
+          },
+        )
+
+-- ---- what it comes to
 
 module _ (b : Bounds) (Of : Asked → Due) (text : Text) where
   -- there is no program

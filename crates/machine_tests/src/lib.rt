@@ -5,6 +5,8 @@
 #[cfg(test)]
 mod batches;
 #[cfg(test)]
+mod fates;
+#[cfg(test)]
 mod ledgers;
 #[cfg(test)]
 mod runs;

@@ -6,6 +6,8 @@
 //! let checked = check_file(alloc, &bytes)?;          // or checked once,
 //! let text = table(alloc, &checked, &ledger)?;       // and run over many ledgers
 //!
+//! let text = tabulated(alloc, &checked, &ledger, &answer)?;  // of a run that was made
+//!
 //! // count(*)
 //! // --------
 //! //        3
@@ -36,4 +38,4 @@ mod tables;
 pub use answering::answer_file;
 pub use cause::AnswerCause;
 pub use laws::one_table_each;
-pub use tables::table;
+pub use tables::{table, tabulated};

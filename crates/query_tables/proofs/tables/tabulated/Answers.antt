@@ -1,22 +1,23 @@
-use Rattle.std.proofs.Common.{ap, ◌∙◌, refl, sym}
+use Rattle.std.proofs.Common.{ap, ◌∙◌}
 use Rattle.posting_table.specs.Decimals.{decimals_of}
 use Rattle.posting_table.specs.Rows.{rows_of}
 use Rattle.table_printer.specs.Table.{table_text}
 use Rattle.query_tables.proofs.TableFacts.{is_table, rows_are_whole}
-use Rattle.query_tables.proofs.tables.table.Goals as goal
+use Rattle.query_tables.proofs.tables.tabulated.Goals as goal
 
 pub print-requires : goal.print-requires
 print-requires c =
-    rows_are_whole c.args.program.now.program.parts (rows_of c.args.ledger.now) c.in-Ok.answer
-    c.in-Ok.ensures.1
+    rows_are_whole c.args.program.now.program.parts (rows_of c.args.ledger.now) c.args.answer.now
+    c.requires.answered
 
 pub returns : goal.returns
 returns c =
     let program = c.args.program.now in
-    let answer = c.in-Ok.answer in
+    let answer = c.args.answer.now in
     is_table program.program.parts program.depth c.args.ledger.now program.program.has_file
-    program.is_well_shaped (sym c.if-not-fits.ensures.fits) (c.if-not-fits.ensures.shaped refl)
-    answer c.in-Ok.ensures.1 c.in_ok-text.text.items
+    program.is_well_shaped c.requires.within
+    (c.fits-is_within.ensures.shaped (c.fits-is_within.ensures.fits ∙ c.requires.within)) answer
+    c.requires.answered c.in_ok-text.text.items
     (c.in_ok-text.ensures
     ∙ ap (λ decimals. table_text answer.headers answer.rows (decimals_of decimals))
     c.display.ensures)

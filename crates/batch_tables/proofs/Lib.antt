@@ -1,0 +1,2 @@
+pub mod FateFacts
+pub mod RoundFacts

@@ -1,0 +1,12 @@
+use Rattle.batch_tables.proofs.RoundFacts.{all_rounds, round_next}
+use Rattle.batch_tables.proofs.rounds.go_on.Goals as goal
+
+pub loop-preserved : goal.loop-preserved
+loop-preserved c =
+    round_next c.loop.counter c.args.k c.args.batch.now c.loop.batch c.round.new.batch
+    c.loop.invariant c.round.ensures
+
+pub returns : goal.returns
+returns c =
+    all_rounds c.loop.counter c.args.most c.args.k c.args.batch.now c.loop.batch
+    c.loop.auto.counter-end c.loop-test.false c.loop.invariant

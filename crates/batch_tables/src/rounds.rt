@@ -1,0 +1,88 @@
+//! Turns round by round.
+ghost use Rattle.std.specs.Prelude.{◌≡◌, ◌≤◌, IfOk, All};
+ghost use Rattle.std.specs.List.{list_any};
+ghost use Rattle.batch_tables.specs.Rounds as spec;
+ghost use Rattle.batch_tables.specs.Rounds.{AreAllTurned, GoesOn, HaveEnded, IsBrief};
+
+use posting_table::Ledger;
+use query_batch::{Batch, Member};
+use query_machine::turns_add_up;
+use std::alloc::{AllocError, Global};
+use verified_program::Checked;
+
+/// The most steps of a program over so many postings, where they are within its bounds.
+fn most_of(program: &Checked<'_>, postings: usize) -> u64
+    ensures { IsBrief postings result program.now }
+{
+    if postings <= program.program.parts.bounds.postings as usize {
+        program.budget(postings as u32, postings as u32)
+    } else {
+        0
+    }
+}
+
+/// The most steps of any of the programs.
+fn most_steps(programs: &[Checked<'_>], postings: usize) -> u64
+    ensures { All (IsBrief postings result) programs.now }
+{
+    let mut most = 0;
+    for program in programs {
+        most = most_of(program, postings).max(most);
+    }
+    most
+}
+
+/// Whether it stands before an instruction.
+#[tactic(auto, using(crate::proofs::RoundFacts::going_as_told))]
+fn is_going(run: &Member<'_, '_>) -> bool
+    ensures { result ≡ spec.is_going run.now }
+{
+    matches!(run.answer(), Ok(None))
+}
+
+/// Whether a run of the batch can go on.
+fn is_any_going(batch: &Batch<'_, '_>) -> bool
+    ensures { result ≡ list_any spec.is_going batch.now }
+{
+    batch.answers().iter().any(|run| is_going(run))
+}
+
+/// A turn of so many steps for each run.
+fn round(batch: &mut Batch<'_, '_>, k: u64)
+    ensures { AreAllTurned k batch.old batch.new }
+{
+    for number in 0..batch.answers().len() {
+        let _ = batch.turn(number, k);
+    }
+}
+
+/// Rounds of turns until no run can go on, or as many as there may be.
+fn go_on(batch: &mut Batch<'_, '_>, k: u64, most: u64)
+    ensures { GoesOn most k batch.old batch.new }
+{
+    for _ in 0..most {
+        if !is_any_going(batch) {
+            return;
+        }
+        round(batch, k);
+    }
+}
+
+/// The runs of the programs, after turns of so many steps for each, round by round, until none can
+/// go on.
+pub(crate) fn rounds<'r, 'a>(
+    alloc: Global,
+    programs: &'r [Checked<'r>],
+    ledger: &'r Ledger<'a>,
+    k: u64,
+) -> Result<Batch<'r, 'a>, AllocError>
+    requires { 1 ≤ k }
+    ensures { IfOk result (HaveEnded ledger.now programs.now) }
+{
+    let mut batch = Batch::new(alloc, ledger, programs)?;
+    let most = most_steps(programs, ledger.len());
+    turns_add_up();
+    round(&mut batch, k);
+    go_on(&mut batch, k, most);
+    Ok(batch)
+}
