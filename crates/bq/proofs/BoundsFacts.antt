@@ -15,7 +15,7 @@ use Rattle.clap.proofs.ValueTestLemmas.{accepts-Accepts}
 use Rattle.limits.specs.declared.bounds.Bounds.{Bounds}
 use Rattle.limits.specs.declared.counts.TheConstants.{MOST_POSTINGS, MOST_UNITS_DIGITS}
 use Rattle.limits.specs.declared.counts.TheConstants.{MOST_VALUE_DIGITS}
-use Rattle.query_columns.specs.ColumnShape.{AreBounds}
+use Rattle.query_columns.specs.ColumnShape.{AreBounds, widest}
 use Rattle.bq.specs.Check.{check}
 use Rattle.bq.specs.Commands.{asked_by, named, program, request_by, request_in, request_without}
 use Rattle.bq.specs.Compile.{Words, bound_in, bound_of, bounds_in, bounds_of, number_in, words_in}
@@ -139,3 +139,13 @@ pub bounds_asked : (words : List Text) (text file : Text) (b : Bounds)
     → request_in words ≡ Some (request.Compile text file b) → AreBounds b
 bounds_asked words text file b is =
     subst HasBounds is (without (fault_of program words) words)
+
+pub widest_are : AreBounds widest
+widest_are = record {
+  some_postings = leb-true _ _ refl;
+  postings = leb-true _ _ refl;
+  some_units = leb-true _ _ refl;
+  units = leb-true _ _ refl;
+  some_value = leb-true _ _ refl;
+  value = leb-true _ _ refl;
+}

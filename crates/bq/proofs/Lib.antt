@@ -4,6 +4,7 @@ pub mod OneBook
 pub mod ShownFacts
 pub mod EndFacts
 pub mod AskingFacts
+pub mod PatternFacts
 pub mod OneEnd
 pub mod Outcomes
 pub mod Programmed

@@ -1,2 +1,3 @@
 mod FileFacts
 mod VerdictFacts
+pub mod PatternFacts
