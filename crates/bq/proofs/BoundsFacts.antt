@@ -4,6 +4,7 @@ use Rattle.std.proofs.Common.{◌∙◌, arith}
 use Rattle.std.specs.Prelude.{codes, if◌then◌else◌}
 use Rattle.std.specs.Option.{option_and_then, option_map}
 use Rattle.std.specs.Str.Parse.{digits_value, without_leading_plus}
+use Rattle.std.proofs.lemmas.Bool.{leb-true}
 use Rattle.clap.specs.Faults.{fault_of}
 use Rattle.clap.specs.Kinds.{Kinds}
 use Rattle.clap.specs.Simple.{subcommand_of}
@@ -32,11 +33,11 @@ use Rattle.bq.specs.declared.words.Request.{Request}
 use Rattle.bq.specs.declared.words.Request.TheVariants as request
 
 -- from 1 to the most
-IsIn : ℕ → ℕ → Type 0
+abbrev IsIn : ℕ → ℕ → Type 0
 IsIn most n = (1 ≤ n) × (n ≤ most)
 
 -- where there is one, it is
-AreIn : ℕ → Option ℕ → Type 0
+abbrev AreIn : ℕ → Option ℕ → Type 0
 AreIn most (Some n) = IsIn most n
 AreIn most None = Unit {0}
 
@@ -55,7 +56,7 @@ bound_is most some None = (some, omega (arith))
 bound_is most some (Some text) = number_is most text
 
 -- bounds, where there are any
-AreSome : Option Bounds → Type 0
+abbrev AreSome : Option Bounds → Type 0
 AreSome (Some b) = AreBounds b
 AreSome None = Unit {0}
 
@@ -86,7 +87,7 @@ bounds_are rows =
     (bound_is MOST_VALUE_DIGITS (omega (arith)) (first_of (codes "value-digits") rows))
 
 -- what is asked for has bounds where it has some
-HasBounds : Option Request → Type 0
+abbrev HasBounds : Option Request → Type 0
 HasBounds (Some (request.Compile text file b)) = AreBounds b
 HasBounds _ = Unit {0}
 

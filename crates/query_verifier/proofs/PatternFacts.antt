@@ -13,7 +13,7 @@ use Rattle.verify_shapes.specs.declared.cause.CodeCause.{CodeCause}
 use Rattle.verify_shapes.specs.declared.cause.CodeCause.TheVariants as code
 use Rattle.well_shaped.specs.Program.{IsWellShaped}
 
-HasPattern : Parts → Type 0
+abbrev HasPattern : Parts → Type 0
 HasPattern p = (n : ℕ) × (is_some (pattern_at p.code.pool n) ≡ true)
 
 never : (p : Parts) → ∥ IsWellShaped p ∥₁ → ¬ (IsWellShaped p → ⊥)

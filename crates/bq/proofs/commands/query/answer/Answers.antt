@@ -9,7 +9,14 @@ use Rattle.bq.specs.Ledgers.{about_book, about_ledger}
 use Rattle.bq.specs.Query.{Answered, AnsweredBy}
 use Rattle.bq.proofs.Outcomes.{converted}
 use Rattle.bq.proofs.Programmed.{answered, programmed, unbuilt, unprogrammed}
+use Rattle.bq.proofs.BoundsFacts.{widest_are}
 use Rattle.bq.proofs.commands.query.answer.Goals as goal
+
+pub program_of-requires : goal.program_of-requires
+program_of-requires g c = widest_are
+
+pub checked-requires : goal.checked-requires
+checked-requires g c = c.in_ok-program.ensures.4.shaped
 
 pub returns-in_err-program : goal.returns-in_err-program
 returns-in_err-program g c =
