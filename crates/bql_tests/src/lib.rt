@@ -1,13 +1,11 @@
-//! Queries, their types and their plans, by the libraries' public calls, with ample memory.
+//! Plans and files of queries, by the libraries' public calls, with ample memory.
 #![tactic(auto)]
 
 #[cfg(test)]
+mod compiled_queries;
+#[cfg(test)]
 mod plans;
 #[cfg(test)]
-mod queries;
+mod query_files;
 #[cfg(test)]
 mod shapes;
-#[cfg(test)]
-mod tokens;
-#[cfg(test)]
-mod typing;

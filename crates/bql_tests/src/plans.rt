@@ -126,83 +126,74 @@ fn plans_of_queries(rt: HostRuntime) -> Result<(), Fail> {
     let wanted = [
         (
             "SELECT account, sum(position)",
+            true,
             "2 shown, 1 keys, 1 aggregates, by",
         ),
         (
             "SELECT year, sum(number), 2 * sum(number) GROUP BY 1, month ORDER BY 2, month, year",
+            true,
             "4 shown, 2 keys, 1 aggregates, by 1 3 0",
         ),
         (
             "SELECT count(*) ORDER BY max(date), count(*), MAX((date))",
+            true,
             "2 shown, 0 keys, 2 aggregates, by 1 0 1",
         ),
         (
             "SELECT year AS y, year GROUP BY y, 1, month",
+            true,
             "2 shown, 3 keys, 0 aggregates, by",
         ),
         (
             "SELECT year, year ORDER BY +year",
+            true,
             "2 shown, 0 keys, 0 aggregates, by 0",
         ),
-        ("JOURNAL 'cash'", "7 shown, 0 keys, 0 aggregates, by"),
+        ("JOURNAL 'cash'", true, "7 shown, 0 keys, 0 aggregates, by"),
         (
             "BALANCES AT cost FROM year = 2014",
+            true,
             "3 shown, 1 keys, 1 aggregates, by 2 0",
         ),
-    ];
-    for (text, words) in wanted {
-        let found = told(rt.alloc(), text, true);
-        assert_eq!(rt; found.as_ref().map_or("none", String::as_str), words);
-    }
-    Ok(())
-}
-
-#[test]
-fn plans_of_what_is_not_written(rt: HostRuntime) -> Result<(), Fail> {
-    let wanted = [
         (
             "JOURNAL 'cash' AT cost FROM year = 2014",
+            false,
             "from T(NN)where T(X); shown D X X X X A(P) I(I); keys; aggregates",
         ),
         (
             "BALANCES AT units WHERE account ~ 'a'",
+            false,
             "where T(X); shown X I(A(P)) N(X); keys X; aggregates inventory:8 A(P)",
         ),
         (
             "BALANCES",
+            false,
             "; shown X I(P) N(X); keys X; aggregates inventory:8 P",
         ),
-    ];
-    for (text, words) in wanted {
-        let found = told(rt.alloc(), text, false);
-        assert_eq!(rt; found.as_ref().map_or("none", String::as_str), words);
-    }
-    Ok(())
-}
-
-#[test]
-fn shapes_of_plans(rt: HostRuntime) -> Result<(), Fail> {
-    let wanted = [
         (
             "SELECT account WHERE number > 1 AND payee = NULL",
+            false,
             "where T(T(NN)T(X-)); shown X; keys; aggregates",
         ),
         (
             "SELECT year, count(*) + 1 FROM year > 2013 GROUP BY year, month + 1",
+            false,
             "from T(NN); shown N N(NN); keys N N(NN); aggregates rows",
         ),
         (
             "SELECT NULL != date, max(number) GROUP BY NULL != date ORDER BY max(number)",
+            false,
             "; shown T(-D) N(N); keys T(-D); aggregates max N",
         ),
         (
             "SELECT sum(number), sum(units(position)) ORDER BY count(account)",
+            false,
             "; shown N(N) I(A(P)) N(X); keys; aggregates sum:8 N inventory:8 A(P) count X",
         ),
-        ("SELECT account + 1", "none"),
+        ("SELECT account + 1", false, "none"),
     ];
-    for (text, words) in wanted {
-        let found = told(rt.alloc(), text, false);
+    for (text, by_counts, words) in wanted {
+        let found = told(rt.alloc(), text, by_counts);
         assert_eq!(rt; found.as_ref().map_or("none", String::as_str), words);
     }
     Ok(())

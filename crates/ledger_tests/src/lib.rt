@@ -1,10 +1,16 @@
-//! Tokens and directives of worked texts, and ledgers that are read whole, by the libraries' public
-//! calls, with ample memory.
+//! Tokens, directives that booking passes over, and the texts and settings of ledgers, by the
+//! libraries' public calls, with ample memory.
 #![tactic(auto)]
 
 #[cfg(test)]
 mod directives;
 #[cfg(test)]
-mod ledgers;
+mod edges;
+#[cfg(test)]
+mod gathering;
+#[cfg(test)]
+mod loading;
+#[cfg(test)]
+mod made;
 #[cfg(test)]
 mod tokens;

@@ -1,6 +1,6 @@
 //! The tokens of worked texts.
 
-use bean_lexer::{Keyword, Kind, Place, Sign, tokens};
+use bean_lexer::{Keyword, Kind, Sign, tokens};
 use std::alloc::{AllocError, Global};
 use std::test::Fail;
 
@@ -10,14 +10,6 @@ fn kinds(alloc: Global, text: &str) -> Result<Vec<Kind>, AllocError> {
 
 fn starts(alloc: Global, text: &str) -> Result<Vec<usize>, AllocError> {
     tokens(alloc, text)?.iter().map(|t| t.start).collect(alloc)
-}
-
-fn lines(alloc: Global, text: &str) -> Result<Vec<usize>, AllocError> {
-    tokens(alloc, text)?.iter().map(|t| t.line).collect(alloc)
-}
-
-fn places(alloc: Global, text: &str) -> Result<Vec<Place>, AllocError> {
-    tokens(alloc, text)?.iter().map(|t| t.place).collect(alloc)
 }
 
 /// Texts with the kinds of their tokens.
@@ -67,14 +59,6 @@ const KINDS: [(&str, &[Kind]); 8] = [
     (r#""a\q" "b\"" "c"#, &[Kind::Fault, Kind::Text, Kind::Fault]),
 ];
 
-#[test]
-fn kinds_of_tokens(rt: HostRuntime) -> Result<(), Fail> {
-    for (text, kinds_of) in KINDS {
-        assert_eq!(rt; kinds(rt.alloc(), text)?.as_slice(), kinds_of);
-    }
-    Ok(())
-}
-
 /// Texts with the places of their tokens' first bytes.
 const STARTS: [(&str, &[usize]); 6] = [
     ("1 USD", &[0, 2]),
@@ -86,33 +70,12 @@ const STARTS: [(&str, &[usize]); 6] = [
 ];
 
 #[test]
-fn first_bytes_of_tokens(rt: HostRuntime) -> Result<(), Fail> {
+fn kinds_and_first_bytes_of_tokens(rt: HostRuntime) -> Result<(), Fail> {
+    for (text, kinds_of) in KINDS {
+        assert_eq!(rt; kinds(rt.alloc(), text)?.as_slice(), kinds_of);
+    }
     for (text, starts_of) in STARTS {
         assert_eq!(rt; starts(rt.alloc(), text)?.as_slice(), starts_of);
     }
-    Ok(())
-}
-
-#[test]
-fn lines_and_places(rt: HostRuntime) -> Result<(), Fail> {
-    let alloc = rt.alloc();
-    let text = "* skipped\r\n1 ; comment\r\n  2 3\n# skipped\n:x\n\n4 \"a\n* b\" 5\n";
-    assert_eq!(rt;
-        lines(alloc, text)?.as_slice(),
-        [2, 3, 3, 7, 7, 8].as_slice()
-    );
-    assert_eq!(rt;
-        places(alloc, text)?.as_slice(),
-        [
-            Place::ColumnOne,
-            Place::Indented,
-            Place::Inside,
-            Place::ColumnOne,
-            Place::Inside,
-            Place::Inside
-        ]
-        .as_slice()
-    );
-    assert_eq!(rt; tokens(alloc, "")?.len(), 0);
     Ok(())
 }

@@ -2,8 +2,6 @@
 #![tactic(auto)]
 
 #[cfg(test)]
-mod ledgers;
-#[cfg(test)]
 mod memory_stores;
 #[cfg(test)]
 mod short_outputs;
