@@ -11,11 +11,14 @@ use Rattle.bq.specs.declared.given.Given.TheVariants.{Told}
 use Rattle.bq.specs.declared.verdict.Verdict.TheVariants.{Fine}
 
 -- the depth of the stack, and the lengths of the sections
+abbrev pub line_by : ℕ → ℕ → ℕ → ℕ → List ℕ
+line_by depth filter row last =
+    codes "accepted depth " ++ decimal depth ++ codes " filter " ++ decimal filter
+    ++ codes " row " ++ decimal row ++ codes " last " ++ decimal last ++ codes "\n"
+
 abbrev pub line_of : Parts → ℕ → List ℕ
 line_of p depth =
-    codes "accepted depth " ++ decimal depth ++ codes " filter " ++ decimal (length p.code.filter)
-    ++ codes " row " ++ decimal (length p.code.row)
-    ++ codes " last " ++ decimal (length p.code.last) ++ codes "\n"
+    line_by depth (length p.code.filter) (length p.code.row) (length p.code.last)
 
 abbrev pub Verifies : Parts → ℕ → End → Type 0
 Verifies p depth end = end ≡ Ok (Told Fine (line_of p depth))

@@ -10,6 +10,7 @@ use crate::given::Given;
 use crate::refusal::Refusal;
 use crate::verdict::Verdict;
 use bean_base::List;
+use itoa::Buffer;
 use query_verifier::check_file;
 use std::alloc::{AllocError, Global};
 use stores::Source;
@@ -20,15 +21,17 @@ fn line(alloc: Global, checked: &Checked<'_>) -> Result<Vec<u8>, AllocError>
     ensures { IfOk result (λ text. text.items
         ≡ line_of checked.now.program.parts checked.now.depth) }
 {
-    let text = format!(
-        in alloc;
-        "accepted depth {} filter {} row {} last {}\n",
-        checked.depth(),
-        checked.filter().len(),
-        checked.row().len(),
-        checked.last().len()
-    )?;
-    Ok(text.into_bytes())
+    let mut line = String::new(alloc);
+    line.push_str("accepted depth ")?;
+    line.push_str(Buffer::new().format(checked.depth()))?;
+    line.push_str(" filter ")?;
+    line.push_str(Buffer::new().format(checked.filter().len()))?;
+    line.push_str(" row ")?;
+    line.push_str(Buffer::new().format(checked.row().len()))?;
+    line.push_str(" last ")?;
+    line.push_str(Buffer::new().format(checked.last().len()))?;
+    line.push_str("\n")?;
+    Ok(line.into_bytes())
 }
 
 /// The line of the program whose file the bytes are.
