@@ -9,4 +9,3 @@ pub mod OneEnd
 pub mod Outcomes
 pub mod Programmed
 pub mod InMemory
-pub mod Examples
