@@ -24,3 +24,11 @@ loop-number-preserved c =
     c.push.new.self.items c.loop-number.number c.index-programs-number.result c.fate_of.result
     c.loop-number-test.true c.index-programs-number.is c.in_ok-push.ensures.items
     c.loop-number.invariant c.fate_of.ensures
+
+pub offset_bounds-runs-number : goal.offset_bounds-runs-number
+offset_bounds-runs-number c =
+    let same = ap (λ runs. length runs) c.answers-runs.ensures in
+    let many = as_many c.args.ledger.now c.args.programs.now c.in_ok-batch.batch
+    c.in_ok-batch.ensures in
+    let small = c.answers-runs.type_inv in
+    omega (arith, same, many, small, c.loop-number-test.true)
