@@ -1,7 +1,7 @@
--- The bounds that words give are bounds.
+-- The bounds that words give are bounds, and the steps at least one.
 use Rattle.std.proofs.Common.{◌≡◌, ℕ, ◌≤◌, Bool, true, false, List, [], ◌∷◌, Option, Some, None, refl, sym, subst}
 use Rattle.std.proofs.Common.{◌∙◌, arith}
-use Rattle.std.specs.Prelude.{codes, if◌then◌else◌}
+use Rattle.std.specs.Prelude.{◌^◌, ◌-◌, codes, if◌then◌else◌}
 use Rattle.std.specs.Option.{option_and_then, option_map}
 use Rattle.std.specs.Str.Parse.{digits_value, without_leading_plus}
 use Rattle.std.proofs.lemmas.Bool.{leb-true}
@@ -10,13 +10,15 @@ use Rattle.clap.specs.Kinds.{Kinds}
 use Rattle.clap.specs.Simple.{subcommand_of}
 use Rattle.clap.specs.Values.{Accepts}
 use Rattle.clap.specs.ValueTests.{is_unsigned_in}
-use Rattle.clap.specs.Walk.{Row, Text, first_of}
+use Rattle.clap.specs.Walk.{Row, Text, all_of, first_of}
 use Rattle.clap.specs.declared.builder.value_parser.ValueParser.TheVariants as vp
 use Rattle.clap.proofs.ValueTestLemmas.{accepts-Accepts}
 use Rattle.limits.specs.declared.bounds.Bounds.{Bounds}
 use Rattle.limits.specs.declared.counts.TheConstants.{MOST_POSTINGS, MOST_UNITS_DIGITS}
 use Rattle.limits.specs.declared.counts.TheConstants.{MOST_VALUE_DIGITS}
 use Rattle.query_columns.specs.ColumnShape.{AreBounds, widest}
+use Rattle.bq.specs.Batch as several
+use Rattle.bq.specs.Batch.{steps_in}
 use Rattle.bq.specs.Check.{check}
 use Rattle.bq.specs.Commands.{asked_by, named, program, request_by, request_in, request_without}
 use Rattle.bq.specs.Compile.{Words, bound_in, bound_of, bounds_in, bounds_of, number_in, words_in}
@@ -86,9 +88,15 @@ bounds_are rows =
     (bound_is MOST_UNITS_DIGITS (omega (arith)) (first_of (codes "digits") rows))
     (bound_is MOST_VALUE_DIGITS (omega (arith)) (first_of (codes "value-digits") rows))
 
--- what is asked for has bounds where it has some
+steps_is : (text : Option Text)
+    → AreIn (2 ^ 64 - 1) (option_and_then (number_in (2 ^ 64 - 1)) text)
+steps_is None = tt
+steps_is (Some text) = number_is (2 ^ 64 - 1) text
+
+-- what is asked for has bounds where it has some, and some steps
 abbrev HasBounds : Option Request → Type 0
 HasBounds (Some (request.Compile text file b)) = AreBounds b
+HasBounds (Some (request.Batch steps ledger files)) = 1 ≤ steps
 HasBounds _ = Unit {0}
 
 compiling : (text file : Option Text) (b : Option Bounds) → AreSome b
@@ -98,6 +106,15 @@ compiling (Some t) (Some f) (Some b) are = are
 compiling (Some t) (Some f) None are = tt
 compiling (Some t) None b are = tt
 compiling None file b are = tt
+
+batching : (steps : Option ℕ) (ledger : Option Text) (files : Option (List Text))
+    → AreIn (2 ^ 64 - 1) steps
+    → HasBounds (option_map (λ (w : several.Words). request.Batch w.steps w.ledger w.files)
+    (option_and_then (λ n. option_and_then (λ l. option_map (several.words_of n l) files) ledger) steps))
+batching (Some n) (Some l) (Some fs) is = is.0
+batching (Some n) (Some l) None is = tt
+batching (Some n) None files is = tt
+batching None ledger files is = tt
 
 one_word : (make : Text → Request) → ((w : Text) → HasBounds (Some (make w))) → (word : Option Text)
     → HasBounds (option_map make word)
@@ -123,6 +140,9 @@ by_name names.Query rows =
 by_name names.Compile rows =
     compiling (first_of (codes "TEXT") rows) (first_of (codes "FILE") rows) (bounds_in rows)
     (bounds_are rows)
+by_name names.Batch rows =
+    batching (steps_in rows) (first_of (codes "LEDGER") rows) (all_of (codes "FILE") rows)
+    (steps_is (first_of (codes "K") rows))
 
 after : {X : Type 0} (f : X → Option Request) → ((x : X) → HasBounds (f x)) → (o : Option X)
     → HasBounds (option_and_then f o)
@@ -139,6 +159,11 @@ without (fault ∷ faults) words = tt
 pub bounds_asked : (words : List Text) (text file : Text) (b : Bounds)
     → request_in words ≡ Some (request.Compile text file b) → AreBounds b
 bounds_asked words text file b is =
+    subst HasBounds is (without (fault_of program words) words)
+
+pub steps_asked : (words : List Text) (steps : ℕ) (ledger : Text) (files : List Text)
+    → request_in words ≡ Some (request.Batch steps ledger files) → 1 ≤ steps
+steps_asked words steps ledger files is =
     subst HasBounds is (without (fault_of program words) words)
 
 pub widest_are : AreBounds widest

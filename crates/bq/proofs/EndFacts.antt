@@ -52,7 +52,7 @@ like cause.TooManyPostings = refl
 like cause.OutsideBounds = refl
 
 pub alike : (a : End) → AreAlike a a
-alike (Ok given) = refl
+alike (Ok given) = inl refl
 alike (Err c) = inl (like c)
 
 pub both_are : (a b c : End) → a ≡ c → b ≡ c → AreAlike a b

@@ -6,6 +6,9 @@ pub mod EndFacts
 pub mod AskingFacts
 pub mod PatternFacts
 pub mod OneEnd
+pub mod StatusFacts
 pub mod Outcomes
+pub mod AcceptedFacts
+pub mod BatchFacts
 pub mod Programmed
 pub mod InMemory

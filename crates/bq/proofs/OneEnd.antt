@@ -1,5 +1,12 @@
 -- One end is due to each command.
-use Rattle.std.proofs.Common.{◌≡◌, inl, inr, ℕ, List, None, Some, Ok, Err, map, sym, ap, ◌∙◌, subst}
+use Rattle.std.proofs.Common.{◌≡◌, ◌⊎◌, inl, inr, ℕ, Bool, true, false, ◌||◌, List, [], ◌∷◌, None, Some, Ok}
+use Rattle.std.proofs.Common.{Err, map, refl, sym, ap, ap₂, ◌∙◌, subst}
+use Rattle.std.specs.List.{list_any}
+use Rattle.std.specs.Prelude.{if◌then◌else◌}
+use Rattle.stores.specs.Reading.{Reading}
+use Rattle.batch_tables.specs.Fates.{AreFates, IsFate}
+use Rattle.batch_tables.specs.declared.tabulating.Fate.{Fate}
+use Rattle.batch_tables.specs.declared.tabulating.Fate.TheVariants as fate
 use Rattle.bean_book.specs.OneBook.{AreAlike as SameBooks}
 use Rattle.bql_meaning.specs.Answer.{IsAnswer, finish_of}
 use Rattle.bql_meaning.specs.Answer as meaning
@@ -24,9 +31,12 @@ use Rattle.query_tables.specs.Table.{IsTableOf, IsTableOfQuery}
 use Rattle.query_values.specs.declared.value.Value.{Value}
 use Rattle.std.proofs.lemmas.Bool.{false≢true}
 use Rattle.table_printer.specs.Table.{table_text}
+use Rattle.bq.specs.Batch as batch
+use Rattle.bq.specs.Batch.{Batched, about_files, is_outside, lacks_memory, text_of}
 use Rattle.bq.specs.Check.{Checked, Checks}
 use Rattle.bq.specs.Compile.{Compiled}
-use Rattle.bq.specs.Due.{AreAlike, End, IsOneEnd, at_once}
+use Rattle.bq.specs.Due as ends
+use Rattle.bq.specs.Due.{AreAlike, Due, End, IsOneEnd, at_once, is_lacking}
 use Rattle.bq.specs.List.{Listed, Lists, headers, shown_row, table_of}
 use Rattle.bq.specs.Commands.{due}
 use Rattle.bq.specs.Ledgers.{about_book, about_ledger}
@@ -40,6 +50,7 @@ use Rattle.bq.specs.Verified.{about_program}
 use Rattle.bq.specs.Verify.{Verifies, line_of}
 use Rattle.bq.specs.declared.given.Given.TheVariants.{Told, Kept}
 use Rattle.bq.specs.declared.refusal.Cause.TheVariants as cause
+use Rattle.bq.specs.declared.verdict.Verdict.TheVariants as verdict
 use Rattle.bq.specs.declared.verdict.Verdict.TheVariants.{Fine}
 use Rattle.bq.specs.declared.words.Request.TheVariants as request
 use Rattle.query_columns.specs.ColumnShape.{widest}
@@ -122,6 +133,93 @@ one_answered q x y same a b h k =
     told_alike h.0 k.0
     (same_answered q x.ledger y.ledger same.rows same.decimals h.0 k.0 h.1 k.1) a b h.2 k.2
 
+-- ---- a batch
+
+pub one_about_files : (Of : List (Parts × ℕ) → Due)
+    → ((programs : List (Parts × ℕ)) (rest : List Reading) → IsOneEnd (Of programs rest))
+    → (names : List Text) (readings : List Reading) → IsOneEnd (about_files Of names readings)
+one_about_files Of one [] readings = one [] readings
+one_about_files Of one (name ∷ names) readings =
+    one_about_file (about_program (λ p depth. about_files (λ ps. Of ((p, depth) ∷ ps)) names))
+    (one_about_program (λ p depth. about_files (λ ps. Of ((p, depth) ∷ ps)) names)
+    (λ p depth rest. one_about_files (λ ps. Of ((p, depth) ∷ ps))
+    (λ ps. one ((p, depth) ∷ ps)) names rest)) name readings
+
+-- the same became of both, or memory lacked for one
+module _ (x y : Booked) (same : SameBooks x y) where
+  same_fate : (p : Parts × ℕ) (f g : Fate) → IsFate x.ledger p f → IsFate y.ledger p g
+      → (f ≡ g) ⊎ (lacks_memory f ≡ true) ⊎ (lacks_memory g ≡ true)
+  same_fate p (fate.Table t) (fate.Table u) h k =
+      inl (ap fate.Table (same_ran p.0 p.1 x.ledger y.ledger same.rows same.decimals t u h k))
+  same_fate p (fate.Table t) fate.OutsideBounds h k =
+      absurd (false≢true (sym k ∙ sym (fits_alike p.0 x y same.rows) ∙ h.within))
+  same_fate p fate.OutsideBounds (fate.Table u) h k =
+      absurd (false≢true (sym h ∙ fits_alike p.0 x y same.rows ∙ k.within))
+  same_fate p fate.OutsideBounds fate.OutsideBounds h k = inl refl
+  same_fate p (fate.Table t) fate.OutOfMemory h k = inr (inr refl)
+  same_fate p fate.OutsideBounds fate.OutOfMemory h k = inr (inr refl)
+  same_fate p fate.OutOfMemory g h k = inr (inl refl)
+
+  abbrev AreSame : List Fate → List Fate → Type 0
+  AreSame fs gs =
+      (fs ≡ gs) ⊎ (list_any lacks_memory fs ≡ true) ⊎ (list_any lacks_memory gs ≡ true)
+
+  one_of_all : (b : Bool) → (b || true) ≡ true
+  one_of_all true = refl
+  one_of_all false = refl
+
+  joined : (f g : Fate) (fs gs : List Fate)
+      → (f ≡ g) ⊎ (lacks_memory f ≡ true) ⊎ (lacks_memory g ≡ true) → AreSame fs gs
+      → AreSame (f ∷ fs) (g ∷ gs)
+  joined f g fs gs (inl first) (inl rest) = inl (ap₂ (λ a as. a ∷ as) first rest)
+  joined f g fs gs (inl first) (inr (inl rest)) =
+      inr (inl (ap (λ b. lacks_memory f || b) rest ∙ one_of_all (lacks_memory f)))
+  joined f g fs gs (inl first) (inr (inr rest)) =
+      inr (inr (ap (λ b. lacks_memory g || b) rest ∙ one_of_all (lacks_memory g)))
+  joined f g fs gs (inr (inl first)) rest =
+      inr (inl (ap (λ b. b || list_any lacks_memory fs) first))
+  joined f g fs gs (inr (inr first)) rest =
+      inr (inr (ap (λ b. b || list_any lacks_memory gs) first))
+
+  same_fates : (programs : List (Parts × ℕ)) (fs gs : List Fate) → AreFates x.ledger programs fs
+      → AreFates y.ledger programs gs → AreSame fs gs
+  same_fates [] [] [] h k = inl refl
+  same_fates [] [] (g ∷ gs) h k = absurd k
+  same_fates [] (f ∷ fs) gs h k = absurd h
+  same_fates (p ∷ programs) [] gs h k = absurd h
+  same_fates (p ∷ programs) (f ∷ fs) [] h k = absurd k
+  same_fates (p ∷ programs) (f ∷ fs) (g ∷ gs) h k =
+      joined f g fs gs (same_fate p f g h.0 k.0) (same_fates programs fs gs h.1 k.1)
+
+-- what is told of the files of programs for which this became of them
+abbrev told_of : List Text → List Fate → End
+told_of names fs = Ok (Told (batch.verdict_of fs) (text_of names fs))
+
+is_told_lacking : (names : List Text) (fs : List Fate) → list_any lacks_memory fs ≡ true
+    → ends.lacks_memory (Told (batch.verdict_of fs) (text_of names fs)) ≡ true
+is_told_lacking names fs is =
+    ap (λ b. is_lacking (if b then verdict.OutOfMemory
+    else (if list_any is_outside fs then verdict.OutsideBounds else Fine))) is
+
+one_lacking : (names : List Text) (fs gs : List Fate)
+    → (list_any lacks_memory fs ≡ true) ⊎ (list_any lacks_memory gs ≡ true)
+    → AreAlike (told_of names fs) (told_of names gs)
+one_lacking names fs gs (inl lacks) = inr (inl (is_told_lacking names fs lacks))
+one_lacking names fs gs (inr lacks) = inr (inr (is_told_lacking names gs lacks))
+
+told_as : (names : List Text) (fs gs : List Fate)
+    → (fs ≡ gs) ⊎ (list_any lacks_memory fs ≡ true) ⊎ (list_any lacks_memory gs ≡ true)
+    → AreAlike (told_of names fs) (told_of names gs)
+told_as names fs gs (inl same) =
+    both_are (told_of names fs) (told_of names gs) (told_of names gs) (ap (told_of names) same) refl
+told_as names fs gs (inr lacks) = one_lacking names fs gs lacks
+
+one_batched : (names : List Text) (programs : List (Parts × ℕ)) → SaysOne (Batched names programs)
+one_batched names programs x y same a b h k =
+    subst (λ e. AreAlike e b) (sym h.2)
+    (subst (AreAlike (told_of names h.0)) (sym k.2)
+    (told_as names h.0 k.0 (same_fates x y same programs h.0 k.0 h.1 k.1)))
+
 -- one program of a query, and one file of it
 one_compiled : (b : Bounds) (file : Text) (q : Asked) → IsOneEnd (Compiled b file q)
 one_compiled b file q x y h k =
@@ -162,3 +260,8 @@ have_one_end (Some (request.Query ledger text)) readings =
 have_one_end (Some (request.Compile text file bounds)) readings =
     one_about_program_of bounds (λ q. at_once (Compiled bounds file q))
     (λ q rest. one_at_once (Compiled bounds file q) (one_compiled bounds file q) rest) text readings
+have_one_end (Some (request.Batch steps ledger files)) readings =
+    one_about_files (λ programs. about_ledger (about_book (Batched files programs)) ledger)
+    (λ programs rest. one_about_ledger (about_book (Batched files programs))
+    (λ texts. one_about_book (Batched files programs) (one_batched files programs) texts) ledger
+    rest) files readings

@@ -6,6 +6,8 @@ use Rattle.clap.specs.Faults.{fault_of}
 use Rattle.clap.specs.Kinds.{Kinds}
 use Rattle.clap.specs.Simple.{App, new_app, on_top, subcommand_of, with_subcommand}
 use Rattle.clap.specs.Walk.{Row, Text}
+use Rattle.bq.specs.Batch as several
+use Rattle.bq.specs.Batch.{batch}
 use Rattle.bq.specs.Check.{check}
 use Rattle.bq.specs.Compile.{Words, compile, words_of}
 use Rattle.bq.specs.Due.{Due, at_once}
@@ -23,7 +25,7 @@ use Rattle.bq.specs.declared.words.Request.TheVariants as request
 
 abbrev pub commands : List Name
 commands = names.List ∷ names.Check ∷ names.Show ∷ names.Verify ∷ names.Upgrade ∷ names.Run ∷ names.Query
-    ∷ names.Compile ∷ []
+    ∷ names.Compile ∷ names.Batch ∷ []
 
 -- its words, as clap takes them
 abbrev pub app_of : Name → App
@@ -35,6 +37,7 @@ app_of names.Upgrade = upgrade.app
 app_of names.Run = run.app
 app_of names.Query = query.app
 app_of names.Compile = compile.app
+app_of names.Batch = batch.app
 
 abbrev pub text_of : Name → Text
 text_of name = (app_of name).top.name
@@ -53,6 +56,9 @@ request_by names.Query rows =
     option_map (λ (w : Text × Text). request.Query w.0 w.1) (query.words_in rows)
 request_by names.Compile rows =
     option_map (λ (w : Words). request.Compile w.text w.file w.bounds) (compile.words_in rows)
+request_by names.Batch rows =
+    option_map (λ (w : several.Words). request.Batch w.steps w.ledger w.files)
+    (batch.words_in rows)
 
 -- what is due to a request; where nothing is asked, the words are refused
 abbrev pub due : Option Request → Due
@@ -65,6 +71,7 @@ due (Some (request.Upgrade old new)) = upgrade.due (old, new)
 due (Some (request.Run file ledger)) = run.due (file, ledger)
 due (Some (request.Query ledger text)) = query.due (ledger, text)
 due (Some (request.Compile text file bounds)) = compile.due (words_of text file bounds)
+due (Some (request.Batch steps ledger files)) = batch.due (several.words_of steps ledger files)
 
 -- ---- what words ask for
 

@@ -5,10 +5,13 @@ use Rattle.query_verifier.specs.declared.cause.VerifierCause.TheVariants.{Code}
 use Rattle.stores.specs.Reading.{Reading}
 use Rattle.verify_shapes.specs.declared.cause.CodeCause.TheVariants.{Pattern}
 use Rattle.bq.specs.declared.given.Given.{Given}
+use Rattle.bq.specs.declared.given.Given.TheVariants.{Kept, Told}
 use Rattle.bq.specs.declared.refusal.Cause.{Cause}
 use Rattle.bq.specs.declared.refusal.Cause.TheVariants.{Compile, File, Query}
 use Rattle.bq.specs.declared.refusal.Refusal.{Refusal}
 use Rattle.bq.specs.declared.refusal.Refusal.TheVariants as refusal
+use Rattle.bq.specs.declared.verdict.Verdict.{Verdict}
+use Rattle.bq.specs.declared.verdict.Verdict.TheVariants as verdict
 
 -- What a command comes to: what it gives, or the cause for which its words or its input are
 -- refused.
@@ -49,9 +52,25 @@ IsLike a b = a ≡ b
 abbrev pub AreLike : Cause → Cause → Type 0
 AreLike a b = IsLike a b ⊎ (is_of_pattern a ≡ true) ⊎ (is_of_pattern b ≡ true)
 
+abbrev pub is_lacking : Verdict → Bool
+is_lacking verdict.OutOfMemory = true
+is_lacking verdict.Fine = false
+is_lacking verdict.Faulty = false
+is_lacking verdict.OutsideBounds = false
+
+-- it tells that memory lacked for a part of what was asked for
+abbrev pub lacks_memory : Given → Bool
+lacks_memory (Told v text) = is_lacking v
+lacks_memory (Kept name bytes) = false
+
+-- The same is given; but where memory lacked for a part of it, which may be at any time, it isn't
+-- told for which.
+abbrev pub AreSame : Given → Given → Type 0
+AreSame a b = (a ≡ b) ⊎ (lacks_memory a ≡ true) ⊎ (lacks_memory b ≡ true)
+
 -- two ends of one command
 abbrev pub AreAlike : End → End → Type 0
-AreAlike (Ok a) (Ok b) = a ≡ b
+AreAlike (Ok a) (Ok b) = AreSame a b
 AreAlike (Ok a) (Err c) = is_of_pattern c ≡ true
 AreAlike (Err c) (Ok b) = is_of_pattern c ≡ true
 AreAlike (Err a) (Err b) = AreLike a b

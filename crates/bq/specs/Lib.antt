@@ -17,9 +17,11 @@ pub mod RunFile
 pub mod Asking
 pub mod Query
 pub mod Compile
+pub mod Batch
 pub mod Commands
 pub mod Named
 pub mod Keeping
 pub mod Runs
+pub mod Accepted
 pub mod MemoryRun
 pub mod Process

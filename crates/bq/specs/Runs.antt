@@ -99,7 +99,7 @@ WritesText out text (Err refusal) = ⊥
 
 -- ---- how it ends
 
--- that of the answer, 0 or 1, or of the refusal, 2 to 4
+-- that of the answer or of the refusal
 abbrev pub status_of_run : Result Verdict Refusal → ℕ
 status_of_run (Ok verdict) = verdicts.status_of verdict
 status_of_run (Err r) = status_of r
@@ -134,8 +134,9 @@ RefusesExactly =
     (cause : Cause) → IsDue (due asked) readings result → due asked readings (Err cause)
     → is_of_pattern cause ≡ false → IsRefusedFor cause result
 
--- the status of an answer is that of no other end
+-- A status below 2 is that of one answer alone; the others are those of refusals, and of answers
+-- that say of a part what a refusal says of the whole.
 abbrev pub StatusesTell : Type 0
 StatusesTell =
-    (verdict : Verdict) (result : Result Verdict Refusal)
+    (verdict : Verdict) (result : Result Verdict Refusal) → verdicts.status_of verdict < 2
     → status_of_run result ≡ verdicts.status_of verdict → result ≡ Ok verdict

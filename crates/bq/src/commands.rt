@@ -3,6 +3,7 @@ ghost use Rattle.std.specs.Prelude.{map};
 ghost use Rattle.bq.specs.Commands.{due_to};
 ghost use Rattle.bq.specs.Runs.{Finds};
 
+mod batch;
 mod check;
 mod compile;
 mod file;
@@ -41,5 +42,8 @@ pub fn find<'w, S: Source>(
         Request::Run(file, ledger) => run_file::answer(alloc, file.text(), ledger.text(), store),
         Request::Query(ledger, text) => query::answer(alloc, ledger.text(), text.text(), store),
         Request::Compile(text, file, bounds) => compile::answer(alloc, text.text(), file, &bounds),
+        Request::Batch(steps, ledger, files) => {
+            batch::answer(alloc, steps, ledger.text(), files.as_slice(), store)
+        }
     }
 }

@@ -5,7 +5,7 @@ use bean_base::{List, Slice};
 /// What a command gives where it answers.
 #[derive(Debug, Drop)]
 pub enum Given<'w> {
-    /// A text for standard output, and what it says of books.
+    /// A text for standard output, and what it says.
     Told(Verdict, List<u8>),
     /// A file to be kept, under its name.
     Kept(Slice<'w>, List<u8>),

@@ -61,7 +61,8 @@ fn run<S: Store, O: Output>(
 /// Runs the program on its words, without its own name: the answer goes to `out` or, where it is a
 /// file, to the store, and where there is none one line that says why to `err`. The status is 0
 /// where it answered, 1 where the answer is that books have faults, 2 where the words or the input
-/// are refused, 3 where reading or writing failed and 4 where memory lacked.
+/// are refused, 3 where reading or writing failed and 4 where memory lacked; 2 and 4 also where the
+/// answer says so of one of several programs.
 pub fn run_words<S: Store, O: Output, E: Output>(
     alloc: Global,
     words: &[&str],
@@ -84,14 +85,14 @@ pub fn run_words<S: Store, O: Output, E: Output>(
 }
 
 /// What is asked for and what the store gave decide what is due: the answer, or the cause of a
-/// refusal. (Which cause is told of a program that isn't well shaped, and whether a pattern is
-/// built, is not said.)
+/// refusal. (Which cause is told of a program that isn't well shaped, whether a pattern is built,
+/// and for which of several programs memory lacked is not said.)
 pub fn one_end_is_due()
     ensures { HaveOneEnd }
 {}
 
 /// Want of memory and patterns aside, each refusal comes exactly where its cause holds; and the
-/// status tells whether there is an answer, and what it says of books.
+/// statuses 0 and 1 tell that there is an answer, and what it says of books.
 pub fn refuses_exactly()
     ensures exactly { RefusesExactly }
     ensures told { StatusesTell }

@@ -1,4 +1,4 @@
-//! What an answer says of books, and the status that tells it.
+//! What an answer says, and the status that tells it.
 ghost use Rattle.std.specs.Prelude.{◌≡◌};
 ghost use Rattle.bq.specs.Verdict.{status_of};
 ghost use Rattle.bq.specs.Verdict as spec;
@@ -6,23 +6,30 @@ ghost use Rattle.bq.specs.Verdict as spec;
 use bean_base::Fault;
 use fault_printer::are_serious;
 
-/// What an answer says of books.
+/// What an answer says of what was asked about.
 #[derive(Clone, Copy, Debug, Drop, PartialEq, Eq)]
 pub enum Verdict {
-    /// They are fine, or it wasn't asked whether they are.
+    /// Books are fine, or it wasn't asked whether they are.
     Fine,
-    /// They have a fault that says more than that a line is ignored.
+    /// Books have a fault that says more than that a line is ignored.
     Faulty,
+    /// A ledger is outside the bounds of one of several programs.
+    OutsideBounds,
+    /// Memory lacked for one of several programs.
+    OutOfMemory,
 }
 
 impl Verdict {
-    /// 0, and 1 where books have faults.
+    /// 0; 1 where books have faults; and as in a refusal 2 where a ledger is outside bounds and 4
+    /// where memory lacked.
     pub fn status(self) -> u8
         ensures { result ≡ status_of self }
     {
         match self {
             Verdict::Fine => 0,
             Verdict::Faulty => 1,
+            Verdict::OutsideBounds => 2,
+            Verdict::OutOfMemory => 4,
         }
     }
 }

@@ -1,9 +1,10 @@
 //! What the words ask for.
 ghost use Rattle.std.specs.Prelude.{◌≡◌, [], ◌∷◌, IfOk, IfSome, map};
 ghost use Rattle.std.specs.Option.{option_and_then};
-ghost use Rattle.clap.specs.Walk.{first_of, rows_of};
+ghost use Rattle.clap.specs.Walk.{all_of, first_of, rows_of};
 ghost use Rattle.clap.specs.Words.{FailsBy, app_of, fault_of, found_of, subcommand_of};
 ghost use Rattle.clap.specs.Words.{subcommand_rows_of, with_rule, with_subcommand};
+ghost use Rattle.bq.specs.Batch as batch;
 ghost use Rattle.bq.specs.Command.{IsCommand, IsLocal};
 ghost use Rattle.bq.specs.Command as words_of;
 ghost use Rattle.bq.specs.Commands as spec;
@@ -14,7 +15,7 @@ ghost use Rattle.query_columns.specs.ColumnShape.{AreBounds};
 ghost use Rattle.bq.specs.Named.{AskFor, IsRefusedBy};
 
 use crate::refusal::{Cause, Refusal};
-use bean_base::Slice;
+use bean_base::{List, Slice};
 use clap::error::ErrorKind;
 use limits::{Bounds, MOST_POSTINGS, MOST_UNITS_DIGITS, MOST_VALUE_DIGITS, Version};
 use clap::{Arg, ArgMatches, Error};
@@ -31,6 +32,7 @@ pub enum Name {
     Run,
     Query,
     Compile,
+    Batch,
 }
 
 /// What the words ask for: a command, with its words.
@@ -52,7 +54,13 @@ pub enum Request<'w> {
     Query(Slice<'w>, Slice<'w>),
     /// The file of a query's program, by the query's text, the file's name and the bounds.
     Compile(Slice<'w>, Slice<'w>, Bounds),
+    /// What query files answer over a ledger, in turns of so many steps each, by the names of the
+    /// ledger and of the files.
+    Batch(u64, Slice<'w>, List<Slice<'w>>),
 }
+
+/// The most steps of a turn.
+const MOST_STEPS: u64 = u64::MAX;
 
 impl Name {
     fn text(self) -> &'static str
@@ -67,6 +75,7 @@ impl Name {
             Name::Run => "run",
             Name::Query => "query",
             Name::Compile => "compile",
+            Name::Batch => "batch",
         }
     }
 
@@ -83,6 +92,7 @@ impl Name {
             Name::Run,
             Name::Query,
             Name::Compile,
+            Name::Batch,
         ]
             .iter()
             .copied()
@@ -90,27 +100,32 @@ impl Name {
     }
 
     /// What its words ask for.
-    fn request<'w>(self, words: &ArgMatches<'w>) -> Option<Request<'w>>
-        ensures { result ≡ spec.request_by self (rows_of (found_of words.now)) }
+    fn request<'w>(
+        self,
+        alloc: Global,
+        words: &ArgMatches<'w>,
+    ) -> Result<Option<Request<'w>>, AllocError>
+        ensures { IfOk result (λ asked. asked ≡ spec.request_by self (rows_of (found_of words.now))) }
     {
         match self {
-            Name::List => word(words, "LEDGER").map(Request::List),
-            Name::Check => word(words, "LEDGER").map(Request::Check),
-            Name::Show => word(words, "FILE").map(Request::Show),
-            Name::Verify => word(words, "FILE").map(Request::Verify),
+            Name::List => Ok(word(words, "LEDGER").map(Request::List)),
+            Name::Check => Ok(word(words, "LEDGER").map(Request::Check)),
+            Name::Show => Ok(word(words, "FILE").map(Request::Show)),
+            Name::Verify => Ok(word(words, "FILE").map(Request::Verify)),
             Name::Upgrade => match (word(words, "OLD"), word(words, "NEW")) {
-                (Some(old), Some(new)) => Some(Request::Upgrade(old, new)),
-                _ => None,
+                (Some(old), Some(new)) => Ok(Some(Request::Upgrade(old, new))),
+                _ => Ok(None),
             },
             Name::Run => match (word(words, "FILE"), word(words, "LEDGER")) {
-                (Some(file), Some(ledger)) => Some(Request::Run(file, ledger)),
-                _ => None,
+                (Some(file), Some(ledger)) => Ok(Some(Request::Run(file, ledger))),
+                _ => Ok(None),
             },
             Name::Query => match (word(words, "LEDGER"), word(words, "TEXT")) {
-                (Some(ledger), Some(text)) => Some(Request::Query(ledger, text)),
-                _ => None,
+                (Some(ledger), Some(text)) => Ok(Some(Request::Query(ledger, text))),
+                _ => Ok(None),
             },
-            Name::Compile => compiling(words),
+            Name::Compile => Ok(compiling(words)),
+            Name::Batch => batching(alloc, words),
         }
     }
 }
@@ -123,6 +138,33 @@ fn word<'w>(words: &ArgMatches<'w>, name: &str) -> Option<Slice<'w>>
         Some(word) => Some(Slice::new(word)),
         None => None,
     }
+}
+
+/// The slices of texts.
+fn slices<'w>(alloc: Global, texts: &[&'w str]) -> Result<List<Slice<'w>>, AllocError>
+    ensures { IfOk result (λ list. list ≡ map (λ t. t.now) texts.now) }
+{
+    let mut list = List::new(Vec::new(alloc));
+    for text in texts {
+        list.push(Slice::new(*text))?;
+    }
+    Ok(list)
+}
+
+/// All words of that name.
+fn all_words<'w>(
+    alloc: Global,
+    words: &ArgMatches<'w>,
+    name: &str,
+) -> Result<Option<List<Slice<'w>>>, AllocError>
+    ensures { IfOk result (λ found. found ≡ all_of name.now (rows_of (found_of words.now))) }
+{
+    let texts = match words.get_strs(name) {
+        Some(texts) => texts,
+        None => return Ok(None),
+    };
+    let list = slices(alloc, texts)?;
+    Ok(Some(list))
 }
 
 /// A number from 1 to the most.
@@ -172,6 +214,33 @@ fn compiling<'w>(words: &ArgMatches<'w>) -> Option<Request<'w>>
     match (word(words, "TEXT"), word(words, "FILE"), bounds(words)) {
         (Some(text), Some(file), Some(bounds)) => Some(Request::Compile(text, file, bounds)),
         _ => None,
+    }
+}
+
+/// How many steps a turn of `batch` has.
+fn steps(words: &ArgMatches<'_>) -> Option<u64>
+    ensures { result ≡ batch.steps_in (rows_of (found_of words.now)) }
+{
+    match words.get_str("K") {
+        Some(text) => number_in(text, MOST_STEPS),
+        None => None,
+    }
+}
+
+/// What the words of `batch` ask for.
+fn batching<'w>(
+    alloc: Global,
+    words: &ArgMatches<'w>,
+) -> Result<Option<Request<'w>>, AllocError>
+    ensures { IfOk result (λ asked. asked
+        ≡ spec.request_by names.Batch (rows_of (found_of words.now))) }
+{
+    let files = all_words(alloc, words, "FILE")?;
+    match (steps(words), word(words, "LEDGER"), files) {
+        (Some(steps), Some(ledger), Some(files)) => {
+            Ok(Some(Request::Batch(steps, ledger, files)))
+        }
+        _ => Ok(None),
     }
 }
 
@@ -226,6 +295,14 @@ fn with_bounds<'a>(alloc: Global) -> Result<clap::Command<'a>, AllocError>
     with_option(alloc, measured, "value-digits")
 }
 
+/// The words of `batch`.
+fn with_files<'a>(alloc: Global) -> Result<clap::Command<'a>, AllocError>
+    ensures { IfOk result (λ c. IsCommand c (spec.app_of names.Batch)) }
+{
+    let plain = with_words(alloc, "batch", "K", "LEDGER")?;
+    plain.arg(Arg::new(alloc, "FILE").required(true).num_args(1..))
+}
+
 /// The words of a command, as clap takes them. There is no help by words: the README has it.
 fn subcommand<'a>(alloc: Global, name: Name) -> Result<clap::Command<'a>, AllocError>
     ensures { IfOk result (λ c. IsCommand c (spec.app_of name)) }
@@ -239,6 +316,7 @@ fn subcommand<'a>(alloc: Global, name: Name) -> Result<clap::Command<'a>, AllocE
         Name::Run => with_words(alloc, "run", "FILE", "LEDGER"),
         Name::Query => with_words(alloc, "query", "LEDGER", "TEXT"),
         Name::Compile => with_bounds(alloc),
+        Name::Batch => with_files(alloc),
     }
 }
 
@@ -272,27 +350,37 @@ fn matches_of<'a>(alloc: Global, words: &'a [&'a str]) -> Result<ArgMatches<'a>,
     let upgrading = with_command(alloc, verifying, Name::Upgrade)?;
     let running = with_command(alloc, upgrading, Name::Run)?;
     let asking = with_command(alloc, running, Name::Query)?;
-    let command = with_command(alloc, asking, Name::Compile)?;
+    let compiling = with_command(alloc, asking, Name::Compile)?;
+    let command = with_command(alloc, compiling, Name::Batch)?;
     command.try_get_matches_from(words)
 }
 
 /// What the words of a command ask for, by its name.
-fn asked_by<'w>(name: &str, words: &ArgMatches<'w>) -> Option<Request<'w>>
-    ensures { result ≡ spec.asked_by (name.now, rows_of (found_of words.now)) }
+fn asked_by<'w>(
+    alloc: Global,
+    name: &str,
+    words: &ArgMatches<'w>,
+) -> Result<Option<Request<'w>>, AllocError>
+    ensures { IfOk result (λ asked. asked
+        ≡ spec.asked_by (name.now, rows_of (found_of words.now))) }
 {
     match Name::named(name) {
-        Some(name) => name.request(words),
-        None => None,
+        Some(name) => name.request(alloc, words),
+        None => Ok(None),
     }
 }
 
 /// What the command asks for that the words name.
-fn asked_in<'w>(matches: &ArgMatches<'w>) -> Option<Request<'w>>
-    ensures { result ≡ option_and_then spec.asked_by (subcommand_rows_of matches.now) }
+fn asked_in<'w>(
+    alloc: Global,
+    matches: &ArgMatches<'w>,
+) -> Result<Option<Request<'w>>, AllocError>
+    ensures { IfOk result (λ asked. asked
+        ≡ option_and_then spec.asked_by (subcommand_rows_of matches.now)) }
 {
     match matches.subcommand() {
-        Some((name, words)) => asked_by(name, words),
-        None => None,
+        Some((name, words)) => asked_by(alloc, name, words),
+        None => Ok(None),
     }
 }
 
@@ -314,7 +402,8 @@ pub fn request_in<'w>(alloc: Global, words: &'w [&'w str]) -> Result<Request<'w>
         Ok(matches) => matches,
         Err(error) => return Err(refusal_of(&error)),
     };
-    match asked_in(&matches) {
+    let asked = asked_in(alloc, &matches)?;
+    match asked {
         Some(request) => Ok(request),
         None => Err(Refusal::Refused(Cause::Words)),
     }

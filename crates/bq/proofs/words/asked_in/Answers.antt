@@ -1,5 +1,6 @@
 use Rattle.std.proofs.Common.{◌≡◌, List, Option, Some, None, option_map, refl, sym, ap, ap₂, ◌∙◌}
 use Rattle.std.specs.Option.{option_and_then}
+use Rattle.std.proofs.lemmas.Result.{IfOk-weaker}
 use Rattle.clap.specs.Walk.{Row, Text}
 use Rattle.clap.specs.Words.{found_of, rows_of, subcommand_rows_of}
 use Rattle.bq.specs.Commands.{asked_by}
@@ -27,4 +28,5 @@ returns-in-Some c =
     let is =
     paired (subcommand_rows_of c.args.matches.now) c.in-Some.name.now rows
     (after _ (λ (p : Text × List Row). p.0) _ ∙ sym told.name) (sym told.rows) in
-    c.asked_by.ensures ∙ sym (ap (option_and_then asked_by) is)
+    IfOk-weaker c.asked_by.result _ _
+    (λ asked told. told ∙ sym (ap (option_and_then asked_by) is)) c.asked_by.ensures

@@ -5,6 +5,7 @@ use Rattle.clap.specs.Kinds.{FailsBy}
 use Rattle.clap.specs.Simple.{app_of_fields, is_simple, on_top, subcommand_of}
 use Rattle.clap.specs.Words.{app_of, with_subcommand}
 use Rattle.clap.proofs.OnLiterals.{clap_on_literals}
+use Rattle.bq.specs.Batch.{batch}
 use Rattle.bq.specs.Check.{check}
 use Rattle.bq.specs.Commands.{program}
 use Rattle.bq.specs.Compile.{compile}
@@ -40,6 +41,8 @@ command_is c =
     ap app_of_fields c.subcommand_required-top.ensures
     ∙ ap (on_top (λ s. record s { subcommand_required = true })) no_help in
     c.in_ok-command.ensures
+    ∙ ap (λ a. with_subcommand a batch.app.top)
+    (c.in_ok-compiling.ensures
     ∙ ap (λ a. with_subcommand a compile.app.top)
     (c.in_ok-asking.ensures
     ∙ ap (λ a. with_subcommand a query.app.top)
@@ -53,7 +56,7 @@ command_is c =
     ∙ ap (λ a. with_subcommand a show.app.top)
     (c.in_ok-checking.ensures
     ∙ ap (λ a. with_subcommand a check.app.top)
-    (c.in_ok-listing.ensures ∙ ap (λ a. with_subcommand a list.app.top) top_is)))))))
+    (c.in_ok-listing.ensures ∙ ap (λ a. with_subcommand a list.app.top) top_is))))))))
 
 pub returns-clause-rows : goal.returns-clause-rows
 returns-clause-rows c =

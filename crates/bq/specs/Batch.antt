@@ -1,0 +1,104 @@
+-- `batch K LEDGER FILE..`: what query files answer over a ledger, in turns of K steps each.
+use Rattle.std.specs.Prelude.{◌≡◌, ℕ, ◌^◌, ◌-◌, Bool, true, false, List, [], ◌∷◌, ◌++◌, codes, Ok}
+use Rattle.std.specs.Prelude.{Option, Some, if◌then◌else◌}
+use Rattle.std.specs.List.{list_any}
+use Rattle.std.specs.Option.{option_and_then, option_map}
+use Rattle.batch_tables.specs.Fates.{AreFates}
+use Rattle.batch_tables.specs.declared.tabulating.Fate.{Fate}
+use Rattle.batch_tables.specs.declared.tabulating.Fate.TheVariants as fate
+use Rattle.bean_book.specs.declared.booked.Booked.{Booked}
+use Rattle.clap.specs.Lexer.{usize_max}
+use Rattle.clap.specs.Simple.{with_rule}
+use Rattle.clap.specs.Walk.{Row, Rule, Text, all_of, first_of}
+use Rattle.query_code.specs.declared.program.Parts.{Parts}
+use Rattle.bq.specs.Command.{Command, named, needed}
+use Rattle.bq.specs.Compile.{number_in}
+use Rattle.bq.specs.Due.{Due, End}
+use Rattle.bq.specs.Files.{about_file}
+use Rattle.bq.specs.Ledgers.{about_book, about_ledger}
+use Rattle.bq.specs.Verified.{about_program}
+use Rattle.bq.specs.declared.given.Given.TheVariants.{Told}
+use Rattle.bq.specs.declared.verdict.Verdict.{Verdict}
+use Rattle.bq.specs.declared.verdict.Verdict.TheVariants as verdict
+
+-- ---- the words
+
+-- the steps of a turn, the name of the ledger, and those of the files
+pub record Words : Type 0 where
+  pub steps : ℕ
+  pub ledger : Text
+  pub files : List Text
+
+abbrev pub words_of : ℕ → Text → List Text → Words
+words_of steps ledger files = record { steps = steps; ledger = ledger; files = files }
+
+-- one or more
+abbrev pub files : Rule
+files = record (needed (codes "FILE")) {
+  range = Some (record { start_inclusive = 1; end_inclusive = usize_max });
+}
+
+-- a number from 1 to the largest of 64 bits
+abbrev pub steps_in : List Row → Option ℕ
+steps_in rows = option_and_then (number_in (2 ^ 64 - 1)) (first_of (codes "K") rows)
+
+abbrev pub words_in : List Row → Option Words
+words_in rows =
+    option_and_then (λ steps. option_and_then (λ ledger. option_map (words_of steps ledger)
+    (all_of (codes "FILE") rows)) (first_of (codes "LEDGER") rows)) (steps_in rows)
+
+-- ---- what is told
+
+-- a table, or why there is none
+abbrev pub text_by : Fate → List ℕ
+text_by (fate.Table text) = text
+text_by fate.OutsideBounds = codes "M1\n"
+text_by fate.OutOfMemory = codes "M2\n"
+
+-- the line of a file's name, and below it what became of its program
+abbrev pub section_of : Text → Fate → List ℕ
+section_of name f = codes "== " ++ name ++ codes "\n" ++ text_by f
+
+abbrev pub text_of : List Text → List Fate → List ℕ
+text_of [] fates = []
+text_of (name ∷ names) [] = []
+text_of (name ∷ names) (f ∷ fates) =
+    section_of name f ++ text_of names fates
+
+abbrev pub lacks_memory : Fate → Bool
+lacks_memory fate.OutOfMemory = true
+lacks_memory f = false
+
+abbrev pub is_outside : Fate → Bool
+is_outside fate.OutsideBounds = true
+is_outside f = false
+
+-- the worst of them
+abbrev pub verdict_of : List Fate → Verdict
+verdict_of fates =
+    if list_any lacks_memory fates then verdict.OutOfMemory
+    else (if list_any is_outside fates then verdict.OutsideBounds else verdict.Fine)
+
+-- ---- what is due
+
+-- why one of the files, in their order, can't be read or isn't accepted; or what is due of the
+-- programs of all
+abbrev pub about_files : (List (Parts × ℕ) → Due) → List Text → Due
+about_files Of [] = Of []
+about_files Of (name ∷ names) =
+    about_file (about_program (λ p depth. about_files (λ rest. Of ((p, depth) ∷ rest)) names)) name
+
+-- what becomes of the programs over a book, under the names of their files
+abbrev pub Batched : List Text → List (Parts × ℕ) → Booked → End → Type 0
+Batched names programs b end =
+    (fates : List Fate) × AreFates b.ledger programs fates
+    × (end ≡ Ok (Told (verdict_of fates) (text_of names fates)))
+
+-- the same, however many steps a turn has
+abbrev pub batch : Command Words
+batch = record {
+  app = with_rule (named (codes "batch") (codes "K" ∷ codes "LEDGER" ∷ [])) files;
+  words_in = words_in;
+  due = λ w. about_files (λ programs. about_ledger (about_book (Batched w.files programs)) w.ledger)
+      w.files;
+}

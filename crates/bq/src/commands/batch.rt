@@ -1,0 +1,195 @@
+//! `batch K LEDGER FILE..`: what query files answer over a ledger, in turns of K steps each.
+ghost use Rattle.std.specs.Prelude.{◌≡◌, ◌≤◌, ◌++◌, IfOk, OnOk, length, map};
+ghost use Rattle.std.specs.List.{list_any};
+ghost use Rattle.batch_tables.specs.Fates.{verified};
+ghost use Rattle.bq.specs.Accepted.{AcceptsFile, AcceptsFiles, AreAcceptedAs, IsAcceptedAs};
+ghost use Rattle.bq.specs.Batch as command;
+ghost use Rattle.bq.specs.Runs.{Finds};
+
+use crate::booking::book_of;
+use crate::commands::file::file_bytes;
+use crate::commands::ledger::{Question, answer_about};
+use crate::given::Given;
+use crate::refusal::Refusal;
+use crate::verdict::Verdict;
+use batch_tables::{Fate, fates};
+use bean_base::{List, Slice};
+use bean_load::Texts;
+use query_verifier::check_file;
+use std::alloc::{AllocError, Global};
+use std::mem::forget;
+use stores::Source;
+use verified_program::Checked;
+
+/// The bytes of the file of that name, which is accepted.
+fn accepted_file<S: Source>(alloc: Global, name: &str, store: &mut S) -> Result<List<u8>, Refusal>
+    ensures { AcceptsFile S.Source store.old store.new name.now result }
+{
+    let bytes = file_bytes(store, name)?;
+    check_file(alloc, &bytes)?;
+    Ok(List::new(bytes))
+}
+
+/// The bytes of the files of these names. None is read behind one that isn't accepted.
+fn accepted_files<S: Source>(
+    alloc: Global,
+    names: &[Slice<'_>],
+    store: &mut S,
+) -> Result<List<List<u8>>, Refusal>
+    ensures { AcceptsFiles S.Source store.old store.new names.now result }
+{
+    let mut files = List::new(Vec::new(alloc));
+    for name in names {
+        let file = accepted_file(alloc, name.text(), store)?;
+        files.push(file)?;
+    }
+    Ok(files)
+}
+
+/// The program of a file that was accepted before.
+fn program_in<'f>(alloc: Global, file: &'f List<u8>) -> Result<Checked<'f>, AllocError>
+    ensures { IfOk result (λ checked. IsAcceptedAs file.now (verified checked)) }
+{
+    match check_file(alloc, file.as_slice()) {
+        Ok(checked) => Ok(checked),
+        // It was accepted before, so memory lacks.
+        Err(_) => Err(AllocError),
+    }
+}
+
+/// The programs of files that were accepted before: they stand in the bytes of these, so they can't
+/// be kept from when each file was read.
+fn programs_in<'f>(alloc: Global, files: &'f [List<u8>]) -> Result<Vec<Checked<'f>>, AllocError>
+    ensures { IfOk result (λ programs. AreAcceptedAs files.now (map verified programs.items)) }
+{
+    let mut programs = Vec::with_capacity(alloc, files.len())?;
+    for file in files {
+        let program = program_in(alloc, file)?;
+        programs.push(program)?;
+    }
+    Ok(programs)
+}
+
+/// What stands below the name of a file.
+fn text_by(fate: &Fate) -> &[u8]
+    ensures { result.now ≡ command.text_by fate.now }
+{
+    match fate {
+        Fate::Table(table) => table.as_slice(),
+        Fate::OutsideBounds => "M1\n".as_bytes(),
+        Fate::OutOfMemory => "M2\n".as_bytes(),
+    }
+}
+
+/// Adds a file's name, and below it what became of its program.
+fn push_section(text: &mut Vec<u8>, name: &str, fate: &Fate) -> Result<(), AllocError>
+    ensures { OnOk result (text.new.items
+        ≡ text.old.items ++ command.section_of name.now fate.now) }
+{
+    text.extend_from_slice("== ".as_bytes())?;
+    text.extend_from_slice(name.as_bytes())?;
+    text.extend_from_slice("\n".as_bytes())?;
+    text.extend_from_slice(text_by(fate))?;
+    Ok(())
+}
+
+/// What is told of files by what became of their programs.
+fn text_of(alloc: Global, names: &[Slice<'_>], fates: &[Fate]) -> Result<Vec<u8>, AllocError>
+    requires { length fates.now ≡ length names.now }
+    ensures { IfOk result (λ text. text.items ≡ command.text_of names.now fates.now) }
+{
+    let mut text = Vec::new(alloc);
+    for (number, name) in names.iter().enumerate() {
+        push_section(&mut text, name.text(), &fates[number])?;
+    }
+    Ok(text)
+}
+
+fn lacks_memory(fate: &Fate) -> bool
+    ensures { result ≡ command.lacks_memory fate.now }
+{
+    matches!(fate, Fate::OutOfMemory)
+}
+
+fn is_outside(fate: &Fate) -> bool
+    ensures { result ≡ command.is_outside fate.now }
+{
+    matches!(fate, Fate::OutsideBounds)
+}
+
+/// Whether memory lacked for one of them.
+fn is_one_lacking(fates: &[Fate]) -> bool
+    ensures { result ≡ list_any command.lacks_memory fates.now }
+{
+    fates.iter().any(|fate| lacks_memory(fate))
+}
+
+/// Whether the ledger is outside the bounds of one of them.
+fn is_one_outside(fates: &[Fate]) -> bool
+    ensures { result ≡ list_any command.is_outside fates.now }
+{
+    fates.iter().any(|fate| is_outside(fate))
+}
+
+/// What is said of all of them: the worst.
+fn verdict_of(fates: &[Fate]) -> Verdict
+    ensures { result ≡ command.verdict_of fates.now }
+{
+    if is_one_lacking(fates) {
+        return Verdict::OutOfMemory;
+    }
+    if is_one_outside(fates) {
+        return Verdict::OutsideBounds;
+    }
+    Verdict::Fine
+}
+
+/// What becomes of the programs of files over the postings that texts are booked as.
+#[derive(Clone, Copy)]
+struct Batching<'p, 'n, 'f> {
+    steps: u64,
+    names: &'p [Slice<'n>],
+    programs: &'p [Checked<'f>],
+    ghost some: { 1 ≤ steps },
+    ghost each: { length programs.now ≡ length names.now },
+}
+
+impl Question for Batching<'_, '_, '_> {
+    ghost use Rattle.std.specs.Prelude.{map};
+    ghost use Rattle.batch_tables.specs.Fates.{verified};
+    ghost use Rattle.bq.specs.Batch.{Batched};
+    ghost use Rattle.bq.specs.Ledgers.{about_book};
+
+    ghost says = { λ batch. about_book (Batched batch.names.now (map verified batch.programs.now)) };
+
+    fn answer<'w>(&self, alloc: Global, texts: &Texts) -> Result<Given<'w>, Refusal> {
+        let booked = book_of(alloc, texts)?;
+        let ended = fates(alloc, self.programs, &booked.ledger, self.steps)?;
+        // The process ends soon, and takes all memory back at once.
+        forget(booked);
+        let text = text_of(alloc, self.names, &ended)?;
+        Ok(Given::Told(verdict_of(&ended), List::new(text)))
+    }
+}
+
+/// What the query files of these names answer over the ledger of that name.
+pub fn answer<'w, S: Source>(
+    alloc: Global,
+    steps: u64,
+    ledger: &str,
+    names: &[Slice<'_>],
+    store: &mut S,
+) -> Result<Given<'w>, Refusal>
+    requires { 1 ≤ steps }
+    ensures { Finds S.Source store.old store.new
+        (command.batch.due (command.words_of steps ledger.now names.now)) result }
+{
+    let files = accepted_files(alloc, names, store)?;
+    let programs = programs_in(alloc, files.as_slice())?;
+    let batch = Batching {
+        steps,
+        names,
+        programs: &programs,
+    };
+    answer_about(alloc, &batch, ledger, store)
+}
