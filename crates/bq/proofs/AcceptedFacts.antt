@@ -6,8 +6,6 @@ use Rattle.batch_tables.specs.Fates.{verified}
 use Rattle.clap.specs.Walk.{Text}
 use Rattle.query_code.specs.declared.program.Parts.{Parts}
 use Rattle.query_verifier.specs.Checking.{Checks}
-use Rattle.query_verifier.specs.declared.cause.VerifierCause.{VerifierCause}
-use Rattle.refusals.specs.declared.refusal.Refusal as refusals
 use Rattle.stores.proofs.GaveFacts.{gave_behind, gave_none}
 use Rattle.stores.specs.Reading.{Reading}
 use Rattle.stores.specs.Source.{Gave}
@@ -17,12 +15,12 @@ use Rattle.bq.specs.Accepted.{AcceptsFile, AcceptsFiles, AreAcceptedAs, ComeAcce
 use Rattle.bq.specs.Accepted.{IsAcceptedAs, if_one_refused, if_refused}
 use Rattle.bq.specs.Batch.{about_files}
 use Rattle.bq.specs.Due.{ComesTo, Due, End}
-use Rattle.bq.specs.Files.{FileComes, ReadsFile, about_file}
-use Rattle.bq.specs.Refusal.{unaccepted, unread}
+use Rattle.bq.specs.Files.{FileComes}
 use Rattle.bq.specs.Runs.{Finds}
 use Rattle.bq.specs.Verified.{about_program}
 use Rattle.bq.specs.declared.given.Given.{Given}
 use Rattle.bq.specs.declared.refusal.Refusal.{Refusal}
+use Rattle.bq.specs.declared.refusal.Refusal.TheVariants.{OutOfMemory}
 use Rattle.bq.proofs.Outcomes.{within}
 
 -- ---- a program
@@ -114,7 +112,7 @@ module _ {S : Type 0} (s : SourceOf S) where
           (refused_behind name left one.0 todo bytes one.2 one.3 end h)),
       λ todo more h. subst (λ rs. ComeAccepted names rs ((files ++ bytes ∷ []) ++ more))
           (sym (append_assoc so_far.0 one.0 todo))
-          (subst (ComeAccepted names (so_far.0 ++ one.0 ++ todo))
+          (subst (ComeAccepted names (so_far.0 ++ (one.0 ++ todo)))
           (sym (append_assoc files (bytes ∷ []) more))
           (so_far.3 (one.0 ++ todo) (bytes ∷ more)
           (todo, comes_before name one.0 todo bytes one.2, one.3, h))),
@@ -129,6 +127,12 @@ module _ {S : Type 0} (s : SourceOf S) where
       within (if_refused name one.0) (if_one_refused names (so_far.0 ++ one.0))
           (λ end h. so_far.2 one.0 end (refused_first name left one.0 end h)) (Err r) one.2,
     )
+
+    -- memory lacks behind one
+    pub lacks : (bytes : List ℕ) → SoFar a b names (name ∷ left) files
+        → AcceptsFile s b c name (Ok bytes) → AcceptsFiles s a c names (Err OutOfMemory)
+    lacks bytes so_far one =
+        (so_far.0 ++ one.0, gave_behind s a b c so_far.0 one.0 so_far.1 one.1, tt)
 
   -- all are
   pub all_come : (a b : S) (names : List Text) (files : List (List ℕ)) → SoFar a b names [] files
@@ -145,20 +149,17 @@ module _ {S : Type 0} (s : SourceOf S) where
 -- where one isn't accepted, whatever would be due of the programs
 refused_for : (Of : List (Parts × ℕ) → Due) (names : List Text) (readings : List Reading)
     (end : End) → if_one_refused names readings end → about_files Of names readings end
-
-refused_at : (Of : List (Parts × ℕ) → Due) (names : List Text) (bytes : List ℕ)
-    (rest : List Reading) (end : End)
-    → about_program (λ p depth. if_one_refused names) bytes rest end
-    → about_program (λ p depth. about_files (λ ps. Of ((p, depth) ∷ ps)) names) bytes rest end
-
 refused_for Of [] readings end h = absurd h
 refused_for Of (name ∷ names) readings end (inl h) = inl h
-refused_for Of (name ∷ names) readings end (inr h) =
-    inr (h.0, h.1, h.2, refused_at Of names h.0 h.1 end h.3)
-
-refused_at Of names bytes rest end (inl h) = inl h
-refused_at Of names bytes rest end (inr h) =
-    inr (h.0, h.1, h.2, refused_for (λ ps. Of ((h.0, h.1) ∷ ps)) names rest end h.3)
+refused_for Of (name ∷ names) readings end (inr (bytes, rest, comes, inl h)) =
+    inr (bytes, rest, comes, inl h)
+refused_for Of (name ∷ names) readings end (inr (bytes, rest, comes, inr (p, depth, is, h))) =
+    inr (
+      bytes,
+      rest,
+      comes,
+      inr (p, depth, is, refused_for (λ ps. Of ((p, depth) ∷ ps)) names rest end h),
+    )
 
 pub not_all : {S : Type 0} (s : SourceOf S) (a b : S) (Of : List (Parts × ℕ) → Due)
     (names : List Text) (r : Refusal) → AcceptsFiles s a b names (Err r)

@@ -171,7 +171,7 @@ module _ (x y : Booked) (same : SameBooks x y) where
   joined : (f g : Fate) (fs gs : List Fate)
       → (f ≡ g) ⊎ (lacks_memory f ≡ true) ⊎ (lacks_memory g ≡ true) → AreSame fs gs
       → AreSame (f ∷ fs) (g ∷ gs)
-  joined f g fs gs (inl first) (inl rest) = inl (ap₂ (λ a as. a ∷ as) first rest)
+  joined f g fs gs (inl first) (inl rest) = inl (ap₂ (λ x xs. x ∷ xs) first rest)
   joined f g fs gs (inl first) (inr (inl rest)) =
       inr (inl (ap (λ b. lacks_memory f || b) rest ∙ one_of_all (lacks_memory f)))
   joined f g fs gs (inl first) (inr (inr rest)) =

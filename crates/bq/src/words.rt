@@ -17,8 +17,8 @@ ghost use Rattle.bq.specs.Named.{AskFor, IsRefusedBy};
 use crate::refusal::{Cause, Refusal};
 use bean_base::{List, Slice};
 use clap::error::ErrorKind;
-use limits::{Bounds, MOST_POSTINGS, MOST_UNITS_DIGITS, MOST_VALUE_DIGITS, Version};
 use clap::{Arg, ArgMatches, Error};
+use limits::{Bounds, MOST_POSTINGS, MOST_UNITS_DIGITS, MOST_VALUE_DIGITS, Version};
 use std::alloc::{AllocError, Global};
 
 /// A command.
@@ -94,9 +94,9 @@ impl Name {
             Name::Compile,
             Name::Batch,
         ]
-            .iter()
-            .copied()
-            .find(|name| text == name.text())
+        .iter()
+        .copied()
+        .find(|name| text == name.text())
     }
 
     /// What its words ask for.
@@ -228,10 +228,7 @@ fn steps(words: &ArgMatches<'_>) -> Option<u64>
 }
 
 /// What the words of `batch` ask for.
-fn batching<'w>(
-    alloc: Global,
-    words: &ArgMatches<'w>,
-) -> Result<Option<Request<'w>>, AllocError>
+fn batching<'w>(alloc: Global, words: &ArgMatches<'w>) -> Result<Option<Request<'w>>, AllocError>
     ensures { IfOk result (λ asked. asked
         ≡ spec.request_by names.Batch (rows_of (found_of words.now))) }
 {
@@ -371,10 +368,7 @@ fn asked_by<'w>(
 }
 
 /// What the command asks for that the words name.
-fn asked_in<'w>(
-    alloc: Global,
-    matches: &ArgMatches<'w>,
-) -> Result<Option<Request<'w>>, AllocError>
+fn asked_in<'w>(alloc: Global, matches: &ArgMatches<'w>) -> Result<Option<Request<'w>>, AllocError>
     ensures { IfOk result (λ asked. asked
         ≡ option_and_then spec.asked_by (subcommand_rows_of matches.now)) }
 {

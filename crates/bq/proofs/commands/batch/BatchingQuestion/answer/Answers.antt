@@ -1,0 +1,62 @@
+use Rattle.std.proofs.Common.{inr, length, map, Ok, sym, ap, ap₂, ◌∙◌, subst}
+use Rattle.batch_tables.specs.Fates.{verified}
+use Rattle.bq.specs.Batch.{Batched, text_of, verdict_of}
+use Rattle.bq.specs.Due.{ComesTo}
+use Rattle.bq.specs.Ledgers.{about_book}
+use Rattle.bq.specs.Refusal.{unbooked}
+use Rattle.bq.specs.declared.given.Given.TheVariants.{Told}
+use Rattle.bq.specs.declared.refusal.Refusal.TheVariants.{OutOfMemory}
+use Rattle.bq.proofs.BatchFacts.{fates_for}
+use Rattle.bq.proofs.Outcomes.{converted, not_booked}
+use Rattle.bq.proofs.commands.batch.BatchingQuestion.answer.Goals as goal
+
+pub fates-requires : goal.fates-requires
+fates-requires c = c.args.self.now.some
+
+pub text_of-requires : goal.text_of-requires
+text_of-requires c =
+    let batch = c.args.self.now in
+    ap length c.deref.ensures.value
+    ∙ fates_for c.in_ok-booked.booked.ledger batch.programs.now c.in_ok-ended.ended.items
+    c.in_ok-ended.ensures
+    ∙ batch.each
+
+pub returns-in_err-booked : goal.returns-in_err-booked
+returns-in_err-booked c =
+    let texts = c.args.texts.now in
+    let batch = c.args.self.now in
+    let says = Batched batch.names.now (map verified batch.programs.now) in
+    let fault = c.in_err-booked.field-0.0 in
+    subst (ComesTo (about_book says texts))
+    (sym (converted c.from_residual.result (unbooked fault) c.from_residual.ensures.1))
+    (not_booked texts says fault c.in_err-booked.ensures)
+
+pub returns-in_err-ended : goal.returns-in_err-ended
+returns-in_err-ended c =
+    let batch = c.args.self.now in
+    let step = c.from_residual-in_err-ended in
+    subst
+    (ComesTo (about_book (Batched batch.names.now (map verified batch.programs.now)) c.args.texts.now))
+    (sym (converted step.result OutOfMemory step.ensures.1)) tt
+
+pub returns-in_err-text : goal.returns-in_err-text
+returns-in_err-text c =
+    let batch = c.args.self.now in
+    let step = c.from_residual-in_err-text in
+    subst
+    (ComesTo (about_book (Batched batch.names.now (map verified batch.programs.now)) c.args.texts.now))
+    (sym (converted step.result OutOfMemory step.ensures.1)) tt
+
+pub returns : goal.returns
+returns c =
+    let batch = c.args.self.now in
+    inr (
+      c.in_ok-booked.booked,
+      c.in_ok-booked.ensures,
+      (
+        c.in_ok-ended.ended.items,
+        c.in_ok-ended.ensures,
+        ap₂ (λ v t. Ok (Told v t)) (c.verdict_of.ensures ∙ ap verdict_of c.deref-2.ensures.value)
+            (c.new.ensures ∙ c.in_ok-text.ensures ∙ ap (text_of batch.names.now) c.deref.ensures.value),
+      ),
+    )
