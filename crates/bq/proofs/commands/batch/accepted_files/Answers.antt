@@ -11,7 +11,7 @@ loop-name-init g c =
     let s = g.S.Source in
     let a = c.args.store.now in
     let names = c.args.names.now in
-    subst (SoFar s a a names names) (sym (c.new-files.ensures ∙ c.new.ensures)) (begins s a names)
+    subst (SoFar s a a names names) (sym (c.new-files.ensures ∙ c.new.ensures.items)) (begins s a names)
 
 pub returns-in_err-file : goal.returns-in_err-file
 returns-in_err-file g c =
