@@ -13,6 +13,7 @@ use Rattle.bean_replay.specs.declared.cause.BookCause.TheVariants as books
 use Rattle.clap.specs.Walk.{Text}
 use Rattle.refusals.specs.declared.refusal.Refusal as refusals
 use Rattle.refusals.specs.declared.refusal.Refusal.TheVariants as refusal
+use Rattle.stores.proofs.GaveFacts.{gave_none}
 use Rattle.stores.specs.Reading.{Reading}
 use Rattle.stores.specs.Source.{Gave}
 use Rattle.stores.specs.declared.source.Source.{Ghosts as SourceOf}
@@ -69,6 +70,19 @@ unasked words (Refused cause.TooManyPostings) none = absurd none
 unasked words (Refused cause.OutsideBounds) none = absurd none
 unasked words (NotWritten n) none = absurd none
 unasked words NotKept none = absurd none
+
+-- what is found for what the words ask for
+pub found_for :
+    {S : Type 0} (s : SourceOf S) (a b : S) (words : List Text) (asked : Request)
+    (result : Result Given Refusal) → request_in words ≡ Some asked
+    → Finds s a b (due (Some asked)) result → Finds s a b (due_to words) result
+found_for s a b words asked result is found =
+    subst (λ q. Finds s a b (due q) result) (sym is) found
+
+-- with nothing asked of the store
+pub at_once_found : {S : Type 0} (s : SourceOf S) (a : S) (d : Due) (result : Result Given Refusal)
+    → ComesTo (d []) result → Finds s a a d result
+at_once_found s a d result come = ([], gave_none s a, come)
 
 -- what is said of one thing, said of what it stands in
 pub within : (Is Says : End → Type 0) → ((end : End) → Is end → Says end)

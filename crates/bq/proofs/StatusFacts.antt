@@ -1,5 +1,5 @@
 -- Which statuses tell what.
-use Rattle.std.proofs.Common.{◌≡◌, ℕ, ◌<◌, ◌≤◌, Result, Ok, Err, refl, ap, arith}
+use Rattle.std.proofs.Common.{◌≡◌, ◌<◌, ◌≤◌, Ok, Err, refl, ap, arith}
 use Rattle.bean_load.specs.declared.cause.LoadCause.TheVariants as loads
 use Rattle.bq.specs.Refusal.{status_by, status_of}
 use Rattle.bq.specs.Runs.{StatusesTell}

@@ -10,7 +10,7 @@ pub returns-in_err-given : goal.returns-in_err-given
 returns-in_err-given g c =
     let words = map (λ w. w.now) c.args.words.now in
     let d = due_to words in
-    let run = deeds (store_of g.S.Source g.S.kept g.S.may_keep) c.args.store.now c.find.new.store
+    let run = deeds (store_of g.S.Source g.S.Store.kept g.S.Store.may_keep) c.args.store.now c.find.new.store
     (written g.O.Output c.args.out.now c.args.out.now) in
     let found = c.in_err-given.ensures in
     let r = c.in_err-given.field-0.0 in

@@ -1,4 +1,4 @@
-use Rattle.std.proofs.Common.{◌≡◌, ◌+◌, arith, drop, [], ◌∷◌, ◌++◌, Ok, Err, sym, ◌∙◌, subst}
+use Rattle.std.proofs.Common.{◌≡◌, ◌+◌, arith, drop, [], ◌∷◌, Ok, Err, sym, ◌∙◌, subst}
 use Rattle.std.proofs.lemmas.Grind.{common_steps}
 use Rattle.bq.specs.Accepted.{AcceptsFile, AcceptsFiles}
 use Rattle.bq.specs.declared.refusal.Refusal.TheVariants.{OutOfMemory}
