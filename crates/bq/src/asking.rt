@@ -12,11 +12,7 @@ use query_code::Program;
 use std::alloc::Global;
 
 /// The program of the query that a text is, by these bounds.
-pub fn program_of<'w>(
-    alloc: Global,
-    text: &'w str,
-    bounds: &Bounds,
-) -> Result<Program<'w>, Refusal>
+pub fn program_of<'w>(alloc: Global, text: &'w str, bounds: &Bounds) -> Result<Program<'w>, Refusal>
     requires { AreBounds bounds.now }
     ensures { Compiles bounds.now text.now result }
 {

@@ -22,11 +22,7 @@ fn listing_of<'w>(alloc: Global, bytes: &[u8]) -> Result<Given<'w>, Refusal>
 }
 
 /// The listing of the query file of that name.
-pub fn answer<'w, S: Source>(
-    alloc: Global,
-    file: &str,
-    store: &mut S,
-) -> Result<Given<'w>, Refusal>
+pub fn answer<'w, S: Source>(alloc: Global, file: &str, store: &mut S) -> Result<Given<'w>, Refusal>
     ensures { Finds S.Source store.old store.new (show.due file.now) result }
 {
     let bytes = file_bytes(store, file)?;
