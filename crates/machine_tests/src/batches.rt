@@ -65,7 +65,7 @@ fn take_of_counts(
 }
 
 #[test]
-fn runs_take_turns(rt: HostRuntime) -> Result<(), Fail> {
+fn batch_starts_with_ample_memory(rt: HostRuntime) -> Result<(), Fail> {
     let ledger = dollars(rt.alloc(), 8)?;
     let outside = Err(Refusal::Refused(RunCause::OutsideBounds));
     let first = [(2, 1), (0, 1), (2, 1), (1, 1), (3, 1), (4, 1)];

@@ -90,7 +90,7 @@ fn count_after(
 }
 
 #[test]
-fn postings_are_counted(rt: HostRuntime) -> Result<(), Fail> {
+fn runs_with_ample_memory(rt: HostRuntime) -> Result<(), Fail> {
     let ledger = dollars(rt.alloc(), 3)?;
     let three = Counted {
         number: Some(3),
