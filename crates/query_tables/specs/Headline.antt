@@ -16,19 +16,13 @@ use Rattle.query_rows.specs.Fits.{fits}
 use Rattle.query_tables.specs.Table.{IsTableOf}
 use Rattle.query_tables.specs.declared.cause.AnswerCause.{AnswerCause}
 use Rattle.query_tables.specs.declared.cause.AnswerCause.TheVariants.{NotAccepted, NotRun}
-use Rattle.query_verifier.specs.Checking.{IsRefused}
+use Rattle.query_verifier.specs.Checking.{IsRefused, IsVerified}
 use Rattle.query_verifier.specs.declared.cause.VerifierCause.TheVariants.{Code, File}
 use Rattle.refusals.specs.declared.refusal.Refusal.{Refusal}
 use Rattle.refusals.specs.declared.refusal.Refusal.TheVariants.{OutOfMemory, Refused}
 use Rattle.verify_shapes.specs.declared.cause.CodeCause.TheVariants.{Pattern}
-use Rattle.well_shaped.specs.Program.{IsDepth}
 
 -- ---- which bytes
-
--- They are the file of a program that is well shaped, of this depth.
-pub record IsVerified (bytes : List ℕ) (p : Parts) (depth : ℕ) : Type 0 where
-  pub is_file : IsFile bytes p
-  pub is_well_shaped : ∥ IsDepth p depth ∥₁
 
 -- They are the file of the program that a query with a type is compiled to, or one of the first
 -- version of which that is the upgrade.

@@ -59,6 +59,16 @@ pub record IsRefused (bytes : List ℕ) (c : CodeCause) (place : ℕ) : Type 0 w
   pub no_shapes : HasNoShapes parts c
   pub at : IsAt bytes parts.code spot place
 
+-- They are the file of a program that is well shaped, whose stack becomes so deep.
+pub record IsVerified (bytes : List ℕ) (p : Parts) (depth : ℕ) : Type 0 where
+  pub is_file : IsFile bytes p
+  pub is_well_shaped : ∥ IsDepth p depth ∥₁
+
+-- The first field that keeps bytes from being a file, or why their program isn't accepted.
+abbrev pub IsUnaccepted : List ℕ → VerifierCause → Type 0
+IsUnaccepted bytes (File c) = decoded bytes ≡ Err c
+IsUnaccepted bytes (Code c place) = IsRefused bytes c place
+
 -- The program whose file the bytes are; or the first field that keeps them from being one, or why
 -- their program isn't accepted.
 abbrev pub Checks : List ℕ → Result Checked (Refusal VerifierCause) → Type 0
