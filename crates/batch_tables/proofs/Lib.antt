@@ -1,2 +1,3 @@
 pub mod FateFacts
+pub mod FileFacts
 pub mod RoundFacts

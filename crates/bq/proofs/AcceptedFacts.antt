@@ -1,19 +1,18 @@
 -- Files that are read one after the other, as long as each is accepted.
-use Rattle.std.proofs.Common.{◌≡◌, inl, inr, ℕ, suc, List, [], ◌∷◌, ◌++◌, length, map, Result, Ok, Err}
-use Rattle.std.proofs.Common.{refl, sym, ap, ◌∙◌, subst, append_assoc}
-use Rattle.std.proofs.lemmas.List.{append-nil, map-append}
-use Rattle.batch_tables.specs.Fates.{verified}
+use Rattle.std.proofs.Common.{◌≡◌, inl, inr, ℕ, suc, All, List, [], ◌∷◌, ◌++◌, length, Result, Ok, Err}
+use Rattle.std.proofs.Common.{refl, sym, ap, ap₂, subst, append_assoc}
+use Rattle.std.proofs.lemmas.List.{append-nil}
+use Rattle.batch_tables.specs.Fates.{AreFates, AreFilesFor, HasProgram}
+use Rattle.bean_book.specs.declared.booked.Booked.{Booked}
 use Rattle.clap.specs.Walk.{Text}
 use Rattle.query_code.specs.declared.program.Parts.{Parts}
-use Rattle.query_verifier.specs.Checking.{Checks}
+use Rattle.query_files.proofs.FileFacts.{one_program}
 use Rattle.stores.proofs.GaveFacts.{gave_behind, gave_none}
 use Rattle.stores.specs.Reading.{Reading}
 use Rattle.stores.specs.Source.{Gave}
 use Rattle.stores.specs.declared.source.Source.{Ghosts as SourceOf}
-use Rattle.verified_program.specs.declared.checked.Checked.{Checked}
-use Rattle.bq.specs.Accepted.{AcceptsFile, AcceptsFiles, AreAcceptedAs, ComeAccepted, HasProgram}
-use Rattle.bq.specs.Accepted.{IsAcceptedAs, if_one_refused, if_refused}
-use Rattle.bq.specs.Batch.{about_files}
+use Rattle.bq.specs.Accepted.{AcceptsFile, AcceptsFiles, ComeAccepted, if_one_refused, if_refused}
+use Rattle.bq.specs.Batch.{Batched, FilesBatched, about_files}
 use Rattle.bq.specs.Due.{ComesTo, Due, End}
 use Rattle.bq.specs.Files.{FileComes}
 use Rattle.bq.specs.Runs.{Finds}
@@ -22,36 +21,6 @@ use Rattle.bq.specs.declared.given.Given.{Given}
 use Rattle.bq.specs.declared.refusal.Refusal.{Refusal}
 use Rattle.bq.specs.declared.refusal.Refusal.TheVariants.{OutOfMemory}
 use Rattle.bq.proofs.Outcomes.{within}
-
--- ---- a program
-
-pub accepted_as : (bytes : List ℕ) (checked : Checked) → Checks bytes (Ok checked)
-    → IsAcceptedAs bytes (verified checked)
-accepted_as bytes checked is =
-    record { is_file = is; is_depth = checked.is_well_shaped }
-
--- the programs of the files that are left complete those before them
-abbrev pub AreSoFar : List (List ℕ) → List (List ℕ) → List Checked → Type 0
-AreSoFar files left programs =
-    (more : List (Parts × ℕ)) → AreAcceptedAs left more
-    → AreAcceptedAs files (map verified programs ++ more)
-
-pub program_next :
-    (files left : List (List ℕ)) (bytes : List ℕ) (programs after : List Checked) (c : Checked)
-    → AreSoFar files (bytes ∷ left) programs → IsAcceptedAs bytes (verified c)
-    → after ≡ programs ++ c ∷ [] → AreSoFar files left after
-program_next files left bytes programs after c so_far is grown more are =
-    let next = so_far (verified c ∷ more) (is, are) in
-    subst (λ ps. AreAcceptedAs files (map verified ps ++ more)) (sym grown)
-    (subst (AreAcceptedAs files)
-    (sym
-    (ap (λ ps. ps ++ more) (map-append verified programs (c ∷ []))
-    ∙ append_assoc (map verified programs) (verified c ∷ []) more)) next)
-
-pub programs_end : (files : List (List ℕ)) (programs : List Checked) → AreSoFar files [] programs
-    → AreAcceptedAs files (map verified programs)
-programs_end files programs so_far =
-    subst (AreAcceptedAs files) (append-nil (map verified programs)) (so_far [] tt)
 
 -- ---- one file behind others
 
@@ -174,7 +143,7 @@ not_all s a b Of names r come = (
 -- where all are, what is due of the programs
 due_of : (Of : List (Parts × ℕ) → Due) (names : List Text) (readings : List Reading)
     (files : List (List ℕ)) (programs : List (Parts × ℕ)) → ComeAccepted names readings files
-    → AreAcceptedAs files programs → (rest : List Reading) (end : End) → Of programs rest end
+    → AreFilesFor files programs → (rest : List Reading) (end : End) → Of programs rest end
     → about_files Of names (readings ++ rest) end
 due_of Of [] readings [] [] come are rest end h =
     subst (λ rs. Of [] (rs ++ rest) end) (sym come) h
@@ -197,16 +166,17 @@ due_of Of (name ∷ names) readings (bytes ∷ files) ((p, depth) ∷ programs) 
 
 pub all_due : (Of : List (Parts × ℕ) → Due) (names : List Text) (readings : List Reading)
     (files : List (List ℕ)) (programs : List (Parts × ℕ)) → ComeAccepted names readings files
-    → AreAcceptedAs files programs → (rest : List Reading) (result : Result Given Refusal)
+    → AreFilesFor files programs → (rest : List Reading) (result : Result Given Refusal)
     → ComesTo (Of programs rest) result
     → ComesTo (about_files Of names (readings ++ rest)) result
 all_due Of names readings files programs come are rest result h =
     within (Of programs rest) (about_files Of names (readings ++ rest))
     (λ end is. due_of Of names readings files programs come are rest end is) result h
 
--- ---- as many as names
+-- ---- the files that came
 
-files_for : (names : List Text) (readings : List Reading) (files : List (List ℕ))
+-- as many as names
+pub files_for : (names : List Text) (readings : List Reading) (files : List (List ℕ))
     → ComeAccepted names readings files → length files ≡ length names
 files_for [] readings [] come = refl
 files_for [] readings (bytes ∷ files) come = absurd come
@@ -214,16 +184,39 @@ files_for (name ∷ names) readings [] come = absurd come
 files_for (name ∷ names) readings (bytes ∷ files) come =
     ap (λ n. suc n) (files_for names come.0 files come.3)
 
-programs_for : (files : List (List ℕ)) (programs : List Checked)
-    → AreAcceptedAs files (map verified programs) → length programs ≡ length files
-programs_for [] [] are = refl
-programs_for [] (p ∷ programs) are = absurd are
-programs_for (bytes ∷ files) [] are = absurd are
-programs_for (bytes ∷ files) (p ∷ programs) are =
-    ap (λ n. suc n) (programs_for files programs are.1)
+-- each with a program
+pub all_have : (names : List Text) (readings : List Reading) (files : List (List ℕ))
+    → ComeAccepted names readings files → All HasProgram files
+all_have [] readings [] come = tt
+all_have [] readings (bytes ∷ files) come = absurd come
+all_have (name ∷ names) readings [] come = absurd come
+all_have (name ∷ names) readings (bytes ∷ files) come =
+    (come.2, all_have names come.0 files come.3)
 
-pub as_many : (names : List Text) (readings : List Reading) (files : List (List ℕ))
-    (programs : List Checked) → ComeAccepted names readings files
-    → AreAcceptedAs files (map verified programs) → length programs ≡ length names
-as_many names readings files programs come are =
-    programs_for files programs are ∙ files_for names readings files come
+-- ---- their programs
+
+pub programs_of : (files : List (List ℕ)) → All HasProgram files
+    → (programs : List (Parts × ℕ)) × AreFilesFor files programs
+programs_of [] have = ([], tt)
+programs_of (bytes ∷ files) have =
+    let rest = programs_of files have.1 in (have.0.0 ∷ rest.0, (have.0.1, rest.1))
+
+same_programs : (files : List (List ℕ)) (ps qs : List (Parts × ℕ)) → AreFilesFor files ps
+    → AreFilesFor files qs → ps ≡ qs
+same_programs [] [] [] are also = refl
+same_programs [] [] (q ∷ qs) are also = absurd also
+same_programs [] (p ∷ ps) qs are also = absurd are
+same_programs (bytes ∷ files) [] qs are also = absurd are
+same_programs (bytes ∷ files) (p ∷ ps) [] are also = absurd also
+same_programs (bytes ∷ files) (p ∷ ps) (q ∷ qs) are also =
+    let same = one_program bytes p.0 q.0 p.1 q.1 are.0 also.0 in
+    ap₂ (λ x xs. x ∷ xs) (ap₂ (λ x d. (x, d)) same.0 same.1)
+    (same_programs files ps qs are.1 also.1)
+
+-- what is told of the files is told of their programs, whichever they are shown to have
+pub batched : (names : List Text) (files : List (List ℕ)) (programs : List (Parts × ℕ))
+    → AreFilesFor files programs → (b : Booked) (end : End) → FilesBatched names files b end
+    → Batched names programs b end
+batched names files programs are b end h =
+    let same = same_programs files h.1.0 programs h.1.1 are in
+    (h.0, subst (λ ps. AreFates b.ledger ps h.0) same h.1.2, h.2)

@@ -3,8 +3,6 @@ pub mod BoundsFacts
 pub mod OneBook
 pub mod ShownFacts
 pub mod EndFacts
-pub mod AskingFacts
-pub mod PatternFacts
 pub mod OneEnd
 pub mod StatusFacts
 pub mod Outcomes

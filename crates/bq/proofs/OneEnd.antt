@@ -54,9 +54,8 @@ use Rattle.bq.specs.declared.verdict.Verdict.TheVariants as verdict
 use Rattle.bq.specs.declared.verdict.Verdict.TheVariants.{Fine}
 use Rattle.bq.specs.declared.words.Request.TheVariants as request
 use Rattle.query_columns.specs.ColumnShape.{widest}
-use Rattle.bq.proofs.AskingFacts.{one_about_program_of}
 use Rattle.bq.proofs.EndFacts.{SaysOne, both_are, one_about_book, one_about_file, one_about_ledger}
-use Rattle.bq.proofs.EndFacts.{one_about_program, one_at_once, one_is}
+use Rattle.bq.proofs.EndFacts.{one_about_program, one_about_program_of, one_at_once, one_is}
 
 same_table : (x y : Ledger) → x.rows ≡ y.rows
     → ((currency : List ℕ) → decimals_of x.decimals currency ≡ decimals_of y.decimals currency)
@@ -223,11 +222,11 @@ one_batched names programs x y same a b h k =
 -- one program of a query, and one file of it
 one_compiled : (b : Bounds) (file : Text) (q : Asked) → IsOneEnd (Compiled b file q)
 one_compiled b file q x y h k =
-    let same = h.1.parts ∙ sym k.1.parts in
-    both_are x y (Ok (Kept file k.2))
-    (h.4
+    let same = h.1.is_program.parts ∙ sym k.1.is_program.parts in
+    both_are x y (Ok (Kept file k.0))
+    (h.2
     ∙ ap (λ bytes. Ok (Kept file bytes))
-    ((subst (λ p. IsFile h.2 p) same h.3).written ∙ sym k.3.written)) k.4
+    ((subst (λ p. IsFile h.0 p) same h.1.is_file).written ∙ sym k.1.is_file.written)) k.2
 
 pub have_one_end : HaveOneEnd
 have_one_end None readings = one_at_once _ (one_is (Err cause.Words)) readings

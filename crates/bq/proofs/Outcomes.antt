@@ -25,8 +25,7 @@ use Rattle.bq.specs.Due.{AreLike, ComesTo, Due, End, at_once, is_of_pattern}
 use Rattle.bq.specs.Files.{FileComes, ReadsFile, about_file}
 use Rattle.bq.specs.Ledgers.{about_book, about_ledger}
 use Rattle.bq.specs.Named.{AskFor}
-use Rattle.bq.specs.Ran.{Ran}
-use Rattle.bq.specs.Refusal.{unaccepted, unbooked, unread, unrun}
+use Rattle.bq.specs.Refusal.{unaccepted, unbooked, unread}
 use Rattle.bq.specs.Keeping.{Keeps, StoreOf}
 use Rattle.bq.specs.Runs.{Comes, Deeds, Finds, IsDue, RefusesExactly, WritesText, Written, deeds}
 use Rattle.bq.specs.declared.given.Given.{Given}
@@ -38,15 +37,11 @@ use Rattle.bq.specs.declared.refusal.Refusal.TheVariants.{OutOfMemory, Refused, 
 use Rattle.bq.specs.declared.verdict.Verdict.{Verdict}
 use Rattle.bq.specs.declared.verdict.Verdict.TheVariants.{Fine}
 use Rattle.bq.specs.declared.words.Request.{Request}
-use Rattle.bq.specs.Verified.{IsAccepted, about_program}
+use Rattle.bq.specs.Verified.{about_program}
 use Rattle.query_code.specs.declared.program.Parts.{Parts}
-use Rattle.query_machine.specs.declared.cause.RunCause.{RunCause}
-use Rattle.query_machine.specs.declared.cause.RunCause.TheVariants.{OutsideBounds}
-use Rattle.query_tables.specs.Table.{Tabulates}
-use Rattle.query_verifier.specs.Checking.{Checks}
+use Rattle.query_files.specs.Files.{IsNotAccepted}
+use Rattle.query_verifier.specs.Checking.{IsVerified}
 use Rattle.query_verifier.specs.declared.cause.VerifierCause.{VerifierCause}
-use Rattle.query_verifier.specs.declared.cause.VerifierCause.TheVariants as verifier
-use Rattle.verified_program.specs.declared.checked.Checked.{Checked}
 use Rattle.bq.proofs.OneEnd.{have_one_end}
 
 -- what `?` makes of a refusal
@@ -62,9 +57,7 @@ unasked words (Refused cause.Words) none =
     subst (λ q. ComesTo (due q []) (Err (Refused cause.Words))) (sym none) (refl, refl)
 unasked words OutOfMemory none = tt
 unasked words (Refused (cause.Load f)) none = absurd none
-unasked words (Refused (cause.Query f)) none = absurd none
-unasked words (Refused (cause.Typing f)) none = absurd none
-unasked words (Refused (cause.Compile f)) none = absurd none
+unasked words (Refused (cause.Text f)) none = absurd none
 unasked words (Refused (cause.File f)) none = absurd none
 unasked words (Refused cause.TooManyPostings) none = absurd none
 unasked words (Refused cause.OutsideBounds) none = absurd none
@@ -158,24 +151,18 @@ of_bytes_and Of name readings rest bytes comes result h =
 
 -- it isn't accepted
 pub not_accepted : (Of : Parts → ℕ → Due) (bytes : List ℕ) (r : refusals.Refusal VerifierCause)
-    → Checks bytes (Err r) → ComesTo (about_program Of bytes []) (Err (unaccepted r))
-not_accepted Of bytes (refusal.Refused (verifier.File c)) is =
-    inl (refl, verifier.File c, is, refl)
-not_accepted Of bytes (refusal.Refused (verifier.Code c place)) is =
-    inl (refl, verifier.Code c place, is, refl)
+    → IsNotAccepted bytes r → ComesTo (about_program Of bytes []) (Err (unaccepted r))
+not_accepted Of bytes (refusal.Refused c) is = inl (refl, c, is, refl)
 not_accepted Of bytes refusal.OutOfMemory is = tt
 
 -- what comes of it
 pub of_program :
-    (Of : Parts → ℕ → Due) (bytes : List ℕ) (rest : List Reading) (checked : Checked)
-    → Checks bytes (Ok checked) → (result : Result Given Refusal)
-    → ComesTo (Of checked.program.parts checked.depth rest) result
-    → ComesTo (about_program Of bytes rest) result
-of_program Of bytes rest checked is result h =
-    let accepted : IsAccepted bytes checked.program.parts checked.depth =
-    record { is_file = is; is_depth = checked.is_well_shaped } in
-    within (Of checked.program.parts checked.depth rest) (about_program Of bytes rest)
-    (λ end says. inr (checked.program.parts, checked.depth, accepted, says)) result h
+    (Of : Parts → ℕ → Due) (bytes : List ℕ) (rest : List Reading) (p : Parts) (depth : ℕ)
+    → IsVerified bytes p depth → (result : Result Given Refusal)
+    → ComesTo (Of p depth rest) result → ComesTo (about_program Of bytes rest) result
+of_program Of bytes rest p depth is result h =
+    within (Of p depth rest) (about_program Of bytes rest)
+    (λ end says. inr (p, depth, is, says)) result h
 
 -- ---- what is found is given
 
@@ -221,16 +208,6 @@ is_due d run readings (Err (Refused c)) h = h.1
 is_due d run readings (Err (NotWritten n)) h = (Told h.0 h.1, h.2.1)
 is_due d run readings (Err NotKept) h = (Kept h.0 h.1, h.2)
 is_due d run readings (Err OutOfMemory) h = tt
-
--- ---- a program over a ledger
-
--- it has no table
-pub not_run : (texts : Texts) (b : Booked) → IsBookOf texts b → (checked : Checked)
-    (r : refusals.Refusal RunCause) → Tabulates checked b.ledger (Err r)
-    → ComesTo (about_book (Ran checked.program.parts checked.depth) texts) (Err (unrun r))
-not_run texts b is checked (refusal.Refused OutsideBounds) outside =
-    inr (b, is, inl (outside, refl))
-not_run texts b is checked refusal.OutOfMemory within = tt
 
 -- ---- a file that is kept, or not
 

@@ -1,145 +1,57 @@
--- From the text of a query over its program to what a command comes to.
-use Rattle.std.proofs.Common.{◌≡◌, inl, inr, ℕ, List, [], true, Result, Ok, Err, refl, sym, ap, subst, ◌∙◌}
+-- From the file of a query's program to what a command comes to.
+use Rattle.std.proofs.Common.{◌≡◌, inl, inr, ℕ, List, [], false, true, Result, Ok, Err, refl, sym, ap, subst, ◌∙◌}
 use Rattle.std.proofs.lemmas.Bool.{false≢true}
-use Rattle.std.specs.List.{list_any}
 use Rattle.bean_book.specs.declared.booked.Booked.{Booked}
 use Rattle.bean_load.specs.Texts.{Texts}
-use Rattle.bql_compiler.specs.Limits.{IsCause, IsCompiled, IsRefusal, is_pattern}
-use Rattle.bql_compiler.specs.declared.cause.CompileCause.{CompileCause}
-use Rattle.bql_compiler.specs.declared.cause.CompileCause.TheVariants as compile
-use Rattle.bql_parser.specs.Answer.{query_of}
 use Rattle.bql_parser.specs.Asked.{Asked}
-use Rattle.bql_parser.specs.Parse.{Parses}
-use Rattle.bql_parser.specs.declared.query.Query.{Query}
 use Rattle.bql_scheme.specs.Carried.{Carries}
-use Rattle.bql_types.specs.Answer.{Answers}
-use Rattle.bql_types.specs.declared.cause.TypeCause.{TypeCause}
-use Rattle.bql_types.specs.declared.typed.Typed.{Typed}
 use Rattle.clap.specs.Walk.{Text}
 use Rattle.limits.specs.declared.bounds.Bounds.{Bounds}
+use Rattle.posting_table.specs.Ledger.{Ledger}
+use Rattle.posting_table.specs.Rows.{rows_of}
+use Rattle.query_code.specs.QueryFile.{IsFile}
 use Rattle.query_code.specs.declared.program.Parts.{Parts}
-use Rattle.query_code.specs.declared.program.Program.{Program}
 use Rattle.query_columns.specs.ColumnShape.{widest}
-use Rattle.query_machine.specs.declared.cause.RunCause.{RunCause}
-use Rattle.query_machine.specs.declared.cause.RunCause.TheVariants.{OutsideBounds}
+use Rattle.query_files.proofs.FileFacts.{one_program, same_program}
+use Rattle.query_files.specs.Texts.{Compiles, IsCompilable, IsFileOf}
+use Rattle.query_files.specs.declared.cause.TextCause.{TextCause}
 use Rattle.query_rows.specs.Fits.{fits}
-use Rattle.query_tables.specs.Table.{Tabulates}
+use Rattle.query_tables.specs.Headline.{IsAnswered, IsOutside}
+use Rattle.query_verifier.specs.Checking.{IsVerified}
 use Rattle.refusals.specs.declared.refusal.Refusal as refusals
 use Rattle.refusals.specs.declared.refusal.Refusal.TheVariants as refusal
 use Rattle.stores.specs.Reading.{Reading}
-use Rattle.bq.specs.Asking.{Compiles, IsOfPattern, IsProgramOf, about_program_of}
+use Rattle.bq.specs.Asking.{about_program_of}
+use Rattle.bq.specs.Booking.{IsBookOf}
 use Rattle.bq.specs.Due.{ComesTo, Due, End}
 use Rattle.bq.specs.Ledgers.{about_book, about_ledger}
-use Rattle.bq.specs.Query.{Answered, AnsweredBy}
-use Rattle.bq.specs.Refusal.{uncompiled, unrun, untyped}
-use Rattle.posting_table.specs.Rows.{rows_of}
-use Rattle.verified_program.specs.declared.checked.Checked.{Checked}
-use Rattle.well_shaped.specs.Program.{IsWellShaped}
+use Rattle.bq.specs.Query.{Answered, FileAnswers, HasBounds}
+use Rattle.bq.specs.Ran.{FileRan, HasTable, Ran}
+use Rattle.bq.specs.Refusal.{uncompiled}
 use Rattle.bq.specs.declared.given.Given.{Given}
+use Rattle.bq.specs.declared.given.Given.TheVariants.{Told}
 use Rattle.bq.specs.declared.refusal.Cause.TheVariants as cause
 use Rattle.bq.specs.declared.refusal.Refusal.{Refusal}
 use Rattle.bq.specs.declared.refusal.Refusal.TheVariants.{OutOfMemory, Refused, NotWritten, NotKept}
+use Rattle.bq.specs.declared.verdict.Verdict.TheVariants.{Fine}
 use Rattle.bq.proofs.Outcomes.{within}
 
--- ---- the program of a text
-
-module _ (b : Bounds) (text : Text) (q : Query) (is : Parses text (Ok q)) where
-  -- the query has no type
-  pub untypable : (r : refusals.Refusal TypeCause) → Answers b q (Err r)
-      → Compiles b text (Err (untyped r))
-  untypable (refusal.Refused c) not = (query_of q, is, not)
-  untypable refusal.OutOfMemory not = tt
-
-  module _ (t : Typed) (typed : Answers b q (Ok t)) where
-    -- what is said of the bounds and the query of what has a type is said of these
-    same : (Is : Bounds → Asked → Type 0) → Is t.bounds (query_of t.query.now) → Is b (query_of q)
-    same Is h =
-        subst (λ x. Is x (query_of q)) typed.2
-        (subst (λ (x : Query). Is t.bounds (query_of x)) typed.1 h)
-
-    -- it has no program
-    pub uncompilable : (r : refusals.Refusal CompileCause)
-        → IsRefusal t.bounds (query_of t.query.now) r → Compiles b text (Err (uncompiled r))
-    uncompilable (refusal.Refused c) not =
-        (query_of q, is, typed.0, same (λ x y. IsCause x y c) not)
-    uncompilable refusal.OutOfMemory not = tt
-
-    -- it has this one
-    pub compiled :
-        (p : Program) → IsCompiled t.bounds (query_of t.query.now) p.parts
-        → Carries t.bounds p.parts (query_of t.query.now) → ∥ IsWellShaped p.parts ∥₁
-        → Compiles b text (Ok p)
-    compiled p made carries shaped =
-        let of = same (λ x y. IsCompiled x y p.parts) made in (
-          query_of q,
-          is,
-          typed.0,
-          of.within,
-          record {
-            parts = of.parts;
-            bounds = ap (λ (x : Parts). x.bounds) of.parts;
-            shaped = shaped;
-            carries = same (λ x y. Carries x p.parts y) carries;
-          },
-        )
-
--- ---- what it comes to
+-- ---- the file of a text
 
 module _ (b : Bounds) (Of : Asked → Due) (text : Text) where
-  -- there is no program
-  pub unprogrammed : (r : Refusal) → Compiles b text (Err r)
-      → ComesTo (about_program_of b Of text []) (Err r)
-  unprogrammed (Refused (cause.Query c)) is = inl (refl, c, is, refl)
-  unprogrammed (Refused (cause.Typing c)) is = inr (is.0, is.1, inl (refl, c, is.2, refl))
-  unprogrammed (Refused (cause.Compile c)) is =
-      inr (is.0, is.1, inr (is.2, inl (refl, c, is.3, refl)))
-  unprogrammed OutOfMemory is = tt
-  unprogrammed (Refused cause.Words) is = absurd is
-  unprogrammed (Refused (cause.Load c)) is = absurd is
-  unprogrammed (Refused (cause.File c)) is = absurd is
-  unprogrammed (Refused cause.TooManyPostings) is = absurd is
-  unprogrammed (Refused cause.OutsideBounds) is = absurd is
-  unprogrammed (NotWritten n) is = absurd is
-  unprogrammed NotKept is = absurd is
+  -- the text has none
+  pub uncompilable : (r : refusals.Refusal TextCause) → Compiles b text (Err r)
+      → ComesTo (about_program_of b Of text []) (Err (uncompiled r))
+  uncompilable (refusal.Refused c) is = inl (refl, c, is, refl)
+  uncompilable refusal.OutOfMemory is = tt
 
-  -- a pattern of it isn't built
-  pub unbuilt : (p : Program) (r : Refusal) → Compiles b text (Ok p) → IsOfPattern p.parts r
-      → ComesTo (about_program_of b Of text []) (Err r)
-  unbuilt p (Refused (cause.Compile compile.NotBuilt)) is has =
-      inr (
-        is.0,
-        is.1,
-        inr (
-          is.2,
-          inl (
-            refl,
-            compile.NotBuilt,
-            (is.3.0, subst (λ parts. list_any is_pattern parts.code.pool ≡ true) is.4.parts has),
-            refl,
-          ),
-        ),
-      )
-  unbuilt p OutOfMemory is has = tt
-  unbuilt p (Refused (cause.Compile compile.TooLong)) is has = absurd has
-  unbuilt p (Refused (cause.Compile compile.TooDeep)) is has = absurd has
-  unbuilt p (Refused (cause.Query c)) is has = absurd has
-  unbuilt p (Refused (cause.Typing c)) is has = absurd has
-  unbuilt p (Refused cause.Words) is has = absurd has
-  unbuilt p (Refused (cause.Load c)) is has = absurd has
-  unbuilt p (Refused (cause.File c)) is has = absurd has
-  unbuilt p (Refused cause.TooManyPostings) is has = absurd has
-  unbuilt p (Refused cause.OutsideBounds) is has = absurd has
-  unbuilt p (NotWritten n) is has = absurd has
-  unbuilt p NotKept is has = absurd has
-
-  -- what comes of the query
-  pub programmed : (p : Program) (readings : List Reading) (Is : End → Type 0)
-      → (is : Compiles b text (Ok p)) → ((end : End) → Is end → Of is.0 readings end)
+  -- what comes of its query
+  pub programmed : (q : Asked) → IsCompilable b text q → (readings : List Reading)
+      (Is : End → Type 0) → ((end : End) → Is end → Of q readings end)
       → (result : Result Given Refusal) → ComesTo Is result
       → ComesTo (about_program_of b Of text readings) result
-  programmed p readings Is is says result h =
-      within Is (about_program_of b Of text readings)
-      (λ end e. inr (is.0, is.1, inr (is.2, inr (is.3, says end e)))) result h
+  programmed q is readings Is says result h =
+      within Is (about_program_of b Of text readings) (λ end e. inr (q, is, says end e)) result h
 
 -- ---- what is said of a ledger says another thing of it
 
@@ -149,29 +61,83 @@ pub of_book : (Says Other : Booked → End → Type 0)
 of_book Says Other says texts end (inl many) = inl many
 of_book Says Other says texts end (inr h) = inr (h.0, h.1, says h.0 end h.2)
 
-pub of_ledger : (Says Other : Texts → End → Type 0)
-    → ((texts : Texts) (end : End) → Says texts end → Other texts end) → (name : Text)
-    (readings : List Reading) (end : End) → about_ledger Says name readings end
-    → about_ledger Other name readings end
+pub of_ledger : (Says Other : Booked → End → Type 0)
+    → ((book : Booked) (end : End) → Says book end → Other book end) → (name : Text)
+    (readings : List Reading) (end : End) → about_ledger (about_book Says) name readings end
+    → about_ledger (about_book Other) name readings end
 of_ledger Says Other says name readings end (inl none) = inl none
-of_ledger Says Other says name readings end (inr h) = inr (h.0, h.1, says h.0 end h.2)
+of_ledger Says Other says name readings end (inr h) =
+    inr (h.0, h.1, of_book Says Other says h.0 end h.2)
 
--- a query's program answers for the query
-pub answered : (p : Parts) (q : Asked) → IsProgramOf widest q p → (ledger : Text)
-    (readings : List Reading) (end : End)
-    → about_ledger (about_book (AnsweredBy p)) ledger readings end
-    → about_ledger (about_book (Answered q)) ledger readings end
-answered p q is ledger readings end h =
-    of_ledger (about_book (AnsweredBy p)) (about_book (Answered q))
-    (of_book (AnsweredBy p) (Answered q)
-    (λ book e by. (by.0, by.1 q is.carries, by.2))) ledger readings end h
+-- ---- a query
 
--- its program has a table over each book, unless memory lacks
-pub not_asked : (texts : Texts) (b : Booked) (checked : Checked) (r : refusals.Refusal RunCause)
-    → checked.program.parts.bounds ≡ widest → fits widest (rows_of b.ledger) ≡ true
-    → Tabulates checked b.ledger (Err r)
-    → ComesTo (about_book (AnsweredBy checked.program.parts) texts) (Err (unrun r))
-not_asked texts b checked (refusal.Refused OutsideBounds) by within outside =
-    absurd
-    (false≢true (sym outside ∙ ap (λ bounds. fits bounds (rows_of b.ledger)) by ∙ within))
-not_asked texts b checked refusal.OutOfMemory by within lacks = tt
+-- the file of its program answers for it
+pub answered : (file : List ℕ) (q : Asked) → IsFileOf widest q file → (b : Booked) (end : End)
+    → FileAnswers file b end → Answered q b end
+answered file q is b end by =
+    (by.0, by.1 is.program q is.is_file is.is_program.carries, by.2)
+
+-- it has a table over each book
+pub has_bounds : (b : Bounds) (q : Asked) (file : List ℕ) → IsFileOf b q file → HasBounds b file
+has_bounds b q file is p is_file =
+    ap (λ (x : Parts). x.bounds) (same_program file p is.program is_file is.is_file)
+    ∙ is.is_program.bounds
+
+not_outside : (file : List ℕ) (l : Ledger) → HasBounds widest file
+    → fits widest (rows_of l) ≡ true → IsOutside file l → ⊥
+not_outside file l by is_within is =
+    false≢true
+    (sym is.outside
+    ∙ ap (λ bounds. fits bounds (rows_of l)) (by is.program is.verified.is_file)
+    ∙ is_within)
+
+pub not_asked : (texts : Texts) (b : Booked) (file : List ℕ) (r : Refusal) → HasBounds widest file
+    → fits widest (rows_of b.ledger) ≡ true → HasTable file b.ledger (Err r)
+    → ComesTo (about_book (FileAnswers file) texts) (Err r)
+not_asked texts b file (Refused cause.OutsideBounds) by is_within is =
+    absurd (not_outside file b.ledger by is_within is)
+not_asked texts b file OutOfMemory by is_within is = tt
+not_asked texts b file (Refused cause.Words) by is_within is = absurd is
+not_asked texts b file (Refused (cause.Load c)) by is_within is = absurd is
+not_asked texts b file (Refused (cause.Text c)) by is_within is = absurd is
+not_asked texts b file (Refused (cause.File c)) by is_within is = absurd is
+not_asked texts b file (Refused cause.TooManyPostings) by is_within is = absurd is
+not_asked texts b file (NotWritten n) by is_within is = absurd is
+not_asked texts b file NotKept by is_within is = absurd is
+
+pub file_answers : (b : Booked) (file text : List ℕ) → IsAnswered file b.ledger text
+    → FileAnswers file b (Ok (Told Fine text))
+file_answers b file text is = (
+  text,
+  λ p q is_file carries. is.table.means widest q
+      (inl (subst (λ x. Carries widest x q) (same_program file p is.program is_file is.verified.is_file)
+      carries)),
+  refl,
+)
+
+-- ---- a file
+
+-- what its program comes to, whichever program it is shown to have
+pub ran : (file : List ℕ) (p : Parts) (depth : ℕ) → IsVerified file p depth → (b : Booked)
+    (end : End) → FileRan file b end → Ran p depth b end
+ran file p depth is b end h =
+    let same = one_program file h.0 p h.1 depth h.2 is in
+    subst (λ d. Ran p d b end) same.1 (subst (λ x. Ran x h.1 b end) same.0 h.3)
+
+pub not_run : (texts : Texts) (b : Booked) → IsBookOf texts b → (file : List ℕ) (r : Refusal)
+    → HasTable file b.ledger (Err r) → ComesTo (about_book (FileRan file) texts) (Err r)
+not_run texts b book file (Refused cause.OutsideBounds) is =
+    inr (b, book, (is.program, is.depth, is.verified, inl (is.outside, refl)))
+not_run texts b book file OutOfMemory is = tt
+not_run texts b book file (Refused cause.Words) is = absurd is
+not_run texts b book file (Refused (cause.Load c)) is = absurd is
+not_run texts b book file (Refused (cause.Text c)) is = absurd is
+not_run texts b book file (Refused (cause.File c)) is = absurd is
+not_run texts b book file (Refused cause.TooManyPostings) is = absurd is
+not_run texts b book file (NotWritten n) is = absurd is
+not_run texts b book file NotKept is = absurd is
+
+pub file_ran : (b : Booked) (file text : List ℕ) → IsAnswered file b.ledger text
+    → FileRan file b (Ok (Told Fine text))
+file_ran b file text is =
+    (is.program, is.depth, is.verified, inr (text, is.table, refl))

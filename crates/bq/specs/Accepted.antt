@@ -1,7 +1,7 @@
--- Query files that are read one after the other, as long as each is accepted, and their programs.
+-- Query files that are read one after the other, as long as each is accepted.
 use Rattle.std.specs.Prelude.{◌≡◌, ℕ, List, [], ◌∷◌, Result, Ok, Err}
+use Rattle.batch_tables.specs.Fates.{HasProgram}
 use Rattle.clap.specs.Walk.{Text}
-use Rattle.query_code.specs.declared.program.Parts.{Parts}
 use Rattle.stores.specs.Reading.{Reading}
 use Rattle.stores.specs.Source.{Gave}
 use Rattle.stores.specs.declared.source.Source.{Ghosts as SourceOf}
@@ -9,24 +9,10 @@ use Rattle.bq.specs.Batch.{about_files}
 use Rattle.bq.specs.Due.{Due}
 use Rattle.bq.specs.Files.{FileComes, about_file}
 use Rattle.bq.specs.Runs.{Finds}
-use Rattle.bq.specs.Verified.{IsAccepted, about_program}
+use Rattle.bq.specs.Verified.{about_program}
 use Rattle.bq.specs.declared.refusal.Refusal.{Refusal}
 
--- the bytes are accepted as the file of this program, whose stack becomes so deep
-abbrev pub IsAcceptedAs : List ℕ → Parts × ℕ → Type 0
-IsAcceptedAs bytes p = IsAccepted bytes p.0 p.1
-
-abbrev pub AreAcceptedAs : List (List ℕ) → List (Parts × ℕ) → Type 0
-AreAcceptedAs [] [] = Unit {0}
-AreAcceptedAs [] (p ∷ programs) = ⊥
-AreAcceptedAs (bytes ∷ files) [] = ⊥
-AreAcceptedAs (bytes ∷ files) (p ∷ programs) = IsAcceptedAs bytes p × AreAcceptedAs files programs
-
 -- ---- one file
-
--- as the file of some program
-abbrev pub HasProgram : List ℕ → Type 0
-HasProgram bytes = (p : Parts × ℕ) × IsAcceptedAs bytes p
 
 -- why the file can't be read or isn't accepted; nothing is due of one that is
 abbrev pub if_refused : Text → Due

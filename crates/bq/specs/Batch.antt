@@ -3,7 +3,7 @@ use Rattle.std.specs.Prelude.{◌≡◌, ℕ, ◌^◌, ◌-◌, Bool, true, fals
 use Rattle.std.specs.Prelude.{Option, Some, if◌then◌else◌}
 use Rattle.std.specs.List.{list_any}
 use Rattle.std.specs.Option.{option_and_then, option_map}
-use Rattle.batch_tables.specs.Fates.{AreFates}
+use Rattle.batch_tables.specs.Fates.{AreFates, AreFatesOf}
 use Rattle.batch_tables.specs.declared.tabulating.Fate.{Fate}
 use Rattle.batch_tables.specs.declared.tabulating.Fate.TheVariants as fate
 use Rattle.bean_book.specs.declared.booked.Booked.{Booked}
@@ -92,6 +92,12 @@ about_files Of (name ∷ names) =
 abbrev pub Batched : List Text → List (Parts × ℕ) → Booked → End → Type 0
 Batched names programs b end =
     (fates : List Fate) × AreFates b.ledger programs fates
+    × (end ≡ Ok (Told (verdict_of fates) (text_of names fates)))
+
+-- the same by the bytes of the files
+abbrev pub FilesBatched : List Text → List (List ℕ) → Booked → End → Type 0
+FilesBatched names files b end =
+    (fates : List Fate) × AreFatesOf b.ledger files fates
     × (end ≡ Ok (Told (verdict_of fates) (text_of names fates)))
 
 -- the same, however many steps a turn has

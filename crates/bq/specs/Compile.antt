@@ -10,9 +10,8 @@ use Rattle.limits.specs.declared.bounds.Bounds.{Bounds}
 use Rattle.limits.specs.declared.bounds.Version.TheVariants.{Second}
 use Rattle.limits.specs.declared.counts.TheConstants.{MOST_POSTINGS, MOST_UNITS_DIGITS}
 use Rattle.limits.specs.declared.counts.TheConstants.{MOST_VALUE_DIGITS}
-use Rattle.query_code.specs.QueryFile.{IsFile}
-use Rattle.query_code.specs.declared.program.Parts.{Parts}
-use Rattle.bq.specs.Asking.{IsProgramOf, about_program_of}
+use Rattle.query_files.specs.Texts.{IsFileOf}
+use Rattle.bq.specs.Asking.{about_program_of}
 use Rattle.bq.specs.Command.{Command, named}
 use Rattle.bq.specs.Due.{End, at_once}
 use Rattle.bq.specs.declared.given.Given.TheVariants.{Kept}
@@ -72,8 +71,7 @@ words_in rows =
 -- the file of the query's program, which is to be kept under that name
 abbrev pub Compiled : Bounds → Text → Asked → End → Type 0
 Compiled b file q end =
-    (p : Parts) × IsProgramOf b q p × (bytes : List ℕ) × IsFile bytes p
-    × (end ≡ Ok (Kept file bytes))
+    (bytes : List ℕ) × IsFileOf b q bytes × (end ≡ Ok (Kept file bytes))
 
 abbrev pub compile : Command Words
 compile = record {

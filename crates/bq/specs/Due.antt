@@ -1,13 +1,12 @@
 -- What is due to a command, given what the store gave.
 use Rattle.std.specs.Prelude.{◌≡◌, ◌⊎◌, ⊤, Bool, true, false, List, [], Result, Ok, Err}
-use Rattle.bql_compiler.specs.declared.cause.CompileCause.TheVariants.{NotBuilt}
-use Rattle.query_verifier.specs.declared.cause.VerifierCause.TheVariants.{Code}
+use Rattle.query_files.specs.Files as files
+use Rattle.query_files.specs.Texts as texts
 use Rattle.stores.specs.Reading.{Reading}
-use Rattle.verify_shapes.specs.declared.cause.CodeCause.TheVariants.{Pattern}
 use Rattle.bq.specs.declared.given.Given.{Given}
 use Rattle.bq.specs.declared.given.Given.TheVariants.{Kept, Told}
 use Rattle.bq.specs.declared.refusal.Cause.{Cause}
-use Rattle.bq.specs.declared.refusal.Cause.TheVariants.{Compile, File, Query}
+use Rattle.bq.specs.declared.refusal.Cause.TheVariants.{File, Text}
 use Rattle.bq.specs.declared.refusal.Refusal.{Refusal}
 use Rattle.bq.specs.declared.refusal.Refusal.TheVariants as refusal
 use Rattle.bq.specs.declared.verdict.Verdict.{Verdict}
@@ -38,15 +37,15 @@ ComesTo Is (Err refusal.NotKept) = ⊥
 
 -- whether a pattern is built isn't told, so where one stands this may be due or not
 abbrev pub is_of_pattern : Cause → Bool
-is_of_pattern (File (Code Pattern place)) = true
-is_of_pattern (Compile NotBuilt) = true
+is_of_pattern (File cause) = files.is_of_pattern cause
+is_of_pattern (Text cause) = texts.is_of_pattern cause
 is_of_pattern cause = false
 
 -- The same cause; but of a text that is no query, and of a program that isn't well shaped, it isn't
 -- told which of the causes is due.
 abbrev pub IsLike : Cause → Cause → Type 0
-IsLike (Query a) (Query b) = ⊤
-IsLike (File (Code a place)) (File (Code b spot)) = ⊤
+IsLike (Text a) (Text b) = texts.IsLike a b
+IsLike (File a) (File b) = files.IsLike a b
 IsLike a b = a ≡ b
 
 abbrev pub AreLike : Cause → Cause → Type 0

@@ -5,6 +5,8 @@ use Rattle.bean_book.specs.declared.booked.Booked.{Booked}
 use Rattle.bql_parser.specs.Asked.{Asked}
 use Rattle.bql_scheme.specs.Carried.{Carries}
 use Rattle.clap.specs.Walk.{Row, Text, first_of}
+use Rattle.limits.specs.declared.bounds.Bounds.{Bounds}
+use Rattle.query_code.specs.QueryFile.{IsFile}
 use Rattle.query_code.specs.declared.program.Parts.{Parts}
 use Rattle.query_columns.specs.ColumnShape.{widest}
 use Rattle.query_tables.specs.Table.{IsTableOfQuery}
@@ -26,11 +28,15 @@ abbrev pub Answered : Asked → Booked → End → Type 0
 Answered q b end =
     (text : List ℕ) × IsTableOfQuery widest q b.ledger text × (end ≡ Ok (Told Fine text))
 
--- by a program: that of each query that it carries
-abbrev pub AnsweredBy : Parts → Booked → End → Type 0
-AnsweredBy p b end =
-    (text : List ℕ) × ((q : Asked) → Carries widest p q → IsTableOfQuery widest q b.ledger text)
-    × (end ≡ Ok (Told Fine text))
+-- by a file: that of each query that its program carries
+abbrev pub FileAnswers : List ℕ → Booked → End → Type 0
+FileAnswers file b end =
+    (text : List ℕ) × ((p : Parts) (q : Asked) → IsFile file p → Carries widest p q
+    → IsTableOfQuery widest q b.ledger text) × (end ≡ Ok (Told Fine text))
+
+-- its program has these bounds
+abbrev pub HasBounds : Bounds → List ℕ → Type 0
+HasBounds b file = (p : Parts) → IsFile file p → p.bounds ≡ b
 
 -- by the widest bounds, which each ledger is within
 abbrev pub query : Command (Text × Text)

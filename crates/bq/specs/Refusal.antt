@@ -5,13 +5,9 @@ use Rattle.bean_load.specs.LoadCause as load
 use Rattle.bean_load.specs.declared.cause.LoadCause.{LoadCause}
 use Rattle.bean_load.specs.declared.cause.LoadCause.TheVariants as loads
 use Rattle.bean_replay.specs.declared.cause.BookCause.{BookCause}
-use Rattle.bql_compiler.specs.CompileCause as compiler
-use Rattle.bql_compiler.specs.declared.cause.CompileCause.{CompileCause}
-use Rattle.bql_parser.specs.QueryCause as query
-use Rattle.bql_parser.specs.declared.cause.QueryCause.{QueryCause}
-use Rattle.bql_types.specs.Cause as typing
-use Rattle.bql_types.specs.declared.cause.TypeCause.{TypeCause}
 use Rattle.query_code.specs.declared.cause.FileCause.{FileCause}
+use Rattle.query_files.specs.TextCause as text
+use Rattle.query_files.specs.declared.cause.TextCause.{TextCause}
 use Rattle.query_machine.specs.declared.cause.RunCause.{RunCause}
 use Rattle.query_verifier.specs.VerifierCause as verifier
 use Rattle.query_verifier.specs.declared.cause.VerifierCause.{VerifierCause}
@@ -19,7 +15,7 @@ use Rattle.query_verifier.specs.declared.cause.VerifierCause.TheVariants as file
 use Rattle.refusals.specs.declared.refusal.Refusal as refusals
 use Rattle.refusals.specs.declared.refusal.Refusal.TheVariants as refusal
 use Rattle.bq.specs.declared.refusal.Cause.{Cause}
-use Rattle.bq.specs.declared.refusal.Cause.TheVariants.{Words, Load, Query, Typing, Compile, File}
+use Rattle.bq.specs.declared.refusal.Cause.TheVariants.{Words, Load, Text, File}
 use Rattle.bq.specs.declared.refusal.Cause.TheVariants.{TooManyPostings, OutsideBounds}
 use Rattle.bq.specs.declared.refusal.Refusal.{Refusal}
 use Rattle.bq.specs.declared.refusal.Refusal.TheVariants.{OutOfMemory, Refused, NotWritten}
@@ -31,9 +27,7 @@ status_by Words = 2
 status_by (Load loads.TooLarge) = 2
 status_by (Load loads.NotUtf8) = 2
 status_by (Load loads.Unreadable) = 3
-status_by (Query cause) = 2
-status_by (Typing cause) = 2
-status_by (Compile cause) = 2
+status_by (Text cause) = 2
 status_by (File cause) = 2
 status_by TooManyPostings = 2
 status_by OutsideBounds = 2
@@ -48,9 +42,7 @@ status_of OutOfMemory = 4
 abbrev pub code_by : Cause → List ℕ
 code_by Words = codes "words"
 code_by (Load cause) = load.code_of cause
-code_by (Query cause) = query.code_of cause
-code_by (Typing cause) = typing.code_of cause
-code_by (Compile cause) = compiler.code_of cause
+code_by (Text cause) = text.code_of cause
 code_by (File cause) = verifier.code_of cause
 code_by TooManyPostings = codes "B1"
 code_by OutsideBounds = codes "M1"
@@ -61,10 +53,9 @@ code_of (NotWritten n) = codes "P1"
 code_of NotKept = codes "P1"
 code_of OutOfMemory = codes "M2"
 
--- why a text is no query, or has no type, and why a query file isn't accepted, names the byte
+-- why a text has no program, and why a query file isn't accepted, names the byte where there is one
 abbrev pub place_by : Cause → Option ℕ
-place_by (Query cause) = query.place_of cause
-place_by (Typing cause) = typing.place_of cause
+place_by (Text cause) = text.place_of cause
 place_by (File cause) = verifier.place_of cause
 place_by cause = None
 
@@ -93,16 +84,8 @@ abbrev pub undecoded : refusals.Refusal FileCause → Refusal
 undecoded (refusal.Refused cause) = Refused (File (files.File cause))
 undecoded refusal.OutOfMemory = OutOfMemory
 
-abbrev pub unparsed : refusals.Refusal QueryCause → Refusal
-unparsed (refusal.Refused cause) = Refused (Query cause)
-unparsed refusal.OutOfMemory = OutOfMemory
-
-abbrev pub untyped : refusals.Refusal TypeCause → Refusal
-untyped (refusal.Refused cause) = Refused (Typing cause)
-untyped refusal.OutOfMemory = OutOfMemory
-
-abbrev pub uncompiled : refusals.Refusal CompileCause → Refusal
-uncompiled (refusal.Refused cause) = Refused (Compile cause)
+abbrev pub uncompiled : refusals.Refusal TextCause → Refusal
+uncompiled (refusal.Refused cause) = Refused (Text cause)
 uncompiled refusal.OutOfMemory = OutOfMemory
 
 abbrev pub unaccepted : refusals.Refusal VerifierCause → Refusal

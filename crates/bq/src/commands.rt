@@ -12,6 +12,7 @@ mod list;
 mod query;
 mod run_file;
 mod show;
+mod table;
 mod upgrade;
 mod verify;
 

@@ -13,7 +13,6 @@ ghost use Rattle.std.specs.Process.{exit_status};
 ghost use Rattle.bq.specs.Process.{EndsOrLacksWords, IsRefusedBy, IsStatus};
 
 mod arguments;
-mod asking;
 mod booking;
 mod commands;
 mod given;

@@ -5,11 +5,9 @@ ghost use Rattle.bq.specs.Refusal as rule;
 use arrayvec::ArrayString;
 use bean_book::BookCause;
 use bean_load::LoadCause;
-use bql_compiler::CompileCause;
-use bql_parser::QueryCause;
-use bql_types::TypeCause;
 use itoa::Buffer;
 use query_code::FileCause;
+use query_files::TextCause;
 use query_machine::RunCause;
 use query_verifier::VerifierCause;
 use std::alloc::AllocError;
@@ -21,12 +19,8 @@ pub enum Cause {
     Words,
     /// A file or a ledger can't be read.
     Load(LoadCause),
-    /// A text is no query.
-    Query(QueryCause),
-    /// A query has no type.
-    Typing(TypeCause),
-    /// A query has no program.
-    Compile(CompileCause),
+    /// A text is no query that has a program.
+    Text(TextCause),
     /// A file is no query file, or one that isn't accepted.
     File(VerifierCause),
     /// A ledger has more postings than a book holds.
@@ -43,9 +37,7 @@ impl Cause {
         match self {
             Cause::Words
             | Cause::Load(LoadCause::TooLarge | LoadCause::NotUtf8)
-            | Cause::Query(_)
-            | Cause::Typing(_)
-            | Cause::Compile(_)
+            | Cause::Text(_)
             | Cause::File(_)
             | Cause::TooManyPostings
             | Cause::OutsideBounds => 2,
@@ -61,9 +53,7 @@ impl Cause {
         match self {
             Cause::Words => "words",
             Cause::Load(cause) => refusals::Cause::code(&cause),
-            Cause::Query(cause) => refusals::Cause::code(&cause),
-            Cause::Typing(cause) => refusals::Cause::code(&cause),
-            Cause::Compile(cause) => refusals::Cause::code(&cause),
+            Cause::Text(cause) => refusals::Cause::code(&cause),
             Cause::File(cause) => refusals::Cause::code(&cause),
             Cause::TooManyPostings => "B1",
             Cause::OutsideBounds => "M1",
@@ -75,8 +65,7 @@ impl Cause {
         ensures { result ≡ rule.place_by self }
     {
         match self {
-            Cause::Query(cause) => refusals::Cause::place(&cause),
-            Cause::Typing(cause) => refusals::Cause::place(&cause),
+            Cause::Text(cause) => refusals::Cause::place(&cause),
             Cause::File(cause) => refusals::Cause::place(&cause),
             _ => None,
         }
@@ -122,40 +111,14 @@ impl From<refusals::Refusal<FileCause>> for Refusal {
     }
 }
 
-impl From<refusals::Refusal<QueryCause>> for Refusal {
-    ghost use Rattle.bq.specs.Refusal.{unparsed};
-
-    ghost from_gives = { λ refusal own. own ≡ unparsed refusal };
-
-    fn from(refusal: refusals::Refusal<QueryCause>) -> Refusal {
-        match refusal {
-            refusals::Refusal::Refused(cause) => Refusal::Refused(Cause::Query(cause)),
-            refusals::Refusal::OutOfMemory => Refusal::OutOfMemory,
-        }
-    }
-}
-
-impl From<refusals::Refusal<TypeCause>> for Refusal {
-    ghost use Rattle.bq.specs.Refusal.{untyped};
-
-    ghost from_gives = { λ refusal own. own ≡ untyped refusal };
-
-    fn from(refusal: refusals::Refusal<TypeCause>) -> Refusal {
-        match refusal {
-            refusals::Refusal::Refused(cause) => Refusal::Refused(Cause::Typing(cause)),
-            refusals::Refusal::OutOfMemory => Refusal::OutOfMemory,
-        }
-    }
-}
-
-impl From<refusals::Refusal<CompileCause>> for Refusal {
+impl From<refusals::Refusal<TextCause>> for Refusal {
     ghost use Rattle.bq.specs.Refusal.{uncompiled};
 
     ghost from_gives = { λ refusal own. own ≡ uncompiled refusal };
 
-    fn from(refusal: refusals::Refusal<CompileCause>) -> Refusal {
+    fn from(refusal: refusals::Refusal<TextCause>) -> Refusal {
         match refusal {
-            refusals::Refusal::Refused(cause) => Refusal::Refused(Cause::Compile(cause)),
+            refusals::Refusal::Refused(cause) => Refusal::Refused(Cause::Text(cause)),
             refusals::Refusal::OutOfMemory => Refusal::OutOfMemory,
         }
     }

@@ -1,8 +1,8 @@
 //! `batch K LEDGER FILE..`: what query files answer over a ledger, in turns of K steps each.
-ghost use Rattle.std.specs.Prelude.{◌≡◌, ◌≤◌, ◌++◌, IfOk, OnOk, length, map};
+ghost use Rattle.std.specs.Prelude.{◌≡◌, ◌≤◌, ◌++◌, All, IfOk, OnOk, length};
 ghost use Rattle.std.specs.List.{list_any};
-ghost use Rattle.batch_tables.specs.Fates.{verified};
-ghost use Rattle.bq.specs.Accepted.{AcceptsFile, AcceptsFiles, AreAcceptedAs, IsAcceptedAs};
+ghost use Rattle.batch_tables.specs.Fates.{HasProgram};
+ghost use Rattle.bq.specs.Accepted.{AcceptsFile, AcceptsFiles};
 ghost use Rattle.bq.specs.Batch as command;
 ghost use Rattle.bq.specs.Runs.{Finds};
 
@@ -12,21 +12,20 @@ use crate::commands::ledger::{Question, answer_about};
 use crate::given::Given;
 use crate::refusal::Refusal;
 use crate::verdict::Verdict;
-use batch_tables::{Fate, fates};
+use batch_tables::{Fate, file_fates};
 use bean_base::{List, Slice};
 use bean_load::Texts;
-use query_verifier::check_file;
+use query_files::outline;
 use std::alloc::{AllocError, Global};
 use std::mem::forget;
 use stores::Source;
-use verified_program::Checked;
 
 /// The bytes of the file of that name, which is accepted.
 fn accepted_file<S: Source>(alloc: Global, name: &str, store: &mut S) -> Result<List<u8>, Refusal>
     ensures { AcceptsFile S.Source store.old store.new name.now result }
 {
     let bytes = file_bytes(store, name)?;
-    check_file(alloc, &bytes)?;
+    outline(alloc, &bytes)?;
     Ok(List::new(bytes))
 }
 
@@ -44,30 +43,6 @@ fn accepted_files<S: Source>(
         files.push(file)?;
     }
     Ok(files)
-}
-
-/// The program of a file that was accepted before.
-fn program_in<'f>(alloc: Global, file: &'f List<u8>) -> Result<Checked<'f>, AllocError>
-    ensures { IfOk result (λ checked. IsAcceptedAs file.now (verified checked)) }
-{
-    match check_file(alloc, file.as_slice()) {
-        Ok(checked) => Ok(checked),
-        // It was accepted before, so memory lacks.
-        Err(_) => Err(AllocError),
-    }
-}
-
-/// The programs of files that were accepted before: they stand in the bytes of these, so they can't
-/// be kept from when each file was read.
-fn programs_in<'f>(alloc: Global, files: &'f [List<u8>]) -> Result<Vec<Checked<'f>>, AllocError>
-    ensures { IfOk result (λ programs. AreAcceptedAs files.now (map verified programs.items)) }
-{
-    let mut programs = Vec::with_capacity(alloc, files.len())?;
-    for file in files {
-        let program = program_in(alloc, file)?;
-        programs.push(program)?;
-    }
-    Ok(programs)
 }
 
 /// What stands below the name of a file.
@@ -146,25 +121,24 @@ fn verdict_of(fates: &[Fate]) -> Verdict
 
 /// What becomes of the programs of files over the postings that texts are booked as.
 #[derive(Clone, Copy)]
-struct Batching<'p, 'n, 'f> {
+struct Batching<'p, 'n> {
     steps: u64,
     names: &'p [Slice<'n>],
-    programs: &'p [Checked<'f>],
+    files: &'p [List<u8>],
     ghost some: { 1 ≤ steps },
-    ghost each: { length programs.now ≡ length names.now },
+    ghost each: { length files.now ≡ length names.now },
+    ghost accepted: { All HasProgram files.now },
 }
 
-impl Question for Batching<'_, '_, '_> {
-    ghost use Rattle.std.specs.Prelude.{map};
-    ghost use Rattle.batch_tables.specs.Fates.{verified};
-    ghost use Rattle.bq.specs.Batch.{Batched};
+impl Question for Batching<'_, '_> {
+    ghost use Rattle.bq.specs.Batch.{FilesBatched};
     ghost use Rattle.bq.specs.Ledgers.{about_book};
 
-    ghost says = { λ batch. about_book (Batched batch.names.now (map verified batch.programs.now)) };
+    ghost says = { λ batch. about_book (FilesBatched batch.names.now batch.files.now) };
 
     fn answer<'w>(&self, alloc: Global, texts: &Texts) -> Result<Given<'w>, Refusal> {
         let booked = book_of(alloc, texts)?;
-        let ended = fates(alloc, self.programs, &booked.ledger, self.steps)?;
+        let ended = file_fates(alloc, self.files, &booked.ledger, self.steps)?;
         // The process ends soon, and takes all memory back at once.
         forget(booked);
         let text = text_of(alloc, self.names, &ended)?;
@@ -185,11 +159,10 @@ pub fn answer<'w, S: Source>(
         (command.batch.due (command.words_of steps ledger.now names.now)) result }
 {
     let files = accepted_files(alloc, names, store)?;
-    let programs = programs_in(alloc, files.as_slice())?;
     let batch = Batching {
         steps,
         names,
-        programs: &programs,
+        files: files.as_slice(),
     };
     answer_about(alloc, &batch, ledger, store)
 }

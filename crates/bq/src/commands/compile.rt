@@ -4,12 +4,11 @@ ghost use Rattle.bq.specs.Compile as command;
 ghost use Rattle.bq.specs.Due.{ComesTo};
 ghost use Rattle.query_columns.specs.ColumnShape.{AreBounds};
 
-use crate::asking::program_of;
 use crate::given::Given;
 use crate::refusal::Refusal;
 use bean_base::{List, Slice};
 use limits::Bounds;
-use query_file::encode;
+use query_files::compiled;
 use std::alloc::Global;
 
 /// The file of the program of the query that a text is, to be kept under that name.
@@ -23,7 +22,6 @@ pub fn answer<'w>(
     ensures { ComesTo (command.compile.due (command.words_of text.now file.entry bounds.now) [])
         result }
 {
-    let program = program_of(alloc, text, bounds)?;
-    let bytes = encode(alloc, &program)?;
+    let bytes = compiled(alloc, text, bounds)?;
     Ok(Given::Kept(file, List::new(bytes)))
 }

@@ -5,34 +5,32 @@ ghost use Rattle.bq.specs.Runs.{Finds};
 use crate::booking::book_of;
 use crate::commands::file::file_bytes;
 use crate::commands::ledger::{Question, answer_about};
+use crate::commands::table::table_of;
 use crate::given::Given;
 use crate::refusal::Refusal;
 use crate::verdict::Verdict;
 use bean_base::List;
 use bean_load::Texts;
-use query_tables::table;
-use query_verifier::check_file;
+use query_files::outline;
 use std::alloc::Global;
 use std::mem::forget;
 use stores::Source;
-use verified_program::Checked;
 
-/// What a program answers over the postings that texts are booked as.
+/// What a query file that is accepted answers over the postings that texts are booked as.
 #[derive(Clone, Copy)]
-struct Running<'c, 'f> {
-    checked: &'c Checked<'f>,
+struct Running<'f> {
+    file: &'f [u8],
 }
 
-impl Question for Running<'_, '_> {
+impl Question for Running<'_> {
     ghost use Rattle.bq.specs.Ledgers.{about_book};
-    ghost use Rattle.bq.specs.Ran.{Ran};
+    ghost use Rattle.bq.specs.Ran.{FileRan};
 
-    ghost says = { λ running.
-        about_book (Ran running.checked.now.program.parts running.checked.now.depth) };
+    ghost says = { λ running. about_book (FileRan running.file.now) };
 
     fn answer<'w>(&self, alloc: Global, texts: &Texts) -> Result<Given<'w>, Refusal> {
         let booked = book_of(alloc, texts)?;
-        let text = table(alloc, self.checked, &booked.ledger)?;
+        let text = table_of(alloc, self.file, &booked.ledger)?;
         // The process ends soon, and takes all memory back at once.
         forget(booked);
         Ok(Given::Told(Verdict::Fine, List::new(text)))
@@ -48,8 +46,8 @@ fn answer_of<'w, S: Source>(
 ) -> Result<Given<'w>, Refusal>
     ensures { Finds S.Source store.old store.new (command.of_bytes ledger.now bytes.now) result }
 {
-    let checked = check_file(alloc, bytes)?;
-    answer_about(alloc, &Running { checked: &checked }, ledger, store)
+    outline(alloc, bytes)?;
+    answer_about(alloc, &Running { file: bytes }, ledger, store)
 }
 
 /// What the query file of that name answers over the ledger of that name.

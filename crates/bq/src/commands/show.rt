@@ -8,7 +8,7 @@ use crate::given::Given;
 use crate::refusal::Refusal;
 use crate::verdict::Verdict;
 use bean_base::List;
-use query_file::decode;
+use query_files::listing;
 use std::alloc::Global;
 use stores::Source;
 
@@ -16,8 +16,7 @@ use stores::Source;
 fn listing_of<'w>(alloc: Global, bytes: &[u8]) -> Result<Given<'w>, Refusal>
     ensures { ComesTo (Shows bytes.now) result }
 {
-    let program = decode(alloc, bytes)?;
-    let text = query_code::show(alloc, &program)?;
+    let text = listing(alloc, bytes)?;
     Ok(Given::Told(Verdict::Fine, List::new(text)))
 }
 

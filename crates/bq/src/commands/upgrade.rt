@@ -10,19 +10,15 @@ use crate::commands::file::file_bytes;
 use crate::given::Given;
 use crate::refusal::Refusal;
 use bean_base::{List, Slice};
-use query_code::upgrade;
-use query_file::encode;
-use query_verifier::check_file;
+use query_files::upgraded;
 use std::alloc::Global;
 use stores::Source;
 
 /// The file, under the new name, of the program whose file the bytes are.
-fn upgraded<'w>(alloc: Global, bytes: &[u8], new: Slice<'w>) -> Result<Given<'w>, Refusal>
+fn answer_of<'w>(alloc: Global, bytes: &[u8], new: Slice<'w>) -> Result<Given<'w>, Refusal>
     ensures { ComesTo (about_program (λ p depth. at_once (Upgrades new.entry p)) bytes.now []) result }
 {
-    let checked = check_file(alloc, bytes)?;
-    let program = upgrade(alloc, &checked.program)?;
-    let file = encode(alloc, &program)?;
+    let file = upgraded(alloc, bytes)?;
     Ok(Given::Kept(new, List::new(file)))
 }
 
@@ -36,5 +32,5 @@ pub fn answer<'w, S: Source>(
     ensures { Finds S.Source store.old store.new (command.upgrade.due (old.now, new.entry)) result }
 {
     let bytes = file_bytes(store, old)?;
-    upgraded(alloc, &bytes, new)
+    answer_of(alloc, &bytes, new)
 }

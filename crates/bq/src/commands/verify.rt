@@ -3,7 +3,7 @@ ghost use Rattle.std.specs.Prelude.{◌≡◌, [], IfOk};
 ghost use Rattle.bq.specs.Due.{ComesTo, at_once};
 ghost use Rattle.bq.specs.Runs.{Finds};
 ghost use Rattle.bq.specs.Verified.{about_program};
-ghost use Rattle.bq.specs.Verify.{Verifies, line_of, verify};
+ghost use Rattle.bq.specs.Verify.{Verifies, line_by, verify};
 
 use crate::commands::file::file_bytes;
 use crate::given::Given;
@@ -11,25 +11,24 @@ use crate::refusal::Refusal;
 use crate::verdict::Verdict;
 use bean_base::List;
 use itoa::Buffer;
-use query_verifier::check_file;
+use query_files::Outline;
 use std::alloc::{AllocError, Global};
 use stores::Source;
-use verified_program::Checked;
 
 /// The line that tells the depth of a program's stack and the lengths of its sections.
-fn line(alloc: Global, checked: &Checked<'_>) -> Result<Vec<u8>, AllocError>
+fn line(alloc: Global, outline: Outline) -> Result<Vec<u8>, AllocError>
     ensures { IfOk result (λ text. text.items
-        ≡ line_of checked.now.program.parts checked.now.depth) }
+        ≡ line_by outline.depth outline.filter outline.row outline.last) }
 {
     let mut line = String::new(alloc);
     line.push_str("accepted depth ")?;
-    line.push_str(Buffer::new().format(checked.depth()))?;
+    line.push_str(Buffer::new().format(outline.depth))?;
     line.push_str(" filter ")?;
-    line.push_str(Buffer::new().format(checked.filter().len()))?;
+    line.push_str(Buffer::new().format(outline.filter))?;
     line.push_str(" row ")?;
-    line.push_str(Buffer::new().format(checked.row().len()))?;
+    line.push_str(Buffer::new().format(outline.row))?;
     line.push_str(" last ")?;
-    line.push_str(Buffer::new().format(checked.last().len()))?;
+    line.push_str(Buffer::new().format(outline.last))?;
     line.push_str("\n")?;
     Ok(line.into_bytes())
 }
@@ -38,8 +37,8 @@ fn line(alloc: Global, checked: &Checked<'_>) -> Result<Vec<u8>, AllocError>
 fn verdict_on<'w>(alloc: Global, bytes: &[u8]) -> Result<Given<'w>, Refusal>
     ensures { ComesTo (about_program (λ p depth. at_once (Verifies p depth)) bytes.now []) result }
 {
-    let checked = check_file(alloc, bytes)?;
-    let text = line(alloc, &checked)?;
+    let outline = query_files::outline(alloc, bytes)?;
+    let text = line(alloc, outline)?;
     Ok(Given::Told(Verdict::Fine, List::new(text)))
 }
 

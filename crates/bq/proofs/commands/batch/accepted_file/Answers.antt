@@ -1,12 +1,10 @@
 use Rattle.std.proofs.Common.{ℕ, Ok, Err, sym, subst}
 use Rattle.std.specs.declared.alloc.Global.{Global}
 use Rattle.std.specs.declared.vec.Vec.{Vec}
-use Rattle.batch_tables.specs.Fates.{verified}
-use Rattle.query_verifier.specs.Checking.{Checks}
+use Rattle.query_files.specs.Files.{IsNotAccepted, Outlines}
 use Rattle.bq.specs.Accepted.{AcceptsFile}
 use Rattle.bq.specs.Refusal.{unaccepted, unread}
 use Rattle.bq.specs.Verified.{about_program}
-use Rattle.bq.proofs.AcceptedFacts.{accepted_as}
 use Rattle.bq.proofs.Outcomes.{converted, not_accepted, not_read, of_bytes}
 use Rattle.bq.proofs.commands.batch.accepted_file.Goals as goal
 
@@ -22,18 +20,18 @@ returns-in_err-bytes g c =
     (not_read s a b (about_program (λ p depth readings end. ⊥)) name
     (λ (bytes : Vec ℕ Global). bytes.items) r c.in_err-bytes.ensures)
 
-pub returns-in_err-check_file : goal.returns-in_err-check_file
-returns-in_err-check_file g c =
+pub returns-in_err-outline : goal.returns-in_err-outline
+returns-in_err-outline g c =
     let s = g.S.Source in
     let a = c.args.store.now in
     let b = c.file_bytes.new.store in
     let name = c.args.name.now in
     let read = c.in_ok-bytes.ensures in
     let bytes = c.in_ok-bytes.bytes.items in
-    let r = c.in_err-check_file.field-0.0 in
-    let step = c.from_residual-in_err-check_file in
+    let r = c.in_err-outline.field-0.0 in
+    let step = c.from_residual-in_err-outline in
     let checks =
-    subst (λ bs. Checks bs (Err r)) c.deref.ensures.value c.in_err-check_file.ensures.checks in
+    subst (λ bs. IsNotAccepted bs r) c.deref.ensures.value c.in_err-outline.ensures in
     subst (AcceptsFile s a b name) (sym (converted step.result (unaccepted r) step.ensures.1)) (
       read.0,
       read.1,
@@ -49,8 +47,8 @@ returns g c =
     let name = c.args.name.now in
     let read = c.in_ok-bytes.ensures in
     let bytes = c.in_ok-bytes.bytes.items in
-    let checked = c.in_ok-check_file.field-0 in
-    let checks =
-    subst (λ bs. Checks bs (Ok checked)) c.deref.ensures.value c.in_ok-check_file.ensures.checks in
+    let of =
+    subst (λ bs. Outlines bs (Ok c.in_ok-outline.field-0)) c.deref.ensures.value
+    c.in_ok-outline.ensures in
     subst (λ bs. AcceptsFile s a b name (Ok bs)) (sym c.new.ensures)
-    (read.0, read.1, read.2, (verified checked, accepted_as bytes checked checks))
+    (read.0, read.1, read.2, ((of.0, of.1), of.2))

@@ -25,9 +25,9 @@ pub returns : goal.returns
 returns g c =
     let read = c.in_ok-bytes.ensures in
     let of = about_program (λ p depth. at_once (Upgrades c.args.new p)) in
-    let result = c.upgraded.result in (
+    let result = c.answer_of.result in (
       read.0,
       read.1,
       of_bytes of c.args.old.now read.0 c.in_ok-bytes.bytes.items read.2 result
-          (subst (λ bs. ComesTo (of bs []) result) c.deref.ensures.value c.upgraded.ensures),
+          (subst (λ bs. ComesTo (of bs []) result) c.deref.ensures.value c.answer_of.ensures),
     )

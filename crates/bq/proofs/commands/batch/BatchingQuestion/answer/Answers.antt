@@ -1,6 +1,5 @@
-use Rattle.std.proofs.Common.{inr, length, map, Ok, sym, ap, ap₂, ◌∙◌, subst}
-use Rattle.batch_tables.specs.Fates.{verified}
-use Rattle.bq.specs.Batch.{Batched, text_of, verdict_of}
+use Rattle.std.proofs.Common.{inr, length, Ok, sym, ap, ap₂, ◌∙◌, subst}
+use Rattle.bq.specs.Batch.{FilesBatched, text_of, verdict_of}
 use Rattle.bq.specs.Due.{ComesTo}
 use Rattle.bq.specs.Ledgers.{about_book}
 use Rattle.bq.specs.Refusal.{unbooked}
@@ -10,14 +9,17 @@ use Rattle.bq.proofs.BatchFacts.{fates_for}
 use Rattle.bq.proofs.Outcomes.{converted, not_booked}
 use Rattle.bq.proofs.commands.batch.BatchingQuestion.answer.Goals as goal
 
-pub fates-requires : goal.fates-requires
-fates-requires c = c.args.self.now.some
+pub file_fates-requires-clause-some : goal.file_fates-requires-clause-some
+file_fates-requires-clause-some c = c.args.self.now.some
+
+pub file_fates-requires-clause-accepted : goal.file_fates-requires-clause-accepted
+file_fates-requires-clause-accepted c = c.args.self.now.accepted
 
 pub text_of-requires : goal.text_of-requires
 text_of-requires c =
     let batch = c.args.self.now in
     ap length c.deref.ensures.value
-    ∙ fates_for c.in_ok-booked.booked.ledger batch.programs.now c.in_ok-ended.ended.items
+    ∙ fates_for c.in_ok-booked.booked.ledger batch.files.now c.in_ok-ended.ended.items
     c.in_ok-ended.ensures
     ∙ batch.each
 
@@ -25,7 +27,7 @@ pub returns-in_err-booked : goal.returns-in_err-booked
 returns-in_err-booked c =
     let texts = c.args.texts.now in
     let batch = c.args.self.now in
-    let says = Batched batch.names.now (map verified batch.programs.now) in
+    let says = FilesBatched batch.names.now batch.files.now in
     let fault = c.in_err-booked.field-0.0 in
     subst (ComesTo (about_book says texts))
     (sym (converted c.from_residual.result (unbooked fault) c.from_residual.ensures.1))
@@ -36,7 +38,7 @@ returns-in_err-ended c =
     let batch = c.args.self.now in
     let step = c.from_residual-in_err-ended in
     subst
-    (ComesTo (about_book (Batched batch.names.now (map verified batch.programs.now)) c.args.texts.now))
+    (ComesTo (about_book (FilesBatched batch.names.now batch.files.now) c.args.texts.now))
     (sym (converted step.result OutOfMemory step.ensures.1)) tt
 
 pub returns-in_err-text : goal.returns-in_err-text
@@ -44,7 +46,7 @@ returns-in_err-text c =
     let batch = c.args.self.now in
     let step = c.from_residual-in_err-text in
     subst
-    (ComesTo (about_book (Batched batch.names.now (map verified batch.programs.now)) c.args.texts.now))
+    (ComesTo (about_book (FilesBatched batch.names.now batch.files.now) c.args.texts.now))
     (sym (converted step.result OutOfMemory step.ensures.1)) tt
 
 pub returns : goal.returns

@@ -1,7 +1,7 @@
 use Rattle.std.proofs.Common.{◌≡◌, ◌+◌, arith, drop, [], ◌∷◌, subst}
 use Rattle.std.proofs.lemmas.Grind.{common_steps}
-use Rattle.bq.proofs.AcceptedFacts.{AreSoFar, program_next, programs_end}
-use Rattle.bq.proofs.commands.batch.programs_in.Goals as goal
+use Rattle.batch_tables.proofs.FileFacts.{AreSoFar, program_next, programs_end}
+use Rattle.batch_tables.proofs.files.programs_in.Goals as goal
 
 pub loop-file-preserved : goal.loop-file-preserved
 loop-file-preserved c =

@@ -1,0 +1,23 @@
+//! The table of a query file, which several commands ask for once they have a ledger.
+ghost use Rattle.bq.specs.Ran.{HasTable};
+
+use crate::refusal::{Cause, Refusal};
+use posting_table::Ledger;
+use query_tables::{AnswerCause, answer_file};
+use std::alloc::Global;
+
+/// The table of what a query file that is accepted answers over a ledger.
+pub fn table_of(alloc: Global, file: &[u8], ledger: &Ledger<'_>) -> Result<Vec<u8>, Refusal>
+    ensures { HasTable file.now ledger.now result }
+{
+    match answer_file(alloc, file, ledger) {
+        Ok(text) => Ok(text),
+        Err(refusals::Refusal::Refused(AnswerCause::NotRun(_))) => {
+            Err(Refusal::Refused(Cause::OutsideBounds))
+        }
+        // It is accepted, so memory lacks.
+        Err(refusals::Refusal::Refused(AnswerCause::NotAccepted(_)) | refusals::Refusal::OutOfMemory) => {
+            Err(Refusal::OutOfMemory)
+        }
+    }
+}

@@ -1,0 +1,3 @@
+pub mod TextCause
+pub mod Texts
+pub mod Files
