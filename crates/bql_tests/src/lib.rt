@@ -4,8 +4,8 @@
 #[cfg(test)]
 mod compiled_queries;
 #[cfg(test)]
-mod plans;
+mod large_files;
 #[cfg(test)]
-mod query_files;
+mod plans;
 #[cfg(test)]
 mod shapes;
