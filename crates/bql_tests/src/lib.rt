@@ -4,7 +4,7 @@
 #[cfg(test)]
 mod compiled_queries;
 #[cfg(test)]
-mod large_files;
+mod cut_files;
 #[cfg(test)]
 mod plans;
 #[cfg(test)]
