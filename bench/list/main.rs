@@ -1,8 +1,9 @@
 //! Does in plain Rust what `bq list` does, to compare with.
 //!
 //! `list FILE|-` prints the table of the postings of a ledger, with the texts that it includes;
-//! `list --load FILE|-` only reads and arranges it, books nothing and prints what it found. Characters are
-//! taken to be one column wide.
+//! `list --load FILE|-` only reads and arranges it, books nothing and prints what it found. `list --accounts
+//! FILE|-`, `--journal` and `--largest` print what three queries answer, see `questions`. Characters are taken
+//! to be one column wide.
 
 mod directives;
 mod escapes;
@@ -12,6 +13,7 @@ mod numbers;
 mod pads;
 mod parse;
 mod postings;
+mod questions;
 mod reader;
 mod rows;
 mod scan;
@@ -20,7 +22,7 @@ mod texts;
 mod tokens;
 mod trial;
 
-use rows::listed;
+use rows::{Listed, listed};
 use std::env;
 use std::io::{self, Write};
 use std::process::ExitCode;
@@ -47,7 +49,8 @@ fn load(name: &str) -> io::Result<()> {
     Ok(())
 }
 
-fn list(name: &str) -> io::Result<()> {
+/// Prints a table of what is booked.
+fn print(name: &str, table: fn(&Listed<'_>) -> Vec<u8>) -> io::Result<()> {
     let Texts {
         directives, method, ..
     } = loaded(name)?;
@@ -63,8 +66,11 @@ fn main() -> ExitCode {
     let words: Vec<&str> = words.iter().map(String::as_str).collect();
     let done = match words[..] {
         ["--load", name] => load(name),
-        [name] => list(name),
-        _ => Err(io::Error::other("usage: list [--load] FILE|-")),
+        ["--accounts", name] => print(name, questions::accounts),
+        ["--journal", name] => print(name, questions::journal),
+        ["--largest", name] => print(name, questions::largest),
+        [name] => print(name, table),
+        _ => Err(io::Error::other("usage: list [--load|--accounts|--journal|--largest] FILE|-")),
     };
     match done {
         Ok(()) => ExitCode::SUCCESS,

@@ -9,7 +9,7 @@ use std::iter;
 
 /// An amount, of a count of `10^-8`: its decimals are as few as are exact, but at least those that
 /// its currency shows.
-fn push_amount(out: &mut Vec<u8>, count: i128, currency: &str, decimals: &HashMap<&str, u8>) {
+pub fn push_amount(out: &mut Vec<u8>, count: i128, currency: &str, decimals: &HashMap<&str, u8>) {
     const UNIT: u128 = 100_000_000;
     let magnitude = count.unsigned_abs();
     let (whole, mut rest) = match u64::try_from(magnitude) {
@@ -33,7 +33,7 @@ fn push_amount(out: &mut Vec<u8>, count: i128, currency: &str, decimals: &HashMa
     };
 }
 
-fn push_day(out: &mut Vec<u8>, Day { year, month, day }: Day) {
+pub fn push_day(out: &mut Vec<u8>, Day { year, month, day }: Day) {
     // Writing to a vector never fails.
     let _ = write!(out, "{year:04}-{month:02}-{day:02}");
 }
