@@ -10,6 +10,13 @@ use std::alloc::{AllocError, Global};
 use std::test::Fail;
 use verified_program::Checked;
 
+/// `SELECT number ORDER BY number DESC` at the widest bounds.
+const SORTED: [u8; 41] = [
+    0x42, 0x51, 0x4c, 0x43, 0x00, 0x02, 0x00, 0x3d, 0x09, 0x00, 0x14, 0x1c, 0x00, 0x00, 0x01, 0x00,
+    0x01, 0x00, 0x06, 0x6e, 0x75, 0x6d, 0x62, 0x65, 0x72, 0x00, 0x01, 0x00, 0x00, 0x00, 0x00, 0x00,
+    0x00, 0x01, 0x00, 0x00, 0x01, 0x03, 0x0b, 0x00, 0x00,
+];
+
 /// What turns of a batch told, and what its runs answer then.
 #[derive(Drop)]
 struct Told {
@@ -88,5 +95,33 @@ fn batch_starts_with_ample_memory(rt: HostRuntime) -> Result<(), Fail> {
     assert_eq!(rt; told.turns.as_slice(), [going, done, done, done].as_slice());
     let answers = [Ok(Some(8)), Ok(Some(8)), Ok(Some(8)), outside];
     assert_eq!(rt; told.answers.as_slice(), answers.as_slice());
+    Ok(())
+}
+
+/// What is told of so many rounds, in each of which a run that counts and one that sorts have turns
+/// of 1000 steps.
+fn take_rounds(alloc: Global, ledger: &Ledger<'_>, rounds: usize) -> Result<Told, AllocError> {
+    let mut programs = Vec::new(alloc);
+    for file in [COUNT.as_slice(), SORTED.as_slice()] {
+        match check_file(alloc, file) {
+            Ok(program) => programs.push(program)?,
+            Err(_) => return Err(AllocError),
+        }
+    }
+    let mut turns = Vec::new(alloc);
+    for _ in 0..rounds {
+        turns.push((0, 1000))?;
+        turns.push((1, 1000))?;
+    }
+    take(alloc, programs.as_slice(), ledger, turns.as_slice())
+}
+
+#[test]
+fn a_short_run_waits_for_no_long_one(rt: HostRuntime) -> Result<(), Fail> {
+    let ledger = dollars(rt.alloc(), 100_000)?;
+    let told = take_rounds(rt.alloc(), &ledger, 101)?;
+    let answers = [Ok(Some(100_000)), Ok(None)];
+    assert_eq!(rt; told.answers.as_slice(), answers.as_slice());
+    assert!(rt; matches!(told.turns.as_slice().last(), Some(Ok(Turn::Going))));
     Ok(())
 }
