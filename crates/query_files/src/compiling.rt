@@ -65,11 +65,7 @@ fn program_of<'a>(
 }
 
 /// The file of the program of the query that a text is, by these bounds; or why it has none.
-pub fn compiled(
-    alloc: Global,
-    text: &str,
-    bounds: &Bounds,
-) -> Result<Vec<u8>, Refusal<TextCause>>
+pub fn compiled(alloc: Global, text: &str, bounds: &Bounds) -> Result<Vec<u8>, Refusal<TextCause>>
     requires { AreBounds bounds.now }
     // The file is that of the query's program, which carries the query and is well shaped; or the
     // cause holds, and none that is looked for before it. Want of memory says nothing.

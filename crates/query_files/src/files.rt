@@ -18,7 +18,7 @@ pub struct Outline {
 }
 
 /// The outline of a query file that is accepted; or why it isn't.
-pub fn outline(alloc: Global, file: &[u8]) -> Result<Outline, Refusal<VerifierCause>>
+pub fn outlined(alloc: Global, file: &[u8]) -> Result<Outline, Refusal<VerifierCause>>
     ensures { Outlines file.now result }
 {
     let checked = check_file(alloc, file)?;

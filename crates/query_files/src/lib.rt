@@ -2,7 +2,7 @@
 //!
 //! ```text
 //! let file = compiled(alloc, "SELECT count(*)", &bounds)?;    // or Q1 at 6, Y5 at 11, C1
-//! let outline = outline(alloc, &file)?;                       // or V8 at 36
+//! let outline = outlined(alloc, &file)?;                       // or V8 at 36
 //! outline.depth;                                              // 1
 //! let file = upgraded(alloc, &file)?;                         // the same file, in the second version
 //! let text = listing(alloc, &file)?;                          // what `bq show` prints
@@ -15,7 +15,7 @@
 //! # Refusals
 //!
 //! [`compiled`] tells a [`TextCause`]: why the text is no query, else why that has no type, else why
-//! it has no program. [`outline`] and [`upgraded`] tell why a file isn't accepted (`V1` to `V18`),
+//! it has no program. [`outlined`] and [`upgraded`] tell why a file isn't accepted (`V1` to `V18`),
 //! [`listing`] only why bytes are no query file (`V1` to `V6`), since it shows what isn't accepted
 //! too.
 //!
@@ -30,4 +30,4 @@ mod files;
 
 pub use cause::TextCause;
 pub use compiling::compiled;
-pub use files::{Outline, listing, outline, upgraded};
+pub use files::{Outline, listing, outlined, upgraded};

@@ -15,7 +15,7 @@ use crate::verdict::Verdict;
 use batch_tables::{Fate, file_fates};
 use bean_base::{List, Slice};
 use bean_load::Texts;
-use query_files::outline;
+use query_files::outlined;
 use std::alloc::{AllocError, Global};
 use std::mem::forget;
 use stores::Source;
@@ -25,7 +25,7 @@ fn accepted_file<S: Source>(alloc: Global, name: &str, store: &mut S) -> Result<
     ensures { AcceptsFile S.Source store.old store.new name.now result }
 {
     let bytes = file_bytes(store, name)?;
-    outline(alloc, &bytes)?;
+    outlined(alloc, &bytes)?;
     Ok(List::new(bytes))
 }
 

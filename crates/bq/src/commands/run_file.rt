@@ -11,7 +11,7 @@ use crate::refusal::Refusal;
 use crate::verdict::Verdict;
 use bean_base::List;
 use bean_load::Texts;
-use query_files::outline;
+use query_files::outlined;
 use std::alloc::Global;
 use std::mem::forget;
 use stores::Source;
@@ -46,7 +46,7 @@ fn answer_of<'w, S: Source>(
 ) -> Result<Given<'w>, Refusal>
     ensures { Finds S.Source store.old store.new (command.of_bytes ledger.now bytes.now) result }
 {
-    outline(alloc, bytes)?;
+    outlined(alloc, bytes)?;
     answer_about(alloc, &Running { file: bytes }, ledger, store)
 }
 

@@ -11,7 +11,7 @@ use crate::refusal::Refusal;
 use crate::verdict::Verdict;
 use bean_base::List;
 use itoa::Buffer;
-use query_files::Outline;
+use query_files::{Outline, outlined};
 use std::alloc::{AllocError, Global};
 use stores::Source;
 
@@ -37,7 +37,7 @@ fn line(alloc: Global, outline: Outline) -> Result<Vec<u8>, AllocError>
 fn verdict_on<'w>(alloc: Global, bytes: &[u8]) -> Result<Given<'w>, Refusal>
     ensures { ComesTo (about_program (λ p depth. at_once (Verifies p depth)) bytes.now []) result }
 {
-    let outline = query_files::outline(alloc, bytes)?;
+    let outline = outlined(alloc, bytes)?;
     let text = line(alloc, outline)?;
     Ok(Given::Told(Verdict::Fine, List::new(text)))
 }

@@ -20,18 +20,18 @@ returns-in_err-bytes g c =
     (not_read s a b (about_program (λ p depth readings end. ⊥)) name
     (λ (bytes : Vec ℕ Global). bytes.items) r c.in_err-bytes.ensures)
 
-pub returns-in_err-outline : goal.returns-in_err-outline
-returns-in_err-outline g c =
+pub returns-in_err-outlined : goal.returns-in_err-outlined
+returns-in_err-outlined g c =
     let s = g.S.Source in
     let a = c.args.store.now in
     let b = c.file_bytes.new.store in
     let name = c.args.name.now in
     let read = c.in_ok-bytes.ensures in
     let bytes = c.in_ok-bytes.bytes.items in
-    let r = c.in_err-outline.field-0.0 in
-    let step = c.from_residual-in_err-outline in
+    let r = c.in_err-outlined.field-0.0 in
+    let step = c.from_residual-in_err-outlined in
     let checks =
-    subst (λ bs. IsNotAccepted bs r) c.deref.ensures.value c.in_err-outline.ensures in
+    subst (λ bs. IsNotAccepted bs r) c.deref.ensures.value c.in_err-outlined.ensures in
     subst (AcceptsFile s a b name) (sym (converted step.result (unaccepted r) step.ensures.1)) (
       read.0,
       read.1,
@@ -48,7 +48,7 @@ returns g c =
     let read = c.in_ok-bytes.ensures in
     let bytes = c.in_ok-bytes.bytes.items in
     let of =
-    subst (λ bs. Outlines bs (Ok c.in_ok-outline.field-0)) c.deref.ensures.value
-    c.in_ok-outline.ensures in
+    subst (λ bs. Outlines bs (Ok c.in_ok-outlined.field-0)) c.deref.ensures.value
+    c.in_ok-outlined.ensures in
     subst (λ bs. AcceptsFile s a b name (Ok bs)) (sym c.new.ensures)
     (read.0, read.1, read.2, ((of.0, of.1), of.2))
