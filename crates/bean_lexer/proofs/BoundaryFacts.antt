@@ -1,11 +1,11 @@
 -- Where runs and gaps end, a character ends.
-use Rattle.std.proofs.Common.{◌≡◌, ℕ, zero, suc, add-zero, ◌+◌, ◌<◌, ◌≤◌, Bool, true, false, Option}
+use Rattle.std.proofs.Common.{◌≡◌, ℕ, add-zero, ◌+◌, ◌<◌, ◌≤◌, false, Option}
 use Rattle.std.proofs.Common.{Some, None, List, [], ◌∷◌, length, get_or, drop, IsUtf8, arith, ap}
 use Rattle.std.proofs.Common.{sym, ◌∙◌, subst, refl, length-drop}
 use Rattle.std.specs.Option.{option_map_or}
 use Rattle.std.proofs.lemmas.Bool.Decides.{nat_tests}
 use Rattle.std.proofs.lemmas.Str.{IsCharBoundary-end, IsCharBoundary-after_ascii}
-use Rattle.std.proofs.lemmas.List.Sums.{prefix_len_passes, prefix_len_stops, prefix_len-le-length}
+use Rattle.std.proofs.lemmas.List.Sums.{prefix_len_stops, prefix_len-le-length}
 use Rattle.std.proofs.lemmas.List.{get_or-drop}
 use Rattle.std.specs.List.{prefix_len}
 use Rattle.std.specs.Str.{IsCharBoundary}

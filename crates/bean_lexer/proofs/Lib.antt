@@ -14,3 +14,5 @@ pub mod OneListOfTokensFacts
 mod Examples
 pub mod LineFeedFacts
 pub mod BetweenFacts
+pub mod ColumnOneFacts
+pub mod SomeTokensFacts

@@ -267,7 +267,7 @@ pub one_sign : (sign other : Sign) → sign_spelling sign ≡ sign_spelling othe
 one_sign sign other e = let a = of_sign_spelling sign in let b = of_sign_spelling other in
     let same = ap kind_of e in cc
 
-is_only : (kind : Kind) (xs : List ℕ) → is_of kind xs ≡ true → kind_of xs ≡ Some kind
+pub is_only : (kind : Kind) (xs : List ℕ) → is_of kind xs ≡ true → kind_of xs ≡ Some kind
 is_only kinds.Day xs h = of_day xs h
 is_only kinds.Number xs h = of_number xs h
 is_only kinds.Text xs h = of_text xs h

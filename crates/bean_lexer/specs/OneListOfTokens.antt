@@ -5,3 +5,7 @@ use Rattle.bean_lexer.specs.declared.token.Token.{Token}
 
 abbrev pub HasOneListOfTokens : List ℕ → Type 0
 HasOneListOfTokens text = (ts us : List Token) → AreTokens text ts → AreTokens text us → ts ≡ us
+
+-- and it has one
+abbrev pub HasTokens : List ℕ → Type 0
+HasTokens text = (ts : List Token) × AreTokens text ts

@@ -1,7 +1,7 @@
 //! The tokens of a text, in order.
 ghost use Rattle.std.specs.Prelude.{IfOk};
 ghost use Rattle.bean_lexer.specs.Tokens.{AreTokens};
-ghost use Rattle.bean_lexer.specs.OneListOfTokens.{HasOneListOfTokens};
+ghost use Rattle.bean_lexer.specs.OneListOfTokens.{HasOneListOfTokens, HasTokens};
 ghost use Rattle.bean_lexer.specs.Between.{HasGaps};
 
 use crate::lexer::Lexer;
@@ -20,9 +20,10 @@ pub fn tokens<'a, A: Allocator>(alloc: A, text: &'a str) -> Result<Vec<Token<'a>
     Ok(out)
 }
 
-/// A text has one list of tokens: two that are its tokens are the same.
+/// A text has one list of tokens: there is one, and two that are its tokens are the same.
 pub fn a_text_has_one_list_of_tokens(text: &str)
-    ensures { HasOneListOfTokens text.now }
+    ensures some { HasTokens text.now }
+    ensures one { HasOneListOfTokens text.now }
 {
     let _ = text;
 }

@@ -1,5 +1,9 @@
 -- The include lines of a text: those among the settings that its blocks give.
-use Rattle.std.specs.Prelude.{◌≡◌, ℕ, List, [], ◌∷◌, ◌++◌, Option, Some, None}
+use Rattle.std.specs.Prelude.{◌≡◌, ◌⊎◌, ℕ, nat_eq, List, [], ◌∷◌, ◌++◌, codes, Option, Some, None}
+use Rattle.std.specs.Prelude.{IsTrue}
+use Rattle.std.specs.List.{starts_with}
+use Rattle.memchr.specs.Find.{OccursAt}
+use Rattle.bean_base.specs.Character.{line_feed}
 use Rattle.bean_lexer.specs.Tokens.{AreTokens}
 use Rattle.bean_lexer.specs.declared.token.Token.{Token}
 use Rattle.bean_directives.specs.declared.undated.Setting.{Setting}
@@ -72,3 +76,11 @@ IncludesAreSettings text =
 abbrev pub AddsInclude : List Token → List IncludeLine → List IncludeLine → Type 0
 AddsInclude block old new =
     (one : Option IncludeLine) × IsIncludeOf block one × (new ≡ old ++ with_first one [])
+
+-- A line of the text begins with the word `include`: the word stands at the text's start, or behind
+-- a line feed. So does that of each include line; others are lines at fault, or stand inside of a
+-- text that spans lines.
+abbrev pub HasIncludeWord : List ℕ → Type 0
+HasIncludeWord text =
+    IsTrue (starts_with nat_eq text (codes "include"))
+    ⊎ ((at : ℕ) × OccursAt text (line_feed ∷ codes "include") at)

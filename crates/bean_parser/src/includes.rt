@@ -1,7 +1,8 @@
 //! The include lines of a text, without the rest of what it says.
-ghost use Rattle.std.specs.Prelude.{◌≡◌, IfOk, OnOk};
+ghost use Rattle.std.specs.Prelude.{◌≡◌, IfOk, OnOk, MatchBool};
 ghost use Rattle.bean_parser.specs.Includes as spec;
-ghost use Rattle.bean_parser.specs.Includes.{AddsInclude, AreIncludeLines, IsIncludeOf};
+ghost use Rattle.bean_parser.specs.Includes.{AddsInclude, AreIncludeLines, HasIncludeWord};
+ghost use Rattle.bean_parser.specs.Includes.{IsIncludeOf};
 
 use crate::block::{Outcome, read_block};
 use crate::reader::BlockReader;
@@ -10,6 +11,7 @@ use bean_base::Text;
 use bean_directives::{SettingKind, Undated, UndatedKind};
 use bean_grammar::front::after_keyword;
 use bean_lexer::{Keyword, Token};
+use memchr::memmem;
 use std::alloc::{AllocError, Global};
 
 /// An include line.
@@ -79,12 +81,25 @@ fn add_include<'a>(
     }
 }
 
-/// The include lines of a text, in order: those among the settings that its blocks give. It reads
-/// the text's tokens, and no block but those that begin with the word `include`.
+/// Whether a line of a text begins with the word `include`. It is found by a search of bytes, which
+/// is much faster than to read tokens.
+fn has_include_word(text: &str) -> bool
+    ensures { MatchBool result (HasIncludeWord text.now) (HasIncludeWord text.now → ⊥) }
+{
+    let bytes = text.as_bytes();
+    bytes.starts_with(b"include") || memmem::find(bytes, b"\ninclude").is_some()
+}
+
+/// The include lines of a text, in order: those among the settings that its blocks give. Where no
+/// line begins with the word `include` there are none. Else it reads the text's tokens, and no
+/// block but those that begin with the word.
 pub fn include_lines(alloc: Global, text: &str) -> Result<Vec<IncludeLine<'_>>, AllocError>
     ensures { IfOk result (λ found. AreIncludeLines text.now found.items) }
 {
     let mut found = Vec::new(alloc);
+    if !has_include_word(text) {
+        return Ok(found);
+    }
     let mut block = Vec::new(alloc);
     let mut reader = BlockReader::new(text);
     while reader.next_block(&mut block)? {

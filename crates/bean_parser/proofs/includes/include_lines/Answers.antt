@@ -1,8 +1,18 @@
-use Rattle.std.proofs.Common.{subst}
+use Rattle.std.proofs.Common.{arith, MatchBool, subst, sym}
 use Rattle.bean_parser.specs.BlockReader.{TakesBlock}
-use Rattle.bean_parser.specs.Includes.{AddsInclude}
+use Rattle.bean_parser.specs.Includes.{AddsInclude, AreIncludeLines, HasIncludeWord}
 use Rattle.bean_parser.proofs.IncludesFacts.{one_more, ended}
+use Rattle.bean_parser.proofs.NoIncludeFacts.{none_without_word}
 use Rattle.bean_parser.proofs.includes.include_lines.Goals as goal
+
+pub returns-then-not-has_include_word : goal.returns-then-not-has_include_word
+returns-then-not-has_include_word c =
+    let text = c.args.text.now in
+    let no_word =
+    subst (λ r. MatchBool r (HasIncludeWord text) (HasIncludeWord text → ⊥))
+    c.if-not-has_include_word.true c.has_include_word.ensures in
+    subst (AreIncludeLines text) (sym c.new-found.ensures.items)
+    (none_without_word text (omega arith) no_word)
 
 pub loop-block-preserved : goal.loop-block-preserved
 loop-block-preserved c =
