@@ -1,15 +1,14 @@
 -- How the pieces of decimals come together.
-use Rattle.std.proofs.Common.{◌≡◌, ℕ, zero, suc, ◌+◌, ◌-◌, ◌*◌, ◌/◌, ◌%◌, ◌^◌, ◌<◌, ◌≤◌, max}
+use Rattle.std.proofs.Common.{◌≡◌, ℕ, zero, suc, ◌+◌, ◌-◌, ◌*◌, ◌/◌, ◌%◌, ◌^◌, ◌<◌, ◌≤◌}
 use Rattle.std.proofs.Common.{nat_eq, nat_lt, Bool, true, false, cond, List, [], ◌∷◌, ◌++◌, length}
 use Rattle.std.proofs.Common.{refl, sym, ap, ◌∙◌, append_assoc, arith, length-append}
 use Rattle.std.proofs.Math.Arith.{mod-mul}
 use Rattle.std.proofs.Math.Nat.{div-div-eq-div-mul, one-le-pow, pow-le-pow_right, pow-suc}
 use Rattle.std.proofs.Math.Nat.{pow-succ'}
 use Rattle.std.proofs.lemmas.Fmt.{decimal_digit, decimal_step_wide}
-use Rattle.std.proofs.lemmas.List.{length-replicate}
 use Rattle.std.specs.Fmt.{decimal}
 use Rattle.std.proofs.lemmas.Bool.Decides.{nat_tests}
-use Rattle.number_texts.specs.Digits.{digits_of, exact_decimals, decimals_text, behind_point}
+use Rattle.number_texts.specs.Digits.{digits_of, exact_decimals, behind_point}
 use Rattle.number_texts.specs.Digits.{zeros}
 
 pub length-digits_of : (places n : ℕ) → length (digits_of places n) ≡ places
@@ -72,33 +71,12 @@ all_shown (suc places) n least fits =
         zero_fills places n least fits (grind (arith, nat_tests)) ∙ before
         ∙ ap (filled least) (sym e)
 
-behind_some : (xs : List ℕ) (n : ℕ) → length xs ≡ n
+pub behind_some : (xs : List ℕ) (n : ℕ) → length xs ≡ n
     → behind_point xs ≡ cond (nat_lt 0 n) (46 ∷ []) [] ++ xs
 behind_some [] n same = let no : nat_lt 0 n ≡ false = grind (arith, nat_tests) in
     sym (ap (λ b. cond b (46 ∷ []) [] ++ []) no)
 behind_some (x ∷ xs) n same = let yes : nat_lt 0 n ≡ true = grind (arith, nat_tests) in
     sym (ap (λ b. cond b (46 ∷ []) [] ++ x ∷ xs) yes)
-
--- the point, the digits and the zeros are the decimals
-pub pushed_decimals : (before : List ℕ) (places n least shown digits : ℕ)
-    → digits_of shown digits ++ zeros (least - shown) ≡ filled least (exact_decimals places n)
-    → ((before ++ cond (nat_lt 0 (max shown least)) (46 ∷ []) []) ++ digits_of shown digits)
-    ++ zeros (least - shown) ≡ before ++ decimals_text places n least
-pushed_decimals before places n least shown digits same =
-    let ds : List ℕ = digits_of shown digits in
-    let point : List ℕ = cond (nat_lt 0 (max shown least)) (46 ∷ []) [] in
-    let all : length (ds ++ zeros (least - shown)) ≡ max shown least =
-    omega (
-      arith,
-      length-digits_of shown digits,
-      length-append ds
-          (zeros (least - shown)),
-      length-replicate {A = ℕ} (least - shown) 48,
-    ) in
-    ap (λ l. l ++ zeros (least - shown)) (append_assoc before point ds)
-    ∙ append_assoc before (point ++ ds) (zeros (least - shown))
-    ∙ ap (λ l. before ++ l) (append_assoc point ds (zeros (least - shown))
-    ∙ sym (behind_some (ds ++ zeros (least - shown)) (max shown least) all) ∙ ap behind_point same)
 
 -- at most 38 places fit 128 bits, and twice that does too
 pub narrow : (places : ℕ) → places ≤ 38 → 10 ^ places ≤ 100000000000000000000000000000000000000

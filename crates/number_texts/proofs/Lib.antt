@@ -2,3 +2,4 @@ pub mod PowerFacts
 pub mod DigitsFacts
 pub mod PrintableFacts
 pub mod LengthFacts
+pub mod NumberFacts

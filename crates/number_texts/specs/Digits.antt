@@ -30,6 +30,11 @@ abbrev pub decimals_text : ℕ → ℕ → ℕ → List ℕ
 decimals_text places n least =
     let exact = exact_decimals places n in behind_point (exact ++ zeros (least - length exact))
 
+-- a whole part, and decimals with zeros behind them up to the least count
+abbrev pub parts_text : ℕ → ℕ → ℕ → ℕ → List ℕ
+parts_text whole shown digits least =
+    decimal whole ++ behind_point (digits_of shown digits ++ zeros (least - shown))
+
 -- the magnitude n * 10^-places
 abbrev pub magnitude_text : ℕ → ℕ → ℕ → List ℕ
 magnitude_text n places least =

@@ -1,13 +1,15 @@
 //! The texts of numbers and days.
 ghost use Rattle.std.specs.Prelude.{◌≡◌, ◌≤◌, ◌<◌, ◌+◌, ◌-◌, ◌/◌, ◌%◌, ◌^◌, [], ◌∷◌, ◌++◌, OnOk};
 ghost use Rattle.std.specs.Prelude.{length, if◌then◌else◌};
+ghost use Rattle.std.specs.Fmt.{decimal};
 ghost use Rattle.std.specs.Int.RustNames.{unsigned_abs};
-ghost use Rattle.number_texts.specs.Digits.{digits_of, exact_decimals, decimals_text, number_text};
+ghost use Rattle.bean_base.specs.Character.{point};
+ghost use Rattle.number_texts.specs.Digits.{digits_of, exact_decimals, number_text, parts_text};
 ghost use Rattle.number_texts.specs.Digits.{day_text, zeros};
 
 use crate::runs::push_run;
 use bean_base::{Day, power_of_ten};
-use itoa::Buffer;
+use itoa::{Buffer, write_digits};
 use std::alloc::AllocError;
 
 fn digit(number: u64) -> u8
@@ -122,16 +124,101 @@ fn push_if(out: &mut Vec<u8>, mark: u8, is_wanted: bool) -> Result<(), AllocErro
     Ok(())
 }
 
-/// The point and the decimals, as few as are exact but at least so many.
-fn push_decimals(out: &mut Vec<u8>, places: u8, decimals: u128, least: u8) -> Result<(), AllocError>
-    requires { decimals < 10 ^ places }
-    ensures { OnOk result (out.new.items ≡ out.old.items ++ decimals_text places decimals least) }
+/// How many marks [`push_if`] adds.
+fn len_if(is_wanted: bool) -> usize
+    ensures { result ≡ (if is_wanted then 1 else 0) }
 {
-    let (shown, digits) = without_zeros(places, decimals, least);
+    if is_wanted { 1 } else { 0 }
+}
+
+/// How many digits a number of 64 bits has.
+fn digits_in_word(number: u64) -> usize
+    ensures count { result ≡ length (decimal number) }
+    ensures few { result ≤ 20 }
+{
+    if number == 0 {
+        return 1;
+    }
+    number.ilog10() as usize + 1
+}
+
+/// How many digits a number has.
+fn digits_in(number: u128) -> usize
+    ensures count { result ≡ length (decimal number) }
+    ensures few { result ≤ 40 }
+{
+    match u64::try_from(number) {
+        Ok(number) => digits_in_word(number),
+        Err(_) => Buffer::new().format(number).len(),
+    }
+}
+
+/// How many bytes the text of `count` · `10^-places` has, as [`push_number`] adds it. It is told
+/// without making the text.
+pub fn number_len(count: i128, places: u8, least: u8) -> usize
+    ensures len { result ≡ length (number_text count places least) }
+    ensures few { result ≤ 300 }
+{
+    let (whole, decimals) = split_at(count.unsigned_abs(), places);
+    let (shown, _) = without_zeros(places, decimals, least);
+    let behind = shown.max(least) as usize;
+    len_if(count < 0) + digits_in(whole) + len_if(behind > 0) + behind
+}
+
+/// A whole part, a point and decimals, where they are few: one text, which is added at once.
+fn push_few_parts(out: &mut Vec<u8>, whole: u64, shown: u8, digits: u64) -> Result<(), AllocError>
+    requires some { 0 < shown }
+    requires few { shown ≤ 18 }
+    requires small { digits < 10 ^ shown }
+    ensures { OnOk result (out.new.items
+        ≡ out.old.items ++ (decimal whole ++ point ∷ digits_of shown digits)) }
+{
+    let mut text = [0; 40];
+    // A one before the digits keeps the zeros in front of them. The point takes its place.
+    let point = write_digits(power_of_ten(shown) as u64 + digits, &mut text, 40);
+    text[point] = b'.';
+    let start = write_digits(whole, &mut text, point);
+    out.extend_from_slice(&text[start..])?;
+    Ok(())
+}
+
+/// A whole part and the decimals that are shown, with zeros behind them up to the least count: one
+/// after the other, whatever they are.
+fn push_any_parts(
+    out: &mut Vec<u8>,
+    whole: u128,
+    shown: u8,
+    digits: u128,
+    least: u8,
+) -> Result<(), AllocError>
+    requires { digits < 10 ^ shown }
+    ensures { OnOk result (out.new.items ≡ out.old.items ++ parts_text whole shown digits least) }
+{
+    out.extend_from_slice(Buffer::new().format(whole).as_bytes())?;
     push_if(out, b'.', shown.max(least) > 0)?;
     push_digits(out, shown, digits)?;
     push_run(out, b'0', least.saturating_sub(shown) as usize)?;
     Ok(())
+}
+
+/// The same, at once where they are few, as most are.
+fn push_parts(
+    out: &mut Vec<u8>,
+    whole: u128,
+    shown: u8,
+    digits: u128,
+    least: u8,
+) -> Result<(), AllocError>
+    requires { digits < 10 ^ shown }
+    ensures { OnOk result (out.new.items ≡ out.old.items ++ parts_text whole shown digits least) }
+{
+    match u64::try_from(whole) {
+        Ok(whole) if 0 < shown && shown <= 18 && least <= shown => {
+            push_few_parts(out, whole, shown, digits as u64)?;
+            Ok(())
+        }
+        _ => push_any_parts(out, whole, shown, digits, least),
+    }
 }
 
 /// The number `count` · `10^-places` with the fewest decimals that are exact, but at least so many.
@@ -139,9 +226,9 @@ pub fn push_number(out: &mut Vec<u8>, count: i128, places: u8, least: u8) -> Res
     ensures { OnOk result (out.new.items ≡ out.old.items ++ number_text count places least) }
 {
     let (whole, decimals) = split_at(count.unsigned_abs(), places);
+    let (shown, digits) = without_zeros(places, decimals, least);
     push_if(out, b'-', count < 0)?;
-    out.extend_from_slice(Buffer::new().format(whole).as_bytes())?;
-    push_decimals(out, places, decimals, least)?;
+    push_parts(out, whole, shown, digits, least)?;
     Ok(())
 }
 

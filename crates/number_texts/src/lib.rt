@@ -20,5 +20,5 @@
 mod digits;
 mod runs;
 
-pub use digits::{push_day, push_number};
+pub use digits::{number_len, push_day, push_number};
 pub use runs::push_run;

@@ -15,7 +15,7 @@ use crate::cell::Cell;
 use crate::inventories::{inventory_width, push_inventory};
 use crate::positions::{position_width, push_position};
 use bean_base::Currency;
-use number_texts::{push_day, push_number};
+use number_texts::{number_len, push_day, push_number};
 use posting_table::Display;
 use query_values::{TextSet, Value};
 use std::alloc::{AllocError, Global};
@@ -62,7 +62,13 @@ fn shown_character(c: char) -> char
 fn is_printable(text: &str) -> bool
     ensures { result ≡ list_all (is_in_range 32 126) text.now }
 {
-    text.as_bytes().iter().all(|b| 32 <= *b && *b <= 126)
+    let bytes = text.as_bytes();
+    let mut all = true;
+    // It goes on to the end, so that many bytes are looked at at once.
+    for b in bytes {
+        all &= 32 <= *b && *b <= 126;
+    }
+    all
 }
 
 /// Adds a text with spaces in place of its control characters.
@@ -197,6 +203,26 @@ pub(crate) fn push_units(
     Ok(out.len() - start)
 }
 
+/// How many columns of a terminal a number takes that has the fewest decimals that are exact.
+fn exact_width(count: i128, places: u8) -> usize
+    ensures { result ≡ text_width (number_text count places 0) }
+{
+    number_len(count, places, 0)
+}
+
+/// How many columns of a terminal the number `count` · `10^-places` and a currency take.
+pub(crate) fn units_width(
+    count: i128,
+    places: u8,
+    currency: &Currency<'_>,
+    display: &Display<'_>,
+) -> usize
+    ensures { result ≡ text_width (units_text (decimals_of display.now) count places currency.now) }
+{
+    let number = number_len(count, places, display.places(currency));
+    number + 1 + currency.text().len()
+}
+
 /// How wide the text of a day is.
 const DAY_WIDTH: usize = 10;
 
@@ -245,7 +271,7 @@ pub(crate) fn cell_width(
     match cell.value() {
         Value::Null => Ok(0),
         Value::Truth(truth) => push_truth(&mut scratch.measured, *truth),
-        Value::Number { places, count } => push_exact(&mut scratch.measured, *count, *places),
+        Value::Number { places, count } => Ok(exact_width(*count, *places)),
         Value::Text(text) => clean_width(text.text(), &mut scratch.clean),
         Value::Day(_) => Ok(DAY_WIDTH),
         Value::Set(set) => set_width(set.get(), &mut scratch.clean),
@@ -253,7 +279,7 @@ pub(crate) fn cell_width(
             places,
             count,
             currency,
-        } => push_units(&mut scratch.measured, *count, *places, currency, display),
+        } => Ok(units_width(*count, *places, currency, display)),
         Value::Position { key, count } => position_width(key.get(), *count, scratch, display),
         Value::Inventory(bag) => inventory_width(bag, scratch, display),
     }

@@ -9,7 +9,7 @@ ghost use Rattle.table_printer.specs.Table.{text_width};
 ghost use Rattle.table_printer.specs.CellText.{entry_text, label_text, lot_text, position_text};
 ghost use Rattle.table_printer.specs.CellText.{units_text};
 
-use crate::cells::{Scratch, add_clean, push_units};
+use crate::cells::{Scratch, add_clean, push_units, units_width};
 use bean_base::{Currency, Day, Text};
 use bean_lots::{Key, Lot};
 use number_texts::push_day;
@@ -157,9 +157,7 @@ pub(crate) fn position_width(
         ≡ text_width (position_text (decimals_of display.now) key.now count)) }
 {
     if key.lot.is_none() {
-        let measured = &mut scratch.measured;
-        measured.clear();
-        return push_units(measured, count, COUNT_PLACES, &key.currency, display);
+        return Ok(units_width(count, COUNT_PLACES, &key.currency, display));
     }
     make_position(scratch, key, count, display)?;
     Ok(scratch.clean.width())
