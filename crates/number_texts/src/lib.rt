@@ -3,6 +3,7 @@
 //! ```text
 //! push_number(&mut out, -1050, 2, 0)?;   // -10.5
 //! push_number(&mut out, -1050, 2, 2)?;   // -10.50
+//! number_len(-1050, 2, 2);               // 6
 //! push_day(&mut out, day)?;              // 2014-01-31
 //! ```
 //!
