@@ -1,6 +1,7 @@
 //! The program's own store: files, and standard input.
 ghost use Rattle.std.specs.Prelude.{◌≡◌, IfOk, IfSome, take};
 
+use crate::kept::keep;
 use crate::source::{Source, SourceFault, Store};
 use std::alloc::Global;
 use std::fs::{File, OpenFile};
@@ -9,6 +10,8 @@ use std::marker::Model;
 use std::rt::Files;
 
 /// Files by their names, and standard input by the name `-`.
+///
+/// A file is kept whole or not at all: where a disk is full, what stood under its name is as it was.
 #[derive(Drop)]
 pub struct HostStore<R> {
     rt: R,
@@ -125,7 +128,7 @@ impl<R: Files + Input + AllocGlobal + Drop> Store for HostStore<R> {
         if self.failures == u64::MAX {
             return Err(SourceFault::OutOfMemory);
         }
-        match std::fs::write(&self.rt, name, bytes) {
+        match keep(&self.rt, name, bytes) {
             Ok(()) => Ok(()),
             Err(error) => {
                 let fault = fault_of(&error);

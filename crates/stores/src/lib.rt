@@ -23,10 +23,12 @@
 //!
 //! # Cost
 //!
-//! A text is read once, into memory of its own. A `HostStore` asks for no byte past its limit.
+//! A text is read once, into memory of its own. A `HostStore` asks for no byte past its limit. A file
+//! that it keeps is written beside the one that it replaces, so for a while there are both.
 #![tactic(auto)]
 
 mod host;
+mod kept;
 pub mod memory;
 mod source;
 
