@@ -1,5 +1,6 @@
 //! Batches of query files.
-ghost use Rattle.std.specs.Prelude.{◌≤◌, All, IfOk, map};
+ghost use Rattle.std.specs.Prelude.{◌≤◌, IfOk, map};
+ghost use Rattle.std.specs.List.{AllByRecursion};
 ghost use Rattle.batch_tables.specs.Fates.{AreFatesOf, AreFilesFor, HasProgram, IsFileFor, verified};
 
 use crate::tabulating::{Fate, fates};
@@ -41,7 +42,7 @@ pub fn file_fates(
     k: u64,
 ) -> Result<Vec<Fate>, AllocError>
     requires some { 1 ≤ k }
-    requires accepted { All HasProgram files.now }
+    requires accepted { ∥ AllByRecursion HasProgram files.now ∥₁ }
     ensures { IfOk result (λ fates. AreFatesOf ledger.now files.now fates.items) }
 {
     let programs = programs_in(alloc, files)?;

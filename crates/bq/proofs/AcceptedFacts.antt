@@ -1,7 +1,8 @@
 -- Files that are read one after the other, as long as each is accepted.
-use Rattle.std.proofs.Common.{◌≡◌, inl, inr, ℕ, suc, All, List, [], ◌∷◌, ◌++◌, length, Result, Ok, Err}
+use Rattle.std.proofs.Common.{◌≡◌, inl, inr, ℕ, suc, List, [], ◌∷◌, ◌++◌, length, Result, Ok, Err}
 use Rattle.std.proofs.Common.{refl, sym, ap, ap₂, subst, append_assoc}
 use Rattle.std.proofs.lemmas.List.{append-nil}
+use Rattle.std.specs.List.{AllByRecursion}
 use Rattle.batch_tables.specs.Fates.{AreFates, AreFilesFor, HasProgram}
 use Rattle.bean_book.specs.declared.booked.Booked.{Booked}
 use Rattle.clap.specs.Walk.{Text}
@@ -186,7 +187,7 @@ files_for (name ∷ names) readings (bytes ∷ files) come =
 
 -- each with a program
 pub all_have : (names : List Text) (readings : List Reading) (files : List (List ℕ))
-    → ComeAccepted names readings files → All HasProgram files
+    → ComeAccepted names readings files → AllByRecursion HasProgram files
 all_have [] readings [] come = tt
 all_have [] readings (bytes ∷ files) come = absurd come
 all_have (name ∷ names) readings [] come = absurd come
@@ -195,7 +196,7 @@ all_have (name ∷ names) readings (bytes ∷ files) come =
 
 -- ---- their programs
 
-pub programs_of : (files : List (List ℕ)) → All HasProgram files
+pub programs_of : (files : List (List ℕ)) → AllByRecursion HasProgram files
     → (programs : List (Parts × ℕ)) × AreFilesFor files programs
 programs_of [] have = ([], tt)
 programs_of (bytes ∷ files) have =

@@ -1,6 +1,6 @@
 //! `batch K LEDGER FILE..`: what query files answer over a ledger, in turns of K steps each.
-ghost use Rattle.std.specs.Prelude.{◌≡◌, ◌≤◌, ◌++◌, All, IfOk, OnOk, length};
-ghost use Rattle.std.specs.List.{list_any};
+ghost use Rattle.std.specs.Prelude.{◌≡◌, ◌≤◌, ◌++◌, IfOk, OnOk, length};
+ghost use Rattle.std.specs.List.{AllByRecursion, list_any};
 ghost use Rattle.batch_tables.specs.Fates.{HasProgram};
 ghost use Rattle.bq.specs.Accepted.{AcceptsFile, AcceptsFiles};
 ghost use Rattle.bq.specs.Batch as command;
@@ -127,7 +127,7 @@ struct Batching<'p, 'n> {
     files: &'p [List<u8>],
     ghost some: { 1 ≤ steps },
     ghost each: { length files.now ≡ length names.now },
-    ghost accepted: { All HasProgram files.now },
+    ghost accepted: { ∥ AllByRecursion HasProgram files.now ∥₁ },
 }
 
 impl Question for Batching<'_, '_> {

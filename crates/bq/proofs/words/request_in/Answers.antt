@@ -27,9 +27,7 @@ refused words error (Refused cause.Words) has is =
     none_asked (fault_of program words) words error has is
 refused words error OutOfMemory has is = tt
 refused words error (Refused (cause.Load f)) has is = absurd is
-refused words error (Refused (cause.Query f)) has is = absurd is
-refused words error (Refused (cause.Typing f)) has is = absurd is
-refused words error (Refused (cause.Compile f)) has is = absurd is
+refused words error (Refused (cause.Text f)) has is = absurd is
 refused words error (Refused (cause.File f)) has is = absurd is
 refused words error (Refused cause.TooManyPostings) has is = absurd is
 refused words error (Refused cause.OutsideBounds) has is = absurd is

@@ -1,7 +1,10 @@
-use Rattle.std.proofs.Common.{◌++◌, All, length, sym, ap, ◌∙◌, subst}
+use Rattle.std.proofs.Common.{◌++◌, length, sym, ap, ◌∙◌, subst}
+use Rattle.std.specs.List.{AllByRecursion}
 use Rattle.batch_tables.specs.Fates.{HasProgram}
+use Rattle.bean_book.specs.declared.booked.Booked.{Booked}
 use Rattle.stores.proofs.GaveFacts.{gave_behind}
 use Rattle.bq.specs.Batch.{Batched, FilesBatched, batch, words_of}
+use Rattle.bq.specs.Due.{End}
 use Rattle.bq.specs.Ledgers.{about_book, about_ledger}
 use Rattle.bq.specs.Runs.{Finds}
 use Rattle.bq.proofs.AcceptedFacts.{all_due, all_have, batched, files_for, not_all, programs_of}
@@ -31,8 +34,8 @@ invariant_of-batch-clause-each g c =
 pub invariant_of-batch-clause-accepted : goal.invariant_of-batch-clause-accepted
 invariant_of-batch-clause-accepted g c =
     let read = c.in_ok-files.ensures in
-    subst (All HasProgram) (sym c.as_slice.ensures)
-    (all_have c.args.names.now read.0 c.in_ok-files.files read.2)
+    subst (λ fs. ∥ AllByRecursion HasProgram fs ∥₁) (sym c.as_slice.ensures)
+    ∣ all_have c.args.names.now read.0 c.in_ok-files.files read.2 ∣₁
 
 pub returns : goal.returns
 returns g c =
@@ -52,7 +55,8 @@ returns g c =
           (within (about_ledger (about_book (FilesBatched names given)) ledger found.0)
           (about_ledger (about_book (Batched names programs.0)) ledger found.0)
           (of_ledger (FilesBatched names given) (Batched names programs.0)
-          (subst (λ fs. (b : _) (end : _) → FilesBatched names fs b end → Batched names programs.0 b end)
+          (subst
+          (λ fs. (b : Booked) (end : End) → FilesBatched names fs b end → Batched names programs.0 b end)
           (sym c.as_slice.ensures) (batched names files programs.0 programs.1)) ledger found.0) result
           found.2),
     )

@@ -29,8 +29,8 @@ returns-in_err-file g c =
           (uncompilable widest of text r c.in_err-file.ensures),
     )
 
-pub invariant_of-Asking : goal.invariant_of-Asking
-invariant_of-Asking g c =
+pub invariant_of-answer_about : goal.invariant_of-answer_about
+invariant_of-answer_about g c =
     let is = c.in_ok-file.ensures in
     subst (HasBounds widest) (sym c.deref.ensures.value)
     (has_bounds widest is.0 c.in_ok-file.file.items is.2)
