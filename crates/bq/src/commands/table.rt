@@ -16,8 +16,9 @@ pub fn table_of(alloc: Global, file: &[u8], ledger: &Ledger<'_>) -> Result<Vec<u
             Err(Refusal::Refused(Cause::OutsideBounds))
         }
         // It is accepted, so memory lacks.
-        Err(refusals::Refusal::Refused(AnswerCause::NotAccepted(_)) | refusals::Refusal::OutOfMemory) => {
-            Err(Refusal::OutOfMemory)
-        }
+        Err(
+            refusals::Refusal::Refused(AnswerCause::NotAccepted(_))
+            | refusals::Refusal::OutOfMemory,
+        ) => { Err(Refusal::OutOfMemory) }
     }
 }
