@@ -16,9 +16,6 @@ pub fn table_of(alloc: Global, file: &[u8], ledger: &Ledger<'_>) -> Result<Vec<u
             Err(Refusal::Refused(Cause::OutsideBounds))
         }
         // It is accepted, so memory lacks.
-        Err(
-            refusals::Refusal::Refused(AnswerCause::NotAccepted(_))
-            | refusals::Refusal::OutOfMemory,
-        ) => { Err(Refusal::OutOfMemory) }
+        Err(_) => Err(Refusal::OutOfMemory),
     }
 }
