@@ -4,6 +4,7 @@ pub mod OutcomeFacts
 pub mod HeldFacts
 pub mod LinedFacts
 pub mod CompletedFacts
+pub mod FilledFacts
 pub mod PlainFacts
 pub mod LegFacts
 pub mod OneLine

@@ -6,4 +6,5 @@ pub mod Lined
 pub mod Outcome
 pub mod Lines
 pub mod Tried
+pub mod Filled
 pub mod Plain

@@ -16,7 +16,6 @@ use Rattle.bean_postings.specs.declared.price.Price.TheVariants as price_kind
 use Rattle.bean_interp.specs.Balance.{is_balanced}
 use Rattle.bean_interp.specs.Completion.{Completes}
 use Rattle.bean_interp.specs.declared.cause.CompletionCause.TheVariants as completion
-use Rattle.bean_interp.specs.declared.cause.WeighCause.TheVariants.{TooWide}
 use Rattle.refusals.specs.declared.refusal.Refusal.TheVariants.{Refused}
 use Rattle.bean_interp.specs.declared.fill.Fill.{Fill}
 use Rattle.bean_interp.specs.declared.leg.Leg.{Leg}

@@ -1,5 +1,7 @@
 //! The postings that a completed transaction is booked as.
-ghost use Rattle.std.specs.Prelude.{◌≡◌, ◌==◌, ◌++◌, ◌∷◌, [], if◌then◌else◌, OnOk, IfOk};
+ghost use Rattle.std.specs.Prelude.{◌≡◌, ◌≤◌, ◌==◌, ◌++◌, ◌∷◌, [], if◌then◌else◌, OnOk, IfOk, length};
+ghost use Rattle.std.specs.List.{prefix_len};
+ghost use Rattle.bean_transactions.specs.Filled.{AreFrom, IsCutBehind};
 ghost use Rattle.bean_transactions.specs.Tried as spec;
 
 use crate::line::{Line, Posted};
@@ -76,18 +78,39 @@ fn push_line<'a>(
     }
 }
 
-/// The postings that lines are booked as.
+/// How many at the front are filled in at a line.
+fn reach(fills: &[Fill<'_>], line: usize) -> usize
+    ensures len { result ≡ prefix_len (λ f. f.leg == line) fills.now }
+    ensures inside { result ≤ length fills.now }
+{
+    fills.iter().take_while(|fill| fill.leg == line).count()
+}
+
+/// What is filled in at a line, at the front of what stands there and behind, and the others.
+fn cut_behind<'f, 'a>(fills: &'f [Fill<'a>], line: usize) -> (&'f [Fill<'a>], &'f [Fill<'a>])
+    requires { AreFrom line fills.now }
+    ensures { IsCutBehind line fills.now result.0.now result.1.now }
+{
+    fills.split_at(reach(fills, line))
+}
+
+/// The postings that lines are booked as. What is filled in stands in the order of its lines, so
+/// each line looks at its own alone.
 pub(crate) fn completed<'a>(
     alloc: Global,
     fills: &[Fill<'a>],
     lines: Vec<Line<'a>>,
 ) -> Result<Vec<Posted<'a>>, AllocError>
+    requires { AreFrom 0 fills.now }
     ensures { IfOk result (λ posted. posted.items ≡ spec.completed fills.now lines.entry.items) }
 {
     let mut posted = Vec::with_capacity(alloc, lines.len())?;
     let mut number = 0;
+    let (_, mut left) = fills.split_at(0);
     for line in lines {
-        push_line(&mut posted, fills, number, line)?;
+        let (here, behind) = cut_behind(left, number);
+        push_line(&mut posted, here, number, line)?;
+        left = behind;
         number += 1;
     }
     Ok(posted)

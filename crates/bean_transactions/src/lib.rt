@@ -53,7 +53,7 @@
 //! # Cost
 //!
 //! For each posting in braces, and for no other, a look-up in its account and what a reduction
-//! costs in [`bean_lots`]. One that lacks something looks through all that is filled in.
+//! costs in [`bean_lots`]; what is filled in is looked at once.
 //! [`Holdings`] keep an inventory for each account, change it where it stands, and count their
 //! additions: each sum is at most `10^20` times that count, which is below `2^40`. No contract
 //! shows how they are kept.
