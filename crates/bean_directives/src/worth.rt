@@ -10,11 +10,11 @@ ghost use Rattle.bean_directives.specs.Head.{IsBelowZero};
 
 use bean_grammar::front::{after_number, after_plus_or_minus, after_sign};
 use bean_lexer::{Sign, Token};
-use exact_numbers::ExactNumber;
+use exact_numbers::{ExactNumber, ExactProduct};
 use limits::MOST_NESTED;
 use std::alloc::{AllocError, Global};
 
-fn joined(
+fn joined_numbers(
     alloc: Global,
     is_minus: bool,
     left: &ExactNumber,
@@ -29,8 +29,23 @@ fn joined(
     }
 }
 
-fn signed(is_minus: bool, number: ExactNumber) -> ExactNumber
-    ensures { result ≡ value.signed_exactly is_minus number }
+/// The sum or the difference, which alone need products to be multiplied out.
+fn joined<'a>(
+    alloc: Global,
+    is_minus: bool,
+    left: &ExactProduct<'a>,
+    right: &ExactProduct<'a>,
+) -> Result<ExactProduct<'a>, AllocError>
+    ensures { IfOk result (λ n. n ≡ value.joined_exactly is_minus left.now right.now) }
+{
+    let left = left.number(alloc)?;
+    let right = right.number(alloc)?;
+    let joined = joined_numbers(alloc, is_minus, &left, right)?;
+    ExactProduct::of(alloc, joined)
+}
+
+fn signed<'a>(is_minus: bool, number: ExactProduct<'a>) -> ExactProduct<'a>
+    ensures { result ≡ value.signed_exactly is_minus number.entry }
 {
     if is_minus { number.opposite() } else { number }
 }
@@ -41,7 +56,7 @@ fn sum<'t, 'a>(
     alloc: Global,
     tokens: &'t [Token<'a>],
     room: usize,
-) -> Result<Option<(ExactNumber, &'t [Token<'a>])>, AllocError>
+) -> Result<Option<(ExactProduct<'a>, &'t [Token<'a>])>, AllocError>
     ensures ends { IfOk result (λ found. IfSome found
         (λ r. (rule.sum exactly room).goes_on (lexemes r.1.now) ≡ false)) }
     ensures read { IfOk result (λ found. MatchOption found
@@ -59,7 +74,7 @@ fn sum<'t, 'a>(
             return Ok(None);
         };
         let (right, more) = next;
-        value = joined(alloc, is_minus, &value, right)?;
+        value = joined(alloc, is_minus, &value, &right)?;
         rest = more;
     }
     Ok(Some((value, rest)))
@@ -70,7 +85,7 @@ fn product<'t, 'a>(
     alloc: Global,
     tokens: &'t [Token<'a>],
     room: usize,
-) -> Result<Option<(ExactNumber, &'t [Token<'a>])>, AllocError>
+) -> Result<Option<(ExactProduct<'a>, &'t [Token<'a>])>, AllocError>
     ensures ends { IfOk result (λ found. IfSome found
         (λ r. begins_with_sign Star (lexemes r.1.now) ≡ false)) }
     ensures read { IfOk result (λ found. MatchOption found
@@ -88,7 +103,7 @@ fn product<'t, 'a>(
             return Ok(None);
         };
         let (right, more) = next;
-        value = value.times(alloc, &right)?;
+        value = value.times(right)?;
         rest = more;
     }
     Ok(Some((value, rest)))
@@ -99,7 +114,7 @@ fn factor<'t, 'a>(
     alloc: Global,
     tokens: &'t [Token<'a>],
     room: usize,
-) -> Result<Option<(ExactNumber, &'t [Token<'a>])>, AllocError>
+) -> Result<Option<(ExactProduct<'a>, &'t [Token<'a>])>, AllocError>
     ensures read { IfOk result (λ found. MatchOption found
         (HasNone (rule.factor exactly room) (lexemes tokens.now))
         (λ r. Reads (rule.factor exactly room) (lexemes tokens.now) r.0 (lexemes r.1.now))) }
@@ -133,7 +148,7 @@ fn factor<'t, 'a>(
         return Ok(None);
     };
     let (written, rest) = numeral;
-    Ok(Some((ExactNumber::written(alloc, written)?, rest)))
+    Ok(Some((ExactProduct::written(alloc, written)?, rest)))
 }
 
 /// Whether the expression at the front is worth less than 0, in range or not.
