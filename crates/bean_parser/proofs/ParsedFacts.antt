@@ -68,11 +68,11 @@ text_ends text reader g parsed p at come =
 pub come_to :
     (os : List Outcome) (g : Gathered) (ds : List directives.Directive) (ss : List settings.Setting)
     (fs all : List faults.Fault) → IsGathered os g
-    → ds ≡ with_pushes g.bounds.items g.directives.items
+    → ds ≡ with_pushes [] g.bounds.items g.directives.items
     → ss ≡ g.settings.items → all ≡ g.faults.items ++ unmatched [] g.bounds.items → AreByLine all fs
     → ComeTo os record { directives = ds; settings = ss; faults = fs }
 come_to os g ds ss fs all is given same added by_line = record {
-  directives = given ∙ (λ i. with_pushes (is.bounds i) (is.directives i));
+  directives = given ∙ (λ i. with_pushes [] (is.bounds i) (is.directives i));
   settings = same ∙ is.settings;
   faults = subst (λ x. AreByLine x fs) (added ∙ (λ i. is.faults i ++ unmatched [] (is.bounds i)))
       by_line;

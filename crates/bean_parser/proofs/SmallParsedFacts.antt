@@ -46,7 +46,7 @@ parsed_small text p short h =
     subst (λ n. AllByRecursion (IsWithin (sizes os) n) (flat_map directives_in os))
     (let e : length bounds ≡ length bounds + 0 = omega arith in e) own in
     let done =
-    pushes_small (sizes os) 0 bounds (flat_map directives_in os) (all_bounds_short 0 os given.0)
+    pushes_small (sizes os) 0 [] bounds (flat_map directives_in os) tt (all_bounds_short 0 os given.0)
     ready in
     subst (AllByRecursion IsSmallDirective) (sym h.4.directives)
-    (whole_small (sizes os) (with_pushes bounds (flat_map directives_in os)) size done)
+    (whole_small (sizes os) (with_pushes [] bounds (flat_map directives_in os)) size done)

@@ -1,6 +1,8 @@
 -- What is pushed leaves directives small, and each push gives a directive one tag at most.
-use Rattle.std.proofs.Common.{ℕ, suc, ◌+◌, ◌≤◌, Bool, true, false, cond, ◌&&◌, nat_le, nat_lt, List}
-use Rattle.std.proofs.Common.{[], ◌∷◌, ◌++◌, length, Option, Some, None, arith, length-append}
+use Rattle.std.proofs.Common.{ℕ, zero, suc, ◌+◌, ◌-◌, ◌≤◌, Bool, true, false, cond, ◌&&◌, nat_le}
+use Rattle.std.proofs.Common.{nat_lt, List, [], ◌∷◌, ◌++◌, length, take, Option, Some, None, IfSome}
+use Rattle.std.proofs.Common.{arith, length-append}
+use Rattle.std.specs.Prelude.{slice_get}
 use Rattle.std.specs.List.{AllByRecursion, flat_map}
 use Rattle.bean_grammar.specs.declared.mark.Mark.TheVariants as mark
 use Rattle.bean_grammar.specs.declared.metadata.MetaEntry.{MetaEntry}
@@ -11,11 +13,13 @@ use Rattle.bean_directives.specs.declared.undated.Bound.{Bound}
 use Rattle.bean_directives.specs.declared.undated.Bound.TheVariants.{Push, Pop}
 use Rattle.bean_directives.specs.declared.undated.Pushed.{Pushed}
 use Rattle.bean_directives.specs.declared.undated.Pushed.TheVariants as pushed
+use Rattle.bean_directives.specs.declared.undated.PushName.{PushName}
 use Rattle.bean_directives.specs.declared.undated.UndatedKind.{UndatedKind}
 use Rattle.bean_directives.specs.declared.undated.UndatedKind.TheVariants as undated
 use Rattle.bean_parser.specs.Parsed.{directives_in, bounds_of, all_bounds}
 use Rattle.bean_parser.specs.Scope.{with_tag, entries_with, with_pushed, given_between, given_up_to}
-use Rattle.bean_parser.specs.Scope.{given_by, with_pushes, pop_of, name_of}
+use Rattle.bean_parser.specs.Scope.{given_behind, with_pushes, name_in, name_of, same_name, latest}
+use Rattle.bean_parser.specs.Scope.{open_behind, open_pushes, reach_of}
 use Rattle.bean_parser.specs.declared.block.Outcome.{Outcome}
 use Rattle.bean_parser.specs.declared.block.Outcome.TheVariants as outcome
 use Rattle.bean_parser.specs.declared.scope.PlacedBound.{PlacedBound}
@@ -108,34 +112,72 @@ between_small n others p from to i (d ∷ ds) s all = (
   between_small n others p from to (suc i) ds s all.1,
 )
 
-up_to_small : (n others : ℕ) (p : Pushed) (from : ℕ) (to : Option ℕ) (ds : List Directive)
-    → IsShortPushed p → AllByRecursion (IsWithin n (1 + others)) ds
+up_to_small : (n others : ℕ) (p : Option Pushed) (from : ℕ) (to : Option ℕ) (ds : List Directive)
+    → IfSome p IsShortPushed → AllByRecursion (IsWithin n (1 + others)) ds
     → AllByRecursion (IsWithin n others) (given_up_to p from to ds)
-up_to_small n others p from None ds s all =
+up_to_small n others None from to ds s all =
     loosened n (1 + others) n others ds (λ m few. omega arith) all
-up_to_small n others p from (Some to) ds s all = between_small n others p from to 0 ds s all
+up_to_small n others (Some p) from None ds s all =
+    loosened n (1 + others) n others ds (λ m few. omega arith) all
+up_to_small n others (Some p) from (Some to) ds s all = between_small n others p from to 0 ds s all
 
-given_small : (n others : ℕ) (b : PlacedBound) (bound : Bound) (behind : List PlacedBound)
-    (ds : List Directive) → IsShortBound bound → AllByRecursion (IsWithin n (1 + others)) ds
-    → AllByRecursion (IsWithin n others) (given_by b bound behind ds)
-given_small n others b (Push p) behind ds s all =
-    up_to_small n others p b.place (pop_of (name_of p) 0 behind) ds s all
-given_small n others b (Pop name) behind ds s all =
-    loosened n (1 + others) n others ds (λ m few. omega arith) all
+-- What is open is what was pushed.
 
 abbrev pub AreShortBounds : List PlacedBound → Type 0
 AreShortBounds bs = AllByRecursion (λ b. IsShortBound b.bound) bs
 
-pub pushes_small : (n others : ℕ) (bs : List PlacedBound) (ds : List Directive) → AreShortBounds bs
+abbrev pub AreShort : List Pushed → Type 0
+AreShort ps = AllByRecursion IsShortPushed ps
+
+fewer : (k : ℕ) (ps : List Pushed) → AreShort ps → AreShort (take k ps)
+fewer zero ps all = tt
+fewer (suc k) [] all = tt
+fewer (suc k) (p ∷ ps) all = (all.0, fewer k ps all.1)
+
+short_if : (b : Bool) (ps qs : List Pushed) → AreShort ps → AreShort qs → AreShort (cond b ps qs)
+short_if true ps qs s t = s
+short_if false ps qs s t = t
+
+behind_short : (name : PushName) (ps : List Pushed) (b : Bound) → AreShort ps → IsShortBound b
+    → AreShort (open_behind name ps b)
+behind_short name ps (Push p) all s =
+    short_if (same_name (name_of p) name) (ps ++ p ∷ []) ps (all_pushed IsShortPushed ps p all s) all
+behind_short name ps (Pop n) all s =
+    short_if (same_name n name) (take (length ps - 1) ps) ps (fewer (length ps - 1) ps all) all
+
+open_short : (name : PushName) (ps : List Pushed) (bs : List PlacedBound) → AreShort ps
+    → AreShortBounds bs → AreShort (open_pushes name ps bs)
+open_short name ps [] all s = all
+open_short name ps (b ∷ bs) all s =
+    open_short name (open_behind name ps b.bound) bs (behind_short name ps b.bound all s.0) s.1
+
+at_short : (ps : List Pushed) (i : ℕ) → AreShort ps → IfSome (slice_get ps i) IsShortPushed
+at_short [] i all = tt
+at_short (p ∷ ps) zero all = all.0
+at_short (p ∷ ps) (suc i) all = at_short ps i all.1
+
+given_small : (n others : ℕ) (before : List PlacedBound) (b : PlacedBound)
+    (behind : List PlacedBound) (ds : List Directive) → AreShortBounds (before ++ b ∷ [])
+    → AllByRecursion (IsWithin n (1 + others)) ds
+    → AllByRecursion (IsWithin n others) (given_behind before b behind ds)
+given_small n others before b behind ds s all =
+    let pushes = open_pushes (name_in b.bound) [] (before ++ b ∷ []) in
+    up_to_small n others (latest pushes) b.place (reach_of (name_in b.bound) behind) ds
+    (at_short pushes (length pushes - 1) (open_short (name_in b.bound) [] (before ++ b ∷ []) tt s))
+    all
+
+pub pushes_small : (n others : ℕ) (before bs : List PlacedBound) (ds : List Directive)
+    → AreShortBounds before → AreShortBounds bs
     → AllByRecursion (IsWithin n (length bs + others)) ds
-    → AllByRecursion (IsWithin n others) (with_pushes bs ds)
-pushes_small n others [] ds s all =
+    → AllByRecursion (IsWithin n others) (with_pushes before bs ds)
+pushes_small n others before [] ds s t all =
     loosened n (length {A = PlacedBound} [] + others) n others ds (λ m few. omega arith) all
-pushes_small n others (b ∷ bs) ds s all =
-    given_small n others b b.bound bs (with_pushes bs ds) s.0
-    (pushes_small n (1 + others) bs ds s.1
-    (loosened n (length (b ∷ bs) + others) n (length bs + (1 + others)) ds
-    (λ m few. omega arith) all))
+pushes_small n others before (b ∷ bs) ds s t all =
+    let so_far = all_pushed (λ b. IsShortBound b.bound) before b s t.0 in
+    pushes_small n others (before ++ b ∷ []) bs (given_behind before b bs ds) so_far t.1
+    (given_small n (length bs + others) before b bs ds so_far
+    (loosened n (length (b ∷ bs) + others) n (1 + (length bs + others)) ds (λ m few. omega arith)
+    all))
 
 -- What is pushed, and the directives before any push.
 

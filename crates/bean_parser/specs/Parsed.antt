@@ -66,7 +66,7 @@ AreByLine = IsArrangedByKey (λ f. f.place.line) nat_cmp
 
 -- what blocks come to, by what each of them gives
 pub record ComeTo (os : List Outcome) (p : Parsed) : Type 0 where
-  pub directives : p.directives ≡ with_pushes (all_bounds 0 os) (flat_map directives_in os)
+  pub directives : p.directives ≡ with_pushes [] (all_bounds 0 os) (flat_map directives_in os)
   pub settings : p.settings ≡ flat_map settings_in os
   pub faults : AreByLine (flat_map faults_in os ++ unmatched [] (all_bounds 0 os)) p.faults
 

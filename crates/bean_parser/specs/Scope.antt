@@ -1,6 +1,7 @@
--- Pushes and pops: which pop takes a push back, and what is given to the transactions between.
-use Rattle.std.specs.Prelude.{ℕ, zero, suc, ◌-◌, ◌&&◌, Bool, true, false, List, [], ◌∷◌, ◌++◌}
-use Rattle.std.specs.Prelude.{Option, Some, None, is_some, nat_le, nat_lt, if◌then◌else◌}
+-- Pushes and pops: which pushes are taken back, and what is given to the transactions between.
+use Rattle.std.specs.Prelude.{ℕ, suc, ◌-◌, ◌&&◌, Bool, true, false, List, [], ◌∷◌, ◌++◌}
+use Rattle.std.specs.Prelude.{length, take, slice_get, Option, Some, None, nat_le, nat_lt}
+use Rattle.std.specs.Prelude.{if◌then◌else◌}
 use Rattle.std.specs.Str.{bytes_eq}
 use Rattle.bean_base.specs.declared.fault.Fault as faults
 use Rattle.bean_base.specs.declared.fault.FaultKind.TheVariants.{UnmatchedPushOrPop}
@@ -29,53 +30,37 @@ same_name (names.Key k) (names.Key l) = bytes_eq k l
 same_name (names.Tag t) (names.Key l) = false
 same_name (names.Key k) (names.Tag u) = false
 
-abbrev pub one_less : ℕ → Option ℕ
-one_less zero = None
-one_less (suc n) = Some n
+-- what a bound is a bound of
+abbrev pub name_in : Bound → PushName
+name_in (Push p) = name_of p
+name_in (Pop name) = name
 
--- how many later pushes of the name are still to be taken back, or None where this is the pop of
--- the first
-abbrev pub later_behind : PushName → ℕ → Bound → Option ℕ
-later_behind name later (Push p) = Some (if same_name (name_of p) name then suc later else later)
-later_behind name later (Pop n) = if same_name n name then one_less later else Some later
+-- Of some bounds, how many pops of a name take back pushes that stand before all of them: a push
+-- of the name takes one of the pops behind it for itself.
 
-abbrev pub or_on : {A : Type 0} → Option ℕ → A → (ℕ → A) → A
-or_on None a go = a
-or_on (Some n) a go = go n
+abbrev pub pops_before : PushName → Bound → ℕ → ℕ
+pops_before name (Push p) count = if same_name (name_of p) name then count - 1 else count
+pops_before name (Pop n) count = if same_name n name then suc count else count
 
--- The place of the pop that takes a push of that name back, of the bounds behind it. Each later
--- push of the name takes a pop of its own before.
-abbrev pub pop_of : PushName → ℕ → List PlacedBound → Option ℕ
-pop_of name later [] = None
-pop_of name later (b ∷ bs) =
-    or_on (later_behind name later b.bound) (Some b.place) (λ n. pop_of name n bs)
+abbrev pub pops_left : PushName → List PlacedBound → ℕ
+pops_left name [] = 0
+pops_left name (b ∷ bs) = pops_before name b.bound (pops_left name bs)
 
--- of each bound that is a push, the place of the pop that takes it back, if one does
-abbrev pub pop_for : Bound → List PlacedBound → Option ℕ
-pop_for (Push p) behind = pop_of (name_of p) 0 behind
-pop_for (Pop n) behind = None
+-- The pushes of a name that are open behind a bound, and behind some, the latest last: a pop takes
+-- back the latest, and a pop of nothing none.
 
-abbrev pub pops_of : List PlacedBound → List (Option ℕ)
-pops_of [] = []
-pops_of (b ∷ bs) = pop_for b.bound bs ∷ pops_of bs
+abbrev pub open_behind : PushName → List Pushed → Bound → List Pushed
+open_behind name pushes (Push p) = if same_name (name_of p) name then pushes ++ p ∷ [] else pushes
+open_behind name pushes (Pop n) = if same_name n name then take (length pushes - 1) pushes else pushes
 
-abbrev pub is_popped : Pushed → List PlacedBound → Bool
-is_popped p behind = is_some (pop_of (name_of p) 0 behind)
-
--- how many pushes of the name are open behind a bound, and behind some; a pop of nothing closes
--- nothing
-abbrev pub open_behind : PushName → ℕ → Bound → ℕ
-open_behind name count (Push p) = if same_name (name_of p) name then suc count else count
-open_behind name count (Pop n) = if same_name n name then count - 1 else count
-
-abbrev pub open_pushes : PushName → ℕ → List PlacedBound → ℕ
-open_pushes name count [] = count
-open_pushes name count (b ∷ bs) = open_pushes name (open_behind name count b.bound) bs
+abbrev pub open_pushes : PushName → List Pushed → List PlacedBound → List Pushed
+open_pushes name pushes [] = pushes
+open_pushes name pushes (b ∷ bs) = open_pushes name (open_behind name pushes b.bound) bs
 
 -- a push has a pop behind it, and a pop an open push before it
 abbrev pub is_matched : List PlacedBound → Bound → List PlacedBound → Bool
-is_matched before (Push p) behind = is_popped p behind
-is_matched before (Pop n) behind = nat_lt 0 (open_pushes n 0 before)
+is_matched before (Push p) behind = nat_lt 0 (pops_left (name_of p) behind)
+is_matched before (Pop n) behind = nat_lt 0 (length (open_pushes n [] before))
 
 abbrev pub fault_unless : Bool → ℕ → List faults.Fault
 fault_unless true line = []
@@ -109,15 +94,32 @@ given_between p from to i (d ∷ ds) =
     (if nat_le from i && nat_lt i to then with_pushed p d else d)
     ∷ given_between p from to (suc i) ds
 
-abbrev pub given_up_to : Pushed → ℕ → Option ℕ → List Directive → List Directive
-given_up_to p from None ds = ds
-given_up_to p from (Some to) ds = given_between p from to 0 ds
+-- the place of the next bound of a name; 0 where there is none
+abbrev pub next_of : PushName → List PlacedBound → ℕ
+next_of name [] = 0
+next_of name (b ∷ bs) = if same_name (name_in b.bound) name then b.place else next_of name bs
 
-abbrev pub given_by : PlacedBound → Bound → List PlacedBound → List Directive → List Directive
-given_by b (Push p) behind ds = given_up_to p b.place (pop_of (name_of p) 0 behind) ds
-given_by b (Pop n) behind ds = ds
+-- up to where the latest push of a name that is open before some bounds gives: up to the next of
+-- its name, where one of them takes it back
+abbrev pub reach_of : PushName → List PlacedBound → Option ℕ
+reach_of name bs = if nat_lt 0 (pops_left name bs) then Some (next_of name bs) else None
 
--- later pushes give before earlier ones
-abbrev pub with_pushes : List PlacedBound → List Directive → List Directive
-with_pushes [] ds = ds
-with_pushes (b ∷ bs) ds = given_by b b.bound bs (with_pushes bs ds)
+abbrev pub given_up_to : Option Pushed → ℕ → Option ℕ → List Directive → List Directive
+given_up_to (Some p) from (Some to) ds = given_between p from to 0 ds
+given_up_to _ from _ ds = ds
+
+abbrev pub latest : List Pushed → Option Pushed
+latest pushes = slice_get pushes (length pushes - 1)
+
+-- From each bound up to the next of its name the latest push of the name that is open gives, if it
+-- is taken back. So of each name a transaction is given at most one.
+abbrev pub given_behind : List PlacedBound → PlacedBound → List PlacedBound → List Directive
+    → List Directive
+given_behind before b behind ds =
+    given_up_to (latest (open_pushes (name_in b.bound) [] (before ++ b ∷ []))) b.place
+    (reach_of (name_in b.bound) behind) ds
+
+abbrev pub with_pushes : List PlacedBound → List PlacedBound → List Directive → List Directive
+with_pushes before [] ds = ds
+with_pushes before (b ∷ bs) ds =
+    with_pushes (before ++ b ∷ []) bs (given_behind before b bs ds)

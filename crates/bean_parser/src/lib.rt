@@ -15,8 +15,8 @@
 //! directive entries alone. An entry belongs to the posting above it, or to the directive where no
 //! posting precedes; the first entry of a key stands.
 //!
-//! A push gives its tag or entry to the transactions up to its pop, behind their own; a later push
-//! gives before an earlier one. A pop takes back the latest push of its name.
+//! A push gives its tag or entry to the transactions up to its pop, behind their own; of one tag or
+//! key the latest push that is open gives alone. A pop takes back the latest push of its name.
 //!
 //! Names and texts are slices of the ledger's text: they cost no memory, and live as long as it
 //! does. So nothing that a text says is larger than the text, which is a law
@@ -36,8 +36,9 @@
 //!
 //! # Cost
 //!
-//! Linear in the text, but that a push looks at each directive up to its pop. It takes the memory
-//! of what it answers, of the tokens of the longest block, and of the names of pushes and pops.
+//! Linear in the text, but that each tag and key that is open looks at each directive, once however
+//! often it is pushed. It takes the memory of what it answers, of the tokens of the longest block,
+//! and of the names of pushes and pops.
 #![tactic(auto)]
 
 mod block;

@@ -1,8 +1,9 @@
-//! Which pop takes each push back, and how many pushes are open.
-ghost use Rattle.std.specs.Prelude.{◌≡◌, ◌<◌, ◌-◌, ◌^◌, ◌++◌, ◌∷◌, [], IfOk, OnOk, List};
-ghost use Rattle.std.specs.Prelude.{if◌then◌else◌};
+//! What stands behind each push and pop of the same name, and which pushes are open.
+ghost use Rattle.std.specs.Prelude.{◌≡◌, ◌<◌, ◌≤◌, ◌-◌, ◌^◌, ◌++◌, ◌∷◌, [], IfOk, OnOk, List, length};
+ghost use Rattle.std.specs.Prelude.{if◌then◌else◌, option_copied, nat_lt};
 ghost use Rattle.bean_directives.specs.declared.undated.PushName as names;
-ghost use Rattle.bean_parser.specs.Matches.{ArePopsOf, PopsOne, count_in, looked_up, places_in};
+ghost use Rattle.bean_directives.specs.declared.undated.Pushed as pushed_declared;
+ghost use Rattle.bean_parser.specs.Matches.{ahead_in, ahead_of, looked_up, open_in, reaches_of};
 ghost use Rattle.bean_parser.specs.Scope as spec;
 ghost use Rattle.bean_parser.specs.Scope.{open_behind, same_name};
 ghost use Rattle.bean_parser.specs.declared.scope.PlacedBound as placed;
@@ -19,6 +20,34 @@ fn name_of<'a>(pushed: &Pushed<'a>) -> PushName<'a>
     match pushed {
         Pushed::Tag(tag) => PushName::Tag(tag.lend()),
         Pushed::Entry(entry) => PushName::Key(entry.key.lend()),
+    }
+}
+
+fn lend_name<'a>(name: &PushName<'a>) -> PushName<'a>
+    ensures { result ≡ name.now }
+{
+    match name {
+        PushName::Tag(tag) => PushName::Tag(tag.lend()),
+        PushName::Key(key) => PushName::Key(key.lend()),
+    }
+}
+
+fn lend_pushed<'a>(pushed: &Pushed<'a>) -> Pushed<'a>
+    ensures { result ≡ pushed.now }
+{
+    match pushed {
+        Pushed::Tag(tag) => Pushed::Tag(tag.lend()),
+        Pushed::Entry(entry) => Pushed::Entry(entry.lend()),
+    }
+}
+
+/// What a bound is a bound of.
+pub(crate) fn name_in<'a>(bound: &Bound<'a>) -> PushName<'a>
+    ensures { result ≡ spec.name_in bound.now }
+{
+    match bound {
+        Bound::Push(pushed) => name_of(pushed),
+        Bound::Pop(name) => lend_name(name),
     }
 }
 
@@ -46,150 +75,168 @@ impl<'a> Name<'a> {
     }
 }
 
-/// The places of the pops that may take a push back, by name, the nearest last. Bounds are taken
-/// from the last to the first, so that a push meets the pops behind it.
-#[derive(Drop)]
-pub(crate) struct Pops<'a> {
-    by_name: IndexMap<Name<'a>, Vec<usize>>,
+/// What some bounds hold of a name.
+#[derive(Clone, Copy, Drop)]
+pub(crate) struct Ahead {
+    /// How many pops of the name take back pushes that stand before all of the bounds.
+    pops: usize,
+    /// The place of the next bound of the name; 0 where there is none.
+    next: usize,
 }
 
-impl<'a> Pops<'a> {
-    fn new(alloc: Global) -> Pops<'a>
-        ensures { ArePopsOf [] result }
+impl Ahead {
+    /// What bounds hold of the name of a bound that stands before them, with it.
+    fn with<'a>(self, bound: &PlacedBound<'a>) -> Ahead
+        requires { self.pops < 2 ^ 64 - 1 }
+        ensures { (behind : List placed.PlacedBound)
+            → self ≡ ahead_of (spec.name_in bound.now.bound) behind
+            → result ≡ ahead_of (spec.name_in bound.now.bound) (bound.now ∷ behind) }
     {
-        Pops {
+        let pops = match &bound.bound {
+            Bound::Push(_) => self.pops.saturating_sub(1),
+            Bound::Pop(_) => self.pops + 1,
+        };
+        Ahead {
+            pops,
+            next: bound.place,
+        }
+    }
+
+    /// Up to where the latest push of the name gives that is open before the bounds.
+    fn reach(self) -> Option<usize>
+        ensures { result ≡ (if nat_lt 0 self.pops then Some self.next else None) }
+    {
+        if self.pops > 0 { Some(self.next) } else { None }
+    }
+}
+
+/// What some bounds hold of each name. Bounds are taken from the last to the first, so that each
+/// meets those behind it.
+#[derive(Drop)]
+pub(crate) struct Aheads<'a> {
+    by_name: IndexMap<Name<'a>, Ahead>,
+}
+
+impl<'a> Aheads<'a> {
+    fn new(alloc: Global) -> Aheads<'a>
+        ensures { (n : names.PushName) → ahead_in result n ≡ ahead_of n [] }
+    {
+        Aheads {
             by_name: IndexMap::new(alloc),
         }
     }
 
-    fn take_out(&mut self, alloc: Global, name: &PushName<'a>) -> Vec<usize>
-        ensures taken { result.items ≡ places_in self.old name.now }
-        ensures left { (n : names.PushName) → places_in self.new n
-            ≡ (if same_name name.now n then [] else places_in self.old n) }
+    fn get(&self, name: &PushName<'a>) -> Ahead
+        ensures { result ≡ ahead_in self.now name.now }
     {
-        match self.by_name.swap_remove(&Name::of(name)) {
-            Some(places) => places,
-            None => Vec::new(alloc),
+        match self.by_name.get(&Name::of(name)) {
+            Some(ahead) => *ahead,
+            None => Ahead { pops: 0, next: 0 },
         }
     }
 
-    fn put(&mut self, name: &PushName<'a>, places: Vec<usize>) -> Result<(), AllocError>
-        ensures { OnOk result ((n : names.PushName) → places_in self.new n
-            ≡ (if same_name name.now n then places.items else places_in self.old n)) }
+    fn set(&mut self, name: &PushName<'a>, ahead: Ahead) -> Result<(), AllocError>
+        ensures { OnOk result ((n : names.PushName) → ahead_in self.new n
+            ≡ (if same_name name.now n then ahead else ahead_in self.old n)) }
     {
-        self.by_name.insert(Name::of(name), places)?;
+        self.by_name.insert(Name::of(name), ahead)?;
         Ok(())
     }
 
-    /// A pop stands before the others.
-    fn add(&mut self, alloc: Global, name: &PushName<'a>, place: usize) -> Result<(), AllocError>
-        ensures { OnOk result ((n : names.PushName) → places_in self.new n
-            ≡ (if same_name name.now n then places_in self.old n ++ place ∷ []
-            else places_in self.old n)) }
+    /// Takes the bound that stands before those that were taken. Gives up to where the latest push
+    /// of its name gives that is open behind it.
+    fn take(&mut self, bound: &PlacedBound<'a>) -> Result<Option<usize>, AllocError>
+        requires { (n : names.PushName) → (ahead_in self.old n).pops < 2 ^ 64 - 1 }
+        ensures { IfOk result (λ reach. (behind : List placed.PlacedBound)
+            → ((n : names.PushName) → ahead_in self.old n ≡ ahead_of n behind)
+            → ((n : names.PushName) → ahead_in self.new n ≡ ahead_of n (bound.now ∷ behind))
+            × (reach ≡ spec.reach_of (spec.name_in bound.now.bound) behind)) }
     {
-        let mut places = self.take_out(alloc, name);
-        places.push(place)?;
-        self.put(name, places)
-    }
-
-    /// The nearest pop of a name takes a push back.
-    fn take(&mut self, alloc: Global, name: &PushName<'a>) -> Result<Option<usize>, AllocError>
-        ensures { IfOk result (λ place. PopsOne name.now self.old self.new place) }
-    {
-        let mut places = self.take_out(alloc, name);
-        let place = places.pop();
-        if place.is_some() {
-            self.put(name, places)?;
-        }
-        Ok(place)
-    }
-
-    /// The place of the pop that takes back the push that a bound is, if one does.
-    fn pop_for(
-        &mut self,
-        alloc: Global,
-        bound: &PlacedBound<'a>,
-    ) -> Result<Option<usize>, AllocError>
-        ensures { IfOk result (λ place. (behind : List placed.PlacedBound)
-            → ArePopsOf behind self.old → ArePopsOf (bound.now ∷ behind) self.new
-            × (place ≡ spec.pop_for bound.now.bound behind)) }
-    {
-        match &bound.bound {
-            Bound::Push(pushed) => self.take(alloc, &name_of(pushed)),
-            Bound::Pop(name) => {
-                self.add(alloc, name, bound.place)?;
-                Ok(None)
-            }
-        }
+        let name = name_in(&bound.bound);
+        let ahead = self.get(&name);
+        self.set(&name, ahead.with(bound))?;
+        Ok(ahead.reach())
     }
 }
 
-/// For each bound the place of the pop that takes it back, if it is a push that one takes back.
-pub(crate) fn pops_of<'a>(
+/// Of each bound, up to where the latest push of its name gives that is open behind it.
+pub(crate) fn reaches<'a>(
     alloc: Global,
     bounds: &[PlacedBound<'a>],
 ) -> Result<Vec<Option<usize>>, AllocError>
-    ensures { IfOk result (λ pops. pops.items ≡ spec.pops_of bounds.now) }
+    ensures { IfOk result (λ found. found.items ≡ reaches_of bounds.now) }
 {
-    let mut pops = Pops::new(alloc);
+    let mut aheads = Aheads::new(alloc);
     let mut found = Vec::new(alloc);
     let mut i = bounds.len();
     while i > 0 {
         i -= 1;
-        found.push(pops.pop_for(alloc, &bounds[i])?)?;
+        found.push(aheads.take(&bounds[i])?)?;
     }
     found.reverse();
     Ok(found)
 }
 
-/// How many pushes of each name are open.
+/// The pushes of each name that are open, the latest last.
 #[derive(Drop)]
 pub(crate) struct Opens<'a> {
-    by_name: IndexMap<Name<'a>, usize>,
+    by_name: IndexMap<Name<'a>, Vec<Pushed<'a>>>,
 }
 
 impl<'a> Opens<'a> {
     pub(crate) fn new(alloc: Global) -> Opens<'a>
-        ensures { (n : names.PushName) → count_in result n ≡ 0 }
+        ensures { (n : names.PushName) → open_in result n ≡ [] }
     {
         Opens {
             by_name: IndexMap::new(alloc),
         }
     }
 
-    /// How many pushes of a name are open.
-    pub(crate) fn count(&self, name: &PushName<'a>) -> usize
-        ensures { result ≡ count_in self.now name.now }
+    /// The latest push of a name that is open.
+    pub(crate) fn latest(&self, name: &PushName<'a>) -> Option<&Pushed<'a>>
+        ensures { option_copied result ≡ spec.latest (open_in self.now name.now) }
     {
         match self.by_name.get(&Name::of(name)) {
-            Some(count) => *count,
-            None => 0,
+            Some(pushes) => pushes.as_slice().last(),
+            None => None,
         }
     }
 
-    fn set(&mut self, name: &PushName<'a>, count: usize) -> Result<(), AllocError>
-        ensures { OnOk result ((n : names.PushName) → count_in self.new n
-            ≡ (if same_name name.now n then count else count_in self.old n)) }
+    fn take_out(&mut self, alloc: Global, name: &PushName<'a>) -> Vec<Pushed<'a>>
+        ensures taken { result.items ≡ open_in self.old name.now }
+        ensures left { (n : names.PushName) → open_in self.new n
+            ≡ (if same_name name.now n then [] else open_in self.old n) }
     {
-        self.by_name.insert(Name::of(name), count)?;
+        match self.by_name.swap_remove(&Name::of(name)) {
+            Some(pushes) => pushes,
+            None => Vec::new(alloc),
+        }
+    }
+
+    fn put(&mut self, name: &PushName<'a>, pushes: Vec<Pushed<'a>>) -> Result<(), AllocError>
+        ensures { OnOk result ((n : names.PushName) → open_in self.new n
+            ≡ (if same_name name.now n then pushes.entry.items else open_in self.old n)) }
+    {
+        self.by_name.insert(Name::of(name), pushes)?;
         Ok(())
     }
 
-    /// Takes the next bound: a push opens one, and a pop closes one if any is open.
-    pub(crate) fn take(&mut self, bound: &Bound<'a>) -> Result<(), AllocError>
-        requires { (n : names.PushName) → count_in self.old n < 2 ^ 64 - 1 }
-        ensures { OnOk result ((n : names.PushName) → count_in self.new n
-            ≡ open_behind n (count_in self.old n) bound.now) }
+    /// Takes the next bound: a push opens one, and a pop closes the latest if any is open.
+    pub(crate) fn take(&mut self, alloc: Global, bound: &Bound<'a>) -> Result<(), AllocError>
+        ensures { OnOk result ((n : names.PushName) → open_in self.new n
+            ≡ open_behind n (open_in self.old n) bound.now) }
     {
         match bound {
             Bound::Push(pushed) => {
                 let name = name_of(pushed);
-                let count = self.count(&name) + 1;
-                self.set(&name, count)
+                let mut pushes = self.take_out(alloc, &name);
+                pushes.push(lend_pushed(pushed))?;
+                self.put(&name, pushes)
             }
             Bound::Pop(name) => {
-                let count = self.count(name).saturating_sub(1);
-                self.set(name, count)
+                let mut pushes = self.take_out(alloc, name);
+                pushes.pop();
+                self.put(name, pushes)
             }
         }
     }

@@ -6,7 +6,7 @@ ghost use Rattle.bean_parser.specs.declared.block.Outcome.{Outcome};
 ghost use Rattle.bean_parser.specs.declared.block.Outcome.TheVariants as outcome;
 
 use crate::block::{Outcome, fault_at, read_block};
-use crate::matches::pops_of;
+use crate::matches::reaches;
 use crate::reader::BlockReader;
 use crate::scope::{PlacedBound, add_unmatched, give_all};
 use crate::statement::Statement;
@@ -102,9 +102,9 @@ impl<'a> Gathered<'a> {
         let mut directives = self.directives;
         let mut faults = self.faults;
         let bounds = self.bounds.as_slice();
-        let pops = pops_of(alloc, bounds)?;
-        give_all(alloc, bounds, &pops, &mut directives)?;
-        add_unmatched(alloc, bounds, &pops, &mut faults)?;
+        let reaches = reaches(alloc, bounds)?;
+        give_all(alloc, bounds, &reaches, &mut directives)?;
+        add_unmatched(alloc, bounds, &reaches, &mut faults)?;
         sort_by_line(&mut faults)?;
         Ok(Parsed {
             directives: List::new(directives),

@@ -1,13 +1,14 @@
 //! Pushes and pops: what is given to the transactions between them.
-ghost use Rattle.std.specs.Prelude.{◌≡◌, ◌++◌, [], OnOk};
+ghost use Rattle.std.specs.Prelude.{◌≡◌, ◌++◌, ◌∷◌, [], OnOk, option_copied};
 ghost use Rattle.std.specs.Prelude as prelude;
 ghost use Rattle.bean_directives.specs.declared.undated.PushName as names;
-ghost use Rattle.bean_parser.specs.Matches.{count_in};
+ghost use Rattle.bean_directives.specs.declared.undated.Pushed as pushed_declared;
+ghost use Rattle.bean_parser.specs.Matches.{open_in, reaches_of};
 ghost use Rattle.bean_parser.specs.Scope as spec;
 ghost use Rattle.bean_parser.specs.declared.scope.PlacedBound as placed;
 
 use crate::block::fault_at;
-use crate::matches::Opens;
+use crate::matches::{Opens, name_in};
 use bean_base::{Fault, FaultKind, Few};
 use bean_directives::{Bound, Directive, DirectiveKind, Pushed};
 use bean_grammar::{Mark, MetaEntry};
@@ -25,15 +26,15 @@ pub struct PlacedBound<'a> {
 }
 
 /// Whether a push has its pop behind it, or a pop an open push before it.
-fn is_matched<'a>(bound: &Bound<'a>, pop: Option<usize>, opens: &Opens<'a>) -> bool
+fn is_matched<'a>(bound: &Bound<'a>, reach: Option<usize>, opens: &Opens<'a>) -> bool
     ensures { (before behind : prelude.List placed.PlacedBound)
-        → pop ≡ spec.pop_for bound.now behind
-        → ((n : names.PushName) → count_in opens.now n ≡ spec.open_pushes n 0 before)
+        → reach ≡ spec.reach_of (spec.name_in bound.now) behind
+        → ((n : names.PushName) → open_in opens.now n ≡ spec.open_pushes n [] before)
         → result ≡ spec.is_matched before bound.now behind }
 {
     match bound {
-        Bound::Push(_) => pop.is_some(),
-        Bound::Pop(name) => opens.count(name) > 0,
+        Bound::Push(_) => reach.is_some(),
+        Bound::Pop(name) => opens.latest(name).is_some(),
     }
 }
 
@@ -52,19 +53,19 @@ fn note_unless(is_matched: bool, line: usize, faults: &mut Vec<Fault>) -> Result
 pub(crate) fn add_unmatched<'a>(
     alloc: Global,
     bounds: &[PlacedBound<'a>],
-    pops: &[Option<usize>],
+    reaches: &[Option<usize>],
     faults: &mut Vec<Fault>,
 ) -> Result<(), AllocError>
-    requires { pops.now ≡ spec.pops_of bounds.now }
+    requires { reaches.now ≡ reaches_of bounds.now }
     ensures { OnOk result (faults.new.items ≡ faults.old.items ++ spec.unmatched [] bounds.now) }
 {
     let mut opens = Opens::new(alloc);
     let mut i = 0;
     while i < bounds.len() {
         let bound = &bounds[i];
-        let matched = is_matched(&bound.bound, pops[i], &opens);
+        let matched = is_matched(&bound.bound, reaches[i], &opens);
         note_unless(matched, bound.line, faults)?;
-        opens.take(&bound.bound)?;
+        opens.take(alloc, &bound.bound)?;
         i += 1;
     }
     Ok(())
@@ -136,38 +137,43 @@ fn give_between<'a>(
     Ok(())
 }
 
-/// Gives what a push gives up to its pop.
+/// Gives what is pushed, if anything is, to the transactions from one place up to another, if
+/// there is one.
 fn give_up_to<'a>(
     alloc: Global,
-    bound: &PlacedBound<'a>,
-    pop: Option<usize>,
+    pushed: Option<&Pushed<'a>>,
+    from: usize,
+    to: Option<usize>,
     directives: &mut Vec<Directive<'a>>,
 ) -> Result<(), AllocError>
-    ensures { OnOk result ((behind : prelude.List placed.PlacedBound)
-        → pop ≡ spec.pop_for bound.now.bound behind → directives.new.items
-        ≡ spec.given_by bound.now bound.now.bound behind directives.old.items) }
+    ensures { OnOk result (directives.new.items
+        ≡ spec.given_up_to (option_copied pushed.entry) from to directives.old.items) }
 {
-    match (&bound.bound, pop) {
-        (Bound::Push(pushed), Some(to)) => give_between(alloc, pushed, bound.place, to, directives),
+    match (pushed, to) {
+        (Some(pushed), Some(to)) => give_between(alloc, pushed, from, to, directives),
         (_, _) => Ok(()),
     }
 }
 
-/// Gives what each push gives, the later ones first.
+/// Gives what stands of each name, from each bound of it up to the next.
 pub(crate) fn give_all<'a>(
     alloc: Global,
     bounds: &[PlacedBound<'a>],
-    pops: &[Option<usize>],
+    reaches: &[Option<usize>],
     directives: &mut Vec<Directive<'a>>,
 ) -> Result<(), AllocError>
-    requires { pops.now ≡ spec.pops_of bounds.now }
+    requires { reaches.now ≡ reaches_of bounds.now }
     ensures { OnOk result (directives.new.items
-        ≡ spec.with_pushes bounds.now directives.old.items) }
+        ≡ spec.with_pushes [] bounds.now directives.old.items) }
 {
-    let mut i = bounds.len();
-    while i > 0 {
-        i -= 1;
-        give_up_to(alloc, &bounds[i], pops[i], directives)?;
+    let mut opens = Opens::new(alloc);
+    let mut i = 0;
+    while i < bounds.len() {
+        let bound = &bounds[i];
+        opens.take(alloc, &bound.bound)?;
+        let latest = opens.latest(&name_in(&bound.bound));
+        give_up_to(alloc, latest, bound.place, reaches[i], directives)?;
+        i += 1;
     }
     Ok(())
 }

@@ -112,10 +112,10 @@ cut_is k n fs here behind is front_is back_is h =
     let a = front_is ∙ ap (λ n. take n fs) is in
     let b = back_is ∙ ap (λ n. drop n fs) is in
     record {
-  of_line = ap (at_line k) a ∙ front k fs h;
-  of_later = λ j later. ap (at_line j) b ∙ left k fs h j later;
-  are_from = subst (AreFrom (k + 1)) (sym b) (left_from k fs h);
-}
+      of_line = ap (at_line k) a ∙ front k fs h;
+      of_later = λ j later. ap (at_line j) b ∙ left k fs h j later;
+      are_from = subst (AreFrom (k + 1)) (sym b) (left_from k fs h);
+    }
 
 -- ---- what lines are booked as
 

@@ -1,18 +1,13 @@
 use Rattle.std.proofs.Common.{◌+◌, ◌∙◌, sym, ap, drop, take, arith}
-use Rattle.std.proofs.Common.{◌++◌}
-use Rattle.bean_parser.specs.Scope.{open_behind, unmatched}
-use Rattle.bean_parser.proofs.MatchFacts.{few_pops, open_next, pop_is}
-use Rattle.bean_parser.proofs.MatchFacts.{few_open, one_unmatched}
+use Rattle.std.proofs.Common.{◌++◌, []}
+use Rattle.bean_parser.specs.Scope.{open_pushes, unmatched}
+use Rattle.bean_parser.proofs.MatchFacts.{few_reaches, one_unmatched, open_next, reach_is}
+use Rattle.bean_parser.proofs.MatchFacts.{take_next}
 use Rattle.bean_parser.proofs.scope.add_unmatched.Goals as goal
 
-pub bounds-pops-i : goal.bounds-pops-i
-bounds-pops-i c =
-    few_pops c.args.bounds.now c.args.pops.now c.loop-i.i c.requires c.loop-i-test.true
-
-pub take-requires : goal.take-requires
-take-requires c = λ n.
-    few_open c.args.bounds.now c.loop-i.i n _ c.loop-i-test.true (c.loop-i.invariant.pushes n)
-    (grind (arith, c.loop-i-test.true, c.args.bounds.now))
+pub bounds-reaches-i : goal.bounds-reaches-i
+bounds-reaches-i c =
+    few_reaches c.args.bounds.now c.args.reaches.now c.loop-i.i c.requires c.loop-i-test.true
 
 pub loop-i-preserved : goal.loop-i-preserved
 loop-i-preserved c =
@@ -22,7 +17,7 @@ loop-i-preserved c =
     let inside = c.loop-i-test.true in
     let told =
     c.is_matched-matched.ensures (take i bounds) (drop (i + 1) bounds)
-    (pop_is bounds c.args.pops.now i (i + 1) b _ c.requires (omega arith) inside
+    (reach_is bounds c.args.reaches.now i (i + 1) b _ c.requires (omega arith) inside
     c.index-bounds-i.is)
     c.loop-i.invariant.pushes in
     record {
@@ -30,9 +25,9 @@ loop-i-preserved c =
           c.in_ok-note_unless.ensures
           ∙ one_unmatched bounds i b c.is_matched-matched.result c.loop-i.faults.items _ inside
           c.index-bounds-i.is told c.loop-i.invariant.left;
-      pushes = λ n. c.in_ok-take.ensures n
-          ∙ ap (λ count. open_behind n count b.bound) (c.loop-i.invariant.pushes n)
-          ∙ ap (open_behind n _) (ap (λ x. x.bound) c.index-bounds-i.is)
-          ∙ sym (open_next n bounds i (i + 1) b (omega arith) inside);
+      pushes = λ n. open_next n (take i bounds) b _ _ (c.in_ok-take.ensures n)
+          (c.loop-i.invariant.pushes n)
+          ∙ sym (ap (open_pushes n [])
+          (take_next bounds i (i + 1) b (omega arith) inside c.index-bounds-i.is));
       inside = omega (arith, inside);
     }

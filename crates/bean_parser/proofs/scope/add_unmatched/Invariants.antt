@@ -1,6 +1,6 @@
 use Rattle.std.proofs.Common.{◌≡◌, ◌≤◌, ◌++◌, ◌-◌, [], length, take, drop}
 use Rattle.bean_directives.specs.declared.undated.PushName.{PushName}
-use Rattle.bean_parser.specs.Matches.{count_in}
+use Rattle.bean_parser.specs.Matches.{open_in}
 use Rattle.bean_parser.specs.Scope.{open_pushes, unmatched}
 use Rattle.bean_parser.proofs.scope.add_unmatched.Given as goal
 
@@ -8,7 +8,7 @@ abbrev pub invariant-loop-i : goal.invariant-loop-i
 invariant-loop-i l = record {
   left : l.faults.items ++ unmatched (take l.i l.bounds) (drop l.i l.bounds)
       ≡ l.initial.faults.items ++ unmatched [] l.bounds;
-  pushes : (n : PushName) → count_in l.opens n ≡ open_pushes n 0 (take l.i l.bounds);
+  pushes : (n : PushName) → open_in l.opens n ≡ open_pushes n [] (take l.i l.bounds);
   inside : l.i ≤ length l.bounds;
 }
 
