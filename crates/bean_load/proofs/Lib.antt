@@ -2,6 +2,7 @@ pub mod LineFacts
 pub mod OneLoading
 pub mod ReadFacts
 pub mod BooksFacts
+pub mod AskedFacts
 pub mod AskingFacts
 pub mod FolderFacts
 pub mod TopFacts

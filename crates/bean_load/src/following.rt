@@ -7,7 +7,7 @@ ghost use Rattle.bean_load.specs.Following.{Follows, Gathers, HasOneGathering};
 
 use crate::cause::LoadCause;
 use crate::gathering::{DEEPEST, Gathering, SourceAnswer};
-use crate::include::{Include, includes_of};
+use crate::include::{Include, Written, includes_of};
 use crate::texts::Texts;
 use refusals::Refusal;
 use std::alloc::Global;
@@ -27,7 +27,8 @@ fn follow_text<S: Source>(
         gathering.new result }
 {
     let file = gathering.next_file();
-    let lines = includes_of(gathering.alloc, &name, &text)?;
+    let including = name.clone()?;
+    let lines = includes_of(gathering.alloc, &including, &text)?;
     gathering.add_file(name, text)?;
     follow_lines(source, gathering, room, file, &lines)
 }
@@ -39,13 +40,14 @@ fn follow_lines<S: Source>(
     gathering: &mut Gathering,
     room: usize,
     file: usize,
-    lines: &[Include],
+    lines: &[Written<'_>],
 ) -> Result<(), Refusal<LoadCause>>
     ensures { Follows S.Source source.old source.new
         (LinesCome room file lines.now gathering.old) gathering.new result }
 {
     for line in lines {
-        follow_line(source, gathering, room, file, line)?;
+        let include = line.include(gathering.alloc)?;
+        follow_line(source, gathering, room, file, &include)?;
     }
     Ok(())
 }

@@ -1,5 +1,5 @@
 //! What is known while texts are gathered.
-ghost use Rattle.std.specs.Prelude.{◌≡◌, ◌++◌, [], ◌∷◌, length, map, OnOk, OnErr};
+ghost use Rattle.std.specs.Prelude.{◌≡◌, ◌++◌, [], ◌∷◌, false, length, map, OnOk, OnErr};
 ghost use Rattle.std.specs.String.{string_bytes};
 ghost use Rattle.bean_load.specs.Asking.{AddsBytes, Asks, IsTextOf};
 ghost use Rattle.bean_load.specs.Gathered as spec;
@@ -8,6 +8,7 @@ ghost use Rattle.bean_load.specs.Small.{AreLimited};
 use crate::cause::LoadCause;
 use crate::texts::{File, Part, Texts};
 use bean_base::{Fault, FaultKind, Place};
+use indexmap::IndexSet;
 use limits::LARGEST_TEXT;
 use refusals::Refusal;
 use std::alloc::{AllocError, Global};
@@ -36,7 +37,7 @@ pub enum SourceAnswer {
 #[derive(Drop)]
 pub struct Gathering {
     pub alloc: Global,
-    asked: Vec<String>,
+    asked: IndexSet<String>,
     read: usize,
     files: Vec<File>,
     parts: Vec<Part>,
@@ -51,7 +52,7 @@ impl Model for Gathering {
     ghost Value = { spec.Gathered };
 
     ghost view = { λ g. record {
-      asked = map string_bytes g.asked.items;
+      asked = map string_bytes g.asked.keys;
       read = g.read;
       files = g.files.items;
       parts = g.parts.items;
@@ -69,24 +70,13 @@ fn text_of(bytes: Vec<u8>) -> SourceAnswer
     }
 }
 
-fn is_among(names: &[String], name: &str) -> bool
-    ensures { result ≡ spec.is_among name.now (map string_bytes names.now) }
-{
-    for known in names {
-        if known.as_str() == name {
-            return true;
-        }
-    }
-    false
-}
-
 impl Gathering {
     pub fn new(alloc: Global) -> Gathering
         ensures { result ≡ spec.nothing }
     {
         Gathering {
             alloc,
-            asked: Vec::new(alloc),
+            asked: IndexSet::new(alloc),
             read: 0,
             files: Vec::new(alloc),
             parts: Vec::new(alloc),
@@ -105,7 +95,7 @@ impl Gathering {
     pub fn was_asked(&self, name: &str) -> bool
         ensures { result ≡ spec.was_asked name.now self.now }
     {
-        is_among(&self.asked, name)
+        self.asked.contains(name)
     }
 
     /// Whether no text may stand deeper, or no name more may be asked for.
@@ -124,10 +114,11 @@ impl Gathering {
 
     /// Adds a name that is asked for.
     fn add_name(&mut self, name: &str) -> Result<(), AllocError>
+        requires { spec.was_asked name.now self.old ≡ false }
         ensures { OnOk result (self.new ≡ spec.with_asked name.now self.old) }
     {
         let name = String::from_str(self.alloc, name)?;
-        self.asked.push(name)?;
+        self.asked.insert(name)?;
         Ok(())
     }
 
@@ -142,12 +133,13 @@ impl Gathering {
         Ok(())
     }
 
-    /// Asks the source for a text, which counts its name and its bytes.
+    /// Asks the source for a text that it wasn't asked for, which counts its name and its bytes.
     pub fn ask<S: Source>(
         &mut self,
         source: &mut S,
         name: &str,
     ) -> Result<SourceAnswer, Refusal<LoadCause>>
+        requires { spec.was_asked name.now self.old ≡ false }
         ensures { Asks S.Source source.old source.new name.now self.old self.new result }
     {
         self.add_name(name)?;

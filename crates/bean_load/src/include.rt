@@ -5,7 +5,6 @@ ghost use Rattle.std.specs.String.{string_bytes};
 ghost use Rattle.bean_base.specs.Character.{slash};
 ghost use Rattle.bean_load.specs.Include.{AreIncludes, folder, include_of, joined};
 
-use bean_base::Text;
 use bean_parser::IncludeLine;
 use bean_parser::includes::include_lines;
 use std::alloc::{AllocError, Global};
@@ -27,6 +26,27 @@ impl Model for Include {
     ghost Value = { spec.Include };
 
     ghost view = { λ i. record { line = i.line; name = string_bytes i.name } };
+}
+
+/// An include line as it is written in a text of the name `including`. It asks for the joined name,
+/// which is made when it is wanted: all of a text's would take as much as its folder is long, each.
+#[derive(Drop)]
+pub struct Written<'n> {
+    line: usize,
+    including: &'n str,
+    name: String,
+}
+
+impl<'n> Model for Written<'n> {
+    ghost use Rattle.std.specs.String.{string_bytes};
+    ghost use Rattle.bean_load.specs.Include as spec;
+
+    ghost Value = { spec.Include };
+
+    ghost view = { λ w. record {
+      line = w.line;
+      name = spec.joined w.including.now (string_bytes w.name);
+    } };
 }
 
 /// What stands before the first slash, and behind it.
@@ -60,41 +80,68 @@ fn add_folder(name: &str, out: &mut String) -> Result<(), AllocError>
     Ok(())
 }
 
-/// The name that a text of the name `including` asks for by `written`.
-fn joined(alloc: Global, including: &str, written: &Text<'_>) -> Result<String, AllocError>
-    ensures { IfOk result (λ name. string_bytes name ≡ joined including.now written.now) }
+/// The name that a text of the name `including` asks for by `name`.
+fn joined(alloc: Global, including: &str, name: &str) -> Result<String, AllocError>
+    ensures { IfOk result (λ found. string_bytes found ≡ joined including.now name.now) }
 {
-    let mut name = String::new(alloc);
-    written.add_to(&mut name)?;
-    if name.starts_with('/') {
-        return Ok(name);
-    }
     let mut joined = String::new(alloc);
-    add_folder(including, &mut joined)?;
-    joined.push_str(&name)?;
+    if !name.starts_with('/') {
+        add_folder(including, &mut joined)?;
+    }
+    joined.push_str(name)?;
     Ok(joined)
 }
 
+impl<'n> Written<'n> {
+    /// An include line of a text of the name `including`.
+    fn new(
+        alloc: Global,
+        including: &'n str,
+        include: &IncludeLine<'_>,
+    ) -> Result<Written<'n>, AllocError>
+        ensures { IfOk result (λ w. w ≡ include_of including.now include.now) }
+    {
+        let mut name = String::new(alloc);
+        include.name.add_to(&mut name)?;
+        Ok(Written {
+            line: include.line,
+            including,
+            name,
+        })
+    }
+
+    /// The line, with the name that it asks for.
+    pub fn include(&self, alloc: Global) -> Result<Include, AllocError>
+        ensures { IfOk result (λ i. i ≡ self.now) }
+    {
+        Ok(Include {
+            line: self.line,
+            name: joined(alloc, self.including, &self.name)?,
+        })
+    }
+}
+
 /// What the include lines of a text of that name ask for.
-fn asked_by(
+fn asked_by<'n>(
     alloc: Global,
-    including: &str,
+    including: &'n str,
     lines: &[IncludeLine<'_>],
-) -> Result<Vec<Include>, AllocError>
+) -> Result<Vec<Written<'n>>, AllocError>
     ensures { IfOk result (λ found. found.items ≡ map (include_of including.now) lines.now) }
 {
     let mut found = Vec::new(alloc);
     for line in lines {
-        found.push(Include {
-            line: line.line,
-            name: joined(alloc, including, &line.name)?,
-        })?;
+        found.push(Written::new(alloc, including, line)?)?;
     }
     Ok(found)
 }
 
 /// The include lines of a text of that name, in order.
-pub fn includes_of(alloc: Global, name: &str, text: &str) -> Result<Vec<Include>, AllocError>
+pub fn includes_of<'n>(
+    alloc: Global,
+    name: &'n str,
+    text: &str,
+) -> Result<Vec<Written<'n>>, AllocError>
     ensures { IfOk result (λ found. AreIncludes name.now text.now found.items) }
 {
     let lines = include_lines(alloc, text)?;

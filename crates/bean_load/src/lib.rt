@@ -34,8 +34,8 @@
 //! # Cost
 //!
 //! Each text is searched for lines that begin with the word `include`; where there are some, its
-//! tokens are read once to find its include lines. It is parsed once to be loaded. An include line
-//! looks at the names that were asked, of which there are at most 1,000. The directives are moved
+//! tokens are read once to find its include lines. It is parsed once to be loaded. The name of an
+//! include line is made when the line is met, and looked up by its hash. The directives are moved
 //! once and sorted, which takes memory for half of them.
 #![tactic(auto)]
 

@@ -145,6 +145,13 @@ follow_lines-loop-line-init g t c =
     begins g.S.Source c.args.source.now c.args.room c.args.file c.args.lines.now
     c.args.gathering.now
 
+pub follow_lines-returns-in_err-include : goal.follow_lines-returns-in_err-include
+follow_lines-returns-in_err-include g t c =
+    let so_far = c.loop-line.invariant in
+    lacking g.S.Source c.args.source.now c.loop-line.source so_far.0
+    (LinesCome c.args.room c.args.file c.args.lines.now c.args.gathering.now) c.loop-line.gathering
+    c.from_residual.result so_far.1 c.from_residual.ensures.1
+
 pub follow_lines-returns-in_err-follow_line : goal.follow_lines-returns-in_err-follow_line
 follow_lines-returns-in_err-follow_line g t c =
     let s = g.S.Source in
@@ -161,11 +168,13 @@ follow_lines-returns-in_err-follow_line g t c =
     let fault = c.in_err-follow_line.field-0.0 in
     let last = c.follow_line.new.gathering in
     failing s a c.follow_line.new.source (LinesCome c.args.room c.args.file lines before) last last
-    fault c.from_residual.result
+    fault c.from_residual-in_err-follow_line.result
     (line_failed s a b c.follow_line.new.source c.args.room c.args.file lines before
     c.loop-line.gathering last last c.line-item.result left fault so_far
-    c.in_err-follow_line.ensures)
-    c.from_residual.ensures.1
+    (subst (λ i. Follows {T =
+    Unit} s b c.follow_line.new.source (LineComes c.args.room c.args.file i c.loop-line.gathering)
+    last (Err fault)) c.in_ok-include.ensures c.in_err-follow_line.ensures))
+    c.from_residual-in_err-follow_line.ensures.1
 
 pub follow_lines-loop-line-preserved : goal.follow_lines-loop-line-preserved
 follow_lines-loop-line-preserved g t c =
@@ -180,9 +189,12 @@ follow_lines-loop-line-preserved g t c =
     let so_far =
     subst (λ ls. Continues s a b c.args.room c.args.file lines before ls c.loop-line.gathering)
     next c.loop-line.invariant in
+    let last = c.follow_line.new.gathering in
     goes_on s a b c.follow_line.new.source c.args.room c.args.file lines before
-    c.loop-line.gathering c.follow_line.new.gathering c.line-item.result left so_far
-    c.in_ok-follow_line.ensures
+    c.loop-line.gathering last c.line-item.result left so_far
+    (subst (λ i. Follows {T =
+    Unit} s b c.follow_line.new.source (LineComes c.args.room c.args.file i c.loop-line.gathering)
+    last (Ok tt)) c.in_ok-include.ensures c.in_ok-follow_line.ensures)
 
 pub follow_lines-returns : goal.follow_lines-returns
 follow_lines-returns g t c =
@@ -195,12 +207,19 @@ follow_lines-returns g t c =
     (subst (λ ls. Continues s a c.loop-line.source c.args.room c.args.file lines before ls
     c.loop-line.gathering) none c.loop-line.invariant)
 
-pub follow_text-returns-in_err-lines : goal.follow_text-returns-in_err-lines
-follow_text-returns-in_err-lines g t c =
+pub follow_text-returns-in_err-including : goal.follow_text-returns-in_err-including
+follow_text-returns-in_err-including g t c =
     lacking g.S.Source c.args.source.now c.args.source.now []
     (TextComes c.args.room (string_bytes c.args.name) (string_bytes c.args.text)
     c.args.gathering.now) c.args.gathering.now c.from_residual.result
     (gave_none g.S.Source c.args.source.now) c.from_residual.ensures.1
+
+pub follow_text-returns-in_err-lines : goal.follow_text-returns-in_err-lines
+follow_text-returns-in_err-lines g t c =
+    lacking g.S.Source c.args.source.now c.args.source.now []
+    (TextComes c.args.room (string_bytes c.args.name) (string_bytes c.args.text)
+    c.args.gathering.now) c.args.gathering.now c.from_residual-in_err-lines.result
+    (gave_none g.S.Source c.args.source.now) c.from_residual-in_err-lines.ensures.1
 
 pub follow_text-returns-in_err-add_file : goal.follow_text-returns-in_err-add_file
 follow_text-returns-in_err-add_file g t c =
