@@ -32,8 +32,10 @@ returns-in_err-file g c =
 pub invariant_of-answer_about : goal.invariant_of-answer_about
 invariant_of-answer_about g c =
     let is = c.in_ok-file.ensures in
-    subst (HasBounds widest) (sym c.deref.ensures.value)
-    (has_bounds widest is.0 c.in_ok-file.file.items is.2)
+    record {
+      by_widest = subst (HasBounds widest) (sym c.deref.ensures.value)
+          (has_bounds widest is.0 c.in_ok-file.file.items is.2);
+    }
 
 pub returns : goal.returns
 returns g c =
