@@ -1,5 +1,5 @@
 -- What becomes of each of some files.
-use Rattle.std.proofs.Common.{◌≡◌, ℕ, suc, List, [], ◌∷◌, length, refl, ap, ◌∙◌, sym}
+use Rattle.std.proofs.Common.{◌≡◌, ℕ, suc, List, [], ◌∷◌, length, refl, ap, ◌∙◌}
 use Rattle.batch_tables.specs.Fates.{AreFates, AreFatesOf, AreFilesFor}
 use Rattle.batch_tables.specs.declared.tabulating.Fate.{Fate}
 use Rattle.posting_table.specs.Ledger.{Ledger}

@@ -1,6 +1,6 @@
 -- The bounds that words give are bounds, and the steps at least one.
-use Rattle.std.proofs.Common.{◌≡◌, ℕ, ◌≤◌, Bool, true, false, List, [], ◌∷◌, Option, Some, None, refl, sym, subst}
-use Rattle.std.proofs.Common.{◌∙◌, arith}
+use Rattle.std.proofs.Common.{◌≡◌, ℕ, ◌≤◌, Bool, true, false, List, [], ◌∷◌, Option, Some, None, refl, subst}
+use Rattle.std.proofs.Common.{arith}
 use Rattle.std.specs.Prelude.{◌^◌, ◌-◌, codes, if◌then◌else◌}
 use Rattle.std.specs.Option.{option_and_then, option_map}
 use Rattle.std.specs.Str.Parse.{digits_value, without_leading_plus}
@@ -8,7 +8,6 @@ use Rattle.std.proofs.lemmas.Bool.{leb-true}
 use Rattle.clap.specs.Faults.{fault_of}
 use Rattle.clap.specs.Kinds.{Kinds}
 use Rattle.clap.specs.Simple.{subcommand_of}
-use Rattle.clap.specs.Values.{Accepts}
 use Rattle.clap.specs.ValueTests.{is_unsigned_in}
 use Rattle.clap.specs.Walk.{Row, Text, all_of, first_of}
 use Rattle.clap.specs.declared.builder.value_parser.ValueParser.TheVariants as vp
@@ -21,7 +20,7 @@ use Rattle.bq.specs.Batch as several
 use Rattle.bq.specs.Batch.{steps_in}
 use Rattle.bq.specs.Check.{check}
 use Rattle.bq.specs.Commands.{asked_by, named, program, request_by, request_in, request_without}
-use Rattle.bq.specs.Compile.{Words, bound_in, bound_of, bounds_in, bounds_of, number_in, words_in}
+use Rattle.bq.specs.Compile.{Words, bound_in, bound_of, bounds_in, bounds_of, number_in}
 use Rattle.bq.specs.Compile.{words_of}
 use Rattle.bq.specs.List.{list}
 use Rattle.bq.specs.Query.{query}

@@ -1,31 +1,27 @@
 -- One end is due to a command, stage by stage.
-use Rattle.std.proofs.Common.{◌≡◌, inl, inr, ℕ, ◌<◌, ◌≤◌, List, [], ◌∷◌, length, true, Result, Ok, Err}
+use Rattle.std.proofs.Common.{◌≡◌, inl, inr, ℕ, List, [], ◌∷◌, length, true, Result, Ok, Err}
 use Rattle.std.proofs.Common.{refl, sym, ap, ◌∙◌, subst, arith}
 use Rattle.bean_book.specs.OneBook.{AreAlike as SameBooks}
 use Rattle.bean_book.specs.declared.booked.Booked.{Booked}
 use Rattle.bean_load.proofs.OneGathering.{one_gathering}
-use Rattle.bean_load.specs.Following.{IsGathered}
 use Rattle.bean_load.specs.Texts.{Texts}
 use Rattle.bean_load.specs.declared.cause.LoadCause.{LoadCause}
 use Rattle.bean_load.specs.declared.cause.LoadCause.TheVariants.{Unreadable, TooLarge, NotUtf8}
 use Rattle.bql_parser.specs.Asked.{Asked}
 use Rattle.clap.specs.Walk.{Text}
 use Rattle.limits.specs.declared.bounds.Bounds.{Bounds}
-use Rattle.limits.specs.declared.counts.TheConstants.{LARGEST_TEXT}
 use Rattle.query_code.specs.declared.program.Parts.{Parts}
 use Rattle.query_files.proofs.FileFacts.{one_cause, one_program, refused_for_pattern}
 use Rattle.query_files.proofs.TextFacts as texts
 use Rattle.query_files.proofs.TextFacts.{one_query, one_refusal}
 use Rattle.query_files.specs.declared.cause.TextCause.TheVariants as text
 use Rattle.query_verifier.specs.declared.cause.VerifierCause.TheVariants as verifier
-use Rattle.refusals.specs.declared.refusal.Refusal as refusals
 use Rattle.refusals.specs.declared.refusal.Refusal.TheVariants as refusal
 use Rattle.stores.specs.Reading.{Reading}
 use Rattle.stores.specs.declared.source.SourceFault.{SourceFault}
 use Rattle.stores.specs.declared.source.SourceFault.TheVariants.{Failed}
 use Rattle.bq.specs.Asking.{about_program_of}
-use Rattle.bq.specs.Booking.{IsBookOf}
-use Rattle.bq.specs.Due.{AreAlike, AreLike, Due, End, IsLike, IsOneEnd, at_once, is_of_pattern}
+use Rattle.bq.specs.Due.{AreAlike, Due, End, IsLike, IsOneEnd, at_once, is_of_pattern}
 use Rattle.bq.specs.Files.{FileComes, FileIs, about_file}
 use Rattle.bq.specs.Ledgers.{about_book, about_ledger}
 use Rattle.bq.specs.Verified.{about_program}

@@ -1,7 +1,7 @@
 -- Numbers from 1 to the most.
-use Rattle.std.proofs.Common.{◌≡◌, ℕ, ◌<◌, ◌≤◌, Bool, true, false, List, Some, None, refl, sym, ap, ◌∙◌, arith}
+use Rattle.std.proofs.Common.{◌≡◌, ℕ, ◌<◌, ◌≤◌, Bool, true, false, List, Some, None, refl, ap, ◌∙◌, arith}
 use Rattle.std.specs.Str.Parse.{IsNumeral, digits_value, without_leading_plus}
-use Rattle.std.specs.Prelude.{◌^◌, if◌then◌else◌, Option}
+use Rattle.std.specs.Prelude.{◌^◌, if◌then◌else◌}
 use Rattle.clap.specs.Values.{Accepts}
 use Rattle.clap.specs.ValueTests.{is_unsigned_in}
 use Rattle.clap.specs.declared.builder.value_parser.ValueParser.TheVariants as vp

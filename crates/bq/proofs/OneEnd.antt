@@ -22,7 +22,6 @@ use Rattle.posting_table.specs.Decimals.{decimals_of}
 use Rattle.posting_table.specs.Ledger.{Ledger}
 use Rattle.posting_table.specs.Rows.{row_of, rows_of}
 use Rattle.query_code.specs.QueryFile.{IsFile, decoded}
-use Rattle.query_code.specs.Upgrade.{upgraded}
 use Rattle.query_code.specs.declared.program.Parts.{Parts}
 use Rattle.limits.specs.declared.bounds.Bounds.{Bounds}
 use Rattle.query_rows.proofs.FinalRowsFacts.{are_one}
@@ -38,7 +37,6 @@ use Rattle.bq.specs.Compile.{Compiled}
 use Rattle.bq.specs.Due as ends
 use Rattle.bq.specs.Due.{AreAlike, Due, End, IsOneEnd, at_once, is_lacking}
 use Rattle.bq.specs.List.{Listed, Lists, headers, shown_row, table_of}
-use Rattle.bq.specs.Commands.{due}
 use Rattle.bq.specs.Ledgers.{about_book, about_ledger}
 use Rattle.bq.specs.Query.{Answered}
 use Rattle.bq.specs.Ran.{Ran}

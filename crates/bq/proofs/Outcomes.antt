@@ -1,5 +1,5 @@
 -- From the stages of a command to what it comes to, and from that to what a run does.
-use Rattle.std.proofs.Common.{◌≡◌, inl, inr, ℕ, List, [], ◌++◌, length, Option, Some, None, Result, Ok, Err}
+use Rattle.std.proofs.Common.{◌≡◌, inl, inr, ℕ, List, [], ◌++◌, Some, Result, Ok, Err}
 use Rattle.std.proofs.Common.{refl, sym, ap, ◌∙◌, subst, false, true}
 use Rattle.std.proofs.lemmas.Bool.{false≢true}
 use Rattle.std.specs.Result.{IsErrAnd}
@@ -7,7 +7,6 @@ use Rattle.bean_load.specs.Following.{Gathers, IsGathered}
 use Rattle.bean_load.specs.Texts.{Texts}
 use Rattle.bean_load.specs.declared.cause.LoadCause.{LoadCause}
 use Rattle.bean_book.specs.declared.booked.Booked.{Booked}
-use Rattle.bean_base.specs.declared.fault.Fault.{Fault}
 use Rattle.bean_replay.specs.declared.cause.BookCause.{BookCause}
 use Rattle.bean_replay.specs.declared.cause.BookCause.TheVariants as books
 use Rattle.clap.specs.Walk.{Text}
@@ -17,11 +16,9 @@ use Rattle.stores.proofs.GaveFacts.{gave_none}
 use Rattle.stores.specs.Reading.{Reading}
 use Rattle.stores.specs.Source.{Gave}
 use Rattle.stores.specs.declared.source.Source.{Ghosts as SourceOf}
-use Rattle.stores.specs.declared.source.SourceFault.{SourceFault}
-use Rattle.stores.specs.declared.source.SourceFault.TheVariants as store
-use Rattle.bq.specs.Booking.{Books, FindsFaults, HasTooMany, IsBookOf}
+use Rattle.bq.specs.Booking.{Books, FindsFaults}
 use Rattle.bq.specs.Commands.{due, due_to, request_in}
-use Rattle.bq.specs.Due.{AreLike, ComesTo, Due, End, at_once, is_of_pattern}
+use Rattle.bq.specs.Due.{ComesTo, Due, End, is_of_pattern}
 use Rattle.bq.specs.Files.{FileComes, ReadsFile, about_file}
 use Rattle.bq.specs.Ledgers.{about_book, about_ledger}
 use Rattle.bq.specs.Named.{AskFor}

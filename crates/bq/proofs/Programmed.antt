@@ -1,5 +1,5 @@
 -- From the file of a query's program to what a command comes to.
-use Rattle.std.proofs.Common.{◌≡◌, inl, inr, ℕ, List, [], false, true, Result, Ok, Err, refl, sym, ap, subst, ◌∙◌}
+use Rattle.std.proofs.Common.{◌≡◌, inl, inr, ℕ, List, [], true, Result, Ok, Err, refl, sym, ap, subst, ◌∙◌}
 use Rattle.std.proofs.lemmas.Bool.{false≢true}
 use Rattle.bean_book.specs.declared.booked.Booked.{Booked}
 use Rattle.bean_load.specs.Texts.{Texts}
@@ -9,7 +9,6 @@ use Rattle.clap.specs.Walk.{Text}
 use Rattle.limits.specs.declared.bounds.Bounds.{Bounds}
 use Rattle.posting_table.specs.Ledger.{Ledger}
 use Rattle.posting_table.specs.Rows.{rows_of}
-use Rattle.query_code.specs.QueryFile.{IsFile}
 use Rattle.query_code.specs.declared.program.Parts.{Parts}
 use Rattle.query_columns.specs.ColumnShape.{widest}
 use Rattle.query_files.proofs.FileFacts.{one_program, same_program}

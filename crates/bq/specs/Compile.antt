@@ -3,7 +3,7 @@ use Rattle.std.specs.Prelude.{◌≡◌, ℕ, [], ◌∷◌, codes, List, Option
 use Rattle.std.specs.Option.{option_and_then, option_map}
 use Rattle.std.specs.Str.Parse.{digits_value, without_leading_plus}
 use Rattle.bql_parser.specs.Asked.{Asked}
-use Rattle.clap.specs.Simple.{App, new_rule, with_rule}
+use Rattle.clap.specs.Simple.{new_rule, with_rule}
 use Rattle.clap.specs.ValueTests.{is_unsigned_in}
 use Rattle.clap.specs.Walk.{Row, Rule, Text, first_of}
 use Rattle.limits.specs.declared.bounds.Bounds.{Bounds}

@@ -11,7 +11,7 @@ use Rattle.stores.specs.Source.{Gave}
 use Rattle.stores.specs.declared.source.Source.{Ghosts as SourceOf}
 use Rattle.stores.specs.declared.source.SourceFault.{SourceFault}
 use Rattle.stores.specs.declared.source.SourceFault.TheVariants.{Failed}
-use Rattle.bq.specs.Due.{Due, End}
+use Rattle.bq.specs.Due.{Due}
 use Rattle.bq.specs.declared.refusal.Cause.TheVariants.{Load}
 
 -- what the store answers comes to the bytes of a file, or to L1 where it failed, L3 where they are

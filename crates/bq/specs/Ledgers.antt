@@ -1,12 +1,11 @@
 -- What is due about a ledger: why nothing is said of it, or what its texts or its book come to.
-use Rattle.std.specs.Prelude.{◌≡◌, ◌⊎◌, List, Ok, Err}
+use Rattle.std.specs.Prelude.{◌≡◌, ◌⊎◌, Ok, Err}
 use Rattle.bean_book.specs.declared.booked.Booked.{Booked}
 use Rattle.bean_load.specs.Following.{IsGathered}
 use Rattle.bean_load.specs.Texts.{Texts}
 use Rattle.bean_load.specs.declared.cause.LoadCause.{LoadCause}
 use Rattle.clap.specs.Walk.{Text}
 use Rattle.refusals.specs.declared.refusal.Refusal.TheVariants as refusal
-use Rattle.stores.specs.Reading.{Reading}
 use Rattle.bq.specs.Booking.{HasTooMany, IsBookOf}
 use Rattle.bq.specs.Due.{Due, End}
 use Rattle.bq.specs.declared.refusal.Cause.TheVariants.{Load, TooManyPostings}

@@ -7,7 +7,7 @@ use Rattle.query_code.specs.declared.cause.FileCause.{FileCause}
 use Rattle.query_code.specs.declared.program.Parts.{Parts}
 use Rattle.query_verifier.specs.declared.cause.VerifierCause.TheVariants as verifier
 use Rattle.bq.specs.Command.{Command, named}
-use Rattle.bq.specs.Due.{Due, End, at_once}
+use Rattle.bq.specs.Due.{End, at_once}
 use Rattle.bq.specs.Files.{about_file}
 use Rattle.bq.specs.declared.given.Given.TheVariants.{Told}
 use Rattle.bq.specs.declared.refusal.Cause.TheVariants.{File}

@@ -6,7 +6,7 @@ use Rattle.query_code.specs.QueryFile.{IsFile}
 use Rattle.query_code.specs.Upgrade.{upgraded}
 use Rattle.query_code.specs.declared.program.Parts.{Parts}
 use Rattle.bq.specs.Command.{Command, named}
-use Rattle.bq.specs.Due.{Due, End, at_once}
+use Rattle.bq.specs.Due.{End, at_once}
 use Rattle.bq.specs.Files.{about_file}
 use Rattle.bq.specs.Verified.{about_program}
 use Rattle.bq.specs.declared.given.Given.TheVariants.{Kept}

@@ -4,7 +4,6 @@ use Rattle.std.specs.Prelude.{◌≡◌, ℕ, ◌⊎◌, List, [], Err}
 use Rattle.query_code.specs.declared.program.Parts.{Parts}
 use Rattle.query_verifier.specs.Checking.{IsUnaccepted, IsVerified}
 use Rattle.query_verifier.specs.declared.cause.VerifierCause.{VerifierCause}
-use Rattle.stores.specs.Reading.{Reading}
 use Rattle.bq.specs.Due.{Due}
 use Rattle.bq.specs.declared.refusal.Cause.TheVariants.{File}
 

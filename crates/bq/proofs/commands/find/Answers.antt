@@ -1,4 +1,4 @@
-use Rattle.std.proofs.Common.{[], List, map, Some, sym, ap, ◌∙◌, subst}
+use Rattle.std.proofs.Common.{[], map, Some, sym, ap, ◌∙◌, subst}
 use Rattle.clap.specs.Walk.{Text}
 use Rattle.stores.proofs.GaveFacts.{gave_none}
 use Rattle.bq.specs.Commands.{due_to}

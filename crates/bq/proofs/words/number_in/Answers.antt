@@ -1,4 +1,4 @@
-use Rattle.std.proofs.Common.{◌≤◌, arith}
+use Rattle.std.proofs.Common.{arith}
 use Rattle.bq.proofs.NumberFacts.{not_taken, taken}
 use Rattle.bq.proofs.words.number_in.Goals as goal
 

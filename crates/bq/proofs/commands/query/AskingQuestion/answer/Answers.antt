@@ -1,4 +1,4 @@
-use Rattle.std.proofs.Common.{inr, Ok, sym, ap, subst}
+use Rattle.std.proofs.Common.{inr, Ok, sym, subst}
 use Rattle.bq.specs.Due.{ComesTo}
 use Rattle.bq.specs.Ledgers.{about_book}
 use Rattle.bq.specs.Query.{FileAnswers}
