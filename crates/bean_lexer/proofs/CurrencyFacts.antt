@@ -104,11 +104,29 @@ some_in : (bs : List ℕ) → 0 < length bs → is_ascii_uppercase (get_or bs 0 
 some_in [] some h = absurd (omega arith)
 some_in (b ∷ bs) some h = first_in b bs (capital_in b h)
 
-pub trim_starts : (bs : List ℕ) (e : ℕ) → 0 < length bs → is_ascii_uppercase (get_or bs 0 0) ≡ true
-    → e ≡ 0 + prefix_len is_in_currency (drop 0 bs) → TrimsCurrency bs (min e 24)
-trim_starts bs e some capital is =
+pub trim_starts : (bs : List ℕ) → 0 < length bs → is_ascii_uppercase (get_or bs 0 0) ≡ true
+    → TrimsCurrency bs (reach_of bs)
+trim_starts bs some capital =
     let p = some_in bs some capital in
     record { some = omega arith; below = omega arith; passed = λ i low high. absurd (omega arith) }
+
+-- of a front there is no more at the front
+by_test : (a b n : ℕ) (t : Bool) → a ≡ min b n → cond t (1 + a) 0 ≡ min (cond t (1 + b) 0) (suc n)
+by_test a b n true e = omega (arith, e)
+by_test a b n false e = omega arith
+
+front_reaches : (p : ℕ → Bool) (n : ℕ) (bs : List ℕ) → prefix_len p (take n bs) ≡ min (prefix_len p bs) n
+front_reaches p zero bs = omega arith
+front_reaches p (suc n) [] = omega arith
+front_reaches p (suc n) (b ∷ bs) =
+    by_test (prefix_len p (take n bs)) (prefix_len p bs) n (p b) (front_reaches p n bs)
+
+pub front_reach : (bs front : List ℕ) (n : ℕ) → front ≡ take (min (length bs) 24) bs
+    → n ≡ 0 + prefix_len is_in_currency (drop 0 front) → n ≡ reach_of bs
+front_reach bs front n cut is =
+    let w = prefix_len-le-length is_in_currency bs in
+    let f = ap (prefix_len is_in_currency) cut in
+    let r = front_reaches is_in_currency (min (length bs) 24) bs in omega (arith, is, f, r, w)
 
 passed_by : (bs : List ℕ) (len i : ℕ) (t : Bool) → nat_eq i (len - 1) ≡ t
     → ends_currency (get_or bs (len - 1) 0) ≡ false → TrimsCurrency bs len → len - 1 ≤ i

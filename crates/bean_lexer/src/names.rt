@@ -1,11 +1,11 @@
 //! Accounts, currencies, tags and links.
 ghost use Rattle.std.specs.Prelude.{◌≡◌, ℕ, ◌+◌, ◌<◌, ◌≤◌, ◌&&◌, ◌||◌, ◌==◌, false, true, nat_lt};
-ghost use Rattle.std.specs.Prelude.{length, slice_index, IsTrue, take, drop, MatchOption};
+ghost use Rattle.std.specs.Prelude.{length, slice_index, IsTrue, take, drop, min, MatchOption};
 ghost use Rattle.std.specs.List.{prefix_len};
 ghost use Rattle.std.specs.Char.{is_ascii_digit, is_ascii_uppercase};
 ghost use Rattle.std.specs.Str.{IsUtf8, IsCharBoundary};
 ghost use Rattle.bean_base.specs.Character.{hash, colon, caret};
-ghost use Rattle.bean_base.specs.Name.{is_account, is_in_component};
+ghost use Rattle.bean_base.specs.Name.{is_account, is_in_component, is_in_currency};
 ghost use Rattle.bean_base.specs.Name as spec;
 ghost use Rattle.theory.specs.LongestFront.{IsLongestFront, HasNoFront};
 ghost use Rattle.bean_lexer.specs.Lookahead as lookahead;
@@ -137,6 +137,16 @@ fn has_bad_end(bytes: &[u8], len: usize) -> bool
     len > 1 && !ends_currency(bytes[len - 1])
 }
 
+/// How many characters of a currency stand at the front, up to the longest. No more are looked at, so
+/// a run of very many costs no more than the tokens that it is cut into.
+fn currency_reach(bytes: &[u8]) -> usize
+    ensures reach { result ≡ min (prefix_len is_in_currency bytes.now) 24 }
+    ensures inside { result ≤ length bytes.now }
+{
+    let front = &bytes[..bytes.len().min(24)];
+    end_of_run::<InCurrency>(front, 0)
+}
+
 /// The length of the currency or the truth value that begins with a capital.
 fn currency_len(bytes: &[u8]) -> usize
     requires some { 0 < length bytes.now }
@@ -144,7 +154,7 @@ fn currency_len(bytes: &[u8]) -> usize
     ensures currency { IsLongestFront is_currency_form bytes.now result }
     ensures boundary { IsUtf8 bytes.now → IsCharBoundary bytes.now result }
 {
-    let mut len = end_of_run::<InCurrency>(bytes, 0).min(24);
+    let mut len = currency_reach(bytes);
     while has_bad_end(bytes, len) {
         len -= 1;
     }

@@ -5,9 +5,8 @@ use Rattle.bean_lexer.proofs.names.currency_len.Goals as goal
 
 pub loop-len-init : goal.loop-len-init
 loop-len-init c =
-    subst (TrimsCurrency c.args.bytes.now) (sym c.min-len.ensures)
-    (trim_starts c.args.bytes.now c.end_of_run.result c.requires.some c.requires.capital
-    c.end_of_run.ensures.run)
+    subst (TrimsCurrency c.args.bytes.now) (sym c.currency_reach-len.ensures.reach)
+    (trim_starts c.args.bytes.now c.requires.some c.requires.capital)
 
 pub loop-len-preserved : goal.loop-len-preserved
 loop-len-preserved c =
