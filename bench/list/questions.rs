@@ -51,10 +51,12 @@ impl Cells {
         self.end();
     }
 
+    /// A number, of a count of `10^-8`, with as few decimals as are exact.
     fn number(&mut self, count: i128) {
         let sign = if count < 0 { "-" } else { "" };
         let (whole, rest) = (count.unsigned_abs() / 100_000_000, count.unsigned_abs() % 100_000_000);
-        self.text(&format!("{sign}{whole}.{rest:08}"));
+        let text = format!("{sign}{whole}.{rest:08}");
+        self.text(text.trim_end_matches('0').trim_end_matches('.'));
     }
 
     /// The table; `right` tells which columns are set to the right.
