@@ -131,7 +131,7 @@ def programs(everything):
             ("a pattern of 65,535 letters", b"a" * 65_535, (0, 2)),
             ("a nested pattern", b"(" * 32_767 + b")" * 32_767, (0, 2)),
             ("a pattern of counts", b"(((a{99}){99}){99}){99}", (2,)), ("a pattern of classes", rb"\w{900}", (0, 2)),
-            ("alternatives", b"|".join([b"ab"] * 21_000), (0, 2)), ("stars", b"(a*)*" * 13_000, (0, 2))):
+            ("alternatives", b"|".join([b"ab"] * 21_000), (0, 2)), ("stars", b"(a*)*" * 13_000, (0, 2, 4))):
         yield name, files.with_filter(matching, [files.pattern_entry(pattern)]), wanted
     yield "a pool of texts", files.with_filter([files.TRUE], files.pool_of(files.text_entry(b"x" * 65_535))), (0,)
     yield "a pool of short texts", files.with_filter([files.TRUE], files.pool_of(files.text_entry(b""))), (0,)
@@ -175,8 +175,8 @@ def attempts(folder, everything):
                       ["show", file], ["upgrade", file, f"new_{file}"]):
             yield ends, folder, f"a file of {name}", words, (0, 2) if words[0] == "show" else wanted
     for name, text in queries():
-        yield ends, folder, f"a query of {name}", ["query", "ledger", text], (0, 2)
-        yield ends, folder, f"a query of {name}", ["compile", text, f"new {name}"], (0, 2)
+        yield ends, folder, f"a query of {name}", ["query", "ledger", text], (0, 2, 4)
+        yield ends, folder, f"a query of {name}", ["compile", text, f"new {name}"], (0, 2, 4)
 
 
 def main(everything):
