@@ -26,7 +26,7 @@ use Rattle.bean_parser.specs.declared.scope.PlacedBound.{PlacedBound}
 
 -- ---- pushes that are open
 
-one_more : (name : PushName) (ps : List Pushed) (bs : List PlacedBound) (b : PlacedBound)
+pub one_more : (name : PushName) (ps : List Pushed) (bs : List PlacedBound) (b : PlacedBound)
     → open_pushes name ps (bs ++ b ∷ []) ≡ open_behind name (open_pushes name ps bs) b.bound
 one_more name ps [] b = refl
 one_more name ps (k ∷ bs) b = one_more name (open_behind name ps k.bound) bs b
@@ -40,7 +40,7 @@ open_next name bs b old new is was =
 
 -- ---- what stands ahead
 
-same_is : (a b : PushName) → same_name a b ≡ true → a ≡ b
+pub same_is : (a b : PushName) → same_name a b ≡ true → a ≡ b
 same_is (names.Tag t) (names.Tag u) e = ap names.Tag ((bytes_eq-Decides t u).0 e)
 same_is (names.Key k) (names.Key l) e = ap names.Key ((bytes_eq-Decides k l).0 e)
 same_is (names.Tag t) (names.Key l) e = cc
@@ -89,7 +89,7 @@ before_pop b n behind a pops is at more =
     (own_next b behind)
 
 -- a bound changes nothing of another name
-other_pops : (n : PushName) (b : Bound) (count : ℕ) → same_name (name_in b) n ≡ false
+pub other_pops : (n : PushName) (b : Bound) (count : ℕ) → same_name (name_in b) n ≡ false
     → pops_before n b count ≡ count
 other_pops n (Push p) count e = ap (λ s. cond s (count - 1) count) e
 other_pops n (Pop name) count e = ap (λ s. cond s (suc count) count) e
@@ -234,7 +234,7 @@ push_matched p b before behind reach is at =
     ∙ some_if (nat_lt 0 (pops_left (name_of p) behind)) (next_of (name_of p) behind)
     ∙ sym (ap (λ k. is_matched before k behind) is)
 
-less_one : (n : ℕ) → suc n - 1 ≡ n
+pub less_one : (n : ℕ) → suc n - 1 ≡ n
 less_one n = omega arith
 
 above_none : (n : ℕ) → nat_lt 0 (suc n) ≡ true

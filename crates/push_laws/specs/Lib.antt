@@ -1,0 +1,2 @@
+pub mod EachPush
+pub mod Alike
