@@ -1,31 +1,24 @@
 -- What slots say of the positions that they hold, and what is left to say of the rest of a list.
-use Rattle.std.proofs.Common.{◌≡◌, ◌<◌, ℕ, ℤ, pos, Bool, true, false, cond, ◌&&◌, ◌||◌, List, []}
+use Rattle.std.proofs.Common.{◌≡◌, ◌+◌, ◌<◌, ◌≤◌, nat_lt, ℕ, ℤ, pos, Bool, true, false, cond, ◌&&◌, ◌||◌, List, []}
 use Rattle.std.proofs.Common.{◌∷◌}
-use Rattle.std.proofs.Common.{◌++◌, length, Option, refl, sym, ◌∙◌, ap, arith}
-use Rattle.std.specs.List.{AllByRecursion, list_any}
-use Rattle.std.specs.Int.Signed.{lt_z}
+use Rattle.std.proofs.Common.{◌++◌, length, Option, refl, ◌∙◌, ap, arith}
+use Rattle.std.specs.List.{AllByRecursion}
 use Rattle.std.specs.Option.{is_some}
 use Rattle.std.specs.Ordering.{int_eq}
+use Rattle.std.proofs.lemmas.Bool.Decides.{nat_tests}
 use Rattle.std.proofs.lemmas.Int.{ints}
-use Rattle.bean_lots.specs.Inventory.{has_lot_against}
-use Rattle.bean_lots.specs.Inventory.{is_opposite}
+use Rattle.bean_lots.specs.Inventory.{as_long, as_short, has_lot, in_each, long_lot, short_lot}
+use Rattle.bean_lots.specs.Lot.{same_text}
 use Rattle.bean_lots.specs.Days.{IsNotBefore, RiseInDays}
-use Rattle.bean_lots.specs.Slots.{AreInOrder, as_long, as_short, in_all, long_at, positions}
-use Rattle.bean_lots.specs.Slots.{short_at}
+use Rattle.bean_lots.specs.Slots.{AreInOrder, in_all, positions}
 use Rattle.bean_lots.specs.declared.lot.Key.{Key}
 use Rattle.bean_lots.specs.declared.lot.Lot.{Lot}
 use Rattle.bean_lots.specs.declared.lot.Position.{Position}
+use Rattle.bean_lots.proofs.SlotFacts.{is_zero}
+use Rattle.bean_lots.proofs.TallyFacts.{not_long, not_short}
 
 pub shorter : {A : Type 0} (es rest : List A) (e : A) → es ≡ e ∷ rest → length rest < length es
 shorter es rest e is = let same = ap length is in omega (arith, same)
-
-pub any_here : {A : Type 0} (p : A → Bool) (es rest : List A) (e : A) → es ≡ e ∷ rest
-    → p e ≡ true → true ≡ list_any p es
-any_here p es rest e is t = sym (ap (list_any p) is ∙ ap (λ b. b || list_any p rest) t)
-
-pub any_later : {A : Type 0} (p : A → Bool) (es rest : List A) (e : A) → es ≡ e ∷ rest
-    → p e ≡ false → list_any p rest ≡ list_any p es
-any_later p es rest e is t = sym (ap (list_any p) is ∙ ap (λ b. b || list_any p rest) t)
 
 all_behind : (l : Option Lot) (es : List (Key × ℤ))
     → AllByRecursion {X = Key × ℤ} (λ f. IsNotBefore l f.0.lot) es
@@ -49,44 +42,68 @@ rising (e ∷ es) a = by (int_eq e.1 (pos 0)) (rising es a.1)
     by true rest = rest
     by false rest = (all_behind e.0.lot es a.0, rest)
 
-not_long : (want n : ℤ) → lt_z want (pos 0) ≡ true → as_long n ≡ 0 → is_opposite want n ≡ false
-not_long want n w h = grind (arith, ints)
-
-not_short : (want n : ℤ) → lt_z want (pos 0) ≡ false → as_short n ≡ 0
-    → is_opposite want n ≡ false
-not_short want n w h = grind (arith, ints)
-
-none_at : (f : ℤ → ℕ) (b : Bool) (want n : ℤ) → (f n ≡ 0 → is_opposite want n ≡ false)
-    → cond b (f n) 0 ≡ 0 → (b && is_opposite want n) ≡ false
-none_at f true want n r h = r h
-none_at f false want n r h = refl
-
-neither : (a b : Bool) → a ≡ false → b ≡ false → (a || b) ≡ false
-neither true b h k = h
-neither false b h k = k
-
-none_of : (f : ℤ → ℕ) (want : ℤ) (r : (n : ℤ) → f n ≡ 0 → is_opposite want n ≡ false)
-    (es : List (Key × ℤ)) → in_all (λ k n. cond (is_some k.lot) (f n) 0) es ≡ 0
-    → has_lot_against want (positions es) ≡ false
-none_of f want r [] h = refl
-none_of f want r (e ∷ es) h =
-    let own : cond (is_some e.0.lot) (f e.1) 0 ≡ 0 = omega (arith, h) in
-    by (int_eq e.1 (pos 0)) (none_at f (is_some e.0.lot) want e.1 (r e.1) own)
-    (none_of f want r es (omega (arith, h)))
+-- each position has a slot
+pub no_more_held : (es : List (Key × ℤ)) → length (positions es) ≤ length es
+no_more_held [] = omega arith
+no_more_held (e ∷ es) = by (int_eq e.1 (pos 0)) (no_more_held es)
   where
-    by : (z : Bool) → (is_some e.0.lot && is_opposite want e.1) ≡ false
-        → has_lot_against want (positions es) ≡ false
-        → has_lot_against want (cond z [] (record { key = e.0; count = e.1 } ∷ []) ++ positions es)
-        ≡ false
-    by true o rest = rest
-    by false o rest = neither _ _ o rest
+    by : (z : Bool) → length (positions es) ≤ length es
+        → length (cond z [] (record { key = e.0; count = e.1 } ∷ []) ++ positions es)
+        ≤ length (e ∷ es)
+    by true rest = omega (arith, rest)
+    by false rest = omega (arith, rest)
 
--- no lot above 0 is none against selling
-pub none_long : (want : ℤ) (es : List (Key × ℤ)) → lt_z want (pos 0) ≡ true
-    → in_all long_at es ≡ 0 → has_lot_against want (positions es) ≡ false
-none_long want es w h = none_of as_long want (λ n. not_long want n w) es h
+-- so many in slots as of what is held in them
+pub in_slots : (f : Key → ℤ → ℕ) (none : (k : Key) → f k (pos 0) ≡ 0) (es : List (Key × ℤ))
+    → in_all f es ≡ in_each f (positions es)
+in_slots f none [] = refl
+in_slots f none (e ∷ es) = by (int_eq e.1 (pos 0)) refl (in_slots f none es)
+  where
+    by : (z : Bool) → int_eq e.1 (pos 0) ≡ z → in_all f es ≡ in_each f (positions es)
+        → f e.0 e.1 + in_all f es
+        ≡ in_each f (cond z [] (record { key = e.0; count = e.1 } ∷ []) ++ positions es)
+    by true z rest =
+        let zero : f e.0 e.1 ≡ 0 = ap (f e.0) (is_zero e.1 z) ∙ none e.0 in omega (arith, zero, rest)
+    by false z rest = ap (λ n. f e.0 e.1 + n) rest
 
--- and none below against buying
-pub none_short : (want : ℤ) (es : List (Key × ℤ)) → lt_z want (pos 0) ≡ false
-    → in_all short_at es ≡ 0 → has_lot_against want (positions es) ≡ false
-none_short want es w h = none_of as_short want (λ n. not_short want n w) es h
+some : (n : ℤ) → int_eq n (pos 0) ≡ false → as_long n + as_short n ≡ 1
+some n h = grind (arith, ints)
+
+-- a lot is above 0 or below
+pub either_sign : (c : List ℕ) (es : List (Key × ℤ))
+    → has_lot c (positions es) ≡ nat_lt 0 (in_all (long_lot c) es + in_all (short_lot c) es)
+either_sign c [] = refl
+either_sign c (e ∷ es) = by (int_eq e.1 (pos 0)) refl (either_sign c es)
+  where
+    long : ℕ
+    long = in_all (long_lot c) es
+
+    short : ℕ
+    short = in_all (short_lot c) es
+
+    lot : (b : Bool) → int_eq e.1 (pos 0) ≡ false → has_lot c (positions es) ≡ nat_lt 0 (long + short)
+        → (b || has_lot c (positions es))
+        ≡ nat_lt 0 ((cond b (as_long e.1) 0 + long) + (cond b (as_short e.1) 0 + short))
+    lot true z rest = let one = some e.1 z in grind (arith, nat_tests, one)
+    lot false z rest = let same : long + short ≡ (0 + long) + (0 + short) = omega arith in
+        rest ∙ ap (nat_lt 0) same
+
+    by : (z : Bool) → int_eq e.1 (pos 0) ≡ z → has_lot c (positions es) ≡ nat_lt 0 (long + short)
+        → has_lot c (cond z [] (record { key = e.0; count = e.1 } ∷ []) ++ positions es)
+        ≡ nat_lt 0 ((long_lot c e.0 e.1 + long) + (short_lot c e.0 e.1 + short))
+    by true z rest =
+        let above : long_lot c e.0 e.1 ≡ 0 = ap (long_lot c e.0) (is_zero e.1 z) ∙ not_long c e.0 in
+        let below : short_lot c e.0 e.1 ≡ 0 =
+        ap (short_lot c e.0) (is_zero e.1 z) ∙ not_short c e.0 in
+        let same : long + short ≡ (long_lot c e.0 e.1 + long) + (short_lot c e.0 e.1 + short) =
+        omega (arith, above, below) in
+        rest ∙ ap (nat_lt 0) same
+    by false z rest = lot (same_text e.0.currency c && is_some e.0.lot) z rest
+
+pub first_sign : (long short l s : ℕ) (has : Bool) → l ≡ long → s ≡ short
+    → has ≡ nat_lt 0 (long + short) → 0 < l → nat_lt 0 l ≡ has
+first_sign long short l s has e f h t = grind (arith, nat_tests)
+
+pub other_sign : (long short l s : ℕ) (has : Bool) → l ≡ long → s ≡ short
+    → has ≡ nat_lt 0 (long + short) → l ≤ 0 → nat_lt 0 s ≡ has
+other_sign long short l s has e f h t = grind (arith, nat_tests)

@@ -6,7 +6,9 @@ use Rattle.std.specs.Ordering.{int_eq}
 use Rattle.indexmap.specs.IndexMap.{insert_entry}
 use Rattle.indexmap.proofs.CallerLemmas.{insert_entry-new}
 use Rattle.bean_lots.specs.Lot.{same_key}
-use Rattle.bean_lots.specs.Slots.{AreDays, AreHoles, IsKept, in_all, is_full, long_at, short_at}
+use Rattle.bean_lots.specs.Inventory.{long_lot, short_lot}
+use Rattle.bean_lots.specs.Signs.{signs_at}
+use Rattle.bean_lots.specs.Slots.{AreDays, AreHoles, IsKept, in_all, is_full}
 use Rattle.bean_lots.specs.declared.inventory.slots.Slots.{Slots}
 use Rattle.bean_lots.specs.declared.lot.Key.{Key}
 use Rattle.bean_lots.proofs.SlotFacts as slot
@@ -19,25 +21,48 @@ sum_after : (total all part new old : ℕ) → total + old ≡ all + new → all
     → (sum : ℕ) → sum + old ≡ part + new → total ≡ sum
 sum_after total all part new old e f sum g = omega (arith, e, f, g)
 
+one_new : (total all part new none sum : ℕ) → none ≡ 0 → sum ≡ part + new → total + none ≡ all + new
+    → all ≡ part → total ≡ sum
+one_new total all part new none sum z s e f = omega (arith, z, s, e, f)
+
+-- where nothing is counted anew
+pub counted_as_before : (s t : Slots) → IsKept s → t.counts.entries ≡ s.counts.entries
+    → t.first ≡ s.first → t.days ≡ s.days
+    → ((c : List ℕ) → signs_at t.signs c ≡ signs_at s.signs c) → IsKept t
+counted_as_before s t h entries first days signs = record {
+  holes =
+      subst (λ i. AreHoles i t.counts.entries) (sym first)
+      (subst (AreHoles s.first) (sym entries) h.holes);
+  long = λ c.
+      ap (λ x. x.long) (signs c) ∙ h.long c ∙ ap (in_all (long_lot c)) (sym entries);
+  short = λ c.
+      ap (λ x. x.short) (signs c) ∙ h.short c ∙ ap (in_all (short_lot c)) (sym entries);
+  days =
+      subst (λ d. AreDays d t.counts.entries) (sym days)
+      (subst (AreDays s.days) (sym entries) h.days);
+}
+
 pub written : (s t : Slots) (k : Key) (m n : ℤ) → IsKept s
     → lookup (same_key k) s.counts.entries ≡ Some m → int_eq m (pos 0) ≡ false
     → t.counts.entries ≡ insert_entry same_key s.counts.entries k n
     → t.first ≡ s.first → t.days ≡ s.days
-    → t.signs.long + long_at k m ≡ s.signs.long + long_at k n
-    → t.signs.short + short_at k m ≡ s.signs.short + short_at k n → IsKept t
+    → ((c : List ℕ) → (signs_at t.signs c).long + long_lot c k m
+    ≡ (signs_at s.signs c).long + long_lot c k n)
+    → ((c : List ℕ) → (signs_at t.signs c).short + short_lot c k m
+    ≡ (signs_at s.signs c).short + short_lot c k n) → IsKept t
 written s t k m n h there some entries first days long short = record {
   holes =
       subst (λ i. AreHoles i t.counts.entries) (sym first)
       (subst (AreHoles s.first) (sym entries)
       (slot.holes_held s.first s.counts.entries k m n h.holes there some));
-  long =
-      sum_after _ _ _ (long_at k n) (long_at k m) long h.long _
-      (tally.written long_at s.counts.entries k m n there)
-      ∙ ap (in_all long_at) (sym entries);
-  short =
-      sum_after _ _ _ (short_at k n) (short_at k m) short h.short _
-      (tally.written short_at s.counts.entries k m n there)
-      ∙ ap (in_all short_at) (sym entries);
+  long = λ c.
+      sum_after _ _ _ (long_lot c k n) (long_lot c k m) (long c) (h.long c) _
+      (tally.written (long_lot c) s.counts.entries k m n there)
+      ∙ ap (in_all (long_lot c)) (sym entries);
+  short = λ c.
+      sum_after _ _ _ (short_lot c k n) (short_lot c k m) (short c) (h.short c) _
+      (tally.written (short_lot c) s.counts.entries k m n there)
+      ∙ ap (in_all (short_lot c)) (sym entries);
   days =
       subst (λ d. AreDays d t.counts.entries) (sym days)
       (subst (AreDays s.days) (sym entries)
@@ -49,23 +74,24 @@ pub pushed : (s t : Slots) (k : Key) (n : ℤ) → IsKept s
     → t.counts.entries ≡ insert_entry same_key s.counts.entries k n
     → t.first ≡ s.first
     → (AreDays s.days s.counts.entries → AreDays t.days (s.counts.entries ++ (k, n) ∷ []))
-    → t.signs.long + long_at k (pos 0) ≡ s.signs.long + long_at k n
-    → t.signs.short + short_at k (pos 0) ≡ s.signs.short + short_at k n → IsKept t
+    → ((c : List ℕ) → (signs_at t.signs c).long + long_lot c k (pos 0)
+    ≡ (signs_at s.signs c).long + long_lot c k n)
+    → ((c : List ℕ) → (signs_at t.signs c).short + short_lot c k (pos 0)
+    ≡ (signs_at s.signs c).short + short_lot c k n) → IsKept t
 pushed s t k n h there entries first days long short =
-    let none = tally.not_long k in
-    let nothing = tally.not_short k in
-    let longs = tally.pushed long_at s.counts.entries k n there in
-    let shorts = tally.pushed short_at s.counts.entries k n there in
-    let long_before = h.long in
-    let short_before = h.short in
     record {
       holes =
           subst (λ i. AreHoles i t.counts.entries) (sym first)
           (subst (AreHoles s.first) (sym entries)
           (slot.holes_new s.first s.counts.entries k n h.holes there));
-      long = omega (arith, none, longs, long, long_before) ∙ ap (in_all long_at) (sym entries);
-      short =
-          omega (arith, nothing, shorts, short, short_before) ∙ ap (in_all short_at) (sym entries);
+      long = λ c.
+          one_new _ _ _ _ _ _ (tally.not_long c k)
+          (tally.pushed (long_lot c) s.counts.entries k n there) (long c) (h.long c)
+          ∙ ap (in_all (long_lot c)) (sym entries);
+      short = λ c.
+          one_new _ _ _ _ _ _ (tally.not_short c k)
+          (tally.pushed (short_lot c) s.counts.entries k n there) (short c) (h.short c)
+          ∙ ap (in_all (short_lot c)) (sym entries);
       days =
           subst (AreDays t.days)
           (sym (entries ∙ insert_entry-new same_key s.counts k n there)) (days h.days);
@@ -80,14 +106,14 @@ hole_out s t k h there entries first days signs = record {
       subst (λ i. AreHoles i t.counts.entries) (sym first)
       (subst (AreHoles (s.first - 1)) (sym entries)
       (slot.holes_out s.first (same_key k) s.counts.entries h.holes));
-  long =
-      ap (λ x. x.long) signs ∙ h.long
-      ∙ sym (tally.taken_out long_at tally.not_long s.counts.entries k there)
-      ∙ ap (in_all long_at) (sym entries);
-  short =
-      ap (λ x. x.short) signs ∙ h.short
-      ∙ sym (tally.taken_out short_at tally.not_short s.counts.entries k there)
-      ∙ ap (in_all short_at) (sym entries);
+  long = λ c.
+      ap (λ x. (signs_at x c).long) signs ∙ h.long c
+      ∙ sym (tally.taken_out (long_lot c) (tally.not_long c) s.counts.entries k there)
+      ∙ ap (in_all (long_lot c)) (sym entries);
+  short = λ c.
+      ap (λ x. (signs_at x c).short) signs ∙ h.short c
+      ∙ sym (tally.taken_out (short_lot c) (tally.not_short c) s.counts.entries k there)
+      ∙ ap (in_all (short_lot c)) (sym entries);
   days =
       subst (λ d. AreDays d t.counts.entries) (sym days)
       (subst (AreDays s.days) (sym entries)
@@ -99,14 +125,14 @@ pub swept_out : (s t : Slots) → IsKept s → t.counts.entries ≡ filter is_fu
     → t.first ≡ 0 → AreDays t.days t.counts.entries → t.signs ≡ s.signs → IsKept t
 swept_out s t h entries first days signs = record {
   holes = subst (λ i. AreHoles i t.counts.entries) (sym first) tt;
-  long =
-      ap (λ x. x.long) signs ∙ h.long
-      ∙ sym (swept.counted long_at tally.not_long s.counts.entries)
-      ∙ ap (in_all long_at) (sym entries);
-  short =
-      ap (λ x. x.short) signs ∙ h.short
-      ∙ sym (swept.counted short_at tally.not_short s.counts.entries)
-      ∙ ap (in_all short_at) (sym entries);
+  long = λ c.
+      ap (λ x. (signs_at x c).long) signs ∙ h.long c
+      ∙ sym (swept.counted (long_lot c) (tally.not_long c) s.counts.entries)
+      ∙ ap (in_all (long_lot c)) (sym entries);
+  short = λ c.
+      ap (λ x. (signs_at x c).short) signs ∙ h.short c
+      ∙ sym (swept.counted (short_lot c) (tally.not_short c) s.counts.entries)
+      ∙ ap (in_all (short_lot c)) (sym entries);
   days = days;
 }
 
@@ -119,12 +145,12 @@ in_front s t n h entries full first inside days signs = record {
   holes =
       subst (AreHoles t.first) (sym entries)
       (end.holes_in_front s.first n s.counts.entries h.holes t.first first inside);
-  long =
-      ap (λ x. x.long) signs ∙ h.long ∙ same long_at tally.not_long
-      ∙ ap (in_all long_at) (sym entries);
-  short =
-      ap (λ x. x.short) signs ∙ h.short ∙ same short_at tally.not_short
-      ∙ ap (in_all short_at) (sym entries);
+  long = λ c.
+      ap (λ x. (signs_at x c).long) signs ∙ h.long c ∙ same (long_lot c) (tally.not_long c)
+      ∙ ap (in_all (long_lot c)) (sym entries);
+  short = λ c.
+      ap (λ x. (signs_at x c).short) signs ∙ h.short c ∙ same (short_lot c) (tally.not_short c)
+      ∙ ap (in_all (short_lot c)) (sym entries);
   days = days;
 }
   where
@@ -146,15 +172,15 @@ same_days s es h entries =
     subst (AreDays s.days) (sym entries)
     (λ e. swept.days_left s.days.latest s.counts.entries (h.days e))
 
-pub few_long : (s : Slots) → IsKept s → length s.counts.entries < 2 ^ 63 → s.signs.long < 2 ^ 63
-few_long s h small =
-    let few = tally.few long_at tally.one_long s.counts.entries in
-    let all = h.long in
+pub few_long : (s : Slots) → IsKept s → length s.counts.entries < 2 ^ 63 → (c : List ℕ) → (signs_at s.signs c).long < 2 ^ 63
+few_long s h small c =
+    let few = tally.few (long_lot c) (tally.one_long c) s.counts.entries in
+    let all = h.long c in
     omega (arith, few, all, small)
 
-pub few_short : (s : Slots) → IsKept s → length s.counts.entries < 2 ^ 63
-    → s.signs.short < 2 ^ 63
-few_short s h small =
-    let few = tally.few short_at tally.one_short s.counts.entries in
-    let all = h.short in
+pub few_short : (s : Slots) → IsKept s → length s.counts.entries < 2 ^ 63 → (c : List ℕ)
+    → (signs_at s.signs c).short < 2 ^ 63
+few_short s h small c =
+    let few = tally.few (short_lot c) (tally.one_short c) s.counts.entries in
+    let all = h.short c in
     omega (arith, few, all, small)

@@ -2,6 +2,8 @@ pub mod LotFacts
 pub mod LotOrderFacts
 pub mod SlotFacts
 pub mod TallyFacts
+pub mod ChangedFacts
+pub mod SignFacts
 pub mod DayFacts
 pub mod EndFacts
 pub mod SweepFacts

@@ -1,6 +1,6 @@
 -- Slots whose counts change their sign one after the other.
-use Rattle.std.proofs.Common.{◌≡◌, ◌<◌, ◌^◌, ℕ, zero, suc, ℤ, pos, neg_ℤ, Bool, true, false, cond}
-use Rattle.std.proofs.Common.{List, [], ◌∷◌, ◌++◌, length, map, slice_get, Some, refl, sym, ◌∙◌}
+use Rattle.std.proofs.Common.{◌≡◌, ◌&&◌, ◌<◌, ◌^◌, ℕ, zero, suc, ℤ, pos, neg_ℤ, Bool, true, false, cond}
+use Rattle.std.proofs.Common.{List, [], ◌∷◌, ◌++◌, map, slice_get, Some, refl, sym, ◌∙◌}
 use Rattle.std.proofs.Common.{ap, subst, arith}
 use Rattle.std.specs.List.{AllByRecursion}
 use Rattle.std.specs.Map.{values_of}
@@ -8,45 +8,23 @@ use Rattle.std.specs.Option.{is_some}
 use Rattle.std.specs.Ordering.{int_eq}
 use Rattle.std.specs.Int.RustNames.{unsigned_abs}
 use Rattle.std.proofs.lemmas.Int.{ints}
-use Rattle.indexmap.specs.IndexMap.{set_value_at}
 use Rattle.bean_lots.specs.Days.{IsNotBefore}
 use Rattle.bean_lots.specs.Inventory.{MayBeNegated, held_as, negative_entry}
 use Rattle.bean_lots.specs.Slots.{AreDays, AreHoles, AreInOrder, IsBy, IsKept, in_all, positions}
-use Rattle.bean_lots.specs.Slots.{as_long, as_short, long_at, short_at}
+use Rattle.bean_lots.specs.Inventory.{as_long, as_short, long_lot, short_lot}
+use Rattle.bean_lots.specs.Lot.{same_text}
+use Rattle.bean_lots.specs.Signs.{negated, signs_at}
 use Rattle.bean_lots.specs.declared.inventory.slots.Slots.{Slots}
 use Rattle.bean_lots.specs.declared.lot.Key.{Key}
+use Rattle.bean_lots.proofs.ChangedFacts.{changed, changed_front}
 use Rattle.bean_lots.proofs.SlotFacts.{is_none, is_zero, same_some}
 
 -- the first n have the other sign
 abbrev pub negative_front : ℕ → List (Key × ℤ) → List (Key × ℤ)
-negative_front zero es = es
-negative_front (suc n) [] = []
-negative_front (suc n) (e ∷ es) = (e.0, neg_ℤ e.1) ∷ negative_front n es
+negative_front = changed_front neg_ℤ
 
 abbrev pub negative : List (Key × ℤ) → List (Key × ℤ)
-negative [] = []
-negative (e ∷ es) = (e.0, neg_ℤ e.1) ∷ negative es
-
-pub next : (n : ℕ) (es : List (Key × ℤ))
-    → slice_get (values_of (negative_front n es)) n ≡ slice_get (values_of es) n
-next zero es = refl
-next (suc n) [] = refl
-next (suc n) (e ∷ es) = next n es
-
-pub one_more : (n : ℕ) (es : List (Key × ℤ)) (m : ℤ) → slice_get (values_of es) n ≡ Some m
-    → set_value_at (negative_front n es) n (neg_ℤ m) ≡ negative_front (suc n) es
-one_more n [] m h = absurd (is_none m (sym h))
-one_more zero (e ∷ es) m h = ap (λ v. (e.0, neg_ℤ v) ∷ es) (sym (same_some e.1 m h))
-one_more (suc n) (e ∷ es) m h = ap (λ l. (e.0, neg_ℤ e.1) ∷ l) (one_more n es m h)
-
-pub same_length : (n : ℕ) (es : List (Key × ℤ)) → length (negative_front n es) ≡ length es
-same_length zero es = refl
-same_length (suc n) [] = refl
-same_length (suc n) (e ∷ es) = ap suc (same_length n es)
-
-pub all : (es : List (Key × ℤ)) → negative_front (length es) es ≡ negative es
-all [] = refl
-all (e ∷ es) = ap (λ l. (e.0, neg_ℤ e.1) ∷ l) (all es)
+negative = changed neg_ℤ
 
 still_zero : (n : ℤ) (b : Bool) → int_eq n (pos 0) ≡ b → int_eq (neg_ℤ n) (pos 0) ≡ b
 still_zero n true h = grind (arith, ints)
@@ -99,20 +77,22 @@ turned_long n = grind (arith, ints)
 turned_short : (n : ℤ) → as_short (neg_ℤ n) ≡ as_long n
 turned_short n = grind (arith, ints)
 
-long : (es : List (Key × ℤ)) → in_all long_at (negative es) ≡ in_all short_at es
-long [] = refl
-long (e ∷ es) =
-    let own : long_at e.0 (neg_ℤ e.1) ≡ short_at e.0 e.1 =
-    ap (λ n. cond (is_some e.0.lot) n 0) (turned_long e.1) in
-    let rest = long es in
+long : (c : List ℕ) (es : List (Key × ℤ))
+    → in_all (long_lot c) (negative es) ≡ in_all (short_lot c) es
+long c [] = refl
+long c (e ∷ es) =
+    let own : long_lot c e.0 (neg_ℤ e.1) ≡ short_lot c e.0 e.1 =
+    ap (λ n. cond (same_text e.0.currency c && is_some e.0.lot) n 0) (turned_long e.1) in
+    let rest = long c es in
     omega (arith, own, rest)
 
-short : (es : List (Key × ℤ)) → in_all short_at (negative es) ≡ in_all long_at es
-short [] = refl
-short (e ∷ es) =
-    let own : short_at e.0 (neg_ℤ e.1) ≡ long_at e.0 e.1 =
-    ap (λ n. cond (is_some e.0.lot) n 0) (turned_short e.1) in
-    let rest = short es in
+short : (c : List ℕ) (es : List (Key × ℤ))
+    → in_all (short_lot c) (negative es) ≡ in_all (long_lot c) es
+short c [] = refl
+short c (e ∷ es) =
+    let own : short_lot c e.0 (neg_ℤ e.1) ≡ long_lot c e.0 e.1 =
+    ap (λ n. cond (same_text e.0.currency c && is_some e.0.lot) n 0) (turned_short e.1) in
+    let rest = short c es in
     omega (arith, own, rest)
 
 all_turned : (P : Key → Type 0) (es : List (Key × ℤ))
@@ -126,16 +106,18 @@ order [] a = tt
 order (e ∷ es) a = (all_turned (λ q. IsNotBefore e.0.lot q.lot) es a.0, order es a.1)
 
 pub kept : (s t : Slots) → IsKept s → t.counts.entries ≡ negative s.counts.entries
-    → t.first ≡ s.first → t.days ≡ s.days → t.signs.long ≡ s.signs.short
-    → t.signs.short ≡ s.signs.long → IsKept t
-kept s t h entries first days longs shorts = record {
+    → t.first ≡ s.first → t.days ≡ s.days
+    → ((c : List ℕ) → signs_at t.signs c ≡ negated (signs_at s.signs c)) → IsKept t
+kept s t h entries first days signs = record {
   holes =
       subst (λ i. AreHoles i t.counts.entries) (sym first)
       (subst (AreHoles s.first) (sym entries) (holes s.first s.counts.entries h.holes));
-  long =
-      longs ∙ h.short ∙ sym (long s.counts.entries) ∙ ap (in_all long_at) (sym entries);
-  short =
-      shorts ∙ h.long ∙ sym (short s.counts.entries) ∙ ap (in_all short_at) (sym entries);
+  long = λ c.
+      ap (λ x. x.long) (signs c) ∙ h.short c ∙ sym (long c s.counts.entries)
+      ∙ ap (in_all (long_lot c)) (sym entries);
+  short = λ c.
+      ap (λ x. x.short) (signs c) ∙ h.long c ∙ sym (short c s.counts.entries)
+      ∙ ap (in_all (short_lot c)) (sym entries);
   days =
       subst (λ d. AreDays d t.counts.entries) (sym days)
       (subst (AreDays s.days) (sym entries)

@@ -204,3 +204,9 @@ all_positions day es = record {
   none_before = tt;
   none_behind = tt;
 }
+
+-- what is behind some slots in order is in order
+pub in_order_behind : (n : ℕ) (es : List (Key × ℤ)) → AreInOrder es → AreInOrder (drop n es)
+in_order_behind zero es a = a
+in_order_behind (suc n) [] a = tt
+in_order_behind (suc n) (e ∷ es) a = in_order_behind n es a.1

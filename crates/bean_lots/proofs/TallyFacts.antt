@@ -1,11 +1,12 @@
 -- What is counted over all slots.
-use Rattle.std.proofs.Common.{◌≡◌, ◌+◌, ◌≤◌, ℕ, ℤ, pos, Bool, true, false, cond, List, []}
+use Rattle.std.proofs.Common.{◌≡◌, ◌&&◌, ◌+◌, ◌≤◌, ℕ, ℤ, pos, Bool, true, false, cond, List, []}
 use Rattle.std.proofs.Common.{◌∷◌, length, Some, None, refl, sym, ◌∙◌, ap, arith}
 use Rattle.std.specs.Map.{lookup, remove_entry}
 use Rattle.std.specs.Option.{is_some}
 use Rattle.indexmap.specs.IndexMap.{insert_entry}
-use Rattle.bean_lots.specs.Lot.{same_key}
-use Rattle.bean_lots.specs.Slots.{in_all, long_at, short_at}
+use Rattle.bean_lots.specs.Lot.{same_key, same_text}
+use Rattle.bean_lots.specs.Inventory.{long_lot, short_lot}
+use Rattle.bean_lots.specs.Slots.{in_all}
 use Rattle.bean_lots.specs.declared.lot.Key.{Key}
 use Rattle.bean_lots.proofs.LotFacts.{same_key_Decides}
 use Rattle.bean_lots.proofs.SlotFacts.{is_none, same_some}
@@ -88,14 +89,14 @@ no_part : (b : Bool) (n : ℕ) → cond b n n ≡ n
 no_part true n = refl
 no_part false n = refl
 
-pub one_long : (k : Key) (n : ℤ) → long_at k n ≤ 1
-one_long k n = at_most_one (is_some k.lot) _
+pub one_long : (c : List ℕ) (k : Key) (n : ℤ) → long_lot c k n ≤ 1
+one_long c k n = at_most_one (same_text k.currency c && is_some k.lot) _
 
-pub one_short : (k : Key) (n : ℤ) → short_at k n ≤ 1
-one_short k n = at_most_one (is_some k.lot) _
+pub one_short : (c : List ℕ) (k : Key) (n : ℤ) → short_lot c k n ≤ 1
+one_short c k n = at_most_one (same_text k.currency c && is_some k.lot) _
 
-pub not_long : (k : Key) → long_at k (pos 0) ≡ 0
-not_long k = no_part (is_some k.lot) 0
+pub not_long : (c : List ℕ) (k : Key) → long_lot c k (pos 0) ≡ 0
+not_long c k = no_part (same_text k.currency c && is_some k.lot) 0
 
-pub not_short : (k : Key) → short_at k (pos 0) ≡ 0
-not_short k = no_part (is_some k.lot) 0
+pub not_short : (c : List ℕ) (k : Key) → short_lot c k (pos 0) ≡ 0
+not_short c k = no_part (same_text k.currency c && is_some k.lot) 0

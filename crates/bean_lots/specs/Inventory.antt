@@ -1,7 +1,7 @@
 -- An inventory as the list of its positions, in order of entry.
 use Rattle.std.specs.Prelude.{◌≡◌, ◌^◌, ◌<◌, ◌&&◌, ◌||◌, ℕ, Bool, false, List, [], ◌∷◌, ◌++◌, ℤ}
 use Rattle.std.specs.Prelude.{pos}
-use Rattle.std.specs.Prelude.{neg_ℤ, ◌+ℤ◌}
+use Rattle.std.specs.Prelude.{neg_ℤ, ◌+ℤ◌, ◌+◌}
 use Rattle.std.specs.Prelude.{if◌then◌else◌}
 use Rattle.std.specs.Int.RustNames.{unsigned_abs}
 use Rattle.std.specs.Int.Signed.{lt_z}
@@ -38,13 +38,38 @@ is_lot_of currency e = same_text e.key.currency currency && is_some e.key.lot
 abbrev pub has_lot : List ℕ → List Position → Bool
 has_lot currency es = list_any (is_lot_of currency) es
 
+abbrev pub as_long : ℤ → ℕ
+as_long n = if lt_z (pos 0) n then 1 else 0
+
+abbrev pub as_short : ℤ → ℕ
+as_short n = if lt_z n (pos 0) then 1 else 0
+
+-- one for a lot of the currency that is held with a count above 0
+abbrev pub long_lot : List ℕ → Key → ℤ → ℕ
+long_lot currency k n =
+    if same_text k.currency currency && is_some k.lot then as_long n else 0
+
+-- one for a lot of the currency that is held with a count below 0
+abbrev pub short_lot : List ℕ → Key → ℤ → ℕ
+short_lot currency k n =
+    if same_text k.currency currency && is_some k.lot then as_short n else 0
+
+-- so many of each position together
+abbrev pub in_each : (Key → ℤ → ℕ) → List Position → ℕ
+in_each f [] = 0
+in_each f (e ∷ es) = f e.key e.count + in_each f es
+
+-- how many lots of the currency are held with a count above 0
+abbrev pub long_lots : List ℕ → List Position → ℕ
+long_lots currency es = in_each (long_lot currency) es
+
+-- how many lots of the currency are held with a count below 0
+abbrev pub short_lots : List ℕ → List Position → ℕ
+short_lots currency es = in_each (short_lot currency) es
+
 -- a count has the sign opposite to the want
 abbrev pub is_opposite : ℤ → ℤ → Bool
 is_opposite want n = (lt_z want (pos 0) && lt_z (pos 0) n) || (lt_z (pos 0) want && lt_z n (pos 0))
-
--- some lot, of whatever currency, has the sign opposite to the want
-abbrev pub has_lot_against : ℤ → List Position → Bool
-has_lot_against want es = list_any (λ e. is_some e.key.lot && is_opposite want e.count) es
 
 -- the entry of the other sign
 abbrev pub negative_entry : Position → Position

@@ -1,15 +1,14 @@
 -- How an inventory is kept: a slot for each key, and what is known of all slots.
 use Rattle.std.specs.Prelude.{◌≡◌, ◌≤ℤ◌, ◌+◌, ℕ, zero, suc, ℤ, pos, Bool, true, List, [], ◌∷◌}
-use Rattle.std.specs.Prelude.{◌++◌, if◌then◌else◌, not, position, Option, Some, None}
+use Rattle.std.specs.Prelude.{◌++◌, not, position, Option, Some, None}
 use Rattle.std.specs.List.{AllByRecursion}
 use Rattle.std.specs.Map.{keys_of}
-use Rattle.std.specs.Int.Signed.{lt_z}
 use Rattle.std.specs.Ordering.{int_eq}
-use Rattle.std.specs.Option.{is_some}
 use Rattle.bean_base.specs.Day.{number}
 use Rattle.bean_lots.specs.Days.{IsNotBefore}
-use Rattle.bean_lots.specs.Inventory.{held_as}
+use Rattle.bean_lots.specs.Inventory.{held_as, long_lot, short_lot}
 use Rattle.bean_lots.specs.Lot.{same_key}
+use Rattle.bean_lots.specs.Signs.{signs_at}
 use Rattle.bean_lots.specs.declared.lot.Key.{Key}
 use Rattle.bean_lots.specs.declared.lot.Lot.{Lot}
 use Rattle.bean_lots.specs.declared.lot.Position.{Position}
@@ -34,18 +33,6 @@ AreHoles zero es = Unit {0}
 AreHoles (suc n) [] = ⊥
 AreHoles (suc n) (e ∷ es) = (e.1 ≡ pos 0) × AreHoles n es
 
-abbrev pub as_long : ℤ → ℕ
-as_long n = if lt_z (pos 0) n then 1 else 0
-
-abbrev pub as_short : ℤ → ℕ
-as_short n = if lt_z n (pos 0) then 1 else 0
-
-abbrev pub long_at : Key → ℤ → ℕ
-long_at k n = if is_some k.lot then as_long n else 0
-
-abbrev pub short_at : Key → ℤ → ℕ
-short_at k n = if is_some k.lot then as_short n else 0
-
 -- so many of each slot together
 abbrev pub in_all : (Key → ℤ → ℕ) → List (Key × ℤ) → ℕ
 in_all f [] = 0
@@ -68,10 +55,10 @@ AreInOrder (e ∷ es) =
 abbrev pub AreDays : Days → List (Key × ℤ) → Type 0
 AreDays d es = d.in_order ≡ true → AreInOrder es × AreBy d.latest es
 
--- the lots of each sign are counted, slots below the first are empty, and where lots are said to be
+-- the lots of each currency and sign are counted, slots below the first are empty, and where lots are said to be
 -- in order they are
 pub record IsKept (s : Slots) : Type 0 where
   pub holes : AreHoles s.first s.counts.entries
-  pub long : s.signs.long ≡ in_all long_at s.counts.entries
-  pub short : s.signs.short ≡ in_all short_at s.counts.entries
+  pub long : (c : List ℕ) → (signs_at s.signs c).long ≡ in_all (long_lot c) s.counts.entries
+  pub short : (c : List ℕ) → (signs_at s.signs c).short ≡ in_all (short_lot c) s.counts.entries
   pub days : AreDays s.days s.counts.entries

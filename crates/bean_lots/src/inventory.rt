@@ -1,11 +1,11 @@
 //! Inventories: what an account holds of each currency, in lots or without one.
 ghost use Rattle.std.specs.Prelude.{All, map, ◌≡◌, ◌+ℤ◌, [], OnOk, OnErr, IsTrue, ◌↔◌, List, ℤ};
-ghost use Rattle.std.specs.Prelude.{pos};
+ghost use Rattle.std.specs.Prelude.{◌<◌, ◌^◌, length, pos};
 ghost use Rattle.std.specs.Prelude.{false, if◌then◌else◌};
 ghost use Rattle.std.specs.Int.{w128};
 ghost use Rattle.std.specs.Int.RustNames.{FitsSigned};
 ghost use Rattle.bean_lots.specs.Days.{RiseInDays};
-ghost use Rattle.bean_lots.specs.Inventory.{has_lot_against};
+ghost use Rattle.bean_lots.specs.Inventory.{long_lots, short_lots};
 ghost use Rattle.bean_lots.specs.Inventory as spec;
 ghost use Rattle.bean_lots.specs.Inventory.{count_of, added, negative_entry, MayBeNegated};
 ghost use Rattle.bean_lots.specs.Inventory.{IsInventory, position_of};
@@ -23,6 +23,7 @@ mod slots;
 use crate::lot::Key;
 use bean_base::{Currency, Day};
 pub use positions::Positions;
+pub use signs::Signs;
 use slots::Slots;
 use std::alloc::{AllocError, Global};
 use std::marker::Model;
@@ -87,13 +88,8 @@ impl<'a> Inventory<'a> {
     pub fn has_lot(&self, currency: &Currency<'_>) -> bool
         ensures { result ≡ spec.has_lot currency.now self.now }
     {
-        let mut rest = self.positions();
-        while let Some((key, _)) = rest.next_held() {
-            if is_lot_of(key, currency) {
-                return true;
-            }
-        }
-        false
+        let signs = self.slots.signs.of(currency);
+        signs.long > 0 || signs.short > 0
     }
 
     /// Adds to the count under a key. The caller knows that the sum fits.
@@ -146,13 +142,14 @@ impl<'a> Inventory<'a> {
         self.slots.days.in_order
     }
 
-    /// Whether some lot may have the sign opposite to the want. Where it says no, none has.
-    pub fn may_have_lot_against(&self, want: i128) -> bool
-        ensures { result ≡ false → has_lot_against want self.now ≡ false }
+    /// How many lots of a currency are held with a count above 0, and how many with one below. There
+    /// are fewer positions than `2^63`.
+    pub fn signs_of(&self, currency: &Currency<'_>) -> Signs
+        ensures long { result.long ≡ long_lots currency.now self.now }
+        ensures short { result.short ≡ short_lots currency.now self.now }
+        ensures few { length self.now < 2 ^ 63 }
     {
-        let signs = self.slots.signs;
-        let against = if want < 0 { signs.long } else { signs.short };
-        against > 0
+        self.slots.signs_of(currency)
     }
 }
 

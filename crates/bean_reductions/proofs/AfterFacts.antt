@@ -1,17 +1,15 @@
 -- What is left of an inventory, one entry after the other.
 use Rattle.std.proofs.Common.{◌≡◌, ℕ, ◌≤◌, ◌^◌, ℤ, pos, ◌+ℤ◌, Bool, true, false}
 use Rattle.std.proofs.Common.{cond}
-use Rattle.std.proofs.Common.{◌&&◌, ◌||◌, List, [], ◌∷◌, ◌++◌, append_assoc}
+use Rattle.std.proofs.Common.{◌&&◌, List, [], ◌∷◌, ◌++◌, append_assoc}
 use Rattle.std.proofs.Common.{Option, Some, None, refl, sym, ap, ◌∙◌, arith, subst, sum_by, ◌-◌}
 use Rattle.std.proofs.lemmas.List.Sums.{sum_by-append}
 use Rattle.bean_reductions.specs.Take.{units_of}
 use Rattle.std.specs.Int.{w128}
 use Rattle.std.specs.Int.RustNames.{unsigned_abs, FitsSigned}
-use Rattle.std.specs.Option.{is_some}
 use Rattle.std.specs.Ordering.{int_eq}
 use Rattle.std.proofs.lemmas.Int.{ints}
-use Rattle.bean_lots.specs.Inventory.{has_lot_against}
-use Rattle.bean_reductions.specs.After.{after, has_opposite, is_opposite_lot}
+use Rattle.bean_reductions.specs.After.{after}
 use Rattle.bean_reductions.specs.After.{AreSmall}
 use Rattle.bean_lots.specs.Inventory.{is_opposite}
 use Rattle.bean_reductions.specs.Candidate.{agrees, candidate_of, candidates}
@@ -67,36 +65,6 @@ step s want es rest taken e found more is m =
     (sym (front s want e.key n (after rest taken))
     ∙ sym (ap (λ l. candidates s want (after l taken)) is))
 
-not_both : (a b c : Bool) → c ≡ false → (a && (b && c)) ≡ false
-not_both true true c h = h
-not_both true false c h = refl
-not_both false b c h = refl
-
-pub front_opposite : (currency : List ℕ) (want : ℤ) (k : Key) (n : ℤ) (rest : List Position)
-    → has_opposite currency want (held_as k n ++ rest)
-    ≡ (is_opposite_lot currency want k n || has_opposite currency want rest)
-front_opposite currency want k n rest = by (int_eq n (pos 0)) refl
-  where
-    by : (b : Bool) → int_eq n (pos 0) ≡ b
-        → has_opposite currency want (cond b [] (record { key = k; count = n } ∷ []) ++ rest)
-        ≡ (is_opposite_lot currency want k n || has_opposite currency want rest)
-    by true e =
-        ap (λ b. b || has_opposite currency want rest)
-        (sym (not_both (same_text k.currency currency) (is_some k.lot) (is_opposite want n)
-        (none_opposite want n e)))
-    by false e = refl
-
-pub step_opposite : (currency : List ℕ) (want : ℤ) (es rest taken : List Position)
-    (e : Position) (b : Bool) → es ≡ e ∷ rest
-    → b ≡ is_opposite_lot currency want e.key (e.count +ℤ count_of taken e.key)
-    → has_opposite currency want (after es taken)
-    ≡ (b || has_opposite currency want (after rest taken))
-step_opposite currency want es rest taken e b is t =
-    let n = e.count +ℤ count_of taken e.key in
-    ap (λ l. has_opposite currency want (after l taken)) is
-    ∙ front_opposite currency want e.key n (after rest taken)
-    ∙ ap (λ b. b || has_opposite currency want (after rest taken)) (sym t)
-
 one_small : (n : ℕ) (a c : ℤ) (b : Bool) → unsigned_abs a ≤ n → unsigned_abs c ≤ n
     → unsigned_abs (cond b a c) ≤ n
 one_small n a c true h k = h
@@ -131,38 +99,6 @@ next_candidate s want es rest e found more is m =
     let own = candidate_of s want e.key.currency e.key.lot e.count in
     ap (λ l. l ++ candidates s want rest) m ∙ append_assoc found own (candidates s want rest)
     ∙ ap (λ l. found ++ l) (sym (ap (candidates s want) is))
-
-pub no_sum : (a b : ℤ) → b ≡ pos 0 → a +ℤ b ≡ a
-no_sum a b h = omega (arith, ints, h)
-
-or_false : (a b c : Bool) → (a && (b && c)) ≡ true → (b && c) ≡ true
-or_false true b c h = h
-or_false false b c h = cc
-
--- where nothing is taken and no lot has the other sign, none of the currency has
-pub none_against : (currency : List ℕ) (want : ℤ) (es : List Position)
-    → has_lot_against want es ≡ false → has_opposite currency want (after es []) ≡ false
-none_against currency want [] h = refl
-none_against currency want (e ∷ es) h =
-    by (is_some e.key.lot && is_opposite want e.count) refl h (none_against currency want es)
-  where
-    by : (b : Bool) → (is_some e.key.lot && is_opposite want e.count) ≡ b
-        → (b || has_lot_against want es) ≡ false
-        → (has_lot_against want es ≡ false → has_opposite currency want (after es []) ≡ false)
-        → has_opposite currency want (after (e ∷ es) []) ≡ false
-    by true o h rest = cc
-    by false o h rest =
-        let n : e.count +ℤ pos 0 ≡ e.count = no_sum e.count (pos 0) refl in
-        front_opposite currency want e.key (e.count +ℤ pos 0) (after es [])
-        ∙ ap (λ m. is_opposite_lot currency want e.key m
-        || has_opposite currency want (after es [])) n
-        ∙ ap (λ b. (same_text e.key.currency currency && b)
-        || has_opposite currency want (after es [])) o
-        ∙ none (same_text e.key.currency currency) _ (rest h)
-      where
-        none : (a c : Bool) → c ≡ false → ((a && false) || c) ≡ false
-        none true c h = h
-        none false c h = h
 
 -- what is missing once some more are found
 pub missing_after : (want : ℕ) (found more own : List (Lot × ℕ)) (before units after : ℕ)

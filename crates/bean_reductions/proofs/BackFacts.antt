@@ -28,14 +28,14 @@ use Rattle.bean_reductions.proofs.ReductionFacts.{one_queue, open_orders}
 use Rattle.bean_reductions.proofs.TakeFacts.{to_first, to_takes}
 
 -- whether a candidate is taken before another
-abbrev before : Lot × ℕ → Lot × ℕ → Bool
+abbrev pub before : Lot × ℕ → Lot × ℕ → Bool
 before = by_key day_of (order_of Lifo)
 
 -- the order in which candidates are taken
-abbrev queue_of : List (Lot × ℕ) → List (Lot × ℕ)
+abbrev pub queue_of : List (Lot × ℕ) → List (Lot × ℕ)
 queue_of cs = arranged_by before cs
 
-is_queue : (cs : List (Lot × ℕ)) → IsQueue Lifo cs (queue_of cs)
+pub is_queue : (cs : List (Lot × ℕ)) → IsQueue Lifo cs (queue_of cs)
 is_queue cs = is_arranged before (ranks_by (open_orders Lifo) day_of) cs
 
 all_put : (P : Lot × ℕ → Type 0) (c : Lot × ℕ) (q : List (Lot × ℕ)) → P c → AllByRecursion P q
@@ -48,7 +48,7 @@ all_put P c (d ∷ q) h a = by (before d c) (all_put P c q h a.1)
     by true rest = (a.0, rest)
     by false rest = (h, a)
 
-all_queued : (P : Lot × ℕ → Type 0) (cs : List (Lot × ℕ)) → AllByRecursion P cs
+pub all_queued : (P : Lot × ℕ → Type 0) (cs : List (Lot × ℕ)) → AllByRecursion P cs
     → AllByRecursion P (queue_of cs)
 all_queued P [] a = tt
 all_queued P (c ∷ cs) a = all_put P c (queue_of cs) a.0 (all_queued P cs a.1)
@@ -67,7 +67,7 @@ sum_put c (d ∷ q) = by (before d c) (sum_put c q)
         omega (arith, first, all, rest)
     by false rest = sum_by-cons units_of c (d ∷ q)
 
-sum_queued : (cs : List (Lot × ℕ)) → sum_by units_of (queue_of cs) ≡ sum_by units_of cs
+pub sum_queued : (cs : List (Lot × ℕ)) → sum_by units_of (queue_of cs) ≡ sum_by units_of cs
 sum_queued [] = refl
 sum_queued (c ∷ cs) =
     sum_put c (queue_of cs) ∙ ap (λ n. c.1 + n) (sum_queued cs) ∙ sym (sum_by-cons units_of c cs)
@@ -86,7 +86,7 @@ put_behind c (d ∷ q) r a =
     ∙ ap (λ l. d ∷ l) (put_behind c q r a.1)
 
 -- the queue of all: that of the last, then that of the rest
-queue_of_all : (rest f : List (Lot × ℕ)) → AreEarlier rest f
+pub queue_of_all : (rest f : List (Lot × ℕ)) → AreEarlier rest f
     → queue_of (rest ++ f) ≡ queue_of f ++ queue_of rest
 queue_of_all [] f a = sym (append-nil (queue_of f))
 queue_of_all (c ∷ rest) f a =

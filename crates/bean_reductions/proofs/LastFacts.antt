@@ -29,7 +29,7 @@ use Rattle.bean_reductions.proofs.AfterFacts.{count_small, front, sum_fits}
 use Rattle.bean_reductions.proofs.FrontFacts.{AreByDay}
 
 -- the candidate of the last position, behind those of the others
-last_own : (s : Selector) (want : ℤ) (es taken : List Position) (e : Position)
+pub last_own : (s : Selector) (want : ℤ) (es taken : List Position) (e : Position)
     → candidates s want (after (es ++ e ∷ []) taken)
     ≡ candidates s want (after es taken)
     ++ candidate_of s want e.key.currency e.key.lot (e.count +ℤ count_of taken e.key)
@@ -105,16 +105,16 @@ rise_part day part es h r =
     rise_first part h.behind (rise_second h.before (part ++ h.behind) (subst RiseInDays h.all r))
 
 -- no lot is of a later day than the last
-all_by_last : (es : List Position) (e : Position) → RiseInDays (es ++ e ∷ [])
+pub all_by_last : (es : List Position) (e : Position) → RiseInDays (es ++ e ∷ [])
     → AllByRecursion {X = Position} (λ f. IsNotBefore f.key.lot e.key.lot) (es ++ e ∷ [])
 all_by_last [] e r = (own_day e.key.lot, tt)
 all_by_last (x ∷ es) e r =
     ((second (λ f. IsNotBefore x.key.lot f.key.lot) es (e ∷ []) r.0).0, all_by_last es e r.1)
 
-abbrev IsBy : ℤ → Lot × ℕ → Type 0
+abbrev pub IsBy : ℤ → Lot × ℕ → Type 0
 IsBy day c = day_of c ≤ℤ day
 
-candidates_by : (s : Selector) (want : ℤ) (l : Lot) (es taken : List Position)
+pub candidates_by : (s : Selector) (want : ℤ) (l : Lot) (es taken : List Position)
     → AllByRecursion {X = Position} (λ f. IsNotBefore f.key.lot (Some l)) es
     → AllByRecursion (IsBy (number l.day)) (candidates s want (after es taken))
 candidates_by s want l [] taken a = tt

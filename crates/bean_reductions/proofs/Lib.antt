@@ -4,10 +4,12 @@ pub mod TakeFacts
 pub mod ReductionFacts
 pub mod CandidateFacts
 pub mod AfterFacts
-pub mod TurnedFacts
+pub mod SignFacts
+pub mod LeftFacts
 pub mod EnoughFacts
 pub mod FrontFacts
 pub mod BackFacts
 pub mod LastFacts
+pub mod LastDayFacts
 pub mod PartFacts
 mod Examples

@@ -33,9 +33,31 @@ pub struct Selector<'a> {
     pub label: Option<Text<'a>>,
 }
 
-impl Selector<'_> {
+impl<'a> Selector<'a> {
+    ghost use Rattle.std.specs.Prelude.{Some};
     ghost use Rattle.bean_lots.specs.Days.{has_day};
     ghost use Rattle.bean_reductions.specs.Candidate.{has_cost, has_label, agrees};
+
+    /// The lots of one day among those that it selects, where it gives no day.
+    fn on(&self, day: Day) -> Selector<'a>
+        ensures currency { result.currency ≡ self.now.currency }
+        ensures cost { result.cost ≡ self.now.cost }
+        ensures day { result.day ≡ Some day }
+        ensures label { result.label ≡ self.now.label }
+    {
+        Selector {
+            currency: self.currency.lend(),
+            cost: match &self.cost {
+                Some(cost) => Some(cost.lend()),
+                None => None,
+            },
+            day: Some(day),
+            label: match &self.label {
+                Some(label) => Some(label.lend()),
+                None => None,
+            },
+        }
+    }
 
     fn has_cost(&self, lot: &Lot<'_>) -> bool
         ensures { result ≡ has_cost self.now.cost lot.now }

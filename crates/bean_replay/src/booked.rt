@@ -109,10 +109,11 @@ fn finish<'a>(
         → Wherever booker.entry (λ m past st. IfOk result (IsFinished l st)) }
     ensures full { result ≢ prelude.Err (Refusal.Refused BookCause.TooManyPostings) }
 {
-    let padded = booker.padder.finish()?;
-    let bookings = with_pads(alloc, booker.drafts, padded.pads.into_vec())?;
+    let (padder, drafts, own) = booker.into_found();
+    let padded = padder.finish()?;
+    let bookings = with_pads(alloc, drafts, padded.pads.into_vec())?;
     let mut faults = told;
-    faults.extend_from_slice(&booker.faults)?;
+    faults.extend_from_slice(&own)?;
     faults.extend_from_slice(padded.faults.as_slice())?;
     Ok(Booked {
         bookings: List::new(bookings),

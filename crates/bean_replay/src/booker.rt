@@ -233,4 +233,12 @@ impl<'a> Booker<'a> {
             _ => Ok(()),
         }
     }
+
+    /// What it has found: the pads and balances, what is booked, and the faults. What only served to
+    /// find it is given up.
+    pub(crate) fn into_found(self) -> (Padder<'a>, Vec<Draft<'a>>, Vec<Fault>)
+        ensures { result ≡ (self.entry.padder, self.entry.drafts, self.entry.faults) }
+    {
+        (self.padder, self.drafts, self.faults)
+    }
 }

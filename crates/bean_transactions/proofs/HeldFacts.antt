@@ -1,6 +1,6 @@
 -- What accounts hold after one more posting, and the takes among lines after one more line.
 use Rattle.std.proofs.Common.{◌≡◌, ℕ, Bool, true, false, cond, List, [], ◌∷◌, ◌++◌, filter, fold}
-use Rattle.std.proofs.Common.{refl, sym, ap, ◌∙◌, subst}
+use Rattle.std.proofs.Common.{refl, sym, ap, ◌∙◌}
 use Rattle.std.specs.Str.{bytes_eq}
 use Rattle.std.proofs.lemmas.List.{append-nil}
 use Rattle.std.proofs.lemmas.List.Elements.{filter-append}
@@ -53,16 +53,14 @@ takes_append (line.Take p ∷ ls) ms = ap (λ l. p ∷ l) (takes_append ls ms)
 takes_append (line.MissingNumber a c n ∷ ls) ms = takes_append ls ms
 takes_append (line.MissingAmount a n ∷ ls) ms = takes_append ls ms
 
-pub one_take : (ls : List Line) (p : Posted) (h : Holdings) → AreHeld (takes_in ls ++ p ∷ []) h
-    → AreHeld (takes_in (ls ++ line.Take p ∷ [])) h
-one_take ls p h held = subst (λ ps. AreHeld ps h) (sym (takes_append ls (line.Take p ∷ []))) held
+pub take_more : (ls : List Line) (p : Posted)
+    → takes_in (ls ++ line.Take p ∷ []) ≡ takes_in ls ++ p ∷ []
+take_more ls p = takes_append ls (line.Take p ∷ [])
 
-pub no_take : (ls : List Line) (l : Line) (h : Holdings) → takes_in (l ∷ []) ≡ []
-    → AreHeld (takes_in ls) h → AreHeld (takes_in (ls ++ l ∷ [])) h
-no_take ls l h none held =
-    subst (λ ps. AreHeld ps h)
-    (sym (takes_append ls (l ∷ []) ∙ ap (λ ps. takes_in ls ++ ps) none
-    ∙ append-nil (takes_in ls))) held
+pub no_more : (ls : List Line) (l : Line) → takes_in (l ∷ []) ≡ []
+    → takes_in (ls ++ l ∷ []) ≡ takes_in ls
+no_more ls l none =
+    takes_append ls (l ∷ []) ∙ ap (λ ps. takes_in ls ++ ps) none ∙ append-nil (takes_in ls)
 
 pub none_taken : (l : Line) → ((p : Posted) → ¬ (l ≡ line.Take p)) → takes_in (l ∷ []) ≡ []
 none_taken (line.Posted p) h = refl

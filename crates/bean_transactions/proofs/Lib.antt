@@ -2,6 +2,7 @@ pub mod BoundFacts
 pub mod InPlace
 pub mod OutcomeFacts
 pub mod HeldFacts
+pub mod LotsLeftFacts
 pub mod LinedFacts
 pub mod CompletedFacts
 pub mod FilledFacts

@@ -32,7 +32,7 @@ use Rattle.refusals.specs.declared.refusal.Refusal.TheVariants as stop
 pub next_of :
     (s : Setting) (h : Holdings) (ms : Methods) (head : Head) (ls : Lines) (m : Method)
     (before taken : List Position) (i : ℕ) (p : Posting) (r : Result Outcome (Refusal LineFault))
-    → IsSettled s h ms head → IsKeeping ls → m ≡ method_in ms p.account
+    → IsSettled s h ms head → IsKeeping h ls → m ≡ method_in ms p.account
     → before ≡ holding h p.account → taken ≡ holding ls.taken p.account
     → ComesOf (IsLinedByUnits m (after before taken) head p.account p.units p.details.cost i
     p.details.line) r

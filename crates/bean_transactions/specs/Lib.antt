@@ -1,6 +1,7 @@
 pub mod Held
 pub mod Holdings
 pub mod Methods
+pub mod LotsLeft
 pub mod Stock
 pub mod Lined
 pub mod Outcome

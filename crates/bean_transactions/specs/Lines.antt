@@ -3,22 +3,30 @@ use Rattle.std.specs.Prelude.{◌≡◌, ◌≤◌, ◌^◌, ℕ, Bool, true, fa
 use Rattle.bean_postings.specs.declared.cost.Cost.{Cost}
 use Rattle.bean_postings.specs.declared.cost.Cost.TheVariants as cost
 use Rattle.bean_transactions.specs.Held.{takes_in}
-use Rattle.bean_transactions.specs.Holdings.{AreHeld, IsBounded, additions_in}
+use Rattle.bean_transactions.specs.Holdings.{AreHeld, IsBounded, additions_in, holding}
 use Rattle.bean_transactions.specs.Lined.{Setting}
+use Rattle.bean_transactions.specs.LotsLeft.{AreLeft}
 use Rattle.bean_transactions.specs.Methods.{method_in}
 use Rattle.bean_transactions.specs.declared.holdings.Holdings.{Holdings}
 use Rattle.bean_transactions.specs.declared.line.Line.{Line}
 use Rattle.bean_transactions.specs.declared.lines.Lines.{Lines}
+use Rattle.bean_transactions.specs.declared.line.Posted.{Posted}
 use Rattle.bean_transactions.specs.declared.methods.Methods.{Methods}
 use Rattle.bean_transactions.specs.declared.setting.Head.{Head}
 use Rattle.bean_transactions.specs.declared.stop.LineFault.{LineFault}
 
--- what is taken is what the takes among the lines come to, and nothing is nothing
-pub record IsKeeping (ls : Lines) : Type 0 where
+-- what is taken is what these takes come to, it is known which lots are left of what was held, and
+-- nothing is nothing
+pub record HasTaken (h : Holdings) (ps : List Posted) (ls : Lines) : Type 0 where
   pub nothing : ls.nothing ≡ []
-  pub takes : AreHeld (takes_in ls.lines.items) ls.taken
+  pub takes : AreHeld ps ls.taken
   pub bounded : IsBounded ls.taken
   pub few : additions_in ls.taken ≤ 2 ^ 39
+  pub left : (a : List ℕ) → AreLeft ls.left a (holding h a) (holding ls.taken a)
+
+-- the takes are those among the lines
+abbrev pub IsKeeping : Holdings → Lines → Type 0
+IsKeeping h ls = HasTaken h (takes_in ls.lines.items) ls
 
 -- the lines with new ones behind them, which are such
 abbrev pub Adds : (Result (List Line) LineFault → Type 0) → List Line → List Line → Type 0

@@ -4,6 +4,7 @@ ghost use Rattle.std.specs.Prelude.{if◌then◌else◌, false};
 ghost use Rattle.std.specs.Int.RustNames.{unsigned_abs};
 ghost use Rattle.std.specs.Str.{bytes_eq};
 ghost use Rattle.bean_lots.specs.Inventory.{added};
+ghost use Rattle.bean_transactions.specs.Held.{at_8, key_of};
 ghost use Rattle.bean_transactions.specs.Holdings.{AreHeld, IsBounded, additions_in, holding};
 ghost use Rattle.bean_transactions.specs.declared.line.Posted as spec;
 
@@ -106,21 +107,20 @@ impl<'a> Holdings<'a> {
     }
 
     /// Adds a posting to what its account holds.
-    #[tactic(auto, using(crate::proofs::HeldFacts::one_more))]
     pub fn post(&mut self, alloc: Global, posted: &Posted<'a>) -> Result<(), AllocError>
         requires bounded { IsBounded self.old }
         requires few { additions_in self.old < 2 ^ 40 }
         ensures held { OnOk result ((ps : List spec.Posted) → AreHeld ps self.old
             → AreHeld (ps ++ posted.now ∷ []) self.new) }
+        ensures holding { OnOk result ((a : List ℕ) → holding self.new a
+            ≡ (if bytes_eq posted.now.account a
+            then added (holding self.old a) (key_of posted.now) (at_8 posted.now.units.number)
+            else holding self.old a)) }
         ensures bounded { OnOk result (IsBounded self.new) }
         ensures additions { OnOk result (additions_in self.new ≡ additions_in self.old + 1) }
     {
-        let key = Key {
-            currency: posted.units.currency.lend(),
-            lot: posted.lend_lot(),
-        };
         let count = posted.units.number.scaled(8);
-        self.add(alloc, posted.account.lend(), key, count)
+        self.add(alloc, posted.account.lend(), posted.key(), count)
     }
 
     /// Adds postings, one after the other.

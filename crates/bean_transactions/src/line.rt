@@ -2,7 +2,7 @@
 ghost use Rattle.std.specs.Prelude.{◌≡◌};
 
 use bean_base::{Account, Amount, Apart, Currency, List};
-use bean_lots::Lot;
+use bean_lots::{Key, Lot};
 
 /// A posting as it is booked.
 #[derive(Debug, Drop)]
@@ -16,6 +16,18 @@ pub struct Posted<'a> {
 }
 
 impl<'a> Posted<'a> {
+    ghost use Rattle.bean_transactions.specs.Held.{key_of};
+
+    /// What it is held under.
+    pub(crate) fn key(&self) -> Key<'a>
+        ensures { result ≡ key_of self.now }
+    {
+        Key {
+            currency: self.units.currency.lend(),
+            lot: self.lend_lot(),
+        }
+    }
+
     /// The lot once more.
     pub fn lend_lot(&self) -> Option<Lot<'a>>
         ensures { result ≡ self.now.lot }

@@ -1,19 +1,23 @@
 //! The lines of a transaction, posting by posting.
 ghost use Rattle.std.specs.Prelude.{◌≡◌, ◌≤◌, ◌^◌, ◌++◌, ◌∷◌, [], false, List, OnOk, IfOk, IfErr};
-ghost use Rattle.std.specs.Prelude.{Err, reverse};
+ghost use Rattle.std.specs.Prelude.{Err, if◌then◌else◌, reverse, ℕ};
 ghost use Rattle.std.specs.List.{list_any};
+ghost use Rattle.std.specs.Str.{bytes_eq};
+ghost use Rattle.bean_lots.specs.Inventory.{added};
 ghost use Rattle.bean_postings.specs.Posting.{is_outside_profile};
-ghost use Rattle.bean_transactions.specs.Held.{takes_in};
-ghost use Rattle.bean_transactions.specs.Holdings.{AreHeld, IsBounded, additions_in};
+ghost use Rattle.bean_transactions.specs.Held.{at_8, key_of, takes_in};
+ghost use Rattle.bean_transactions.specs.Holdings.{AreHeld, IsBounded, additions_in, holding};
 ghost use Rattle.bean_transactions.specs.Lined.{AreLined, IsFirstFault, IsNext, Setting};
-ghost use Rattle.bean_transactions.specs.Lines.{Adds, IsKeeping, IsSettled, is_lot};
+ghost use Rattle.bean_transactions.specs.Lines.{Adds, HasTaken, IsKeeping, IsSettled, is_lot};
 ghost use Rattle.bean_transactions.specs.Outcome as spec;
 ghost use Rattle.bean_transactions.specs.Outcome.{ComesOf, StopsAt, StopsWith};
+ghost use Rattle.bean_transactions.specs.declared.holdings.Holdings as holdings;
 ghost use Rattle.bean_transactions.specs.declared.line.Line.{Line};
 ghost use Rattle.bean_transactions.specs.declared.line.Posted.{Posted};
 
 use crate::holdings::Holdings;
 use crate::line::{Line, Posted};
+use crate::lots_left::LotsLeft;
 use crate::methods::Methods;
 use crate::outcome::{Outcome, outcome_of};
 use crate::setting::Head;
@@ -27,11 +31,13 @@ use std::alloc::{AllocError, Global};
 /// More takes than any memory holds.
 const MOST_TAKES: usize = 1 << 39;
 
-/// The lines of a transaction so far, and what its takes come to in each account.
+/// The lines of a transaction so far, what its takes come to in each account, and which lots these
+/// leave there.
 #[derive(Drop)]
 pub(crate) struct Lines<'a> {
     lines: Vec<Line<'a>>,
     taken: Holdings<'a>,
+    left: LotsLeft<'a>,
     /// What an account holds that isn't there.
     nothing: Inventory<'a>,
 }
@@ -45,6 +51,10 @@ fn post_take<'a>(
     requires { IsBounded taken.old }
     ensures held { OnOk result ((ps : List Posted) → AreHeld ps taken.old
         → AreHeld (ps ++ take.now ∷ []) taken.new) }
+    ensures own { OnOk result ((a : List ℕ) → holding taken.new a
+        ≡ (if bytes_eq take.now.account a
+        then added (holding taken.old a) (key_of take.now) (at_8 take.now.units.number)
+        else holding taken.old a)) }
     ensures bounded { OnOk result (IsBounded taken.new) }
     ensures few { OnOk result (additions_in taken.new ≤ 2 ^ 39) }
 {
@@ -52,21 +62,6 @@ fn post_take<'a>(
         return Err(AllocError);
     }
     taken.post(alloc, take)
-}
-
-/// Adds what a line takes to what is taken.
-fn note<'a>(alloc: Global, taken: &mut Holdings<'a>, line: &Line<'a>) -> Result<(), AllocError>
-    requires bounded { IsBounded taken.old }
-    requires few { additions_in taken.old ≤ 2 ^ 39 }
-    ensures held { OnOk result ((ls : List Line) → AreHeld (takes_in ls) taken.old
-        → AreHeld (takes_in (ls ++ line.now ∷ [])) taken.new) }
-    ensures bounded { OnOk result (IsBounded taken.new) }
-    ensures few { OnOk result (additions_in taken.new ≤ 2 ^ 39) }
-{
-    match line {
-        Line::Take(take) => post_take(alloc, taken, take),
-        _ => Ok(()),
-    }
 }
 
 /// Whether a posting has a cost in braces. What comes of any other doesn't depend on what its
@@ -83,11 +78,12 @@ fn is_in_braces(posting: &Posting<'_>) -> bool
 impl<'a> Lines<'a> {
     fn new(alloc: Global) -> Lines<'a>
         ensures lines { result.lines.items ≡ [] }
-        ensures keeping { IsKeeping result }
+        ensures keeping { (h : holdings.Holdings) → IsKeeping h result }
     {
         Lines {
             lines: Vec::new(alloc),
             taken: Holdings::new(alloc),
+            left: LotsLeft::new(alloc),
             nothing: Inventory::new(alloc),
         }
     }
@@ -106,38 +102,101 @@ impl<'a> Lines<'a> {
         self.lines
     }
 
-    fn push(&mut self, alloc: Global, line: Line<'a>) -> Result<(), AllocError>
-        requires { IsKeeping self.old }
+    /// Adds a take to what is taken.
+    fn note_take(
+        &mut self,
+        alloc: Global,
+        holdings: &Holdings<'a>,
+        take: &Posted<'a>,
+    ) -> Result<(), AllocError>
+        requires keeping { IsKeeping holdings.now self.old }
+        requires bounded { IsBounded holdings.now }
+        requires few { additions_in holdings.now ≤ 2 ^ 40 }
+        ensures lines { OnOk result (self.new.lines ≡ self.old.lines) }
+        ensures taken { OnOk result
+            (HasTaken holdings.now (takes_in self.old.lines.items ++ take.now ∷ []) self.new) }
+    {
+        let held = holdings.of(&take.account, &self.nothing);
+        let taken = self.taken.of(&take.account, &self.nothing);
+        let count = take.units.number.scaled(8);
+        self.left
+            .note(&take.account, held, taken, &take.key(), count)?;
+        post_take(alloc, &mut self.taken, take)
+    }
+
+    /// Adds what a line takes to what is taken.
+    fn note(
+        &mut self,
+        alloc: Global,
+        holdings: &Holdings<'a>,
+        line: &Line<'a>,
+    ) -> Result<(), AllocError>
+        requires keeping { IsKeeping holdings.now self.old }
+        requires bounded { IsBounded holdings.now }
+        requires few { additions_in holdings.now ≤ 2 ^ 40 }
+        ensures lines { OnOk result (self.new.lines ≡ self.old.lines) }
+        ensures taken { OnOk result
+            (HasTaken holdings.now (takes_in (self.old.lines.items ++ line.now ∷ [])) self.new) }
+    {
+        match line {
+            Line::Take(take) => self.note_take(alloc, holdings, take),
+            _ => Ok(()),
+        }
+    }
+
+    fn push(
+        &mut self,
+        alloc: Global,
+        holdings: &Holdings<'a>,
+        line: Line<'a>,
+    ) -> Result<(), AllocError>
+        requires keeping { IsKeeping holdings.now self.old }
+        requires bounded { IsBounded holdings.now }
+        requires few { additions_in holdings.now ≤ 2 ^ 40 }
         ensures lines { OnOk result
             (self.new.lines.items ≡ self.old.lines.items ++ line.entry ∷ []) }
-        ensures keeping { OnOk result (IsKeeping self.new) }
+        ensures keeping { OnOk result (IsKeeping holdings.now self.new) }
     {
-        note(alloc, &mut self.taken, &line)?;
+        self.note(alloc, holdings, &line)?;
         self.lines.push(line)?;
         Ok(())
     }
 
-    fn push_all(&mut self, alloc: Global, lines: Vec<Line<'a>>) -> Result<(), AllocError>
-        requires { IsKeeping self.old }
+    fn push_all(
+        &mut self,
+        alloc: Global,
+        holdings: &Holdings<'a>,
+        lines: Vec<Line<'a>>,
+    ) -> Result<(), AllocError>
+        requires keeping { IsKeeping holdings.now self.old }
+        requires bounded { IsBounded holdings.now }
+        requires few { additions_in holdings.now ≤ 2 ^ 40 }
         ensures lines { OnOk result
             (self.new.lines.items ≡ self.old.lines.items ++ lines.entry.items) }
-        ensures keeping { OnOk result (IsKeeping self.new) }
+        ensures keeping { OnOk result (IsKeeping holdings.now self.new) }
     {
         for line in lines {
-            self.push(alloc, line)?;
+            self.push(alloc, holdings, line)?;
         }
         Ok(())
     }
 
-    fn add(&mut self, alloc: Global, outcome: Outcome<'a>) -> Result<(), AllocError>
-        requires { IsKeeping self.old }
+    fn add(
+        &mut self,
+        alloc: Global,
+        holdings: &Holdings<'a>,
+        outcome: Outcome<'a>,
+    ) -> Result<(), AllocError>
+        requires keeping { IsKeeping holdings.now self.old }
+        requires bounded { IsBounded holdings.now }
+        requires few { additions_in holdings.now ≤ 2 ^ 40 }
         ensures lines { OnOk result
             (self.new.lines.items ≡ self.old.lines.items ++ spec.lines_of outcome.entry) }
-        ensures keeping { OnOk result (IsKeeping self.new) }
+        ensures keeping { OnOk result (IsKeeping holdings.now self.new) }
     {
         match outcome {
-            Outcome::Line(line) => self.push(alloc, line),
-            Outcome::Takes(lines) => self.push_all(alloc, lines),
+            Outcome::Line(line) => self.push(alloc, holdings, line),
+            Outcome::Takes(lines) => self.push_all(alloc, holdings, lines),
         }
     }
 
@@ -151,7 +210,7 @@ impl<'a> Lines<'a> {
         index: usize,
         posting: &Posting<'a>,
     ) -> Result<Outcome<'a>, Refusal<LineFault>>
-        requires keeping { IsKeeping self.now }
+        requires keeping { IsKeeping holdings.now self.now }
         requires bounded { IsBounded holdings.now }
         requires few { additions_in holdings.now ≤ 2 ^ 40 }
         requires inside { is_outside_profile posting.now ≡ false }
@@ -159,13 +218,14 @@ impl<'a> Lines<'a> {
             → ComesOf (IsNext s self.now.lines.items index posting.now) result }
     {
         if !is_in_braces(posting) {
-            let stock = Stock::of_nothing(&self.nothing);
+            let stock = Stock::of_nothing(&self.nothing, &self.left);
             return outcome_of(alloc, stock, head, index, posting);
         }
         let stock = Stock {
             method: methods.of(&posting.account),
             held: holdings.of(&posting.account, &self.nothing),
             taken: self.taken.of(&posting.account, &self.nothing),
+            left: &self.left,
         };
         outcome_of(alloc, stock, head, index, posting)
     }
@@ -180,11 +240,11 @@ impl<'a> Lines<'a> {
         index: usize,
         posting: &Posting<'a>,
     ) -> Result<(), Refusal<LineFault>>
-        requires keeping { IsKeeping self.old }
+        requires keeping { IsKeeping holdings.now self.old }
         requires bounded { IsBounded holdings.now }
         requires few { additions_in holdings.now ≤ 2 ^ 40 }
         requires inside { is_outside_profile posting.now ≡ false }
-        ensures keeping { OnOk result (IsKeeping self.new) }
+        ensures keeping { OnOk result (IsKeeping holdings.now self.new) }
         ensures ok { OnOk result ((s : Setting) → IsSettled s holdings.now methods.now head
             → Adds (IsNext s self.old.lines.items index posting.now)
             self.old.lines.items self.new.lines.items) }
@@ -194,7 +254,7 @@ impl<'a> Lines<'a> {
     {
         match self.next(alloc, holdings, methods, head, index, posting) {
             Ok(outcome) => {
-                self.add(alloc, outcome)?;
+                self.add(alloc, holdings, outcome)?;
                 Ok(())
             }
             Err(stop) => Err(stop),

@@ -1,5 +1,5 @@
 //! What comes of a posting.
-ghost use Rattle.std.specs.Prelude.{◌≡◌, ◌≢◌, ◌∷◌, [], false, ℕ, List, Err, IfOk, map};
+ghost use Rattle.std.specs.Prelude.{◌≡◌, ◌≢◌, ◌∷◌, [], true, false, ℕ, List, Err, IfOk, map};
 ghost use Rattle.bean_postings.specs.Posting.{is_outside_profile};
 ghost use Rattle.bean_reductions.specs.Reduction.{Reduces};
 ghost use Rattle.bean_reductions.specs.Take.{take_counts};
@@ -10,7 +10,8 @@ ghost use Rattle.bean_transactions.specs.Lined.{IsAugmented, IsInBraces, IsLined
 ghost use Rattle.bean_transactions.specs.Lined.{AreTakeLines, IsLotOf, IsReduced, IsSelector};
 ghost use Rattle.bean_transactions.specs.Lined.{IsReducedBy, IsTakeLine};
 ghost use Rattle.bean_transactions.specs.Outcome.{ComesOf, StopsWith, lines_of};
-ghost use Rattle.bean_transactions.specs.Stock.{IsSmallStock, rest_of};
+ghost use Rattle.bean_transactions.specs.Lines.{is_lot};
+ghost use Rattle.bean_transactions.specs.Stock.{IsSmallStock, KnowsLots, rest_of};
 
 use crate::line::{Line, Posted};
 use crate::setting::Head;
@@ -42,11 +43,12 @@ fn reduces(method: Method) -> bool
 }
 
 /// Whether units in braces are a reduction.
-fn is_reduction(stock: Stock<'_, '_>, units: &Amount<'_>) -> bool
-    requires { IsSmallStock stock }
+fn is_reduction<'a>(stock: Stock<'_, 'a>, account: &Account<'a>, units: &Amount<'a>) -> bool
+    requires { KnowsLots stock account.now }
     ensures { result ≡ spec.is_reduction stock.entry.method (rest_of stock.entry) units.now }
 {
-    reduces(stock.method) && has_opposite(stock.held, stock.taken, &units.currency, units.number)
+    let left = stock.left.of(account, &units.currency, stock.held);
+    reduces(stock.method) && has_opposite(left, units.number)
 }
 
 fn label_of<'a>(parts: &LotParts<'a>) -> Option<Text<'a>>
@@ -218,11 +220,12 @@ fn in_braces<'a>(
     units: &Amount<'a>,
     parts: &LotParts<'a>,
 ) -> Result<Outcome<'a>, Refusal<LineFault>>
-    requires { IsSmallStock stock }
+    requires small { IsSmallStock stock }
+    requires left { KnowsLots stock posting.now.account }
     ensures { ComesOf (IsInBraces stock.entry.method (rest_of stock.entry) head parts.now
         posting.now.account units.now index posting.now.details.line) result }
 {
-    if is_reduction(stock, units) {
+    if is_reduction(stock, &posting.account, units) {
         reduced(alloc, stock, index, posting, units, parts)
     } else {
         augmented(alloc, head, index, posting, units, parts)
@@ -251,6 +254,7 @@ fn outcome_by_cost<'a>(
     units: &Amount<'a>,
 ) -> Result<Outcome<'a>, Refusal<LineFault>>
     requires small { IsSmallStock stock }
+    requires left { is_lot posting.now.details.cost ≡ true → KnowsLots stock posting.now.account }
     requires inside { is_outside_profile posting.now ≡ false }
     ensures { ComesOf (IsLinedByCost stock.entry.method (rest_of stock.entry) head
         posting.now.account units.now posting.now.details.cost index
@@ -275,6 +279,7 @@ pub(crate) fn outcome_of<'a>(
     posting: &Posting<'a>,
 ) -> Result<Outcome<'a>, Refusal<LineFault>>
     requires small { IsSmallStock stock }
+    requires left { is_lot posting.now.details.cost ≡ true → KnowsLots stock posting.now.account }
     requires inside { is_outside_profile posting.now ≡ false }
     ensures { ComesOf (IsLinedByUnits stock.entry.method (rest_of stock.entry) head
         posting.now.account posting.now.units posting.now.details.cost index

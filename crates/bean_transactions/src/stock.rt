@@ -1,21 +1,23 @@
 //! What a posting meets in its account.
 ghost use Rattle.std.specs.Prelude.{◌≡◌};
 
+use crate::lots_left::LotsLeft;
 use bean_lots::Inventory;
 use bean_reductions::Method;
 
 /// An account as a posting meets it: what it held before the transaction, what the transaction took
-/// of that so far, and how the account chooses among its lots.
+/// of that so far, which lots it leaves, and how the account chooses among its lots.
 #[derive(Clone, Copy)]
 pub(crate) struct Stock<'s, 'a> {
     pub method: Method,
     pub held: &'s Inventory<'a>,
     pub taken: &'s Inventory<'a>,
+    pub left: &'s LotsLeft<'a>,
 }
 
 impl<'s, 'a> Stock<'s, 'a> {
     /// An account with nothing in it, of which `nothing` is the inventory.
-    pub fn of_nothing(nothing: &'s Inventory<'a>) -> Stock<'s, 'a>
+    pub fn of_nothing(nothing: &'s Inventory<'a>, left: &'s LotsLeft<'a>) -> Stock<'s, 'a>
         ensures held { result.held.now ≡ nothing.now }
         ensures taken { result.taken.now ≡ nothing.now }
     {
@@ -23,6 +25,7 @@ impl<'s, 'a> Stock<'s, 'a> {
             method: Method::None,
             held: nothing,
             taken: nothing,
+            left,
         }
     }
 }

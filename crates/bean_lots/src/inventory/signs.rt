@@ -1,30 +1,47 @@
-//! How many lots are held with a count above 0, and how many with one below.
-ghost use Rattle.std.specs.Prelude.{◌≡◌, ◌+◌, ◌≤◌, ◌<◌, ◌^◌};
-ghost use Rattle.bean_lots.specs.Slots.{long_at, short_at};
-ghost use Rattle.bean_lots.specs.Slots as spec;
+//! How many lots of each currency are held with a count above 0, and how many with one below.
+ghost use Rattle.std.specs.Prelude.{◌≡◌, ◌+◌, ◌≤◌, ◌<◌, ◌^◌, List, ℕ, OnOk, OnErr, if◌then◌else◌};
+ghost use Rattle.bean_lots.specs.Inventory as inventory;
+ghost use Rattle.bean_lots.specs.Inventory.{long_lot, short_lot};
+ghost use Rattle.bean_lots.specs.Lot.{same_text};
+ghost use Rattle.bean_lots.specs.Signs as spec;
+ghost use Rattle.bean_lots.specs.Signs.{no_signs, signs_at};
 
 use crate::lot::Key;
+use bean_base::Currency;
+use indexmap::IndexMap;
+use std::alloc::{AllocError, Global};
 
-/// How many lots are held with a count above 0, and how many with one below.
-#[derive(Clone, Copy, Drop)]
-pub(crate) struct Signs {
+/// How many lots of a currency are held with a count above 0, and how many with one below.
+#[derive(Clone, Copy, Debug, Drop, PartialEq, Eq)]
+pub struct Signs {
     pub long: usize,
     pub short: usize,
 }
 
 impl Signs {
     /// No lots.
-    pub(crate) fn new() -> Signs
-        ensures long { result.long ≡ 0 }
-        ensures short { result.short ≡ 0 }
+    fn none() -> Signs
+        ensures { result ≡ no_signs }
     {
         Signs { long: 0, short: 0 }
     }
 
+    /// How many have the sign opposite to the want. None has where 0 is wanted.
+    pub fn against(self, want: i128) -> usize
+        ensures { result ≡ spec.against want self.long self.short }
+    {
+        if want < 0 {
+            self.long
+        } else if want > 0 {
+            self.short
+        } else {
+            0
+        }
+    }
+
     /// The same lots with counts of the other sign.
-    pub(crate) fn negated(self) -> Signs
-        ensures long { result.long ≡ self.short }
-        ensures short { result.short ≡ self.long }
+    fn negated(self) -> Signs
+        ensures { result ≡ spec.negated self }
     {
         Signs {
             long: self.short,
@@ -32,19 +49,17 @@ impl Signs {
         }
     }
 
-    /// What they are once the count under a key becomes another.
-    pub(crate) fn changed(self, key: &Key<'_>, before: i128, after: i128) -> Signs
-        requires long { long_at key.now before ≤ self.long }
-        requires short { short_at key.now before ≤ self.short }
+    /// What they are once the count of a lot becomes another.
+    pub fn changed(self, before: i128, after: i128) -> Signs
+        requires long { inventory.as_long before ≤ self.long }
+        requires short { inventory.as_short before ≤ self.short }
         requires few_long { self.long < 2 ^ 63 }
         requires few_short { self.short < 2 ^ 63 }
-        ensures long { result.long + long_at key.now before ≡ self.long + long_at key.now after }
-        ensures short { result.short + short_at key.now before
-            ≡ self.short + short_at key.now after }
+        ensures long { result.long + inventory.as_long before
+            ≡ self.long + inventory.as_long after }
+        ensures short { result.short + inventory.as_short before
+            ≡ self.short + inventory.as_short after }
     {
-        if key.lot.is_none() {
-            return self;
-        }
         Signs {
             long: self.long - as_long(before) + as_long(after),
             short: self.short - as_short(before) + as_short(after),
@@ -53,13 +68,114 @@ impl Signs {
 }
 
 fn as_long(count: i128) -> usize
-    ensures { result ≡ spec.as_long count }
+    ensures { result ≡ inventory.as_long count }
 {
     if count > 0 { 1 } else { 0 }
 }
 
 fn as_short(count: i128) -> usize
-    ensures { result ≡ spec.as_short count }
+    ensures { result ≡ inventory.as_short count }
 {
     if count < 0 { 1 } else { 0 }
+}
+
+/// The key of a currency of which lots were held.
+#[derive(Debug, Drop, PartialEq, Eq, Hash)]
+pub(crate) struct LotCurrency<'a> {
+    currency: Currency<'a>,
+}
+
+impl Clone for LotCurrency<'_> {
+    ghost is_clone = { λ a b. b ≡ a };
+
+    fn clone(&self) -> Result<Self, AllocError> {
+        Ok(LotCurrency {
+            currency: self.currency.lend(),
+        })
+    }
+}
+
+/// The signs of the lots of each currency. A currency that isn't there has no lots.
+#[derive(Drop)]
+pub(crate) struct SignTable<'a> {
+    by_currency: IndexMap<LotCurrency<'a>, Signs>,
+}
+
+impl Clone for SignTable<'_> {
+    ghost is_clone = { λ a b. b.by_currency.entries ≡ a.by_currency.entries };
+
+    fn clone(&self) -> Result<Self, AllocError> {
+        Ok(SignTable {
+            by_currency: self.by_currency.clone()?,
+        })
+    }
+}
+
+impl<'a> SignTable<'a> {
+    /// No lots. Takes no memory.
+    pub(crate) fn new(alloc: Global) -> SignTable<'a>
+        ensures { (c : List ℕ) → signs_at result c ≡ no_signs }
+    {
+        SignTable {
+            by_currency: IndexMap::new(alloc),
+        }
+    }
+
+    /// The signs of the lots of a currency.
+    pub(crate) fn of(&self, currency: &Currency<'_>) -> Signs
+        ensures { result ≡ signs_at self.now currency.now }
+    {
+        let key = LotCurrency {
+            currency: currency.lend(),
+        };
+        match self.by_currency.get(&key) {
+            Some(signs) => *signs,
+            None => Signs::none(),
+        }
+    }
+
+    fn set(&mut self, currency: Currency<'a>, signs: Signs) -> Result<(), AllocError>
+        ensures ok { OnOk result ((c : List ℕ) → signs_at self.new c
+            ≡ (if same_text currency.entry c then signs else signs_at self.old c)) }
+        ensures err { OnErr result ((c : List ℕ) → signs_at self.new c ≡ signs_at self.old c) }
+    {
+        self.by_currency.insert(LotCurrency { currency }, signs)?;
+        Ok(())
+    }
+
+    /// Counts what is held under a key, which becomes another count.
+    pub(crate) fn recount(
+        &mut self,
+        key: &Key<'a>,
+        before: i128,
+        after: i128,
+    ) -> Result<(), AllocError>
+        requires long { (c : List ℕ) → long_lot c key.now before ≤ (signs_at self.old c).long }
+        requires short { (c : List ℕ) → short_lot c key.now before ≤ (signs_at self.old c).short }
+        requires few_long { (c : List ℕ) → (signs_at self.old c).long < 2 ^ 63 }
+        requires few_short { (c : List ℕ) → (signs_at self.old c).short < 2 ^ 63 }
+        ensures long { OnOk result ((c : List ℕ)
+            → (signs_at self.new c).long + long_lot c key.now before
+            ≡ (signs_at self.old c).long + long_lot c key.now after) }
+        ensures short { OnOk result ((c : List ℕ)
+            → (signs_at self.new c).short + short_lot c key.now before
+            ≡ (signs_at self.old c).short + short_lot c key.now after) }
+        ensures err { OnErr result ((c : List ℕ) → signs_at self.new c ≡ signs_at self.old c) }
+    {
+        if key.lot.is_none() {
+            return Ok(());
+        }
+        let signs = self.of(&key.currency).changed(before, after);
+        self.set(key.currency.lend(), signs)
+    }
+
+    /// Changes the sign of every count.
+    pub(crate) fn negate(&mut self)
+        ensures { (c : List ℕ) → signs_at self.new c ≡ spec.negated (signs_at self.old c) }
+    {
+        for index in 0..self.by_currency.len() {
+            let signs = self.by_currency[index];
+            self.by_currency[index] = signs.negated();
+        }
+    }
 }

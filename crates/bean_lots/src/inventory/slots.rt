@@ -4,9 +4,9 @@
 //! and all of these are swept out. So a lot that goes costs no more than one that comes. Holes
 //! behind all that is held go at once, so what is looked at from the end is held.
 ghost use Rattle.std.specs.Prelude.{◌≡◌, ◌≢◌, ◌+ℤ◌, ◌+◌, ◌≤◌, All, OnOk, OnErr, Some, None, pos};
-ghost use Rattle.std.specs.Prelude.{map, take, [], ℤ};
+ghost use Rattle.std.specs.Prelude.{map, take, [], List, ℕ, ℤ};
 ghost use Rattle.std.specs.Prelude.{◌<◌, IfNone, IfSome, IsTrue, filter, length, not, position};
-ghost use Rattle.std.specs.Prelude.{slice_get, true};
+ghost use Rattle.std.specs.Prelude.{◌^◌, slice_get, true};
 ghost use Rattle.std.specs.Int.{w128};
 ghost use Rattle.std.specs.Int.RustNames.{FitsSigned};
 ghost use Rattle.std.specs.List.{IsDistinct};
@@ -16,16 +16,18 @@ ghost use Rattle.bean_lots.specs.Inventory.{IsInventory, MayBeNegated, added, co
 ghost use Rattle.bean_lots.specs.Inventory.{negative_entry};
 ghost use Rattle.bean_lots.specs.Lot.{same_key};
 ghost use Rattle.bean_lots.specs.Part.{HasAllOf};
-ghost use Rattle.bean_lots.specs.Slots.{IsKept, is_full, long_at, short_at};
+ghost use Rattle.bean_lots.specs.Inventory.{long_lot, short_lot};
+ghost use Rattle.bean_lots.specs.Signs.{signs_at};
+ghost use Rattle.bean_lots.specs.Slots.{IsKept, in_all, is_full};
 ghost use Rattle.bean_lots.specs.Slots as spec;
 ghost use Rattle.bean_lots.specs.declared.lot.Key.{Key as KeyValue};
 
 use super::days::Days;
 use super::part::part_on;
 use super::positions::Positions;
-use super::signs::Signs;
+use super::signs::{SignTable, Signs};
 use crate::lot::Key;
-use bean_base::Day;
+use bean_base::{Currency, Day};
 use indexmap::IndexMap;
 use std::alloc::{AllocError, Global};
 
@@ -51,7 +53,7 @@ pub(crate) struct Slots<'a> {
     pub first: usize,
     /// About how many holes there are: how soon they are swept out.
     pub holes: usize,
-    pub signs: Signs,
+    pub signs: SignTable<'a>,
     pub days: Days,
 }
 
@@ -63,7 +65,7 @@ impl Clone for Slots<'_> {
             counts: self.counts.clone()?,
             first: self.first,
             holes: self.holes,
-            signs: self.signs,
+            signs: self.signs.clone()?,
             days: self.days,
         })
     }
@@ -79,7 +81,7 @@ impl<'a> Slots<'a> {
             counts: IndexMap::new(alloc),
             first: 0,
             holes: 0,
-            signs: Signs::new(),
+            signs: SignTable::new(alloc),
             days: Days::new(),
         }
     }
@@ -106,6 +108,16 @@ impl<'a> Slots<'a> {
         self.counts.len() == 0
     }
 
+    /// The signs of the lots of a currency.
+    pub(crate) fn signs_of(&self, currency: &Currency<'_>) -> Signs
+        ensures signs { result ≡ signs_at self.now.signs currency.now }
+        ensures few { length self.now.counts.entries < 2 ^ 63 }
+    {
+        // There are no more slots than the map has room for.
+        let _slots = self.counts.len();
+        self.signs.of(currency)
+    }
+
     /// What is held, in order of entry.
     pub(crate) fn positions(&self) -> Positions<'_, 'a>
         requires { IsKept self.now }
@@ -123,7 +135,8 @@ impl<'a> Slots<'a> {
         if !self.days.in_order {
             return self.positions();
         }
-        Positions::new(part_on(self.counts.as_slice(), day))
+        let (_, held) = self.counts.as_slice().split_at(self.first);
+        Positions::new(part_on(held, day))
     }
 
     /// Holes at the front are passed.
@@ -166,39 +179,56 @@ impl<'a> Slots<'a> {
         }
     }
 
-    /// What the signs are once the count under a key becomes another.
-    fn signs_with(&self, key: &Key<'_>, before: i128, after: i128) -> Signs
-        requires kept { IsKept self.now }
-        requires long { long_at key.now before ≤ self.now.signs.long }
-        requires short { short_at key.now before ≤ self.now.signs.short }
-        ensures long { result.long + long_at key.now before
-            ≡ self.now.signs.long + long_at key.now after }
-        ensures short { result.short + short_at key.now before
-            ≡ self.now.signs.short + short_at key.now after }
+    /// Counts a lot, of which the count becomes another, where the key is that of one.
+    fn recount(&mut self, key: &Key<'a>, before: i128, after: i128) -> Result<(), AllocError>
+        requires kept { IsKept self.old }
+        requires long { (c : List ℕ) → long_lot c key.now before
+            ≤ in_all (long_lot c) self.old.counts.entries }
+        requires short { (c : List ℕ) → short_lot c key.now before
+            ≤ in_all (short_lot c) self.old.counts.entries }
+        ensures counts { self.new.counts ≡ self.old.counts }
+        ensures first { self.new.first ≡ self.old.first }
+        ensures days { self.new.days ≡ self.old.days }
+        ensures long { OnOk result ((c : List ℕ)
+            → (signs_at self.new.signs c).long + long_lot c key.now before
+            ≡ (signs_at self.old.signs c).long + long_lot c key.now after) }
+        ensures short { OnOk result ((c : List ℕ)
+            → (signs_at self.new.signs c).short + short_lot c key.now before
+            ≡ (signs_at self.old.signs c).short + short_lot c key.now after) }
+        ensures err { OnErr result (IsKept self.new) }
     {
         // There are no more lots than slots, and so few of these that the counts have room.
         let _slots = self.counts.len();
-        self.signs.changed(key, before, after)
+        self.signs.recount(key, before, after)
     }
 
     /// Writes the count of a key that is held.
-    fn write(&mut self, key: &Key<'_>, index: usize, before: i128, after: i128)
+    fn write(
+        &mut self,
+        key: &Key<'a>,
+        index: usize,
+        before: i128,
+        after: i128,
+    ) -> Result<(), AllocError>
         requires kept { IsKept self.old }
         requires at { position (same_key key.now) (keys_of self.old.counts.entries) ≡ Some index }
         requires count { lookup (same_key key.now) self.old.counts.entries ≡ Some before }
         requires some { before ≢ pos 0 }
         ensures kept { IsKept self.new }
-        ensures written { (n : ℤ) → after ≡ before +ℤ n
+        ensures ok { OnOk result ((n : ℤ) → after ≡ before +ℤ n
             → spec.positions self.new.counts.entries
-            ≡ added (spec.positions self.old.counts.entries) key.now n }
+            ≡ added (spec.positions self.old.counts.entries) key.now n) }
+        ensures err { OnErr result
+            (spec.positions self.new.counts.entries ≡ spec.positions self.old.counts.entries) }
     {
-        self.signs = self.signs_with(key, before, after);
+        self.recount(key, before, after)?;
         self.counts[index] = after;
         if after == 0 {
             self.holes = self.holes.saturating_add(1);
             self.pass_holes();
             self.drop_last_holes();
         }
+        Ok(())
     }
 
     /// Takes the holes out.
@@ -239,11 +269,11 @@ impl<'a> Slots<'a> {
         ensures err { OnErr result
             (spec.positions self.new.counts.entries ≡ spec.positions self.old.counts.entries) }
     {
-        let days = self.days.with(&key);
-        let signs = self.signs_with(&key, 0, count);
+        // Room comes first, so that the key goes in once its lot is counted.
+        self.counts.reserve(1)?;
+        self.recount(&key, 0, count)?;
+        self.days = self.days.with(&key);
         self.counts.insert(key, count)?;
-        self.days = days;
-        self.signs = signs;
         Ok(())
     }
 
@@ -302,8 +332,7 @@ impl<'a> Slots<'a> {
         };
         let before = self.counts[index];
         if before != 0 {
-            self.write(&key, index, before, before + count);
-            return Ok(());
+            return self.write(&key, index, before, before + count);
         }
         self.remove_hole(&key);
         self.push(key, count)
@@ -321,6 +350,6 @@ impl<'a> Slots<'a> {
             let count = self.counts[index];
             self.counts[index] = -count;
         }
-        self.signs = self.signs.negated();
+        self.signs.negate();
     }
 }

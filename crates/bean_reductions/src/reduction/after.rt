@@ -1,25 +1,26 @@
 //! Reductions from what is left of an inventory.
-ghost use Rattle.std.specs.Prelude.{◌≡◌, ◌≢◌, ◌<◌, ◌^◌, ◌+ℤ◌, ◌++◌, OnOk, IfOk, sum_by, true};
+ghost use Rattle.std.specs.Prelude.{◌≡◌, ◌≢◌, ◌<◌, ◌^◌, ◌+ℤ◌, ◌++◌, OnOk, IfOk, List, ℕ, sum_by};
+ghost use Rattle.std.specs.Prelude.{true};
 ghost use Rattle.std.specs.Int.{w128};
 ghost use Rattle.std.specs.Int.RustNames.{unsigned_abs, FitsSigned};
 ghost use Rattle.bean_base.specs.Decimal.{scaled};
-ghost use Rattle.bean_reductions.specs.After.{AreSmall, after, has_opposite, has_turned};
-ghost use Rattle.bean_reductions.specs.After.{is_opposite_lot, is_turned};
+ghost use Rattle.bean_reductions.specs.After.{AreSmall, after, has_opposite};
 ghost use Rattle.bean_reductions.specs.Candidate.{candidate_of, candidates};
 ghost use Rattle.bean_lots.specs.Days.{RiseInDays};
 ghost use Rattle.bean_reductions.specs.Front.{IsFront};
-ghost use Rattle.bean_lots.specs.Inventory.{count_of, position_of};
+ghost use Rattle.bean_lots.specs.Inventory.{count_of, long_lots, short_lots};
+ghost use Rattle.bean_lots.specs.declared.lot.Position.{Position};
 ghost use Rattle.bean_reductions.specs.Reduction.{Reduces};
 ghost use Rattle.bean_reductions.specs.Take.{units_of};
 
-use super::last::reduce_last;
-use super::queue::{Candidate, is_opposite, push_candidate, selects};
+use super::last::reduce_last_in;
+use super::queue::{Candidate, push_candidate, selects};
 use super::takes::reduce_candidates;
 use super::{Method, Selector};
 use crate::cause::LotCause;
-use bean_base::{Currency, Num};
-use bean_lots::inventory::{Positions, is_lot_of};
-use bean_lots::{Inventory, Key, Lot};
+use bean_base::Num;
+use bean_lots::inventory::Positions;
+use bean_lots::{Inventory, Key, Lot, Signs};
 use refusals::Refusal;
 use std::alloc::{AllocError, Global};
 
@@ -49,7 +50,7 @@ pub(crate) fn push_left<'a>(
 
 /// The candidates among what is left of positions, in order of entry; where a front that comes to
 /// the want is enough, no more.
-fn candidates_after<'a>(
+pub(crate) fn candidates_after<'a>(
     alloc: Global,
     positions: Positions<'_, 'a>,
     taken: &Inventory<'_>,
@@ -107,117 +108,21 @@ pub fn reduce_after<'a>(
         Reduces method (candidates selector.now want (after inventory.now taken.now)) want result }
 {
     let want = units.scaled(8);
-    let part = inventory.positions_about(selector.day);
     if is_back_enough(inventory, method) {
-        return reduce_last(alloc, part, taken, selector, want);
+        return reduce_last_in(alloc, inventory, taken, selector, want);
     }
+    let part = inventory.positions_about(selector.day);
     let is_front_enough = is_front_enough(inventory, method);
     let found = candidates_after(alloc, part, taken, selector, want, is_front_enough)?;
     reduce_candidates(alloc, found, want, method)
 }
 
-/// Whether so much held under a key is a lot of the currency with the opposite sign.
-fn is_opposite_lot(key: &Key<'_>, currency: &Currency<'_>, want: i128, count: i128) -> bool
-    ensures { result ≡ is_opposite_lot currency.now want key.now count }
+/// Whether some lot of a currency has the sign opposite to that of the units, where these are the
+/// signs of its lots.
+pub fn has_opposite(signs: Signs, units: Num) -> bool
+    ensures { (c : List ℕ) (es : List Position) → signs.long ≡ long_lots c es
+        → signs.short ≡ short_lots c es
+        → result ≡ has_opposite c (scaled units.count units.places 8) es }
 {
-    key.currency == *currency && key.lot.is_some() && is_opposite(want, count)
-}
-
-/// Whether what is left of what is held under a key is a lot of the currency with the opposite
-/// sign.
-fn is_opposite_left(
-    key: &Key<'_>,
-    count: i128,
-    taken: &Inventory<'_>,
-    currency: &Currency<'_>,
-    want: i128,
-) -> bool
-    requires { FitsSigned w128 (count +ℤ count_of taken.now key.now) }
-    ensures { result ≡ is_opposite_lot currency.now want key.now
-        (count +ℤ count_of taken.now key.now) }
-{
-    if !is_lot_of(key, currency) {
-        return false;
-    }
-    is_opposite(want, count + taken.get(key))
-}
-
-fn has_opposite_in(
-    inventory: &Inventory<'_>,
-    taken: &Inventory<'_>,
-    currency: &Currency<'_>,
-    want: i128,
-) -> bool
-    requires held { AreSmall (2 ^ 125) inventory.now }
-    requires taken { AreSmall (2 ^ 125) taken.now }
-    ensures { result ≡ has_opposite currency.now want (after inventory.now taken.now) }
-{
-    let mut rest = inventory.positions();
-    while let Some((key, count)) = rest.next_held() {
-        if is_opposite_left(key, count, taken, currency, want) {
-            return true;
-        }
-    }
-    false
-}
-
-/// Whether a lot of the currency got the opposite sign by a take.
-fn is_turned(
-    inventory: &Inventory<'_>,
-    key: &Key<'_>,
-    count: i128,
-    currency: &Currency<'_>,
-    want: i128,
-) -> bool
-    requires { FitsSigned w128 (count_of inventory.now key.now +ℤ count) }
-    ensures { result ≡ is_turned currency.now want inventory.now (position_of key.now count) }
-{
-    let held = inventory.get(key);
-    held != 0 && is_opposite_lot(key, currency, want, held + count)
-}
-
-/// Whether some lot of the currency got the opposite sign by what was taken of it.
-fn has_turned(
-    inventory: &Inventory<'_>,
-    taken: &Inventory<'_>,
-    currency: &Currency<'_>,
-    want: i128,
-) -> bool
-    requires held { AreSmall (2 ^ 125) inventory.now }
-    requires taken { AreSmall (2 ^ 125) taken.now }
-    ensures { result ≡ has_turned currency.now want inventory.now taken.now }
-{
-    let mut rest = taken.positions();
-    while let Some((key, count)) = rest.next_held() {
-        if is_turned(inventory, key, count, currency, want) {
-            return true;
-        }
-    }
-    false
-}
-
-/// Whether some lot of the currency that is left of an inventory by what is in `taken` has the sign
-/// opposite to that of the units.
-pub fn has_opposite(
-    inventory: &Inventory<'_>,
-    taken: &Inventory<'_>,
-    currency: &Currency<'_>,
-    units: Num,
-) -> bool
-    requires held { AreSmall (2 ^ 125) inventory.now }
-    requires taken { AreSmall (2 ^ 125) taken.now }
-    ensures { result ≡ has_opposite currency.now (scaled units.count units.places 8)
-        (after inventory.now taken.now) }
-{
-    let want = units.scaled(8);
-    if inventory.may_have_lot_against(want) {
-        return has_opposite_in(inventory, taken, currency, want);
-    }
-    if inventory.is_bare() {
-        return false;
-    }
-    if taken.is_bare() {
-        return false;
-    }
-    has_turned(inventory, taken, currency, want)
+    signs.against(units.scaled(8)) > 0
 }

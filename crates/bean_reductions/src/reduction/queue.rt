@@ -144,7 +144,7 @@ pub(crate) fn arrange(method: Method, queue: &mut Vec<Candidate<'_>>) -> Result<
 }
 
 /// What is left of the want once all is taken.
-fn shortfall(queue: &[Candidate<'_>], want: u128) -> u128
+pub(crate) fn shortfall(queue: &[Candidate<'_>], want: u128) -> u128
     ensures { result ≡ want - sum_by units_of queue.now }
 {
     let mut rest = want;

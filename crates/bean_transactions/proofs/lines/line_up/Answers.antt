@@ -5,6 +5,12 @@ use Rattle.bean_transactions.specs.Lined.{AreLined}
 use Rattle.bean_transactions.proofs.LinedFacts.{each_inside, one_more_lined, first_fault}
 use Rattle.bean_transactions.proofs.lines.line_up.Goals as goal
 
+pub loop-index-init : goal.loop-index-init
+loop-index-init c = record {
+  keeping = c.new-lines.ensures.keeping c.args.holdings.now;
+  lined = λ s is. c.new-lines.ensures.lines;
+}
+
 pub add_next-requires : goal.add_next-requires
 add_next-requires c = record {
   keeping = c.loop-index.invariant.keeping;

@@ -1,20 +1,20 @@
-use Rattle.std.proofs.Common.{sym, ◌∙◌}
-use Rattle.bean_lots.specs.Inventory.{is_lot_of, position_of}
-use Rattle.bean_lots.proofs.HeldFacts.{any_here, any_later}
+use Rattle.std.proofs.Common.{ap, ◌∙◌}
+use Rattle.bean_lots.specs.Inventory.{has_lot}
+use Rattle.bean_lots.proofs.HeldFacts.{either_sign, first_sign, other_sign}
 use Rattle.bean_lots.proofs.inventory.Inventory.has_lot.Goals as goal
 
-pub returns-then-is_lot_of : goal.returns-then-is_lot_of
-returns-then-is_lot_of c =
-    let n = c.in-Some.field-0-1 in
-    any_here (is_lot_of c.args.currency.now) c.loop-key.rest c.next_held.new.self
-    (position_of c.in-Some.key.now n) c.in-Some.ensures.some
-    (sym (c.is_lot_of.ensures n) ∙ c.if-is_lot_of.true)
-    ∙ c.loop-key.invariant
+pub returns-then-signs-gt0 : goal.returns-then-signs-gt0
+returns-then-signs-gt0 c =
+    let cur = c.args.currency.now in
+    first_sign _ _ _ _ _ (ap (λ s. s.long) c.of-signs.ensures ∙ c.self.invariant.long cur)
+    (ap (λ s. s.short) c.of-signs.ensures ∙ c.self.invariant.short cur)
+    (either_sign cur c.self.inside.slots.counts.entries) c.if-signs-gt0.true
+    ∙ ap (has_lot cur) c.self.view_is
 
-pub loop-key-preserved : goal.loop-key-preserved
-loop-key-preserved c =
-    let n = c.in-Some.field-0-1 in
-    any_later (is_lot_of c.args.currency.now) c.loop-key.rest c.next_held.new.self
-    (position_of c.in-Some.key.now n) c.in-Some.ensures.some
-    (sym (c.is_lot_of.ensures n) ∙ c.if-is_lot_of.false)
-    ∙ c.loop-key.invariant
+pub returns-else-signs-gt0 : goal.returns-else-signs-gt0
+returns-else-signs-gt0 c =
+    let cur = c.args.currency.now in
+    other_sign _ _ _ _ _ (ap (λ s. s.long) c.of-signs.ensures ∙ c.self.invariant.long cur)
+    (ap (λ s. s.short) c.of-signs.ensures ∙ c.self.invariant.short cur)
+    (either_sign cur c.self.inside.slots.counts.entries) c.if-signs-gt0.false
+    ∙ ap (has_lot cur) c.self.view_is

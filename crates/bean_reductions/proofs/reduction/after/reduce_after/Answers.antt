@@ -11,37 +11,22 @@ use Rattle.bean_reductions.specs.Reduction.{Reduces}
 use Rattle.bean_reductions.proofs.CandidateFacts.{all_held, wanted}
 use Rattle.bean_reductions.specs.declared.reduction.Method.TheVariants.{Lifo}
 use Rattle.bean_reductions.proofs.FrontFacts.{by_day, front_held, front_some, of_all}
-use Rattle.bean_reductions.proofs.LastFacts.{rise_part}
 use Rattle.bean_lots.proofs.PartFacts.{middle}
 use Rattle.bean_reductions.proofs.PartFacts.{same_candidates}
 use Rattle.bean_reductions.proofs.reduction.after.reduce_after.Goals as goal
 
-pub reduce_last-requires-clause-held : goal.reduce_last-requires-clause-held
-reduce_last-requires-clause-held c =
-    let part = c.positions_about-part.ensures in
-    middle (IsSmall (2 ^ 125)) part.before c.positions_about-part.result part.behind
-    c.args.inventory.now part.all c.requires.held
-
-pub reduce_last-requires-clause-days : goal.reduce_last-requires-clause-days
-reduce_last-requires-clause-days c =
-    rise_part c.args.selector.now.day c.positions_about-part.result c.args.inventory.now
-    c.positions_about-part.ensures (c.is_back_enough.ensures c.if-is_back_enough.true).1
-
 pub returns-then-is_back_enough : goal.returns-then-is_back_enough
 returns-then-is_back_enough c =
     let s = c.args.selector.now in
-    let es = c.args.inventory.now in
-    let taken = c.args.taken.now in
+    let left = after c.args.inventory.now c.args.taken.now in
     let wide = to_z w128 (of_z w128 c.scaled-want.result) in
     let want : wide ≡ scaled c.args.units.count c.args.units.places 8 =
     omega (arith, ints, c.scaled-want.ensures.value) in
-    let same =
-    same_candidates s wide c.positions_about-part.result es taken c.positions_about-part.ensures in
     let lifo = sym (c.is_back_enough.ensures c.if-is_back_enough.true).0 in
-    subst (λ m. Reduces m (candidates s (scaled c.args.units.count c.args.units.places 8)
-    (after es taken)) (scaled c.args.units.count c.args.units.places 8) c.reduce_last.result) lifo
-    (subst (λ w. Reduces Lifo (candidates s w (after es taken)) w c.reduce_last.result) want
-    (subst (λ l. Reduces Lifo l wide c.reduce_last.result) same c.reduce_last.ensures))
+    subst (λ m. Reduces m (candidates s (scaled c.args.units.count c.args.units.places 8) left)
+    (scaled c.args.units.count c.args.units.places 8) c.reduce_last_in.result) lifo
+    (subst (λ w. Reduces Lifo (candidates s w left) w c.reduce_last_in.result) want
+    c.reduce_last_in.ensures)
 
 pub candidates_after-requires-clause-held : goal.candidates_after-requires-clause-held
 candidates_after-requires-clause-held c =

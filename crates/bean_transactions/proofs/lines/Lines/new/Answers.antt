@@ -1,12 +1,16 @@
 use Rattle.std.proofs.Common.{ap, arith, sym, ◌∙◌}
 use Rattle.bean_transactions.specs.Held.{held, takes_in}
+use Rattle.bean_transactions.specs.Holdings.{holding}
+use Rattle.bean_transactions.specs.LotsLeft.{signs_in}
+use Rattle.bean_reductions.specs.After.{after}
+use Rattle.bean_transactions.proofs.LotsLeftFacts.{all_left}
 use Rattle.bean_transactions.proofs.lines.Lines.new.Goals as goal
 
 pub returns-clause-keeping : goal.returns-clause-keeping
-returns-clause-keeping c =
+returns-clause-keeping c = λ h.
     let none = c.new-2.ensures.additions in
     record {
-      nothing = c.new-3.ensures;
+      nothing = c.new-4.ensures;
       takes = record {
         each = λ a.
             c.new-2.ensures.nothing a
@@ -14,4 +18,9 @@ returns-clause-keeping c =
       };
       bounded = c.new-2.ensures.bounded;
       few = omega (arith, none);
+      left = λ a. record {
+        each = λ cur.
+            c.new-3.ensures a cur (holding h a) ∙ sym (all_left cur (holding h a))
+            ∙ ap (λ es. signs_in cur (after (holding h a) es)) (sym (c.new-2.ensures.nothing a));
+      };
     }

@@ -2,6 +2,7 @@ use Rattle.std.proofs.Common.{◌≡◌, ◌+ℤ◌, pos, unwrap_or, arith, sym,
 use Rattle.std.specs.Int.{w128}
 use Rattle.std.specs.Int.RustNames.{FitsSigned}
 use Rattle.std.proofs.lemmas.Int.{ints}
+use Rattle.indexmap.proofs.MapLemmas.{OnOk-map}
 use Rattle.bean_lots.specs.Inventory.{count_of}
 use Rattle.bean_lots.specs.Slots.{positions}
 use Rattle.bean_lots.proofs.SlotFacts.{counted}
@@ -29,4 +30,5 @@ returns-then-before-ne0-clause-ok c =
     (sym c.in-Some.ensures.value ∙ c.index-before.ensures) in
     let fits : FitsSigned w128 (n +ℤ c.args.count) =
     subst (λ m. FitsSigned w128 (m +ℤ c.args.count)) held c.requires.fits in
-    c.write.ensures.written c.args.count (omega (arith, ints, fits))
+    OnOk-map c.write.result _ _ (λ all. all c.args.count (omega (arith, ints, fits)))
+    c.write.ensures.ok

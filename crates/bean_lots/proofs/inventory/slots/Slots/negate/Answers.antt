@@ -9,9 +9,9 @@ use Rattle.std.proofs.lemmas.List.Elements.{recursion_from_All}
 use Rattle.indexmap.specs.IndexMap.{set_value_at}
 use Rattle.bean_lots.specs.Inventory.{MayBeNegated}
 use Rattle.bean_lots.specs.Slots.{positions}
-use Rattle.bean_lots.proofs.NegativeFacts.{negative_front, next, one_more, same_length, all, held}
-use Rattle.bean_lots.proofs.NegativeFacts.{fits}
-use Rattle.bean_lots.proofs.NegativeFacts.{kept}
+use Rattle.bean_lots.specs.Signs.{negated, signs_at}
+use Rattle.bean_lots.proofs.ChangedFacts.{all, next, one_more, same_length}
+use Rattle.bean_lots.proofs.NegativeFacts.{fits, held, kept, negative_front}
 use Rattle.bean_lots.proofs.inventory.slots.Slots.negate.Goals as goal
 
 turned : (n : ℤ) → unsigned_abs n < 2 ^ 127
@@ -25,7 +25,7 @@ pub index-count-requires : goal.index-count-requires
 index-count-requires c =
     let es = c.args.self.now.counts.entries in
     let i = c.loop-index.index in
-    let same = ap length c.loop-index.invariant.entries ∙ same_length i es in
+    let same = ap length c.loop-index.invariant.entries ∙ same_length neg_ℤ i es in
     omega (arith, same, c.loop-index-test.true, c.len-index-end.ensures.len)
 
 pub overflow_sub-count : goal.overflow_sub-count
@@ -34,7 +34,7 @@ overflow_sub-count c =
     let i = c.loop-index.index in
     let n = c.index-count.result.now in
     let at : slice_get (values_of es) i ≡ Some n =
-    sym (next i es) ∙ ap (λ l. slice_get (values_of l) i) (sym c.loop-index.invariant.entries)
+    sym (next neg_ℤ i es) ∙ ap (λ l. slice_get (values_of l) i) (sym c.loop-index.invariant.entries)
     ∙ c.index-count.ensures in
     may_turn n
     (fits es i n (recursion_from_All MayBeNegated (positions es) c.requires.wide) at)
@@ -43,7 +43,7 @@ pub index_mut-requires : goal.index_mut-requires
 index_mut-requires c =
     let es = c.args.self.now.counts.entries in
     let i = c.loop-index.index in
-    let same = ap length c.loop-index.invariant.entries ∙ same_length i es in
+    let same = ap length c.loop-index.invariant.entries ∙ same_length neg_ℤ i es in
     omega (arith, same, c.loop-index-test.true, c.len-index-end.ensures.len)
 
 pub loop-index-preserved : goal.loop-index-preserved
@@ -52,7 +52,7 @@ loop-index-preserved c =
     let i = c.loop-index.index in
     let n = c.index-count.result.now in
     let at : slice_get (values_of es) i ≡ Some n =
-    sym (next i es) ∙ ap (λ l. slice_get (values_of l) i) (sym c.loop-index.invariant.entries)
+    sym (next neg_ℤ i es) ∙ ap (λ l. slice_get (values_of l) i) (sym c.loop-index.invariant.entries)
     ∙ c.index-count.ensures in
     let small =
     fits es i n (recursion_from_All MayBeNegated (positions es) c.requires.wide) at in
@@ -61,7 +61,7 @@ loop-index-preserved c =
           rw add-one
           (ap (set_value_at c.loop-index.self.counts.entries i) (turned n small)
           ∙ ap (λ l. set_value_at l i (neg_ℤ n)) c.loop-index.invariant.entries
-          ∙ one_more i es n at);
+          ∙ one_more neg_ℤ i es n at);
       first = c.loop-index.invariant.first;
       signs = c.loop-index.invariant.signs;
       days =
@@ -74,14 +74,14 @@ returns-clause-kept c =
     let end : c.loop-index.index ≡ length s.counts.entries = omega arith in
     let entries =
     c.loop-index.invariant.entries ∙ ap (λ n. negative_front n s.counts.entries) end
-    ∙ all s.counts.entries in
+    ∙ all neg_ℤ s.counts.entries in
     kept s _ c.requires.kept entries c.loop-index.invariant.first c.loop-index.invariant.days
-    (c.negated-self.ensures.long ∙ ap (λ x. x.short) c.loop-index.invariant.signs)
-    (c.negated-self.ensures.short ∙ ap (λ x. x.long) c.loop-index.invariant.signs)
+    (λ cur. c.negate.ensures cur
+    ∙ ap (λ x. negated (signs_at x cur)) c.loop-index.invariant.signs)
 
 pub returns-clause-negated : goal.returns-clause-negated
 returns-clause-negated c =
     let es = c.args.self.now.counts.entries in
     let end : c.loop-index.index ≡ length es = omega arith in
     ap positions
-    (c.loop-index.invariant.entries ∙ ap (λ n. negative_front n es) end ∙ all es) ∙ held es
+    (c.loop-index.invariant.entries ∙ ap (λ n. negative_front n es) end ∙ all neg_ℤ es) ∙ held es

@@ -1,0 +1,17 @@
+use Rattle.std.proofs.Common.{◌≡◌, refl}
+use Rattle.std.proofs.lemmas.Map.Entries.{entries_from_clone}
+use Rattle.bean_lots.proofs.KeptFacts.{counted_as_before}
+use Rattle.bean_lots.proofs.SignFacts.{same_entries}
+use Rattle.bean_lots.proofs.inventory.slots.SlotsClone.clone.Goals as goal
+
+pub returns : goal.returns
+returns c =
+    let s = c.args.self.now in
+    let same : c.in_ok-clone.field-0.entries ≡ s.counts.entries = entries_from_clone _ _ (λ x y h. h) (λ v w h. h) _ _ c.in_ok-clone.ensures.cases in
+    record {
+      cases = (
+        same,
+        λ kept. counted_as_before s _ kept same refl refl
+            (same_entries s.signs c.in_ok-clone-2.field-0 c.in_ok-clone-2.ensures.cases),
+      );
+    }
