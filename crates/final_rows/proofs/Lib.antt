@@ -1,2 +1,4 @@
 pub mod OrderFacts
 pub mod ShownFacts
+mod FrontFacts
+pub mod EnoughFacts

@@ -10,17 +10,23 @@
 //! first in it. Of rows that show the same the first one stays. Columns behind those that are shown
 //! go at the end.
 //!
+//! While rows still come, [`trim`] lets go of those that can't come out any more: where they aren't
+//! told once and there is a limit, so many in the front of the order are enough.
+//!
 //! # Faults
 //!
-//! [`finish`] answers an error where memory lacks.
+//! [`finish`] and [`trim`] answer an error where memory lacks.
 //!
 //! # Cost
 //!
 //! A stable sort, where there is something to order by, and a table of the rows that are told once.
-//! Rows are moved and never copied.
+//! Rows are moved and never copied. What [`trim`] leaves is at most twice the limit, and it sorts
+//! where there are more: so where it is called now and then, each row is sorted a few times.
 #![tactic(auto)]
 
 mod ordering;
 mod showing;
+mod trimming;
 
 pub use showing::finish;
+pub use trimming::trim;

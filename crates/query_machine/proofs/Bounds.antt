@@ -29,7 +29,9 @@ use Rattle.query_runs.proofs.SafeRuns.{goes_as_plain, is_safe, with_more_room}
 use Rattle.query_runs.specs.Stands.{run_after, stand_of}
 use Rattle.query_runs.specs.Turns.{IsSafe}
 use Rattle.query_runs.specs.declared.run.Run.{Run}
+use Rattle.query_machine.proofs.Trimming.{not_trimmed}
 use Rattle.query_machine.specs.Progress.{IsUnderWay}
+use Rattle.query_machine.specs.Trimmed.{IsTrimmed}
 use Rattle.plain_machine.specs.Pool.{pattern_in}
 use Rattle.verified_program.specs.declared.checked.Checked.{Checked}
 use Rattle.verified_program.proofs.SectionLengths.{AreShort, are_short, small}
@@ -38,7 +40,7 @@ use Rattle.well_shaped.specs.Program.{IsDepth}
 -- ---- no more steps than the budget
 
 module _ (p : Parts) (rows : List Row) where
-  pub plain_never : (depth : ℕ) → IsSafe p rows depth → NeverFaults p rows
+  pub plain_never : (depth : ℕ) → IsSafe p (run_after p rows 0) depth → NeverFaults p rows
   plain_never depth safe n fault =
       safe.never_faults n
       (sym (stand_alike p rows n) ∙ ap (stand_as (aggregates_over p.code.aggregates)) fault)
@@ -62,7 +64,7 @@ module _ (p : Parts) (rows : List Row) where
         | inr le ↦ le
       ]
 
-  pub few_steps : (depth : ℕ) → IsSafe p rows depth → (n : ℕ)
+  pub few_steps : (depth : ℕ) → IsSafe p (run_after p rows 0) depth → (n : ℕ)
       → ((k : ℕ) → k < n → is_going (run_after p rows k) ≡ true)
       → n ≤ budget p (length rows) (length rows)
   few_steps depth safe n going =
@@ -106,7 +108,7 @@ module _ (p : Parts) (depth : ℕ) (rows : List Row) (has : ∥ file.fits p ∥�
           let y = small n l 0 few c (omega arith) in
           omega (arith, x, y)
 
-  pub safe_where_it_fits : All (IsShaped p.bounds) rows → IsSafe p rows depth
+  pub safe_where_it_fits : All (IsShaped p.bounds) rows → IsSafe p (run_after p rows 0) depth
   safe_where_it_fits shaped = is_safe p rows depth (safely_where_it_fits p depth rows has is fit shaped)
 
   pub never_where_it_fits : All (IsShaped p.bounds) rows → NeverFaults p rows
@@ -116,9 +118,9 @@ module _ (p : Parts) (depth : ℕ) (rows : List Row) (has : ∥ file.fits p ∥�
 
 module _ (c : Checked) (rows : List Row) (fit : fits c.program.parts.bounds rows ≡ true)
     (shaped : All (IsShaped c.program.parts.bounds) rows) (depth : ℕ) (is : depth ≡ c.depth) where
-  pub starts_safely : IsSafe c.program.parts rows depth
+  pub starts_safely : IsSafe c.program.parts (run_after c.program.parts rows 0) depth
   starts_safely =
-      subst (IsSafe c.program.parts rows) (sym is)
+      subst (IsSafe c.program.parts (run_after c.program.parts rows 0)) (sym is)
       (safe_where_it_fits c.program.parts c.depth rows c.program.has_file c.is_well_shaped fit shaped)
 
   pub starts_without_fault : NeverFaults c.program.parts rows
@@ -127,11 +129,12 @@ module _ (c : Checked) (rows : List Row) (fit : fits c.program.parts.bounds rows
 
   pub starts_under_way : (run : Run) → stand_of rows run ≡ run_after c.program.parts rows 0
       → run.finders ≡ map pattern_in c.program.parts.code.pool → depth ≤ run.frame.stack.room
-      → IsUnderWay c.program.parts rows (record { run = run; steps = 0 })
+      → IsUnderWay c.program.parts rows (record { run = run; steps = 0; dropped = 0 })
   starts_under_way run stands built room = record {
     safe = with_more_room c.program.parts rows depth run.frame.stack.room room starts_safely;
     built = built;
     brief = brief c.program.parts c.depth rows c.program.has_file c.is_well_shaped fit;
-    stands = stands;
+    stands = subst (λ s. IsTrimmed c.program.parts 0 s (run_after c.program.parts rows 0)) (sym stands)
+        (not_trimmed c.program.parts (run_after c.program.parts rows 0));
     going = λ k lt. absurd (omega arith);
   }

@@ -1,3 +1,4 @@
+pub mod Trimming
 pub mod Bounds
 pub mod Ends
 pub mod Turning

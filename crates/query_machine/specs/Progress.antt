@@ -8,6 +8,7 @@ use Rattle.query_machine.specs.RunOf.{IsRunOf}
 use Rattle.query_machine.specs.declared.progress.Progress.{Progress}
 use Rattle.query_machine.specs.declared.progress.Progress.TheVariants as progress
 use Rattle.query_machine.specs.declared.progress.Standing.{Standing}
+use Rattle.query_machine.specs.Trimmed.{IsTrimmed}
 use Rattle.query_rows.specs.Row.{Row}
 use Rattle.query_runs.specs.Stands.{run_after, stand_of}
 use Rattle.query_runs.specs.Turns.{IsSafe}
@@ -17,13 +18,13 @@ place_of (progress.Standing s) = At s.steps
 place_of (progress.Ended answer) = Ended answer
 place_of progress.Failed = Failed
 
--- It stands where the machine does after its steps, each of which was made; whatever is still to
--- come is no fault; and there are fewer steps in all than are counted.
+-- It stands where the machine does after its steps, each of which was made, but for the rows that it
+-- let go of; whatever is still to come is no fault; and there are fewer steps in all than are counted.
 pub record IsUnderWay (p : Parts) (rows : List Row) (s : Standing) : Type 0 where
-  pub safe : IsSafe p rows s.run.frame.stack.room
+  pub safe : IsSafe p (run_after p rows 0) s.run.frame.stack.room
   pub built : s.run.finders ≡ map pattern_in p.code.pool
   pub brief : budget p (length rows) (length rows) < 2 ^ 64
-  pub stands : stand_of rows s.run ≡ run_after p rows s.steps
+  pub stands : IsTrimmed p s.dropped (stand_of rows s.run) (run_after p rows s.steps)
   pub going : (k : ℕ) → k < s.steps → is_going (run_after p rows k) ≡ true
 
 abbrev pub IsSound : Parts → List Row → Progress → Type 0

@@ -1,8 +1,9 @@
 //! What a turn does, from where a run stands to where it stands then.
-ghost use Rattle.std.specs.Prelude.{◌≡◌, ◌+◌, true, IfOk};
+ghost use Rattle.std.specs.Prelude.{◌≡◌, ◌<◌, ◌≤◌, ◌+◌, true, false, IfOk, OnOk};
 ghost use Rattle.query_machine.specs.Progress.{IsSound, IsUnderWay, place_of};
+ghost use Rattle.query_machine.specs.Run.{At};
 ghost use Rattle.query_machine.specs.RunOf.{IsRunOf};
-ghost use Rattle.query_machine.specs.Turns.{Moves, StandsAfter, told_at};
+ghost use Rattle.query_machine.specs.Turns.{HasEnded, Moves, StandsAfter, told_at};
 ghost use Rattle.query_machine.specs.declared.progress.Progress.TheVariants as progress;
 ghost use Rattle.query_runs.specs.Stands.{rows_in};
 ghost use Rattle.query_runs.specs.Turns.{is_at_end};
@@ -10,11 +11,15 @@ ghost use Rattle.query_runs.specs.Turns.{is_at_end};
 use crate::progress::{Progress, Standing};
 use crate::turn::Turn;
 use bean_base::{List, Slice};
-use final_rows::finish;
+use final_rows::{finish, trim};
 use query_answer::Answer;
 use query_code::{Output, Parts};
 use query_runs::{Inputs, go_on, is_done};
 use std::alloc::{AllocError, Global};
+use std::mem::replace;
+
+/// How many steps are made at most before rows are let go of that can't come out any more.
+const STRETCH: u64 = 4096;
 
 /// The names of what is shown.
 fn headers_of<'r>(alloc: Global, output: &Output<'r>) -> Result<Vec<Slice<'r>>, AllocError>
@@ -39,9 +44,13 @@ fn answer_of<'r>(
     ensures is { IfOk result (IsRunOf input.now.parts.now (rows_in input.now)) }
     ensures steps { IfOk result (λ answer. answer.steps ≡ standing.entry.steps) }
 {
-    let steps = standing.steps;
-    let rows = standing.run.into_rows();
-    let groups = rows.len() as u64;
+    let Standing {
+        run,
+        steps,
+        dropped,
+    } = standing;
+    let rows = run.into_rows();
+    let groups = dropped + rows.len() as u64;
     let headers = List::new(headers_of(alloc, &input.parts.output)?);
     let rows = List::new(finish(alloc, &input.parts.output, rows)?);
     Ok(Answer {
@@ -52,46 +61,102 @@ fn answer_of<'r>(
     })
 }
 
-/// Goes on by so many steps, at most to the end. There the rows come out.
+/// Lets go of rows that can't come out any more, where there are many.
+fn drop_rows<'r>(input: &Inputs<'r, '_>, standing: &mut Standing<'r>) -> Result<(), AllocError>
+    requires { IsUnderWay input.now.parts.now (rows_in input.now) standing.old }
+    ensures under_way { OnOk result
+        (IsUnderWay input.now.parts.now (rows_in input.now) standing.new) }
+    ensures stage { standing.new.run.stage ≡ standing.old.run.stage }
+    ensures steps { standing.new.steps ≡ standing.old.steps }
+{
+    let before = standing.run.rows.len();
+    trim(&input.parts.output, &mut standing.run.rows)?;
+    standing.dropped += (before - standing.run.rows.len()) as u64;
+    Ok(())
+}
+
+/// Goes on by so many steps, at most to the end, lets go of rows that can't come out any more, and
+/// tells how many steps they were.
+fn stretch<'r>(
+    alloc: Global,
+    input: &Inputs<'r, '_>,
+    standing: &mut Standing<'r>,
+    k: u64,
+) -> Result<u64, AllocError>
+    requires under_way { IsUnderWay input.now.parts.now (rows_in input.now) standing.old }
+    requires some { 0 < k }
+    requires inside { is_at_end standing.old.run.stage ≡ false }
+    ensures under_way { OnOk result
+        (IsUnderWay input.now.parts.now (rows_in input.now) standing.new) }
+    ensures few { IfOk result (λ made. made ≤ k) }
+    ensures some { IfOk result (λ made. 0 < made) }
+    ensures steps { IfOk result (λ made. standing.new.steps ≡ standing.old.steps + made) }
+{
+    let made = go_on(alloc, input, &mut standing.run, k)?;
+    standing.steps += made;
+    drop_rows(input, standing)?;
+    Ok(made)
+}
+
+/// Goes on by so many steps, at most to the end, and tells whether that is where it stands.
 fn advance<'r>(
     alloc: Global,
     input: &Inputs<'r, '_>,
-    standing: Standing<'r>,
+    standing: &mut Standing<'r>,
     k: u64,
-) -> Result<Progress<'r>, AllocError>
-    requires { IsUnderWay input.now.parts.now (rows_in input.now) standing }
-    ensures sound { IfOk result (IsSound input.now.parts.now (rows_in input.now)) }
-    ensures stands { IfOk result (λ progress. StandsAfter input.now.parts.now (rows_in input.now)
-        (standing.entry.steps + k) (place_of progress)) }
+) -> Result<bool, AllocError>
+    requires { IsUnderWay input.now.parts.now (rows_in input.now) standing.old }
+    ensures under_way { OnOk result
+        (IsUnderWay input.now.parts.now (rows_in input.now) standing.new) }
+    ensures ends { IfOk result (λ ended. ended ≡ is_at_end standing.new.run.stage) }
+    ensures within { OnOk result (standing.new.steps ≤ standing.old.steps + k) }
+    ensures stands { IfOk result (λ ended. ended ≡ false
+        → StandsAfter input.now.parts.now (rows_in input.now) (standing.old.steps + k)
+        (At standing.new.steps)) }
 {
-    let mut standing = standing;
-    let made = go_on(alloc, input, &mut standing.run, k)?;
-    standing.steps += made;
-    if is_done(&standing.run) {
-        return Ok(Progress::Ended(answer_of(alloc, input, standing)?));
+    let mut made = 0;
+    while made < k && !is_done(&standing.run) {
+        made += stretch(alloc, input, standing, (k - made).min(STRETCH))?;
     }
-    Ok(Progress::Standing(standing))
+    Ok(is_done(&standing.run))
 }
 
-/// Where a turn of so many steps leads.
-pub fn turned<'r>(
-    alloc: Global,
-    input: &Inputs<'r, '_>,
-    progress: Progress<'r>,
-    k: u64,
-) -> Progress<'r>
-    requires { IsSound input.now.parts.now (rows_in input.now) progress }
+/// What becomes of a run that has come to its end: its rows come out, where memory doesn't lack.
+fn ended<'r>(alloc: Global, input: &Inputs<'r, '_>, standing: Standing<'r>) -> Progress<'r>
+    requires under_way { IsUnderWay input.now.parts.now (rows_in input.now) standing }
+    requires ended { is_at_end standing.run.stage ≡ true }
     ensures sound { IsSound input.now.parts.now (rows_in input.now) result }
-    ensures moves { Moves input.now.parts.now (rows_in input.now) k (place_of progress.entry)
+    ensures ended { HasEnded (place_of result) }
+    ensures stands { StandsAfter input.now.parts.now (rows_in input.now) standing.entry.steps
         (place_of result) }
 {
-    match progress {
-        Progress::Standing(standing) => match advance(alloc, input, standing, k) {
-            Ok(progress) => progress,
-            Err(_) => Progress::Failed,
-        },
-        Progress::Ended(answer) => Progress::Ended(answer),
-        Progress::Failed => Progress::Failed,
+    match answer_of(alloc, input, standing) {
+        Ok(answer) => Progress::Ended(answer),
+        Err(_) => Progress::Failed,
+    }
+}
+
+/// A turn of so many steps. Where it comes to the end the rows come out; what has ended, or failed,
+/// stays as it is.
+#[tactic(auto, using(crate::proofs::Ends::later_end))]
+pub fn turn_on<'r>(alloc: Global, input: &Inputs<'r, '_>, progress: &mut Progress<'r>, k: u64)
+    requires { IsSound input.now.parts.now (rows_in input.now) progress.old }
+    ensures sound { IsSound input.now.parts.now (rows_in input.now) progress.new }
+    ensures moves { Moves input.now.parts.now (rows_in input.now) k (place_of progress.old)
+        (place_of progress.new) }
+{
+    let stands = match progress {
+        Progress::Standing(standing) => advance(alloc, input, standing, k),
+        Progress::Ended(_) | Progress::Failed => return,
+    };
+    match stands {
+        Ok(false) => {}
+        Ok(true) => {
+            if let Progress::Standing(standing) = replace(progress, Progress::Failed) {
+                *progress = ended(alloc, input, standing);
+            }
+        }
+        Err(_) => *progress = Progress::Failed,
     }
 }
 

@@ -28,8 +28,11 @@
 //! # Cost
 //!
 //! A posting that doesn't pass takes no memory, and one that does that of its row, or of its keys
-//! where these are new. A turn moves what is kept of its run, some hundred bytes, once. At the end
-//! the rows are sorted where there is something to order by, and moved.
+//! where these are new. A turn goes on where its run lies, and moves nothing of it. At the end the
+//! rows are sorted where there is something to order by, and moved.
+//!
+//! Where rows are cut at a limit and not told once, a run keeps at most twice as many, with those of
+//! 4,096 steps: it lets go of the others on its way, and sorts what it has to see which they are.
 #![tactic(auto)]
 
 mod advancing;

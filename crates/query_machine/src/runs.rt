@@ -3,7 +3,7 @@ ghost use Rattle.std.specs.Prelude.{◌≡◌, IfSome};
 ghost use Rattle.std.specs.Option.{option_copied};
 ghost use Rattle.plain_machine.specs.Pool.{pattern_in};
 
-use crate::advancing::{told, turned};
+use crate::advancing::{told, turn_on};
 use crate::cause::RunCause;
 use crate::progress::{Progress, Standing};
 use crate::turn::Turn;
@@ -13,7 +13,6 @@ use query_runs::{Inputs, start};
 use refusals::Refusal;
 use std::alloc::Global;
 use std::marker::Model;
-use std::mem::replace;
 use verified_program::Checked;
 
 /// A run of a program over a ledger, which goes on in turns. Contracts see its program, its ledger
@@ -71,7 +70,11 @@ impl<'r, 'a> Run<'r, 'a> {
         Ok(Run {
             alloc,
             input,
-            progress: Progress::Standing(Standing { run, steps: 0 }),
+            progress: Progress::Standing(Standing {
+                run,
+                steps: 0,
+                dropped: 0,
+            }),
         })
     }
 
@@ -81,8 +84,7 @@ impl<'r, 'a> Run<'r, 'a> {
     pub fn turn(&mut self, k: u64) -> Turn
         ensures { IsTurned k self.old self.new result }
     {
-        let progress = replace(&mut self.progress, Progress::Failed);
-        self.progress = turned(self.alloc, &self.input, progress, k);
+        turn_on(self.alloc, &self.input, &mut self.progress, k);
         told(&self.progress)
     }
 

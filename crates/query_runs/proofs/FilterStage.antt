@@ -4,6 +4,7 @@ use Rattle.std.proofs.Common.{Option, Some, None, refl, sym, ap, subst, ◌∙�
 use Rattle.std.proofs.Common.{inl, inr}
 use Rattle.std.proofs.lemmas.Bool.{cases_lt, eq-eqb, ne_eqb}
 use Rattle.std.specs.Prelude.{slice_get}
+use Rattle.plain_machine.specs.PlainMachine.{steps}
 use Rattle.plain_machine.specs.PlainMachine.{Kept, InFilter}
 use Rattle.plain_machine.specs.PlainMachine.{end_filter, filter_acts}
 use Rattle.plain_machine.specs.PlainMachine.{in_filter}
@@ -19,13 +20,13 @@ use Rattle.query_sections.specs.Standing.{standing, state_in}
 use Rattle.query_sections.specs.declared.frame.Frame.{Frame}
 use Rattle.query_values.specs.declared.value.Value.{Value}
 use Rattle.query_runs.specs.Ends.{filter_ends}
-use Rattle.query_runs.specs.Stands.{Gathered, in_filter_at, keeps, kept_in, run_after, stand_of}
+use Rattle.query_runs.specs.Stands.{Gathered, in_filter_at, keeps, kept_in, stand_of}
 use Rattle.query_runs.specs.Stands.{by_stage}
 use Rattle.query_runs.proofs.Turning.{AreGoing}
-use Rattle.query_runs.specs.Turns.{IsSafe}
+use Rattle.query_runs.specs.Turns.{IsSafe, is_ready}
 use Rattle.query_runs.specs.declared.run.Run.{Run}
 use Rattle.query_runs.specs.declared.run.Stage.TheVariants as stage
-use Rattle.query_runs.proofs.Readiness.{is_ready, ready_at}
+use Rattle.query_runs.proofs.Readiness.{stays_ready}
 use Rattle.query_runs.proofs.Sections.{IsSection, goes_safely, going, reached}
 use Rattle.query_runs.proofs.Starts.{front, nothing_left}
 
@@ -54,22 +55,22 @@ pub record InFilterAt (p : Parts) (rows : List Row) (run : Run) (before : ℕ) :
   pub is : drop run.row rows ≡ head ∷ drop (run.row + 1) rows
   pub there : run.row < length rows
   pub within : run.frame.place < length p.code.filter
-  pub here : run_after p rows before
+  pub here : steps (keeps p) p before (stand_of rows run)
       ≡ in_filter (keeps p) p head (drop (run.row + 1) rows) (kept_in run) (standing run.frame)
 
 pub in_filter_there : (p : Parts) (rows : List Row) (run : Run) (before room : ℕ)
-    → run.stage ≡ stage.Filter → stand_of rows run ≡ run_after p rows before
-    → IsSafe p rows room → InFilterAt p rows run before
+    → run.stage ≡ stage.Filter → stand_of rows run ≡ steps (keeps p) p before (stand_of rows run)
+    → IsSafe p (stand_of rows run) room → InFilterAt p rows run before
 in_filter_there p rows run before room stage_is stands safe =
     elim (cases_lt run.row (length rows)) [
       | inl there ↦
           let f = front rows run.row there in
-          let is : run_after p rows before
+          let is : steps (keeps p) p before (stand_of rows run)
           ≡ InFilter f.head (drop (run.row + 1) rows) (kept_in run) run.frame.place
           (state_in run.frame) =
           sym here ∙ ap (λ l. in_filter_at l run) f.is in
           let within : run.frame.place < length p.code.filter =
-          subst (is_ready p) is (ready_at p rows before) in
+          subst (is_ready p) is (stays_ready p (stand_of rows run) safe.ready before) in
           record {
             head = f.head;
             at = f.at;
@@ -83,7 +84,7 @@ in_filter_there p rows run before room stage_is stands safe =
           (sym here ∙ ap (λ l. in_filter_at l run) (nothing_left rows run.row past)))
     ]
   where
-    here : in_filter_at (drop run.row rows) run ≡ run_after p rows before
+    here : in_filter_at (drop run.row rows) run ≡ steps (keeps p) p before (stand_of rows run)
     here = ap (λ s. by_stage s rows run) (sym stage_is) ∙ stands
 
 -- what instructions do at a posting where the running inventory may not be read
@@ -98,7 +99,7 @@ posting_acts p pool r = value_acts pool (record {
 
 module _ (p : Parts) (rows : List Row) (run : Run) (before room : ℕ)
     (f : InFilterAt p rows run before) (code : List Instruction) (pool : List Constant)
-    (code_is : code ≡ p.code.filter) (pool_is : pool ≡ p.code.pool) (safe : IsSafe p rows room) where
+    (code_is : code ≡ p.code.filter) (pool_is : pool ≡ p.code.pool) (safe : IsSafe p (stand_of rows run) room) where
   abbrev m : Acts Value
   m = posting_acts p pool (slice_get rows run.row)
 
@@ -122,25 +123,25 @@ module _ (p : Parts) (rows : List Row) (run : Run) (before room : ℕ)
 
   pub filter_safely : GoesSafely room code m (standing run.frame)
   filter_safely =
-      goes_safely p rows code m
+      goes_safely p (stand_of rows run) code m
       (in_filter (keeps p) p f.head (drop (run.row + 1) rows) (kept_in run))
       (InFilter f.head (drop (run.row + 1) rows) (kept_in run)) in_section before
       (standing run.frame) f.here room safe filter_inside
 
   module _ (made : ℕ) (are : AreInside code m made (standing run.frame)) (frame : Frame)
       (stands : standing frame ≡ after_steps code m made (standing run.frame)) where
-    went : run_after p rows (before + made)
+    went : steps (keeps p) p (before + made) (stand_of rows run)
         ≡ in_filter (keeps p) p f.head (drop (run.row + 1) rows) (kept_in run) (standing frame)
     went =
-        reached p rows code m
+        reached p (stand_of rows run) code m
         (in_filter (keeps p) p f.head (drop (run.row + 1) rows) (kept_in run))
         (InFilter f.head (drop (run.row + 1) rows) (kept_in run)) in_section before
         (standing run.frame) f.here made are
         ∙ ap (in_filter (keeps p) p f.head (drop (run.row + 1) rows) (kept_in run)) (sym stands)
 
-    pub filter_going : AreGoing p rows before made
+    pub filter_going : AreGoing p (stand_of rows run) before made
     filter_going =
-        going p rows code m
+        going p (stand_of rows run) code m
         (in_filter (keeps p) p f.head (drop (run.row + 1) rows) (kept_in run))
         (InFilter f.head (drop (run.row + 1) rows) (kept_in run)) in_section before
         (standing run.frame) f.here made are
@@ -166,7 +167,7 @@ module _ (p : Parts) (rows : List Row) (run : Run) (before room : ℕ)
         none_made (suc n) e same end = absurd (omega arith)
 
     pub filter_ended : frame.place ≡ length code
-        → run_after p rows (before + made)
+        → steps (keeps p) p (before + made) (stand_of rows run)
         ≡ filter_ends p (drop run.row rows) (kept_in run) frame.stack.values
     filter_ended end =
         went
@@ -177,7 +178,7 @@ module _ (p : Parts) (rows : List Row) (run : Run) (before room : ℕ)
         ∙ ap (λ l. filter_ends p l (kept_in run) frame.stack.values) (sym f.is)
 
     pub filter_goes : frame.place ≢ length code
-        → run_after p rows (before + made) ≡ InFilter f.head (drop (run.row + 1) rows) (kept_in run)
+        → steps (keeps p) p (before + made) (stand_of rows run) ≡ InFilter f.head (drop (run.row + 1) rows) (kept_in run)
         frame.place (state_in frame)
     filter_goes inside =
         went
@@ -188,7 +189,7 @@ module _ (p : Parts) (rows : List Row) (run : Run) (before room : ℕ)
 
     pub filter_at_next : (next : Run) → frame.place ≢ length code → next.row ≡ run.row
         → kept_in next ≡ kept_in run → next.frame ≡ frame → next.stage ≡ stage.Filter
-        → stand_of rows next ≡ run_after p rows (before + made)
+        → stand_of rows next ≡ steps (keeps p) p (before + made) (stand_of rows run)
     filter_at_next next inside row kept frame_is stage_is =
         ap (λ s. by_stage s rows next) stage_is
         ∙ ap (λ j. in_filter_at (drop j rows) next) row

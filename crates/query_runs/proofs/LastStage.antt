@@ -4,6 +4,7 @@ use Rattle.std.proofs.Common.{Option, Some, None, refl, sym, ap, subst, ◌∙�
 use Rattle.std.proofs.Common.{inl, inr}
 use Rattle.std.proofs.lemmas.Bool.{cases_lt, eq-eqb, ne_eqb}
 use Rattle.std.specs.Prelude.{slice_get}
+use Rattle.plain_machine.specs.PlainMachine.{steps}
 use Rattle.plain_machine.specs.PlainMachine.{InLast}
 use Rattle.plain_machine.specs.PlainMachine.{end_last}
 use Rattle.plain_machine.specs.PlainMachine.{in_last, last_acts}
@@ -20,13 +21,13 @@ use Rattle.query_sections.specs.Standing.{standing, state_in}
 use Rattle.query_sections.specs.declared.frame.Frame.{Frame}
 use Rattle.query_values.specs.declared.value.Value.{Value}
 use Rattle.query_runs.specs.Ends.{last_ends}
-use Rattle.query_runs.specs.Stands.{Gathered, in_last_at, keeps, run_after, stand_of}
+use Rattle.query_runs.specs.Stands.{Gathered, in_last_at, keeps, stand_of}
 use Rattle.query_runs.specs.Stands.{by_stage}
 use Rattle.query_runs.proofs.Turning.{AreGoing}
-use Rattle.query_runs.specs.Turns.{IsSafe}
+use Rattle.query_runs.specs.Turns.{IsSafe, is_ready}
 use Rattle.query_runs.specs.declared.run.Run.{Run}
 use Rattle.query_runs.specs.declared.run.Stage.TheVariants as stage
-use Rattle.query_runs.proofs.Readiness.{is_ready, ready_at}
+use Rattle.query_runs.proofs.Readiness.{stays_ready}
 use Rattle.query_runs.proofs.Sections.{IsSection, goes_safely, going, reached}
 use Rattle.query_runs.proofs.Starts.{front, nothing_left}
 
@@ -56,23 +57,23 @@ pub record InLastAt (p : Parts) (rows : List Row) (run : Run) (before : ℕ) : T
   pub is : drop run.group run.groups ≡ head ∷ drop (run.group + 1) run.groups
   pub there : run.group < length run.groups
   pub within : run.frame.place < length p.code.last
-  pub here : run_after p rows before
+  pub here : steps (keeps p) p before (stand_of rows run)
       ≡ in_last (keeps p) p head (drop (run.group + 1) run.groups) run.rows.items
       (standing run.frame)
 
 pub in_last_there : (p : Parts) (rows : List Row) (run : Run) (before room : ℕ)
-    → run.stage ≡ stage.Last → stand_of rows run ≡ run_after p rows before
-    → IsSafe p rows room → InLastAt p rows run before
+    → run.stage ≡ stage.Last → stand_of rows run ≡ steps (keeps p) p before (stand_of rows run)
+    → IsSafe p (stand_of rows run) room → InLastAt p rows run before
 in_last_there p rows run before room stage_is stands safe =
     elim (cases_lt run.group (length run.groups)) [
       | inl there ↦
           let f = front run.groups run.group there in
-          let is : run_after p rows before
+          let is : steps (keeps p) p before (stand_of rows run)
           ≡ InLast f.head (drop (run.group + 1) run.groups) run.rows.items run.frame.place
           (state_in run.frame) =
           sym here ∙ ap (λ l. in_last_at l run) f.is in
           let within : run.frame.place < length p.code.last =
-          subst (is_ready p) is (ready_at p rows before) in
+          subst (is_ready p) is (stays_ready p (stand_of rows run) safe.ready before) in
           record {
             head = f.head;
             at = f.at;
@@ -86,7 +87,7 @@ in_last_there p rows run before room stage_is stands safe =
           (sym here ∙ ap (λ l. in_last_at l run) (nothing_left run.groups run.group past)))
     ]
   where
-    here : in_last_at (drop run.group run.groups) run ≡ run_after p rows before
+    here : in_last_at (drop run.group run.groups) run ≡ steps (keeps p) p before (stand_of rows run)
     here = ap (λ s. by_stage s rows run) (sym stage_is) ∙ stands
 
 -- keys and totals that were read one after the other are those of one group
@@ -116,7 +117,7 @@ module _ (p : Parts) (rows : List Row) (run : Run) (before room : ℕ)
     (f : InLastAt p rows run before) (code : List Instruction) (pool : List Constant)
     (code_is : code ≡ p.code.last) (pool_is : pool ≡ p.code.pool) (keys totals : List Value)
     (group_is : ◌≡◌ {A = Option (List Value × List Value)} (Some (keys, totals))
-    (slice_get run.groups run.group)) (safe : IsSafe p rows room) where
+    (slice_get run.groups run.group)) (safe : IsSafe p (stand_of rows run) room) where
   abbrev m : Acts Value
   m = group_acts p pool keys totals
 
@@ -147,26 +148,26 @@ module _ (p : Parts) (rows : List Row) (run : Run) (before room : ℕ)
 
   pub last_safely : GoesSafely room code m (standing run.frame)
   last_safely =
-      goes_safely p rows code m
+      goes_safely p (stand_of rows run) code m
       (in_last (keeps p) p f.head (drop (run.group + 1) run.groups) run.rows.items)
       (InLast f.head (drop (run.group + 1) run.groups) run.rows.items) in_section before
       (standing run.frame) f.here room safe last_inside
 
   module _ (made : ℕ) (are : AreInside code m made (standing run.frame)) (frame : Frame)
       (stands : standing frame ≡ after_steps code m made (standing run.frame)) where
-    went : run_after p rows (before + made)
+    went : steps (keeps p) p (before + made) (stand_of rows run)
         ≡ in_last (keeps p) p f.head (drop (run.group + 1) run.groups) run.rows.items
         (standing frame)
     went =
-        reached p rows code m
+        reached p (stand_of rows run) code m
         (in_last (keeps p) p f.head (drop (run.group + 1) run.groups) run.rows.items)
         (InLast f.head (drop (run.group + 1) run.groups) run.rows.items) in_section before
         (standing run.frame) f.here made are
         ∙ ap (in_last (keeps p) p f.head (drop (run.group + 1) run.groups) run.rows.items) (sym stands)
 
-    pub last_going : AreGoing p rows before made
+    pub last_going : AreGoing p (stand_of rows run) before made
     last_going =
-        going p rows code m
+        going p (stand_of rows run) code m
         (in_last (keeps p) p f.head (drop (run.group + 1) run.groups) run.rows.items)
         (InLast f.head (drop (run.group + 1) run.groups) run.rows.items) in_section before
         (standing run.frame) f.here made are
@@ -192,7 +193,7 @@ module _ (p : Parts) (rows : List Row) (run : Run) (before room : ℕ)
         none_made (suc n) e same end = absurd (omega arith)
 
     pub last_ended : frame.place ≡ length code
-        → run_after p rows (before + made)
+        → steps (keeps p) p (before + made) (stand_of rows run)
         ≡ last_ends p (drop run.group run.groups) run.rows.items frame.stack.values
     last_ended end =
         went
@@ -203,7 +204,7 @@ module _ (p : Parts) (rows : List Row) (run : Run) (before room : ℕ)
         ∙ ap (λ l. last_ends p l run.rows.items frame.stack.values) (sym f.is)
 
     pub last_goes : frame.place ≢ length code
-        → run_after p rows (before + made) ≡ InLast f.head (drop (run.group + 1) run.groups) run.rows.items
+        → steps (keeps p) p (before + made) (stand_of rows run) ≡ InLast f.head (drop (run.group + 1) run.groups) run.rows.items
         frame.place (state_in frame)
     last_goes inside =
         went
@@ -214,7 +215,7 @@ module _ (p : Parts) (rows : List Row) (run : Run) (before room : ℕ)
 
     pub last_at_next : (next : Run) → frame.place ≢ length code → next.group ≡ run.group
         → next.groups ≡ run.groups → next.rows.items ≡ run.rows.items → next.frame ≡ frame
-        → next.stage ≡ stage.Last → stand_of rows next ≡ run_after p rows (before + made)
+        → next.stage ≡ stage.Last → stand_of rows next ≡ steps (keeps p) p (before + made) (stand_of rows run)
     last_at_next next inside group groups out frame_is stage_is =
         ap (λ s. by_stage s rows next) stage_is
         ∙ ap (λ j. in_last_at (drop j next.groups) next) group

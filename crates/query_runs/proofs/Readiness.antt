@@ -10,7 +10,7 @@ use Rattle.plain_machine.specs.PlainMachine.{Kept, Stand, InFilter, InRow, InLas
 use Rattle.plain_machine.specs.PlainMachine.{begin_filter, begin_last, begin_row, end_filter, end_last}
 use Rattle.plain_machine.specs.PlainMachine.{end_row, filter_acts, go_on, go_on_last, in_filter, in_last}
 use Rattle.plain_machine.specs.PlainMachine.{in_row, judged, kept_with, last_acts, nothing_kept}
-use Rattle.plain_machine.specs.PlainMachine.{one_truth, row_acts, row_of, running_with, step, with_running}
+use Rattle.plain_machine.specs.PlainMachine.{one_truth, row_acts, row_of, running_with, step, steps, with_running}
 use Rattle.plain_machine.specs.SectionRun.{Acts, Outcome, Standing, State, Stopped, effect, leads_on}
 use Rattle.plain_machine.specs.SectionRun.{moved, next_place, one_step, start, stepped}
 use Rattle.query_code.specs.declared.instruction.Instruction.{Instruction}
@@ -19,14 +19,7 @@ use Rattle.query_rows.specs.Row.{Row}
 use Rattle.query_sections.proofs.StepFacts.{next_within}
 use Rattle.query_values.specs.declared.value.Value.{Value}
 use Rattle.query_runs.specs.Stands.{Gathered, keeps, run_after}
-
--- an instruction stands at the place
-abbrev pub is_ready : Parts → Stand Gathered → Type 0
-is_ready p (InFilter r rest k q s) = q < length p.code.filter
-is_ready p (InRow r rest k q s) = q < length p.code.row
-is_ready p (InLast g rest rows q s) = q < length p.code.last
-is_ready p (Done rows) = ⊤
-is_ready p Fault = ⊤
+use Rattle.query_runs.specs.Turns.{is_ready}
 
 some_there : (n : ℕ) → nat_eq n 0 ≡ false → 0 < n
 some_there zero e = absurd cc
@@ -159,6 +152,10 @@ module _ (p : Parts) where
   step_ready (Done rows) h = tt
   step_ready Fault h = tt
 
-  pub ready_at : (rows : List Row) (n : ℕ) → is_ready p (run_after p rows n)
-  ready_at rows zero = filter_ready rows nothing_kept
-  ready_at rows (suc n) = step_ready (run_after p rows n) (ready_at rows n)
+  pub begins_ready : (rows : List Row) → is_ready p (run_after p rows 0)
+  begins_ready rows = filter_ready rows nothing_kept
+
+  pub stays_ready : (s : Stand Gathered) → is_ready p s → (n : ℕ)
+      → is_ready p (steps (keeps p) p n s)
+  stays_ready s ready zero = ready
+  stays_ready s ready (suc n) = step_ready (steps (keeps p) p n s) (stays_ready s ready n)

@@ -4,6 +4,7 @@ use Rattle.std.proofs.Common.{Option, Some, refl, sym, ap, subst, ◌∙◌, ari
 use Rattle.std.proofs.Common.{inl, inr}
 use Rattle.std.proofs.lemmas.Bool.{cases_lt, eq-eqb, ne_eqb}
 use Rattle.std.specs.Prelude.{slice_get}
+use Rattle.plain_machine.specs.PlainMachine.{steps}
 use Rattle.plain_machine.specs.PlainMachine.{Kept, InRow}
 use Rattle.plain_machine.specs.PlainMachine.{balance_in, end_row}
 use Rattle.plain_machine.specs.PlainMachine.{in_row, row_acts}
@@ -19,13 +20,13 @@ use Rattle.query_sections.specs.Standing.{standing, state_in}
 use Rattle.query_sections.specs.declared.frame.Frame.{Frame}
 use Rattle.query_values.specs.declared.value.Value.{Value}
 use Rattle.query_runs.specs.Ends.{row_ends}
-use Rattle.query_runs.specs.Stands.{Gathered, in_row_at, keeps, kept_in, run_after, stand_of}
+use Rattle.query_runs.specs.Stands.{Gathered, in_row_at, keeps, kept_in, stand_of}
 use Rattle.query_runs.specs.Stands.{by_stage}
 use Rattle.query_runs.proofs.Turning.{AreGoing}
-use Rattle.query_runs.specs.Turns.{IsSafe}
+use Rattle.query_runs.specs.Turns.{IsSafe, is_ready}
 use Rattle.query_runs.specs.declared.run.Run.{Run}
 use Rattle.query_runs.specs.declared.run.Stage.TheVariants as stage
-use Rattle.query_runs.proofs.Readiness.{is_ready, ready_at}
+use Rattle.query_runs.proofs.Readiness.{stays_ready}
 use Rattle.query_runs.proofs.Sections.{IsSection, goes_safely, going, reached}
 use Rattle.query_runs.proofs.Starts.{front, nothing_left}
 
@@ -54,22 +55,22 @@ pub record InRowAt (p : Parts) (rows : List Row) (run : Run) (before : ℕ) : Ty
   pub is : drop run.row rows ≡ head ∷ drop (run.row + 1) rows
   pub there : run.row < length rows
   pub within : run.frame.place < length p.code.row
-  pub here : run_after p rows before
+  pub here : steps (keeps p) p before (stand_of rows run)
       ≡ in_row (keeps p) p head (drop (run.row + 1) rows) (kept_in run) (standing run.frame)
 
 pub in_row_there : (p : Parts) (rows : List Row) (run : Run) (before room : ℕ)
-    → run.stage ≡ stage.Row → stand_of rows run ≡ run_after p rows before
-    → IsSafe p rows room → InRowAt p rows run before
+    → run.stage ≡ stage.Row → stand_of rows run ≡ steps (keeps p) p before (stand_of rows run)
+    → IsSafe p (stand_of rows run) room → InRowAt p rows run before
 in_row_there p rows run before room stage_is stands safe =
     elim (cases_lt run.row (length rows)) [
       | inl there ↦
           let f = front rows run.row there in
-          let is : run_after p rows before
+          let is : steps (keeps p) p before (stand_of rows run)
           ≡ InRow f.head (drop (run.row + 1) rows) (kept_in run) run.frame.place
           (state_in run.frame) =
           sym here ∙ ap (λ l. in_row_at l run) f.is in
           let within : run.frame.place < length p.code.row =
-          subst (is_ready p) is (ready_at p rows before) in
+          subst (is_ready p) is (stays_ready p (stand_of rows run) safe.ready before) in
           record {
             head = f.head;
             at = f.at;
@@ -83,7 +84,7 @@ in_row_there p rows run before room stage_is stands safe =
           (sym here ∙ ap (λ l. in_row_at l run) (nothing_left rows run.row past)))
     ]
   where
-    here : in_row_at (drop run.row rows) run ≡ run_after p rows before
+    here : in_row_at (drop run.row rows) run ≡ steps (keeps p) p before (stand_of rows run)
     here = ap (λ s. by_stage s rows run) (sym stage_is) ∙ stands
 
 -- what instructions do at a posting that passes
@@ -99,7 +100,7 @@ passing_acts p pool balance r = value_acts pool (record {
 module _ (p : Parts) (rows : List Row) (run : Run) (before room : ℕ)
     (f : InRowAt p rows run before) (code : List Instruction) (pool : List Constant)
     (code_is : code ≡ p.code.row) (pool_is : pool ≡ p.code.pool) (balance : Option Value)
-    (balance_is : balance ≡ balance_in p.mode run.running) (safe : IsSafe p rows room) where
+    (balance_is : balance ≡ balance_in p.mode run.running) (safe : IsSafe p (stand_of rows run) room) where
   abbrev m : Acts Value
   m = passing_acts p pool balance (slice_get rows run.row)
 
@@ -126,25 +127,25 @@ module _ (p : Parts) (rows : List Row) (run : Run) (before room : ℕ)
 
   pub row_safely : GoesSafely room code m (standing run.frame)
   row_safely =
-      goes_safely p rows code m
+      goes_safely p (stand_of rows run) code m
       (in_row (keeps p) p f.head (drop (run.row + 1) rows) (kept_in run))
       (InRow f.head (drop (run.row + 1) rows) (kept_in run)) in_section before
       (standing run.frame) f.here room safe row_inside
 
   module _ (made : ℕ) (are : AreInside code m made (standing run.frame)) (frame : Frame)
       (stands : standing frame ≡ after_steps code m made (standing run.frame)) where
-    went : run_after p rows (before + made)
+    went : steps (keeps p) p (before + made) (stand_of rows run)
         ≡ in_row (keeps p) p f.head (drop (run.row + 1) rows) (kept_in run) (standing frame)
     went =
-        reached p rows code m
+        reached p (stand_of rows run) code m
         (in_row (keeps p) p f.head (drop (run.row + 1) rows) (kept_in run))
         (InRow f.head (drop (run.row + 1) rows) (kept_in run)) in_section before
         (standing run.frame) f.here made are
         ∙ ap (in_row (keeps p) p f.head (drop (run.row + 1) rows) (kept_in run)) (sym stands)
 
-    pub row_going : AreGoing p rows before made
+    pub row_going : AreGoing p (stand_of rows run) before made
     row_going =
-        going p rows code m
+        going p (stand_of rows run) code m
         (in_row (keeps p) p f.head (drop (run.row + 1) rows) (kept_in run))
         (InRow f.head (drop (run.row + 1) rows) (kept_in run)) in_section before
         (standing run.frame) f.here made are
@@ -170,7 +171,7 @@ module _ (p : Parts) (rows : List Row) (run : Run) (before room : ℕ)
         none_made (suc n) e same end = absurd (omega arith)
 
     pub row_ended : frame.place ≡ length code
-        → run_after p rows (before + made)
+        → steps (keeps p) p (before + made) (stand_of rows run)
         ≡ row_ends p (drop run.row rows) (kept_in run) frame.stack.values
     row_ended end =
         went
@@ -181,7 +182,7 @@ module _ (p : Parts) (rows : List Row) (run : Run) (before room : ℕ)
         ∙ ap (λ l. row_ends p l (kept_in run) frame.stack.values) (sym f.is)
 
     pub row_goes : frame.place ≢ length code
-        → run_after p rows (before + made) ≡ InRow f.head (drop (run.row + 1) rows) (kept_in run)
+        → steps (keeps p) p (before + made) (stand_of rows run) ≡ InRow f.head (drop (run.row + 1) rows) (kept_in run)
         frame.place (state_in frame)
     row_goes inside =
         went
@@ -192,7 +193,7 @@ module _ (p : Parts) (rows : List Row) (run : Run) (before room : ℕ)
 
     pub row_at_next : (next : Run) → frame.place ≢ length code → next.row ≡ run.row
         → kept_in next ≡ kept_in run → next.frame ≡ frame → next.stage ≡ stage.Row
-        → stand_of rows next ≡ run_after p rows (before + made)
+        → stand_of rows next ≡ steps (keeps p) p (before + made) (stand_of rows run)
     row_at_next next inside row kept frame_is stage_is =
         ap (λ s. by_stage s rows next) stage_is
         ∙ ap (λ j. in_row_at (drop j rows) next) row

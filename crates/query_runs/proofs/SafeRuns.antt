@@ -13,6 +13,7 @@ use Rattle.query_rows.specs.Row.{Row}
 use Rattle.query_values.specs.Aggregate.{aggregate_of}
 use Rattle.query_values.specs.declared.operation.Aggregate.TheVariants.{SumInventory}
 use Rattle.query_values.specs.declared.value.Value.{Value}
+use Rattle.query_runs.proofs.Readiness.{begins_ready}
 use Rattle.query_runs.specs.Stands.{Gathered, keeps, run_after}
 use Rattle.query_runs.specs.Turns.{IsSafe}
 
@@ -54,8 +55,9 @@ module _ (p : Parts) where
   outcome_alike Fault = refl
 
   module _ (rows : List Row) where
-    pub is_safe : (depth : ℕ) → RunsSafely p rows depth → IsSafe p rows depth
+    pub is_safe : (depth : ℕ) → RunsSafely p rows depth → IsSafe p (run_after p rows 0) depth
     is_safe depth safe = record {
+      ready = begins_ready p rows;
       never_faults = λ n fault. safe.never_faults n
           (fault_alike (stand_after p rows n) (stand_alike p rows n ∙ fault));
       stays_within = λ n.
@@ -64,8 +66,10 @@ module _ (p : Parts) where
           (safe.stays_within n);
     }
 
-    pub with_more_room : (depth room : ℕ) → depth ≤ room → IsSafe p rows depth → IsSafe p rows room
+    pub with_more_room : (depth room : ℕ) → depth ≤ room → IsSafe p (run_after p rows 0) depth
+        → IsSafe p (run_after p rows 0) room
     with_more_room depth room more safe = record {
+      ready = safe.ready;
       never_faults = safe.never_faults;
       stays_within = λ n. let few = safe.stays_within n in omega (arith, few, more);
     }
@@ -77,7 +81,7 @@ module _ (p : Parts) where
         → stand_after p rows n ≡ Done out
     ends_as_plain n out e = ended_alike (stand_after p rows n) out (stand_alike p rows n ∙ e)
 
-    pub begins_safely : (depth : ℕ) → IsSafe p rows depth → (running : Value)
+    pub begins_safely : (depth : ℕ) → IsSafe p (run_after p rows 0) depth → (running : Value)
         (groups : List (Group Gathered)) (out : List (List Value))
         → running ≡ aggregate_of (SumInventory 8) [] → groups ≡ [] → out ≡ []
         → begin_filter p rows (record { running = running; groups = groups; rows = out }) ≢ Fault

@@ -4,16 +4,15 @@ use Rattle.std.proofs.Common.{subst, ◌∙◌, arith, inl, inr, ◌⊎◌, add-
 use Rattle.std.proofs.lemmas.Bool.{cases_lt}
 use Rattle.std.proofs.lemmas.Option.{slice_get_past}
 use Rattle.plain_machine.specs.Depth.{outcome_of, values_in}
-use Rattle.plain_machine.specs.PlainMachine.{Stand, Fault, step}
+use Rattle.plain_machine.specs.PlainMachine.{Stand, Fault, step, steps}
 use Rattle.plain_machine.specs.SectionRun.{Acts, Outcome, Standing, State, Stopped, after_steps}
 use Rattle.plain_machine.specs.SectionRun.{one_step, stepped}
 use Rattle.plain_machine.specs.WholeRun.{is_going}
 use Rattle.query_code.specs.declared.instruction.Instruction.{Instruction}
 use Rattle.query_code.specs.declared.program.Parts.{Parts}
-use Rattle.query_rows.specs.Row.{Row}
 use Rattle.query_sections.specs.Room.{AreInside, GoesSafely, IsInside, OutcomeHasRoom}
 use Rattle.query_values.specs.declared.value.Value.{Value}
-use Rattle.query_runs.specs.Stands.{Gathered, keeps, run_after}
+use Rattle.query_runs.specs.Stands.{Gathered, keeps}
 use Rattle.query_runs.proofs.Turning.{AreGoing}
 use Rattle.query_runs.specs.Turns.{IsSafe}
 
@@ -28,7 +27,7 @@ pub record IsSection (p : Parts) (code : List Instruction) (m : Acts Value)
       → outcome_of (keeps p) p (at q s) ≡ one_step code m (Standing q s)
   pub goes : (q : ℕ) (s : State Value) → is_going (at q s) ≡ true
 
-module _ (p : Parts) (rows : List Row) (code : List Instruction) (m : Acts Value)
+module _ (p : Parts) (from : Stand Gathered) (code : List Instruction) (m : Acts Value)
     (lift : Outcome → Stand Gathered) (at : ℕ → State Value → Stand Gathered)
     (is : IsSection p code m lift at) where
   step_on : (o : Outcome) → IsInside code o → step (keeps p) p (lift o) ≡ lift (one_step code m o)
@@ -44,19 +43,19 @@ module _ (p : Parts) (rows : List Row) (code : List Instruction) (m : Acts Value
   goes_on Stopped h = absurd h
   goes_on (Standing q s) h = ap is_going (is.inside q s h) ∙ is.goes q s
 
-  module _ (before : ℕ) (o : Outcome) (here : run_after p rows before ≡ lift o) where
+  module _ (before : ℕ) (o : Outcome) (here : steps (keeps p) p before from ≡ lift o) where
     pub reached : (n : ℕ) → AreInside code m n o
-        → run_after p rows (before + n) ≡ lift (after_steps code m n o)
-    reached zero are = ap (run_after p rows) (none before) ∙ here
+        → steps (keeps p) p (before + n) from ≡ lift (after_steps code m n o)
+    reached zero are = ap (λ n. steps (keeps p) p n from) (none before) ∙ here
       where
         none : (n : ℕ) → n + 0 ≡ n
         none n = omega arith
     reached (suc n) are =
-        ap (run_after p rows) (add-suc before n)
+        ap (λ n. steps (keeps p) p n from) (add-suc before n)
         ∙ ap (step (keeps p) p) (reached n (λ k lt. are k (omega arith)))
         ∙ step_on (after_steps code m n o) (are n (omega arith))
 
-    pub going : (n : ℕ) → AreInside code m n o → AreGoing p rows before n
+    pub going : (n : ℕ) → AreInside code m n o → AreGoing p from before n
     going n are = record {
       each = λ k lt.
           ap is_going (reached k (λ i less. are i (omega arith)))
@@ -65,7 +64,7 @@ module _ (p : Parts) (rows : List Row) (code : List Instruction) (m : Acts Value
 
     -- ---- no fault
 
-    module _ (room : ℕ) (safe : IsSafe p rows room) (within : IsInside code o) where
+    module _ (room : ℕ) (safe : IsSafe p from room) (within : IsInside code o) where
       has_room : (x : Outcome) → length (values_in x) ≤ room → x ≢ Stopped → OutcomeHasRoom room x
       has_room Stopped few there = there refl
       has_room (Standing q s) few there = few

@@ -3,11 +3,14 @@ use Rattle.std.proofs.Common.{◌≡◌, ◌≢◌, ℕ, zero, suc, ◌+◌, ◌
 use Rattle.std.proofs.Common.{Bool, true, false, cond, Some, refl, sym, ap, subst, ◌∙◌, arith}
 use Rattle.std.proofs.Common.{add-one}
 use Rattle.std.specs.Prelude.{nat_eq, slice_get}
+use Rattle.std.proofs.lemmas.List.{length-map}
 use Rattle.plain_machine.specs.Gathering.{Group}
 use Rattle.plain_machine.specs.PlainMachine.{Kept, Stand, InFilter, InLast, Done, Fault}
 use Rattle.plain_machine.specs.PlainMachine.{begin_filter, begin_last}
 use Rattle.plain_machine.specs.Finishing.{are_orderable}
 use Rattle.plain_machine.specs.SectionRun.{Outcome, Standing, Stopped, State, begun, start}
+use Rattle.posting_table.specs.Ledger.{Ledger}
+use Rattle.posting_table.specs.Rows.{row_of, rows_of}
 use Rattle.query_code.specs.declared.program.Parts.{Parts}
 use Rattle.query_rows.specs.Row.{Row}
 use Rattle.query_runs.specs.Stands.{Gathered, in_filter_at, in_last_at, kept_in}
@@ -40,6 +43,11 @@ nothing_left [] zero h = refl
 nothing_left [] (suc j) h = refl
 nothing_left (x ∷ xs) zero h = absurd (omega arith)
 nothing_left (x ∷ xs) (suc j) h = nothing_left xs j (omega arith)
+
+-- ---- postings
+
+pub posting_there : (l : Ledger) (j : ℕ) → j < length (rows_of l) → j < length l.rows
+posting_there l j lt = let long = length-map l.rows row_of in omega (arith, lt, long)
 
 -- ---- a frame before the first instruction
 

@@ -1,17 +1,18 @@
 -- Steps of a run that are counted from where it stands.
-use Rattle.std.proofs.Common.{◌≡◌, ℕ, zero, suc, ◌+◌, ◌-◌, ◌<◌, ◌≤◌, List, true, sym, ap, ◌∙◌}
+use Rattle.std.proofs.Common.{◌≡◌, ℕ, zero, suc, ◌+◌, ◌-◌, ◌<◌, ◌≤◌, length, true, sym, ap, subst, ◌∙◌}
 use Rattle.std.proofs.Common.{arith, inl, inr, add-suc}
 use Rattle.std.proofs.lemmas.Bool.{cases_lt}
+use Rattle.plain_machine.specs.Depth.{outcome_of, values_in}
 use Rattle.plain_machine.specs.PlainMachine.{Stand, step, steps}
 use Rattle.plain_machine.specs.WholeRun.{is_going}
 use Rattle.query_code.specs.declared.program.Parts.{Parts}
-use Rattle.query_rows.specs.Row.{Row}
-use Rattle.query_runs.specs.Stands.{Gathered, keeps, run_after}
-use Rattle.query_runs.specs.Turns.{GoesOn, IsReached}
+use Rattle.query_runs.specs.Stands.{Gathered, keeps}
+use Rattle.query_runs.proofs.Readiness.{stays_ready}
+use Rattle.query_runs.specs.Turns.{GoesOn, IsSafe, is_ready}
 
 -- each of so many steps led on from before an instruction
-pub record AreGoing (p : Parts) (rows : List Row) (before made : ℕ) : Type 0 where
-  pub each : (k : ℕ) → k < made → is_going (run_after p rows (before + k)) ≡ true
+pub record AreGoing (p : Parts) (from : Stand Gathered) (before made : ℕ) : Type 0 where
+  pub each : (k : ℕ) → k < made → is_going (steps (keeps p) p (before + k) from) ≡ true
 
 module _ (p : Parts) where
   -- steps add up
@@ -47,20 +48,25 @@ module _ (p : Parts) where
       split : (k : ℕ) → m ≤ k → k ≡ m + (k - m)
       split k le = omega arith
 
-  module _ (rows : List Row) where
-    pub goes_on_from : (before made : ℕ) (s t : Stand Gathered) → s ≡ run_after p rows before
-        → t ≡ run_after p rows (before + made) → AreGoing p rows before made → GoesOn p made s t
-    goes_on_from before made s t from to are = record {
-      comes = to ∙ steps_add before made (run_after p rows 0)
-          ∙ ap (steps (keeps p) p made) (sym from);
-      going = λ k lt. ap is_going (ap (steps (keeps p) p k) from
-          ∙ sym (steps_add before k (run_after p rows 0))) ∙ are.each k lt;
-    }
+  pub goes_on_from : (from : Stand Gathered) (before made : ℕ) (s t : Stand Gathered)
+      → s ≡ steps (keeps p) p before from → t ≡ steps (keeps p) p (before + made) from
+      → AreGoing p from before made → GoesOn p made s t
+  goes_on_from from before made s t here there are = record {
+    comes = there ∙ steps_add before made from ∙ ap (steps (keeps p) p made) (sym here);
+    going = λ k lt. ap is_going (ap (steps (keeps p) p k) here ∙ sym (steps_add before k from))
+        ∙ are.each k lt;
+  }
 
-    pub reaches_further : (made : ℕ) (s t : Stand Gathered) → IsReached p rows s → GoesOn p made s t
-        → IsReached p rows t
-    reaches_further made s t reached goes = record {
-      count = reached.count + made;
-      is = goes.comes ∙ ap (steps (keeps p) p made) reached.is
-          ∙ sym (steps_add reached.count made (run_after p rows 0));
-    }
+  -- what is safe from one stand is so from where its steps lead
+  pub safe_further : (room made : ℕ) (s t : Stand Gathered) → IsSafe p s room
+      → t ≡ steps (keeps p) p made s → IsSafe p t room
+  safe_further room made s t safe comes = record {
+    ready = subst (is_ready p) (sym comes) (stays_ready p s safe.ready made);
+    never_faults = λ n fault. safe.never_faults (made + n) (further n ∙ fault);
+    stays_within = λ n.
+        subst (λ u. length (values_in (outcome_of (keeps p) p u)) ≤ room) (further n)
+        (safe.stays_within (made + n));
+  }
+    where
+      further : (n : ℕ) → steps (keeps p) p (made + n) s ≡ steps (keeps p) p n t
+      further n = steps_add made n s ∙ ap (steps (keeps p) p n) (sym comes)

@@ -4,7 +4,7 @@ ghost use Rattle.std.specs.Option.{option_copied};
 ghost use Rattle.plain_machine.specs.PlainMachine.{balance_in};
 ghost use Rattle.plain_machine.specs.Pool.{pattern_in};
 ghost use Rattle.query_runs.specs.Stands.{rows_in, stand_of};
-ghost use Rattle.query_runs.specs.Turns.{GoesOn, IsReached, IsSafe, is_at_end};
+ghost use Rattle.query_runs.specs.Turns.{GoesOn, IsSafe, is_at_end};
 ghost use Rattle.query_runs.specs.declared.run.Stage.TheVariants as stage;
 
 use crate::ends::{end_filter, end_last, end_row};
@@ -35,9 +35,8 @@ pub fn filter_on<'r>(
     requires stage { run.old.stage ≡ stage.Filter }
     requires more { 0 < most }
     requires built { run.old.finders ≡ map pattern_in input.now.parts.now.code.pool }
-    requires safe { IsSafe input.now.parts.now (rows_in input.now) run.old.frame.stack.room }
-    requires reached { IsReached input.now.parts.now (rows_in input.now)
-        (stand_of (rows_in input.now) run.old) }
+    requires safe { IsSafe input.now.parts.now (stand_of (rows_in input.now) run.old)
+        run.old.frame.stack.room }
     ensures few { IfOk result (λ made. made ≤ most) }
     ensures some { IfOk result (λ made. 0 < made) }
     ensures goes { IfOk result (λ made. GoesOn input.now.parts.now made
@@ -83,9 +82,8 @@ pub fn row_on<'r>(
     requires stage { run.old.stage ≡ stage.Row }
     requires more { 0 < most }
     requires built { run.old.finders ≡ map pattern_in input.now.parts.now.code.pool }
-    requires safe { IsSafe input.now.parts.now (rows_in input.now) run.old.frame.stack.room }
-    requires reached { IsReached input.now.parts.now (rows_in input.now)
-        (stand_of (rows_in input.now) run.old) }
+    requires safe { IsSafe input.now.parts.now (stand_of (rows_in input.now) run.old)
+        run.old.frame.stack.room }
     ensures few { IfOk result (λ made. made ≤ most) }
     ensures some { IfOk result (λ made. 0 < made) }
     ensures goes { IfOk result (λ made. GoesOn input.now.parts.now made
@@ -131,9 +129,8 @@ pub fn last_on<'r>(
     requires stage { run.old.stage ≡ stage.Last }
     requires more { 0 < most }
     requires built { run.old.finders ≡ map pattern_in input.now.parts.now.code.pool }
-    requires safe { IsSafe input.now.parts.now (rows_in input.now) run.old.frame.stack.room }
-    requires reached { IsReached input.now.parts.now (rows_in input.now)
-        (stand_of (rows_in input.now) run.old) }
+    requires safe { IsSafe input.now.parts.now (stand_of (rows_in input.now) run.old)
+        run.old.frame.stack.room }
     ensures few { IfOk result (λ made. made ≤ most) }
     ensures some { IfOk result (λ made. 0 < made) }
     ensures goes { IfOk result (λ made. GoesOn input.now.parts.now made
@@ -176,9 +173,8 @@ fn stage_on<'r>(
     requires stage { run.old.stage ≢ stage.Done }
     requires more { 0 < most }
     requires built { run.old.finders ≡ map pattern_in input.now.parts.now.code.pool }
-    requires safe { IsSafe input.now.parts.now (rows_in input.now) run.old.frame.stack.room }
-    requires reached { IsReached input.now.parts.now (rows_in input.now)
-        (stand_of (rows_in input.now) run.old) }
+    requires safe { IsSafe input.now.parts.now (stand_of (rows_in input.now) run.old)
+        run.old.frame.stack.room }
     ensures few { IfOk result (λ made. made ≤ most) }
     ensures some { IfOk result (λ made. 0 < made) }
     ensures goes { IfOk result (λ made. GoesOn input.now.parts.now made
@@ -209,9 +205,8 @@ pub fn go_on<'r>(
     most: u64,
 ) -> Result<u64, AllocError>
     requires built { run.old.finders ≡ map pattern_in input.now.parts.now.code.pool }
-    requires safe { IsSafe input.now.parts.now (rows_in input.now) run.old.frame.stack.room }
-    requires reached { IsReached input.now.parts.now (rows_in input.now)
-        (stand_of (rows_in input.now) run.old) }
+    requires safe { IsSafe input.now.parts.now (stand_of (rows_in input.now) run.old)
+        run.old.frame.stack.room }
     ensures few { IfOk result (λ made. made ≤ most) }
     ensures ends { IfOk result (λ made. made < most → is_at_end run.new.stage ≡ true) }
     ensures goes { IfOk result (λ made. GoesOn input.now.parts.now made

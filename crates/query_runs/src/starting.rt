@@ -20,7 +20,8 @@ pub fn start<'r>(
     depth: usize,
 ) -> Result<Run<'r>, AllocError>
     requires built { patterns.now ≡ map pattern_in input.now.parts.now.code.pool }
-    requires safe { IsSafe input.now.parts.now (rows_in input.now) depth }
+    requires safe { IsSafe input.now.parts.now
+        (run_after input.now.parts.now (rows_in input.now) 0) depth }
     ensures stands { IfOk result (λ run. stand_of (rows_in input.now) run
         ≡ run_after input.now.parts.now (rows_in input.now) 0) }
     ensures built { IfOk result (λ run.

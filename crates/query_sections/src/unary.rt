@@ -2,6 +2,7 @@
 ghost use Rattle.std.specs.Prelude.{◌≡◌, ◌≢◌, Some, None, IfOk, map, option_map};
 ghost use Rattle.plain_machine.specs.Loading.{unary_of};
 ghost use Rattle.plain_machine.specs.Pool.{members_in, pattern_in};
+ghost use Rattle.query_code.specs.declared.instruction.Unary.TheVariants.{Neg};
 ghost use Rattle.query_sections.specs.Reading.{MayBeIn};
 ghost use Rattle.query_values.specs.Choice.{text_choice};
 ghost use Rattle.query_values.specs.Operation.{is_among};
@@ -37,7 +38,47 @@ fn in_list(x: &Value<'_>, list: &Constant<'_>) -> bool
     }
 }
 
-/// What an operation gives, where it may be applied and the result can be held.
+/// What an operation other than the change of sign gives, where it may be applied and the result
+/// can be held.
+fn applied<'r>(
+    alloc: Global,
+    pool: &[Constant<'_>],
+    finders: &mut Finders<'_>,
+    op: Unary,
+    x: &Value<'r>,
+) -> Result<Value<'r>, AllocError>
+    requires built { finders.old ≡ map pattern_in pool.now }
+    requires fine { unary_of pool.now op x.now ≢ None }
+    requires other { op ≢ Neg }
+    ensures value { IfOk result (λ y. unary_of pool.now op x.now ≡ Some y) }
+    ensures same { finders.new ≡ finders.old }
+{
+    match op {
+        Unary::Align(places) => Ok(align(x, places)),
+        Unary::Neg => unreachable!(),
+        Unary::Abs => Ok(abs(x)),
+        Unary::Not => Ok(Value::Truth(!is_true(x))),
+        Unary::IsNull => Ok(Value::Truth(is_null(x))),
+        Unary::Match(place) => Ok(Value::Truth(finders.matches(place, x))),
+        Unary::MatchAny(place) => Ok(Value::Truth(finders.matches_any(place, x))),
+        Unary::InList(place) => Ok(Value::Truth(in_list(x, &pool[place as usize]))),
+        Unary::Year => Ok(part::year(x)),
+        Unary::Month => Ok(part::month(x)),
+        Unary::Day => Ok(part::day(x)),
+        Unary::Root(components) => Ok(part::root(x, components)),
+        Unary::Parent => Ok(part::parent(x)),
+        Unary::Leaf => Ok(part::leaf(x)),
+        Unary::Length => Ok(part::length(x)),
+        Unary::Units => part::units(alloc, x),
+        Unary::Cost => part::cost(alloc, x),
+        Unary::Number => Ok(part::number(x)),
+        Unary::Currency => Ok(part::currency(x)),
+        Unary::RootRank => Ok(part::root_rank(x)),
+    }
+}
+
+/// What an operation gives, where it may be applied and the result can be held. An inventory whose
+/// sign changes keeps its memory.
 pub fn apply_unary<'r>(
     alloc: Global,
     pool: &[Constant<'_>],
@@ -51,25 +92,7 @@ pub fn apply_unary<'r>(
     ensures same { finders.new ≡ finders.old }
 {
     match op {
-        Unary::Align(places) => Ok(align(&x, places)),
         Unary::Neg => Ok(neg(x)),
-        Unary::Abs => Ok(abs(&x)),
-        Unary::Not => Ok(Value::Truth(!is_true(&x))),
-        Unary::IsNull => Ok(Value::Truth(is_null(&x))),
-        Unary::Match(place) => Ok(Value::Truth(finders.matches(place, &x))),
-        Unary::MatchAny(place) => Ok(Value::Truth(finders.matches_any(place, &x))),
-        Unary::InList(place) => Ok(Value::Truth(in_list(&x, &pool[place as usize]))),
-        Unary::Year => Ok(part::year(&x)),
-        Unary::Month => Ok(part::month(&x)),
-        Unary::Day => Ok(part::day(&x)),
-        Unary::Root(components) => Ok(part::root(&x, components)),
-        Unary::Parent => Ok(part::parent(&x)),
-        Unary::Leaf => Ok(part::leaf(&x)),
-        Unary::Length => Ok(part::length(&x)),
-        Unary::Units => part::units(alloc, &x),
-        Unary::Cost => part::cost(alloc, &x),
-        Unary::Number => Ok(part::number(&x)),
-        Unary::Currency => Ok(part::currency(&x)),
-        Unary::RootRank => Ok(part::root_rank(&x)),
+        _ => applied(alloc, pool, finders, op, &x),
     }
 }

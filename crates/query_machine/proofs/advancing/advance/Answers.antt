@@ -1,28 +1,26 @@
-use Rattle.std.proofs.Common.{arith, refl, sym}
+use Rattle.std.proofs.Common.{rules, ◌≡◌, ◌+◌, ◌∙◌, arith, subst, sym, true}
+use Rattle.plain_machine.specs.PlainMachine.{stand_after}
+use Rattle.plain_machine.specs.WholeRun.{is_going}
 use Rattle.query_runs.specs.Stands.{rows_in}
-use Rattle.query_machine.proofs.Ends.{counted, goes_as_given, still_under_way}
+use Rattle.query_machine.proofs.Ends.{still_going}
 use Rattle.query_machine.proofs.advancing.advance.Goals as goal
-
-pub overflow_add-standing : goal.overflow_add-standing
-overflow_add-standing c =
-    let few = counted c.args.input.now.parts.now (rows_in c.args.input.now) c.args.standing
-    c.requires c.in_ok-made.made c.go_on.new.run c.in_ok-made.ensures.goes in
-    omega (arith, few)
-
-pub answer_of-requires-clause-under_way : goal.answer_of-requires-clause-under_way
-answer_of-requires-clause-under_way c =
-    still_under_way c.args.input.now.parts.now (rows_in c.args.input.now) c.args.standing
-    c.requires c.in_ok-made.made c.go_on.new.run c.in_ok-made.ensures.goes _ refl refl
-    c.go_on.ensures.finders c.go_on.ensures.room
-
-pub returns-clause-sound : goal.returns-clause-sound
-returns-clause-sound c =
-    still_under_way c.args.input.now.parts.now (rows_in c.args.input.now) c.args.standing
-    c.requires c.in_ok-made.made c.go_on.new.run c.in_ok-made.ensures.goes _ refl refl
-    c.go_on.ensures.finders c.go_on.ensures.room
+use Rattle.query_machine.proofs.advancing.advance.Goals.{then-loop-made-test+else-not-is_done, else-loop-made-test}
 
 pub returns-clause-stands : goal.returns-clause-stands
-returns-clause-stands c =
-    goes_as_given c.args.input.now.parts.now (rows_in c.args.input.now) c.args.standing c.requires
-    c.in_ok-made.made c.go_on.new.run c.in_ok-made.ensures.goes c.args.k c.in_ok-made.ensures.few
-    c.in_ok-made.ensures.ends (sym c.if-is_done.ensures)
+returns-clause-stands c = λ inside.
+    elim c.loop-made-test.branch [
+      | then-loop-made-test+else-not-is_done w ↦ search (rules, w, inside)
+      | else-loop-made-test w ↦
+          let p = c.args.input.now.parts.now in
+          let rows = rows_in c.args.input.now in
+          let few = c.loop-made.invariant.few in
+          let steps = c.loop-made.invariant.steps in
+          let past = w.loop-made-test.false in
+          let all : c.loop-made.standing.steps ≡ c.args.standing.now.steps + c.args.k =
+          omega (arith, few, steps, past) in (
+            all,
+            subst (λ n. is_going (stand_after p rows n) ≡ true) all
+                (still_going p rows c.loop-made.standing c.loop-made.invariant.under_way
+                (sym c.is_done-2.ensures ∙ inside)),
+          )
+    ]

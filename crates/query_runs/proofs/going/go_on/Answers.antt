@@ -1,14 +1,17 @@
-use Rattle.std.proofs.Common.{◌+◌, ◌∙◌, refl, arith}
+use Rattle.std.proofs.Common.{◌+◌, ◌∙◌, refl, sym, subst, arith}
 use Rattle.query_runs.specs.Stands.{rows_in, stand_of}
-use Rattle.query_runs.proofs.Turning.{goes_further, reaches_further}
+use Rattle.query_runs.proofs.Turning.{goes_further, safe_further}
+use Rattle.query_runs.specs.Turns.{IsSafe}
 use Rattle.query_runs.proofs.going.go_on.Goals as goal
 
-pub stage_on-requires-clause-reached : goal.stage_on-requires-clause-reached
-stage_on-requires-clause-reached c =
-    reaches_further c.args.input.now.parts.now (rows_in c.args.input.now) c.loop-made.made
-    (stand_of (rows_in c.args.input.now) c.args.run.now)
-    (stand_of (rows_in c.args.input.now) c.loop-made.run) c.requires.reached
-    c.loop-made.invariant.goes
+pub stage_on-requires-clause-safe : goal.stage_on-requires-clause-safe
+stage_on-requires-clause-safe c =
+    let p = c.args.input.now.parts.now in
+    let old = stand_of (rows_in c.args.input.now) c.args.run.now in
+    let new = stand_of (rows_in c.args.input.now) c.loop-made.run in
+    subst (IsSafe p new) (sym c.loop-made.invariant.room)
+    (safe_further p c.args.run.now.frame.stack.room c.loop-made.made old new c.requires.safe
+    c.loop-made.invariant.goes.comes)
 
 pub loop-made-preserved : goal.loop-made-preserved
 loop-made-preserved c = record {

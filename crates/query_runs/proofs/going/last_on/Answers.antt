@@ -1,5 +1,5 @@
 use Rattle.std.proofs.Common.{◌∙◌, ◌+◌, sym, refl, arith}
-use Rattle.query_runs.specs.Stands.{rows_in}
+use Rattle.query_runs.specs.Stands.{rows_in, stand_of}
 use Rattle.query_runs.proofs.LastStage.{in_last_there, last_safely, last_ended, last_inside}
 use Rattle.query_runs.proofs.LastStage.{last_going, last_at_next, last_made, group_of}
 use Rattle.query_runs.proofs.Turning.{goes_on_from}
@@ -11,8 +11,8 @@ get-requires c =
     let rows = rows_in c.args.input.now in
     let run = c.args.run.now in
     let room = run.frame.stack.room in
-    let f = in_last_there p rows run c.requires.reached.count room c.requires.stage
-    c.requires.reached.is c.requires.safe in
+    let f = in_last_there p rows run 0 room c.requires.stage
+    refl c.requires.safe in
     f.there
 
 pub get-requires-2 : goal.get-requires-2
@@ -21,8 +21,8 @@ get-requires-2 c =
     let rows = rows_in c.args.input.now in
     let run = c.args.run.now in
     let room = run.frame.stack.room in
-    let f = in_last_there p rows run c.requires.reached.count room c.requires.stage
-    c.requires.reached.is c.requires.safe in
+    let f = in_last_there p rows run 0 room c.requires.stage
+    refl c.requires.safe in
     f.there
 
 pub go_on-requires-clause-within : goal.go_on-requires-clause-within
@@ -31,9 +31,9 @@ go_on-requires-clause-within c =
     let rows = rows_in c.args.input.now in
     let run = c.args.run.now in
     let room = run.frame.stack.room in
-    let f = in_last_there p rows run c.requires.reached.count room c.requires.stage
-    c.requires.reached.is c.requires.safe in
-    let inside = last_inside p rows run c.requires.reached.count room f c.as_slice.result.now
+    let f = in_last_there p rows run 0 room c.requires.stage
+    refl c.requires.safe in
+    let inside = last_inside p rows run 0 room f c.as_slice.result.now
     c.as_slice-2.result.now c.as_slice.ensures c.as_slice-2.ensures c.get.result.keys.now
     c.get-2.result.totals.now (group_of run.groups run.group c.get.result.keys.now
     c.get.result.totals.now c.get-2.result.keys.now c.get-2.result.totals.now c.get.ensures
@@ -46,9 +46,9 @@ go_on-requires-clause-safe c =
     let rows = rows_in c.args.input.now in
     let run = c.args.run.now in
     let room = run.frame.stack.room in
-    let f = in_last_there p rows run c.requires.reached.count room c.requires.stage
-    c.requires.reached.is c.requires.safe in
-    last_safely p rows run c.requires.reached.count room f c.as_slice.result.now
+    let f = in_last_there p rows run 0 room c.requires.stage
+    refl c.requires.safe in
+    last_safely p rows run 0 room f c.as_slice.result.now
     c.as_slice-2.result.now c.as_slice.ensures c.as_slice-2.ensures c.get.result.keys.now
     c.get-2.result.totals.now (group_of run.groups run.group c.get.result.keys.now
     c.get.result.totals.now c.get-2.result.keys.now c.get-2.result.totals.now c.get.ensures
@@ -60,8 +60,8 @@ end_last-requires-clause-there c =
     let rows = rows_in c.args.input.now in
     let run = c.args.run.now in
     let room = run.frame.stack.room in
-    let f = in_last_there p rows run c.requires.reached.count room c.requires.stage
-    c.requires.reached.is c.requires.safe in
+    let f = in_last_there p rows run 0 room c.requires.stage
+    refl c.requires.safe in
     f.there
 
 pub end_last-requires-clause-fine : goal.end_last-requires-clause-fine
@@ -70,10 +70,10 @@ end_last-requires-clause-fine c = λ fault.
     let rows = rows_in c.args.input.now in
     let run = c.args.run.now in
     let room = run.frame.stack.room in
-    let f = in_last_there p rows run c.requires.reached.count room c.requires.stage
-    c.requires.reached.is c.requires.safe in
-    c.requires.safe.never_faults (c.requires.reached.count + c.in_ok-made.made)
-    (last_ended p rows run c.requires.reached.count room f c.as_slice.result.now
+    let f = in_last_there p rows run 0 room c.requires.stage
+    refl c.requires.safe in
+    c.requires.safe.never_faults (0 + c.in_ok-made.made)
+    (last_ended p rows run 0 room f c.as_slice.result.now
     c.as_slice-2.result.now c.as_slice.ensures c.as_slice-2.ensures c.get.result.keys.now
     c.get-2.result.totals.now (group_of run.groups run.group c.get.result.keys.now
     c.get.result.totals.now c.get-2.result.keys.now c.get-2.result.totals.now c.get.ensures
@@ -86,9 +86,9 @@ returns-in_ok-end_last-clause-some c =
     let rows = rows_in c.args.input.now in
     let run = c.args.run.now in
     let room = run.frame.stack.room in
-    let f = in_last_there p rows run c.requires.reached.count room c.requires.stage
-    c.requires.reached.is c.requires.safe in
-    last_made p rows run c.requires.reached.count room f c.as_slice.result.now
+    let f = in_last_there p rows run 0 room c.requires.stage
+    refl c.requires.safe in
+    last_made p rows run 0 room f c.as_slice.result.now
     c.as_slice-2.result.now c.as_slice.ensures c.as_slice-2.ensures c.get.result.keys.now
     c.get-2.result.totals.now (group_of run.groups run.group c.get.result.keys.now
     c.get.result.totals.now c.get-2.result.keys.now c.get-2.result.totals.now c.get.ensures
@@ -101,17 +101,17 @@ returns-in_ok-end_last-clause-goes c =
     let rows = rows_in c.args.input.now in
     let run = c.args.run.now in
     let room = run.frame.stack.room in
-    let f = in_last_there p rows run c.requires.reached.count room c.requires.stage
-    c.requires.reached.is c.requires.safe in
-    goes_on_from p rows c.requires.reached.count c.in_ok-made.made _ _ c.requires.reached.is
+    let f = in_last_there p rows run 0 room c.requires.stage
+    refl c.requires.safe in
+    goes_on_from p (stand_of rows run) 0 c.in_ok-made.made _ _ refl
     (c.in_ok-end_last.ensures.stand
-    ∙ sym (last_ended p rows run c.requires.reached.count room f c.as_slice.result.now
+    ∙ sym (last_ended p rows run 0 room f c.as_slice.result.now
     c.as_slice-2.result.now c.as_slice.ensures c.as_slice-2.ensures c.get.result.keys.now
     c.get-2.result.totals.now (group_of run.groups run.group c.get.result.keys.now
     c.get.result.totals.now c.get-2.result.keys.now c.get-2.result.totals.now c.get.ensures
     c.get-2.ensures) c.requires.safe c.in_ok-made.made c.in_ok-made.ensures.inside c.go_on.new.frame
     c.in_ok-made.ensures.stands c.if-run-section.true))
-    (last_going p rows run c.requires.reached.count room f c.as_slice.result.now
+    (last_going p rows run 0 room f c.as_slice.result.now
     c.as_slice-2.result.now c.as_slice.ensures c.as_slice-2.ensures c.get.result.keys.now
     c.get-2.result.totals.now (group_of run.groups run.group c.get.result.keys.now
     c.get.result.totals.now c.get-2.result.keys.now c.get-2.result.totals.now c.get.ensures
@@ -124,9 +124,9 @@ returns-else-run-section-clause-some c =
     let rows = rows_in c.args.input.now in
     let run = c.args.run.now in
     let room = run.frame.stack.room in
-    let f = in_last_there p rows run c.requires.reached.count room c.requires.stage
-    c.requires.reached.is c.requires.safe in
-    last_made p rows run c.requires.reached.count room f c.as_slice.result.now
+    let f = in_last_there p rows run 0 room c.requires.stage
+    refl c.requires.safe in
+    last_made p rows run 0 room f c.as_slice.result.now
     c.as_slice-2.result.now c.as_slice.ensures c.as_slice-2.ensures c.get.result.keys.now
     c.get-2.result.totals.now (group_of run.groups run.group c.get.result.keys.now
     c.get.result.totals.now c.get-2.result.keys.now c.get-2.result.totals.now c.get.ensures
@@ -139,17 +139,17 @@ returns-else-run-section-clause-goes c =
     let rows = rows_in c.args.input.now in
     let run = c.args.run.now in
     let room = run.frame.stack.room in
-    let f = in_last_there p rows run c.requires.reached.count room c.requires.stage
-    c.requires.reached.is c.requires.safe in
-    goes_on_from p rows c.requires.reached.count c.in_ok-made.made _ _ c.requires.reached.is
-    (last_at_next p rows run c.requires.reached.count room f c.as_slice.result.now
+    let f = in_last_there p rows run 0 room c.requires.stage
+    refl c.requires.safe in
+    goes_on_from p (stand_of rows run) 0 c.in_ok-made.made _ _ refl
+    (last_at_next p rows run 0 room f c.as_slice.result.now
     c.as_slice-2.result.now c.as_slice.ensures c.as_slice-2.ensures c.get.result.keys.now
     c.get-2.result.totals.now (group_of run.groups run.group c.get.result.keys.now
     c.get.result.totals.now c.get-2.result.keys.now c.get-2.result.totals.now c.get.ensures
     c.get-2.ensures) c.requires.safe c.in_ok-made.made c.in_ok-made.ensures.inside c.go_on.new.frame
     c.in_ok-made.ensures.stands _ c.if-run-section.false refl refl refl refl
     c.requires.stage)
-    (last_going p rows run c.requires.reached.count room f c.as_slice.result.now
+    (last_going p rows run 0 room f c.as_slice.result.now
     c.as_slice-2.result.now c.as_slice.ensures c.as_slice-2.ensures c.get.result.keys.now
     c.get-2.result.totals.now (group_of run.groups run.group c.get.result.keys.now
     c.get.result.totals.now c.get-2.result.keys.now c.get-2.result.totals.now c.get.ensures

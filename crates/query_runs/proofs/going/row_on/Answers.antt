@@ -1,9 +1,18 @@
 use Rattle.std.proofs.Common.{◌∙◌, ◌+◌, sym, refl, arith}
-use Rattle.query_runs.specs.Stands.{rows_in}
+use Rattle.query_runs.specs.Stands.{rows_in, stand_of}
 use Rattle.query_runs.proofs.RowStage.{in_row_there, row_safely, row_ended, row_inside}
 use Rattle.query_runs.proofs.RowStage.{row_going, row_at_next, row_made}
+use Rattle.query_runs.proofs.Starts.{posting_there}
 use Rattle.query_runs.proofs.Turning.{goes_on_from}
 use Rattle.query_runs.proofs.going.row_on.Goals as goal
+
+pub invariant_of-loads : goal.invariant_of-loads
+invariant_of-loads c =
+    let p = c.args.input.now.parts.now in
+    let rows = rows_in c.args.input.now in
+    let run = c.args.run.now in
+    let f = in_row_there p rows run 0 run.frame.stack.room c.requires.stage refl c.requires.safe in
+    record { is_there = posting_there c.args.input.now.ledger.now run.row f.there }
 
 pub go_on-requires-clause-within : goal.go_on-requires-clause-within
 go_on-requires-clause-within c =
@@ -11,9 +20,9 @@ go_on-requires-clause-within c =
     let rows = rows_in c.args.input.now in
     let run = c.args.run.now in
     let room = run.frame.stack.room in
-    let f = in_row_there p rows run c.requires.reached.count room c.requires.stage c.requires.reached.is
+    let f = in_row_there p rows run 0 room c.requires.stage refl
     c.requires.safe in
-    let inside = row_inside p rows run c.requires.reached.count room f c.as_slice.result.now c.as_slice-2.result.now
+    let inside = row_inside p rows run 0 room f c.as_slice.result.now c.as_slice-2.result.now
     c.as_slice.ensures c.as_slice-2.ensures _ c.readable.ensures c.requires.safe in
     omega (arith, inside)
 
@@ -23,9 +32,9 @@ go_on-requires-clause-safe c =
     let rows = rows_in c.args.input.now in
     let run = c.args.run.now in
     let room = run.frame.stack.room in
-    let f = in_row_there p rows run c.requires.reached.count room c.requires.stage c.requires.reached.is
+    let f = in_row_there p rows run 0 room c.requires.stage refl
     c.requires.safe in
-    row_safely p rows run c.requires.reached.count room f c.as_slice.result.now c.as_slice-2.result.now
+    row_safely p rows run 0 room f c.as_slice.result.now c.as_slice-2.result.now
     c.as_slice.ensures c.as_slice-2.ensures _ c.readable.ensures c.requires.safe
 
 pub end_row-requires-clause-fine : goal.end_row-requires-clause-fine
@@ -34,10 +43,10 @@ end_row-requires-clause-fine c = λ fault.
     let rows = rows_in c.args.input.now in
     let run = c.args.run.now in
     let room = run.frame.stack.room in
-    let f = in_row_there p rows run c.requires.reached.count room c.requires.stage c.requires.reached.is
+    let f = in_row_there p rows run 0 room c.requires.stage refl
     c.requires.safe in
-    c.requires.safe.never_faults (c.requires.reached.count + c.in_ok-made.made)
-    (row_ended p rows run c.requires.reached.count room f c.as_slice.result.now c.as_slice-2.result.now
+    c.requires.safe.never_faults (0 + c.in_ok-made.made)
+    (row_ended p rows run 0 room f c.as_slice.result.now c.as_slice-2.result.now
     c.as_slice.ensures c.as_slice-2.ensures _ c.readable.ensures c.requires.safe c.in_ok-made.made c.in_ok-made.ensures.inside c.go_on.new.frame
     c.in_ok-made.ensures.stands
     c.if-run-section.true ∙ fault)
@@ -48,9 +57,9 @@ returns-in_ok-end_row-clause-some c =
     let rows = rows_in c.args.input.now in
     let run = c.args.run.now in
     let room = run.frame.stack.room in
-    let f = in_row_there p rows run c.requires.reached.count room c.requires.stage c.requires.reached.is
+    let f = in_row_there p rows run 0 room c.requires.stage refl
     c.requires.safe in
-    row_made p rows run c.requires.reached.count room f c.as_slice.result.now c.as_slice-2.result.now
+    row_made p rows run 0 room f c.as_slice.result.now c.as_slice-2.result.now
     c.as_slice.ensures c.as_slice-2.ensures _ c.readable.ensures c.requires.safe c.in_ok-made.made c.in_ok-made.ensures.inside c.go_on.new.frame
     c.in_ok-made.ensures.stands
     c.args.most c.requires.more c.in_ok-made.ensures.ends
@@ -61,9 +70,9 @@ returns-else-run-section-clause-some c =
     let rows = rows_in c.args.input.now in
     let run = c.args.run.now in
     let room = run.frame.stack.room in
-    let f = in_row_there p rows run c.requires.reached.count room c.requires.stage c.requires.reached.is
+    let f = in_row_there p rows run 0 room c.requires.stage refl
     c.requires.safe in
-    row_made p rows run c.requires.reached.count room f c.as_slice.result.now c.as_slice-2.result.now
+    row_made p rows run 0 room f c.as_slice.result.now c.as_slice-2.result.now
     c.as_slice.ensures c.as_slice-2.ensures _ c.readable.ensures c.requires.safe c.in_ok-made.made c.in_ok-made.ensures.inside c.go_on.new.frame
     c.in_ok-made.ensures.stands
     c.args.most c.requires.more c.in_ok-made.ensures.ends
@@ -74,15 +83,15 @@ returns-in_ok-end_row-clause-goes c =
     let rows = rows_in c.args.input.now in
     let run = c.args.run.now in
     let room = run.frame.stack.room in
-    let f = in_row_there p rows run c.requires.reached.count room c.requires.stage c.requires.reached.is
+    let f = in_row_there p rows run 0 room c.requires.stage refl
     c.requires.safe in
-    goes_on_from p rows c.requires.reached.count c.in_ok-made.made _ _ c.requires.reached.is
+    goes_on_from p (stand_of rows run) 0 c.in_ok-made.made _ _ refl
     (c.in_ok-end_row.ensures.stand
-    ∙ sym (row_ended p rows run c.requires.reached.count room f c.as_slice.result.now c.as_slice-2.result.now
+    ∙ sym (row_ended p rows run 0 room f c.as_slice.result.now c.as_slice-2.result.now
     c.as_slice.ensures c.as_slice-2.ensures _ c.readable.ensures c.requires.safe c.in_ok-made.made c.in_ok-made.ensures.inside c.go_on.new.frame
     c.in_ok-made.ensures.stands
     c.if-run-section.true))
-    (row_going p rows run c.requires.reached.count room f c.as_slice.result.now c.as_slice-2.result.now
+    (row_going p rows run 0 room f c.as_slice.result.now c.as_slice-2.result.now
     c.as_slice.ensures c.as_slice-2.ensures _ c.readable.ensures c.requires.safe c.in_ok-made.made c.in_ok-made.ensures.inside c.go_on.new.frame
     c.in_ok-made.ensures.stands)
 
@@ -92,13 +101,13 @@ returns-else-run-section-clause-goes c =
     let rows = rows_in c.args.input.now in
     let run = c.args.run.now in
     let room = run.frame.stack.room in
-    let f = in_row_there p rows run c.requires.reached.count room c.requires.stage c.requires.reached.is
+    let f = in_row_there p rows run 0 room c.requires.stage refl
     c.requires.safe in
-    goes_on_from p rows c.requires.reached.count c.in_ok-made.made _ _ c.requires.reached.is
-    (row_at_next p rows run c.requires.reached.count room f c.as_slice.result.now c.as_slice-2.result.now
+    goes_on_from p (stand_of rows run) 0 c.in_ok-made.made _ _ refl
+    (row_at_next p rows run 0 room f c.as_slice.result.now c.as_slice-2.result.now
     c.as_slice.ensures c.as_slice-2.ensures _ c.readable.ensures c.requires.safe c.in_ok-made.made c.in_ok-made.ensures.inside c.go_on.new.frame
     c.in_ok-made.ensures.stands
     _ c.if-run-section.false refl refl refl c.requires.stage)
-    (row_going p rows run c.requires.reached.count room f c.as_slice.result.now c.as_slice-2.result.now
+    (row_going p rows run 0 room f c.as_slice.result.now c.as_slice-2.result.now
     c.as_slice.ensures c.as_slice-2.ensures _ c.readable.ensures c.requires.safe c.in_ok-made.made c.in_ok-made.ensures.inside c.go_on.new.frame
     c.in_ok-made.ensures.stands)

@@ -1,0 +1,163 @@
+-- The front of rows in order is enough of them.
+use Rattle.std.proofs.Common.{◌≡◌, ℕ, zero, suc, Bool, true, false, cond, ◌&&◌, List, [], ◌∷◌, ◌++◌}
+use Rattle.std.proofs.Common.{map, take, refl, sym, ap, subst, ◌∙◌, Option, Some, None}
+use Rattle.std.specs.List.{list_all}
+use Rattle.std.proofs.lemmas.Bool.{and_parts}
+use Rattle.std.proofs.lemmas.List.{append_assoc, map-append, take-map}
+use Rattle.plain_machine.specs.Finishing.{ComesOut, ranked}
+use Rattle.query_code.specs.declared.program.Output.{Output}
+use Rattle.query_rows.specs.FinalRows.{Ranked, limited, once_if, shown_of}
+use Rattle.query_values.specs.declared.value.Value.{Value}
+use Rattle.theory.proofs.ArrangedFacts.{is_arranged}
+use Rattle.theory.proofs.ArrangementFacts.{one_arrangement}
+use Rattle.theory.specs.Arrangement.{IsArrangement, arranged_by, put_by}
+use Rattle.final_rows.proofs.FrontFacts.{front_stays}
+use Rattle.final_rows.proofs.OrderFacts.{before_ranked, goes_in_order, in_a_row, one_order}
+use Rattle.final_rows.proofs.OrderFacts.{ranked_in_order}
+use Rattle.final_rows.specs.Enough.{AreAmong, AreEnough, AreFew, ComeOutAlike, enough_of}
+use Rattle.final_rows.specs.Order.{comes_before}
+
+-- ---- what holds of each of them
+
+pub both : (a b : Bool) → a ≡ true → b ≡ true → (a && b) ≡ true
+both a b e f = rw (e, f) refl
+
+module _ {X : Type 0} (holds : X → Bool) where
+  all_put : (before : X → X → Bool) (x : X) (ys : List X) → holds x ≡ true
+      → list_all holds ys ≡ true → list_all holds (put_by before x ys) ≡ true
+  all_put before x [] p q = both (holds x) true p refl
+  all_put before x (y ∷ ys) p q =
+      let parts = and_parts (holds y) (list_all holds ys) q in
+      by (before y x) (both (holds y) (list_all holds (put_by before x ys)) parts.0
+      (all_put before x ys p parts.1))
+    where
+      by : (b : Bool) → list_all holds (y ∷ put_by before x ys) ≡ true
+          → list_all holds (cond b (y ∷ put_by before x ys) (x ∷ y ∷ ys)) ≡ true
+      by true rest = rest
+      by false rest = both (holds x) (list_all holds (y ∷ ys)) p q
+
+  all_arranged : (before : X → X → Bool) (xs : List X) → list_all holds xs ≡ true
+      → list_all holds (arranged_by before xs) ≡ true
+  all_arranged before [] q = refl
+  all_arranged before (x ∷ xs) q =
+      let parts = and_parts (holds x) (list_all holds xs) q in
+      all_put before x (arranged_by before xs) parts.0 (all_arranged before xs parts.1)
+
+  all_taken : (n : ℕ) (xs : List X) → list_all holds xs ≡ true
+      → list_all holds (take n xs) ≡ true
+  all_taken zero xs q = refl
+  all_taken (suc n) [] q = refl
+  all_taken (suc n) (x ∷ xs) q =
+      let parts = and_parts (holds x) (list_all holds xs) q in
+      both (holds x) (list_all holds (take n xs)) parts.0 (all_taken n xs parts.1)
+
+  all_joined : (xs ys : List X) → list_all holds xs ≡ true → list_all holds ys ≡ true
+      → list_all holds (xs ++ ys) ≡ true
+  all_joined [] ys p q = q
+  all_joined (x ∷ xs) ys p q =
+      let parts = and_parts (holds x) (list_all holds xs) p in
+      both (holds x) (list_all holds (xs ++ ys)) parts.0 (all_joined xs ys parts.1 q)
+
+  all_first : (xs ys : List X) → list_all holds (xs ++ ys) ≡ true → list_all holds xs ≡ true
+  all_first [] ys p = refl
+  all_first (x ∷ xs) ys p =
+      let parts = and_parts (holds x) (list_all holds (xs ++ ys)) p in
+      both (holds x) (list_all holds xs) parts.0 (all_first xs ys parts.1)
+
+  all_last : (xs ys : List X) → list_all holds (xs ++ ys) ≡ true → list_all holds ys ≡ true
+  all_last [] ys p = p
+  all_last (x ∷ xs) ys p =
+      all_last xs ys (and_parts (holds x) (list_all holds (xs ++ ys)) p).1
+
+-- ---- what is enough
+
+pub all_enough : (o : Output) (rows : List (List Value)) → AreEnough o rows rows
+all_enough o rows = record { among = λ holds e. e; alike = λ more final out. out }
+
+-- more rows behind both
+pub among_behind : (kept rows more : List (List Value)) → AreAmong kept rows
+    → AreAmong (kept ++ more) (rows ++ more)
+among_behind kept rows more among holds e =
+    all_joined holds kept more (among holds (all_first holds rows more e))
+    (all_last holds rows more e)
+
+pub enough_behind : (o : Output) (kept rows more : List (List Value)) → AreEnough o kept rows
+    → AreEnough o (kept ++ more) (rows ++ more)
+enough_behind o kept rows more enough = record {
+  among = among_behind kept rows more enough.among;
+  alike = λ others final out.
+      subst (λ l. ComesOut o l final) (sym (append_assoc rows more others))
+      (enough.alike (more ++ others) final
+      (subst (λ l. ComesOut o l final) (append_assoc kept more others) out));
+}
+
+-- enough of what is enough
+pub enough_of_enough : (o : Output) (few kept rows : List (List Value)) → AreEnough o few kept
+    → AreEnough o kept rows → AreEnough o few rows
+enough_of_enough o few kept rows first then = record {
+  among = λ holds e. first.among holds (then.among holds e);
+  alike = λ more final out. then.alike more final (first.alike more final out);
+}
+
+-- ---- the front
+
+pub enough_is : (o : Output) (most : ℕ) → enough_of o ≡ Some most
+    → (o.is_distinct ≡ false) × (o.limit ≡ Some most)
+enough_is o most e = by o.is_distinct e
+  where
+    by : (b : Bool) → cond b None o.limit ≡ Some most → (b ≡ false) × (o.limit ≡ Some most)
+    by true e = absurd cc
+    by false e = (refl, e)
+
+module _ (o : Output) (most : ℕ) (is : enough_of o ≡ Some most) (rows sorted : List (List Value))
+    (in_order : IsArrangement (comes_before o) rows sorted) where
+  cut : (arranged : List Ranked)
+      → limited o.limit (once_if o.is_distinct (map shown_of arranged))
+      ≡ map shown_of (take most arranged)
+  cut arranged =
+      ap (λ d. limited o.limit (once_if d (map shown_of arranged))) (enough_is o most is).0
+      ∙ ap (λ l. limited l (map shown_of arranged)) (enough_is o most is).1
+      ∙ take-map shown_of most arranged
+
+  same_front : (more : List (List Value)) (arranged : List Ranked)
+      → IsArrangement (before_ranked o) (map (ranked o) (take most sorted ++ more)) arranged
+      → take most arranged
+      ≡ take most (arranged_by (before_ranked o) (map (ranked o) (rows ++ more)))
+  same_front more arranged is =
+      let f = ranked o in
+      let before = before_ranked o in
+      let weak = in_a_row o.is_descending in
+      ap (take most)
+      (one_arrangement before weak (map f (take most sorted ++ more)) arranged
+      (arranged_by before (map f (take most sorted ++ more))) is
+      (is_arranged before weak (map f (take most sorted ++ more))))
+      ∙ ap (λ l. take most (arranged_by before l))
+      (map-append f (take most sorted) more
+      ∙ ap (λ l. l ++ map f more) (sym (take-map f most sorted)))
+      ∙ front_stays before weak most (map f rows) (map f sorted) (map f more)
+      (ranked_in_order o rows sorted in_order)
+      ∙ ap (λ l. take most (arranged_by before l)) (sym (map-append f rows more))
+
+  alike : ComeOutAlike o (take most sorted) rows
+  alike more final out = record {
+    arranged = arranged_by (before_ranked o) (map (ranked o) (rows ++ more));
+    in_order = is_arranged (before_ranked o) (in_a_row o.is_descending)
+        (map (ranked o) (rows ++ more));
+    is = out.is ∙ cut out.arranged
+        ∙ ap (map shown_of) (same_front more out.arranged out.in_order)
+        ∙ sym (cut (arranged_by (before_ranked o) (map (ranked o) (rows ++ more))));
+  }
+
+  among : AreAmong (take most sorted) rows
+  among holds e =
+      all_taken holds most sorted
+      (subst (λ l. list_all holds l ≡ true) (sym whole)
+      (all_arranged holds (comes_before o) rows e))
+    where
+      whole : sorted ≡ arranged_by (comes_before o) rows
+      whole =
+          one_order o.is_descending o.order rows sorted (arranged_by (comes_before o) rows) in_order
+          (is_arranged (comes_before o) (goes_in_order o.is_descending o.order) rows)
+
+  pub front_enough : AreEnough o (take most sorted) rows
+  front_enough = record { among = among; alike = alike }
