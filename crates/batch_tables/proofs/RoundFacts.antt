@@ -1,33 +1,28 @@
 -- After enough rounds each run of a batch has ended.
 use Rattle.std.proofs.Common.{◌≡◌, inl, inr, ℕ, zero, suc, ◌+◌, ◌<◌, ◌≤◌, Bool, true, false, List, [], ◌∷◌, ◌++◌}
-use Rattle.std.proofs.Common.{length, Some, Ok, Err, refl, sym, ap, ◌∙◌, subst, arith}
-use Rattle.std.specs.Prelude.{◌⊎◌, All, ◌||◌, max, nat_le, Option, None, Result, get_or, slice_get, slice_set, take}
+use Rattle.std.proofs.Common.{length, Some, refl, sym, ap, ◌∙◌, subst, arith}
+use Rattle.std.specs.Prelude.{◌⊎◌, All, ◌||◌, max, nat_le, get_or, slice_get, slice_set, take}
 use Rattle.std.specs.List.{AllByRecursion, list_all, list_any}
 use Rattle.std.proofs.lemmas.Bool.{and_parts, leb-true}
-use Rattle.std.proofs.lemmas.List.{length-map, take_more}
+use Rattle.std.proofs.lemmas.List.{length-map, take_all, take_more}
 use Rattle.std.proofs.lemmas.List.Elements.{recursion_from_All}
 use Rattle.plain_machine.specs.Answer.{NeverFaults}
 use Rattle.posting_table.specs.Ledger.{Ledger}
 use Rattle.posting_table.specs.Rows.{row_of, rows_of}
-use Rattle.query_batch.specs.Batch.{AreJoined, TakesTurn}
-use Rattle.query_batch.specs.Members.{IsTurnedMember, JoinsIn, answer_by, answer_in}
-use Rattle.query_batch.specs.declared.cause.BatchCause.{BatchCause}
-use Rattle.query_batch.specs.declared.cause.BatchCause.TheVariants.{NoSuchRun}
+use Rattle.query_batch.specs.Batch.{AreJoined}
+use Rattle.query_batch.specs.Members.{IsTurnedMember, JoinsIn}
 use Rattle.query_batch.specs.declared.member.Member.{Member}
 use Rattle.query_batch.specs.declared.member.Member.TheVariants as member
-use Rattle.query_answer.specs.declared.answer.Answer.{Answer}
 use Rattle.query_code.specs.declared.program.Parts.{Parts}
 use Rattle.query_machine.specs.Run.{At, Ended, Failed, Place, Run}
 use Rattle.query_machine.specs.Starts.{IsOutside, IsWithin}
-use Rattle.query_machine.specs.Turns.{HasEnded, IsTurned, Moves, RunsEnd, StandsAfter}
-use Rattle.query_machine.specs.declared.cause.RunCause.{RunCause}
+use Rattle.query_machine.specs.Turns.{HasEnded, IsTurned, Moves, RunsEnd, StandsAfter, told_at}
 use Rattle.query_machine.specs.declared.turn.Turn.{Turn}
 use Rattle.query_rows.specs.Fits.{row_fits}
 use Rattle.query_rows.specs.Row.{Row}
-use Rattle.refusals.specs.declared.refusal.Refusal.{Refusal}
 use Rattle.verified_program.specs.declared.checked.Checked.{Checked}
 use Rattle.batch_tables.specs.Rounds.{AreAllTurned, AreRounds, EndsAt, GoesOn, HaveEnded, IsBrief}
-use Rattle.batch_tables.specs.Rounds.{IsEnd, is_going, is_going_at}
+use Rattle.batch_tables.specs.Rounds.{IsEnd, IsTurnTold, is_going, is_going_at, is_told_going}
 
 -- ---- how long runs may be
 
@@ -62,19 +57,48 @@ brief_next postings old found new i programs c there at most are is =
 
 -- ---- whether a run can go on
 
-abbrev pub is_none : Result (Option Answer) (Refusal RunCause) → Bool
-is_none (Ok None) = true
-is_none (Ok (Some answer)) = false
-is_none (Err refusal) = false
-
-going_at : (place : Place) → is_going_at place ≡ is_none (answer_by place)
+going_at : (place : Place) → is_told_going (told_at place) ≡ is_going_at place
 going_at (At steps) = refl
 going_at (Ended answer) = refl
 going_at Failed = refl
 
-pub going_as_told : (m : Member) → is_going m ≡ is_none (answer_in m)
-going_as_told (member.Run r) = going_at r.place
-going_as_told member.OutsideBounds = refl
+going_as_told : (k : ℕ) (before after : Member) (told : Turn) → IsTurnedMember k before after told
+    → is_told_going told ≡ is_going after
+going_as_told k (member.Run old) (member.Run new) told is =
+    ap is_told_going is.tells ∙ going_at new.place
+going_as_told k (member.Run old) member.OutsideBounds told is = absurd is
+going_as_told k member.OutsideBounds (member.Run new) told is = absurd is
+going_as_told k member.OutsideBounds member.OutsideBounds told is = ap is_told_going is
+
+or_none : (b : Bool) → b ≡ (b || false)
+or_none true = refl
+or_none false = refl
+
+or_joins : (a b c : Bool) → ((a || b) || c) ≡ (a || (b || c))
+or_joins true b c = refl
+or_joins false b c = refl
+
+-- any of the first runs goes on, with one more that had a turn
+any_next : (i : ℕ) (runs : List Member) (before after : Member) → slice_get runs i ≡ Some before
+    → (list_any is_going (take i runs) || is_going after)
+    ≡ list_any is_going (take (suc i) (slice_set runs i after))
+any_next i [] before after was = let e = was in absurd cc
+any_next zero (m ∷ runs) before after was = or_none (is_going after)
+any_next (suc i) (m ∷ runs) before after was =
+    or_joins (is_going m) (list_any is_going (take i runs)) (is_going after)
+    ∙ ap (λ b. is_going m || b) (any_next i runs before after was)
+
+pub any_told : (i k : ℕ) (now new : List Member) (any goes : Bool)
+    → any ≡ list_any is_going (take i now) → IsTurnTold i k now new goes
+    → (any || goes) ≡ list_any is_going (take (i + 1) new)
+any_told i k now new any goes so_far (told, turn, tells) =
+    let more : suc i ≡ i + 1 = omega arith in
+    ap (λ b. b || goes) so_far
+    ∙ ap (λ b. list_any is_going (take i now) || b)
+    (tells ∙ going_as_told k turn.before turn.after told turn.turned)
+    ∙ any_next i now turn.before turn.after turn.was
+    ∙ ap (λ n. list_any is_going (take n (slice_set now i turn.after))) more
+    ∙ ap (λ runs. list_any is_going (take (i + 1) runs)) (sym turn.is)
 
 -- ---- a round, run by run
 
@@ -108,7 +132,7 @@ turned_next (suc i) k (m ∷ old) [] before after told are was turned = absurd a
 turned_next (suc i) k (m ∷ old) (n ∷ now) before after told are was turned =
     (are.0, turned_next i k old now before after told are.1 was turned)
 
-as_long : (i k : ℕ) (old new : List Member) → AreTurnedTo i k old new
+pub as_long : (i k : ℕ) (old new : List Member) → AreTurnedTo i k old new
     → length new ≡ length old
 as_long zero k old new same = ap length same
 as_long (suc i) k [] [] are = refl
@@ -116,18 +140,13 @@ as_long (suc i) k [] (n ∷ new) are = absurd are
 as_long (suc i) k (m ∷ old) [] are = absurd are
 as_long (suc i) k (m ∷ old) (n ∷ new) are = ap (λ x. suc x) (as_long i k old new are.1)
 
-pub takes_next : (i k : ℕ) (old now new : List Member) (told : Result Turn BatchCause)
-    → AreTurnedTo i k old now → i < length old → TakesTurn i k now new told
-    → AreTurnedTo (i + 1) k old new
-takes_next i k old now new (Ok told) are less takes =
+pub takes_next : (i k : ℕ) (old now new : List Member) (goes : Bool) → AreTurnedTo i k old now
+    → IsTurnTold i k now new goes → AreTurnedTo (i + 1) k old new
+takes_next i k old now new goes are (told, takes, tells) =
     let more : suc i ≡ i + 1 = omega arith in
     subst (λ n. AreTurnedTo n k old new) more
     (subst (λ runs. AreTurnedTo (suc i) k old runs) (sym takes.is)
     (turned_next i k old now takes.before takes.after told are takes.was takes.turned))
-takes_next i k old now new (Err NoSuchRun) are less takes =
-    let past = takes.0 in
-    let long = as_long i k old now are in
-    absurd (omega (arith, less, past, long))
 
 all_turned : (k : ℕ) (old new : List Member) → AreTurnedTo (length old) k old new
     → AreAllTurned k old new
@@ -135,6 +154,13 @@ all_turned k [] [] are = tt
 all_turned k [] (n ∷ new) are = let e = are in absurd cc
 all_turned k (m ∷ old) [] are = absurd are
 all_turned k (m ∷ old) (n ∷ new) are = (are.0, all_turned k old new are.1)
+
+-- and the count of them is that of all
+pub any_of_all : (n k : ℕ) (old new : List Member) (any : Bool) → n ≡ length old
+    → AreTurnedTo n k old new → any ≡ list_any is_going (take n new) → any ≡ list_any is_going new
+any_of_all n k old new any all are so_far =
+    let long = as_long n k old new are in
+    so_far ∙ ap (λ runs. list_any is_going runs) (take_all n new (omega (arith, long, all)))
 
 pub round_ends : (n k : ℕ) (old new : List Member) → n ≡ length old → AreTurnedTo n k old new
     → AreAllTurned k old new
@@ -148,6 +174,11 @@ pub round_next : (n k : ℕ) (old mid new : List Member) → AreRounds n k old m
 round_next n k old mid new are turned =
     let more : suc n ≡ n + 1 = omega arith in
     subst (λ m. AreRounds m k old new) more (mid, are, turned)
+
+pub stops : (n most k : ℕ) (old mid new : List Member) (any : Bool) → AreRounds n k old mid
+    → AreAllTurned k mid new → any ≡ list_any is_going new → any ≡ false → GoesOn most k old new
+stops n most k old mid new any are turned goes none =
+    (n + 1, round_next n k old mid new are turned, inr (sym goes ∙ none))
 
 pub all_rounds : (n most k : ℕ) (old new : List Member) → n ≤ most → most ≤ n
     → AreRounds n k old new → GoesOn most k old new

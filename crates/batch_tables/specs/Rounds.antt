@@ -4,6 +4,7 @@ use Rattle.std.specs.List.{list_any}
 use Rattle.plain_machine.specs.WholeRun.{budget}
 use Rattle.posting_table.specs.Ledger.{Ledger}
 use Rattle.posting_table.specs.Rows.{rows_of}
+use Rattle.query_batch.specs.Batch.{IsTurn}
 use Rattle.query_batch.specs.Members.{IsTurnedMember}
 use Rattle.query_batch.specs.declared.member.Member.{Member}
 use Rattle.query_batch.specs.declared.member.Member.TheVariants as member
@@ -11,6 +12,7 @@ use Rattle.query_machine.specs.Run.{At, Ended, Failed, Place}
 use Rattle.query_machine.specs.RunOf.{IsRunOf}
 use Rattle.query_machine.specs.Starts.{IsOutside, IsWithin}
 use Rattle.query_machine.specs.declared.turn.Turn.{Turn}
+use Rattle.query_machine.specs.declared.turn.Turn.TheVariants as turn
 use Rattle.verified_program.specs.declared.checked.Checked.{Checked}
 
 -- it stands before an instruction
@@ -22,6 +24,15 @@ is_going_at Failed = false
 abbrev pub is_going : Member → Bool
 is_going (member.Run r) = is_going_at r.place
 is_going member.OutsideBounds = false
+
+abbrev pub is_told_going : Turn → Bool
+is_told_going turn.Going = true
+is_told_going told = false
+
+-- a turn of one of the runs, of which it is told whether it can go on
+abbrev pub IsTurnTold : ℕ → ℕ → List Member → List Member → Bool → Type 0
+IsTurnTold number k old new goes =
+    (told : Turn) × IsTurn number k old new told × (goes ≡ is_told_going told)
 
 -- ---- rounds
 

@@ -24,7 +24,8 @@
 //!
 //! # Cost
 //!
-//! That of the runs and of their tables, and in each round a look at each run.
+//! That of the runs and of their tables, and in each round a look at each run, also where it has
+//! ended.
 #![tactic(auto)]
 
 mod files;

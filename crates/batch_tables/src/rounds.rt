@@ -1,12 +1,13 @@
 //! Turns round by round.
-ghost use Rattle.std.specs.Prelude.{◌≡◌, ◌≤◌, IfOk, All};
+ghost use Rattle.std.specs.Prelude.{◌≡◌, ◌<◌, ◌≤◌, IfOk, All, length};
 ghost use Rattle.std.specs.List.{list_any};
 ghost use Rattle.batch_tables.specs.Rounds as spec;
 ghost use Rattle.batch_tables.specs.Rounds.{AreAllTurned, GoesOn, HaveEnded, IsBrief};
+ghost use Rattle.batch_tables.specs.Rounds.{IsTurnTold};
 
 use posting_table::Ledger;
-use query_batch::{Batch, Member};
-use query_machine::turns_add_up;
+use query_batch::Batch;
+use query_machine::{Turn, turns_add_up};
 use std::alloc::{AllocError, Global};
 use verified_program::Checked;
 
@@ -32,28 +33,34 @@ fn most_steps(programs: &[Checked<'_>], postings: usize) -> u64
     most
 }
 
-/// Whether it stands before an instruction.
-#[tactic(auto, using(crate::proofs::RoundFacts::going_as_told))]
-fn is_going(run: &Member<'_, '_>) -> bool
-    ensures { result ≡ spec.is_going run.now }
+/// Whether a run can go on that was left so.
+fn is_going(turn: Turn) -> bool
+    ensures { result ≡ spec.is_told_going turn }
 {
-    matches!(run.answer(), Ok(None))
+    matches!(turn, Turn::Going)
 }
 
-/// Whether a run of the batch can go on.
-fn is_any_going(batch: &Batch<'_, '_>) -> bool
-    ensures { result ≡ list_any spec.is_going batch.now }
+/// A turn of so many steps for the run of this number, which is there. Tells whether it can go on.
+fn turn_of(batch: &mut Batch<'_, '_>, number: usize, k: u64) -> bool
+    requires { number < length batch.old }
+    ensures { IsTurnTold number k batch.old batch.new result }
 {
-    batch.answers().iter().any(|run| is_going(run))
-}
-
-/// A turn of so many steps for each run.
-fn round(batch: &mut Batch<'_, '_>, k: u64)
-    ensures { AreAllTurned k batch.old batch.new }
-{
-    for number in 0..batch.answers().len() {
-        let _ = batch.turn(number, k);
+    match batch.turn(number, k) {
+        Ok(told) => is_going(told),
+        Err(_) => unreachable!(),
     }
+}
+
+/// A turn of so many steps for each run. Tells whether any can go on.
+fn round(batch: &mut Batch<'_, '_>, k: u64) -> bool
+    ensures turned { AreAllTurned k batch.old batch.new }
+    ensures goes { result ≡ list_any spec.is_going batch.new }
+{
+    let mut is_any_going = false;
+    for number in 0..batch.answers().len() {
+        is_any_going |= turn_of(batch, number, k);
+    }
+    is_any_going
 }
 
 /// Rounds of turns until no run can go on, or as many as there may be.
@@ -61,10 +68,9 @@ fn go_on(batch: &mut Batch<'_, '_>, k: u64, most: u64)
     ensures { GoesOn most k batch.old batch.new }
 {
     for _ in 0..most {
-        if !is_any_going(batch) {
+        if !round(batch, k) {
             return;
         }
-        round(batch, k);
     }
 }
 

@@ -1,10 +1,16 @@
-use Rattle.batch_tables.proofs.RoundFacts.{all_rounds, round_next}
+use Rattle.batch_tables.proofs.RoundFacts.{all_rounds, round_next, stops}
 use Rattle.batch_tables.proofs.rounds.go_on.Goals as goal
 
 pub loop-preserved : goal.loop-preserved
 loop-preserved c =
     round_next c.loop.counter c.args.k c.args.batch.now c.loop.batch c.round.new.batch
-    c.loop.invariant c.round.ensures
+    c.loop.invariant c.round.ensures.turned
+
+pub returns-then-not-round : goal.returns-then-not-round
+returns-then-not-round c =
+    stops c.loop.counter c.args.most c.args.k c.args.batch.now c.loop.batch c.round.new.batch
+    c.round.result c.loop.invariant c.round.ensures.turned c.round.ensures.goes
+    c.if-not-round.true
 
 pub returns : goal.returns
 returns c =

@@ -1,5 +1,10 @@
+use Rattle.std.proofs.Common.{◌≡◌, take}
+use Rattle.std.specs.List.{list_any}
 use Rattle.batch_tables.proofs.RoundFacts.{AreTurnedTo}
+use Rattle.batch_tables.specs.Rounds as spec
 use Rattle.batch_tables.proofs.rounds.round.Given as goal
 
 abbrev pub invariant-loop-number : goal.invariant-loop-number
-invariant-loop-number l = AreTurnedTo l.number l.k l.fn.batch l.batch
+invariant-loop-number l =
+    AreTurnedTo l.number l.k l.fn.batch l.batch
+    × (l.is_any_going ≡ list_any spec.is_going (take l.number l.batch))

@@ -7,4 +7,4 @@ returns c =
     c.args.programs.now c.in_ok-batch.batch c.round.new.batch c.go_on.new.batch c.requires
     (all_brief c.args.ledger.now c.len.result c.most_steps-most.result c.args.programs.now
     c.len.ensures.count c.most_steps-most.ensures)
-    c.in_ok-batch.ensures c.round.ensures c.go_on.ensures
+    c.in_ok-batch.ensures c.round.ensures.turned c.go_on.ensures
