@@ -1,22 +1,26 @@
 -- Calls, by their arguments.
 use Rattle.std.proofs.Common.{◌≡◌, ◌≤◌, ◌<◌, ◌-◌, ℕ, suc, true, false, List, [], ◌∷◌}
-use Rattle.std.proofs.Common.{length, take, drop, get_or, Option, refl, sym, ap, subst, ◌∙◌, arith}
+use Rattle.std.proofs.Common.{length, take, drop, get_or, Option, refl, sym, ap, ap₂, subst, ◌∙◌, arith}
 use Rattle.std.proofs.Common.{if◌then◌else◌}
 use Rattle.std.proofs.lemmas.List.{take_all}
 use denote.Enum.Bare.{sameb}
 use Rattle.limits.specs.declared.bounds.Bounds.{Bounds}
-use Rattle.bql_code.specs.Core.{aggregate, key, loading, truth}
+use Rattle.bql_code.specs.Core.{aggregate, Core, key, loading, truth}
 use Rattle.bql_parser.specs.Small.{IsSmallTree}
 use Rattle.bql_plan.specs.Plan.{index_of}
-use Rattle.bql_tree.specs.Tree.{call_of, Tree, node, Trees, no_trees, trees, tree_of, trees_of}
+use Rattle.bql_tree.specs.Tree.{call_of, Operation, two_of, Tree, node, Trees, no_trees, trees}
+use Rattle.bql_tree.specs.Tree.{tree_of, trees_of}
 use Rattle.bql_tree.specs.contracts.function.Function as functions
 use Rattle.bql_tree.specs.declared.function.Function.{Function}
 use Rattle.bql_tree.specs.declared.function.Function.TheVariants as function
+use Rattle.bql_tree.specs.declared.tree.BinaryOperator.{BinaryOperator}
+use Rattle.bql_tree.specs.declared.tree.BinaryOperator.TheVariants as binary
 use Rattle.bql_tree.specs.declared.tree.Expr.{Expr}
-use Rattle.bql_types.specs.Shaped.{shape_of}
+use Rattle.bql_types.specs.Shaped.{is_null, shape_of}
 use Rattle.bql_lowering.specs.Listed.{HasShape, IsListed}
 use Rattle.bql_lowering.specs.Lowered.{Gathered, by_operation, has, in_list, list_places, lowered}
-use Rattle.bql_lowering.specs.Lowered.{of_function, places_in}
+use Rattle.bql_lowering.specs.Lowered.{of_binary, of_function, of_null, places_in, places_of}
+use Rattle.bql_lowering.specs.Lowered.{wants_places}
 use Rattle.bql_lowering.proofs.ListFacts.{is_listed}
 
 -- ---- which function it is
@@ -32,17 +36,45 @@ no_list f e is = absurd cc
 
 -- ---- what is neither a key nor an aggregate
 
-pub below_call : (b : Bounds) (g : Gathered) (e : Tree ℕ) (at : ℕ) (f : Function) (ts : Trees ℕ)
-    → e ≡ node at (call_of f) ts → has g.keys e ≡ false → has g.aggregates e ≡ false
-    → by_operation b g (call_of f) ts ≡ lowered b g e
-below_call b g e at f ts is k a =
-    let t = node at (call_of f) ts in
+below : (b : Bounds) (g : Gathered) (e : Tree ℕ) (at : ℕ) (op : Operation) (ts : Trees ℕ)
+    → e ≡ node at op ts → has g.keys e ≡ false → has g.aggregates e ≡ false
+    → by_operation b g op ts ≡ lowered b g e
+below b g e at op ts is k a =
+    let t = node at op ts in
     sym (ap (lowered b g) is
     ∙ ap (λ z. if z then loading (key (index_of g.keys t))
     else if has g.aggregates t then loading (aggregate (index_of g.aggregates t))
-    else by_operation b g (call_of f) ts) (sym (ap (has g.keys) is) ∙ k)
+    else by_operation b g op ts) (sym (ap (has g.keys) is) ∙ k)
     ∙ ap (λ z. if z then loading (aggregate (index_of g.aggregates t))
-    else by_operation b g (call_of f) ts) (sym (ap (has g.aggregates) is) ∙ a))
+    else by_operation b g op ts) (sym (ap (has g.aggregates) is) ∙ a))
+
+pub below_call : (b : Bounds) (g : Gathered) (e : Tree ℕ) (at : ℕ) (f : Function) (ts : Trees ℕ)
+    → e ≡ node at (call_of f) ts → has g.keys e ≡ false → has g.aggregates e ≡ false
+    → by_operation b g (call_of f) ts ≡ lowered b g e
+below_call b g e at f ts is k a = below b g e at (call_of f) ts is k a
+
+-- an operation between two expressions of which none is NULL
+pub below_two : (b : Bounds) (g : Gathered) (e : Tree ℕ) (at : ℕ) (op : BinaryOperator)
+    (t u : Tree ℕ) → e ≡ node at (two_of op) (trees t (trees u no_trees))
+    → has g.keys e ≡ false → has g.aggregates e ≡ false → is_null u ≡ false → is_null t ≡ false
+    → of_binary op (places_of b g t) (places_of b g u) (lowered b g t) (lowered b g u)
+    ≡ lowered b g e
+below_two b g e at op t u is k a right left =
+    let r = of_binary op (places_of b g t) (places_of b g u) (lowered b g t) (lowered b g u) in
+    sym (ap (λ z. if z then of_null op (lowered b g t)
+    else if is_null t then of_null op (lowered b g u) else r) right
+    ∙ ap (λ z. if z then of_null op (lowered b g u) else r) left)
+    ∙ below b g e at (two_of op) (trees t (trees u no_trees)) is k a
+
+-- what an operation doesn't ask for makes no difference
+pub as_asked : (op : BinaryOperator) (p q r s : Option ℕ) (x y : Core)
+    → (wants_places op ≡ true → p ≡ r) → (wants_places op ≡ true → q ≡ s)
+    → of_binary op p q x y ≡ of_binary op r s x y
+as_asked binary.Or p q r s x y h k = refl
+as_asked binary.And p q r s x y h k = refl
+as_asked binary.In p q r s x y h k = refl
+as_asked binary.Times p q r s x y h k = refl
+as_asked op p q r s x y h k = ap₂ (λ a b. of_binary op a b x y) (h refl) (k refl)
 
 -- ---- lists
 

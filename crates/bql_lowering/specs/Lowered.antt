@@ -1,7 +1,7 @@
 -- What the machine computes for an expression: over the columns of a row, or behind the last row
 -- over the keys and the aggregates of a group. Numbers are brought to the greater count of decimals
 -- where the machine wants equal ones.
-use Rattle.std.specs.Prelude.{ℕ, ℤ, pos, ◌*ℤ◌, ◌^◌, ◌-◌, nat_lt, Bool, false, max, List}
+use Rattle.std.specs.Prelude.{ℕ, ℤ, pos, ◌*ℤ◌, ◌^◌, ◌-◌, nat_lt, Bool, true, false, max, List}
 use Rattle.std.specs.Prelude.{[], ◌∷◌, ◌++◌, map, Option, Some, None, if◌then◌else◌}
 use Rattle.limits.specs.declared.bounds.Bounds.{Bounds}
 use Rattle.bean_base.specs.declared.days.Day as days
@@ -50,6 +50,14 @@ abbrev pub joined : two.Binary → Option ℕ → Option ℕ → Core → Core �
 joined op (Some p) (Some q) x y =
     joining op (aligned (Some p) (max p q) x) (aligned (Some q) (max p q) y)
 joined op p q x y = joining op x y
+
+-- whether an operation wants its operands at equal decimals, where they are numbers
+abbrev pub wants_places : BinaryOperator → Bool
+wants_places binary.Or = false
+wants_places binary.And = false
+wants_places binary.In = false
+wants_places binary.Times = false
+wants_places op = true
 
 -- ---- operations
 

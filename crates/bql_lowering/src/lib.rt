@@ -20,8 +20,9 @@
 //! # Cost
 //!
 //! Each part is compared with the keys and the aggregates, and the shapes of the operands of sums,
-//! comparisons and lists are found anew, so a sum costs its terms times its height, which is at most
-//! 200. Memory is taken for each part.
+//! comparisons and lists are found anew, so sums and comparisons in one another cost their parts
+//! times their height, which is at most 200. ANDs, ORs and products ask for no shape. Memory is taken
+//! for each part.
 #![tactic(auto)]
 
 mod kind;

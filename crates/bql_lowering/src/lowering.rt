@@ -13,7 +13,7 @@ ghost use Rattle.query_columns.specs.ColumnShape.{AreBounds};
 use crate::leaves::{nothing, of_leaf};
 use crate::lists::in_list;
 use crate::operations::{of_binary, of_function, of_null, of_unary};
-use crate::scope::{Scope, places_of, position};
+use crate::scope::{Scope, places_beside, places_of, position};
 use bql_code::{Core, Load};
 use bql_tree::{Expr, Function};
 use bql_types::grouped::Key;
@@ -55,8 +55,8 @@ pub fn lower<'a>(
                 let y = lower(alloc, scope, y)?;
                 return of_null(alloc, *op, y);
             }
-            let p = places_of(alloc, &scope.bounds, x)?;
-            let q = places_of(alloc, &scope.bounds, y)?;
+            let p = places_beside(alloc, &scope.bounds, *op, x)?;
+            let q = places_beside(alloc, &scope.bounds, *op, y)?;
             let x = lower(alloc, scope, x)?;
             let y = lower(alloc, scope, y)?;
             of_binary(alloc, *op, (p, q), x, y)

@@ -9,7 +9,7 @@ ghost use Rattle.bql_types.specs.Sought.{is_key};
 ghost use Rattle.query_columns.specs.ColumnShape.{AreBounds};
 
 use bql_plan::shape_in;
-use bql_tree::Expr;
+use bql_tree::{BinaryOperator, Expr};
 use bql_types::grouped::Key;
 use bql_types::same::same;
 use limits::Bounds;
@@ -59,4 +59,33 @@ pub(crate) fn places_of(
     ensures { IfOk result (λ places. places ≡ rule.places_in (shape_of bounds.now (tree_of e.now))) }
 {
     Ok(places_in(shape_in(alloc, bounds, e)?))
+}
+
+/// Whether an operation wants its operands at equal decimals, where they are numbers.
+fn wants_places(op: BinaryOperator) -> bool
+    ensures { result ≡ rule.wants_places op }
+{
+    !matches!(
+        op,
+        BinaryOperator::Or | BinaryOperator::And | BinaryOperator::In | BinaryOperator::Times
+    )
+}
+
+/// The decimals of an operand, where the operation asks for them. They are found by descending all
+/// of it, so nothing is looked for beside the others.
+pub(crate) fn places_beside(
+    alloc: Global,
+    bounds: &Bounds,
+    op: BinaryOperator,
+    e: &Expr<'_>,
+) -> Result<Option<u8>, AllocError>
+    requires { AreBounds bounds.now }
+    ensures { IfOk result (λ places. rule.wants_places op ≡ true
+        → places ≡ rule.places_in (shape_of bounds.now (tree_of e.now))) }
+{
+    if wants_places(op) {
+        places_of(alloc, bounds, e)
+    } else {
+        Ok(None)
+    }
 }

@@ -1,6 +1,6 @@
-use Rattle.std.proofs.Common.{rules, ◌≡◌, IfOk, sym, subst, ap, ◌∙◌}
+use Rattle.std.proofs.Common.{rules, ◌≡◌, IfOk, sym, subst, ap, ap₂, ◌∙◌}
 use Rattle.bql_code.specs.Kept.{core_of}
-use Rattle.bql_lowering.proofs.CallFacts.{below_call, call_listed, is_list}
+use Rattle.bql_lowering.proofs.CallFacts.{as_asked, below_call, below_two, call_listed, is_list}
 use Rattle.bql_lowering.proofs.CallFacts.{many_arguments, no_list, one_argument}
 use Rattle.bql_lowering.specs.Kept.{gathered_of}
 use Rattle.bql_lowering.specs.Listed.{HasShape}
@@ -10,6 +10,7 @@ use Rattle.bql_tree.specs.Tree.{tree_of, trees_of}
 use Rattle.bql_tree.specs.declared.tree.Expr.TheFolds.{the_lemmas}
 use Rattle.bql_tree.specs.declared.tree.Expr.TheViews.{sized-Call}
 use Rattle.bql_types.proofs.CauseFacts.{is_call}
+use Rattle.bql_types.specs.Shaped.{is_null}
 use Rattle.bql_lowering.proofs.lowering.+lower.Goals as goal
 
 pub lower-lower_call-requires : goal.lower-lower_call-requires
@@ -33,6 +34,36 @@ lower-returns-in-Call t c =
     (is_call c.args.e.now m.field-0 m.function m.arguments xs m.is c.deref-in-Call.ensures.value)
     c.in_default.ensures c.in_default-position.ensures)
     c.lower_call.ensures
+
+pub lower-returns-in_ok-y-in-Two-2 : goal.lower-returns-in_ok-y-in-Two-2
+lower-returns-in_ok-y-in-Two-2 t c =
+    let m = c.in-Two in
+    let b = c.args.scope.now.bounds in
+    let g = gathered_of c.args.scope.now in
+    let x = m.x.value in
+    let y = m.y.value in
+    let p = c.in_ok-p-in-Two.p in
+    let q = c.in_ok-q-in-Two.q in
+    let left = c.in_ok-x-in-Two-2.ensures
+    ∙ ap (λ z. rule.lowered b g (tree_of z)) c.deref-in-Two-5.ensures in
+    let right = c.in_ok-y-in-Two-2.ensures
+    ∙ ap (λ z. rule.lowered b g (tree_of z)) c.deref-in-Two-6.ensures in
+    let asked =
+    as_asked m.op p q (rule.places_of b g (tree_of x)) (rule.places_of b g (tree_of y))
+    (rule.lowered b g (tree_of x)) (rule.lowered b g (tree_of y))
+    (λ e. c.in_ok-p-in-Two.ensures e
+    ∙ ap (λ z. rule.places_of b g (tree_of z)) c.deref-in-Two-3.ensures)
+    (λ e. c.in_ok-q-in-Two.ensures e
+    ∙ ap (λ z. rule.places_of b g (tree_of z)) c.deref-in-Two-4.ensures) in
+    let whole =
+    below_two b g (tree_of c.args.e.now) m.field-0 m.op (tree_of x) (tree_of y) (ap tree_of m.is)
+    c.in_default.ensures c.in_default-position.ensures
+    (ap (λ z. is_null (tree_of z)) (sym c.deref-in-Two.ensures) ∙ sym c.is_null.ensures
+    ∙ c.if-is_null.false)
+    (ap (λ z. is_null (tree_of z)) (sym c.deref-in-Two-2.ensures) ∙ sym c.is_null-in-Two.ensures
+    ∙ c.if-is_null-2.false) in
+    subst (λ z. IfOk c.of_binary.result (λ r. core_of r ≡ z))
+    (ap₂ (λ u v. rule.of_binary m.op p q u v) left right ∙ asked ∙ whole) c.of_binary.ensures
 
 pub lower_call-in_list-requires : goal.lower_call-in_list-requires
 lower_call-in_list-requires t c =
