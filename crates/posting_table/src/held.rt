@@ -116,6 +116,13 @@ impl<'a> HeldRow<'a> {
         self.beside.text_under(key)
     }
 
+    /// The account.
+    pub(crate) fn account(&self) -> &Account<'a>
+        ensures { result.now ≡ self.now.account }
+    {
+        &self.account
+    }
+
     /// How many units the posting has, as a count of `10^-8`.
     pub(crate) fn count(&self) -> i128
         ensures { result ≡ self.now.position.count }

@@ -101,6 +101,8 @@ fn of_key<'s, 'a>(held: &'s Shared<HeldKey<'a>>, key: &Key<'a>) -> Option<&'s Sh
 #[derive(Drop)]
 pub(crate) struct Keys<'a> {
     plain: IndexMap<Currency<'a>, Shared<HeldKey<'a>>>,
+    /// The one that was asked for last.
+    last: Option<Shared<HeldKey<'a>>>,
 }
 
 impl<'a> Keys<'a> {
@@ -108,18 +110,21 @@ impl<'a> Keys<'a> {
     pub(crate) fn new(alloc: Global) -> Keys<'a> {
         Keys {
             plain: IndexMap::new(alloc),
+            last: None,
         }
+    }
+
+    /// The key, where it was the last one.
+    fn last(&self, key: &Key<'a>) -> Option<&Shared<HeldKey<'a>>>
+        ensures { IfSome result (λ last. last.now ≡ key.now) }
+    {
+        of_key(self.last.as_ref()?, key)
     }
 
     /// The key, where it stands already.
     fn known(&self, key: &Key<'a>) -> Option<&Shared<HeldKey<'a>>>
         ensures { IfSome result (λ known. known.now ≡ key.now) }
     {
-        // Most positions are of the currency that was kept first, which isn't hashed then.
-        let (_, first) = self.plain.get_index(0)?;
-        if let Some(known) = of_key(first, key) {
-            return Some(known);
-        }
         of_key(self.plain.get(&key.currency)?, key)
     }
 
@@ -133,6 +138,16 @@ impl<'a> Keys<'a> {
         Ok(held)
     }
 
+    /// The key of a currency without a lot, as it is held.
+    fn plain(&mut self, alloc: Global, key: Key<'a>) -> Result<Shared<HeldKey<'a>>, AllocError>
+        ensures { IfOk result (λ held. held ≡ key.entry) }
+    {
+        if let Some(known) = self.known(&key) {
+            return known.share();
+        }
+        self.keep(alloc, key)
+    }
+
     /// The key as it is held: one of a lot stands by itself.
     pub(crate) fn held(
         &mut self,
@@ -144,9 +159,12 @@ impl<'a> Keys<'a> {
         if key.lot.is_some() {
             return HeldKey::shared(alloc, key);
         }
-        if let Some(known) = self.known(&key) {
-            return known.share();
+        // The postings of a transaction are mostly of one currency, which is hashed once then.
+        if let Some(last) = self.last(&key) {
+            return last.share();
         }
-        self.keep(alloc, key)
+        let held = self.plain(alloc, key)?;
+        self.last = Some(held.share()?);
+        Ok(held)
     }
 }

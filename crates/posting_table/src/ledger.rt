@@ -10,6 +10,8 @@ ghost use Rattle.query_rows.specs.Fits as spec;
 ghost use Rattle.query_rows.specs.Row.{text_under};
 ghost use Rattle.query_rows.specs.Shaped as rows;
 
+mod listed;
+
 use crate::bounded::all_fit;
 use crate::display::Display;
 use crate::held::HeldRow;

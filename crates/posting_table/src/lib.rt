@@ -26,6 +26,7 @@
 //! })?;
 //! ledger.set_display(parse_currency("USD")?, 2)?;
 //! let account = ledger.cell(0, Column::Account);   // Value::Text of Assets:Cash
+//! let date = ledger.date(0);                       // 2014-01-02
 //! let receipt = ledger.entry_meta(0, "receipt");   // None
 //! let fits = ledger.fits(&bounds);
 //! ```
@@ -42,16 +43,17 @@
 //!
 //! What a row has in a [`Column`] is a `Value` of queries, lent from where the row is kept: names
 //! and texts as slices, sets and the keys of positions by reference (`Lent`). Contracts see what is
-//! lent as the thing itself. By itself a posting has no balance.
+//! lent as the thing itself. By itself a posting has no balance. What listings show, its date, its
+//! flag, its account, and the key and the count of its position, is lent without a value around it.
 //!
 //! # What may be asked
 //!
 //! `push` wants room, since a ledger holds at most [`limits::MOST_POSTINGS`], and a row whose cells lie in
 //! the shapes that its columns have by the widest bounds: its texts are short and its counts small
 //! ([`rows_of_small_parts_are_shaped`]). So in a ledger that is within narrower bounds
-//! ([`Ledger::fits`]) they lie in the shapes by these. `cell`, `meta` and `entry_meta` want a row
-//! that is there. A call that answers with an error left the ledger as it was; the only cause is
-//! want of memory.
+//! ([`Ledger::fits`]) they lie in the shapes by these. `cell`, `meta`, `entry_meta`, `date` and its
+//! like want a row that is there. A call that answers with an error left the ledger as it was; the
+//! only cause is want of memory.
 //!
 //! # Cost
 //!

@@ -1,21 +1,43 @@
 //! What stands in the cells of a table.
 ghost use Rattle.std.specs.Prelude.{◌≡◌};
+ghost use Rattle.query_values.specs.declared.value.Value.TheVariants as value;
+ghost use Rattle.table_printer.specs.Cell.{value_of};
 
-use query_values::Value;
+use bean_base::{Currency, Day, Slice};
+use bean_lots::Key;
+use query_values::{Bag, Lent, TextSet, Value};
 use std::marker::Model;
 
-/// Where the value of a cell is.
+/// A value whose parts are lent from where they are kept.
 #[derive(Drop)]
-pub enum Held<'r> {
-    Made(Value<'r>),
-    Kept(&'r Value<'r>),
+pub enum Shown<'r> {
+    Null,
+    Truth(bool),
+    Number {
+        places: u8,
+        count: i128,
+    },
+    Text(Slice<'r>),
+    Day(Day),
+    Set(Lent<'r, TextSet<'r>>),
+    Amount {
+        places: u8,
+        count: i128,
+        currency: Currency<'r>,
+    },
+    Position {
+        key: Lent<'r, Key<'r>>,
+        count: i128,
+    },
+    Inventory(Lent<'r, Bag<'r>>),
 }
 
-/// What stands in a cell: a value that is made when the cell is asked for, or one that is lent from
-/// where it is kept, since inventories own memory. Contracts see the value itself.
+/// What stands in a cell: a text, a day or a position, made when the cell is asked for, or any value
+/// lent from where it is kept. A value may own an inventory and has room for one; a cell lends it, so
+/// that little is moved for each cell. Contracts see the value itself.
 #[derive(Drop)]
 pub struct Cell<'r> {
-    held: Held<'r>,
+    shown: Shown<'r>,
 }
 
 impl<'r> Model for Cell<'r> {
@@ -23,16 +45,37 @@ impl<'r> Model for Cell<'r> {
 
     ghost Value = { CellValue };
 
-    ghost view = { λ c. value_of c.held };
+    ghost view = { λ c. value_of c.shown };
 }
 
 impl<'r> Cell<'r> {
-    /// A cell of this value.
-    pub fn made(value: Value<'r>) -> Cell<'r>
-        ensures { result ≡ value.entry }
+    /// A cell of this text.
+    pub fn text(text: &'r str) -> Cell<'r>
+        ensures { result ≡ value.Text text.now }
     {
         Cell {
-            held: Held::Made(value),
+            shown: Shown::Text(Slice::new(text)),
+        }
+    }
+
+    /// A cell of this day.
+    pub fn day(day: Day) -> Cell<'r>
+        ensures { result ≡ value.Day day }
+    {
+        Cell {
+            shown: Shown::Day(day),
+        }
+    }
+
+    /// A cell of so many units of a key, as a count of `10^-8`.
+    pub fn position(key: &'r Key<'r>, count: i128) -> Cell<'r>
+        ensures { result ≡ value.Position key.now count }
+    {
+        Cell {
+            shown: Shown::Position {
+                key: Lent::new(key),
+                count,
+            },
         }
     }
 
@@ -40,18 +83,38 @@ impl<'r> Cell<'r> {
     pub fn kept(value: &'r Value<'r>) -> Cell<'r>
         ensures { result ≡ value.now }
     {
-        Cell {
-            held: Held::Kept(value),
-        }
+        let shown = match value {
+            Value::Null => Shown::Null,
+            Value::Truth(truth) => Shown::Truth(*truth),
+            Value::Number { places, count } => Shown::Number {
+                places: *places,
+                count: *count,
+            },
+            Value::Text(text) => Shown::Text(text.lend()),
+            Value::Day(day) => Shown::Day(*day),
+            Value::Set(set) => Shown::Set(set.lend()),
+            Value::Amount {
+                places,
+                count,
+                currency,
+            } => Shown::Amount {
+                places: *places,
+                count: *count,
+                currency: currency.lend(),
+            },
+            Value::Position { key, count } => Shown::Position {
+                key: key.lend(),
+                count: *count,
+            },
+            Value::Inventory(bag) => Shown::Inventory(Lent::new(bag)),
+        };
+        Cell { shown }
     }
 
-    /// The value.
-    pub fn value(&self) -> &Value<'r>
-        ensures { result.now ≡ self.now }
+    /// What is shown.
+    pub(crate) fn shown(&self) -> &Shown<'r>
+        ensures { value_of result.now ≡ self.now }
     {
-        match &self.held {
-            Held::Made(value) => value,
-            Held::Kept(value) => value,
-        }
+        &self.shown
     }
 }

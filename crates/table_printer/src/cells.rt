@@ -11,13 +11,13 @@ ghost use Rattle.table_printer.specs.CellText as spec;
 ghost use Rattle.table_printer.specs.CellText.{set_text, units_text};
 ghost use Rattle.theory.specs.Joined.{gap_before};
 
-use crate::cell::Cell;
+use crate::cell::{Cell, Shown};
 use crate::inventories::{inventory_width, push_inventory};
 use crate::positions::{position_width, push_position};
 use bean_base::Currency;
 use number_texts::{number_len, push_day, push_number};
 use posting_table::Display;
-use query_values::{TextSet, Value};
+use query_values::TextSet;
 use std::alloc::{AllocError, Global};
 use unicode_width::UnicodeWidthStr;
 
@@ -48,7 +48,7 @@ impl Scratch {
 pub(crate) fn is_number(cell: &Cell<'_>) -> bool
     ensures { result ≡ spec.is_number cell.now }
 {
-    matches!(cell.value(), Value::Number { .. })
+    matches!(cell.shown(), Shown::Number { .. })
 }
 
 fn shown_character(c: char) -> char
@@ -238,23 +238,23 @@ pub(crate) fn push_cell(
     ensures width { IfOk result (λ n. n
         ≡ text_width (cell_text (decimals_of display.now) cell.now)) }
 {
-    match cell.value() {
-        Value::Null => Ok(0),
-        Value::Truth(truth) => push_truth(out, *truth),
-        Value::Number { places, count } => push_exact(out, *count, *places),
-        Value::Text(text) => push_clean(out, text.text(), &mut scratch.clean),
-        Value::Day(day) => {
+    match cell.shown() {
+        Shown::Null => Ok(0),
+        Shown::Truth(truth) => push_truth(out, *truth),
+        Shown::Number { places, count } => push_exact(out, *count, *places),
+        Shown::Text(text) => push_clean(out, text.text(), &mut scratch.clean),
+        Shown::Day(day) => {
             push_day(out, *day)?;
             Ok(DAY_WIDTH)
         }
-        Value::Set(set) => push_set(out, set.get(), &mut scratch.clean),
-        Value::Amount {
+        Shown::Set(set) => push_set(out, set.get(), &mut scratch.clean),
+        Shown::Amount {
             places,
             count,
             currency,
         } => push_units(out, *count, *places, currency, display),
-        Value::Position { key, count } => push_position(out, key.get(), *count, scratch, display),
-        Value::Inventory(bag) => push_inventory(out, bag, scratch, display),
+        Shown::Position { key, count } => push_position(out, key.get(), *count, scratch, display),
+        Shown::Inventory(bag) => push_inventory(out, bag.get(), scratch, display),
     }
 }
 
@@ -268,19 +268,19 @@ pub(crate) fn cell_width(
         ≡ text_width (cell_text (decimals_of display.now) cell.now)) }
 {
     scratch.measured.clear();
-    match cell.value() {
-        Value::Null => Ok(0),
-        Value::Truth(truth) => push_truth(&mut scratch.measured, *truth),
-        Value::Number { places, count } => Ok(exact_width(*count, *places)),
-        Value::Text(text) => clean_width(text.text(), &mut scratch.clean),
-        Value::Day(_) => Ok(DAY_WIDTH),
-        Value::Set(set) => set_width(set.get(), &mut scratch.clean),
-        Value::Amount {
+    match cell.shown() {
+        Shown::Null => Ok(0),
+        Shown::Truth(truth) => push_truth(&mut scratch.measured, *truth),
+        Shown::Number { places, count } => Ok(exact_width(*count, *places)),
+        Shown::Text(text) => clean_width(text.text(), &mut scratch.clean),
+        Shown::Day(_) => Ok(DAY_WIDTH),
+        Shown::Set(set) => set_width(set.get(), &mut scratch.clean),
+        Shown::Amount {
             places,
             count,
             currency,
         } => Ok(units_width(*count, *places, currency, display)),
-        Value::Position { key, count } => position_width(key.get(), *count, scratch, display),
-        Value::Inventory(bag) => inventory_width(bag, scratch, display),
+        Shown::Position { key, count } => position_width(key.get(), *count, scratch, display),
+        Shown::Inventory(bag) => inventory_width(bag.get(), scratch, display),
     }
 }

@@ -13,7 +13,6 @@ use crate::cells::{Scratch, cell_width, is_number};
 use crate::rows::Rows;
 use bean_base::Slice;
 use posting_table::Display;
-use query_values::Value;
 use std::alloc::{AllocError, Global};
 
 /// The head of a column, as its name and the rows make it.
@@ -37,7 +36,7 @@ fn heading_of<'t, T: Rows>(
     ensures bare { IfOk result (λ h. h ≡ bare_heading h.name) }
 {
     let name = table.name(column);
-    let cell = Cell::made(Value::Text(Slice::new(name)));
+    let cell = Cell::text(name);
     let width = cell_width(&cell, scratch, display)?.max(1);
     Ok(Heading {
         name: Slice::new(name),

@@ -15,7 +15,6 @@ use crate::headings::Heading;
 use crate::rows::Rows;
 use number_texts::push_run;
 use posting_table::Display;
-use query_values::Value;
 use std::alloc::AllocError;
 
 /// A cell, and whether it stands at the right of its column.
@@ -50,7 +49,7 @@ impl Line for HeaderLine<'_, '_> {
     fn cell(&self, column: usize) -> Placed<'_> {
         let heading = &self.headings[column];
         Placed {
-            cell: Cell::made(Value::Text(heading.name.lend())),
+            cell: Cell::text(heading.name.text()),
             stands_right: heading.has_numbers,
         }
     }

@@ -31,6 +31,19 @@ fn push_rows<T: Rows>(
     Ok(())
 }
 
+/// The most bytes a line for which room is taken beforehand: a row takes more memory than that.
+const MOST_ROOM: usize = 128;
+
+/// How much room is taken beforehand, so that the text isn't moved while it grows: that of lines
+/// which fill their columns.
+fn room_for(headings: &[Heading<'_>], rows: usize) -> usize {
+    let mut line: usize = 1;
+    for heading in headings {
+        line = line.saturating_add(heading.width).saturating_add(2);
+    }
+    line.min(MOST_ROOM).saturating_mul(rows.saturating_add(2))
+}
+
 /// The table of rows: each has as many cells as there are columns.
 pub fn print<T: Rows>(
     alloc: Global,
@@ -46,7 +59,7 @@ pub fn print<T: Rows>(
     let header = HeaderLine {
         headings: &headings,
     };
-    let mut out = Vec::new(alloc);
+    let mut out = Vec::with_capacity(alloc, room_for(&headings, table.len()))?;
     push_line(&mut out, &header, &headings, &mut scratch, display)?;
     push_rule(&mut out, &headings)?;
     push_rows(&mut out, table, &headings, &mut scratch, display)?;

@@ -1,5 +1,6 @@
 use Rattle.std.proofs.Common.{[], refl, sym, ap, ◌∙◌}
 use Rattle.posting_table.specs.Decimals.{decimals_of}
+use Rattle.table_printer.specs.Cell.{value_of}
 use Rattle.table_printer.specs.CellText.{cell_text}
 use Rattle.table_printer.specs.Table.{text_width}
 use Rattle.table_printer.proofs.Printable.{width_printable}
@@ -9,9 +10,9 @@ use Rattle.table_printer.proofs.cells.cell_width.Goals as goal
 pub returns-in-Null : goal.returns-in-Null
 returns-in-Null c =
     sym (ap (λ cell. text_width (cell_text (decimals_of c.args.display.now) cell))
-    (sym c.value.ensures ∙ c.in-Null.is) ∙ width_printable [] refl)
+    (sym c.shown.ensures ∙ ap value_of c.in-Null.is) ∙ width_printable [] refl)
 
 pub returns-in-Day : goal.returns-in-Day
 returns-in-Day c =
     sym (ap (λ cell. text_width (cell_text (decimals_of c.args.display.now) cell))
-    (sym c.value.ensures ∙ c.in-Day.is) ∙ day_width c.in-Day.field-0)
+    (sym c.shown.ensures ∙ ap value_of c.in-Day.is) ∙ day_width c.in-Day.field-0)

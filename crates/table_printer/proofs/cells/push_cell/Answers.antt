@@ -1,5 +1,6 @@
 use Rattle.std.proofs.Common.{[], refl, sym, ap, ◌∙◌}
 use Rattle.posting_table.specs.Decimals.{decimals_of}
+use Rattle.table_printer.specs.Cell.{value_of}
 use Rattle.table_printer.specs.CellText.{cell_text}
 use Rattle.table_printer.specs.Table.{text_width}
 use Rattle.table_printer.proofs.Printable.{width_printable}
@@ -9,9 +10,9 @@ use Rattle.table_printer.proofs.cells.push_cell.Goals as goal
 pub returns-in-Null-clause-width : goal.returns-in-Null-clause-width
 returns-in-Null-clause-width c =
     sym (ap (λ cell. text_width (cell_text (decimals_of c.args.display.now) cell))
-    (sym c.value.ensures ∙ c.in-Null.is) ∙ width_printable [] refl)
+    (sym c.shown.ensures ∙ ap value_of c.in-Null.is) ∙ width_printable [] refl)
 
 pub returns-in_ok-push_day-in-Day-clause-width : goal.returns-in_ok-push_day-in-Day-clause-width
 returns-in_ok-push_day-in-Day-clause-width c =
     sym (ap (λ cell. text_width (cell_text (decimals_of c.args.display.now) cell))
-    (sym c.value.ensures ∙ c.in-Day.is) ∙ day_width c.in-Day.day)
+    (sym c.shown.ensures ∙ ap value_of c.in-Day.is) ∙ day_width c.in-Day.day)

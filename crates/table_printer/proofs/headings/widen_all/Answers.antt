@@ -26,6 +26,6 @@ loop-column-preserved g c =
           ∙ (λ k. slice_set (c.loop-column.invariant.headings k) i (with_cell display h v))
           ∙ next_cell display c.args.headings.now row i h v c.requires c.cell.ensures
           (c.index-headings-column.is ∙ ap (λ l. get_or l i h) c.loop-column.invariant.headings);
-      len = length-set c.loop-column.headings i c.widen-in-loop-column.new.heading
+      len = length-set c.loop-column.headings i c.widen.new.heading
           ∙ c.loop-column.invariant.len;
     }

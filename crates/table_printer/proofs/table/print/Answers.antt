@@ -16,15 +16,15 @@ returns g c =
     map (map (text_of places)) (g.T.Rows.rows c.args.table.now) in
     let header_line =
     c.in_ok-push_line.ensures
-    ∙ (λ k. c.new-out.ensures.items k
-    ++ line_of (map width_of (c.deref-2.ensures.value k))
+    ∙ (λ k. c.in_ok-out.ensures.items k
+    ++ line_of (map width_of (c.deref-3.ensures.value k))
     (map (placed_text places) (header_cells (c.deref.ensures.value k)))) in
     let rule =
     c.in_ok-push_rule.ensures
-    ∙ (λ k. header_line k ++ rule_of (map width_of (c.deref-3.ensures.value k))) in
+    ∙ (λ k. header_line k ++ rule_of (map width_of (c.deref-4.ensures.value k))) in
     let all =
     c.in_ok-push_rows.ensures
-    ∙ (λ k. rule k ++ flat_map (line_of (map width_of (c.deref-4.ensures.value k))) lines) in
+    ∙ (λ k. rule k ++ flat_map (line_of (map width_of (c.deref-5.ensures.value k))) lines) in
     let widths = c.in_ok-headings.ensures.widths in
     let headers =
     header_texts places c.in_ok-headings.headings.items ∙ c.in_ok-headings.ensures.headers in
