@@ -19,8 +19,8 @@ use Rattle.bq.specs.Files.{FileComes}
 use Rattle.bq.specs.Runs.{Finds}
 use Rattle.bq.specs.Verified.{about_program}
 use Rattle.bq.specs.declared.given.Given.{Given}
-use Rattle.bq.specs.declared.refusal.Refusal.{Refusal}
-use Rattle.bq.specs.declared.refusal.Refusal.TheVariants.{OutOfMemory}
+use Rattle.endings.specs.declared.refusal.Refusal.{Refusal}
+use Rattle.endings.specs.declared.refusal.Refusal.TheVariants.{OutOfMemory}
 use Rattle.bq.proofs.Outcomes.{within}
 
 -- ---- one file behind others

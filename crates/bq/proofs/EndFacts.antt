@@ -25,8 +25,8 @@ use Rattle.bq.specs.Due.{AreAlike, Due, End, IsLike, IsOneEnd, at_once, is_of_pa
 use Rattle.bq.specs.Files.{FileComes, FileIs, about_file}
 use Rattle.bq.specs.Ledgers.{about_book, about_ledger}
 use Rattle.bq.specs.Verified.{about_program}
-use Rattle.bq.specs.declared.refusal.Cause.{Cause}
-use Rattle.bq.specs.declared.refusal.Cause.TheVariants as cause
+use Rattle.endings.specs.declared.refusal.Cause.{Cause}
+use Rattle.endings.specs.declared.refusal.Cause.TheVariants as cause
 use Rattle.bq.proofs.OneBook.{not_too_many, one_book}
 
 -- ---- ends that are alike

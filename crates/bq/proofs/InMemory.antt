@@ -14,9 +14,9 @@ use Rattle.bq.specs.MemoryRun.{KeptFront, in_memory, kept_in, memory_store}
 use Rattle.bq.specs.Runs.{Comes, Ends, Keeps, TellsWhy, deeds, written}
 use Rattle.bq.specs.Due.{Due}
 use Rattle.bq.specs.Commands.{due_to}
-use Rattle.bq.specs.declared.refusal.Refusal.{Refusal}
-use Rattle.bq.specs.declared.refusal.Refusal.TheVariants.{OutOfMemory, Refused, NotWritten, NotKept}
-use Rattle.bq.specs.declared.verdict.Verdict.{Verdict}
+use Rattle.endings.specs.declared.refusal.Refusal.{Refusal}
+use Rattle.endings.specs.declared.refusal.Refusal.TheVariants.{OutOfMemory, Refused, NotWritten, NotKept}
+use Rattle.endings.specs.declared.verdict.Verdict.{Verdict}
 
 took : (old new : Holding) (text : List ℕ) (n : ℕ) → TookFront short_writer old new text n
     → KeptFront old new text n

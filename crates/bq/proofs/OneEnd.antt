@@ -43,13 +43,13 @@ use Rattle.bq.specs.Ran.{Ran}
 use Rattle.bq.specs.Runs.{HaveOneEnd}
 use Rattle.bq.specs.Show.{Shows, listed}
 use Rattle.bq.specs.Upgrade.{Upgrades}
-use Rattle.bq.specs.Verdict.{verdict_of}
+use Rattle.endings.specs.Verdict.{verdict_of}
 use Rattle.bq.specs.Verified.{about_program}
 use Rattle.bq.specs.Verify.{Verifies, line_of}
 use Rattle.bq.specs.declared.given.Given.TheVariants.{Told, Kept}
-use Rattle.bq.specs.declared.refusal.Cause.TheVariants as cause
-use Rattle.bq.specs.declared.verdict.Verdict.TheVariants as verdict
-use Rattle.bq.specs.declared.verdict.Verdict.TheVariants.{Fine}
+use Rattle.endings.specs.declared.refusal.Cause.TheVariants as cause
+use Rattle.endings.specs.declared.verdict.Verdict.TheVariants as verdict
+use Rattle.endings.specs.declared.verdict.Verdict.TheVariants.{Fine}
 use Rattle.bq.specs.declared.words.Request.TheVariants as request
 use Rattle.query_columns.specs.ColumnShape.{widest}
 use Rattle.bq.proofs.EndFacts.{SaysOne, both_are, one_about_book, one_about_file, one_about_ledger}

@@ -22,17 +22,17 @@ use Rattle.bq.specs.Due.{ComesTo, Due, End, is_of_pattern}
 use Rattle.bq.specs.Files.{FileComes, ReadsFile, about_file}
 use Rattle.bq.specs.Ledgers.{about_book, about_ledger}
 use Rattle.bq.specs.Named.{AskFor}
-use Rattle.bq.specs.Refusal.{unaccepted, unbooked, unread}
+use Rattle.endings.specs.Refusal.{unaccepted, unbooked, unread}
 use Rattle.bq.specs.Keeping.{Keeps, StoreOf}
 use Rattle.bq.specs.Runs.{Comes, Deeds, Finds, IsDue, RefusesExactly, WritesText, Written, deeds}
 use Rattle.bq.specs.declared.given.Given.{Given}
 use Rattle.bq.specs.declared.given.Given.TheVariants.{Told, Kept}
-use Rattle.bq.specs.declared.refusal.Cause.{Cause}
-use Rattle.bq.specs.declared.refusal.Cause.TheVariants as cause
-use Rattle.bq.specs.declared.refusal.Refusal.{Refusal}
-use Rattle.bq.specs.declared.refusal.Refusal.TheVariants.{OutOfMemory, Refused, NotWritten, NotKept}
-use Rattle.bq.specs.declared.verdict.Verdict.{Verdict}
-use Rattle.bq.specs.declared.verdict.Verdict.TheVariants.{Fine}
+use Rattle.endings.specs.declared.refusal.Cause.{Cause}
+use Rattle.endings.specs.declared.refusal.Cause.TheVariants as cause
+use Rattle.endings.specs.declared.refusal.Refusal.{Refusal}
+use Rattle.endings.specs.declared.refusal.Refusal.TheVariants.{OutOfMemory, Refused, NotWritten, NotKept}
+use Rattle.endings.specs.declared.verdict.Verdict.{Verdict}
+use Rattle.endings.specs.declared.verdict.Verdict.TheVariants.{Fine}
 use Rattle.bq.specs.declared.words.Request.{Request}
 use Rattle.bq.specs.Verified.{about_program}
 use Rattle.query_code.specs.declared.program.Parts.{Parts}

@@ -11,7 +11,8 @@ use Rattle.posting_table.specs.Ledger.{Ledger}
 use Rattle.posting_table.specs.Rows.{rows_of}
 use Rattle.query_code.specs.declared.program.Parts.{Parts}
 use Rattle.query_columns.specs.ColumnShape.{widest}
-use Rattle.query_files.proofs.FileFacts.{one_program, same_program}
+use Rattle.query_code.proofs.QueryFileFacts.{same_program}
+use Rattle.query_files.proofs.FileFacts.{one_program}
 use Rattle.query_files.specs.Texts.{Compiles, IsCompilable, IsFileOf}
 use Rattle.query_files.specs.declared.cause.TextCause.{TextCause}
 use Rattle.query_rows.specs.Fits.{fits}
@@ -26,13 +27,13 @@ use Rattle.bq.specs.Due.{ComesTo, Due, End}
 use Rattle.bq.specs.Ledgers.{about_book, about_ledger}
 use Rattle.bq.specs.Query.{Answered, FileAnswers, HasBounds}
 use Rattle.bq.specs.Ran.{FileRan, HasTable, Ran}
-use Rattle.bq.specs.Refusal.{uncompiled}
+use Rattle.endings.specs.Refusal.{uncompiled}
 use Rattle.bq.specs.declared.given.Given.{Given}
 use Rattle.bq.specs.declared.given.Given.TheVariants.{Told}
-use Rattle.bq.specs.declared.refusal.Cause.TheVariants as cause
-use Rattle.bq.specs.declared.refusal.Refusal.{Refusal}
-use Rattle.bq.specs.declared.refusal.Refusal.TheVariants.{OutOfMemory, Refused, NotWritten, NotKept}
-use Rattle.bq.specs.declared.verdict.Verdict.TheVariants.{Fine}
+use Rattle.endings.specs.declared.refusal.Cause.TheVariants as cause
+use Rattle.endings.specs.declared.refusal.Refusal.{Refusal}
+use Rattle.endings.specs.declared.refusal.Refusal.TheVariants.{OutOfMemory, Refused, NotWritten, NotKept}
+use Rattle.endings.specs.declared.verdict.Verdict.TheVariants.{Fine}
 use Rattle.bq.proofs.Outcomes.{within}
 
 -- ---- the file of a text

@@ -1,32 +1,65 @@
 -- What a listing shows of a posting, by the numbers of its columns.
-use Rattle.std.proofs.Common.{◌≡◌, ℕ, zero, suc, ◌<◌, List, [], ◌∷◌, length, map, Some, refl, ap}
-use Rattle.std.proofs.Common.{◌∙◌, arith}
+use Rattle.std.proofs.Common.{◌≡◌, ◌≢◌, ℕ, ℤ, zero, suc, ◌<◌, ◌≤◌, List, [], ◌∷◌, length, map, Some, refl}
+use Rattle.std.proofs.Common.{ap, ◌∙◌, arith, unwrap_or}
 use Rattle.std.specs.List.{slice_get}
 use Rattle.std.specs.Option.{option_map}
-use Rattle.posting_table.specs.Row.{cell_at}
-use Rattle.posting_table.specs.Rows.{row_of}
-use Rattle.query_columns.specs.declared.column.Column.{Column}
+use Rattle.bean_lots.specs.declared.lot.Key.{Key}
 use Rattle.posting_table.specs.declared.row.Row.{Row}
-use Rattle.query_rows.specs.Row as query
 use Rattle.query_values.specs.declared.value.Value.{Value}
+use Rattle.query_values.specs.declared.value.Value.TheVariants as value
 use Rattle.table_printer.specs.CellText.{row_at}
-use Rattle.bq.specs.Columns.{column_at}
 use Rattle.bq.specs.List.{shown_row}
 
-in_column : (r : Row) (n : ℕ) → n < length (shown_row r)
-    → Some (cell_at r (column_at n)) ≡ slice_get (shown_row r) n
-in_column r zero within = refl
-in_column r (suc zero) within = refl
-in_column r (suc (suc zero)) within = refl
-in_column r (suc (suc (suc zero))) within = refl
-in_column r (suc (suc (suc (suc n)))) within = absurd (omega arith)
+-- what a row has in a column of the listing is there
+pub within : (rows : List Row) (i n : ℕ) → n < length (row_at (map shown_row rows) i)
+    → i < length rows
+within [] i n some = absurd (omega arith)
+within (r ∷ rows) zero n some = omega arith
+within (r ∷ rows) (suc i) n some =
+    let below : i < length rows = within rows i n some in omega (arith, below)
 
--- a value that a row has in a column is what the listing shows there
-pub is_shown : (rows : List Row) (i n : ℕ) (c : Column) (x : Value)
-    → n < length (row_at (map shown_row rows) i) → c ≡ column_at n
-    → Some x ≡ option_map (λ (r : query.Row). r.cell c) (slice_get (map row_of rows) i)
+-- it has so many columns
+four : (rows : List Row) (i n : ℕ) → n < length (row_at (map shown_row rows) i) → n < 4
+four [] i n some = absurd (omega arith)
+four (r ∷ rows) zero n some = some
+four (r ∷ rows) (suc i) n some = four rows i n some
+
+-- a column that is none of the first three is the last
+pub in_the_last : (rows : List Row) (i n : ℕ) (x : Value)
+    → n < length (row_at (map shown_row rows) i) → n ≢ 0 → n ≢ 1 → n ≢ 2
+    → Some x ≡ slice_get (row_at (map shown_row rows) i) 3
     → Some x ≡ slice_get (row_at (map shown_row rows) i) n
-is_shown [] i n c x within column is = absurd (omega arith)
-is_shown (r ∷ rows) zero n c x within column is =
-    is ∙ ap (λ c. Some (cell_at r c)) column ∙ in_column r n within
-is_shown (r ∷ rows) (suc i) n c x within column is = is_shown rows i n c x within column is
+in_the_last rows i n x some not_0 not_1 not_2 is =
+    let few : n < 4 = four rows i n some in
+    let last : 3 ≡ n = omega (arith, few, not_0, not_1, not_2) in
+    is ∙ ap (slice_get (row_at (map shown_row rows) i)) last
+
+-- what a row has is what the listing shows of it
+pub shows : {X : Type 0} (part : Row → X) (cell : X → Value) (n : ℕ) (rows : List Row) (i : ℕ) (x : X)
+    → ((r : Row) → Some (cell (part r)) ≡ slice_get (shown_row r) n)
+    → Some x ≡ option_map part (slice_get rows i)
+    → Some (cell x) ≡ slice_get (row_at (map shown_row rows) i) n
+shows part cell n [] i x at is = ap (option_map cell) is
+shows part cell n (r ∷ rows) zero x at is = ap (option_map cell) is ∙ at r
+shows part cell n (r ∷ rows) (suc i) x at is = shows part cell n rows i x at is
+
+-- the same of two parts
+pub shows_both : {X Y : Type 0} (part : Row → X) (other : Row → Y) (cell : X → Y → Value) (n : ℕ)
+    (rows : List Row) (i : ℕ) (x : X) (y : Y)
+    → ((r : Row) → Some (cell (part r) (other r)) ≡ slice_get (shown_row r) n)
+    → Some x ≡ option_map part (slice_get rows i) → Some y ≡ option_map other (slice_get rows i)
+    → Some (cell x y) ≡ slice_get (row_at (map shown_row rows) i) n
+shows_both part other cell n [] i x y at is is_too = ap (option_map (λ a. cell a y)) is
+shows_both part other cell n (r ∷ rows) zero x y at is is_too =
+    ap (option_map (λ a. cell a y)) is
+    ∙ ap (λ o. Some (cell (part r) (unwrap_or o y))) is_too ∙ at r
+shows_both part other cell n (r ∷ rows) (suc i) x y at is is_too =
+    shows_both part other cell n rows i x y at is is_too
+
+pub position_is_shown : (rows : List Row) (i : ℕ) (key : Key) (n : ℤ)
+    → Some key ≡ option_map (λ r. r.position.key) (slice_get rows i)
+    → Some n ≡ option_map (λ r. r.position.count) (slice_get rows i)
+    → Some (value.Position key n) ≡ slice_get (row_at (map shown_row rows) i) 3
+position_is_shown rows i key n held much =
+    shows_both (λ r. r.position.key) (λ r. r.position.count) value.Position 3 rows i key n
+    (λ r. refl) held much

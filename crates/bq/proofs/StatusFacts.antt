@@ -1,15 +1,15 @@
 -- Which statuses tell what.
 use Rattle.std.proofs.Common.{◌≡◌, ◌<◌, ◌≤◌, Ok, Err, refl, ap, arith}
 use Rattle.bean_load.specs.declared.cause.LoadCause.TheVariants as loads
-use Rattle.bq.specs.Refusal.{status_by, status_of}
+use Rattle.endings.specs.Refusal.{status_by, status_of}
 use Rattle.bq.specs.Runs.{StatusesTell}
-use Rattle.bq.specs.Verdict as verdicts
-use Rattle.bq.specs.declared.refusal.Cause.{Cause}
-use Rattle.bq.specs.declared.refusal.Cause.TheVariants as cause
-use Rattle.bq.specs.declared.refusal.Refusal.{Refusal}
-use Rattle.bq.specs.declared.refusal.Refusal.TheVariants.{OutOfMemory, Refused, NotWritten, NotKept}
-use Rattle.bq.specs.declared.verdict.Verdict.{Verdict}
-use Rattle.bq.specs.declared.verdict.Verdict.TheVariants as verdict
+use Rattle.endings.specs.Verdict as verdicts
+use Rattle.endings.specs.declared.refusal.Cause.{Cause}
+use Rattle.endings.specs.declared.refusal.Cause.TheVariants as cause
+use Rattle.endings.specs.declared.refusal.Refusal.{Refusal}
+use Rattle.endings.specs.declared.refusal.Refusal.TheVariants.{OutOfMemory, Refused, NotWritten, NotKept}
+use Rattle.endings.specs.declared.verdict.Verdict.{Verdict}
+use Rattle.endings.specs.declared.verdict.Verdict.TheVariants as verdict
 
 -- that of a refusal is 2 or more
 of_cause : (c : Cause) → 2 ≤ status_by c

@@ -10,7 +10,7 @@ use Rattle.bq.specs.Due.{Due}
 use Rattle.bq.specs.Files.{FileComes, about_file}
 use Rattle.bq.specs.Runs.{Finds}
 use Rattle.bq.specs.Verified.{about_program}
-use Rattle.bq.specs.declared.refusal.Refusal.{Refusal}
+use Rattle.endings.specs.declared.refusal.Refusal.{Refusal}
 
 -- ---- one file
 

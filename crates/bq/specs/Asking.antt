@@ -6,7 +6,7 @@ use Rattle.limits.specs.declared.bounds.Bounds.{Bounds}
 use Rattle.query_files.specs.Texts.{IsCompilable, IsRefused}
 use Rattle.query_files.specs.declared.cause.TextCause.{TextCause}
 use Rattle.bq.specs.Due.{Due}
-use Rattle.bq.specs.declared.refusal.Cause.TheVariants as cause
+use Rattle.endings.specs.declared.refusal.Cause.TheVariants as cause
 
 -- the text is no query that has a program by these bounds, and nothing is asked of the store; or this
 -- is due of the query

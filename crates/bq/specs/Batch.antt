@@ -18,8 +18,8 @@ use Rattle.bq.specs.Files.{about_file}
 use Rattle.bq.specs.Ledgers.{about_book, about_ledger}
 use Rattle.bq.specs.Verified.{about_program}
 use Rattle.bq.specs.declared.given.Given.TheVariants.{Told}
-use Rattle.bq.specs.declared.verdict.Verdict.{Verdict}
-use Rattle.bq.specs.declared.verdict.Verdict.TheVariants as verdict
+use Rattle.endings.specs.declared.verdict.Verdict.{Verdict}
+use Rattle.endings.specs.declared.verdict.Verdict.TheVariants as verdict
 
 -- ---- the words
 

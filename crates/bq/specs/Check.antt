@@ -7,7 +7,7 @@ use Rattle.fault_printer.specs.Lines.{lines_of}
 use Rattle.bq.specs.Command.{Command, named}
 use Rattle.bq.specs.Due.{End}
 use Rattle.bq.specs.Ledgers.{about_book, about_ledger}
-use Rattle.bq.specs.Verdict.{verdict_of}
+use Rattle.endings.specs.Verdict.{verdict_of}
 use Rattle.bq.specs.declared.given.Given.TheVariants.{Told}
 
 -- the lines of the faults in the book of texts, and what they say

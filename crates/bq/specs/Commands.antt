@@ -17,7 +17,7 @@ use Rattle.bq.specs.RunFile.{run}
 use Rattle.bq.specs.Show.{show}
 use Rattle.bq.specs.Upgrade.{upgrade}
 use Rattle.bq.specs.Verify.{verify}
-use Rattle.bq.specs.declared.refusal.Cause.TheVariants as cause
+use Rattle.endings.specs.declared.refusal.Cause.TheVariants as cause
 use Rattle.bq.specs.declared.words.Name.{Name}
 use Rattle.bq.specs.declared.words.Name.TheVariants as names
 use Rattle.bq.specs.declared.words.Request.{Request}

@@ -5,12 +5,12 @@ use Rattle.query_files.specs.Texts as texts
 use Rattle.stores.specs.Reading.{Reading}
 use Rattle.bq.specs.declared.given.Given.{Given}
 use Rattle.bq.specs.declared.given.Given.TheVariants.{Kept, Told}
-use Rattle.bq.specs.declared.refusal.Cause.{Cause}
-use Rattle.bq.specs.declared.refusal.Cause.TheVariants.{File, Text}
-use Rattle.bq.specs.declared.refusal.Refusal.{Refusal}
-use Rattle.bq.specs.declared.refusal.Refusal.TheVariants as refusal
-use Rattle.bq.specs.declared.verdict.Verdict.{Verdict}
-use Rattle.bq.specs.declared.verdict.Verdict.TheVariants as verdict
+use Rattle.endings.specs.declared.refusal.Cause.{Cause}
+use Rattle.endings.specs.declared.refusal.Cause.TheVariants.{File, Text}
+use Rattle.endings.specs.declared.refusal.Refusal.{Refusal}
+use Rattle.endings.specs.declared.refusal.Refusal.TheVariants as refusal
+use Rattle.endings.specs.declared.verdict.Verdict.{Verdict}
+use Rattle.endings.specs.declared.verdict.Verdict.TheVariants as verdict
 
 -- What a command comes to: what it gives, or the cause for which its words or its input are
 -- refused.

@@ -12,7 +12,7 @@ use Rattle.stores.specs.declared.source.Source.{Ghosts as SourceOf}
 use Rattle.stores.specs.declared.source.SourceFault.{SourceFault}
 use Rattle.stores.specs.declared.source.SourceFault.TheVariants.{Failed}
 use Rattle.bq.specs.Due.{Due}
-use Rattle.bq.specs.declared.refusal.Cause.TheVariants.{Load}
+use Rattle.endings.specs.declared.refusal.Cause.TheVariants.{Load}
 
 -- what the store answers comes to the bytes of a file, or to L1 where it failed, L3 where they are
 -- too many

@@ -8,8 +8,8 @@ use Rattle.stores.specs.declared.source.SourceFault.{SourceFault}
 use Rattle.stores.specs.declared.source.SourceFault.TheVariants as store
 use Rattle.stores.specs.Putting.{Putting}
 use Rattle.stores.specs.declared.source.Source.{Ghosts as SourceOf}
-use Rattle.bq.specs.declared.refusal.Refusal.{Refusal}
-use Rattle.bq.specs.declared.refusal.Refusal.TheVariants as refusal
+use Rattle.endings.specs.declared.refusal.Refusal.{Refusal}
+use Rattle.endings.specs.declared.refusal.Refusal.TheVariants as refusal
 
 -- What a store of the type S tells of itself: as a source, of the files that were put, and what a call
 -- that puts one may do.

@@ -8,7 +8,7 @@ use Rattle.clap.specs.Walk.{Text}
 use Rattle.refusals.specs.declared.refusal.Refusal.TheVariants as refusal
 use Rattle.bq.specs.Booking.{HasTooMany, IsBookOf}
 use Rattle.bq.specs.Due.{Due, End}
-use Rattle.bq.specs.declared.refusal.Cause.TheVariants.{Load, TooManyPostings}
+use Rattle.endings.specs.declared.refusal.Cause.TheVariants.{Load, TooManyPostings}
 
 -- what the store gave comes to no texts, or this comes of them
 abbrev pub about_ledger : (Texts → End → Type 0) → Text → Due

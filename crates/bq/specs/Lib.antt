@@ -1,5 +1,3 @@
-pub mod Refusal
-pub mod Verdict
 pub mod Due
 pub mod Command
 pub mod Booking

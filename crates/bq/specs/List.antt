@@ -8,7 +8,7 @@ use Rattle.bq.specs.Command.{Command, named}
 use Rattle.bq.specs.Due.{End}
 use Rattle.bq.specs.Ledgers.{about_book, about_ledger}
 use Rattle.bq.specs.declared.given.Given.TheVariants.{Told}
-use Rattle.bq.specs.declared.verdict.Verdict.TheVariants.{Fine}
+use Rattle.endings.specs.declared.verdict.Verdict.TheVariants.{Fine}
 use Rattle.posting_table.specs.Decimals.{decimals_of}
 use Rattle.posting_table.specs.Ledger.{Ledger}
 use Rattle.posting_table.specs.Row.{cell_at}

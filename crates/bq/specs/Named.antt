@@ -5,9 +5,9 @@ use Rattle.clap.specs.Walk.{Text}
 use Rattle.clap.specs.declared.error.Error.{Error}
 use Rattle.clap.specs.declared.error.kind.ErrorKind.TheVariants as kind
 use Rattle.bq.specs.Commands.{request_in}
-use Rattle.bq.specs.declared.refusal.Cause.TheVariants.{Words}
-use Rattle.bq.specs.declared.refusal.Refusal.{Refusal}
-use Rattle.bq.specs.declared.refusal.Refusal.TheVariants.{OutOfMemory, Refused}
+use Rattle.endings.specs.declared.refusal.Cause.TheVariants.{Words}
+use Rattle.endings.specs.declared.refusal.Refusal.{Refusal}
+use Rattle.endings.specs.declared.refusal.Refusal.TheVariants.{OutOfMemory, Refused}
 use Rattle.bq.specs.declared.words.Request.{Request}
 
 -- clap's error as a refusal

@@ -3,10 +3,10 @@ use Rattle.std.specs.Prelude.{◌≡◌, ◌⊎◌, ℕ, Result, Ok, Err}
 use Rattle.std.specs.declared.io.ErrorKind.{ErrorKind}
 use Rattle.std.specs.declared.io.ErrorKind.TheVariants as kinds
 use Rattle.bq.specs.Runs.{status_of_run}
-use Rattle.bq.specs.declared.refusal.Refusal.{Refusal}
-use Rattle.bq.specs.declared.refusal.Cause.TheVariants.{Words}
-use Rattle.bq.specs.declared.refusal.Refusal.TheVariants.{OutOfMemory, Refused}
-use Rattle.bq.specs.declared.verdict.Verdict.{Verdict}
+use Rattle.endings.specs.declared.refusal.Refusal.{Refusal}
+use Rattle.endings.specs.declared.refusal.Cause.TheVariants.{Words}
+use Rattle.endings.specs.declared.refusal.Refusal.TheVariants.{OutOfMemory, Refused}
+use Rattle.endings.specs.declared.verdict.Verdict.{Verdict}
 
 -- why the words can't be had, by the kind of the error: memory lacked, or they are no text
 abbrev pub IsRefusedBy : ErrorKind → Refusal → Type 0

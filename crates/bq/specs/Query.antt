@@ -15,7 +15,7 @@ use Rattle.bq.specs.Command.{Command, named}
 use Rattle.bq.specs.Due.{End}
 use Rattle.bq.specs.Ledgers.{about_book, about_ledger}
 use Rattle.bq.specs.declared.given.Given.TheVariants.{Told}
-use Rattle.bq.specs.declared.verdict.Verdict.TheVariants.{Fine}
+use Rattle.endings.specs.declared.verdict.Verdict.TheVariants.{Fine}
 
 -- the name of the ledger, and the text
 abbrev pub words_in : List Row → Option (Text × Text)

@@ -11,10 +11,10 @@ use Rattle.query_tables.specs.Table.{IsTableOf}
 use Rattle.query_verifier.specs.Checking.{IsVerified}
 use Rattle.bq.specs.Due.{End}
 use Rattle.bq.specs.declared.given.Given.TheVariants.{Told}
-use Rattle.bq.specs.declared.refusal.Cause.TheVariants as cause
-use Rattle.bq.specs.declared.refusal.Refusal.{Refusal}
-use Rattle.bq.specs.declared.refusal.Refusal.TheVariants as refusal
-use Rattle.bq.specs.declared.verdict.Verdict.TheVariants.{Fine}
+use Rattle.endings.specs.declared.refusal.Cause.TheVariants as cause
+use Rattle.endings.specs.declared.refusal.Refusal.{Refusal}
+use Rattle.endings.specs.declared.refusal.Refusal.TheVariants as refusal
+use Rattle.endings.specs.declared.verdict.Verdict.TheVariants.{Fine}
 
 -- The postings are outside its bounds; or this is the table of what it comes to over them.
 abbrev pub Ran : Parts → ℕ → Booked → End → Type 0

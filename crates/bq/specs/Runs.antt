@@ -11,15 +11,15 @@ use Rattle.stores.specs.declared.source.SourceFault.TheVariants as store
 use Rattle.bq.specs.Commands.{due, due_to}
 use Rattle.bq.specs.Due.{AreLike, ComesTo, Due, IsOneEnd, is_of_pattern}
 use Rattle.bq.specs.Keeping.{PutsFile, StoreOf}
-use Rattle.bq.specs.Refusal.{line_of, status_of}
-use Rattle.bq.specs.Verdict as verdicts
+use Rattle.endings.specs.Refusal.{line_of, status_of}
+use Rattle.endings.specs.Verdict as verdicts
 use Rattle.bq.specs.declared.given.Given.{Given}
 use Rattle.bq.specs.declared.given.Given.TheVariants.{Told, Kept}
-use Rattle.bq.specs.declared.refusal.Cause.{Cause}
-use Rattle.bq.specs.declared.refusal.Refusal.{Refusal}
-use Rattle.bq.specs.declared.refusal.Refusal.TheVariants as refusal
-use Rattle.bq.specs.declared.verdict.Verdict.{Verdict}
-use Rattle.bq.specs.declared.verdict.Verdict.TheVariants.{Fine}
+use Rattle.endings.specs.declared.refusal.Cause.{Cause}
+use Rattle.endings.specs.declared.refusal.Refusal.{Refusal}
+use Rattle.endings.specs.declared.refusal.Refusal.TheVariants as refusal
+use Rattle.endings.specs.declared.verdict.Verdict.{Verdict}
+use Rattle.endings.specs.declared.verdict.Verdict.TheVariants.{Fine}
 use Rattle.bq.specs.declared.words.Request.{Request}
 
 -- What an output took: of this text so many bytes, from the front on, and the rest refused; or

@@ -10,8 +10,8 @@ use Rattle.bq.specs.Command.{Command, named}
 use Rattle.bq.specs.Due.{End, at_once}
 use Rattle.bq.specs.Files.{about_file}
 use Rattle.bq.specs.declared.given.Given.TheVariants.{Told}
-use Rattle.bq.specs.declared.refusal.Cause.TheVariants.{File}
-use Rattle.bq.specs.declared.verdict.Verdict.TheVariants.{Fine}
+use Rattle.endings.specs.declared.refusal.Cause.TheVariants.{File}
+use Rattle.endings.specs.declared.verdict.Verdict.TheVariants.{Fine}
 
 -- the listing of the program, or why the bytes are no query file
 abbrev pub listed : Result Parts FileCause → End

@@ -5,7 +5,7 @@ use Rattle.query_code.specs.declared.program.Parts.{Parts}
 use Rattle.query_verifier.specs.Checking.{IsUnaccepted, IsVerified}
 use Rattle.query_verifier.specs.declared.cause.VerifierCause.{VerifierCause}
 use Rattle.bq.specs.Due.{Due}
-use Rattle.bq.specs.declared.refusal.Cause.TheVariants.{File}
+use Rattle.endings.specs.declared.refusal.Cause.TheVariants.{File}
 
 -- the bytes are no query file, or that of a program that isn't accepted, and nothing more is asked of
 -- the store; or this is due of their program and the depth of its stack

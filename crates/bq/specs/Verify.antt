@@ -8,7 +8,7 @@ use Rattle.bq.specs.Due.{End, at_once}
 use Rattle.bq.specs.Files.{about_file}
 use Rattle.bq.specs.Verified.{about_program}
 use Rattle.bq.specs.declared.given.Given.TheVariants.{Told}
-use Rattle.bq.specs.declared.verdict.Verdict.TheVariants.{Fine}
+use Rattle.endings.specs.declared.verdict.Verdict.TheVariants.{Fine}
 
 -- the depth of the stack, and the lengths of the sections
 abbrev pub line_by : ℕ → ℕ → ℕ → ℕ → List ℕ

@@ -20,8 +20,8 @@ use crate::commands::check::Checking;
 use crate::commands::ledger::answer_about;
 use crate::commands::list::Listing;
 use crate::given::Given;
-use crate::refusal::Refusal;
 use crate::words::{Request, request_in};
+use endings::Refusal;
 use std::alloc::Global;
 use stores::Source;
 

@@ -1,6 +1,6 @@
 //! What a command gives where it answers.
-use crate::verdict::Verdict;
 use bean_base::{List, Slice};
+use endings::Verdict;
 
 /// What a command gives where it answers.
 #[derive(Debug, Drop)]

@@ -3,9 +3,9 @@
 //! `run_words` is the program over any store and any outputs, and has the promise of the whole:
 //! which answer comes for which words and which texts, what is written with it, and the status.
 //! `words` says what words ask for, and `commands` has a module for what each command answers.
-//! `booking` makes the book of texts, `shown` says what `list` shows of it, `verdict` what its
-//! faults say of it, `refusal` what a user is told where there is no answer. `in_memory` is the
-//! same over a store and outputs of memory, and `main` the program on the host's.
+//! `booking` makes the book of texts, and `shown` says what `list` shows of it; how the program
+//! ends, with an answer or without, is the crate `endings`. `in_memory` is the same over a store and
+//! outputs of memory, and `main` the program on the host's.
 #![tactic(auto)]
 
 ghost use Rattle.std.specs.IoError.{error_kind};
@@ -17,14 +17,12 @@ mod booking;
 mod commands;
 mod given;
 mod in_memory;
-mod refusal;
 mod run;
 mod shown;
-mod verdict;
 mod words;
 
 use crate::arguments::run_args;
-use crate::refusal::{Cause, Refusal};
+use endings::{Cause, Refusal};
 use limits::LARGEST_TEXT;
 use outputs::Stream;
 use std::process::ExitCode;

@@ -6,8 +6,7 @@ ghost use Rattle.bq.specs.Runs.{HaveOneEnd, RefusesExactly, StatusesTell};
 
 use crate::commands::find;
 use crate::given::Given;
-use crate::refusal::Refusal;
-use crate::verdict::Verdict;
+use endings::{Refusal, Verdict};
 use outputs::{Output, write_bytes};
 use std::alloc::Global;
 use stores::{SourceFault, Store};

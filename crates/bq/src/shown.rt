@@ -2,11 +2,12 @@
 ghost use Rattle.std.specs.Prelude.{◌≡◌, ◌<◌, length, map, slice_get, Some};
 ghost use Rattle.bq.specs.Columns as spec;
 ghost use Rattle.bq.specs.List.{shown_row};
+ghost use Rattle.posting_table.specs.Row.{entry_spelling};
+ghost use Rattle.query_values.specs.declared.value.Value.TheVariants as value;
 ghost use Rattle.table_printer.specs.CellText.{row_at};
 
-use posting_table::Ledger;
+use posting_table::{EntryFlag, Ledger};
 use query_columns::Column;
-use query_values::Value;
 use table_printer::{Cell, Rows};
 
 /// Date, flag, account and position of each posting, made from what the ledger lends.
@@ -27,14 +28,46 @@ fn column_at(number: usize) -> Column
     }
 }
 
+/// How a transaction is marked.
+fn flag_cell<'r>(flag: EntryFlag) -> Cell<'r>
+    ensures { result ≡ value.Text (entry_spelling flag) }
+{
+    let spelling: &'r str = flag.spelling();
+    Cell::text(spelling)
+}
+
 impl Postings<'_, '_> {
-    /// What a posting shows in a column.
-    fn value(&self, row: usize, column: usize) -> Value<'_>
-        requires { column < length (row_at (map shown_row self.now.ledger.now.rows) row) }
-        ensures { Some result
-            ≡ slice_get (row_at (map shown_row self.now.ledger.now.rows) row) column }
+    /// The date of a posting.
+    fn date(&self, row: usize) -> Cell<'_>
+        requires { row < length self.now.ledger.now.rows }
+        ensures { Some result ≡ slice_get (row_at (map shown_row self.now.ledger.now.rows) row) 0 }
     {
-        self.ledger.cell(row, column_at(column))
+        Cell::day(self.ledger.date(row))
+    }
+
+    /// How its transaction is marked.
+    fn flag(&self, row: usize) -> Cell<'_>
+        requires { row < length self.now.ledger.now.rows }
+        ensures { Some result ≡ slice_get (row_at (map shown_row self.now.ledger.now.rows) row) 1 }
+    {
+        flag_cell(self.ledger.flag(row))
+    }
+
+    /// The account of a posting.
+    fn account(&self, row: usize) -> Cell<'_>
+        requires { row < length self.now.ledger.now.rows }
+        ensures { Some result ≡ slice_get (row_at (map shown_row self.now.ledger.now.rows) row) 2 }
+    {
+        Cell::text(self.ledger.account(row).text())
+    }
+
+    /// The position of a posting.
+    #[tactic(auto, using(crate::proofs::ShownFacts::position_is_shown))]
+    fn position(&self, row: usize) -> Cell<'_>
+        requires { row < length self.now.ledger.now.rows }
+        ensures { Some result ≡ slice_get (row_at (map shown_row self.now.ledger.now.rows) row) 3 }
+    {
+        Cell::position(self.ledger.key(row), self.ledger.count(row))
     }
 }
 
@@ -58,7 +91,13 @@ impl Rows for Postings<'_, '_> {
         self.ledger.len()
     }
 
+    #[tactic(auto, using(crate::proofs::ShownFacts::in_the_last))]
     fn cell(&self, row: usize, column: usize) -> Cell<'_> {
-        Cell::made(self.value(row, column))
+        match column {
+            0 => self.date(row),
+            1 => self.flag(row),
+            2 => self.account(row),
+            _ => self.position(row),
+        }
     }
 }

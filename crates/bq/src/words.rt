@@ -14,10 +14,10 @@ ghost use Rattle.bq.specs.Commands.{program};
 ghost use Rattle.query_columns.specs.ColumnShape.{AreBounds};
 ghost use Rattle.bq.specs.Named.{AskFor, IsRefusedBy};
 
-use crate::refusal::{Cause, Refusal};
 use bean_base::{List, Slice};
 use clap::error::ErrorKind;
 use clap::{Arg, ArgMatches, Error};
+use endings::{Cause, Refusal};
 use limits::{Bounds, MOST_POSTINGS, MOST_UNITS_DIGITS, MOST_VALUE_DIGITS, Version};
 use std::alloc::{AllocError, Global};
 

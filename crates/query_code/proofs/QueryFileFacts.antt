@@ -10,7 +10,7 @@ use Rattle.query_code.specs.declared.cause.Stop.{Stop}
 use Rattle.query_code.specs.declared.program.Parts.{Parts}
 use Rattle.query_code.specs.ByteForm.{stop}
 use Rattle.query_code.specs.QueryFile.{file, whole, IsFile}
-use Rattle.query_code.proofs.ByteFormFacts.{AreBytes, bind_ok, when_ok}
+use Rattle.query_code.proofs.ByteFormFacts.{AreBytes, bind_ok, ok_is, when_ok}
 use Rattle.query_code.proofs.FieldFacts.{exact_file}
 use Rattle.query_code.proofs.FitsFacts.{parts_set}
 
@@ -46,3 +46,7 @@ pub file_is : (bytes : List ℕ) (q : Parts) → IsFile bytes q → whole bytes 
 file_is bytes q is =
     ∥∥₁_elim is.fits (answer_set (whole bytes) (Ok q))
     (λ fits. ap whole is.written ∙ whole_again q fits)
+
+-- bytes are the file of one program
+pub same_program : (bytes : List ℕ) (p q : Parts) → IsFile bytes p → IsFile bytes q → p ≡ q
+same_program bytes p q is also = ok_is p q (sym (file_is bytes p is) ∙ file_is bytes q also)

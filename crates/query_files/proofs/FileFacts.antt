@@ -2,8 +2,7 @@
 use Rattle.std.proofs.Common.{◌≡◌, ℕ, List, true, Result, Ok, Err, refl, sym, ap, ◌∙◌, subst}
 use Rattle.std.proofs.Math.Logic.{∥∥₁_elim}
 use Rattle.std.proofs.Props.{props}
-use Rattle.query_code.proofs.ByteFormFacts.{ok_is}
-use Rattle.query_code.proofs.QueryFileFacts.{file_is}
+use Rattle.query_code.proofs.QueryFileFacts.{file_is, same_program}
 use Rattle.query_code.specs.QueryFile.{IsFile, decoded, refused}
 use Rattle.query_code.specs.declared.cause.FileCause.{FileCause}
 use Rattle.query_code.specs.declared.program.Parts.{Parts}
@@ -18,9 +17,6 @@ use Rattle.well_shaped.specs.Program.{IsDepth, IsWellShaped}
 
 decodes : (bytes : List ℕ) (p : Parts) → IsFile bytes p → decoded bytes ≡ Ok p
 decodes bytes p is = ap (refused bytes) (file_is bytes p is)
-
-pub same_program : (bytes : List ℕ) (p q : Parts) → IsFile bytes p → IsFile bytes q → p ≡ q
-same_program bytes p q is also = ok_is p q (sym (file_is bytes p is) ∙ file_is bytes q also)
 
 no_file : (bytes : List ℕ) (p : Parts) (f : FileCause) → IsFile bytes p → decoded bytes ≡ Err f → ⊥
 no_file bytes p f is not = let e = sym (decodes bytes p is) ∙ not in cc

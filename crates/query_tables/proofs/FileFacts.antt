@@ -10,10 +10,9 @@ use Rattle.carried_queries.proofs.CarriedFacts.{carries}
 use Rattle.limits.specs.declared.bounds.Bounds.{Bounds}
 use Rattle.posting_table.specs.Ledger.{Ledger}
 use Rattle.posting_table.specs.Rows.{rows_of}
-use Rattle.query_code.proofs.QueryFileFacts.{file_is}
-use Rattle.query_code.specs.QueryFile.{IsFile, whole}
+use Rattle.query_code.proofs.QueryFileFacts.{same_program}
+use Rattle.query_code.specs.QueryFile.{IsFile}
 use Rattle.query_code.specs.Upgrade.{upgraded}
-use Rattle.query_code.specs.declared.cause.Stop.{Stop}
 use Rattle.query_code.specs.declared.program.Parts.{Parts}
 use Rattle.query_machine.specs.declared.cause.RunCause.TheVariants.{OutsideBounds}
 use Rattle.query_rows.specs.Fits.{fits}
@@ -23,14 +22,6 @@ use Rattle.query_tables.specs.declared.cause.AnswerCause.{AnswerCause}
 use Rattle.query_tables.specs.declared.cause.AnswerCause.TheVariants.{NotAccepted, NotRun}
 use Rattle.refusals.specs.declared.refusal.Refusal.{Refusal}
 use Rattle.refusals.specs.declared.refusal.Refusal.TheVariants.{OutOfMemory, Refused}
-
-same_answer : (x : Result Parts Stop) (p q : Parts) → x ≡ Ok p → x ≡ Ok q → p ≡ q
-same_answer x p q e f = cc
-
--- bytes are the file of one program
-pub same_program : (bytes : List ℕ) (p q : Parts) → IsFile bytes p → IsFile bytes q → p ≡ q
-same_program bytes p q x y =
-    same_answer (whole bytes) p q (file_is bytes p x) (file_is bytes q y)
 
 module _ (bytes : List ℕ) (b : Bounds) (q : Query) (are : AreCompiled bytes b q) (p : Parts)
     (is : IsFile bytes p) where

@@ -13,7 +13,7 @@ const MOST_NAMES: u32 = 1_000;
 ///
 /// The permissions of a file that is replaced stay, and where it may not be written to it isn't
 /// replaced.
-pub fn keep<R: Files + AllocGlobal>(rt: &R, name: &str, bytes: &[u8]) -> io::Result<()> {
+pub(crate) fn keep<R: Files + AllocGlobal>(rt: &R, name: &str, bytes: &[u8]) -> io::Result<()> {
     match fs::symlink_metadata(rt, name) {
         Ok(metadata) if metadata.is_file() => {
             let permissions = permissions_of_writable(rt, name)?;

@@ -2,10 +2,9 @@
 use crate::booking::faults_in;
 use crate::commands::ledger::Question;
 use crate::given::Given;
-use crate::refusal::Refusal;
-use crate::verdict::verdict_of;
 use bean_base::List;
 use bean_load::Texts;
+use endings::{Refusal, verdict_of};
 use fault_printer::fault_lines;
 use std::alloc::Global;
 

@@ -5,8 +5,8 @@ ghost use Rattle.bq.specs.Due.{ComesTo};
 ghost use Rattle.query_columns.specs.ColumnShape.{AreBounds};
 
 use crate::given::Given;
-use crate::refusal::Refusal;
 use bean_base::{List, Slice};
+use endings::Refusal;
 use limits::Bounds;
 use query_files::compiled;
 use std::alloc::Global;

@@ -5,8 +5,8 @@ ghost use Rattle.bq.specs.Ledgers.{about_ledger};
 ghost use Rattle.bq.specs.Runs.{Finds};
 
 use crate::given::Given;
-use crate::refusal::Refusal;
 use bean_load::{Texts, gather};
+use endings::Refusal;
 use std::alloc::Global;
 use stores::Source;
 

@@ -2,11 +2,10 @@
 use crate::booking::book_of;
 use crate::commands::ledger::Question;
 use crate::given::Given;
-use crate::refusal::Refusal;
 use crate::shown::Postings;
-use crate::verdict::Verdict;
 use bean_base::List;
 use bean_load::Texts;
+use endings::{Refusal, Verdict};
 use std::alloc::Global;
 use std::mem::forget;
 use table_printer::print;

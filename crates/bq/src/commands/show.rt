@@ -5,9 +5,8 @@ ghost use Rattle.bq.specs.Show.{Shows, show};
 
 use crate::commands::file::file_bytes;
 use crate::given::Given;
-use crate::refusal::Refusal;
-use crate::verdict::Verdict;
 use bean_base::List;
+use endings::{Refusal, Verdict};
 use query_files::listing;
 use std::alloc::Global;
 use stores::Source;

@@ -1,7 +1,7 @@
 //! The table of a query file, which several commands ask for once they have a ledger.
 ghost use Rattle.bq.specs.Ran.{HasTable};
 
-use crate::refusal::{Cause, Refusal};
+use endings::{Cause, Refusal};
 use posting_table::Ledger;
 use query_tables::{AnswerCause, answer_file};
 use std::alloc::Global;

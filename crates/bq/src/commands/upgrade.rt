@@ -8,8 +8,8 @@ ghost use Rattle.bq.specs.Verified.{about_program};
 
 use crate::commands::file::file_bytes;
 use crate::given::Given;
-use crate::refusal::Refusal;
 use bean_base::{List, Slice};
+use endings::Refusal;
 use query_files::upgraded;
 use std::alloc::Global;
 use stores::Source;

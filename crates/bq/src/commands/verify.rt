@@ -7,9 +7,8 @@ ghost use Rattle.bq.specs.Verify.{Verifies, line_by, verify};
 
 use crate::commands::file::file_bytes;
 use crate::given::Given;
-use crate::refusal::Refusal;
-use crate::verdict::Verdict;
 use bean_base::List;
+use endings::{Refusal, Verdict};
 use itoa::Buffer;
 use query_files::{Outline, outlined};
 use std::alloc::{AllocError, Global};

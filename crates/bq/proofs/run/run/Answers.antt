@@ -2,7 +2,7 @@ use Rattle.std.proofs.Common.{Ok, Err, map, refl, sym, subst}
 use Rattle.bq.specs.Commands.{due_to}
 use Rattle.bq.specs.Keeping.{Keeps, store_of}
 use Rattle.bq.specs.Runs.{Runs, deeds, written}
-use Rattle.bq.specs.declared.verdict.Verdict.TheVariants.{Fine}
+use Rattle.endings.specs.declared.verdict.Verdict.TheVariants.{Fine}
 use Rattle.bq.proofs.Outcomes.{converted, is_due, kept, unfound}
 use Rattle.bq.proofs.run.run.Goals as goal
 

@@ -3,7 +3,7 @@ use Rattle.std.specs.declared.alloc.Global.{Global}
 use Rattle.std.specs.declared.vec.Vec.{Vec}
 use Rattle.query_files.specs.Files.{IsNotAccepted, Outlines}
 use Rattle.bq.specs.Accepted.{AcceptsFile}
-use Rattle.bq.specs.Refusal.{unaccepted, unread}
+use Rattle.endings.specs.Refusal.{unaccepted, unread}
 use Rattle.bq.specs.Verified.{about_program}
 use Rattle.bq.proofs.Outcomes.{converted, not_accepted, not_read, of_bytes}
 use Rattle.bq.proofs.commands.batch.accepted_file.Goals as goal

@@ -1,7 +1,7 @@
 use Rattle.std.proofs.Common.{◌≡◌, ◌+◌, arith, drop, [], ◌∷◌, Ok, Err, sym, ◌∙◌, subst}
 use Rattle.std.proofs.lemmas.Grind.{common_steps}
 use Rattle.bq.specs.Accepted.{AcceptsFile, AcceptsFiles}
-use Rattle.bq.specs.declared.refusal.Refusal.TheVariants.{OutOfMemory}
+use Rattle.endings.specs.declared.refusal.Refusal.TheVariants.{OutOfMemory}
 use Rattle.bq.proofs.AcceptedFacts.{SoFar, all_come, begins, ends, goes_on, lacks}
 use Rattle.bq.proofs.Outcomes.{converted}
 use Rattle.bq.proofs.commands.batch.accepted_files.Goals as goal

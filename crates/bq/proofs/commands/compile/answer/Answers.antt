@@ -3,7 +3,7 @@ use Rattle.bql_parser.specs.Asked.{Asked}
 use Rattle.bq.specs.Asking.{about_program_of}
 use Rattle.bq.specs.Compile.{Compiled}
 use Rattle.bq.specs.Due.{ComesTo, at_once}
-use Rattle.bq.specs.Refusal.{uncompiled}
+use Rattle.endings.specs.Refusal.{uncompiled}
 use Rattle.bq.specs.declared.given.Given.TheVariants.{Kept}
 use Rattle.bq.proofs.Outcomes.{converted}
 use Rattle.bq.proofs.Programmed.{uncompilable}

@@ -1,6 +1,6 @@
 use Rattle.std.proofs.Common.{sym, subst}
 use Rattle.bq.specs.Ledgers.{about_ledger}
-use Rattle.bq.specs.Refusal.{unread}
+use Rattle.endings.specs.Refusal.{unread}
 use Rattle.bq.specs.Runs.{Finds}
 use Rattle.bq.proofs.Outcomes.{converted, told, ungathered}
 use Rattle.bq.proofs.commands.ledger.answer_about.Goals as goal

@@ -7,7 +7,7 @@ use Rattle.bq.specs.Asking.{about_program_of}
 use Rattle.bq.specs.Due.{ComesTo}
 use Rattle.bq.specs.Ledgers.{about_book, about_ledger}
 use Rattle.bq.specs.Query.{Answered, FileAnswers, HasBounds}
-use Rattle.bq.specs.Refusal.{uncompiled}
+use Rattle.endings.specs.Refusal.{uncompiled}
 use Rattle.bq.proofs.Outcomes.{converted}
 use Rattle.bq.proofs.Programmed.{answered, has_bounds, of_ledger, programmed, uncompilable}
 use Rattle.bq.proofs.BoundsFacts.{widest_are}

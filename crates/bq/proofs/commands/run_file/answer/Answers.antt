@@ -3,7 +3,7 @@ use Rattle.std.specs.declared.alloc.Global.{Global}
 use Rattle.std.specs.declared.vec.Vec.{Vec}
 use Rattle.stores.proofs.GaveFacts.{gave_behind}
 use Rattle.bq.specs.Due.{ComesTo}
-use Rattle.bq.specs.Refusal.{unread}
+use Rattle.endings.specs.Refusal.{unread}
 use Rattle.bq.specs.RunFile.{of_bytes, run}
 use Rattle.bq.specs.Runs.{Finds}
 use Rattle.bq.proofs.Outcomes.{converted, not_read, of_bytes_and}

@@ -3,7 +3,7 @@ use Rattle.stores.proofs.GaveFacts.{gave_none}
 use Rattle.bq.specs.Due.{ComesTo}
 use Rattle.bq.specs.Ledgers.{about_book, about_ledger}
 use Rattle.bq.specs.Ran.{FileRan, Ran}
-use Rattle.bq.specs.Refusal.{unaccepted}
+use Rattle.endings.specs.Refusal.{unaccepted}
 use Rattle.bq.specs.RunFile.{of_bytes}
 use Rattle.bq.proofs.Outcomes.{converted, not_accepted, of_program, within}
 use Rattle.bq.proofs.Programmed.{of_ledger, ran}

@@ -2,7 +2,7 @@ use Rattle.std.proofs.Common.{ℕ, [], sym, subst}
 use Rattle.std.specs.declared.alloc.Global.{Global}
 use Rattle.std.specs.declared.vec.Vec.{Vec}
 use Rattle.bq.specs.Due.{ComesTo, at_once}
-use Rattle.bq.specs.Refusal.{unread}
+use Rattle.endings.specs.Refusal.{unread}
 use Rattle.bq.specs.Runs.{Finds}
 use Rattle.bq.specs.Verified.{about_program}
 use Rattle.bq.specs.Upgrade.{Upgrades, upgrade}

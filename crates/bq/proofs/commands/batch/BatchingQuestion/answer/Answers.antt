@@ -2,9 +2,9 @@ use Rattle.std.proofs.Common.{inr, length, Ok, sym, ap, ap₂, ◌∙◌, subst}
 use Rattle.bq.specs.Batch.{FilesBatched, text_of, verdict_of}
 use Rattle.bq.specs.Due.{ComesTo}
 use Rattle.bq.specs.Ledgers.{about_book}
-use Rattle.bq.specs.Refusal.{unbooked}
+use Rattle.endings.specs.Refusal.{unbooked}
 use Rattle.bq.specs.declared.given.Given.TheVariants.{Told}
-use Rattle.bq.specs.declared.refusal.Refusal.TheVariants.{OutOfMemory}
+use Rattle.endings.specs.declared.refusal.Refusal.TheVariants.{OutOfMemory}
 use Rattle.bq.proofs.BatchFacts.{fates_for}
 use Rattle.bq.proofs.Outcomes.{converted, not_booked}
 use Rattle.bq.proofs.commands.batch.BatchingQuestion.answer.Goals as goal

@@ -2,8 +2,8 @@ use Rattle.std.proofs.Common.{inr, Ok, sym, ap, ap₂, ◌∙◌, subst}
 use Rattle.fault_printer.specs.Lines.{lines_of}
 use Rattle.bq.specs.Check.{Checked, Checks}
 use Rattle.bq.specs.Due.{ComesTo}
-use Rattle.bq.specs.Refusal.{unbooked}
-use Rattle.bq.specs.Verdict.{verdict_of}
+use Rattle.endings.specs.Refusal.{unbooked}
+use Rattle.endings.specs.Verdict.{verdict_of}
 use Rattle.bq.specs.declared.given.Given.TheVariants.{Told}
 use Rattle.bq.proofs.Outcomes.{converted, not_found}
 use Rattle.bq.proofs.commands.check.CheckingQuestion.answer.Goals as goal

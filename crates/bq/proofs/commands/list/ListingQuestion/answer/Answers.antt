@@ -5,9 +5,9 @@ use Rattle.posting_table.specs.Ledger.{Ledger}
 use Rattle.table_printer.specs.Table.{table_text}
 use Rattle.bq.specs.Due.{ComesTo}
 use Rattle.bq.specs.List.{Listed, Lists, headers, shown_row, table_of}
-use Rattle.bq.specs.Refusal.{unbooked}
+use Rattle.endings.specs.Refusal.{unbooked}
 use Rattle.bq.specs.declared.given.Given.TheVariants.{Told}
-use Rattle.bq.specs.declared.verdict.Verdict.TheVariants.{Fine}
+use Rattle.endings.specs.declared.verdict.Verdict.TheVariants.{Fine}
 use Rattle.bq.proofs.Outcomes.{converted, not_booked}
 use Rattle.bq.proofs.commands.list.ListingQuestion.answer.Goals as goal
 

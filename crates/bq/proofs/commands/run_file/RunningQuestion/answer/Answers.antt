@@ -2,9 +2,9 @@ use Rattle.std.proofs.Common.{inr, Ok, sym, subst}
 use Rattle.bq.specs.Due.{ComesTo}
 use Rattle.bq.specs.Ledgers.{about_book}
 use Rattle.bq.specs.Ran.{FileRan}
-use Rattle.bq.specs.Refusal.{unbooked}
+use Rattle.endings.specs.Refusal.{unbooked}
 use Rattle.bq.specs.declared.given.Given.TheVariants.{Told}
-use Rattle.bq.specs.declared.verdict.Verdict.TheVariants.{Fine}
+use Rattle.endings.specs.declared.verdict.Verdict.TheVariants.{Fine}
 use Rattle.bq.proofs.Outcomes.{converted, not_booked}
 use Rattle.bq.proofs.Programmed.{file_ran, not_run}
 use Rattle.bq.proofs.commands.run_file.RunningQuestion.answer.Goals as goal

@@ -2,8 +2,8 @@
 use Rattle.std.specs.Prelude.{ℕ, Bool, true, false, List}
 use Rattle.bean_base.specs.declared.fault.Fault.{Fault}
 use Rattle.fault_printer.specs.Lines.{are_serious}
-use Rattle.bq.specs.declared.verdict.Verdict.{Verdict}
-use Rattle.bq.specs.declared.verdict.Verdict.TheVariants.{Fine, Faulty, OutsideBounds, OutOfMemory}
+use Rattle.endings.specs.declared.verdict.Verdict.{Verdict}
+use Rattle.endings.specs.declared.verdict.Verdict.TheVariants.{Fine, Faulty, OutsideBounds, OutOfMemory}
 
 abbrev pub verdict_by : Bool → Verdict
 verdict_by true = Faulty

@@ -1,7 +1,7 @@
 //! What an answer says, and the status that tells it.
 ghost use Rattle.std.specs.Prelude.{◌≡◌};
-ghost use Rattle.bq.specs.Verdict.{status_of};
-ghost use Rattle.bq.specs.Verdict as spec;
+ghost use Rattle.endings.specs.Verdict.{status_of};
+ghost use Rattle.endings.specs.Verdict as spec;
 
 use bean_base::Fault;
 use fault_printer::are_serious;

@@ -14,12 +14,12 @@ use Rattle.query_verifier.specs.declared.cause.VerifierCause.{VerifierCause}
 use Rattle.query_verifier.specs.declared.cause.VerifierCause.TheVariants as files
 use Rattle.refusals.specs.declared.refusal.Refusal as refusals
 use Rattle.refusals.specs.declared.refusal.Refusal.TheVariants as refusal
-use Rattle.bq.specs.declared.refusal.Cause.{Cause}
-use Rattle.bq.specs.declared.refusal.Cause.TheVariants.{Words, Load, Text, File}
-use Rattle.bq.specs.declared.refusal.Cause.TheVariants.{TooManyPostings, OutsideBounds}
-use Rattle.bq.specs.declared.refusal.Refusal.{Refusal}
-use Rattle.bq.specs.declared.refusal.Refusal.TheVariants.{OutOfMemory, Refused, NotWritten}
-use Rattle.bq.specs.declared.refusal.Refusal.TheVariants.{NotKept}
+use Rattle.endings.specs.declared.refusal.Cause.{Cause}
+use Rattle.endings.specs.declared.refusal.Cause.TheVariants.{Words, Load, Text, File}
+use Rattle.endings.specs.declared.refusal.Cause.TheVariants.{TooManyPostings, OutsideBounds}
+use Rattle.endings.specs.declared.refusal.Refusal.{Refusal}
+use Rattle.endings.specs.declared.refusal.Refusal.TheVariants.{OutOfMemory, Refused, NotWritten}
+use Rattle.endings.specs.declared.refusal.Refusal.TheVariants.{NotKept}
 
 -- 2 where words or input are refused, 3 where they can't be read
 abbrev pub status_by : Cause → ℕ

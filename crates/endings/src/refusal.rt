@@ -1,6 +1,6 @@
 //! Why the program gives no answer, and the status that it ends with.
 ghost use Rattle.std.specs.Prelude.{◌≡◌, ◌≤◌, length};
-ghost use Rattle.bq.specs.Refusal as rule;
+ghost use Rattle.endings.specs.Refusal as rule;
 
 use arrayvec::ArrayString;
 use bean_book::BookCause;
@@ -84,7 +84,7 @@ pub enum Refusal {
 }
 
 impl From<refusals::Refusal<LoadCause>> for Refusal {
-    ghost use Rattle.bq.specs.Refusal.{unread};
+    ghost use Rattle.endings.specs.Refusal.{unread};
 
     ghost from_gives = { λ refusal own. own ≡ unread refusal };
 
@@ -97,7 +97,7 @@ impl From<refusals::Refusal<LoadCause>> for Refusal {
 }
 
 impl From<refusals::Refusal<FileCause>> for Refusal {
-    ghost use Rattle.bq.specs.Refusal.{undecoded};
+    ghost use Rattle.endings.specs.Refusal.{undecoded};
 
     ghost from_gives = { λ refusal own. own ≡ undecoded refusal };
 
@@ -112,7 +112,7 @@ impl From<refusals::Refusal<FileCause>> for Refusal {
 }
 
 impl From<refusals::Refusal<TextCause>> for Refusal {
-    ghost use Rattle.bq.specs.Refusal.{uncompiled};
+    ghost use Rattle.endings.specs.Refusal.{uncompiled};
 
     ghost from_gives = { λ refusal own. own ≡ uncompiled refusal };
 
@@ -125,7 +125,7 @@ impl From<refusals::Refusal<TextCause>> for Refusal {
 }
 
 impl From<refusals::Refusal<VerifierCause>> for Refusal {
-    ghost use Rattle.bq.specs.Refusal.{unaccepted};
+    ghost use Rattle.endings.specs.Refusal.{unaccepted};
 
     ghost from_gives = { λ refusal own. own ≡ unaccepted refusal };
 
@@ -138,7 +138,7 @@ impl From<refusals::Refusal<VerifierCause>> for Refusal {
 }
 
 impl From<refusals::Refusal<BookCause>> for Refusal {
-    ghost use Rattle.bq.specs.Refusal.{unbooked};
+    ghost use Rattle.endings.specs.Refusal.{unbooked};
 
     ghost from_gives = { λ refusal own. own ≡ unbooked refusal };
 
@@ -153,7 +153,7 @@ impl From<refusals::Refusal<BookCause>> for Refusal {
 }
 
 impl From<refusals::Refusal<RunCause>> for Refusal {
-    ghost use Rattle.bq.specs.Refusal.{unrun};
+    ghost use Rattle.endings.specs.Refusal.{unrun};
 
     ghost from_gives = { λ refusal own. own ≡ unrun refusal };
 
@@ -168,7 +168,7 @@ impl From<refusals::Refusal<RunCause>> for Refusal {
 }
 
 impl From<AllocError> for Refusal {
-    ghost use Rattle.bq.specs.declared.refusal.Refusal.TheVariants.{OutOfMemory};
+    ghost use Rattle.endings.specs.declared.refusal.Refusal.TheVariants.{OutOfMemory};
 
     ghost from_gives = { λ _ own. own ≡ OutOfMemory };
 
