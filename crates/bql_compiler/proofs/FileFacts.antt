@@ -29,10 +29,10 @@ use Rattle.query_code.specs.declared.program.Mode.{Mode}
 use Rattle.query_code.specs.declared.program.Output.{Output}
 use Rattle.query_code.specs.declared.program.Parts.{Parts}
 use Rattle.query_columns.specs.ColumnShape.{AreBounds}
-use Rattle.scheme_shapes.proofs.ListFacts.{both_are, each_is}
-use Rattle.scheme_shapes.proofs.ProgramFacts.{compiled_depth}
-use Rattle.scheme_shapes.proofs.QueryFacts.{IsOfRows, IsPlanned, IsShown, IsTypedTree, inputs_typed}
-use Rattle.scheme_shapes.proofs.QueryFacts.{is_planned}
+use Rattle.bql_scheme.proofs.SchemeListFacts.{both_are, each_is}
+use Rattle.bql_scheme.proofs.ProgramFacts.{compiled_depth}
+use Rattle.bql_scheme.proofs.QueryFacts.{IsOfRows, IsPlanned, IsShown, IsTypedTree, inputs_typed}
+use Rattle.bql_scheme.proofs.QueryFacts.{is_planned}
 use Rattle.well_shaped.specs.Program.{IsWellShaped}
 use Rattle.bql_compiler.specs.Limits.{IsCompiled, IsWithin, code_in}
 use Rattle.bql_compiler.proofs.PlannedFacts.{not_above}

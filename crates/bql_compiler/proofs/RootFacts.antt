@@ -33,7 +33,7 @@ use Rattle.query_code.specs.declared.program.Constant.{Constant}
 use Rattle.query_values.specs.declared.operation.Binary as two
 use Rattle.query_values.specs.declared.operation.Binary.TheVariants as operations
 use Rattle.program_forms.specs.Limits.{TakesFew}
-use Rattle.scheme_shapes.proofs.ListFacts.{both_are}
+use Rattle.bql_scheme.proofs.SchemeListFacts.{both_are}
 
 -- ---- what is computed
 

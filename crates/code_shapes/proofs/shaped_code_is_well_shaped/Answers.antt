@@ -1,5 +1,0 @@
-use Rattle.code_shapes.proofs.ProgramFacts.{is_depth}
-use Rattle.code_shapes.proofs.shaped_code_is_well_shaped.Goals as goal
-
-pub returns : goal.returns
-returns c = λ p filter row last is has room. is_depth p filter row last is room has

@@ -1,2 +1,0 @@
-pub mod CoreShape
-pub mod Shaped

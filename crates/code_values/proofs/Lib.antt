@@ -1,2 +1,0 @@
-pub mod GivesFacts
-pub mod CodeFacts

@@ -1,5 +1,0 @@
-use Rattle.code_values.proofs.CodeFacts.{all_left, one_left}
-use Rattle.code_values.proofs.codes_leave_their_values.Goals as goal
-
-pub returns : goal.returns
-returns c = record { one = one_left; all = all_left }

@@ -1,2 +1,0 @@
-pub mod CoreValue
-pub mod Laws

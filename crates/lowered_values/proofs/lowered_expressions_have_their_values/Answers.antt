@@ -1,6 +1,0 @@
-use Rattle.lowered_values.proofs.LoweredFacts.{lowered_value}
-use Rattle.lowered_values.proofs.lowered_expressions_have_their_values.Goals as goal
-
-pub returns : goal.returns
-returns c = λ b pool l g rows reads t s e small sided counted.
-    lowered_value b pool l g rows reads t s e small sided counted

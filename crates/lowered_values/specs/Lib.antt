@@ -1,3 +1,0 @@
-pub mod Reads
-pub mod Sided
-pub mod Laws
