@@ -1,5 +1,5 @@
 //! Groups by their keys.
-ghost use Rattle.std.specs.Prelude.{◌≡◌, ◌≢◌, ◌<◌, [], None, OnOk, Some, length, slice_get};
+ghost use Rattle.std.specs.Prelude.{◌≡◌, ◌≢◌, ◌<◌, [], IfOk, None, OnOk, Some, length, slice_get};
 ghost use Rattle.plain_machine.specs.Gathering.{put, running_values};
 
 use crate::totals::Totals;
@@ -7,7 +7,7 @@ use indexmap::IndexMap;
 use query_values::{Aggregate, Value};
 use std::alloc::{AllocError, Global};
 use std::marker::Model;
-use value_keys::ValueKey;
+use value_keys::{LentKey, ValueKey};
 
 /// Keys, and what was gathered under them.
 #[derive(Drop)]
@@ -33,6 +33,17 @@ pub struct GroupView<'g, 'r> {
     pub totals: &'g [Value<'r>],
 }
 
+/// Values once more.
+fn copies<'r>(alloc: Global, values: &[Value<'r>]) -> Result<Vec<Value<'r>>, AllocError>
+    ensures { IfOk result (λ copies. copies.items ≡ values.now) }
+{
+    let mut copies = Vec::with_capacity(alloc, values.len())?;
+    for value in values {
+        copies.push(value.clone()?)?;
+    }
+    Ok(copies)
+}
+
 impl<'r> Groups<'r> {
     /// No group. Takes no memory.
     pub fn new(alloc: Global) -> Groups<'r>
@@ -52,21 +63,21 @@ impl<'r> Groups<'r> {
     }
 
     /// Inputs go to the group of their keys; where there is none, a new one stands behind the
-    /// others.
+    /// others, which alone takes keys of its own.
     pub fn put(
         &mut self,
         aggregates: &[Aggregate],
-        keys: Vec<Value<'r>>,
+        keys: &[Value<'r>],
         inputs: &[Value<'r>],
     ) -> Result<(), AllocError>
-        requires { put (running_values aggregates.now) self.old keys.items inputs.now ≢ None }
+        requires { put (running_values aggregates.now) self.old keys.now inputs.now ≢ None }
         ensures { OnOk result
-            (put (running_values aggregates.now) self.old keys.entry.items inputs.now ≡ Some self.new) }
+            (put (running_values aggregates.now) self.old keys.now inputs.now ≡ Some self.new) }
     {
-        let key = ValueKey::new(keys);
-        let Some(index) = self.entries.get_index_of(&key) else {
+        let Some(index) = self.entries.get_index_of(&LentKey::new(keys)) else {
             let mut totals = Totals::start(self.alloc, aggregates)?;
             totals.gather(aggregates, inputs)?;
+            let key = ValueKey::new(copies(self.alloc, keys)?);
             self.entries.insert(key, totals)?;
             return Ok(());
         };

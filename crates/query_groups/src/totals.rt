@@ -29,7 +29,7 @@ fn starts<'r>(alloc: Global, aggregates: &[Aggregate]) -> Result<Vec<Value<'r>>,
 {
     let mut values = Vec::with_capacity(alloc, aggregates.len())?;
     for aggregate in aggregates {
-        values.push(aggregate.start(alloc))?;
+        values.push(aggregate.start(alloc)?)?;
     }
     Ok(values)
 }

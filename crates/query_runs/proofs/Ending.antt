@@ -224,42 +224,10 @@ last_next p k h j n stack within fine is at =
 
 -- ---- the stack of a row section, as keys and inputs above them
 
-module _ (p : Parts) (k : Kept Gathered) (stack left keys inputs : List Value) (above : ℕ)
+module _ (p : Parts) (k : Kept Gathered) (stack keys inputs : List Value)
     (fine : grouped_with (keeps p) p k (reverse stack) ≢ None)
-    (far : above + p.code.keys ≡ length stack) (inputs_are : inputs ≡ reverse (take above stack))
-    (left_are : left ≡ drop above stack) (keys_are : keys ≡ reverse (take p.code.keys left)) where
-  lower : List Value
-  lower = reverse (drop above stack)
-
-  whole : reverse stack ≡ lower ++ inputs
-  unfolding lower
-  whole =
-      ap (λ (l : List Value). reverse l) (sym (take-append-drop above stack))
-      ∙ reverse-append (take above stack) (drop above stack)
-      ∙ ap (λ (l : List Value). reverse (drop above stack) ++ l) (sym inputs_are)
-
-  long : length lower ≡ p.code.keys
-  unfolding lower
-  long = length-reverse (drop above stack) ∙ length_left above stack p.code.keys far
-    where
-      length_left : (n : ℕ) (xs : List Value) (m : ℕ) → n + m ≡ length xs → length (drop n xs) ≡ m
-      length_left n xs m e = omega (arith, length-drop n xs)
-
-  keys_there : keys ≡ take p.code.keys (reverse stack)
-  unfolding lower
-  keys_there =
-      keys_are ∙ ap (λ l. reverse (take p.code.keys l)) left_are
-      ∙ ap (λ (l : List Value). reverse l)
-      (whole_front p.code.keys (drop above stack)
-      (sym (length-reverse (drop above stack)) ∙ long))
-      ∙ sym (ap (take p.code.keys) whole ∙ take_at lower inputs p.code.keys long)
-    where
-      whole_front : (n : ℕ) (xs : List Value) → length xs ≡ n → take n xs ≡ xs
-      whole_front n xs e = take_all n xs (omega arith)
-
-  inputs_there : inputs ≡ drop p.code.keys (reverse stack)
-  inputs_there = sym (ap (drop p.code.keys) whole ∙ drop_at lower inputs p.code.keys long)
-
+    (keys_are : keys ≡ take p.code.keys (reverse stack))
+    (inputs_are : inputs ≡ drop p.code.keys (reverse stack)) where
   put_of : Option (Kept Gathered)
   put_of = option_map (with_groups k) (put (keeps p) k.groups keys inputs)
 
@@ -268,8 +236,8 @@ module _ (p : Parts) (k : Kept Gathered) (stack left keys inputs : List Value) (
   grouped_is =
       by (length (reverse stack) == p.code.keys + inputs_of p.code.aggregates) fine
       ∙ ap (λ ks. option_map (with_groups k) (put (keeps p) k.groups ks
-      (drop p.code.keys (reverse stack)))) (sym keys_there)
-      ∙ ap (λ is. option_map (with_groups k) (put (keeps p) k.groups keys is)) (sym inputs_there)
+      (drop p.code.keys (reverse stack)))) (sym keys_are)
+      ∙ ap (λ is. option_map (with_groups k) (put (keeps p) k.groups keys is)) (sym inputs_are)
     where
       by : (b : Bool)
           → cond b (option_map (with_groups k) (put (keeps p) k.groups
@@ -293,18 +261,17 @@ module _ (p : Parts) (k : Kept Gathered) (stack left keys inputs : List Value) (
 
 -- as many values as keys and inputs together
 pub keys_few : (p : Parts) (k : Kept Gathered) (stack : List Value)
-    → grouped_with (keeps p) p k (reverse stack) ≢ None → p.code.keys ≤ length stack
+    → grouped_with (keeps p) p k (reverse stack) ≢ None → p.code.keys ≤ length (reverse stack)
 keys_few p k stack fine =
     by (length (reverse stack) == p.code.keys + inputs_of p.code.aggregates) refl fine
   where
     by : (b : Bool) → (length (reverse stack) == p.code.keys + inputs_of p.code.aggregates) ≡ b
         → cond b (option_map (with_groups k) (put (keeps p) k.groups
         (take p.code.keys (reverse stack)) (drop p.code.keys (reverse stack)))) None ≢ None
-        → p.code.keys ≤ length stack
+        → p.code.keys ≤ length (reverse stack)
     by true e there =
         omega (
           arith,
           eqb-true (length (reverse stack)) (p.code.keys + inputs_of p.code.aggregates) e,
-          length-reverse stack,
         )
     by false e there = absurd (there refl)

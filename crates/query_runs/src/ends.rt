@@ -66,7 +66,7 @@ fn keep_row(alloc: Global, run: &mut Run<'_>) -> Result<(), AllocError>
 }
 
 /// Gathers what a row section left: keys, and inputs above them.
-fn gather(alloc: Global, input: &Inputs<'_, '_>, run: &mut Run<'_>) -> Result<(), AllocError>
+fn gather(input: &Inputs<'_, '_>, run: &mut Run<'_>) -> Result<(), AllocError>
     requires { grouped_with (keeps input.now.parts.now) input.now.parts.now (kept_in run.old)
         (reverse run.old.frame.stack.values) ≢ None }
     ensures kept { OnOk result (grouped_with (keeps input.now.parts.now) input.now.parts.now
@@ -76,11 +76,9 @@ fn gather(alloc: Global, input: &Inputs<'_, '_>, run: &mut Run<'_>) -> Result<()
     ensures room { run.new.frame.stack.room ≡ run.old.frame.stack.room }
 {
     let count = input.parts.code.keys as usize;
-    let above = run.frame.stack.len() - count;
-    let inputs = run.frame.stack.take_top(alloc, above)?;
-    let keys = run.frame.stack.take_top(alloc, count)?;
+    let (keys, inputs) = run.frame.stack.as_slice().split_at(count);
     run.groups
-        .put(input.parts.code.aggregates.as_slice(), keys, &inputs)
+        .put(input.parts.code.aggregates.as_slice(), keys, inputs)
 }
 
 /// Keeps what a row section left: a row of the answer, or a member of a group.
@@ -95,7 +93,7 @@ fn keep(alloc: Global, input: &Inputs<'_, '_>, run: &mut Run<'_>) -> Result<(), 
 {
     match input.parts.mode {
         Mode::Plain => keep_row(alloc, run),
-        Mode::Grouped => gather(alloc, input, run),
+        Mode::Grouped => gather(input, run),
     }
 }
 

@@ -34,7 +34,7 @@ pub fn start<'r>(
         group: 0,
         frame: Frame::new(alloc, depth)?,
         finders: Finders::new(alloc, patterns)?,
-        running: Aggregate::SumInventory(8).start(alloc),
+        running: Aggregate::SumInventory(8).start(alloc)?,
         groups: Groups::new(alloc),
         rows: Vec::new(alloc),
     };

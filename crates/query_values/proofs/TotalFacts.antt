@@ -1,6 +1,6 @@
 -- Positions that are added one after the other.
-use Rattle.std.proofs.Common.{◌≡◌, ℕ, zero, suc, ◌+◌, ◌<◌, ◌^◌, ℤ, pos, neg_ℤ, ◌+ℤ◌, Bool, true}
-use Rattle.std.proofs.Common.{false, cond, ◌&&◌, IsTrue, List, [], ◌∷◌, ◌++◌, length, map}
+use Rattle.std.proofs.Common.{◌≡◌, ◌<◌, ◌^◌, ℤ, pos, neg_ℤ, ◌+ℤ◌, Bool, true}
+use Rattle.std.proofs.Common.{false, cond, ◌&&◌, IsTrue, List, [], ◌∷◌, ◌++◌, map}
 use Rattle.std.proofs.Common.{unsigned_abs, to_z, of_z, refl, sym, ap, subst, ◌∙◌, arith}
 use Rattle.std.proofs.Common.{All}
 use Rattle.std.proofs.lemmas.Bool.Decides.{nat_tests}

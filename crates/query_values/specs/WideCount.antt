@@ -1,5 +1,5 @@
 -- Which counts and places are a wide number's.
-use Rattle.std.specs.Prelude.{◌^◌, ℕ, ℤ, ◌&&◌, Bool, nat_le, nat_lt}
+use Rattle.std.specs.Prelude.{ℕ, ℤ, ◌&&◌, Bool, nat_le, nat_lt}
 use Rattle.std.specs.Int.RustNames.{unsigned_abs}
 use Rattle.limits.specs.declared.counts.TheConstants.{COUNT_BOUND, MOST_PLACES}
 

@@ -1,6 +1,8 @@
 //! Inventories whose counts have any number of decimals.
-ghost use Rattle.std.specs.Prelude.{◌≡◌, ◌≤◌, [], All, IfOk, IsTrue, map};
-ghost use Rattle.bean_lots.specs.Inventory.{MayBeNegated};
+ghost use Rattle.std.specs.Prelude.{◌≡◌, ◌≤◌, ◌+ℤ◌, [], All, IfOk, IsTrue, OnErr, OnOk, map};
+ghost use Rattle.std.specs.Int.{w128};
+ghost use Rattle.std.specs.Int.RustNames.{FitsSigned};
+ghost use Rattle.bean_lots.specs.Inventory.{MayBeNegated, added, count_of};
 ghost use Rattle.query_values.specs.Total.{adds_up, at_cost, cost_count, cost_currency};
 ghost use Rattle.query_values.specs.Total as spec;
 ghost use Rattle.query_values.specs.Total.{cost_total, is_count, total_from, units_total};
@@ -9,6 +11,7 @@ ghost use Rattle.query_values.specs.Total.{without_lot};
 use bean_base::Currency;
 use bean_lots::{Inventory, Key};
 use std::alloc::{AllocError, Global};
+use std::marker::Model;
 
 /// An inventory, and how many decimals its counts have: they are counts of `10^-places`.
 #[derive(Drop)]
@@ -87,20 +90,7 @@ fn cost_in<'r>(alloc: Global, inventory: &Inventory<'r>) -> Result<Inventory<'r>
 }
 
 impl<'r> Bag<'r> {
-    ghost use Rattle.query_values.specs.Bag.{bag_cost, bag_units, negative_bag};
-
-    /// The inventory of the other sign.
-    pub fn negated(self) -> Bag<'r>
-        requires { All MayBeNegated self.held }
-        ensures { result ≡ negative_bag self.entry }
-    {
-        let mut held = self.held;
-        held.negate();
-        Bag {
-            places: self.places,
-            held,
-        }
-    }
+    ghost use Rattle.query_values.specs.Bag.{bag_cost, bag_units};
 
     /// The inventory without its lots.
     pub fn units(&self, alloc: Global) -> Result<Bag<'r>, AllocError>
@@ -123,5 +113,68 @@ impl<'r> Bag<'r> {
             places: self.places + 8,
             held: cost_in(alloc, &self.held)?,
         })
+    }
+}
+
+/// A bag in memory of its own: values stay small, few of which are bags. Contracts see the bag itself.
+#[derive(Drop)]
+pub struct OwnBag<'r> {
+    place: Box<Bag<'r>>,
+}
+
+impl<'r> Model for OwnBag<'r> {
+    ghost use Rattle.query_values.specs.declared.bag.Bag.{Bag};
+
+    ghost Value = { Bag };
+
+    ghost view = { λ b. b.place.value };
+}
+
+impl Clone for OwnBag<'_> {
+    ghost is_clone = { λ a b. b ≡ a };
+
+    fn clone(&self) -> Result<Self, AllocError> {
+        Ok(OwnBag {
+            place: self.place.clone()?,
+        })
+    }
+}
+
+impl<'r> OwnBag<'r> {
+    ghost use Rattle.query_values.specs.Bag.{negative_bag, with_entry};
+
+    /// The bag in memory of its own.
+    pub fn new(alloc: Global, bag: Bag<'r>) -> Result<OwnBag<'r>, AllocError>
+        ensures { IfOk result (λ b. b ≡ bag.entry) }
+    {
+        Ok(OwnBag {
+            place: Box::new(alloc, bag)?,
+        })
+    }
+
+    /// The bag.
+    pub fn get(&self) -> &Bag<'r>
+        ensures { result.now ≡ self.now }
+    {
+        &self.place
+    }
+
+    /// The inventory of the other sign.
+    pub fn negated(self) -> OwnBag<'r>
+        requires { All MayBeNegated self.held }
+        ensures { result ≡ negative_bag self.entry }
+    {
+        let mut place = self.place;
+        place.held.negate();
+        OwnBag { place }
+    }
+
+    /// Adds to the count under a key. The caller knows that the sum fits.
+    pub fn add(&mut self, key: Key<'r>, count: i128) -> Result<(), AllocError>
+        requires { FitsSigned w128 (count_of self.old.held key +ℤ count) }
+        ensures ok { OnOk result (self.new ≡ with_entry self.old key.entry count) }
+        ensures err { OnErr result (self.new ≡ self.old) }
+    {
+        self.place.held.add(key, count)
     }
 }

@@ -108,7 +108,7 @@ pub fn equal(a: &Value<'_>, b: &Value<'_>) -> bool
         (Value::Position { key: j, count: m }, Value::Position { key: k, count: n }) => {
             same_position(j.get(), *m, k.get(), *n)
         }
-        (Value::Inventory(a), Value::Inventory(b)) => same_bag(a, b),
+        (Value::Inventory(a), Value::Inventory(b)) => same_bag(a.get(), b.get()),
         _ => false,
     }
 }

@@ -1,11 +1,11 @@
 //! What is gathered over the values of a group, one input after the other.
-ghost use Rattle.std.specs.Prelude.{◌≡◌, [], ◌∷◌, ◌++◌, IsTrue, OnOk, OnErr, List};
+ghost use Rattle.std.specs.Prelude.{◌≡◌, [], ◌∷◌, ◌++◌, IfOk, IsTrue, OnOk, OnErr, List};
 ghost use Rattle.query_values.specs.Aggregate.{aggregate_of, counted, gathered, summed, with_more};
 ghost use Rattle.query_values.specs.Held.{is_held};
 ghost use Rattle.query_values.specs.declared.operation.Aggregate.{Aggregate};
 ghost use Rattle.query_values.specs.declared.value.Value.{Value};
 
-use crate::bag::{Bag, bare_key};
+use crate::bag::{Bag, OwnBag, bare_key};
 use crate::comparison::{is_null, less};
 use crate::operation::Aggregate;
 use crate::value::Value;
@@ -49,8 +49,8 @@ fn add_entry<'r>(total: &mut Value<'r>, entry: &Value<'r>) -> Result<(), AllocEr
                 count,
                 currency,
                 ..
-            } => bag.held.add(bare_key(currency.lend()), *count)?,
-            Value::Position { key, count } => bag.held.add(key.get().lend(), *count)?,
+            } => bag.add(bare_key(currency.lend()), *count)?,
+            Value::Position { key, count } => bag.add(key.get().lend(), *count)?,
             _ => {}
         }
     }
@@ -65,23 +65,28 @@ fn take_place<'r>(total: &mut Value<'r>, value: &Value<'r>) -> Result<(), AllocE
     Ok(())
 }
 
+/// The inventory of so many decimals that holds nothing.
+fn empty_bag<'r>(alloc: Global, places: u8) -> Result<OwnBag<'r>, AllocError>
+    ensures { IfOk result (λ b. b ≡ record { places = places; held = [] }) }
+{
+    let held = Inventory::new(alloc);
+    OwnBag::new(alloc, Bag { places, held })
+}
+
 impl Aggregate {
-    /// What is gathered over no value.
-    pub fn start<'r>(self, alloc: Global) -> Value<'r>
-        ensures { result ≡ aggregate_of self [] }
+    /// What is gathered over no value. An inventory takes memory of its own.
+    pub fn start<'r>(self, alloc: Global) -> Result<Value<'r>, AllocError>
+        ensures { IfOk result (λ total. total ≡ aggregate_of self []) }
     {
-        match self {
+        Ok(match self {
             Aggregate::CountRows | Aggregate::Count => Value::Number {
                 places: 0,
                 count: 0,
             },
             Aggregate::Sum(places) => Value::Number { places, count: 0 },
-            Aggregate::SumInventory(places) => Value::Inventory(Bag {
-                places,
-                held: Inventory::new(alloc),
-            }),
+            Aggregate::SumInventory(places) => Value::Inventory(empty_bag(alloc, places)?),
             Aggregate::First | Aggregate::Last | Aggregate::Min | Aggregate::Max => Value::Null,
-        }
+        })
     }
 
     /// Takes one value more. Null is left out, but where rows are counted.

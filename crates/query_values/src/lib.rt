@@ -11,7 +11,7 @@
 //! let mut finder = pattern.finder(alloc)?;                  // one for each run
 //! let is_cash = membership::matches(&account, &mut finder);
 //!
-//! let mut total = Aggregate::SumInventory(8).start(alloc);
+//! let mut total = Aggregate::SumInventory(8).start(alloc)?;
 //! Aggregate::SumInventory(8).add(&mut total, &position)?;   // one input after the other
 //! ```
 //!
@@ -20,7 +20,7 @@
 //! A [`Value`] is null, a truth value, a number, a text, a day, a set of texts, an amount, a
 //! position or an inventory. Names, texts, sets and the keys of positions are lent from where they
 //! are kept ([`Lent`]), so that a value is small and an operation on numbers or texts takes no
-//! memory; an inventory ([`Bag`]) owns its entries. A value is itself what contracts speak of: its
+//! memory; an inventory ([`Bag`]) owns its entries and lies apart ([`OwnBag`]). A value is itself what contracts speak of: its
 //! counts and decimals have no bounds of their own, and `is_held` says which values a machine can
 //! hold.
 //!
@@ -63,7 +63,7 @@ mod pattern;
 mod text_set;
 mod value;
 
-pub use bag::Bag;
+pub use bag::{Bag, OwnBag};
 pub use cause::PatternCause;
 pub use decimal::Decimal;
 pub use lent::Lent;

@@ -10,7 +10,7 @@ ghost use Rattle.query_values.specs.Total.{cost_count, cost_currency, is_count};
 ghost use Rattle.query_values.specs.Unary as spec;
 ghost use Rattle.query_values.specs.declared.value.Value.TheVariants.{Amount};
 
-use crate::bag::{count_at_cost, currency_at_cost};
+use crate::bag::{OwnBag, count_at_cost, currency_at_cost};
 use crate::component::{leaf_of, parent_of, rank_of_root, root_of};
 use crate::value::Value;
 use bean_base::Slice;
@@ -152,7 +152,7 @@ pub fn units<'r>(alloc: Global, x: &Value<'r>) -> Result<Value<'r>, AllocError>
             count: *count,
             currency: key.get().currency.lend(),
         },
-        Value::Inventory(bag) => Value::Inventory(bag.units(alloc)?),
+        Value::Inventory(bag) => Value::Inventory(OwnBag::new(alloc, bag.get().units(alloc)?)?),
         _ => Value::Null,
     })
 }
@@ -176,7 +176,7 @@ pub fn cost<'r>(alloc: Global, x: &Value<'r>) -> Result<Value<'r>, AllocError>
 {
     Ok(match x {
         Value::Position { key, count } => cost_of_units(key.get(), *count),
-        Value::Inventory(bag) => Value::Inventory(bag.cost(alloc)?),
+        Value::Inventory(bag) => Value::Inventory(OwnBag::new(alloc, bag.get().cost(alloc)?)?),
         _ => Value::Null,
     })
 }

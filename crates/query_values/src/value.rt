@@ -1,7 +1,7 @@
 //! The values that queries compute and that stand in the cells of tables.
 ghost use Rattle.std.specs.Prelude.{◌≡◌};
 
-use crate::bag::Bag;
+use crate::bag::OwnBag;
 use crate::lent::Lent;
 use crate::text_set::TextSet;
 use bean_base::{Currency, Day, Slice};
@@ -31,7 +31,7 @@ pub enum Value<'r> {
         key: Lent<'r, Key<'r>>,
         count: i128,
     },
-    Inventory(Bag<'r>),
+    Inventory(OwnBag<'r>),
 }
 
 /// Null.

@@ -33,8 +33,8 @@ pub enum Shown<'r> {
 }
 
 /// What stands in a cell: a text, a day or a position, made when the cell is asked for, or any value
-/// lent from where it is kept. A value may own an inventory and has room for one; a cell lends it, so
-/// that little is moved for each cell. Contracts see the value itself.
+/// lent from where it is kept. A value may own an inventory; a cell lends it, so that nothing is
+/// copied. Contracts see the value itself.
 #[derive(Drop)]
 pub struct Cell<'r> {
     shown: Shown<'r>,
@@ -106,7 +106,7 @@ impl<'r> Cell<'r> {
                 key: key.lend(),
                 count: *count,
             },
-            Value::Inventory(bag) => Shown::Inventory(Lent::new(bag)),
+            Value::Inventory(bag) => Shown::Inventory(Lent::new(bag.get())),
         };
         Cell { shown }
     }

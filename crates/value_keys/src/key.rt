@@ -51,7 +51,7 @@ impl<'r> ValueKey<'r> {
 }
 
 /// Whether two lists have as many values, and each is the same as the other's.
-fn are_same(mut a: &[Value<'_>], mut b: &[Value<'_>]) -> bool
+pub(crate) fn are_same(mut a: &[Value<'_>], mut b: &[Value<'_>]) -> bool
     ensures { result ≡ same_values a.entry.now b.entry.now }
 {
     while let [x, xs @ ..] = a {

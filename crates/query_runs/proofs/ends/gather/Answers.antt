@@ -1,41 +1,33 @@
-use Rattle.std.proofs.Common.{ap, sym, ◌≡◌, ◌∙◌, ◌+◌, ◌-◌, arith, length}
+use Rattle.std.proofs.Common.{ap, sym, subst, ◌≡◌, ◌≤◌, ◌∙◌, drop, length, take}
 use Rattle.std.proofs.lemmas.Result.{on_ok_weaker}
 use Rattle.plain_machine.specs.Gathering.{put, running_values}
 use Rattle.query_runs.specs.Stands.{kept_in}
 use Rattle.query_runs.proofs.Ending.{gathered_is, keys_few, put_there}
 use Rattle.query_runs.proofs.ends.gather.Goals as goal
 
+pub split_at-requires : goal.split_at-requires
+split_at-requires c =
+    subst (λ values. c.args.input.now.parts.now.code.keys ≤ length values) (sym c.as_slice.ensures)
+    (keys_few c.args.input.now.parts.now (kept_in c.args.run.now)
+    c.args.run.now.frame.stack.values c.requires)
+
 pub put-requires : goal.put-requires
 put-requires c = λ none.
-    let stack = c.args.run.now.frame.stack.values in
     let p = c.args.input.now.parts.now in
-    let groups = c.args.run.now.groups in
-    let keys = c.in_ok-keys.keys.items in
-    let inputs = c.in_ok-inputs.inputs.items in
-    let few = keys_few p (kept_in c.args.run.now) stack c.requires in
-    let far : (c.len.result - p.code.keys) + p.code.keys ≡ length stack =
-    omega (arith, few, c.len.ensures) in
-    put_there p (kept_in c.args.run.now) stack c.take_top.new.self.values keys inputs
-    (c.len.result - p.code.keys) c.requires far c.in_ok-inputs.ensures.top
-    c.in_ok-inputs.ensures.rest c.in_ok-keys.ensures.top
-    (ap (λ a. put (running_values a) groups keys inputs) (sym c.as_slice.ensures)
-    ∙ ap (λ i. put (running_values c.as_slice.result.now) groups keys i)
-    (sym c.deref.ensures.value) ∙ none)
+    put_there p (kept_in c.args.run.now) c.args.run.now.frame.stack.values
+    c.split_at.result.0.now c.split_at.result.1.now c.requires
+    (c.split_at.ensures.front ∙ ap (take p.code.keys) c.as_slice.ensures)
+    (c.split_at.ensures.back ∙ ap (drop p.code.keys) c.as_slice.ensures)
+    (ap (λ a. put (running_values a) c.args.run.now.groups c.split_at.result.0.now
+    c.split_at.result.1.now) (sym c.as_slice-2.ensures) ∙ none)
 
 pub returns-clause-kept : goal.returns-clause-kept
 returns-clause-kept c =
-    let stack = c.args.run.now.frame.stack.values in
     let p = c.args.input.now.parts.now in
-    let groups = c.args.run.now.groups in
-    let keys = c.in_ok-keys.keys.items in
-    let inputs = c.in_ok-inputs.inputs.items in
-    let few = keys_few p (kept_in c.args.run.now) stack c.requires in
-    let far : (c.len.result - p.code.keys) + p.code.keys ≡ length stack =
-    omega (arith, few, c.len.ensures) in
     on_ok_weaker c.put.result (λ is.
-    gathered_is p (kept_in c.args.run.now) stack c.take_top.new.self.values keys inputs
-    (c.len.result - p.code.keys) c.requires far c.in_ok-inputs.ensures.top
-    c.in_ok-inputs.ensures.rest c.in_ok-keys.ensures.top c.put.new.self
-    (ap (λ a. put (running_values a) groups keys inputs) (sym c.as_slice.ensures)
-    ∙ ap (λ i. put (running_values c.as_slice.result.now) groups keys i)
-    (sym c.deref.ensures.value) ∙ is)) c.put.ensures
+    gathered_is p (kept_in c.args.run.now) c.args.run.now.frame.stack.values
+    c.split_at.result.0.now c.split_at.result.1.now c.requires
+    (c.split_at.ensures.front ∙ ap (take p.code.keys) c.as_slice.ensures)
+    (c.split_at.ensures.back ∙ ap (drop p.code.keys) c.as_slice.ensures) c.put.new.self
+    (ap (λ a. put (running_values a) c.args.run.now.groups c.split_at.result.0.now
+    c.split_at.result.1.now) (sym c.as_slice-2.ensures) ∙ is)) c.put.ensures

@@ -1,4 +1,4 @@
-use Rattle.std.proofs.Common.{◌≡◌, ◌&&◌, true, false, sym, ap, ◌∙◌}
+use Rattle.std.proofs.Common.{◌&&◌, sym, ap, ◌∙◌}
 use Rattle.std.specs.List.{list_all}
 use Rattle.query_values.specs.Equality.{agree_at}
 use Rattle.query_values.proofs.comparison.agree_in.Goals as goal
