@@ -1,6 +1,7 @@
 use Rattle.std.proofs.Common.{◌≡◌, ℕ, List, [], take, refl, sym, ap, subst, ◌∙◌}
 use Rattle.std.proofs.Common.{arith}
 use Rattle.bean_lots.specs.Slots.{AreDays, positions}
+use Rattle.bean_lots.proofs.CostFacts.{nothing_told}
 use Rattle.bean_lots.proofs.KeptFacts as kept
 use Rattle.bean_lots.proofs.SweepFacts.{same}
 use Rattle.bean_lots.proofs.inventory.slots.Slots.drop_last_holes.Goals as goal
@@ -17,6 +18,7 @@ returns-then-end-eq0-clause-kept c =
     c.end_of_held-end.ensures (omega (arith, c.min-self.ensures))
     (omega (arith, c.min-self.ensures))
     (subst (AreDays c.new-self.result) (sym gone) c.new-self.ensures) refl
+    (nothing_told _ _ refl)
 
 pub returns-then-end-eq0-clause-same : goal.returns-then-end-eq0-clause-same
 returns-then-end-eq0-clause-same c =
@@ -32,6 +34,8 @@ returns-else-end-eq0-clause-kept c =
     (omega (arith, c.min-self.ensures))
     (kept.front_days c.args.self.now end c.truncate.new.self.entries c.requires
     c.truncate.ensures.entries) refl
+    (kept.front_costs c.args.self.now end c.truncate.new.self.entries c.requires
+    c.truncate.ensures.entries)
 
 pub returns-else-end-eq0-clause-same : goal.returns-else-end-eq0-clause-same
 returns-else-end-eq0-clause-same c =

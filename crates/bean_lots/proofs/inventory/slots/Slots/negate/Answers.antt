@@ -9,7 +9,7 @@ use Rattle.std.proofs.lemmas.List.Elements.{recursion_from_All}
 use Rattle.indexmap.specs.IndexMap.{set_value_at}
 use Rattle.bean_lots.specs.Inventory.{MayBeNegated}
 use Rattle.bean_lots.specs.Slots.{positions}
-use Rattle.bean_lots.specs.Signs.{negated, signs_at}
+use Rattle.bean_lots.specs.Signs.{negated, signs_of}
 use Rattle.bean_lots.proofs.ChangedFacts.{all, next, one_more, same_length}
 use Rattle.bean_lots.proofs.NegativeFacts.{fits, held, kept, negative_front}
 use Rattle.bean_lots.proofs.inventory.slots.Slots.negate.Goals as goal
@@ -64,8 +64,8 @@ loop-index-preserved c =
           ∙ one_more neg_ℤ i es n at);
       first = c.loop-index.invariant.first;
       signs = c.loop-index.invariant.signs;
-      days =
-          c.loop-index.invariant.days;
+      days = c.loop-index.invariant.days;
+      costs = c.loop-index.invariant.costs;
     }
 
 pub returns-clause-kept : goal.returns-clause-kept
@@ -77,7 +77,8 @@ returns-clause-kept c =
     ∙ all neg_ℤ s.counts.entries in
     kept s _ c.requires.kept entries c.loop-index.invariant.first c.loop-index.invariant.days
     (λ cur. c.negate.ensures cur
-    ∙ ap (λ x. negated (signs_at x cur)) c.loop-index.invariant.signs)
+    ∙ ap (λ x. negated (signs_of x cur)) c.loop-index.invariant.signs)
+    c.loop-index.invariant.costs
 
 pub returns-clause-negated : goal.returns-clause-negated
 returns-clause-negated c =

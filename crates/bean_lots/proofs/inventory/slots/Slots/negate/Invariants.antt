@@ -8,4 +8,5 @@ invariant-loop-index l = record {
   first : l.self.first ≡ l.initial.self.first;
   signs : l.self.signs ≡ l.initial.self.signs;
   days : l.self.days ≡ l.initial.self.days;
+  costs : l.self.costs ≡ l.initial.self.costs;
 }
