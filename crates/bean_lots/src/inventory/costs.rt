@@ -121,25 +121,40 @@ fn costs_of(alloc: Global, slots: &Slice<'_, Key<'_>, i128>) -> Result<CostDays,
     Ok(costs)
 }
 
-/// The table of some slots: the one that is known, or another where there is none, or where most of
-/// what it tells is of lots that are gone.
+/// The table of some slots: the one that is known, but where most of what it tells is of lots that
+/// are gone. Without one, another is made where slots are many.
 fn table_of(
     alloc: Global,
     known: Option<Box<CostDays>>,
     slots: &Slice<'_, Key<'_>, i128>,
-) -> Result<Box<CostDays>, AllocError>
+) -> Result<Option<Box<CostDays>>, AllocError>
     requires { AreTold known slots.now }
-    ensures { IfOk result (λ costs. AreNoted costs.value slots.now) }
+    ensures { IfOk result (λ costs. AreTold costs slots.now) }
 {
     if let Some(costs) = known {
         if costs.len() / 2 <= slots.len() {
-            return Ok(costs);
+            return Ok(Some(costs));
         }
     }
-    Ok(Box::new(alloc, costs_of(alloc, slots)?)?)
+    if slots.len() < FEW {
+        return Ok(None);
+    }
+    Ok(Some(Box::new(alloc, costs_of(alloc, slots)?)?))
 }
 
-/// The table of some slots and of a key that comes behind them; none where they are few.
+/// The same table once a key comes.
+fn noted(known: Box<CostDays>, key: &Key<'_>) -> Result<Option<Box<CostDays>>, AllocError>
+    ensures own { IfOk result (λ costs. IsTold costs key.now.lot) }
+    ensures others { IfOk result (λ costs. (l : Option LotValue) → IsNoted known.value l
+        → IsTold costs l) }
+{
+    let mut costs = known;
+    costs.note(key)?;
+    Ok(Some(costs))
+}
+
+/// The table of some slots and of a key that comes behind them; none where there are few slots, or
+/// no lots.
 pub(crate) fn costs_with(
     alloc: Global,
     known: Option<Box<CostDays>>,
@@ -150,10 +165,11 @@ pub(crate) fn costs_with(
     ensures slots { IfOk result (λ costs. AreTold costs slots.now) }
     ensures key { IfOk result (λ costs. IsTold costs key.now.lot) }
 {
-    if slots.len() < FEW {
-        return Ok(None);
+    if key.lot.is_none() {
+        return Ok(known);
     }
-    let mut costs = table_of(alloc, known, slots)?;
-    costs.note(key)?;
-    Ok(Some(costs))
+    match table_of(alloc, known, slots)? {
+        Some(costs) => noted(costs, key),
+        None => Ok(None),
+    }
 }
