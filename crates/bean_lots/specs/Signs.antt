@@ -1,12 +1,9 @@
 -- The signs of the lots of a currency, as the program counts them.
 use Rattle.std.specs.Prelude.{ℕ, ℤ, pos, Bool, List, unwrap_or, if◌then◌else◌}
-use Rattle.std.specs.Prelude.{Option, Some, None, Box}
-use Rattle.std.specs.declared.alloc.Global.{Global}
 use Rattle.std.specs.Int.Signed.{lt_z}
 use Rattle.indexmap.specs.IndexMap.{get}
 use Rattle.bean_lots.specs.Lot.{same_text}
 use Rattle.bean_lots.specs.declared.inventory.signs.LotCurrency.{LotCurrency}
-use Rattle.bean_lots.specs.declared.inventory.signs.LotSigns.{LotSigns}
 use Rattle.bean_lots.specs.declared.inventory.signs.Signs.{Signs}
 use Rattle.bean_lots.specs.declared.inventory.signs.SignTable.{SignTable}
 
@@ -27,11 +24,3 @@ same_currency a b = same_text a.currency b.currency
 -- those of the lots of a currency
 abbrev pub signs_at : SignTable → List ℕ → Signs
 signs_at t c = unwrap_or (get same_currency t.by_currency (record { currency = c })) no_signs
-
--- those of the lots of a currency; where there is no table there are no lots
-abbrev pub signs_in : Option (Box SignTable Global) → List ℕ → Signs
-signs_in None c = no_signs
-signs_in (Some t) c = signs_at t.value c
-
-abbrev pub signs_of : LotSigns → List ℕ → Signs
-signs_of s c = signs_in s.table c

@@ -9,7 +9,7 @@ use Rattle.bean_lots.specs.Days.{IsNotBefore}
 use Rattle.bean_lots.specs.Inventory.{held_as, long_lot, short_lot}
 use Rattle.bean_lots.specs.Lot.{same_key}
 use Rattle.bean_lots.specs.Costs.{AreTold}
-use Rattle.bean_lots.specs.Signs.{signs_of}
+use Rattle.bean_lots.specs.Known.{costs_of, signs_of}
 use Rattle.bean_base.specs.declared.days.Day.{Day}
 use Rattle.bean_lots.specs.declared.lot.Cost.{Cost}
 use Rattle.bean_lots.specs.declared.lot.Key.{Key}
@@ -67,7 +67,7 @@ AreDays d es = d.in_order ≡ true → AreInOrder es × AreBy d.latest es
 -- in order they are; what is told of the costs of lots holds
 pub record IsKept (s : Slots) : Type 0 where
   pub holes : AreHoles s.first s.counts.entries
-  pub long : (c : List ℕ) → (signs_of s.signs c).long ≡ in_all (long_lot c) s.counts.entries
-  pub short : (c : List ℕ) → (signs_of s.signs c).short ≡ in_all (short_lot c) s.counts.entries
+  pub long : (c : List ℕ) → (signs_of s.lots c).long ≡ in_all (long_lot c) s.counts.entries
+  pub short : (c : List ℕ) → (signs_of s.lots c).short ≡ in_all (short_lot c) s.counts.entries
   pub days : AreDays s.days s.counts.entries
-  pub costs : AreTold s.costs s.counts.entries
+  pub costs : AreTold (costs_of s.lots) s.counts.entries

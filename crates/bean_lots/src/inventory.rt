@@ -17,6 +17,7 @@ ghost use Rattle.bean_lots.specs.declared.lot.Position.{Position};
 
 mod costs;
 mod days;
+mod known;
 mod part;
 mod positions;
 mod signs;
@@ -90,7 +91,7 @@ impl<'a> Inventory<'a> {
     pub fn has_lot(&self, currency: &Currency<'_>) -> bool
         ensures { result ≡ spec.has_lot currency.now self.now }
     {
-        let signs = self.slots.signs.of(currency);
+        let signs = self.slots.lots.signs_of(currency);
         signs.long > 0 || signs.short > 0
     }
 

@@ -1,10 +1,10 @@
 //! How many lots of each currency are held with a count above 0, and how many with one below.
-ghost use Rattle.std.specs.Prelude.{◌≡◌, ◌+◌, ◌≤◌, ◌<◌, ◌^◌, List, ℕ, IfOk, None, OnOk, OnErr, if◌then◌else◌};
+ghost use Rattle.std.specs.Prelude.{◌≡◌, ◌+◌, ◌≤◌, ◌<◌, ◌^◌, List, ℕ, OnOk, OnErr, if◌then◌else◌};
 ghost use Rattle.bean_lots.specs.Inventory as inventory;
 ghost use Rattle.bean_lots.specs.Inventory.{long_lot, short_lot};
 ghost use Rattle.bean_lots.specs.Lot.{same_text};
 ghost use Rattle.bean_lots.specs.Signs as spec;
-ghost use Rattle.bean_lots.specs.Signs.{no_signs, signs_at, signs_in, signs_of};
+ghost use Rattle.bean_lots.specs.Signs.{no_signs, signs_at};
 
 use crate::lot::Key;
 use bean_base::Currency;
@@ -20,7 +20,7 @@ pub struct Signs {
 
 impl Signs {
     /// No lots.
-    fn none() -> Signs
+    pub(crate) fn none() -> Signs
         ensures { result ≡ no_signs }
     {
         Signs { long: 0, short: 0 }
@@ -121,13 +121,9 @@ impl<'a> SignTable<'a> {
         }
     }
 
-    /// The same table once more.
-    fn copied(&self) -> Result<Box<SignTable<'a>>, AllocError>
-        ensures { IfOk result (λ t. (c : List ℕ) → signs_at t.value c ≡ signs_at self.now c) }
-    {
-        let alloc = *self.by_currency.allocator();
-        let table = self.clone()?;
-        Ok(Box::new(alloc, table)?)
+    /// Where its memory is from.
+    pub(crate) fn allocator(&self) -> Global {
+        *self.by_currency.allocator()
     }
 
     /// The signs of the lots of a currency.
@@ -185,96 +181,6 @@ impl<'a> SignTable<'a> {
         for index in 0..self.by_currency.len() {
             let signs = self.by_currency[index];
             self.by_currency[index] = signs.negated();
-        }
-    }
-}
-
-/// The table that is there, or one of no lots.
-fn table_of<'a>(
-    alloc: Global,
-    table: Option<Box<SignTable<'a>>>,
-) -> Result<Box<SignTable<'a>>, AllocError>
-    ensures ok { IfOk result (λ t. (c : List ℕ) → signs_at t.value c ≡ signs_in table.entry c) }
-    ensures err { OnErr result (table.entry ≡ None) }
-{
-    match table {
-        Some(table) => Ok(table),
-        None => Ok(Box::new(alloc, SignTable::new(alloc))?),
-    }
-}
-
-/// The signs of an inventory's lots. Takes a word until the first lot comes.
-#[derive(Drop)]
-pub(crate) struct LotSigns<'a> {
-    table: Option<Box<SignTable<'a>>>,
-}
-
-impl Clone for LotSigns<'_> {
-    ghost is_clone = { λ a b. (c : List ℕ) → signs_of b c ≡ signs_of a c };
-
-    fn clone(&self) -> Result<Self, AllocError> {
-        match &self.table {
-            Some(table) => Ok(LotSigns {
-                table: Some(table.copied()?),
-            }),
-            None => Ok(LotSigns::none()),
-        }
-    }
-}
-
-impl<'a> LotSigns<'a> {
-    /// No lots. Takes no memory.
-    pub(crate) fn none() -> LotSigns<'a>
-        ensures { (c : List ℕ) → signs_of result c ≡ no_signs }
-    {
-        LotSigns { table: None }
-    }
-
-    /// The signs of the lots of a currency.
-    pub(crate) fn of(&self, currency: &Currency<'_>) -> Signs
-        ensures { result ≡ signs_of self.now currency.now }
-    {
-        match &self.table {
-            Some(table) => table.of(currency),
-            None => Signs::none(),
-        }
-    }
-
-    /// Counts what is held under a key, which becomes another count.
-    pub(crate) fn recount(
-        &mut self,
-        alloc: Global,
-        key: &Key<'a>,
-        before: i128,
-        after: i128,
-    ) -> Result<(), AllocError>
-        requires long { (c : List ℕ) → long_lot c key.now before ≤ (signs_of self.old c).long }
-        requires short { (c : List ℕ) → short_lot c key.now before ≤ (signs_of self.old c).short }
-        requires few_long { (c : List ℕ) → (signs_of self.old c).long < 2 ^ 63 }
-        requires few_short { (c : List ℕ) → (signs_of self.old c).short < 2 ^ 63 }
-        ensures long { OnOk result ((c : List ℕ)
-            → (signs_of self.new c).long + long_lot c key.now before
-            ≡ (signs_of self.old c).long + long_lot c key.now after) }
-        ensures short { OnOk result ((c : List ℕ)
-            → (signs_of self.new c).short + short_lot c key.now before
-            ≡ (signs_of self.old c).short + short_lot c key.now after) }
-        ensures err { OnErr result ((c : List ℕ) → signs_of self.new c ≡ signs_of self.old c) }
-    {
-        if key.lot.is_none() {
-            return Ok(());
-        }
-        let mut table = table_of(alloc, self.table.take())?;
-        let counted = table.recount(key, before, after);
-        self.table = Some(table);
-        counted
-    }
-
-    /// Changes the sign of every count.
-    pub(crate) fn negate(&mut self)
-        ensures { (c : List ℕ) → signs_of self.new c ≡ spec.negated (signs_of self.old c) }
-    {
-        if let Some(table) = &mut self.table {
-            table.negate();
         }
     }
 }

@@ -19,16 +19,17 @@ ghost use Rattle.bean_lots.specs.Part.{HasAllOf};
 ghost use Rattle.bean_lots.specs.Inventory.{long_lot, short_lot};
 ghost use Rattle.bean_lots.specs.AtCost.{is_lot_at};
 ghost use Rattle.bean_lots.specs.Costs.{IsTold};
-ghost use Rattle.bean_lots.specs.Signs.{signs_of};
+ghost use Rattle.bean_lots.specs.Known.{costs_of, signs_of};
 ghost use Rattle.bean_lots.specs.Slots.{IsKept, in_all, is_full};
 ghost use Rattle.bean_lots.specs.Slots as spec;
 ghost use Rattle.bean_lots.specs.declared.lot.Key.{Key as KeyValue};
 
-use super::costs::{CostDays, LotDay, costs_with};
+use super::costs::LotDay;
 use super::days::Days;
+use super::known::KnownLots;
 use super::part::part_on;
 use super::positions::Positions;
-use super::signs::{LotSigns, Signs};
+use super::signs::Signs;
 use crate::lot::{Cost, Key, Lot};
 use bean_base::{Currency, Day};
 use indexmap::IndexMap;
@@ -81,10 +82,8 @@ pub(crate) struct Slots<'a> {
     pub first: usize,
     /// About how many holes there are: how soon they are swept out.
     pub holes: usize,
-    pub signs: LotSigns<'a>,
+    pub lots: KnownLots<'a>,
     pub days: Days,
-    /// Where lots of a cost are found. None where there are few slots.
-    pub costs: Option<Box<CostDays>>,
 }
 
 impl Clone for Slots<'_> {
@@ -95,9 +94,8 @@ impl Clone for Slots<'_> {
             counts: self.counts.clone()?,
             first: self.first,
             holes: self.holes,
-            signs: self.signs.clone()?,
+            lots: self.lots.clone()?,
             days: self.days,
-            costs: None,
         })
     }
 }
@@ -112,9 +110,8 @@ impl<'a> Slots<'a> {
             counts: IndexMap::new(alloc),
             first: 0,
             holes: 0,
-            signs: LotSigns::none(),
+            lots: KnownLots::none(),
             days: Days::new(),
-            costs: None,
         }
     }
 
@@ -142,12 +139,12 @@ impl<'a> Slots<'a> {
 
     /// The signs of the lots of a currency.
     pub(crate) fn signs_of(&self, currency: &Currency<'_>) -> Signs
-        ensures signs { result ≡ signs_of self.now.signs currency.now }
+        ensures signs { result ≡ signs_of self.now.lots currency.now }
         ensures few { length self.now.counts.entries < 2 ^ 63 }
     {
         // There are no more slots than the map has room for.
         let _slots = self.counts.len();
-        self.signs.of(currency)
+        self.lots.signs_of(currency)
     }
 
     /// What is held, in order of entry.
@@ -208,7 +205,7 @@ impl<'a> Slots<'a> {
         self.first = self.first.min(end);
         if end == 0 {
             self.days = Days::new();
-            self.costs = None;
+            self.lots.forget_costs();
         }
     }
 
@@ -222,19 +219,19 @@ impl<'a> Slots<'a> {
         ensures counts { self.new.counts ≡ self.old.counts }
         ensures first { self.new.first ≡ self.old.first }
         ensures days { self.new.days ≡ self.old.days }
-        ensures costs { self.new.costs ≡ self.old.costs }
+        ensures costs { costs_of self.new.lots ≡ costs_of self.old.lots }
         ensures long { OnOk result ((c : List ℕ)
-            → (signs_of self.new.signs c).long + long_lot c key.now before
-            ≡ (signs_of self.old.signs c).long + long_lot c key.now after) }
+            → (signs_of self.new.lots c).long + long_lot c key.now before
+            ≡ (signs_of self.old.lots c).long + long_lot c key.now after) }
         ensures short { OnOk result ((c : List ℕ)
-            → (signs_of self.new.signs c).short + short_lot c key.now before
-            ≡ (signs_of self.old.signs c).short + short_lot c key.now after) }
+            → (signs_of self.new.lots c).short + short_lot c key.now before
+            ≡ (signs_of self.old.lots c).short + short_lot c key.now after) }
         ensures err { OnErr result (IsKept self.new) }
     {
         // There are no more lots than slots, and so few of these that the counts have room.
         let _slots = self.counts.len();
         let alloc = *self.counts.allocator();
-        self.signs.recount(alloc, key, before, after)
+        self.lots.recount(alloc, key, before, after)
     }
 
     /// Writes the count of a key that is held.
@@ -278,7 +275,7 @@ impl<'a> Slots<'a> {
         self.first = 0;
         self.holes = 0;
         // Another table tells of no lot that is gone.
-        self.costs = None;
+        self.lots.forget_costs();
         if self.counts.is_empty() {
             self.days = Days::new();
         }
@@ -301,15 +298,13 @@ impl<'a> Slots<'a> {
         requires { IsKept self.old }
         ensures counts { self.new.counts ≡ self.old.counts }
         ensures first { self.new.first ≡ self.old.first }
-        ensures signs { self.new.signs ≡ self.old.signs }
+        ensures signs { (c : List ℕ) → signs_of self.new.lots c ≡ signs_of self.old.lots c }
         ensures days { self.new.days ≡ self.old.days }
         ensures kept { IsKept self.new }
-        ensures own { OnOk result (IsTold self.new.costs key.now.lot) }
+        ensures own { OnOk result (IsTold (costs_of self.new.lots) key.now.lot) }
     {
         let alloc = *self.counts.allocator();
-        let known = self.costs.take();
-        self.costs = costs_with(alloc, known, &self.counts.as_slice(), key)?;
-        Ok(())
+        self.lots.note(alloc, &self.counts.as_slice(), key)
     }
 
     /// Puts a key that has no slot behind all others.
@@ -392,7 +387,7 @@ impl<'a> Slots<'a> {
         ensures { IfSome result (λ own. own ≡ filter (is_lot_at currency.now cost.now)
             (spec.positions self.now.counts.entries)) }
     {
-        let Some(costs) = &self.costs else {
+        let Some(costs) = self.lots.costs() else {
             return None;
         };
         match costs.day_at(cost.count) {
@@ -436,6 +431,6 @@ impl<'a> Slots<'a> {
             let count = self.counts[index];
             self.counts[index] = -count;
         }
-        self.signs.negate();
+        self.lots.negate();
     }
 }

@@ -17,8 +17,8 @@ returns-then-end-eq0-clause-kept c =
     kept.in_front c.args.self.now _ end c.requires c.truncate.ensures.entries
     c.end_of_held-end.ensures (omega (arith, c.min-self.ensures))
     (omega (arith, c.min-self.ensures))
-    (subst (AreDays c.new-self.result) (sym gone) c.new-self.ensures) refl
-    (nothing_told _ _ refl)
+    (subst (AreDays c.new-self.result) (sym gone) c.new-self.ensures)
+    c.forget_costs.ensures.signs (nothing_told _ _ c.forget_costs.ensures.costs)
 
 pub returns-then-end-eq0-clause-same : goal.returns-then-end-eq0-clause-same
 returns-then-end-eq0-clause-same c =
@@ -33,7 +33,7 @@ returns-else-end-eq0-clause-kept c =
     c.end_of_held-end.ensures (omega (arith, c.min-self.ensures))
     (omega (arith, c.min-self.ensures))
     (kept.front_days c.args.self.now end c.truncate.new.self.entries c.requires
-    c.truncate.ensures.entries) refl
+    c.truncate.ensures.entries) (λ cur. refl)
     (kept.front_costs c.args.self.now end c.truncate.new.self.entries c.requires
     c.truncate.ensures.entries)
 

@@ -5,7 +5,7 @@ use Rattle.std.proofs.lemmas.Int.{ints}
 use Rattle.indexmap.specs.IndexMap.{insert_entry}
 use Rattle.bean_lots.specs.Inventory.{long_lot, short_lot}
 use Rattle.bean_lots.specs.Lot.{same_key}
-use Rattle.bean_lots.specs.Signs.{signs_of}
+use Rattle.bean_lots.specs.Known.{signs_of}
 use Rattle.bean_lots.specs.Slots.{AreDays, positions}
 use Rattle.bean_lots.proofs.SlotFacts.{new_key}
 use Rattle.bean_lots.proofs.KeptFacts as kept
@@ -29,10 +29,10 @@ returns-clause-kept c =
     ∙ ap (insert_entry same_key es k) wide)
     c.recount.ensures.first
     (λ d. c.with-self.ensures es n (subst (λ x. AreDays x es) (sym c.recount.ensures.days) d))
-    (λ cur. subst (λ m. (signs_of t.signs cur).long + long_lot cur k (pos 0)
-    ≡ (signs_of u.signs cur).long + long_lot cur k m) wide (c.in_ok-recount.ensures.long cur))
-    (λ cur. subst (λ m. (signs_of t.signs cur).short + short_lot cur k (pos 0)
-    ≡ (signs_of u.signs cur).short + short_lot cur k m) wide (c.in_ok-recount.ensures.short cur))
+    (λ cur. subst (λ m. (signs_of t.lots cur).long + long_lot cur k (pos 0)
+    ≡ (signs_of u.lots cur).long + long_lot cur k m) wide (c.in_ok-recount.ensures.long cur))
+    (λ cur. subst (λ m. (signs_of t.lots cur).short + short_lot cur k (pos 0)
+    ≡ (signs_of u.lots cur).short + short_lot cur k m) wide (c.in_ok-recount.ensures.short cur))
     c.recount.ensures.costs c.in_ok-note_cost.ensures.own
 
 pub returns-clause-ok : goal.returns-clause-ok

@@ -12,6 +12,7 @@ returns c =
       cases = (
         same,
         λ kept. counted_as_before s _ kept same refl refl
-            c.in_ok-clone-2.ensures.cases (nothing_told _ _ refl),
+            c.in_ok-clone-2.ensures.cases.0
+            (nothing_told _ _ c.in_ok-clone-2.ensures.cases.1),
       );
     }
