@@ -13,11 +13,11 @@ use Rattle.bean_lots.specs.declared.lot.Key.{Key}
 use Rattle.bean_lots.specs.declared.lot.Lot.{Lot}
 use Rattle.bean_lots.proofs.SlotFacts.{is_none}
 
-abbrev All : (Key → Type 0) → List (Key × ℤ) → Type 0
+abbrev pub All : (Key → Type 0) → List (Key × ℤ) → Type 0
 All P es = AllByRecursion {X = Key × ℤ} (λ e. P e.0) es
 
 -- a write keeps the keys
-all_written : (P : Key → Type 0) (es : List (Key × ℤ)) (k : Key) (m n : ℤ)
+pub all_written : (P : Key → Type 0) (es : List (Key × ℤ)) (k : Key) (m n : ℤ)
     → lookup (same_key k) es ≡ Some m → All P es → All P (insert_entry same_key es k n)
 all_written P [] k m n h a = absurd (is_none m (sym h))
 all_written P (e ∷ es) k m n h a =
@@ -47,7 +47,7 @@ pub written : (day : ℤ) (es : List (Key × ℤ)) (k : Key) (m n : ℤ)
 written day es k m n h a =
     (order_written es k m n h a.0, all_written (λ q. IsBy day q.lot) es k m n h a.1)
 
-all_out : (P : Key → Type 0) (t : Key → Bool) (es : List (Key × ℤ)) → All P es
+pub all_out : (P : Key → Type 0) (t : Key → Bool) (es : List (Key × ℤ)) → All P es
     → All P (remove_entry t es)
 all_out P t [] a = tt
 all_out P t (e ∷ es) a = by (t e.0) (all_out P t es a.1)
@@ -71,7 +71,7 @@ pub taken_out : (day : ℤ) (t : Key → Bool) (es : List (Key × ℤ)) → AreI
 taken_out day t es a = (order_out t es a.0, all_out (λ q. IsBy day q.lot) t es a.1)
 
 -- a lot that comes behind all others isn't of an earlier day
-all_pushed : (P : Key → Type 0) (es : List (Key × ℤ)) (k : Key) (n : ℤ) → All P es → P k
+pub all_pushed : (P : Key → Type 0) (es : List (Key × ℤ)) (k : Key) (n : ℤ) → All P es → P k
     → All P (es ++ (k, n) ∷ [])
 all_pushed P [] k n a p = (p, tt)
 all_pushed P (e ∷ es) k n a p = (a.0, all_pushed P es k n a.1 p)

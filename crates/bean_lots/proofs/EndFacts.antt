@@ -30,7 +30,7 @@ holes_in_front (suc n) (suc m) [] a (suc k) p q = absurd a
 holes_in_front (suc n) (suc m) (e ∷ es) a (suc k) p q =
     (a.0, holes_in_front n m es a.1 k (omega (arith, p)) (omega (arith, q)))
 
-all_in_front : {A : Type 0} (P : A → Type 0) (n : ℕ) (xs : List A) → AllByRecursion P xs
+pub all_in_front : {A : Type 0} (P : A → Type 0) (n : ℕ) (xs : List A) → AllByRecursion P xs
     → AllByRecursion P (take n xs)
 all_in_front P zero xs a = tt
 all_in_front P (suc n) [] a = tt

@@ -5,15 +5,17 @@ use Rattle.std.specs.Map.{lookup, remove_entry}
 use Rattle.std.specs.Ordering.{int_eq}
 use Rattle.indexmap.specs.IndexMap.{insert_entry}
 use Rattle.indexmap.proofs.CallerLemmas.{insert_entry-new}
+use Rattle.bean_lots.specs.Costs.{AreTold, IsTold}
 use Rattle.bean_lots.specs.Lot.{same_key}
 use Rattle.bean_lots.specs.Inventory.{long_lot, short_lot}
-use Rattle.bean_lots.specs.Signs.{signs_at}
+use Rattle.bean_lots.specs.Known.{costs_of, signs_of}
 use Rattle.bean_lots.specs.Slots.{AreDays, AreHoles, IsKept, in_all, is_full}
 use Rattle.bean_lots.specs.declared.inventory.slots.Slots.{Slots}
 use Rattle.bean_lots.specs.declared.lot.Key.{Key}
 use Rattle.bean_lots.proofs.SlotFacts as slot
 use Rattle.bean_lots.proofs.TallyFacts as tally
 use Rattle.bean_lots.proofs.DayFacts as day
+use Rattle.bean_lots.proofs.CostFacts as cost
 use Rattle.bean_lots.proofs.EndFacts as end
 use Rattle.bean_lots.proofs.SweepFacts as swept
 
@@ -28,8 +30,9 @@ one_new total all part new none sum z s e f = omega (arith, z, s, e, f)
 -- where nothing is counted anew
 pub counted_as_before : (s t : Slots) → IsKept s → t.counts.entries ≡ s.counts.entries
     → t.first ≡ s.first → t.days ≡ s.days
-    → ((c : List ℕ) → signs_at t.signs c ≡ signs_at s.signs c) → IsKept t
-counted_as_before s t h entries first days signs = record {
+    → ((c : List ℕ) → signs_of t.lots c ≡ signs_of s.lots c)
+    → AreTold (costs_of t.lots) s.counts.entries → IsKept t
+counted_as_before s t h entries first days signs costs = record {
   holes =
       subst (λ i. AreHoles i t.counts.entries) (sym first)
       (subst (AreHoles s.first) (sym entries) h.holes);
@@ -40,17 +43,18 @@ counted_as_before s t h entries first days signs = record {
   days =
       subst (λ d. AreDays d t.counts.entries) (sym days)
       (subst (AreDays s.days) (sym entries) h.days);
+  costs = subst (AreTold (costs_of t.lots)) (sym entries) costs;
 }
 
 pub written : (s t : Slots) (k : Key) (m n : ℤ) → IsKept s
     → lookup (same_key k) s.counts.entries ≡ Some m → int_eq m (pos 0) ≡ false
     → t.counts.entries ≡ insert_entry same_key s.counts.entries k n
-    → t.first ≡ s.first → t.days ≡ s.days
-    → ((c : List ℕ) → (signs_at t.signs c).long + long_lot c k m
-    ≡ (signs_at s.signs c).long + long_lot c k n)
-    → ((c : List ℕ) → (signs_at t.signs c).short + short_lot c k m
-    ≡ (signs_at s.signs c).short + short_lot c k n) → IsKept t
-written s t k m n h there some entries first days long short = record {
+    → t.first ≡ s.first → t.days ≡ s.days → costs_of t.lots ≡ costs_of s.lots
+    → ((c : List ℕ) → (signs_of t.lots c).long + long_lot c k m
+    ≡ (signs_of s.lots c).long + long_lot c k n)
+    → ((c : List ℕ) → (signs_of t.lots c).short + short_lot c k m
+    ≡ (signs_of s.lots c).short + short_lot c k n) → IsKept t
+written s t k m n h there some entries first days costs long short = record {
   holes =
       subst (λ i. AreHoles i t.counts.entries) (sym first)
       (subst (AreHoles s.first) (sym entries)
@@ -67,6 +71,10 @@ written s t k m n h there some entries first days long short = record {
       subst (λ d. AreDays d t.counts.entries) (sym days)
       (subst (AreDays s.days) (sym entries)
       (λ e. day.written s.days.latest s.counts.entries k m n there (h.days e)));
+  costs =
+      subst (λ x. AreTold x t.counts.entries) (sym costs)
+      (subst (AreTold (costs_of s.lots)) (sym entries)
+      (day.all_written (λ q. IsTold (costs_of s.lots) q.lot) s.counts.entries k m n there h.costs));
 }
 
 pub pushed : (s t : Slots) (k : Key) (n : ℤ) → IsKept s
@@ -74,11 +82,12 @@ pub pushed : (s t : Slots) (k : Key) (n : ℤ) → IsKept s
     → t.counts.entries ≡ insert_entry same_key s.counts.entries k n
     → t.first ≡ s.first
     → (AreDays s.days s.counts.entries → AreDays t.days (s.counts.entries ++ (k, n) ∷ []))
-    → ((c : List ℕ) → (signs_at t.signs c).long + long_lot c k (pos 0)
-    ≡ (signs_at s.signs c).long + long_lot c k n)
-    → ((c : List ℕ) → (signs_at t.signs c).short + short_lot c k (pos 0)
-    ≡ (signs_at s.signs c).short + short_lot c k n) → IsKept t
-pushed s t k n h there entries first days long short =
+    → ((c : List ℕ) → (signs_of t.lots c).long + long_lot c k (pos 0)
+    ≡ (signs_of s.lots c).long + long_lot c k n)
+    → ((c : List ℕ) → (signs_of t.lots c).short + short_lot c k (pos 0)
+    ≡ (signs_of s.lots c).short + short_lot c k n)
+    → costs_of t.lots ≡ costs_of s.lots → IsTold (costs_of s.lots) k.lot → IsKept t
+pushed s t k n h there entries first days long short costs own =
     record {
       holes =
           subst (λ i. AreHoles i t.counts.entries) (sym first)
@@ -95,63 +104,74 @@ pushed s t k n h there entries first days long short =
       days =
           subst (AreDays t.days)
           (sym (entries ∙ insert_entry-new same_key s.counts k n there)) (days h.days);
+      costs =
+          subst (λ x. AreTold x t.counts.entries) (sym costs)
+          (subst (AreTold (costs_of s.lots)) (sym (entries ∙ insert_entry-new same_key s.counts k n there))
+          (day.all_pushed (λ q. IsTold (costs_of s.lots) q.lot) s.counts.entries k n h.costs own));
     }
 
 pub hole_out : (s t : Slots) (k : Key) → IsKept s
     → lookup (same_key k) s.counts.entries ≡ Some (pos 0)
     → t.counts.entries ≡ remove_entry (same_key k) s.counts.entries
-    → t.first ≡ s.first - 1 → t.days ≡ s.days → t.signs ≡ s.signs → IsKept t
-hole_out s t k h there entries first days signs = record {
+    → t.first ≡ s.first - 1 → t.days ≡ s.days → t.lots ≡ s.lots → costs_of t.lots ≡ costs_of s.lots → IsKept t
+hole_out s t k h there entries first days signs costs = record {
   holes =
       subst (λ i. AreHoles i t.counts.entries) (sym first)
       (subst (AreHoles (s.first - 1)) (sym entries)
       (slot.holes_out s.first (same_key k) s.counts.entries h.holes));
   long = λ c.
-      ap (λ x. (signs_at x c).long) signs ∙ h.long c
+      ap (λ x. (signs_of x c).long) signs ∙ h.long c
       ∙ sym (tally.taken_out (long_lot c) (tally.not_long c) s.counts.entries k there)
       ∙ ap (in_all (long_lot c)) (sym entries);
   short = λ c.
-      ap (λ x. (signs_at x c).short) signs ∙ h.short c
+      ap (λ x. (signs_of x c).short) signs ∙ h.short c
       ∙ sym (tally.taken_out (short_lot c) (tally.not_short c) s.counts.entries k there)
       ∙ ap (in_all (short_lot c)) (sym entries);
   days =
       subst (λ d. AreDays d t.counts.entries) (sym days)
       (subst (AreDays s.days) (sym entries)
       (λ e. day.taken_out s.days.latest (same_key k) s.counts.entries (h.days e)));
+  costs =
+      subst (λ x. AreTold x t.counts.entries) (sym costs)
+      (subst (AreTold (costs_of s.lots)) (sym entries)
+      (day.all_out (λ q. IsTold (costs_of s.lots) q.lot) (same_key k) s.counts.entries h.costs));
 }
 
 -- without holes
 pub swept_out : (s t : Slots) → IsKept s → t.counts.entries ≡ filter is_full s.counts.entries
-    → t.first ≡ 0 → AreDays t.days t.counts.entries → t.signs ≡ s.signs → IsKept t
-swept_out s t h entries first days signs = record {
+    → t.first ≡ 0 → AreDays t.days t.counts.entries
+    → ((c : List ℕ) → signs_of t.lots c ≡ signs_of s.lots c) → costs_of t.lots ≡ None → IsKept t
+swept_out s t h entries first days signs costs = record {
   holes = subst (λ i. AreHoles i t.counts.entries) (sym first) tt;
   long = λ c.
-      ap (λ x. (signs_at x c).long) signs ∙ h.long c
+      ap (λ x. x.long) (signs c) ∙ h.long c
       ∙ sym (swept.counted (long_lot c) (tally.not_long c) s.counts.entries)
       ∙ ap (in_all (long_lot c)) (sym entries);
   short = λ c.
-      ap (λ x. (signs_at x c).short) signs ∙ h.short c
+      ap (λ x. x.short) (signs c) ∙ h.short c
       ∙ sym (swept.counted (short_lot c) (tally.not_short c) s.counts.entries)
       ∙ ap (in_all (short_lot c)) (sym entries);
   days = days;
+  costs = cost.nothing_told (costs_of t.lots) t.counts.entries costs;
 }
 
 -- a front that has all that is held
 pub in_front : (s t : Slots) (n : ℕ) → IsKept s → t.counts.entries ≡ take n s.counts.entries
     → filter is_full (take n s.counts.entries) ≡ filter is_full s.counts.entries
-    → t.first ≤ s.first → t.first ≤ n → AreDays t.days t.counts.entries → t.signs ≡ s.signs
-    → IsKept t
-in_front s t n h entries full first inside days signs = record {
+    → t.first ≤ s.first → t.first ≤ n → AreDays t.days t.counts.entries
+    → ((c : List ℕ) → signs_of t.lots c ≡ signs_of s.lots c) → AreTold (costs_of t.lots) t.counts.entries → IsKept t
+in_front s t n h entries full first inside days signs costs = record {
   holes =
       subst (AreHoles t.first) (sym entries)
       (end.holes_in_front s.first n s.counts.entries h.holes t.first first inside);
   long = λ c.
-      ap (λ x. (signs_at x c).long) signs ∙ h.long c ∙ same (long_lot c) (tally.not_long c)
+      ap (λ x. x.long) (signs c) ∙ h.long c ∙ same (long_lot c) (tally.not_long c)
       ∙ ap (in_all (long_lot c)) (sym entries);
   short = λ c.
-      ap (λ x. (signs_at x c).short) signs ∙ h.short c ∙ same (short_lot c) (tally.not_short c)
+      ap (λ x. x.short) (signs c) ∙ h.short c ∙ same (short_lot c) (tally.not_short c)
       ∙ ap (in_all (short_lot c)) (sym entries);
   days = days;
+  costs = costs;
 }
   where
     same : (f : Key → ℤ → ℕ) (none : (k : Key) → f k (pos 0) ≡ 0)
@@ -166,20 +186,26 @@ front_days s n es h entries =
     subst (AreDays s.days) (sym entries)
     (λ e. end.days_in_front s.days.latest n s.counts.entries (h.days e))
 
+pub front_costs : (s : Slots) (n : ℕ) (es : List (Key × ℤ)) → IsKept s
+    → es ≡ take n s.counts.entries → AreTold (costs_of s.lots) es
+front_costs s n es h entries =
+    subst (AreTold (costs_of s.lots)) (sym entries)
+    (end.all_in_front {A = Key × ℤ} (λ e. IsTold (costs_of s.lots) e.0.lot) n s.counts.entries h.costs)
+
 pub same_days : (s : Slots) (es : List (Key × ℤ)) → IsKept s
     → es ≡ filter is_full s.counts.entries → AreDays s.days es
 same_days s es h entries =
     subst (AreDays s.days) (sym entries)
     (λ e. swept.days_left s.days.latest s.counts.entries (h.days e))
 
-pub few_long : (s : Slots) → IsKept s → length s.counts.entries < 2 ^ 63 → (c : List ℕ) → (signs_at s.signs c).long < 2 ^ 63
+pub few_long : (s : Slots) → IsKept s → length s.counts.entries < 2 ^ 63 → (c : List ℕ) → (signs_of s.lots c).long < 2 ^ 63
 few_long s h small c =
     let few = tally.few (long_lot c) (tally.one_long c) s.counts.entries in
     let all = h.long c in
     omega (arith, few, all, small)
 
 pub few_short : (s : Slots) → IsKept s → length s.counts.entries < 2 ^ 63 → (c : List ℕ)
-    → (signs_at s.signs c).short < 2 ^ 63
+    → (signs_of s.lots c).short < 2 ^ 63
 few_short s h small c =
     let few = tally.few (short_lot c) (tally.one_short c) s.counts.entries in
     let all = h.short c in

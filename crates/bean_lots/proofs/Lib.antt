@@ -7,6 +7,8 @@ pub mod SignFacts
 pub mod DayFacts
 pub mod EndFacts
 pub mod SweepFacts
+pub mod CostFacts
+pub mod AtCostFacts
 pub mod KeptFacts
 pub mod InventoryFacts
 pub mod NegativeFacts

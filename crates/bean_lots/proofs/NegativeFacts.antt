@@ -12,8 +12,10 @@ use Rattle.bean_lots.specs.Days.{IsNotBefore}
 use Rattle.bean_lots.specs.Inventory.{MayBeNegated, held_as, negative_entry}
 use Rattle.bean_lots.specs.Slots.{AreDays, AreHoles, AreInOrder, IsBy, IsKept, in_all, positions}
 use Rattle.bean_lots.specs.Inventory.{as_long, as_short, long_lot, short_lot}
+use Rattle.bean_lots.specs.Costs.{AreTold, IsTold}
 use Rattle.bean_lots.specs.Lot.{same_text}
-use Rattle.bean_lots.specs.Signs.{negated, signs_at}
+use Rattle.bean_lots.specs.Known.{costs_of, signs_of}
+use Rattle.bean_lots.specs.Signs.{negated}
 use Rattle.bean_lots.specs.declared.inventory.slots.Slots.{Slots}
 use Rattle.bean_lots.specs.declared.lot.Key.{Key}
 use Rattle.bean_lots.proofs.ChangedFacts.{changed, changed_front}
@@ -107,8 +109,9 @@ order (e ∷ es) a = (all_turned (λ q. IsNotBefore e.0.lot q.lot) es a.0, order
 
 pub kept : (s t : Slots) → IsKept s → t.counts.entries ≡ negative s.counts.entries
     → t.first ≡ s.first → t.days ≡ s.days
-    → ((c : List ℕ) → signs_at t.signs c ≡ negated (signs_at s.signs c)) → IsKept t
-kept s t h entries first days signs = record {
+    → ((c : List ℕ) → signs_of t.lots c ≡ negated (signs_of s.lots c)) → costs_of t.lots ≡ costs_of s.lots
+    → IsKept t
+kept s t h entries first days signs costs = record {
   holes =
       subst (λ i. AreHoles i t.counts.entries) (sym first)
       (subst (AreHoles s.first) (sym entries) (holes s.first s.counts.entries h.holes));
@@ -126,4 +129,8 @@ kept s t h entries first days signs = record {
         order s.counts.entries d.0,
         all_turned (λ q. IsBy s.days.latest q.lot) s.counts.entries d.1,
       )));
+  costs =
+      subst (λ x. AreTold x t.counts.entries) (sym costs)
+      (subst (AreTold (costs_of s.lots)) (sym entries)
+      (all_turned (λ q. IsTold (costs_of s.lots) q.lot) s.counts.entries h.costs));
 }

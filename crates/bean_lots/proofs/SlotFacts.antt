@@ -33,7 +33,7 @@ first_slot t (e ∷ es) k n at h =
     index-first t (e ∷ es) 0 (ap (λ (o : Option (Key × ℤ)). t (unwrap_or o e).0) at ∙ h)
 
 -- a key that stands nowhere
-none_there : (es : List (Key × ℤ)) (k : Key)
+pub none_there : (es : List (Key × ℤ)) (k : Key)
     → AllByRecursion {X = Key} (λ q. same_key k q ≡ false) (keys_of es)
     → lookup (same_key k) es ≡ None
 none_there [] k h = refl

@@ -48,7 +48,7 @@ absent t (e ∷ es) h = by (t e.0) refl (int_eq e.1 (pos 0)) h (absent t es)
     by false s false h rest =
         ap (λ b. cond b (Some e.1) (lookup t (filter is_full es))) s ∙ rest h
 
-all_left : (P : Key → Type 0) (es : List (Key × ℤ)) → AllByRecursion {X = Key × ℤ} (λ e. P e.0) es
+pub all_left : (P : Key → Type 0) (es : List (Key × ℤ)) → AllByRecursion {X = Key × ℤ} (λ e. P e.0) es
     → AllByRecursion {X = Key × ℤ} (λ e. P e.0) (filter is_full es)
 all_left P [] a = tt
 all_left P (e ∷ es) a = by (int_eq e.1 (pos 0)) (all_left P es a.1)

@@ -2,5 +2,8 @@ pub mod Lot
 pub mod Inventory
 pub mod Days
 pub mod Signs
+pub mod Costs
+pub mod Known
+pub mod AtCost
 pub mod Slots
 pub mod Part

@@ -8,7 +8,10 @@ use Rattle.bean_base.specs.Day.{number}
 use Rattle.bean_lots.specs.Days.{IsNotBefore}
 use Rattle.bean_lots.specs.Inventory.{held_as, long_lot, short_lot}
 use Rattle.bean_lots.specs.Lot.{same_key}
-use Rattle.bean_lots.specs.Signs.{signs_at}
+use Rattle.bean_lots.specs.Costs.{AreTold}
+use Rattle.bean_lots.specs.Known.{costs_of, signs_of}
+use Rattle.bean_base.specs.declared.days.Day.{Day}
+use Rattle.bean_lots.specs.declared.lot.Cost.{Cost}
 use Rattle.bean_lots.specs.declared.lot.Key.{Key}
 use Rattle.bean_lots.specs.declared.lot.Lot.{Lot}
 use Rattle.bean_lots.specs.declared.lot.Position.{Position}
@@ -26,6 +29,11 @@ is_full e = not (int_eq e.1 (pos 0))
 -- which slot is that of the key
 abbrev pub slot_of : Key → List (Key × ℤ) → Option ℕ
 slot_of k es = position (same_key k) (keys_of es)
+
+-- the key of a lot of that currency, cost and day, without a label
+abbrev pub key_on : List ℕ → Cost → Day → Key
+key_on currency cost day =
+    record { currency = currency; lot = Some (record { cost = cost; day = day; label = None }) }
 
 -- the first n slots are empty
 abbrev pub AreHoles : ℕ → List (Key × ℤ) → Type 0
@@ -56,9 +64,10 @@ abbrev pub AreDays : Days → List (Key × ℤ) → Type 0
 AreDays d es = d.in_order ≡ true → AreInOrder es × AreBy d.latest es
 
 -- the lots of each currency and sign are counted, slots below the first are empty, and where lots are said to be
--- in order they are
+-- in order they are; what is told of the costs of lots holds
 pub record IsKept (s : Slots) : Type 0 where
   pub holes : AreHoles s.first s.counts.entries
-  pub long : (c : List ℕ) → (signs_at s.signs c).long ≡ in_all (long_lot c) s.counts.entries
-  pub short : (c : List ℕ) → (signs_at s.signs c).short ≡ in_all (short_lot c) s.counts.entries
+  pub long : (c : List ℕ) → (signs_of s.lots c).long ≡ in_all (long_lot c) s.counts.entries
+  pub short : (c : List ℕ) → (signs_of s.lots c).short ≡ in_all (short_lot c) s.counts.entries
   pub days : AreDays s.days s.counts.entries
+  pub costs : AreTold (costs_of s.lots) s.counts.entries

@@ -1,9 +1,10 @@
 //! Inventories: what an account holds of each currency, in lots or without one.
 ghost use Rattle.std.specs.Prelude.{All, map, ◌≡◌, ◌+ℤ◌, [], OnOk, OnErr, IsTrue, ◌↔◌, List, ℤ};
-ghost use Rattle.std.specs.Prelude.{◌<◌, ◌^◌, length, pos};
+ghost use Rattle.std.specs.Prelude.{◌<◌, ◌^◌, IfSome, filter, length, pos};
 ghost use Rattle.std.specs.Prelude.{false, if◌then◌else◌};
 ghost use Rattle.std.specs.Int.{w128};
 ghost use Rattle.std.specs.Int.RustNames.{FitsSigned};
+ghost use Rattle.bean_lots.specs.AtCost.{is_lot_at};
 ghost use Rattle.bean_lots.specs.Days.{RiseInDays};
 ghost use Rattle.bean_lots.specs.Inventory.{long_lots, short_lots};
 ghost use Rattle.bean_lots.specs.Inventory as spec;
@@ -14,13 +15,15 @@ ghost use Rattle.bean_lots.specs.Part.{HasAllOf};
 ghost use Rattle.bean_lots.specs.declared.lot.Key.{Key};
 ghost use Rattle.bean_lots.specs.declared.lot.Position.{Position};
 
+mod costs;
 mod days;
+mod known;
 mod part;
 mod positions;
 mod signs;
 mod slots;
 
-use crate::lot::Key;
+use crate::lot::{Cost, Key};
 use bean_base::{Currency, Day};
 pub use positions::Positions;
 pub use signs::Signs;
@@ -88,7 +91,7 @@ impl<'a> Inventory<'a> {
     pub fn has_lot(&self, currency: &Currency<'_>) -> bool
         ensures { result ≡ spec.has_lot currency.now self.now }
     {
-        let signs = self.slots.signs.of(currency);
+        let signs = self.slots.lots.signs_of(currency);
         signs.long > 0 || signs.short > 0
     }
 
@@ -125,6 +128,18 @@ impl<'a> Inventory<'a> {
             Some(day) => self.slots.positions_about(day),
             None => self.positions(),
         }
+    }
+
+    /// The positions of the lots of a currency at a cost, in order of entry, where these are known
+    /// without a look at all that is held.
+    pub fn positions_at(
+        &self,
+        currency: &Currency<'_>,
+        cost: &Cost<'_>,
+    ) -> Option<Positions<'_, 'a>>
+        ensures { IfSome result (λ own. own ≡ filter (is_lot_at currency.now cost.now) self.now) }
+    {
+        self.slots.positions_at(currency, cost)
     }
 
     /// Whether nothing is held. Where it says no, something may have been.

@@ -2,6 +2,7 @@
 ghost use Rattle.std.specs.Prelude.{◌≡◌};
 
 mod after;
+mod by_cost;
 mod last;
 mod queue;
 mod takes;

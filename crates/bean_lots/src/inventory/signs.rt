@@ -20,7 +20,7 @@ pub struct Signs {
 
 impl Signs {
     /// No lots.
-    fn none() -> Signs
+    pub(crate) fn none() -> Signs
         ensures { result ≡ no_signs }
     {
         Signs { long: 0, short: 0 }
@@ -119,6 +119,11 @@ impl<'a> SignTable<'a> {
         SignTable {
             by_currency: IndexMap::new(alloc),
         }
+    }
+
+    /// Where its memory is from.
+    pub(crate) fn allocator(&self) -> Global {
+        *self.by_currency.allocator()
     }
 
     /// The signs of the lots of a currency.

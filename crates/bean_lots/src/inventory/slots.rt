@@ -4,7 +4,7 @@
 //! and all of these are swept out. So a lot that goes costs no more than one that comes. Holes
 //! behind all that is held go at once, so what is looked at from the end is held.
 ghost use Rattle.std.specs.Prelude.{◌≡◌, ◌≢◌, ◌+ℤ◌, ◌+◌, ◌≤◌, All, OnOk, OnErr, Some, None, pos};
-ghost use Rattle.std.specs.Prelude.{map, take, [], List, ℕ, ℤ};
+ghost use Rattle.std.specs.Prelude.{drop, map, take, [], List, ℕ, ℤ};
 ghost use Rattle.std.specs.Prelude.{◌<◌, IfNone, IfSome, IsTrue, filter, length, not, position};
 ghost use Rattle.std.specs.Prelude.{◌^◌, slice_get, true};
 ghost use Rattle.std.specs.Int.{w128};
@@ -17,18 +17,23 @@ ghost use Rattle.bean_lots.specs.Inventory.{negative_entry};
 ghost use Rattle.bean_lots.specs.Lot.{same_key};
 ghost use Rattle.bean_lots.specs.Part.{HasAllOf};
 ghost use Rattle.bean_lots.specs.Inventory.{long_lot, short_lot};
-ghost use Rattle.bean_lots.specs.Signs.{signs_at};
+ghost use Rattle.bean_lots.specs.AtCost.{is_lot_at};
+ghost use Rattle.bean_lots.specs.Costs.{IsTold};
+ghost use Rattle.bean_lots.specs.Known.{costs_of, signs_of};
 ghost use Rattle.bean_lots.specs.Slots.{IsKept, in_all, is_full};
 ghost use Rattle.bean_lots.specs.Slots as spec;
 ghost use Rattle.bean_lots.specs.declared.lot.Key.{Key as KeyValue};
 
+use super::costs::LotDay;
 use super::days::Days;
+use super::known::KnownLots;
 use super::part::part_on;
 use super::positions::Positions;
-use super::signs::{SignTable, Signs};
-use crate::lot::Key;
+use super::signs::Signs;
+use crate::lot::{Cost, Key, Lot};
 use bean_base::{Currency, Day};
 use indexmap::IndexMap;
+use indexmap::map::Slice;
 use std::alloc::{AllocError, Global};
 
 /// Fewer holes are never swept out.
@@ -45,6 +50,30 @@ fn keep_full(counts: &mut IndexMap<Key<'_>, i128>)
     );
 }
 
+/// The key of a lot of a currency that was bought at a cost on a day, without a label.
+fn key_on<'k>(currency: &Currency<'k>, cost: &Cost<'k>, day: Day) -> Key<'k>
+    ensures { result ≡ spec.key_on currency.now cost.now day }
+{
+    Key {
+        currency: currency.lend(),
+        lot: Some(Lot {
+            cost: cost.lend(),
+            day,
+            label: None,
+        }),
+    }
+}
+
+/// What is held in a slot.
+fn held_in<'s, 'a>(slots: &Slice<'s, Key<'a>, i128>, index: usize) -> Positions<'s, 'a>
+    requires { index < length slots.now }
+    ensures { result ≡ spec.positions (take 1 (drop index slots.now)) }
+{
+    let (_, behind) = slots.split_at(index);
+    let (own, _) = behind.split_at(1);
+    Positions::new(own)
+}
+
 /// A slot for each key that is held, and for some that were.
 #[derive(Drop)]
 pub(crate) struct Slots<'a> {
@@ -53,7 +82,7 @@ pub(crate) struct Slots<'a> {
     pub first: usize,
     /// About how many holes there are: how soon they are swept out.
     pub holes: usize,
-    pub signs: SignTable<'a>,
+    pub lots: KnownLots<'a>,
     pub days: Days,
 }
 
@@ -65,7 +94,7 @@ impl Clone for Slots<'_> {
             counts: self.counts.clone()?,
             first: self.first,
             holes: self.holes,
-            signs: self.signs.clone()?,
+            lots: self.lots.clone()?,
             days: self.days,
         })
     }
@@ -81,7 +110,7 @@ impl<'a> Slots<'a> {
             counts: IndexMap::new(alloc),
             first: 0,
             holes: 0,
-            signs: SignTable::new(alloc),
+            lots: KnownLots::none(),
             days: Days::new(),
         }
     }
@@ -110,12 +139,12 @@ impl<'a> Slots<'a> {
 
     /// The signs of the lots of a currency.
     pub(crate) fn signs_of(&self, currency: &Currency<'_>) -> Signs
-        ensures signs { result ≡ signs_at self.now.signs currency.now }
+        ensures signs { result ≡ signs_of self.now.lots currency.now }
         ensures few { length self.now.counts.entries < 2 ^ 63 }
     {
         // There are no more slots than the map has room for.
         let _slots = self.counts.len();
-        self.signs.of(currency)
+        self.lots.signs_of(currency)
     }
 
     /// What is held, in order of entry.
@@ -176,6 +205,7 @@ impl<'a> Slots<'a> {
         self.first = self.first.min(end);
         if end == 0 {
             self.days = Days::new();
+            self.lots.forget_costs();
         }
     }
 
@@ -189,17 +219,19 @@ impl<'a> Slots<'a> {
         ensures counts { self.new.counts ≡ self.old.counts }
         ensures first { self.new.first ≡ self.old.first }
         ensures days { self.new.days ≡ self.old.days }
+        ensures costs { costs_of self.new.lots ≡ costs_of self.old.lots }
         ensures long { OnOk result ((c : List ℕ)
-            → (signs_at self.new.signs c).long + long_lot c key.now before
-            ≡ (signs_at self.old.signs c).long + long_lot c key.now after) }
+            → (signs_of self.new.lots c).long + long_lot c key.now before
+            ≡ (signs_of self.old.lots c).long + long_lot c key.now after) }
         ensures short { OnOk result ((c : List ℕ)
-            → (signs_at self.new.signs c).short + short_lot c key.now before
-            ≡ (signs_at self.old.signs c).short + short_lot c key.now after) }
+            → (signs_of self.new.lots c).short + short_lot c key.now before
+            ≡ (signs_of self.old.lots c).short + short_lot c key.now after) }
         ensures err { OnErr result (IsKept self.new) }
     {
         // There are no more lots than slots, and so few of these that the counts have room.
         let _slots = self.counts.len();
-        self.signs.recount(key, before, after)
+        let alloc = *self.counts.allocator();
+        self.lots.recount(alloc, key, before, after)
     }
 
     /// Writes the count of a key that is held.
@@ -242,6 +274,8 @@ impl<'a> Slots<'a> {
         keep_full(&mut self.counts);
         self.first = 0;
         self.holes = 0;
+        // Another table tells of no lot that is gone.
+        self.lots.forget_costs();
         if self.counts.is_empty() {
             self.days = Days::new();
         }
@@ -259,6 +293,20 @@ impl<'a> Slots<'a> {
         }
     }
 
+    /// Notes the lot of a key that comes, for its cost.
+    fn note_cost(&mut self, key: &Key<'_>) -> Result<(), AllocError>
+        requires { IsKept self.old }
+        ensures counts { self.new.counts ≡ self.old.counts }
+        ensures first { self.new.first ≡ self.old.first }
+        ensures signs { (c : List ℕ) → signs_of self.new.lots c ≡ signs_of self.old.lots c }
+        ensures days { self.new.days ≡ self.old.days }
+        ensures kept { IsKept self.new }
+        ensures own { OnOk result (IsTold (costs_of self.new.lots) key.now.lot) }
+    {
+        let alloc = *self.counts.allocator();
+        self.lots.note(alloc, &self.counts.as_slice(), key)
+    }
+
     /// Puts a key that has no slot behind all others.
     fn push(&mut self, key: Key<'a>, count: i128) -> Result<(), AllocError>
         requires kept { IsKept self.old }
@@ -271,6 +319,7 @@ impl<'a> Slots<'a> {
     {
         // Room comes first, so that the key goes in once its lot is counted.
         self.counts.reserve(1)?;
+        self.note_cost(&key)?;
         self.recount(&key, 0, count)?;
         self.days = self.days.with(&key);
         self.counts.insert(key, count)?;
@@ -316,6 +365,38 @@ impl<'a> Slots<'a> {
         self.counts.get_index_of(key)
     }
 
+    /// What is held under a key.
+    fn positions_of(&self, key: &Key<'_>) -> Positions<'_, 'a>
+        ensures { result ≡ filter (λ e. same_key key.now e.key)
+            (spec.positions self.now.counts.entries) }
+    {
+        let slots = self.counts.as_slice();
+        match self.slot_of(key) {
+            Some(index) => held_in(&slots, index),
+            None => Positions::new(Slice::new()),
+        }
+    }
+
+    /// What is held in lots of a currency at a cost, in order of entry, where that is known.
+    pub(crate) fn positions_at(
+        &self,
+        currency: &Currency<'_>,
+        cost: &Cost<'_>,
+    ) -> Option<Positions<'_, 'a>>
+        requires { IsKept self.now }
+        ensures { IfSome result (λ own. own ≡ filter (is_lot_at currency.now cost.now)
+            (spec.positions self.now.counts.entries)) }
+    {
+        let Some(costs) = self.lots.costs() else {
+            return None;
+        };
+        match costs.day_at(cost.count) {
+            Some(LotDay::On(day)) => Some(self.positions_of(&key_on(currency, cost, day))),
+            Some(LotDay::Several) => None,
+            None => Some(Positions::new(Slice::new())),
+        }
+    }
+
     /// Adds to the count under a key.
     pub(crate) fn add(&mut self, key: Key<'a>, count: i128) -> Result<(), AllocError>
         requires kept { IsKept self.old }
@@ -350,6 +431,6 @@ impl<'a> Slots<'a> {
             let count = self.counts[index];
             self.counts[index] = -count;
         }
-        self.signs.negate();
+        self.lots.negate();
     }
 }

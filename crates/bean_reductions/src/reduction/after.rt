@@ -13,6 +13,7 @@ ghost use Rattle.bean_lots.specs.declared.lot.Position.{Position};
 ghost use Rattle.bean_reductions.specs.Reduction.{Reduces};
 ghost use Rattle.bean_reductions.specs.Take.{units_of};
 
+use super::by_cost::{positions_at_cost, reduce_from};
 use super::last::reduce_last_in;
 use super::queue::{Candidate, push_candidate, selects};
 use super::takes::reduce_candidates;
@@ -108,6 +109,9 @@ pub fn reduce_after<'a>(
         Reduces method (candidates selector.now want (after inventory.now taken.now)) want result }
 {
     let want = units.scaled(8);
+    if let Some(part) = positions_at_cost(inventory, selector) {
+        return reduce_from(alloc, part, taken, selector, want, method);
+    }
     if is_back_enough(inventory, method) {
         return reduce_last_in(alloc, inventory, taken, selector, want);
     }

@@ -1,19 +1,44 @@
-use Rattle.std.proofs.Common.{◌≡◌, ◌<◌, ◌^◌, length, to_z, of_z, arith, subst, sym}
+use Rattle.std.proofs.Common.{◌≡◌, ◌<◌, ◌^◌, length, to_z, of_z, arith, subst, sym, IfSome, List}
+use Rattle.std.proofs.Common.{ℕ, ℤ}
 use Rattle.std.specs.Int.{w128}
 use Rattle.std.specs.Int.RustNames.{unsigned_abs}
 use Rattle.std.specs.List.{AllByRecursion}
 use Rattle.std.proofs.lemmas.Int.{ints}
 use Rattle.bean_base.specs.Decimal.{scaled}
-use Rattle.bean_reductions.specs.After.{IsSmall, after}
+use Rattle.bean_reductions.specs.After.{AreSmall, IsSmall, after}
 use Rattle.bean_reductions.specs.Candidate.{IsHeld, candidates}
 use Rattle.bean_reductions.specs.Front.{IsFront}
 use Rattle.bean_reductions.specs.Reduction.{Reduces}
 use Rattle.bean_reductions.proofs.CandidateFacts.{all_held, wanted}
 use Rattle.bean_reductions.specs.declared.reduction.Method.TheVariants.{Lifo}
 use Rattle.bean_reductions.proofs.FrontFacts.{by_day, front_held, front_some, of_all}
+use Rattle.bean_lots.specs.declared.lot.Position.{Position}
 use Rattle.bean_lots.proofs.PartFacts.{middle}
 use Rattle.bean_reductions.proofs.PartFacts.{same_candidates}
 use Rattle.bean_reductions.proofs.reduction.after.reduce_after.Goals as goal
+
+pub reduce_from-requires-clause-held : goal.reduce_from-requires-clause-held
+reduce_from-requires-clause-held c =
+    let known = c.positions_at_cost.ensures.small in
+    subst (λ o. IfSome o (λ part. (n : ℕ) → AreSmall n c.args.inventory.now → AreSmall n part))
+    c.in-Some.is known _ c.requires.held
+
+pub returns-in-Some : goal.returns-in-Some
+returns-in-Some c =
+    let s = c.args.selector.now in
+    let es = c.args.inventory.now in
+    let taken = c.args.taken.now in
+    let part = c.in-Some.part in
+    let wide = to_z w128 (of_z w128 c.scaled-want.result) in
+    let want : wide ≡ scaled c.args.units.count c.args.units.places 8 =
+    omega (arith, ints, c.scaled-want.ensures.value) in
+    let all =
+    subst (λ o. IfSome o (λ part. (want : ℤ) (taken : List Position)
+    → candidates s want (after part taken) ≡ candidates s want (after es taken)))
+    c.in-Some.is c.positions_at_cost.ensures.all in
+    subst (λ w. Reduces c.args.method (candidates s w (after es taken)) w c.reduce_from.result) want
+    (subst (λ l. Reduces c.args.method l wide c.reduce_from.result) (all wide taken)
+    c.reduce_from.ensures)
 
 pub returns-then-is_back_enough : goal.returns-then-is_back_enough
 returns-then-is_back_enough c =

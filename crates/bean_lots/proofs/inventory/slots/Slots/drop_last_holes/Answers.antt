@@ -1,6 +1,7 @@
 use Rattle.std.proofs.Common.{◌≡◌, ℕ, List, [], take, refl, sym, ap, subst, ◌∙◌}
 use Rattle.std.proofs.Common.{arith}
 use Rattle.bean_lots.specs.Slots.{AreDays, positions}
+use Rattle.bean_lots.proofs.CostFacts.{nothing_told}
 use Rattle.bean_lots.proofs.KeptFacts as kept
 use Rattle.bean_lots.proofs.SweepFacts.{same}
 use Rattle.bean_lots.proofs.inventory.slots.Slots.drop_last_holes.Goals as goal
@@ -16,7 +17,8 @@ returns-then-end-eq0-clause-kept c =
     kept.in_front c.args.self.now _ end c.requires c.truncate.ensures.entries
     c.end_of_held-end.ensures (omega (arith, c.min-self.ensures))
     (omega (arith, c.min-self.ensures))
-    (subst (AreDays c.new-self.result) (sym gone) c.new-self.ensures) refl
+    (subst (AreDays c.new-self.result) (sym gone) c.new-self.ensures)
+    c.forget_costs.ensures.signs (nothing_told _ _ c.forget_costs.ensures.costs)
 
 pub returns-then-end-eq0-clause-same : goal.returns-then-end-eq0-clause-same
 returns-then-end-eq0-clause-same c =
@@ -31,7 +33,9 @@ returns-else-end-eq0-clause-kept c =
     c.end_of_held-end.ensures (omega (arith, c.min-self.ensures))
     (omega (arith, c.min-self.ensures))
     (kept.front_days c.args.self.now end c.truncate.new.self.entries c.requires
-    c.truncate.ensures.entries) refl
+    c.truncate.ensures.entries) (λ cur. refl)
+    (kept.front_costs c.args.self.now end c.truncate.new.self.entries c.requires
+    c.truncate.ensures.entries)
 
 pub returns-else-end-eq0-clause-same : goal.returns-else-end-eq0-clause-same
 returns-else-end-eq0-clause-same c =

@@ -9,7 +9,8 @@ use Rattle.std.proofs.lemmas.List.Elements.{recursion_from_All}
 use Rattle.indexmap.specs.IndexMap.{set_value_at}
 use Rattle.bean_lots.specs.Inventory.{MayBeNegated}
 use Rattle.bean_lots.specs.Slots.{positions}
-use Rattle.bean_lots.specs.Signs.{negated, signs_at}
+use Rattle.bean_lots.specs.Known.{costs_of, signs_of}
+use Rattle.bean_lots.specs.Signs.{negated}
 use Rattle.bean_lots.proofs.ChangedFacts.{all, next, one_more, same_length}
 use Rattle.bean_lots.proofs.NegativeFacts.{fits, held, kept, negative_front}
 use Rattle.bean_lots.proofs.inventory.slots.Slots.negate.Goals as goal
@@ -63,9 +64,8 @@ loop-index-preserved c =
           ∙ ap (λ l. set_value_at l i (neg_ℤ n)) c.loop-index.invariant.entries
           ∙ one_more neg_ℤ i es n at);
       first = c.loop-index.invariant.first;
-      signs = c.loop-index.invariant.signs;
-      days =
-          c.loop-index.invariant.days;
+      lots = c.loop-index.invariant.lots;
+      days = c.loop-index.invariant.days;
     }
 
 pub returns-clause-kept : goal.returns-clause-kept
@@ -76,8 +76,9 @@ returns-clause-kept c =
     c.loop-index.invariant.entries ∙ ap (λ n. negative_front n s.counts.entries) end
     ∙ all neg_ℤ s.counts.entries in
     kept s _ c.requires.kept entries c.loop-index.invariant.first c.loop-index.invariant.days
-    (λ cur. c.negate.ensures cur
-    ∙ ap (λ x. negated (signs_at x cur)) c.loop-index.invariant.signs)
+    (λ cur. c.negate.ensures.signs cur
+    ∙ ap (λ x. negated (signs_of x cur)) c.loop-index.invariant.lots)
+    (c.negate.ensures.costs ∙ ap costs_of c.loop-index.invariant.lots)
 
 pub returns-clause-negated : goal.returns-clause-negated
 returns-clause-negated c =

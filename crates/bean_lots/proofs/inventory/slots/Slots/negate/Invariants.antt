@@ -6,6 +6,6 @@ abbrev pub invariant-loop-index : goal.invariant-loop-index
 invariant-loop-index l = record {
   entries : l.self.counts.entries ≡ negative_front l.index l.initial.self.counts.entries;
   first : l.self.first ≡ l.initial.self.first;
-  signs : l.self.signs ≡ l.initial.self.signs;
+  lots : l.self.lots ≡ l.initial.self.lots;
   days : l.self.days ≡ l.initial.self.days;
 }

@@ -16,7 +16,7 @@ loop-self-preserved c =
             (one_hole_more s.first s.counts.entries h.holes (c.index.ensures ∙ ap Some zero));
         long = h.long;
         short = h.short;
-        days =
-            h.days;
+        days = h.days;
+        costs = h.costs;
       };
     }

@@ -1,10 +1,11 @@
-use Rattle.std.proofs.Common.{◌≡◌, ◌+◌, pos, to_z, of_z, arith, ap, subst, sym, ◌∙◌}
+use Rattle.std.proofs.Common.{◌≡◌, ◌+◌, pos, None, to_z, of_z, arith, ap, subst, sym, ◌∙◌}
 use Rattle.std.specs.Int.{w128}
+use Rattle.std.specs.Map.{lookup}
 use Rattle.std.proofs.lemmas.Int.{ints}
 use Rattle.indexmap.specs.IndexMap.{insert_entry}
 use Rattle.bean_lots.specs.Inventory.{long_lot, short_lot}
 use Rattle.bean_lots.specs.Lot.{same_key}
-use Rattle.bean_lots.specs.Signs.{signs_at}
+use Rattle.bean_lots.specs.Known.{signs_of}
 use Rattle.bean_lots.specs.Slots.{AreDays, positions}
 use Rattle.bean_lots.proofs.SlotFacts.{new_key}
 use Rattle.bean_lots.proofs.KeptFacts as kept
@@ -12,30 +13,36 @@ use Rattle.bean_lots.proofs.inventory.slots.Slots.push.Goals as goal
 
 pub returns-clause-kept : goal.returns-clause-kept
 returns-clause-kept c =
-    let s = c.args.self.now in
-    let es = s.counts.entries in
     let k = c.args.key in
     let n = c.args.count in
     let wide : to_z w128 (of_z w128 n) ≡ n = omega (arith, ints) in
+    let u = c.note_cost.new.self in
+    let es = u.counts.entries in
     let t = c.recount.new.self in
-    let same = ap (λ m. m.entries) c.recount.ensures.counts ∙ c.reserve.ensures.entries in
-    kept.pushed s _ k n c.requires.kept c.requires.absent
+    let noted = ap (λ m. m.entries) c.note_cost.ensures.counts ∙ c.reserve.ensures.entries in
+    let absent : lookup (same_key k) es ≡ None =
+    ap (lookup (same_key k)) noted ∙ c.requires.absent in
+    kept.pushed u _ k n c.note_cost.ensures.kept absent
     (c.in_ok-insert.ensures.entries
-    ∙ ap (λ l. insert_entry same_key l k (to_z w128 (of_z w128 n))) same
+    ∙ ap (λ l. insert_entry same_key l k (to_z w128 (of_z w128 n)))
+    (ap (λ m. m.entries) c.recount.ensures.counts)
     ∙ ap (insert_entry same_key es k) wide)
     c.recount.ensures.first
     (λ d. c.with-self.ensures es n (subst (λ x. AreDays x es) (sym c.recount.ensures.days) d))
-    (λ cur. subst (λ m. (signs_at t.signs cur).long + long_lot cur k (pos 0)
-    ≡ (signs_at s.signs cur).long + long_lot cur k m) wide (c.in_ok-recount.ensures.long cur))
-    (λ cur. subst (λ m. (signs_at t.signs cur).short + short_lot cur k (pos 0)
-    ≡ (signs_at s.signs cur).short + short_lot cur k m) wide (c.in_ok-recount.ensures.short cur))
+    (λ cur. subst (λ m. (signs_of t.lots cur).long + long_lot cur k (pos 0)
+    ≡ (signs_of u.lots cur).long + long_lot cur k m) wide (c.in_ok-recount.ensures.long cur))
+    (λ cur. subst (λ m. (signs_of t.lots cur).short + short_lot cur k (pos 0)
+    ≡ (signs_of u.lots cur).short + short_lot cur k m) wide (c.in_ok-recount.ensures.short cur))
+    c.recount.ensures.costs c.in_ok-note_cost.ensures.own
 
 pub returns-clause-ok : goal.returns-clause-ok
 returns-clause-ok c =
     let es = c.args.self.now.counts.entries in
     let k = c.args.key in
     let wide : to_z w128 (of_z w128 c.args.count) ≡ c.args.count = omega (arith, ints) in
-    let same = ap (λ m. m.entries) c.recount.ensures.counts ∙ c.reserve.ensures.entries in
+    let same =
+    ap (λ m. m.entries) c.recount.ensures.counts
+    ∙ ap (λ m. m.entries) c.note_cost.ensures.counts ∙ c.reserve.ensures.entries in
     ap positions
     (c.in_ok-insert.ensures.entries
     ∙ ap (λ l. insert_entry same_key l k (to_z w128 (of_z w128 c.args.count))) same

@@ -7,7 +7,7 @@ use Rattle.bean_lots.proofs.inventory.slots.Slots.remove_hole.Goals as goal
 pub returns-clause-kept : goal.returns-clause-kept
 returns-clause-kept c =
     kept.hole_out c.args.self.now _ c.args.key.now c.requires.kept c.requires.hole
-    c.shift_remove.ensures.entries c.saturating_sub-self.ensures refl refl
+    c.shift_remove.ensures.entries c.saturating_sub-self.ensures refl refl refl
 
 pub returns-clause-same : goal.returns-clause-same
 returns-clause-same c =

@@ -6,7 +6,7 @@ use Rattle.std.proofs.lemmas.Int.{ints}
 use Rattle.indexmap.specs.IndexMap.{insert_entry, set_value_at}
 use Rattle.bean_lots.specs.Inventory.{long_lot, short_lot}
 use Rattle.bean_lots.specs.Lot.{same_key}
-use Rattle.bean_lots.specs.Signs.{signs_at}
+use Rattle.bean_lots.specs.Known.{signs_of}
 use Rattle.bean_lots.specs.Slots.{in_all, positions}
 use Rattle.bean_lots.proofs.SlotFacts.{held_key}
 use Rattle.bean_lots.proofs.SlotFacts as slot
@@ -43,11 +43,11 @@ pass_holes-requires c =
     ap (λ m. set_value_at m.entries c.args.index n) c.recount.ensures.counts
     ∙ slot.written es k c.args.index n c.requires.at in
     kept.written s _ k c.args.before n c.requires.kept c.requires.count some entries
-    c.recount.ensures.first c.recount.ensures.days
-    (λ cur. subst (λ m. (signs_at t.signs cur).long + long_lot cur k m
-    ≡ (signs_at s.signs cur).long + long_lot cur k n) wide (c.in_ok-recount.ensures.long cur))
-    (λ cur. subst (λ m. (signs_at t.signs cur).short + short_lot cur k m
-    ≡ (signs_at s.signs cur).short + short_lot cur k n) wide (c.in_ok-recount.ensures.short cur))
+    c.recount.ensures.first c.recount.ensures.days c.recount.ensures.costs
+    (λ cur. subst (λ m. (signs_of t.lots cur).long + long_lot cur k m
+    ≡ (signs_of s.lots cur).long + long_lot cur k n) wide (c.in_ok-recount.ensures.long cur))
+    (λ cur. subst (λ m. (signs_of t.lots cur).short + short_lot cur k m
+    ≡ (signs_of s.lots cur).short + short_lot cur k n) wide (c.in_ok-recount.ensures.short cur))
 
 pub returns-then-after-eq0-clause-ok : goal.returns-then-after-eq0-clause-ok
 returns-then-after-eq0-clause-ok c = λ n e.
@@ -77,11 +77,11 @@ returns-else-after-eq0-clause-kept c =
     ap (λ m. set_value_at m.entries c.args.index n) c.recount.ensures.counts
     ∙ slot.written es k c.args.index n c.requires.at in
     kept.written s _ k c.args.before n c.requires.kept c.requires.count some entries
-    c.recount.ensures.first c.recount.ensures.days
-    (λ cur. subst (λ m. (signs_at t.signs cur).long + long_lot cur k m
-    ≡ (signs_at s.signs cur).long + long_lot cur k n) wide (c.in_ok-recount.ensures.long cur))
-    (λ cur. subst (λ m. (signs_at t.signs cur).short + short_lot cur k m
-    ≡ (signs_at s.signs cur).short + short_lot cur k n) wide (c.in_ok-recount.ensures.short cur))
+    c.recount.ensures.first c.recount.ensures.days c.recount.ensures.costs
+    (λ cur. subst (λ m. (signs_of t.lots cur).long + long_lot cur k m
+    ≡ (signs_of s.lots cur).long + long_lot cur k n) wide (c.in_ok-recount.ensures.long cur))
+    (λ cur. subst (λ m. (signs_of t.lots cur).short + short_lot cur k m
+    ≡ (signs_of s.lots cur).short + short_lot cur k n) wide (c.in_ok-recount.ensures.short cur))
 
 pub returns-else-after-eq0-clause-ok : goal.returns-else-after-eq0-clause-ok
 returns-else-after-eq0-clause-ok c = λ n e.

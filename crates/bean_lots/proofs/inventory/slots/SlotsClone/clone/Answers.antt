@@ -1,7 +1,7 @@
 use Rattle.std.proofs.Common.{◌≡◌, refl}
 use Rattle.std.proofs.lemmas.Map.Entries.{entries_from_clone}
 use Rattle.bean_lots.proofs.KeptFacts.{counted_as_before}
-use Rattle.bean_lots.proofs.SignFacts.{same_entries}
+use Rattle.bean_lots.proofs.CostFacts.{nothing_told}
 use Rattle.bean_lots.proofs.inventory.slots.SlotsClone.clone.Goals as goal
 
 pub returns : goal.returns
@@ -12,6 +12,7 @@ returns c =
       cases = (
         same,
         λ kept. counted_as_before s _ kept same refl refl
-            (same_entries s.signs c.in_ok-clone-2.field-0 c.in_ok-clone-2.ensures.cases),
+            c.in_ok-clone-2.ensures.cases.0
+            (nothing_told _ _ c.in_ok-clone-2.ensures.cases.1),
       );
     }
