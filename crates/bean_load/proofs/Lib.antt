@@ -8,5 +8,6 @@ pub mod FolderFacts
 pub mod TopFacts
 pub mod OneGathering
 pub mod LimitedFacts
+pub mod FewFacts
 pub mod SmallFacts
 pub mod Examples

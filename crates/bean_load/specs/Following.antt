@@ -8,7 +8,7 @@ use Rattle.bean_load.specs.Gathering.{Comes}
 use Rattle.bean_load.specs.Texts.{Texts}
 use Rattle.refusals.specs.declared.refusal.Refusal.{Refusal}
 use Rattle.bean_load.specs.declared.cause.LoadCause.{LoadCause}
-use Rattle.refusals.specs.declared.refusal.Refusal.TheVariants.{OutOfMemory, Refused}
+use Rattle.refusals.specs.declared.refusal.Refusal.TheVariants.{OutOfMemory}
 
 -- what is known at the end of a call
 abbrev pub known : {T : Type 0} → Gathered → Result T (Refusal LoadCause) → Result Gathered (Refusal LoadCause)

@@ -5,7 +5,7 @@ ghost use Rattle.bean_load.specs.Loaded as spec;
 ghost use Rattle.bean_load.specs.Loaded.{IsLoaded};
 ghost use Rattle.bean_load.specs.Loading.{AddsParsed, AddsSetting, AreBooks, AreRead};
 ghost use Rattle.bean_load.specs.Loading.{HasOneLoading};
-ghost use Rattle.bean_load.specs.Small.{AreSmall};
+ghost use Rattle.bean_load.specs.Small.{AreFew, AreSmall};
 
 use crate::order::{order_directives, order_settings};
 use crate::placed::{Own, Placed, add_directives, add_settings, parts_of};
@@ -25,7 +25,8 @@ pub struct MethodLine<'a> {
 }
 
 /// What the texts of a ledger say together, as [`load`] gives it. What a directive holds is no
-/// larger than a text may be ([`bean_parser::texts_say_what_is_small`]).
+/// larger than a text may be ([`bean_parser::texts_say_what_is_small`]), and there are no more
+/// directives than all texts may have bytes, [`crate::LARGEST_LEDGER`].
 #[derive(Drop)]
 pub struct Loaded<'a> {
     directives: Vec<Apart<Placed<Directive<'a>>>>,
@@ -37,7 +38,7 @@ pub struct Loaded<'a> {
 
 impl<'a> Model for Loaded<'a> {
     ghost use Rattle.bean_load.specs.Loaded as spec;
-    ghost use Rattle.bean_load.specs.Small.{AreSmall};
+    ghost use Rattle.bean_load.specs.Small.{AreLimitedDirectives};
 
     ghost Value = { spec.Loaded };
 
@@ -49,7 +50,7 @@ impl<'a> Model for Loaded<'a> {
       methods = l.methods.items;
     } };
 
-    ghost invariant = { λ l. AreSmall l.directives.items };
+    ghost invariant = { λ l. AreLimitedDirectives l.directives.items };
 }
 
 impl<'a> Loaded<'a> {
@@ -57,6 +58,7 @@ impl<'a> Loaded<'a> {
     pub fn directives(&self) -> &[Apart<Placed<Directive<'a>>>]
         ensures directives { result.now ≡ self.now.directives }
         ensures small { AreSmall self.now.directives }
+        ensures few { AreFew self.now.directives }
     {
         &self.directives
     }
@@ -65,6 +67,7 @@ impl<'a> Loaded<'a> {
     pub fn into_directives(self) -> Vec<Apart<Placed<Directive<'a>>>>
         ensures directives { result.items ≡ self.entry.directives }
         ensures small { AreSmall self.entry.directives }
+        ensures few { AreFew self.entry.directives }
     {
         self.directives
     }
@@ -195,6 +198,7 @@ fn books_of<'a>(alloc: Global, settings: &[Placed<Setting<'a>>]) -> Result<Books
 fn read_all(alloc: Global, texts: &Texts) -> Result<Read<'_>, AllocError>
     ensures read { IfOk result (AreRead texts.now) }
     ensures small { IfOk result (λ read. AreSmall read.directives.items) }
+    ensures few { IfOk result (λ read. AreFew read.directives.items) }
 {
     let mut read = Read {
         directives: Vec::new(alloc),

@@ -32,7 +32,8 @@ pub struct Part {
     pub behind: usize,
 }
 
-/// The texts of a ledger, as [`crate::gather`] reads them. None is larger than a text may be.
+/// The texts of a ledger, as [`crate::gather`] reads them. None is larger than a text may be, nor are
+/// all together larger than [`crate::LARGEST_LEDGER`].
 #[derive(Drop)]
 pub struct Texts {
     pub(crate) files: Vec<File>,

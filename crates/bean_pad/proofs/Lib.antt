@@ -7,3 +7,5 @@ pub mod OutcomeFacts
 pub mod InsertedFacts
 pub mod WaitingFacts
 pub mod SlotFacts
+pub mod TreeFacts
+pub mod AddingFacts

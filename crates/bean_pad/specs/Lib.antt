@@ -5,6 +5,9 @@ pub mod Note
 pub mod Waiting
 pub mod Standing
 pub mod Padded
+pub mod Tree
+pub mod Counts
+pub mod Table
 pub mod Sums
 pub mod Trail
 pub mod Following

@@ -44,22 +44,27 @@
 //!
 //! # Cost
 //!
-//! A posting takes a look-up for each component of its account's name, by the name up to there, and
-//! so do the two postings of a padding; a pad and a balance take a few. `finish` goes over pads and
-//! balances alone. Memory is taken for each account with each of its currencies, for each pad and
-//! for each balance. Sums are of 128 bits: each is at most `10^20` times the number of steps, which
-//! is below `2^40`.
+//! A posting takes a look-up of its account's name, and for the account and each above it one by a
+//! number and a currency; so do the two postings of a padding. The first on an account goes through
+//! its components too: each is looked up below the number of what stands above it. So does a
+//! balance on an account that has no postings of its own. A pad and a balance take a few look-ups
+//! more. `finish` goes over pads and balances alone. Memory is taken for each account and each above
+//! it, and for each of their currencies, for each pad and for each balance. Sums are of 128 bits:
+//! each is at most `10^20` times the number of steps, which is below `2^40`.
 #![tactic(auto)]
 
 mod balanced;
 mod check;
+mod counts;
 mod laws;
 mod note;
 mod padder;
 mod slot;
 mod step;
 mod sums;
+mod table;
 mod tolerance;
+mod tree;
 
 pub use note::{Note, NotedPad, Outcome};
 pub use padder::{Padded, Padder};

@@ -3,7 +3,7 @@ use Rattle.std.proofs.lemmas.Grind.{common_steps}
 use Rattle.bean_load.specs.Loading.{AddsParsed}
 use Rattle.bean_load.specs.Placed.{parts_of}
 use Rattle.bean_load.proofs.ReadFacts.{IsCompleted, one_more, all_read}
-use Rattle.bean_load.proofs.SmallFacts.{read_small}
+use Rattle.bean_load.proofs.SmallFacts.{read_few, read_small}
 use Rattle.bean_parser.specs.Parsed.{IsParsed}
 use Rattle.bean_load.proofs.loaded.read_all.Goals as goal
 
@@ -37,4 +37,5 @@ returns c =
     record {
       read = read;
       small = read_small texts c.loop-number.read read c.files-files.ensures.limited;
+      few = read_few texts c.loop-number.read read c.files-files.ensures.limited;
     }
