@@ -10,7 +10,6 @@ ghost use Rattle.bean_lots.specs.Inventory as spec;
 ghost use Rattle.bean_lots.specs.Inventory.{count_of, added, negative_entry, MayBeNegated};
 ghost use Rattle.bean_lots.specs.Inventory.{IsInventory, position_of};
 ghost use Rattle.bean_lots.specs.Lot.{same_key};
-ghost use Rattle.bean_lots.specs.Part.{HasAllOf};
 ghost use Rattle.bean_lots.specs.declared.lot.Key.{Key};
 ghost use Rattle.bean_lots.specs.declared.lot.Position.{Position};
 
@@ -21,7 +20,7 @@ mod signs;
 mod slots;
 
 use crate::lot::Key;
-use bean_base::{Currency, Day};
+use bean_base::Currency;
 pub use positions::Positions;
 pub use signs::Signs;
 use slots::Slots;
@@ -114,17 +113,6 @@ impl<'a> Inventory<'a> {
         ensures { result ≡ self.now }
     {
         self.slots.positions()
-    }
-
-    /// The positions about a day, in order of entry: all lots of that day, and few others where
-    /// lots are known to stand in the order of their days. Where no day is given, all positions.
-    pub fn positions_about(&self, day: Option<Day>) -> Positions<'_, 'a>
-        ensures { HasAllOf day result self.now }
-    {
-        match day {
-            Some(day) => self.slots.positions_about(day),
-            None => self.positions(),
-        }
     }
 
     /// Whether nothing is held. Where it says no, something may have been.

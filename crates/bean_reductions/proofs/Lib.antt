@@ -12,4 +12,5 @@ pub mod BackFacts
 pub mod LastFacts
 pub mod LastDayFacts
 pub mod PartFacts
+pub mod RestFacts
 mod Examples

@@ -70,6 +70,7 @@ mod lots_left;
 mod methods;
 mod outcome;
 mod plain;
+mod rests;
 mod setting;
 mod stock;
 mod stop;

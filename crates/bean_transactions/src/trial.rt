@@ -83,7 +83,7 @@ pub fn try_transaction<'a>(
         return try_plain(alloc, scales, head, postings);
     }
     match line_up(alloc, holdings, methods, head, postings) {
-        Ok(lines) => complete(alloc, scales, head, postings, lines.into_vec()),
+        Ok(lines) => complete(alloc, scales, head, postings, lines),
         Err(stop) => Err(stop),
     }
 }

@@ -15,7 +15,6 @@ ghost use Rattle.std.specs.Ordering.{int_eq};
 ghost use Rattle.bean_lots.specs.Inventory.{IsInventory, MayBeNegated, added, count_of};
 ghost use Rattle.bean_lots.specs.Inventory.{negative_entry};
 ghost use Rattle.bean_lots.specs.Lot.{same_key};
-ghost use Rattle.bean_lots.specs.Part.{HasAllOf};
 ghost use Rattle.bean_lots.specs.Inventory.{long_lot, short_lot};
 ghost use Rattle.bean_lots.specs.Signs.{signs_at};
 ghost use Rattle.bean_lots.specs.Slots.{IsKept, in_all, is_full};
@@ -23,11 +22,10 @@ ghost use Rattle.bean_lots.specs.Slots as spec;
 ghost use Rattle.bean_lots.specs.declared.lot.Key.{Key as KeyValue};
 
 use super::days::Days;
-use super::part::part_on;
 use super::positions::Positions;
 use super::signs::{SignTable, Signs};
 use crate::lot::Key;
-use bean_base::{Currency, Day};
+use bean_base::Currency;
 use indexmap::IndexMap;
 use std::alloc::{AllocError, Global};
 
@@ -124,19 +122,7 @@ impl<'a> Slots<'a> {
         ensures { result ≡ spec.positions self.now.counts.entries }
     {
         let (_, held) = self.counts.as_slice().split_at(self.first);
-        Positions::new(held)
-    }
-
-    /// What is held about a day, in order of entry: all lots of that day.
-    pub(crate) fn positions_about(&self, day: Day) -> Positions<'_, 'a>
-        requires { IsKept self.now }
-        ensures { HasAllOf (Some day) result (spec.positions self.now.counts.entries) }
-    {
-        if !self.days.in_order {
-            return self.positions();
-        }
-        let (_, held) = self.counts.as_slice().split_at(self.first);
-        Positions::new(part_on(held, day))
+        Positions::new(held, self.days.in_order)
     }
 
     /// Holes at the front are passed.
