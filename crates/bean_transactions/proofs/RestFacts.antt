@@ -181,7 +181,7 @@ lots_more l m h g f account k n held taken e t more own others old a = by (bytes
         let same : holding g a ≡ holding f a =
         sym (more a ∙ ap (λ b. cond b (added (holding g a) k n) (holding g a)) s) in
         subst (AreLeft m a (holding h a)) same
-        record { each = λ c. others a c (holding h a) s ∙ (old a).each c; }
+        record { each = λ c. others a c (holding h a) s ∙ (old a).each c }
 
 -- and where they stand
 pub rests_more :

@@ -121,7 +121,8 @@ impl<'s, 'a> Lines<'s, 'a> {
         let rest = self.rests.before_take(&take.account, held, taken, &key);
         post_take(alloc, &mut self.taken, take)?;
         let taken = self.taken.of(&take.account, self.nothing);
-        self.rests.set(take.account.lend(), without_gone(rest, taken))
+        self.rests
+            .set(take.account.lend(), without_gone(rest, taken))
     }
 
     /// Adds what a line takes to what is taken.
@@ -263,14 +264,17 @@ impl<'s, 'a> Lines<'s, 'a> {
     }
 }
 
-/// The lines of postings that are in the profile, or the first fault of one.
-pub(crate) fn line_up<'a>(
+/// The lines of postings that are in the profile, or the first fault of one; `nothing` stands in for
+/// what an account holds that isn't there.
+pub(crate) fn line_up<'s, 'a>(
     alloc: Global,
-    holdings: &Holdings<'a>,
+    holdings: &'s Holdings<'a>,
+    nothing: &'s Inventory<'a>,
     methods: &Methods<'a>,
     head: Head,
     postings: &[Posting<'a>],
 ) -> Result<Vec<Line<'a>>, Refusal<LineFault>>
+    requires nothing { nothing.now ≡ [] }
     requires bounded { IsBounded holdings.now }
     requires few { additions_in holdings.now ≤ 2 ^ 40 }
     requires inside { list_any is_outside_profile postings.now ≡ false }
@@ -280,8 +284,7 @@ pub(crate) fn line_up<'a>(
         → IsSettled s holdings.now methods.now head
         → StopsAt (IsFirstFault s postings.now) stop) }
 {
-    let nothing = Inventory::new(alloc);
-    let mut lines = Lines::new(alloc, &nothing);
+    let mut lines = Lines::new(alloc, nothing);
     for index in 0..postings.len() {
         match lines.add_next(alloc, holdings, methods, head, index, &postings[index]) {
             Ok(()) => {}

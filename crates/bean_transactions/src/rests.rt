@@ -21,10 +21,7 @@ use indexmap::IndexMap;
 use std::alloc::{AllocError, Global};
 
 /// What is behind the first position, where nothing is left of that.
-fn behind_gone<'s, 'a>(
-    rest: &Positions<'s, 'a>,
-    taken: &Inventory<'_>,
-) -> Option<Positions<'s, 'a>>
+fn behind_gone<'s, 'a>(rest: &Positions<'s, 'a>, taken: &Inventory<'_>) -> Option<Positions<'s, 'a>>
     requires rest { AreSmall (2 ^ 125) rest.now }
     requires taken { AreSmall (2 ^ 125) taken.now }
     ensures rest { IfSome result (λ behind. HasAllLeft taken.now behind rest.now) }
@@ -39,10 +36,7 @@ fn behind_gone<'s, 'a>(
 }
 
 /// What is before the last position, where nothing is left of that.
-fn before_gone<'s, 'a>(
-    rest: &Positions<'s, 'a>,
-    taken: &Inventory<'_>,
-) -> Option<Positions<'s, 'a>>
+fn before_gone<'s, 'a>(rest: &Positions<'s, 'a>, taken: &Inventory<'_>) -> Option<Positions<'s, 'a>>
     requires rest { AreSmall (2 ^ 125) rest.now }
     requires taken { AreSmall (2 ^ 125) taken.now }
     ensures rest { IfSome result (λ before. HasAllLeft taken.now before rest.now) }
@@ -57,10 +51,7 @@ fn before_gone<'s, 'a>(
 }
 
 /// A rest without the first positions of which nothing is left.
-fn without_first_gone<'s, 'a>(
-    rest: Positions<'s, 'a>,
-    taken: &Inventory<'_>,
-) -> Positions<'s, 'a>
+fn without_first_gone<'s, 'a>(rest: Positions<'s, 'a>, taken: &Inventory<'_>) -> Positions<'s, 'a>
     requires rest { AreSmall (2 ^ 125) rest }
     requires taken { AreSmall (2 ^ 125) taken.now }
     ensures { HasAllLeft taken.now result rest.entry }
