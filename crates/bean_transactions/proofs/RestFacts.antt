@@ -4,6 +4,7 @@ use Rattle.std.proofs.Common.{◌∷◌, ◌++◌, append_assoc, length, refl, s
 use Rattle.std.proofs.Common.{true≢false}
 use Rattle.std.specs.List.{AllByRecursion}
 use Rattle.std.specs.Ordering.{int_eq}
+use Rattle.std.specs.Cmp.{signed_Decides}
 use Rattle.std.specs.Str.{bytes_eq}
 use Rattle.std.proofs.lemmas.Int.{ints}
 use Rattle.std.proofs.lemmas.List.{append-nil}
@@ -116,22 +117,24 @@ elsewhere ts k q n i d =
 
 -- what is gone stays so where the take is of another lot
 still_gone : (taken held : List Position) (k : Key) (n : ℤ) (e : Position) → IsInventory taken
-    → ¬ (count_of held k +ℤ count_of taken k ≡ pos 0) → IsGone taken e → HasCount held e
-    → IsGone (added taken k n) e
+    → int_eq (count_of held k +ℤ count_of taken k) (pos 0) ≡ false → IsGone taken e
+    → HasCount held e → IsGone (added taken k n) e
 still_gone taken held k n e i some gone own = by (same_key e.key k) refl
   where
     by : (b : Bool) → same_key e.key k ≡ b → IsGone (added taken k n) e
     by true s =
         let key : e.key ≡ k = (same_key_Decides e.key k).0 s in
+        let none : count_of held k +ℤ count_of taken k ≡ pos 0 =
+        subst (λ q. count_of held q +ℤ count_of taken q ≡ pos 0) key
+        (ap (λ m. m +ℤ count_of taken e.key) own ∙ gone) in
         absurd
-        (some
-        (subst (λ q. count_of held q +ℤ count_of taken q ≡ pos 0) key
-        (ap (λ m. m +ℤ count_of taken e.key) own ∙ gone)))
+        (true≢false
+        (sym ((signed_Decides (count_of held k +ℤ count_of taken k) (pos 0)).1 none) ∙ some))
     by false s = ap (λ m. e.count +ℤ m) (elsewhere taken k e.key n i s) ∙ gone
 
 -- a take of what is left leaves the rest one
 pub once_more : (taken rest held : List Position) (k : Key) (n : ℤ) → IsInventory taken
-    → IsInventory held → ¬ (count_of held k +ℤ count_of taken k ≡ pos 0)
+    → IsInventory held → int_eq (count_of held k +ℤ count_of taken k) (pos 0) ≡ false
     → HasAllLeft taken rest held → HasAllLeft (added taken k n) rest held
 once_more taken rest held k n i j some h =
     let own = own_counts held j in

@@ -4,14 +4,14 @@
 //! the first and the last lots nothing is left once they are taken whole, so the account's rest is
 //! kept, which has them no more: each lot is passed once, however many sales there are.
 ghost use Rattle.std.specs.Prelude.{◌≡◌, ◌<◌, ◌^◌, ◌+ℤ◌, List, ℕ, ℤ, IfSome, OnOk, length};
-ghost use Rattle.std.specs.Prelude.{if◌then◌else◌};
+ghost use Rattle.std.specs.Prelude.{if◌then◌else◌, ◌↔◌, IsTrue};
 ghost use Rattle.std.specs.Int.{w128};
 ghost use Rattle.std.specs.Int.RustNames.{FitsSigned};
 ghost use Rattle.std.specs.Str.{bytes_eq};
-ghost use Rattle.bean_lots.specs.Inventory.{added, count_of};
+ghost use Rattle.bean_lots.specs.Inventory.{added, count_of, position_of};
 ghost use Rattle.bean_lots.specs.declared.lot.Position.{Position};
 ghost use Rattle.bean_reductions.specs.After.{AreSmall};
-ghost use Rattle.bean_reductions.specs.Rest.{HasAllLeft};
+ghost use Rattle.bean_reductions.specs.Rest.{HasAllLeft, IsGone};
 ghost use Rattle.bean_transactions.specs.Rests.{rest_in};
 
 use bean_base::Account;
@@ -19,6 +19,14 @@ use bean_lots::inventory::Positions;
 use bean_lots::{Inventory, Key};
 use indexmap::IndexMap;
 use std::alloc::{AllocError, Global};
+
+/// Whether nothing is left of what is held under a key.
+fn is_gone(key: &Key<'_>, count: i128, taken: &Inventory<'_>) -> bool
+    requires { FitsSigned w128 (count +ℤ count_of taken.now key.now) }
+    ensures { IsTrue result ↔ IsGone taken.now (position_of key.now count) }
+{
+    count + taken.get(key) == 0
+}
 
 /// What is behind the first position, where nothing is left of that.
 fn behind_gone<'s, 'a>(rest: &Positions<'s, 'a>, taken: &Inventory<'_>) -> Option<Positions<'s, 'a>>
@@ -29,7 +37,7 @@ fn behind_gone<'s, 'a>(rest: &Positions<'s, 'a>, taken: &Inventory<'_>) -> Optio
 {
     let mut behind = rest.lend();
     let (key, count) = behind.next_held()?;
-    if count + taken.get(key) != 0 {
+    if !is_gone(key, count, taken) {
         return None;
     }
     Some(behind)
@@ -44,7 +52,7 @@ fn before_gone<'s, 'a>(rest: &Positions<'s, 'a>, taken: &Inventory<'_>) -> Optio
 {
     let mut before = rest.lend();
     let (key, count) = before.next_back_held()?;
-    if count + taken.get(key) != 0 {
+    if !is_gone(key, count, taken) {
         return None;
     }
     Some(before)

@@ -11,7 +11,7 @@ pub note-requires-clause-before : goal.note-requires-clause-before
 note-requires-clause-before c =
     let a = c.args.take.now.account in
     let few = c.requires.keeping.few in
-    sum_fits c.of-held.result.now c.of-taken.result.now c.key.result
+    sum_fits c.of-held.result.now c.of-taken.result.now c.key-key.result
     (subst (AreSmall (2 ^ 125)) (sym c.of-held.ensures)
     (bounded_small c.args.holdings.now a c.requires.bounded c.requires.few))
     (subst (AreSmall (2 ^ 125)) (sym c.of-taken.ensures)
@@ -23,7 +23,7 @@ note-requires-clause-after c =
     let few = c.requires.keeping.few in
     let wide : to_z w128 (of_z w128 c.scaled-count.result) ≡ c.scaled-count.result =
     omega (arith, ints) in
-    sums_fit c.of-held.result.now c.of-taken.result.now c.key.result _
+    sums_fit c.of-held.result.now c.of-taken.result.now c.key-key.result _
     (subst (AreSmall (2 ^ 125)) (sym c.of-held.ensures)
     (bounded_small c.args.holdings.now a c.requires.bounded c.requires.few))
     (subst (AreSmall (2 ^ 125)) (sym c.of-taken.ensures)
