@@ -1,5 +1,5 @@
 -- What is held, without what at both ends is known to be taken whole.
-use Rattle.std.specs.Prelude.{◌≡◌, ℤ, pos, ◌+ℤ◌, List, ◌++◌}
+use Rattle.std.specs.Prelude.{◌≡◌, pos, ◌+ℤ◌, List, ◌++◌}
 use Rattle.std.specs.List.{AllByRecursion}
 use Rattle.bean_lots.specs.Inventory.{count_of}
 use Rattle.bean_lots.specs.declared.lot.Position.{Position}

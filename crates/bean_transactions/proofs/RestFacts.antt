@@ -17,7 +17,7 @@ use Rattle.bean_lots.proofs.InventoryFacts.{pointwise_added}
 use Rattle.bean_lots.proofs.LotFacts.{same_key_Decides, same_key_equiv}
 use Rattle.bean_lots.proofs.PartFacts.{both, first, middle, second}
 use Rattle.bean_reductions.specs.After.{AreSmall, IsSmall}
-use Rattle.bean_reductions.specs.Rest.{AreGone, HasAllLeft, IsGone}
+use Rattle.bean_reductions.specs.Rest.{HasAllLeft, IsGone}
 use Rattle.bean_transactions.specs.Holdings.{holding}
 use Rattle.bean_transactions.specs.LotsLeft.{AreLeft, left_in}
 use Rattle.bean_transactions.specs.Rests.{rest_in}

@@ -4,7 +4,7 @@ use Rattle.std.proofs.lemmas.Int.{ints}
 use Rattle.bean_lots.specs.Inventory.{position_of}
 use Rattle.bean_reductions.specs.Rest.{IsGone}
 use Rattle.bean_reductions.proofs.LastFacts.{fits_last}
-use Rattle.bean_transactions.proofs.RestFacts.{before_last, shorter_before}
+use Rattle.bean_transactions.proofs.RestFacts.{before_last}
 use Rattle.bean_transactions.proofs.rests.before_gone.Goals as goal
 
 pub is_gone-requires : goal.is_gone-requires

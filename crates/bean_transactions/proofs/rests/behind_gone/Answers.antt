@@ -4,7 +4,7 @@ use Rattle.std.proofs.lemmas.Int.{ints}
 use Rattle.bean_lots.specs.Inventory.{position_of}
 use Rattle.bean_reductions.specs.Rest.{IsGone}
 use Rattle.bean_reductions.proofs.AfterFacts.{fits_next}
-use Rattle.bean_transactions.proofs.RestFacts.{behind_first, shorter}
+use Rattle.bean_transactions.proofs.RestFacts.{behind_first}
 use Rattle.bean_transactions.proofs.rests.behind_gone.Goals as goal
 
 pub is_gone-requires : goal.is_gone-requires
