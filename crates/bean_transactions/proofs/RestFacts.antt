@@ -154,6 +154,41 @@ once_more taken rest held k n i j some h =
           (second (HasCount held) h.before (rest ++ h.behind) split));
     }
 
+-- ---- the first take
+
+abbrev HasSome : Position → Type 0
+HasSome e = int_eq e.count (pos 0) ≡ false
+
+each_has_some : (es : List Position) → IsInventory es → AllByRecursion HasSome es
+each_has_some [] i = tt
+each_has_some (e ∷ es) i = (i.0, each_has_some es i.2)
+
+-- where nothing is taken nothing is gone
+never_gone : (ts : List Position) (e : Position) → IsGone [] e → HasSome e → IsGone ts e
+never_gone ts e gone some =
+    let sum : e.count +ℤ pos 0 ≡ pos 0 = gone in
+    let none : e.count ≡ pos 0 = omega (arith, ints, sum) in
+    absurd (true≢false (sym ((signed_Decides e.count (pos 0)).1 none) ∙ some))
+
+pub first_take : (taken rest held : List Position) (k : Key) (n : ℤ) → taken ≡ []
+    → IsInventory held → HasAllLeft taken rest held → HasAllLeft (added taken k n) rest held
+first_take taken rest held k n bare j h =
+    let ts = added taken k n in
+    let all : HasAllLeft [] rest held = subst (λ l. HasAllLeft l rest held) bare h in
+    let split = subst (AllByRecursion HasSome) all.all (each_has_some held j) in
+    record {
+      before = all.before;
+      behind = all.behind;
+      all = all.all;
+      none_before =
+          together (IsGone []) HasSome (IsGone ts) all.before (never_gone ts) all.none_before
+          (first HasSome all.before (rest ++ all.behind) split);
+      none_behind =
+          together (IsGone []) HasSome (IsGone ts) all.behind (never_gone ts) all.none_behind
+          (second HasSome rest all.behind
+          (second HasSome all.before (rest ++ all.behind) split));
+    }
+
 -- ---- all accounts
 
 -- which lots are left, once some are taken from an account
@@ -185,6 +220,33 @@ lots_more l m h g f account k n held taken e t more own others old a = by (bytes
         sym (more a ∙ ap (λ b. cond b (added (holding g a) k n) (holding g a)) s) in
         subst (AreLeft m a (holding h a)) same
         record { each = λ c. others a c (holding h a) s ∙ (old a).each c }
+
+-- the rest stays where the take is the first
+pub rests_first :
+    (r : Rests) (h g f : Holdings) (account : List ℕ) (k : Key) (n : ℤ) (held taken : List Position)
+    → held ≡ holding h account → taken ≡ holding g account
+    → ((a : List ℕ)
+    → holding f a
+    ≡ cond (bytes_eq account a) (added (holding g a) k n) (holding g a))
+    → HasAllLeft (added taken k n) (rest_in r account held) held
+    → ((a : List ℕ) → HasAllLeft (holding g a) (rest_in r a (holding h a)) (holding h a))
+    → (a : List ℕ) → HasAllLeft (holding f a) (rest_in r a (holding h a)) (holding h a)
+rests_first r h g f account k n held taken e t more own old a = by (bytes_eq account a) refl
+  where
+    by : (b : Bool) → bytes_eq account a ≡ b
+        → HasAllLeft (holding f a) (rest_in r a (holding h a)) (holding h a)
+    by true s =
+        let here : account ≡ a = (bytes_eq-Decides account a).0 s in
+        let sum : added taken k n ≡ holding f a =
+        ap (λ ts. added ts k n) (t ∙ ap (holding g) here)
+        ∙ sym (more a ∙ ap (λ b. cond b (added (holding g a) k n) (holding g a)) s) in
+        subst (λ ts. HasAllLeft ts (rest_in r a (holding h a)) (holding h a)) sum
+        (subst (λ es. HasAllLeft (added taken k n) (rest_in r a es) es) (e ∙ ap (holding h) here)
+        (subst (λ x. HasAllLeft (added taken k n) (rest_in r x held) held) here own))
+    by false s =
+        let same : holding g a ≡ holding f a =
+        sym (more a ∙ ap (λ b. cond b (added (holding g a) k n) (holding g a)) s) in
+        subst (λ ts. HasAllLeft ts (rest_in r a (holding h a)) (holding h a)) same (old a)
 
 -- and where they stand
 pub rests_more :

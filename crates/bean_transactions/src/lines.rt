@@ -120,9 +120,14 @@ impl<'s, 'a> Lines<'s, 'a> {
         self.left.note(&take.account, held, taken, &key, count)?;
         let rest = self.rests.before_take(&take.account, held, taken, &key);
         post_take(alloc, &mut self.taken, take)?;
-        let taken = self.taken.of(&take.account, self.nothing);
-        self.rests
-            .set(take.account.lend(), without_gone(rest, taken))
+        match rest {
+            Some(rest) => {
+                let taken = self.taken.of(&take.account, self.nothing);
+                self.rests
+                    .set(take.account.lend(), without_gone(rest, taken))
+            }
+            None => Ok(()),
+        }
     }
 
     /// Adds what a line takes to what is taken.

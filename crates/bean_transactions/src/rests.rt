@@ -3,7 +3,7 @@
 //! A transaction that sells many lots of an account looks for each sale at what is left there. Of
 //! the first and the last lots nothing is left once they are taken whole, so the account's rest is
 //! kept, which has them no more: each lot is passed once, however many sales there are.
-ghost use Rattle.std.specs.Prelude.{◌≡◌, ◌<◌, ◌^◌, ◌+ℤ◌, List, ℕ, ℤ, IfSome, OnOk, length};
+ghost use Rattle.std.specs.Prelude.{◌≡◌, ◌<◌, ◌^◌, ◌+ℤ◌, List, ℕ, ℤ, IfNone, IfSome, OnOk, length};
 ghost use Rattle.std.specs.Prelude.{if◌then◌else◌, ◌↔◌, IsTrue};
 ghost use Rattle.std.specs.Int.{w128};
 ghost use Rattle.std.specs.Int.RustNames.{FitsSigned};
@@ -25,7 +25,7 @@ fn is_gone(key: &Key<'_>, count: i128, taken: &Inventory<'_>) -> bool
     requires { FitsSigned w128 (count +ℤ count_of taken.now key.now) }
     ensures { IsTrue result ↔ IsGone taken.now (position_of key.now count) }
 {
-    count + taken.get(key) == 0
+    taken.get(key) + count == 0
 }
 
 /// What is behind the first position, where nothing is left of that.
@@ -126,22 +126,30 @@ impl<'s, 'a> Rests<'s, 'a> {
     }
 
     /// The rest of an account once more is taken under a key; `taken` is what was before. Where
-    /// nothing was left there, the lot may be one that was passed, and all is looked at anew.
+    /// nothing was left there, the lot may be one that was passed, and all is looked at anew. None
+    /// where this is the first take: it is passed with the next, so that one alone costs nothing.
     pub(crate) fn before_take(
         &self,
         account: &Account<'a>,
         held: &'s Inventory<'a>,
         taken: &Inventory<'_>,
         key: &Key<'_>,
-    ) -> Positions<'s, 'a>
+    ) -> Option<Positions<'s, 'a>>
         requires rest { HasAllLeft taken.now (rest_in self.now account.now held.now) held.now }
         requires fits { FitsSigned w128 (count_of held.now key.now +ℤ count_of taken.now key.now) }
-        ensures { (n : ℤ) → HasAllLeft (added taken.now key.now n) result held.now }
+        ensures some { IfSome result (λ rest. (n : ℤ)
+            → HasAllLeft (added taken.now key.now n) rest held.now) }
+        ensures none { IfNone result ((n : ℤ)
+            → HasAllLeft (added taken.now key.now n) (rest_in self.now account.now held.now) held.now) }
     {
-        if held.get(key) + taken.get(key) == 0 {
-            return held.positions();
+        let held_count = held.get(key);
+        if taken.is_bare() {
+            return None;
         }
-        self.of(account, held)
+        if held_count + taken.get(key) == 0 {
+            return Some(held.positions());
+        }
+        Some(self.of(account, held))
     }
 
     /// Puts another rest in place of that of an account.
