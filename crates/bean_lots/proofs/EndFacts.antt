@@ -1,7 +1,7 @@
 -- Slots from their end.
 use Rattle.std.proofs.Common.{◌≡◌, ◌≤◌, ℕ, zero, suc, ℤ, pos, false, cond, not, filter}
-use Rattle.std.proofs.Common.{List, [], ◌∷◌, ◌++◌, append_assoc, take, drop, slice_get, Some}
-use Rattle.std.proofs.Common.{refl, sym, ◌∙◌, ap, arith}
+use Rattle.std.proofs.Common.{List, [], ◌∷◌, ◌++◌, append_assoc, take, slice_get, Some}
+use Rattle.std.proofs.Common.{sym, ◌∙◌, ap, arith}
 use Rattle.std.specs.List.{AllByRecursion}
 use Rattle.std.specs.Map.{values_of}
 use Rattle.std.specs.Ordering.{int_eq}
@@ -36,7 +36,7 @@ all_in_front P zero xs a = tt
 all_in_front P (suc n) [] a = tt
 all_in_front P (suc n) (x ∷ xs) a = (a.0, all_in_front P n xs a.1)
 
-order_in_front : (n : ℕ) (es : List (Key × ℤ)) → AreInOrder es → AreInOrder (take n es)
+pub order_in_front : (n : ℕ) (es : List (Key × ℤ)) → AreInOrder es → AreInOrder (take n es)
 order_in_front zero es a = tt
 order_in_front (suc n) [] a = tt
 order_in_front (suc n) (e ∷ es) a =
@@ -48,36 +48,24 @@ days_in_front day n es a =
     (order_in_front n es a.0, all_in_front (λ e. IsBy day e.0.lot) n es a.1)
 
 -- the position of the last slot of a front, behind those before it
-pub slot_before : (es : List (Key × ℤ)) (s i : ℕ) (k : Key) (n : ℤ) → s ≤ i
-    → slice_get es i ≡ Some (k, n)
-    → positions (drop s (take (suc i) es)) ≡ positions (drop s (take i es)) ++ held_as k n
-slot_before [] s i k n p h = absurd (is_none (k, n) (sym h))
-slot_before (e ∷ es) zero zero k n p h =
+pub slot_before : (es : List (Key × ℤ)) (i : ℕ) (k : Key) (n : ℤ) → slice_get es i ≡ Some (k, n)
+    → positions (take (suc i) es) ≡ positions (take i es) ++ held_as k n
+slot_before [] i k n h = absurd (is_none (k, n) (sym h))
+slot_before (e ∷ es) zero k n h =
     ap (λ (x : Key × ℤ). held_as x.0 x.1 ++ []) (same_some e (k, n) h) ∙ append-nil (held_as k n)
-slot_before (e ∷ es) zero (suc i) k n p h =
-    ap (λ l. held_as e.0 e.1 ++ l) (slot_before es zero i k n (omega arith) h)
+slot_before (e ∷ es) (suc i) k n h =
+    ap (λ l. held_as e.0 e.1 ++ l) (slot_before es i k n h)
     ∙ sym (append_assoc (held_as e.0 e.1) (positions (take i es)) (held_as k n))
-slot_before (e ∷ es) (suc s) zero k n p h = absurd (omega (arith, p))
-slot_before (e ∷ es) (suc s) (suc i) k n p h = slot_before es s i k n (omega (arith, p)) h
 
-pub full_before : (es : List (Key × ℤ)) (s i : ℕ) (k : Key) (n : ℤ) → s ≤ i
-    → slice_get es i ≡ Some (k, n) → int_eq n (pos 0) ≡ false
-    → positions (drop s (take (suc i) es))
-    ≡ positions (drop s (take i es)) ++ record { key = k; count = n } ∷ []
-full_before es s i k n p h z =
-    slot_before es s i k n p h
-    ∙ ap (λ c. positions (drop s (take i es)) ++ cond c [] (record { key = k; count = n } ∷ [])) z
+pub full_before : (es : List (Key × ℤ)) (i : ℕ) (k : Key) (n : ℤ) → slice_get es i ≡ Some (k, n)
+    → int_eq n (pos 0) ≡ false
+    → positions (take (suc i) es) ≡ positions (take i es) ++ record { key = k; count = n } ∷ []
+full_before es i k n h z =
+    slot_before es i k n h
+    ∙ ap (λ c. positions (take i es) ++ cond c [] (record { key = k; count = n } ∷ [])) z
 
-pub hole_before : (es : List (Key × ℤ)) (s i : ℕ) (k : Key) (n : ℤ) → s ≤ i
-    → slice_get es i ≡ Some (k, n) → n ≡ pos 0
-    → positions (drop s (take i es)) ≡ positions (drop s (take (suc i) es))
-hole_before es s i k n p h z =
-    sym (slot_before es s i k n p h ∙ ap (λ m. positions (drop s (take i es)) ++ held_as k m) z
-    ∙ append-nil (positions (drop s (take i es))))
-
-pub nothing_left : (s i : ℕ) (es : List (Key × ℤ)) → i ≤ s → positions (drop s (take i es)) ≡ []
-nothing_left zero zero es p = refl
-nothing_left zero (suc i) es p = absurd (omega (arith, p))
-nothing_left (suc s) zero es p = refl
-nothing_left (suc s) (suc i) [] p = refl
-nothing_left (suc s) (suc i) (e ∷ es) p = nothing_left s i es (omega (arith, p))
+pub hole_before : (es : List (Key × ℤ)) (i : ℕ) (k : Key) (n : ℤ) → slice_get es i ≡ Some (k, n)
+    → n ≡ pos 0 → positions (take i es) ≡ positions (take (suc i) es)
+hole_before es i k n h z =
+    sym (slot_before es i k n h ∙ ap (λ m. positions (take i es) ++ held_as k m) z
+    ∙ append-nil (positions (take i es)))

@@ -19,7 +19,7 @@ use Rattle.bean_lots.proofs.SlotFacts.{is_none, same_some}
 
 -- all of two lists
 
-both : {A : Type 0} (P : A → Type 0) (xs ys : List A) → AllByRecursion P xs → AllByRecursion P ys
+pub both : {A : Type 0} (P : A → Type 0) (xs ys : List A) → AllByRecursion P xs → AllByRecursion P ys
     → AllByRecursion P (xs ++ ys)
 both P [] ys a b = b
 both P (x ∷ xs) ys a b = (a.0, both P xs ys a.1 b)

@@ -11,7 +11,6 @@ ghost use Rattle.bean_lots.specs.Inventory as spec;
 ghost use Rattle.bean_lots.specs.Inventory.{count_of, added, negative_entry, MayBeNegated};
 ghost use Rattle.bean_lots.specs.Inventory.{IsInventory, position_of};
 ghost use Rattle.bean_lots.specs.Lot.{same_key};
-ghost use Rattle.bean_lots.specs.Part.{HasAllOf};
 ghost use Rattle.bean_lots.specs.declared.lot.Key.{Key};
 ghost use Rattle.bean_lots.specs.declared.lot.Position.{Position};
 
@@ -24,7 +23,7 @@ mod signs;
 mod slots;
 
 use crate::lot::{Cost, Key};
-use bean_base::{Currency, Day};
+use bean_base::Currency;
 pub use positions::Positions;
 pub use signs::Signs;
 use slots::Slots;
@@ -117,17 +116,6 @@ impl<'a> Inventory<'a> {
         ensures { result ≡ self.now }
     {
         self.slots.positions()
-    }
-
-    /// The positions about a day, in order of entry: all lots of that day, and few others where
-    /// lots are known to stand in the order of their days. Where no day is given, all positions.
-    pub fn positions_about(&self, day: Option<Day>) -> Positions<'_, 'a>
-        ensures { HasAllOf day result self.now }
-    {
-        match day {
-            Some(day) => self.slots.positions_about(day),
-            None => self.positions(),
-        }
     }
 
     /// The positions of the lots of a currency at a cost, in order of entry, where these are known

@@ -95,7 +95,7 @@ rise_first [] fs r = tt
 rise_first (e ∷ es) fs r =
     (first (λ f. IsNotBefore e.key.lot f.key.lot) es fs r.0, rise_first es fs r.1)
 
-rise_second : (es fs : List Position) → RiseInDays (es ++ fs) → RiseInDays fs
+pub rise_second : (es fs : List Position) → RiseInDays (es ++ fs) → RiseInDays fs
 rise_second [] fs r = r
 rise_second (e ∷ es) fs r = rise_second es fs r.1
 

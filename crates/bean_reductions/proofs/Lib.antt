@@ -13,4 +13,5 @@ pub mod LastFacts
 pub mod LastDayFacts
 pub mod PartFacts
 pub mod ByCostFacts
+pub mod RestFacts
 mod Examples

@@ -3,6 +3,7 @@ pub mod Take
 pub mod Filling
 pub mod Reduction
 pub mod After
+pub mod Rest
 pub mod Front
 pub mod Back
 pub mod LotCause

@@ -30,16 +30,18 @@
 //! - `F15` otherwise: the candidates together are too few.
 //!
 //! [`reduce_after`] answers the same for what is left of an inventory by takes that aren't in it
-//! yet, which stand in an inventory of their own, and copies none. [`has_opposite`] tells whether
-//! some lot of a currency has the opposite sign, where it is known how many there are of each.
+//! yet, which stand in an inventory of their own, and copies none. It looks at a rest of the
+//! inventory that has all that is left, so that what is gone isn't passed by each of many reductions.
+//! [`has_opposite`] tells whether some lot of a currency has the opposite sign, where it is known how
+//! many there are of each.
 //!
 //! # Cost
 //!
-//! `reduce` looks at all that is held and sorts the candidates. `reduce_after` does too, but where
-//! lots came in the order of their days, it looks at those about a selector's day alone; and where
-//! it takes the earliest or the latest first, no further than the candidates that come to the want.
-//! Under `Lifo` these are the first of the last day that has any; only where they are too few, the
-//! last are gathered, with all others of their days. Where a selector names a cost, and the
+//! `reduce` looks at all that is held and sorts the candidates. `reduce_after` does so over the rest,
+//! but where lots came in the order of their days, it looks at those about a selector's day alone;
+//! and where it takes the earliest or the latest first, no further than the candidates that come to
+//! the want. Under `Lifo` these are the first of the last day that has any; only where they are too
+//! few, the last are gathered, with all others of their days. Where a selector names a cost, and the
 //! inventory knows of which day the lots at it are, only the one lot that may be a candidate is
 //! looked at, under each method. `has_opposite` looks at counts alone.
 #![tactic(auto)]

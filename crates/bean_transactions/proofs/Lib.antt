@@ -3,6 +3,7 @@ pub mod InPlace
 pub mod OutcomeFacts
 pub mod HeldFacts
 pub mod LotsLeftFacts
+pub mod RestFacts
 pub mod LinedFacts
 pub mod CompletedFacts
 pub mod FilledFacts

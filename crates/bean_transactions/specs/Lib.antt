@@ -2,6 +2,7 @@ pub mod Held
 pub mod Holdings
 pub mod Methods
 pub mod LotsLeft
+pub mod Rests
 pub mod Stock
 pub mod Lined
 pub mod Outcome

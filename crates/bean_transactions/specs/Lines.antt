@@ -2,11 +2,13 @@
 use Rattle.std.specs.Prelude.{◌≡◌, ◌≤◌, ◌^◌, ℕ, Bool, true, false, List, [], ◌++◌, Result, Ok}
 use Rattle.bean_postings.specs.declared.cost.Cost.{Cost}
 use Rattle.bean_postings.specs.declared.cost.Cost.TheVariants as cost
+use Rattle.bean_reductions.specs.Rest.{HasAllLeft}
 use Rattle.bean_transactions.specs.Held.{takes_in}
 use Rattle.bean_transactions.specs.Holdings.{AreHeld, IsBounded, additions_in, holding}
 use Rattle.bean_transactions.specs.Lined.{Setting}
 use Rattle.bean_transactions.specs.LotsLeft.{AreLeft}
 use Rattle.bean_transactions.specs.Methods.{method_in}
+use Rattle.bean_transactions.specs.Rests.{rest_in}
 use Rattle.bean_transactions.specs.declared.holdings.Holdings.{Holdings}
 use Rattle.bean_transactions.specs.declared.line.Line.{Line}
 use Rattle.bean_transactions.specs.declared.lines.Lines.{Lines}
@@ -15,14 +17,16 @@ use Rattle.bean_transactions.specs.declared.methods.Methods.{Methods}
 use Rattle.bean_transactions.specs.declared.setting.Head.{Head}
 use Rattle.bean_transactions.specs.declared.stop.LineFault.{LineFault}
 
--- what is taken is what these takes come to, it is known which lots are left of what was held, and
--- nothing is nothing
+-- what is taken is what these takes come to, it is known which lots are left of what was held and
+-- where they stand, and nothing is nothing
 pub record HasTaken (h : Holdings) (ps : List Posted) (ls : Lines) : Type 0 where
-  pub nothing : ls.nothing ≡ []
+  pub nothing : ls.nothing.now ≡ []
   pub takes : AreHeld ps ls.taken
   pub bounded : IsBounded ls.taken
   pub few : additions_in ls.taken ≤ 2 ^ 39
   pub left : (a : List ℕ) → AreLeft ls.left a (holding h a) (holding ls.taken a)
+  pub rests : (a : List ℕ)
+      → HasAllLeft (holding ls.taken a) (rest_in ls.rests a (holding h a)) (holding h a)
 
 -- the takes are those among the lines
 abbrev pub IsKeeping : Holdings → Lines → Type 0

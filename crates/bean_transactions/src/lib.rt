@@ -54,7 +54,8 @@
 //!
 //! For each posting in braces, and for no other, a look-up in its account and what a reduction
 //! costs in [`bean_reductions`]; that it is one is told by how many lots of each sign are left,
-//! which are counted take by take. What is filled in is looked at once.
+//! which are counted take by take. The first and the last lots of an account that are taken whole
+//! are passed once for all sales of the transaction. What is filled in is looked at once.
 //! [`Holdings`] keep an inventory for each account, change it where it stands, and count their
 //! additions: each sum is at most `10^20` times that count, which is below `2^40`. No contract
 //! shows how they are kept.
@@ -70,6 +71,7 @@ mod lots_left;
 mod methods;
 mod outcome;
 mod plain;
+mod rests;
 mod setting;
 mod stock;
 mod stop;

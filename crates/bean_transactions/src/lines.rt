@@ -20,6 +20,7 @@ use crate::line::{Line, Posted};
 use crate::lots_left::LotsLeft;
 use crate::methods::Methods;
 use crate::outcome::{Outcome, outcome_of};
+use crate::rests::{Rests, without_gone};
 use crate::setting::Head;
 use crate::stock::Stock;
 use crate::stop::LineFault;
@@ -31,15 +32,16 @@ use std::alloc::{AllocError, Global};
 /// More takes than any memory holds.
 const MOST_TAKES: usize = 1 << 39;
 
-/// The lines of a transaction so far, what its takes come to in each account, and which lots these
-/// leave there.
+/// The lines of a transaction so far, what its takes come to in each account, which lots these leave
+/// there, and where they stand.
 #[derive(Drop)]
-pub(crate) struct Lines<'a> {
+pub(crate) struct Lines<'s, 'a> {
     lines: Vec<Line<'a>>,
     taken: Holdings<'a>,
     left: LotsLeft<'a>,
+    rests: Rests<'s, 'a>,
     /// What an account holds that isn't there.
-    nothing: Inventory<'a>,
+    nothing: &'s Inventory<'a>,
 }
 
 /// Adds a take to what is taken.
@@ -75,8 +77,9 @@ fn is_in_braces(posting: &Posting<'_>) -> bool
     }
 }
 
-impl<'a> Lines<'a> {
-    fn new(alloc: Global) -> Lines<'a>
+impl<'s, 'a> Lines<'s, 'a> {
+    fn new(alloc: Global, nothing: &'s Inventory<'a>) -> Lines<'s, 'a>
+        requires { nothing.now ≡ [] }
         ensures lines { result.lines.items ≡ [] }
         ensures keeping { (h : holdings.Holdings) → IsKeeping h result }
     {
@@ -84,19 +87,13 @@ impl<'a> Lines<'a> {
             lines: Vec::new(alloc),
             taken: Holdings::new(alloc),
             left: LotsLeft::new(alloc),
-            nothing: Inventory::new(alloc),
+            rests: Rests::new(alloc),
+            nothing,
         }
     }
 
-    /// The lines.
-    pub(crate) fn as_slice(&self) -> &[Line<'a>]
-        ensures { result.now ≡ self.now.lines.items }
-    {
-        self.lines.as_slice()
-    }
-
     /// The vector of the lines.
-    pub(crate) fn into_vec(self) -> Vec<Line<'a>>
+    fn into_vec(self) -> Vec<Line<'a>>
         ensures { result.items ≡ self.entry.lines.items }
     {
         self.lines
@@ -106,7 +103,7 @@ impl<'a> Lines<'a> {
     fn note_take(
         &mut self,
         alloc: Global,
-        holdings: &Holdings<'a>,
+        holdings: &'s Holdings<'a>,
         take: &Posted<'a>,
     ) -> Result<(), AllocError>
         requires keeping { IsKeeping holdings.now self.old }
@@ -116,19 +113,28 @@ impl<'a> Lines<'a> {
         ensures taken { OnOk result
             (HasTaken holdings.now (takes_in self.old.lines.items ++ take.now ∷ []) self.new) }
     {
-        let held = holdings.of(&take.account, &self.nothing);
-        let taken = self.taken.of(&take.account, &self.nothing);
+        let key = take.key();
+        let held = holdings.of(&take.account, self.nothing);
+        let taken = self.taken.of(&take.account, self.nothing);
         let count = take.units.number.scaled(8);
-        self.left
-            .note(&take.account, held, taken, &take.key(), count)?;
-        post_take(alloc, &mut self.taken, take)
+        self.left.note(&take.account, held, taken, &key, count)?;
+        let rest = self.rests.before_take(&take.account, held, taken, &key);
+        post_take(alloc, &mut self.taken, take)?;
+        match rest {
+            Some(rest) => {
+                let taken = self.taken.of(&take.account, self.nothing);
+                self.rests
+                    .set(take.account.lend(), without_gone(rest, taken))
+            }
+            None => Ok(()),
+        }
     }
 
     /// Adds what a line takes to what is taken.
     fn note(
         &mut self,
         alloc: Global,
-        holdings: &Holdings<'a>,
+        holdings: &'s Holdings<'a>,
         line: &Line<'a>,
     ) -> Result<(), AllocError>
         requires keeping { IsKeeping holdings.now self.old }
@@ -147,7 +153,7 @@ impl<'a> Lines<'a> {
     fn push(
         &mut self,
         alloc: Global,
-        holdings: &Holdings<'a>,
+        holdings: &'s Holdings<'a>,
         line: Line<'a>,
     ) -> Result<(), AllocError>
         requires keeping { IsKeeping holdings.now self.old }
@@ -165,7 +171,7 @@ impl<'a> Lines<'a> {
     fn push_all(
         &mut self,
         alloc: Global,
-        holdings: &Holdings<'a>,
+        holdings: &'s Holdings<'a>,
         lines: Vec<Line<'a>>,
     ) -> Result<(), AllocError>
         requires keeping { IsKeeping holdings.now self.old }
@@ -184,7 +190,7 @@ impl<'a> Lines<'a> {
     fn add(
         &mut self,
         alloc: Global,
-        holdings: &Holdings<'a>,
+        holdings: &'s Holdings<'a>,
         outcome: Outcome<'a>,
     ) -> Result<(), AllocError>
         requires keeping { IsKeeping holdings.now self.old }
@@ -204,7 +210,7 @@ impl<'a> Lines<'a> {
     fn next(
         &self,
         alloc: Global,
-        holdings: &Holdings<'a>,
+        holdings: &'s Holdings<'a>,
         methods: &Methods<'a>,
         head: Head,
         index: usize,
@@ -218,14 +224,15 @@ impl<'a> Lines<'a> {
             → ComesOf (IsNext s self.now.lines.items index posting.now) result }
     {
         if !is_in_braces(posting) {
-            let stock = Stock::of_nothing(&self.nothing, &self.left);
+            let stock = Stock::of_nothing(self.nothing, &self.left, &self.rests);
             return outcome_of(alloc, stock, head, index, posting);
         }
         let stock = Stock {
             method: methods.of(&posting.account),
-            held: holdings.of(&posting.account, &self.nothing),
-            taken: self.taken.of(&posting.account, &self.nothing),
+            held: holdings.of(&posting.account, self.nothing),
+            taken: self.taken.of(&posting.account, self.nothing),
             left: &self.left,
+            rests: &self.rests,
         };
         outcome_of(alloc, stock, head, index, posting)
     }
@@ -234,7 +241,7 @@ impl<'a> Lines<'a> {
     fn add_next(
         &mut self,
         alloc: Global,
-        holdings: &Holdings<'a>,
+        holdings: &'s Holdings<'a>,
         methods: &Methods<'a>,
         head: Head,
         index: usize,
@@ -262,29 +269,32 @@ impl<'a> Lines<'a> {
     }
 }
 
-/// The lines of postings that are in the profile, or the first fault of one.
-pub(crate) fn line_up<'a>(
+/// The lines of postings that are in the profile, or the first fault of one; `nothing` stands in for
+/// what an account holds that isn't there.
+pub(crate) fn line_up<'s, 'a>(
     alloc: Global,
-    holdings: &Holdings<'a>,
+    holdings: &'s Holdings<'a>,
+    nothing: &'s Inventory<'a>,
     methods: &Methods<'a>,
     head: Head,
     postings: &[Posting<'a>],
-) -> Result<Lines<'a>, Refusal<LineFault>>
+) -> Result<Vec<Line<'a>>, Refusal<LineFault>>
+    requires nothing { nothing.now ≡ [] }
     requires bounded { IsBounded holdings.now }
     requires few { additions_in holdings.now ≤ 2 ^ 40 }
     requires inside { list_any is_outside_profile postings.now ≡ false }
     ensures ok { IfOk result (λ lines. (s : Setting) → IsSettled s holdings.now methods.now head
-        → AreLined s (reverse postings.now) lines.lines.items) }
+        → AreLined s (reverse postings.now) lines.items) }
     ensures err { IfErr result (λ stop. (s : Setting)
         → IsSettled s holdings.now methods.now head
         → StopsAt (IsFirstFault s postings.now) stop) }
 {
-    let mut lines = Lines::new(alloc);
+    let mut lines = Lines::new(alloc, nothing);
     for index in 0..postings.len() {
         match lines.add_next(alloc, holdings, methods, head, index, &postings[index]) {
             Ok(()) => {}
             Err(stop) => return Err(stop),
         }
     }
-    Ok(lines)
+    Ok(lines.into_vec())
 }

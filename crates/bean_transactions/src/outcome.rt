@@ -152,13 +152,16 @@ fn reduced<'a>(
 ) -> Result<Outcome<'a>, Refusal<LineFault>>
     requires chooses { stock.method ≢ Method.None }
     requires small { IsSmallStock stock }
+    requires left { KnowsLots stock posting.now.account }
     ensures { ComesOf (IsReducedBy stock.entry.method (rest_of stock.entry) parts.now
         posting.now.account units.now index posting.now.details.line) result }
 {
     let selector = selector_of(units, parts);
+    let rest = stock.rests.of(&posting.account, stock.held);
     match reduce_after(
         alloc,
         stock.held,
+        &rest,
         stock.taken,
         &selector,
         units.number,

@@ -2,22 +2,29 @@
 ghost use Rattle.std.specs.Prelude.{◌≡◌};
 
 use crate::lots_left::LotsLeft;
+use crate::rests::Rests;
 use bean_lots::Inventory;
 use bean_reductions::Method;
 
 /// An account as a posting meets it: what it held before the transaction, what the transaction took
-/// of that so far, which lots it leaves, and how the account chooses among its lots.
+/// of that so far, which lots it leaves and where they stand, and how the account chooses among its
+/// lots.
 #[derive(Clone, Copy)]
 pub(crate) struct Stock<'s, 'a> {
     pub method: Method,
     pub held: &'s Inventory<'a>,
     pub taken: &'s Inventory<'a>,
     pub left: &'s LotsLeft<'a>,
+    pub rests: &'s Rests<'s, 'a>,
 }
 
 impl<'s, 'a> Stock<'s, 'a> {
     /// An account with nothing in it, of which `nothing` is the inventory.
-    pub fn of_nothing(nothing: &'s Inventory<'a>, left: &'s LotsLeft<'a>) -> Stock<'s, 'a>
+    pub fn of_nothing(
+        nothing: &'s Inventory<'a>,
+        left: &'s LotsLeft<'a>,
+        rests: &'s Rests<'s, 'a>,
+    ) -> Stock<'s, 'a>
         ensures held { result.held.now ≡ nothing.now }
         ensures taken { result.taken.now ≡ nothing.now }
     {
@@ -26,6 +33,7 @@ impl<'s, 'a> Stock<'s, 'a> {
             held: nothing,
             taken: nothing,
             left,
+            rests,
         }
     }
 }

@@ -21,6 +21,7 @@ use crate::setting::Head;
 use crate::stop::{LineFault, refusal_of};
 use bean_base::{FaultKind, List};
 use bean_interp::{Scales, WeighCause};
+use bean_lots::Inventory;
 use bean_postings::Posting;
 use refusals::Refusal;
 use std::alloc::{AllocError, Global};
@@ -82,8 +83,9 @@ pub fn try_transaction<'a>(
     if are_plain(postings) {
         return try_plain(alloc, scales, head, postings);
     }
-    match line_up(alloc, holdings, methods, head, postings) {
-        Ok(lines) => complete(alloc, scales, head, postings, lines.into_vec()),
+    let nothing = Inventory::new(alloc);
+    match line_up(alloc, holdings, &nothing, methods, head, postings) {
+        Ok(lines) => complete(alloc, scales, head, postings, lines),
         Err(stop) => Err(stop),
     }
 }

@@ -1,10 +1,13 @@
 //! The positions of an inventory, one after the other.
-ghost use Rattle.std.specs.Prelude.{◌≡◌, ◌<◌, ◌≤◌, ◌∷◌, ◌++◌, [], IfSome, IfNone, Some, drop, take};
-ghost use Rattle.std.specs.Prelude.{length, slice_get};
+ghost use Rattle.std.specs.Prelude.{◌≡◌, ◌<◌, ◌≤◌, ◌∷◌, ◌++◌, ◌-◌, [], IfSome, IfNone, Some, drop};
+ghost use Rattle.std.specs.Prelude.{length, slice_get, take, true};
 ghost use Rattle.bean_lots.specs.Inventory.{position_of};
-ghost use Rattle.bean_lots.specs.Slots.{positions};
+ghost use Rattle.bean_lots.specs.Part.{HasAllOf};
+ghost use Rattle.bean_lots.specs.Slots.{AreInOrder, positions};
 
+use super::part::part_on;
 use crate::lot::{Key, Position};
+use bean_base::Day;
 use indexmap::map::Slice;
 use std::marker::Model;
 
@@ -12,17 +15,20 @@ use std::marker::Model;
 #[derive(Drop)]
 pub struct Positions<'s, 'a> {
     slots: Slice<'s, Key<'a>, i128>,
-    next: usize,
+    /// Whether lots are known to stand in the order of their days.
+    in_order: bool,
 }
 
 impl<'s, 'a> Model for Positions<'s, 'a> {
-    ghost use Rattle.std.specs.Prelude.{List, drop};
+    ghost use Rattle.std.specs.Prelude.{◌≡◌, List, true};
     ghost use Rattle.bean_lots.specs.declared.lot.Position.{Position};
-    ghost use Rattle.bean_lots.specs.Slots.{positions};
+    ghost use Rattle.bean_lots.specs.Slots.{AreInOrder, positions};
 
     ghost Value = { List Position };
 
-    ghost view = { λ p. positions (drop p.next p.slots) };
+    ghost view = { λ p. positions p.slots };
+
+    ghost invariant = { λ p. p.in_order ≡ true → AreInOrder p.slots };
 }
 
 /// The key and the count of a slot.
@@ -36,17 +42,15 @@ pub(crate) fn slot_at<'s, 'a>(slots: &Slice<'s, Key<'a>, i128>, index: usize) ->
     }
 }
 
-/// The first slot from an index on in which something is held, as its key and its count, and the
-/// index behind it.
-fn first_from<'s, 'a>(
-    slots: &Slice<'s, Key<'a>, i128>,
-    start: usize,
-) -> Option<(&'s Key<'a>, i128, usize)>
-    ensures some { IfSome result (λ p. positions (drop start slots.now)
+/// The first slot in which something is held, as its key and its count, and the index behind it.
+fn first_of<'s, 'a>(slots: &Slice<'s, Key<'a>, i128>) -> Option<(&'s Key<'a>, i128, usize)>
+    ensures some { IfSome result (λ p. positions slots.now
         ≡ position_of p.0.now p.1 ∷ positions (drop p.2 slots.now)) }
-    ensures none { IfNone result (positions (drop start slots.now) ≡ []) }
+    ensures from { IfSome result (λ p. positions (drop (p.2 - 1) slots.now) ≡ positions slots.now) }
+    ensures inside { IfSome result (λ p. (0 < p.2) × (p.2 ≤ length slots.now)) }
+    ensures none { IfNone result (positions slots.now ≡ []) }
 {
-    for index in start..slots.len() {
+    for index in 0..slots.len() {
         let (key, count) = slot_at(slots, index);
         if count != 0 {
             return Some((key, count, index + 1));
@@ -55,31 +59,92 @@ fn first_from<'s, 'a>(
     None
 }
 
-/// The last slot from an index on in which something is held, as its key and its count, and its
-/// index.
-fn last_from<'s, 'a>(
-    slots: &Slice<'s, Key<'a>, i128>,
-    start: usize,
-) -> Option<(&'s Key<'a>, i128, usize)>
-    ensures some { IfSome result (λ p. positions (drop start slots.now)
-        ≡ positions (drop start (take p.2 slots.now)) ++ position_of p.0.now p.1 ∷ []) }
-    ensures inside { IfSome result (λ p. p.2 ≤ length slots.now) }
-    ensures none { IfNone result (positions (drop start slots.now) ≡ []) }
+/// The last slot in which something is held, as its key and its count, and the index behind it.
+fn last_of<'s, 'a>(slots: &Slice<'s, Key<'a>, i128>) -> Option<(&'s Key<'a>, i128, usize)>
+    ensures some { IfSome result (λ p. positions slots.now
+        ≡ positions (take (p.2 - 1) slots.now) ++ position_of p.0.now p.1 ∷ []) }
+    ensures until { IfSome result (λ p. positions (take p.2 slots.now) ≡ positions slots.now) }
+    ensures inside { IfSome result (λ p. (0 < p.2) × (p.2 ≤ length slots.now)) }
+    ensures none { IfNone result (positions slots.now ≡ []) }
 {
-    for index in (start..slots.len()).rev() {
+    for index in (0..slots.len()).rev() {
         let (key, count) = slot_at(slots, index);
         if count != 0 {
-            return Some((key, count, index));
+            return Some((key, count, index + 1));
         }
     }
     None
 }
 
+/// Slots without the holes in front of all that is held.
+fn without_first_holes<'s, 'a>(slots: Slice<'s, Key<'a>, i128>) -> Slice<'s, Key<'a>, i128>
+    ensures same { positions result ≡ positions slots.entry }
+    ensures ordered { AreInOrder slots.entry → AreInOrder result }
+{
+    match first_of(&slots) {
+        Some((_, _, behind)) => {
+            let (_, held) = slots.split_at(behind - 1);
+            held
+        }
+        None => slots,
+    }
+}
+
+/// Slots without the holes behind all that is held.
+fn without_last_holes<'s, 'a>(slots: Slice<'s, Key<'a>, i128>) -> Slice<'s, Key<'a>, i128>
+    ensures same { positions result ≡ positions slots.entry }
+    ensures ordered { AreInOrder slots.entry → AreInOrder result }
+{
+    match last_of(&slots) {
+        Some((_, _, behind)) => {
+            let (held, _) = slots.split_at(behind);
+            held
+        }
+        None => slots,
+    }
+}
+
 impl<'s, 'a> Positions<'s, 'a> {
-    pub(crate) fn new(slots: Slice<'s, Key<'a>, i128>) -> Positions<'s, 'a>
+    /// What is held in slots, of which it may be known that they are in the order of days.
+    pub(crate) fn new(slots: Slice<'s, Key<'a>, i128>, in_order: bool) -> Positions<'s, 'a>
+        requires { in_order ≡ true → AreInOrder slots }
         ensures { result ≡ positions slots.entry }
     {
-        Positions { slots, next: 0 }
+        Positions { slots, in_order }
+    }
+
+    /// The same positions once more.
+    pub fn lend(&self) -> Positions<'s, 'a>
+        ensures { result ≡ self.now }
+    {
+        let (_, slots) = self.slots.split_at(0);
+        Positions {
+            slots,
+            in_order: self.in_order,
+        }
+    }
+
+    /// The positions about a day, in order of entry: all lots of that day, and few others where
+    /// lots are known to stand in the order of their days. Where no day is given, all positions.
+    pub fn about(&self, day: Option<Day>) -> Positions<'s, 'a>
+        ensures { HasAllOf day result self.now }
+    {
+        let Some(day) = day else {
+            return self.lend();
+        };
+        if !self.in_order {
+            return self.lend();
+        }
+        let (_, slots) = self.slots.split_at(0);
+        Positions::new(part_on(slots, day), true)
+    }
+
+    /// Gives up the slots at both ends in which nothing is held, so that they aren't passed again.
+    pub fn trim(&mut self)
+        ensures { self.new ≡ self.old }
+    {
+        let (_, slots) = self.slots.split_at(0);
+        self.slots = without_last_holes(without_first_holes(slots));
     }
 
     /// The key and the count of the next position, or none where there are no more.
@@ -87,8 +152,9 @@ impl<'s, 'a> Positions<'s, 'a> {
         ensures some { IfSome result (λ e. self.old ≡ position_of e.0.now e.1 ∷ self.new) }
         ensures none { IfNone result (self.old ≡ []) }
     {
-        let (key, count, behind) = first_from(&self.slots, self.next)?;
-        self.next = behind;
+        let (key, count, behind) = first_of(&self.slots)?;
+        let (_, rest) = self.slots.split_at(behind);
+        self.slots = rest;
         Some((key, count))
     }
 
@@ -97,8 +163,8 @@ impl<'s, 'a> Positions<'s, 'a> {
         ensures some { IfSome result (λ e. self.old ≡ self.new ++ position_of e.0.now e.1 ∷ []) }
         ensures none { IfNone result (self.old ≡ []) }
     {
-        let (key, count, index) = last_from(&self.slots, self.next)?;
-        let (before, _) = self.slots.split_at(index);
+        let (key, count, behind) = last_of(&self.slots)?;
+        let (before, _) = self.slots.split_at(behind - 1);
         self.slots = before;
         Some((key, count))
     }

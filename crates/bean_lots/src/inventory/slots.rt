@@ -15,7 +15,6 @@ ghost use Rattle.std.specs.Ordering.{int_eq};
 ghost use Rattle.bean_lots.specs.Inventory.{IsInventory, MayBeNegated, added, count_of};
 ghost use Rattle.bean_lots.specs.Inventory.{negative_entry};
 ghost use Rattle.bean_lots.specs.Lot.{same_key};
-ghost use Rattle.bean_lots.specs.Part.{HasAllOf};
 ghost use Rattle.bean_lots.specs.Inventory.{long_lot, short_lot};
 ghost use Rattle.bean_lots.specs.AtCost.{is_lot_at};
 ghost use Rattle.bean_lots.specs.Costs.{IsTold};
@@ -27,7 +26,6 @@ ghost use Rattle.bean_lots.specs.declared.lot.Key.{Key as KeyValue};
 use super::costs::LotDay;
 use super::days::Days;
 use super::known::KnownLots;
-use super::part::part_on;
 use super::positions::Positions;
 use super::signs::Signs;
 use crate::lot::{Cost, Key, Lot};
@@ -71,7 +69,7 @@ fn held_in<'s, 'a>(slots: &Slice<'s, Key<'a>, i128>, index: usize) -> Positions<
 {
     let (_, behind) = slots.split_at(index);
     let (own, _) = behind.split_at(1);
-    Positions::new(own)
+    Positions::new(own, false)
 }
 
 /// A slot for each key that is held, and for some that were.
@@ -153,19 +151,7 @@ impl<'a> Slots<'a> {
         ensures { result ≡ spec.positions self.now.counts.entries }
     {
         let (_, held) = self.counts.as_slice().split_at(self.first);
-        Positions::new(held)
-    }
-
-    /// What is held about a day, in order of entry: all lots of that day.
-    pub(crate) fn positions_about(&self, day: Day) -> Positions<'_, 'a>
-        requires { IsKept self.now }
-        ensures { HasAllOf (Some day) result (spec.positions self.now.counts.entries) }
-    {
-        if !self.days.in_order {
-            return self.positions();
-        }
-        let (_, held) = self.counts.as_slice().split_at(self.first);
-        Positions::new(part_on(held, day))
+        Positions::new(held, self.days.in_order)
     }
 
     /// Holes at the front are passed.
@@ -373,7 +359,7 @@ impl<'a> Slots<'a> {
         let slots = self.counts.as_slice();
         match self.slot_of(key) {
             Some(index) => held_in(&slots, index),
-            None => Positions::new(Slice::new()),
+            None => Positions::new(Slice::new(), false),
         }
     }
 
@@ -393,7 +379,7 @@ impl<'a> Slots<'a> {
         match costs.day_at(cost.count) {
             Some(LotDay::On(day)) => Some(self.positions_of(&key_on(currency, cost, day))),
             Some(LotDay::Several) => None,
-            None => Some(Positions::new(Slice::new())),
+            None => Some(Positions::new(Slice::new(), false)),
         }
     }
 

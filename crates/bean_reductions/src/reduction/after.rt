@@ -11,6 +11,7 @@ ghost use Rattle.bean_reductions.specs.Front.{IsFront};
 ghost use Rattle.bean_lots.specs.Inventory.{count_of, long_lots, short_lots};
 ghost use Rattle.bean_lots.specs.declared.lot.Position.{Position};
 ghost use Rattle.bean_reductions.specs.Reduction.{Reduces};
+ghost use Rattle.bean_reductions.specs.Rest.{HasAllLeft};
 ghost use Rattle.bean_reductions.specs.Take.{units_of};
 
 use super::by_cost::{positions_at_cost, reduce_from};
@@ -93,10 +94,12 @@ fn is_back_enough(inventory: &Inventory<'_>, method: Method) -> bool
 }
 
 /// What a reduction by `units` takes of the lots that are left of an inventory by what is in
-/// `taken`: the takes in their order, with the sign of `units`.
+/// `taken`: the takes in their order, with the sign of `units`. The rest, which alone is looked at,
+/// has all that is left.
 pub fn reduce_after<'a>(
     alloc: Global,
     inventory: &Inventory<'a>,
+    rest: &Positions<'_, 'a>,
     taken: &Inventory<'_>,
     selector: &Selector<'_>,
     units: Num,
@@ -104,6 +107,7 @@ pub fn reduce_after<'a>(
 ) -> Result<Vec<(Lot<'a>, Num)>, Refusal<LotCause>>
     requires chooses { method ≢ Method.None }
     requires held { AreSmall (2 ^ 125) inventory.now }
+    requires rest { HasAllLeft taken.now rest.now inventory.now }
     requires taken { AreSmall (2 ^ 125) taken.now }
     ensures { let want = scaled units.count units.places 8 in
         Reduces method (candidates selector.now want (after inventory.now taken.now)) want result }
@@ -113,9 +117,9 @@ pub fn reduce_after<'a>(
         return reduce_from(alloc, part, taken, selector, want, method);
     }
     if is_back_enough(inventory, method) {
-        return reduce_last_in(alloc, inventory, taken, selector, want);
+        return reduce_last_in(alloc, rest, taken, selector, want);
     }
-    let part = inventory.positions_about(selector.day);
+    let part = rest.about(selector.day);
     let is_front_enough = is_front_enough(inventory, method);
     let found = candidates_after(alloc, part, taken, selector, want, is_front_enough)?;
     reduce_candidates(alloc, found, want, method)

@@ -136,22 +136,22 @@ fn last_day(
 /// The first candidates of a day, which is the last that has any, where they come to the want.
 fn first_on<'a>(
     alloc: Global,
-    inventory: &Inventory<'a>,
+    positions: &Positions<'_, 'a>,
     taken: &Inventory<'_>,
     selector: &Selector<'_>,
     want: i128,
     day: Day,
 ) -> Result<Option<Vec<Candidate<'a>>>, AllocError>
-    requires held { AreSmall (2 ^ 125) inventory.now }
+    requires held { AreSmall (2 ^ 125) positions.now }
     requires taken { AreSmall (2 ^ 125) taken.now }
-    requires days { RiseInDays inventory.now }
+    requires days { RiseInDays positions.now }
     requires any { selector.now.day ≡ None }
-    requires last { AreBy (number day) (candidates selector.now want (after inventory.now taken.now)) }
+    requires last { AreBy (number day) (candidates selector.now want (after positions.now taken.now)) }
     ensures { IfOk result (λ first. IfSome first (λ found. IsFirst (unsigned_abs want) found.items
-        (candidates selector.now want (after inventory.now taken.now)))) }
+        (candidates selector.now want (after positions.now taken.now)))) }
 {
     let on_day = selector.on(day);
-    let part = inventory.positions_about(Some(day));
+    let part = positions.about(Some(day));
     let found = candidates_after(alloc, part, taken, &on_day, want, true)?;
     if shortfall(&found, want.unsigned_abs()) > 0 {
         return Ok(None);
@@ -163,45 +163,45 @@ fn first_on<'a>(
 /// gives no day.
 fn first_of_last_day<'a>(
     alloc: Global,
-    inventory: &Inventory<'a>,
+    positions: &Positions<'_, 'a>,
     taken: &Inventory<'_>,
     selector: &Selector<'_>,
     want: i128,
 ) -> Result<Option<Vec<Candidate<'a>>>, AllocError>
-    requires held { AreSmall (2 ^ 125) inventory.now }
+    requires held { AreSmall (2 ^ 125) positions.now }
     requires taken { AreSmall (2 ^ 125) taken.now }
-    requires days { RiseInDays inventory.now }
+    requires days { RiseInDays positions.now }
     ensures { IfOk result (λ first. IfSome first (λ found. IsFirst (unsigned_abs want) found.items
-        (candidates selector.now want (after inventory.now taken.now)))) }
+        (candidates selector.now want (after positions.now taken.now)))) }
 {
     if selector.day.is_some() {
         return Ok(None);
     }
-    match last_day(inventory.positions(), taken, selector, want) {
-        Some(day) => first_on(alloc, inventory, taken, selector, want, day),
+    match last_day(positions.lend(), taken, selector, want) {
+        Some(day) => first_on(alloc, positions, taken, selector, want, day),
         None => Ok(None),
     }
 }
 
-/// What a reduction takes of what is left of an inventory under `Lifo`.
+/// What a reduction takes of what is left of positions under `Lifo`, where the last day may do.
 pub(crate) fn reduce_last_in<'a>(
     alloc: Global,
-    inventory: &Inventory<'a>,
+    positions: &Positions<'_, 'a>,
     taken: &Inventory<'_>,
     selector: &Selector<'_>,
     want: i128,
 ) -> Result<Vec<(Lot<'a>, Num)>, Refusal<LotCause>>
     requires small { unsigned_abs want < 10 ^ 20 }
-    requires held { AreSmall (2 ^ 125) inventory.now }
+    requires held { AreSmall (2 ^ 125) positions.now }
     requires taken { AreSmall (2 ^ 125) taken.now }
-    requires days { RiseInDays inventory.now }
-    ensures { Reduces Method.Lifo (candidates selector.now want (after inventory.now taken.now))
+    requires days { RiseInDays positions.now }
+    ensures { Reduces Method.Lifo (candidates selector.now want (after positions.now taken.now))
         want result }
 {
-    match first_of_last_day(alloc, inventory, taken, selector, want)? {
+    match first_of_last_day(alloc, positions, taken, selector, want)? {
         Some(found) => reduce_candidates(alloc, found, want, Method::Lifo),
         None => {
-            let part = inventory.positions_about(selector.day);
+            let part = positions.about(selector.day);
             reduce_last(alloc, part, taken, selector, want)
         }
     }

@@ -1,4 +1,4 @@
-use Rattle.std.proofs.Common.{reverse, arith, subst}
+use Rattle.std.proofs.Common.{reverse, arith, subst, sym}
 use Rattle.std.proofs.lemmas.List.{take_all}
 use Rattle.bean_postings.specs.Posting.{is_outside_profile}
 use Rattle.bean_transactions.specs.Lined.{AreLined}
@@ -40,5 +40,6 @@ pub returns-clause-ok : goal.returns-clause-ok
 returns-clause-ok c = λ s is.
     let ps = c.args.postings.now in
     let i = c.loop-index.index in
-    subst (λ qs. AreLined s (reverse qs) c.loop-index.lines.lines.items)
-    (take_all i ps (omega (arith, c.loop-index-test.false))) (c.loop-index.invariant.lined s is)
+    subst (AreLined s (reverse ps)) (sym c.into_vec.ensures)
+    (subst (λ qs. AreLined s (reverse qs) c.loop-index.lines.lines.items)
+    (take_all i ps (omega (arith, c.loop-index-test.false))) (c.loop-index.invariant.lined s is))

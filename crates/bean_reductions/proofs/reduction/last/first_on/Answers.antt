@@ -16,17 +16,17 @@ use Rattle.bean_reductions.proofs.reduction.last.first_on.Goals as goal
 
 pub candidates_after-requires-clause-held : goal.candidates_after-requires-clause-held
 candidates_after-requires-clause-held c =
-    let part = c.positions_about-part.ensures in
-    middle (IsSmall (2 ^ 125)) part.before c.positions_about-part.result part.behind
-    c.args.inventory.now part.all c.requires.held
+    let part = c.about-part.ensures in
+    middle (IsSmall (2 ^ 125)) part.before c.about-part.result part.behind
+    c.args.positions.now part.all c.requires.held
 
 pub returns : goal.returns
 returns c =
     let s = c.args.selector.now in
     let t = c.on-on_day.result in
-    let es = c.args.inventory.now in
+    let es = c.args.positions.now in
     let taken = c.args.taken.now in
-    let part = c.positions_about-part.result in
+    let part = c.about-part.result in
     let wide = to_z w128 (of_z w128 c.args.want) in
     let want : wide ≡ c.args.want = omega (arith, ints) in
     let found = c.in_ok-found.found.items in
@@ -34,7 +34,7 @@ returns c =
     let on = c.on-on_day.ensures in
     let same =
     same_candidates t wide part es taken
-    (subst (λ o. HasAllOf o part es) (sym on.day) c.positions_about-part.ensures) in
+    (subst (λ o. HasAllOf o part es) (sym on.day) c.about-part.ensures) in
     let last =
     subst (λ w. AreBy (number c.args.day) (candidates s w (after es taken))) (sym want)
     c.requires.last in

@@ -18,7 +18,7 @@ pub reduce_candidates-requires-clause-held : goal.reduce_candidates-requires-cla
 reduce_candidates-requires-clause-held c =
     let s = c.args.selector.now in
     let wide = to_z w128 (of_z w128 c.args.want) in
-    let left = after c.args.inventory.now c.args.taken.now in
+    let left = after c.args.positions.now c.args.taken.now in
     let first =
     subst (λ o. IfSome o (λ f. IsFirst (unsigned_abs wide) f.items (candidates s wide left)))
     c.in-Some.is c.in_ok-found.ensures in
@@ -29,7 +29,7 @@ pub reduce_candidates-requires-clause-wanted : goal.reduce_candidates-requires-c
 reduce_candidates-requires-clause-wanted c = λ p.
     let s = c.args.selector.now in
     let wide = to_z w128 (of_z w128 c.args.want) in
-    let left = after c.args.inventory.now c.args.taken.now in
+    let left = after c.args.positions.now c.args.taken.now in
     let first =
     subst (λ o. IfSome o (λ f. IsFirst (unsigned_abs wide) f.items (candidates s wide left)))
     c.in-Some.is c.in_ok-found.ensures in
@@ -41,7 +41,7 @@ returns-in-Some c =
     let s = c.args.selector.now in
     let wide = to_z w128 (of_z w128 c.args.want) in
     let want : wide ≡ c.args.want = omega (arith, ints) in
-    let left = after c.args.inventory.now c.args.taken.now in
+    let left = after c.args.positions.now c.args.taken.now in
     let first =
     subst (λ o. IfSome o (λ f. IsFirst (unsigned_abs wide) f.items (candidates s wide left)))
     c.in-Some.is c.in_ok-found.ensures in
@@ -51,23 +51,23 @@ returns-in-Some c =
 
 pub reduce_last-requires-clause-held : goal.reduce_last-requires-clause-held
 reduce_last-requires-clause-held c =
-    let part = c.positions_about-part.ensures in
-    middle (IsSmall (2 ^ 125)) part.before c.positions_about-part.result part.behind
-    c.args.inventory.now part.all c.requires.held
+    let part = c.about-part.ensures in
+    middle (IsSmall (2 ^ 125)) part.before c.about-part.result part.behind
+    c.args.positions.now part.all c.requires.held
 
 pub reduce_last-requires-clause-days : goal.reduce_last-requires-clause-days
 reduce_last-requires-clause-days c =
-    rise_part c.args.selector.now.day c.positions_about-part.result c.args.inventory.now
-    c.positions_about-part.ensures c.requires.days
+    rise_part c.args.selector.now.day c.about-part.result c.args.positions.now
+    c.about-part.ensures c.requires.days
 
 pub returns-in-None : goal.returns-in-None
 returns-in-None c =
     let s = c.args.selector.now in
-    let es = c.args.inventory.now in
+    let es = c.args.positions.now in
     let taken = c.args.taken.now in
     let wide = to_z w128 (of_z w128 c.args.want) in
     let want : wide ≡ c.args.want = omega (arith, ints) in
     let same =
-    same_candidates s wide c.positions_about-part.result es taken c.positions_about-part.ensures in
+    same_candidates s wide c.about-part.result es taken c.about-part.ensures in
     subst (λ w. Reduces Lifo (candidates s w (after es taken)) w c.reduce_last.result) want
     (subst (λ l. Reduces Lifo l wide c.reduce_last.result) same c.reduce_last.ensures)

@@ -1,17 +1,25 @@
-use Rattle.std.proofs.Common.{◌≡◌, ◌<◌, ◌^◌, to_z, of_z, arith, subst, sym}
+use Rattle.std.proofs.Common.{◌≡◌, ◌<◌, ◌^◌, ℤ, cond, IfNone, IfSome, to_z, of_z, arith, ap, subst, sym, ◌∙◌}
 use Rattle.std.specs.Int.{w128}
 use Rattle.std.specs.Int.RustNames.{unsigned_abs}
+use Rattle.std.specs.Str.{bytes_eq}
 use Rattle.std.proofs.lemmas.Int.{ints}
+use Rattle.std.proofs.lemmas.Result.{on_ok_weaker}
+use Rattle.bean_lots.specs.Inventory.{added}
 use Rattle.bean_reductions.specs.After.{AreSmall}
+use Rattle.bean_reductions.specs.Rest.{HasAllLeft}
+use Rattle.bean_transactions.specs.Held.{at_8, key_of, takes_in}
+use Rattle.bean_transactions.specs.LotsLeft.{AreLeft}
+use Rattle.bean_transactions.specs.Rests.{rest_in}
 use Rattle.bean_transactions.proofs.BoundFacts.{bounded_small}
 use Rattle.bean_transactions.proofs.LotsLeftFacts.{sum_fits, sums_fit}
+use Rattle.bean_transactions.proofs.RestFacts.{lots_more, rests_first, rests_more, small_part}
 use Rattle.bean_transactions.proofs.lines.Lines.note_take.Goals as goal
 
 pub note-requires-clause-before : goal.note-requires-clause-before
 note-requires-clause-before c =
     let a = c.args.take.now.account in
     let few = c.requires.keeping.few in
-    sum_fits c.of-held.result.now c.of-taken.result.now c.key.result
+    sum_fits c.of-held.result.now c.of-taken.result.now c.key-key.result
     (subst (AreSmall (2 ^ 125)) (sym c.of-held.ensures)
     (bounded_small c.args.holdings.now a c.requires.bounded c.requires.few))
     (subst (AreSmall (2 ^ 125)) (sym c.of-taken.ensures)
@@ -23,9 +31,124 @@ note-requires-clause-after c =
     let few = c.requires.keeping.few in
     let wide : to_z w128 (of_z w128 c.scaled-count.result) ≡ c.scaled-count.result =
     omega (arith, ints) in
-    sums_fit c.of-held.result.now c.of-taken.result.now c.key.result _
+    sums_fit c.of-held.result.now c.of-taken.result.now c.key-key.result _
     (subst (AreSmall (2 ^ 125)) (sym c.of-held.ensures)
     (bounded_small c.args.holdings.now a c.requires.bounded c.requires.few))
     (subst (AreSmall (2 ^ 125)) (sym c.of-taken.ensures)
     (bounded_small c.args.self.now.taken a c.requires.keeping.bounded (omega (arith, few))))
     (subst (λ n. unsigned_abs n < 10 ^ 20) (sym wide) c.scaled-count.ensures.bound)
+
+pub before_take-rest-requires-clause-fits : goal.before_take-rest-requires-clause-fits
+before_take-rest-requires-clause-fits c =
+    let a = c.args.take.now.account in
+    let few = c.requires.keeping.few in
+    sum_fits c.of-held.result.now c.of-taken.result.now c.key-key.result
+    (subst (AreSmall (2 ^ 125)) (sym c.of-held.ensures)
+    (bounded_small c.args.holdings.now a c.requires.bounded c.requires.few))
+    (subst (AreSmall (2 ^ 125)) (sym c.of-taken.ensures)
+    (bounded_small c.args.self.now.taken a c.requires.keeping.bounded (omega (arith, few))))
+
+pub without_gone-requires-clause-rest : goal.without_gone-requires-clause-rest
+without_gone-requires-clause-rest c =
+    let a = c.args.take.now.account in
+    let n = at_8 c.args.take.now.units.number in
+    let all =
+    subst
+    (λ o. IfSome o (λ rest. (n : ℤ)
+    → HasAllLeft (added c.of-taken.result.now c.key-key.result n) rest c.of-held.result.now))
+    c.in-Some.is c.before_take-rest.ensures.some in
+    small_part (added c.of-taken.result.now c.key-key.result n) c.in-Some.rest
+    c.of-held.result.now (all n)
+    (subst (AreSmall (2 ^ 125)) (sym c.of-held.ensures)
+    (bounded_small c.args.holdings.now a c.requires.bounded c.requires.few))
+
+pub without_gone-requires-clause-taken : goal.without_gone-requires-clause-taken
+without_gone-requires-clause-taken c =
+    let a = c.args.take.now.account in
+    let few = c.in_ok-post_take.ensures.few in
+    subst (AreSmall (2 ^ 125)) (sym c.of-taken-in-Some.ensures)
+    (bounded_small c.post_take.new.taken a c.in_ok-post_take.ensures.bounded (omega (arith, few)))
+
+pub returns-in-Some-clause-taken : goal.returns-in-Some-clause-taken
+returns-in-Some-clause-taken c =
+    let h = c.args.holdings.now in
+    let g = c.args.self.now.taken in
+    let f = c.post_take.new.taken in
+    let r = c.args.self.now.rests in
+    let a = c.args.take.now.account in
+    let k = key_of c.args.take.now in
+    let n = at_8 c.args.take.now.units.number in
+    let held = c.of-held.result.now in
+    let taken = c.of-taken.result.now in
+    let keeping = c.requires.keeping in
+    let posted = c.in_ok-post_take.ensures in
+    let wide = to_z w128 (of_z w128 c.scaled-count.result) in
+    let count : wide ≡ n = omega (arith, ints, c.scaled-count.ensures.value) in
+    let lots : AreLeft c.note.new.self a held (added taken k n) =
+    subst (λ q. AreLeft c.note.new.self a held (added taken q n)) c.key-key.ensures
+    (subst (λ m. AreLeft c.note.new.self a held (added taken c.key-key.result m)) count
+    c.in_ok-note.ensures.own) in
+    let all =
+    subst
+    (λ o. IfSome o (λ rest. (n : ℤ) → HasAllLeft (added taken c.key-key.result n) rest held))
+    c.in-Some.is c.before_take-rest.ensures.some in
+    let own : HasAllLeft (added taken k n) c.in-Some.rest held =
+    subst (λ q. HasAllLeft (added taken q n) c.in-Some.rest held) c.key-key.ensures (all n) in
+    on_ok_weaker c.set.result
+    (λ put. record {
+      nothing = keeping.nothing;
+      takes = posted.held (takes_in c.args.self.now.lines.items) keeping.takes;
+      bounded = posted.bounded;
+      few = posted.few;
+      left =
+          lots_more c.args.self.now.left c.note.new.self h g f a k n held taken c.of-held.ensures
+          c.of-taken.ensures posted.own lots c.in_ok-note.ensures.others keeping.left;
+      rests =
+          rests_more r c.set.new.self h g f a k n held taken c.of-taken-in-Some.result.now
+          c.in-Some.rest c.without_gone.result c.of-held.ensures c.of-taken.ensures
+          c.of-taken-in-Some.ensures posted.own
+          (λ x es.
+          put x es
+          ∙ ap (λ q. cond (bytes_eq q x) c.without_gone.result (rest_in r x es)) c.lend.ensures)
+          own c.without_gone.ensures keeping.rests;
+    })
+    c.set.ensures
+
+pub returns-in-None-clause-taken : goal.returns-in-None-clause-taken
+returns-in-None-clause-taken c =
+    let h = c.args.holdings.now in
+    let g = c.args.self.now.taken in
+    let f = c.post_take.new.taken in
+    let r = c.args.self.now.rests in
+    let a = c.args.take.now.account in
+    let k = key_of c.args.take.now in
+    let n = at_8 c.args.take.now.units.number in
+    let held = c.of-held.result.now in
+    let taken = c.of-taken.result.now in
+    let keeping = c.requires.keeping in
+    let posted = c.in_ok-post_take.ensures in
+    let wide = to_z w128 (of_z w128 c.scaled-count.result) in
+    let count : wide ≡ n = omega (arith, ints, c.scaled-count.ensures.value) in
+    let lots : AreLeft c.note.new.self a held (added taken k n) =
+    subst (λ q. AreLeft c.note.new.self a held (added taken q n)) c.key-key.ensures
+    (subst (λ m. AreLeft c.note.new.self a held (added taken c.key-key.result m)) count
+    c.in_ok-note.ensures.own) in
+    let all =
+    subst
+    (λ o. IfNone o ((n : ℤ)
+    → HasAllLeft (added taken c.key-key.result n) (rest_in r a held) held))
+    c.in-None.is c.before_take-rest.ensures.none in
+    let own : HasAllLeft (added taken k n) (rest_in r a held) held =
+    subst (λ q. HasAllLeft (added taken q n) (rest_in r a held) held) c.key-key.ensures (all n) in
+    record {
+      nothing = keeping.nothing;
+      takes = posted.held (takes_in c.args.self.now.lines.items) keeping.takes;
+      bounded = posted.bounded;
+      few = posted.few;
+      left =
+          lots_more c.args.self.now.left c.note.new.self h g f a k n held taken c.of-held.ensures
+          c.of-taken.ensures posted.own lots c.in_ok-note.ensures.others keeping.left;
+      rests =
+          rests_first r h g f a k n held taken c.of-held.ensures c.of-taken.ensures posted.own own
+          keeping.rests;
+    }

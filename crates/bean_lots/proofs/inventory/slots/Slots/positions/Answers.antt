@@ -1,5 +1,6 @@
 use Rattle.std.proofs.Common.{length, drop, subst, sym, ◌∙◌, ap, ◌≤◌}
-use Rattle.bean_lots.specs.Slots.{positions}
+use Rattle.bean_lots.specs.Slots.{AreInOrder, positions}
+use Rattle.bean_lots.proofs.PartFacts.{in_order_behind}
 use Rattle.bean_lots.proofs.SlotFacts.{holes_few, holes_passed}
 use Rattle.bean_lots.proofs.inventory.slots.Slots.positions.Goals as goal
 
@@ -8,6 +9,13 @@ split_at-held-requires c =
     let s = c.args.self.now in
     subst (λ l. s.first ≤ length l) (sym c.as_slice.ensures.entries)
     (holes_few s.first s.counts.entries c.requires.holes)
+
+pub new-requires : goal.new-requires
+new-requires c = λ t.
+    let s = c.args.self.now in
+    subst AreInOrder
+    (sym (c.split_at-held.ensures.back ∙ ap (drop s.first) c.as_slice.ensures.entries))
+    (in_order_behind s.first s.counts.entries (c.requires.days t).0)
 
 pub returns : goal.returns
 returns c =

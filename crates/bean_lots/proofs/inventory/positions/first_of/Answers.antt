@@ -1,11 +1,11 @@
-use Rattle.std.proofs.Common.{◌≡◌, pos, ◌∷◌, drop, suc, false, to_z, of_z, arith, ◌∙◌, ap, sym}
-use Rattle.std.proofs.Common.{add-one}
+use Rattle.std.proofs.Common.{◌≡◌, ◌+◌, ◌-◌, pos, ◌∷◌, drop, suc, false, to_z, of_z, arith, ◌∙◌, ap}
+use Rattle.std.proofs.Common.{add-one, sym}
 use Rattle.std.specs.Int.{w128}
 use Rattle.std.specs.Ordering.{int_eq}
 use Rattle.std.proofs.lemmas.Int.{ints}
 use Rattle.bean_lots.specs.Slots.{positions}
 use Rattle.bean_lots.proofs.SlotFacts.{full_slot, hole_at}
-use Rattle.bean_lots.proofs.inventory.positions.first_from.Goals as goal
+use Rattle.bean_lots.proofs.inventory.positions.first_of.Goals as goal
 
 pub returns-then-count-ne0-clause-some : goal.returns-then-count-ne0-clause-some
 returns-then-count-ne0-clause-some c =
@@ -18,6 +18,12 @@ returns-then-count-ne0-clause-some c =
     rw add-one
     (sym c.loop-index.invariant ∙ full_slot es i k n c.slot_at-count.ensures some
     ∙ ap (λ m. record { key = k; count = m } ∷ positions (drop (suc i) es)) count)
+
+pub returns-then-count-ne0-clause-from : goal.returns-then-count-ne0-clause-from
+returns-then-count-ne0-clause-from c =
+    let i = c.loop-index.index in
+    let own : (i + 1) - 1 ≡ i = omega arith in
+    ap (λ j. positions (drop j c.args.slots.now)) own ∙ c.loop-index.invariant
 
 pub loop-index-preserved : goal.loop-index-preserved
 loop-index-preserved c =
