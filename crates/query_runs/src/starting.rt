@@ -28,13 +28,14 @@ pub fn start<'r>(
         run.finders ≡ map pattern_in input.now.parts.now.code.pool) }
     ensures room { IfOk result (λ run. depth ≤ run.frame.stack.room) }
 {
+    let running = Aggregate::SumInventory(8).start(alloc)?;
     let mut run = Run {
         stage: Stage::Done,
         row: 0,
         group: 0,
         frame: Frame::new(alloc, depth)?,
         finders: Finders::new(alloc, patterns)?,
-        running: Aggregate::SumInventory(8).start(alloc)?,
+        running,
         groups: Groups::new(alloc),
         rows: Vec::new(alloc),
     };
