@@ -32,9 +32,6 @@ pub struct Booked<'a> {
     pub faults: List<Fault>,
 }
 
-/// More directives than any memory holds.
-const MOST_DIRECTIVES: usize = 1 << 39;
-
 /// Takes all directives. Each is given up as soon as it is taken, but for what is booked of it.
 fn take_all<'a>(
     alloc: Global,
@@ -131,9 +128,6 @@ pub fn book_directives<'a>(
     ensures full { result ≡ prelude.Err (Refusal.Refused BookCause.TooManyPostings) → HasTooMany loaded.entry }
 {
     let directives = loaded.directives();
-    if directives.len() > MOST_DIRECTIVES {
-        return Err(Refusal::OutOfMemory);
-    }
     let methods = methods_of(alloc, otherwise(loaded.methods()), directives)?;
     let told = faults_before(alloc, &loaded)?;
     match take_all(alloc, methods, loaded.into_directives()) {

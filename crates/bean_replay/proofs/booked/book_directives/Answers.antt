@@ -1,4 +1,4 @@
-use Rattle.std.proofs.Common.{◌≡◌, ◌≤◌, ℕ, List, reverse, ap, sym, ◌∙◌, subst}
+use Rattle.std.proofs.Common.{◌≡◌, ◌≤◌, ℕ, List, length, reverse, ap, arith, sym, ◌∙◌, subst}
 use Rattle.std.proofs.lemmas.Result.{IfOk-weaker}
 use Rattle.std.specs.List.{AllByRecursion}
 use Rattle.limits.specs.declared.counts.TheConstants.{MOST_POSTINGS}
@@ -9,6 +9,11 @@ use Rattle.bean_replay.specs.Small.{IsSmallBooking}
 use Rattle.bean_replay.specs.Stand.{LeadsTo}
 use Rattle.bean_replay.proofs.SmallBookingFacts.{booking_small}
 use Rattle.bean_replay.proofs.booked.book_directives.Goals as goal
+
+pub take_all-requires : goal.take_all-requires
+take_all-requires c =
+    let few : length c.args.loaded.directives ≤ 67108864 = c.into_directives.ensures.few in
+    let same = ap length c.into_directives.ensures.directives in omega (arith, few, same)
 
 pub returns-in-Ok-clause-booked : goal.returns-in-Ok-clause-booked
 returns-in-Ok-clause-booked c =

@@ -1,6 +1,5 @@
 use Rattle.std.proofs.Common.{◌++◌, ◌∙◌, ap, append_assoc, subst, sym}
 use Rattle.bean_pad.specs.Following.{Follows}
-use Rattle.bean_pad.specs.Padded.{faults_with}
 use Rattle.bean_replay.specs.Booked.{faults_before, with_pads}
 use Rattle.bean_replay.specs.Booker.{unseen}
 use Rattle.bean_replay.proofs.ShownFacts.{padded_by_seen}

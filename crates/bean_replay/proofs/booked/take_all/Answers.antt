@@ -1,4 +1,4 @@
-use Rattle.std.proofs.Common.{◌≡◌, ◌≤◌, ◌+◌, ◌++◌, ◌∷◌, [], Err, reverse, ap, arith, refl, sym, subst}
+use Rattle.std.proofs.Common.{◌≡◌, ◌++◌, ◌∷◌, [], Err, reverse, ap, arith, refl, sym, subst}
 use Rattle.std.proofs.Common.{append_assoc, length, length-append, ◌∙◌}
 use Rattle.std.proofs.lemmas.List.{append-nil, length-reverse, reverse-append}
 use Rattle.bean_transactions.specs.Methods.{method_in}

@@ -1,7 +1,6 @@
-use Rattle.std.proofs.Common.{◌∷◌, ◌++◌, take, arith, sym, subst}
+use Rattle.std.proofs.Common.{◌++◌, take, arith, sym, subst}
 use Rattle.bean_replay.specs.Stand.{posting_step, steps_of_postings}
 use Rattle.bean_pad.specs.Following.{Follows}
-use Rattle.bean_pad.specs.declared.step.Step.TheVariants as step
 use Rattle.bean_replay.proofs.StepFacts.{latest_mapped}
 use Rattle.bean_replay.proofs.steps.show_postings.Goals as goal
 

@@ -1,4 +1,4 @@
-use Rattle.std.proofs.Common.{◌≡◌, ◌+◌, ◌++◌, ◌∷◌, [], append_assoc, ap, arith, drop, length, sym}
+use Rattle.std.proofs.Common.{◌≡◌, ◌++◌, ◌∷◌, [], append_assoc, ap, arith, drop, length, sym}
 use Rattle.std.proofs.Common.{◌∙◌, refl, subst}
 use Rattle.std.proofs.lemmas.List.{append-nil, length-append}
 use Rattle.std.proofs.lemmas.Result.{on_ok_weaker}
@@ -12,7 +12,7 @@ use Rattle.bean_transactions.specs.Held.{held}
 use Rattle.bean_directives.specs.declared.numbers.Balance.{Balance}
 use Rattle.bean_transactions.specs.Holdings.{AreHeld, holding}
 use Rattle.bean_transactions.specs.Tried.{Tries}
-use Rattle.bean_replay.specs.Booker.{IsStanding, unseen}
+use Rattle.bean_replay.specs.Booker.{IsStanding}
 use Rattle.bean_replay.specs.Stand.{IsFull, IsStepBy, account_step, account_steps, after_trial}
 use Rattle.bean_replay.specs.Stand.{place_of, postings_of, setting_of, steps_of, with_balance}
 use Rattle.bean_replay.specs.Stand.{with_faults, with_pad, written_in}
