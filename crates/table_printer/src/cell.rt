@@ -5,7 +5,8 @@ ghost use Rattle.table_printer.specs.Cell.{value_of};
 
 use bean_base::{Currency, Day, Slice};
 use bean_lots::Key;
-use query_values::{Bag, Lent, TextSet, Value};
+use bean_lots::inventory::Positions;
+use query_values::{Lent, TextSet, Value};
 use std::marker::Model;
 
 /// A value whose parts are lent from where they are kept.
@@ -29,7 +30,10 @@ pub enum Shown<'r> {
         key: Lent<'r, Key<'r>>,
         count: i128,
     },
-    Inventory(Lent<'r, Bag<'r>>),
+    Inventory {
+        places: u8,
+        held: Positions<'r, 'r>,
+    },
 }
 
 /// What stands in a cell: a text, a day or a position, made when the cell is asked for, or any value
@@ -80,7 +84,7 @@ impl<'r> Cell<'r> {
     }
 
     /// A cell of a value that is kept elsewhere.
-    pub fn kept(value: &'r Value<'r>) -> Cell<'r>
+    pub fn kept<'v>(value: &'r Value<'v>) -> Cell<'r>
         ensures { result ≡ value.now }
     {
         let shown = match value {
@@ -90,9 +94,9 @@ impl<'r> Cell<'r> {
                 places: *places,
                 count: *count,
             },
-            Value::Text(text) => Shown::Text(text.lend()),
+            Value::Text(text) => Shown::Text(Slice::new(text.text())),
             Value::Day(day) => Shown::Day(*day),
-            Value::Set(set) => Shown::Set(set.lend()),
+            Value::Set(set) => Shown::Set(Lent::new(set.get())),
             Value::Amount {
                 places,
                 count,
@@ -103,10 +107,13 @@ impl<'r> Cell<'r> {
                 currency: currency.lend(),
             },
             Value::Position { key, count } => Shown::Position {
-                key: key.lend(),
+                key: Lent::new(key.get()),
                 count: *count,
             },
-            Value::Inventory(bag) => Shown::Inventory(Lent::new(bag.get())),
+            Value::Inventory(bag) => Shown::Inventory {
+                places: bag.get().places,
+                held: bag.get().held.positions(),
+            },
         };
         Cell { shown }
     }

@@ -254,7 +254,7 @@ pub(crate) fn push_cell(
             currency,
         } => push_units(out, *count, *places, currency, display),
         Shown::Position { key, count } => push_position(out, key.get(), *count, scratch, display),
-        Shown::Inventory(bag) => push_inventory(out, bag.get(), scratch, display),
+        Shown::Inventory { places, held } => push_inventory(out, *places, held, scratch, display),
     }
 }
 
@@ -281,6 +281,6 @@ pub(crate) fn cell_width(
             currency,
         } => Ok(units_width(*count, *places, currency, display)),
         Shown::Position { key, count } => position_width(key.get(), *count, scratch, display),
-        Shown::Inventory(bag) => inventory_width(bag.get(), scratch, display),
+        Shown::Inventory { places, held } => inventory_width(*places, held, scratch, display),
     }
 }

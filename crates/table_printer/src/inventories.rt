@@ -9,19 +9,19 @@ ghost use Rattle.bean_lots.specs.Lot.{key_order};
 
 use crate::cells::Scratch;
 use crate::positions::add_entry;
-use bean_lots::{Inventory, Position};
+use bean_lots::Position;
+use bean_lots::inventory::Positions;
 use posting_table::Display;
-use query_values::Bag;
 use std::alloc::{AllocError, Global};
 use std::cmp::Ordering;
 use unicode_width::UnicodeWidthStr;
 
 /// The entries of an inventory, in order of entry.
-fn entries_of<'b>(alloc: Global, inventory: &Inventory<'b>) -> Result<Vec<Position<'b>>, AllocError>
-    ensures { IfOk result (λ v. v.items ≡ inventory.now) }
+fn entries_of<'b>(alloc: Global, held: &Positions<'_, 'b>) -> Result<Vec<Position<'b>>, AllocError>
+    ensures { IfOk result (λ v. v.items ≡ held.now) }
 {
     let mut entries = Vec::new(alloc);
-    let mut rest = inventory.positions();
+    let mut rest = held.lend();
     while let Some(entry) = rest.next() {
         entries.push(entry)?;
     }
@@ -53,18 +53,19 @@ fn add_gap(clean: &mut String, entry: usize) -> Result<(), AllocError>
 /// The text of an inventory, in place of what was there.
 fn make_inventory(
     scratch: &mut Scratch,
-    bag: &Bag<'_>,
+    places: u8,
+    held: &Positions<'_, '_>,
     display: &Display<'_>,
 ) -> Result<(), AllocError>
     ensures { OnOk result (string_bytes scratch.new.clean
-        ≡ bag_text (decimals_of display.now) bag.now) }
+        ≡ bag_text (decimals_of display.now) (record { places = places; held = held.now })) }
 {
-    let mut entries = entries_of(scratch.alloc, &bag.held)?;
+    let mut entries = entries_of(scratch.alloc, held)?;
     arrange(&mut entries)?;
     scratch.clean.clear();
     for (i, entry) in entries.iter().enumerate() {
         add_gap(&mut scratch.clean, i)?;
-        add_entry(scratch, &entry.key, entry.count, bag.places, display)?;
+        add_entry(scratch, &entry.key, entry.count, places, display)?;
     }
     Ok(())
 }
@@ -72,27 +73,29 @@ fn make_inventory(
 /// Adds an inventory, and tells its width.
 pub(crate) fn push_inventory(
     out: &mut Vec<u8>,
-    bag: &Bag<'_>,
+    places: u8,
+    held: &Positions<'_, '_>,
     scratch: &mut Scratch,
     display: &Display<'_>,
 ) -> Result<usize, AllocError>
     ensures text { OnOk result (out.new.items
-        ≡ out.old.items ++ bag_text (decimals_of display.now) bag.now) }
-    ensures width { IfOk result (λ n. n ≡ text_width (bag_text (decimals_of display.now) bag.now)) }
+        ≡ out.old.items ++ bag_text (decimals_of display.now) (record { places = places; held = held.now })) }
+    ensures width { IfOk result (λ n. n ≡ text_width (bag_text (decimals_of display.now) (record { places = places; held = held.now }))) }
 {
-    make_inventory(scratch, bag, display)?;
+    make_inventory(scratch, places, held, display)?;
     out.extend_from_slice(scratch.clean.as_bytes())?;
     Ok(scratch.clean.width())
 }
 
 /// How many columns of a terminal an inventory takes.
 pub(crate) fn inventory_width(
-    bag: &Bag<'_>,
+    places: u8,
+    held: &Positions<'_, '_>,
     scratch: &mut Scratch,
     display: &Display<'_>,
 ) -> Result<usize, AllocError>
-    ensures { IfOk result (λ n. n ≡ text_width (bag_text (decimals_of display.now) bag.now)) }
+    ensures { IfOk result (λ n. n ≡ text_width (bag_text (decimals_of display.now) (record { places = places; held = held.now }))) }
 {
-    make_inventory(scratch, bag, display)?;
+    make_inventory(scratch, places, held, display)?;
     Ok(scratch.clean.width())
 }

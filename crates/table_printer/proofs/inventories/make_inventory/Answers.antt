@@ -13,7 +13,7 @@ use Rattle.table_printer.proofs.inventories.make_inventory.Goals as goal
 pub loop-i-preserved : goal.loop-i-preserved
 loop-i-preserved c =
     let display = decimals_of c.args.display.now in
-    let places = c.args.bag.now.places in
+    let places = c.args.places in
     let entries = c.deref-entry-items.result.now in
     let i = c.loop-i.i in
     let entry = c.entry-item.result in

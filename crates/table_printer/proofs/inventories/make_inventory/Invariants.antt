@@ -9,4 +9,4 @@ abbrev pub invariant-loop-i : goal.invariant-loop-i
 invariant-loop-i l =
     string_bytes l.scratch.clean
     ≡ joined between_entries
-    (map (text_of_entry (decimals_of l.display) l.bag.places) (take l.i l.entry-items))
+    (map (text_of_entry (decimals_of l.display) l.places) (take l.i l.entry-items))
