@@ -50,11 +50,11 @@ fn column_of<'a>(
     })
 }
 
-fn sets_printed(
+fn sets_printed<'s>(
     alloc: Global,
-    first: &TextSet<'static>,
-    second: &TextSet<'static>,
-    third: &TextSet<'static>,
+    first: &'s TextSet<'static>,
+    second: &'s TextSet<'static>,
+    third: &'s TextSet<'static>,
 ) -> Result<Vec<u8>, AllocError> {
     let first = Value::Set(Lent::new(first));
     let second = Value::Set(Lent::new(second));
