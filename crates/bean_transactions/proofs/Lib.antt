@@ -1,9 +1,5 @@
-pub mod BoundFacts
-pub mod InPlace
 pub mod OutcomeFacts
 pub mod HeldFacts
-pub mod LotsLeftFacts
-pub mod RestFacts
 pub mod LinedFacts
 pub mod CompletedFacts
 pub mod FilledFacts

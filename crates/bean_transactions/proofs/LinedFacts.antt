@@ -13,13 +13,14 @@ use Rattle.bean_reductions.specs.After.{after}
 use Rattle.bean_lots.specs.declared.lot.Position.{Position}
 use Rattle.bean_reductions.specs.declared.reduction.Method.{Method}
 use Rattle.bean_transactions.specs.declared.stop.LineFault.{LineFault}
-use Rattle.bean_transactions.specs.Held.{held, left}
-use Rattle.bean_transactions.specs.Holdings.{holding}
+use Rattle.bean_holdings.specs.Held.{held}
+use Rattle.bean_transactions.specs.Held.{left}
+use Rattle.bean_holdings.specs.Holdings.{holding}
 use Rattle.bean_transactions.specs.Lined.{AreLined, IsFirstFault, IsLinedByUnits, IsNext, Setting}
 use Rattle.bean_transactions.specs.Lines.{IsKeeping, IsSettled}
 use Rattle.bean_transactions.specs.Methods.{method_in}
 use Rattle.bean_transactions.specs.Outcome.{ComesOf, StopsAt}
-use Rattle.bean_transactions.specs.declared.holdings.Holdings.{Holdings}
+use Rattle.bean_holdings.specs.declared.holdings.Holdings.{Holdings}
 use Rattle.bean_transactions.specs.declared.line.Line.{Line}
 use Rattle.bean_transactions.specs.declared.lines.Lines.{Lines}
 use Rattle.bean_transactions.specs.declared.methods.Methods.{Methods}

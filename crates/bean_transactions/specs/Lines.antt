@@ -4,15 +4,15 @@ use Rattle.bean_postings.specs.declared.cost.Cost.{Cost}
 use Rattle.bean_postings.specs.declared.cost.Cost.TheVariants as cost
 use Rattle.bean_reductions.specs.Rest.{HasAllLeft}
 use Rattle.bean_transactions.specs.Held.{takes_in}
-use Rattle.bean_transactions.specs.Holdings.{AreHeld, IsBounded, additions_in, holding}
+use Rattle.bean_holdings.specs.Holdings.{AreHeld, IsBounded, additions_in, holding}
 use Rattle.bean_transactions.specs.Lined.{Setting}
-use Rattle.bean_transactions.specs.LotsLeft.{AreLeft}
+use Rattle.bean_holdings.specs.LotsLeft.{AreLeft}
 use Rattle.bean_transactions.specs.Methods.{method_in}
-use Rattle.bean_transactions.specs.Rests.{rest_in}
-use Rattle.bean_transactions.specs.declared.holdings.Holdings.{Holdings}
+use Rattle.bean_holdings.specs.Rests.{rest_in}
+use Rattle.bean_holdings.specs.declared.holdings.Holdings.{Holdings}
 use Rattle.bean_transactions.specs.declared.line.Line.{Line}
 use Rattle.bean_transactions.specs.declared.lines.Lines.{Lines}
-use Rattle.bean_transactions.specs.declared.line.Posted.{Posted}
+use Rattle.bean_holdings.specs.declared.posted.Posted.{Posted}
 use Rattle.bean_transactions.specs.declared.methods.Methods.{Methods}
 use Rattle.bean_transactions.specs.declared.setting.Head.{Head}
 use Rattle.bean_transactions.specs.declared.stop.LineFault.{LineFault}

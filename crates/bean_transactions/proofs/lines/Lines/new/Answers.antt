@@ -1,11 +1,12 @@
 use Rattle.std.proofs.Common.{ap, arith, subst, sym, ◌∙◌}
-use Rattle.bean_transactions.specs.Held.{held, takes_in}
-use Rattle.bean_transactions.specs.Holdings.{holding}
-use Rattle.bean_transactions.specs.LotsLeft.{signs_in}
+use Rattle.bean_holdings.specs.Held.{held}
+use Rattle.bean_transactions.specs.Held.{takes_in}
+use Rattle.bean_holdings.specs.Holdings.{holding}
+use Rattle.bean_holdings.specs.LotsLeft.{signs_in}
 use Rattle.bean_reductions.specs.After.{after}
 use Rattle.bean_reductions.specs.Rest.{HasAllLeft}
-use Rattle.bean_transactions.proofs.LotsLeftFacts as lots
-use Rattle.bean_transactions.proofs.RestFacts as rests
+use Rattle.bean_holdings.proofs.LotsLeftFacts as lots
+use Rattle.bean_holdings.proofs.RestFacts as rests
 use Rattle.bean_transactions.proofs.lines.Lines.new.Goals as goal
 
 pub returns-clause-keeping : goal.returns-clause-keeping

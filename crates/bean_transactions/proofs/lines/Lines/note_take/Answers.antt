@@ -7,12 +7,13 @@ use Rattle.std.proofs.lemmas.Result.{on_ok_weaker}
 use Rattle.bean_lots.specs.Inventory.{added}
 use Rattle.bean_reductions.specs.After.{AreSmall}
 use Rattle.bean_reductions.specs.Rest.{HasAllLeft}
-use Rattle.bean_transactions.specs.Held.{at_8, key_of, takes_in}
-use Rattle.bean_transactions.specs.LotsLeft.{AreLeft}
-use Rattle.bean_transactions.specs.Rests.{rest_in}
-use Rattle.bean_transactions.proofs.BoundFacts.{bounded_small}
-use Rattle.bean_transactions.proofs.LotsLeftFacts.{sum_fits, sums_fit}
-use Rattle.bean_transactions.proofs.RestFacts.{lots_more, rests_first, rests_more, small_part}
+use Rattle.bean_holdings.specs.Held.{at_8, key_of}
+use Rattle.bean_transactions.specs.Held.{takes_in}
+use Rattle.bean_holdings.specs.LotsLeft.{AreLeft}
+use Rattle.bean_holdings.specs.Rests.{rest_in}
+use Rattle.bean_holdings.proofs.BoundFacts.{bounded_small}
+use Rattle.bean_holdings.proofs.LotsLeftFacts.{sum_fits, sums_fit}
+use Rattle.bean_holdings.proofs.RestFacts.{lots_more, rests_first, rests_more, small_part}
 use Rattle.bean_transactions.proofs.lines.Lines.note_take.Goals as goal
 
 pub note-requires-clause-before : goal.note-requires-clause-before

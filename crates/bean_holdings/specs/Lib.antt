@@ -1,0 +1,4 @@
+pub mod Held
+pub mod Holdings
+pub mod LotsLeft
+pub mod Rests
