@@ -1,18 +1,26 @@
 -- Counts after one more addition.
 use Rattle.std.proofs.Common.{◌≡◌, ℕ, ◌+◌, ◌*◌, ◌<◌, ◌≤◌, ◌^◌, ℤ, pos, ◌+ℤ◌, Bool, true, false}
-use Rattle.std.proofs.Common.{cond, List, [], ◌∷◌, ◌++◌, refl, ap, ◌∙◌, arith}
+use Rattle.std.proofs.Common.{cond, List, [], ◌∷◌, ◌++◌, refl, ap, subst, ◌∙◌, arith}
 use Rattle.std.specs.Int.{w128}
 use Rattle.std.specs.Int.RustNames.{unsigned_abs, FitsSigned}
 use Rattle.std.specs.Ordering.{int_eq}
 use Rattle.std.specs.Str.{bytes_eq}
 use Rattle.std.proofs.lemmas.Slice.Eq.{bytes_eq-Decides}
 use Rattle.std.proofs.lemmas.Int.{ints}
-use Rattle.bean_lots.specs.Inventory.{added, held_as}
+use Rattle.bean_base.specs.declared.num.Num.{Num}
+use Rattle.bean_base.proofs.PowerFacts.{scaled_lt}
+use Rattle.bean_lots.specs.Inventory.{IsInventory, added, count_of, held_as}
 use Rattle.bean_lots.specs.Lot.{same_key}
 use Rattle.bean_lots.specs.declared.lot.Key.{Key}
 use Rattle.bean_lots.specs.declared.lot.Position.{Position}
+use Rattle.bean_lots.proofs.InventoryFacts.{kept}
 use Rattle.bean_reductions.specs.After.{AreSmall}
+use Rattle.bean_reductions.proofs.AfterFacts.{count_small}
+use Rattle.std.specs.List.{AllByRecursion}
+use Rattle.bean_holdings.proofs.RestFacts.{own_counts}
+use Rattle.bean_holdings.specs.Held.{at_8}
 use Rattle.bean_holdings.specs.Holdings.{IsBounded, holding}
+use Rattle.bean_holdings.specs.Parts.{AreParts, IsPart}
 use Rattle.bean_holdings.specs.declared.holdings.Holdings.{Holdings}
 
 pub more : (n m : ℕ) (es : List Position) → n ≤ m → AreSmall n es → AreSmall m es
@@ -56,6 +64,14 @@ either true n es k c s h =
     (n * 10 ^ 20) (10 ^ 20) es k c (omega (arith, s)) h)
 either false n es k c s h = more (n * 10 ^ 20) ((n + 1) * 10 ^ 20) es (omega arith) h
 
+pub kept_at : (b : Bool) (es : List Position) (k : Key) (n : ℤ) → IsInventory es
+    → IsInventory (cond b (added es k n) es)
+kept_at true es k n i = kept es k n i
+kept_at false es k n i = i
+
+pub at_8_small : (n : Num) → unsigned_abs (at_8 n) < 10 ^ 20
+at_8_small n = scaled_lt n.count n.places 8 n.in_range.1 n.in_range.0 (omega arith)
+
 -- an addition to the inventory of one account, where the others stay
 pub added_at : (f : List ℕ → List Position) (name a : List ℕ) (own new now : List Position)
     (k : Key) (c d : ℤ) → own ≡ f name → new ≡ added own k d → d ≡ c
@@ -72,3 +88,24 @@ pub bounded_small : (h : Holdings) (a : List ℕ) → IsBounded h → h.addition
     → AreSmall (2 ^ 125) (holding h a)
 bounded_small h a b few =
     more (h.additions * 10 ^ 20) (2 ^ 125) (holding h a) (omega (arith, few)) (b.counts a)
+
+-- ---- what is taken
+
+-- each position has the count under its key
+small_each : (n : ℕ) (es fs : List Position) → IsInventory es
+    → ((k : Key) → unsigned_abs (count_of fs k) ≤ n)
+    → AllByRecursion (λ (e : Position). count_of fs e.key ≡ e.count) es → AreSmall n es
+small_each n [] fs i h own = tt
+small_each n (e ∷ es) fs i h own =
+    (subst (λ m. unsigned_abs m ≤ n) own.0 (h e.key), small_each n es fs i.2 h own.1)
+
+-- no more is taken under a key than is held
+part_small : (n : ℕ) (h t : ℤ) → IsPart h t → unsigned_abs h ≤ n → unsigned_abs t ≤ n
+part_small n h t part small = omega (arith, part, small)
+
+pub parts_small : (n : ℕ) (es ts : List Position) → IsInventory ts → AreParts es ts → AreSmall n es
+    → AreSmall n ts
+parts_small n es ts i parts small =
+    small_each n ts ts i
+    (λ k. part_small n (count_of es k) (count_of ts k) (parts.each k) (count_small n es k small))
+    (own_counts ts i)

@@ -1,5 +1,5 @@
-pub mod BoundFacts
 pub mod InPlace
 pub mod HeldFacts
 pub mod LotsLeftFacts
 pub mod RestFacts
+pub mod BoundFacts

@@ -19,9 +19,11 @@ use Rattle.bean_lots.proofs.PartFacts.{both, first, middle, second}
 use Rattle.bean_reductions.specs.After.{AreSmall, IsSmall}
 use Rattle.bean_reductions.specs.Rest.{HasAllLeft, IsGone}
 use Rattle.bean_holdings.specs.Holdings.{holding}
+use Rattle.bean_holdings.specs.Inventories.{inventory_in}
 use Rattle.bean_holdings.specs.LotsLeft.{AreLeft, left_in}
 use Rattle.bean_holdings.specs.Rests.{rest_in}
 use Rattle.bean_holdings.specs.declared.holdings.Holdings.{Holdings}
+use Rattle.bean_holdings.specs.declared.inventories.Inventories.{Inventories}
 use Rattle.bean_holdings.specs.declared.lots_left.LotsLeft.{LotsLeft}
 use Rattle.bean_holdings.specs.declared.rests.Rests.{Rests}
 
@@ -96,10 +98,10 @@ together P Q R [] f a b = tt
 together P Q R (x ∷ xs) f a b = (f x a.0 b.0, together P Q R xs f a.1 b.1)
 
 -- what is held has the count under its key
-abbrev HasCount : List Position → Position → Type 0
+abbrev pub HasCount : List Position → Position → Type 0
 HasCount held e = count_of held e.key ≡ e.count
 
-own_counts : (es : List Position) → IsInventory es → AllByRecursion (HasCount es) es
+pub own_counts : (es : List Position) → IsInventory es → AllByRecursion (HasCount es) es
 own_counts [] i = tt
 own_counts (e ∷ es) i = (
   ap (λ b. cond b e.count (count_of es e.key)) ((same_key_Decides e.key e.key).1 refl),
@@ -193,99 +195,99 @@ first_take taken rest held k n bare j h =
 
 -- which lots are left, once some are taken from an account
 pub lots_more :
-    (l m : LotsLeft) (h g f : Holdings) (account : List ℕ) (k : Key) (n : ℤ)
+    (l m : LotsLeft) (h : Holdings) (g f : Inventories) (account : List ℕ) (k : Key) (n : ℤ)
     (held taken : List Position)
-    → held ≡ holding h account → taken ≡ holding g account
+    → held ≡ holding h account → taken ≡ inventory_in g account
     → ((a : List ℕ)
-    → holding f a
-    ≡ cond (bytes_eq account a) (added (holding g a) k n) (holding g a))
+    → inventory_in f a
+    ≡ cond (bytes_eq account a) (added (inventory_in g a) k n) (inventory_in g a))
     → AreLeft m account held (added taken k n)
     → ((a c : List ℕ) (es : List Position) → bytes_eq account a ≡ false
     → left_in m a c es ≡ left_in l a c es)
-    → ((a : List ℕ) → AreLeft l a (holding h a) (holding g a)) → (a : List ℕ)
-    → AreLeft m a (holding h a) (holding f a)
+    → ((a : List ℕ) → AreLeft l a (holding h a) (inventory_in g a)) → (a : List ℕ)
+    → AreLeft m a (holding h a) (inventory_in f a)
 lots_more l m h g f account k n held taken e t more own others old a = by (bytes_eq account a) refl
   where
-    by : (b : Bool) → bytes_eq account a ≡ b → AreLeft m a (holding h a) (holding f a)
+    by : (b : Bool) → bytes_eq account a ≡ b → AreLeft m a (holding h a) (inventory_in f a)
     by true s =
         let here : account ≡ a = (bytes_eq-Decides account a).0 s in
-        let now : added taken k n ≡ holding f a =
-        ap (λ ts. added ts k n) (t ∙ ap (holding g) here)
-        ∙ sym (more a ∙ ap (λ b. cond b (added (holding g a) k n) (holding g a)) s) in
+        let now : added taken k n ≡ inventory_in f a =
+        ap (λ ts. added ts k n) (t ∙ ap (inventory_in g) here)
+        ∙ sym (more a ∙ ap (λ b. cond b (added (inventory_in g a) k n) (inventory_in g a)) s) in
         subst (AreLeft m a (holding h a)) now
         (subst (λ es. AreLeft m a es (added taken k n)) (e ∙ ap (holding h) here)
         (subst (λ x. AreLeft m x held (added taken k n)) here own))
     by false s =
-        let same : holding g a ≡ holding f a =
-        sym (more a ∙ ap (λ b. cond b (added (holding g a) k n) (holding g a)) s) in
+        let same : inventory_in g a ≡ inventory_in f a =
+        sym (more a ∙ ap (λ b. cond b (added (inventory_in g a) k n) (inventory_in g a)) s) in
         subst (AreLeft m a (holding h a)) same
         record { each = λ c. others a c (holding h a) s ∙ (old a).each c }
 
 -- the rest stays where the take is the first
 pub rests_first :
-    (r : Rests) (h g f : Holdings) (account : List ℕ) (k : Key) (n : ℤ) (held taken : List Position)
-    → held ≡ holding h account → taken ≡ holding g account
+    (r : Rests) (h : Holdings) (g f : Inventories) (account : List ℕ) (k : Key) (n : ℤ) (held taken : List Position)
+    → held ≡ holding h account → taken ≡ inventory_in g account
     → ((a : List ℕ)
-    → holding f a
-    ≡ cond (bytes_eq account a) (added (holding g a) k n) (holding g a))
+    → inventory_in f a
+    ≡ cond (bytes_eq account a) (added (inventory_in g a) k n) (inventory_in g a))
     → HasAllLeft (added taken k n) (rest_in r account held) held
-    → ((a : List ℕ) → HasAllLeft (holding g a) (rest_in r a (holding h a)) (holding h a))
-    → (a : List ℕ) → HasAllLeft (holding f a) (rest_in r a (holding h a)) (holding h a)
+    → ((a : List ℕ) → HasAllLeft (inventory_in g a) (rest_in r a (holding h a)) (holding h a))
+    → (a : List ℕ) → HasAllLeft (inventory_in f a) (rest_in r a (holding h a)) (holding h a)
 rests_first r h g f account k n held taken e t more own old a = by (bytes_eq account a) refl
   where
     by : (b : Bool) → bytes_eq account a ≡ b
-        → HasAllLeft (holding f a) (rest_in r a (holding h a)) (holding h a)
+        → HasAllLeft (inventory_in f a) (rest_in r a (holding h a)) (holding h a)
     by true s =
         let here : account ≡ a = (bytes_eq-Decides account a).0 s in
-        let sum : added taken k n ≡ holding f a =
-        ap (λ ts. added ts k n) (t ∙ ap (holding g) here)
-        ∙ sym (more a ∙ ap (λ b. cond b (added (holding g a) k n) (holding g a)) s) in
+        let sum : added taken k n ≡ inventory_in f a =
+        ap (λ ts. added ts k n) (t ∙ ap (inventory_in g) here)
+        ∙ sym (more a ∙ ap (λ b. cond b (added (inventory_in g a) k n) (inventory_in g a)) s) in
         subst (λ ts. HasAllLeft ts (rest_in r a (holding h a)) (holding h a)) sum
         (subst (λ es. HasAllLeft (added taken k n) (rest_in r a es) es) (e ∙ ap (holding h) here)
         (subst (λ x. HasAllLeft (added taken k n) (rest_in r x held) held) here own))
     by false s =
-        let same : holding g a ≡ holding f a =
-        sym (more a ∙ ap (λ b. cond b (added (holding g a) k n) (holding g a)) s) in
+        let same : inventory_in g a ≡ inventory_in f a =
+        sym (more a ∙ ap (λ b. cond b (added (inventory_in g a) k n) (inventory_in g a)) s) in
         subst (λ ts. HasAllLeft ts (rest_in r a (holding h a)) (holding h a)) same (old a)
 
 -- and where they stand
 pub rests_more :
-    (r m : Rests) (h g f : Holdings) (account : List ℕ) (k : Key) (n : ℤ)
+    (r m : Rests) (h : Holdings) (g f : Inventories) (account : List ℕ) (k : Key) (n : ℤ)
     (held taken now rest part : List Position)
-    → held ≡ holding h account → taken ≡ holding g account → now ≡ holding f account
+    → held ≡ holding h account → taken ≡ inventory_in g account → now ≡ inventory_in f account
     → ((a : List ℕ)
-    → holding f a
-    ≡ cond (bytes_eq account a) (added (holding g a) k n) (holding g a))
+    → inventory_in f a
+    ≡ cond (bytes_eq account a) (added (inventory_in g a) k n) (inventory_in g a))
     → ((a : List ℕ) (es : List Position)
     → rest_in m a es ≡ cond (bytes_eq account a) part (rest_in r a es))
     → HasAllLeft (added taken k n) rest held → HasAllLeft now part rest
-    → ((a : List ℕ) → HasAllLeft (holding g a) (rest_in r a (holding h a)) (holding h a))
-    → (a : List ℕ) → HasAllLeft (holding f a) (rest_in m a (holding h a)) (holding h a)
+    → ((a : List ℕ) → HasAllLeft (inventory_in g a) (rest_in r a (holding h a)) (holding h a))
+    → (a : List ℕ) → HasAllLeft (inventory_in f a) (rest_in m a (holding h a)) (holding h a)
 rests_more r m h g f account k n held taken now rest part e t u more put own new old a =
     by (bytes_eq account a) refl
   where
     by : (b : Bool) → bytes_eq account a ≡ b
-        → HasAllLeft (holding f a) (rest_in m a (holding h a)) (holding h a)
+        → HasAllLeft (inventory_in f a) (rest_in m a (holding h a)) (holding h a)
     by true s =
         let here : account ≡ a = (bytes_eq-Decides account a).0 s in
         let sum : added taken k n ≡ now =
-        ap (λ ts. added ts k n) (t ∙ ap (holding g) here)
-        ∙ sym (more a ∙ ap (λ b. cond b (added (holding g a) k n) (holding g a)) s)
-        ∙ sym (u ∙ ap (holding f) here) in
+        ap (λ ts. added ts k n) (t ∙ ap (inventory_in g) here)
+        ∙ sym (more a ∙ ap (λ b. cond b (added (inventory_in g a) k n) (inventory_in g a)) s)
+        ∙ sym (u ∙ ap (inventory_in f) here) in
         let all : HasAllLeft now part held =
         narrower now part rest held new (subst (λ ts. HasAllLeft ts rest held) sum own) in
         let kept : part ≡ rest_in m a (holding h a) =
         sym (put a (holding h a)
         ∙ ap (λ b. cond b part (rest_in r a (holding h a))) s) in
         subst (λ ts. HasAllLeft ts (rest_in m a (holding h a)) (holding h a))
-        (u ∙ ap (holding f) here)
+        (u ∙ ap (inventory_in f) here)
         (subst (λ es. HasAllLeft now es (holding h a)) kept
         (subst (HasAllLeft now part) (e ∙ ap (holding h) here) all))
     by false s =
-        let same : holding g a ≡ holding f a =
-        sym (more a ∙ ap (λ b. cond b (added (holding g a) k n) (holding g a)) s) in
+        let same : inventory_in g a ≡ inventory_in f a =
+        sym (more a ∙ ap (λ b. cond b (added (inventory_in g a) k n) (inventory_in g a)) s) in
         let kept : rest_in r a (holding h a) ≡ rest_in m a (holding h a) =
         sym (put a (holding h a)
         ∙ ap (λ b. cond b part (rest_in r a (holding h a))) s) in
         subst (λ ts. HasAllLeft ts (rest_in m a (holding h a)) (holding h a)) same
-        (subst (λ es. HasAllLeft (holding g a) es (holding h a)) kept (old a))
+        (subst (λ es. HasAllLeft (inventory_in g a) es (holding h a)) kept (old a))

@@ -1,23 +1,22 @@
 //! What each account holds.
 ghost use Rattle.std.specs.Prelude.{◌≡◌, ◌<◌, ◌≤◌, ◌+◌, ◌^◌, [], ◌∷◌, ◌++◌, OnOk, List, ℕ, length};
-ghost use Rattle.std.specs.Prelude.{if◌then◌else◌, false};
-ghost use Rattle.std.specs.Int.RustNames.{unsigned_abs};
+ghost use Rattle.std.specs.Prelude.{if◌then◌else◌};
 ghost use Rattle.std.specs.Str.{bytes_eq};
 ghost use Rattle.bean_lots.specs.Inventory.{added};
 ghost use Rattle.bean_holdings.specs.Held.{at_8, key_of};
 ghost use Rattle.bean_holdings.specs.Holdings.{AreHeld, IsBounded, additions_in, holding};
 ghost use Rattle.bean_holdings.specs.declared.posted.Posted as spec;
 
+use crate::inventories::Inventories;
 use crate::posted::Posted;
 use bean_base::Account;
-use bean_lots::{Inventory, Key};
-use indexmap::IndexMap;
+use bean_lots::Inventory;
 use std::alloc::{AllocError, Global};
 
-/// An inventory for each account. The inventory of an account that isn't there is empty.
+/// What each account holds, of which each addition is counted.
 #[derive(Drop)]
 pub struct Holdings<'a> {
-    inventories: IndexMap<Account<'a>, Inventory<'a>>,
+    inventories: Inventories<'a>,
     additions: usize,
 }
 
@@ -29,7 +28,7 @@ impl<'a> Holdings<'a> {
         ensures additions { additions_in result ≡ 0 }
     {
         Holdings {
-            inventories: IndexMap::new(alloc),
+            inventories: Inventories::new(alloc),
             additions: 0,
         }
     }
@@ -46,64 +45,7 @@ impl<'a> Holdings<'a> {
         requires { nothing.now ≡ [] }
         ensures { result.now ≡ holding self.now account.now }
     {
-        self.inventories.get(account).unwrap_or(nothing)
-    }
-
-    /// Puts an inventory in place of what an account holds.
-    fn put(&mut self, account: Account<'a>, inventory: Inventory<'a>) -> Result<(), AllocError>
-        ensures put { OnOk result ((a : List ℕ) → holding self.new a
-            ≡ (if bytes_eq account.entry a then inventory.entry else holding self.old a)) }
-        ensures additions { self.new.additions ≡ self.old.additions }
-    {
-        match self.inventories.insert(account, inventory) {
-            Ok(_) => Ok(()),
-            Err(_) => Err(AllocError),
-        }
-    }
-
-    fn add_to(
-        &mut self,
-        alloc: Global,
-        account: Account<'a>,
-        key: Key<'a>,
-        count: i128,
-    ) -> Result<(), AllocError>
-        requires bounded { IsBounded self.old }
-        requires few { self.old.additions < 2 ^ 40 }
-        requires small { unsigned_abs count < 10 ^ 20 }
-        ensures holding { OnOk result ((a : List ℕ) → holding self.new a
-            ≡ (if bytes_eq account.entry a then added (holding self.old a) key.entry count
-            else holding self.old a)) }
-        ensures additions { self.new.additions ≡ self.old.additions }
-    {
-        let Some(index) = self.inventories.get_index_of(&account) else {
-            let mut inventory = Inventory::new(alloc);
-            inventory.add(key, count)?;
-            return self.put(account, inventory);
-        };
-        self.inventories[index].add(key, count)
-    }
-
-    /// Adds to what an account holds.
-    fn add(
-        &mut self,
-        alloc: Global,
-        account: Account<'a>,
-        key: Key<'a>,
-        count: i128,
-    ) -> Result<(), AllocError>
-        requires bounded { IsBounded self.old }
-        requires few { additions_in self.old < 2 ^ 40 }
-        requires small { unsigned_abs count < 10 ^ 20 }
-        ensures holding { OnOk result ((a : List ℕ) → holding self.new a
-            ≡ (if bytes_eq account.entry a then added (holding self.old a) key.entry count
-            else holding self.old a)) }
-        ensures bounded { OnOk result (IsBounded self.new) }
-        ensures additions { OnOk result (additions_in self.new ≡ additions_in self.old + 1) }
-    {
-        self.add_to(alloc, account, key, count)?;
-        self.additions += 1;
-        Ok(())
+        self.inventories.of(account, nothing)
     }
 
     /// Adds a posting to what its account holds.
@@ -119,8 +61,9 @@ impl<'a> Holdings<'a> {
         ensures bounded { OnOk result (IsBounded self.new) }
         ensures additions { OnOk result (additions_in self.new ≡ additions_in self.old + 1) }
     {
-        let count = posted.units.number.scaled(8);
-        self.add(alloc, posted.account.lend(), posted.key(), count)
+        self.inventories.post(alloc, posted)?;
+        self.additions += 1;
+        Ok(())
     }
 
     /// Adds postings, one after the other.

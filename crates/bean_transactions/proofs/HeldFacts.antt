@@ -6,7 +6,7 @@ use Rattle.bean_transactions.specs.Held.{takes_in}
 use Rattle.bean_transactions.specs.declared.line.Line.{Line}
 use Rattle.bean_transactions.specs.declared.line.Line.TheVariants as line
 
-takes_append : (ls ms : List Line) → takes_in (ls ++ ms) ≡ takes_in ls ++ takes_in ms
+pub takes_append : (ls ms : List Line) → takes_in (ls ++ ms) ≡ takes_in ls ++ takes_in ms
 takes_append [] ms = refl
 takes_append (line.Posted p ∷ ls) ms = takes_append ls ms
 takes_append (line.Take p ∷ ls) ms = ap (λ l. p ∷ l) (takes_append ls ms)

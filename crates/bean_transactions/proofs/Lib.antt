@@ -1,5 +1,7 @@
 pub mod OutcomeFacts
 pub mod HeldFacts
+pub mod TakenFacts
+pub mod WithinFacts
 pub mod LinedFacts
 pub mod CompletedFacts
 pub mod FilledFacts
