@@ -134,7 +134,7 @@ module _ (k : Key) (s : Selector) (want : ℤ) where
           (first_true (same_text currency s.currency) (agrees s lot) (is_opposite want n) e) in
           let none : same_key k (key_in s.currency lot) ≡ false =
           subst (λ c. same_key k (key_in c lot) ≡ false) same d in
-          ap (λ b. cond b (unsigned_abs n) 0 + under k s.currency rest) none
+          ap (λ b. cond b (unsigned_abs n) 0 + under k s.currency rest) none ∙ omega arith
       by false e = refl
 
   none_under : (es : List Position) → AllByRecursion (DiffersFrom k) es
@@ -200,38 +200,42 @@ reduction_fits m s want es ts k n i r =
 none_after : (es ts : List Position) (k : Key) → AllByRecursion (DiffersFrom k) es
     → count_of (after es ts) k ≡ pos 0
 none_after [] ts k d = refl
-none_after (e ∷ es) ts k d = by (int_eq (e.count +ℤ count_of ts e.key) (pos 0))
+none_after (e ∷ es) ts k d =
+    by (int_eq (e.count +ℤ count_of ts e.key) (pos 0)) (none_after es ts k d.1)
   where
     n : ℤ
     n = e.count +ℤ count_of ts e.key
 
-    by : (z : Bool)
+    by : (z : Bool) → count_of (after es ts) k ≡ pos 0
         → count_of (cond z [] (record { key = e.key; count = n } ∷ []) ++ after es ts) k ≡ pos 0
-    by true = none_after es ts k d.1
-    by false = ap (λ b. cond b n (count_of (after es ts) k)) d.0 ∙ none_after es ts k d.1
+    by true rest = rest
+    by false rest = ap (λ b. cond b n (count_of (after es ts) k)) d.0 ∙ rest
 
 differs_after : (es ts : List Position) (k : Key) → AllByRecursion (DiffersFrom k) es
     → AllByRecursion (DiffersFrom k) (after es ts)
 differs_after [] ts k d = tt
-differs_after (e ∷ es) ts k d = by (int_eq (e.count +ℤ count_of ts e.key) (pos 0))
+differs_after (e ∷ es) ts k d =
+    by (int_eq (e.count +ℤ count_of ts e.key) (pos 0)) (differs_after es ts k d.1)
   where
-    by : (z : Bool)
+    by : (z : Bool) → AllByRecursion (DiffersFrom k) (after es ts)
         → AllByRecursion (DiffersFrom k)
         (cond z [] (record { key = e.key; count = e.count +ℤ count_of ts e.key } ∷ [])
         ++ after es ts)
-    by true = differs_after es ts k d.1
-    by false = (d.0, differs_after es ts k d.1)
+    by true rest = rest
+    by false rest = (d.0, rest)
 
 pub inventory_after : (es ts : List Position) → IsInventory es → IsInventory (after es ts)
 inventory_after [] ts i = tt
-inventory_after (e ∷ es) ts i = by (int_eq (e.count +ℤ count_of ts e.key) (pos 0)) refl
+inventory_after (e ∷ es) ts i =
+    by (int_eq (e.count +ℤ count_of ts e.key) (pos 0)) refl (inventory_after es ts i.2)
   where
     by : (z : Bool) → int_eq (e.count +ℤ count_of ts e.key) (pos 0) ≡ z
+        → IsInventory (after es ts)
         → IsInventory
         (cond z [] (record { key = e.key; count = e.count +ℤ count_of ts e.key } ∷ [])
         ++ after es ts)
-    by true z = inventory_after es ts i.2
-    by false z = (z, differs_after es ts e.key i.1, inventory_after es ts i.2)
+    by true z rest = rest
+    by false z rest = (z, differs_after es ts e.key i.1, rest)
 
 -- under each key
 pub count_after : (es ts : List Position) (k : Key) → IsInventory es
@@ -240,22 +244,24 @@ pub count_after : (es ts : List Position) (k : Key) → IsInventory es
 count_after [] ts k i part = omega (arith, ints, part)
 count_after (e ∷ es) ts k i part =
     by (same_key k e.key) refl (int_eq (e.count +ℤ count_of ts e.key) (pos 0)) refl part
+    (count_after es ts k i.2)
   where
     n : ℤ
     n = e.count +ℤ count_of ts e.key
 
     by : (b : Bool) → same_key k e.key ≡ b → (z : Bool) → int_eq n (pos 0) ≡ z
         → IsPart (cond b e.count (count_of es k)) (count_of ts k)
+        → (IsPart (count_of es k) (count_of ts k)
+        → count_of (after es ts) k ≡ count_of es k +ℤ count_of ts k)
         → count_of (cond z [] (record { key = e.key; count = n } ∷ []) ++ after es ts) k
         ≡ cond b e.count (count_of es k) +ℤ count_of ts k
-    by true d true z part =
+    by true d true z part rest =
         let key : k ≡ e.key = (same_key_Decides k e.key).0 d in
         none_after es ts k (subst (λ q. AllByRecursion (DiffersFrom q) es) (sym key) i.1)
         ∙ sym ((signed_Decides n (pos 0)).0 z)
         ∙ ap (λ q. e.count +ℤ count_of ts q) (sym key)
-    by true d false z part =
+    by true d false z part rest =
         ap (λ b. cond b n (count_of (after es ts) k)) d
         ∙ ap (λ q. e.count +ℤ count_of ts q) (sym ((same_key_Decides k e.key).0 d))
-    by false d true z part = count_after es ts k i.2 part
-    by false d false z part =
-        ap (λ b. cond b n (count_of (after es ts) k)) d ∙ count_after es ts k i.2 part
+    by false d true z part rest = rest part
+    by false d false z part rest = ap (λ b. cond b n (count_of (after es ts) k)) d ∙ rest part

@@ -51,7 +51,7 @@ use Rattle.bean_transactions.proofs.TakenFacts.{reduction_fits, under}
 
 -- ---- what postings come to under a key
 
-tally : List ℕ → Key → List Posted → ℤ
+abbrev tally : List ℕ → Key → List Posted → ℤ
 tally a k [] = pos 0
 tally a k (p ∷ ps) =
     cond (bytes_eq p.account a) (cond (same_key k (key_of p)) (at_8 p.units.number) (pos 0)) (pos 0)
@@ -61,22 +61,28 @@ folded : (a : List ℕ) (k : Key) (ps : List Posted) (es : List Position) → Is
     → count_of (fold (λ es p. added es (key_of p) (at_8 p.units.number)) es (filter (is_on a) ps)) k
     ≡ count_of es k +ℤ tally a k ps
 folded a k [] es i = omega (arith, ints)
-folded a k (p ∷ ps) es i = by (bytes_eq p.account a)
+folded a k (p ∷ ps) es i =
+    by (bytes_eq p.account a) (folded a k ps (added es (key_of p) (at_8 p.units.number))
+    (kept es (key_of p) (at_8 p.units.number) i)) (folded a k ps es i)
   where
     n : ℤ
     n = at_8 p.units.number
 
     by : (b : Bool)
         → count_of
+        (fold (λ es p. added es (key_of p) (at_8 p.units.number)) (added es (key_of p) n)
+        (filter (is_on a) ps)) k
+        ≡ count_of (added es (key_of p) n) k +ℤ tally a k ps
+        → count_of
+        (fold (λ es p. added es (key_of p) (at_8 p.units.number)) es (filter (is_on a) ps)) k
+        ≡ count_of es k +ℤ tally a k ps
+        → count_of
         (fold (λ es p. added es (key_of p) (at_8 p.units.number)) es
         (cond b (p ∷ filter (is_on a) ps) (filter (is_on a) ps))) k
         ≡ count_of es k
         +ℤ (cond b (cond (same_key k (key_of p)) n (pos 0)) (pos 0) +ℤ tally a k ps)
-    by true =
-        let rest = folded a k ps (added es (key_of p) n) (kept es (key_of p) n i) in
-        let own = pointwise_added es (key_of p) k n i in
-        omega (arith, ints, rest, own)
-    by false = let rest = folded a k ps es i in omega (arith, ints, rest)
+    by true on off = let own = pointwise_added es (key_of p) k n i in omega (arith, ints, on, own)
+    by false on off = omega (arith, ints, off)
 
 counted : (a : List ℕ) (k : Key) (ps : List Posted) → count_of (held a ps) k ≡ tally a k ps
 counted a k ps = folded a k ps [] tt ∙ none_before (tally a k ps)
@@ -143,21 +149,22 @@ first_takes account currency i want a k (t ∷ ts) (l ∷ ls) (suc n) h =
     subst
     (λ l. tally a k (take (suc n) (takes_in (l ∷ ls)))
     ≡ cond (bytes_eq account a) (with_sign want (under k currency (take (suc n) (t ∷ ts)))) (pos 0))
-    (sym h.0.1) (own h.0.0 h.0.2)
+    (sym h.0.1) (own h.0.0 h.0.2 (first_takes account currency i want a k ts ls n h.1))
   where
     own : (p : Posted) → IsTakeOf account currency i (signed_take want t) p
+        → tally a k (take n (takes_in ls))
+        ≡ cond (bytes_eq account a) (with_sign want (under k currency (take n ts))) (pos 0)
         → cond (bytes_eq p.account a)
         (cond (same_key k (key_of p)) (at_8 p.units.number) (pos 0)) (pos 0)
         +ℤ tally a k (take n (takes_in ls))
         ≡ cond (bytes_eq account a)
         (with_sign want
         (cond (same_key k (key_in currency t.0)) t.1 0 + under k currency (take n ts))) (pos 0)
-    own p is =
+    own p is rest =
         let count : at_8 p.units.number ≡ with_sign want t.1 =
         (λ j. scaled (is.count_is j) (is.places_are j) 8) ∙ scaled_8 (with_sign want t.1) in
         let key : key_of p ≡ key_in currency t.0 =
         λ j. record { currency = is.currency_is j; lot = is.lot_is j } in
-        let rest = first_takes account currency i want a k ts ls n h.1 in
         (λ j. cond (bytes_eq (is.account_is j) a)
         (cond (same_key k (key j)) (count j) (pos 0)) (pos 0)
         +ℤ rest j)
@@ -167,7 +174,7 @@ first_takes account currency i want a k (t ∷ ts) (l ∷ ls) (suc n) h =
 -- ---- parts
 
 nothing_more : (h t : ℤ) → IsPart h t → IsPart h (t +ℤ pos 0)
-nothing_more h t part = subst (IsPart h) (omega (arith, ints)) part
+nothing_more h t part = let same : t ≡ t +ℤ pos 0 = omega (arith, ints) in subst (IsPart h) same part
 
 -- one that fits what is left leaves a part
 one_part : (want h t left : ℤ) (n : ℕ) → IsPart h t → left ≡ h +ℤ t → Fits want n left
@@ -379,7 +386,7 @@ pub next_within : (h : Holdings) (old now all yielded rest : List Line) (l : Lin
     → AreWithin h (takes_in now ++ takes_in (l ∷ []))
 next_within h old now all yielded rest l now_is all_is w =
     let split : takes_in old ++ takes_in all
-        ≡ (takes_in now ++ takes_in (l ∷ [])) ++ takes_in rest =
+    ≡ (takes_in now ++ takes_in (l ∷ [])) ++ takes_in rest =
     ap (λ m. takes_in old ++ takes_in m) all_is
     ∙ ap (λ m. takes_in old ++ m) (takes_append yielded (l ∷ rest))
     ∙ sym (append_assoc (takes_in old) (takes_in yielded) (takes_in (l ∷ rest)))

@@ -133,7 +133,7 @@ impl<'s, 'a> Lines<'s, 'a> {
         requires bounded { IsBounded holdings.now }
         requires few { additions_in holdings.now ≤ 2 ^ 40 }
         requires within { AreWithin holdings.now
-            (takes_in self.old.lines.items ++ takes_in (line.entry ∷ [])) }
+            (takes_in self.old.lines.items ++ takes_in (line ∷ [])) }
         ensures lines { OnOk result
             (self.new.lines.items ≡ self.old.lines.items ++ line.entry ∷ []) }
         ensures keeping { OnOk result (IsKeeping holdings.now self.new) }
@@ -153,7 +153,7 @@ impl<'s, 'a> Lines<'s, 'a> {
         requires bounded { IsBounded holdings.now }
         requires few { additions_in holdings.now ≤ 2 ^ 40 }
         requires within { AreWithin holdings.now
-            (takes_in self.old.lines.items ++ takes_in lines.entry.items) }
+            (takes_in self.old.lines.items ++ takes_in lines.items) }
         ensures lines { OnOk result
             (self.new.lines.items ≡ self.old.lines.items ++ lines.entry.items) }
         ensures keeping { OnOk result (IsKeeping holdings.now self.new) }
@@ -174,7 +174,7 @@ impl<'s, 'a> Lines<'s, 'a> {
         requires bounded { IsBounded holdings.now }
         requires few { additions_in holdings.now ≤ 2 ^ 40 }
         requires within { AreWithin holdings.now
-            (takes_in self.old.lines.items ++ takes_in (spec.lines_of outcome.entry)) }
+            (takes_in self.old.lines.items ++ takes_in (spec.lines_of outcome)) }
         ensures lines { OnOk result
             (self.new.lines.items ≡ self.old.lines.items ++ spec.lines_of outcome.entry) }
         ensures keeping { OnOk result (IsKeeping holdings.now self.new) }

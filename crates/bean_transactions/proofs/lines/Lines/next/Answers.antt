@@ -5,8 +5,8 @@ use Rattle.bean_transactions.proofs.LinedFacts.{next_of}
 use Rattle.bean_transactions.proofs.WithinFacts.{small_held, small_taken, within_of}
 use Rattle.bean_transactions.proofs.lines.Lines.next.Goals as goal
 
-pub outcome_of-2-requires-clause-small : goal.outcome_of-2-requires-clause-small
-outcome_of-2-requires-clause-small c =
+pub outcome_of-requires-2-clause-small : goal.outcome_of-requires-2-clause-small
+outcome_of-requires-2-clause-small c =
     let h = c.args.holdings.now in
     let a = c.args.posting.now.account in
     let ps = takes_in c.args.self.now.lines.items in
