@@ -32,7 +32,7 @@ use Rattle.bean_replay.specs.declared.booking.Kept.{Kept}
 use Rattle.bean_parser.specs.SmallPart.{IsShort, IsShortCurrency, IsShortEntry, IsShortMark}
 use Rattle.bean_parser.specs.SmallPart.{IsShortPrice, IsShortValue, IsSmallPosting, most}
 use Rattle.bean_transactions.specs.Tried.{booked_leg, whole_at, worth_of}
-use Rattle.bean_transactions.specs.declared.line.Posted.{Posted}
+use Rattle.bean_holdings.specs.declared.posted.Posted.{Posted}
 use Rattle.number_texts.proofs.LengthFacts.{length-day, short_number}
 use Rattle.posting_table.specs.Parts as parts
 use Rattle.posting_table.specs.Parts.{HasShortTexts, HasSmallParts, IsShortLot, IsShortSet}

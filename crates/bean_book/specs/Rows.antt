@@ -20,7 +20,7 @@ use Rattle.bean_pad.specs.declared.note.NotedPad.{NotedPad}
 use Rattle.bean_pad.specs.declared.note.Outcome as outcomes
 use Rattle.bean_pad.specs.declared.note.Outcome.TheVariants as outcome
 use Rattle.bean_transactions.specs.Tried.{whole_at}
-use Rattle.bean_transactions.specs.declared.line.Posted.{Posted}
+use Rattle.bean_holdings.specs.declared.posted.Posted.{Posted}
 use Rattle.posting_table.specs.declared.entry.Entry.{Entry}
 use Rattle.posting_table.specs.declared.entry.EntryFlag.TheVariants.{Written, Padding}
 use Rattle.posting_table.specs.declared.metadata.MetaItem.{MetaItem}

@@ -8,7 +8,8 @@ use Rattle.indexmap.proofs.CallerLemmas.{insert_entry-new}
 use Rattle.bean_lots.specs.Costs.{AreTold, IsTold}
 use Rattle.bean_lots.specs.Lot.{same_key}
 use Rattle.bean_lots.specs.Inventory.{long_lot, short_lot}
-use Rattle.bean_lots.specs.Known.{costs_of, signs_of}
+use Rattle.bean_lots.specs.Known.{signs_of}
+use Rattle.bean_lots.specs.Recount.{AreFew, IsCounted, IsRecounted}
 use Rattle.bean_lots.specs.Slots.{AreDays, AreHoles, IsKept, in_all, is_full}
 use Rattle.bean_lots.specs.declared.inventory.slots.Slots.{Slots}
 use Rattle.bean_lots.specs.declared.lot.Key.{Key}
@@ -31,7 +32,7 @@ one_new total all part new none sum z s e f = omega (arith, z, s, e, f)
 pub counted_as_before : (s t : Slots) → IsKept s → t.counts.entries ≡ s.counts.entries
     → t.first ≡ s.first → t.days ≡ s.days
     → ((c : List ℕ) → signs_of t.lots c ≡ signs_of s.lots c)
-    → AreTold (costs_of t.lots) s.counts.entries → IsKept t
+    → AreTold (t.lots.costs) s.counts.entries → IsKept t
 counted_as_before s t h entries first days signs costs = record {
   holes =
       subst (λ i. AreHoles i t.counts.entries) (sym first)
@@ -43,28 +44,25 @@ counted_as_before s t h entries first days signs costs = record {
   days =
       subst (λ d. AreDays d t.counts.entries) (sym days)
       (subst (AreDays s.days) (sym entries) h.days);
-  costs = subst (AreTold (costs_of t.lots)) (sym entries) costs;
+  costs = subst (AreTold (t.lots.costs)) (sym entries) costs;
 }
 
 pub written : (s t : Slots) (k : Key) (m n : ℤ) → IsKept s
     → lookup (same_key k) s.counts.entries ≡ Some m → int_eq m (pos 0) ≡ false
     → t.counts.entries ≡ insert_entry same_key s.counts.entries k n
-    → t.first ≡ s.first → t.days ≡ s.days → costs_of t.lots ≡ costs_of s.lots
-    → ((c : List ℕ) → (signs_of t.lots c).long + long_lot c k m
-    ≡ (signs_of s.lots c).long + long_lot c k n)
-    → ((c : List ℕ) → (signs_of t.lots c).short + short_lot c k m
-    ≡ (signs_of s.lots c).short + short_lot c k n) → IsKept t
-written s t k m n h there some entries first days costs long short = record {
+    → t.first ≡ s.first → t.days ≡ s.days → t.lots.costs ≡ s.lots.costs
+    → IsRecounted (signs_of s.lots) k m n (signs_of t.lots) → IsKept t
+written s t k m n h there some entries first days costs signs = record {
   holes =
       subst (λ i. AreHoles i t.counts.entries) (sym first)
       (subst (AreHoles s.first) (sym entries)
       (slot.holes_held s.first s.counts.entries k m n h.holes there some));
   long = λ c.
-      sum_after _ _ _ (long_lot c k n) (long_lot c k m) (long c) (h.long c) _
+      sum_after _ _ _ (long_lot c k n) (long_lot c k m) (signs.long c) (h.long c) _
       (tally.written (long_lot c) s.counts.entries k m n there)
       ∙ ap (in_all (long_lot c)) (sym entries);
   short = λ c.
-      sum_after _ _ _ (short_lot c k n) (short_lot c k m) (short c) (h.short c) _
+      sum_after _ _ _ (short_lot c k n) (short_lot c k m) (signs.short c) (h.short c) _
       (tally.written (short_lot c) s.counts.entries k m n there)
       ∙ ap (in_all (short_lot c)) (sym entries);
   days =
@@ -73,8 +71,8 @@ written s t k m n h there some entries first days costs long short = record {
       (λ e. day.written s.days.latest s.counts.entries k m n there (h.days e)));
   costs =
       subst (λ x. AreTold x t.counts.entries) (sym costs)
-      (subst (AreTold (costs_of s.lots)) (sym entries)
-      (day.all_written (λ q. IsTold (costs_of s.lots) q.lot) s.counts.entries k m n there h.costs));
+      (subst (AreTold (s.lots.costs)) (sym entries)
+      (day.all_written (λ q. IsTold (s.lots.costs) q.lot) s.counts.entries k m n there h.costs));
 }
 
 pub pushed : (s t : Slots) (k : Key) (n : ℤ) → IsKept s
@@ -82,12 +80,9 @@ pub pushed : (s t : Slots) (k : Key) (n : ℤ) → IsKept s
     → t.counts.entries ≡ insert_entry same_key s.counts.entries k n
     → t.first ≡ s.first
     → (AreDays s.days s.counts.entries → AreDays t.days (s.counts.entries ++ (k, n) ∷ []))
-    → ((c : List ℕ) → (signs_of t.lots c).long + long_lot c k (pos 0)
-    ≡ (signs_of s.lots c).long + long_lot c k n)
-    → ((c : List ℕ) → (signs_of t.lots c).short + short_lot c k (pos 0)
-    ≡ (signs_of s.lots c).short + short_lot c k n)
-    → costs_of t.lots ≡ costs_of s.lots → IsTold (costs_of s.lots) k.lot → IsKept t
-pushed s t k n h there entries first days long short costs own =
+    → IsRecounted (signs_of s.lots) k (pos 0) n (signs_of t.lots)
+    → t.lots.costs ≡ s.lots.costs → IsTold (s.lots.costs) k.lot → IsKept t
+pushed s t k n h there entries first days signs costs own =
     record {
       holes =
           subst (λ i. AreHoles i t.counts.entries) (sym first)
@@ -95,25 +90,25 @@ pushed s t k n h there entries first days long short costs own =
           (slot.holes_new s.first s.counts.entries k n h.holes there));
       long = λ c.
           one_new _ _ _ _ _ _ (tally.not_long c k)
-          (tally.pushed (long_lot c) s.counts.entries k n there) (long c) (h.long c)
+          (tally.pushed (long_lot c) s.counts.entries k n there) (signs.long c) (h.long c)
           ∙ ap (in_all (long_lot c)) (sym entries);
       short = λ c.
           one_new _ _ _ _ _ _ (tally.not_short c k)
-          (tally.pushed (short_lot c) s.counts.entries k n there) (short c) (h.short c)
+          (tally.pushed (short_lot c) s.counts.entries k n there) (signs.short c) (h.short c)
           ∙ ap (in_all (short_lot c)) (sym entries);
       days =
           subst (AreDays t.days)
           (sym (entries ∙ insert_entry-new same_key s.counts k n there)) (days h.days);
       costs =
           subst (λ x. AreTold x t.counts.entries) (sym costs)
-          (subst (AreTold (costs_of s.lots)) (sym (entries ∙ insert_entry-new same_key s.counts k n there))
-          (day.all_pushed (λ q. IsTold (costs_of s.lots) q.lot) s.counts.entries k n h.costs own));
+          (subst (AreTold (s.lots.costs)) (sym (entries ∙ insert_entry-new same_key s.counts k n there))
+          (day.all_pushed (λ q. IsTold (s.lots.costs) q.lot) s.counts.entries k n h.costs own));
     }
 
 pub hole_out : (s t : Slots) (k : Key) → IsKept s
     → lookup (same_key k) s.counts.entries ≡ Some (pos 0)
     → t.counts.entries ≡ remove_entry (same_key k) s.counts.entries
-    → t.first ≡ s.first - 1 → t.days ≡ s.days → t.lots ≡ s.lots → costs_of t.lots ≡ costs_of s.lots → IsKept t
+    → t.first ≡ s.first - 1 → t.days ≡ s.days → t.lots ≡ s.lots → t.lots.costs ≡ s.lots.costs → IsKept t
 hole_out s t k h there entries first days signs costs = record {
   holes =
       subst (λ i. AreHoles i t.counts.entries) (sym first)
@@ -133,14 +128,14 @@ hole_out s t k h there entries first days signs costs = record {
       (λ e. day.taken_out s.days.latest (same_key k) s.counts.entries (h.days e)));
   costs =
       subst (λ x. AreTold x t.counts.entries) (sym costs)
-      (subst (AreTold (costs_of s.lots)) (sym entries)
-      (day.all_out (λ q. IsTold (costs_of s.lots) q.lot) (same_key k) s.counts.entries h.costs));
+      (subst (AreTold (s.lots.costs)) (sym entries)
+      (day.all_out (λ q. IsTold (s.lots.costs) q.lot) (same_key k) s.counts.entries h.costs));
 }
 
 -- without holes
 pub swept_out : (s t : Slots) → IsKept s → t.counts.entries ≡ filter is_full s.counts.entries
     → t.first ≡ 0 → AreDays t.days t.counts.entries
-    → ((c : List ℕ) → signs_of t.lots c ≡ signs_of s.lots c) → costs_of t.lots ≡ None → IsKept t
+    → ((c : List ℕ) → signs_of t.lots c ≡ signs_of s.lots c) → t.lots.costs ≡ None → IsKept t
 swept_out s t h entries first days signs costs = record {
   holes = subst (λ i. AreHoles i t.counts.entries) (sym first) tt;
   long = λ c.
@@ -152,14 +147,14 @@ swept_out s t h entries first days signs costs = record {
       ∙ sym (swept.counted (short_lot c) (tally.not_short c) s.counts.entries)
       ∙ ap (in_all (short_lot c)) (sym entries);
   days = days;
-  costs = cost.nothing_told (costs_of t.lots) t.counts.entries costs;
+  costs = cost.nothing_told (t.lots.costs) t.counts.entries costs;
 }
 
 -- a front that has all that is held
 pub in_front : (s t : Slots) (n : ℕ) → IsKept s → t.counts.entries ≡ take n s.counts.entries
     → filter is_full (take n s.counts.entries) ≡ filter is_full s.counts.entries
     → t.first ≤ s.first → t.first ≤ n → AreDays t.days t.counts.entries
-    → ((c : List ℕ) → signs_of t.lots c ≡ signs_of s.lots c) → AreTold (costs_of t.lots) t.counts.entries → IsKept t
+    → ((c : List ℕ) → signs_of t.lots c ≡ signs_of s.lots c) → AreTold (t.lots.costs) t.counts.entries → IsKept t
 in_front s t n h entries full first inside days signs costs = record {
   holes =
       subst (AreHoles t.first) (sym entries)
@@ -187,10 +182,10 @@ front_days s n es h entries =
     (λ e. end.days_in_front s.days.latest n s.counts.entries (h.days e))
 
 pub front_costs : (s : Slots) (n : ℕ) (es : List (Key × ℤ)) → IsKept s
-    → es ≡ take n s.counts.entries → AreTold (costs_of s.lots) es
+    → es ≡ take n s.counts.entries → AreTold (s.lots.costs) es
 front_costs s n es h entries =
-    subst (AreTold (costs_of s.lots)) (sym entries)
-    (end.all_in_front {A = Key × ℤ} (λ e. IsTold (costs_of s.lots) e.0.lot) n s.counts.entries h.costs)
+    subst (AreTold (s.lots.costs)) (sym entries)
+    (end.all_in_front {A = Key × ℤ} (λ e. IsTold (s.lots.costs) e.0.lot) n s.counts.entries h.costs)
 
 pub same_days : (s : Slots) (es : List (Key × ℤ)) → IsKept s
     → es ≡ filter is_full s.counts.entries → AreDays s.days es
@@ -198,15 +193,33 @@ same_days s es h entries =
     subst (AreDays s.days) (sym entries)
     (λ e. swept.days_left s.days.latest s.counts.entries (h.days e))
 
-pub few_long : (s : Slots) → IsKept s → length s.counts.entries < 2 ^ 63 → (c : List ℕ) → (signs_of s.lots c).long < 2 ^ 63
-few_long s h small c =
-    let few = tally.few (long_lot c) (tally.one_long c) s.counts.entries in
-    let all = h.long c in
-    omega (arith, few, all, small)
+pub few : (s : Slots) → IsKept s → length s.counts.entries < 2 ^ 63 → AreFew (signs_of s.lots)
+few s h small = record {
+  long = λ c.
+      let few = tally.few (long_lot c) (tally.one_long c) s.counts.entries in
+      let all = h.long c in
+      omega (arith, few, all, small);
+  short = λ c.
+      let few = tally.few (short_lot c) (tally.one_short c) s.counts.entries in
+      let all = h.short c in
+      omega (arith, few, all, small);
+}
 
-pub few_short : (s : Slots) → IsKept s → length s.counts.entries < 2 ^ 63 → (c : List ℕ)
-    → (signs_of s.lots c).short < 2 ^ 63
-few_short s h small c =
-    let few = tally.few (short_lot c) (tally.one_short c) s.counts.entries in
-    let all = h.short c in
-    omega (arith, few, all, small)
+-- what is held under a key is counted
+pub counted : (s : Slots) (k : Key) (m : ℤ) → IsKept s
+    → lookup (same_key k) s.counts.entries ≡ Some m → IsCounted (signs_of s.lots) k m
+counted s k m h there = record {
+  long = λ c.
+      subst (λ n. long_lot c k m ≤ n) (sym (h.long c))
+      (tally.part (long_lot c) s.counts.entries k m there);
+  short = λ c.
+      subst (λ n. short_lot c k m ≤ n) (sym (h.short c))
+      (tally.part (short_lot c) s.counts.entries k m there);
+}
+
+-- where nothing is held, there is nothing to count
+pub nothing_counted : (s : Slots) (k : Key) → IsCounted (signs_of s.lots) k (pos 0)
+nothing_counted s k = record {
+  long = λ c. let none = tally.not_long c k in omega (arith, none);
+  short = λ c. let none = tally.not_short c k in omega (arith, none);
+}

@@ -14,7 +14,7 @@ use Rattle.bean_lots.specs.Slots.{AreDays, AreHoles, AreInOrder, IsBy, IsKept, i
 use Rattle.bean_lots.specs.Inventory.{as_long, as_short, long_lot, short_lot}
 use Rattle.bean_lots.specs.Costs.{AreTold, IsTold}
 use Rattle.bean_lots.specs.Lot.{same_text}
-use Rattle.bean_lots.specs.Known.{costs_of, signs_of}
+use Rattle.bean_lots.specs.Known.{signs_of}
 use Rattle.bean_lots.specs.Signs.{negated}
 use Rattle.bean_lots.specs.declared.inventory.slots.Slots.{Slots}
 use Rattle.bean_lots.specs.declared.lot.Key.{Key}
@@ -109,7 +109,7 @@ order (e ∷ es) a = (all_turned (λ q. IsNotBefore e.0.lot q.lot) es a.0, order
 
 pub kept : (s t : Slots) → IsKept s → t.counts.entries ≡ negative s.counts.entries
     → t.first ≡ s.first → t.days ≡ s.days
-    → ((c : List ℕ) → signs_of t.lots c ≡ negated (signs_of s.lots c)) → costs_of t.lots ≡ costs_of s.lots
+    → ((c : List ℕ) → signs_of t.lots c ≡ negated (signs_of s.lots c)) → t.lots.costs ≡ s.lots.costs
     → IsKept t
 kept s t h entries first days signs costs = record {
   holes =
@@ -131,6 +131,6 @@ kept s t h entries first days signs costs = record {
       )));
   costs =
       subst (λ x. AreTold x t.counts.entries) (sym costs)
-      (subst (AreTold (costs_of s.lots)) (sym entries)
-      (all_turned (λ q. IsTold (costs_of s.lots) q.lot) s.counts.entries h.costs));
+      (subst (AreTold (s.lots.costs)) (sym entries)
+      (all_turned (λ q. IsTold (s.lots.costs) q.lot) s.counts.entries h.costs));
 }

@@ -2,6 +2,7 @@ pub mod Lot
 pub mod Inventory
 pub mod Days
 pub mod Signs
+pub mod Recount
 pub mod Costs
 pub mod Known
 pub mod AtCost

@@ -9,7 +9,7 @@ use Rattle.bean_lots.specs.Days.{IsNotBefore}
 use Rattle.bean_lots.specs.Inventory.{held_as, long_lot, short_lot}
 use Rattle.bean_lots.specs.Lot.{same_key}
 use Rattle.bean_lots.specs.Costs.{AreTold}
-use Rattle.bean_lots.specs.Known.{costs_of, signs_of}
+use Rattle.bean_lots.specs.Known.{signs_of}
 use Rattle.bean_base.specs.declared.days.Day.{Day}
 use Rattle.bean_lots.specs.declared.lot.Cost.{Cost}
 use Rattle.bean_lots.specs.declared.lot.Key.{Key}
@@ -22,6 +22,9 @@ use Rattle.bean_lots.specs.declared.inventory.slots.Slots.{Slots}
 abbrev pub positions : List (Key × ℤ) → List Position
 positions [] = []
 positions (e ∷ es) = held_as e.0 e.1 ++ positions es
+
+abbrev pub held : Slots → List Position
+held s = positions s.counts.entries
 
 abbrev pub is_full : Key × ℤ → Bool
 is_full e = not (int_eq e.1 (pos 0))
@@ -70,4 +73,4 @@ pub record IsKept (s : Slots) : Type 0 where
   pub long : (c : List ℕ) → (signs_of s.lots c).long ≡ in_all (long_lot c) s.counts.entries
   pub short : (c : List ℕ) → (signs_of s.lots c).short ≡ in_all (short_lot c) s.counts.entries
   pub days : AreDays s.days s.counts.entries
-  pub costs : AreTold (costs_of s.lots) s.counts.entries
+  pub costs : AreTold (s.lots.costs) s.counts.entries

@@ -9,7 +9,7 @@ ghost use Rattle.bean_lots.specs.Days.{RiseInDays};
 ghost use Rattle.bean_lots.specs.Inventory.{long_lots, short_lots};
 ghost use Rattle.bean_lots.specs.Inventory as spec;
 ghost use Rattle.bean_lots.specs.Inventory.{count_of, added, negative_entry, MayBeNegated};
-ghost use Rattle.bean_lots.specs.Inventory.{IsInventory, position_of};
+ghost use Rattle.bean_lots.specs.Inventory.{IsInventory};
 ghost use Rattle.bean_lots.specs.Lot.{same_key};
 ghost use Rattle.bean_lots.specs.declared.lot.Key.{Key};
 ghost use Rattle.bean_lots.specs.declared.lot.Position.{Position};
@@ -59,13 +59,6 @@ impl Clone for Inventory<'_> {
         let slots = self.slots.clone()?;
         Ok(Inventory { slots })
     }
-}
-
-/// Whether a key is that of a lot of a currency.
-pub fn is_lot_of(key: &Key<'_>, currency: &Currency<'_>) -> bool
-    ensures { (n : ℤ) → result ≡ spec.is_lot_of currency.now (position_of key.now n) }
-{
-    key.currency == *currency && key.lot.is_some()
 }
 
 impl<'a> Inventory<'a> {

@@ -13,7 +13,7 @@ use Rattle.bean_load.specs.declared.placed.Placed.{Placed}
 use Rattle.bean_reductions.specs.declared.reduction.Method.{Method}
 use Rattle.bean_transactions.proofs.OneTrial.{one_trial}
 use Rattle.bean_transactions.specs.Tried.{Tries}
-use Rattle.bean_transactions.specs.declared.line.Posted.{Posted}
+use Rattle.bean_holdings.specs.declared.posted.Posted.{Posted}
 use Rattle.bean_transactions.specs.declared.stop.LineFault.{LineFault}
 use Rattle.bean_replay.proofs.OneBooking.{one_stand}
 use Rattle.bean_replay.proofs.ShownFacts.{count_more}

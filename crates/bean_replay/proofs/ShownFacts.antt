@@ -12,7 +12,7 @@ use Rattle.bean_pad.specs.Standing.{failing, faults_of_pad}
 use Rattle.bean_pad.specs.declared.note.NotedPad.{NotedPad}
 use Rattle.bean_pad.specs.declared.padder.Padded.{Padded}
 use Rattle.bean_pad.specs.declared.step.Step.{Step}
-use Rattle.bean_transactions.specs.declared.line.Posted.{Posted}
+use Rattle.bean_holdings.specs.declared.posted.Posted.{Posted}
 use Rattle.bean_replay.specs.Stand.{posting_step, postings_in, postings_of, steps_of}
 use Rattle.bean_replay.specs.Stand.{steps_of_postings}
 use Rattle.bean_replay.specs.declared.booking.Draft.{Draft}

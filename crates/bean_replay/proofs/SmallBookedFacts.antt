@@ -23,7 +23,7 @@ use Rattle.bean_pad.specs.declared.step.Step.{Step}
 use Rattle.bean_pad.specs.declared.step.Step.TheVariants as step
 use Rattle.bean_transactions.proofs.LightFacts.{kept_light}
 use Rattle.bean_transactions.specs.Tried.{Tries}
-use Rattle.bean_transactions.specs.declared.line.Posted.{Posted}
+use Rattle.bean_holdings.specs.declared.posted.Posted.{Posted}
 use Rattle.bean_transactions.specs.declared.stop.LineFault.{LineFault}
 use Rattle.bean_replay.specs.Small.{IsSmallBooking, IsSmallKept, IsSmallNote, IsSmallNoted}
 use Rattle.bean_replay.specs.Small.{IsSmallPad, IsSmallPosted}

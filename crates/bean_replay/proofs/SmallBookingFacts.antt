@@ -15,7 +15,7 @@ use Rattle.bean_load.specs.Small.{IsSmall}
 use Rattle.bean_pad.specs.Note.{noted_pads}
 use Rattle.bean_pad.specs.declared.note.NotedPad.{NotedPad}
 use Rattle.bean_replay.specs.Small.{IsSmallBooking}
-use Rattle.bean_transactions.specs.declared.line.Posted.{Posted}
+use Rattle.bean_holdings.specs.declared.posted.Posted.{Posted}
 use Rattle.bean_replay.proofs.SmallBookedFacts.{ledger_small}
 
 -- the postings of a booking

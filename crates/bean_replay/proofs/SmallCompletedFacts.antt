@@ -21,7 +21,7 @@ use Rattle.bean_transactions.specs.Tried.{IsCompleted, Tries, filled_at, filled_
 use Rattle.bean_transactions.specs.Tried.{posts_at, posts_from, whole_at, worth_of}
 use Rattle.bean_transactions.specs.declared.line.Line.{Line}
 use Rattle.bean_transactions.specs.declared.line.Line.TheVariants as line
-use Rattle.bean_transactions.specs.declared.line.Posted.{Posted}
+use Rattle.bean_holdings.specs.declared.posted.Posted.{Posted}
 use Rattle.bean_replay.specs.Small.{IsSmallLot, IsSmallPosted}
 use Rattle.bean_parser.specs.SmallPart.{IsShort, IsShortCurrency, IsShortPrice, IsSmallPosting}
 use Rattle.bean_replay.proofs.SmallLinedFacts.{AreSmallLines, IsSmallLine, lines_small}

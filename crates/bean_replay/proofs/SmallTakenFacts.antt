@@ -21,9 +21,10 @@ use Rattle.bean_reductions.specs.declared.reduction.Method.TheVariants as method
 use Rattle.bean_reductions.specs.declared.reduction.Selector.{Selector}
 use Rattle.bean_reductions.proofs.InTurn.{TakesInTurn}
 use Rattle.bean_reductions.proofs.TakeFacts.{to_takes}
-use Rattle.bean_transactions.specs.Held.{at_8, held, is_on, key_of, left, takes_in}
+use Rattle.bean_holdings.specs.Held.{at_8, held, is_on, key_of}
+use Rattle.bean_transactions.specs.Held.{left, takes_in}
 use Rattle.bean_transactions.specs.declared.line.Line.{Line}
-use Rattle.bean_transactions.specs.declared.line.Posted.{Posted}
+use Rattle.bean_holdings.specs.declared.posted.Posted.{Posted}
 use Rattle.bean_replay.specs.Small.{IsSmallLot, IsSmallPosted}
 use Rattle.bean_replay.proofs.SmallListFacts.{all_filtered, all_folded, all_mapped}
 use Rattle.bean_load.proofs.SmallFacts.{in_order_all}

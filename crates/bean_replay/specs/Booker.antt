@@ -8,8 +8,8 @@ use Rattle.bean_reductions.specs.declared.reduction.Method.{Method}
 use Rattle.bean_pad.specs.Following as following
 use Rattle.bean_pad.specs.Following.{Follows, steps_in}
 use Rattle.bean_pad.specs.declared.step.Step.{Step}
-use Rattle.bean_transactions.specs.Holdings as holdings
-use Rattle.bean_transactions.specs.Holdings.{AreHeld, additions_in}
+use Rattle.bean_holdings.specs.Holdings as holdings
+use Rattle.bean_holdings.specs.Holdings.{AreHeld, additions_in}
 use Rattle.bean_transactions.specs.Methods.{method_in}
 use Rattle.bean_replay.specs.Stand.{Stand, account_steps, postings_of, steps_of}
 use Rattle.bean_replay.specs.declared.booker.Booker.{Booker}

@@ -8,7 +8,7 @@ use Rattle.bean_lots.specs.declared.lot.Lot.{Lot}
 use Rattle.bean_pad.specs.declared.note.Note.{Note}
 use Rattle.bean_pad.specs.declared.note.NotedPad.{NotedPad}
 use Rattle.bean_transactions.specs.Tried.{booked_legs}
-use Rattle.bean_transactions.specs.declared.line.Posted.{Posted}
+use Rattle.bean_holdings.specs.declared.posted.Posted.{Posted}
 use Rattle.bean_replay.specs.declared.booking.Booking.{Booking}
 use Rattle.bean_replay.specs.declared.booking.Booking.TheVariants as booking
 use Rattle.bean_replay.specs.declared.booking.Kept.{Kept}

@@ -21,10 +21,10 @@ use Rattle.bean_lots.specs.Inventory.{has_lot}
 use Rattle.bean_reductions.specs.declared.reduction.Method.{Method}
 use Rattle.bean_pad.specs.declared.step.Step.{Step}
 use Rattle.bean_pad.specs.declared.step.Step.TheVariants as step
-use Rattle.bean_transactions.specs.Held.{held}
+use Rattle.bean_holdings.specs.Held.{held}
 use Rattle.bean_transactions.specs.Lined.{Setting}
 use Rattle.bean_transactions.specs.Tried.{Tries, booked_legs}
-use Rattle.bean_transactions.specs.declared.line.Posted.{Posted}
+use Rattle.bean_holdings.specs.declared.posted.Posted.{Posted}
 use Rattle.bean_transactions.specs.declared.stop.LineFault.{LineFault}
 use Rattle.bean_replay.specs.declared.booking.Draft.{Draft}
 use Rattle.bean_replay.specs.declared.booking.Draft.TheVariants as draft

@@ -9,14 +9,14 @@ ghost use Rattle.bean_lots.specs.Inventory.{has_lot};
 ghost use Rattle.bean_pad.specs.Following.{Follows, IsBounded, steps_in};
 ghost use Rattle.bean_pad.specs.declared.step.Step.{Step};
 ghost use Rattle.bean_pad.specs.declared.step.Step.TheVariants as step;
-ghost use Rattle.bean_transactions.specs.Holdings.{holding};
+ghost use Rattle.bean_holdings.specs.Holdings.{holding};
 
 use bean_accounts::Accounts;
 use bean_base::{Day, Fault, Place};
 use bean_directives::{Balance, Close, Open, Pad};
+use bean_holdings::Holdings;
 use bean_lots::Inventory;
 use bean_pad::Padder;
-use bean_transactions::Holdings;
 use std::alloc::{AllocError, Global};
 
 /// Takes an open that is written at a place.

@@ -5,8 +5,8 @@ ghost use Rattle.bean_replay.specs.Stand.{postings_in};
 use bean_base::{Apart, Day, Few, List, Place};
 use bean_directives::Transaction;
 use bean_grammar::MetaEntry;
+use bean_holdings::Posted;
 use bean_pad::NotedPad;
-use bean_transactions::Posted;
 
 /// A transaction as it is written.
 #[derive(Debug, Drop)]

@@ -12,9 +12,10 @@ ghost use Rattle.bean_transactions.specs.Tried.{KnowsBalance, booked_legs};
 
 use bean_accounts::Accounts;
 use bean_base::{Fault, FaultKind, Place};
+use bean_holdings::Posted;
 use bean_interp::Scales;
 use bean_postings::Posting;
-use bean_transactions::{Posted, Tried, balances};
+use bean_transactions::{Tried, balances};
 use std::alloc::AllocError;
 
 /// The place of a posting of a transaction at a place.

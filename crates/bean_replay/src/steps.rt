@@ -5,8 +5,8 @@ ghost use Rattle.bean_pad.specs.Following.{Follows, IsBounded, steps_in};
 ghost use Rattle.bean_pad.specs.declared.step.Step.{Step};
 
 use crate::booking::Draft;
+use bean_holdings::Posted;
 use bean_pad::Padder;
-use bean_transactions::Posted;
 use std::alloc::AllocError;
 
 /// Shows a padder booked postings.

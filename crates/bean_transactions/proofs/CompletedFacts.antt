@@ -10,7 +10,7 @@ use Rattle.std.proofs.lemmas.List.Elements.{filter-append}
 use Rattle.bean_interp.specs.declared.fill.Fill.{Fill}
 use Rattle.bean_transactions.specs.Tried.{filled_at, filled_in, posts_at, posts_from}
 use Rattle.bean_transactions.specs.declared.line.Line.{Line}
-use Rattle.bean_transactions.specs.declared.line.Posted.{Posted}
+use Rattle.bean_holdings.specs.declared.posted.Posted.{Posted}
 
 pub one_more_fill :
     (fills : List Fill) (i : ℕ) (f : Fill) (k : ℕ) (account : List ℕ) (written : ℕ)

@@ -32,14 +32,15 @@ use Rattle.bean_postings.specs.declared.posting.Units as units_declared
 use Rattle.bean_postings.specs.declared.posting.Units.TheVariants.{Missing, Currency, Amount}
 use Rattle.bean_postings.specs.declared.posting.Units.TheVariants.{NumberAlone}
 use Rattle.bean_postings.specs.declared.price.Price as prices
-use Rattle.bean_transactions.specs.Held.{at_8, left}
+use Rattle.bean_holdings.specs.Held.{at_8}
+use Rattle.bean_transactions.specs.Held.{left}
 use Rattle.bean_transactions.specs.Lined.{AreTakeLines, IsAugmented, IsCostIn, IsInBraces, IsLinedByCost}
 use Rattle.bean_transactions.specs.Lined.{IsLinedByUnits, IsNext, IsReduced, IsReducedBy, IsTakeLine}
 use Rattle.bean_transactions.specs.Lined.{IsWhy}
 use Rattle.bean_transactions.specs.Lined.{Setting, fault_at, is_reduction, without_lot}
 use Rattle.bean_transactions.specs.declared.line.Line.{Line}
 use Rattle.bean_transactions.specs.declared.line.Line.TheVariants as line
-use Rattle.bean_transactions.specs.declared.line.Posted.{Posted}
+use Rattle.bean_holdings.specs.declared.posted.Posted.{Posted}
 use Rattle.bean_transactions.specs.declared.setting.Head.{Head}
 use Rattle.bean_transactions.specs.declared.stop.LineFault.{LineFault}
 use Rattle.bean_transactions.proofs.OneLine.{never_both}

@@ -16,7 +16,7 @@ use Rattle.bean_postings.specs.declared.posting.Posting.{Posting}
 use Rattle.bean_transactions.specs.Lined.{AreLined, IsFirstFault, IsNext, Setting, fault_at}
 use Rattle.bean_transactions.specs.Tried.{Tries, completed, is_outside, legs_of}
 use Rattle.bean_transactions.specs.declared.line.Line.{Line}
-use Rattle.bean_transactions.specs.declared.line.Posted.{Posted}
+use Rattle.bean_holdings.specs.declared.posted.Posted.{Posted}
 use Rattle.bean_transactions.specs.declared.stop.LineFault.{LineFault}
 use Rattle.bean_transactions.proofs.EachLine.{Comes, comes, behind, either_way, each_next}
 use Rattle.bean_transactions.proofs.LinedFacts.{reverse_twice}

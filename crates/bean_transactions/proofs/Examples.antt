@@ -11,11 +11,12 @@ use Rattle.bean_lots.specs.declared.lot.Cost.{Cost}
 use Rattle.bean_lots.specs.declared.lot.Lot.{Lot}
 use Rattle.bean_lots.specs.declared.lot.Position.{Position}
 use Rattle.bean_reductions.specs.declared.reduction.Method.TheVariants as method
-use Rattle.bean_transactions.specs.Held.{held, left}
+use Rattle.bean_holdings.specs.Held.{held}
+use Rattle.bean_transactions.specs.Held.{left}
 use Rattle.bean_transactions.specs.Lined.{is_reduction}
 use Rattle.bean_transactions.specs.Tried.{completed}
 use Rattle.bean_transactions.specs.declared.line.Line.TheVariants as line
-use Rattle.bean_transactions.specs.declared.line.Posted.{Posted}
+use Rattle.bean_holdings.specs.declared.posted.Posted.{Posted}
 
 is_ledger : (count : ℤ) → unsigned_abs count ≤ 120 → IsLedger count 8
 is_ledger count few = (omega arith, omega (arith, few))

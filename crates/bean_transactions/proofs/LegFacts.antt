@@ -9,7 +9,7 @@ use Rattle.bean_base.specs.declared.num.Num.{Num}
 use Rattle.bean_postings.specs.declared.price.Price.{Price}
 use Rattle.bean_interp.specs.declared.leg.Whole.{Whole}
 use Rattle.bean_transactions.specs.Tried.{decimals_of, whole_of, worth_of}
-use Rattle.bean_transactions.specs.declared.line.Posted.{Posted}
+use Rattle.bean_holdings.specs.declared.posted.Posted.{Posted}
 
 one_whole : (a b : Whole) → a.units ≡ b.units → a.decimals ≡ b.decimals → a.worth ≡ b.worth → a ≡ b
 one_whole a b units decimals worth = λ i. record {

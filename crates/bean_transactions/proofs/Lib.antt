@@ -1,9 +1,7 @@
-pub mod BoundFacts
-pub mod InPlace
 pub mod OutcomeFacts
 pub mod HeldFacts
-pub mod LotsLeftFacts
-pub mod RestFacts
+pub mod TakenFacts
+pub mod WithinFacts
 pub mod LinedFacts
 pub mod CompletedFacts
 pub mod FilledFacts

@@ -33,7 +33,8 @@ use Rattle.bean_reductions.specs.Take.{signed_takes}
 use Rattle.bean_lots.specs.declared.lot.Lot.{Lot}
 use Rattle.bean_lots.specs.declared.lot.Position.{Position}
 use Rattle.bean_reductions.specs.declared.reduction.Method.{Method}
-use Rattle.bean_transactions.specs.Held.{at_8, left}
+use Rattle.bean_holdings.specs.Held.{at_8}
+use Rattle.bean_transactions.specs.Held.{left}
 use Rattle.bean_transactions.specs.Lined.{AreLined, AreTakeLines, IsAugmented, IsLinedByCost}
 use Rattle.bean_transactions.specs.Lined.{IsLinedByUnits}
 use Rattle.bean_transactions.specs.Lined.{Setting, is_reduction}
@@ -43,7 +44,7 @@ use Rattle.bean_transactions.specs.Tried.{whole_of}
 use Rattle.bean_transactions.specs.Tried.{number_in}
 use Rattle.bean_transactions.specs.declared.line.Line.{Line}
 use Rattle.bean_transactions.specs.declared.line.Line.TheVariants as line
-use Rattle.bean_transactions.specs.declared.line.Posted.{Posted}
+use Rattle.bean_holdings.specs.declared.posted.Posted.{Posted}
 use Rattle.bean_transactions.specs.declared.setting.Head.{Head}
 use Rattle.bean_transactions.specs.declared.stop.LineFault.{LineFault}
 use Rattle.bean_transactions.proofs.LinedFacts.{each_inside, reverse_twice}

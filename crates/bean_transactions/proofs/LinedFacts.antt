@@ -13,13 +13,15 @@ use Rattle.bean_reductions.specs.After.{after}
 use Rattle.bean_lots.specs.declared.lot.Position.{Position}
 use Rattle.bean_reductions.specs.declared.reduction.Method.{Method}
 use Rattle.bean_transactions.specs.declared.stop.LineFault.{LineFault}
-use Rattle.bean_transactions.specs.Held.{held, left}
-use Rattle.bean_transactions.specs.Holdings.{holding}
+use Rattle.bean_holdings.specs.Held.{held}
+use Rattle.bean_transactions.specs.Held.{left}
+use Rattle.bean_holdings.specs.Holdings.{holding}
+use Rattle.bean_holdings.specs.Inventories.{inventory_in}
 use Rattle.bean_transactions.specs.Lined.{AreLined, IsFirstFault, IsLinedByUnits, IsNext, Setting}
 use Rattle.bean_transactions.specs.Lines.{IsKeeping, IsSettled}
 use Rattle.bean_transactions.specs.Methods.{method_in}
 use Rattle.bean_transactions.specs.Outcome.{ComesOf, StopsAt}
-use Rattle.bean_transactions.specs.declared.holdings.Holdings.{Holdings}
+use Rattle.bean_holdings.specs.declared.holdings.Holdings.{Holdings}
 use Rattle.bean_transactions.specs.declared.line.Line.{Line}
 use Rattle.bean_transactions.specs.declared.lines.Lines.{Lines}
 use Rattle.bean_transactions.specs.declared.methods.Methods.{Methods}
@@ -33,7 +35,7 @@ pub next_of :
     (s : Setting) (h : Holdings) (ms : Methods) (head : Head) (ls : Lines) (m : Method)
     (before taken : List Position) (i : ℕ) (p : Posting) (r : Result Outcome (Refusal LineFault))
     → IsSettled s h ms head → IsKeeping h ls → m ≡ method_in ms p.account
-    → before ≡ holding h p.account → taken ≡ holding ls.taken p.account
+    → before ≡ holding h p.account → taken ≡ inventory_in ls.taken p.account
     → ComesOf (IsLinedByUnits m (after before taken) head p.account p.units p.details.cost i
     p.details.line) r
     → ComesOf (IsNext s ls.lines.items i p) r
@@ -41,7 +43,7 @@ next_of s h ms head ls m before taken i p r is keeping e f g comes =
     let a = p.account in
     let left_is : after before taken ≡ left a s.before ls.lines.items =
     ap (λ es. after es taken) (f ∙ is.held.each a)
-    ∙ ap (after (held a s.before)) (g ∙ keeping.takes.each a) in
+    ∙ ap (after (held a s.before)) (g ∙ keeping.takes a) in
     let cost = p.details.cost in
     let line = p.details.line in
     subst (λ m. ComesOf (IsLinedByUnits m (left a s.before ls.lines.items) s.head a p.units cost i

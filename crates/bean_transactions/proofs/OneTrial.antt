@@ -13,7 +13,7 @@ use Rattle.bean_transactions.specs.Tried.{IsCompleted, IsIncomplete, LacksOrIsWi
 use Rattle.bean_transactions.specs.Tried.{completed}
 use Rattle.bean_transactions.specs.Tried.{is_outside, legs_of}
 use Rattle.bean_transactions.specs.declared.line.Line.{Line}
-use Rattle.bean_transactions.specs.declared.line.Posted.{Posted}
+use Rattle.bean_holdings.specs.declared.posted.Posted.{Posted}
 use Rattle.bean_transactions.specs.declared.stop.LineFault.{LineFault}
 use Rattle.bean_transactions.proofs.LinedFacts.{reverse_twice}
 use Rattle.bean_transactions.proofs.OneFilling.{one_filling, can_be}

@@ -2,13 +2,13 @@
 use Rattle.std.proofs.Common.{◌≡◌, ℕ, ◌+◌, ◌<◌, ℤ, pos, false, List, [], ◌∷◌, ◌++◌, map}
 use Rattle.std.proofs.Common.{take}
 use Rattle.std.proofs.Common.{length, get_or, Option, Some, Result, Ok, Err, sym, ap}
-use Rattle.std.proofs.Common.{◌∙◌, subst, add-one}
-use Rattle.std.proofs.Math.Seq.{take-suc}
+use Rattle.std.proofs.Common.{◌∙◌, subst}
 use Rattle.std.proofs.lemmas.List.{map-append}
 use Rattle.std.specs.Int.Signed.{lt_z}
 use Rattle.bean_base.specs.declared.amounts.Amount.{Amount}
 use Rattle.bean_postings.specs.declared.cost.LotParts.{LotParts}
 use Rattle.bean_lots.specs.declared.lot.Lot.{Lot}
+use Rattle.bean_holdings.proofs.HeldFacts.{taken_more}
 use Rattle.bean_transactions.specs.Lined.{AreTakeLines, IsAugmented, IsLotOf, IsTakeLine}
 use Rattle.bean_transactions.specs.declared.line.Line.{Line}
 use Rattle.bean_transactions.specs.declared.line.Line.TheVariants as line
@@ -45,10 +45,6 @@ one_more_take account currency i [] (m ∷ ls) t l h one = absurd h
 one_more_take account currency i (u ∷ ts) [] t l h one = absurd h
 one_more_take account currency i (u ∷ ts) (m ∷ ls) t l h one =
     (h.0, one_more_take account currency i ts ls t l h.1 one)
-
-pub taken_more : {X : Type 0} (xs : List X) (i : ℕ) (x : X) → i < length xs → x ≡ get_or xs i x
-    → take (i + 1) xs ≡ take i xs ++ x ∷ []
-taken_more xs i x h e = rw add-one (take-suc xs i x h ∙ ap (λ q. take i xs ++ q ∷ []) (sym e))
 
 pub mapped_more : {X Y : Type 0} (f : X → Y) (xs : List X) (i : ℕ) (x : X) → i < length xs
     → x ≡ get_or xs i x → map f (take (i + 1) xs) ≡ map f (take i xs) ++ f x ∷ []

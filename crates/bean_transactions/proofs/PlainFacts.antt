@@ -24,7 +24,7 @@ use Rattle.bean_transactions.specs.Tried.{IsKept, LacksOrIsWide, Tries, booked_l
 use Rattle.bean_transactions.specs.Tried.{leg_of, legs_of, posts_from}
 use Rattle.bean_transactions.specs.declared.line.Line.{Line}
 use Rattle.bean_transactions.specs.declared.line.Line.TheVariants as line
-use Rattle.bean_transactions.specs.declared.line.Posted.{Posted}
+use Rattle.bean_holdings.specs.declared.posted.Posted.{Posted}
 use Rattle.refusals.specs.declared.refusal.Refusal.TheVariants as stop
 use Rattle.bean_transactions.proofs.LinedFacts.{before_length, latest}
 

@@ -1,8 +1,5 @@
 pub mod Held
-pub mod Holdings
 pub mod Methods
-pub mod LotsLeft
-pub mod Rests
 pub mod Stock
 pub mod Lined
 pub mod Outcome

@@ -24,10 +24,11 @@ use Rattle.bean_lots.specs.declared.lot.Position.{Position}
 use Rattle.bean_reductions.specs.declared.reduction.Method.{Method}
 use Rattle.bean_reductions.specs.declared.reduction.Method.TheVariants as method
 use Rattle.bean_reductions.specs.declared.reduction.Selector.{Selector}
-use Rattle.bean_transactions.specs.Held.{at_8, left}
+use Rattle.bean_holdings.specs.Held.{at_8}
+use Rattle.bean_transactions.specs.Held.{left}
 use Rattle.bean_transactions.specs.declared.line.Line.{Line}
 use Rattle.bean_transactions.specs.declared.line.Line.TheVariants as line
-use Rattle.bean_transactions.specs.declared.line.Posted.{Posted}
+use Rattle.bean_holdings.specs.declared.posted.Posted.{Posted}
 use Rattle.bean_transactions.specs.declared.setting.Head.{Head}
 use Rattle.bean_transactions.specs.declared.stop.LineFault.{LineFault}
 

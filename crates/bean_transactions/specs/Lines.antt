@@ -1,32 +1,38 @@
 -- What the program keeps of a transaction's lines, and of its setting.
-use Rattle.std.specs.Prelude.{◌≡◌, ◌≤◌, ◌^◌, ℕ, Bool, true, false, List, [], ◌++◌, Result, Ok}
+use Rattle.std.specs.Prelude.{◌≡◌, ℕ, Bool, true, false, List, [], ◌++◌, Result, Ok, take}
 use Rattle.bean_postings.specs.declared.cost.Cost.{Cost}
 use Rattle.bean_postings.specs.declared.cost.Cost.TheVariants as cost
 use Rattle.bean_reductions.specs.Rest.{HasAllLeft}
 use Rattle.bean_transactions.specs.Held.{takes_in}
-use Rattle.bean_transactions.specs.Holdings.{AreHeld, IsBounded, additions_in, holding}
+use Rattle.bean_holdings.specs.Held.{held}
+use Rattle.bean_holdings.specs.Holdings.{AreHeld, holding}
+use Rattle.bean_holdings.specs.Inventories.{inventory_in}
+use Rattle.bean_holdings.specs.Parts.{AreParts}
 use Rattle.bean_transactions.specs.Lined.{Setting}
-use Rattle.bean_transactions.specs.LotsLeft.{AreLeft}
+use Rattle.bean_holdings.specs.LotsLeft.{AreLeft}
 use Rattle.bean_transactions.specs.Methods.{method_in}
-use Rattle.bean_transactions.specs.Rests.{rest_in}
-use Rattle.bean_transactions.specs.declared.holdings.Holdings.{Holdings}
+use Rattle.bean_holdings.specs.Rests.{rest_in}
+use Rattle.bean_holdings.specs.declared.holdings.Holdings.{Holdings}
 use Rattle.bean_transactions.specs.declared.line.Line.{Line}
 use Rattle.bean_transactions.specs.declared.lines.Lines.{Lines}
-use Rattle.bean_transactions.specs.declared.line.Posted.{Posted}
+use Rattle.bean_holdings.specs.declared.posted.Posted.{Posted}
 use Rattle.bean_transactions.specs.declared.methods.Methods.{Methods}
 use Rattle.bean_transactions.specs.declared.setting.Head.{Head}
 use Rattle.bean_transactions.specs.declared.stop.LineFault.{LineFault}
 
--- what is taken is what these takes come to, it is known which lots are left of what was held and
--- where they stand, and nothing is nothing
+-- however many of the takes are made, what they come to is a part of what accounts hold
+pub record AreWithin (h : Holdings) (ps : List Posted) : Type 0 where
+  pub first : (n : ℕ) (a : List ℕ) → AreParts (holding h a) (held a (take n ps))
+
+-- what is taken is what these takes come to, which is there to be taken, it is known which lots are
+-- left of what was held and where they stand, and nothing is nothing
 pub record HasTaken (h : Holdings) (ps : List Posted) (ls : Lines) : Type 0 where
   pub nothing : ls.nothing.now ≡ []
-  pub takes : AreHeld ps ls.taken
-  pub bounded : IsBounded ls.taken
-  pub few : additions_in ls.taken ≤ 2 ^ 39
-  pub left : (a : List ℕ) → AreLeft ls.left a (holding h a) (holding ls.taken a)
+  pub takes : (a : List ℕ) → inventory_in ls.taken a ≡ held a ps
+  pub within : AreWithin h ps
+  pub left : (a : List ℕ) → AreLeft ls.left a (holding h a) (inventory_in ls.taken a)
   pub rests : (a : List ℕ)
-      → HasAllLeft (holding ls.taken a) (rest_in ls.rests a (holding h a)) (holding h a)
+      → HasAllLeft (inventory_in ls.taken a) (rest_in ls.rests a (holding h a)) (holding h a)
 
 -- the takes are those among the lines
 abbrev pub IsKeeping : Holdings → Lines → Type 0

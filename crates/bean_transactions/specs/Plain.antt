@@ -5,7 +5,7 @@ use Rattle.bean_postings.specs.declared.cost.Cost.{Cost}
 use Rattle.bean_postings.specs.declared.cost.Cost.TheVariants as cost
 use Rattle.bean_postings.specs.declared.posting.Posting as postings
 use Rattle.bean_postings.specs.declared.posting.Units.TheVariants.{Amount}
-use Rattle.bean_transactions.specs.declared.line.Posted.{Posted}
+use Rattle.bean_holdings.specs.declared.posted.Posted.{Posted}
 
 abbrev pub is_absent : Cost → Bool
 is_absent cost.Absent = true

@@ -3,8 +3,8 @@ use Rattle.std.specs.Prelude.{◌^◌, ℕ, List}
 use Rattle.bean_reductions.specs.After.{AreSmall, after}
 use Rattle.bean_lots.specs.declared.lot.Position.{Position}
 use Rattle.bean_reductions.specs.Rest.{HasAllLeft}
-use Rattle.bean_transactions.specs.LotsLeft.{AreLeft}
-use Rattle.bean_transactions.specs.Rests.{rest_in}
+use Rattle.bean_holdings.specs.LotsLeft.{AreLeft}
+use Rattle.bean_holdings.specs.Rests.{rest_in}
 use Rattle.bean_transactions.specs.declared.stock.Stock.{Stock}
 
 abbrev pub rest_of : Stock → List Position

@@ -28,7 +28,7 @@ use Rattle.bean_transactions.specs.Lined.{AreLined, IsFirstFault, Setting, fault
 use Rattle.bean_transactions.specs.Outcome.{StopsAt}
 use Rattle.bean_transactions.specs.declared.line.Line.{Line}
 use Rattle.bean_transactions.specs.declared.line.Line.TheVariants as line
-use Rattle.bean_transactions.specs.declared.line.Posted.{Posted}
+use Rattle.bean_holdings.specs.declared.posted.Posted.{Posted}
 use Rattle.bean_transactions.specs.declared.line.Tried as tried
 use Rattle.bean_transactions.specs.declared.stop.LineFault.{LineFault}
 use Rattle.refusals.specs.declared.refusal.Refusal.{Refusal}

@@ -4,8 +4,9 @@ ghost use Rattle.std.specs.List.{prefix_len};
 ghost use Rattle.bean_transactions.specs.Filled.{AreFrom, IsCutBehind};
 ghost use Rattle.bean_transactions.specs.Tried as spec;
 
-use crate::line::{Line, Posted};
+use crate::line::Line;
 use bean_base::Account;
+use bean_holdings::Posted;
 use bean_interp::Fill;
 use std::alloc::{AllocError, Global};
 

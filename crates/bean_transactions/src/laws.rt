@@ -5,7 +5,7 @@ ghost use Rattle.bean_interp.specs.Residual.{IsLight};
 ghost use Rattle.bean_postings.specs.declared.posting.Posting.{Posting};
 ghost use Rattle.bean_transactions.specs.Lined.{Setting};
 ghost use Rattle.bean_transactions.specs.Tried.{Tries, booked_legs};
-ghost use Rattle.bean_transactions.specs.declared.line.Posted.{Posted};
+ghost use Rattle.bean_holdings.specs.declared.posted.Posted.{Posted};
 ghost use Rattle.bean_transactions.specs.declared.stop.LineFault.{LineFault};
 
 /// One thing comes of a transaction: its postings, or its fault.

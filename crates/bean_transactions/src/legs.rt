@@ -8,8 +8,9 @@ ghost use Rattle.bean_postings.specs.declared.price.Price as prices;
 ghost use Rattle.bean_transactions.specs.Tried as spec;
 ghost use Rattle.bean_transactions.specs.Tried.{whole_at};
 
-use crate::line::{Line, Posted};
+use crate::line::Line;
 use bean_base::{Apart, Num};
+use bean_holdings::Posted;
 use bean_interp::{Leg, Scales, WeighCause, Whole, Worth};
 use bean_lots::Lot;
 use bean_postings::{Posting, Price, Units};

@@ -56,30 +56,23 @@
 //! costs in [`bean_reductions`]; that it is one is told by how many lots of each sign are left,
 //! which are counted take by take. The first and the last lots of an account that are taken whole
 //! are passed once for all sales of the transaction. What is filled in is looked at once.
-//! [`Holdings`] keep an inventory for each account, change it where it stands, and count their
-//! additions: each sum is at most `10^20` times that count, which is below `2^40`. No contract
-//! shows how they are kept.
 #![tactic(auto)]
 
 mod completed;
-mod holdings;
 mod laws;
 mod legs;
 mod line;
 mod lines;
-mod lots_left;
 mod methods;
 mod outcome;
 mod plain;
-mod rests;
 mod setting;
 mod stock;
 mod stop;
 mod trial;
 
-pub use holdings::Holdings;
 pub use legs::whole;
-pub use line::{Line, Posted, Tried};
+pub use line::{Line, Tried};
 pub use methods::Methods;
 pub use setting::Head;
 pub use stop::LineFault;

@@ -1,69 +1,39 @@
 //! The lines of a transaction, posting by posting.
 ghost use Rattle.std.specs.Prelude.{◌≡◌, ◌≤◌, ◌^◌, ◌++◌, ◌∷◌, [], false, List, OnOk, IfOk, IfErr};
-ghost use Rattle.std.specs.Prelude.{Err, if◌then◌else◌, reverse, ℕ};
+ghost use Rattle.std.specs.Prelude.{Err, reverse};
 ghost use Rattle.std.specs.List.{list_any};
-ghost use Rattle.std.specs.Str.{bytes_eq};
-ghost use Rattle.bean_lots.specs.Inventory.{added};
 ghost use Rattle.bean_postings.specs.Posting.{is_outside_profile};
-ghost use Rattle.bean_transactions.specs.Held.{at_8, key_of, takes_in};
-ghost use Rattle.bean_transactions.specs.Holdings.{AreHeld, IsBounded, additions_in, holding};
+ghost use Rattle.bean_transactions.specs.Held.{takes_in};
+ghost use Rattle.bean_holdings.specs.Holdings.{IsBounded, additions_in};
 ghost use Rattle.bean_transactions.specs.Lined.{AreLined, IsFirstFault, IsNext, Setting};
-ghost use Rattle.bean_transactions.specs.Lines.{Adds, HasTaken, IsKeeping, IsSettled, is_lot};
+ghost use Rattle.bean_transactions.specs.Lines.{Adds, AreWithin, HasTaken, IsKeeping, IsSettled, is_lot};
 ghost use Rattle.bean_transactions.specs.Outcome as spec;
 ghost use Rattle.bean_transactions.specs.Outcome.{ComesOf, StopsAt, StopsWith};
-ghost use Rattle.bean_transactions.specs.declared.holdings.Holdings as holdings;
+ghost use Rattle.bean_holdings.specs.declared.holdings.Holdings as holdings;
 ghost use Rattle.bean_transactions.specs.declared.line.Line.{Line};
-ghost use Rattle.bean_transactions.specs.declared.line.Posted.{Posted};
 
-use crate::holdings::Holdings;
-use crate::line::{Line, Posted};
-use crate::lots_left::LotsLeft;
+use crate::line::Line;
 use crate::methods::Methods;
 use crate::outcome::{Outcome, outcome_of};
-use crate::rests::{Rests, without_gone};
 use crate::setting::Head;
 use crate::stock::Stock;
 use crate::stop::LineFault;
+use bean_holdings::{Holdings, Inventories, LotsLeft, Posted, Rests, without_gone};
 use bean_lots::Inventory;
 use bean_postings::{Cost, Posting};
 use refusals::Refusal;
 use std::alloc::{AllocError, Global};
-
-/// More takes than any memory holds.
-const MOST_TAKES: usize = 1 << 39;
 
 /// The lines of a transaction so far, what its takes come to in each account, which lots these leave
 /// there, and where they stand.
 #[derive(Drop)]
 pub(crate) struct Lines<'s, 'a> {
     lines: Vec<Line<'a>>,
-    taken: Holdings<'a>,
+    taken: Inventories<'a>,
     left: LotsLeft<'a>,
     rests: Rests<'s, 'a>,
     /// What an account holds that isn't there.
     nothing: &'s Inventory<'a>,
-}
-
-/// Adds a take to what is taken.
-fn post_take<'a>(
-    alloc: Global,
-    taken: &mut Holdings<'a>,
-    take: &Posted<'a>,
-) -> Result<(), AllocError>
-    requires { IsBounded taken.old }
-    ensures held { OnOk result ((ps : List Posted) → AreHeld ps taken.old
-        → AreHeld (ps ++ take.now ∷ []) taken.new) }
-    ensures own { OnOk result ((a : List ℕ) → holding taken.new a
-        ≡ (if bytes_eq take.now.account a
-        then added (holding taken.old a) (key_of take.now) (at_8 take.now.units.number)
-        else holding taken.old a)) }
-    ensures bounded { OnOk result (IsBounded taken.new) }
-    ensures few { OnOk result (additions_in taken.new ≤ 2 ^ 39) }
-{
-    if taken.additions() >= MOST_TAKES {
-        return Err(AllocError);
-    }
-    taken.post(alloc, take)
 }
 
 /// Whether a posting has a cost in braces. What comes of any other doesn't depend on what its
@@ -85,7 +55,7 @@ impl<'s, 'a> Lines<'s, 'a> {
     {
         Lines {
             lines: Vec::new(alloc),
-            taken: Holdings::new(alloc),
+            taken: Inventories::new(alloc),
             left: LotsLeft::new(alloc),
             rests: Rests::new(alloc),
             nothing,
@@ -109,6 +79,7 @@ impl<'s, 'a> Lines<'s, 'a> {
         requires keeping { IsKeeping holdings.now self.old }
         requires bounded { IsBounded holdings.now }
         requires few { additions_in holdings.now ≤ 2 ^ 40 }
+        requires within { AreWithin holdings.now (takes_in self.old.lines.items ++ take.now ∷ []) }
         ensures lines { OnOk result (self.new.lines ≡ self.old.lines) }
         ensures taken { OnOk result
             (HasTaken holdings.now (takes_in self.old.lines.items ++ take.now ∷ []) self.new) }
@@ -119,7 +90,7 @@ impl<'s, 'a> Lines<'s, 'a> {
         let count = take.units.number.scaled(8);
         self.left.note(&take.account, held, taken, &key, count)?;
         let rest = self.rests.before_take(&take.account, held, taken, &key);
-        post_take(alloc, &mut self.taken, take)?;
+        self.taken.post(alloc, take)?;
         match rest {
             Some(rest) => {
                 let taken = self.taken.of(&take.account, self.nothing);
@@ -140,6 +111,8 @@ impl<'s, 'a> Lines<'s, 'a> {
         requires keeping { IsKeeping holdings.now self.old }
         requires bounded { IsBounded holdings.now }
         requires few { additions_in holdings.now ≤ 2 ^ 40 }
+        requires within { AreWithin holdings.now
+            (takes_in self.old.lines.items ++ takes_in (line.now ∷ [])) }
         ensures lines { OnOk result (self.new.lines ≡ self.old.lines) }
         ensures taken { OnOk result
             (HasTaken holdings.now (takes_in (self.old.lines.items ++ line.now ∷ [])) self.new) }
@@ -159,6 +132,8 @@ impl<'s, 'a> Lines<'s, 'a> {
         requires keeping { IsKeeping holdings.now self.old }
         requires bounded { IsBounded holdings.now }
         requires few { additions_in holdings.now ≤ 2 ^ 40 }
+        requires within { AreWithin holdings.now
+            (takes_in self.old.lines.items ++ takes_in (line ∷ [])) }
         ensures lines { OnOk result
             (self.new.lines.items ≡ self.old.lines.items ++ line.entry ∷ []) }
         ensures keeping { OnOk result (IsKeeping holdings.now self.new) }
@@ -177,6 +152,8 @@ impl<'s, 'a> Lines<'s, 'a> {
         requires keeping { IsKeeping holdings.now self.old }
         requires bounded { IsBounded holdings.now }
         requires few { additions_in holdings.now ≤ 2 ^ 40 }
+        requires within { AreWithin holdings.now
+            (takes_in self.old.lines.items ++ takes_in lines.items) }
         ensures lines { OnOk result
             (self.new.lines.items ≡ self.old.lines.items ++ lines.entry.items) }
         ensures keeping { OnOk result (IsKeeping holdings.now self.new) }
@@ -196,6 +173,8 @@ impl<'s, 'a> Lines<'s, 'a> {
         requires keeping { IsKeeping holdings.now self.old }
         requires bounded { IsBounded holdings.now }
         requires few { additions_in holdings.now ≤ 2 ^ 40 }
+        requires within { AreWithin holdings.now
+            (takes_in self.old.lines.items ++ takes_in (spec.lines_of outcome)) }
         ensures lines { OnOk result
             (self.new.lines.items ≡ self.old.lines.items ++ spec.lines_of outcome.entry) }
         ensures keeping { OnOk result (IsKeeping holdings.now self.new) }
@@ -220,8 +199,10 @@ impl<'s, 'a> Lines<'s, 'a> {
         requires bounded { IsBounded holdings.now }
         requires few { additions_in holdings.now ≤ 2 ^ 40 }
         requires inside { is_outside_profile posting.now ≡ false }
-        ensures { (s : Setting) → IsSettled s holdings.now methods.now head
+        ensures comes { (s : Setting) → IsSettled s holdings.now methods.now head
             → ComesOf (IsNext s self.now.lines.items index posting.now) result }
+        ensures within { IfOk result (λ outcome. AreWithin holdings.now
+            (takes_in self.now.lines.items ++ takes_in (spec.lines_of outcome))) }
     {
         if !is_in_braces(posting) {
             let stock = Stock::of_nothing(self.nothing, &self.left, &self.rests);

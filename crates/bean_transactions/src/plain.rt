@@ -7,10 +7,11 @@ ghost use Rattle.bean_transactions.specs.Plain.{AreAsWritten, IsAsWritten};
 ghost use Rattle.bean_transactions.specs.Tried.{KnowsBalance, TriesOrLacks, is_outside};
 
 use crate::legs::judge;
-use crate::line::{Posted, Tried};
+use crate::line::Tried;
 use crate::setting::Head;
 use crate::stop::{LineFault, refusal_of};
 use bean_base::List;
+use bean_holdings::Posted;
 use bean_interp::{Scales, completion_refusal};
 use bean_postings::{Cost, Posting, Units};
 use refusals::Refusal;

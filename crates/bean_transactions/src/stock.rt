@@ -1,8 +1,7 @@
 //! What a posting meets in its account.
 ghost use Rattle.std.specs.Prelude.{◌≡◌};
 
-use crate::lots_left::LotsLeft;
-use crate::rests::Rests;
+use bean_holdings::{LotsLeft, Rests};
 use bean_lots::Inventory;
 use bean_reductions::Method;
 

@@ -3,7 +3,7 @@ ghost use Rattle.std.specs.Prelude.{◌≡◌, ◌≤◌, ◌^◌, IfOk, IfErr, 
 ghost use Rattle.std.specs.List.{AllByRecursion};
 ghost use Rattle.bean_interp.specs.Balance.{is_balanced};
 ghost use Rattle.bean_interp.specs.Residual.{IsLight};
-ghost use Rattle.bean_transactions.specs.Holdings.{IsBounded, additions_in};
+ghost use Rattle.bean_holdings.specs.Holdings.{IsBounded, additions_in};
 ghost use Rattle.bean_transactions.specs.Lined.{Setting};
 ghost use Rattle.bean_transactions.specs.Lines.{IsSettled};
 ghost use Rattle.bean_transactions.specs.Outcome.{StopsAt};
@@ -11,15 +11,15 @@ ghost use Rattle.bean_transactions.specs.Tried as spec;
 ghost use Rattle.bean_transactions.specs.Tried.{IsCompleted, KnowsBalance, LacksOrIsWide, TriesOrLacks};
 
 use crate::completed::completed;
-use crate::holdings::Holdings;
 use crate::legs::{judge, legs_of};
-use crate::line::{Line, Posted, Tried};
+use crate::line::{Line, Tried};
 use crate::lines::line_up;
 use crate::methods::Methods;
 use crate::plain::{are_plain, try_plain};
 use crate::setting::Head;
 use crate::stop::{LineFault, refusal_of};
 use bean_base::{FaultKind, List};
+use bean_holdings::{Holdings, Posted};
 use bean_interp::{Scales, WeighCause};
 use bean_lots::Inventory;
 use bean_postings::Posting;

@@ -1,8 +1,9 @@
 //! How many lots of each currency are held with a count above 0, and how many with one below.
-ghost use Rattle.std.specs.Prelude.{◌≡◌, ◌+◌, ◌≤◌, ◌<◌, ◌^◌, List, ℕ, OnOk, OnErr, if◌then◌else◌};
+ghost use Rattle.std.specs.Prelude.{◌≡◌, ◌+◌, ◌≤◌, ◌<◌, ◌^◌, List, ℕ, OnOk, OnErr, if◌then◌else◌, true};
+ghost use Rattle.std.specs.Option.{is_some};
 ghost use Rattle.bean_lots.specs.Inventory as inventory;
-ghost use Rattle.bean_lots.specs.Inventory.{long_lot, short_lot};
 ghost use Rattle.bean_lots.specs.Lot.{same_text};
+ghost use Rattle.bean_lots.specs.Recount.{AreFew, IsCounted, IsRecounted};
 ghost use Rattle.bean_lots.specs.Signs as spec;
 ghost use Rattle.bean_lots.specs.Signs.{no_signs, signs_at};
 
@@ -121,11 +122,6 @@ impl<'a> SignTable<'a> {
         }
     }
 
-    /// Where its memory is from.
-    pub(crate) fn allocator(&self) -> Global {
-        *self.by_currency.allocator()
-    }
-
     /// The signs of the lots of a currency.
     pub(crate) fn of(&self, currency: &Currency<'_>) -> Signs
         ensures { result ≡ signs_at self.now currency.now }
@@ -148,28 +144,20 @@ impl<'a> SignTable<'a> {
         Ok(())
     }
 
-    /// Counts what is held under a key, which becomes another count.
+    /// Counts the lot of a key, of which the count becomes another.
     pub(crate) fn recount(
         &mut self,
         key: &Key<'a>,
         before: i128,
         after: i128,
     ) -> Result<(), AllocError>
-        requires long { (c : List ℕ) → long_lot c key.now before ≤ (signs_at self.old c).long }
-        requires short { (c : List ℕ) → short_lot c key.now before ≤ (signs_at self.old c).short }
-        requires few_long { (c : List ℕ) → (signs_at self.old c).long < 2 ^ 63 }
-        requires few_short { (c : List ℕ) → (signs_at self.old c).short < 2 ^ 63 }
-        ensures long { OnOk result ((c : List ℕ)
-            → (signs_at self.new c).long + long_lot c key.now before
-            ≡ (signs_at self.old c).long + long_lot c key.now after) }
-        ensures short { OnOk result ((c : List ℕ)
-            → (signs_at self.new c).short + short_lot c key.now before
-            ≡ (signs_at self.old c).short + short_lot c key.now after) }
+        requires lot { is_some key.now.lot ≡ true }
+        requires counted { IsCounted (signs_at self.old) key.now before }
+        requires few { AreFew (signs_at self.old) }
+        ensures ok { OnOk result
+            (IsRecounted (signs_at self.old) key.now before after (signs_at self.new)) }
         ensures err { OnErr result ((c : List ℕ) → signs_at self.new c ≡ signs_at self.old c) }
     {
-        if key.lot.is_none() {
-            return Ok(());
-        }
         let signs = self.of(&key.currency).changed(before, after);
         self.set(key.currency.lend(), signs)
     }

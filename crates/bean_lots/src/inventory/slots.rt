@@ -3,23 +3,21 @@
 //! Nothing moves where a count comes to 0: its slot is a hole, until half of all slots are holes
 //! and all of these are swept out. So a lot that goes costs no more than one that comes. Holes
 //! behind all that is held go at once, so what is looked at from the end is held.
-ghost use Rattle.std.specs.Prelude.{◌≡◌, ◌≢◌, ◌+ℤ◌, ◌+◌, ◌≤◌, All, OnOk, OnErr, Some, None, pos};
-ghost use Rattle.std.specs.Prelude.{drop, map, take, [], List, ℕ, ℤ};
-ghost use Rattle.std.specs.Prelude.{◌<◌, IfNone, IfSome, IsTrue, filter, length, not, position};
-ghost use Rattle.std.specs.Prelude.{◌^◌, slice_get, true};
+ghost use Rattle.std.specs.Prelude.{◌≡◌, ◌≢◌, ◌+ℤ◌, ◌<◌, ◌^◌, All, IfNone, IfSome, IsTrue, List, None};
+ghost use Rattle.std.specs.Prelude.{OnErr, OnOk, Some, [], drop, filter, length, map, not, pos, position};
+ghost use Rattle.std.specs.Prelude.{slice_get, take, true, ℕ, ℤ};
 ghost use Rattle.std.specs.Int.{w128};
 ghost use Rattle.std.specs.Int.RustNames.{FitsSigned};
 ghost use Rattle.std.specs.List.{IsDistinct};
 ghost use Rattle.std.specs.Map.{lookup, keys_of, values_of};
 ghost use Rattle.std.specs.Ordering.{int_eq};
-ghost use Rattle.bean_lots.specs.Inventory.{IsInventory, MayBeNegated, added, count_of};
-ghost use Rattle.bean_lots.specs.Inventory.{negative_entry};
-ghost use Rattle.bean_lots.specs.Lot.{same_key};
-ghost use Rattle.bean_lots.specs.Inventory.{long_lot, short_lot};
 ghost use Rattle.bean_lots.specs.AtCost.{is_lot_at};
 ghost use Rattle.bean_lots.specs.Costs.{IsTold};
-ghost use Rattle.bean_lots.specs.Known.{costs_of, signs_of};
-ghost use Rattle.bean_lots.specs.Slots.{IsKept, in_all, is_full};
+ghost use Rattle.bean_lots.specs.Inventory.{IsInventory, MayBeNegated, added, count_of, negative_entry};
+ghost use Rattle.bean_lots.specs.Known.{signs_of};
+ghost use Rattle.bean_lots.specs.Lot.{same_key};
+ghost use Rattle.bean_lots.specs.Recount.{IsCounted, IsRecounted};
+ghost use Rattle.bean_lots.specs.Slots.{IsKept, held, is_full};
 ghost use Rattle.bean_lots.specs.Slots as spec;
 ghost use Rattle.bean_lots.specs.declared.lot.Key.{Key as KeyValue};
 
@@ -101,7 +99,7 @@ impl Clone for Slots<'_> {
 impl<'a> Slots<'a> {
     /// Nothing is held. Takes no memory.
     pub(crate) fn new(alloc: Global) -> Slots<'a>
-        ensures nothing { spec.positions result.counts.entries ≡ [] }
+        ensures nothing { held result ≡ [] }
         ensures kept { IsKept result }
     {
         Slots {
@@ -115,8 +113,8 @@ impl<'a> Slots<'a> {
 
     /// The count under a key.
     pub(crate) fn get(&self, key: &Key<'_>) -> i128
-        ensures count { result ≡ count_of (spec.positions self.now.counts.entries) key.now }
-        ensures inventory { IsInventory (spec.positions self.now.counts.entries) }
+        ensures count { result ≡ count_of (held self.now) key.now }
+        ensures inventory { IsInventory (held self.now) }
     {
         if self.counts.len() == 0 {
             return 0;
@@ -129,8 +127,8 @@ impl<'a> Slots<'a> {
 
     /// Whether there are no slots, not even holes.
     pub(crate) fn is_bare(&self) -> bool
-        ensures bare { result ≡ true → spec.positions self.now.counts.entries ≡ [] }
-        ensures inventory { IsInventory (spec.positions self.now.counts.entries) }
+        ensures bare { result ≡ true → held self.now ≡ [] }
+        ensures inventory { IsInventory (held self.now) }
     {
         self.counts.len() == 0
     }
@@ -148,7 +146,7 @@ impl<'a> Slots<'a> {
     /// What is held, in order of entry.
     pub(crate) fn positions(&self) -> Positions<'_, 'a>
         requires { IsKept self.now }
-        ensures { result ≡ spec.positions self.now.counts.entries }
+        ensures { result ≡ held self.now }
     {
         let (_, held) = self.counts.as_slice().split_at(self.first);
         Positions::new(held, self.days.in_order)
@@ -181,7 +179,7 @@ impl<'a> Slots<'a> {
     fn drop_last_holes(&mut self)
         requires { IsKept self.old }
         ensures kept { IsKept self.new }
-        ensures same { spec.positions self.new.counts.entries ≡ spec.positions self.old.counts.entries }
+        ensures same { held self.new ≡ held self.old }
     {
         let end = self.end_of_held();
         self.holes = self
@@ -191,27 +189,20 @@ impl<'a> Slots<'a> {
         self.first = self.first.min(end);
         if end == 0 {
             self.days = Days::new();
-            self.lots.forget_costs();
+            self.lots.costs = None;
         }
     }
 
     /// Counts a lot, of which the count becomes another, where the key is that of one.
     fn recount(&mut self, key: &Key<'a>, before: i128, after: i128) -> Result<(), AllocError>
         requires kept { IsKept self.old }
-        requires long { (c : List ℕ) → long_lot c key.now before
-            ≤ in_all (long_lot c) self.old.counts.entries }
-        requires short { (c : List ℕ) → short_lot c key.now before
-            ≤ in_all (short_lot c) self.old.counts.entries }
+        requires counted { IsCounted (signs_of self.old.lots) key.now before }
         ensures counts { self.new.counts ≡ self.old.counts }
         ensures first { self.new.first ≡ self.old.first }
         ensures days { self.new.days ≡ self.old.days }
-        ensures costs { costs_of self.new.lots ≡ costs_of self.old.lots }
-        ensures long { OnOk result ((c : List ℕ)
-            → (signs_of self.new.lots c).long + long_lot c key.now before
-            ≡ (signs_of self.old.lots c).long + long_lot c key.now after) }
-        ensures short { OnOk result ((c : List ℕ)
-            → (signs_of self.new.lots c).short + short_lot c key.now before
-            ≡ (signs_of self.old.lots c).short + short_lot c key.now after) }
+        ensures costs { self.new.lots.costs ≡ self.old.lots.costs }
+        ensures ok { OnOk result
+            (IsRecounted (signs_of self.old.lots) key.now before after (signs_of self.new.lots)) }
         ensures err { OnErr result (IsKept self.new) }
     {
         // There are no more lots than slots, and so few of these that the counts have room.
@@ -234,10 +225,8 @@ impl<'a> Slots<'a> {
         requires some { before ≢ pos 0 }
         ensures kept { IsKept self.new }
         ensures ok { OnOk result ((n : ℤ) → after ≡ before +ℤ n
-            → spec.positions self.new.counts.entries
-            ≡ added (spec.positions self.old.counts.entries) key.now n) }
-        ensures err { OnErr result
-            (spec.positions self.new.counts.entries ≡ spec.positions self.old.counts.entries) }
+            → held self.new ≡ added (held self.old) key.now n) }
+        ensures err { OnErr result (held self.new ≡ held self.old) }
     {
         self.recount(key, before, after)?;
         self.counts[index] = after;
@@ -253,7 +242,7 @@ impl<'a> Slots<'a> {
     fn sweep(&mut self)
         requires { IsKept self.old }
         ensures kept { IsKept self.new }
-        ensures same { spec.positions self.new.counts.entries ≡ spec.positions self.old.counts.entries }
+        ensures same { held self.new ≡ held self.old }
         ensures absent { (k : KeyValue) → lookup (same_key k) self.old.counts.entries ≡ None
             → lookup (same_key k) self.new.counts.entries ≡ None }
     {
@@ -261,7 +250,7 @@ impl<'a> Slots<'a> {
         self.first = 0;
         self.holes = 0;
         // Another table tells of no lot that is gone.
-        self.lots.forget_costs();
+        self.lots.costs = None;
         if self.counts.is_empty() {
             self.days = Days::new();
         }
@@ -270,7 +259,7 @@ impl<'a> Slots<'a> {
     fn sweep_where_due(&mut self)
         requires { IsKept self.old }
         ensures kept { IsKept self.new }
-        ensures same { spec.positions self.new.counts.entries ≡ spec.positions self.old.counts.entries }
+        ensures same { held self.new ≡ held self.old }
         ensures absent { (k : KeyValue) → lookup (same_key k) self.old.counts.entries ≡ None
             → lookup (same_key k) self.new.counts.entries ≡ None }
     {
@@ -287,7 +276,7 @@ impl<'a> Slots<'a> {
         ensures signs { (c : List ℕ) → signs_of self.new.lots c ≡ signs_of self.old.lots c }
         ensures days { self.new.days ≡ self.old.days }
         ensures kept { IsKept self.new }
-        ensures own { OnOk result (IsTold (costs_of self.new.lots) key.now.lot) }
+        ensures own { OnOk result (IsTold (self.new.lots.costs) key.now.lot) }
     {
         let alloc = *self.counts.allocator();
         self.lots.note(alloc, &self.counts.as_slice(), key)
@@ -298,10 +287,8 @@ impl<'a> Slots<'a> {
         requires kept { IsKept self.old }
         requires absent { lookup (same_key key) self.old.counts.entries ≡ None }
         ensures kept { IsKept self.new }
-        ensures ok { OnOk result (spec.positions self.new.counts.entries
-            ≡ added (spec.positions self.old.counts.entries) key.entry count) }
-        ensures err { OnErr result
-            (spec.positions self.new.counts.entries ≡ spec.positions self.old.counts.entries) }
+        ensures ok { OnOk result (held self.new ≡ added (held self.old) key.entry count) }
+        ensures err { OnErr result (held self.new ≡ held self.old) }
     {
         // Room comes first, so that the key goes in once its lot is counted.
         self.counts.reserve(1)?;
@@ -317,7 +304,7 @@ impl<'a> Slots<'a> {
         requires kept { IsKept self.old }
         requires hole { lookup (same_key key.now) self.old.counts.entries ≡ Some (pos 0) }
         ensures kept { IsKept self.new }
-        ensures same { spec.positions self.new.counts.entries ≡ spec.positions self.old.counts.entries }
+        ensures same { held self.new ≡ held self.old }
         ensures absent { lookup (same_key key.now) self.new.counts.entries ≡ None }
     {
         self.counts.shift_remove(key);
@@ -353,8 +340,7 @@ impl<'a> Slots<'a> {
 
     /// What is held under a key.
     fn positions_of(&self, key: &Key<'_>) -> Positions<'_, 'a>
-        ensures { result ≡ filter (λ e. same_key key.now e.key)
-            (spec.positions self.now.counts.entries) }
+        ensures { result ≡ filter (λ e. same_key key.now e.key) (held self.now) }
     {
         let slots = self.counts.as_slice();
         match self.slot_of(key) {
@@ -370,10 +356,10 @@ impl<'a> Slots<'a> {
         cost: &Cost<'_>,
     ) -> Option<Positions<'_, 'a>>
         requires { IsKept self.now }
-        ensures { IfSome result (λ own. own ≡ filter (is_lot_at currency.now cost.now)
-            (spec.positions self.now.counts.entries)) }
+        ensures { IfSome result (λ own. own
+            ≡ filter (is_lot_at currency.now cost.now) (held self.now)) }
     {
-        let Some(costs) = self.lots.costs() else {
+        let Some(costs) = &self.lots.costs else {
             return None;
         };
         match costs.day_at(cost.count) {
@@ -386,12 +372,10 @@ impl<'a> Slots<'a> {
     /// Adds to the count under a key.
     pub(crate) fn add(&mut self, key: Key<'a>, count: i128) -> Result<(), AllocError>
         requires kept { IsKept self.old }
-        requires fits { FitsSigned w128 (count_of (spec.positions self.old.counts.entries) key +ℤ count) }
+        requires fits { FitsSigned w128 (count_of (held self.old) key +ℤ count) }
         ensures kept { IsKept self.new }
-        ensures ok { OnOk result (spec.positions self.new.counts.entries
-            ≡ added (spec.positions self.old.counts.entries) key.entry count) }
-        ensures err { OnErr result
-            (spec.positions self.new.counts.entries ≡ spec.positions self.old.counts.entries) }
+        ensures ok { OnOk result (held self.new ≡ added (held self.old) key.entry count) }
+        ensures err { OnErr result (held self.new ≡ held self.old) }
     {
         let Some(index) = self.slot_of(&key) else {
             self.sweep_where_due();
@@ -408,10 +392,9 @@ impl<'a> Slots<'a> {
     /// Changes the sign of every count.
     pub(crate) fn negate(&mut self)
         requires kept { IsKept self.old }
-        requires wide { All MayBeNegated (spec.positions self.old.counts.entries) }
+        requires wide { All MayBeNegated (held self.old) }
         ensures kept { IsKept self.new }
-        ensures negated { spec.positions self.new.counts.entries
-            ≡ map negative_entry (spec.positions self.old.counts.entries) }
+        ensures negated { held self.new ≡ map negative_entry (held self.old) }
     {
         for index in 0..self.counts.len() {
             let count = self.counts[index];

@@ -10,7 +10,7 @@ use Rattle.bean_replay.proofs.SmallListFacts.{all_unmapped}
 use Rattle.bean_replay.proofs.SmallPlaceFacts.{found_at}
 use Rattle.bean_replay.specs.Small.{IsSmallPosted}
 use Rattle.bean_transactions.specs.Tried.{booked_leg, booked_legs}
-use Rattle.bean_transactions.specs.declared.line.Posted.{Posted}
+use Rattle.bean_holdings.specs.declared.posted.Posted.{Posted}
 use Rattle.posting_table.specs.Shaped.{IsShaped}
 use Rattle.query_rows.specs.ColumnShape.{widest}
 use Rattle.posting_table.proofs.PartFacts.{row_lies}

@@ -6,9 +6,9 @@ use Rattle.bean_accounts.specs.Faults.{faults_at, kind_if}
 use Rattle.bean_base.specs.declared.fault.FaultKind.TheVariants as kinds
 use Rattle.bean_interp.specs.Balance.{is_balanced}
 use Rattle.bean_postings.specs.declared.posting.Posting.{Posting}
-use Rattle.bean_transactions.specs.Holdings.{AreHeld}
+use Rattle.bean_holdings.specs.Holdings.{AreHeld}
 use Rattle.bean_transactions.specs.Tried.{booked_legs}
-use Rattle.bean_transactions.specs.declared.line.Posted.{Posted}
+use Rattle.bean_holdings.specs.declared.posted.Posted.{Posted}
 use Rattle.bean_replay.specs.Booker.{unseen}
 use Rattle.bean_replay.specs.Stand.{account_steps, posted_faults, postings_of, steps_of}
 use Rattle.bean_replay.specs.Stand.{steps_of_postings}

@@ -8,9 +8,9 @@ use Rattle.bean_directives.specs.declared.directive.DirectiveKind.TheVariants as
 use Rattle.bean_lots.specs.Inventory.{has_lot}
 use Rattle.bean_pad.specs.Following.{Follows}
 use Rattle.bean_pad.specs.declared.step.Step.TheVariants as step
-use Rattle.bean_transactions.specs.Held.{held}
+use Rattle.bean_holdings.specs.Held.{held}
 use Rattle.bean_directives.specs.declared.numbers.Balance.{Balance}
-use Rattle.bean_transactions.specs.Holdings.{AreHeld, holding}
+use Rattle.bean_holdings.specs.Holdings.{AreHeld, holding}
 use Rattle.bean_transactions.specs.Tried.{Tries}
 use Rattle.bean_replay.specs.Booker.{IsStanding}
 use Rattle.bean_replay.specs.Stand.{IsFull, IsStepBy, account_step, account_steps, after_trial}

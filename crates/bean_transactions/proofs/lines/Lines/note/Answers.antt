@@ -1,7 +1,7 @@
 use Rattle.std.proofs.Common.{◌++◌, ◌∷◌, [], ap, refl, sym, subst, ◌∙◌}
 use Rattle.std.proofs.lemmas.Result.{on_ok_weaker}
 use Rattle.bean_transactions.specs.Held.{takes_in}
-use Rattle.bean_transactions.specs.Lines.{HasTaken}
+use Rattle.bean_transactions.specs.Lines.{AreWithin, HasTaken}
 use Rattle.bean_transactions.specs.declared.line.Line.{Line}
 use Rattle.bean_transactions.proofs.HeldFacts.{no_more, none_taken, take_more}
 use Rattle.bean_transactions.proofs.lines.Lines.note.Goals as goal
@@ -22,3 +22,9 @@ returns-in_default c = record {
       (sym (no_more c.args.self.now.lines.items c.args.line.now
       (none_taken c.args.line.now c.in_default.not-Take))) c.requires.keeping;
 }
+
+pub note_take-requires-clause-within : goal.note_take-requires-clause-within
+note_take-requires-clause-within c =
+    let ls = c.args.self.now.lines.items in
+    subst (λ (l : Line). AreWithin c.args.holdings.now (takes_in ls ++ takes_in (l ∷ [])))
+    c.in-Take.is c.requires.within

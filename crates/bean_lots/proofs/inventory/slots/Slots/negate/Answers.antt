@@ -9,7 +9,7 @@ use Rattle.std.proofs.lemmas.List.Elements.{recursion_from_All}
 use Rattle.indexmap.specs.IndexMap.{set_value_at}
 use Rattle.bean_lots.specs.Inventory.{MayBeNegated}
 use Rattle.bean_lots.specs.Slots.{positions}
-use Rattle.bean_lots.specs.Known.{costs_of, signs_of}
+use Rattle.bean_lots.specs.Known.{signs_of}
 use Rattle.bean_lots.specs.Signs.{negated}
 use Rattle.bean_lots.proofs.ChangedFacts.{all, next, one_more, same_length}
 use Rattle.bean_lots.proofs.NegativeFacts.{fits, held, kept, negative_front}
@@ -78,7 +78,7 @@ returns-clause-kept c =
     kept s _ c.requires.kept entries c.loop-index.invariant.first c.loop-index.invariant.days
     (λ cur. c.negate.ensures.signs cur
     ∙ ap (λ x. negated (signs_of x cur)) c.loop-index.invariant.lots)
-    (c.negate.ensures.costs ∙ ap costs_of c.loop-index.invariant.lots)
+    (c.negate.ensures.costs ∙ ap (λ l. l.costs) c.loop-index.invariant.lots)
 
 pub returns-clause-negated : goal.returns-clause-negated
 returns-clause-negated c =

@@ -1,7 +1,7 @@
-use Rattle.std.proofs.Common.{◌≡◌, Some, None, filter, to_z, of_z, arith, ap, sym, ◌∙◌}
+use Rattle.std.proofs.Common.{◌≡◌, Some, None, filter, to_z, of_z, arith, ap, subst, sym, ◌∙◌}
 use Rattle.std.specs.Int.{w128}
 use Rattle.std.proofs.lemmas.Int.{ints}
-use Rattle.bean_lots.specs.Costs.{AreNoted, day_at}
+use Rattle.bean_lots.specs.Costs.{AreNoted, AreTold, day_at}
 use Rattle.bean_lots.specs.Lot.{same_key}
 use Rattle.bean_lots.specs.Slots.{positions}
 use Rattle.bean_lots.specs.declared.inventory.costs.LotDay.TheVariants.{On}
@@ -14,8 +14,10 @@ returns-in-Some-On c =
     let es = c.args.self.now.counts.entries in
     let cost = c.args.cost.now in
     let day = c.in-Some-On.day in
-    let t = c.in-Some.costs.now in
-    let noted : AreNoted t es = c.in-Some.ensures es c.requires.costs in
+    let t = c.deref.result.now in
+    let noted : AreNoted t es =
+    subst (λ x. AreNoted x es) (sym c.deref.ensures)
+    (subst (λ o. AreTold o es) c.in-Some.is c.requires.costs) in
     let wide : to_z w128 (of_z w128 cost.count) ≡ cost.count = omega (arith, ints, cost.small) in
     let on : day_at t cost.count ≡ Some (On day) =
     sym (c.day_at.ensures ∙ ap (day_at t) wide) ∙ c.in-Some-On.is
@@ -28,8 +30,10 @@ pub returns-in-None : goal.returns-in-None
 returns-in-None c =
     let es = c.args.self.now.counts.entries in
     let cost = c.args.cost.now in
-    let t = c.in-Some.costs.now in
-    let noted : AreNoted t es = c.in-Some.ensures es c.requires.costs in
+    let t = c.deref.result.now in
+    let noted : AreNoted t es =
+    subst (λ x. AreNoted x es) (sym c.deref.ensures)
+    (subst (λ o. AreTold o es) c.in-Some.is c.requires.costs) in
     let wide : to_z w128 (of_z w128 cost.count) ≡ cost.count = omega (arith, ints, cost.small) in
     let none : day_at t cost.count ≡ None =
     sym (c.day_at.ensures ∙ ap (day_at t) wide) ∙ c.in-None.is in

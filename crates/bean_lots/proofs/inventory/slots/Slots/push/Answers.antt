@@ -3,13 +3,16 @@ use Rattle.std.specs.Int.{w128}
 use Rattle.std.specs.Map.{lookup}
 use Rattle.std.proofs.lemmas.Int.{ints}
 use Rattle.indexmap.specs.IndexMap.{insert_entry}
-use Rattle.bean_lots.specs.Inventory.{long_lot, short_lot}
 use Rattle.bean_lots.specs.Lot.{same_key}
 use Rattle.bean_lots.specs.Known.{signs_of}
+use Rattle.bean_lots.specs.Recount.{IsRecounted}
 use Rattle.bean_lots.specs.Slots.{AreDays, positions}
 use Rattle.bean_lots.proofs.SlotFacts.{new_key}
 use Rattle.bean_lots.proofs.KeptFacts as kept
 use Rattle.bean_lots.proofs.inventory.slots.Slots.push.Goals as goal
+
+pub recount-requires-clause-counted : goal.recount-requires-clause-counted
+recount-requires-clause-counted c = kept.nothing_counted c.note_cost.new.self c.args.key
 
 pub returns-clause-kept : goal.returns-clause-kept
 returns-clause-kept c =
@@ -29,10 +32,8 @@ returns-clause-kept c =
     ∙ ap (insert_entry same_key es k) wide)
     c.recount.ensures.first
     (λ d. c.with-self.ensures es n (subst (λ x. AreDays x es) (sym c.recount.ensures.days) d))
-    (λ cur. subst (λ m. (signs_of t.lots cur).long + long_lot cur k (pos 0)
-    ≡ (signs_of u.lots cur).long + long_lot cur k m) wide (c.in_ok-recount.ensures.long cur))
-    (λ cur. subst (λ m. (signs_of t.lots cur).short + short_lot cur k (pos 0)
-    ≡ (signs_of u.lots cur).short + short_lot cur k m) wide (c.in_ok-recount.ensures.short cur))
+    (subst (λ m. IsRecounted (signs_of u.lots) k (pos 0) m (signs_of t.lots)) wide
+    c.in_ok-recount.ensures.ok)
     c.recount.ensures.costs c.in_ok-note_cost.ensures.own
 
 pub returns-clause-ok : goal.returns-clause-ok

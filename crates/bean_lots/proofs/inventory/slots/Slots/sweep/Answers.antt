@@ -15,7 +15,7 @@ returns-then-is_empty-clause-kept c =
     let gone = none _ (c.if-is_empty.ensures.0 refl) in
     kept.swept_out c.args.self.now _ c.requires c.keep_full.ensures refl
     (subst (AreDays c.new-self.result) (sym gone) c.new-self.ensures)
-    c.forget_costs.ensures.signs c.forget_costs.ensures.costs
+    (λ cur. refl) refl
 
 pub returns-then-is_empty-clause-same : goal.returns-then-is_empty-clause-same
 returns-then-is_empty-clause-same c =
@@ -30,7 +30,7 @@ pub returns-else-is_empty-clause-kept : goal.returns-else-is_empty-clause-kept
 returns-else-is_empty-clause-kept c =
     kept.swept_out c.args.self.now _ c.requires c.keep_full.ensures refl
     (kept.same_days c.args.self.now c.keep_full.new.counts.entries c.requires c.keep_full.ensures)
-    c.forget_costs.ensures.signs c.forget_costs.ensures.costs
+    (λ cur. refl) refl
 
 pub returns-else-is_empty-clause-same : goal.returns-else-is_empty-clause-same
 returns-else-is_empty-clause-same c =

@@ -4,31 +4,22 @@ use Rattle.std.specs.Int.{w128}
 use Rattle.std.specs.Ordering.{int_eq}
 use Rattle.std.proofs.lemmas.Int.{ints}
 use Rattle.indexmap.specs.IndexMap.{insert_entry, set_value_at}
-use Rattle.bean_lots.specs.Inventory.{long_lot, short_lot}
 use Rattle.bean_lots.specs.Lot.{same_key}
 use Rattle.bean_lots.specs.Known.{signs_of}
-use Rattle.bean_lots.specs.Slots.{in_all, positions}
+use Rattle.bean_lots.specs.Recount.{IsCounted, IsRecounted}
+use Rattle.bean_lots.specs.Slots.{positions}
 use Rattle.bean_lots.proofs.SlotFacts.{held_key}
 use Rattle.bean_lots.proofs.SlotFacts as slot
 use Rattle.bean_lots.proofs.KeptFacts as kept
-use Rattle.bean_lots.proofs.TallyFacts.{part}
 use Rattle.bean_lots.proofs.inventory.slots.Slots.write.Goals as goal
 
-pub recount-requires-clause-long : goal.recount-requires-clause-long
-recount-requires-clause-long c = λ cur.
-    let es = c.args.self.now.counts.entries in
+pub recount-requires-clause-counted : goal.recount-requires-clause-counted
+recount-requires-clause-counted c =
+    let s = c.args.self.now in
     let k = c.args.key.now in
     let wide : to_z w128 (of_z w128 c.args.before) ≡ c.args.before = omega (arith, ints) in
-    subst (λ n. long_lot cur k n ≤ in_all (long_lot cur) es) (sym wide)
-    (part (long_lot cur) es k c.args.before c.requires.count)
-
-pub recount-requires-clause-short : goal.recount-requires-clause-short
-recount-requires-clause-short c = λ cur.
-    let es = c.args.self.now.counts.entries in
-    let k = c.args.key.now in
-    let wide : to_z w128 (of_z w128 c.args.before) ≡ c.args.before = omega (arith, ints) in
-    subst (λ n. short_lot cur k n ≤ in_all (short_lot cur) es) (sym wide)
-    (part (short_lot cur) es k c.args.before c.requires.count)
+    subst (IsCounted (signs_of s.lots) k) (sym wide)
+    (kept.counted s k c.args.before c.requires.kept c.requires.count)
 
 pub pass_holes-requires : goal.pass_holes-requires
 pass_holes-requires c =
@@ -44,10 +35,8 @@ pass_holes-requires c =
     ∙ slot.written es k c.args.index n c.requires.at in
     kept.written s _ k c.args.before n c.requires.kept c.requires.count some entries
     c.recount.ensures.first c.recount.ensures.days c.recount.ensures.costs
-    (λ cur. subst (λ m. (signs_of t.lots cur).long + long_lot cur k m
-    ≡ (signs_of s.lots cur).long + long_lot cur k n) wide (c.in_ok-recount.ensures.long cur))
-    (λ cur. subst (λ m. (signs_of t.lots cur).short + short_lot cur k m
-    ≡ (signs_of s.lots cur).short + short_lot cur k n) wide (c.in_ok-recount.ensures.short cur))
+    (subst (λ m. IsRecounted (signs_of s.lots) k m n (signs_of t.lots)) wide
+    c.in_ok-recount.ensures.ok)
 
 pub returns-then-after-eq0-clause-ok : goal.returns-then-after-eq0-clause-ok
 returns-then-after-eq0-clause-ok c = λ n e.
@@ -78,10 +67,8 @@ returns-else-after-eq0-clause-kept c =
     ∙ slot.written es k c.args.index n c.requires.at in
     kept.written s _ k c.args.before n c.requires.kept c.requires.count some entries
     c.recount.ensures.first c.recount.ensures.days c.recount.ensures.costs
-    (λ cur. subst (λ m. (signs_of t.lots cur).long + long_lot cur k m
-    ≡ (signs_of s.lots cur).long + long_lot cur k n) wide (c.in_ok-recount.ensures.long cur))
-    (λ cur. subst (λ m. (signs_of t.lots cur).short + short_lot cur k m
-    ≡ (signs_of s.lots cur).short + short_lot cur k n) wide (c.in_ok-recount.ensures.short cur))
+    (subst (λ m. IsRecounted (signs_of s.lots) k m n (signs_of t.lots)) wide
+    c.in_ok-recount.ensures.ok)
 
 pub returns-else-after-eq0-clause-ok : goal.returns-else-after-eq0-clause-ok
 returns-else-after-eq0-clause-ok c = λ n e.

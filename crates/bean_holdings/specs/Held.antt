@@ -1,0 +1,26 @@
+-- What accounts hold, by what was booked.
+use Rattle.std.specs.Prelude.{ℕ, ℤ, Bool, List, [], ◌∷◌, fold, filter}
+use Rattle.std.specs.Str.{bytes_eq}
+use Rattle.bean_base.specs.Decimal.{scaled}
+use Rattle.bean_base.specs.declared.num.Num.{Num}
+use Rattle.bean_lots.specs.Inventory.{added}
+use Rattle.bean_lots.specs.declared.lot.Key.{Key}
+use Rattle.bean_lots.specs.declared.lot.Position.{Position}
+use Rattle.bean_holdings.specs.declared.posted.Posted.{Posted}
+
+abbrev pub at_8 : Num → ℤ
+at_8 n = scaled n.count n.places 8
+
+abbrev pub key_of : Posted → Key
+key_of p = record { currency = p.units.currency; lot = p.lot }
+
+abbrev pub is_on : List ℕ → Posted → Bool
+is_on account p = bytes_eq p.account account
+
+-- what postings come to, one after the other
+abbrev pub sum_of : List Posted → List Position
+sum_of ps = fold (λ es p. added es (key_of p) (at_8 p.units.number)) [] ps
+
+-- what an account holds: the sum of its postings
+abbrev pub held : List ℕ → List Posted → List Position
+held account ps = sum_of (filter (is_on account) ps)

@@ -1,0 +1,6 @@
+pub mod Held
+pub mod Inventories
+pub mod Holdings
+pub mod Parts
+pub mod LotsLeft
+pub mod Rests

@@ -1,0 +1,84 @@
+//! What each account holds.
+ghost use Rattle.std.specs.Prelude.{◌≡◌, ◌<◌, ◌≤◌, ◌+◌, ◌^◌, [], ◌∷◌, ◌++◌, OnOk, List, ℕ, length};
+ghost use Rattle.std.specs.Prelude.{if◌then◌else◌};
+ghost use Rattle.std.specs.Str.{bytes_eq};
+ghost use Rattle.bean_lots.specs.Inventory.{added};
+ghost use Rattle.bean_holdings.specs.Held.{at_8, key_of};
+ghost use Rattle.bean_holdings.specs.Holdings.{AreHeld, IsBounded, additions_in, holding};
+ghost use Rattle.bean_holdings.specs.declared.posted.Posted as spec;
+
+use crate::inventories::Inventories;
+use crate::posted::Posted;
+use bean_base::Account;
+use bean_lots::Inventory;
+use std::alloc::{AllocError, Global};
+
+/// What each account holds, of which each addition is counted.
+#[derive(Drop)]
+pub struct Holdings<'a> {
+    inventories: Inventories<'a>,
+    additions: usize,
+}
+
+impl<'a> Holdings<'a> {
+    /// Nothing anywhere. Takes no memory.
+    pub fn new(alloc: Global) -> Holdings<'a>
+        ensures nothing { (a : List ℕ) → holding result a ≡ [] }
+        ensures bounded { IsBounded result }
+        ensures additions { additions_in result ≡ 0 }
+    {
+        Holdings {
+            inventories: Inventories::new(alloc),
+            additions: 0,
+        }
+    }
+
+    /// How many additions were made.
+    pub fn additions(&self) -> usize
+        ensures { result ≡ additions_in self.now }
+    {
+        self.additions
+    }
+
+    /// What an account holds; `nothing` stands in for an account that isn't there.
+    pub fn of<'s>(&'s self, account: &Account<'a>, nothing: &'s Inventory<'a>) -> &'s Inventory<'a>
+        requires { nothing.now ≡ [] }
+        ensures { result.now ≡ holding self.now account.now }
+    {
+        self.inventories.of(account, nothing)
+    }
+
+    /// Adds a posting to what its account holds.
+    pub fn post(&mut self, alloc: Global, posted: &Posted<'a>) -> Result<(), AllocError>
+        requires bounded { IsBounded self.old }
+        requires few { additions_in self.old < 2 ^ 40 }
+        ensures held { OnOk result ((ps : List spec.Posted) → AreHeld ps self.old
+            → AreHeld (ps ++ posted.now ∷ []) self.new) }
+        ensures holding { OnOk result ((a : List ℕ) → holding self.new a
+            ≡ (if bytes_eq posted.now.account a
+            then added (holding self.old a) (key_of posted.now) (at_8 posted.now.units.number)
+            else holding self.old a)) }
+        ensures bounded { OnOk result (IsBounded self.new) }
+        ensures additions { OnOk result (additions_in self.new ≡ additions_in self.old + 1) }
+    {
+        self.inventories.post(alloc, posted)?;
+        self.additions += 1;
+        Ok(())
+    }
+
+    /// Adds postings, one after the other.
+    pub fn post_all(&mut self, alloc: Global, posted: &[Posted<'a>]) -> Result<(), AllocError>
+        requires bounded { IsBounded self.old }
+        requires few { additions_in self.old + length posted.now ≤ 2 ^ 40 }
+        ensures held { OnOk result ((ps : List spec.Posted) → AreHeld ps self.old
+            → AreHeld (ps ++ posted.now) self.new) }
+        ensures bounded { OnOk result (IsBounded self.new) }
+        ensures additions { OnOk result
+            (additions_in self.new ≡ additions_in self.old + length posted.now) }
+    {
+        for one in posted {
+            self.post(alloc, one)?;
+        }
+        Ok(())
+    }
+}

@@ -1,0 +1,84 @@
+//! An inventory for each account.
+ghost use Rattle.std.specs.Prelude.{◌≡◌, ◌+ℤ◌, [], OnOk, List, ℕ, if◌then◌else◌};
+ghost use Rattle.std.specs.Int.{w128};
+ghost use Rattle.std.specs.Int.RustNames.{FitsSigned};
+ghost use Rattle.std.specs.Str.{bytes_eq};
+ghost use Rattle.bean_lots.specs.Inventory.{added, count_of};
+ghost use Rattle.bean_holdings.specs.Held.{at_8, key_of};
+ghost use Rattle.bean_holdings.specs.Inventories.{inventory_in};
+
+use crate::posted::Posted;
+use bean_base::Account;
+use bean_lots::{Inventory, Key};
+use indexmap::IndexMap;
+use std::alloc::{AllocError, Global};
+
+/// An inventory for each account. The inventory of an account that isn't there is empty.
+#[derive(Drop)]
+pub struct Inventories<'a> {
+    by_account: IndexMap<Account<'a>, Inventory<'a>>,
+}
+
+impl<'a> Inventories<'a> {
+    /// Nothing anywhere. Takes no memory.
+    pub fn new(alloc: Global) -> Inventories<'a>
+        ensures { (a : List ℕ) → inventory_in result a ≡ [] }
+    {
+        Inventories {
+            by_account: IndexMap::new(alloc),
+        }
+    }
+
+    /// That of an account; `nothing` stands in for an account that isn't there.
+    pub fn of<'s>(&'s self, account: &Account<'a>, nothing: &'s Inventory<'a>) -> &'s Inventory<'a>
+        requires { nothing.now ≡ [] }
+        ensures { result.now ≡ inventory_in self.now account.now }
+    {
+        self.by_account.get(account).unwrap_or(nothing)
+    }
+
+    /// Puts an inventory in place of that of an account.
+    fn put(&mut self, account: Account<'a>, inventory: Inventory<'a>) -> Result<(), AllocError>
+        ensures { OnOk result ((a : List ℕ) → inventory_in self.new a
+            ≡ (if bytes_eq account.entry a then inventory.entry else inventory_in self.old a)) }
+    {
+        match self.by_account.insert(account, inventory) {
+            Ok(_) => Ok(()),
+            Err(_) => Err(AllocError),
+        }
+    }
+
+    /// Adds to the inventory of an account. The sum fits.
+    fn add(
+        &mut self,
+        alloc: Global,
+        account: Account<'a>,
+        key: Key<'a>,
+        count: i128,
+    ) -> Result<(), AllocError>
+        requires { FitsSigned w128 (count_of (inventory_in self.old account) key +ℤ count) }
+        ensures { OnOk result ((a : List ℕ) → inventory_in self.new a
+            ≡ (if bytes_eq account.entry a then added (inventory_in self.old a) key.entry count
+            else inventory_in self.old a)) }
+    {
+        let Some(index) = self.by_account.get_index_of(&account) else {
+            let mut inventory = Inventory::new(alloc);
+            inventory.add(key, count)?;
+            return self.put(account, inventory);
+        };
+        self.by_account[index].add(key, count)
+    }
+
+    /// Adds a posting to the inventory of its account. The caller knows that the sum fits.
+    pub fn post(&mut self, alloc: Global, posted: &Posted<'a>) -> Result<(), AllocError>
+        requires { FitsSigned w128 (count_of (inventory_in self.old posted.now.account)
+            (key_of posted.now) +ℤ at_8 posted.now.units.number) }
+        ensures { OnOk result ((a : List ℕ) → inventory_in self.new a
+            ≡ (if bytes_eq posted.now.account a
+            then added (inventory_in self.old a) (key_of posted.now) (at_8 posted.now.units.number)
+            else inventory_in self.old a)) }
+    {
+        let count = posted.units.number.scaled(8);
+        self.add(alloc, posted.account.lend(), posted.key(), count)
+    }
+}

@@ -1,0 +1,33 @@
+//! What accounts hold, and what a transaction leaves of it.
+//!
+//! ```text
+//! let mut holdings = Holdings::new(alloc);
+//! holdings.post_all(alloc, bought)?;              // 10 X at 100 USD and 5 at 110 USD in Assets:Shares
+//! let held = holdings.of(&shares, &nothing);      // these two lots
+//! ```
+//!
+//! What an account holds is the sum of its postings, each held under its currency and its lot.
+//!
+//! What a transaction takes of lots isn't taken from what is held until all of it is known: its
+//! takes are summed up beside, in [`Inventories`] of their own. [`LotsLeft`] tells how many lots of
+//! each sign these leave, and [`Rests`] where they stand.
+//!
+//! # Cost
+//!
+//! [`Inventories`] are looked up by account and change where they stand. [`Holdings`] count their
+//! additions: each sum is at most `10^20` times that count, which is below `2^40`. Takes aren't
+//! counted, since what they come to is a part of what is held. No contract shows how either is kept. A take is counted in constant time, and the first and the last lots of
+//! an account that are taken whole are passed once for all takes of a transaction.
+#![tactic(auto)]
+
+mod holdings;
+mod inventories;
+mod lots_left;
+mod posted;
+mod rests;
+
+pub use holdings::Holdings;
+pub use inventories::Inventories;
+pub use lots_left::LotsLeft;
+pub use posted::Posted;
+pub use rests::{Rests, without_gone};

@@ -1,9 +1,0 @@
-use Rattle.std.proofs.Common.{[], unwrap_or, ap, ◌∙◌}
-use Rattle.std.specs.Str.{bytes_eq}
-use Rattle.bean_transactions.proofs.InPlace.{put_or_before}
-use Rattle.bean_transactions.proofs.holdings.Holdings.put.Goals as goal
-
-pub returns-in-Ok-clause-put : goal.returns-in-Ok-clause-put
-returns-in-Ok-clause-put c = λ a.
-    ap (λ o. unwrap_or o []) (c.in-Ok.ensures.updates.0 a)
-    ∙ put_or_before (bytes_eq c.args.account a) c.args.inventory [] _
