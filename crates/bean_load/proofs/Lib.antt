@@ -1,5 +1,6 @@
 pub mod LineFacts
 pub mod OneLoading
+pub mod OrderFacts
 pub mod ReadFacts
 pub mod BooksFacts
 pub mod AskedFacts

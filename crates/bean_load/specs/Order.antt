@@ -1,5 +1,5 @@
 -- The order in which the directives of all texts are taken.
-use Rattle.std.specs.Prelude.{ℕ, ℤ, List}
+use Rattle.std.specs.Prelude.{ℕ, ℤ, ◌+ℤ◌, ◌*ℤ◌, pos, List}
 use Rattle.std.specs.Ordering.{int_cmp, nat_cmp, ordering_then}
 use Rattle.std.specs.declared.cmp.Ordering.{Ordering}
 use Rattle.theory.specs.Arrangement.{IsArrangedByKey}
@@ -25,6 +25,11 @@ Key = DayKey × ℕ
 
 abbrev pub key_of : Placed Directive → Key
 key_of p = (day_key p.item, p.part)
+
+-- day and rank as one number, which ascends by day and then by rank, and the place in reading order
+abbrev pub turn_of : Placed Directive → ℤ × ℕ
+turn_of p =
+    (number p.item.day *ℤ pos 8 +ℤ pos (rank_number (rank_of p.item.kind)), p.part)
 
 -- by day, then by rank, then by place
 abbrev pub key_cmp : Key → Key → Ordering

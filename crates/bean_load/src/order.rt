@@ -1,5 +1,6 @@
 //! The order in which the directives and the settings of all texts are taken.
-ghost use Rattle.std.specs.Prelude.{◌≡◌, List, OnOk};
+ghost use Rattle.std.specs.Prelude.{◌≡◌, ◌<◌, ◌+ℤ◌, ◌*ℤ◌, pos, List, OnOk};
+ghost use Rattle.bean_load.specs.Order as spec;
 ghost use Rattle.bean_load.specs.Order.{AreInOrder, AreSettingsInOrder};
 
 use crate::placed::Placed;
@@ -8,16 +9,30 @@ use bean_base::Apart;
 use bean_parser::{Directive, Setting};
 use std::alloc::AllocError;
 
+/// One number for a day's number and a rank.
+fn turn(day: i32, rank: u8) -> i64
+    requires { rank < 8 }
+    ensures { result ≡ day *ℤ pos 8 +ℤ pos rank }
+{
+    i64::from(day) * 8 + i64::from(rank)
+}
+
+/// The turn of a directive, and its part of the ledger: so two whole numbers are all that is
+/// compared.
+fn turn_of(placed: &Placed<Directive<'_>>) -> (i64, usize)
+    ensures { result ≡ spec.turn_of placed.now }
+{
+    let rank = Rank::of(&placed.item.kind);
+    (turn(placed.item.day.number(), rank.number()), placed.part)
+}
+
 /// By day, of one day opens, then balances, all else, documents and closes, then in reading order.
 pub fn order_directives(
     directives: &mut Vec<Apart<Placed<Directive<'_>>>>,
 ) -> Result<(), AllocError>
     ensures { OnOk result (AreInOrder directives.old.items directives.new.items) }
 {
-    directives.sort_by_cached_key(|placed| {
-        let placed = placed.get();
-        ((placed.item.day, Rank::of(&placed.item.kind)), placed.part)
-    })
+    directives.sort_by_cached_key(|placed| turn_of(placed.get()))
 }
 
 /// In reading order.
