@@ -2,13 +2,13 @@
 use Rattle.std.proofs.Common.{◌≡◌, ℕ, ◌+◌, ◌<◌, ◌≤◌, true, false, List, [], ◌++◌, nat_lt, length}
 use Rattle.std.proofs.Common.{take, drop, arith, refl, sym, ap, subst, ◌∙◌, append_assoc, length-drop}
 use Rattle.std.proofs.Common.{⊎_elim, Result, Ok, Err, true≢false}
-use Rattle.std.specs.Result.{IsErr, OnErr, is_ok}
+use Rattle.std.specs.Result.{IsErr, OnErr, OnOk, is_ok}
 use Rattle.std.proofs.Math.Seq.{take-append-add, drop-append-add, take-length}
 use Rattle.std.proofs.lemmas.Bool.{cases_lt}
 use Rattle.std.proofs.lemmas.Bool.Decides.{nat_tests}
 use Rattle.std.proofs.lemmas.List.{append-nil, length-append, take-append-le, drop-append-le}
 use Rattle.outputs.specs.Output.{RefusesSome, Took, TookFront, TookInPieces, no_call, one_more}
-use Rattle.outputs.specs.Pieces.{AreJoined, EndsEarly, IsOnePiece, Pieces, Stands, Stopped, Waits}
+use Rattle.outputs.specs.Pieces.{AreJoined, EndsEarly, IsOnePiece, Pieces, Puts, Stands, Stopped, Waits}
 use Rattle.outputs.specs.Refusals.{refusals_behind}
 use Rattle.outputs.specs.declared.output.NotTaken.{NotTaken}
 use Rattle.outputs.specs.declared.output.Output.{Ghosts as OutputOf}
@@ -126,7 +126,7 @@ module _ {W : Type 0} (o : OutputOf W) (start : W) where
       (subst (TookInPieces o start before w.front) w.whole w.took)
       (one_piece o before after p.waiting n t)))
 
-  length_is : (now : W) (p : Pieces) (text : List ℕ) → Waits o start now p text
+  pub length_is : (now : W) (p : Pieces) (text : List ℕ) → Waits o start now p text
       → length text ≡ p.taken + length p.waiting
   length_is now p text w =
       ap length w.is ∙ length-append w.front p.waiting
@@ -156,6 +156,55 @@ module _ {W : Type 0} (o : OutputOf W) (start : W) where
     early o start after text piece p.taken s.0 s.1,
     omega (arith, s.1, length-append text piece),
   )
+
+  -- nothing was put yet
+  pub nothing : Waits o start start (record { waiting = []; taken = 0 }) []
+  nothing = record {
+    front = [];
+    is = refl;
+    took = record {
+      within = omega arith;
+      middle = start;
+      took = no_call start;
+      refused = λ lt. absurd (omega (arith, lt));
+      whole = λ _. refl;
+      counted = refl;
+    };
+    whole = refl;
+  }
+
+  -- once nothing waits, so much was taken of the text
+  pub told : (after : W) (p : Pieces) (text : List ℕ) (result : Result Unit NotTaken)
+      → Stands o start after p text result → OnOk result (p.waiting ≡ [])
+      → TookInPieces o start after text p.taken
+  told after p text (Ok x) w none =
+      subst (λ l. TookInPieces o start after l p.taken)
+      (sym (w.is ∙ ap (λ l. w.front ++ l) none ∙ append-nil w.front)) w.took
+  told after p text (Err e) s none = s.0
+
+-- whichever the text so far is, with the piece behind it it waits; or the output refuses
+abbrev pub MovesOn : {W : Type 0} → OutputOf W → W → W → Pieces → Pieces → List ℕ → Type 0
+MovesOn {W} o a b p q xs =
+    (start : W) (text : List ℕ) → Waits o start a p text → Waits o start b q (text ++ xs)
+
+abbrev pub Stops : {W : Type 0} → OutputOf W → W → W → Pieces → Pieces → List ℕ → Type 0
+Stops {W} o a b p q xs =
+    (start : W) (text : List ℕ) → Waits o start a p text → Stopped o start b q (text ++ xs)
+
+module _ {W : Type 0} (o : OutputOf W) where
+  -- a piece behind a piece
+  pub puts_both : (a b c : W) (p q r : Pieces) (xs ys : List ℕ) (result : Result Unit NotTaken)
+      → MovesOn o a b p q xs → Puts o b c q r ys result → Puts o a c p r (xs ++ ys) result
+  puts_both a b c p q r xs ys result first second start text w =
+      subst (λ t. Stands o start c r t result) (append_assoc text xs ys)
+      (second start (text ++ xs) (first start text w))
+
+  -- a piece at which it stops, and one behind it
+  pub puts_none : (a b : W) (p q : Pieces) (xs ys : List ℕ) (result : Result Unit NotTaken)
+      → IsErr result → Stops o a b p q xs → Puts o a b p q (xs ++ ys) result
+  puts_none a b p q xs ys result is first start text w =
+      subst (λ t. Stands o start b q t result) (append_assoc text xs ys)
+      (stays o start b q (text ++ xs) ys result is (first start text w))
 
 -- a call that didn't succeed failed
 pub failed : {T E : Type 0} (result : Result T E) (P : Type 0) → is_ok result ≡ false → OnErr result P → P
