@@ -1,7 +1,7 @@
 //! `batch K LEDGER FILE..`: what query files answer over a ledger, in turns of K steps each.
 ghost use Rattle.std.specs.Prelude.{◌≡◌, ◌≤◌, ◌++◌, IfOk, OnOk, length};
 ghost use Rattle.std.specs.List.{AllByRecursion, list_any};
-ghost use Rattle.batch_tables.specs.Fates.{HasProgram};
+ghost use Rattle.query_tables.specs.Fates.{HasProgram};
 ghost use Rattle.bq.specs.Accepted.{AcceptsFile, AcceptsFiles};
 ghost use Rattle.bq.specs.Batch as command;
 ghost use Rattle.bq.specs.Runs.{Finds};
@@ -11,11 +11,11 @@ use crate::commands::file::file_bytes;
 use crate::commands::ledger::{Question, answer_about};
 use crate::given::Given;
 use crate::text::Text;
-use batch_tables::{Fate, file_fates};
 use bean_base::{List, Slice};
 use bean_load::Texts;
 use endings::{Refusal, Verdict};
 use query_files::outlined;
+use query_tables::{Fate, file_fates};
 use std::alloc::{AllocError, Global};
 use std::mem::forget;
 use stores::Source;
