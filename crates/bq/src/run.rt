@@ -6,8 +6,8 @@ ghost use Rattle.bq.specs.Runs.{HaveOneEnd, RefusesExactly, StatusesTell};
 
 use crate::commands::find;
 use crate::given::Given;
-use endings::{Refusal, Verdict};
 use crate::text::Text;
+use endings::{Refusal, Verdict};
 use outputs::{Output, write_bytes};
 use std::alloc::Global;
 use stores::{SourceFault, Store};

@@ -1,63 +1,30 @@
--- The lines of faults: their parts, and one after the other.
-use Rattle.std.proofs.Common.{◌≡◌, ℕ, suc, ◌<◌, List, [], ◌∷◌, ◌++◌, codes, length, take, drop, sym}
-use Rattle.std.proofs.Common.{ap, append_assoc, ◌∙◌}
-use Rattle.std.proofs.Math.ListN.{get_or}
-use Rattle.std.proofs.Math.Seq.{take-suc}
-use Rattle.std.proofs.lemmas.Grind.{flat_map-append}
-use Rattle.std.proofs.lemmas.List.{append-nil, take-append-drop}
-use Rattle.std.proofs.lemmas.List.Concat.{flat_map-cons}
-use Rattle.std.specs.Fmt.{decimal}
-use Rattle.bean_base.specs.Fault.{text_of}
+-- The parts of a line, one behind the other.
+use Rattle.std.proofs.Common.{◌≡◌, List, ℕ, [], ◌++◌, codes, sym, ap, append_assoc, ◌∙◌}
+use Rattle.std.proofs.lemmas.List.{append-nil}
 use Rattle.bean_base.specs.declared.fault.Fault.{Fault}
 use Rattle.bean_base.specs.declared.fault.FaultKind.TheVariants.{BadToken}
-use Rattle.bean_load.specs.Texts.{File}
-use Rattle.fault_printer.specs.Lines.{line_of, lines_of, name_of}
-
--- ---- what stands behind each part of a line
-
-abbrev pub behind_text : Fault → List ℕ
-behind_text f = codes "\n"
-
-abbrev pub behind_number : Fault → List ℕ
-behind_number f = codes ": " ++ (text_of f.kind ++ behind_text f)
-
-abbrev pub behind_name : Fault → List ℕ
-behind_name f = codes ":" ++ (decimal f.place.line ++ behind_number f)
-
-pub line_is : (files : List File) (f : Fault)
-    → line_of files f ≡ name_of files f.place.file ++ behind_name f
-line_is files f =
-    append_assoc (to_number ++ codes ": ") (text_of f.kind) (behind_text f)
-    ∙ append_assoc to_number (codes ": ") (text_of f.kind ++ behind_text f)
-    ∙ append_assoc (name ++ codes ":") (decimal f.place.line) (behind_number f)
-    ∙ append_assoc name (codes ":") (decimal f.place.line ++ behind_number f)
-  where
-    name : List ℕ
-    name = name_of files f.place.file
-
-    to_number : List ℕ
-    to_number = name ++ codes ":" ++ decimal f.place.line
-
--- ---- one line after the other
+use Rattle.fault_printer.specs.Lines.{line_by}
 
 -- it stands where there is none
 abbrev pub no_fault : Fault
 no_fault = record { kind = BadToken; place = record { file = 0; line = 0 } }
 
-module _ (files : List File) (fs : List Fault) (i : ℕ) (within : i < length fs) where
-  one_more : lines_of files (take (suc i) fs)
-      ≡ lines_of files (take i fs) ++ line_of files (get_or fs i no_fault)
-  one_more =
-      ap (lines_of files) (take-suc fs i no_fault within)
-      ∙ flat_map-append (line_of files) (take i fs) (get_or fs i no_fault ∷ [])
-      ∙ ap (λ l. lines_of files (take i fs) ++ l)
-      (flat_map-cons (line_of files) (get_or fs i no_fault) []
-      ∙ append-nil (line_of files (get_or fs i no_fault)))
+grouped : (a b c d e f : List ℕ) → a ++ (b ++ (c ++ (d ++ (e ++ (f ++ []))))) ≡ a ++ b ++ c ++ d ++ e ++ f
+grouped a b c d e f =
+    sym (append_assoc a b (c ++ (d ++ (e ++ (f ++ [])))))
+    ∙ sym (append_assoc (a ++ b) c (d ++ (e ++ (f ++ []))))
+    ∙ sym (append_assoc (a ++ b ++ c) d (e ++ (f ++ [])))
+    ∙ sym (append_assoc (a ++ b ++ c ++ d) e (f ++ []))
+    ∙ ap (λ l. a ++ b ++ c ++ d ++ e ++ l) (append-nil f)
 
-  pub parted : lines_of files fs
-      ≡ (lines_of files (take i fs) ++ line_of files (get_or fs i no_fault))
-      ++ lines_of files (drop (suc i) fs)
-  parted =
-      sym (ap (lines_of files) (take-append-drop (suc i) fs))
-      ∙ flat_map-append (line_of files) (take (suc i) fs) (drop (suc i) fs)
-      ∙ ap (λ l. l ++ lines_of files (drop (suc i) fs)) one_more
+pub line_is : (name number text : List ℕ) (a b c d e f : List ℕ) → a ≡ name → b ≡ codes ":"
+    → c ≡ number → d ≡ codes ": " → e ≡ text → f ≡ codes "\n"
+    → a ++ (b ++ (c ++ (d ++ (e ++ (f ++ []))))) ≡ line_by name number text
+line_is name number text a b c d e f is_name colon is_number blank is_text feed =
+    grouped a b c d e f
+    ∙ ap (λ l. l ++ b ++ c ++ d ++ e ++ f) is_name
+    ∙ ap (λ l. name ++ l ++ c ++ d ++ e ++ f) colon
+    ∙ ap (λ l. name ++ codes ":" ++ l ++ d ++ e ++ f) is_number
+    ∙ ap (λ l. name ++ codes ":" ++ number ++ l ++ e ++ f) blank
+    ∙ ap (λ l. name ++ codes ":" ++ number ++ codes ": " ++ l ++ f) is_text
+    ∙ ap (λ l. name ++ codes ":" ++ number ++ codes ": " ++ text ++ l) feed

@@ -44,6 +44,31 @@ fn lines_len(files: &[File], faults: &[Fault]) -> Option<usize>
     Some(len)
 }
 
+/// Puts a line behind a text: the name of a file, a line's number, and what is said of it.
+fn push_parts<'l, W: Output>(
+    pieces: &mut Pieces,
+    name: &'l str,
+    number: &'l str,
+    text: &'l str,
+    out: &mut W,
+) -> Result<(), NotTaken>
+    requires { length_so_far pieces.old + length (spec.line_by name.now number.now text.now) < 2 ^ 64 }
+    ensures { Puts W.Output out.old out.new pieces.old pieces.new
+        (spec.line_by name.now number.now text.now) result }
+{
+    pieces.push_all(
+        &[
+            name.as_bytes(),
+            ":".as_bytes(),
+            number.as_bytes(),
+            ": ".as_bytes(),
+            text.as_bytes(),
+            "\n".as_bytes(),
+        ],
+        out,
+    )
+}
+
 /// Puts the line of a fault behind a text.
 fn push_line<W: Output>(
     pieces: &mut Pieces,
@@ -55,12 +80,15 @@ fn push_line<W: Output>(
     ensures { Puts W.Output out.old out.new pieces.old pieces.new
         (spec.line_of files.now fault.now) result }
 {
-    pieces.push(name_of(files, fault.place.file).as_bytes(), out)?;
-    pieces.push(b":", out)?;
-    pieces.push(Buffer::new().format(fault.place.line).as_bytes(), out)?;
-    pieces.push(b": ", out)?;
-    pieces.push(fault.kind.text().as_bytes(), out)?;
-    pieces.push(b"\n", out)
+    let mut buffer = Buffer::new();
+    let number = buffer.format(fault.place.line);
+    push_parts(
+        pieces,
+        name_of(files, fault.place.file),
+        number,
+        fault.kind.text(),
+        out,
+    )
 }
 
 /// Writes the lines of faults, until the output fails or takes nothing, and counts their bytes.

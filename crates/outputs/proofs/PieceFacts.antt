@@ -1,12 +1,16 @@
 -- Texts that are handed over in pieces.
-use Rattle.std.proofs.Common.{◌≡◌, ℕ, ◌+◌, ◌<◌, ◌≤◌, true, false, List, [], ◌++◌, nat_lt, length}
-use Rattle.std.proofs.Common.{take, drop, arith, refl, sym, ap, subst, ◌∙◌, append_assoc, length-drop}
+use Rattle.std.proofs.Common.{◌≡◌, ℕ, ◌+◌, ◌<◌, ◌≤◌, true, false, List, [], ◌∷◌, ◌++◌, nat_lt, length}
+use Rattle.std.proofs.Common.{take, drop, suc, arith, refl, sym, ap, subst, ◌∙◌, append_assoc, length-drop}
 use Rattle.std.proofs.Common.{⊎_elim, Result, Ok, Err, true≢false}
 use Rattle.std.specs.Result.{IsErr, OnErr, OnOk, is_ok}
-use Rattle.std.proofs.Math.Seq.{take-append-add, drop-append-add, take-length}
+use Rattle.std.proofs.Math.Seq.{take-suc, take-append-add, drop-append-add, take-length}
 use Rattle.std.proofs.lemmas.Bool.{cases_lt}
 use Rattle.std.proofs.lemmas.Bool.Decides.{nat_tests}
-use Rattle.std.proofs.lemmas.List.{append-nil, length-append, take-append-le, drop-append-le}
+use Rattle.std.proofs.lemmas.List.{append-nil, length-append, take-append-drop, take-append-le, drop-append-le}
+use Rattle.std.proofs.lemmas.List.Concat.{flat_map-cons}
+use Rattle.std.proofs.lemmas.Grind.{flat_map-append}
+use Rattle.std.proofs.Math.ListN.{get_or}
+use Rattle.std.specs.List.{flat_map}
 use Rattle.outputs.specs.Output.{RefusesSome, Took, TookFront, TookInPieces, no_call, one_more}
 use Rattle.outputs.specs.Pieces.{AreJoined, EndsEarly, IsOnePiece, Pieces, Puts, Stands, Stopped, Waits}
 use Rattle.outputs.specs.Refusals.{refusals_behind}
@@ -205,6 +209,26 @@ module _ {W : Type 0} (o : OutputOf W) where
   puts_none a b p q xs ys result is first start text w =
       subst (λ t. Stands o start b q t result) (append_assoc text xs ys)
       (stays o start b q (text ++ xs) ys result is (first start text w))
+
+-- ---- lists of pieces
+
+module _ {X A : Type 0} (f : X → List A) (xs : List X) (i : ℕ) (d : X) (within : i < length xs) where
+  pub one_longer : flat_map f (take (i + 1) xs) ≡ flat_map f (take i xs) ++ f (get_or xs i d)
+  one_longer =
+      ap (λ k. flat_map f (take k xs)) next ∙ ap (flat_map f) (take-suc xs i d within)
+      ∙ flat_map-append f (take i xs) (get_or xs i d ∷ [])
+      ∙ ap (λ l. flat_map f (take i xs) ++ l)
+      (flat_map-cons f (get_or xs i d) [] ∙ append-nil (f (get_or xs i d)))
+    where
+      next : i + 1 ≡ suc i
+      next = omega arith
+
+  pub parted : flat_map f xs
+      ≡ (flat_map f (take i xs) ++ f (get_or xs i d)) ++ flat_map f (drop (i + 1) xs)
+  parted =
+      sym (ap (flat_map f) (take-append-drop (i + 1) xs))
+      ∙ flat_map-append f (take (i + 1) xs) (drop (i + 1) xs)
+      ∙ ap (λ l. l ++ flat_map f (drop (i + 1) xs)) one_longer
 
 -- a call that didn't succeed failed
 pub failed : {T E : Type 0} (result : Result T E) (P : Type 0) → is_ok result ≡ false → OnErr result P → P

@@ -1,5 +1,7 @@
 -- Texts that are handed over in pieces.
 use Rattle.std.specs.Prelude.{◌≡◌, ℕ, ◌+◌, ◌<◌, List, ◌++◌, length, Result, Ok, Err}
+use Rattle.std.specs.Borrow.{Bor}
+use Rattle.std.specs.List.{flat_map}
 use Rattle.outputs.specs.Output.{TookFront, TookInPieces}
 use Rattle.outputs.specs.declared.output.NotTaken.{NotTaken}
 use Rattle.outputs.specs.declared.output.Output.{Ghosts as OutputOf}
@@ -28,6 +30,10 @@ Stopped o start now p text = TookInPieces o start now text p.taken × (p.taken <
 abbrev pub Stands : {W : Type 0} → OutputOf W → W → W → Pieces → List ℕ → Result Unit NotTaken → Type 0
 Stands o start now p text (Ok x) = Waits o start now p text
 Stands o start now p text (Err e) = Stopped o start now p text
+
+-- pieces, one behind the other
+abbrev pub together : List (Bor (List ℕ)) → List ℕ
+together pieces = flat_map (λ p. p.now) pieces
 
 -- whichever the text so far is, the piece comes behind it
 abbrev pub Puts : {W : Type 0} → OutputOf W → W → W → Pieces → Pieces → List ℕ → Result Unit NotTaken

@@ -1,7 +1,7 @@
 //! A text that is handed over in pieces.
 ghost use Rattle.std.specs.Prelude.{◌≡◌, ◌+◌, ◌<◌, ◌^◌, [], length, OnOk};
 ghost use Rattle.outputs.specs.Pieces.{AreJoined, EndsEarly, Flushes, IsOnePiece, Puts};
-ghost use Rattle.outputs.specs.Pieces.{length_so_far};
+ghost use Rattle.outputs.specs.Pieces.{length_so_far, together};
 
 use crate::output::{NotTaken, Output};
 use crate::writing::write_bytes;
@@ -79,7 +79,7 @@ impl Pieces {
 
     /// Puts a piece behind the text so far: it waits where there is room for it, and is handed over
     /// at once where it is larger than all room.
-    pub fn push<W: Output>(&mut self, piece: &[u8], out: &mut W) -> Result<(), NotTaken>
+    fn push<W: Output>(&mut self, piece: &[u8], out: &mut W) -> Result<(), NotTaken>
         requires { length_so_far self.old + length piece.now < 2 ^ 64 }
         ensures puts { Puts W.Output out.old out.new self.old self.new piece.now result }
         ensures length { OnOk result
@@ -93,6 +93,18 @@ impl Pieces {
             return Ok(());
         }
         self.push_through(piece, out)
+    }
+
+    /// Puts pieces behind the text so far, one behind the other: each waits where there is room for
+    /// it, and is handed over at once where it is larger than all room. None is put behind a refusal.
+    pub fn push_all<W: Output>(&mut self, pieces: &[&[u8]], out: &mut W) -> Result<(), NotTaken>
+        requires { length_so_far self.old + length (together pieces.now) < 2 ^ 64 }
+        ensures { Puts W.Output out.old out.new self.old self.new (together pieces.now) result }
+    {
+        for piece in pieces {
+            self.push(piece, out)?;
+        }
+        Ok(())
     }
 }
 

@@ -1,12 +1,12 @@
-use Rattle.std.proofs.Common.{suc, [], ◌++◌, take, drop, arith, sym, subst}
+use Rattle.std.proofs.Common.{◌+◌, [], ◌++◌, take, drop, arith, sym, subst}
 use Rattle.std.proofs.Math.ListN.{get_or}
 use Rattle.std.proofs.lemmas.List.{take_all}
 use Rattle.std.proofs.lemmas.List.Folds.{length-flat_map-take}
-use Rattle.outputs.proofs.PieceFacts.{early, length_is, nothing, told}
+use Rattle.outputs.proofs.PieceFacts.{early, length_is, nothing, parted, told}
 use Rattle.outputs.specs.Output.{TookInPieces}
 use Rattle.outputs.specs.Pieces.{Waits}
 use Rattle.fault_printer.specs.Lines.{line_of, lines_of}
-use Rattle.fault_printer.proofs.LineFacts.{no_fault, parted}
+use Rattle.fault_printer.proofs.LineFacts.{no_fault}
 use Rattle.fault_printer.proofs.lines.write_lines.Goals as goal
 
 pub loop-fault-init : goal.loop-fault-init
@@ -42,9 +42,9 @@ returns-in-Err g c =
     let stopped = c.in-Err.ensures start before c.loop-fault.invariant in
     subst (TookInPieces o start after (lines_of files faults)) (sym c.taken.ensures)
     (subst (λ l. TookInPieces o start after l n)
-    (sym (parted files faults i c.loop-fault-test.true))
+    (sym (parted (line_of files) faults i no_fault c.loop-fault-test.true))
     (early o start after (before ++ line_of files (get_or faults i no_fault))
-    (lines_of files (drop (suc i) faults)) n stopped.0 stopped.1))
+    (lines_of files (drop (i + 1) faults)) n stopped.0 stopped.1))
 
 pub returns : goal.returns
 returns g c =
