@@ -18,6 +18,11 @@ NOT_WRITTEN = refused("P1")
 # More than a pipe holds.
 LARGE = "2014-01-01 open Assets:A\n2014-01-02 *\n" + "  Assets:A  1 X\n" * 10_000
 READ = 0, 1, 100, 4_096, 65_536, 200_000
+# A text with a long name and a fault on each line: of the lines that tell them few wait before they are written.
+FAULTY = "/".join(["d" * 200] * 5 + ["faulty"])
+FAULTS = 300
+LINES = "".join(f"{FAULTY}:{number}: F2 not a directive\n" for number in range(1, FAULTS + 1)).encode()
+WRITTEN = 0, 1, 1_010, 1_011, 4_096, 16_383, 16_384, 16_385, 32_768, 65_536, 100_000, len(LINES) - 1
 
 
 def begin(folder, words, **streams):
@@ -25,13 +30,13 @@ def begin(folder, words, **streams):
     return subprocess.Popen([PROGRAM, *words], cwd=folder, **streams)
 
 
-def stops_after(folder, command, text, most):
+def stops_after(folder, words, text, most):
     """A file that may have so many bytes, of which the answer has more."""
     with tempfile.TemporaryFile() as out:
-        got = run(PRINTING[command], folder, out=out, limits=[(resource.RLIMIT_FSIZE, most)])
+        got = run(words, folder, out=out, limits=[(resource.RLIMIT_FSIZE, most)])
         out.seek(0)
         written = out.read()
-    name = f"{command} that may write {most} bytes"
+    name = f"{words[0]} that may write {most} of {len(text)} bytes"
     return differences(name, NOT_WRITTEN, got) + differences(name, text[:most], written)
 
 
@@ -53,15 +58,20 @@ def is_closed(folder, command):
     return differences(f"{command} to no output", NOT_WRITTEN, run(words, folder, program="sh"))
 
 
-def stops_reading(folder, most):
-    """A pipe whose reader stops after so many bytes of a table that is longer than what a pipe holds."""
-    child = begin(folder, ["list", "large"], stdout=subprocess.PIPE, stderr=subprocess.PIPE)
+def tells_all(folder):
+    """Lines of faults that are written in pieces."""
+    return differences("check of many faults", Answer(1, LINES), run(["check", FAULTY], folder))
+
+
+def stops_reading(folder, words, most):
+    """A pipe whose reader stops after so many bytes of an answer that is longer than what a pipe holds."""
+    child = begin(folder, words, stdout=subprocess.PIPE, stderr=subprocess.PIPE)
     front = child.stdout.read(most)
     child.stdout.close()
     err = child.stderr.read()
     child.stderr.close()
     got = Answer(child.wait(LONGEST), b"", err)
-    name = f"a reader that stops after {most} bytes"
+    name = f"a reader of {words[0]} that stops after {most} bytes"
     return differences(name, NOT_WRITTEN, got) + differences(name, most, len(front))
 
 
@@ -135,9 +145,12 @@ def goes_on(folder):
 def attempts(folder):
     for command, words in PRINTING.items():
         text = run(words, folder).out
-        yield from ((stops_after, folder, command, text, most) for most in range(len(text)))
+        yield from ((stops_after, folder, words, text, most) for most in range(len(text)))
         yield from ((stops, folder, command) for stops in (is_full, nobody_reads, is_closed))
-    yield from ((stops_reading, folder, most) for most in READ)
+    yield tells_all, folder
+    yield from ((stops_after, folder, ["check", FAULTY], LINES, most) for most in WRITTEN)
+    for words in (["list", "large"], ["check", FAULTY]):
+        yield from ((stops_reading, folder, words, most) for most in READ)
     yield cannot_tell, folder, ["query", "ledger", "SELECT foo"], 2, b"bq: Q2 at 7\n"
     yield cannot_tell, folder, ["list", "missing"], 3, b"bq: L1\n"
     yield cannot_tell, folder, ["nothing"], 2, b"bq: words\n"
@@ -153,6 +166,9 @@ def main():
     with tempfile.TemporaryDirectory() as folder:
         write_books(folder)
         (pathlib.Path(folder) / "large").write_text(LARGE)
+        faulty = pathlib.Path(folder) / FAULTY
+        faulty.parent.mkdir(parents=True)
+        faulty.write_text("open\n" * FAULTS)
         return report(list(attempts(folder)))
 
 

@@ -3,7 +3,8 @@ use Rattle.std.proofs.Common.{inl, inr, ℕ, List, Result, Ok, Err}
 use Rattle.clap.specs.Walk.{Text}
 use Rattle.outputs.proofs.KeptFront.{keeps_front}
 use Rattle.outputs.specs.Holding.{Holding}
-use Rattle.outputs.specs.Output.{TookFront}
+use Rattle.outputs.proofs.PieceFacts.{one_piece}
+use Rattle.outputs.specs.Output.{TookInPieces}
 use Rattle.outputs.specs.ShortWriter.{short_writer}
 use Rattle.stores.proofs.Held.{gives_what_it_holds}
 use Rattle.stores.specs.Shelf.{Shelf}
@@ -11,22 +12,23 @@ use Rattle.stores.specs.Reading.{Reading}
 use Rattle.stores.specs.declared.source.SourceFault.{SourceFault}
 use Rattle.stores.specs.declared.source.SourceFault.TheVariants as store
 use Rattle.bq.specs.MemoryRun.{KeptFront, in_memory, kept_in, memory_store}
-use Rattle.bq.specs.Runs.{Comes, Ends, Keeps, TellsWhy, deeds, written}
+use Rattle.bq.specs.Runs.{Comes, Ends, Keeps, TellsWhy, deeds, written, written_at_once}
 use Rattle.bq.specs.Due.{Due}
 use Rattle.bq.specs.Commands.{due_to}
 use Rattle.endings.specs.declared.refusal.Refusal.{Refusal}
 use Rattle.endings.specs.declared.refusal.Refusal.TheVariants.{OutOfMemory, Refused, NotWritten, NotKept}
 use Rattle.endings.specs.declared.verdict.Verdict.{Verdict}
 
-took : (old new : Holding) (text : List ℕ) (n : ℕ) → TookFront short_writer old new text n
+took : (old new : Holding) (text : List ℕ) (n : ℕ) → TookInPieces short_writer old new text n
     → KeptFront old new text n
 took old new text n h = let front = keeps_front old new text n h in
     record { kept = front.0; limit = front.1 }
 
 tells : (old new : Holding) (result : Result Verdict Refusal)
-    → TellsWhy (written short_writer old new) result → TellsWhy (kept_in old new) result
+    → TellsWhy (written_at_once short_writer old new) result → TellsWhy (kept_in old new) result
 tells old new (Ok verdict) h = h
-tells old new (Err r) h = (h.0, took old new _ _ h.1)
+tells old new (Err r) h =
+    (h.0, took old new _ _ (one_piece short_writer old new _ _ h.1))
 
 module _ (d : Due) (readings : List Reading) (s t : Shelf) (old new : Holding) where
   keeps : (answer : Result Unit SourceFault)
@@ -55,7 +57,7 @@ module _ (d : Due) (readings : List Reading) (s t : Shelf) (old new : Holding) w
 
 pub ends : (s t : Shelf) (out out' err err' : Holding) (words : List Text) (status : ℕ)
     → Ends (deeds memory_store s t (written short_writer out out'))
-    (written short_writer err err') words status
+    (written_at_once short_writer err err') words status
     → Ends (in_memory s t (kept_in out out')) (kept_in err err') words status
 ends s t out out' err err' words status h = record {
   result = h.result;

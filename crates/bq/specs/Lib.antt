@@ -3,6 +3,7 @@ pub mod Command
 pub mod Booking
 pub mod Files
 pub mod Ledgers
+pub mod Text
 pub mod Columns
 pub mod List
 pub mod Check

@@ -1,7 +1,7 @@
 -- What a run of the program comes to.
 use Rattle.std.specs.Prelude.{◌≡◌, ℕ, ◌<◌, ◌⊎◌, ⊤, false, List, length, Option, Result, Ok, Err}
 use Rattle.clap.specs.Walk.{Text}
-use Rattle.outputs.specs.Output.{TookFront}
+use Rattle.outputs.specs.Output.{TookFront, TookInPieces}
 use Rattle.outputs.specs.declared.output.Output.{Ghosts as OutputOf}
 use Rattle.stores.specs.Reading.{Reading}
 use Rattle.stores.specs.Source.{Gave}
@@ -35,8 +35,13 @@ pub record Deeds : Type 1 where
   pub kept : List Reading → Text → List ℕ → Result Unit SourceFault → Type 0
   pub out : Written
 
+-- a text, which may come in pieces
 abbrev pub written : {O : Type 0} → OutputOf O → O → O → Written
-written o old new = record { took = TookFront o old new; nothing = new ≡ old }
+written o old new = record { took = TookInPieces o old new; nothing = new ≡ old }
+
+-- a line, all of which is offered at once
+abbrev pub written_at_once : {O : Type 0} → OutputOf O → O → O → Written
+written_at_once o old new = record { took = TookFront o old new; nothing = new ≡ old }
 
 abbrev pub deeds : {S : Type 0} → StoreOf S → S → S → Written → Deeds
 deeds s old new out = record {

@@ -3,7 +3,7 @@ ghost use Rattle.std.specs.Prelude.{◌≡◌, map, drop, IfOk, OnErr};
 ghost use Rattle.std.specs.String.{string_bytes};
 ghost use Rattle.std.specs.Vec.Iter.{into_iter_items};
 ghost use Rattle.bq.specs.Keeping.{store_of};
-ghost use Rattle.bq.specs.Runs.{written, deeds, Ends};
+ghost use Rattle.bq.specs.Runs.{written, written_at_once, deeds, Ends};
 
 use crate::run::run_words;
 use outputs::Output;
@@ -35,7 +35,7 @@ pub fn run_args<S: Store, O: Output, E: Output>(
 ) -> Result<u8, AllocError>
     ensures ends { IfOk result
         (Ends (deeds (store_of S.Source S.kept S.may_keep) store.old store.new (written O.Output out.old out.new))
-        (written E.Output err.old err.new) (map string_bytes (drop 1 (into_iter_items args)))) }
+        (written_at_once E.Output err.old err.new) (map string_bytes (drop 1 (into_iter_items args)))) }
     ensures nothing { OnErr result
         ((store.new ≡ store.old) × (out.new ≡ out.old) × (err.new ≡ err.old)) }
 {

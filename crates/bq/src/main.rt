@@ -19,6 +19,7 @@ mod given;
 mod in_memory;
 mod run;
 mod shown;
+mod text;
 mod words;
 
 use crate::arguments::run_args;

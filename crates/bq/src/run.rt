@@ -1,21 +1,22 @@
 //! What the program does with its words.
 ghost use Rattle.std.specs.Prelude.{◌≡◌, map};
 ghost use Rattle.bq.specs.Keeping.{Keeps, store_of};
-ghost use Rattle.bq.specs.Runs.{written, deeds, WritesText, Runs, Ends};
+ghost use Rattle.bq.specs.Runs.{written, written_at_once, deeds, WritesText, Runs, Ends};
 ghost use Rattle.bq.specs.Runs.{HaveOneEnd, RefusesExactly, StatusesTell};
 
 use crate::commands::find;
 use crate::given::Given;
+use crate::text::Text;
 use endings::{Refusal, Verdict};
 use outputs::{Output, write_bytes};
 use std::alloc::Global;
 use stores::{SourceFault, Store};
 
 /// Writes a text.
-fn write_text<O: Output>(text: &[u8], out: &mut O) -> Result<(), Refusal>
+fn write_text<O: Output>(text: &Text, out: &mut O) -> Result<(), Refusal>
     ensures { WritesText (written O.Output out.old out.new) text.now result }
 {
-    let written = write_bytes(out, text);
+    let written = text.write(out);
     if written < text.len() {
         return Err(Refusal::NotWritten(written as u64));
     }
@@ -47,7 +48,7 @@ fn run<S: Store, O: Output>(
     let given = find(alloc, words, store)?;
     match given {
         Given::Told(verdict, text) => {
-            write_text(text.as_slice(), out)?;
+            write_text(&text, out)?;
             Ok(verdict)
         }
         Given::Kept(name, bytes) => {
@@ -71,7 +72,7 @@ pub fn run_words<S: Store, O: Output, E: Output>(
 ) -> u8
     ensures { Ends (deeds (store_of S.Source S.kept S.may_keep) store.old store.new
         (written O.Output out.old out.new))
-        (written E.Output err.old err.new) (map (λ w. w.now) words.now) result }
+        (written_at_once E.Output err.old err.new) (map (λ w. w.now) words.now) result }
 {
     match run(alloc, words, store, out) {
         Ok(verdict) => verdict.status(),

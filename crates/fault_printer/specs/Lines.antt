@@ -17,11 +17,13 @@ name_in None = []
 abbrev pub name_of : List File → ℕ → List ℕ
 name_of files number = name_in (slice_get files number)
 
+-- NAME:NUMBER: TEXT
+abbrev pub line_by : List ℕ → List ℕ → List ℕ → List ℕ
+line_by name number text = name ++ codes ":" ++ number ++ codes ": " ++ text ++ codes "\n"
+
 -- FILE:LINE: CODE TEXT
 abbrev pub line_of : List File → Fault → List ℕ
-line_of files f =
-    name_of files f.place.file ++ codes ":" ++ decimal f.place.line ++ codes ": "
-    ++ text_of f.kind ++ codes "\n"
+line_of files f = line_by (name_of files f.place.file) (decimal f.place.line) (text_of f.kind)
 
 abbrev pub lines_of : List File → List Fault → List ℕ
 lines_of files fs = flat_map (line_of files) fs

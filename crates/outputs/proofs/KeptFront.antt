@@ -1,7 +1,7 @@
 -- What an output of memory has, once it took a front of some bytes.
 use Rattle.std.proofs.Common.{◌≡◌, ℕ, ◌<◌, ◌≤◌, ◌⊎◌, List, ◌++◌, Result, Ok, Err, false, true≢false}
-use Rattle.std.proofs.Common.{inl, inr, length, take, drop, arith, sym, subst, ap, ◌∙◌}
-use Rattle.std.proofs.Common.{append_assoc, length-drop, ⊎_elim}
+use Rattle.std.proofs.Common.{inl, inr, length, take, arith, sym, subst, ap, ◌∙◌}
+use Rattle.std.proofs.Common.{append_assoc, ⊎_elim}
 use Rattle.std.proofs.lemmas.List.{append-nil}
 use Rattle.std.proofs.lemmas.Bool.{cases_lt}
 use Rattle.outputs.specs.Holding.{Holding}
@@ -46,8 +46,7 @@ keeps_front start after bytes n t = ⊎_elim short whole (cases_lt n (length byt
     short lt =
         let r = t.refused lt in
         let end =
-        refused t.middle after (drop n bytes) r.answer (omega (arith, length-drop n bytes, lt))
-        r.nothing r.told in
+        refused t.middle after r.offered r.refuses.answer r.some r.refuses.nothing r.refuses.told in
         (end.0 ∙ to_middle, λ _. end.1)
 
     whole : length bytes ≤ n

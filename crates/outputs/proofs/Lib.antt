@@ -1,2 +1,3 @@
 pub mod RefusalFacts
 pub mod KeptFront
+pub mod PieceFacts

@@ -2,7 +2,7 @@
 use Rattle.std.specs.Prelude.{◌≡◌, ℕ, true, false, ◌-◌, ◌<◌, ◌≤◌, ◌++◌, ◌⊎◌, min, take, List}
 use Rattle.std.specs.Prelude.{length, Result, Ok, Err}
 use Rattle.outputs.specs.Holding.{Holding}
-use Rattle.outputs.specs.Output.{TookFront}
+use Rattle.outputs.specs.Output.{TookInPieces}
 use Rattle.outputs.specs.declared.output.NotTaken.{NotTaken}
 use Rattle.outputs.specs.declared.output.Output.{Ghosts as OutputOf}
 
@@ -37,6 +37,6 @@ short_writer = record { refusals = λ w. w.refusals; may_answer = AnswersShort }
 -- refused to it, its limit is reached
 abbrev pub KeepsFront : Type 0
 KeepsFront =
-    (start after : Holding) (bytes : List ℕ) (n : ℕ) → TookFront short_writer start after bytes n
+    (start after : Holding) (bytes : List ℕ) (n : ℕ) → TookInPieces short_writer start after bytes n
     → (after.taken ≡ start.taken ++ take n bytes)
     × (n < length bytes → after.starved ≡ false → after.limit ≤ length after.taken)

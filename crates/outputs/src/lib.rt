@@ -32,11 +32,13 @@
 #![tactic(auto)]
 
 mod output;
+mod pieces;
 mod short_writer;
 mod stream;
 mod writing;
 
 pub use output::{NotTaken, Output};
+pub use pieces::{Pieces, pieces_are_joined};
 pub use short_writer::ShortWriter;
 pub use stream::Stream;
 pub use writing::write_bytes;

@@ -10,11 +10,12 @@ use crate::booking::book_of;
 use crate::commands::file::file_bytes;
 use crate::commands::ledger::{Question, answer_about};
 use crate::given::Given;
-use query_tables::{Fate, file_fates};
+use crate::text::Text;
 use bean_base::{List, Slice};
 use bean_load::Texts;
 use endings::{Refusal, Verdict};
 use query_files::outlined;
+use query_tables::{Fate, file_fates};
 use std::alloc::{AllocError, Global};
 use std::mem::forget;
 use stores::Source;
@@ -135,13 +136,13 @@ impl Question for Batching<'_, '_> {
 
     ghost says = { λ batch. about_book (FilesBatched batch.names.now batch.files.now) };
 
-    fn answer<'w>(&self, alloc: Global, texts: &Texts) -> Result<Given<'w>, Refusal> {
-        let booked = book_of(alloc, texts)?;
+    fn answer<'w>(&self, alloc: Global, texts: Texts) -> Result<Given<'w>, Refusal> {
+        let booked = book_of(alloc, &texts)?;
         let ended = file_fates(alloc, self.files, &booked.ledger, self.steps)?;
         // The process ends soon, and takes all memory back at once.
         forget(booked);
         let text = text_of(alloc, self.names, &ended)?;
-        Ok(Given::Told(verdict_of(&ended), List::new(text)))
+        Ok(Given::Told(verdict_of(&ended), Text::new(text)))
     }
 }
 

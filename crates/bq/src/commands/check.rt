@@ -2,10 +2,10 @@
 use crate::booking::faults_in;
 use crate::commands::ledger::Question;
 use crate::given::Given;
-use bean_base::List;
+use crate::text::Text;
 use bean_load::Texts;
 use endings::{Refusal, verdict_of};
-use fault_printer::fault_lines;
+use fault_printer::FaultLines;
 use std::alloc::Global;
 
 /// Which faults are found where texts are booked.
@@ -17,9 +17,10 @@ impl Question for Checking {
 
     ghost says = { λ _. Checks };
 
-    fn answer<'w>(&self, alloc: Global, texts: &Texts) -> Result<Given<'w>, Refusal> {
-        let faults = faults_in(alloc, texts)?;
-        let text = fault_lines(alloc, texts.files(), faults.as_slice())?;
-        Ok(Given::Told(verdict_of(faults.as_slice()), List::new(text)))
+    fn answer<'w>(&self, alloc: Global, texts: Texts) -> Result<Given<'w>, Refusal> {
+        let faults = faults_in(alloc, &texts)?;
+        let verdict = verdict_of(faults.as_slice());
+        let lines = FaultLines::new(texts, faults)?;
+        Ok(Given::Told(verdict, Text::of_lines(lines)))
     }
 }

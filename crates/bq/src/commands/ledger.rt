@@ -15,8 +15,8 @@ pub trait Question {
     ghost says: { Self → gathered.Texts → End → Type 0 };
 
     /// What comes of its texts.
-    fn answer<'w>(&self, alloc: Global, texts: &Texts) -> Result<Given<'w>, Refusal>
-        ensures { ComesTo (says self.now texts.now) result };
+    fn answer<'w>(&self, alloc: Global, texts: Texts) -> Result<Given<'w>, Refusal>
+        ensures { ComesTo (says self.now texts) result };
 }
 
 /// What comes of the texts of the ledger of that name.
@@ -30,5 +30,5 @@ pub fn answer_about<'w, S: Source, Q: Question>(
         (Q.Question.says question.now) ledger.now) result }
 {
     let texts = gather(alloc, store, ledger)?;
-    question.answer(alloc, &texts)
+    question.answer(alloc, texts)
 }

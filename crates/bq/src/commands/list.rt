@@ -3,7 +3,7 @@ use crate::booking::book_of;
 use crate::commands::ledger::Question;
 use crate::given::Given;
 use crate::shown::Postings;
-use bean_base::List;
+use crate::text::Text;
 use bean_load::Texts;
 use endings::{Refusal, Verdict};
 use std::alloc::Global;
@@ -19,14 +19,14 @@ impl Question for Listing {
 
     ghost says = { λ _. Lists };
 
-    fn answer<'w>(&self, alloc: Global, texts: &Texts) -> Result<Given<'w>, Refusal> {
-        let booked = book_of(alloc, texts)?;
+    fn answer<'w>(&self, alloc: Global, texts: Texts) -> Result<Given<'w>, Refusal> {
+        let booked = book_of(alloc, &texts)?;
         let postings = Postings {
             ledger: &booked.ledger,
         };
         let text = print(alloc, &postings, booked.ledger.display())?;
         // The process ends soon, and takes all memory back at once.
         forget(booked);
-        Ok(Given::Told(Verdict::Fine, List::new(text)))
+        Ok(Given::Told(Verdict::Fine, Text::new(text)))
     }
 }

@@ -8,7 +8,7 @@ use crate::booking::book_of;
 use crate::commands::ledger::{Question, answer_about};
 use crate::commands::table::table_of;
 use crate::given::Given;
-use bean_base::List;
+use crate::text::Text;
 use bean_load::Texts;
 use endings::{Refusal, Verdict};
 use limits::{Bounds, MOST_POSTINGS, MOST_UNITS_DIGITS, MOST_VALUE_DIGITS, Version};
@@ -38,14 +38,14 @@ impl Question for Asking<'_> {
 
     ghost says = { λ asking. about_book (FileAnswers asking.file.now) };
 
-    fn answer<'w>(&self, alloc: Global, texts: &Texts) -> Result<Given<'w>, Refusal> {
-        let booked = book_of(alloc, texts)?;
+    fn answer<'w>(&self, alloc: Global, texts: Texts) -> Result<Given<'w>, Refusal> {
+        let booked = book_of(alloc, &texts)?;
         // So its program is never refused for them.
         prove!(booked.ledger.fits(&WIDEST));
         let text = table_of(alloc, self.file, &booked.ledger)?;
         // The process ends soon, and takes all memory back at once.
         forget(booked);
-        Ok(Given::Told(Verdict::Fine, List::new(text)))
+        Ok(Given::Told(Verdict::Fine, Text::new(text)))
     }
 }
 

@@ -7,7 +7,7 @@ use crate::commands::file::file_bytes;
 use crate::commands::ledger::{Question, answer_about};
 use crate::commands::table::table_of;
 use crate::given::Given;
-use bean_base::List;
+use crate::text::Text;
 use bean_load::Texts;
 use endings::{Refusal, Verdict};
 use query_files::outlined;
@@ -27,12 +27,12 @@ impl Question for Running<'_> {
 
     ghost says = { λ running. about_book (FileRan running.file.now) };
 
-    fn answer<'w>(&self, alloc: Global, texts: &Texts) -> Result<Given<'w>, Refusal> {
-        let booked = book_of(alloc, texts)?;
+    fn answer<'w>(&self, alloc: Global, texts: Texts) -> Result<Given<'w>, Refusal> {
+        let booked = book_of(alloc, &texts)?;
         let text = table_of(alloc, self.file, &booked.ledger)?;
         // The process ends soon, and takes all memory back at once.
         forget(booked);
-        Ok(Given::Told(Verdict::Fine, List::new(text)))
+        Ok(Given::Told(Verdict::Fine, Text::new(text)))
     }
 }
 

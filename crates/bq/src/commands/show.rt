@@ -5,7 +5,7 @@ ghost use Rattle.bq.specs.Show.{Shows, show};
 
 use crate::commands::file::file_bytes;
 use crate::given::Given;
-use bean_base::List;
+use crate::text::Text;
 use endings::{Refusal, Verdict};
 use query_files::listing;
 use std::alloc::Global;
@@ -16,7 +16,7 @@ fn listing_of<'w>(alloc: Global, bytes: &[u8]) -> Result<Given<'w>, Refusal>
     ensures { ComesTo (Shows bytes.now) result }
 {
     let text = listing(alloc, bytes)?;
-    Ok(Given::Told(Verdict::Fine, List::new(text)))
+    Ok(Given::Told(Verdict::Fine, Text::new(text)))
 }
 
 /// The listing of the query file of that name.

@@ -7,7 +7,7 @@ ghost use Rattle.bq.specs.Verify.{Verifies, line_by, verify};
 
 use crate::commands::file::file_bytes;
 use crate::given::Given;
-use bean_base::List;
+use crate::text::Text;
 use endings::{Refusal, Verdict};
 use itoa::Buffer;
 use query_files::{Outline, outlined};
@@ -38,7 +38,7 @@ fn verdict_on<'w>(alloc: Global, bytes: &[u8]) -> Result<Given<'w>, Refusal>
 {
     let outline = outlined(alloc, bytes)?;
     let text = line(alloc, outline)?;
-    Ok(Given::Told(Verdict::Fine, List::new(text)))
+    Ok(Given::Told(Verdict::Fine, Text::new(text)))
 }
 
 /// The line of the query file of that name.

@@ -25,7 +25,7 @@ text_of-requires c =
 
 pub returns-in_err-booked : goal.returns-in_err-booked
 returns-in_err-booked c =
-    let texts = c.args.texts.now in
+    let texts = c.args.texts in
     let batch = c.args.self.now in
     let says = FilesBatched batch.names.now batch.files.now in
     let fault = c.in_err-booked.field-0.0 in
@@ -38,7 +38,7 @@ returns-in_err-ended c =
     let batch = c.args.self.now in
     let step = c.from_residual-in_err-ended in
     subst
-    (ComesTo (about_book (FilesBatched batch.names.now batch.files.now) c.args.texts.now))
+    (ComesTo (about_book (FilesBatched batch.names.now batch.files.now) c.args.texts))
     (sym (converted step.result OutOfMemory step.ensures.1)) tt
 
 pub returns-in_err-text : goal.returns-in_err-text
@@ -46,7 +46,7 @@ returns-in_err-text c =
     let batch = c.args.self.now in
     let step = c.from_residual-in_err-text in
     subst
-    (ComesTo (about_book (FilesBatched batch.names.now batch.files.now) c.args.texts.now))
+    (ComesTo (about_book (FilesBatched batch.names.now batch.files.now) c.args.texts))
     (sym (converted step.result OutOfMemory step.ensures.1)) tt
 
 pub returns : goal.returns

@@ -10,7 +10,7 @@ use Rattle.bq.proofs.commands.check.CheckingQuestion.answer.Goals as goal
 
 pub returns-in_err-faults : goal.returns-in_err-faults
 returns-in_err-faults c =
-    let texts = c.args.texts.now in
+    let texts = c.args.texts in
     let fault = c.in_err-faults.field-0.0 in
     subst (ComesTo (Checks texts))
     (sym (converted c.from_residual.result (unbooked fault) c.from_residual.ensures.1))

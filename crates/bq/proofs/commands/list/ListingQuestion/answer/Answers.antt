@@ -24,7 +24,7 @@ print-requires c =
 
 pub returns-in_err-booked : goal.returns-in_err-booked
 returns-in_err-booked c =
-    let texts = c.args.texts.now in
+    let texts = c.args.texts in
     let fault = c.in_err-booked.field-0.0 in
     subst (ComesTo (Lists texts))
     (sym (converted c.from_residual.result (unbooked fault) c.from_residual.ensures.1))

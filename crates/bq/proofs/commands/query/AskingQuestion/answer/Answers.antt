@@ -11,7 +11,7 @@ use Rattle.bq.proofs.commands.query.AskingQuestion.answer.Goals as goal
 
 pub returns-in_err-booked : goal.returns-in_err-booked
 returns-in_err-booked c =
-    let texts = c.args.texts.now in
+    let texts = c.args.texts in
     let says = FileAnswers c.args.self.now.file.now in
     let fault = c.in_err-booked.field-0.0 in
     subst (ComesTo (about_book says texts))
@@ -20,7 +20,7 @@ returns-in_err-booked c =
 
 pub returns-in_err-text : goal.returns-in_err-text
 returns-in_err-text c =
-    let texts = c.args.texts.now in
+    let texts = c.args.texts in
     let file = c.args.self.now.file.now in
     let fault = c.in_err-text.field-0.0 in
     subst (ComesTo (about_book (FileAnswers file) texts))
