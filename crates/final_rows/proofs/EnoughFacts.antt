@@ -1,9 +1,10 @@
 -- The front of rows in order is enough of them.
 use Rattle.std.proofs.Common.{◌≡◌, ℕ, zero, suc, Bool, true, false, cond, ◌&&◌, List, [], ◌∷◌, ◌++◌}
-use Rattle.std.proofs.Common.{filter, length, map, take, refl, sym, ap, subst, ◌∙◌, Option, Some, None}
+use Rattle.std.proofs.Common.{◌≤◌, arith, drop, filter, length, map, take, refl, sym, ap, subst, ◌∙◌, Some, None}
 use Rattle.std.specs.List.{AllByRecursion, list_all}
 use Rattle.std.proofs.lemmas.Bool.{and_parts}
-use Rattle.std.proofs.lemmas.List.{append_assoc, length-map, map-append, take-map}
+use Rattle.std.proofs.lemmas.List.{append_assoc, length-map, length-take, map-append, take-append-drop}
+use Rattle.std.proofs.lemmas.List.{take-map}
 use Rattle.plain_machine.specs.Finishing.{ComesOut, ranked}
 use Rattle.query_code.specs.declared.program.Output.{Output}
 use Rattle.query_rows.specs.FinalRows.{Ranked, limited, once_if, shown_of}
@@ -12,9 +13,11 @@ use Rattle.theory.proofs.ArrangedFacts.{is_arranged}
 use Rattle.theory.proofs.ArrangementFacts.{one_arrangement}
 use Rattle.theory.specs.Arrangement.{IsArrangement, arranged_by, put_by}
 use Rattle.final_rows.proofs.FrontFacts.{front_stays, thin_front}
+use Rattle.final_rows.proofs.LastFacts.{none_behind_last}
 use Rattle.final_rows.proofs.OrderFacts.{before_ranked, goes_in_order, in_a_row, one_order}
 use Rattle.final_rows.proofs.OrderFacts.{ranked_in_order, same_order}
-use Rattle.final_rows.specs.Enough.{AreAmong, AreEnough, AreFew, ComeOutAlike, enough_of}
+use Rattle.final_rows.specs.Enough.{AreAmong, AreEnough, ComeOutAlike, enough_of}
+use Rattle.final_rows.specs.Enough.{last_of}
 use Rattle.final_rows.specs.Order.{comes_before}
 
 -- ---- what holds of each of them
@@ -266,3 +269,30 @@ module _ (o : Output) (most : ℕ) (is : enough_of o ≡ Some most) (last : List
     among = among_thinned;
     alike = alike_by o most is (front ++ kept) (front ++ behind) same_thinned;
   }
+
+-- the same of rows that are cut there, where nothing is let go of but what stands behind
+pub thinned_rows : (o : Output) (most : ℕ) → enough_of o ≡ Some most
+    → (rows front behind few : List (List Value)) → most ≤ length rows → front ≡ take most rows
+    → behind ≡ drop most rows → few ≡ filter (comes o (last_of o front)) behind
+    → AreEnough o (front ++ few) rows
+thinned_rows o most is rows front behind few room front_is behind_is few_is =
+    subst (AreEnough o (front ++ few)) whole
+    (subst (λ l. AreEnough o (front ++ l) (front ++ behind)) (sym few_is)
+    (thinned_enough o most is (last_of o front) front behind many (none_behind_last o front)))
+  where
+    whole : front ++ behind ≡ rows
+    whole =
+        ap (λ l. l ++ behind) front_is ∙ ap (λ l. take most rows ++ l) behind_is
+        ∙ take-append-drop most rows
+
+    many : length front ≡ most
+    many = ap length front_is ∙ length-take most rows ∙ omega (arith, room)
+
+-- rows that are cut and joined again
+pub joined_rows : (o : Output) (most : ℕ) (rows front behind : List (List Value))
+    → front ≡ take most rows → behind ≡ drop most rows → AreEnough o (front ++ behind) rows
+joined_rows o most rows front behind front_is behind_is =
+    subst (λ l. AreEnough o l rows)
+    (sym (ap (λ l. l ++ behind) front_is ∙ ap (λ l. take most rows ++ l) behind_is
+    ∙ take-append-drop most rows))
+    (all_enough o rows)

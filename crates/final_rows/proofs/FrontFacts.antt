@@ -158,7 +158,7 @@ module _ {X : Type 0} (before : X → X → Bool) (o : IsStrictWeakOrder before)
       (put_all_rises xs ys) (put_all_same xs ys few low.1 s)
 
 module _ {X : Type 0} (before : X → X → Bool) (o : IsStrictWeakOrder before) where
-  never_itself : (x : X) → before x x ≡ false
+  pub never_itself : (x : X) → before x x ≡ false
   never_itself x = by (before x x) refl
     where
       by : (b : Bool) → before x x ≡ b → before x x ≡ false
