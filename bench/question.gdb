@@ -1,6 +1,6 @@
-# Tells what a function takes, whose name is in the environment as FUNCTION: the seconds of processor time, and by how
-# many bytes the peak of resident memory rises above what is resident where it begins. The program and its words are
-# those that gdb was given. It is stopped where the function ends.
+# Tells what an answer takes, from the beginning of a function, whose name is in the environment as FUNCTION, to the
+# first byte that is written: the seconds of processor time, and by how many bytes the peak of resident memory rises
+# above what is resident where it begins. The program and its words are those that gdb was given.
 set pagination off
 set confirm off
 python
@@ -22,7 +22,8 @@ gdb.execute("run")
 # What was the peak so far is forgotten.
 open(f"{process()}/clear_refs", "w").write("5")
 begun, resident = seconds(), bytes_of("VmRSS")
-gdb.execute("finish")
+gdb.execute("catch syscall write")
+gdb.execute("continue")
 print("taken", seconds() - begun, bytes_of("VmHWM") - resident)
 end
 kill

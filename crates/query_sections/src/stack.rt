@@ -46,10 +46,7 @@ impl<'r> Stack<'r> {
         ensures values { self.old.values ≡ result ∷ self.new.values }
         ensures room { self.new.room ≡ self.old.room }
     {
-        match self.values.pop() {
-            Some(value) => value,
-            None => unreachable!(),
-        }
+        self.values.take_last()
     }
 
     /// The values, the top last.
