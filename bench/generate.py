@@ -16,9 +16,9 @@ generate.py --hoard ACCOUNTS --lifo LOTS SEED   the same, the latest first
 
 Booked, they have no fault, but for the days of `--unlisted`.
 
-With `--files N FOLDER` before these words, a plain ledger (`--missing` or not) stands in N files of that
-folder: main.beancount has the first of its blocks and includes the others at its end, so that the blocks
-are read in the same order.
+With `--files N FOLDER` before these words, a plain ledger (`--missing` or not) or one of `--hoard` stands in N
+files of that folder: main.beancount has the first of its blocks and includes the others at its end, so that
+the blocks are read in the same order.
 """
 import argparse
 import datetime
@@ -142,15 +142,17 @@ def main():
     words.add_argument("--lifo", action="store_true")
     words.add_argument("--files", nargs=2, metavar=("N", "FOLDER"))
     given = words.parse_args()
+    hoard = given.hoard and lots.hoard(given.hoard, given.size, "LIFO" if given.lifo else "FIFO")
     if given.files:
         count, folder = given.files
-        write_files(list(ledger(given.size, given.seed, given.unlisted, given.missing)), int(count), pathlib.Path(folder))
+        blocks = hoard or ledger(given.size, given.seed, given.unlisted, given.missing)
+        write_files(list(blocks), int(count), pathlib.Path(folder))
     elif given.opens:
         sys.stdout.writelines(only_opens(given.size, given.seed))
     elif given.lots or given.lots_dense:
         sys.stdout.writelines(lots.ledger(given.size, random.Random(given.seed), given.lots_dense))
-    elif given.hoard:
-        sys.stdout.writelines(lots.hoard(given.hoard, given.size, "LIFO" if given.lifo else "FIFO"))
+    elif hoard:
+        sys.stdout.writelines(hoard)
     else:
         sys.stdout.writelines(ledger(given.size, given.seed, given.unlisted, given.missing))
 

@@ -48,6 +48,11 @@ impl<'a> Lot<'a> {
             label: braces.label.map(unescaped),
         })
     }
+
+    /// What tells its place among the lots of a currency in a table.
+    pub fn rank(&self) -> (&str, i128, i32, Option<&str>) {
+        (self.currency, self.cost, self.day.number(), self.label.as_deref())
+    }
 }
 
 /// A lot's place among those of its inventory, in the order in which they are taken: by day, from

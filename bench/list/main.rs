@@ -2,13 +2,16 @@
 //!
 //! `list FILE|-` prints the table of the postings of a ledger, with the texts that it includes;
 //! `list --load FILE|-` only reads and arranges it, books nothing and prints what it found. `list --accounts
-//! FILE|-`, `--journal` and `--largest` print what three queries answer, see `questions`. Characters are taken
-//! to be one column wide.
+//! FILE|-`, `--journal` and `--largest` print what three queries answer, see `questions`, and `--filter`, `--lots`,
+//! `--balance`, `--ordered` and `--first` what five more do, see `machine`. Characters are taken to be one column
+//! wide.
 
+mod cells;
 mod directives;
 mod escapes;
 mod heads;
 mod inventory;
+mod machine;
 mod numbers;
 mod pads;
 mod parse;
@@ -29,7 +32,7 @@ use std::process::ExitCode;
 use table::table;
 use texts::Texts;
 
-const MOST_POSTINGS: usize = 1_000_000;
+const MOST_POSTINGS: usize = 4_000_000;
 
 /// The texts of a ledger, with what they say arranged.
 fn loaded(name: &str) -> io::Result<Texts> {
@@ -56,7 +59,7 @@ fn print(name: &str, table: fn(&Listed<'_>) -> Vec<u8>) -> io::Result<()> {
     } = loaded(name)?;
     let listed = listed(&directives, method);
     if listed.rows.len() > MOST_POSTINGS {
-        return Err(io::Error::other("there are more than 1,000,000 postings"));
+        return Err(io::Error::other("there are more than 4,000,000 postings"));
     }
     io::stdout().write_all(&table(&listed))
 }
@@ -69,8 +72,13 @@ fn main() -> ExitCode {
         ["--accounts", name] => print(name, questions::accounts),
         ["--journal", name] => print(name, questions::journal),
         ["--largest", name] => print(name, questions::largest),
+        ["--filter", name] => print(name, machine::filter),
+        ["--lots", name] => print(name, machine::lots),
+        ["--balance", name] => print(name, machine::balance),
+        ["--ordered", name] => print(name, machine::ordered),
+        ["--first", name] => print(name, machine::first),
         [name] => print(name, table),
-        _ => Err(io::Error::other("usage: list [--load|--accounts|--journal|--largest] FILE|-")),
+        _ => Err(io::Error::other("usage: list [--load|--accounts|--journal|--largest|--filter|--lots|--balance|--ordered|--first] FILE|-")),
     };
     match done {
         Ok(()) => ExitCode::SUCCESS,

@@ -1,6 +1,7 @@
 //! The table of a ledger's postings.
 
 use crate::escapes::cleaned;
+use crate::inventory::Lot;
 use crate::numbers::Day;
 use crate::rows::{Listed, Row};
 use std::collections::HashMap;
@@ -38,9 +39,15 @@ pub fn push_day(out: &mut Vec<u8>, Day { year, month, day }: Day) {
     let _ = write!(out, "{year:04}-{month:02}-{day:02}");
 }
 
-fn push_position(out: &mut Vec<u8>, row: &Row<'_>, decimals: &HashMap<&str, u8>) {
-    push_amount(out, row.count, row.currency, decimals);
-    let Some(lot) = &row.lot else {
+pub fn push_position(
+    out: &mut Vec<u8>,
+    count: i128,
+    currency: &str,
+    lot: Option<&Lot<'_>>,
+    decimals: &HashMap<&str, u8>,
+) {
+    push_amount(out, count, currency, decimals);
+    let Some(lot) = lot else {
         return;
     };
     out.extend_from_slice(b" {");
@@ -92,7 +99,7 @@ fn positions(listed: &Listed<'_>) -> (String, Vec<usize>) {
     let mut texts = Vec::new();
     let mut ends = Vec::with_capacity(listed.rows.len());
     for row in &listed.rows {
-        push_position(&mut texts, row, &listed.decimals);
+        push_position(&mut texts, row.count, row.currency, row.lot.as_deref(), &listed.decimals);
         ends.push(texts.len());
     }
     (String::from_utf8(texts).unwrap_or_default(), ends)

@@ -1,9 +1,10 @@
 -- The front of rows in order is enough of them.
 use Rattle.std.proofs.Common.{◌≡◌, ℕ, zero, suc, Bool, true, false, cond, ◌&&◌, List, [], ◌∷◌, ◌++◌}
-use Rattle.std.proofs.Common.{map, take, refl, sym, ap, subst, ◌∙◌, Option, Some, None}
-use Rattle.std.specs.List.{list_all}
+use Rattle.std.proofs.Common.{◌≤◌, arith, drop, filter, length, map, take, refl, sym, ap, subst, ◌∙◌, Some, None}
+use Rattle.std.specs.List.{AllByRecursion, list_all}
 use Rattle.std.proofs.lemmas.Bool.{and_parts}
-use Rattle.std.proofs.lemmas.List.{append_assoc, map-append, take-map}
+use Rattle.std.proofs.lemmas.List.{append_assoc, length-map, length-take, map-append, take-append-drop}
+use Rattle.std.proofs.lemmas.List.{take-map}
 use Rattle.plain_machine.specs.Finishing.{ComesOut, ranked}
 use Rattle.query_code.specs.declared.program.Output.{Output}
 use Rattle.query_rows.specs.FinalRows.{Ranked, limited, once_if, shown_of}
@@ -11,10 +12,12 @@ use Rattle.query_values.specs.declared.value.Value.{Value}
 use Rattle.theory.proofs.ArrangedFacts.{is_arranged}
 use Rattle.theory.proofs.ArrangementFacts.{one_arrangement}
 use Rattle.theory.specs.Arrangement.{IsArrangement, arranged_by, put_by}
-use Rattle.final_rows.proofs.FrontFacts.{front_stays}
+use Rattle.final_rows.proofs.FrontFacts.{front_stays, thin_front}
+use Rattle.final_rows.proofs.LastFacts.{none_behind_last}
 use Rattle.final_rows.proofs.OrderFacts.{before_ranked, goes_in_order, in_a_row, one_order}
-use Rattle.final_rows.proofs.OrderFacts.{ranked_in_order}
-use Rattle.final_rows.specs.Enough.{AreAmong, AreEnough, AreFew, ComeOutAlike, enough_of}
+use Rattle.final_rows.proofs.OrderFacts.{ranked_in_order, same_order}
+use Rattle.final_rows.specs.Enough.{AreAmong, AreEnough, ComeOutAlike, enough_of}
+use Rattle.final_rows.specs.Enough.{last_of}
 use Rattle.final_rows.specs.Order.{comes_before}
 
 -- ---- what holds of each of them
@@ -109,8 +112,7 @@ enough_is o most e = by o.is_distinct e
     by true e = absurd cc
     by false e = (refl, e)
 
-module _ (o : Output) (most : ℕ) (is : enough_of o ≡ Some most) (rows sorted : List (List Value))
-    (in_order : IsArrangement (comes_before o) rows sorted) where
+module _ (o : Output) (most : ℕ) (is : enough_of o ≡ Some most) where
   cut : (arranged : List Ranked)
       → limited o.limit (once_if o.is_distinct (map shown_of arranged))
       ≡ map shown_of (take most arranged)
@@ -119,10 +121,27 @@ module _ (o : Output) (most : ℕ) (is : enough_of o ≡ Some most) (rows sorted
       ∙ ap (λ l. limited l (map shown_of arranged)) (enough_is o most is).1
       ∙ take-map shown_of most arranged
 
-  same_front : (more : List (List Value)) (arranged : List Ranked)
-      → IsArrangement (before_ranked o) (map (ranked o) (take most sorted ++ more)) arranged
+  -- the same stands in front, whatever rows follow
+  abbrev HaveSameFront : List (List Value) → List (List Value) → Type 0
+  HaveSameFront kept rows =
+      (more : List (List Value)) (arranged : List Ranked)
+      → IsArrangement (before_ranked o) (map (ranked o) (kept ++ more)) arranged
       → take most arranged
       ≡ take most (arranged_by (before_ranked o) (map (ranked o) (rows ++ more)))
+
+  alike_by : (kept rows : List (List Value)) → HaveSameFront kept rows → ComeOutAlike o kept rows
+  alike_by kept rows same more final out = record {
+    arranged = arranged_by (before_ranked o) (map (ranked o) (rows ++ more));
+    in_order = is_arranged (before_ranked o) (in_a_row o.is_descending)
+        (map (ranked o) (rows ++ more));
+    is = out.is ∙ cut out.arranged
+        ∙ ap (map shown_of) (same more out.arranged out.in_order)
+        ∙ sym (cut (arranged_by (before_ranked o) (map (ranked o) (rows ++ more))));
+  }
+
+module _ (o : Output) (most : ℕ) (is : enough_of o ≡ Some most) (rows sorted : List (List Value))
+    (in_order : IsArrangement (comes_before o) rows sorted) where
+  same_front : HaveSameFront o most is (take most sorted) rows
   same_front more arranged is =
       let f = ranked o in
       let before = before_ranked o in
@@ -138,16 +157,6 @@ module _ (o : Output) (most : ℕ) (is : enough_of o ≡ Some most) (rows sorted
       (ranked_in_order o rows sorted in_order)
       ∙ ap (λ l. take most (arranged_by before l)) (sym (map-append f rows more))
 
-  alike : ComeOutAlike o (take most sorted) rows
-  alike more final out = record {
-    arranged = arranged_by (before_ranked o) (map (ranked o) (rows ++ more));
-    in_order = is_arranged (before_ranked o) (in_a_row o.is_descending)
-        (map (ranked o) (rows ++ more));
-    is = out.is ∙ cut out.arranged
-        ∙ ap (map shown_of) (same_front more out.arranged out.in_order)
-        ∙ sym (cut (arranged_by (before_ranked o) (map (ranked o) (rows ++ more))));
-  }
-
   among : AreAmong (take most sorted) rows
   among holds e =
       all_taken holds most sorted
@@ -160,4 +169,130 @@ module _ (o : Output) (most : ℕ) (is : enough_of o ≡ Some most) (rows sorted
           (is_arranged (comes_before o) (goes_in_order o.is_descending o.order) rows)
 
   pub front_enough : AreEnough o (take most sorted) rows
-  front_enough = record { among = among; alike = alike }
+  front_enough =
+      record { among = among; alike = alike_by o most is (take most sorted) rows same_front }
+
+-- ---- the rows that come before the last of those in front
+
+all_kept : (holds p : List Value → Bool) (rows : List (List Value)) → list_all holds rows ≡ true
+    → list_all holds (filter p rows) ≡ true
+all_kept holds p [] e = refl
+all_kept holds p (row ∷ rows) e =
+    let parts = and_parts (holds row) (list_all holds rows) e in
+    by (p row) parts.0 (all_kept holds p rows parts.1)
+  where
+    by : (b : Bool) → holds row ≡ true → list_all holds (filter p rows) ≡ true
+        → list_all holds (cond b (row ∷ filter p rows) (filter p rows)) ≡ true
+    by true first rest = both (holds row) (list_all holds (filter p rows)) first rest
+    by false first rest = rest
+
+module _ (o : Output) (last : List Value) where
+  abbrev comes : List Value → Bool
+  comes row = comes_before o row last
+
+  abbrev comes_ranked : Ranked → Bool
+  comes_ranked r = before_ranked o r (ranked o last)
+
+  kept_ranked : (rows : List (List Value))
+      → map (ranked o) (filter comes rows) ≡ filter comes_ranked (map (ranked o) rows)
+  kept_ranked [] = refl
+  kept_ranked (row ∷ rows) =
+      by (comes row) (comes_ranked (ranked o row)) (same_order o row last) (kept_ranked rows)
+    where
+      by : (b c : Bool) → b ≡ c
+          → map (ranked o) (filter comes rows) ≡ filter comes_ranked (map (ranked o) rows)
+          → map (ranked o) (cond b (row ∷ filter comes rows) (filter comes rows))
+          ≡ cond c (ranked o row ∷ filter comes_ranked (map (ranked o) rows))
+          (filter comes_ranked (map (ranked o) rows))
+      by true true e rest = ap (λ l. ranked o row ∷ l) rest
+      by true false e rest = cc
+      by false true e rest = cc
+      by false false e rest = rest
+
+  none_behind : (rows : List (List Value)) → AllByRecursion (λ row. comes_before o last row ≡ false) rows
+      → AllByRecursion (λ r. before_ranked o (ranked o last) r ≡ false) (map (ranked o) rows)
+  none_behind [] all = tt
+  none_behind (row ∷ rows) all = (sym (same_order o last row) ∙ all.0, none_behind rows all.1)
+
+module _ (o : Output) (most : ℕ) (is : enough_of o ≡ Some most) (last : List Value)
+    (front behind : List (List Value)) (many : length front ≡ most)
+    (none : AllByRecursion (λ row. comes_before o last row ≡ false) front) where
+  abbrev kept : List (List Value)
+  kept = filter (comes o last) behind
+
+  split_kept : (more : List (List Value))
+      → map (ranked o) ((front ++ kept) ++ more)
+      ≡ (map (ranked o) front ++ filter (comes_ranked o last) (map (ranked o) behind))
+      ++ map (ranked o) more
+  split_kept more =
+      map-append (ranked o) (front ++ kept) more
+      ∙ ap (λ l. l ++ map (ranked o) more)
+      (map-append (ranked o) front kept
+      ∙ ap (λ l. map (ranked o) front ++ l) (kept_ranked o last behind))
+
+  split_rows : (more : List (List Value))
+      → map (ranked o) ((front ++ behind) ++ more)
+      ≡ (map (ranked o) front ++ map (ranked o) behind) ++ map (ranked o) more
+  split_rows more =
+      map-append (ranked o) (front ++ behind) more
+      ∙ ap (λ l. l ++ map (ranked o) more) (map-append (ranked o) front behind)
+
+  as_many : length (map (ranked o) front) ≡ most
+  as_many = length-map front (ranked o) ∙ many
+
+  same_thinned : HaveSameFront o most is (front ++ kept) (front ++ behind)
+  same_thinned more arranged in_order =
+      let f = ranked o in
+      let before = before_ranked o in
+      let weak = in_a_row o.is_descending in
+      let few = (map f front ++ filter (comes_ranked o last) (map f behind)) ++ map f more in
+      let all = (map f front ++ map f behind) ++ map f more in
+      ap (take most)
+      (one_arrangement before weak (map f ((front ++ kept) ++ more)) arranged
+      (arranged_by before (map f ((front ++ kept) ++ more))) in_order
+      (is_arranged before weak (map f ((front ++ kept) ++ more))))
+      ∙ ap (λ l. take most (arranged_by before l)) (split_kept more)
+      ∙ ap (λ n. take n (arranged_by before few)) (sym as_many)
+      ∙ thin_front before weak (f last) (map f front) (map f behind) (map f more)
+      (none_behind o last front none)
+      ∙ ap (λ n. take n (arranged_by before all)) as_many
+      ∙ ap (λ l. take most (arranged_by before l)) (sym (split_rows more))
+
+  among_thinned : AreAmong (front ++ kept) (front ++ behind)
+  among_thinned holds e =
+      all_joined holds front kept (all_first holds front behind e)
+      (all_kept holds (comes o last) behind (all_last holds front behind e))
+
+  -- those in front, and those that come before the last of these, are enough
+  pub thinned_enough : AreEnough o (front ++ kept) (front ++ behind)
+  thinned_enough = record {
+    among = among_thinned;
+    alike = alike_by o most is (front ++ kept) (front ++ behind) same_thinned;
+  }
+
+-- the same of rows that are cut there, where nothing is let go of but what stands behind
+pub thinned_rows : (o : Output) (most : ℕ) → enough_of o ≡ Some most
+    → (rows front behind few : List (List Value)) → most ≤ length rows → front ≡ take most rows
+    → behind ≡ drop most rows → few ≡ filter (comes o (last_of o front)) behind
+    → AreEnough o (front ++ few) rows
+thinned_rows o most is rows front behind few room front_is behind_is few_is =
+    subst (AreEnough o (front ++ few)) whole
+    (subst (λ l. AreEnough o (front ++ l) (front ++ behind)) (sym few_is)
+    (thinned_enough o most is (last_of o front) front behind many (none_behind_last o front)))
+  where
+    whole : front ++ behind ≡ rows
+    whole =
+        ap (λ l. l ++ behind) front_is ∙ ap (λ l. take most rows ++ l) behind_is
+        ∙ take-append-drop most rows
+
+    many : length front ≡ most
+    many = ap length front_is ∙ length-take most rows ∙ omega (arith, room)
+
+-- rows that are cut and joined again
+pub joined_rows : (o : Output) (most : ℕ) (rows front behind : List (List Value))
+    → front ≡ take most rows → behind ≡ drop most rows → AreEnough o (front ++ behind) rows
+joined_rows o most rows front behind front_is behind_is =
+    subst (λ l. AreEnough o l rows)
+    (sym (ap (λ l. l ++ behind) front_is ∙ ap (λ l. take most rows ++ l) behind_is
+    ∙ take-append-drop most rows))
+    (all_enough o rows)

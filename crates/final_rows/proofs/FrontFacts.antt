@@ -158,7 +158,7 @@ module _ {X : Type 0} (before : X → X → Bool) (o : IsStrictWeakOrder before)
       (put_all_rises xs ys) (put_all_same xs ys few low.1 s)
 
 module _ {X : Type 0} (before : X → X → Bool) (o : IsStrictWeakOrder before) where
-  never_itself : (x : X) → before x x ≡ false
+  pub never_itself : (x : X) → before x x ≡ false
   never_itself x = by (before x x) refl
     where
       by : (b : Bool) → before x x ≡ b → before x x ≡ false
@@ -251,3 +251,58 @@ module _ {X : Type 0} (before : X → X → Bool) (o : IsStrictWeakOrder before)
       cut_at n ys more (drop n ys) (subst (Rises before) (sym whole) (arranged_rises before o xs))
       refl
       ∙ ap (take n) (arranged_again xs ys more is)
+
+  -- ---- items in front of which all of some stand
+
+  module _ (m : X) where
+    abbrev High : X → Type 0
+    High c = before c m ≡ false
+
+    -- what comes no later than m comes no later than what doesn't come before m
+    under : (x : X) → before m x ≡ false → (c : X) → High c → before c x ≡ false
+    under x low c high = o.chain c m x high low
+
+    thinner : (xs more : List X)
+        → Fewer before o High (arranged_by before (xs ++ more))
+        (arranged_by before (filter (λ x. before x m) xs ++ more))
+    thinner [] more = same before o High (arranged_by before more)
+    thinner (x ∷ xs) more = by (before x m) refl (thinner xs more)
+      where
+        all : List X
+        all = arranged_by before (xs ++ more)
+
+        few : List X
+        few = arranged_by before (filter (λ x. before x m) xs ++ more)
+
+        by : (b : Bool) → before x m ≡ b → Fewer before o High all few
+            → Fewer before o High (put_by before x all)
+            (arranged_by before (cond b (x ∷ filter (λ x. before x m) xs)
+            (filter (λ x. before x m) xs) ++ more))
+        by true e rest =
+            one_less before o High 0 (put_by before x all) (put_by before x few)
+            (put_same before o High x (under x (o.one_way x m e)) 0 all few
+            (arranged_rises before o (xs ++ more)) rest)
+        by false e rest = put_more before o High x e all few rest
+
+    all_under : (xs : List X) → AllByRecursion (λ x. before m x ≡ false) xs
+        → AllByRecursion (λ x. (c : X) → High c → before c x ≡ false) xs
+    all_under [] low = tt
+    all_under (x ∷ xs) low = (under x low.0, all_under xs low.1)
+
+    -- Where all items in front come no later than m, those behind them that don't come before m
+    -- never come to stand among as many as are in front.
+    pub thin_front : (xs behind more : List X) → AllByRecursion (λ x. before m x ≡ false) xs
+        → take (length xs) (arranged_by before ((xs ++ filter (λ x. before x m) behind) ++ more))
+        ≡ take (length xs) (arranged_by before ((xs ++ behind) ++ more))
+    thin_front xs behind more low =
+        let kept = filter (λ x. before x m) behind in
+        let few = arranged_by before (kept ++ more) in
+        let all = arranged_by before (behind ++ more) in
+        ap (λ l. take (length xs) (arranged_by before l)) (append_assoc xs kept more)
+        ∙ ap (take (length xs)) (arranged_behind before o High xs (kept ++ more))
+        ∙ sym (same_front before o High (length xs) (put_all before o High xs all)
+        (put_all before o High xs few)
+        (put_all_same before o High xs (behind ++ more) few (all_under xs low)
+        (thinner behind more)))
+        ∙ ap (take (length xs)) (sym (arranged_behind before o High xs (behind ++ more)))
+        ∙ ap (λ l. take (length xs) (arranged_by before l)) (sym (append_assoc xs behind more))

@@ -1,4 +1,5 @@
 pub mod OrderFacts
 pub mod ShownFacts
 mod FrontFacts
+pub mod LastFacts
 pub mod EnoughFacts

@@ -1,8 +1,8 @@
 -- What comes out of rows that stand in order.
-use Rattle.std.proofs.Common.{◌≡◌, ℕ, Bool, true, false, List, [], ◌∷◌, ◌++◌, map, take, length, refl}
+use Rattle.std.proofs.Common.{◌≡◌, ℕ, Bool, true, false, List, [], ◌∷◌, map, take, length, refl}
 use Rattle.std.proofs.Common.{sym, ap, ◌∙◌, Option, Some, None}
 use Rattle.std.proofs.lemmas.List.{take-map}
-use Rattle.plain_machine.specs.Finishing.{ComesOut, finish_of, ranked}
+use Rattle.plain_machine.specs.Finishing.{ComesOut, ranked}
 use Rattle.query_code.specs.declared.program.Output.{Output}
 use Rattle.query_rows.specs.FinalRows.{limited, once_if, shown_of}
 use Rattle.query_rows.specs.Same.{each_once, with_new}

@@ -1,10 +1,11 @@
 -- Rows that are enough of more: the same comes out of them, whatever rows follow.
-use Rattle.std.specs.Prelude.{◌≡◌, ℕ, ◌+◌, ◌≤◌, Bool, true, false, List, ◌++◌, length, Option, Some}
+use Rattle.std.specs.Prelude.{◌≡◌, ℕ, ◌+◌, ◌≤◌, Bool, true, List, [], ◌∷◌, ◌++◌, length, Option, Some}
 use Rattle.std.specs.Prelude.{None, if◌then◌else◌}
 use Rattle.std.specs.List.{list_all}
 use Rattle.plain_machine.specs.Finishing.{ComesOut}
 use Rattle.query_code.specs.declared.program.Output.{Output}
 use Rattle.query_values.specs.declared.value.Value.{Value}
+use Rattle.final_rows.specs.Order.{comes_before}
 
 -- what holds of each of the rows holds of each of those that are kept
 abbrev pub AreAmong : List (List Value) → List (List Value) → Type 0
@@ -28,3 +29,17 @@ enough_of o = if o.is_distinct then None else o.limit
 -- at most twice as many as are enough
 abbrev pub AreFew : Output → List (List Value) → Type 0
 AreFew o rows = (most : ℕ) → enough_of o ≡ Some most → length rows ≤ most + most
+
+-- the one of two rows that comes later, the first where they tie
+abbrev pub later_of : Output → List Value → List Value → List Value
+later_of o a b = if comes_before o a b then b else a
+
+-- the last of a row and others
+abbrev pub last_from : Output → List Value → List (List Value) → List Value
+last_from o last [] = last
+last_from o last (row ∷ rows) = last_from o (later_of o last row) rows
+
+-- the last of some rows; one without values where there is none
+abbrev pub last_of : Output → List (List Value) → List Value
+last_of o [] = []
+last_of o (row ∷ rows) = last_from o row rows

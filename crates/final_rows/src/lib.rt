@@ -20,8 +20,8 @@
 //! # Cost
 //!
 //! A stable sort, where there is something to order by, and a table of the rows that are told once.
-//! Rows are moved and never copied. What [`trim`] leaves is at most twice the limit, and it sorts
-//! where there are more: so where it is called now and then, each row is sorted a few times.
+//! Rows are moved and never copied. What [`trim`] leaves is at most twice the limit. Where there are
+//! more, it compares each row once with the last of those in front, and sorts what comes before it.
 #![tactic(auto)]
 
 mod ordering;

@@ -94,10 +94,34 @@ fn without_zeros(places: u8, decimals: u128, least: u8) -> (u8, u128)
     if rest == 0 {
         return (places - surplus, digits);
     }
-    zeros_taken_off(places, decimals, least)
+    match u64::try_from(decimals) {
+        Ok(few) => {
+            let (shown, digits) = zeros_taken_off_few(places, few, least);
+            (shown, digits as u128)
+        }
+        Err(_) => zeros_taken_off(places, decimals, least),
+    }
 }
 
-/// The same, one zero after the other.
+/// The same, one zero after the other, of 64 bits, which are divided much faster than 128.
+fn zeros_taken_off_few(places: u8, decimals: u64, least: u8) -> (u8, u64)
+    requires { decimals < 10 ^ places }
+    ensures digits { digits_of result.0 result.1 ++ zeros (least - result.0)
+        ≡ exact_decimals places decimals
+        ++ zeros (least - length (exact_decimals places decimals)) }
+    ensures few { result.0 ≤ places }
+    ensures small { result.1 < 10 ^ result.0 }
+{
+    let mut places = places;
+    let mut decimals = decimals;
+    while places > least && decimals % 10 == 0 {
+        places -= 1;
+        decimals /= 10;
+    }
+    (places, decimals)
+}
+
+/// The same of any number.
 fn zeros_taken_off(places: u8, decimals: u128, least: u8) -> (u8, u128)
     requires { decimals < 10 ^ places }
     ensures digits { digits_of result.0 result.1 ++ zeros (least - result.0)

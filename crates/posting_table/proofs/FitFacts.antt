@@ -196,13 +196,19 @@ row_is_within r is =
     (lt-ltb _ (10 ^ 28) (weight_is_small r is)))
     (price_is_within r.price)
 
+all_within : (rs : List Row) → All (IsShaped widest) rs → list_all (row_fits widest) rs ≡ true
+all_within rs are =
+    list_all-from_AllPass (row_fits widest) rs
+    (λ k d small. row_is_within (slice_index_or rs k d) (are k d small))
+
+pub within_these : (b : Bounds) (rs : List Row) → b ≡ widest → All (IsShaped widest) rs
+    → list_all (row_fits b) rs ≡ true
+within_these b rs same are = ap (λ b. list_all (row_fits b) rs) same ∙ all_within rs are
+
 pub rows_are_within : (rs : List Row) → length rs ≤ MOST_POSTINGS → All (IsShaped widest) rs
     → fits widest (map row_of rs) ≡ true
 rows_are_within rs few are =
-    fits_alike widest rs
-    ∙ and_from _ _ (le-leb (length rs) MOST_POSTINGS few)
-    (list_all-from_AllPass (row_fits widest) rs
-    (λ k d small. row_is_within (slice_index_or rs k d) (are k d small)))
+    fits_alike widest rs ∙ and_from _ _ (le-leb (length rs) MOST_POSTINGS few) (all_within rs are)
 
 -- ---- what a row holds of its units
 

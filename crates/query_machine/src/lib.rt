@@ -32,7 +32,7 @@
 //! rows are sorted where there is something to order by, and moved.
 //!
 //! Where rows are cut at a limit and not told once, a run keeps at most twice as many, with those of
-//! 4,096 steps: it lets go of the others on its way, and sorts what it has to see which they are.
+//! 4,096 steps: it lets go of the others on its way, most of them with one comparison each.
 #![tactic(auto)]
 
 mod advancing;

@@ -59,8 +59,7 @@ fn keep_row(alloc: Global, run: &mut Run<'_>) -> Result<(), AllocError>
     ensures finders { run.new.finders ≡ run.old.finders }
     ensures room { run.new.frame.stack.room ≡ run.old.frame.stack.room }
 {
-    let width = run.frame.stack.len();
-    let values = run.frame.stack.take_top(alloc, width)?;
+    let values = run.frame.stack.take_all(alloc)?;
     run.rows.push(List::new(values))?;
     Ok(())
 }

@@ -1,24 +1,23 @@
 //! Stacks of values, whose room is taken once.
-ghost use Rattle.std.specs.Prelude.{◌≡◌, ◌≢◌, ◌<◌, ◌≤◌, [], ◌∷◌, reverse, length, take, drop, IfOk, OnOk};
+ghost use Rattle.std.specs.Prelude.{◌≡◌, ◌≢◌, ◌<◌, ◌≤◌, [], ◌∷◌, reverse, length, IfOk, OnOk};
 
 use query_values::Value;
-use smallvec::SmallVec;
 use std::alloc::{AllocError, Global};
 use std::marker::Model;
 
 /// A stack of values. Its value has the top first, and how many values it has room for.
 #[derive(Drop)]
 pub struct Stack<'r> {
-    values: SmallVec<Value<'r>, 8>,
+    values: Vec<Value<'r>>,
 }
 
 impl<'r> Model for Stack<'r> {
-    ghost use Rattle.std.specs.Prelude.{reverse};
+    ghost use Rattle.std.specs.Prelude.{reverse, vec_capacity};
     ghost use Rattle.query_sections.specs.Stack as stacks;
 
     ghost Value = { stacks.Stack };
 
-    ghost view = { λ s. record { values = reverse s.values.items; room = s.values.capacity } };
+    ghost view = { λ s. record { values = reverse s.values.items; room = vec_capacity s.values } };
 }
 
 impl<'r> Stack<'r> {
@@ -28,7 +27,7 @@ impl<'r> Stack<'r> {
         ensures room { IfOk result (λ s. room ≤ s.room) }
     {
         Ok(Stack {
-            values: SmallVec::with_capacity(alloc, room)?,
+            values: Vec::with_capacity(alloc, room)?,
         })
     }
 
@@ -47,10 +46,7 @@ impl<'r> Stack<'r> {
         ensures values { self.old.values ≡ result ∷ self.new.values }
         ensures room { self.new.room ≡ self.old.room }
     {
-        match self.values.pop() {
-            Some(value) => value,
-            None => unreachable!(),
-        }
+        self.values.take_last()
     }
 
     /// The values, the top last.
@@ -60,26 +56,15 @@ impl<'r> Stack<'r> {
         self.values.as_slice()
     }
 
-    /// Takes away so many values from the top, the top last, and keeps the room.
-    pub fn take_top(&mut self, alloc: Global, count: usize) -> Result<Vec<Value<'r>>, AllocError>
-        requires { count ≤ length self.old.values }
-        ensures top { IfOk result (λ v. v.items ≡ reverse (take count self.old.values)) }
-        ensures rest { OnOk result (self.new.values ≡ drop count self.old.values) }
+    /// Takes all values away, the top last, and keeps the room.
+    pub fn take_all(&mut self, alloc: Global) -> Result<Vec<Value<'r>>, AllocError>
+        ensures all { IfOk result (λ v. v.items ≡ reverse self.old.values) }
+        ensures none { OnOk result (self.new.values ≡ []) }
         ensures room { self.new.room ≡ self.old.room }
     {
-        let mut values = Vec::with_capacity(alloc, count)?;
-        for _ in 0..count {
-            values.push(self.pop())?;
-        }
-        values.reverse();
+        let mut values = Vec::with_capacity(alloc, self.values.len())?;
+        values.append(&mut self.values)?;
         Ok(values)
-    }
-
-    /// How many values there are.
-    pub fn len(&self) -> usize
-        ensures { result ≡ length self.now.values }
-    {
-        self.values.len()
     }
 
     /// Takes all values away, and keeps the room.

@@ -49,7 +49,7 @@
 //!
 //! # Cost
 //!
-//! That of the check, of the run and of the table; the ledger is looked at twice for whether it is
+//! That of the check, of the run and of the table; the ledger is looked at once for whether it is
 //! within the bounds. The answer's rows are kept until they are printed.
 //! Of a batch that of the runs and of their tables, and in each round a look at each run, also where
 //! it has ended.

@@ -26,8 +26,7 @@ pub fn tabulated(
         text.items) }
 {
     // So its cells lie in the shapes that columns have by the program's bounds.
-    let is_within = ledger.fits(&program.program.parts.bounds);
-    prove!(is_within);
+    prove!(ledger.fits(&program.program.parts.bounds));
     let text = print(alloc, answer, ledger.display())?;
     Ok(text)
 }

@@ -71,6 +71,17 @@ fn is_printable(text: &str) -> bool
     all
 }
 
+/// How many columns of a terminal a text takes that has no control characters.
+#[tactic(auto, using(crate::proofs::Printable::width_printable))]
+pub(crate) fn width_of(text: &str) -> usize
+    ensures { result ≡ text_width text.now }
+{
+    if is_printable(text) {
+        return text.len();
+    }
+    text.width()
+}
+
 /// Adds a text with spaces in place of its control characters.
 pub(crate) fn add_clean(clean: &mut String, text: &str) -> Result<(), AllocError>
     ensures { OnOk result (string_bytes clean.new ≡ string_bytes clean.old ++ clean_text text.now) }
@@ -144,7 +155,7 @@ fn push_set(out: &mut Vec<u8>, set: &TextSet<'_>, clean: &mut String) -> Result<
 {
     make_set(clean, set)?;
     out.extend_from_slice(clean.as_bytes())?;
-    Ok(clean.width())
+    Ok(width_of(clean))
 }
 
 /// How many columns of a terminal the texts of a set take.
@@ -152,7 +163,7 @@ fn set_width(set: &TextSet<'_>, clean: &mut String) -> Result<usize, AllocError>
     ensures { IfOk result (λ n. n ≡ text_width (set_text set.now)) }
 {
     make_set(clean, set)?;
-    Ok(clean.width())
+    Ok(width_of(clean))
 }
 
 fn truth_text(truth: bool) -> &'static str

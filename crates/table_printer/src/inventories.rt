@@ -7,14 +7,13 @@ ghost use Rattle.table_printer.specs.CellText.{bag_text, between_entries, in_ord
 ghost use Rattle.theory.specs.Joined.{gap_before};
 ghost use Rattle.bean_lots.specs.Lot.{key_order};
 
-use crate::cells::Scratch;
+use crate::cells::{Scratch, width_of};
 use crate::positions::add_entry;
 use bean_lots::Position;
 use bean_lots::inventory::Positions;
 use posting_table::Display;
 use std::alloc::{AllocError, Global};
 use std::cmp::Ordering;
-use unicode_width::UnicodeWidthStr;
 
 /// The entries of an inventory, in order of entry.
 fn entries_of<'b>(alloc: Global, held: &Positions<'_, 'b>) -> Result<Vec<Position<'b>>, AllocError>
@@ -84,7 +83,7 @@ pub(crate) fn push_inventory(
 {
     make_inventory(scratch, places, held, display)?;
     out.extend_from_slice(scratch.clean.as_bytes())?;
-    Ok(scratch.clean.width())
+    Ok(width_of(&scratch.clean))
 }
 
 /// How many columns of a terminal an inventory takes.
@@ -97,5 +96,5 @@ pub(crate) fn inventory_width(
     ensures { IfOk result (λ n. n ≡ text_width (bag_text (decimals_of display.now) (record { places = places; held = held.now }))) }
 {
     make_inventory(scratch, places, held, display)?;
-    Ok(scratch.clean.width())
+    Ok(width_of(&scratch.clean))
 }

@@ -9,13 +9,12 @@ ghost use Rattle.table_printer.specs.Table.{text_width};
 ghost use Rattle.table_printer.specs.CellText.{entry_text, label_text, lot_text, position_text};
 ghost use Rattle.table_printer.specs.CellText.{units_text};
 
-use crate::cells::{Scratch, add_clean, push_units, units_width};
+use crate::cells::{Scratch, add_clean, push_units, units_width, width_of};
 use bean_base::{Currency, Day, Text};
 use bean_lots::{Key, Lot};
 use number_texts::push_day;
 use posting_table::Display;
 use std::alloc::AllocError;
-use unicode_width::UnicodeWidthStr;
 
 /// The decimals of the counts of positions and costs.
 const COUNT_PLACES: u8 = 8;
@@ -143,7 +142,7 @@ pub(crate) fn push_position(
     }
     make_position(scratch, key, count, display)?;
     out.extend_from_slice(scratch.clean.as_bytes())?;
-    Ok(scratch.clean.width())
+    Ok(width_of(&scratch.clean))
 }
 
 /// How many columns of a terminal a position takes.
@@ -160,5 +159,5 @@ pub(crate) fn position_width(
         return Ok(units_width(count, COUNT_PLACES, &key.currency, display));
     }
     make_position(scratch, key, count, display)?;
-    Ok(scratch.clean.width())
+    Ok(width_of(&scratch.clean))
 }

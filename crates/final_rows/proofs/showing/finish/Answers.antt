@@ -1,6 +1,5 @@
-use Rattle.std.proofs.Common.{◌≡◌, length, ap, sym}
+use Rattle.std.proofs.Common.{length, ap}
 use Rattle.std.proofs.lemmas.Result.{IfOk-weaker}
-use Rattle.plain_machine.specs.Finishing.{ComesOut}
 use Rattle.final_rows.proofs.ShownFacts.{once_out, all_out}
 use Rattle.final_rows.proofs.showing.finish.Goals as goal
 

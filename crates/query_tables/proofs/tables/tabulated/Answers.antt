@@ -16,7 +16,7 @@ returns c =
     let answer = c.args.answer.now in
     is_table program.program.parts program.depth c.args.ledger.now program.program.has_file
     program.is_well_shaped c.requires.within
-    (c.fits-is_within.ensures.shaped (c.fits-is_within.ensures.fits ∙ c.requires.within)) answer
+    (c.fits.ensures.shaped (c.fits.ensures.fits ∙ c.requires.within)) answer
     c.requires.answered c.in_ok-text.text.items
     (c.in_ok-text.ensures
     ∙ ap (λ decimals. table_text answer.headers answer.rows (decimals_of decimals))
