@@ -39,7 +39,7 @@ use Rattle.posting_table.specs.Parts.{HasShortTexts, HasSmallParts, IsShortLot, 
 use Rattle.posting_table.specs.Shaped.{AreShort}
 use Rattle.query_rows.specs.Shaped.{IsShortIfThere}
 use Rattle.posting_table.specs.declared.entry.Entry.{Entry}
-use Rattle.query_shapes.specs.Mass.{value_of}
+use Rattle.query_rows.specs.Mass.{value_of}
 use Rattle.query_values.specs.TextSet.{set_of}
 use Rattle.theory.proofs.OnceFacts.{all_once, few_once}
 use Rattle.bean_book.specs.Metadata.{amount_text, item_of, items_of, num_text, text_of}

@@ -4,7 +4,7 @@ ghost use Rattle.std.specs.Prelude.{slice_get};
 ghost use Rattle.bean_interp.specs.Residual.{IsLight};
 ghost use Rattle.bean_transactions.specs.Tried.{booked_leg, whole_at};
 ghost use Rattle.posting_table.specs.Shaped.{IsShaped};
-ghost use Rattle.query_columns.specs.ColumnShape.{widest};
+ghost use Rattle.query_rows.specs.ColumnShape.{widest};
 ghost use Rattle.bean_book.specs.Rows as spec;
 ghost use Rattle.bean_book.specs.Tame.{IsTameKept};
 

@@ -15,7 +15,7 @@ use Rattle.clap.proofs.ValueTestLemmas.{accepts-Accepts}
 use Rattle.limits.specs.declared.bounds.Bounds.{Bounds}
 use Rattle.limits.specs.declared.counts.TheConstants.{MOST_POSTINGS, MOST_UNITS_DIGITS}
 use Rattle.limits.specs.declared.counts.TheConstants.{MOST_VALUE_DIGITS}
-use Rattle.query_columns.specs.ColumnShape.{AreBounds, widest}
+use Rattle.query_rows.specs.ColumnShape.{AreBounds, widest}
 use Rattle.bq.specs.Batch as several
 use Rattle.bq.specs.Batch.{steps_in}
 use Rattle.bq.specs.Check.{check}

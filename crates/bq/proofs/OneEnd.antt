@@ -4,14 +4,14 @@ use Rattle.std.proofs.Common.{Err, map, refl, sym, ap, ap₂, ◌∙◌, subst}
 use Rattle.std.specs.List.{list_any}
 use Rattle.std.specs.Prelude.{if◌then◌else◌}
 use Rattle.stores.specs.Reading.{Reading}
-use Rattle.batch_tables.specs.Fates.{AreFates, IsFate}
-use Rattle.batch_tables.specs.declared.tabulating.Fate.{Fate}
-use Rattle.batch_tables.specs.declared.tabulating.Fate.TheVariants as fate
+use Rattle.query_tables.specs.Fates.{AreFates, IsFate}
+use Rattle.query_tables.specs.declared.tabulating.Fate.{Fate}
+use Rattle.query_tables.specs.declared.tabulating.Fate.TheVariants as fate
 use Rattle.bean_book.specs.OneBook.{AreAlike as SameBooks}
 use Rattle.bql_meaning.specs.Answer.{IsAnswer, finish_of}
 use Rattle.bql_meaning.specs.Answer as meaning
 use Rattle.bql_parser.specs.Asked.{Asked}
-use Rattle.bql_scheme.specs.Program.{target_name}
+use Rattle.bql_compiler.specs.Program.{target_name}
 use Rattle.bean_book.specs.declared.booked.Booked.{Booked}
 use Rattle.bean_load.specs.Texts.{Texts}
 use Rattle.clap.specs.Walk.{Text}
@@ -51,7 +51,7 @@ use Rattle.endings.specs.declared.refusal.Cause.TheVariants as cause
 use Rattle.endings.specs.declared.verdict.Verdict.TheVariants as verdict
 use Rattle.endings.specs.declared.verdict.Verdict.TheVariants.{Fine}
 use Rattle.bq.specs.declared.words.Request.TheVariants as request
-use Rattle.query_columns.specs.ColumnShape.{widest}
+use Rattle.query_rows.specs.ColumnShape.{widest}
 use Rattle.bq.proofs.EndFacts.{SaysOne, both_are, one_about_book, one_about_file, one_about_ledger}
 use Rattle.bq.proofs.EndFacts.{one_about_program, one_about_program_of, one_at_once, one_is}
 

@@ -4,13 +4,13 @@ use Rattle.std.proofs.lemmas.Bool.{false≢true}
 use Rattle.bean_book.specs.declared.booked.Booked.{Booked}
 use Rattle.bean_load.specs.Texts.{Texts}
 use Rattle.bql_parser.specs.Asked.{Asked}
-use Rattle.bql_scheme.specs.Carried.{Carries}
+use Rattle.bql_compiler.specs.Carried.{Carries}
 use Rattle.clap.specs.Walk.{Text}
 use Rattle.limits.specs.declared.bounds.Bounds.{Bounds}
 use Rattle.posting_table.specs.Ledger.{Ledger}
 use Rattle.posting_table.specs.Rows.{rows_of}
 use Rattle.query_code.specs.declared.program.Parts.{Parts}
-use Rattle.query_columns.specs.ColumnShape.{widest}
+use Rattle.query_rows.specs.ColumnShape.{widest}
 use Rattle.query_code.proofs.QueryFileFacts.{same_program}
 use Rattle.query_files.proofs.FileFacts.{one_program}
 use Rattle.query_files.specs.Texts.{Compiles, IsCompilable, IsFileOf}

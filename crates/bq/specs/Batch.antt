@@ -3,9 +3,9 @@ use Rattle.std.specs.Prelude.{◌≡◌, ℕ, ◌^◌, ◌-◌, Bool, true, fals
 use Rattle.std.specs.Prelude.{Option, Some, if◌then◌else◌}
 use Rattle.std.specs.List.{list_any}
 use Rattle.std.specs.Option.{option_and_then, option_map}
-use Rattle.batch_tables.specs.Fates.{AreFates, AreFatesOf}
-use Rattle.batch_tables.specs.declared.tabulating.Fate.{Fate}
-use Rattle.batch_tables.specs.declared.tabulating.Fate.TheVariants as fate
+use Rattle.query_tables.specs.Fates.{AreFates, AreFatesOf}
+use Rattle.query_tables.specs.declared.tabulating.Fate.{Fate}
+use Rattle.query_tables.specs.declared.tabulating.Fate.TheVariants as fate
 use Rattle.bean_book.specs.declared.booked.Booked.{Booked}
 use Rattle.clap.specs.Lexer.{usize_max}
 use Rattle.clap.specs.Simple.{with_rule}

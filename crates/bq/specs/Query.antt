@@ -3,12 +3,12 @@ use Rattle.std.specs.Prelude.{◌≡◌, ℕ, [], ◌∷◌, codes, List, Ok, Op
 use Rattle.std.specs.Option.{option_and_then}
 use Rattle.bean_book.specs.declared.booked.Booked.{Booked}
 use Rattle.bql_parser.specs.Asked.{Asked}
-use Rattle.bql_scheme.specs.Carried.{Carries}
+use Rattle.bql_compiler.specs.Carried.{Carries}
 use Rattle.clap.specs.Walk.{Row, Text, first_of}
 use Rattle.limits.specs.declared.bounds.Bounds.{Bounds}
 use Rattle.query_code.specs.QueryFile.{IsFile}
 use Rattle.query_code.specs.declared.program.Parts.{Parts}
-use Rattle.query_columns.specs.ColumnShape.{widest}
+use Rattle.query_rows.specs.ColumnShape.{widest}
 use Rattle.query_tables.specs.Table.{IsTableOfQuery}
 use Rattle.bq.specs.Asking.{about_program_of}
 use Rattle.bq.specs.Command.{Command, named}

@@ -11,7 +11,7 @@ ghost use Rattle.bq.specs.Commands as spec;
 ghost use Rattle.bq.specs.Compile as compile;
 ghost use Rattle.bq.specs.declared.words.Name.TheVariants as names;
 ghost use Rattle.bq.specs.Commands.{program};
-ghost use Rattle.query_columns.specs.ColumnShape.{AreBounds};
+ghost use Rattle.query_rows.specs.ColumnShape.{AreBounds};
 ghost use Rattle.bq.specs.Named.{AskFor, IsRefusedBy};
 
 use bean_base::{List, Slice};

@@ -13,14 +13,14 @@ use Rattle.bql_lowering.specs.Lowered.{all_lowered, of_a_row}
 use Rattle.bql_parser.specs.Asked.{Asked}
 use Rattle.bql_parser.specs.Small.{IsSmall, IsSmallTree}
 use Rattle.bql_plan.specs.Plan.{Plan, index_for, plan, shown}
-use Rattle.bql_scheme.specs.Carried.{Carries}
-use Rattle.bql_scheme.specs.Program.{IsTooLong, filter_of, filtering, gathered_of, inputs_in}
-use Rattle.bql_scheme.specs.Program.{mode_of, output_of, parts_of, sections_of, target_name}
+use Rattle.bql_compiler.specs.Carried.{Carries}
+use Rattle.bql_compiler.specs.Program.{IsTooLong, filter_of, filtering, gathered_of, inputs_in}
+use Rattle.bql_compiler.specs.Program.{mode_of, output_of, parts_of, sections_of, target_name}
 use Rattle.bql_tree.specs.Tree.{Tree}
 use Rattle.bql_types.specs.Gathered.{aggregate_in}
 use Rattle.bql_types.specs.Typing.{IsTyped, grouping_of}
-use Rattle.program_forms.proofs.ProgramFacts.{have_files}
-use Rattle.program_forms.specs.Limits.{HasGroupsIf, IsShortCode, IsShortOutput}
+use Rattle.well_shaped.proofs.FileProgramFacts.{have_files}
+use Rattle.well_shaped.specs.Files.{HasGroupsIf, IsShortCode, IsShortOutput}
 use Rattle.query_code.specs.ByteForm.{AllFit}
 use Rattle.query_code.specs.QueryFile.{constant, file}
 use Rattle.query_code.specs.TextForm.{text}
@@ -28,11 +28,11 @@ use Rattle.query_code.specs.declared.program.Code.{Code}
 use Rattle.query_code.specs.declared.program.Mode.{Mode}
 use Rattle.query_code.specs.declared.program.Output.{Output}
 use Rattle.query_code.specs.declared.program.Parts.{Parts}
-use Rattle.query_columns.specs.ColumnShape.{AreBounds}
-use Rattle.bql_scheme.proofs.SchemeListFacts.{both_are, each_is}
-use Rattle.bql_scheme.proofs.ProgramFacts.{compiled_depth}
-use Rattle.bql_scheme.proofs.QueryFacts.{IsOfRows, IsPlanned, IsShown, IsTypedTree, inputs_typed}
-use Rattle.bql_scheme.proofs.QueryFacts.{is_planned}
+use Rattle.query_rows.specs.ColumnShape.{AreBounds}
+use Rattle.bql_compiler.proofs.SchemeListFacts.{both_are, each_is}
+use Rattle.bql_compiler.proofs.ProgramFacts.{compiled_depth}
+use Rattle.bql_compiler.proofs.QueryFacts.{IsOfRows, IsPlanned, IsShown, IsTypedTree, inputs_typed}
+use Rattle.bql_compiler.proofs.QueryFacts.{is_planned}
 use Rattle.well_shaped.specs.Program.{IsWellShaped}
 use Rattle.bql_compiler.specs.Limits.{IsCompiled, IsWithin, code_in}
 use Rattle.bql_compiler.proofs.PlannedFacts.{not_above}

@@ -12,8 +12,8 @@ use Rattle.query_code.specs.declared.program.Constant.{Constant}
 use Rattle.bql_code.specs.Code.{all_depth, all_size, depth, size}
 use Rattle.bql_parser.specs.Asked.{Asked}
 use Rattle.bql_plan.specs.Plan.{Plan, plan}
-use Rattle.bql_scheme.specs.Program.{IsTooDeep, IsTooLong, of_groups, parts_of}
-use Rattle.bql_scheme.specs.Program.{pool_of, sections_of}
+use Rattle.bql_compiler.specs.Program.{IsTooDeep, IsTooLong, of_groups, parts_of}
+use Rattle.bql_compiler.specs.Program.{pool_of, sections_of}
 use Rattle.bql_types.specs.Gathered.{aggregate_in}
 use Rattle.bql_compiler.specs.Limits.{are_shallow, are_short}
 

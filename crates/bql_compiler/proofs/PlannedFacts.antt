@@ -14,13 +14,13 @@ use Rattle.bql_lowering.specs.Lowered.{Gathered, all_lowered, lowered, of_a_row}
 use Rattle.bql_parser.specs.Asked.{Asked}
 use Rattle.bql_parser.specs.Small.{IsSmall, IsSmallTarget}
 use Rattle.bql_plan.specs.Plan.{plan, shown}
-use Rattle.bql_scheme.specs.Program.{IsTooDeep, depth_of, gathered_of, inputs_in, sections_of}
+use Rattle.bql_compiler.specs.Program.{IsTooDeep, depth_of, gathered_of, inputs_in, sections_of}
 use Rattle.bql_tree.specs.Tree.{Tree}
 use Rattle.bql_types.specs.Typing.{IsTyped, grouping_of}
-use Rattle.bql_scheme.proofs.SchemeListFacts.{each_is}
-use Rattle.bql_scheme.proofs.QueryFacts.{IsOfRows, IsShown, IsTypedTree, inputs_typed, is_planned}
-use Rattle.bql_scheme.proofs.QueryFacts.{typed_shape}
-use Rattle.bql_scheme.proofs.RowFacts.{order_within, shown_many}
+use Rattle.bql_compiler.proofs.SchemeListFacts.{each_is}
+use Rattle.bql_compiler.proofs.QueryFacts.{IsOfRows, IsShown, IsTypedTree, inputs_typed, is_planned}
+use Rattle.bql_compiler.proofs.QueryFacts.{typed_shape}
+use Rattle.bql_compiler.proofs.RowFacts.{order_within, shown_many}
 use Rattle.bql_compiler.specs.Lowers.{CanBeLowered, Lowers}
 use Rattle.bql_compiler.specs.Output.{HasRoom, HasShortName}
 

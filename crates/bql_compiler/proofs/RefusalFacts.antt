@@ -6,7 +6,7 @@ use Rattle.limits.specs.declared.bounds.Bounds.{Bounds}
 use Rattle.limits.specs.declared.counts.TheConstants.{LONGEST_SECTION, MOST_ITEMS}
 use Rattle.bql_parser.specs.Asked.{Asked}
 use Rattle.bql_plan.specs.Plan.{Plan, plan}
-use Rattle.bql_scheme.specs.Program.{IsTooLong, Sections, of_groups, parts_of, pool_of}
+use Rattle.bql_compiler.specs.Program.{IsTooLong, Sections, of_groups, parts_of, pool_of}
 use Rattle.query_code.specs.declared.program.Constant.{Constant}
 use Rattle.refusals.specs.declared.refusal.Refusal.{Refusal}
 use Rattle.refusals.specs.declared.refusal.Refusal.TheVariants.{OutOfMemory, Refused}

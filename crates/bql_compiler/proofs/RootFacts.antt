@@ -32,8 +32,8 @@ use Rattle.query_code.specs.declared.instruction.Unary.TheVariants as operation
 use Rattle.query_code.specs.declared.program.Constant.{Constant}
 use Rattle.query_values.specs.declared.operation.Binary as two
 use Rattle.query_values.specs.declared.operation.Binary.TheVariants as operations
-use Rattle.program_forms.specs.Limits.{TakesFew}
-use Rattle.bql_scheme.proofs.SchemeListFacts.{both_are}
+use Rattle.well_shaped.specs.Files.{TakesFew}
+use Rattle.bql_compiler.proofs.SchemeListFacts.{both_are}
 
 -- ---- what is computed
 

@@ -4,7 +4,7 @@ use Rattle.std.specs.Option.{option_map}
 use Rattle.bql_code.specs.Core as scheme
 use Rattle.bql_code.specs.Kept.{core_of, cores_of}
 use Rattle.bql_code.specs.declared.computed.Core.{Core}
-use Rattle.bql_scheme.specs.Program as rule
+use Rattle.bql_compiler.specs.Program as rule
 use Rattle.bql_compiler.specs.declared.sections.Sections.{Sections}
 
 -- what is computed, if anything is

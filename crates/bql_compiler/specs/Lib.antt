@@ -1,3 +1,17 @@
+pub mod Program
+pub mod Carried
+pub mod CoreShape
+pub mod Shaped
+pub mod CoreValue
+pub mod CodeValues
+pub mod Loaded
+pub mod LoweredShapes
+pub mod Reads
+pub mod Sided
+pub mod LoweredValues
+pub mod CompiledShapes
+pub mod Carrying
+pub mod Answering
 pub mod CompileCause
 pub mod Lowers
 pub mod Kept

@@ -6,8 +6,8 @@ use Rattle.bql_compiler.specs.declared.cause.CompileCause.{CompileCause}
 use Rattle.bql_compiler.specs.declared.cause.CompileCause.TheVariants.{TooLong, NotBuilt, TooDeep}
 use Rattle.bql_parser.specs.Asked.{Asked}
 use Rattle.bql_plan.specs.Plan.{plan}
-use Rattle.bql_scheme.specs.Program.{IsTooDeep, IsTooLong, Sections, code_over, parts_of}
-use Rattle.bql_scheme.specs.Program.{pool_of, sections_of}
+use Rattle.bql_compiler.specs.Program.{IsTooDeep, IsTooLong, Sections, code_over, parts_of}
+use Rattle.bql_compiler.specs.Program.{pool_of, sections_of}
 use Rattle.limits.specs.declared.bounds.Bounds.{Bounds}
 use Rattle.limits.specs.declared.counts.TheConstants.{LONGEST_SECTION, MOST_VALUES}
 use Rattle.query_code.specs.declared.program.Code.{Code}

@@ -7,7 +7,7 @@ use Rattle.bql_lowering.specs.Listed.{HasShape}
 use Rattle.bql_parser.specs.Asked.{Asked}
 use Rattle.bql_parser.specs.Small.{IsSmallTree}
 use Rattle.bql_plan.specs.Plan.{Plan}
-use Rattle.bql_scheme.specs.Program.{inputs_in}
+use Rattle.bql_compiler.specs.Program.{inputs_in}
 use Rattle.bql_tree.specs.Tree.{Tree}
 
 abbrev pub Lowers : Bounds → Tree ℕ → Type 0

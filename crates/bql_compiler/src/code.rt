@@ -5,11 +5,11 @@ ghost use Rattle.bql_code.specs.Kept.{core_of, cores_of};
 ghost use Rattle.bql_compiler.specs.Kept as view;
 ghost use Rattle.bql_compiler.specs.Limits as rule;
 ghost use Rattle.bql_plan.specs.Kept.{numbered_of};
-ghost use Rattle.bql_scheme.specs.Program as scheme;
+ghost use Rattle.bql_compiler.specs.Program as scheme;
 ghost use Rattle.bql_types.specs.Gathered.{aggregate_in as aggregate_of};
 ghost use Rattle.bql_types.specs.Keys.{lent_trees};
 ghost use Rattle.limits.specs.declared.counts.TheConstants.{LONGEST_SECTION, MOST_ITEMS};
-ghost use Rattle.query_columns.specs.ColumnShape.{AreBounds};
+ghost use Rattle.query_rows.specs.ColumnShape.{AreBounds};
 
 use crate::cause::CompileCause;
 use crate::sections::Sections;

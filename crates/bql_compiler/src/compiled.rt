@@ -5,12 +5,12 @@ ghost use Rattle.bql_compiler.specs.Limits as rule;
 ghost use Rattle.bql_parser.specs.Answer.{query_of};
 ghost use Rattle.bql_plan.specs.Kept.{numbered_of};
 ghost use Rattle.bql_plan.specs.Plan.{plan};
-ghost use Rattle.bql_scheme.specs.Carried.{Carries};
-ghost use Rattle.bql_scheme.specs.Program as scheme;
+ghost use Rattle.bql_compiler.specs.Carried.{Carries};
+ghost use Rattle.bql_compiler.specs.Program as scheme;
 ghost use Rattle.limits.specs.declared.counts.TheConstants.{LONGEST_SECTION, MOST_ITEMS};
 ghost use Rattle.query_code.specs.ByteForm.{AllFit};
 ghost use Rattle.query_code.specs.QueryFile as query_file;
-ghost use Rattle.query_columns.specs.ColumnShape.{AreBounds};
+ghost use Rattle.query_rows.specs.ColumnShape.{AreBounds};
 ghost use Rattle.well_shaped.specs.Program.{IsWellShaped};
 
 use crate::cause::CompileCause;

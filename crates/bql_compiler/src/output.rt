@@ -6,7 +6,7 @@ ghost use Rattle.bql_compiler.specs.Output as rule;
 ghost use Rattle.bql_parser.specs.Answer.{query_of};
 ghost use Rattle.bql_parser.specs.View.{target_of};
 ghost use Rattle.bql_plan.specs.Kept.{numbered_of};
-ghost use Rattle.bql_scheme.specs.Program as scheme;
+ghost use Rattle.bql_compiler.specs.Program as scheme;
 ghost use Rattle.limits.specs.declared.counts.TheConstants.{LARGEST_QUERY, MOST_VALUES};
 ghost use Rattle.query_code.specs.ByteForm.{AllFit};
 ghost use Rattle.query_code.specs.TextForm as text_form;

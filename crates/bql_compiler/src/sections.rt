@@ -10,11 +10,11 @@ ghost use Rattle.bql_parser.specs.Answer.{query_of};
 ghost use Rattle.bql_parser.specs.View.{filter_of as asked_filter};
 ghost use Rattle.bql_plan.specs.Kept.{numbered_of};
 ghost use Rattle.bql_plan.specs.Plan.{plan};
-ghost use Rattle.bql_scheme.specs.Program as rule;
+ghost use Rattle.bql_compiler.specs.Program as rule;
 ghost use Rattle.bql_tree.specs.Tree.{tree_of};
 ghost use Rattle.bql_types.specs.Keys.{lent_trees};
 ghost use Rattle.limits.specs.declared.counts.TheConstants.{MOST_ITEMS};
-ghost use Rattle.query_columns.specs.ColumnShape.{AreBounds};
+ghost use Rattle.query_rows.specs.ColumnShape.{AreBounds};
 
 use bql_code::{Core, Load};
 use bql_lowering::{Scope, lower, lower_all};

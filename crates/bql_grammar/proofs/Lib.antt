@@ -12,4 +12,7 @@ pub mod AgainFacts
 pub mod AgainExpressions
 pub mod BeginningFacts
 pub mod BeginningExpressions
+pub mod MovingFacts
+pub mod LackingFacts
+pub mod ClauseFacts
 pub mod Examples

@@ -3,3 +3,9 @@ pub mod Expression
 pub mod Gives
 pub mod Nesting
 pub mod Beginning
+pub mod Clause
+pub mod Read
+pub mod Piece
+pub mod Grammar
+pub mod Stopping
+pub mod Whole

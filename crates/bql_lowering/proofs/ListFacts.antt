@@ -22,9 +22,9 @@ use Rattle.bql_tree.specs.declared.tree.Leaf.{Leaf}
 use Rattle.bql_tree.specs.declared.tree.Leaf.TheVariants as leaf
 use Rattle.bql_types.specs.Shaped.{beside, given, operand, ruled, shape_of, shapes_of}
 use Rattle.query_code.specs.QueryFile.{is_count}
-use Rattle.query_shapes.specs.declared.shape.Misfit.TheVariants as misfit
-use Rattle.query_shapes.specs.declared.shape.Shape.{Shape}
-use Rattle.query_shapes.specs.declared.shape.Shape.TheVariants as shape
+use Rattle.query_rows.specs.declared.shape.Misfit.TheVariants as misfit
+use Rattle.query_rows.specs.declared.shape.Shape.{Shape}
+use Rattle.query_rows.specs.declared.shape.Shape.TheVariants as shape
 use Rattle.query_values.specs.declared.decimal.Decimal.{Decimal}
 use Rattle.bql_lowering.specs.Listed.{HasShape, IsHeldWith, AreHeldWith, IsKind, IsListed}
 use Rattle.bql_lowering.specs.Kind.{first_kind, first_leaf}

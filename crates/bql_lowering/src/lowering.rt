@@ -8,7 +8,7 @@ ghost use Rattle.bql_lowering.specs.Lowered as rule;
 ghost use Rattle.bql_parser.specs.Small.{IsSmallTree, AreSmallTrees};
 ghost use Rattle.bql_tree.specs.Tree.{node, call_of, tree_of, trees_of};
 ghost use Rattle.bql_types.specs.Keys.{lent_trees};
-ghost use Rattle.query_columns.specs.ColumnShape.{AreBounds};
+ghost use Rattle.query_rows.specs.ColumnShape.{AreBounds};
 
 use crate::leaves::{nothing, of_leaf};
 use crate::lists::in_list;

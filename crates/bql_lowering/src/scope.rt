@@ -6,14 +6,14 @@ ghost use Rattle.bql_tree.specs.Tree.{tree_of};
 ghost use Rattle.bql_types.specs.Shaped.{shape_of};
 ghost use Rattle.bql_types.specs.Keys.{lent_trees};
 ghost use Rattle.bql_types.specs.Sought.{is_key};
-ghost use Rattle.query_columns.specs.ColumnShape.{AreBounds};
+ghost use Rattle.query_rows.specs.ColumnShape.{AreBounds};
 
 use bql_plan::shape_in;
 use bql_tree::{BinaryOperator, Expr};
 use bql_types::grouped::Key;
 use bql_types::same::same;
 use limits::Bounds;
-use query_shapes::Shape;
+use query_rows::Shape;
 use std::alloc::{AllocError, Global};
 
 /// The bounds by which expressions have their shapes, and what is there to be loaded besides the

@@ -8,9 +8,9 @@ use Rattle.std.specs.List.{AllByRecursion, list_any}
 use Rattle.std.specs.Prelude.{nat_le}
 use Rattle.std.specs.Ordering.{int_cmp, int_eq, is_lt}
 use Rattle.bean_base.specs.Decimal.{scaled}
-use Rattle.query_shapes.proofs.ShapeCases.{number_cases}
-use Rattle.query_shapes.specs.Shape.{LiesIn}
-use Rattle.query_shapes.specs.declared.shape.Shape.TheVariants as shape
+use Rattle.query_rows.proofs.ShapeCases.{number_cases}
+use Rattle.query_rows.specs.Shape.{LiesIn}
+use Rattle.query_rows.specs.declared.shape.Shape.TheVariants as shape
 use Rattle.query_values.proofs.EqualityFacts.{values_equiv}
 use Rattle.query_values.specs.Arithmetic.{aligned}
 use Rattle.query_values.specs.Equality.{same}

@@ -18,21 +18,21 @@ use Rattle.bql_tree.specs.declared.tree.Leaf.{Leaf}
 use Rattle.bql_tree.specs.declared.tree.Leaf.TheVariants as leaf
 use Rattle.bql_tree.specs.declared.tree.UnaryOperator.{UnaryOperator}
 use Rattle.bql_tree.specs.declared.tree.UnaryOperator.TheVariants as unary
-use Rattle.query_columns.proofs.NumberFacts.{second_has_all}
-use Rattle.query_columns.specs.Column.{is_in}
-use Rattle.query_columns.specs.ColumnShape.{column_shape}
-use Rattle.query_columns.specs.declared.column.Column.{Column}
-use Rattle.query_columns.specs.declared.column.Column.TheVariants as column
-use Rattle.query_shapes.proofs.GatheringFacts.{gathers_rise}
-use Rattle.query_shapes.proofs.RisingFacts.{unary_rises, binary_rises}
-use Rattle.query_shapes.proofs.OrderFacts.{reflexive, OfPairs, below_cases}
-use Rattle.query_shapes.specs.Keeping.{Under}
-use Rattle.query_shapes.specs.Rules as machine
-use Rattle.query_shapes.specs.Rules.{Ruled}
-use Rattle.query_shapes.specs.Shape.{IsBelow}
-use Rattle.query_shapes.specs.declared.shape.Misfit.TheVariants.{Kind, TooWide}
-use Rattle.query_shapes.specs.declared.shape.Shape.{Shape}
-use Rattle.query_shapes.specs.declared.shape.Shape.TheVariants as shape
+use Rattle.query_rows.proofs.NumberFacts.{second_has_all}
+use Rattle.query_rows.specs.Column.{is_in}
+use Rattle.query_rows.specs.ColumnShape.{column_shape}
+use Rattle.query_rows.specs.declared.column.Column.{Column}
+use Rattle.query_rows.specs.declared.column.Column.TheVariants as column
+use Rattle.query_rows.proofs.GatheringFacts.{gathers_rise}
+use Rattle.query_rows.proofs.RisingFacts.{unary_rises, binary_rises}
+use Rattle.query_rows.proofs.OrderFacts.{reflexive, OfPairs, below_cases}
+use Rattle.query_rows.specs.Keeping.{Under}
+use Rattle.query_rows.specs.Rules as machine
+use Rattle.query_rows.specs.Rules.{Ruled}
+use Rattle.query_rows.specs.Shape.{IsBelow}
+use Rattle.query_rows.specs.declared.shape.Misfit.TheVariants.{Kind, TooWide}
+use Rattle.query_rows.specs.declared.shape.Shape.{Shape}
+use Rattle.query_rows.specs.declared.shape.Shape.TheVariants as shape
 use Rattle.query_values.specs.Unary as operation
 use Rattle.query_values.specs.declared.operation.Aggregate.{Aggregate}
 use Rattle.query_values.specs.declared.operation.Aggregate.TheVariants as aggregate

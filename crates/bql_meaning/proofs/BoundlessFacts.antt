@@ -11,9 +11,9 @@ use Rattle.bql_tree.specs.declared.tree.Leaf.TheVariants as leaf
 use Rattle.bql_types.specs.Shaped.{shape_of, shapes_of, ruled, given, rule, is_equation, beside}
 use Rattle.bql_types.specs.Shaped.{operand, is_null}
 use Rattle.bql_types.specs.Sought.{is_aggregate}
-use Rattle.query_shapes.proofs.OrderFacts.{reflexive}
-use Rattle.query_shapes.specs.Shape.{IsBelow}
-use Rattle.query_shapes.specs.declared.shape.Shape.{Shape}
+use Rattle.query_rows.proofs.OrderFacts.{reflexive}
+use Rattle.query_rows.specs.Shape.{IsBelow}
+use Rattle.query_rows.specs.declared.shape.Shape.{Shape}
 use Rattle.query_values.specs.Aggregate.{aggregate_of}
 use Rattle.bql_meaning.specs.Meaning.{value_of, values_of, applied, input_of}
 use Rattle.bql_types.specs.Gathered.{aggregate_by, summing, of_call}

@@ -4,18 +4,18 @@ use Rattle.std.proofs.Common.{filter}
 use Rattle.std.proofs.Common.{Some, Ok, Err, refl, ap, cond, arith}
 use Rattle.std.specs.List.{AllByRecursion}
 use Rattle.limits.specs.declared.bounds.Bounds.{Bounds}
-use Rattle.bql_clauses.specs.Clause.{Filters}
+use Rattle.bql_grammar.specs.Clause.{Filters}
 use Rattle.bql_tree.specs.Tree.{Tree}
 use Rattle.query_rows.specs.Row.{Row}
-use Rattle.query_columns.proofs.BoundFacts.{column_is_held}
-use Rattle.query_columns.specs.ColumnShape.{AreBounds, column_shape}
-use Rattle.query_columns.specs.declared.column.Column.TheVariants as column
-use Rattle.query_shapes.proofs.GatheringFacts.{on_values}
-use Rattle.query_shapes.specs.Keeping.{AllIn}
-use Rattle.query_shapes.specs.Rules.{aggregate_shape}
-use Rattle.query_shapes.specs.Shape.{LiesIn, fitting, is_held}
-use Rattle.query_shapes.specs.declared.shape.Misfit.TheVariants.{TooWide}
-use Rattle.query_shapes.specs.declared.shape.Shape.{Shape}
+use Rattle.query_rows.proofs.BoundFacts.{column_is_held}
+use Rattle.query_rows.specs.ColumnShape.{AreBounds, column_shape}
+use Rattle.query_rows.specs.declared.column.Column.TheVariants as column
+use Rattle.query_rows.proofs.GatheringFacts.{on_values}
+use Rattle.query_rows.specs.Keeping.{AllIn}
+use Rattle.query_rows.specs.Rules.{aggregate_shape}
+use Rattle.query_rows.specs.Shape.{LiesIn, fitting, is_held}
+use Rattle.query_rows.specs.declared.shape.Misfit.TheVariants.{TooWide}
+use Rattle.query_rows.specs.declared.shape.Shape.{Shape}
 use Rattle.query_values.specs.Aggregate.{aggregate_of}
 use Rattle.query_values.specs.declared.operation.Aggregate.TheVariants.{SumInventory}
 use Rattle.query_values.specs.declared.value.Value.{Value}

@@ -25,7 +25,7 @@ use Rattle.bql_types.specs.Same.{same_truth}
 use Rattle.bql_types.specs.Shaped.{shape_of, shapes_of, ruled, given, beside, operand, is_null}
 use Rattle.bql_types.specs.Shaped.{is_equation}
 use Rattle.bql_types.specs.Sought.{is_aggregate}
-use Rattle.query_columns.specs.contracts.column.Column as columns
+use Rattle.query_rows.specs.contracts.column.Column as columns
 use Rattle.query_values.specs.Aggregate.{aggregate_of}
 use Rattle.query_values.specs.declared.decimal.Decimal.{Decimal}
 use Rattle.bql_meaning.specs.Bare.{bare, all_bare}

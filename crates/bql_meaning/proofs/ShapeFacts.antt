@@ -15,16 +15,16 @@ use Rattle.bql_tree.specs.declared.tree.UnaryOperator.{UnaryOperator}
 use Rattle.bql_tree.specs.declared.tree.UnaryOperator.TheVariants as unary
 use Rattle.bql_types.specs.Sought.{is_aggregate_function}
 use Rattle.std.specs.List.{list_all}
-use Rattle.query_shapes.proofs.BinaryFacts.{binary_keeps}
-use Rattle.query_shapes.proofs.GatheringFacts.{on_values}
-use Rattle.query_shapes.proofs.UnaryFacts.{unary_keeps}
-use Rattle.query_shapes.specs.Keeping.{Has, AllIn}
-use Rattle.query_shapes.specs.Rules as machine
-use Rattle.query_shapes.specs.Rules.{Ruled}
-use Rattle.query_shapes.specs.Shape.{LiesIn}
-use Rattle.query_shapes.specs.declared.shape.Misfit.TheVariants.{Kind, TooWide}
-use Rattle.query_shapes.specs.declared.shape.Shape.{Shape}
-use Rattle.query_shapes.specs.declared.shape.Shape.TheVariants as shape
+use Rattle.query_rows.proofs.BinaryFacts.{binary_keeps}
+use Rattle.query_rows.proofs.GatheringFacts.{on_values}
+use Rattle.query_rows.proofs.UnaryFacts.{unary_keeps}
+use Rattle.query_rows.specs.Keeping.{Has, AllIn}
+use Rattle.query_rows.specs.Rules as machine
+use Rattle.query_rows.specs.Rules.{Ruled}
+use Rattle.query_rows.specs.Shape.{LiesIn}
+use Rattle.query_rows.specs.declared.shape.Misfit.TheVariants.{Kind, TooWide}
+use Rattle.query_rows.specs.declared.shape.Shape.{Shape}
+use Rattle.query_rows.specs.declared.shape.Shape.TheVariants as shape
 use Rattle.query_values.specs.Aggregate.{aggregate_of}
 use Rattle.query_values.specs.Arithmetic.{aligned}
 use Rattle.query_values.specs.Held.{is_held, checked}

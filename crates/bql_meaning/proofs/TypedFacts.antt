@@ -34,7 +34,7 @@ use Rattle.bql_types.specs.Typing.{row_causes, plain_target}
 use Rattle.bql_types.specs.Typing.{named_group_causes, group_causes_by, key_by}
 use Rattle.bql_types.specs.Typing.{tree_of_found, key_of, causes}
 use Rattle.bql_types.specs.declared.cause.TypeCause.{TypeCause}
-use Rattle.query_shapes.specs.declared.shape.Shape.{Shape}
+use Rattle.query_rows.specs.declared.shape.Shape.{Shape}
 use Rattle.bql_meaning.specs.Keys.{IsTypedKey}
 use Rattle.bql_meaning.proofs.BoundlessFacts.{null_part, shaped_part}
 use Rattle.bql_meaning.proofs.ValueFacts.{first_shape, FromParts, from_parts}

@@ -20,18 +20,18 @@ use Rattle.bql_tree.specs.declared.tree.Leaf.TheVariants as leaf
 use Rattle.bql_types.specs.Shaped.{shape_of, shapes_of, ruled, given, rule, is_equation, beside}
 use Rattle.bql_types.specs.Shaped.{operand, is_equality, beside_null}
 use Rattle.bql_types.specs.Sought.{is_aggregate, is_aggregate_function}
-use Rattle.query_columns.specs.Column.{is_in}
-use Rattle.query_columns.specs.ColumnShape.{column_shape}
-use Rattle.query_columns.specs.declared.column.Column.{Column}
-use Rattle.query_columns.specs.declared.column.Column.TheVariants as column
+use Rattle.query_rows.specs.Column.{is_in}
+use Rattle.query_rows.specs.ColumnShape.{column_shape}
+use Rattle.query_rows.specs.declared.column.Column.{Column}
+use Rattle.query_rows.specs.declared.column.Column.TheVariants as column
 use Rattle.query_rows.proofs.ShapedFacts.{texts_lie}
 use Rattle.query_rows.specs.Row.{Row}
 use Rattle.query_rows.specs.Shaped.{IsShaped}
-use Rattle.query_shapes.specs.Keeping.{AllIn}
-use Rattle.query_shapes.specs.Rules.{Ruled}
-use Rattle.query_shapes.specs.Shape.{LiesIn}
-use Rattle.query_shapes.specs.declared.shape.Shape.{Shape}
-use Rattle.query_shapes.specs.declared.shape.Shape.TheVariants as shape
+use Rattle.query_rows.specs.Keeping.{AllIn}
+use Rattle.query_rows.specs.Rules.{Ruled}
+use Rattle.query_rows.specs.Shape.{LiesIn}
+use Rattle.query_rows.specs.declared.shape.Shape.{Shape}
+use Rattle.query_rows.specs.declared.shape.Shape.TheVariants as shape
 use Rattle.query_values.specs.Aggregate.{aggregate_of}
 use Rattle.query_values.specs.Equality.{same}
 use Rattle.query_values.specs.declared.operation.Aggregate.TheVariants.{CountRows}

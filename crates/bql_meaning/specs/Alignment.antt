@@ -2,8 +2,8 @@
 -- is said of it where expressions are given their values.
 use Rattle.std.specs.Prelude.{◌≡◌, ℕ, max, Bool, true, false, List, map}
 use Rattle.std.specs.List.{AllByRecursion}
-use Rattle.query_shapes.specs.Shape.{LiesIn}
-use Rattle.query_shapes.specs.declared.shape.Shape.TheVariants.{Number}
+use Rattle.query_rows.specs.Shape.{LiesIn}
+use Rattle.query_rows.specs.declared.shape.Shape.TheVariants.{Number}
 use Rattle.query_values.specs.Arithmetic.{aligned}
 use Rattle.query_values.specs.Operand.{has_at_most}
 use Rattle.query_values.specs.Operation.{unary_value, binary_value}

@@ -2,14 +2,14 @@
 use Rattle.std.specs.Prelude.{ℕ, Bool, true, ◌&&◌, List, [], ◌∷◌, ◌++◌, map, filter, Option, Some}
 use Rattle.std.specs.Prelude.{None, slice_get, if◌then◌else◌}
 use Rattle.limits.specs.declared.bounds.Bounds.{Bounds}
-use Rattle.bql_clauses.specs.Clause as clause
+use Rattle.bql_grammar.specs.Clause as clause
 use Rattle.bql_parser.specs.Asked.{Asked, Target, Item, ItemKind, target_item, tree_item}
 use Rattle.bql_tree.specs.Tree.{Tree}
 use Rattle.bql_types.specs.Typing.{Grouping, grouping_of}
 use Rattle.query_rows.specs.FinalRows.{Ranked, Finish, IsFinal}
 use Rattle.query_rows.specs.Grouping.{groups_of}
 use Rattle.query_rows.specs.Row.{Row}
-use Rattle.query_columns.specs.declared.column.Column.TheVariants as column
+use Rattle.query_rows.specs.declared.column.Column.TheVariants as column
 use Rattle.query_values.specs.Aggregate.{aggregate_of}
 use Rattle.query_values.specs.Operation.{is_true}
 use Rattle.query_values.specs.declared.operation.Aggregate.TheVariants.{SumInventory}

@@ -10,7 +10,7 @@ use Rattle.bql_types.specs.Shaped.{shape_of}
 use Rattle.bql_types.specs.Sought.{aggregates}
 use Rattle.query_rows.specs.Grouping.{distinct_keys, members_of}
 use Rattle.query_rows.specs.Same.{same_values}
-use Rattle.query_shapes.specs.declared.shape.Shape.{Shape}
+use Rattle.query_rows.specs.declared.shape.Shape.{Shape}
 use Rattle.query_values.specs.declared.value.Value.{Value}
 use Rattle.bql_meaning.specs.Answer.{keys_at}
 use Rattle.bql_meaning.specs.Meaning.{value_of}

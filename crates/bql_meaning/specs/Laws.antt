@@ -12,7 +12,7 @@ use Rattle.bql_types.specs.Same.{same}
 use Rattle.bql_types.specs.Typing.{IsTyped}
 use Rattle.bql_types.specs.Shaped.{shape_of}
 use Rattle.query_rows.specs.Row.{Row}
-use Rattle.query_shapes.specs.declared.shape.Shape.{Shape}
+use Rattle.query_rows.specs.declared.shape.Shape.{Shape}
 use Rattle.query_values.specs.declared.value.Value.{Value}
 use Rattle.bql_meaning.specs.Answer.{IsAnswer, rows_of}
 use Rattle.bql_meaning.specs.Bare.{bare}

@@ -2,16 +2,16 @@
 use Rattle.std.specs.Prelude.{◌≡◌, ◌≤◌, ℕ, List, length, Some}
 use Rattle.std.specs.List.{AllByRecursion}
 use Rattle.limits.specs.declared.bounds.Bounds.{Bounds}
-use Rattle.bql_clauses.specs.Clause.{Filters}
+use Rattle.bql_grammar.specs.Clause.{Filters}
 use Rattle.bql_tree.specs.Tree.{Operation, leaf_of, Tree, node, Trees, no_trees, trees}
 use Rattle.bql_tree.specs.declared.tree.Leaf.TheVariants as leaf
 use Rattle.bql_types.specs.Shaped.{shape_of}
 use Rattle.query_rows.specs.Row.{Row}
 use Rattle.query_rows.specs.Shaped.{IsShaped}
-use Rattle.query_columns.specs.ColumnShape.{AreBounds, column_shape}
-use Rattle.query_columns.specs.declared.column.Column.TheVariants.{Balance}
-use Rattle.query_shapes.specs.Shape.{LiesIn, IsShort}
-use Rattle.query_shapes.specs.declared.shape.Shape.{Shape}
+use Rattle.query_rows.specs.ColumnShape.{AreBounds, column_shape}
+use Rattle.query_rows.specs.declared.column.Column.TheVariants.{Balance}
+use Rattle.query_rows.specs.Shape.{LiesIn, IsShort}
+use Rattle.query_rows.specs.declared.shape.Shape.{Shape}
 use Rattle.bql_meaning.specs.Answer.{passing}
 use Rattle.bql_meaning.specs.Meaning.{value_of}
 use Rattle.bql_meaning.specs.Reading.{Reading}

@@ -10,10 +10,10 @@ use Rattle.bql_lexer.specs.declared.found.Found.{Found}
 use Rattle.bql_lexer.specs.declared.kind.Kind.{Kind}
 use Rattle.bql_lexer.specs.declared.token.Token.{Token}
 use Rattle.bql_tree.specs.Cause.{outside_profile}
-use Rattle.bql_clauses.specs.Grammar.{query}
+use Rattle.bql_grammar.specs.Grammar.{query}
 use Rattle.bql_parser.specs.Parse.{IsQuery, IsOutside, Stops, StopsAt, Meets, is_left}
 use Rattle.bql_parser.specs.declared.cause.QueryCause.TheVariants as cause
-use Rattle.bql_clauses.specs.Read.{Read}
+use Rattle.bql_grammar.specs.Read.{Read}
 
 abbrev token_of : List ℕ → ℕ → ℕ → Kind → Token
 token_of text start end kind = record { text = text; start = start; end = end; kind = kind }

@@ -2,7 +2,7 @@
 use Rattle.std.proofs.Common.{ℕ, Bool, true, false, List, [], Option, Some, None}
 use Rattle.std.proofs.Common.{IfSome, arith}
 use Rattle.theory.specs.Form.{Form, made}
-use Rattle.query_columns.specs.declared.column.Column.TheVariants as column
+use Rattle.query_rows.specs.declared.column.Column.TheVariants as column
 use Rattle.bql_lexer.specs.declared.kind.Kind.{Kind}
 use Rattle.bql_lexer.specs.declared.kind.Kind.TheVariants as kind
 use Rattle.bql_lexer.specs.declared.token.Token.{Token}
@@ -12,11 +12,11 @@ use Rattle.bql_tree.specs.declared.function.Scope.TheVariants.{Transactions, Pos
 use Rattle.bql_tree.specs.declared.tree.Leaf.TheVariants as leaf
 use Rattle.bql_grammar.specs.Expression.{told, token, then, expression}
 use Rattle.bql_grammar.specs.Front.{begins, of_kind}
-use Rattle.bql_clauses.specs.Clause as clause
-use Rattle.bql_clauses.specs.Clause.{selecting, journaling, balancing}
-use Rattle.bql_clauses.specs.Grammar as rules
-use Rattle.bql_clauses.specs.Piece.{piece, whole}
-use Rattle.bql_clauses.specs.Read.{Target, Read}
+use Rattle.bql_grammar.specs.Clause as clause
+use Rattle.bql_grammar.specs.Clause.{selecting, journaling, balancing}
+use Rattle.bql_grammar.specs.Grammar as rules
+use Rattle.bql_grammar.specs.Piece.{piece, whole}
+use Rattle.bql_grammar.specs.Read.{Target, Read}
 use Rattle.bql_parser.specs.Small.{IsShort}
 use Rattle.bql_parser.proofs.SmallTokens.{IsShortToken, piece_short}
 use Rattle.bql_parser.proofs.SmallForms.{Keeps, Any, AreSome, keeps_any, keeps_token, keeps_made}

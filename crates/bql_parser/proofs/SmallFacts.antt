@@ -17,14 +17,14 @@ use Rattle.bql_tree.specs.Tree.{Tree}
 use Rattle.bql_tree.specs.declared.cause.PartCause.{PartCause}
 use Rattle.bql_tree.specs.declared.part.Alone.{Alone}
 use Rattle.bql_tree.specs.declared.part.Alone.TheVariants.{No, Name, Number}
-use Rattle.query_columns.specs.declared.column.Column.{Column}
-use Rattle.query_columns.specs.declared.column.Column.TheVariants as column
+use Rattle.query_rows.specs.declared.column.Column.{Column}
+use Rattle.query_rows.specs.declared.column.Column.TheVariants as column
 use Rattle.bql_parser.specs.Asked.{Asked, Target, Item, ItemKind, target_item, tree_item}
-use Rattle.bql_clauses.specs.Clause as clause
-use Rattle.bql_clauses.specs.Clause.{selecting, journaling, balancing}
-use Rattle.bql_clauses.specs.Grammar.{query}
-use Rattle.bql_clauses.specs.Read as read
-use Rattle.bql_clauses.specs.Read.{Read}
+use Rattle.bql_grammar.specs.Clause as clause
+use Rattle.bql_grammar.specs.Clause.{selecting, journaling, balancing}
+use Rattle.bql_grammar.specs.Grammar.{query}
+use Rattle.bql_grammar.specs.Read as read
+use Rattle.bql_grammar.specs.Read.{Read}
 use Rattle.bql_parser.specs.Settled as settled
 use Rattle.bql_parser.specs.Settled.{mapped, pushed, refused_at, byte_beyond}
 use Rattle.bql_parser.specs.Small.{IsShort, IsSmallTree, IsSmallTarget, IsSmallKind, IsSmallItem}

@@ -18,7 +18,7 @@ use Rattle.bql_lexer.specs.declared.kind.Kind.{Kind}
 use Rattle.bql_lexer.specs.declared.kind.Kind.TheVariants as kinds
 use Rattle.bql_lexer.specs.declared.token.Token.{Token}
 use Rattle.bql_lexer.proofs.TokenFacts.{token_shortens}
-use Rattle.bql_clauses.specs.Piece.{piece, is_cut}
+use Rattle.bql_grammar.specs.Piece.{piece, is_cut}
 use Rattle.bql_parser.specs.Small.{IsShort}
 
 abbrev pub IsShortToken : Token → Type 0

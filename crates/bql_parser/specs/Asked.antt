@@ -1,6 +1,6 @@
 -- What a query asks: a SELECT, as it is written or as a JOURNAL or a BALANCES stands for it.
 use Rattle.std.specs.Prelude.{ℕ, List}
-use Rattle.bql_clauses.specs.Clause as clause
+use Rattle.bql_grammar.specs.Clause as clause
 use Rattle.bql_tree.specs.Tree.{Tree}
 
 pub record Target : Type 0 where

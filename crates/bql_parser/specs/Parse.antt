@@ -18,8 +18,8 @@ use Rattle.refusals.specs.declared.refusal.Refusal.{Refusal}
 use Rattle.refusals.specs.declared.refusal.Refusal.TheVariants as refusal
 use Rattle.bql_parser.specs.Answer.{query_of}
 use Rattle.bql_parser.specs.Asked.{Asked}
-use Rattle.bql_clauses.specs.Grammar.{query}
-use Rattle.bql_clauses.specs.Read.{Read}
+use Rattle.bql_grammar.specs.Grammar.{query}
+use Rattle.bql_grammar.specs.Read.{Read}
 use Rattle.bql_parser.specs.Settled.{answer}
 use Rattle.bql_parser.specs.declared.cause.QueryCause.{QueryCause}
 use Rattle.bql_parser.specs.declared.cause.QueryCause.TheVariants as cause

@@ -17,12 +17,12 @@ use Rattle.bql_tree.specs.declared.part.Alone.{Alone}
 use Rattle.bql_tree.specs.declared.part.Alone.TheVariants.{No, Name, Number}
 use Rattle.bql_tree.specs.declared.tree.Leaf.TheVariants as leaf
 use Rattle.bql_parser.specs.Asked.{Asked, Target, Item, ItemKind, target_item, tree_item}
-use Rattle.bql_clauses.specs.Clause as clause
-use Rattle.bql_clauses.specs.Clause.{selecting, journaling, balancing}
-use Rattle.bql_clauses.specs.Read.{Read}
-use Rattle.bql_clauses.specs.Read as read
+use Rattle.bql_grammar.specs.Clause as clause
+use Rattle.bql_grammar.specs.Clause.{selecting, journaling, balancing}
+use Rattle.bql_grammar.specs.Read.{Read}
+use Rattle.bql_grammar.specs.Read as read
 use Rattle.bql_parser.specs.Standing as standing
-use Rattle.bql_clauses.specs.declared.clauses.NameRead.{NameRead}
+use Rattle.bql_grammar.specs.declared.clauses.NameRead.{NameRead}
 use Rattle.bql_parser.specs.declared.standing.Valuation.{Valuation}
 use Rattle.bql_parser.specs.declared.standing.Valuation.TheVariants as valuation
 

@@ -2,13 +2,13 @@
 -- first byte.
 use Rattle.std.specs.Prelude.{ℕ, false, List, [], ◌∷◌, ◌++◌, codes, Option, Some, None}
 use Rattle.bql_parser.specs.Asked.{Asked, Target, Item, ItemKind, target_item, tree_item}
-use Rattle.bql_clauses.specs.Clause as clause
+use Rattle.bql_grammar.specs.Clause as clause
 use Rattle.bql_parser.specs.declared.standing.Valuation.{Valuation}
 use Rattle.bql_parser.specs.declared.standing.Valuation.TheVariants as valuation
-use Rattle.query_columns.specs.Column.{name}
+use Rattle.query_rows.specs.Column.{name}
 use Rattle.bql_tree.specs.Tree.{leaf_of, one_of, call_of, Tree, node, no_trees, trees}
-use Rattle.query_columns.specs.declared.column.Column.{Column}
-use Rattle.query_columns.specs.declared.column.Column.TheVariants as column
+use Rattle.query_rows.specs.declared.column.Column.{Column}
+use Rattle.query_rows.specs.declared.column.Column.TheVariants as column
 use Rattle.bql_tree.specs.declared.function.Function.{Function}
 use Rattle.bql_tree.specs.declared.function.Function.TheVariants as function
 use Rattle.bql_tree.specs.declared.tree.Leaf.TheVariants as leaf

@@ -5,7 +5,7 @@ use Rattle.bql_tree.specs.Tree.{Tree, tree_of}
 use Rattle.bql_tree.specs.declared.tree.Expr.{Expr}
 use Rattle.bql_parser.specs.Asked as asked
 use Rattle.bql_parser.specs.Asked.{Asked, target_item, tree_item}
-use Rattle.bql_clauses.specs.Clause as clause
+use Rattle.bql_grammar.specs.Clause as clause
 use Rattle.bql_parser.specs.declared.query.Draft.{Draft}
 use Rattle.bql_parser.specs.declared.query.Filters.{Filters}
 use Rattle.bql_parser.specs.declared.query.Item.{Item}

@@ -1,6 +1,6 @@
 //! Queries of clauses, or the least causes for which they are refused.
 ghost use Rattle.std.specs.Prelude.{◌≡◌, IfOk};
-ghost use Rattle.bql_clauses.specs.Read as views;
+ghost use Rattle.bql_grammar.specs.Read as views;
 ghost use Rattle.bql_parser.specs.Settled as rule;
 ghost use Rattle.bql_parser.specs.View.{draft_of};
 
@@ -8,7 +8,7 @@ use crate::query::Draft;
 use crate::settling::{filter, filters, group, order, targets};
 use crate::standing;
 use crate::standing::Valuation;
-use bql_clauses::clauses::{BalancesRead, JournalRead, NameRead, QueryRead, SelectRead};
+use bql_grammar::clauses::{BalancesRead, JournalRead, NameRead, QueryRead, SelectRead};
 use bql_tree::PartCause;
 use bql_tree::cause::both;
 use bql_tree::function::is_left_out;

@@ -5,7 +5,7 @@ ghost use Rattle.bql_tree.specs.Cause.{outside_profile};
 ghost use Rattle.bql_parser.specs.Kept.{QueriesAreSmall};
 ghost use Rattle.bql_parser.specs.Parse.{IsQuery, IsOutside, StopsAt};
 ghost use Rattle.bql_parser.specs.declared.cause.QueryCause.TheVariants as cause;
-ghost use Rattle.bql_clauses.specs.Read.{Read};
+ghost use Rattle.bql_grammar.specs.Read.{Read};
 
 /// A text is a query of the grammar in one way, or it is outside the grammar; and where it stops
 /// then, that is Q1 or Q3, but not both.

@@ -13,7 +13,7 @@ use crate::asking::settled;
 use crate::cause::QueryCause;
 use crate::query::{Draft, Query};
 use crate::settling::refused_at;
-use bql_clauses::query;
+use bql_grammar::query;
 use bql_grammar::Stuck;
 use bql_lexer::{Kind, Token, tokens};
 use bql_tree::PartCause;

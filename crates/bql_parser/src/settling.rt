@@ -5,12 +5,12 @@ ghost use Rattle.limits.specs.declared.counts.TheConstants.{MOST_ITEMS};
 ghost use Rattle.bean_base.specs.Numeral.{is_point};
 ghost use Rattle.bql_tree.specs.Part.{part_of, parts_in, parts_of, tree_found};
 ghost use Rattle.bql_tree.specs.Tree.{tree_of};
-ghost use Rattle.bql_clauses.specs.Read as views;
+ghost use Rattle.bql_grammar.specs.Read as views;
 ghost use Rattle.bql_parser.specs.Settled as rule;
 ghost use Rattle.bql_parser.specs.View as view;
 
 use crate::query::{Filters, Item, ItemKind, Order, Target};
-use bql_clauses::clauses::{FiltersRead, OrderRead, TargetRead};
+use bql_grammar::clauses::{FiltersRead, OrderRead, TargetRead};
 use bql_tree::cause::both;
 use bql_tree::part::not_null;
 use bql_tree::{Alone, Expr, Leaf, Part, PartCause};

@@ -5,7 +5,7 @@ use Rattle.std.specs.Prelude.{Vec}
 use Rattle.std.specs.declared.alloc.Global.{Global}
 use Rattle.limits.specs.declared.bounds.Bounds.{Bounds}
 use Rattle.bql_tree.specs.Tree.{Tree, node, Trees, no_trees, trees}
-use Rattle.query_shapes.specs.declared.shape.Shape.{Shape}
+use Rattle.query_rows.specs.declared.shape.Shape.{Shape}
 use Rattle.bql_plan.specs.Labels.{Label, Labels, label, labels, no_labels, labelled, all_labelled}
 use Rattle.bql_plan.specs.Labels.{label_of, row_labels, labels_of, root, all_roots}
 use Rattle.bql_types.specs.Shaped.{shape_of, shapes_of, beside, operand}

@@ -2,7 +2,7 @@
 use Rattle.std.specs.Prelude.{ℕ, false, List, [], ◌∷◌, Option, Some}
 use Rattle.limits.specs.declared.bounds.Bounds.{Bounds}
 use Rattle.bql_tree.specs.Tree.{Tree, node, Trees, no_trees, trees}
-use Rattle.query_shapes.specs.declared.shape.Shape.{Shape}
+use Rattle.query_rows.specs.declared.shape.Shape.{Shape}
 use Rattle.bql_types.specs.Shaped.{shape_of, beside, operand}
 use Rattle.bql_plan.specs.declared.labels.Shapes.{Shapes, Shapes', Row_of-Shapes, end_of-Shapes}
 use Rattle.bql_plan.specs.declared.labels.Shapes.{more_of-Shapes}

@@ -8,7 +8,7 @@ use Rattle.bql_plan.specs.Labels.{Label, Labels, label, labels, no_labels, label
 use Rattle.bql_plan.specs.Plan.{own_trees}
 use Rattle.bql_plan.specs.Planned.{Shaped, Gathered, Plan}
 use Rattle.bql_tree.specs.Tree.{Tree, node, Trees, trees, no_trees}
-use Rattle.query_shapes.specs.declared.shape.Shape.{Shape}
+use Rattle.query_rows.specs.declared.shape.Shape.{Shape}
 use Rattle.bql_types.specs.Shaped.{is_equation, is_null}
 use Rattle.bql_types.specs.Typing.{IsTyped, target_tree}
 

@@ -4,13 +4,13 @@ ghost use Rattle.bql_tree.specs.Tree.{tree_of, trees_of};
 ghost use Rattle.bql_plan.specs.Labels as label;
 ghost use Rattle.bql_types.specs.Shaped as rule;
 ghost use Rattle.bql_types.specs.Seen as seen_rule;
-ghost use Rattle.query_columns.specs.ColumnShape.{AreBounds};
+ghost use Rattle.query_rows.specs.ColumnShape.{AreBounds};
 
 use bql_rules::leaf_shape;
 use bql_tree::{BinaryOperator, Expr};
 use bql_types::shaped::{Operand, before, between, called, is_equality, is_null, one_more};
 use limits::Bounds;
-use query_shapes::{Misfit, Shape};
+use query_rows::{Misfit, Shape};
 use std::alloc::{AllocError, Global};
 
 /// The shape of an expression, if it has one, and those of its parts, in their order.

@@ -8,7 +8,7 @@ ghost use Rattle.bql_plan.specs.Plan.{plan};
 ghost use Rattle.bql_plan.specs.Planned as rule;
 ghost use Rattle.bql_plan.specs.Whole.{IsWholePlan};
 ghost use Rattle.bql_types.specs.Keys.{lent_tree, lent_trees};
-ghost use Rattle.query_columns.specs.ColumnShape.{AreBounds};
+ghost use Rattle.query_rows.specs.ColumnShape.{AreBounds};
 
 use crate::exprs::{aggregates, first_part, order, targets_shown, with_items};
 use crate::labels::{Shapes, shapes_of};

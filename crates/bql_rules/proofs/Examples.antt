@@ -2,15 +2,15 @@
 use Rattle.std.proofs.Common.{◌≡◌, ◌^◌, ◌-◌, ◌*◌, ◌+◌, [], ◌∷◌, Ok, Err, refl}
 use Rattle.limits.specs.declared.bounds.Bounds.{Bounds}
 use Rattle.limits.specs.declared.bounds.Version.TheVariants.{First}
-use Rattle.query_columns.specs.declared.column.Column.TheVariants as column
+use Rattle.query_rows.specs.declared.column.Column.TheVariants as column
 use Rattle.bql_tree.specs.declared.function.Function.TheVariants.{Cost, Sum, OneOf, Units}
 use Rattle.bql_tree.specs.declared.tree.BinaryOperator.TheVariants.{Times, Plus}
-use Rattle.query_shapes.specs.declared.shape.Misfit.TheVariants.{Kind, TooWide}
-use Rattle.query_shapes.specs.declared.shape.Shape.{Shape}
-use Rattle.query_shapes.specs.declared.shape.Shape.TheVariants.{Truth, Text, Number}
-use Rattle.query_shapes.specs.declared.shape.Shape.TheVariants.{Inventory}
+use Rattle.query_rows.specs.declared.shape.Misfit.TheVariants.{Kind, TooWide}
+use Rattle.query_rows.specs.declared.shape.Shape.{Shape}
+use Rattle.query_rows.specs.declared.shape.Shape.TheVariants.{Truth, Text, Number}
+use Rattle.query_rows.specs.declared.shape.Shape.TheVariants.{Inventory}
 use Rattle.bql_rules.specs.Rules.{binary_shape, call_shape}
-use Rattle.query_columns.specs.ColumnShape.{column_shape}
+use Rattle.query_rows.specs.ColumnShape.{column_shape}
 
 abbrev widest : Bounds
 widest = record { schema = First; postings = 1000000; units_digits = 20; value_digits = 28 }

@@ -2,7 +2,7 @@
 use Rattle.std.proofs.Common.{◌≡◌, suc, ◌-◌, ◌≤◌, List, [], ◌∷◌, length, take, drop, arith, ap}
 use Rattle.std.proofs.lemmas.List.{take_all}
 use Rattle.std.specs.List.{slice_index_or}
-use Rattle.query_shapes.specs.declared.shape.Shape.{Shape}
+use Rattle.query_rows.specs.declared.shape.Shape.{Shape}
 use Rattle.bql_rules.specs.Rules.{listed, one_of}
 
 pub first_and_others : (ss : List Shape) (d : Shape) → 1 ≤ length ss

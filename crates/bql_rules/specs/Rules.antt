@@ -13,14 +13,14 @@ use Rattle.bql_tree.specs.declared.tree.Leaf.{Leaf}
 use Rattle.bql_tree.specs.declared.tree.Leaf.TheVariants as leaf
 use Rattle.bql_tree.specs.declared.tree.UnaryOperator.{UnaryOperator}
 use Rattle.bql_tree.specs.declared.tree.UnaryOperator.TheVariants as unary
-use Rattle.query_columns.specs.Column.{is_in}
-use Rattle.query_columns.specs.ColumnShape.{column_shape}
-use Rattle.query_shapes.specs.Rules as machine
-use Rattle.query_shapes.specs.Rules.{Ruled}
-use Rattle.query_shapes.specs.declared.shape.Misfit.TheVariants.{Kind, TooWide}
-use Rattle.query_shapes.specs.declared.shape.Shape.{Shape}
-use Rattle.query_shapes.specs.declared.shape.Shape.TheVariants.{Truth, Text, Day, Number}
-use Rattle.query_shapes.specs.declared.shape.Shape.TheVariants.{Amount}
+use Rattle.query_rows.specs.Column.{is_in}
+use Rattle.query_rows.specs.ColumnShape.{column_shape}
+use Rattle.query_rows.specs.Rules as machine
+use Rattle.query_rows.specs.Rules.{Ruled}
+use Rattle.query_rows.specs.declared.shape.Misfit.TheVariants.{Kind, TooWide}
+use Rattle.query_rows.specs.declared.shape.Shape.{Shape}
+use Rattle.query_rows.specs.declared.shape.Shape.TheVariants.{Truth, Text, Day, Number}
+use Rattle.query_rows.specs.declared.shape.Shape.TheVariants.{Amount}
 use Rattle.query_values.specs.declared.operation.Aggregate.{Aggregate}
 use Rattle.query_values.specs.declared.operation.Aggregate.TheVariants as aggregate
 use Rattle.query_values.specs.declared.operation.Binary as operation

@@ -5,11 +5,11 @@ ghost use Rattle.bql_rules.specs.Rules as rule;
 
 use bql_tree::Function;
 use limits::Bounds;
-use query_shapes::rules::{
+use query_rows::rules::{
     aligned, cost_of, currency_of, length_of, magnitude_of, number_of, of_day, of_text, units_of,
     whole,
 };
-use query_shapes::{Misfit, Shape, aggregate_shape};
+use query_rows::{Misfit, Shape, aggregate_shape};
 use query_values::Aggregate;
 
 /// The aggregate that sums values of the shape: numbers to a number, others to an inventory.

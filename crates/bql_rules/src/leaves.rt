@@ -1,13 +1,13 @@
 //! The shapes of expressions without parts.
 ghost use Rattle.std.specs.Prelude.{◌≡◌};
 ghost use Rattle.bql_rules.specs.Rules as rule;
-ghost use Rattle.query_columns.specs.ColumnShape.{AreBounds};
+ghost use Rattle.query_rows.specs.ColumnShape.{AreBounds};
 
 use bql_tree::Leaf;
 use limits::Bounds;
-use query_columns::column_shape;
-use query_shapes::rules::whole;
-use query_shapes::{Misfit, Shape};
+use query_rows::column_shape;
+use query_rows::rules::whole;
+use query_rows::{Misfit, Shape};
 
 /// The shape of an expression without parts. A NULL has none of its own, and neither has a column
 /// that the schema doesn't know.

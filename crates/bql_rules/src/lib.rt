@@ -12,11 +12,11 @@
 //! # What is taken for granted
 //!
 //! Of the ledgers that a query runs on only their [`limits::Bounds`]: how many postings they
-//! have at most, and how wide their counts are. A column has the shape that `query_columns` tells.
+//! have at most, and how wide their counts are. A column has the shape that `query_rows` tells.
 //!
 //! # One table
 //!
-//! An operation of the query language is one of the machine's (`query_shapes`), where numbers of
+//! An operation of the query language is one of the machine's (`query_rows`), where numbers of
 //! different decimals were brought to the greater count first. So what is given a shape here can be
 //! computed there. A new function is a row in the code, and one in `specs/`.
 //!

@@ -3,8 +3,8 @@ ghost use Rattle.std.specs.Prelude.{◌≡◌};
 ghost use Rattle.bql_rules.specs.Rules as rule;
 
 use bql_tree::{BinaryOperator, UnaryOperator};
-use query_shapes::rules::{aligned, negated, of_text, of_truth};
-use query_shapes::{Misfit, Shape};
+use query_rows::rules::{aligned, negated, of_text, of_truth};
+use query_rows::{Misfit, Shape};
 
 /// What an operator gives on an operand of the shape.
 pub fn unary_shape(op: &UnaryOperator<'_>, shape: Shape) -> Result<Shape, Misfit>
@@ -38,9 +38,9 @@ fn by_machine(op: query_values::Binary, a: Shape, b: Shape) -> Result<Shape, Mis
             let places = p.max(q);
             let a = aligned(places, a)?;
             let b = aligned(places, b)?;
-            query_shapes::binary_shape(op, a, b)
+            query_rows::binary_shape(op, a, b)
         }
-        _ => query_shapes::binary_shape(op, a, b),
+        _ => query_rows::binary_shape(op, a, b),
     }
 }
 
@@ -56,9 +56,9 @@ pub fn binary_shape(op: BinaryOperator, a: Shape, b: Shape) -> Result<Shape, Mis
         BinaryOperator::LessOrEqual => by_machine(query_values::Binary::AtMost, a, b),
         BinaryOperator::Greater => by_machine(query_values::Binary::Greater, a, b),
         BinaryOperator::GreaterOrEqual => by_machine(query_values::Binary::AtLeast, a, b),
-        BinaryOperator::In => query_shapes::binary_shape(query_values::Binary::InSet, a, b),
+        BinaryOperator::In => query_rows::binary_shape(query_values::Binary::InSet, a, b),
         BinaryOperator::Plus => by_machine(query_values::Binary::Add, a, b),
         BinaryOperator::Minus => by_machine(query_values::Binary::Sub, a, b),
-        BinaryOperator::Times => query_shapes::binary_shape(query_values::Binary::Mul, a, b),
+        BinaryOperator::Times => query_rows::binary_shape(query_values::Binary::Mul, a, b),
     }
 }

@@ -3,7 +3,7 @@
 use bql_parser::parse_query;
 use bql_plan::{Shapes, shapes_of};
 use limits::{Bounds, Version};
-use query_shapes::Shape;
+use query_rows::Shape;
 use std::alloc::{AllocError, Global};
 use std::test::Fail;
 

@@ -2,7 +2,7 @@
 
 use crate::function::Function;
 use bean_base::{Day, Slice};
-use query_columns::Column;
+use query_rows::Column;
 use query_values::Decimal;
 
 /// Whose metadata an entry is.

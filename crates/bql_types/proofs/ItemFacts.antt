@@ -12,7 +12,7 @@ use Rattle.bql_parser.specs.Asked.{Asked}
 use Rattle.bql_types.specs.Typing.{causes}
 use Rattle.bql_types.specs.declared.cause.TypeCause.{TypeCause}
 use Rattle.bql_types.specs.declared.targets.SeenTarget.{SeenTarget}
-use Rattle.query_shapes.specs.declared.shape.Shape.{Shape}
+use Rattle.query_rows.specs.declared.shape.Shape.{Shape}
 use Rattle.bql_types.proofs.CauseFacts.{told_append}
 
 succ : (i : ℕ) → i + 1 ≡ suc i

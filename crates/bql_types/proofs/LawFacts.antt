@@ -6,8 +6,8 @@ use Rattle.std.proofs.lemmas.Bool.Decides.{nat_tests}
 use Rattle.std.specs.List.{IsAmong}
 use Rattle.limits.specs.declared.bounds.Bounds.{Bounds}
 use Rattle.bql_tree.specs.Tree.{Operation, Tree, node, Trees, trees, no_trees}
-use Rattle.query_shapes.specs.Rules.{Ruled}
-use Rattle.query_shapes.specs.declared.shape.Shape.{Shape}
+use Rattle.query_rows.specs.Rules.{Ruled}
+use Rattle.query_rows.specs.declared.shape.Shape.{Shape}
 use Rattle.bql_types.specs.Cause.{told, is_before, number_of}
 use Rattle.bql_types.specs.Laws.{LeastIsTold, ShapesAreFound, ShapesHaveNoCauses}
 use Rattle.bql_types.specs.Shaped.{shape_of, shapes_of, shape_causes, all_shape_causes, ruled}

@@ -9,8 +9,8 @@ use Rattle.bql_tree.specs.declared.function.Function.{Function}
 use Rattle.bql_tree.specs.declared.tree.BinaryOperator.{BinaryOperator}
 use Rattle.bql_tree.specs.declared.tree.Expr.{Expr}
 use Rattle.bql_tree.specs.declared.tree.UnaryOperator.{UnaryOperator}
-use Rattle.query_shapes.specs.Rules.{Ruled}
-use Rattle.query_shapes.specs.declared.shape.Shape.{Shape}
+use Rattle.query_rows.specs.Rules.{Ruled}
+use Rattle.query_rows.specs.declared.shape.Shape.{Shape}
 use Rattle.bql_types.specs.Cause.{told}
 use Rattle.bql_types.specs.Seen.{one_more, concluded, before, between, seen, seen_part, seen_all}
 use Rattle.bql_types.specs.Seen.{all_of, list_of, part_causes}

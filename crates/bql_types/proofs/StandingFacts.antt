@@ -10,16 +10,16 @@ use Rattle.limits.specs.declared.bounds.Bounds.{Bounds}
 use Rattle.bql_parser.specs.declared.standing.Valuation.{Valuation}
 use Rattle.bql_parser.specs.declared.standing.Valuation.TheVariants as valuation
 use Rattle.limits.specs.declared.counts.TheConstants.{MOST_POSTINGS}
-use Rattle.query_columns.proofs.BoundFacts.{few_postings}
-use Rattle.query_columns.specs.ColumnShape.{AreBounds, units_most, value_most}
+use Rattle.query_rows.proofs.BoundFacts.{few_postings}
+use Rattle.query_rows.specs.ColumnShape.{AreBounds, units_most, value_most}
 use Rattle.bql_rules.specs.Rules.{of_one}
 use Rattle.bql_tree.specs.Tree.{Tree, call_of}
-use Rattle.query_columns.specs.declared.column.Column.TheVariants as column
+use Rattle.query_rows.specs.declared.column.Column.TheVariants as column
 use Rattle.bql_tree.specs.declared.function.Function.TheVariants as function
-use Rattle.query_shapes.specs.Shape.{is_held, fitting}
-use Rattle.query_shapes.specs.declared.shape.Misfit.TheVariants.{TooWide}
-use Rattle.query_shapes.specs.declared.shape.Shape.{Shape}
-use Rattle.query_shapes.specs.declared.shape.Shape.TheVariants.{Amount, Inventory}
+use Rattle.query_rows.specs.Shape.{is_held, fitting}
+use Rattle.query_rows.specs.declared.shape.Misfit.TheVariants.{TooWide}
+use Rattle.query_rows.specs.declared.shape.Shape.{Shape}
+use Rattle.query_rows.specs.declared.shape.Shape.TheVariants.{Amount, Inventory}
 use Rattle.bql_types.specs.Shaped.{given, shape_of, shape_causes, ruled, beside, operand}
 use Rattle.bql_types.specs.Sought.{aggregates, misplaced, ungrouped, balances}
 use Rattle.bql_parser.specs.Standing as standing

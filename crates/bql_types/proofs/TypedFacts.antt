@@ -5,8 +5,8 @@ use Rattle.std.specs.List.{IsAmong, slice_get}
 use Rattle.limits.specs.declared.bounds.Bounds.{Bounds}
 use Rattle.bql_parser.specs.Asked.{Target, ItemKind, target_item, tree_item}
 use Rattle.bql_tree.specs.Tree.{Tree}
-use Rattle.query_shapes.specs.declared.shape.Shape.{Shape}
-use Rattle.query_shapes.specs.declared.shape.Shape.TheVariants as shape
+use Rattle.query_rows.specs.declared.shape.Shape.{Shape}
+use Rattle.query_rows.specs.declared.shape.Shape.TheVariants as shape
 use Rattle.bql_types.specs.Cause.{where_true}
 use Rattle.bql_types.specs.Laws.{IsShaped, IsFilter, IsOrder, TypedHaveShapes}
 use Rattle.bql_types.specs.Shaped.{shape_of, shape_causes}

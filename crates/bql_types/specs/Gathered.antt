@@ -6,7 +6,7 @@ use Rattle.bql_tree.specs.Tree.{Operation, call_of, Tree, node}
 use Rattle.bql_tree.specs.declared.function.Function.{Function}
 use Rattle.bql_tree.specs.declared.function.Function.TheVariants as function
 use Rattle.bql_types.specs.Shaped.{shapes_of}
-use Rattle.query_shapes.specs.declared.shape.Shape.{Shape}
+use Rattle.query_rows.specs.declared.shape.Shape.{Shape}
 use Rattle.query_values.specs.declared.operation.Aggregate.{Aggregate}
 use Rattle.query_values.specs.declared.operation.Aggregate.TheVariants as aggregate
 

@@ -2,7 +2,7 @@
 use Rattle.std.specs.Prelude.{ℕ, List, [], ◌∷◌, map, Option, Some, None, Vec}
 use Rattle.std.specs.declared.alloc.Global.{Global}
 use Rattle.bql_parser.specs.View as answer
-use Rattle.bql_clauses.specs.Clause as clause
+use Rattle.bql_grammar.specs.Clause as clause
 use Rattle.bql_parser.specs.Asked as settled
 use Rattle.bql_parser.specs.declared.query.Filters.{Filters}
 use Rattle.bql_parser.specs.declared.query.Item.{Item}

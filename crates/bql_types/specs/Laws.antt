@@ -4,14 +4,14 @@ use Rattle.std.specs.Prelude.{Option, Ok, Err, true}
 use Rattle.std.specs.List.{IsAmong, slice_get}
 use Rattle.limits.specs.declared.bounds.Bounds.{Bounds}
 use Rattle.bql_parser.specs.Asked.{Asked, Target, Item, ItemKind, target_item, tree_item}
-use Rattle.bql_clauses.specs.Clause.{Filters}
+use Rattle.bql_grammar.specs.Clause.{Filters}
 use Rattle.bql_parser.specs.Standing as standing
 use Rattle.bql_parser.specs.declared.query.Query.{Query}
 use Rattle.bql_parser.specs.declared.standing.Valuation.{Valuation}
 use Rattle.bql_tree.specs.Tree.{Tree}
-use Rattle.query_columns.specs.ColumnShape.{AreBounds}
-use Rattle.query_shapes.specs.declared.shape.Shape.{Shape}
-use Rattle.query_shapes.specs.declared.shape.Shape.TheVariants.{Truth}
+use Rattle.query_rows.specs.ColumnShape.{AreBounds}
+use Rattle.query_rows.specs.declared.shape.Shape.{Shape}
+use Rattle.query_rows.specs.declared.shape.Shape.TheVariants.{Truth}
 use Rattle.bql_types.specs.Answer.{Answers}
 use Rattle.bql_types.specs.Cause.{least_of, is_before}
 use Rattle.bql_types.specs.Same.{same}

@@ -7,9 +7,9 @@ use Rattle.bql_rules.specs.Rules.{binary_shape, unary_shape}
 use Rattle.bql_tree.specs.Tree.{Tree, Trees}
 use Rattle.bql_tree.specs.declared.tree.BinaryOperator.{BinaryOperator}
 use Rattle.bql_tree.specs.declared.tree.UnaryOperator.{UnaryOperator}
-use Rattle.query_shapes.specs.Rules.{Ruled}
-use Rattle.query_shapes.specs.declared.shape.Misfit.TheVariants.{Kind}
-use Rattle.query_shapes.specs.declared.shape.Shape.{Shape}
+use Rattle.query_rows.specs.Rules.{Ruled}
+use Rattle.query_rows.specs.declared.shape.Misfit.TheVariants.{Kind}
+use Rattle.query_rows.specs.declared.shape.Shape.{Shape}
 use Rattle.bql_types.specs.Cause.{told}
 use Rattle.bql_types.specs.Shaped as rule
 use Rattle.bql_types.specs.Shaped.{given, misfit_at, shape_of, shapes_of, shape_causes, is_null}

@@ -8,11 +8,11 @@ use Rattle.bql_tree.specs.Tree.{no_trees, trees}
 use Rattle.bql_tree.specs.declared.tree.BinaryOperator.{BinaryOperator}
 use Rattle.bql_tree.specs.declared.tree.BinaryOperator.TheVariants as binary
 use Rattle.bql_tree.specs.declared.tree.Leaf.TheVariants as leaf
-use Rattle.query_shapes.specs.Rules.{Ruled}
-use Rattle.query_shapes.specs.declared.shape.Misfit.{Misfit}
-use Rattle.query_shapes.specs.declared.shape.Misfit.TheVariants.{Kind, TooWide}
-use Rattle.query_shapes.specs.declared.shape.Shape.{Shape}
-use Rattle.query_shapes.specs.declared.shape.Shape.TheVariants.{Truth}
+use Rattle.query_rows.specs.Rules.{Ruled}
+use Rattle.query_rows.specs.declared.shape.Misfit.{Misfit}
+use Rattle.query_rows.specs.declared.shape.Misfit.TheVariants.{Kind, TooWide}
+use Rattle.query_rows.specs.declared.shape.Shape.{Shape}
+use Rattle.query_rows.specs.declared.shape.Shape.TheVariants.{Truth}
 use Rattle.bql_types.specs.Cause.{cause_at}
 use Rattle.bql_types.specs.declared.cause.TypeCause.{TypeCause}
 use Rattle.bql_types.specs.declared.cause.TypeCauseKind.{TypeCauseKind}

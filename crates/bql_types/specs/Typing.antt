@@ -4,11 +4,11 @@ use Rattle.std.specs.Prelude.{Option, Some, None, ◌≡◌, if◌then◌else◌
 use Rattle.std.specs.List.{slice_get, list_any}
 use Rattle.std.specs.Option.{is_some}
 use Rattle.limits.specs.declared.bounds.Bounds.{Bounds}
-use Rattle.bql_clauses.specs.Clause as clause
+use Rattle.bql_grammar.specs.Clause as clause
 use Rattle.bql_parser.specs.Asked.{Target, Item, ItemKind, target_item, tree_item, Asked}
 use Rattle.bql_tree.specs.Tree.{Tree, node}
-use Rattle.query_shapes.specs.declared.shape.Shape.{Shape}
-use Rattle.query_shapes.specs.declared.shape.Shape.TheVariants as shape
+use Rattle.query_rows.specs.declared.shape.Shape.{Shape}
+use Rattle.query_rows.specs.declared.shape.Shape.TheVariants as shape
 use Rattle.bql_types.specs.Cause.{cause_at, where_true, least_of}
 use Rattle.bql_types.specs.Shaped.{shape_of, shape_causes}
 use Rattle.bql_types.specs.Sought.{aggregates, misplaced, balances, ungrouped}

@@ -1,6 +1,6 @@
 //! Aggregates, and where they may not stand.
 ghost use Rattle.std.specs.Prelude.{◌≡◌, IfOk};
-ghost use Rattle.query_columns.specs.ColumnShape.{AreBounds};
+ghost use Rattle.query_rows.specs.ColumnShape.{AreBounds};
 ghost use Rattle.bql_tree.specs.Tree.{tree_of, trees_of, leaf_of, call_of};
 ghost use Rattle.bql_types.specs.Cause.{told};
 ghost use Rattle.bql_types.specs.Sought as rule;

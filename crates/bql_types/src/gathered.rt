@@ -3,13 +3,13 @@ ghost use Rattle.std.specs.Prelude.{◌≡◌, IfOk};
 ghost use Rattle.bql_tree.specs.Tree.{tree_of};
 ghost use Rattle.bql_types.specs.Gathered as rule;
 ghost use Rattle.bql_types.specs.Seen.{list_of};
-ghost use Rattle.query_columns.specs.ColumnShape.{AreBounds};
+ghost use Rattle.query_rows.specs.ColumnShape.{AreBounds};
 
 use crate::shaped::look_at_all;
 use bql_rules::sum_over;
 use bql_tree::{Expr, Function};
 use limits::Bounds;
-use query_shapes::Shape;
+use query_rows::Shape;
 use query_values::Aggregate;
 use std::alloc::{AllocError, Global};
 

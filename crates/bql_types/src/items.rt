@@ -2,7 +2,7 @@
 ghost use Rattle.std.specs.Prelude.{◌≡◌, IfOk, List, map};
 ghost use Rattle.bql_parser.specs.View.{item_of, filter_of};
 ghost use Rattle.bql_parser.specs.Asked.{Target};
-ghost use Rattle.query_columns.specs.ColumnShape.{AreBounds};
+ghost use Rattle.query_rows.specs.ColumnShape.{AreBounds};
 ghost use Rattle.bql_tree.specs.Tree.{tree_of};
 ghost use Rattle.bql_types.specs.Cause.{told};
 ghost use Rattle.bql_types.specs.Keys as view;
@@ -20,7 +20,7 @@ use crate::targets::{SeenTarget, named_group, named_order};
 use bql_parser::{Filters, Item, ItemKind};
 use bql_tree::Expr;
 use limits::Bounds;
-use query_shapes::Shape;
+use query_rows::Shape;
 use std::alloc::{AllocError, Global};
 
 /// The place of an expression's first byte.

@@ -1,6 +1,6 @@
 //! Which expressions have a shape, and what keeps the others from it.
 ghost use Rattle.std.specs.Prelude.{◌≡◌, IfOk, [], ◌∷◌, Some};
-ghost use Rattle.query_columns.specs.ColumnShape.{AreBounds};
+ghost use Rattle.query_rows.specs.ColumnShape.{AreBounds};
 ghost use Rattle.bql_tree.specs.Tree.{leaf_of, one_of, two_of, call_of, tree_of, trees_of};
 ghost use Rattle.bql_types.specs.Shaped as rule;
 ghost use Rattle.bql_types.specs.Seen as seen_rule;
@@ -9,7 +9,7 @@ use crate::cause::{TypeCause, TypeCauseKind, sooner};
 use bql_rules::{binary_shape, call_shape, leaf_shape, unary_shape};
 use bql_tree::{BinaryOperator, Expr, Function, Leaf, UnaryOperator};
 use limits::Bounds;
-use query_shapes::{Misfit, Shape};
+use query_rows::{Misfit, Shape};
 use std::alloc::{AllocError, Global};
 
 /// What is known of a part of an operation.

@@ -9,7 +9,7 @@ ghost use Rattle.bql_types.specs.Keys as view;
 ghost use Rattle.bql_types.specs.Named as named;
 ghost use Rattle.bql_types.specs.Sought as sought;
 ghost use Rattle.bql_types.specs.Typing as rule;
-ghost use Rattle.query_columns.specs.ColumnShape.{AreBounds};
+ghost use Rattle.query_rows.specs.ColumnShape.{AreBounds};
 
 use crate::aggregates::misplaced;
 use crate::cause::{TypeCause, TypeCauseKind, sooner, where_true};
@@ -18,7 +18,7 @@ use crate::items::{isnt_ordered, shown};
 use bql_parser::Target;
 use bql_tree::Expr;
 use limits::Bounds;
-use query_shapes::Shape;
+use query_rows::Shape;
 use std::alloc::{AllocError, Global};
 
 /// What is known of a target that items may name.

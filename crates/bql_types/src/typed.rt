@@ -1,6 +1,6 @@
 //! Queries that have a type.
 ghost use Rattle.bql_parser.specs.Answer.{query_of};
-ghost use Rattle.query_columns.specs.ColumnShape.{AreBounds};
+ghost use Rattle.query_rows.specs.ColumnShape.{AreBounds};
 ghost use Rattle.bql_types.specs.Typing.{IsTyped};
 
 use bql_parser::Query;

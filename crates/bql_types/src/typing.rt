@@ -1,7 +1,7 @@
 //! Queries that have a type.
 ghost use Rattle.std.specs.Prelude.{◌≡◌, IfOk};
 ghost use Rattle.bql_parser.specs.Answer.{query_of};
-ghost use Rattle.query_columns.specs.ColumnShape.{AreBounds};
+ghost use Rattle.query_rows.specs.ColumnShape.{AreBounds};
 ghost use Rattle.bql_types.specs.Answer.{Answers};
 ghost use Rattle.bql_types.specs.Cause.{least_of};
 ghost use Rattle.bql_types.specs.Typing as rule;

@@ -2,7 +2,7 @@
 ghost use Rattle.std.specs.Prelude.{◌≤◌};
 
 use crate::ledgers::{COUNT, count_of_few, dollars};
-use batch_tables::{Fate, fates};
+use query_tables::{Fate, fates};
 use posting_table::Ledger;
 use query_verifier::check_file;
 use std::alloc::{AllocError, Global};

@@ -6,4 +6,6 @@ pub mod GroupingFacts
 pub mod AlikeFacts
 pub mod AnswerFacts
 pub mod UpgradeFacts
+pub mod StandFacts
+pub mod ShownFacts
 mod Examples

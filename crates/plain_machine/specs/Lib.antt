@@ -11,3 +11,4 @@ pub mod Answer
 pub mod Depth
 pub mod Safety
 pub mod Upgrade
+pub mod Widths

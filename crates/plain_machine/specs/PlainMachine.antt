@@ -8,7 +8,7 @@ use Rattle.query_values.specs.Aggregate.{aggregate_of}
 use Rattle.query_values.specs.declared.operation.Aggregate.TheVariants.{SumInventory}
 use Rattle.query_values.specs.declared.value.Value.{Value}
 use Rattle.query_values.specs.declared.value.Value.TheVariants.{Null, Truth}
-use Rattle.query_columns.specs.declared.column.Column.TheVariants.{Position}
+use Rattle.query_rows.specs.declared.column.Column.TheVariants.{Position}
 use Rattle.query_rows.specs.Row.{Row}
 use Rattle.query_code.specs.QueryFile.{is_grouped}
 use Rattle.query_code.specs.declared.program.Mode.{Mode}

@@ -22,14 +22,14 @@ use Rattle.posting_table.specs.Row.{cell_at, of_lot, price_or_null}
 use Rattle.posting_table.specs.Rows.{row_of}
 use Rattle.posting_table.specs.Shaped.{IsShaped}
 use Rattle.posting_table.specs.declared.row.Row.{Row}
-use Rattle.query_columns.specs.Column.{is_in}
-use Rattle.query_columns.specs.ColumnShape.{column_shape, value_most, widest}
-use Rattle.query_columns.specs.declared.column.Column.{Column}
-use Rattle.query_columns.specs.declared.column.Column.TheVariants as column
+use Rattle.query_rows.specs.Column.{is_in}
+use Rattle.query_rows.specs.ColumnShape.{column_shape, value_most, widest}
+use Rattle.query_rows.specs.declared.column.Column.{Column}
+use Rattle.query_rows.specs.declared.column.Column.TheVariants as column
 use Rattle.query_rows.specs.Fits as rows
 use Rattle.query_rows.specs.Fits.{fits, has_digits, lot_fits, price_fits}
-use Rattle.query_shapes.specs.Mass.{value_of}
-use Rattle.query_shapes.specs.Shape.{LiesIn}
+use Rattle.query_rows.specs.Mass.{value_of}
+use Rattle.query_rows.specs.Shape.{LiesIn}
 use Rattle.query_values.specs.declared.value.Value.TheVariants.{Number}
 
 pub many_digits : (d n : ℕ) → n < 10 ^ 38 → 38 ≤ d → has_digits d n ≡ true

@@ -9,8 +9,8 @@ use Rattle.posting_table.specs.Shaped.{AreShort}
 use Rattle.posting_table.specs.declared.entry.Entry.{Entry}
 use Rattle.posting_table.specs.declared.row.Row.{Row}
 use Rattle.query_rows.specs.Shaped.{IsShortIfThere}
-use Rattle.query_shapes.specs.Mass.{value_of}
-use Rattle.query_shapes.specs.Shape.{IsShort}
+use Rattle.query_rows.specs.Mass.{value_of}
+use Rattle.query_rows.specs.Shape.{IsShort}
 
 abbrev pub IsShortSet : List (List ℕ) → Type 0
 IsShortSet texts = (length texts ≤ LARGEST_TEXT) × AllByRecursion IsShort texts

@@ -4,9 +4,9 @@ ghost use Rattle.std.specs.List.{list_all};
 ghost use Rattle.posting_table.specs.Row.{price_or_null};
 ghost use Rattle.posting_table.specs.Rows.{row_of};
 ghost use Rattle.posting_table.specs.Shaped.{IsShaped};
-ghost use Rattle.query_columns.specs.ColumnShape.{widest};
+ghost use Rattle.query_rows.specs.ColumnShape.{widest};
 ghost use Rattle.query_rows.specs.Fits as spec;
-ghost use Rattle.query_shapes.specs.Mass.{value_of};
+ghost use Rattle.query_rows.specs.Mass.{value_of};
 
 use crate::held::HeldRow;
 use bean_base::{Amount, power_of_ten};

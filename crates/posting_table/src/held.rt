@@ -15,7 +15,7 @@ use crate::row::{Row, Weight};
 use crate::shared::Shared;
 use bean_base::{Account, Amount, Slice};
 use bean_lots::{Key, Position};
-use query_columns::Column;
+use query_rows::Column;
 use query_values::{Lent, Value};
 use std::alloc::{AllocError, Global};
 use std::marker::Model;

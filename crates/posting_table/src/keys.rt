@@ -10,7 +10,7 @@ use crate::shared::Shared;
 use bean_base::{Currency, Slice};
 use bean_lots::{Key, Lot};
 use indexmap::IndexMap;
-use query_columns::Column;
+use query_rows::Column;
 use query_values::Value;
 use std::alloc::{AllocError, Global};
 use std::marker::Model;

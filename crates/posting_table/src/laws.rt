@@ -5,7 +5,7 @@ ghost use Rattle.posting_table.specs.Parts.{HasSmallParts};
 ghost use Rattle.posting_table.specs.Rows.{row_of};
 ghost use Rattle.posting_table.specs.Shaped.{IsShaped};
 ghost use Rattle.posting_table.specs.declared.row.Row.{Row};
-ghost use Rattle.query_columns.specs.ColumnShape.{widest};
+ghost use Rattle.query_rows.specs.ColumnShape.{widest};
 ghost use Rattle.query_rows.specs.Fits.{fits};
 
 /// Where rows are within bounds, their cells lie in the shapes that the columns have by these

@@ -5,7 +5,7 @@ ghost use Rattle.std.specs.Option.{option_and_then, option_copied, option_map};
 ghost use Rattle.std.specs.FinMap as map;
 ghost use Rattle.posting_table.specs.Rows.{rows_of};
 ghost use Rattle.posting_table.specs.Shaped.{IsShaped};
-ghost use Rattle.query_columns.specs.ColumnShape.{widest};
+ghost use Rattle.query_rows.specs.ColumnShape.{widest};
 ghost use Rattle.query_rows.specs.Fits as spec;
 ghost use Rattle.query_rows.specs.Row.{text_under};
 ghost use Rattle.query_rows.specs.Shaped as rows;
@@ -19,7 +19,7 @@ use crate::keys::Keys;
 use crate::row::Row;
 use bean_base::Currency;
 use limits::{Bounds, MOST_POSTINGS};
-use query_columns::Column;
+use query_rows::Column;
 use query_values::Value;
 use std::alloc::{AllocError, Global};
 use std::marker::Model;
@@ -39,7 +39,7 @@ impl<'a> Model for Ledger<'a> {
     ghost use Rattle.posting_table.specs.Decimals.{decimals_code};
     ghost use Rattle.posting_table.specs.Ledger.{Ledger};
     ghost use Rattle.posting_table.specs.Shaped.{IsShaped};
-    ghost use Rattle.query_columns.specs.ColumnShape.{widest};
+    ghost use Rattle.query_rows.specs.ColumnShape.{widest};
     ghost use Rattle.limits.specs.declared.counts.TheConstants.{MOST_POSTINGS};
 
     ghost Value = { Ledger };

@@ -83,6 +83,6 @@ pub use laws::{cells_lie_in_their_shapes, rows_of_small_parts_are_shaped};
 pub use ledger::Ledger;
 pub use metadata::{MetaItem, Metadata};
 pub use plain_text::PlainText;
-pub use query_columns::Column;
+pub use query_rows::Column;
 pub use row::{Row, Weight};
 pub use shared::Shared;

@@ -10,8 +10,8 @@ use Rattle.query_files.specs.Files.{IsLike, is_of_pattern}
 use Rattle.query_verifier.specs.Checking.{HasNoShapes, IsRefused, IsUnaccepted, IsVerified}
 use Rattle.query_verifier.specs.declared.cause.VerifierCause.{VerifierCause}
 use Rattle.query_verifier.specs.declared.cause.VerifierCause.TheVariants as verifier
-use Rattle.verify_shapes.specs.declared.cause.CodeCause.{CodeCause}
-use Rattle.verify_shapes.specs.declared.cause.CodeCause.TheVariants as code
+use Rattle.verify_programs.specs.declared.cause.CodeCause.{CodeCause}
+use Rattle.verify_programs.specs.declared.cause.CodeCause.TheVariants as code
 use Rattle.well_shaped.proofs.DepthFacts.{one_in_programs}
 use Rattle.well_shaped.specs.Program.{IsDepth, IsWellShaped}
 

@@ -12,7 +12,7 @@ use Rattle.bql_parser.specs.Settled.{answer}
 use Rattle.bql_parser.specs.declared.cause.QueryCause.{QueryCause}
 use Rattle.bql_parser.specs.declared.cause.QueryCause.TheVariants as query
 use Rattle.bql_parser.specs.declared.query.Query.{Query}
-use Rattle.bql_scheme.specs.Carried.{Carries}
+use Rattle.bql_compiler.specs.Carried.{Carries}
 use Rattle.bql_tree.specs.declared.cause.PartCause.{PartCause}
 use Rattle.bql_types.specs.Answer.{Answers}
 use Rattle.bql_types.specs.Cause.{least_of}

@@ -12,7 +12,7 @@ use Rattle.query_verifier.specs.declared.cause.VerifierCause.{VerifierCause}
 use Rattle.query_verifier.specs.declared.cause.VerifierCause.TheVariants.{Code}
 use Rattle.refusals.specs.declared.refusal.Refusal.{Refusal}
 use Rattle.refusals.specs.declared.refusal.Refusal.TheVariants.{OutOfMemory, Refused}
-use Rattle.verify_shapes.specs.declared.cause.CodeCause.TheVariants.{Pattern}
+use Rattle.verify_programs.specs.declared.cause.CodeCause.TheVariants.{Pattern}
 
 abbrev pub outline_of : Parts → ℕ → Outline
 outline_of p depth = record {

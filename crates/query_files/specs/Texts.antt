@@ -1,7 +1,7 @@
 -- What the text of a query comes to: its file, or the cause for which it has none.
 use Rattle.std.specs.Prelude.{◌≡◌, ℕ, ◌⊎◌, ⊤, Bool, true, false, List, Some, Result, Ok, Err, Vec}
 use Rattle.std.specs.declared.alloc.Global.{Global}
-use Rattle.bql_clauses.specs.Read.{Read}
+use Rattle.bql_grammar.specs.Read.{Read}
 use Rattle.bql_compiler.specs.Limits.{IsCause, IsWithin}
 use Rattle.bql_compiler.specs.declared.cause.CompileCause.{CompileCause}
 use Rattle.bql_compiler.specs.declared.cause.CompileCause.TheVariants.{NotBuilt}
@@ -10,8 +10,8 @@ use Rattle.bql_parser.specs.Parse.{HasCause, IsQuery, StopsAt}
 use Rattle.bql_parser.specs.Settled.{answer}
 use Rattle.bql_parser.specs.declared.cause.QueryCause.{QueryCause}
 use Rattle.bql_parser.specs.declared.cause.QueryCause.TheVariants as query
-use Rattle.bql_scheme.specs.Carried.{Carries}
-use Rattle.bql_scheme.specs.Program.{parts_of}
+use Rattle.bql_compiler.specs.Carried.{Carries}
+use Rattle.bql_compiler.specs.Program.{parts_of}
 use Rattle.bql_types.specs.Cause.{least_of}
 use Rattle.bql_types.specs.Typing.{IsTyped, causes}
 use Rattle.bql_types.specs.declared.cause.TypeCause.{TypeCause}

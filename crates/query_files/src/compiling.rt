@@ -1,6 +1,6 @@
 //! From the text of a query to its file.
 ghost use Rattle.std.specs.Prelude.{◌≡◌};
-ghost use Rattle.query_columns.specs.ColumnShape.{AreBounds};
+ghost use Rattle.query_rows.specs.ColumnShape.{AreBounds};
 ghost use Rattle.query_files.specs.Texts as spec;
 ghost use Rattle.query_files.specs.Texts.{Compiles, HasProgram};
 

@@ -22,9 +22,9 @@ use Rattle.plain_machine.specs.Answer as plain
 use Rattle.plain_machine.specs.Answer.{Answers, NeverFaults, groups}
 use Rattle.plain_machine.specs.Gathering.{aggregates_over}
 use Rattle.plain_machine.specs.WholeRun.{budget, is_going}
-use Rattle.program_safety.proofs.SafetyFacts.{safely_where_it_fits}
+use Rattle.well_shaped.proofs.SafetyFacts.{safely_where_it_fits}
 use Rattle.limits.specs.Version.{most_postings}
-use Rattle.query_columns.specs.ColumnShape.{AreBounds}
+use Rattle.query_rows.specs.ColumnShape.{AreBounds}
 use Rattle.query_runs.proofs.SafeRuns.{goes_as_plain, is_safe, with_more_room}
 use Rattle.query_runs.specs.Stands.{run_after, stand_of}
 use Rattle.query_runs.specs.Turns.{IsSafe}

@@ -1,4 +1,16 @@
+mod ShapeExamples
+pub mod MassFacts
+pub mod ShapeCases
+pub mod FittingFacts
+pub mod UnaryFacts
+pub mod BinaryFacts
+pub mod OrderFacts
+pub mod RisingFacts
+pub mod GatheringFacts
+pub mod BoundFacts
+pub mod NumberFacts
+mod ColumnExamples
 pub mod FinalRowsFacts
 pub mod SameFacts
 pub mod ShapedFacts
-mod Examples
+mod RowExamples

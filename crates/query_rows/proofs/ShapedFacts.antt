@@ -4,8 +4,8 @@ use Rattle.std.specs.Prelude.{bytes_eq}
 use Rattle.limits.specs.declared.bounds.Bounds.{Bounds}
 use Rattle.query_values.specs.Order.{is_null}
 use Rattle.query_values.specs.declared.value.Value.{Value}
-use Rattle.query_shapes.specs.Shape.{LiesIn}
-use Rattle.query_shapes.specs.declared.shape.Shape.TheVariants.{Text}
+use Rattle.query_rows.specs.Shape.{LiesIn}
+use Rattle.query_rows.specs.declared.shape.Shape.TheVariants.{Text}
 use Rattle.query_rows.specs.Row.{MetaText, Row, text_under, text_or_null, posting_text}
 use Rattle.query_rows.specs.Row.{transaction_text}
 use Rattle.query_rows.specs.Shaped.{AreShort, IsShortIfThere, IsShaped, TextsLieIn}

@@ -1,3 +1,9 @@
+pub mod Mass
+pub mod Shape
+pub mod Rules
+pub mod Keeping
+pub mod Column
+pub mod ColumnShape
 pub mod Row
 pub mod Fits
 pub mod Shaped

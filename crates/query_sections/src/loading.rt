@@ -10,7 +10,7 @@ ghost use Rattle.query_sections.specs.Reading.{loads_of, row_of};
 use crate::loads::{Loads, Posting};
 use bean_base::Slice;
 use query_code::{Constant, Push};
-use query_columns::Column;
+use query_rows::Column;
 use query_values::Value;
 use std::alloc::AllocError;
 

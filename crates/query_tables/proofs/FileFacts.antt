@@ -5,8 +5,8 @@ use Rattle.std.specs.Prelude.{IfOk, Vec}
 use Rattle.std.specs.declared.alloc.Global.{Global}
 use Rattle.bql_parser.specs.Answer.{query_of}
 use Rattle.bql_parser.specs.declared.query.Query.{Query}
-use Rattle.bql_scheme.specs.Carried.{Carries}
-use Rattle.bql_scheme.proofs.CarriedFacts.{carries}
+use Rattle.bql_compiler.specs.Carried.{Carries}
+use Rattle.bql_compiler.proofs.CarriedFacts.{carries}
 use Rattle.limits.specs.declared.bounds.Bounds.{Bounds}
 use Rattle.posting_table.specs.Ledger.{Ledger}
 use Rattle.posting_table.specs.Rows.{rows_of}

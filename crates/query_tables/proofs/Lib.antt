@@ -1,2 +1,5 @@
 mod TableFacts
 mod FileFacts
+pub mod FateFacts
+pub mod BatchFileFacts
+pub mod RoundFacts

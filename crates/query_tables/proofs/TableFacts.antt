@@ -5,7 +5,7 @@ use Rattle.std.proofs.Math.Logic.{∥∥₁_elim}
 use Rattle.std.proofs.Props.{props}
 use Rattle.std.specs.List.{AllByRecursion}
 use Rattle.bql_parser.specs.Asked.{Asked}
-use Rattle.bql_scheme.specs.Carried.{Carries}
+use Rattle.bql_compiler.specs.Carried.{Carries}
 use Rattle.limits.specs.declared.bounds.Bounds.{Bounds}
 use Rattle.limits.specs.declared.bounds.Version.{Version}
 use Rattle.plain_machine.proofs.AnswerFacts.{one_answer, within_budget}
@@ -17,7 +17,7 @@ use Rattle.plain_machine.specs.WholeRun.{is_going}
 use Rattle.posting_table.specs.Decimals.{decimals_of}
 use Rattle.posting_table.specs.Ledger.{Ledger}
 use Rattle.posting_table.specs.Rows.{rows_of}
-use Rattle.program_safety.proofs.SafetyFacts.{safely_where_it_fits}
+use Rattle.well_shaped.proofs.SafetyFacts.{safely_where_it_fits}
 use Rattle.query_answer.specs.declared.answer.Answer.{Answer}
 use Rattle.query_code.proofs.FitsFacts.{prop_file}
 use Rattle.query_code.specs.QueryFile.{file}
@@ -31,10 +31,10 @@ use Rattle.query_rows.specs.Fits.{fits}
 use Rattle.query_rows.specs.Row.{Row}
 use Rattle.query_rows.specs.Shaped.{IsShaped}
 use Rattle.query_tables.specs.Table.{IsTableOf, IsTableOfQuery}
-use Rattle.row_widths.proofs.ShownFacts.{rows_are_wide}
-use Rattle.row_widths.specs.Widths.{AreWide}
+use Rattle.plain_machine.proofs.ShownFacts.{rows_are_wide}
+use Rattle.plain_machine.specs.Widths.{AreWide}
 use Rattle.table_printer.specs.Table.{table_text}
-use Rattle.upgraded_programs.proofs.NameFacts.{names_its_columns}
+use Rattle.well_shaped.proofs.UpgradeNameFacts.{names_its_columns}
 use Rattle.well_shaped.specs.Program.{IsDepth}
 
 -- ---- what is printed

@@ -3,7 +3,7 @@ use Rattle.std.specs.Prelude.{◌≡◌, ◌⊎◌, ℕ, true, false, List, Resu
 use Rattle.std.specs.declared.alloc.Global.{Global}
 use Rattle.bql_parser.specs.Answer.{query_of}
 use Rattle.bql_parser.specs.declared.query.Query.{Query}
-use Rattle.bql_scheme.specs.Program.{parts_of}
+use Rattle.bql_compiler.specs.Program.{parts_of}
 use Rattle.bql_types.specs.Typing.{IsTyped}
 use Rattle.limits.specs.declared.bounds.Bounds.{Bounds}
 use Rattle.posting_table.specs.Ledger.{Ledger}
@@ -20,7 +20,7 @@ use Rattle.query_verifier.specs.Checking.{IsRefused, IsVerified}
 use Rattle.query_verifier.specs.declared.cause.VerifierCause.TheVariants.{Code, File}
 use Rattle.refusals.specs.declared.refusal.Refusal.{Refusal}
 use Rattle.refusals.specs.declared.refusal.Refusal.TheVariants.{OutOfMemory, Refused}
-use Rattle.verify_shapes.specs.declared.cause.CodeCause.TheVariants.{Pattern}
+use Rattle.verify_programs.specs.declared.cause.CodeCause.TheVariants.{Pattern}
 
 -- ---- which bytes
 

@@ -3,8 +3,8 @@ use Rattle.std.specs.Prelude.{◌≡◌, ◌⊎◌, ℕ, true, false, List, map,
 use Rattle.std.specs.declared.alloc.Global.{Global}
 use Rattle.bql_meaning.specs.Answer.{IsAnswer}
 use Rattle.bql_parser.specs.Asked.{Asked}
-use Rattle.bql_scheme.specs.Carried.{Carries}
-use Rattle.bql_scheme.specs.Program.{target_name}
+use Rattle.bql_compiler.specs.Carried.{Carries}
+use Rattle.bql_compiler.specs.Program.{target_name}
 use Rattle.limits.specs.declared.bounds.Bounds.{Bounds}
 use Rattle.plain_machine.specs.Answer.{Answer, Answers, IsWithinBudget}
 use Rattle.plain_machine.specs.Safety.{RunsSafely}

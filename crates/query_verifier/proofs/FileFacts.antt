@@ -13,7 +13,7 @@ use Rattle.query_code.specs.declared.program.Constant.TheVariants.{Texts, Number
 use Rattle.query_code.specs.declared.program.Mode.{Mode}
 use Rattle.query_code.specs.declared.program.Numbers as counts
 use Rattle.query_code.specs.declared.program.Parts.{Parts}
-use Rattle.verify_shapes.specs.Loading.{has_members, has_some}
+use Rattle.verify_programs.specs.Loading.{has_members, has_some}
 
 has_one : {A : Type 0} (xs : List A) → ltb 0 (length xs) ≡ true → has_some xs ≡ true
 has_one [] e = absurd (false≢true e)

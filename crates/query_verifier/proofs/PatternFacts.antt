@@ -9,8 +9,8 @@ use Rattle.query_verifier.specs.Checking.{ChecksProgram, HasNoShapes, StandsAt}
 use Rattle.refusals.specs.declared.refusal.Refusal.TheVariants.{Refused}
 use Rattle.verify_programs.specs.declared.spot.Spot.{Spot}
 use Rattle.verify_programs.specs.declared.spot.Spot.TheVariants as spot
-use Rattle.verify_shapes.specs.declared.cause.CodeCause.{CodeCause}
-use Rattle.verify_shapes.specs.declared.cause.CodeCause.TheVariants as code
+use Rattle.verify_programs.specs.declared.cause.CodeCause.{CodeCause}
+use Rattle.verify_programs.specs.declared.cause.CodeCause.TheVariants as code
 use Rattle.well_shaped.specs.Program.{IsWellShaped}
 
 abbrev HasPattern : Parts → Type 0

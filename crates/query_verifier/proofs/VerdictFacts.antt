@@ -9,8 +9,8 @@ use Rattle.query_code.specs.declared.cause.FileCause.{FileCause}
 use Rattle.query_code.specs.declared.program.Parts.{Parts}
 use Rattle.verified_program.specs.declared.checked.Checked.{Checked}
 use Rattle.well_shaped.specs.Program.{IsWellShaped}
-use Rattle.verify_shapes.specs.declared.cause.CodeCause.{CodeCause}
-use Rattle.verify_shapes.specs.declared.cause.CodeCause.TheVariants as cause
+use Rattle.verify_programs.specs.declared.cause.CodeCause.{CodeCause}
+use Rattle.verify_programs.specs.declared.cause.CodeCause.TheVariants as cause
 use Rattle.verify_programs.specs.Depths.{HasCauseAt, Lacks}
 use Rattle.verify_programs.specs.declared.spot.Fault.{Fault}
 use Rattle.verify_programs.specs.declared.spot.Spot.{Spot}

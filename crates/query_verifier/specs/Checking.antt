@@ -2,7 +2,7 @@
 use Rattle.std.specs.Prelude.{◌≡◌, ℕ, true, List, map, Result, Ok, Err}
 use Rattle.refusals.specs.declared.refusal.Refusal.{Refusal}
 use Rattle.refusals.specs.declared.refusal.Refusal.TheVariants.{OutOfMemory, Refused}
-use Rattle.query_columns.specs.ColumnShape.{AreBounds}
+use Rattle.query_rows.specs.ColumnShape.{AreBounds}
 use Rattle.query_code.specs.QueryFile.{IsFile, decoded}
 use Rattle.query_code.specs.declared.program.Code as program
 use Rattle.query_code.specs.declared.program.Parts.{Parts}
@@ -11,8 +11,8 @@ use Rattle.plain_machine.specs.Pool.{pattern_at, pattern_in}
 use Rattle.well_shaped.specs.Laws.{is_some}
 use Rattle.well_shaped.specs.Program.{IsDepth, IsWellShaped}
 use Rattle.verified_program.specs.declared.checked.Checked.{Checked}
-use Rattle.verify_shapes.specs.declared.cause.CodeCause.{CodeCause}
-use Rattle.verify_shapes.specs.declared.cause.CodeCause.TheVariants as cause
+use Rattle.verify_programs.specs.declared.cause.CodeCause.{CodeCause}
+use Rattle.verify_programs.specs.declared.cause.CodeCause.TheVariants as cause
 use Rattle.verify_programs.specs.Depths.{HasCauseAt}
 use Rattle.verify_programs.specs.declared.spot.Fault.{Fault}
 use Rattle.verify_programs.specs.declared.spot.Spot.{Spot}

@@ -1,7 +1,7 @@
 -- What users are told of why a file isn't accepted.
 use Rattle.std.specs.Prelude.{ℕ, List, Option, Some}
 use Rattle.query_code.specs.FileCause as file
-use Rattle.verify_shapes.specs.CodeCause as code
+use Rattle.verify_programs.specs.CodeCause as code
 use Rattle.query_verifier.specs.declared.cause.VerifierCause as causes
 use Rattle.query_verifier.specs.declared.cause.VerifierCause.TheVariants.{File, Code}
 

@@ -1,6 +1,6 @@
 //! The bounds that a query file may have.
 ghost use Rattle.std.specs.Prelude.{MatchBool};
-ghost use Rattle.query_columns.specs.ColumnShape.{AreBounds};
+ghost use Rattle.query_rows.specs.ColumnShape.{AreBounds};
 
 use limits::{Bounds, MOST_UNITS_DIGITS, MOST_VALUE_DIGITS};
 

@@ -4,7 +4,7 @@ ghost use Rattle.std.specs.Prelude.{◌≡◌};
 use query_code::FileCause;
 use refusals::Cause;
 use std::fmt;
-use verify_shapes::CodeCause;
+use verify_programs::CodeCause;
 
 /// What keeps bytes from being a query file that is accepted, and at which byte.
 #[derive(Clone, Copy, Debug, Drop, PartialEq, Eq)]

@@ -4,7 +4,7 @@ ghost use Rattle.std.specs.List.{list_all};
 ghost use Rattle.query_code.specs.QueryFile.{IsFile};
 ghost use Rattle.query_code.specs.declared.program.Parts.{Parts};
 ghost use Rattle.well_shaped.specs.Program.{IsWellShaped};
-ghost use Rattle.verify_shapes.specs.Loading.{has_members};
+ghost use Rattle.verify_programs.specs.Loading.{has_members};
 ghost use Rattle.query_verifier.specs.Checking.{Checks, ChecksProgram, IsAccepted, Verifies};
 
 use crate::bounds::are_bounds;
@@ -19,7 +19,7 @@ use refusals::Refusal;
 use std::alloc::Global;
 use verified_program::Checked;
 use verify_programs::{Fault, Spot, depth_of};
-use verify_shapes::CodeCause;
+use verify_programs::CodeCause;
 
 /// What is found of a program that is accepted.
 #[derive(Drop)]

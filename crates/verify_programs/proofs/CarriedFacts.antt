@@ -2,7 +2,7 @@
 use Rattle.std.proofs.Common.{◌≡◌, ℕ, List, reverse, Ok, Err, Result, sym, subst}
 use Rattle.refusals.specs.declared.refusal.Refusal.{Refusal}
 use Rattle.refusals.specs.declared.refusal.Refusal.TheVariants.{OutOfMemory, Refused}
-use Rattle.query_shapes.specs.declared.shape.Shape.{Shape}
+use Rattle.query_rows.specs.declared.shape.Shape.{Shape}
 use Rattle.query_code.specs.declared.instruction.Instruction.{Instruction}
 use Rattle.query_code.specs.declared.program.Constant.{Constant}
 use Rattle.query_code.specs.declared.program.Mode.TheVariants.{Grouped}
@@ -10,10 +10,10 @@ use Rattle.query_code.specs.declared.program.Parts.{Parts}
 use Rattle.plain_machine.specs.SectionRun.{State}
 use Rattle.well_shaped.specs.Ends.{HandsOver}
 use Rattle.well_shaped.specs.Sections.{Loads, filter_loads, last_loads, row_loads}
-use Rattle.verify_shapes.specs.declared.cause.CodeCause.{CodeCause}
-use Rattle.verify_shapes.specs.declared.cause.CodeCause.TheVariants as cause
-use Rattle.verify_sections.specs.Passing.{HasCause, Passes}
-use Rattle.verify_sections.specs.declared.passing.SectionCause.{SectionCause}
+use Rattle.verify_programs.specs.declared.cause.CodeCause.{CodeCause}
+use Rattle.verify_programs.specs.declared.cause.CodeCause.TheVariants as cause
+use Rattle.verify_programs.specs.Passing.{HasCause, Passes}
+use Rattle.verify_programs.specs.declared.passing.SectionCause.{SectionCause}
 use Rattle.verify_programs.specs.Depths.{EndAnswers, HasCauseAt, HasLastCause, IsRowLeast}
 use Rattle.verify_programs.specs.Depths.{Lacks, LastAnswers, ended, placed}
 use Rattle.verify_programs.specs.Ending.{Hands, IsEndCause}

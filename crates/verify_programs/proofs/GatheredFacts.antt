@@ -5,9 +5,9 @@ use Rattle.std.proofs.Common.{drop, drop-cons, add-one}
 use Rattle.std.specs.Prelude.{option_and_then, option_map}
 use Rattle.query_values.specs.declared.operation.Aggregate.{Aggregate}
 use Rattle.query_values.specs.declared.operation.Aggregate.TheVariants.{CountRows}
-use Rattle.query_shapes.specs.Rules.{Ruled, aggregate_shape}
-use Rattle.query_shapes.specs.declared.shape.Misfit.{Misfit}
-use Rattle.query_shapes.specs.declared.shape.Shape.{Shape}
+use Rattle.query_rows.specs.Rules.{Ruled, aggregate_shape}
+use Rattle.query_rows.specs.declared.shape.Misfit.{Misfit}
+use Rattle.query_rows.specs.declared.shape.Shape.{Shape}
 use Rattle.well_shaped.specs.Ends.{cons_if, gathered}
 use Rattle.well_shaped.specs.Sections.{given}
 use Rattle.verify_programs.specs.Ending.{input_at}

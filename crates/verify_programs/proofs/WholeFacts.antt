@@ -4,10 +4,10 @@ use Rattle.std.proofs.Common.{Option, Some, None, refl, sym, ap, ◌∙◌, subs
 use Rattle.std.proofs.Common.{arith}
 use Rattle.std.proofs.lemmas.Bool.{cases_lt}
 use Rattle.std.proofs.lemmas.Grind.{reverse_onto}
-use Rattle.query_columns.specs.ColumnShape.{AreBounds}
-use Rattle.query_shapes.specs.Shape.{IsBelow}
-use Rattle.query_shapes.specs.declared.shape.Shape.{Shape}
-use Rattle.query_shapes.specs.declared.shape.Shape.TheVariants.{Truth}
+use Rattle.query_rows.specs.ColumnShape.{AreBounds}
+use Rattle.query_rows.specs.Shape.{IsBelow}
+use Rattle.query_rows.specs.declared.shape.Shape.{Shape}
+use Rattle.query_rows.specs.declared.shape.Shape.TheVariants.{Truth}
 use Rattle.query_code.specs.declared.program.Code.{Code}
 use Rattle.query_code.specs.declared.program.Mode.TheVariants.{Plain, Grouped}
 use Rattle.query_code.specs.declared.program.Parts.{Parts}
@@ -26,7 +26,7 @@ use Rattle.well_shaped.specs.Program.{IsDepth, IsWellShaped}
 use Rattle.well_shaped.specs.Sections.{Loads, filter_loads, last_loads}
 use Rattle.well_shaped.specs.Sections.{row_acts, row_loads, shape_acts}
 use Rattle.well_shaped.specs.StateShape.{AreEach, IsStateBelow}
-use Rattle.verify_sections.specs.Passing.{HasNone, IsLeast}
+use Rattle.verify_programs.specs.Passing.{HasNone, IsLeast}
 use Rattle.verify_programs.specs.Depths.{EndHas, FilterHas, IsRowLeast, LastHas}
 
 -- ---- lists

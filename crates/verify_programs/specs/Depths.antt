@@ -2,8 +2,8 @@
 use Rattle.std.specs.Prelude.{◌≡◌, ℕ, ◌≤◌, List, [], ◌∷◌, length, reverse, Result, Ok, Err, ◌⊎◌}
 use Rattle.refusals.specs.declared.refusal.Refusal.{Refusal}
 use Rattle.refusals.specs.declared.refusal.Refusal.TheVariants.{OutOfMemory, Refused}
-use Rattle.query_shapes.specs.declared.shape.Shape.{Shape}
-use Rattle.query_shapes.specs.declared.shape.Shape.TheVariants.{Truth}
+use Rattle.query_rows.specs.declared.shape.Shape.{Shape}
+use Rattle.query_rows.specs.declared.shape.Shape.TheVariants.{Truth}
 use Rattle.query_code.specs.declared.program.Mode.{Mode}
 use Rattle.query_code.specs.declared.program.Parts.{Parts}
 use Rattle.plain_machine.specs.SectionRun.{State}
@@ -12,10 +12,10 @@ use Rattle.well_shaped.specs.Places.{HasDepth, Leaves}
 use Rattle.well_shaped.specs.Program.{EndsWell, HasDepthInLast, IsDepth, IsWellShaped}
 use Rattle.well_shaped.specs.Sections.{filter_acts, filter_loads, last_acts, last_loads}
 use Rattle.well_shaped.specs.Sections.{row_loads}
-use Rattle.verify_shapes.specs.declared.cause.CodeCause.{CodeCause}
-use Rattle.verify_sections.specs.Passing.{HasCause, IsLeast}
-use Rattle.verify_sections.specs.declared.passing.Passed.{Passed}
-use Rattle.verify_sections.specs.declared.passing.SectionCause.{SectionCause}
+use Rattle.verify_programs.specs.declared.cause.CodeCause.{CodeCause}
+use Rattle.verify_programs.specs.Passing.{HasCause, IsLeast}
+use Rattle.verify_programs.specs.declared.passing.Passed.{Passed}
+use Rattle.verify_programs.specs.declared.passing.SectionCause.{SectionCause}
 use Rattle.verify_programs.specs.declared.spot.Fault.{Fault}
 use Rattle.verify_programs.specs.declared.spot.Spot.{Spot}
 use Rattle.verify_programs.specs.declared.spot.Spot.TheVariants.{Filter, Row, Last}

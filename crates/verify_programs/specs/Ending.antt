@@ -4,11 +4,11 @@ use Rattle.query_values.specs.declared.operation.Aggregate.{Aggregate}
 use Rattle.query_values.specs.declared.operation.Aggregate.TheVariants.{CountRows}
 use Rattle.refusals.specs.declared.refusal.Refusal.{Refusal}
 use Rattle.refusals.specs.declared.refusal.Refusal.TheVariants.{OutOfMemory, Refused}
-use Rattle.query_shapes.specs.declared.shape.Shape.{Shape}
+use Rattle.query_rows.specs.declared.shape.Shape.{Shape}
 use Rattle.query_code.specs.declared.program.Code.{Code}
 use Rattle.well_shaped.specs.Ends.{HandsOver}
-use Rattle.verify_shapes.specs.declared.cause.CodeCause.{CodeCause}
-use Rattle.verify_shapes.specs.declared.cause.CodeCause.TheVariants.{Values, TooWide}
+use Rattle.verify_programs.specs.declared.cause.CodeCause.{CodeCause}
+use Rattle.verify_programs.specs.declared.cause.CodeCause.TheVariants.{Values, TooWide}
 use Rattle.verify_programs.specs.declared.ends.ToLast.{ToLast}
 
 -- a cause of an end

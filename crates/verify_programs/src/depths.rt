@@ -1,8 +1,8 @@
 //! How deep the stack of a program becomes.
 ghost use Rattle.std.specs.Prelude.{◌≡◌, reverse, true};
 ghost use Rattle.std.specs.List.{list_all};
-ghost use Rattle.query_columns.specs.ColumnShape.{AreBounds};
-ghost use Rattle.verify_shapes.specs.Loading.{has_members};
+ghost use Rattle.query_rows.specs.ColumnShape.{AreBounds};
+ghost use Rattle.verify_programs.specs.Loading.{has_members};
 ghost use Rattle.verify_programs.specs.Depths as spec;
 ghost use Rattle.verify_programs.specs.declared.spot.Spot.TheVariants.{Filter, Row, Last};
 ghost use Rattle.refusals.specs.declared.refusal.Refusal.TheVariants.{Refused};
@@ -11,11 +11,10 @@ ghost use Rattle.well_shaped.specs.Ends.{HandsOver};
 
 use crate::ends::{ToLast, handed, is_one_truth, is_row};
 use crate::spot::{Fault, Spot};
+use crate::{CodeCause, Loads, Passed, SectionCause, pass};
 use query_code::{Mode, Parts};
 use refusals::Refusal;
 use std::alloc::Global;
-use verify_sections::{Passed, SectionCause, pass};
-use verify_shapes::{CodeCause, Loads};
 
 fn fault(cause: CodeCause, spot: Spot) -> Refusal<Fault>
     ensures { result ≡ Refused (record { cause = cause; spot = spot }) }

@@ -1,18 +1,18 @@
 //! What sections leave at their end.
 ghost use Rattle.std.specs.Prelude.{◌≡◌, [], ◌∷◌, MatchBool, MatchOption, Some, None, slice_get};
 ghost use Rattle.std.specs.List.{list_all};
-ghost use Rattle.query_shapes.specs.declared.shape.Shape.TheVariants.{Truth};
+ghost use Rattle.query_rows.specs.declared.shape.Shape.TheVariants.{Truth};
 ghost use Rattle.well_shaped.specs.Ends as spec;
 ghost use Rattle.verify_programs.specs.Ending.{Hands, Totals, input_at};
 
+use crate::CodeCause;
 use bean_base::List;
 use query_code::{Code, Output};
-use query_shapes::rules::is_ranked;
-use query_shapes::{Misfit, Shape, aggregate_shape};
+use query_rows::rules::is_ranked;
+use query_rows::{Misfit, Shape, aggregate_shape};
 use query_values::Aggregate;
 use refusals::Refusal;
 use std::alloc::Global;
-use verify_shapes::CodeCause;
 
 /// Whether a filter leaves one truth value.
 pub fn is_one_truth(values: &[Shape]) -> bool

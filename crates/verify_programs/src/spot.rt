@@ -1,5 +1,5 @@
 //! What causes stand at.
-use verify_shapes::CodeCause;
+use crate::CodeCause;
 
 /// What a cause stands at.
 #[derive(Clone, Copy, Debug, Drop, PartialEq, Eq)]

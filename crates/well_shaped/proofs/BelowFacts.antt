@@ -5,17 +5,17 @@ use Rattle.std.specs.Prelude.{option_map, option_and_then}
 use Rattle.std.proofs.lemmas.Bool.{false≢true}
 use Rattle.limits.specs.declared.bounds.Bounds.{Bounds}
 use Rattle.query_values.specs.Unary as operation
-use Rattle.query_shapes.proofs.OrderFacts.{reflexive, transitive}
-use Rattle.query_shapes.proofs.RisingFacts.{fitting_below, unary_rises, binary_rises}
-use Rattle.query_shapes.specs.Keeping.{Under}
-use Rattle.query_shapes.specs.Rules.{Ruled, unary_shape, binary_shape}
-use Rattle.query_shapes.specs.Shape.{IsBelow, fitting}
-use Rattle.query_shapes.specs.declared.shape.Shape.{Shape}
-use Rattle.query_shapes.specs.declared.shape.Shape.TheVariants.{Text, Truth}
-use Rattle.query_columns.specs.Column.{numbered}
-use Rattle.query_columns.specs.ColumnShape.{column_shape}
-use Rattle.query_columns.specs.declared.column.Column.{Column}
-use Rattle.query_columns.specs.declared.column.Column.TheVariants.{Balance}
+use Rattle.query_rows.proofs.OrderFacts.{reflexive, transitive}
+use Rattle.query_rows.proofs.RisingFacts.{fitting_below, unary_rises, binary_rises}
+use Rattle.query_rows.specs.Keeping.{Under}
+use Rattle.query_rows.specs.Rules.{Ruled, unary_shape, binary_shape}
+use Rattle.query_rows.specs.Shape.{IsBelow, fitting}
+use Rattle.query_rows.specs.declared.shape.Shape.{Shape}
+use Rattle.query_rows.specs.declared.shape.Shape.TheVariants.{Text, Truth}
+use Rattle.query_rows.specs.Column.{numbered}
+use Rattle.query_rows.specs.ColumnShape.{column_shape}
+use Rattle.query_rows.specs.declared.column.Column.{Column}
+use Rattle.query_rows.specs.declared.column.Column.TheVariants.{Balance}
 use Rattle.query_code.specs.declared.instruction.Push.{Push}
 use Rattle.query_code.specs.declared.instruction.Push.TheVariants as push
 use Rattle.query_code.specs.declared.program.Constant.{Constant}

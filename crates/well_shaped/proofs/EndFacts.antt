@@ -6,12 +6,12 @@ use Rattle.std.specs.List.{list_all}
 use Rattle.std.proofs.lemmas.Bool.{and_parts, and_from, false≢true}
 use Rattle.query_values.specs.declared.operation.Aggregate.{Aggregate}
 use Rattle.query_values.specs.declared.operation.Aggregate.TheVariants.{CountRows}
-use Rattle.query_shapes.proofs.GatheringFacts.{gathers_rise}
-use Rattle.query_shapes.proofs.OrderFacts.{below_cases}
-use Rattle.query_shapes.specs.Rules.{aggregate_shape, is_ranked}
-use Rattle.query_shapes.specs.Shape.{IsBelow}
-use Rattle.query_shapes.specs.declared.shape.Shape.{Shape}
-use Rattle.query_shapes.specs.declared.shape.Shape.TheVariants.{Truth}
+use Rattle.query_rows.proofs.GatheringFacts.{gathers_rise}
+use Rattle.query_rows.proofs.OrderFacts.{below_cases}
+use Rattle.query_rows.specs.Rules.{aggregate_shape, is_ranked}
+use Rattle.query_rows.specs.Shape.{IsBelow}
+use Rattle.query_rows.specs.declared.shape.Shape.{Shape}
+use Rattle.query_rows.specs.declared.shape.Shape.TheVariants.{Truth}
 use Rattle.query_code.specs.declared.program.Code.{Code}
 use Rattle.query_code.specs.declared.program.Output.{Output}
 use Rattle.well_shaped.specs.Ends.{has_order, AreRow, front_of, cons_if, gathered, HandsOver}

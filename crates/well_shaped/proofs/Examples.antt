@@ -5,9 +5,9 @@ use Rattle.std.proofs.Common.{⊎_elim, inl, inr}
 use Rattle.std.specs.Prelude.{slice_get, ⊤}
 use Rattle.std.proofs.lemmas.Bool.{leb-true}
 use Rattle.limits.specs.declared.counts.TheConstants.{SLOTS}
-use Rattle.query_shapes.specs.declared.shape.Shape.{Shape}
-use Rattle.query_shapes.specs.declared.shape.Shape.TheVariants.{Truth, Text, Number}
-use Rattle.query_columns.specs.ColumnShape.{AreBounds, widest}
+use Rattle.query_rows.specs.declared.shape.Shape.{Shape}
+use Rattle.query_rows.specs.declared.shape.Shape.TheVariants.{Truth, Text, Number}
+use Rattle.query_rows.specs.ColumnShape.{AreBounds, widest}
 use Rattle.query_code.specs.declared.instruction.Push.{Push as Op}
 use Rattle.query_code.specs.declared.instruction.Push.TheVariants as push
 use Rattle.query_code.specs.declared.instruction.Instruction.{Instruction}

@@ -10,13 +10,13 @@ use Rattle.limits.specs.declared.counts.TheConstants.{COUNT_BOUND, MOST_PLACES, 
 use Rattle.query_values.specs.Unary as operation
 use Rattle.query_values.specs.declared.operation.Binary.{Binary}
 use Rattle.query_values.specs.declared.operation.Binary.TheVariants as binary
-use Rattle.query_shapes.proofs.OrderFacts.{below_cases, transitive}
-use Rattle.query_shapes.specs.Rules as rule
-use Rattle.query_shapes.specs.Rules.{Ruled, unary_shape, binary_shape}
-use Rattle.query_shapes.specs.Shape.{IsBelow, fitting, is_held, is_most}
-use Rattle.query_shapes.specs.declared.shape.Misfit.TheVariants.{Kind, TooWide}
-use Rattle.query_shapes.specs.declared.shape.Shape.{Shape}
-use Rattle.query_shapes.specs.declared.shape.Shape.TheVariants as shape
+use Rattle.query_rows.proofs.OrderFacts.{below_cases, transitive}
+use Rattle.query_rows.specs.Rules as rule
+use Rattle.query_rows.specs.Rules.{Ruled, unary_shape, binary_shape}
+use Rattle.query_rows.specs.Shape.{IsBelow, fitting, is_held, is_most}
+use Rattle.query_rows.specs.declared.shape.Misfit.TheVariants.{Kind, TooWide}
+use Rattle.query_rows.specs.declared.shape.Shape.{Shape}
+use Rattle.query_rows.specs.declared.shape.Shape.TheVariants as shape
 use Rattle.query_code.specs.declared.instruction.Instruction.{Instruction}
 use Rattle.query_code.specs.declared.program.Constant.{Constant}
 use Rattle.plain_machine.specs.Pool.{operation_of}

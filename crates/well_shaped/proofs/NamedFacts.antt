@@ -7,9 +7,9 @@ use Rattle.std.proofs.lemmas.Bool.{cases_lt, lt-ltb}
 use Rattle.std.proofs.lemmas.Option.{slice_get_past, slice_get_within}
 use Rattle.limits.specs.declared.counts.TheConstants.{SLOTS}
 use Rattle.query_values.specs.Unary as operation
-use Rattle.query_shapes.specs.Rules.{unary_shape}
-use Rattle.query_shapes.specs.Shape.{fitting}
-use Rattle.query_shapes.specs.declared.shape.Shape.{Shape}
+use Rattle.query_rows.specs.Rules.{unary_shape}
+use Rattle.query_rows.specs.Shape.{fitting}
+use Rattle.query_rows.specs.declared.shape.Shape.{Shape}
 use Rattle.query_code.specs.declared.instruction.Instruction.{Instruction}
 use Rattle.query_code.specs.declared.instruction.Instruction.TheVariants.{Push, Unary, Binary}
 use Rattle.query_code.specs.declared.instruction.Instruction.TheVariants.{LoadSlot, StoreSlot, Jump}

@@ -4,8 +4,8 @@ use Rattle.std.proofs.Common.{Some, None, true, leb, ltb, refl, subst}
 use Rattle.std.proofs.Common.{⊎_elim, arith}
 use Rattle.std.specs.Prelude.{slice_get, ◌&&◌}
 use Rattle.std.proofs.lemmas.Bool.{ltb-true, and_parts}
-use Rattle.query_shapes.specs.Shape.{IsBelow}
-use Rattle.query_shapes.specs.declared.shape.Shape.{Shape}
+use Rattle.query_rows.specs.Shape.{IsBelow}
+use Rattle.query_rows.specs.declared.shape.Shape.{Shape}
 use Rattle.query_code.specs.declared.instruction.Instruction.{Instruction}
 use Rattle.query_code.specs.declared.instruction.Instruction.TheVariants.{Push, Unary, Binary}
 use Rattle.query_code.specs.declared.instruction.Instruction.TheVariants.{LoadSlot, StoreSlot, Jump}

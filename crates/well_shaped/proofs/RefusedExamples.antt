@@ -8,10 +8,10 @@ use Rattle.limits.specs.declared.bounds.Bounds.{Bounds}
 use Rattle.limits.specs.declared.counts.TheConstants.{SLOTS}
 use Rattle.limits.specs.declared.bounds.Version.TheVariants.{First}
 use Rattle.query_values.specs.declared.operation.Binary.TheVariants as binary
-use Rattle.query_shapes.specs.Shape.{IsBelow}
-use Rattle.query_shapes.specs.declared.shape.Shape.{Shape}
-use Rattle.query_shapes.specs.declared.shape.Shape.TheVariants.{Truth, Amount, Number}
-use Rattle.query_columns.specs.ColumnShape.{widest, units_most, value_most}
+use Rattle.query_rows.specs.Shape.{IsBelow}
+use Rattle.query_rows.specs.declared.shape.Shape.{Shape}
+use Rattle.query_rows.specs.declared.shape.Shape.TheVariants.{Truth, Amount, Number}
+use Rattle.query_rows.specs.ColumnShape.{widest, units_most, value_most}
 use Rattle.query_code.specs.declared.instruction.Push.TheVariants as push
 use Rattle.query_code.specs.declared.instruction.Unary.TheVariants as unary
 use Rattle.query_code.specs.declared.instruction.Instruction.{Instruction}

@@ -4,8 +4,8 @@ use Rattle.std.specs.Prelude.{Option, Some, None, slice_get, option_map, option_
 use Rattle.std.specs.List.{list_all}
 use Rattle.query_values.specs.declared.operation.Aggregate.{Aggregate}
 use Rattle.query_values.specs.declared.operation.Aggregate.TheVariants.{CountRows}
-use Rattle.query_shapes.specs.Rules.{aggregate_shape, is_ranked}
-use Rattle.query_shapes.specs.declared.shape.Shape.{Shape}
+use Rattle.query_rows.specs.Rules.{aggregate_shape, is_ranked}
+use Rattle.query_rows.specs.declared.shape.Shape.{Shape}
 use Rattle.query_code.specs.declared.program.Code.{Code}
 use Rattle.query_code.specs.declared.program.Output.{Output}
 use Rattle.well_shaped.specs.Sections.{given}

@@ -3,9 +3,9 @@ use Rattle.std.specs.Prelude.{◌≡◌, ℕ, ◌≤◌, nat_lt, Bool, true, fal
 use Rattle.std.specs.Prelude.{Some, None, slice_get, ⊤}
 use Rattle.std.specs.List.{AllByRecursion}
 use Rattle.limits.specs.declared.counts.TheConstants.{MOST_VALUES, SLOTS}
-use Rattle.query_shapes.specs.Shape.{IsBelow, is_held}
-use Rattle.query_shapes.specs.declared.shape.Shape.{Shape}
-use Rattle.query_shapes.specs.declared.shape.Shape.TheVariants.{Truth}
+use Rattle.query_rows.specs.Shape.{IsBelow, is_held}
+use Rattle.query_rows.specs.declared.shape.Shape.{Shape}
+use Rattle.query_rows.specs.declared.shape.Shape.TheVariants.{Truth}
 use Rattle.query_code.specs.declared.instruction.Instruction.{Instruction}
 use Rattle.query_code.specs.declared.instruction.Instruction.TheVariants.{Push, Unary}
 use Rattle.query_code.specs.declared.instruction.Instruction.TheVariants.{LoadSlot, StoreSlot}

@@ -4,3 +4,6 @@ pub mod Places
 pub mod Ends
 pub mod Program
 pub mod Laws
+pub mod Safety
+pub mod Upgrades
+pub mod Files

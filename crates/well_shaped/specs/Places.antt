@@ -1,7 +1,7 @@
 -- State shapes that are given to the places of a section, its end included.
 use Rattle.std.specs.Prelude.{◌≡◌, ℕ, ◌+◌, ◌<◌, ◌≤◌, true, List, length, reverse, Some}
 use Rattle.std.specs.Prelude.{slice_get, ◌⊎◌}
-use Rattle.query_shapes.specs.declared.shape.Shape.{Shape}
+use Rattle.query_rows.specs.declared.shape.Shape.{Shape}
 use Rattle.query_code.specs.declared.instruction.Instruction.{Instruction}
 use Rattle.query_code.specs.declared.instruction.Instruction.TheVariants.{Jump, JumpIfFalse}
 use Rattle.plain_machine.specs.SectionRun.{Acts, State, start, effect, leads_on}

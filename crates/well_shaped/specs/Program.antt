@@ -1,9 +1,9 @@
 -- Which programs are well shaped: those of which it is known beforehand, over each ledger within
 -- their bounds, that they can be run without a fault, and how deep their stack becomes.
 use Rattle.std.specs.Prelude.{ℕ, ◌≤◌, List, [], ◌∷◌, ◌⊎◌}
-use Rattle.query_shapes.specs.declared.shape.Shape.{Shape}
-use Rattle.query_shapes.specs.declared.shape.Shape.TheVariants.{Truth}
-use Rattle.query_columns.specs.ColumnShape.{AreBounds}
+use Rattle.query_rows.specs.declared.shape.Shape.{Shape}
+use Rattle.query_rows.specs.declared.shape.Shape.TheVariants.{Truth}
+use Rattle.query_rows.specs.ColumnShape.{AreBounds}
 use Rattle.query_code.specs.declared.program.Mode.{Mode}
 use Rattle.query_code.specs.declared.program.Mode.TheVariants.{Plain, Grouped}
 use Rattle.query_code.specs.declared.program.Parts.{Parts}

@@ -5,14 +5,14 @@ use Rattle.std.specs.Prelude.{slice_get, option_map, option_and_then, ifâ—Œthenâ
 use Rattle.std.specs.Int.RustNames.{unsigned_abs}
 use Rattle.limits.specs.declared.bounds.Bounds.{Bounds}
 use Rattle.query_values.specs.declared.operation.Binary.{Binary}
-use Rattle.query_shapes.specs.Rules.{Ruled, unary_shape, binary_shape}
-use Rattle.query_shapes.specs.Shape.{fitting}
-use Rattle.query_shapes.specs.declared.shape.Shape.{Shape}
-use Rattle.query_shapes.specs.declared.shape.Shape.TheVariants as shape
-use Rattle.query_columns.specs.Column.{is_in, numbered}
-use Rattle.query_columns.specs.ColumnShape.{column_shape}
-use Rattle.query_columns.specs.declared.column.Column.{Column}
-use Rattle.query_columns.specs.declared.column.Column.TheVariants.{Balance}
+use Rattle.query_rows.specs.Rules.{Ruled, unary_shape, binary_shape}
+use Rattle.query_rows.specs.Shape.{fitting}
+use Rattle.query_rows.specs.declared.shape.Shape.{Shape}
+use Rattle.query_rows.specs.declared.shape.Shape.TheVariants as shape
+use Rattle.query_rows.specs.Column.{is_in, numbered}
+use Rattle.query_rows.specs.ColumnShape.{column_shape}
+use Rattle.query_rows.specs.declared.column.Column.{Column}
+use Rattle.query_rows.specs.declared.column.Column.TheVariants.{Balance}
 use Rattle.query_code.specs.declared.instruction.Push.{Push}
 use Rattle.query_code.specs.declared.instruction.Push.TheVariants as push
 use Rattle.query_code.specs.declared.instruction.Unary.{Unary}

@@ -1,5 +1,5 @@
 //! Which programs are well shaped: those of which it is known beforehand that they run without a
-//! fault over each ledger within the bounds of their header.
+//! fault over each ledger within the bounds of their header; and what holds of them.
 //!
 //! To each place of each section a state shape can be given: what is known of the values on the
 //! stack and in the slots. `specs/Program` says so, without a word on how such shapes are found, so
@@ -22,54 +22,51 @@
 //! might be too wide, or more than 256 on a stack; places where paths meet with other kinds,
 //! decimals or depths on the stack; and ends of sections with other values than the program states.
 //!
+//! # They run safely
+//!
+//! Which programs are well shaped is told by shapes alone, what a program does by values
+//! (`plain_machine`). Over each ledger within the bounds of its header, a well shaped program runs to
+//! its end without a fault, and with no more values on its stack than are told beforehand
+//! ([`programs_run_safely_where_ledgers_fit`]). So whoever runs a verified program need not look for
+//! faults. Besides its shapes the program is asked to have a file: a file states one target or more,
+//! and its texts are short. Of the rows it is asked that they are no more than the header allows,
+//! and that each cell and each text of metadata lies in the shape that the header's bounds give it.
+//!
+//! ```text
+//! filter        row               last           at most 1000 postings of 12 digits
+//! 0  TRUE       0  LOAD number    0  LOAD_AGG 0  1 aggregate: SUM, of 8 decimals
+//!
+//! over 1000 rows or fewer, of 12 digits at most: no fault, and one value on the stack
+//! ```
+//!
+//! # They have files
+//!
+//! A program is parts that the file of a query can hold: counts of one byte or two, texts of at most
+//! 65,535 bytes, operands that fit behind their opcodes. Of a well shaped program most of this is
+//! known ([`well_shaped_programs_have_files`]). What its instructions name is there, so an index is
+//! below the length of what it points into; a jump leads into its section; decimals are at most 32;
+//! and no more values stand on the stack than 256, so that there are no more columns.
+//!
+//! # They stay so
+//!
+//! A file of the first version is brought to the second by `query_code::upgrade`, which changes the
+//! version and nothing else: the program is well shaped as it was
+//! ([`upgrades_are_well_shaped`]), and over all rows it runs as it did
+//! ([`well_shaped_upgrades_run_alike`]). Which ledgers are within its bounds may change: in the second
+//! version prices count too, and a ledger may have more postings than a file of the first version
+//! can allow.
+//!
 //! # Cost
 //!
 //! None: these are laws, and nothing here runs.
 #![tactic(auto)]
 
-ghost use Rattle.query_shapes.specs.Shape.{IsBelow, LiesIn};
-ghost use Rattle.well_shaped.specs.Laws.{ActsAreMonotone, DepthsAreOne, EndsAreMonotone};
-ghost use Rattle.well_shaped.specs.Laws.{HeldShapesFit};
-ghost use Rattle.well_shaped.specs.Laws.{SectionsAreFollowed, SectionsHaveWhatTheyName};
-ghost use Rattle.well_shaped.specs.Laws.{StatesAreOrdered};
-ghost use Rattle.well_shaped.specs.StateShape.{KeepStates};
+mod laws;
 
-/// Being below is an order of state shapes.
-pub fn state_shapes_are_ordered()
-    ensures { StatesAreOrdered }
-{}
-
-/// Where the operations of instructions keep that shapes are below others, or that values lie in
-/// them, so do instructions with whole states.
-pub fn instructions_keep_states()
-    ensures below { KeepStates IsBelow }
-    ensures values { KeepStates LiesIn }
-{}
-
-/// Of lesser shapes instructions make lesser ones, and ends of sections that pass with shapes pass
-/// with lesser ones.
-pub fn sections_are_monotone()
-    ensures acts { ActsAreMonotone }
-    ensures ends { EndsAreMonotone }
-{}
-
-/// What is made of shapes below those that are given to a place is below what is given to the
-/// places behind it.
-pub fn sections_are_followed()
-    ensures { SectionsAreFollowed }
-{}
-
-/// Where state shapes fit a section, lesser ones do of which each value can be held.
-pub fn held_shapes_fit()
-    ensures { HeldShapesFit }
-{}
-
-/// What the instructions of a section name is there.
-pub fn sections_have_what_they_name()
-    ensures { SectionsHaveWhatTheyName }
-{}
-
-/// The stack of a section has one depth at each place, and a program at most one in all.
-pub fn depths_are_one()
-    ensures { DepthsAreOne }
-{}
+pub use laws::{
+    depths_are_one, held_shapes_fit, instructions_keep_states,
+    programs_run_safely_where_ledgers_fit, sections_are_followed, sections_are_monotone,
+    sections_have_what_they_name, state_shapes_are_ordered, upgrades_are_well_shaped,
+    well_shaped_programs_have_files, well_shaped_programs_run_safely,
+    well_shaped_upgrades_run_alike,
+};

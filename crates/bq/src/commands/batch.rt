@@ -1,7 +1,7 @@
 //! `batch K LEDGER FILE..`: what query files answer over a ledger, in turns of K steps each.
 ghost use Rattle.std.specs.Prelude.{◌≡◌, ◌≤◌, ◌++◌, IfOk, OnOk, length};
 ghost use Rattle.std.specs.List.{AllByRecursion, list_any};
-ghost use Rattle.batch_tables.specs.Fates.{HasProgram};
+ghost use Rattle.query_tables.specs.Fates.{HasProgram};
 ghost use Rattle.bq.specs.Accepted.{AcceptsFile, AcceptsFiles};
 ghost use Rattle.bq.specs.Batch as command;
 ghost use Rattle.bq.specs.Runs.{Finds};
@@ -10,7 +10,7 @@ use crate::booking::book_of;
 use crate::commands::file::file_bytes;
 use crate::commands::ledger::{Question, answer_about};
 use crate::given::Given;
-use batch_tables::{Fate, file_fates};
+use query_tables::{Fate, file_fates};
 use bean_base::{List, Slice};
 use bean_load::Texts;
 use endings::{Refusal, Verdict};

@@ -2,7 +2,7 @@
 ghost use Rattle.std.specs.Prelude.{[]};
 ghost use Rattle.bq.specs.Compile as command;
 ghost use Rattle.bq.specs.Due.{ComesTo};
-ghost use Rattle.query_columns.specs.ColumnShape.{AreBounds};
+ghost use Rattle.query_rows.specs.ColumnShape.{AreBounds};
 
 use crate::given::Given;
 use bean_base::{List, Slice};

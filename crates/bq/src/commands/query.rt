@@ -2,7 +2,7 @@
 ghost use Rattle.bq.specs.Query as command;
 ghost use Rattle.bq.specs.Query.{HasBounds};
 ghost use Rattle.bq.specs.Runs.{Finds};
-ghost use Rattle.query_columns.specs.ColumnShape.{widest};
+ghost use Rattle.query_rows.specs.ColumnShape.{widest};
 
 use crate::booking::book_of;
 use crate::commands::ledger::{Question, answer_about};

@@ -2,7 +2,7 @@ use Rattle.std.proofs.Common.{◌≡◌, ◌++◌, ◌∷◌, [], ap, append_ass
 use Rattle.std.proofs.Common.{neg_ℤ, subst, sym, ◌∙◌}
 use Rattle.std.proofs.lemmas.Result.{on_ok_weaker}
 use Rattle.posting_table.specs.Shaped.{IsShaped}
-use Rattle.query_columns.specs.ColumnShape.{widest}
+use Rattle.query_rows.specs.ColumnShape.{widest}
 use Rattle.posting_table.proofs.PartFacts.{row_lies}
 use Rattle.bean_book.specs.Rows.{padding_row, rows_by}
 use Rattle.bean_book.proofs.PaddingFacts.{same, turned, unsigned_abs-neg}

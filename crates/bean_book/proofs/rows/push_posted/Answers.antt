@@ -12,7 +12,7 @@ use Rattle.bean_replay.specs.Small.{IsSmallPosted}
 use Rattle.bean_transactions.specs.Tried.{booked_leg, booked_legs}
 use Rattle.bean_holdings.specs.declared.posted.Posted.{Posted}
 use Rattle.posting_table.specs.Shaped.{IsShaped}
-use Rattle.query_columns.specs.ColumnShape.{widest}
+use Rattle.query_rows.specs.ColumnShape.{widest}
 use Rattle.posting_table.proofs.PartFacts.{row_lies}
 use Rattle.bean_book.specs.Rows.{entry_of, items_in, row_of}
 use Rattle.bean_book.proofs.ShapedFacts.{entry_short, row_small}

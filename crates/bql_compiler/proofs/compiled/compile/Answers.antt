@@ -5,7 +5,7 @@ use Rattle.bql_compiler.proofs.PlannedFacts.{has_room}
 use Rattle.bql_compiler.specs.Output.{HasRoom}
 use Rattle.bql_parser.proofs.SmallLaw.{queries_are_small}
 use Rattle.bql_parser.specs.Answer.{query_of}
-use Rattle.bql_scheme.proofs.CarriedFacts.{carries}
+use Rattle.bql_compiler.proofs.CarriedFacts.{carries}
 use Rattle.bql_plan.specs.Kept.{numbered_of}
 use Rattle.bql_compiler.proofs.compiled.compile.Goals as goal
 

@@ -3,7 +3,7 @@ use Rattle.std.specs.List.{AllByRecursion}
 use Rattle.bql_code.specs.Literals.{text_of}
 use Rattle.bql_compiler.specs.Output.{HasShortName}
 use Rattle.bql_parser.specs.View.{target_of}
-use Rattle.bql_scheme.specs.Program.{target_name}
+use Rattle.bql_compiler.specs.Program.{target_name}
 use Rattle.bql_compiler.proofs.output.names_of.Given as goal
 
 -- what is there so far, with those that are left, is what is there in all

@@ -1,5 +1,5 @@
 use Rattle.std.proofs.Common.{◌≡◌, ◌++◌, drop}
-use Rattle.bql_scheme.specs.Program as rule
+use Rattle.bql_compiler.specs.Program as rule
 use Rattle.bql_types.specs.Keys.{lent_trees}
 use Rattle.bql_compiler.proofs.sections.keys_and_inputs.Given as goal
 

@@ -3,7 +3,7 @@ use Rattle.bql_compiler.proofs.PlannedFacts.{can_be_lowered}
 use Rattle.bql_compiler.specs.Lowers.{AllLower}
 use Rattle.bql_parser.proofs.SmallLaw.{queries_are_small}
 use Rattle.bql_parser.specs.Answer.{query_of}
-use Rattle.bql_scheme.specs.Program.{inputs_in}
+use Rattle.bql_compiler.specs.Program.{inputs_in}
 use Rattle.limits.specs.declared.counts.TheConstants.{MOST_ITEMS}
 use Rattle.bql_compiler.proofs.sections.sections_of.Goals as goal
 

@@ -1,7 +1,7 @@
 use Rattle.std.proofs.Common.{sym, ap, ◌∙◌}
 use Rattle.bql_tree.specs.Cause.{both}
 use Rattle.bql_parser.specs.View.{targets_of, filters_of, group_of, order_of}
-use Rattle.bql_clauses.specs.Read as read
+use Rattle.bql_grammar.specs.Read as read
 use Rattle.bql_parser.specs.Settled as settled
 use Rattle.bql_parser.specs.Settled.{selected}
 use Rattle.bql_parser.proofs.ParseFacts.{all_refused}

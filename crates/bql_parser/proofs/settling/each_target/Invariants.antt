@@ -1,6 +1,6 @@
 use Rattle.std.proofs.Common.{◌≡◌}
 use Rattle.bql_parser.specs.View.{targets_of}
-use Rattle.bql_clauses.specs.Read.{targets_in}
+use Rattle.bql_grammar.specs.Read.{targets_in}
 use Rattle.bql_parser.specs.Settled.{mapped, each_target}
 use Rattle.bql_parser.proofs.settling.each_target.Given as goal
 

@@ -1,4 +1,4 @@
-use Rattle.bql_clauses.specs.Read.{target_of}
+use Rattle.bql_grammar.specs.Read.{target_of}
 use Rattle.bql_parser.specs.Settled.{target_start}
 use Rattle.bql_parser.proofs.SettlingFacts.{viewed_at, none_at}
 use Rattle.bql_parser.proofs.settling.target_beyond.Goals as goal

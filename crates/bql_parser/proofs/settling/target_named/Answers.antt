@@ -1,7 +1,7 @@
 use Rattle.std.proofs.Common.{◌∙◌}
 use Rattle.std.specs.Str.{str_eq_ignore_ascii_case}
-use Rattle.bql_clauses.specs.Read as read
-use Rattle.bql_clauses.specs.Read.{target_of}
+use Rattle.bql_grammar.specs.Read as read
+use Rattle.bql_grammar.specs.Read.{target_of}
 use Rattle.bql_parser.proofs.SettlingFacts.{position_map}
 use Rattle.bql_parser.proofs.settling.target_named.Goals as goal
 

@@ -3,7 +3,7 @@ use Rattle.std.specs.Int.{w128}
 use Rattle.std.specs.Int.RustNames.{unsigned_abs}
 use Rattle.bean_lots.specs.declared.lot.Key.{Key}
 use Rattle.posting_table.specs.declared.row.Weight.{Weight}
-use Rattle.query_shapes.specs.Mass.{value_of}
+use Rattle.query_rows.specs.Mass.{value_of}
 use Rattle.posting_table.proofs.FitFacts.{small_units, small_value}
 use Rattle.posting_table.proofs.FitFacts.{units_are_small, value_is_small, weight_is_small}
 use Rattle.posting_table.proofs.bounded.row_fits.Goals as goal

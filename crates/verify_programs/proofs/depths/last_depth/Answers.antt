@@ -1,5 +1,5 @@
 use Rattle.std.proofs.Common.{Err, sym, subst}
-use Rattle.verify_sections.specs.Passing.{IsLeast, Passes}
+use Rattle.verify_programs.specs.Passing.{IsLeast, Passes}
 use Rattle.verify_programs.specs.Depths.{Lacks}
 use Rattle.well_shaped.specs.Ends.{AreRow}
 use Rattle.verify_programs.proofs.CarriedFacts.{carry}

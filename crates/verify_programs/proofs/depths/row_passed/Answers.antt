@@ -1,5 +1,5 @@
 use Rattle.std.proofs.Common.{Err, sym, subst}
-use Rattle.verify_sections.specs.Passing.{Passes}
+use Rattle.verify_programs.specs.Passing.{Passes}
 use Rattle.verify_programs.specs.Depths.{Lacks}
 use Rattle.verify_programs.proofs.CarriedFacts.{carry, lacks_row}
 use Rattle.verify_programs.proofs.depths.row_passed.Goals as goal

@@ -1,7 +1,7 @@
 use Rattle.std.proofs.Common.{[], sym, subst}
 use Rattle.stores.proofs.GaveFacts.{gave_none}
 use Rattle.bql_parser.specs.Asked.{Asked}
-use Rattle.query_columns.specs.ColumnShape.{widest}
+use Rattle.query_rows.specs.ColumnShape.{widest}
 use Rattle.query_files.specs.Texts.{IsFileOf}
 use Rattle.bq.specs.Asking.{about_program_of}
 use Rattle.bq.specs.Due.{ComesTo}

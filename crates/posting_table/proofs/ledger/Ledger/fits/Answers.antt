@@ -7,7 +7,7 @@ use Rattle.posting_table.specs.Rows.{row_of}
 use Rattle.posting_table.specs.Shaped.{IsShaped}
 use Rattle.posting_table.proofs.FitFacts.{fits_alike, row_fits, rows_are_within}
 use Rattle.posting_table.proofs.FitFacts.{rows_that_fit_lie}
-use Rattle.query_columns.specs.ColumnShape.{widest}
+use Rattle.query_rows.specs.ColumnShape.{widest}
 use Rattle.query_rows.specs.Fits.{fits}
 use Rattle.query_rows.specs.Shaped as rows
 use Rattle.posting_table.proofs.ledger.Ledger.fits.Goals as goal

@@ -3,7 +3,7 @@ use Rattle.std.proofs.lemmas.List.{length-append}
 use Rattle.std.proofs.lemmas.List.Elements.{All-push}
 use Rattle.limits.specs.declared.counts.TheConstants.{MOST_POSTINGS}
 use Rattle.posting_table.specs.Shaped.{IsShaped}
-use Rattle.query_columns.specs.ColumnShape.{widest}
+use Rattle.query_rows.specs.ColumnShape.{widest}
 use Rattle.posting_table.proofs.FitFacts.{few_units}
 use Rattle.posting_table.proofs.ledger.Ledger.push.Goals as goal
 

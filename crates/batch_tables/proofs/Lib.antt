@@ -1,3 +1,0 @@
-pub mod FateFacts
-pub mod FileFacts
-pub mod RoundFacts

@@ -1,5 +1,0 @@
-use Rattle.batch_tables.specs.Rounds.{AreRounds}
-use Rattle.batch_tables.proofs.rounds.go_on.Given as goal
-
-abbrev pub invariant-loop : goal.invariant-loop
-invariant-loop l = AreRounds l.counter l.k l.fn.batch l.batch

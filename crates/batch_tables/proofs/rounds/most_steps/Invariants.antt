@@ -1,8 +1,0 @@
-use Rattle.std.proofs.Common.{take}
-use Rattle.std.specs.List.{AllByRecursion}
-use Rattle.batch_tables.specs.Rounds.{IsBrief}
-use Rattle.batch_tables.proofs.rounds.most_steps.Given as goal
-
-abbrev pub invariant-loop-program : goal.invariant-loop-program
-invariant-loop-program l =
-    AllByRecursion (IsBrief l.postings l.most) (take l.program-index l.programs)

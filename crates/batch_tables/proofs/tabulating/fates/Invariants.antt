@@ -1,7 +1,0 @@
-use Rattle.std.proofs.Common.{map, take}
-use Rattle.batch_tables.specs.Fates.{AreFates, verified}
-use Rattle.batch_tables.proofs.tabulating.fates.Given as goal
-
-abbrev pub invariant-loop-number : goal.invariant-loop-number
-invariant-loop-number l =
-    AreFates l.ledger (map verified (take l.number l.programs)) l.fates.items

@@ -1,3 +1,0 @@
-pub mod MovingFacts
-pub mod LackingFacts
-pub mod ClauseFacts

@@ -1,5 +1,0 @@
-use Rattle.bql_scheme.proofs.CodeFacts.{all_left, one_left}
-use Rattle.bql_scheme.proofs.laws.codes_leave_their_values.Goals as goal
-
-pub returns : goal.returns
-returns c = record { one = one_left; all = all_left }

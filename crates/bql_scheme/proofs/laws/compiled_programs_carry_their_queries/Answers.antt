@@ -1,5 +1,0 @@
-use Rattle.bql_scheme.proofs.CarriedFacts.{carries}
-use Rattle.bql_scheme.proofs.laws.compiled_programs_carry_their_queries.Goals as goal
-
-pub returns : goal.returns
-returns c = carries

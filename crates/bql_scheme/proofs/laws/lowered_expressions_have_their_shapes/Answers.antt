@@ -1,5 +1,0 @@
-use Rattle.bql_scheme.proofs.TypedFacts.{lowered_shape}
-use Rattle.bql_scheme.proofs.laws.lowered_expressions_have_their_shapes.Goals as goal
-
-pub returns : goal.returns
-returns c = lowered_shape

@@ -1,6 +1,0 @@
-use Rattle.bql_scheme.proofs.LoweredFacts.{lowered_value}
-use Rattle.bql_scheme.proofs.laws.lowered_expressions_have_their_values.Goals as goal
-
-pub returns : goal.returns
-returns c = λ b pool l g rows reads t s e small sided counted.
-    lowered_value b pool l g rows reads t s e small sided counted

@@ -1,5 +1,0 @@
-use Rattle.bql_scheme.proofs.LoweredReadFacts.{reads_are_loaded}
-use Rattle.bql_scheme.proofs.laws.what_is_read_is_loaded.Goals as goal
-
-pub returns : goal.returns
-returns c = reads_are_loaded

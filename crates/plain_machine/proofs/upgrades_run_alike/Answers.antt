@@ -1,5 +1,0 @@
-use Rattle.plain_machine.proofs.UpgradeFacts.{runs_alike}
-use Rattle.plain_machine.proofs.upgrades_run_alike.Goals as goal
-
-pub returns : goal.returns
-returns c = runs_alike

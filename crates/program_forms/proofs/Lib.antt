@@ -1,5 +1,0 @@
-mod FieldFacts
-mod InstructionFacts
-mod SectionFacts
-mod GroupFacts
-pub mod ProgramFacts

@@ -1,5 +1,0 @@
-use Rattle.program_safety.proofs.SafetyFacts.{runs_safely}
-use Rattle.program_safety.proofs.well_shaped_programs_run_safely.Goals as goal
-
-pub returns : goal.returns
-returns c = λ p depth rows has is few are. runs_safely p depth rows few are has is

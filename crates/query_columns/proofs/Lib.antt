@@ -1,3 +1,0 @@
-pub mod BoundFacts
-pub mod NumberFacts
-mod Examples

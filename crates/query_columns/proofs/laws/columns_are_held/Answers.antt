@@ -1,5 +1,0 @@
-use Rattle.query_columns.proofs.BoundFacts.{column_is_held}
-use Rattle.query_columns.proofs.laws.columns_are_held.Goals as goal
-
-pub returns : goal.returns
-returns c = column_is_held

@@ -1,5 +1,0 @@
-use Rattle.query_shapes.proofs.RisingFacts.{unary_rises, binary_rises}
-use Rattle.query_shapes.proofs.rules_are_monotone.Goals as goal
-
-pub returns : goal.returns
-returns c = record { unary = unary_rises; binary = binary_rises }

@@ -1,4 +1,0 @@
-pub mod Mass
-pub mod Shape
-pub mod Rules
-pub mod Keeping

@@ -1,2 +1,0 @@
-pub mod StandFacts
-pub mod ShownFacts

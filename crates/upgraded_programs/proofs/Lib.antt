@@ -1,2 +1,0 @@
-mod ShapeFacts
-pub mod NameFacts

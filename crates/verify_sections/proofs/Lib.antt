@@ -1,4 +1,0 @@
-pub mod WaitingFacts
-pub mod Flow
-pub mod StepFacts
-pub mod AnswerFacts

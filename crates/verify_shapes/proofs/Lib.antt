@@ -1,4 +1,0 @@
-pub mod JoinFacts
-pub mod LeastFacts
-mod ListFacts
-mod CauseFacts

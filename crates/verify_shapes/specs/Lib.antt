@@ -1,4 +1,0 @@
-pub mod CodeCause
-pub mod Loading
-pub mod Answers
-pub mod Joining

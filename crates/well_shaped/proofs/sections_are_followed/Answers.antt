@@ -1,5 +1,0 @@
-use Rattle.well_shaped.proofs.PlaceFacts.{goes_on}
-use Rattle.well_shaped.proofs.sections_are_followed.Goals as goal
-
-pub returns : goal.returns
-returns c = goes_on
