@@ -1,5 +1,5 @@
 -- What accounts hold, by what was booked.
-use Rattle.std.specs.Prelude.{ℕ, ℤ, Bool, List, [], ◌∷◌, fold, filter}
+use Rattle.std.specs.Prelude.{ℕ, ℤ, Bool, List, [], fold, filter}
 use Rattle.std.specs.Str.{bytes_eq}
 use Rattle.bean_base.specs.Decimal.{scaled}
 use Rattle.bean_base.specs.declared.num.Num.{Num}

@@ -3,7 +3,6 @@ use Rattle.std.proofs.Common.{◌≡◌, ◌⊎◌, inl, inr, ◌+◌, ◌≤◌
 use Rattle.std.proofs.Common.{true, false, cond, List, [], ◌∷◌, ◌++◌, filter, fold, length, take}
 use Rattle.std.proofs.Common.{Option, Some, None, Result, Ok, Err, IfOk, append_assoc, refl, sym, ap, subst}
 use Rattle.std.proofs.Common.{◌∙◌, arith}
-use Rattle.std.specs.Int.RustNames.{unsigned_abs}
 use Rattle.std.specs.Int.Signed.{lt_z}
 use Rattle.std.specs.Str.{bytes_eq}
 use Rattle.std.proofs.lemmas.Int.{ints}
@@ -18,7 +17,7 @@ use Rattle.bean_holdings.specs.declared.holdings.Holdings.{Holdings}
 use Rattle.bean_holdings.specs.declared.posted.Posted.{Posted}
 use Rattle.bean_holdings.proofs.BoundFacts.{bounded_small, parts_small}
 use Rattle.bean_holdings.proofs.HeldFacts.{held_inventory}
-use Rattle.bean_lots.specs.Inventory.{IsInventory, added, count_of, is_opposite}
+use Rattle.bean_lots.specs.Inventory.{IsInventory, added, count_of}
 use Rattle.bean_lots.specs.Lot.{same_key}
 use Rattle.bean_lots.specs.declared.lot.Key.{Key}
 use Rattle.bean_lots.specs.declared.lot.Lot.{Lot}
@@ -40,7 +39,6 @@ use Rattle.bean_transactions.specs.Lined.{IsReducedBy, IsTakeOf, is_reduction}
 use Rattle.bean_transactions.specs.Lines.{AreWithin, is_lot}
 use Rattle.bean_transactions.specs.Outcome.{ComesOf, lines_of}
 use Rattle.bean_transactions.specs.declared.line.Line.{Line}
-use Rattle.bean_transactions.specs.declared.line.Line.TheVariants as line
 use Rattle.bean_transactions.specs.declared.outcome.Outcome.{Outcome}
 use Rattle.bean_transactions.specs.declared.setting.Head.{Head}
 use Rattle.bean_transactions.specs.declared.stop.LineFault.{LineFault}

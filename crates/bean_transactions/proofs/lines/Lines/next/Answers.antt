@@ -1,4 +1,4 @@
-use Rattle.std.proofs.Common.{◌∙◌, ap, sym}
+use Rattle.std.proofs.Common.{◌∙◌, ap}
 use Rattle.bean_reductions.specs.After.{after}
 use Rattle.bean_transactions.specs.Held.{takes_in}
 use Rattle.bean_transactions.proofs.LinedFacts.{next_of}

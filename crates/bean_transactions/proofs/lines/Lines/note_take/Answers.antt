@@ -5,7 +5,6 @@ use Rattle.std.specs.Str.{bytes_eq}
 use Rattle.std.proofs.lemmas.Int.{ints}
 use Rattle.std.proofs.lemmas.Result.{on_ok_weaker}
 use Rattle.bean_lots.specs.Inventory.{added, count_of}
-use Rattle.bean_reductions.specs.After.{AreSmall}
 use Rattle.bean_reductions.specs.Rest.{HasAllLeft}
 use Rattle.bean_reductions.proofs.AfterFacts.{count_small}
 use Rattle.bean_reductions.proofs.AfterFacts as after_facts

@@ -1,4 +1,4 @@
-use Rattle.std.proofs.Common.{◌≡◌, ◌+◌, ◌≤◌, pos, false, ◌+ℤ◌, to_z, of_z, arith, sym}
+use Rattle.std.proofs.Common.{◌≡◌, pos, false, ◌+ℤ◌, to_z, of_z, arith, sym}
 use Rattle.std.proofs.Common.{ap, subst, ◌∙◌}
 use Rattle.std.specs.Int.{w128}
 use Rattle.std.specs.Ordering.{int_eq}
