@@ -1,13 +1,11 @@
 //! The ledger of what is booked, in the order of the directives.
-ghost use Rattle.std.specs.Prelude.{◌≡◌, ◌≤◌, ◌<◌, ◌+◌, [], Err, IfOk, OnOk, length};
-ghost use Rattle.std.specs.FinMap as map;
+ghost use Rattle.std.specs.Prelude.{◌≡◌, ◌≤◌, ◌<◌, ◌+◌, Err, OnOk, length};
 ghost use Rattle.std.specs.List.{AllByRecursion};
 ghost use Rattle.bean_book.specs.Booked.{Adds, MakesLedger};
 ghost use Rattle.bean_book.specs.Rows.{rows_of};
 ghost use Rattle.bean_book.specs.Tame.{IsTame, IsTameKept};
 ghost use Rattle.bean_replay.specs.declared.booking.Booking.TheVariants as booking;
 
-use crate::counts::count_rows;
 use crate::decimals::note_written;
 use crate::paddings::push_pad;
 use crate::rows::push_transaction;
@@ -15,7 +13,7 @@ use bean_replay::{BookCause, Booking, Kept};
 use limits::MOST_POSTINGS;
 use posting_table::Ledger;
 use refusals::Refusal;
-use std::alloc::{AllocError, Global};
+use std::alloc::Global;
 
 /// Adds a transaction that is kept.
 fn push_kept<'a>(
@@ -57,18 +55,8 @@ fn push_booking<'a>(
     }
 }
 
-/// A ledger without rows, with room for those that are to come: for all of them, or where they are
-/// too many, for as many as it holds.
-fn ledger_for<'a>(alloc: Global, bookings: &[Booking<'a>]) -> Result<Ledger<'a>, AllocError>
-    ensures { IfOk result (λ ledger. ledger ≡ record { rows = []; decimals = map.empty }) }
-{
-    let mut ledger = Ledger::new(alloc);
-    ledger.reserve(count_rows(bookings).unwrap_or(MOST_POSTINGS))?;
-    Ok(ledger)
-}
-
 /// The ledger of what is booked. Each booking is given up as soon as its rows are made, so that
-/// what these have from it takes the memory in which it stood.
+/// these, and what they have from it, take the memory in which it stood.
 pub(crate) fn ledger_of<'a>(
     alloc: Global,
     bookings: Vec<Booking<'a>>,
@@ -76,7 +64,7 @@ pub(crate) fn ledger_of<'a>(
     requires { AllByRecursion IsTame bookings.items }
     ensures { MakesLedger bookings.entry.items result }
 {
-    let mut ledger = ledger_for(alloc, &bookings)?;
+    let mut ledger = Ledger::new(alloc);
     for booking in bookings {
         match push_booking(alloc, &mut ledger, &booking) {
             Ok(()) => {}

@@ -4,7 +4,7 @@ use Rattle.std.proofs.Common.{arith}
 use Rattle.std.specs.Int.RustNames.{unsigned_abs}
 use Rattle.std.specs.Prelude.{codes}
 use Rattle.limits.specs.declared.bounds.Bounds.{Bounds}
-use Rattle.limits.specs.declared.bounds.Version.TheVariants.{First, Second}
+use Rattle.limits.specs.declared.bounds.Version.TheVariants.{Second}
 use Rattle.bean_base.specs.declared.days.Day as day
 use Rattle.bean_lots.specs.declared.lot.Lot.{Lot}
 use Rattle.posting_table.specs.Row.{cell_at, entry_spelling, of_lot}

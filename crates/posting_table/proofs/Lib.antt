@@ -1,3 +1,4 @@
+pub mod PieceFacts
 pub mod DecimalsFacts
 pub mod FitFacts
 pub mod PartFacts

@@ -1,3 +1,4 @@
+pub mod Pieces
 pub mod PlainText
 pub mod Row
 pub mod Cells

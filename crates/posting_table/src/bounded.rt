@@ -9,7 +9,8 @@ ghost use Rattle.query_rows.specs.Fits as spec;
 ghost use Rattle.query_rows.specs.Mass.{value_of};
 
 use crate::held::HeldRow;
-use bean_base::{Amount, power_of_ten};
+use crate::pieces::Pieces;
+use bean_base::{Amount, List, power_of_ten};
 use bean_lots::Lot;
 use limits::{Bounds, MOST_POSTINGS, MOST_UNITS_DIGITS, MOST_VALUE_DIGITS, Version};
 
@@ -74,8 +75,35 @@ fn row_fits(bounds: &Bounds, row: &HeldRow<'_>) -> bool
         && price_fits(bounds, row.price())
 }
 
+/// Whether the counts of some rows are within bounds.
+fn are_fit(bounds: &Bounds, rows: &[HeldRow<'_>]) -> bool
+    requires { All (IsShaped widest) rows.now }
+    ensures { result ≡ list_all (λ r. spec.row_fits bounds.now (row_of r)) rows.now }
+{
+    for row in rows {
+        if !row_fits(bounds, row) {
+            return false;
+        }
+    }
+    true
+}
+
+/// Whether those of some lists of rows are.
+fn lists_fit(bounds: &Bounds, lists: &[List<HeldRow<'_>>]) -> bool
+    requires { All (All (IsShaped widest)) lists.now }
+    ensures { result
+        ≡ list_all (list_all (λ r. spec.row_fits bounds.now (row_of r))) lists.now }
+{
+    for list in lists {
+        if !are_fit(bounds, list.as_slice()) {
+            return false;
+        }
+    }
+    true
+}
+
 /// Whether the counts of all rows are within bounds.
-pub(crate) fn all_fit(bounds: &Bounds, rows: &[HeldRow<'_>]) -> bool
+pub(crate) fn all_fit(bounds: &Bounds, rows: &Pieces<HeldRow<'_>>) -> bool
     requires { All (IsShaped widest) rows.now }
     ensures { result ≡ list_all (λ r. spec.row_fits bounds.now (row_of r)) rows.now }
 {
@@ -83,10 +111,6 @@ pub(crate) fn all_fit(bounds: &Bounds, rows: &[HeldRow<'_>]) -> bool
     if are_widest(bounds) {
         return true;
     }
-    for row in rows {
-        if !row_fits(bounds, row) {
-            return false;
-        }
-    }
-    true
+    let (full, last) = rows.pieces();
+    lists_fit(bounds, full) && are_fit(bounds, last)
 }

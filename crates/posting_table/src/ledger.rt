@@ -16,6 +16,7 @@ use crate::bounded::all_fit;
 use crate::display::Display;
 use crate::held::HeldRow;
 use crate::keys::Keys;
+use crate::pieces::Pieces;
 use crate::row::Row;
 use bean_base::Currency;
 use limits::{Bounds, MOST_POSTINGS};
@@ -28,7 +29,7 @@ use std::marker::Model;
 #[derive(Drop)]
 pub struct Ledger<'a> {
     alloc: Global,
-    rows: Vec<HeldRow<'a>>,
+    rows: Pieces<HeldRow<'a>>,
     keys: Keys<'a>,
     display: Display<'a>,
 }
@@ -46,10 +47,10 @@ impl<'a> Model for Ledger<'a> {
 
     ghost coded = { Prim.hlevel (codes, decimals_code) };
 
-    ghost view = { λ l. record { rows = l.rows.items; decimals = l.display } };
+    ghost view = { λ l. record { rows = l.rows; decimals = l.display } };
 
     ghost invariant = { λ l.
-        (length l.rows.items ≤ MOST_POSTINGS) × All (IsShaped widest) l.rows.items };
+        (length l.rows ≤ MOST_POSTINGS) × All (IsShaped widest) l.rows };
 }
 
 impl<'a> Ledger<'a> {
@@ -59,18 +60,10 @@ impl<'a> Ledger<'a> {
     {
         Ledger {
             alloc,
-            rows: Vec::new(alloc),
+            rows: Pieces::new(alloc),
             keys: Keys::new(alloc),
             display: Display::new(alloc),
         }
-    }
-
-    /// Takes memory for so many more postings at once.
-    pub fn reserve(&mut self, more: usize) -> Result<(), AllocError>
-        ensures { self.new ≡ self.old }
-    {
-        self.rows.reserve(more)?;
-        Ok(())
     }
 
     /// Adds a posting at the end.
@@ -82,7 +75,7 @@ impl<'a> Ledger<'a> {
         ensures unchanged { OnErr result (self.new ≡ self.old) }
     {
         let row = HeldRow::new(self.alloc, &mut self.keys, row)?;
-        self.rows.push(row)?;
+        self.rows.push(self.alloc, row)?;
         Ok(())
     }
 
@@ -109,7 +102,7 @@ impl<'a> Ledger<'a> {
     pub fn is_empty(&self) -> bool
         ensures { result ≡ (length self.now.rows == 0) }
     {
-        self.rows.is_empty()
+        self.rows.len() == 0
     }
 
     /// What a posting has in a column, lent from its row. No posting has a balance by itself.
@@ -119,7 +112,7 @@ impl<'a> Ledger<'a> {
         ensures { Some result
             ≡ option_map (λ r. r.cell column) (slice_get (rows_of self.now) row) }
     {
-        self.rows[row].cell(column)
+        self.rows.at(row).cell(column)
     }
 
     /// What a posting's metadata has under a key: none where nothing stands behind it.
@@ -128,7 +121,7 @@ impl<'a> Ledger<'a> {
         ensures { option_copied result ≡ option_and_then
             (λ r. text_under key.now r.posting_entries) (slice_get (rows_of self.now) row) }
     {
-        self.rows[row].text_under(key)
+        self.rows.at(row).text_under(key)
     }
 
     /// What the metadata of a posting's transaction has under a key.
@@ -137,7 +130,7 @@ impl<'a> Ledger<'a> {
         ensures { option_copied result ≡ option_and_then
             (λ r. text_under key.now r.transaction_entries) (slice_get (rows_of self.now) row) }
     {
-        self.rows[row].entry().metadata.text_under(key)
+        self.rows.at(row).entry().metadata.text_under(key)
     }
 
     /// Whether it is within bounds: it has no more postings than they allow, and no wider counts.

@@ -73,6 +73,7 @@ mod keys;
 mod laws;
 mod ledger;
 mod metadata;
+mod pieces;
 mod plain_text;
 mod row;
 mod shared;

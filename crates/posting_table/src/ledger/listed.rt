@@ -13,7 +13,7 @@ impl<'a> Ledger<'a> {
         requires { row < length self.now.rows }
         ensures { Some result ≡ option_map (λ r. r.entry.date) (slice_get self.now.rows row) }
     {
-        self.rows[row].entry().date
+        self.rows.at(row).entry().date
     }
 
     /// How the transaction of a posting is marked.
@@ -21,7 +21,7 @@ impl<'a> Ledger<'a> {
         requires { row < length self.now.rows }
         ensures { Some result ≡ option_map (λ r. r.entry.flag) (slice_get self.now.rows row) }
     {
-        self.rows[row].entry().flag
+        self.rows.at(row).entry().flag
     }
 
     /// The account of a posting.
@@ -29,7 +29,7 @@ impl<'a> Ledger<'a> {
         requires { row < length self.now.rows }
         ensures { Some result.now ≡ option_map (λ r. r.account) (slice_get self.now.rows row) }
     {
-        self.rows[row].account()
+        self.rows.at(row).account()
     }
 
     /// What the units of a posting are held as.
@@ -37,7 +37,7 @@ impl<'a> Ledger<'a> {
         requires { row < length self.now.rows }
         ensures { Some result.now ≡ option_map (λ r. r.position.key) (slice_get self.now.rows row) }
     {
-        self.rows[row].key()
+        self.rows.at(row).key()
     }
 
     /// How many units a posting has, as a count of `10^-8`.
@@ -45,6 +45,6 @@ impl<'a> Ledger<'a> {
         requires { row < length self.now.rows }
         ensures { Some result ≡ option_map (λ r. r.position.count) (slice_get self.now.rows row) }
     {
-        self.rows[row].count()
+        self.rows.at(row).count()
     }
 }

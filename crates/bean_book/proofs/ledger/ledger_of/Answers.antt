@@ -24,16 +24,16 @@ pub loop-booking-init : goal.loop-booking-init
 loop-booking-init c =
     let items = c.into_iter-booking-iterator.ensures.into_iter_gives.0 in
     let all = c.args.bookings.items in record {
-      rows = ap (λ l. c.in_ok-ledger.ledger.rows ++ rows_of_all l) items
-          ∙ ap (λ (l : Ledger). l.rows ++ rows_of_all all) c.in_ok-ledger.ensures;
+      rows = ap (λ l. c.new-ledger.result.rows ++ rows_of_all l) items
+          ∙ ap (λ (l : Ledger). l.rows ++ rows_of_all all) c.new-ledger.ensures;
       decimals = λ name.
-          ap (λ l. decimals_from (decimals_of c.in_ok-ledger.ledger.decimals name) name
+          ap (λ l. decimals_from (decimals_of c.new-ledger.result.decimals name) name
           (written_in_all l)) items
           ∙ ap (λ (l : Ledger). decimals_from (decimals_of l.decimals name) name
-          (written_in_all all)) c.in_ok-ledger.ensures
+          (written_in_all all)) c.new-ledger.ensures
           ∙ ap (λ o. decimals_from (unwrap_or o 0) name (written_in_all all))
           (get-empty (slice_cmp nat_cmp) name);
-      room = rw c.in_ok-ledger.ensures (omega arith);
+      room = rw c.new-ledger.ensures (omega arith);
       tame = subst (AllByRecursion IsTame) (sym items) c.requires;
     }
 

@@ -15,12 +15,12 @@ use Rattle.posting_table.proofs.ledger.Ledger.fits.Goals as goal
 pub returns-then-len-bounds-clause-widest : goal.returns-then-len-bounds-clause-widest
 returns-then-len-bounds-clause-widest c =
     subst (λ l. fits widest (map row_of l.rows) ≡ true) c.self.view_is
-    (rows_are_within c.self.inside.rows.items c.self.invariant.0 c.self.invariant.1)
+    (rows_are_within c.self.inside.rows c.self.invariant.0 c.self.invariant.1)
 
 pub returns-else-len-bounds-clause-widest : goal.returns-else-len-bounds-clause-widest
 returns-else-len-bounds-clause-widest c =
     subst (λ l. fits widest (map row_of l.rows) ≡ true) c.self.view_is
-    (rows_are_within c.self.inside.rows.items c.self.invariant.0 c.self.invariant.1)
+    (rows_are_within c.self.inside.rows c.self.invariant.0 c.self.invariant.1)
 
 pub returns-then-len-bounds-clause-shaped : goal.returns-then-len-bounds-clause-shaped
 returns-then-len-bounds-clause-shaped c fit =
@@ -29,7 +29,6 @@ returns-then-len-bounds-clause-shaped c fit =
     (rows_that_fit_lie c.args.bounds.now c.args.self.now.rows
     (subst (λ l. All (IsShaped widest) l.rows) c.self.view_is c.self.invariant.1)
     (sym (ap (λ l. list_all test l.rows) c.self.view_is)
-    ∙ sym (ap (list_all test) c.deref.ensures.value)
     ∙ sym c.all_fit.ensures ∙ fit))
 
 pub returns-then-len-bounds-clause-fits : goal.returns-then-len-bounds-clause-fits
@@ -38,7 +37,7 @@ returns-then-len-bounds-clause-fits c =
     let rs = c.args.self.now.rows in
     let few : length rs ≤ b.postings =
     subst (λ n. n ≤ b.postings) c.len.ensures.count c.if-len-bounds.true in
-    c.all_fit.ensures ∙ ap (list_all (row_fits b)) c.deref.ensures.value
+    c.all_fit.ensures
     ∙ ap (λ l. list_all (row_fits b) l.rows) c.self.view_is
     ∙ sym (ap (λ is. is && list_all (row_fits b) rs) (le-leb (length rs) b.postings few))
     ∙ sym (fits_alike b rs)

@@ -8,17 +8,17 @@ use Rattle.posting_table.proofs.FitFacts.{few_units}
 use Rattle.posting_table.proofs.ledger.Ledger.push.Goals as goal
 
 pub invariant_of-self-in_err-push : goal.invariant_of-self-in_err-push
-invariant_of-self-in_err-push c = rw c.in_err-push.ensures.items c.self.invariant
+invariant_of-self-in_err-push c = rw c.in_err-push.ensures.unchanged c.self.invariant
 
 pub invariant_of-self-2 : goal.invariant_of-self-2
 invariant_of-self-2 c =
-    let items = c.self.inside.rows.items in
+    let items = c.self.inside.rows in
     let row = c.in_ok-row.row in
     let room : length items < MOST_POSTINGS =
     subst (λ l. length l.rows < MOST_POSTINGS) (sym c.self.view_is) c.requires.room in
     let longer = length-append items (row ∷ []) in
     let is = subst (IsShaped widest) (sym c.in_ok-row.ensures) c.requires.shaped in
-    rw c.in_ok-push.ensures.items
+    rw c.in_ok-push.ensures.pushed
     (omega (arith, room, longer), All-push (IsShaped widest) items row c.self.invariant.1 is)
 
 pub new-requires : goal.new-requires

@@ -1,7 +1,7 @@
 use Rattle.std.proofs.Common.{◌≡◌, drop}
 use Rattle.std.specs.List.{list_all}
 use Rattle.posting_table.proofs.FitFacts.{row_fits}
-use Rattle.posting_table.proofs.bounded.all_fit.Given as goal
+use Rattle.posting_table.proofs.bounded.are_fit.Given as goal
 
 abbrev pub invariant-loop-row : goal.invariant-loop-row
 invariant-loop-row l =
