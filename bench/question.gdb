@@ -24,6 +24,6 @@ open(f"{process()}/clear_refs", "w").write("5")
 begun, resident = seconds(), bytes_of("VmRSS")
 gdb.execute("catch syscall write")
 gdb.execute("continue")
-print("taken", seconds() - begun, bytes_of("VmHWM") - resident)
+print("taken", seconds() - begun, max(bytes_of("VmHWM") - resident, 0))
 end
 kill

@@ -15,9 +15,10 @@
 //! # Cost
 //!
 //! [`Inventories`] are looked up by account and change where they stand. [`Holdings`] count their
-//! additions: each sum is at most `10^20` times that count, which is below `2^40`. Takes aren't
-//! counted, since what they come to is a part of what is held. No contract shows how either is kept. A take is counted in constant time, and the first and the last lots of
-//! an account that are taken whole are passed once for all takes of a transaction.
+//! additions: each sum is at most `10^20` times that count, which is below `2^40`. Takes have no
+//! such count, since what they come to is a part of what is held. No contract shows how either is
+//! kept. A take is counted in constant time among the lots that are left, and the first and the
+//! last lots of an account that are taken whole are passed once for all takes of a transaction.
 #![tactic(auto)]
 
 mod holdings;

@@ -29,10 +29,10 @@ returns-in_ok-keep_file-in-Kept g c =
     let name = c.in-Kept.name in
     let bytes = c.in-Kept.bytes in
     let is = subst (λ given. d found.0 (Ok given)) c.in-Kept.is found.2 in
-    let named = subst (λ n. Keeps s c.find.new.store c.keep_file.new.store n c.as_slice-in-Kept.result.now (Ok tt))
+    let named = subst (λ n. Keeps s c.find.new.store c.keep_file.new.store n c.as_slice.result.now (Ok tt))
     c.text-in-Kept.ensures c.in_ok-keep_file-in-Kept.ensures in
     let put = subst (λ b. Keeps s c.find.new.store c.keep_file.new.store name b (Ok tt))
-    c.as_slice-in-Kept.ensures named in
+    c.as_slice.ensures named in
     let comes = kept s c.args.store.now c.find.new.store c.keep_file.new.store out d found.0 found.1
     name bytes is refl put in
     (found.0, comes, is_due d run found.0 (Ok Fine) comes)

@@ -23,6 +23,6 @@ returns c =
       found.0,
       found.1,
       ap₂ (λ v t. Ok (Told v t))
-          (c.verdict_of.ensures ∙ ap verdict_of (c.as_slice-2.ensures ∙ found.2))
-          (c.new.ensures ∙ c.in_ok-text.ensures ∙ ap₂ lines_of c.files.ensures.files (c.as_slice.ensures ∙ found.2)),
+          (c.verdict_of-verdict.ensures ∙ ap verdict_of (c.as_slice.ensures ∙ found.2))
+          (c.of_lines.ensures ∙ c.in_ok-lines.ensures ∙ ap (lines_of c.args.texts.files) found.2),
     )
