@@ -88,9 +88,12 @@ gives_and_keeps before after name answer gives = λ i. Some (gives.1 i).kept
 abbrev pub memory_source : SourceOf Shelf
 memory_source = record { failures = λ s. s.failures; told = λ s. Some s.told; may_give = Gives }
 
--- Calls from its next one on gave what they found; what they told and their failures were added.
+-- Calls from its next one on gave what they found; what they told and their failures were added, and
+-- what it holds stays: the files that it had, and those that were put.
 pub record GaveHeld (old new : Shelf) (readings : List Reading) : Type 0 where
   pub finds : FindsAll old (next_call old.calls) readings
+  pub files : new.files ≡ old.files
+  pub kept : new.kept ≡ old.kept
   pub told : new.told ≡ old.told ++ told_of_all readings
   pub counted : new.failures ≡ failures_behind_all old.failures readings
 
