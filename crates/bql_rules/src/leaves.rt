@@ -5,9 +5,8 @@ ghost use Rattle.query_rows.specs.ColumnShape.{AreBounds};
 
 use bql_tree::Leaf;
 use limits::Bounds;
-use query_rows::column_shape;
 use query_rows::rules::whole;
-use query_rows::{Misfit, Shape};
+use query_rows::{Misfit, Shape, column_shape};
 
 /// The shape of an expression without parts. A NULL has none of its own, and neither has a column
 /// that the schema doesn't know.

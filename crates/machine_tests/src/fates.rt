@@ -2,8 +2,8 @@
 ghost use Rattle.std.specs.Prelude.{◌≤◌};
 
 use crate::ledgers::{COUNT, count_of_few, dollars};
-use query_tables::{Fate, fates};
 use posting_table::Ledger;
+use query_tables::{Fate, fates};
 use query_verifier::check_file;
 use std::alloc::{AllocError, Global};
 use std::test::Fail;

@@ -18,8 +18,7 @@ use query_values::Pattern;
 use refusals::Refusal;
 use std::alloc::Global;
 use verified_program::Checked;
-use verify_programs::{Fault, Spot, depth_of};
-use verify_programs::CodeCause;
+use verify_programs::{CodeCause, Fault, Spot, depth_of};
 
 /// What is found of a program that is accepted.
 #[derive(Drop)]
