@@ -27,6 +27,7 @@ pub record Waits {W : Type 0} (o : OutputOf W) (start now : W) (p : Pieces) (tex
 abbrev pub Stopped : {W : Type 0} → OutputOf W → W → W → Pieces → List ℕ → Type 0
 Stopped o start now p text = TookInPieces o start now text p.taken × (p.taken < length text)
 
+-- how it stands behind a call, as that ended
 abbrev pub Stands : {W : Type 0} → OutputOf W → W → W → Pieces → List ℕ → Result Unit NotTaken → Type 0
 Stands o start now p text (Ok x) = Waits o start now p text
 Stands o start now p text (Err e) = Stopped o start now p text

@@ -11,7 +11,8 @@
 //!
 //! - [`Output`] is what all outputs answer to,
 //! - [`ShortWriter`] keeps what it took, and fails at a chosen byte,
-//! - [`Stream`] is a standard stream of the program.
+//! - [`Stream`] is a standard stream of the program,
+//! - [`Pieces`] hands a text over in pieces, through a buffer that lies in place.
 //!
 //! # What is known of an output
 //!
@@ -28,7 +29,8 @@
 //! # Cost
 //!
 //! `write_bytes` takes no memory and copies no byte. It makes as many calls as the output wants; a
-//! `Stream` makes a call again that a signal interrupted.
+//! `Stream` makes a call again that a signal interrupted. `Pieces` take no memory either, and copy a
+//! piece once that isn't larger than their buffer of 16 KiB.
 #![tactic(auto)]
 
 mod output;
