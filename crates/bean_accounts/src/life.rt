@@ -7,7 +7,7 @@ use bean_base::{Currency, List};
 use std::alloc::{AllocError, Global};
 
 /// What is known of an account once it is opened.
-#[derive(Debug, Drop)]
+#[derive(Drop)]
 pub struct Life<'a> {
     /// The currencies that it may hold: all where none is listed.
     pub currencies: List<Currency<'a>>,

@@ -5,7 +5,7 @@ use crate::names::Currency;
 use crate::num::Num;
 
 /// A number of a currency.
-#[derive(Debug, Drop, PartialEq, Eq, Hash)]
+#[derive(Drop, PartialEq, Eq, Hash)]
 pub struct Amount<'a> {
     pub number: Num,
     pub currency: Currency<'a>,

@@ -6,7 +6,7 @@ use std::marker::Model;
 
 /// A value in memory of its own, so that a struct stays small that seldom has one. Contracts see
 /// the value itself.
-#[derive(Debug, Drop)]
+#[derive(Drop)]
 pub struct Apart<T> {
     place: Box<T>,
 }

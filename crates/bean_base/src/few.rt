@@ -8,7 +8,7 @@ use std::marker::Model;
 
 /// A list that most often is empty, in memory of its own where it isn't, so that a struct stays
 /// small. Its value is the list of its items.
-#[derive(Debug, Drop)]
+#[derive(Drop)]
 pub struct Few<T> {
     items: Option<Apart<List<T>>>,
 }

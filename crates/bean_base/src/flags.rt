@@ -4,7 +4,7 @@ ghost use Rattle.bean_base.specs.Flag as spec;
 
 /// Whether a transaction or a posting is marked as complete, by `*` or `txn`, or as incomplete, by
 /// `!`.
-#[derive(Clone, Copy, Debug, Drop, PartialEq, Eq, Hash)]
+#[derive(Clone, Copy, Drop, PartialEq, Eq, Hash)]
 pub enum Flag {
     Complete,
     Incomplete,

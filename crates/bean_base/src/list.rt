@@ -5,7 +5,7 @@ use std::alloc::{AllocError, Global};
 use std::marker::Model;
 
 /// A vector whose value is the list of its items.
-#[derive(Debug, Drop)]
+#[derive(Drop)]
 pub struct List<T> {
     items: Vec<T>,
 }

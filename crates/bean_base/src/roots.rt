@@ -4,7 +4,7 @@ ghost use Rattle.bean_base.specs.Root.{root_of};
 ghost use Rattle.bean_base.specs.Root as spec;
 
 /// What an account may begin with, in the order in which a report shows them.
-#[derive(Clone, Copy, Debug, Drop, PartialEq, Eq, PartialOrd, Ord, Hash)]
+#[derive(Clone, Copy, Drop, PartialEq, Eq, PartialOrd, Ord, Hash)]
 pub enum Root {
     Assets,
     Liabilities,

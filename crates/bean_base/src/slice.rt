@@ -14,7 +14,7 @@ use std::marker::Model;
 
 /// A slice of a text. Its value is its bytes, wherever they lie, so a struct of slices is the value
 /// that contracts speak of.
-#[derive(Debug, Drop)]
+#[derive(Drop)]
 pub struct Slice<'a> {
     text: &'a str,
 }

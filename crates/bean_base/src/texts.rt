@@ -25,7 +25,7 @@ use std::marker::Model;
 /// Its value is what it stands for: `\n` is a line feed, `\t` a tab, and a backslash before any
 /// other character stands for that character. So two texts are `==` where they stand for the same,
 /// however they are written.
-#[derive(Debug, Drop)]
+#[derive(Drop)]
 pub struct Text<'a> {
     written: &'a str,
 }

@@ -2,8 +2,8 @@
 use Rattle.std.proofs.Common.{◌≡◌, reverse, arith, refl, subst, Err}
 use Rattle.bean_replay.proofs.OneBooking.{one_stand}
 use Rattle.bean_replay.specs.Booked as booker
-use Rattle.bean_replay.specs.Booked.{IsBooked, bookings_of, method_in_ledger}
-use Rattle.bean_replay.specs.declared.booked.Booked.{Booked}
+use Rattle.bean_replay.specs.Booked.{bookings_of, method_in_ledger}
+use Rattle.bean_replay.specs.Stand.{LeadsTo, Stand}
 use Rattle.bean_replay.specs.declared.cause.BookCause.{BookCause}
 use Rattle.bean_replay.specs.declared.cause.BookCause.TheVariants.{TooManyPostings}
 use Rattle.refusals.specs.declared.refusal.Refusal.{Refusal}
@@ -21,11 +21,10 @@ too_many_kept l (Refused TooManyPostings) full = λ st leads.
 too_many_kept l OutOfMemory full = tt
 
 -- where the rows are too many of what is booked, so are they of all that it may lead to
-pub too_many_rows : (l : Loaded) (b : Booked) → IsBooked l b → (fault : Refusal BookCause)
-    → MakesLedger b.bookings (Err fault) → Books l (Err fault)
-too_many_rows l b h (Refused TooManyPostings) many = λ st leads.
-    let same =
-    one_stand (method_in_ledger l) (reverse l.directives) h.stand st h.leads leads in
-    let here : AreTooMany (bookings_of h.stand) = subst AreTooMany h.finished.bookings_are many in
-    subst (λ s. AreTooMany (bookings_of s)) same here
-too_many_rows l b h OutOfMemory many = tt
+pub too_many_rows : (l : Loaded) (here : Stand)
+    → LeadsTo (method_in_ledger l) (reverse l.directives) here → (fault : Refusal BookCause)
+    → MakesLedger (bookings_of here) (Err fault) → Books l (Err fault)
+too_many_rows l here led (Refused TooManyPostings) many = λ st leads.
+    let same = one_stand (method_in_ledger l) (reverse l.directives) here st led leads in
+    subst (λ s. AreTooMany (bookings_of s)) same many
+too_many_rows l here led OutOfMemory many = tt

@@ -2,7 +2,7 @@
 use Rattle.std.proofs.Common.{◌≡◌, ℕ, ◌≤◌, max, List, [], ◌∷◌, length, map, fold}
 use Rattle.std.proofs.Common.{reverse}
 use Rattle.std.proofs.Common.{Ok, Err, Bool, true, false, cond, refl, sym, ap, ◌∙◌}
-use Rattle.std.proofs.Common.{subst, unwrap_or}
+use Rattle.std.proofs.Common.{unwrap_or}
 use Rattle.std.specs.Cmp.Lexicographic.{slice_cmp}
 use Rattle.std.specs.FinMap.{empty, get-empty, insert}
 use Rattle.std.specs.Ordering.{nat_cmp}
@@ -11,10 +11,9 @@ use Rattle.std.proofs.lemmas.Slice.Eq.{bytes_eq-Decides}
 use Rattle.limits.specs.declared.counts.TheConstants.{MOST_POSTINGS}
 use Rattle.bean_base.specs.declared.amounts.Amount.{Amount}
 use Rattle.bean_base.specs.declared.fault.Fault.{Fault}
-use Rattle.bean_replay.proofs.OneBooking.{one_stand}
-use Rattle.bean_replay.specs.Booked.{IsBooked, bookings_of, method_in_ledger}
+use Rattle.bean_replay.specs.Booked.{bookings_of, faults_of, method_in_ledger}
+use Rattle.bean_replay.specs.Stand.{LeadsTo, Stand}
 use Rattle.bean_replay.specs.declared.booking.Booking.{Booking}
-use Rattle.bean_replay.specs.declared.booked.Booked as booker
 use Rattle.bean_replay.specs.declared.cause.BookCause.{BookCause}
 use Rattle.bean_replay.specs.declared.cause.BookCause.TheVariants.{TooManyPostings}
 use Rattle.refusals.specs.declared.refusal.Refusal.{Refusal}
@@ -23,7 +22,7 @@ use Rattle.bean_load.specs.Loaded.{Loaded}
 use Rattle.posting_table.proofs.DecimalsFacts.{decimals_of-insert}
 use Rattle.posting_table.specs.Decimals.{Decimals, decimals_of}
 use Rattle.posting_table.specs.Ledger.{Ledger}
-use Rattle.bean_book.specs.Booked.{AreTooMany, Books, IsLedgerOf, decimals_from}
+use Rattle.bean_book.specs.Booked.{Books, IsLedgerOf, decimals_from}
 use Rattle.bean_book.specs.Booked.{rows_of_all, written_in_all}
 use Rattle.bean_book.specs.Found.{FindsFaults}
 use Rattle.bean_book.specs.Reported.{reported}
@@ -89,28 +88,20 @@ is_made bs few = record {
 
 -- ---- what is found
 
-pub found : (l : Loaded) (b : booker.Booked) → IsBooked l b
-    → length (rows_of_all b.bookings) ≤ MOST_POSTINGS
-    → (faults : List Fault) → faults ≡ reported b.faults → FindsFaults l (Ok faults)
-found l b h few faults is = (
-  record { ledger = made (bookings_of h.stand); faults = faults },
+pub found : (l : Loaded) (st : Stand)
+    → LeadsTo (method_in_ledger l) (reverse l.directives) st
+    → length (rows_of_all (bookings_of st)) ≤ MOST_POSTINGS → (faults : List Fault)
+    → faults ≡ reported (faults_of l st) → FindsFaults l (Ok faults)
+found l st leads few faults is = (
+  record { ledger = made (bookings_of st); faults = faults },
   record {
-    stand = h.stand;
-    leads = h.leads;
-    ledger = is_made (bookings_of h.stand)
-        (subst (λ bs. length (rows_of_all bs) ≤ MOST_POSTINGS) h.finished.bookings_are few);
-    faults = is ∙ ap reported h.finished.faults_are;
+    stand = st;
+    leads = leads;
+    ledger = is_made (bookings_of st) few;
+    faults = is;
   },
   refl,
 )
-
-pub too_many_found : (l : Loaded) (b : booker.Booked) → IsBooked l b → (fault : Refusal BookCause)
-    → (fault ≡ Refused TooManyPostings → AreTooMany b.bookings) → FindsFaults l (Err fault)
-too_many_found l b h (Refused TooManyPostings) full = λ st leads.
-    let same =
-    one_stand (method_in_ledger l) (reverse l.directives) h.stand st h.leads leads in
-    subst AreTooMany (h.finished.bookings_are ∙ ap bookings_of same) (full refl)
-too_many_found l b h OutOfMemory full = tt
 
 pub none_found : (l : Loaded) (fault : Refusal BookCause) → Books l (Err fault)
     → FindsFaults l (Err fault)

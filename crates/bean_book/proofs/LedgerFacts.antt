@@ -1,86 +1,66 @@
--- What is there and what is left, one booking after the other.
-use Rattle.std.proofs.Common.{◌≡◌, ℕ, ◌+◌, ◌<◌, ◌≤◌, List, [], ◌∷◌, ◌++◌, append_assoc, length}
-use Rattle.std.proofs.Common.{length-append, Err, refl, sym, ap, ◌∙◌, arith}
-use Rattle.std.specs.List.{AllByRecursion, flat_map}
-use Rattle.std.proofs.lemmas.List.{length-map}
+-- The ledger of what is booked, once pads are put in.
+use Rattle.std.proofs.Common.{◌≡◌, ◌+◌, ◌≤◌, List, [], length, Err, refl, sym, ap, ◌∙◌, subst, arith}
+use Rattle.std.specs.List.{flat_map}
 use Rattle.limits.specs.declared.counts.TheConstants.{MOST_POSTINGS}
-use Rattle.bean_replay.proofs.SmallBookingFacts.{HasUpTo, booked_in, same_postings}
-use Rattle.bean_replay.specs.Booked.{bookings_of}
-use Rattle.bean_replay.specs.Small.{IsSmallBooking}
+use Rattle.bean_pad.specs.Note.{noted_pads}
+use Rattle.bean_pad.specs.declared.note.NotedPad.{NotedPad}
+use Rattle.bean_replay.specs.Booked.{bookings_of, places_in, with_pads}
 use Rattle.bean_replay.specs.Stand.{Stand, postings_of}
+use Rattle.bean_replay.specs.declared.booking.Booking.{Booking}
+use Rattle.bean_replay.specs.declared.booking.Draft.{Draft}
 use Rattle.bean_replay.specs.declared.cause.BookCause.{BookCause}
 use Rattle.bean_replay.specs.declared.cause.BookCause.TheVariants.{TooManyPostings}
 use Rattle.refusals.specs.declared.refusal.Refusal.{Refusal}
 use Rattle.refusals.specs.declared.refusal.Refusal.TheVariants.{OutOfMemory, Refused}
-use Rattle.bean_replay.specs.declared.booking.Booking.{Booking}
-use Rattle.bean_replay.specs.declared.booking.Booking.TheVariants as booking
-use Rattle.bean_pad.specs.Note.{noted_pads}
 use Rattle.posting_table.specs.Decimals.{decimals_of}
 use Rattle.posting_table.specs.Ledger.{Ledger}
-use Rattle.posting_table.specs.declared.row.Row.{Row}
-use Rattle.bean_book.specs.Booked.{Adds, AreTooMany, MakesLedger, decimals_from, rows_of_all}
-use Rattle.bean_book.specs.Booked.{written_in_all}
-use Rattle.bean_book.specs.Rows.{entry_of, row_of, rows_of, rows_of_pad, rows_of_transaction}
-use Rattle.bean_book.specs.Rows.{written_of}
-use Rattle.bean_book.specs.Tame.{IsTame}
-use Rattle.bean_book.proofs.ListFacts.{decimals_from-append}
-
-pub rows_left : (b : Booking) (rest : List Booking) (old new : Ledger) (total : List Row)
-    → Adds b old new → old.rows ++ rows_of_all (b ∷ rest) ≡ total
-    → new.rows ++ rows_of_all rest ≡ total
-rows_left b rest old new total adds before =
-    ap (λ l. l ++ rows_of_all rest) adds.rows
-    ∙ append_assoc old.rows (rows_of b) (rows_of_all rest) ∙ before
-
-pub decimals_left : (b : Booking) (rest : List Booking) (old new : Ledger) (total : ℕ)
-    (name : List ℕ) → Adds b old new
-    → decimals_from (decimals_of old.decimals name) name (written_in_all (b ∷ rest)) ≡ total
-    → decimals_from (decimals_of new.decimals name) name (written_in_all rest) ≡ total
-decimals_left b rest old new total name adds before =
-    ap (λ n. decimals_from n name (written_in_all rest)) (adds.decimals name)
-    ∙ sym (decimals_from-append (decimals_of old.decimals name) name (written_of b)
-    (written_in_all rest))
-    ∙ before
+use Rattle.bean_book.specs.Booked.{AreTooMany, IsLedgerOf, MakesLedger, decimals_from, rows_of_all}
+use Rattle.bean_book.specs.Rows.{rows_of_pad}
+use Rattle.bean_book.specs.Taken.{IsLedgerSoFar, with_rows}
+use Rattle.bean_book.specs.declared.ledger.LedgerRows.{LedgerRows}
+use Rattle.bean_book.proofs.TakenFacts.{all_count, amounts_are, kept_count, kept_within, none_in}
+use Rattle.bean_book.proofs.TakenFacts.{put_in}
 
 pub refused : (bs : List Booking) (fault : Refusal BookCause)
     → (fault ≡ Refused TooManyPostings → AreTooMany bs) → MakesLedger bs (Err fault)
 refused bs (Refused TooManyPostings) full = full refl
 refused bs OutOfMemory full = tt
 
--- what is too many with the next booking is too many in all
-pub too_many : (b : Booking) (rest : List Booking) (old : List Row) (bs : List Booking)
-    → old ++ rows_of_all (b ∷ rest) ≡ rows_of_all bs
-    → MOST_POSTINGS < length old + length (rows_of b) → AreTooMany bs
-too_many b rest old bs whole full =
-    let one = ap length whole in
-    let two = length-append old (rows_of_all (b ∷ rest)) in
-    let three = length-append (rows_of b) (rows_of_all rest) in omega (arith, full, one, two, three)
-
 -- each kept posting has a row
-rows_of_each : (bs : List Booking) → length (flat_map booked_in bs) ≤ length (rows_of_all bs)
-rows_of_each [] = omega arith
-rows_of_each (booking.Transaction k ∷ bs) =
-    let one = length-append k.postings (flat_map booked_in bs) in
-    let rows : List Row = rows_of_transaction k in
-    let two = length-append rows (rows_of_all bs) in
-    let three =
-    length-map k.postings
-    (row_of (entry_of k) k.written.place.line k.written.transaction.postings) in
-    let later = rows_of_each bs in omega (arith, one, two, three, later)
-rows_of_each (booking.Pad p ∷ bs) =
-    let rows : List Row = rows_of_pad p in
-    let two = length-append rows (rows_of_all bs) in
-    let later = rows_of_each bs in omega (arith, two, later)
-
 pub rows_hold : (st : Stand) → length (postings_of st.drafts) ≤ length (rows_of_all (bookings_of st))
-rows_hold st =
-    let same = ap length (same_postings st.drafts (noted_pads st.steps)) in
-    let each = rows_of_each (bookings_of st) in omega (arith, same, each)
+rows_hold st = kept_within st.drafts (noted_pads st.steps)
 
--- what is small, and no more than a ledger has
-pub all_tame : (bs : List Booking) → AllByRecursion IsSmallBooking bs
-    → AllByRecursion (HasUpTo MOST_POSTINGS) bs → AllByRecursion IsTame bs
-all_tame [] small few = tt
-all_tame (booking.Transaction k ∷ bs) small few =
-    (record { small = small.0; few = few.0 }, all_tame bs small.1 few.1)
-all_tame (booking.Pad n ∷ bs) small few = (small.0, all_tame bs small.1 few.1)
+-- so many rows there are, with those that pads insert
+pub rows_in_all : (ds : List Draft) (l : LedgerRows) (qs : List NotedPad) → IsLedgerSoFar ds l
+    → places_in ds ≡ length qs
+    → length (rows_of_all (with_pads ds qs))
+    ≡ length l.ledger.rows + length (flat_map rows_of_pad qs)
+rows_in_all ds l qs h as_many =
+    all_count ds qs as_many
+    ∙ ap (λ n. n + length (flat_map rows_of_pad qs)) (sym (ap length h.rows ∙ kept_count ds))
+
+-- put in, they are the rows of all that is booked
+pub put : (ds : List Draft) (l : LedgerRows) (qs : List NotedPad) → IsLedgerSoFar ds l
+    → with_rows 0 l.ledger.rows l.places.items qs ≡ rows_of_all (with_pads ds qs)
+put ds l qs h = (λ i. with_rows 0 (h.rows i) (h.places i) qs) ∙ put_in 0 [] ds qs
+
+pub is_ledger : (ds : List Draft) (l : LedgerRows) (qs : List NotedPad) (new : Ledger)
+    → IsLedgerSoFar ds l → new.rows ≡ rows_of_all (with_pads ds qs)
+    → new.decimals ≡ l.ledger.decimals → length (rows_of_all (with_pads ds qs)) ≤ MOST_POSTINGS
+    → IsLedgerOf (with_pads ds qs) new
+is_ledger ds l qs new h rows same few = record {
+  rows = rows;
+  few = subst (λ r. length r ≤ MOST_POSTINGS) (sym rows) few;
+  decimals = λ c.
+      ap (λ d. decimals_of d c) same ∙ h.decimals c
+      ∙ ap (decimals_from 0 c) (sym (amounts_are ds qs));
+}
+
+-- as it is, where pads insert nothing
+pub is_ledger_so_far : (ds : List Draft) (l : LedgerRows) (qs : List NotedPad) → IsLedgerSoFar ds l
+    → places_in ds ≡ length qs → length (flat_map rows_of_pad qs) ≡ 0
+    → length l.ledger.rows ≤ MOST_POSTINGS → IsLedgerOf (with_pads ds qs) l.ledger
+is_ledger_so_far ds l qs h as_many none few =
+    let all = rows_in_all ds l qs h as_many in
+    is_ledger ds l qs l.ledger h (h.rows ∙ sym (none_in ds qs none)) refl
+    (omega (arith, all, none, few))

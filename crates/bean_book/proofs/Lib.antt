@@ -2,6 +2,7 @@ mod FaultOrder
 pub mod ListFacts
 mod ShapedFacts
 mod PaddingFacts
+mod TakenFacts
 mod LedgerFacts
 mod BookFacts
 mod FoundFacts

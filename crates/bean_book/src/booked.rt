@@ -2,9 +2,9 @@
 ghost use Rattle.bean_book.specs.Booked.{Books};
 ghost use Rattle.bean_book.specs.Found.{FindsFaults};
 
-use crate::counts::count_rows;
+use crate::counts::{RowCount, count_pads};
 use crate::faults::report;
-use crate::ledger::ledger_of;
+use crate::ledger::{LedgerRows, with_pads};
 use bean_base::{Fault, List};
 use bean_load::Loaded;
 use bean_replay::{BookCause, book_directives};
@@ -25,11 +25,11 @@ pub struct Booked<'a> {
 pub fn book<'a>(alloc: Global, loaded: Loaded<'a>) -> Result<Booked<'a>, Refusal<BookCause>>
     ensures { Books loaded.entry result }
 {
-    let booked = match book_directives(alloc, loaded) {
+    let booked = match book_directives(alloc, loaded, LedgerRows::new(alloc)) {
         Ok(booked) => booked,
         Err(fault) => return Err(fault),
     };
-    let ledger = match ledger_of(alloc, booked.bookings.into_vec()) {
+    let ledger = match with_pads(booked.bookings, booked.pads.into_vec()) {
         Ok(ledger) => ledger,
         Err(fault) => return Err(fault),
     };
@@ -45,11 +45,11 @@ pub fn book<'a>(alloc: Global, loaded: Loaded<'a>) -> Result<Booked<'a>, Refusal
 pub fn find_faults(alloc: Global, loaded: Loaded<'_>) -> Result<List<Fault>, Refusal<BookCause>>
     ensures { FindsFaults loaded.entry result }
 {
-    let booked = match book_directives(alloc, loaded) {
+    let booked = match book_directives(alloc, loaded, RowCount { count: 0 }) {
         Ok(booked) => booked,
         Err(fault) => return Err(fault),
     };
-    match count_rows(booked.bookings.as_slice()) {
+    match count_pads(booked.bookings.count, booked.pads.as_slice()) {
         Ok(_) => {}
         Err(fault) => return Err(fault),
     }

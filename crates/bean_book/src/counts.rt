@@ -1,13 +1,37 @@
-//! How many rows what is booked has, before any is made.
+//! How many rows what is booked has, where none is wanted.
 ghost use Rattle.std.specs.Prelude.{◌≡◌, ◌<◌, ◌≤◌, ◌+◌, Err, IfOk, List, ℕ, length};
+ghost use Rattle.std.specs.List.{flat_map};
+ghost use Rattle.limits.specs.declared.counts.TheConstants.{MOST_POSTINGS};
 ghost use Rattle.bean_pad.specs.declared.note.NotedPad as pads;
-ghost use Rattle.bean_book.specs.Booked.{AreTooMany, rows_of_all};
 ghost use Rattle.bean_book.specs.Rows as spec;
 
 use bean_pad::{NotedPad, Outcome};
-use bean_replay::{BookCause, Booking};
+use bean_replay::{BookCause, Bookings, Kept};
 use limits::MOST_POSTINGS;
 use refusals::Refusal;
+use std::alloc::AllocError;
+
+/// How many rows the transactions have that were booked so far.
+#[derive(Drop)]
+pub(crate) struct RowCount {
+    pub count: usize,
+}
+
+impl<'a> Bookings<'a> for RowCount {
+    ghost use Rattle.std.specs.Prelude.{◌≡◌, length};
+    ghost use Rattle.bean_replay.specs.Stand.{postings_of};
+
+    ghost has_taken = { λ c ds. c.count ≡ length (postings_of ds) };
+
+    fn keep(&mut self, kept: &Kept<'a>) -> Result<(), AllocError> {
+        self.count += kept.postings.as_slice().len();
+        Ok(())
+    }
+
+    fn pad(&mut self) -> Result<(), AllocError> {
+        Ok(())
+    }
+}
 
 /// The count with so many rows more, unless there are too many.
 fn more(count: usize, rows: usize) -> Result<usize, Refusal<BookCause>>
@@ -51,29 +75,17 @@ fn count_pad(count: usize, noted: &NotedPad<'_>) -> Result<usize, Refusal<BookCa
     Ok(sum)
 }
 
-/// The count with the rows of what is booked of a directive.
-fn count_booking(count: usize, booking: &Booking<'_>) -> Result<usize, Refusal<BookCause>>
+/// The count with the rows of all pads, unless they are too many.
+pub(crate) fn count_pads(count: usize, pads: &[NotedPad<'_>]) -> Result<usize, Refusal<BookCause>>
     requires { count ≤ MOST_POSTINGS }
-    ensures sum { IfOk result (λ n. n ≡ count + length (spec.rows_of booking.now)) }
+    ensures sum { IfOk result (λ n. n ≡ count + length (flat_map spec.rows_of_pad pads.now)) }
     ensures few { IfOk result (λ n. n ≤ MOST_POSTINGS) }
     ensures full { result ≡ Err (Refusal.Refused BookCause.TooManyPostings)
-        → MOST_POSTINGS < count + length (spec.rows_of booking.now) }
+        → MOST_POSTINGS < count + length (flat_map spec.rows_of_pad pads.now) }
 {
-    match booking {
-        Booking::Transaction(kept) => more(count, kept.get().postings.as_slice().len()),
-        Booking::Pad(noted) => count_pad(count, noted.get()),
-    }
-}
-
-/// The count of the rows of what is booked, unless they are too many.
-pub(crate) fn count_rows(bookings: &[Booking<'_>]) -> Result<usize, Refusal<BookCause>>
-    ensures sum { IfOk result (λ n. n ≡ length (rows_of_all bookings.now)) }
-    ensures few { IfOk result (λ n. n ≤ MOST_POSTINGS) }
-    ensures full { result ≡ Err (Refusal.Refused BookCause.TooManyPostings) → AreTooMany bookings.now }
-{
-    let mut sum = 0;
-    for booking in bookings {
-        match count_booking(sum, booking) {
+    let mut sum = count;
+    for noted in pads {
+        match count_pad(sum, noted) {
             Ok(more) => sum = more,
             Err(fault) => return Err(fault),
         }

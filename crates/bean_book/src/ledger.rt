@@ -1,75 +1,149 @@
-//! The ledger of what is booked, in the order of the directives.
-ghost use Rattle.std.specs.Prelude.{◌≡◌, ◌≤◌, ◌<◌, ◌+◌, Err, OnOk, length};
+//! The ledger of what is booked, made while it is booked.
+ghost use Rattle.std.specs.Prelude.{◌≡◌, ◌≤◌, ◌+◌, ◌++◌, [], List, OnOk, drop, length, take};
 ghost use Rattle.std.specs.List.{AllByRecursion};
+ghost use Rattle.limits.specs.declared.counts.TheConstants.{MOST_POSTINGS};
 ghost use Rattle.bean_book.specs.Booked.{Adds, MakesLedger};
-ghost use Rattle.bean_book.specs.Rows.{rows_of};
-ghost use Rattle.bean_book.specs.Tame.{IsTame, IsTameKept};
+ghost use Rattle.bean_book.specs.Rows.{rows_of_pad};
+ghost use Rattle.bean_book.specs.Taken.{IsLedgerSoFar, with_rows};
+ghost use Rattle.bean_book.specs.Tame.{IsTameKept};
+ghost use Rattle.bean_replay.specs.Booked as booked;
+ghost use Rattle.bean_replay.specs.Small.{IsSmallNoted};
 ghost use Rattle.bean_replay.specs.declared.booking.Booking.TheVariants as booking;
+ghost use Rattle.bean_replay.specs.declared.booking.Draft as drafts;
 
+use crate::counts::count_pads;
 use crate::decimals::note_written;
 use crate::paddings::push_pad;
 use crate::rows::push_transaction;
-use bean_replay::{BookCause, Booking, Kept};
+use bean_pad::NotedPad;
+use bean_replay::{BookCause, Bookings, Kept};
 use limits::MOST_POSTINGS;
-use posting_table::Ledger;
+use posting_table::{Ledger, TakenRows};
 use refusals::Refusal;
-use std::alloc::Global;
+use std::alloc::{AllocError, Global};
+
+/// The rows of the transactions that were booked so far, and where pads stand between them. What
+/// these insert is known only once all directives are taken.
+#[derive(Drop)]
+pub(crate) struct LedgerRows<'a> {
+    alloc: Global,
+    ledger: Ledger<'a>,
+    /// How many rows stand before each pad.
+    places: Vec<usize>,
+}
+
+impl<'a> LedgerRows<'a> {
+    /// Nothing so far. Takes no memory.
+    pub(crate) fn new(alloc: Global) -> LedgerRows<'a>
+        ensures { IsLedgerSoFar [] result }
+    {
+        LedgerRows {
+            alloc,
+            ledger: Ledger::new(alloc),
+            places: Vec::new(alloc),
+        }
+    }
+}
 
 /// Adds a transaction that is kept.
-fn push_kept<'a>(
-    alloc: Global,
-    ledger: &mut Ledger<'a>,
-    kept: &Kept<'a>,
-) -> Result<(), Refusal<BookCause>>
+fn push_kept<'a>(alloc: Global, ledger: &mut Ledger<'a>, kept: &Kept<'a>) -> Result<(), AllocError>
     requires tame { IsTameKept kept.now }
-    requires room { length ledger.old.rows ≤ MOST_POSTINGS }
-    ensures adds { OnOk result (Adds (booking.Transaction kept.now) ledger.old ledger.new) }
-    ensures full { result ≡ Err (Refusal.Refused BookCause.TooManyPostings) → MOST_POSTINGS
-        < length ledger.old.rows + length (rows_of (booking.Transaction kept.now)) }
-    ensures room { OnOk result (length ledger.new.rows ≤ MOST_POSTINGS) }
+    requires room { length ledger.old.rows + length kept.now.postings ≤ MOST_POSTINGS }
+    ensures { OnOk result (Adds (booking.Transaction kept.now) ledger.old ledger.new) }
 {
-    match push_transaction(alloc, ledger, kept) {
-        Ok(()) => {}
-        Err(fault) => return Err(fault),
-    }
+    push_transaction(alloc, ledger, kept)?;
     note_written(ledger, kept.written.transaction.postings.as_slice())?;
     Ok(())
 }
 
-/// Adds what is booked of a directive.
-fn push_booking<'a>(
-    alloc: Global,
-    ledger: &mut Ledger<'a>,
-    booking: &Booking<'a>,
-) -> Result<(), Refusal<BookCause>>
-    requires tame { IsTame booking.now }
-    requires room { length ledger.old.rows ≤ MOST_POSTINGS }
-    ensures adds { OnOk result (Adds booking.now ledger.old ledger.new) }
-    ensures full { result ≡ Err (Refusal.Refused BookCause.TooManyPostings)
-        → MOST_POSTINGS < length ledger.old.rows + length (rows_of booking.now) }
-    ensures room { OnOk result (length ledger.new.rows ≤ MOST_POSTINGS) }
-{
-    match booking {
-        Booking::Transaction(kept) => push_kept(alloc, ledger, kept.get()),
-        Booking::Pad(noted) => push_pad(alloc, ledger, noted.get()),
+impl<'a> Bookings<'a> for LedgerRows<'a> {
+    ghost use Rattle.bean_book.specs.Taken.{IsLedgerSoFar};
+
+    ghost has_taken = { λ l ds. IsLedgerSoFar ds l };
+
+    fn keep(&mut self, kept: &Kept<'a>) -> Result<(), AllocError> {
+        push_kept(self.alloc, &mut self.ledger, kept)
+    }
+
+    fn pad(&mut self) -> Result<(), AllocError> {
+        let place = self.ledger.len();
+        self.places.push(place)?;
+        Ok(())
     }
 }
 
-/// The ledger of what is booked. Each booking is given up as soon as its rows are made, so that
-/// these, and what they have from it, take the memory in which it stood.
-pub(crate) fn ledger_of<'a>(
+/// Puts so many rows back, and behind them those that a pad inserts.
+fn put_pad<'a>(
     alloc: Global,
-    bookings: Vec<Booking<'a>>,
-) -> Result<Ledger<'a>, Refusal<BookCause>>
-    requires { AllByRecursion IsTame bookings.items }
-    ensures { MakesLedger bookings.entry.items result }
+    ledger: &mut Ledger<'a>,
+    rest: &mut TakenRows<'a>,
+    count: usize,
+    noted: &NotedPad<'a>,
+) -> Result<(), AllocError>
+    requires small { IsSmallNoted noted.now }
+    requires room { length ledger.old.rows + length rest.old + length (rows_of_pad noted.now)
+        ≤ MOST_POSTINGS }
+    ensures rows { OnOk result (ledger.new.rows
+        ≡ ledger.old.rows ++ (take count rest.old ++ rows_of_pad noted.now)) }
+    ensures decimals { OnOk result (ledger.new.decimals ≡ ledger.old.decimals) }
+    ensures rest { OnOk result (rest.new ≡ drop count rest.old) }
 {
-    let mut ledger = Ledger::new(alloc);
-    for booking in bookings {
-        match push_booking(alloc, &mut ledger, &booking) {
-            Ok(()) => {}
-            Err(fault) => return Err(fault),
+    ledger.put_back(rest, count)?;
+    push_pad(alloc, ledger, noted)
+}
+
+/// Puts the rows in that pads insert, each at its place.
+fn put_pads<'a>(
+    alloc: Global,
+    ledger: &mut Ledger<'a>,
+    places: Vec<usize>,
+    pads: Vec<NotedPad<'a>>,
+) -> Result<(), AllocError>
+    requires small { AllByRecursion IsSmallNoted pads.items }
+    requires room { length (with_rows 0 ledger.old.rows places.items pads.items) ≤ MOST_POSTINGS }
+    ensures rows { OnOk result (ledger.new.rows
+        ≡ with_rows 0 ledger.old.rows places.items pads.entry.items) }
+    ensures decimals { OnOk result (ledger.new.decimals ≡ ledger.old.decimals) }
+{
+    let mut rest = ledger.take_rows()?;
+    let mut passed = 0;
+    let mut left = places.into_iter();
+    for noted in pads {
+        if let Some(place) = left.next() {
+            let count = place.saturating_sub(passed);
+            put_pad(alloc, ledger, &mut rest, count, &noted)?;
+            passed = place;
         }
     }
+    ledger.put_back(&mut rest, MOST_POSTINGS)
+}
+
+/// The ledger, now that it is known what comes of the pads.
+pub(crate) fn with_pads<'a>(
+    rows: LedgerRows<'a>,
+    pads: Vec<NotedPad<'a>>,
+) -> Result<Ledger<'a>, Refusal<BookCause>>
+    requires small { AllByRecursion IsSmallNoted pads.items }
+    requires booked { (ds : List drafts.Draft) × IsLedgerSoFar ds rows
+        × (booked.places_in ds ≡ length pads.items) }
+    ensures { (ds : List drafts.Draft) → IsLedgerSoFar ds rows.entry
+        → booked.places_in ds ≡ length pads.entry.items
+        → MakesLedger (booked.with_pads ds pads.entry.items) result }
+{
+    let LedgerRows {
+        alloc,
+        ledger,
+        places,
+    } = rows;
+    let kept = ledger.len();
+    let all = match count_pads(kept, &pads) {
+        Ok(all) => all,
+        Err(fault) => return Err(fault),
+    };
+    if all == kept {
+        return Ok(ledger);
+    }
+    let mut ledger = ledger;
+    put_pads(alloc, &mut ledger, places, pads)?;
     Ok(ledger)
 }

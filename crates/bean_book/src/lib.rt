@@ -26,8 +26,9 @@
 //!
 //! # Cost
 //!
-//! What [`bean_replay`] costs; then one pass, which gives each booking up as its rows are made.
-//! Rows hold slices of the ledger's texts, and no text is copied but those with an escape; what the
+//! What [`bean_replay`] costs, and the rows: those of a transaction are made as soon as it is booked,
+//! and nothing else of it is kept. Where pads insert rows, all are moved once, piece by piece. Rows
+//! hold slices of the ledger's texts, and no text is copied but those with an escape; what the
 //! postings of a transaction have in common stands once. [`find_faults`] makes no row, and counts
 //! those that there would be.
 #![tactic(auto)]

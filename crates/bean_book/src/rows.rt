@@ -1,10 +1,9 @@
 //! The rows of kept transactions.
-ghost use Rattle.std.specs.Prelude.{◌≡◌, ◌<◌, ◌≤◌, ◌+◌, ◌++◌, ◌∷◌, [], Err, IfOk, OnOk, length};
+ghost use Rattle.std.specs.Prelude.{◌≡◌, ◌≤◌, ◌+◌, ◌++◌, IfOk, OnOk, length};
 ghost use Rattle.std.specs.Prelude.{slice_get};
 ghost use Rattle.bean_interp.specs.Residual.{IsLight};
 ghost use Rattle.bean_transactions.specs.Tried.{booked_leg, whole_at};
-ghost use Rattle.posting_table.specs.Shaped.{IsShaped};
-ghost use Rattle.query_rows.specs.ColumnShape.{widest};
+ghost use Rattle.limits.specs.declared.counts.TheConstants.{MOST_POSTINGS};
 ghost use Rattle.bean_book.specs.Rows as spec;
 ghost use Rattle.bean_book.specs.Tame.{IsTameKept};
 
@@ -14,28 +13,10 @@ use bean_base::Amount;
 use bean_holdings::Posted;
 use bean_lots::{Key, Position};
 use bean_postings::{Posting, Price};
-use bean_replay::{BookCause, Kept};
+use bean_replay::Kept;
 use bean_transactions::whole;
-use limits::MOST_POSTINGS;
 use posting_table::{Entry, Ledger, Metadata, Row, Shared, Weight};
-use refusals::Refusal;
 use std::alloc::{AllocError, Global};
-
-/// Adds a row at the end.
-pub(crate) fn push_row<'a>(ledger: &mut Ledger<'a>, row: Row<'a>) -> Result<(), Refusal<BookCause>>
-    requires { IsShaped widest row }
-    ensures rows { OnOk result (ledger.new.rows ≡ ledger.old.rows ++ row.entry ∷ []) }
-    ensures decimals { OnOk result (ledger.new.decimals ≡ ledger.old.decimals) }
-    ensures full { result ≡ Err (Refusal.Refused BookCause.TooManyPostings)
-        → MOST_POSTINGS ≤ length ledger.old.rows }
-    ensures room { OnOk result (length ledger.new.rows ≤ MOST_POSTINGS) }
-{
-    if ledger.len() >= MOST_POSTINGS {
-        return Err(Refusal::Refused(BookCause::TooManyPostings));
-    }
-    ledger.push(row)?;
-    Ok(())
-}
 
 /// The metadata of a written posting, for all that it is booked as.
 #[derive(Drop)]
@@ -158,16 +139,13 @@ fn push_posted<'a>(
     ledger: &mut Ledger<'a>,
     entry: &Shared<Entry<'a>>,
     kept: &Kept<'a>,
-) -> Result<(), Refusal<BookCause>>
+) -> Result<(), AllocError>
     requires entry { entry.now ≡ spec.entry_of kept.now }
     requires tame { IsTameKept kept.now }
-    requires room { length ledger.old.rows ≤ MOST_POSTINGS }
+    requires room { length ledger.old.rows + length kept.now.postings ≤ MOST_POSTINGS }
     ensures rows { OnOk result (ledger.new.rows
         ≡ ledger.old.rows ++ spec.rows_of_transaction kept.now) }
     ensures decimals { OnOk result (ledger.new.decimals ≡ ledger.old.decimals) }
-    ensures full { result ≡ Err (Refusal.Refused BookCause.TooManyPostings)
-        → MOST_POSTINGS < length ledger.old.rows + length kept.now.postings }
-    ensures room { OnOk result (length ledger.new.rows ≤ MOST_POSTINGS) }
 {
     let line = kept.written.place.line;
     let postings = kept.written.transaction.postings.as_slice();
@@ -176,10 +154,7 @@ fn push_posted<'a>(
         noted = next_noted(alloc, postings, noted, one.written)?;
         let metadata = noted.metadata.share()?;
         let row = row_of(entry, line, postings, metadata, one)?;
-        match push_row(ledger, row) {
-            Ok(()) => {}
-            Err(fault) => return Err(fault),
-        }
+        ledger.push(row)?;
     }
     Ok(())
 }
@@ -189,15 +164,12 @@ pub(crate) fn push_transaction<'a>(
     alloc: Global,
     ledger: &mut Ledger<'a>,
     kept: &Kept<'a>,
-) -> Result<(), Refusal<BookCause>>
+) -> Result<(), AllocError>
     requires tame { IsTameKept kept.now }
-    requires room { length ledger.old.rows ≤ MOST_POSTINGS }
+    requires room { length ledger.old.rows + length kept.now.postings ≤ MOST_POSTINGS }
     ensures rows { OnOk result (ledger.new.rows
         ≡ ledger.old.rows ++ spec.rows_of_transaction kept.now) }
     ensures decimals { OnOk result (ledger.new.decimals ≡ ledger.old.decimals) }
-    ensures full { result ≡ Err (Refusal.Refused BookCause.TooManyPostings)
-        → MOST_POSTINGS < length ledger.old.rows + length kept.now.postings }
-    ensures room { OnOk result (length ledger.new.rows ≤ MOST_POSTINGS) }
 {
     let entry = entry_of(alloc, kept)?;
     push_posted(alloc, ledger, &entry, kept)

@@ -13,7 +13,7 @@ use bean_lexer::{Sign, Token};
 use std::alloc::{AllocError, Global};
 
 /// The opening of an account.
-#[derive(Debug, Drop)]
+#[derive(Drop)]
 pub struct Open<'a> {
     pub account: Account<'a>,
     /// The currencies that it may hold; all where none is written.
@@ -23,13 +23,13 @@ pub struct Open<'a> {
 }
 
 /// The closing of an account.
-#[derive(Debug, Drop)]
+#[derive(Drop)]
 pub struct Close<'a> {
     pub account: Account<'a>,
 }
 
 /// The filling of an account from another, up to its next balance.
-#[derive(Debug, Drop)]
+#[derive(Drop)]
 pub struct Pad<'a> {
     pub account: Account<'a>,
     pub source: Account<'a>,

@@ -8,7 +8,7 @@ use bean_base::{Apart, Day, Few};
 use bean_grammar::MetaEntry;
 
 /// What a directive does. What few directives have, and is large, lies apart.
-#[derive(Debug, Drop)]
+#[derive(Drop)]
 pub enum DirectiveKind<'a> {
     Open(Open<'a>),
     Close(Close<'a>),
@@ -25,7 +25,7 @@ pub enum DirectiveKind<'a> {
 }
 
 /// A block of a ledger's text that begins with a day.
-#[derive(Debug, Drop)]
+#[derive(Drop)]
 pub struct Directive<'a> {
     pub day: Day,
     /// The line on which it begins, from 1.

@@ -15,14 +15,14 @@ use bean_lexer::Token;
 use std::alloc::{AllocError, Global};
 
 /// A remark on an account.
-#[derive(Debug, Drop)]
+#[derive(Drop)]
 pub struct Note<'a> {
     pub account: Account<'a>,
     pub text: Text<'a>,
 }
 
 /// A file that belongs to an account.
-#[derive(Debug, Drop)]
+#[derive(Drop)]
 pub struct Document<'a> {
     pub account: Account<'a>,
     pub name: Text<'a>,
@@ -31,21 +31,21 @@ pub struct Document<'a> {
 }
 
 /// The value of something from its day on.
-#[derive(Debug, Drop)]
+#[derive(Drop)]
 pub struct Event<'a> {
     pub name: Text<'a>,
     pub value: Text<'a>,
 }
 
 /// A query with a name.
-#[derive(Debug, Drop)]
+#[derive(Drop)]
 pub struct Query<'a> {
     pub name: Text<'a>,
     pub query: Text<'a>,
 }
 
 /// A directive of another program.
-#[derive(Debug, Drop)]
+#[derive(Drop)]
 pub struct Custom<'a> {
     pub name: Text<'a>,
     pub values: List<Value<'a>>,

@@ -14,13 +14,13 @@ use bean_lexer::{Sign, Token};
 use std::alloc::{AllocError, Global};
 
 /// The naming of a currency.
-#[derive(Debug, Drop)]
+#[derive(Drop)]
 pub struct Commodity<'a> {
     pub currency: Currency<'a>,
 }
 
 /// What an account and those below it hold of a currency when the day begins.
-#[derive(Debug, Drop)]
+#[derive(Drop)]
 pub struct Balance<'a> {
     pub account: Account<'a>,
     pub number: Num,
@@ -30,7 +30,7 @@ pub struct Balance<'a> {
 }
 
 /// What a unit of a currency costs.
-#[derive(Debug, Drop)]
+#[derive(Drop)]
 pub struct Price<'a> {
     pub currency: Currency<'a>,
     pub amount: Amount<'a>,

@@ -14,7 +14,7 @@ use bean_postings::Posting;
 use std::alloc::{AllocError, Global};
 
 /// A change of accounts.
-#[derive(Debug, Drop)]
+#[derive(Drop)]
 pub struct Transaction<'a> {
     pub flag: Flag,
     pub payee: Option<Text<'a>>,

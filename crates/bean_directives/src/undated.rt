@@ -13,7 +13,7 @@ use bean_grammar::{MetaEntry, Ranged};
 use bean_lexer::{Keyword, Kind, MetaKey, Tag, Token};
 
 /// What a ledger says of itself, and which other texts belong to it.
-#[derive(Debug, Drop)]
+#[derive(Drop)]
 pub enum SettingKind<'a> {
     Title(Text<'a>),
     OperatingCurrency(Text<'a>),
@@ -24,7 +24,7 @@ pub enum SettingKind<'a> {
 }
 
 /// A setting, with its place.
-#[derive(Debug, Drop)]
+#[derive(Drop)]
 pub struct Setting<'a> {
     /// The line on which it is written, from 1.
     pub line: usize,
@@ -32,28 +32,28 @@ pub struct Setting<'a> {
 }
 
 /// What a push gives to the transactions up to its pop.
-#[derive(Debug, Drop)]
+#[derive(Drop)]
 pub enum Pushed<'a> {
     Tag(Tag<'a>),
     Entry(MetaEntry<'a>),
 }
 
 /// What a pop takes back: a tag, or the entry of a key.
-#[derive(Debug, Drop)]
+#[derive(Drop)]
 pub enum PushName<'a> {
     Tag(Tag<'a>),
     Key(MetaKey<'a>),
 }
 
 /// Where a scope begins or ends.
-#[derive(Debug, Drop)]
+#[derive(Drop)]
 pub enum Bound<'a> {
     Push(Pushed<'a>),
     Pop(PushName<'a>),
 }
 
 /// What a block without a day does.
-#[derive(Debug, Drop)]
+#[derive(Drop)]
 pub enum UndatedKind<'a> {
     Setting(SettingKind<'a>),
     /// A plugin, or an option that the books don't have.
@@ -62,7 +62,7 @@ pub enum UndatedKind<'a> {
 }
 
 /// A block of a ledger's text that begins with no day.
-#[derive(Debug, Drop)]
+#[derive(Drop)]
 pub struct Undated<'a> {
     /// The line on which it is written, from 1.
     pub line: usize,

@@ -11,7 +11,7 @@ use bean_base::{Amount, Currency, Num};
 use bean_lexer::Token;
 
 /// An amount of which the number, the currency or both may not be written.
-#[derive(Debug, Drop)]
+#[derive(Drop)]
 pub struct AmountParts<'a> {
     pub number: Option<Ranged<Num>>,
     pub currency: Option<Currency<'a>>,

@@ -11,7 +11,7 @@ use bean_lexer::{Link, Tag, Token};
 use std::alloc::{AllocError, Global};
 
 /// A tag or a link.
-#[derive(Debug, Drop)]
+#[derive(Drop)]
 pub enum Mark<'a> {
     Tag(Tag<'a>),
     Link(Link<'a>),

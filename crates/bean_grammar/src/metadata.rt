@@ -5,7 +5,7 @@ use bean_base::{Account, Amount, Currency, Day, Num, Text};
 use bean_lexer::{MetaKey, Tag};
 
 /// The value of a metadata entry, or of a custom directive, which has no `Nothing`.
-#[derive(Debug, Drop)]
+#[derive(Drop)]
 pub enum Value<'a> {
     Nothing,
     Text(Text<'a>),
@@ -38,7 +38,7 @@ impl<'a> Value<'a> {
 }
 
 /// A metadata entry.
-#[derive(Debug, Drop)]
+#[derive(Drop)]
 pub struct MetaEntry<'a> {
     pub key: MetaKey<'a>,
     pub value: Value<'a>,

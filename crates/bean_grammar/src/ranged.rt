@@ -2,7 +2,7 @@
 
 /// A value, or that what is written lies outside the ledger's range: a day that the calendar lacks,
 /// or a number with too many digits, there or in a part of it.
-#[derive(Debug, Drop)]
+#[derive(Drop)]
 pub enum Ranged<T> {
     Within(T),
     Outside,

@@ -14,7 +14,7 @@ use indexmap::IndexMap;
 use std::alloc::{AllocError, Global};
 
 /// An account and a currency of which a transaction took lots.
-#[derive(Debug, Drop, PartialEq, Eq, Hash)]
+#[derive(Drop, PartialEq, Eq, Hash)]
 pub struct TakenFrom<'a> {
     account: Account<'a>,
     currency: Currency<'a>,

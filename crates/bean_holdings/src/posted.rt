@@ -5,7 +5,7 @@ use bean_base::{Account, Amount, Apart};
 use bean_lots::{Key, Lot};
 
 /// A posting as it is booked.
-#[derive(Debug, Drop)]
+#[derive(Drop)]
 pub struct Posted<'a> {
     pub account: Account<'a>,
     pub units: Amount<'a>,

@@ -3,7 +3,7 @@
 use bean_base::Amount;
 
 /// An amount that a leg takes.
-#[derive(Debug, Drop, PartialEq, Eq)]
+#[derive(Drop, PartialEq, Eq)]
 pub struct Fill<'a> {
     /// The leg's number, from 0.
     pub leg: usize,

@@ -5,7 +5,7 @@ use bean_base::{Amount, Currency};
 use bean_lots::Cost;
 
 /// What units are worth in their transaction.
-#[derive(Debug, Drop, PartialEq, Eq)]
+#[derive(Drop, PartialEq, Eq)]
 pub enum Worth<'a> {
     /// The units themselves.
     Units,
@@ -18,7 +18,7 @@ pub enum Worth<'a> {
 }
 
 /// A leg whose units are known.
-#[derive(Debug, Drop, PartialEq, Eq)]
+#[derive(Drop, PartialEq, Eq)]
 pub struct Whole<'a> {
     pub units: Amount<'a>,
     /// How many decimals the number has that is written for the units: 0 where none is written, and
@@ -29,7 +29,7 @@ pub struct Whole<'a> {
 }
 
 /// A posting of a transaction: with its units, or what it takes to balance the others.
-#[derive(Debug, Drop, PartialEq, Eq)]
+#[derive(Drop, PartialEq, Eq)]
 pub enum Leg<'a> {
     Whole(Whole<'a>),
     /// It takes what is lacking in this currency.

@@ -13,7 +13,7 @@ use thiserror::Error;
 pub struct TooWide;
 
 /// A count of `10^-16` of a currency, below `10^28` without its sign.
-#[derive(Debug, Drop, PartialEq, Eq)]
+#[derive(Drop, PartialEq, Eq)]
 pub struct Weight<'a> {
     pub count: i128,
     pub currency: Currency<'a>,

@@ -3,7 +3,7 @@
 use crate::kind::Kind;
 
 /// What the token at the front is, and how long.
-#[derive(Clone, Copy, Debug)]
+#[derive(Clone, Copy)]
 pub struct Found {
     pub len: usize,
     pub kind: Kind,

@@ -20,7 +20,7 @@ pub enum Spot {
 }
 
 /// A gap's length, the line feeds in it, and where it ends.
-#[derive(Clone, Copy, Debug)]
+#[derive(Clone, Copy)]
 pub struct Gap {
     pub len: usize,
     pub line_feeds: usize,

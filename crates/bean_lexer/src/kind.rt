@@ -2,7 +2,7 @@
 ghost use Rattle.std.specs.Prelude.{◌≡◌};
 
 /// A word of the ledger language, written in small letters, or a truth value.
-#[derive(Clone, Copy, Debug, PartialEq, Eq)]
+#[derive(Clone, Copy, PartialEq, Eq)]
 pub enum Keyword {
     Open,
     Close,
@@ -84,7 +84,7 @@ pub const WORDS: [Keyword; 19] = [
 ];
 
 /// A sign of the ledger language.
-#[derive(Clone, Copy, Debug, PartialEq, Eq)]
+#[derive(Clone, Copy, PartialEq, Eq)]
 pub enum Sign {
     Star,
     Bang,
@@ -107,7 +107,7 @@ pub enum Sign {
 }
 
 /// What a token is.
-#[derive(Clone, Copy, Debug, PartialEq, Eq)]
+#[derive(Clone, Copy, PartialEq, Eq)]
 pub enum Kind {
     /// A day by its form, whether it exists or not.
     Day,

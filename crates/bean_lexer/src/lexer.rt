@@ -8,7 +8,7 @@ use crate::token_at::{line_feeds_of, token_at};
 use bean_base::Slice;
 
 /// Gives the tokens of a text one after the other. It takes no memory.
-#[derive(Clone, Copy, Debug)]
+#[derive(Clone, Copy)]
 pub struct Lexer<'a> {
     /// The text whole.
     pub text: &'a str,

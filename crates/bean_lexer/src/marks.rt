@@ -7,7 +7,7 @@ use std::marker::Model;
 /// A tag, by its name without the `#`.
 ///
 /// Its value is its bytes, wherever they lie.
-#[derive(Debug, Drop, PartialEq, Eq, Hash)]
+#[derive(Drop, PartialEq, Eq, Hash)]
 pub struct Tag<'a> {
     name: Slice<'a>,
 }
@@ -52,7 +52,7 @@ impl<'a> Tag<'a> {
 /// A link, by its name without the `^`.
 ///
 /// Its value is its bytes, wherever they lie.
-#[derive(Debug, Drop, PartialEq, Eq, Hash)]
+#[derive(Drop, PartialEq, Eq, Hash)]
 pub struct Link<'a> {
     name: Slice<'a>,
 }
@@ -97,7 +97,7 @@ impl<'a> Link<'a> {
 /// The key of a metadata entry, without its colon.
 ///
 /// Its value is its bytes, wherever they lie.
-#[derive(Debug, Drop, PartialEq, Eq, Hash)]
+#[derive(Drop, PartialEq, Eq, Hash)]
 pub struct MetaKey<'a> {
     name: Slice<'a>,
 }

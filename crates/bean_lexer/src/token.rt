@@ -6,7 +6,7 @@ use crate::kind::{Kind, Place};
 use bean_base::{Slice, Span};
 
 /// A token of a ledger's text, as a slice of it.
-#[derive(Debug, Drop)]
+#[derive(Drop)]
 pub struct Token<'a> {
     pub text: Slice<'a>,
     /// The place of its first byte in the text.

@@ -17,7 +17,7 @@ use std::alloc::{AllocError, Global};
 use std::marker::Model;
 
 /// A line of a booking method.
-#[derive(Debug, Drop)]
+#[derive(Drop)]
 pub struct MethodLine<'a> {
     pub place: Place,
     /// The name of the method, known or not.

@@ -8,7 +8,7 @@ use bean_parser::{Directive, Setting};
 use std::alloc::{AllocError, Global};
 
 /// What is written in a text, with its place.
-#[derive(Debug, Drop)]
+#[derive(Drop)]
 pub struct Placed<T> {
     /// The number of its text, from 0.
     pub file: usize,

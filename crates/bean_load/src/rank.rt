@@ -5,7 +5,7 @@ ghost use Rattle.bean_load.specs.Rank.{rank_number, rank_of};
 use bean_parser::DirectiveKind;
 
 /// Which directives of one day are taken first.
-#[derive(Clone, Copy, Debug, Drop)]
+#[derive(Clone, Copy, Drop)]
 pub enum Rank {
     Open,
     Balance,

@@ -24,7 +24,7 @@ impl Model for File {
 
 /// The lines of a text behind a line, up to its next part or its end. What is read at an include
 /// line stands between two parts.
-#[derive(Clone, Copy, Debug, Drop)]
+#[derive(Clone, Copy, Drop)]
 pub struct Part {
     /// The number of the text, from 0.
     pub file: usize,

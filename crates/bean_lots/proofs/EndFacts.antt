@@ -1,6 +1,6 @@
 -- Slots from their end.
 use Rattle.std.proofs.Common.{◌≡◌, ◌≤◌, ℕ, zero, suc, ℤ, pos, false, cond, not, filter}
-use Rattle.std.proofs.Common.{List, [], ◌∷◌, ◌++◌, append_assoc, take, slice_get, Some}
+use Rattle.std.proofs.Common.{List, [], ◌∷◌, ◌++◌, append_assoc, length, take, slice_get, Some, refl}
 use Rattle.std.proofs.Common.{sym, ◌∙◌, ap, arith}
 use Rattle.std.specs.List.{AllByRecursion}
 use Rattle.std.specs.Map.{values_of}
@@ -46,6 +46,16 @@ pub days_in_front : (day : ℤ) (n : ℕ) (es : List (Key × ℤ)) → AreInOrde
     → AreInOrder (take n es) × AreBy day (take n es)
 days_in_front day n es a =
     (order_in_front n es a.0, all_in_front (λ e. IsBy day e.0.lot) n es a.1)
+
+-- where all slots are holes, none is full
+pub none_full : (n : ℕ) (es : List (Key × ℤ)) → AreHoles n es → n ≡ length es
+    → filter is_full (take 0 es) ≡ filter is_full es
+none_full zero [] a e = refl
+none_full zero (x ∷ es) a e = absurd (omega (arith, e))
+none_full (suc n) [] a e = absurd a
+none_full (suc n) (x ∷ es) a e =
+    none_full n es a.1 (omega (arith, e))
+    ∙ ap (λ m. cond (not (int_eq m (pos 0))) (x ∷ filter is_full es) (filter is_full es)) (sym a.0)
 
 -- the position of the last slot of a front, behind those before it
 pub slot_before : (es : List (Key × ℤ)) (i : ℕ) (k : Key) (n : ℤ) → slice_get es i ≡ Some (k, n)

@@ -107,30 +107,30 @@ order : (es : List (Key × ℤ)) → AreInOrder es → AreInOrder (negative es)
 order [] a = tt
 order (e ∷ es) a = (all_turned (λ q. IsNotBefore e.0.lot q.lot) es a.0, order es a.1)
 
-pub kept : (s t : Slots) → IsKept s → t.counts.entries ≡ negative s.counts.entries
+pub kept : (s t : Slots) → IsKept s → t.counts ≡ negative s.counts
     → t.first ≡ s.first → t.days ≡ s.days
     → ((c : List ℕ) → signs_of t.lots c ≡ negated (signs_of s.lots c)) → t.lots.costs ≡ s.lots.costs
     → IsKept t
 kept s t h entries first days signs costs = record {
   holes =
-      subst (λ i. AreHoles i t.counts.entries) (sym first)
-      (subst (AreHoles s.first) (sym entries) (holes s.first s.counts.entries h.holes));
+      subst (λ i. AreHoles i t.counts) (sym first)
+      (subst (AreHoles s.first) (sym entries) (holes s.first s.counts h.holes));
   long = λ c.
-      ap (λ x. x.long) (signs c) ∙ h.short c ∙ sym (long c s.counts.entries)
+      ap (λ x. x.long) (signs c) ∙ h.short c ∙ sym (long c s.counts)
       ∙ ap (in_all (long_lot c)) (sym entries);
   short = λ c.
-      ap (λ x. x.short) (signs c) ∙ h.long c ∙ sym (short c s.counts.entries)
+      ap (λ x. x.short) (signs c) ∙ h.long c ∙ sym (short c s.counts)
       ∙ ap (in_all (short_lot c)) (sym entries);
   days =
-      subst (λ d. AreDays d t.counts.entries) (sym days)
+      subst (λ d. AreDays d t.counts) (sym days)
       (subst (AreDays s.days) (sym entries)
       (λ e.
       let d = h.days e in (
-        order s.counts.entries d.0,
-        all_turned (λ q. IsBy s.days.latest q.lot) s.counts.entries d.1,
+        order s.counts d.0,
+        all_turned (λ q. IsBy s.days.latest q.lot) s.counts d.1,
       )));
   costs =
-      subst (λ x. AreTold x t.counts.entries) (sym costs)
+      subst (λ x. AreTold x t.counts) (sym costs)
       (subst (AreTold (s.lots.costs)) (sym entries)
-      (all_turned (λ q. IsTold (s.lots.costs) q.lot) s.counts.entries h.costs));
+      (all_turned (λ q. IsTold (s.lots.costs) q.lot) s.counts h.costs));
 }

@@ -1,7 +1,7 @@
 -- What is held in slots, as they are written, taken out and put behind the others.
-use Rattle.std.proofs.Common.{◌≡◌, ◌-◌, ◌≤◌, ℕ, zero, suc, ℤ, pos, ◌+ℤ◌, Bool, true, false}
-use Rattle.std.proofs.Common.{cond, List, [], ◌∷◌, ◌++◌, length, drop, slice_get, position}
-use Rattle.std.proofs.Common.{Option, Some, None, unwrap_or, refl, sym, ◌∙◌, ap, subst, arith}
+use Rattle.std.proofs.Common.{◌≡◌, ◌+◌, ◌-◌, ◌≤◌, ℕ, zero, suc, ℤ, pos, ◌+ℤ◌, Bool, true, false}
+use Rattle.std.proofs.Common.{cond, List, [], ◌∷◌, ◌++◌, length, drop, slice_get, position, remove}
+use Rattle.std.proofs.Common.{Some, None, unwrap_or, refl, sym, ◌∙◌, ap, subst, arith}
 use Rattle.std.specs.List.{AllByRecursion, IsDistinct}
 use Rattle.std.specs.Map.{keys_of, values_of, lookup, remove_entry}
 use Rattle.std.specs.Ordering.{int_eq}
@@ -24,13 +24,6 @@ is_none x e = cc
 
 pub same_some : {A : Type 0} (x y : A) → Some x ≡ Some y → x ≡ y
 same_some x y e = ap (λ o. unwrap_or o x) e
-
--- a key that stands first
-pub first_slot : (t : Key → Bool) (es : List (Key × ℤ)) (k : Key) (n : ℤ)
-    → slice_get es 0 ≡ Some (k, n) → t k ≡ true → position t (keys_of es) ≡ Some 0
-first_slot t [] k n at h = absurd (is_none (k, n) (sym at))
-first_slot t (e ∷ es) k n at h =
-    index-first t (e ∷ es) 0 (ap (λ (o : Option (Key × ℤ)). t (unwrap_or o e).0) at ∙ h)
 
 -- a key that stands nowhere
 pub none_there : (es : List (Key × ℤ)) (k : Key)
@@ -103,21 +96,103 @@ at_front k q m n es s z =
     ap (λ c. added (cond c [] (record { key = q; count = m } ∷ []) ++ es) k n) z
     ∙ ap (λ b. cond b (held_as q (m +ℤ n) ++ es) (record { key = q; count = m } ∷ added es k n)) s
 
--- a key without a slot goes last
-pub new_key : (es : List (Key × ℤ)) (k : Key) (n : ℤ) → lookup (same_key k) es ≡ None
-    → positions (insert_entry same_key es k n) ≡ added (positions es) k n
-new_key [] k n h = append-nil (held_as k n)
-new_key (e ∷ es) k n h = by (same_key k e.0) refl h (new_key es k n)
+-- nothing is held in a hole at the end
+pub hole_more : (es : List (Key × ℤ)) (k : Key) → positions (es ++ (k, pos 0) ∷ []) ≡ positions es
+hole_more [] k = refl
+hole_more (e ∷ es) k = ap (λ l. held_as e.0 e.1 ++ l) (hole_more es k)
+
+-- a key whose hole is the last slot goes last
+pub last_key : (es : List (Key × ℤ)) (i : ℕ) (k : Key) (n : ℤ)
+    → position (same_key k) (keys_of es) ≡ Some i → lookup (same_key k) es ≡ Some (pos 0)
+    → i + 1 ≡ length es → positions (insert_entry same_key es k n) ≡ added (positions es) k n
+last_key [] i k n at h end = absurd (omega (arith, end))
+last_key (e ∷ []) zero k n at h end = by (same_key k e.0) refl h
   where
+    by : (b : Bool) → same_key k e.0 ≡ b → cond b (Some e.1) None ≡ Some (pos 0)
+        → positions (cond b ((e.0, n) ∷ []) (e ∷ (k, n) ∷ []))
+        ≡ added (held_as e.0 e.1 ++ []) k n
+    by true s h =
+        ap (λ q. held_as q n ++ []) (sym ((same_key_Decides k e.0).0 s)) ∙ append-nil (held_as k n)
+        ∙ ap (λ m. added (held_as e.0 m ++ []) k n) (sym (same_some e.1 (pos 0) h))
+    by false s h = absurd (is_none (pos 0) (sym h))
+last_key (e ∷ []) (suc i) k n at h end = absurd (omega (arith, end))
+last_key (e ∷ f ∷ es) zero k n at h end = absurd (omega (arith, end))
+last_key (e ∷ f ∷ es) (suc i) k n at h end =
+    by (same_key k e.0) refl h
+    (λ h. last_key (f ∷ es) i k n
+    (index-first (same_key k) (f ∷ es) i (Found-position (same_key k) (e ∷ f ∷ es) (suc i) at).first.1)
+    h (omega (arith, end)))
+  where
+    other : same_key k e.0 ≡ false
+    other = (Found-position (same_key k) (e ∷ f ∷ es) (suc i) at).first.0
+
     by : (b : Bool) → same_key k e.0 ≡ b
-        → cond b (Some e.1) (lookup (same_key k) es) ≡ None
+        → cond b (Some e.1) (lookup (same_key k) (f ∷ es)) ≡ Some (pos 0)
+        → (lookup (same_key k) (f ∷ es) ≡ Some (pos 0)
+        → positions (insert_entry same_key (f ∷ es) k n) ≡ added (positions (f ∷ es)) k n)
+        → positions (cond b ((e.0, n) ∷ f ∷ es) (e ∷ insert_entry same_key (f ∷ es) k n))
+        ≡ added (held_as e.0 e.1 ++ positions (f ∷ es)) k n
+    by true s h rest = let bad : true ≡ false = sym s ∙ other in cc
+    by false s h rest =
+        ap (λ l. held_as e.0 e.1 ++ l) (rest h)
+        ∙ sym (behind k e.0 e.1 n (positions (f ∷ es)) s)
+
+-- a key behind all others
+pub place_last : (es : List (Key × ℤ)) (k : Key) (n : ℤ) → lookup (same_key k) es ≡ None
+    → position (same_key k) (keys_of (es ++ (k, n) ∷ [])) ≡ Some (length es)
+place_last [] k n h =
+    index-first (same_key k) ((k, n) ∷ []) 0 ((same_key_Decides k k).1 refl)
+place_last (e ∷ es) k n h = by (same_key k e.0) refl h (place_last es k n)
+  where
+    by : (b : Bool) → same_key k e.0 ≡ b → cond b (Some e.1) (lookup (same_key k) es) ≡ None
         → (lookup (same_key k) es ≡ None
-        → positions (insert_entry same_key es k n) ≡ added (positions es) k n)
-        → positions (cond b ((e.0, n) ∷ es) (e ∷ insert_entry same_key es k n))
-        ≡ added (held_as e.0 e.1 ++ positions es) k n
+        → position (same_key k) (keys_of (es ++ (k, n) ∷ [])) ≡ Some (length es))
+        → position (same_key k) (keys_of (e ∷ es ++ (k, n) ∷ [])) ≡ Some (suc (length es))
     by true s h rest = absurd (is_none e.1 h)
     by false s h rest =
-        ap (λ l. held_as e.0 e.1 ++ l) (rest h) ∙ sym (behind k e.0 e.1 n (positions es) s)
+        index-first (same_key k) (e ∷ es ++ (k, n) ∷ []) (suc (length es))
+        (s, (Found-position (same_key k) (es ++ (k, n) ∷ []) (length es) (rest h)).first)
+
+pub count_last : (es : List (Key × ℤ)) (k : Key) (n : ℤ) → lookup (same_key k) es ≡ None
+    → lookup (same_key k) (es ++ (k, n) ∷ []) ≡ Some n
+count_last [] k n h =
+    ap (λ b. cond b (Some n) None) ((same_key_Decides k k).1 refl)
+count_last (e ∷ es) k n h = by (same_key k e.0) h (count_last es k n)
+  where
+    by : (b : Bool) → cond b (Some e.1) (lookup (same_key k) es) ≡ None
+        → (lookup (same_key k) es ≡ None → lookup (same_key k) (es ++ (k, n) ∷ []) ≡ Some n)
+        → cond b (Some e.1) (lookup (same_key k) (es ++ (k, n) ∷ [])) ≡ Some n
+    by true h rest = absurd (is_none e.1 h)
+    by false h rest = rest h
+
+-- a key that is taken out at its place
+pub out_at : (es : List (Key × ℤ)) (i : ℕ) (k : Key) → position (same_key k) (keys_of es) ≡ Some i
+    → remove es i ≡ remove_entry (same_key k) es
+out_at [] i k at = absurd (Found-position {X = ℤ} (same_key k) [] i at).first
+out_at (e ∷ es) zero k at =
+    ap (λ b. cond b es (e ∷ remove_entry (same_key k) es))
+    (sym (Found-position (same_key k) (e ∷ es) zero at).first)
+out_at (e ∷ es) (suc i) k at =
+    let first = (Found-position (same_key k) (e ∷ es) (suc i) at).first in
+    ap (λ l. e ∷ l) (out_at es i k (index-first (same_key k) es i first.1))
+    ∙ ap (λ b. cond b es (e ∷ remove_entry (same_key k) es)) (sym first.0)
+
+-- it is gone
+pub gone_at : (es : List (Key × ℤ)) (k : Key) → IsDistinct same_key (keys_of es)
+    → lookup (same_key k) (remove_entry (same_key k) es) ≡ None
+unfolding IsDistinct
+gone_at [] k d = refl
+gone_at (e ∷ es) k d = by (same_key k e.0) refl (gone_at es k d.1)
+  where
+    by : (b : Bool) → same_key k e.0 ≡ b
+        → lookup (same_key k) (remove_entry (same_key k) es) ≡ None
+        → lookup (same_key k) (cond b es (e ∷ remove_entry (same_key k) es)) ≡ None
+    by true s rest =
+        none_there es k
+        (subst (λ x. AllByRecursion {X = Key} (λ q. same_key x q ≡ false) (keys_of es))
+        (sym ((same_key_Decides k e.0).0 s)) d.0)
+    by false s rest =
+        ap (λ b. cond b (Some e.1) (lookup (same_key k) (remove_entry (same_key k) es))) s ∙ rest
 
 -- a key that is held keeps its place
 pub held_key : (es : List (Key × ℤ)) (k : Key) (m n : ℤ) → lookup (same_key k) es ≡ Some m
@@ -178,17 +253,22 @@ holes_held (suc n) (e ∷ es) k m w a h z =
         zero_apart e = let same : true ≡ false = sym e ∙ z in cc
     by false h rest = (a.0, rest h)
 
-pub holes_new : (n : ℕ) (es : List (Key × ℤ)) (k : Key) (w : ℤ) → AreHoles n es
-    → lookup (same_key k) es ≡ None → AreHoles n (insert_entry same_key es k w)
-holes_new zero es k w a h = tt
-holes_new (suc n) [] k w a h = absurd a
-holes_new (suc n) (e ∷ es) k w a h = by (same_key k e.0) h (holes_new n es k w a.1)
-  where
-    by : (b : Bool) → cond b (Some e.1) (lookup (same_key k) es) ≡ None
-        → (lookup (same_key k) es ≡ None → AreHoles n (insert_entry same_key es k w))
-        → AreHoles (suc n) (cond b ((e.0, w) ∷ es) (e ∷ insert_entry same_key es k w))
-    by true h rest = absurd (is_none e.1 h)
-    by false h rest = (a.0, rest h)
+-- a slot more, at the end
+pub holes_more : (n : ℕ) (es : List (Key × ℤ)) (e : Key × ℤ) → AreHoles n es
+    → AreHoles n (es ++ e ∷ [])
+holes_more zero es x a = tt
+holes_more (suc n) [] x a = absurd a
+holes_more (suc n) (e ∷ es) x a = (a.0, holes_more n es x a.1)
+
+-- a write at or behind the first slot
+pub holes_written : (n : ℕ) (es : List (Key × ℤ)) (i : ℕ) (w : ℤ) (m : ℕ) → AreHoles n es → m ≤ n
+    → m ≤ i → AreHoles m (set_value_at es i w)
+holes_written n es i w zero a p q = tt
+holes_written zero es i w (suc m) a p q = absurd (omega (arith, p))
+holes_written (suc n) [] i w (suc m) a p q = absurd a
+holes_written (suc n) (e ∷ es) zero w (suc m) a p q = absurd (omega (arith, q))
+holes_written (suc n) (e ∷ es) (suc i) w (suc m) a p q =
+    (a.0, holes_written n es i w m a.1 (omega (arith, p)) (omega (arith, q)))
 
 one_hole_out : (n : ℕ) (t : Key → Bool) (es : List (Key × ℤ)) → AreHoles (suc n) es
     → AreHoles n (remove_entry t es)

@@ -1,6 +1,6 @@
 -- What is counted over all slots.
 use Rattle.std.proofs.Common.{◌≡◌, ◌&&◌, ◌+◌, ◌≤◌, ℕ, ℤ, pos, Bool, true, false, cond, List, []}
-use Rattle.std.proofs.Common.{◌∷◌, length, Some, None, refl, sym, ◌∙◌, ap, arith}
+use Rattle.std.proofs.Common.{◌∷◌, ◌++◌, length, Some, refl, sym, ◌∙◌, ap, arith}
 use Rattle.std.specs.Map.{lookup, remove_entry}
 use Rattle.std.specs.Option.{is_some}
 use Rattle.indexmap.specs.IndexMap.{insert_entry}
@@ -30,19 +30,11 @@ written f (e ∷ es) k m n h = by (same_key k e.0) refl h (written f es k m n)
         omega (arith, new, old)
     by false s h rest = let more = rest h in omega (arith, more)
 
-pub pushed : (f : Key → ℤ → ℕ) (es : List (Key × ℤ)) (k : Key) (n : ℤ)
-    → lookup (same_key k) es ≡ None
-    → in_all f (insert_entry same_key es k n) ≡ in_all f es + f k n
-pushed f [] k n h = omega arith
-pushed f (e ∷ es) k n h = by (same_key k e.0) h (pushed f es k n)
-  where
-    by : (b : Bool) → cond b (Some e.1) (lookup (same_key k) es) ≡ None
-        → (lookup (same_key k) es ≡ None
-        → in_all f (insert_entry same_key es k n) ≡ in_all f es + f k n)
-        → in_all f (cond b ((e.0, n) ∷ es) (e ∷ insert_entry same_key es k n))
-        ≡ (f e.0 e.1 + in_all f es) + f k n
-    by true h rest = absurd (is_none e.1 h)
-    by false h rest = let more = rest h in omega (arith, more)
+-- a hole more adds nothing
+pub hole_more : (f : Key → ℤ → ℕ) (none : (k : Key) → f k (pos 0) ≡ 0) (es : List (Key × ℤ))
+    (k : Key) → in_all f (es ++ (k, pos 0) ∷ []) ≡ in_all f es
+hole_more f none [] k = let zero = none k in omega (arith, zero)
+hole_more f none (e ∷ es) k = ap (λ n. f e.0 e.1 + n) (hole_more f none es k)
 
 pub taken_out : (f : Key → ℤ → ℕ) (none : (k : Key) → f k (pos 0) ≡ 0) (es : List (Key × ℤ))
     (k : Key) → lookup (same_key k) es ≡ Some (pos 0)

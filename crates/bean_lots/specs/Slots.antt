@@ -1,13 +1,11 @@
 -- How an inventory is kept: a slot for each key, and what is known of all slots.
 use Rattle.std.specs.Prelude.{◌≡◌, ◌≤ℤ◌, ◌+◌, ℕ, zero, suc, ℤ, pos, Bool, true, List, [], ◌∷◌}
-use Rattle.std.specs.Prelude.{◌++◌, not, position, Option, Some, None}
+use Rattle.std.specs.Prelude.{◌++◌, not, Option, Some, None}
 use Rattle.std.specs.List.{AllByRecursion}
-use Rattle.std.specs.Map.{keys_of}
 use Rattle.std.specs.Ordering.{int_eq}
 use Rattle.bean_base.specs.Day.{number}
 use Rattle.bean_lots.specs.Days.{IsNotBefore}
 use Rattle.bean_lots.specs.Inventory.{held_as, long_lot, short_lot}
-use Rattle.bean_lots.specs.Lot.{same_key}
 use Rattle.bean_lots.specs.Costs.{AreTold}
 use Rattle.bean_lots.specs.Known.{signs_of}
 use Rattle.bean_base.specs.declared.days.Day.{Day}
@@ -24,14 +22,10 @@ positions [] = []
 positions (e ∷ es) = held_as e.0 e.1 ++ positions es
 
 abbrev pub held : Slots → List Position
-held s = positions s.counts.entries
+held s = positions s.counts
 
 abbrev pub is_full : Key × ℤ → Bool
 is_full e = not (int_eq e.1 (pos 0))
-
--- which slot is that of the key
-abbrev pub slot_of : Key → List (Key × ℤ) → Option ℕ
-slot_of k es = position (same_key k) (keys_of es)
 
 -- the key of a lot of that currency, cost and day, without a label
 abbrev pub key_on : List ℕ → Cost → Day → Key
@@ -69,8 +63,8 @@ AreDays d es = d.in_order ≡ true → AreInOrder es × AreBy d.latest es
 -- the lots of each currency and sign are counted, slots below the first are empty, and where lots are said to be
 -- in order they are; what is told of the costs of lots holds
 pub record IsKept (s : Slots) : Type 0 where
-  pub holes : AreHoles s.first s.counts.entries
-  pub long : (c : List ℕ) → (signs_of s.lots c).long ≡ in_all (long_lot c) s.counts.entries
-  pub short : (c : List ℕ) → (signs_of s.lots c).short ≡ in_all (short_lot c) s.counts.entries
-  pub days : AreDays s.days s.counts.entries
-  pub costs : AreTold (s.lots.costs) s.counts.entries
+  pub holes : AreHoles s.first s.counts
+  pub long : (c : List ℕ) → (signs_of s.lots c).long ≡ in_all (long_lot c) s.counts
+  pub short : (c : List ℕ) → (signs_of s.lots c).short ≡ in_all (short_lot c) s.counts
+  pub days : AreDays s.days s.counts
+  pub costs : AreTold (s.lots.costs) s.counts

@@ -47,7 +47,7 @@ impl<'a> Model for Inventory<'a> {
 
     ghost Value = { List Position };
 
-    ghost view = { λ a. slots_spec.positions a.slots.counts.entries };
+    ghost view = { λ a. slots_spec.positions a.slots.counts };
 
     ghost invariant = { λ a. IsKept a.slots };
 }

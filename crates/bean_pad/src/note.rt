@@ -10,7 +10,7 @@ use bean_directives::Pad;
 use std::alloc::{AllocError, Global};
 
 /// What comes of a balance that is out of tolerance where a pad waits for it.
-#[derive(Clone, Copy, Debug, Drop, PartialEq, Eq)]
+#[derive(Clone, Copy, Drop, PartialEq, Eq)]
 pub enum Outcome {
     /// So much is added to the account, and taken from the source. It has 8 decimals.
     Padding(Num),
@@ -21,14 +21,14 @@ pub enum Outcome {
 }
 
 /// What comes of a pad in a currency.
-#[derive(Debug, Drop)]
+#[derive(Drop)]
 pub struct Note<'a> {
     pub currency: Currency<'a>,
     pub outcome: Outcome,
 }
 
 /// A pad, with what comes of it in the order of the balances.
-#[derive(Debug, Drop)]
+#[derive(Drop)]
 pub struct NotedPad<'a> {
     pub pad: Pad<'a>,
     pub day: Day,

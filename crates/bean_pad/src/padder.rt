@@ -24,7 +24,7 @@ use bean_directives::{Balance, Pad};
 use std::alloc::{AllocError, Global};
 
 /// What pads and balances come to.
-#[derive(Debug, Drop)]
+#[derive(Drop)]
 pub struct Padded<'a> {
     /// The pads in their order, each with what comes of it.
     pub pads: List<NotedPad<'a>>,

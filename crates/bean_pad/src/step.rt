@@ -4,7 +4,7 @@ use bean_base::{Account, Amount, Day, Place};
 use bean_directives::{Balance, Pad};
 
 /// What pads and balances see of a ledger, one after the other.
-#[derive(Debug, Drop)]
+#[derive(Drop)]
 pub enum Step<'a> {
     /// So much goes to an account, by a posting of a written transaction.
     Posting(Account<'a>, Amount<'a>),

@@ -19,7 +19,7 @@ use bean_postings::Posting;
 use std::alloc::{AllocError, Global};
 
 /// What a block gives.
-#[derive(Debug, Drop)]
+#[derive(Drop)]
 pub enum Outcome<'a> {
     Statement(Statement<'a>),
     Fault(Fault),

@@ -15,7 +15,7 @@ use memchr::memmem;
 use std::alloc::{AllocError, Global};
 
 /// An include line.
-#[derive(Debug, Drop)]
+#[derive(Drop)]
 pub struct IncludeLine<'a> {
     /// The line on which it is written, from 1.
     pub line: usize,

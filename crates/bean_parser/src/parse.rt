@@ -15,7 +15,7 @@ use bean_directives::{Directive, Setting, UndatedKind};
 use std::alloc::{AllocError, Global};
 
 /// What a ledger's text says, in reading order. The faults have file 0.
-#[derive(Debug, Drop)]
+#[derive(Drop)]
 pub struct Parsed<'a> {
     pub directives: List<Directive<'a>>,
     pub settings: List<Setting<'a>>,

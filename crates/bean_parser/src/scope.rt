@@ -16,7 +16,7 @@ use bean_lexer::Tag;
 use std::alloc::{AllocError, Global};
 
 /// Where a scope begins or ends, with its place.
-#[derive(Debug, Drop)]
+#[derive(Drop)]
 pub struct PlacedBound<'a> {
     /// The line on which it is written, from 1.
     pub line: usize,

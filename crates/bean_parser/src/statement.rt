@@ -3,7 +3,7 @@
 use bean_directives::{Directive, Undated};
 
 /// What a block without a fault says.
-#[derive(Debug, Drop)]
+#[derive(Drop)]
 pub enum Statement<'a> {
     Directive(Directive<'a>),
     Undated(Undated<'a>),

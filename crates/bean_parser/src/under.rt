@@ -21,7 +21,7 @@ use bean_postings::posting_line::posting;
 use std::alloc::{AllocError, Global};
 
 /// What a line says.
-#[derive(Debug, Drop)]
+#[derive(Drop)]
 pub enum LineKind<'a> {
     Entry(Ranged<MetaEntry<'a>>),
     Marks(List<Mark<'a>>),
@@ -29,7 +29,7 @@ pub enum LineKind<'a> {
 }
 
 /// What lines say.
-#[derive(Debug, Drop)]
+#[derive(Drop)]
 pub struct Body<'a> {
     /// The entries above all postings.
     pub metadata: Few<MetaEntry<'a>>,

@@ -13,7 +13,7 @@ use bean_lexer::{Sign, Token};
 use std::alloc::{AllocError, Global};
 
 /// What braces say of a lot. Each part may be absent.
-#[derive(Debug, Drop)]
+#[derive(Drop)]
 pub struct LotParts<'a> {
     pub amount: Option<Amount<'a>>,
     /// The day of acquisition.
@@ -22,7 +22,7 @@ pub struct LotParts<'a> {
 }
 
 /// The cost that is written in a posting.
-#[derive(Debug, Drop)]
+#[derive(Drop)]
 pub enum Cost<'a> {
     Absent,
     Lot(Apart<LotParts<'a>>),

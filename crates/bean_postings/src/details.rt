@@ -12,7 +12,7 @@ use std::marker::Model;
 use std::mem::replace;
 
 /// The line of a posting, and a flag, a cost, a price and entries, each of which may be absent.
-#[derive(Debug, Drop)]
+#[derive(Drop)]
 pub struct DetailParts<'a> {
     pub cost: Cost<'a>,
     pub price: Price<'a>,
@@ -24,7 +24,7 @@ pub struct DetailParts<'a> {
 }
 
 /// How details are kept.
-#[derive(Debug, Drop)]
+#[derive(Drop)]
 enum Kept<'a> {
     /// The line, where there is nothing else.
     Line(usize),
@@ -33,7 +33,7 @@ enum Kept<'a> {
 
 /// The details of a posting. What few postings have lies in memory of its own, so that the others
 /// stay small. Contracts see the parts.
-#[derive(Debug, Drop)]
+#[derive(Drop)]
 pub struct Details<'a> {
     kept: Kept<'a>,
 }

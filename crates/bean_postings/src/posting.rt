@@ -8,7 +8,7 @@ use crate::price::Price;
 use bean_base::{Account, Amount, Currency};
 
 /// What a posting adds to its account, as far as it is written.
-#[derive(Debug, Drop)]
+#[derive(Drop)]
 pub enum Units<'a> {
     Missing,
     /// A currency without a number.
@@ -19,7 +19,7 @@ pub enum Units<'a> {
 }
 
 /// A line of a transaction that changes an account.
-#[derive(Debug, Drop)]
+#[derive(Drop)]
 pub struct Posting<'a> {
     pub units: Units<'a>,
     pub account: Account<'a>,

@@ -12,7 +12,7 @@ use bean_lexer::{Kind, Sign, Token};
 use std::alloc::{AllocError, Global};
 
 /// The price that is written in a posting.
-#[derive(Debug, Drop)]
+#[derive(Drop)]
 pub enum Price<'a> {
     Absent,
     /// The price of one unit, behind `@`.

@@ -13,7 +13,7 @@ use bean_lots::{Cost, Lot};
 pub use takes::{one_reduction, reduce};
 
 /// How an account chooses among its lots.
-#[derive(Clone, Copy, Debug, Drop, PartialEq, Eq)]
+#[derive(Clone, Copy, Drop, PartialEq, Eq)]
 pub enum Method {
     /// The one candidate, or all of them where their sum is the want.
     Strict,
@@ -26,7 +26,7 @@ pub enum Method {
 }
 
 /// Which lots may be reduced: those of the currency that have every part that is given.
-#[derive(Debug, Drop)]
+#[derive(Drop)]
 pub struct Selector<'a> {
     pub currency: Currency<'a>,
     pub cost: Option<Cost<'a>>,

@@ -10,4 +10,5 @@ pub mod SmallTakenFacts
 pub mod SmallLinedFacts
 pub mod SmallCompletedFacts
 pub mod SmallBookedFacts
-pub mod SmallBookingFacts
+pub mod PadFacts
+pub mod WatchFacts

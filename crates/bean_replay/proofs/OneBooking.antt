@@ -7,10 +7,9 @@ use Rattle.bean_load.specs.Loaded.{Loaded}
 use Rattle.bean_load.specs.declared.placed.Placed.{Placed}
 use Rattle.bean_reductions.specs.declared.reduction.Method.{Method}
 use Rattle.bean_transactions.proofs.OneTrial.{one_trial}
-use Rattle.bean_replay.specs.Booked.{IsBooked, bookings_of, faults_of, method_in_ledger}
+use Rattle.bean_replay.specs.Booked.{bookings_of, faults_of, method_in_ledger}
 use Rattle.bean_replay.specs.Stand.{IsStepBy, LeadsTo, Stand, after_trial, setting_of}
 use Rattle.bean_replay.specs.Stand.{written_in}
-use Rattle.bean_replay.specs.declared.booked.Booked.{Booked}
 
 one_step : (m : List ℕ → Method) (past : List (Placed Directive)) (st : Stand)
     (d : Placed Directive) (k : DirectiveKind) (a b : Stand) → IsStepBy m past st d k a
@@ -39,11 +38,11 @@ one_stand m (d ∷ past) a b h g =
     one_step m past h.0 d d.item.kind a b h.2
     (subst (λ st. IsStepBy m past st d d.item.kind b) (sym same) g.2)
 
-pub one_booking : (l : Loaded) (a b : Booked) → IsBooked l a → IsBooked l b → a ≡ b
+-- and so to one booking, and the same faults
+pub one_booking : (l : Loaded) (a b : Stand)
+    → LeadsTo (method_in_ledger l) (reverse l.directives) a
+    → LeadsTo (method_in_ledger l) (reverse l.directives) b
+    → (a ≡ b) × (bookings_of a ≡ bookings_of b) × (faults_of l a ≡ faults_of l b)
 one_booking l a b h g =
-    let same =
-    one_stand (method_in_ledger l) (reverse l.directives) h.stand g.stand h.leads g.leads in
-    let bookings =
-    h.finished.bookings_are ∙ ap bookings_of same ∙ sym g.finished.bookings_are in
-    let faults = h.finished.faults_are ∙ ap (faults_of l) same ∙ sym g.finished.faults_are in
-    λ i. record { bookings = bookings i; faults = faults i }
+    let same = one_stand (method_in_ledger l) (reverse l.directives) a b h g in
+    (same, ap bookings_of same, ap (faults_of l) same)

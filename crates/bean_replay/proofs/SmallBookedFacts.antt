@@ -25,7 +25,7 @@ use Rattle.bean_transactions.proofs.LightFacts.{kept_light}
 use Rattle.bean_transactions.specs.Tried.{Tries}
 use Rattle.bean_holdings.specs.declared.posted.Posted.{Posted}
 use Rattle.bean_transactions.specs.declared.stop.LineFault.{LineFault}
-use Rattle.bean_replay.specs.Small.{IsSmallBooking, IsSmallKept, IsSmallNote, IsSmallNoted}
+use Rattle.bean_replay.specs.Small.{IsSmallBooking, IsSmallDraft, IsSmallNote, IsSmallNoted}
 use Rattle.bean_replay.specs.Small.{IsSmallPad, IsSmallPosted}
 use Rattle.bean_parser.specs.SmallPart.{IsShortCurrency, IsShortEntry, most}
 use Rattle.bean_parser.specs.Small.{IsSmallKind, IsSmallTransaction, marks_of}
@@ -87,10 +87,6 @@ noted_small (step.Balance b at cost ∷ past) all =
     (noted_small past all.1)
 
 -- ---- one directive after the other
-
-abbrev pub IsSmallDraft : Draft → Type 0
-IsSmallDraft (draft.Transaction k) = IsSmallKept k
-IsSmallDraft draft.Pad = Unit {0}
 
 -- what is booked so far is small
 abbrev pub IsSmallStand : Stand → Type 0
@@ -182,8 +178,10 @@ booked_small m past st h all =
     let small = stand_small m past st h all in
     pads_small st.drafts (noted_pads st.steps) small.0 (noted_small st.steps small.1)
 
--- the same of directives in their order
-pub ledger_small : (m : List ℕ → Method) (ds : List (Placed Directive)) (st : Stand)
+-- the same of the pads alone, of directives in their order
+pub pads_are_small : (m : List ℕ → Method) (ds : List (Placed Directive)) (st : Stand)
     → LeadsTo m (reverse ds) st → AllByRecursion IsSmall ds
-    → AllByRecursion IsSmallBooking (bookings_of st)
-ledger_small m ds st h all = booked_small m (reverse ds) st h (all_reversed IsSmall ds all)
+    → AllByRecursion IsSmallNoted (noted_pads st.steps)
+pads_are_small m ds st h all =
+    noted_small st.steps
+    (stand_small m (reverse ds) st h (all_reversed IsSmall ds all)).1

@@ -1,5 +1,5 @@
 -- What holds of each element of a list holds of each of a list made of it.
-use Rattle.std.proofs.Common.{ℕ, zero, suc, Bool, true, false, cond, List, [], ◌∷◌, map}
+use Rattle.std.proofs.Common.{ℕ, zero, suc, Bool, true, false, cond, List, [], ◌∷◌, ◌++◌, map}
 use Rattle.std.proofs.Common.{filter, fold, reverse, slice_get, IfSome, sym, subst}
 use Rattle.std.proofs.lemmas.List.{reverse-append}
 use Rattle.std.specs.List.{AllByRecursion, flat_map}
@@ -63,3 +63,14 @@ pub all_at : {X : Type 0} (P : X → Type 0) (xs : List X) (i : ℕ) → AllByRe
 all_at P [] i all = tt
 all_at P (x ∷ xs) zero all = all.0
 all_at P (x ∷ xs) (suc i) all = all_at P xs i all.1
+
+-- those in front of others, and those behind
+pub all_front : {X : Type 0} (P : X → Type 0) (xs ys : List X) → AllByRecursion P (xs ++ ys)
+    → AllByRecursion P xs
+all_front P [] ys all = tt
+all_front P (x ∷ xs) ys all = (all.0, all_front P xs ys all.1)
+
+pub all_behind : {X : Type 0} (P : X → Type 0) (xs ys : List X) → AllByRecursion P (xs ++ ys)
+    → AllByRecursion P ys
+all_behind P [] ys all = all
+all_behind P (x ∷ xs) ys all = all_behind P xs ys all.1

@@ -1,6 +1,6 @@
 -- One more directive.
 use Rattle.std.proofs.Common.{◌≡◌, ℕ, suc, ◌+◌, List, [], ◌∷◌, ◌++◌, length}
-use Rattle.std.proofs.Common.{refl, sym, ap, ◌∙◌, subst, arith}
+use Rattle.std.proofs.Common.{Option, refl, sym, ap, ◌∙◌, subst, arith}
 use Rattle.bean_accounts.specs.Kept.{IsKept}
 use Rattle.bean_directives.specs.declared.accounts.Close as closes
 use Rattle.bean_directives.specs.declared.accounts.Open as opens
@@ -14,9 +14,10 @@ use Rattle.bean_interp.specs.declared.scales.Scales.{Scales}
 use Rattle.bean_load.specs.declared.placed.Placed.{Placed}
 use Rattle.bean_reductions.specs.declared.reduction.Method.{Method}
 use Rattle.bean_transactions.specs.Lines.{IsSettled}
-use Rattle.bean_replay.specs.Booker.{HasRoom, IsStanding}
+use Rattle.bean_replay.specs.Booker.{HasRoom, IsBehind, IsStanding}
 use Rattle.bean_replay.specs.Stand.{IsStepBy, Stand, account_step, account_steps, setting_of}
 use Rattle.bean_replay.specs.declared.booker.Booker.{Booker}
+use Rattle.bean_replay.specs.declared.booking.Draft.{Draft}
 use Rattle.bean_replay.specs.declared.booking.Written.{Written}
 
 -- the setting of a transaction is what the program has
@@ -32,7 +33,6 @@ one_more n b room = record {
   bounded = room.bounded;
   near = room.near;
   few = room.few;
-  shown = room.shown;
   steps = let few = room.steps in omega (arith, few);
 }
 
@@ -47,13 +47,11 @@ reweighed m past st b s is = record {
   seen = is.seen;
   follows = is.follows;
   steps_are = is.steps_are;
-  drafts_are = is.drafts_are;
   faults_are = is.faults_are;
   room = record {
     bounded = is.room.bounded;
     near = is.room.near;
     few = is.room.few;
-    shown = is.room.shown;
     steps = is.room.steps;
   };
 }
@@ -70,7 +68,6 @@ later m past st d b e is = record {
   seen = is.seen;
   follows = is.follows;
   steps_are = is.steps_are;
-  drafts_are = is.drafts_are;
   faults_are = is.faults_are;
   room = subst (λ n. HasRoom n b) (next (length past)) (one_more (length past) b is.room);
 }
@@ -80,13 +77,14 @@ later m past st d b e is = record {
 
 -- a directive of that kind was taken
 pub stepped : (m : List ℕ → Method) (past : List (Placed Directive)) (st new : Stand)
-    (d : Placed Directive) (k : DirectiveKind) (b : Booker) → d.item.kind ≡ k
-    → IsStepBy m past st d k new → account_step k ≡ [] → IsStanding m past new b
-    → (new : Stand) × IsStepBy m past st d d.item.kind new × IsStanding m (d ∷ past) new b
-stepped m past st new d k b e step none is = (
+    (d : Placed Directive) (k : DirectiveKind) (b : Booker) (booked : Option Draft)
+    → d.item.kind ≡ k → IsStepBy m past st d k new → account_step k ≡ []
+    → IsBehind m past st new booked b
+    → (new : Stand) × IsStepBy m past st d d.item.kind new × IsBehind m (d ∷ past) st new booked b
+stepped m past st new d k b booked e step none behind = (
   new,
   subst (λ k. IsStepBy m past st d k new) (sym e) step,
-  later m past new d b (ap account_step e ∙ none) is,
+  record { stands = later m past new d b (ap account_step e ∙ none) behind.stands; adds = behind.adds },
 )
 
 -- other directives do nothing

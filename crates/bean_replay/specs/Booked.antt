@@ -1,5 +1,5 @@
 -- What a loaded ledger is booked as.
-use Rattle.std.specs.Prelude.{◌≡◌, ◌≤◌, ℕ, List, [], ◌∷◌, ◌++◌, length, reverse}
+use Rattle.std.specs.Prelude.{◌≡◌, ◌≤◌, ℕ, suc, List, [], ◌∷◌, ◌++◌, length, reverse}
 use Rattle.limits.specs.declared.counts.TheConstants.{MOST_POSTINGS}
 use Rattle.bean_base.specs.declared.fault.Fault.{Fault}
 use Rattle.bean_load.specs.Loaded.{Loaded}
@@ -14,6 +14,7 @@ use Rattle.bean_replay.specs.declared.booking.Booking.{Booking}
 use Rattle.bean_replay.specs.declared.booking.Booking.TheVariants as booking
 use Rattle.bean_replay.specs.declared.booking.Draft.{Draft}
 use Rattle.bean_replay.specs.declared.booking.Draft.TheVariants as draft
+use Rattle.bean_replay.specs.declared.bookings.Bookings.{Ghosts as BookingsOf}
 
 abbrev pub method_in_ledger : Loaded → List ℕ → methods.Method
 method_in_ledger l a = method_of (otherwise l.methods) l.directives a
@@ -24,6 +25,12 @@ with_pads [] ps = []
 with_pads (draft.Transaction k ∷ ds) ps = booking.Transaction k ∷ with_pads ds ps
 with_pads (draft.Pad ∷ ds) [] = with_pads ds []
 with_pads (draft.Pad ∷ ds) (p ∷ ps) = booking.Pad p ∷ with_pads ds ps
+
+-- how many pads have their places
+abbrev pub places_in : List Draft → ℕ
+places_in [] = 0
+places_in (draft.Transaction k ∷ ds) = places_in ds
+places_in (draft.Pad ∷ ds) = suc (places_in ds)
 
 -- the transactions that are kept and the pads, each with what comes of it, in their order
 abbrev pub bookings_of : Stand → List Booking
@@ -38,17 +45,19 @@ abbrev pub faults_of : Loaded → Stand → List Fault
 faults_of l st =
     faults_before l ++ (st.faults ++ faults_with (noted_pads st.steps) st.steps)
 
--- what all the directives led to, put together
-pub record IsFinished (l : Loaded) (st : Stand) (b : declared.Booked) : Type 0 where
-  pub bookings_are : b.bookings ≡ bookings_of st
+-- what all the directives led to: what is booked was taken, what comes of the pads, and the faults
+pub record IsFinished {S : Type 0} (o : BookingsOf S) (l : Loaded) (st : Stand)
+    (b : declared.Booked S) : Type 0 where
+  pub taken : o.has_taken b.bookings st.drafts
+  pub pads_are : b.pads ≡ noted_pads st.steps
   pub faults_are : b.faults ≡ faults_of l st
 
 -- the transactions that are kept have at most a million postings
-pub record IsBooked (l : Loaded) (b : declared.Booked) : Type 0 where
+pub record IsBooked {S : Type 0} (o : BookingsOf S) (l : Loaded) (b : declared.Booked S) : Type 0 where
   pub stand : Stand
   pub leads : LeadsTo (method_in_ledger l) (reverse l.directives) stand
   pub few : length (postings_of stand.drafts) ≤ MOST_POSTINGS
-  pub finished : IsFinished l stand b
+  pub finished : IsFinished o l stand b
 
 -- the transactions that are kept have more than a million postings
 abbrev pub HasTooMany : Loaded → Type 0

@@ -1,5 +1,5 @@
 -- What is kept while directives are taken.
-use Rattle.std.specs.Prelude.{◌≡◌, ◌≤◌, ◌+◌, ◌^◌, ℕ, List, ◌++◌, drop, length}
+use Rattle.std.specs.Prelude.{◌≡◌, ◌≤◌, ◌+◌, ◌^◌, ℕ, List, [], ◌∷◌, ◌++◌, length, Option, Some, None}
 use Rattle.limits.specs.declared.counts.TheConstants.{MOST_POSTINGS}
 use Rattle.bean_accounts.specs.Kept as accounts
 use Rattle.bean_directives.specs.declared.directive.Directive.{Directive}
@@ -11,21 +11,18 @@ use Rattle.bean_pad.specs.declared.step.Step.{Step}
 use Rattle.bean_holdings.specs.Holdings as holdings
 use Rattle.bean_holdings.specs.Holdings.{AreHeld, additions_in}
 use Rattle.bean_transactions.specs.Methods.{method_in}
-use Rattle.bean_replay.specs.Stand.{Stand, account_steps, postings_of, steps_of}
+use Rattle.bean_replay.specs.Stand.{LeadsTo, Stand, account_steps, postings_of, steps_of_postings}
+use Rattle.bean_replay.specs.Watched.{unseen_of}
 use Rattle.bean_replay.specs.declared.booker.Booker.{Booker}
 use Rattle.bean_replay.specs.declared.booking.Draft.{Draft}
-
--- what is booked and pads and balances haven't seen
-abbrev pub unseen : Booker → List Draft
-unseen b = drop b.shown b.drafts.items
+use Rattle.bean_replay.specs.declared.bookings.Bookings.{Ghosts as BookingsOf}
 
 -- so many directives and a million postings can't have made a sum too great
 pub record HasRoom (n : ℕ) (b : Booker) : Type 0 where
   pub bounded : holdings.IsBounded b.holdings
   pub near : following.IsBounded b.padder
   pub few : additions_in b.holdings ≤ MOST_POSTINGS
-  pub shown : b.shown ≤ length b.drafts.items
-  pub steps : steps_in b.padder + length (postings_of (unseen b)) ≤ n + additions_in b.holdings
+  pub steps : steps_in b.padder ≤ n + additions_in b.holdings
 
 -- it stands where directives lead that are past, the latest of which stands first
 pub record IsStanding (m : List ℕ → Method) (past : List (Placed Directive)) (st : Stand)
@@ -36,8 +33,7 @@ pub record IsStanding (m : List ℕ → Method) (past : List (Placed Directive))
   pub count : additions_in b.holdings ≡ length (postings_of st.drafts)
   pub seen : List Step
   pub follows : Follows seen b.padder
-  pub steps_are : st.steps ≡ steps_of (unseen b) ++ seen
-  pub drafts_are : b.drafts.items ≡ st.drafts
+  pub steps_are : st.steps ≡ steps_of_postings (unseen_of b.watched (postings_of st.drafts)) ++ seen
   pub faults_are : b.faults.items ≡ st.faults
   pub room : HasRoom (length past) b
 
@@ -55,3 +51,22 @@ pub record Stands (b : Booker) : Type 0 where
   pub stand : Stand
   pub is : IsStanding method_of past stand b
   pub few : length past ≤ 2 ^ 39
+
+-- ---- what is booked of a directive, if anything
+
+abbrev pub drafts_in : Option Draft → List Draft
+drafts_in None = []
+drafts_in (Some d) = d ∷ []
+
+-- one directive later it stands there, and this was booked of the directive
+pub record IsBehind (m : List ℕ → Method) (past : List (Placed Directive)) (old new : Stand)
+    (booked : Option Draft) (b : Booker) : Type 0 where
+  pub stands : IsStanding m past new b
+  pub adds : new.drafts ≡ old.drafts ++ drafts_in booked
+
+-- directives led to a stand; it stands there, and all that is booked was handed over
+pub record IsLed {S : Type 0} (o : BookingsOf S) (m : List ℕ → Method)
+    (past : List (Placed Directive)) (st : Stand) (b : Booker) (s : S) : Type 0 where
+  pub leads : LeadsTo m past st
+  pub stands : IsStanding m past st b
+  pub taken : o.has_taken s st.drafts

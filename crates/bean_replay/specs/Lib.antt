@@ -1,5 +1,6 @@
 pub mod Method
 pub mod Stand
+pub mod Watched
 pub mod Booker
 pub mod Booked
 pub mod BookCause

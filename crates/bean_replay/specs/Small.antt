@@ -11,6 +11,8 @@ use Rattle.bean_transactions.specs.Tried.{booked_legs}
 use Rattle.bean_holdings.specs.declared.posted.Posted.{Posted}
 use Rattle.bean_replay.specs.declared.booking.Booking.{Booking}
 use Rattle.bean_replay.specs.declared.booking.Booking.TheVariants as booking
+use Rattle.bean_replay.specs.declared.booking.Draft.{Draft}
+use Rattle.bean_replay.specs.declared.booking.Draft.TheVariants as draft
 use Rattle.bean_replay.specs.declared.booking.Kept.{Kept}
 use Rattle.bean_parser.specs.Small.{IsSmallTransaction}
 use Rattle.bean_parser.specs.SmallPart.{most, IsShort, IsShortCurrency, IsShortEntry}
@@ -48,6 +50,11 @@ pub record IsSmallNoted (n : NotedPad) : Type 0 where
   pub pad : IsSmallPad n.pad
   pub line : n.place.line ≤ most
   pub notes : AllByRecursion IsSmallNote n.notes
+
+-- a transaction that is kept, or the place of a pad
+abbrev pub IsSmallDraft : Draft → Type 0
+IsSmallDraft (draft.Transaction k) = IsSmallKept k
+IsSmallDraft draft.Pad = Unit {0}
 
 -- what is booked of a directive
 abbrev pub IsSmallBooking : Booking → Type 0

@@ -1,20 +1,25 @@
 //! What a ledger is booked as.
-ghost use Rattle.std.specs.Prelude.{◌≡◌, ◌≢◌, ◌≤◌, ◌^◌, ◌++◌, ℕ, IfOk, length, reverse};
+ghost use Rattle.std.specs.Prelude.{◌≡◌, ◌≢◌, ◌≤◌, ◌^◌, ◌++◌, [], ℕ, IfOk, length, reverse};
 ghost use Rattle.std.specs.Prelude as prelude;
 ghost use Rattle.std.specs.List.{AllByRecursion};
 ghost use Rattle.bean_replay.specs.Booked as spec;
 ghost use Rattle.bean_replay.specs.Booked.{HasTooMany, IsBooked, IsFinished};
-ghost use Rattle.bean_replay.specs.Booker.{IsStanding, Stands, Wherever};
+ghost use Rattle.bean_replay.specs.Booker.{IsLed, Stands};
 ghost use Rattle.bean_replay.specs.Stand.{IsFull, LeadsTo, Stand};
-ghost use Rattle.bean_replay.specs.Small.{IsSmallBooking};
+ghost use Rattle.bean_replay.specs.Small.{IsSmallNoted};
 ghost use Rattle.bean_load.specs.Loaded as loading;
+ghost use Rattle.bean_load.specs.Small.{IsSmall};
+ghost use Rattle.bean_load.specs.declared.placed.Placed as places;
+ghost use Rattle.bean_directives.specs.declared.directive.Directive as directives;
 ghost use Rattle.bean_reductions.specs.declared.reduction.Method.{Method};
 ghost use Rattle.bean_transactions.specs.Methods.{method_in};
 
 use crate::booker::Booker;
-use crate::booking::{Booking, Draft};
+use crate::bookings::Bookings;
 use crate::cause::BookCause;
+use crate::handed::take_into;
 use crate::methods::{methods_of, note_unknown, otherwise};
+use crate::steps::are_watched;
 use bean_base::{Apart, Fault, List};
 use bean_load::{Loaded, Placed};
 use bean_pad::NotedPad;
@@ -24,63 +29,53 @@ use refusals::Refusal;
 use std::alloc::{AllocError, Global};
 
 /// What a ledger is booked as.
-#[derive(Debug, Drop)]
-pub struct Booked<'a> {
-    /// What is booked, in the order of the directives.
-    pub bookings: List<Booking<'a>>,
+#[derive(Drop)]
+pub struct Booked<'a, S> {
+    /// What has taken all that is booked, in the order of the directives.
+    pub bookings: S,
+    /// The pads in their order, each with what comes of it.
+    pub pads: List<NotedPad<'a>>,
     /// All that is wrong, in no order.
     pub faults: List<Fault>,
 }
 
-/// Takes all directives. Each is given up as soon as it is taken, but for what is booked of it.
-fn take_all<'a>(
+/// Where all directives led: what is known of what was booked, and what has taken it.
+#[derive(Drop)]
+struct Led<'a, S> {
+    booker: Booker<'a>,
+    bookings: S,
+}
+
+/// Takes all directives. Each is given up as soon as it is taken, and so is what is booked of it
+/// once it is handed over.
+fn take_all<'a, S: Bookings<'a> + Drop>(
     alloc: Global,
     methods: Methods<'a>,
     directives: Vec<Apart<Placed<Directive<'a>>>>,
-) -> Result<Booker<'a>, Refusal<BookCause>>
-    requires { length directives.items ≤ 2 ^ 39 }
-    ensures stands { IfOk result Stands }
-    ensures leads { IfOk result (λ booker. (m : prelude.List ℕ → Method)
+    bookings: S,
+) -> Result<Led<'a, S>, Refusal<BookCause>>
+    requires few { length directives.items ≤ 2 ^ 39 }
+    requires small { AllByRecursion IsSmall directives.items }
+    requires new { S.has_taken bookings [] }
+    ensures stands { IfOk result (λ led. Stands led.booker) }
+    ensures leads { IfOk result (λ led. (m : prelude.List ℕ → Method)
         → ((a : prelude.List ℕ) → m a ≡ method_in methods.entry a)
-        → (st : Stand) × LeadsTo m (reverse directives.entry.items) st
-        × IsStanding m (reverse directives.entry.items) st booker) }
+        → (st : Stand) × IsLed S.Bookings m (reverse directives.entry.items) st led.booker
+        led.bookings) }
     ensures full { result ≡ prelude.Err (Refusal.Refused BookCause.TooManyPostings)
         → (m : prelude.List ℕ → Method)
         → ((a : prelude.List ℕ) → m a ≡ method_in methods.entry a) → (st : Stand)
         → LeadsTo m (reverse directives.entry.items) st → IsFull st }
 {
-    let mut booker = Booker::new(alloc, methods);
+    let mut booker = Booker::new(alloc, methods, are_watched(&directives));
+    let mut bookings = bookings;
     for placed in directives {
-        match booker.take(placed.into_inner()) {
+        match take_into(&mut booker, &mut bookings, placed.into_inner()) {
             Ok(()) => {}
             Err(fault) => return Err(fault),
         }
     }
-    Ok(booker)
-}
-
-/// What is booked, now that it is known what comes of the pads.
-fn with_pads<'a>(
-    alloc: Global,
-    drafts: Vec<Draft<'a>>,
-    pads: Vec<NotedPad<'a>>,
-) -> Result<Vec<Booking<'a>>, AllocError>
-    ensures { IfOk result (λ bookings. bookings.items
-        ≡ spec.with_pads drafts.entry.items pads.entry.items) }
-{
-    let mut bookings = Vec::with_capacity(alloc, drafts.len())?;
-    let mut left = pads.into_iter();
-    for draft in drafts {
-        match draft {
-            Draft::Transaction(kept) => bookings.push(Booking::Transaction(kept))?,
-            Draft::Pad => {
-                if let Some(pad) = left.next() {
-                    bookings.push(Booking::Pad(Apart::new(alloc, pad)?))?;
-                }
-            }
-        }
-    }
-    Ok(bookings)
+    Ok(Led { booker, bookings })
 }
 
 /// The faults that are told before the first directive is taken: those of texts, and those of
@@ -94,44 +89,50 @@ fn faults_before(alloc: Global, loaded: &Loaded<'_>) -> Result<Vec<Fault>, Alloc
     Ok(faults)
 }
 
-/// Puts together what is booked, once all directives are taken, with the faults that were told
+/// Puts together what is found, once all directives are taken, with the faults that were told
 /// before.
-fn finish<'a>(
-    alloc: Global,
+fn finish<'a, S: Bookings<'a> + Drop>(
     told: Vec<Fault>,
-    booker: Booker<'a>,
-) -> Result<Booked<'a>, Refusal<BookCause>>
-    requires { Stands booker }
+    led: Led<'a, S>,
+) -> Result<Booked<'a, S>, Refusal<BookCause>>
+    requires { Stands led.booker }
     ensures booked { (l : loading.Loaded) → told.items ≡ spec.faults_before l
-        → Wherever booker.entry (λ m past st. IfOk result (IsFinished l st)) }
+        → (m : prelude.List ℕ → Method)
+        → (past : prelude.List (places.Placed directives.Directive)) (st : Stand)
+        → IsLed S.Bookings m past st led.entry.booker led.entry.bookings
+        → IfOk result (IsFinished S.Bookings l st) }
     ensures full { result ≢ prelude.Err (Refusal.Refused BookCause.TooManyPostings) }
 {
-    let (padder, drafts, own) = booker.into_found();
+    let Led { booker, bookings } = led;
+    let (padder, own) = booker.into_found();
     let padded = padder.finish()?;
-    let bookings = with_pads(alloc, drafts, padded.pads.into_vec())?;
     let mut faults = told;
     faults.extend_from_slice(&own)?;
     faults.extend_from_slice(padded.faults.as_slice())?;
     Ok(Booked {
-        bookings: List::new(bookings),
+        bookings,
+        pads: padded.pads,
         faults: List::new(faults),
     })
 }
 
-/// What the directives of a loaded ledger are booked as.
-pub fn book_directives<'a>(
+/// What the directives of a loaded ledger are booked as. What is booked is handed over as soon as
+/// it is.
+pub fn book_directives<'a, S: Bookings<'a> + Drop>(
     alloc: Global,
     loaded: Loaded<'a>,
-) -> Result<Booked<'a>, Refusal<BookCause>>
-    ensures booked { IfOk result (IsBooked loaded.entry) }
-    ensures small { IfOk result (λ booked. AllByRecursion IsSmallBooking booked.bookings) }
+    bookings: S,
+) -> Result<Booked<'a, S>, Refusal<BookCause>>
+    requires { S.has_taken bookings [] }
+    ensures booked { IfOk result (IsBooked S.Bookings loaded.entry) }
+    ensures small { IfOk result (λ booked. AllByRecursion IsSmallNoted booked.pads) }
     ensures full { result ≡ prelude.Err (Refusal.Refused BookCause.TooManyPostings) → HasTooMany loaded.entry }
 {
     let directives = loaded.directives();
     let methods = methods_of(alloc, otherwise(loaded.methods()), directives)?;
     let told = faults_before(alloc, &loaded)?;
-    match take_all(alloc, methods, loaded.into_directives()) {
-        Ok(booker) => finish(alloc, told, booker),
+    match take_all(alloc, methods, loaded.into_directives(), bookings) {
+        Ok(led) => finish(told, led),
         Err(fault) => Err(fault),
     }
 }

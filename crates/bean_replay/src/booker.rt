@@ -1,11 +1,12 @@
 //! One directive after the other.
-ghost use Rattle.std.specs.Prelude.{◌≡◌, ◌≢◌, ◌<◌, ◌+◌, ◌∷◌, [], ℕ, OnOk, Ok, length};
+ghost use Rattle.std.specs.Prelude.{◌≡◌, ◌≢◌, ◌<◌, ◌+◌, ◌∷◌, [], ℕ, IfOk, OnOk, Ok, length, true};
 ghost use Rattle.std.specs.Prelude as prelude;
 ghost use Rattle.std.specs.List.{AllByRecursion};
 ghost use Rattle.limits.specs.declared.counts.TheConstants.{MOST_POSTINGS};
-ghost use Rattle.bean_replay.specs.Booker.{IsStanding, Stands, Wherever, unseen};
+ghost use Rattle.bean_replay.specs.Booker.{IsBehind, IsStanding, Stands, Wherever};
 ghost use Rattle.bean_replay.specs.Stand as spec;
 ghost use Rattle.bean_replay.specs.Stand.{IsFull, IsStepBy, Stand, after_trial, setting_of, start};
+ghost use Rattle.bean_replay.specs.Watched.{IsWatched};
 ghost use Rattle.bean_holdings.specs.Holdings.{additions_in};
 ghost use Rattle.bean_interp.specs.Residual.{IsLight};
 ghost use Rattle.bean_reductions.specs.declared.reduction.Method.{Method};
@@ -18,9 +19,9 @@ use crate::accounts::{take_balance, take_close, take_open, take_pad};
 use crate::booking::{Draft, Kept, Written};
 use crate::cause::BookCause;
 use crate::postings::{note_balance, note_postings};
-use crate::steps::show_drafts;
+use crate::steps::show_watched;
 use bean_accounts::Accounts;
-use bean_base::{Apart, Fault, Place};
+use bean_base::{Fault, Place};
 use bean_holdings::Holdings;
 use bean_interp::Scales;
 use bean_load::Placed;
@@ -29,7 +30,7 @@ use bean_parser::{Directive, DirectiveKind};
 use bean_transactions::{Head, LineFault, Methods, Tried, try_transaction};
 use limits::MOST_POSTINGS;
 use refusals::Refusal;
-use std::alloc::{AllocError, Global};
+use std::alloc::Global;
 
 /// The place of a directive.
 fn place_of(placed: &Placed<Directive<'_>>) -> Place
@@ -41,7 +42,7 @@ fn place_of(placed: &Placed<Directive<'_>>) -> Place
     }
 }
 
-/// What was booked so far.
+/// What is known of all that was booked so far. What is booked itself is handed over.
 #[derive(Drop)]
 pub(crate) struct Booker<'a> {
     alloc: Global,
@@ -50,19 +51,19 @@ pub(crate) struct Booker<'a> {
     holdings: Holdings<'a>,
     scales: Scales<'a>,
     pub padder: Padder<'a>,
-    pub drafts: Vec<Draft<'a>>,
-    /// How many of the drafts the padder has seen. It sees them where a pad or a balance comes, so
-    /// that a ledger without balances sums nothing up.
-    shown: usize,
+    /// Whether any directive is a pad or a balance. Where none is the padder is shown nothing, so
+    /// that such a ledger sums nothing up.
+    pub watched: bool,
     pub faults: Vec<Fault>,
 }
 
 impl<'a> Booker<'a> {
     /// Before the first directive. Takes no memory.
-    pub(crate) fn new(alloc: Global, methods: Methods<'a>) -> Booker<'a>
-        ensures { (m : prelude.List ℕ → Method)
+    pub(crate) fn new(alloc: Global, methods: Methods<'a>, watched: bool) -> Booker<'a>
+        ensures stands { (m : prelude.List ℕ → Method)
             → ((a : prelude.List ℕ) → m a ≡ method_in methods.entry a)
             → IsStanding m [] start result }
+        ensures watched { result.watched ≡ watched }
     {
         Booker {
             alloc,
@@ -71,19 +72,24 @@ impl<'a> Booker<'a> {
             holdings: Holdings::new(alloc),
             scales: Scales::new(alloc),
             padder: Padder::new(alloc),
-            drafts: Vec::new(alloc),
-            shown: 0,
+            watched,
             faults: Vec::new(alloc),
         }
     }
 
     /// Books the postings of a transaction.
-    fn keep(&mut self, written: Written<'a>, tried: Tried<'a>) -> Result<(), Refusal<BookCause>>
+    fn keep(
+        &mut self,
+        written: Written<'a>,
+        tried: Tried<'a>,
+    ) -> Result<Option<Draft<'a>>, Refusal<BookCause>>
         requires stands { Stands self.old }
         requires light { AllByRecursion IsLight (booked_legs written.transaction.postings tried.posted) }
         requires balances { KnowsBalance written.transaction.postings tried }
-        ensures standing { Wherever self.old (λ m past st. OnOk result
-            (IsStanding m past (after_trial past st written.entry (Ok tried.entry.posted)) self.new)) }
+        ensures standing { Wherever self.old (λ m past st. IfOk result (λ booked.
+            IsBehind m past st (after_trial past st written.entry (Ok tried.entry.posted)) booked
+            self.new)) }
+        ensures watched { OnOk result (self.new.watched ≡ self.old.watched) }
         ensures full { result ≡ prelude.Err (Refusal.Refused BookCause.TooManyPostings)
             → MOST_POSTINGS < additions_in self.old.holdings + length tried.entry.posted }
     {
@@ -96,13 +102,11 @@ impl<'a> Booker<'a> {
         note_balance(&mut self.scales, &mut self.faults, at, postings, &tried)?;
         note_postings(&self.accounts, &mut self.faults, at, postings, booked)?;
         self.holdings.post_all(self.alloc, booked)?;
-        let kept = Kept {
+        show_watched(self.watched, &mut self.padder, booked)?;
+        Ok(Some(Draft::Transaction(Kept {
             written,
             postings: tried.posted,
-        };
-        let kept = Apart::new(self.alloc, kept)?;
-        self.drafts.push(Draft::Transaction(kept))?;
-        Ok(())
+        })))
     }
 
     /// Adds the fault with which a transaction is dropped.
@@ -110,9 +114,11 @@ impl<'a> Booker<'a> {
         &mut self,
         written: &Written<'a>,
         fault: LineFault,
-    ) -> Result<(), Refusal<BookCause>>
-        ensures standing { Wherever self.old (λ m past st. OnOk result
-            (IsStanding m past (after_trial past st written.now (prelude.Err fault)) self.new)) }
+    ) -> Result<Option<Draft<'a>>, Refusal<BookCause>>
+        ensures standing { Wherever self.old (λ m past st. IfOk result (λ booked.
+            IsBehind m past st (after_trial past st written.now (prelude.Err fault)) booked
+            self.new)) }
+        ensures watched { OnOk result (self.new.watched ≡ self.old.watched) }
         ensures full { result ≢ prelude.Err (Refusal.Refused BookCause.TooManyPostings) }
     {
         self.faults.push(Fault {
@@ -122,16 +128,17 @@ impl<'a> Booker<'a> {
                 ..written.place
             },
         })?;
-        Ok(())
+        Ok(None)
     }
 
     /// Books a transaction, or drops it with its fault.
-    fn transaction(&mut self, written: Written<'a>) -> Result<(), Refusal<BookCause>>
+    fn transaction(&mut self, written: Written<'a>) -> Result<Option<Draft<'a>>, Refusal<BookCause>>
         requires { Stands self.old }
-        ensures standing { Wherever self.old (λ m past st. OnOk result
-            ((r : prelude.Result (prelude.List Posted) trials.LineFault)
+        ensures standing { Wherever self.old (λ m past st. IfOk result (λ booked.
+            (r : prelude.Result (prelude.List Posted) trials.LineFault)
             × Tries (setting_of m st written.entry) written.entry.transaction.postings r
-            × IsStanding m past (after_trial past st written.entry r) self.new)) }
+            × IsBehind m past st (after_trial past st written.entry r) booked self.new)) }
+        ensures watched { OnOk result (self.new.watched ≡ self.old.watched) }
         ensures full { result ≡ prelude.Err (Refusal.Refused BookCause.TooManyPostings)
             → Wherever self.old (λ m past st.
             (r : prelude.Result (prelude.List Posted) trials.LineFault)
@@ -156,23 +163,17 @@ impl<'a> Booker<'a> {
         }
     }
 
-    /// Shows the padder all that is booked.
-    fn show(&mut self) -> Result<(), AllocError>
-        requires { Stands self.old }
-        ensures standing { Wherever self.old (λ m past st. OnOk result (IsStanding m past st self.new)) }
-        ensures all { OnOk result (unseen self.new ≡ []) }
-    {
-        show_drafts(&mut self.padder, &self.drafts[self.shown..])?;
-        self.shown = self.drafts.len();
-        Ok(())
-    }
-
-    /// Takes the next directive.
-    pub(crate) fn take(&mut self, placed: Placed<Directive<'a>>) -> Result<(), Refusal<BookCause>>
-        requires { Stands self.old }
-        ensures standing { Wherever self.old (λ m past st. OnOk result ((new : Stand)
+    /// Takes the next directive, and gives what is booked of it.
+    pub(crate) fn take(
+        &mut self,
+        placed: Placed<Directive<'a>>,
+    ) -> Result<Option<Draft<'a>>, Refusal<BookCause>>
+        requires stands { Stands self.old }
+        requires watched { IsWatched self.old.watched placed }
+        ensures standing { Wherever self.old (λ m past st. IfOk result (λ booked. (new : Stand)
             × IsStepBy m past st placed.entry placed.entry.item.kind new
-            × IsStanding m (placed.entry ∷ past) new self.new)) }
+            × IsBehind m (placed.entry ∷ past) st new booked self.new)) }
+        ensures watched { OnOk result (self.new.watched ≡ self.old.watched) }
         ensures full { result ≡ prelude.Err (Refusal.Refused BookCause.TooManyPostings)
             → Wherever self.old (λ m past st. (new : Stand)
             → IsStepBy m past st placed.entry placed.entry.item.kind new → IsFull new) }
@@ -199,14 +200,13 @@ impl<'a> Booker<'a> {
                     place,
                     &open,
                 )?;
-                Ok(())
+                Ok(None)
             }
             DirectiveKind::Close(close) => {
                 take_close(&mut self.accounts, &mut self.faults, place, &close)?;
-                Ok(())
+                Ok(None)
             }
             DirectiveKind::Pad(pad) => {
-                self.show()?;
                 take_pad(
                     &self.accounts,
                     &mut self.padder,
@@ -215,11 +215,9 @@ impl<'a> Booker<'a> {
                     place,
                     pad,
                 )?;
-                self.drafts.push(Draft::Pad)?;
-                Ok(())
+                Ok(Some(Draft::Pad))
             }
             DirectiveKind::Balance(balance) => {
-                self.show()?;
                 take_balance(
                     self.alloc,
                     &self.accounts,
@@ -229,17 +227,17 @@ impl<'a> Booker<'a> {
                     place,
                     balance.get(),
                 )?;
-                Ok(())
+                Ok(None)
             }
-            _ => Ok(()),
+            _ => Ok(None),
         }
     }
 
-    /// What it has found: the pads and balances, what is booked, and the faults. What only served to
-    /// find it is given up.
-    pub(crate) fn into_found(self) -> (Padder<'a>, Vec<Draft<'a>>, Vec<Fault>)
-        ensures { result ≡ (self.entry.padder, self.entry.drafts, self.entry.faults) }
+    /// What it has found: the pads and balances, and the faults. What only served to find it is
+    /// given up.
+    pub(crate) fn into_found(self) -> (Padder<'a>, Vec<Fault>)
+        ensures { result ≡ (self.entry.padder, self.entry.faults) }
     {
-        (self.padder, self.drafts, self.faults)
+        (self.padder, self.faults)
     }
 }

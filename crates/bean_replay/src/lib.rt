@@ -2,16 +2,19 @@
 //!
 //! ```text
 //! let loaded = load(alloc, &texts)?;
-//! let booked = book_directives(alloc, loaded)?;
-//! // booked.bookings: the transactions that are kept, each with the postings that it is booked as,
-//! // and the pads, each with what it inserts, in the order of the directives;
+//! let booked = book_directives(alloc, loaded, bookings)?;
+//! // booked.bookings: what has taken the transactions that are kept, each with the postings that
+//! // it is booked as, and the places of pads, in the order of the directives;
+//! // booked.pads: the pads, each with what it inserts;
 //! // booked.faults: all that is wrong
 //! ```
 //!
 //! Directives are taken in their order. A transaction is tried against what accounts hold, by the
 //! method of each account ([`bean_transactions`]); its postings change what they hold where it is kept.
 //! Opens and closes change which accounts are open ([`bean_accounts`]), and pads and balances are
-//! told to a padder, with the postings that are booked before them ([`bean_pad`]).
+//! told to a padder, with the postings that are booked before them ([`bean_pad`]). What is booked of
+//! a directive is handed over at once ([`Bookings`]), and nothing of it is kept but what accounts
+//! hold and pads and balances see; what comes of a pad is known once all directives are taken.
 //!
 //! The method of an account is the one that its first open names, for all transactions; else the
 //! last that a line of the settings names; else `Strict`. A name of no method counts as not given.
@@ -31,7 +34,9 @@ mod accounts;
 mod booked;
 mod booker;
 mod booking;
+mod bookings;
 mod cause;
+mod handed;
 mod laws;
 mod methods;
 mod postings;
@@ -39,7 +44,8 @@ mod sizes;
 mod steps;
 
 pub use booked::{Booked, book_directives};
-pub use booking::{Booking, Kept, Written};
+pub use booking::{Booking, Draft, Kept, Written};
+pub use bookings::Bookings;
 pub use cause::BookCause;
 pub use laws::one_booking;
 pub use sizes::booked_ledgers_are_small;

@@ -4,7 +4,7 @@ use bean_base::{Account, Currency, List};
 use bean_holdings::Posted;
 
 /// What comes of a written posting before its transaction is completed.
-#[derive(Debug, Drop)]
+#[derive(Drop)]
 pub enum Line<'a> {
     /// Units as they are written, held as a lot or not.
     Posted(Posted<'a>),
@@ -16,7 +16,7 @@ pub enum Line<'a> {
 }
 
 /// A transaction that was tried and can be booked.
-#[derive(Debug, Drop)]
+#[derive(Drop)]
 pub struct Tried<'a> {
     /// The postings that it is booked as.
     pub posted: List<Posted<'a>>,

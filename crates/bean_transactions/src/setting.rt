@@ -3,7 +3,7 @@
 use bean_base::Day;
 
 /// The day of a transaction, and its first line.
-#[derive(Clone, Copy, Debug, PartialEq, Eq)]
+#[derive(Clone, Copy, PartialEq, Eq)]
 pub struct Head {
     pub day: Day,
     pub line: usize,

@@ -22,7 +22,7 @@ use limits::{Bounds, MOST_POSTINGS, MOST_UNITS_DIGITS, MOST_VALUE_DIGITS, Versio
 use std::alloc::{AllocError, Global};
 
 /// A command.
-#[derive(Clone, Copy, Debug, Drop, PartialEq, Eq)]
+#[derive(Clone, Copy, Drop, PartialEq, Eq)]
 pub enum Name {
     List,
     Check,
@@ -36,7 +36,7 @@ pub enum Name {
 }
 
 /// What the words ask for: a command, with its words.
-#[derive(Debug, Drop)]
+#[derive(Drop)]
 pub enum Request<'w> {
     /// The table of a ledger's postings, by the ledger's name.
     List(Slice<'w>),

@@ -8,7 +8,7 @@ use query_rows::Column;
 use query_values::Binary;
 
 /// What puts a value on the stack.
-#[derive(Debug, Drop)]
+#[derive(Drop)]
 pub enum Load<'a> {
     Truth(bool),
     Constant(Entry<'a>),
@@ -22,7 +22,7 @@ pub enum Load<'a> {
 }
 
 /// An operation on one value.
-#[derive(Debug, Drop)]
+#[derive(Drop)]
 pub enum Change<'a> {
     /// By itself.
     Plain(Unary),
@@ -35,7 +35,7 @@ pub enum Change<'a> {
 }
 
 /// What a section is to compute.
-#[derive(Debug, Drop)]
+#[derive(Drop)]
 pub enum Core<'a> {
     Load(Load<'a>),
     Change(Change<'a>, Box<Core<'a>>),

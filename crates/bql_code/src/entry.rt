@@ -12,7 +12,7 @@ use query_code::Numbers;
 use query_values::Decimal;
 
 /// A constant that a file can hold: a list has from 1 to 65,535 members.
-#[derive(Debug, Drop)]
+#[derive(Drop)]
 pub struct Entry<'a> {
     pub literal: Literal<'a>,
     ghost has_form: { ∥ query_file.constant.fits (constant_of literal) ∥₁ },

@@ -8,7 +8,7 @@ use query_code::Numbers;
 use query_values::Decimal;
 
 /// A text that a file can hold: one of at most 65,535 bytes.
-#[derive(Debug, Drop)]
+#[derive(Drop)]
 pub struct ShortText<'a> {
     pub text: Slice<'a>,
     ghost has_form: { ∥ text_form.text.fits text ∥₁ },
@@ -43,7 +43,7 @@ impl<'a> ShortText<'a> {
 }
 
 /// A constant that an expression writes.
-#[derive(Debug, Drop)]
+#[derive(Drop)]
 pub enum Literal<'a> {
     Text(ShortText<'a>),
     Number(Decimal),

@@ -180,7 +180,7 @@ fn index_in(entries: &[Entry<'_>], literal: &Literal<'_>) -> usize
 
 /// The constants that expressions use, in order of first use, equal ones once. Its value is the list
 /// of them.
-#[derive(Debug, Drop)]
+#[derive(Drop)]
 pub struct Pool<'a> {
     entries: Vec<Entry<'a>>,
 }

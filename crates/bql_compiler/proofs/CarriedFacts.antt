@@ -195,7 +195,7 @@ module _ (b : Bounds) (query : Query) (typed : IsTyped b (query_of query)) where
         → rows ≡ map Shown (grouped b g (passing b q.filters ledger))
     plain_answer ledger rows k =
         let one = λ (x : Reading). Shown (x ∷ []) in
-        let h = plain_rows keep p (passes b q.filters) judges one
+        let h = plain_rows keep (λ v r. refl) p (passes b q.filters) judges one
         (row_section pl.shown (shown_computed b g plain pl.shown planned.shown sided.shown) plain_row)
         plain_mode ledger [] nothing_kept k.kept refl k.behind in
         sym (some_is k.kept.rows rows
@@ -296,7 +296,7 @@ module _ (b : Bounds) (query : Query) (typed : IsTyped b (query_of query)) where
         → rows ≡ map Shown (grouped b g (passing b q.filters ledger))
     grouped_answer ledger rows k =
         let rs = passing b q.filters ledger in
-        let h = grouped_rows keep p (passes b q.filters) judges
+        let h = grouped_rows keep (λ v r. refl) p (passes b q.filters) judges
         (λ (x : Reading). map (value_of b (x ∷ [])) (g.keys ++ inputs_in pl.aggregates))
         (row_section (g.keys ++ inputs_in pl.aggregates) row_computed grouped_row)
         (keys_at b g.keys) (inputs_at b pl.aggregates)

@@ -9,10 +9,10 @@ use Rattle.bql_meaning.specs.Answer.{and_of, balanced}
 use Rattle.bql_meaning.specs.Reading.{Reading}
 use Rattle.bql_compiler.proofs.StepFacts.{of_checked}
 use Rattle.plain_machine.specs.Finishing.{are_orderable}
-use Rattle.plain_machine.specs.Gathering.{Group, Keeping, inputs_of, put}
+use Rattle.plain_machine.specs.Gathering.{Group, Keeping, inputs_of, put, running_with}
 use Rattle.plain_machine.specs.Grouping.{Member, put_all}
 use Rattle.plain_machine.specs.PlainMachine.{Kept, grouped_with, kept_with, nothing_kept, one_truth}
-use Rattle.plain_machine.specs.PlainMachine.{row_of, running_with, width_of, with_groups, with_row}
+use Rattle.plain_machine.specs.PlainMachine.{row_of, width_of, with_groups, with_row}
 use Rattle.plain_machine.specs.PlainMachine.{with_running}
 use Rattle.plain_machine.specs.WholeRun.{answer, behind_row, behind_rows, filter_left, group_row}
 use Rattle.plain_machine.specs.WholeRun.{group_rows, last_left, orderable, row_left, row_run, row_taken}
@@ -51,8 +51,10 @@ row_is o stack row e = by (length stack == width_of o) e
     by true e = some_is (reverse stack) row e
     by false e = absurd (no_value row e)
 
-module _ {X : Type 0} (keep : Keeping X) (p : Parts) (passes : Row → Bool) (judges : Judges p passes)
-    (f : Reading → List Value) (shows : Shows p f) where
+module _ {X : Type 0} (keep : Keeping X)
+    (sums : (v : Value) (r : Row) → keep.running_on v r ≡ running_with v r) (p : Parts)
+    (passes : Row → Bool) (judges : Judges p passes) (f : Reading → List Value)
+    (shows : Shows p f) where
   -- ---- one row
 
   abbrev reading : List Value → Row → Reading
@@ -84,14 +86,14 @@ module _ {X : Type 0} (keep : Keeping X) (p : Parts) (passes : Row → Bool) (ju
         kept = ap (λ z. kept_with keep p (with_running k z) stack) is ∙ e;
       }
 
-      summed : (t : Value) → running_with k.running r ≡ Some t → total (and_of before r) ≡ t
+      summed : (t : Value) → keep.running_on k.running r ≡ Some t → total (and_of before r) ≡ t
       summed t e =
           gathered_more (SumInventory 8) before (r.cell Position)
           ∙ ap (λ z. with_more (SumInventory 8) z (r.cell Position)) (sym running)
           ∙ (of_checked (may_take (SumInventory 8) k.running (r.cell Position))
-          (with_more (SumInventory 8) k.running (r.cell Position)) t e).1
+          (with_more (SumInventory 8) k.running (r.cell Position)) t (sym (sums k.running r) ∙ e)).1
 
-      counted : (o : Option Value) → running_with k.running r ≡ o
+      counted : (o : Option Value) → keep.running_on k.running r ≡ o
           → option_and_then (row_run keep p r) (option_map (with_running k) o) ≡ Some k'
           → passes r ≡ true → Passed r before k k'
       counted None eo e on = absurd (no_value k' e)
@@ -101,7 +103,7 @@ module _ {X : Type 0} (keep : Keeping X) (p : Parts) (passes : Row → Bool) (ju
           → option_and_then (row_taken keep p r k) o ≡ Some k' → Behind r before k k'
       by None eo e = absurd (no_value k' e)
       by (Some false) eo e = inl (judges r false eo, some_is k k' e)
-      by (Some true) eo e = inr (counted (running_with k.running r) refl e (judges r true eo))
+      by (Some true) eo e = inr (counted (keep.running_on k.running r) refl e (judges r true eo))
 
   -- ---- rows that aren't grouped
 

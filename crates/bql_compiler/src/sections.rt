@@ -26,7 +26,7 @@ use limits::Bounds;
 use std::alloc::{AllocError, Global};
 
 /// What each section computes: of the filter one expression, of the others one behind the other.
-#[derive(Debug, Drop)]
+#[derive(Drop)]
 pub struct Sections<'a> {
     pub filter: Core<'a>,
     pub row: Vec<Core<'a>>,

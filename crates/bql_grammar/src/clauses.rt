@@ -4,28 +4,28 @@ use bean_base::Slice;
 use bql_tree::Part;
 
 /// A target, with its name.
-#[derive(Debug, Drop)]
+#[derive(Drop)]
 pub struct TargetRead<'a> {
     pub name: Slice<'a>,
     pub part: Part<'a>,
 }
 
 /// FROM and WHERE.
-#[derive(Debug, Drop)]
+#[derive(Drop)]
 pub struct FiltersRead<'a> {
     pub from: Option<Part<'a>>,
     pub filter: Option<Part<'a>>,
 }
 
 /// ORDER BY.
-#[derive(Debug, Drop)]
+#[derive(Drop)]
 pub struct OrderRead<'a> {
     pub items: Vec<Part<'a>>,
     pub descending: bool,
 }
 
 /// The clauses of SELECT.
-#[derive(Debug, Drop)]
+#[derive(Drop)]
 pub struct SelectRead<'a> {
     pub distinct: bool,
     pub targets: Vec<TargetRead<'a>>,
@@ -36,14 +36,14 @@ pub struct SelectRead<'a> {
 }
 
 /// A name, with its place.
-#[derive(Debug, Drop)]
+#[derive(Drop)]
 pub struct NameRead<'a> {
     pub start: usize,
     pub text: Slice<'a>,
 }
 
 /// The clauses of JOURNAL.
-#[derive(Debug, Drop)]
+#[derive(Drop)]
 pub struct JournalRead<'a> {
     pub pattern: Option<Slice<'a>>,
     pub at: Option<NameRead<'a>>,
@@ -51,14 +51,14 @@ pub struct JournalRead<'a> {
 }
 
 /// The clauses of BALANCES.
-#[derive(Debug, Drop)]
+#[derive(Drop)]
 pub struct BalancesRead<'a> {
     pub at: Option<NameRead<'a>>,
     pub filters: FiltersRead<'a>,
 }
 
 /// The clauses of a query.
-#[derive(Debug, Drop)]
+#[derive(Drop)]
 pub enum QueryRead<'a> {
     Select(SelectRead<'a>),
     Journal(JournalRead<'a>),

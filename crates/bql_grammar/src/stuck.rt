@@ -5,7 +5,7 @@ use bql_lexer::Token;
 use std::alloc::{AllocError, AllocFailed};
 
 /// Why reading stopped.
-#[derive(Clone, Copy, Debug, Drop, PartialEq, Eq)]
+#[derive(Clone, Copy, Drop, PartialEq, Eq)]
 pub enum Stuck {
     OutOfMemory,
     /// No token of the grammar can stand where so many tokens are left, or it would nest too deep:

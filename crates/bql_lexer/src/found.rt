@@ -14,7 +14,7 @@ use bean_base::{Day, Slice};
 use byte_runs::{Digit, end_of_run};
 
 /// A token, and what stands behind it.
-#[derive(Debug, Drop)]
+#[derive(Drop)]
 pub struct Found<'a> {
     pub kind: Kind,
     pub text: Slice<'a>,

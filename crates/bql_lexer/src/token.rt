@@ -13,7 +13,7 @@ use byte_runs::end_of_run;
 use std::alloc::{AllocError, Allocator};
 
 /// A token of a query.
-#[derive(Debug, Drop)]
+#[derive(Drop)]
 pub struct Token<'a> {
     /// The token as it is written, but of a text what stands between its quotes.
     pub text: Slice<'a>,

@@ -6,7 +6,7 @@ ghost use Rattle.bql_tree.specs.Tree.{trees_of};
 use bql_tree::{Expr, Leaf};
 
 /// Of which kind the members of a list are.
-#[derive(Clone, Copy, Debug, Drop, PartialEq, Eq)]
+#[derive(Clone, Copy, Drop, PartialEq, Eq)]
 pub(crate) enum ListKind {
     Texts,
     Days,

@@ -6,7 +6,7 @@ use bean_base::Slice;
 use bql_tree::Expr;
 
 /// A value of a query's answer.
-#[derive(Debug, Drop)]
+#[derive(Drop)]
 pub struct Target<'a> {
     /// What follows AS, or else the target's own text.
     pub name: Slice<'a>,
@@ -14,7 +14,7 @@ pub struct Target<'a> {
 }
 
 /// What rows are grouped or ordered by.
-#[derive(Debug, Drop)]
+#[derive(Drop)]
 pub enum ItemKind<'a> {
     /// The target of this index.
     Target(usize),
@@ -22,28 +22,28 @@ pub enum ItemKind<'a> {
 }
 
 /// What rows are grouped or ordered by, with the place of its first byte.
-#[derive(Debug, Drop)]
+#[derive(Drop)]
 pub struct Item<'a> {
     pub place: usize,
     pub kind: ItemKind<'a>,
 }
 
 /// Which transactions pass, and which of their postings.
-#[derive(Debug, Drop)]
+#[derive(Drop)]
 pub struct Filters<'a> {
     pub from: Option<Box<Expr<'a>>>,
     pub filter: Option<Box<Expr<'a>>>,
 }
 
 /// How rows are ordered: not at all, where there are no items.
-#[derive(Debug, Drop)]
+#[derive(Drop)]
 pub struct Order<'a> {
     pub items: Vec<Item<'a>>,
     pub descending: bool,
 }
 
 /// A query whose text may still be too long.
-#[derive(Debug, Drop)]
+#[derive(Drop)]
 pub struct Draft<'a> {
     pub distinct: bool,
     pub targets: Vec<Target<'a>>,
@@ -56,7 +56,7 @@ pub struct Draft<'a> {
 /// What is asked of the postings that pass: a SELECT, as it is written or as a JOURNAL or a
 /// BALANCES stands for it. It has from 1 to 255 targets, at most 255 items of GROUP BY and of ORDER
 /// BY, each, no text or list in it is longer than 65,535, and lists have members, all literals.
-#[derive(Debug, Drop)]
+#[derive(Drop)]
 pub struct Query<'a> {
     pub distinct: bool,
     pub targets: Vec<Target<'a>>,

@@ -11,7 +11,7 @@ use bql_tree::{Column, Expr, Function, Leaf, UnaryOperator};
 use std::alloc::{AllocError, Global};
 
 /// What AT makes of positions.
-#[derive(Clone, Copy, Debug, Drop, PartialEq, Eq)]
+#[derive(Clone, Copy, Drop, PartialEq, Eq)]
 pub enum Valuation {
     Units,
     Cost,

@@ -14,7 +14,7 @@ use query_rows::{Misfit, Shape};
 use std::alloc::{AllocError, Global};
 
 /// The shape of an expression, if it has one, and those of its parts, in their order.
-#[derive(Debug, Drop)]
+#[derive(Drop)]
 pub struct Shapes {
     pub shape: Option<Shape>,
     pub parts: Vec<Shapes>,

@@ -23,14 +23,14 @@ use query_values::Aggregate;
 use std::alloc::{AllocError, Global};
 
 /// An expression of a query, lent, and the shapes of it and of its parts.
-#[derive(Debug, Drop)]
+#[derive(Drop)]
 pub struct Shaped<'q, 'a> {
     pub expr: &'q Expr<'a>,
     pub shapes: Shapes,
 }
 
 /// An aggregate, and the part whose values it gathers. `COUNT(*)` has none.
-#[derive(Debug, Drop)]
+#[derive(Drop)]
 pub struct Gathered<'q, 'a> {
     pub aggregate: Aggregate,
     pub input: Option<Shaped<'q, 'a>>,

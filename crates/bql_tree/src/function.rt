@@ -3,7 +3,7 @@ ghost use Rattle.std.specs.Prelude.{◌≡◌};
 ghost use Rattle.bql_tree.specs.Function as functions;
 
 /// Where an expression stands, which decides what it may name.
-#[derive(Clone, Copy, Debug, Drop, PartialEq, Eq)]
+#[derive(Clone, Copy, Drop, PartialEq, Eq)]
 pub enum Scope {
     /// In FROM, which filters transactions.
     Transactions,
@@ -12,7 +12,7 @@ pub enum Scope {
 }
 
 /// A function, whatever it is given.
-#[derive(Clone, Copy, Debug, Drop, PartialEq, Eq)]
+#[derive(Clone, Copy, Drop, PartialEq, Eq)]
 pub enum Function {
     Root,
     Parent,

@@ -6,7 +6,7 @@ use crate::tree::BinaryOperator;
 use bql_lexer::Kind;
 
 /// Levels of operators that stand in chains and group to the left.
-#[derive(Clone, Copy, Debug, Drop, PartialEq, Eq)]
+#[derive(Clone, Copy, Drop, PartialEq, Eq)]
 pub enum Level {
     Or,
     And,

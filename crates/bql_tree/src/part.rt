@@ -14,7 +14,7 @@ use query_rows::Column;
 use std::alloc::{AllocError, Global};
 
 /// Whether an expression is one token, without parentheses.
-#[derive(Debug, Drop)]
+#[derive(Drop)]
 pub enum Alone<'a> {
     No,
     Name(Slice<'a>),
@@ -23,7 +23,7 @@ pub enum Alone<'a> {
 
 /// What was read of an expression: from where to where it stands, how high it is, and its tree, in
 /// which it may itself be a NULL, or else the least of the causes for which it is refused.
-#[derive(Debug, Drop)]
+#[derive(Drop)]
 pub struct Part<'a> {
     pub start: usize,
     pub end: usize,

@@ -6,7 +6,7 @@ use query_rows::Column;
 use query_values::Decimal;
 
 /// Whose metadata an entry is.
-#[derive(Clone, Copy, Debug, Drop, PartialEq, Eq)]
+#[derive(Clone, Copy, Drop, PartialEq, Eq)]
 pub enum MetadataOwner {
     /// `META`: the posting's.
     Posting,
@@ -17,7 +17,7 @@ pub enum MetadataOwner {
 }
 
 /// An expression without parts.
-#[derive(Debug, Drop)]
+#[derive(Drop)]
 pub enum Leaf<'a> {
     Column(Column),
     /// Stands as one side of `=` or `!=` alone.
@@ -37,7 +37,7 @@ pub enum Leaf<'a> {
 }
 
 /// An operation on one expression.
-#[derive(Debug, Drop)]
+#[derive(Drop)]
 pub enum UnaryOperator<'a> {
     Not,
     Minus,
@@ -48,7 +48,7 @@ pub enum UnaryOperator<'a> {
 }
 
 /// An operation that stands between two expressions.
-#[derive(Clone, Copy, Debug, Drop, PartialEq, Eq)]
+#[derive(Clone, Copy, Drop, PartialEq, Eq)]
 pub enum BinaryOperator {
     Or,
     And,
@@ -67,7 +67,7 @@ pub enum BinaryOperator {
 /// An expression, each part with the place of its first byte in the query: that of an operation
 /// between two is the first byte of its first, parentheses included. Parentheses and a `+` in front
 /// are no parts. It is at most 200 parts high.
-#[derive(Debug, Drop)]
+#[derive(Drop)]
 pub enum Expr<'a> {
     Leaf(usize, Leaf<'a>),
     One(usize, UnaryOperator<'a>, Box<Expr<'a>>),

@@ -13,7 +13,7 @@ use query_rows::{Misfit, Shape};
 use std::alloc::{AllocError, Global};
 
 /// What is known of a part of an operation.
-#[derive(Clone, Copy, Debug, Drop, PartialEq, Eq)]
+#[derive(Clone, Copy, Drop, PartialEq, Eq)]
 pub enum Operand {
     /// A NULL that may stand there.
     Null,
@@ -23,21 +23,21 @@ pub enum Operand {
 }
 
 /// The shape of an expression, if it has one, and the least cause that was found so far.
-#[derive(Clone, Copy, Debug, Drop)]
+#[derive(Clone, Copy, Drop)]
 pub(crate) struct Seen {
     pub shape: Option<Shape>,
     pub found: Option<TypeCause>,
 }
 
 /// The same of a part of an operation.
-#[derive(Clone, Copy, Debug, Drop)]
+#[derive(Clone, Copy, Drop)]
 pub(crate) struct SeenPart {
     pub operand: Operand,
     pub found: Option<TypeCause>,
 }
 
 /// The same of the parts of a call: their shapes, if all have one.
-#[derive(Debug, Drop)]
+#[derive(Drop)]
 pub(crate) struct SeenAll {
     pub shapes: Option<Vec<Shape>>,
     pub found: Option<TypeCause>,

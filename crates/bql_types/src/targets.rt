@@ -22,7 +22,7 @@ use query_rows::Shape;
 use std::alloc::{AllocError, Global};
 
 /// What is known of a target that items may name.
-#[derive(Clone, Copy, Debug, Drop)]
+#[derive(Clone, Copy, Drop)]
 pub(crate) struct SeenTarget {
     pub shape: Option<Shape>,
     /// Whether an aggregate would be misplaced in it if rows were grouped by it.
@@ -30,7 +30,7 @@ pub(crate) struct SeenTarget {
 }
 
 /// The same of all targets, and the least cause that was found so far.
-#[derive(Debug, Drop)]
+#[derive(Drop)]
 pub(crate) struct SeenTargets {
     pub targets: Vec<SeenTarget>,
     pub found: Option<TypeCause>,

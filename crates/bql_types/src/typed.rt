@@ -8,7 +8,7 @@ use limits::Bounds;
 
 /// A query that has a type within bounds: each of its expressions has a shape, and what it asks
 /// stands where it may.
-#[derive(Debug, Drop)]
+#[derive(Drop)]
 pub struct Typed<'q, 'a> {
     pub query: &'q Query<'a>,
     pub bounds: Bounds,

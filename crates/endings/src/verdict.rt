@@ -7,7 +7,7 @@ use bean_base::Fault;
 use fault_printer::are_serious;
 
 /// What an answer says of what was asked about.
-#[derive(Clone, Copy, Debug, Drop, PartialEq, Eq)]
+#[derive(Clone, Copy, Drop, PartialEq, Eq)]
 pub enum Verdict {
     /// Books are fine, or it wasn't asked whether they are.
     Fine,

@@ -72,7 +72,7 @@ const STARTS: [(&str, &[usize]); 6] = [
 #[test]
 fn kinds_and_first_bytes_of_tokens(rt: HostRuntime) -> Result<(), Fail> {
     for (text, kinds_of) in KINDS {
-        assert_eq!(rt; kinds(rt.alloc(), text)?.as_slice(), kinds_of);
+        assert!(rt; kinds(rt.alloc(), text)?.as_slice() == kinds_of);
     }
     for (text, starts_of) in STARTS {
         assert_eq!(rt; starts(rt.alloc(), text)?.as_slice(), starts_of);

@@ -6,7 +6,7 @@ use crate::counts::{FIRST_MOST_POSTINGS, MOST_POSTINGS};
 
 /// The version of a query file, and with it the schema of the ledgers that it speaks of: how many
 /// postings they may have, and which columns.
-#[derive(Clone, Copy, Debug, Drop, PartialEq, Eq)]
+#[derive(Clone, Copy, Drop, PartialEq, Eq)]
 pub enum Version {
     /// At most a million postings, and no prices.
     First,
@@ -51,7 +51,7 @@ impl Version {
 /// and prices, in `10^-8`, are below `10^units_digits`, and weights and products of units and cost,
 /// in `10^-16`, below `10^value_digits`, signs left off. Of prices nothing is taken for granted in
 /// the first schema, which knows none.
-#[derive(Clone, Copy, Debug, Drop, PartialEq, Eq)]
+#[derive(Clone, Copy, Drop, PartialEq, Eq)]
 pub struct Bounds {
     pub schema: Version,
     pub postings: u32,

@@ -48,8 +48,8 @@ fn take(
     for (number, k) in turns {
         told.turns.push(batch.turn(*number, *k))?;
     }
-    for run in batch.answers() {
-        told.answers.push(counted(run))?;
+    for number in 0..batch.len() {
+        told.answers.push(counted(batch.member(number)))?;
     }
     Ok(told)
 }
@@ -86,13 +86,13 @@ fn batch_starts_with_ample_memory(rt: HostRuntime) -> Result<(), Fail> {
         Ok(Turn::Failed),
         Err(BatchCause::NoSuchRun),
     ];
-    assert_eq!(rt; told.turns.as_slice(), turns.as_slice());
+    assert!(rt; told.turns.as_slice() == turns.as_slice());
     let answers = [Ok(None), Ok(None), Ok(None), outside];
     assert_eq!(rt; told.answers.as_slice(), answers.as_slice());
     let all = [(2, 8), (0, 9), (2, 1), (1, 9)];
     let told = take_of_counts(rt.alloc(), &ledger, &all)?;
     let done = Ok(Turn::Done);
-    assert_eq!(rt; told.turns.as_slice(), [going, done, done, done].as_slice());
+    assert!(rt; told.turns.as_slice() == [going, done, done, done].as_slice());
     let answers = [Ok(Some(8)), Ok(Some(8)), Ok(Some(8)), outside];
     assert_eq!(rt; told.answers.as_slice(), answers.as_slice());
     Ok(())

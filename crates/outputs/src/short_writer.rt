@@ -7,7 +7,7 @@ use std::alloc::Global;
 use std::marker::Model;
 
 /// Takes bytes up to a limit and keeps them, and fails from then on.
-#[derive(Debug, Drop)]
+#[derive(Drop)]
 pub struct ShortWriter {
     taken: Vec<u8>,
     limit: usize,

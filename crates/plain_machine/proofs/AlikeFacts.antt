@@ -17,7 +17,7 @@ use Rattle.plain_machine.specs.Gathering.{Keeping, Group, inputs_of, next_input,
 use Rattle.plain_machine.specs.Gathering.{with_input, aggregates_over, all_inputs, with_value}
 use Rattle.plain_machine.specs.Gathering.{running_values, group_if, put}
 use Rattle.plain_machine.specs.PlainMachine.{Kept, Stand, InFilter, InRow, InLast, Done, Fault}
-use Rattle.plain_machine.specs.PlainMachine.{one_truth, running_with, row_of, with_running}
+use Rattle.plain_machine.specs.PlainMachine.{one_truth, row_of, with_running}
 use Rattle.plain_machine.specs.PlainMachine.{with_groups, with_row, grouped_with, kept_with}
 use Rattle.plain_machine.specs.PlainMachine.{nothing_kept, ended, begin_last, begin_filter, go_on}
 use Rattle.plain_machine.specs.PlainMachine.{end_row, begin_row, judged, end_filter, go_on_last}
@@ -32,6 +32,7 @@ pub record Carries {X Y : Type 0} (K : Keeping X) (L : Keeping Y) (f : X → Y) 
   pub start : f K.start ≡ L.start
   pub add : (x : X) (inputs : List Value) → option_map f (K.add x inputs) ≡ L.add (f x) inputs
   pub values : (x : X) → L.values (f x) ≡ K.values x
+  pub running : (v : Value) (r : Row) → K.running_on v r ≡ L.running_on v r
 
 module _ {X Y : Type 0} (f : X
     → Y) (K : Keeping X) (L : Keeping Y) (c : Carries K L f) (p : Parts) where
@@ -154,8 +155,10 @@ module _ {X Y : Type 0} (f : X
       → stand_as f (judged K p r rest k o) ≡ judged L p r rest (kept_as f k) o
   judged_as r rest k None = refl
   judged_as r rest k (Some true) =
-      begin_row_as r rest (option_map (with_running k) (running_with k.running r))
-      ∙ ap (begin_row L p r rest) (with_running_as k (running_with k.running r))
+      begin_row_as r rest (option_map (with_running k) (K.running_on k.running r))
+      ∙ ap (begin_row L p r rest)
+      (with_running_as k (K.running_on k.running r)
+      ∙ ap (option_map (with_running (kept_as f k))) (c.running k.running r))
   judged_as r rest k (Some false) = begin_filter_as rest k
 
   go_on_last_as : (rest : List (Group X)) (rows : List (List Value)) (o : Option (List Value))
@@ -271,6 +274,7 @@ inputs_carried aggregates = record {
   start = start_values aggregates;
   add = each_taken aggregates;
   values = λ lists. refl;
+  running = λ v r. refl;
 }
 
 pub stand_alike : (p : Parts) (rows : List Row) (n : ℕ)

@@ -10,7 +10,7 @@ use Rattle.plain_machine.specs.Answer.{Answer, Answers, NeverFaults, IsWithinBud
 use Rattle.plain_machine.specs.Finishing.{ComesOut, finish_of, ranked}
 use Rattle.plain_machine.specs.Gathering.{Keeping, all_inputs}
 use Rattle.plain_machine.specs.PlainMachine.{Stand, Done, Fault, step, steps, begin, stand_after}
-use Rattle.plain_machine.specs.WholeRun.{answer, stand_of, budget, is_going, Reaches}
+use Rattle.plain_machine.specs.WholeRun.{answer, stand_of, budget, is_going}
 use Rattle.plain_machine.proofs.CountFacts.{is_reached}
 use Rattle.plain_machine.proofs.ReachFacts.{add_steps}
 use Rattle.plain_machine.proofs.RunFacts.{comes_to_answer}

@@ -10,7 +10,7 @@ use Rattle.query_code.specs.declared.program.Parts.{Parts}
 use Rattle.plain_machine.specs.Finishing.{are_orderable}
 use Rattle.query_rows.specs.Same.{same_values}
 use Rattle.plain_machine.specs.Gathering.{Keeping, Group, inputs_of, cons_if, group_if, put}
-use Rattle.plain_machine.specs.PlainMachine.{Kept, Done, one_truth, running_with, row_of}
+use Rattle.plain_machine.specs.PlainMachine.{Kept, Done, one_truth, row_of}
 use Rattle.plain_machine.specs.PlainMachine.{with_running, with_groups, with_row, grouped_with}
 use Rattle.plain_machine.specs.PlainMachine.{kept_with, nothing_kept, begin}
 use Rattle.query_rows.specs.Row.{Row}
@@ -108,7 +108,7 @@ module _ {X : Type 0} (keep : Keeping X) (p : Parts) where
 
       by : (o : Option Bool) → AtMost (suc (size k)) (option_and_then (row_taken keep p r k) o)
       by None = tt
-      by (Some true) = taken (running_with k.running r)
+      by (Some true) = taken (keep.running_on k.running r)
       by (Some false) = omega arith
 
   rows_few : (rows : List Row) (k : Kept X)

@@ -1,6 +1,6 @@
 -- What programs do over a few rows, computed.
 use Rattle.std.proofs.Common.{◌≡◌, ◌<◌, ◌≤◌, ◌^◌, ◌-◌, ℕ, ℤ, pos, negsuc, Bool, true, false, List}
-use Rattle.std.proofs.Common.{[], ◌∷◌, ◌++◌, map, replicate, Some, None, codes, refl, arith}
+use Rattle.std.proofs.Common.{[], ◌∷◌, None, codes, refl, arith}
 use Rattle.limits.specs.declared.bounds.Version.TheVariants.{First}
 use Rattle.bean_lots.specs.declared.lot.Key.{Key}
 use Rattle.query_rows.specs.declared.column.Column.{Column}

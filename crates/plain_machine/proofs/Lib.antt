@@ -4,6 +4,7 @@ pub mod RunFacts
 pub mod CountFacts
 pub mod GroupingFacts
 pub mod AlikeFacts
+pub mod ReadingFacts
 pub mod AnswerFacts
 pub mod UpgradeFacts
 pub mod StandFacts

@@ -7,7 +7,7 @@ use Rattle.query_code.specs.declared.program.Parts.{Parts}
 use Rattle.plain_machine.specs.Finishing.{are_orderable}
 use Rattle.plain_machine.specs.Gathering.{Keeping, Group}
 use Rattle.plain_machine.specs.PlainMachine.{Kept, Stand, InFilter, InRow, InLast, Done, Fault}
-use Rattle.plain_machine.specs.PlainMachine.{one_truth, running_with, row_of, kept_with}
+use Rattle.plain_machine.specs.PlainMachine.{one_truth, row_of, kept_with}
 use Rattle.plain_machine.specs.PlainMachine.{with_running, nothing_kept, ended, begin_last}
 use Rattle.plain_machine.specs.PlainMachine.{begin_filter, begin, go_on, end_row, begin_row, judged}
 use Rattle.plain_machine.specs.PlainMachine.{end_filter, go_on_last, end_last, in_filter, in_row}
@@ -80,7 +80,7 @@ module _ {X : Type 0} (keep : Keeping X) (p : Parts) where
       (go_on p rest (option_and_then (row_taken keep p r k) o))
   judged_runs r rest k None = reach_here keep p (length p.code.row) Fault Fault refl
   judged_runs r rest k (Some true) =
-      taken_runs r rest (option_map (with_running k) (running_with k.running r))
+      taken_runs r rest (option_map (with_running k) (keep.running_on k.running r))
   judged_runs r rest k (Some false) =
       reach_here keep p (length p.code.row) (begin_filter p rest k) (begin_filter p rest k) refl
 

@@ -12,7 +12,7 @@ use Rattle.plain_machine.specs.PlainMachine.{after, begin, begin_filter, begin_l
 use Rattle.plain_machine.specs.PlainMachine.{end_last, end_row, filter_acts, go_on, go_on_last}
 use Rattle.plain_machine.specs.PlainMachine.{grouped_with, in_filter, in_last, in_row, judged, kept_with}
 use Rattle.plain_machine.specs.PlainMachine.{last_acts, nothing_kept, one_truth, row_acts, row_of}
-use Rattle.plain_machine.specs.PlainMachine.{running_with, step, steps, width_of, with_groups}
+use Rattle.plain_machine.specs.PlainMachine.{step, steps, width_of, with_groups}
 use Rattle.plain_machine.specs.PlainMachine.{with_row, with_running}
 use Rattle.plain_machine.specs.Finishing.{are_orderable}
 use Rattle.plain_machine.specs.SectionRun.{Outcome, Standing, State, Stopped, one_step, start}
@@ -141,8 +141,8 @@ module _ (X : Type 0) (p : Parts) where
         → (o : Option Bool) → StandsWide (judged keep p r rest k o)
     judged_wide r rest k are None = tt
     judged_wide r rest k are (Some true) =
-        begin_row_wide r rest (option_map (with_running k) (running_with k.running r))
-        (running_by k are (running_with k.running r))
+        begin_row_wide r rest (option_map (with_running k) (keep.running_on k.running r))
+        (running_by k are (keep.running_on k.running r))
     judged_wide r rest k are (Some false) = begin_filter_wide rest k are
 
     -- ---- a step

@@ -1,7 +1,7 @@
 -- A program that names the columns of its schema runs in the second version as it did.
-use Rattle.std.proofs.Common.{◌≡◌, ℕ, zero, suc, ◌+◌, Bool, true, false, List, [], ◌∷◌, length}
+use Rattle.std.proofs.Common.{◌≡◌, ℕ, zero, suc, Bool, true, false, List, [], ◌∷◌, length}
 use Rattle.std.proofs.Common.{Option, Some, None, refl, sym, ap, subst, ◌∙◌, cond, eqb}
-use Rattle.std.specs.Prelude.{slice_get, option_and_then, option_map, reverse, ⊤}
+use Rattle.std.specs.Prelude.{slice_get, option_and_then}
 use Rattle.std.specs.List.{AllByRecursion}
 use Rattle.limits.specs.declared.bounds.Version.{Version}
 use Rattle.limits.specs.declared.bounds.Version.TheVariants.{Second}
@@ -22,12 +22,12 @@ use Rattle.query_rows.specs.Row.{Row}
 use Rattle.query_values.specs.Held.{checked}
 use Rattle.query_values.specs.declared.value.Value.{Value}
 use Rattle.plain_machine.specs.Gathering.{Keeping, Group, all_inputs}
-use Rattle.plain_machine.specs.Loading.{Loads, cell_in, loaded, push_of, value_acts}
+use Rattle.plain_machine.specs.Loading.{Loads, cell_in, loaded, value_acts}
 use Rattle.plain_machine.specs.PlainMachine.{Kept, Stand, InFilter, InRow, InLast, Done, Fault}
-use Rattle.plain_machine.specs.PlainMachine.{begin_last, go_on_last, end_last, begin_filter, go_on}
-use Rattle.plain_machine.specs.PlainMachine.{kept_with, end_row, begin_row, judged, end_filter}
-use Rattle.plain_machine.specs.PlainMachine.{in_filter, in_row, in_last, filter_acts, row_acts}
-use Rattle.plain_machine.specs.PlainMachine.{last_acts, step, steps, begin, after, one_truth, row_of}
+use Rattle.plain_machine.specs.PlainMachine.{begin_last, go_on_last, begin_filter, go_on}
+use Rattle.plain_machine.specs.PlainMachine.{kept_with, begin_row, judged}
+use Rattle.plain_machine.specs.PlainMachine.{in_filter, in_row, in_last}
+use Rattle.plain_machine.specs.PlainMachine.{step, steps, begin, after, one_truth, row_of}
 use Rattle.plain_machine.specs.PlainMachine.{nothing_kept, filter_loads, row_loads, last_loads}
 use Rattle.plain_machine.specs.SectionRun.{State, start, Outcome, Standing, Stopped, one_step}
 use Rattle.plain_machine.specs.SectionRun.{stepped}

@@ -4,17 +4,20 @@ use Rattle.std.specs.Prelude.{option_map, option_and_then, if◌then◌else◌}
 use Rattle.query_values.specs.Aggregate.{aggregate_of, with_more, may_take}
 use Rattle.query_values.specs.Held.{is_held, checked}
 use Rattle.query_values.specs.declared.operation.Aggregate.{Aggregate}
-use Rattle.query_values.specs.declared.operation.Aggregate.TheVariants.{CountRows}
+use Rattle.query_values.specs.declared.operation.Aggregate.TheVariants.{CountRows, SumInventory}
 use Rattle.query_values.specs.declared.value.Value.{Value}
 use Rattle.query_values.specs.declared.value.Value.TheVariants.{Null}
+use Rattle.query_rows.specs.Row.{Row}
 use Rattle.query_rows.specs.Same.{same_values}
+use Rattle.query_rows.specs.declared.column.Column.TheVariants.{Position}
 
--- How a group keeps what comes to it: inputs, one for each aggregate but a count of rows. None is a
--- fault.
+-- How a group keeps what comes to it: inputs, one for each aggregate but a count of rows; and what
+-- becomes of the running inventory at a row that passes. None is a fault.
 pub record Keeping (X : Type 0) : Type 0 where
   pub start : X
   pub add : X → List Value → Option X
   pub values : X → List Value
+  pub running_on : Value → Row → Option Value
 
 -- keys, and what came to the group
 abbrev pub Group : Type 0 → Type 0
@@ -48,6 +51,16 @@ take_each take (a ∷ aggregates) (t ∷ ts) inputs =
     option_and_then (λ i. cons_if (take a t i.0) (take_each take aggregates ts i.1))
     (next_input a inputs)
 
+-- ---- what is gathered so far
+
+-- one value more, where it may be gathered and what comes of it is held
+abbrev pub with_value : Aggregate → Value → Value → Option Value
+with_value a t x = checked (may_take a t x) (with_more a t x)
+
+-- the running inventory with the position of a row
+abbrev pub running_with : Value → Row → Option Value
+running_with running r = with_value (SumInventory 8) running (r.cell Position)
+
 -- ---- the list of the inputs
 
 -- One value more, where it may be gathered behind the others, and what is gathered of all of them
@@ -69,12 +82,10 @@ all_inputs aggregates = record {
   start = map (λ a. []) aggregates;
   add = take_each with_input aggregates;
   values = aggregates_over aggregates;
+  running_on = running_with;
 }
 
--- ---- what is gathered so far
-
-abbrev pub with_value : Aggregate → Value → Value → Option Value
-with_value a t x = checked (may_take a t x) (with_more a t x)
+-- ---- groups of what is gathered so far
 
 -- a group is what each aggregate has gathered
 abbrev pub running_values : List Aggregate → Keeping (List Value)
@@ -82,6 +93,7 @@ running_values aggregates = record {
   start = map (λ a. aggregate_of a []) aggregates;
   add = take_each with_value aggregates;
   values = λ ts. ts;
+  running_on = running_with;
 }
 
 -- ---- the groups, in order of first appearance

@@ -8,6 +8,7 @@ pub mod PlainMachine
 pub mod WholeRun
 pub mod Alike
 pub mod Answer
+pub mod Reading
 pub mod Depth
 pub mod Safety
 pub mod Upgrade

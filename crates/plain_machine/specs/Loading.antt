@@ -1,5 +1,5 @@
 -- What the instructions of a section load, and what operations give there.
-use Rattle.std.specs.Prelude.{ℕ, true, false, List, Option, Some, None, slice_get, option_map}
+use Rattle.std.specs.Prelude.{ℕ, true, false, List, Option, Some, slice_get, option_map}
 use Rattle.std.specs.Prelude.{option_and_then}
 use Rattle.limits.specs.declared.bounds.Version.{Version}
 use Rattle.query_rows.specs.Column.{numbered_in}

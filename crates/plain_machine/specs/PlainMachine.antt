@@ -2,13 +2,12 @@
 -- at the end of a section belongs to the step that comes there.
 use Rattle.std.specs.Prelude.{ℕ, zero, suc, ◌+◌, ◌==◌, Bool, true, false, List, [], ◌∷◌, ◌++◌}
 use Rattle.std.specs.Prelude.{length, take, drop, reverse, Option, Some, None, option_map}
-use Rattle.std.specs.Prelude.{option_and_then, if◌then◌else◌}
+use Rattle.std.specs.Prelude.{if◌then◌else◌}
 use Rattle.limits.specs.declared.bounds.Version.{Version}
 use Rattle.query_values.specs.Aggregate.{aggregate_of}
 use Rattle.query_values.specs.declared.operation.Aggregate.TheVariants.{SumInventory}
 use Rattle.query_values.specs.declared.value.Value.{Value}
 use Rattle.query_values.specs.declared.value.Value.TheVariants.{Null, Truth}
-use Rattle.query_rows.specs.declared.column.Column.TheVariants.{Position}
 use Rattle.query_rows.specs.Row.{Row}
 use Rattle.query_code.specs.QueryFile.{is_grouped}
 use Rattle.query_code.specs.declared.program.Mode.{Mode}
@@ -16,7 +15,7 @@ use Rattle.query_code.specs.declared.program.Mode.TheVariants.{Plain, Grouped}
 use Rattle.query_code.specs.declared.program.Output.{Output}
 use Rattle.query_code.specs.declared.program.Parts.{Parts}
 use Rattle.plain_machine.specs.Finishing.{are_orderable}
-use Rattle.plain_machine.specs.Gathering.{Keeping, Group, all_inputs, inputs_of, put, with_value}
+use Rattle.plain_machine.specs.Gathering.{Keeping, Group, all_inputs, inputs_of, put}
 use Rattle.plain_machine.specs.Loading.{Loads, value_acts}
 use Rattle.plain_machine.specs.SectionRun.{Acts, State, start, Outcome, Standing, Stopped, one_step}
 
@@ -77,10 +76,6 @@ abbrev pub one_truth : List Value → Option Bool
 one_truth (Truth b ∷ []) = Some b
 one_truth (Null ∷ []) = Some false
 one_truth stack = None
-
--- the running inventory with the position of a row
-abbrev pub running_with : Value → Row → Option Value
-running_with running r = with_value (SumInventory 8) running (r.cell Position)
 
 -- how many values a row of the answer has, those to order by included
 abbrev pub width_of : Output → ℕ
@@ -160,7 +155,7 @@ module _ {X : Type 0} (keep : Keeping X) (p : Parts) where
   abbrev pub judged : Row → List Row → Kept X → Option Bool → Stand X
   judged r rest k None = Fault
   judged r rest k (Some true) =
-      begin_row r rest (option_map (with_running k) (running_with k.running r))
+      begin_row r rest (option_map (with_running k) (keep.running_on k.running r))
   judged r rest k (Some false) = begin_filter p rest k
 
   abbrev pub end_filter : Row → List Row → Kept X → List Value → Stand X

@@ -8,7 +8,7 @@ use Rattle.query_code.specs.declared.program.Parts.{Parts}
 use Rattle.plain_machine.specs.Finishing.{are_orderable}
 use Rattle.plain_machine.specs.Gathering.{Keeping, Group}
 use Rattle.plain_machine.specs.PlainMachine.{Kept, Stand, Done, Fault, filter_acts, row_acts}
-use Rattle.plain_machine.specs.PlainMachine.{last_acts, one_truth, running_with, row_of, kept_with}
+use Rattle.plain_machine.specs.PlainMachine.{last_acts, one_truth, row_of, kept_with}
 use Rattle.plain_machine.specs.PlainMachine.{with_running, nothing_kept, begin, steps}
 use Rattle.query_rows.specs.Row.{Row}
 use Rattle.plain_machine.specs.SectionRun.{left_by}
@@ -32,7 +32,7 @@ module _ {X : Type 0} (keep : Keeping X) (p : Parts) where
   abbrev pub row_taken : Row → Kept X → Bool → Option (Kept X)
   row_taken r k false = Some k
   row_taken r k true =
-      option_and_then (row_run r) (option_map (with_running k) (running_with k.running r))
+      option_and_then (row_run r) (option_map (with_running k) (keep.running_on k.running r))
 
   -- what is kept behind a row
   abbrev pub behind_row : Row → Kept X → Option (Kept X)

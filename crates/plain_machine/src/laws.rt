@@ -5,6 +5,7 @@ ghost use Rattle.plain_machine.specs.Answer.{AnswersAreWithinBudget, AnswersWith
 ghost use Rattle.plain_machine.specs.Answer.{NoFaultWithAnswer};
 ghost use Rattle.plain_machine.specs.Gathering.{all_inputs, running_values};
 ghost use Rattle.plain_machine.specs.Grouping.{MakesGroups};
+ghost use Rattle.plain_machine.specs.Reading.{ReadersStandAlike};
 ghost use Rattle.plain_machine.specs.Upgrade.{UpgradesRunAlike};
 ghost use Rattle.plain_machine.specs.WholeRun.{AnswersAreReached, ComesToItsAnswer};
 ghost use Rattle.plain_machine.specs.Widths.{RowsAreAsWideAsTargets};
@@ -33,6 +34,12 @@ pub fn groups_are_of_their_members()
 /// after each step.
 pub fn running_values_stand_alike()
     ensures { StandAlike }
+{}
+
+/// A machine that keeps what is gathered so far, and the running inventory only for programs that
+/// read it, stands there too, after each step, where none is a fault.
+pub fn readers_alone_need_the_running_inventory()
+    ensures { ReadersStandAlike }
 {}
 
 /// A program has an answer over rows exactly where it never faults there, and has no other. Its

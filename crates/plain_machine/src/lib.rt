@@ -35,6 +35,6 @@ mod laws;
 
 pub use laws::{
     answers_are_reached, groups_are_of_their_members, programs_have_one_answer,
-    rows_are_as_wide_as_their_targets, running_values_stand_alike, runs_come_to_their_answers,
-    upgrades_run_alike,
+    readers_alone_need_the_running_inventory, rows_are_as_wide_as_their_targets,
+    running_values_stand_alike, runs_come_to_their_answers, upgrades_run_alike,
 };

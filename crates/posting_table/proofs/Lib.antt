@@ -1,4 +1,3 @@
-pub mod PieceFacts
 pub mod DecimalsFacts
 pub mod FitFacts
 pub mod PartFacts

@@ -11,7 +11,7 @@ use std::alloc::{AllocError, Global};
 use std::marker::Model;
 
 /// The line of a row, and a weight, a price, metadata and a flag, each of which may be absent.
-#[derive(Debug, Drop)]
+#[derive(Drop)]
 pub(crate) struct BesideParts<'a> {
     /// What the posting weighs, where that isn't what its units weigh by themselves.
     pub weight: Option<Weight<'a>>,
@@ -22,7 +22,7 @@ pub(crate) struct BesideParts<'a> {
 }
 
 /// How it is kept.
-#[derive(Debug, Drop)]
+#[derive(Drop)]
 enum Kept<'a> {
     /// The line, where there is nothing else.
     Line(usize),
@@ -31,7 +31,7 @@ enum Kept<'a> {
 
 /// What a row has beside its transaction, its account and its position. What few rows have lies in
 /// memory of its own, so that the others stay small. Contracts see the parts.
-#[derive(Debug, Drop)]
+#[derive(Drop)]
 pub(crate) struct Beside<'a> {
     kept: Kept<'a>,
 }

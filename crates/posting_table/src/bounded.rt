@@ -9,10 +9,10 @@ ghost use Rattle.query_rows.specs.Fits as spec;
 ghost use Rattle.query_rows.specs.Mass.{value_of};
 
 use crate::held::HeldRow;
-use crate::pieces::Pieces;
 use bean_base::{Amount, List, power_of_ten};
 use bean_lots::Lot;
 use limits::{Bounds, MOST_POSTINGS, MOST_UNITS_DIGITS, MOST_VALUE_DIGITS, Version};
+use pieces::Pieces;
 
 /// The bounds that each ledger is within.
 const WIDEST: Bounds = Bounds {

@@ -9,7 +9,7 @@ use std::alloc::{AllocError, Global};
 use std::marker::Model;
 
 /// The display decimals of the currencies, as a map from each name to a count: 0 where none is set.
-#[derive(Debug, Drop)]
+#[derive(Drop)]
 pub struct Display<'a> {
     places: IndexMap<Currency<'a>, u8>,
 }

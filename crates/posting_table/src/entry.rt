@@ -8,7 +8,7 @@ use bean_base::{Day, Flag};
 use query_values::TextSet;
 
 /// How a transaction is marked.
-#[derive(Clone, Copy, Debug, Drop, PartialEq, Eq)]
+#[derive(Clone, Copy, Drop, PartialEq, Eq)]
 pub enum EntryFlag {
     /// As it is written.
     Written(Flag),
@@ -29,7 +29,7 @@ impl EntryFlag {
 }
 
 /// What the postings of a transaction have in common.
-#[derive(Debug, Drop)]
+#[derive(Drop)]
 pub struct Entry<'a> {
     pub payee: Option<PlainText<'a>>,
     pub narration: PlainText<'a>,

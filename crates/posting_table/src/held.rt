@@ -3,8 +3,8 @@ ghost use Rattle.std.specs.Prelude.{◌≡◌, ◌<◌, ◌^◌, IfOk, None};
 ghost use Rattle.std.specs.Int.RustNames.{unsigned_abs};
 ghost use Rattle.std.specs.Option.{option_copied};
 ghost use Rattle.posting_table.specs.Held.{weight_in};
-ghost use Rattle.posting_table.specs.Rows.{entries_of};
-ghost use Rattle.query_rows.specs.Row as row_spec;
+ghost use Rattle.posting_table.specs.Rows.{row_of};
+ghost use Rattle.query_rows.specs.Row.{text_under};
 ghost use Rattle.posting_table.specs.Row as spec;
 
 use crate::beside::{Beside, BesideParts};
@@ -21,9 +21,10 @@ use std::alloc::{AllocError, Global};
 use std::marker::Model;
 
 /// A row in little memory: the key of its position stands elsewhere, and so does what few rows
-/// have. Most postings weigh what their units are, so that a weight is seldom held.
-#[derive(Debug, Drop)]
-pub(crate) struct HeldRow<'a> {
+/// have. Most postings weigh what their units are, so that a weight is seldom held. Contracts see the
+/// row itself.
+#[derive(Drop)]
+pub struct HeldRow<'a> {
     count: i128,
     account: Account<'a>,
     entry: Shared<Entry<'a>>,
@@ -110,10 +111,17 @@ impl<'a> HeldRow<'a> {
     }
 
     /// What its own metadata has under a key: none where nothing stands behind it.
-    pub(crate) fn text_under(&self, key: &str) -> Option<&str>
-        ensures { option_copied result ≡ row_spec.text_under key.now (entries_of self.now.metadata) }
+    pub fn meta(&self, key: &str) -> Option<&str>
+        ensures { option_copied result ≡ text_under key.now (row_of self.now).posting_entries }
     {
         self.beside.text_under(key)
+    }
+
+    /// What the metadata of its transaction has under a key.
+    pub fn entry_meta(&self, key: &str) -> Option<&str>
+        ensures { option_copied result ≡ text_under key.now (row_of self.now).transaction_entries }
+    {
+        self.entry().metadata.text_under(key)
     }
 
     /// The account.
@@ -166,9 +174,10 @@ impl<'a> HeldRow<'a> {
         self.beside.price()
     }
 
-    /// What the row has in a column; of its balance it knows nothing.
-    pub(crate) fn cell(&self, column: Column) -> Value<'_>
-        ensures { result ≡ spec.cell_at self.now column }
+    /// What the row has in a column, lent from it; of its balance it knows nothing.
+    #[inline(always)]
+    pub fn cell(&self, column: Column) -> Value<'_>
+        ensures { result ≡ (row_of self.now).cell column }
     {
         match column {
             Column::Account => Value::Text(Slice::new(self.account.text())),

@@ -16,7 +16,7 @@ use std::alloc::{AllocError, Global};
 use std::marker::Model;
 
 /// The key of a position, with what the label of its lot stands for.
-#[derive(Debug, Drop)]
+#[derive(Drop)]
 pub(crate) struct HeldKey<'a> {
     key: Key<'a>,
     label: Option<PlainText<'a>>,

@@ -3,7 +3,7 @@ ghost use Rattle.std.specs.Prelude.{◌≡◌, ◌≢◌, ◌==◌, [], ◌∷�
 ghost use Rattle.std.specs.Prelude.{All, IsTrue, Some, slice_get, true};
 ghost use Rattle.std.specs.Option.{option_and_then, option_copied, option_map};
 ghost use Rattle.std.specs.FinMap as map;
-ghost use Rattle.posting_table.specs.Rows.{rows_of};
+ghost use Rattle.posting_table.specs.Rows.{row_of, rows_of};
 ghost use Rattle.posting_table.specs.Shaped.{IsShaped};
 ghost use Rattle.query_rows.specs.ColumnShape.{widest};
 ghost use Rattle.query_rows.specs.Fits as spec;
@@ -11,15 +11,16 @@ ghost use Rattle.query_rows.specs.Row.{text_under};
 ghost use Rattle.query_rows.specs.Shaped as rows;
 
 mod listed;
+pub(crate) mod taken;
 
 use crate::bounded::all_fit;
 use crate::display::Display;
 use crate::held::HeldRow;
 use crate::keys::Keys;
-use crate::pieces::Pieces;
 use crate::row::Row;
 use bean_base::Currency;
 use limits::{Bounds, MOST_POSTINGS};
+use pieces::Pieces;
 use query_rows::Column;
 use query_values::Value;
 use std::alloc::{AllocError, Global};
@@ -105,6 +106,15 @@ impl<'a> Ledger<'a> {
         self.rows.len() == 0
     }
 
+    /// A posting, lent from the ledger: for callers that look at several of its cells.
+    #[inline(always)]
+    pub fn row(&self, row: usize) -> &HeldRow<'a>
+        requires { row < length self.now.rows }
+        ensures { Some (row_of result.now) ≡ slice_get (rows_of self.now) row }
+    {
+        self.rows.at(row)
+    }
+
     /// What a posting has in a column, lent from its row. No posting has a balance by itself.
     pub fn cell(&self, row: usize, column: Column) -> Value<'_>
         requires row { row < length self.now.rows }
@@ -121,7 +131,7 @@ impl<'a> Ledger<'a> {
         ensures { option_copied result ≡ option_and_then
             (λ r. text_under key.now r.posting_entries) (slice_get (rows_of self.now) row) }
     {
-        self.rows.at(row).text_under(key)
+        self.rows.at(row).meta(key)
     }
 
     /// What the metadata of a posting's transaction has under a key.
@@ -130,7 +140,7 @@ impl<'a> Ledger<'a> {
         ensures { option_copied result ≡ option_and_then
             (λ r. text_under key.now r.transaction_entries) (slice_get (rows_of self.now) row) }
     {
-        self.rows.at(row).entry().metadata.text_under(key)
+        self.rows.at(row).entry_meta(key)
     }
 
     /// Whether it is within bounds: it has no more postings than they allow, and no wider counts.

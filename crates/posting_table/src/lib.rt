@@ -26,6 +26,7 @@
 //! })?;
 //! ledger.set_display(parse_currency("USD")?, 2)?;
 //! let account = ledger.cell(0, Column::Account);   // Value::Text of Assets:Cash
+//! let number = ledger.row(0).cell(Column::Number); // the same for several cells of a row
 //! let date = ledger.date(0);                       // 2014-01-02
 //! let receipt = ledger.entry_meta(0, "receipt");   // None
 //! let fits = ledger.fits(&bounds);
@@ -52,12 +53,13 @@
 //! the shapes that its columns have by the widest bounds: its texts are short and its counts small
 //! ([`rows_of_small_parts_are_shaped`]). So in a ledger that is within narrower bounds
 //! ([`Ledger::fits`]) they lie in the shapes by these. `cell`, `meta`, `entry_meta`, `date` and its
-//! like want a row that is there. A call that answers with an error left the ledger as it was; the
-//! only cause is want of memory.
+//! like want a row that is there, as does `row`, which lends it whole ([`HeldRow`]). Rows are taken
+//! out, to be put back with others between them, by `take_rows` and `put_back`. Of the other calls
+//! one that answers with an error left the ledger as it was; the only cause is want of memory.
 //!
 //! # Cost
 //!
-//! A row is moved in once and never copied; it takes 64 bytes. Where it has a lot, a weight, a flag
+//! A row is moved in once, and once more where it is taken out and put back; it takes 64 bytes. Where it has a lot, a weight, a flag
 //! or metadata of its own, these lie apart. Rows lie in pieces of 32 KiB, so that none is moved when
 //! there are more, and they take memory that others gave up. `cell` and `len` take a few steps,
 //! `push` and `set_display` a few on the average, `meta` and `entry_meta` look at each entry, and
@@ -74,15 +76,16 @@ mod keys;
 mod laws;
 mod ledger;
 mod metadata;
-mod pieces;
 mod plain_text;
 mod row;
 mod shared;
 
 pub use display::Display;
 pub use entry::{Entry, EntryFlag};
+pub use held::HeldRow;
 pub use laws::{cells_lie_in_their_shapes, rows_of_small_parts_are_shaped};
 pub use ledger::Ledger;
+pub use ledger::taken::TakenRows;
 pub use metadata::{MetaItem, Metadata};
 pub use plain_text::PlainText;
 pub use query_rows::Column;

@@ -11,7 +11,7 @@ use std::alloc::{AllocError, Global};
 use std::marker::Model;
 
 /// A text under a key, or nothing.
-#[derive(Debug, Drop)]
+#[derive(Drop)]
 pub struct MetaItem<'a> {
     pub key: Slice<'a>,
     pub text: Option<PlainText<'a>>,
@@ -19,7 +19,7 @@ pub struct MetaItem<'a> {
 
 /// The metadata of a posting or of a transaction, in order. It stands once for all that have it,
 /// and none takes no memory. Its value is the list of its items.
-#[derive(Debug, Drop)]
+#[derive(Drop)]
 pub struct Metadata<'a> {
     items: Option<Shared<List<MetaItem<'a>>>>,
 }

@@ -7,7 +7,7 @@ use std::alloc::{AllocError, Global};
 use std::marker::Model;
 
 /// Where the bytes of a text are.
-#[derive(Debug, Drop)]
+#[derive(Drop)]
 enum Bytes<'a> {
     Lent(Slice<'a>),
     Made(String),
@@ -15,7 +15,7 @@ enum Bytes<'a> {
 
 /// A text without escapes: a slice of where it stands, or one that was made. Its value is its
 /// bytes, wherever they lie.
-#[derive(Debug, Drop)]
+#[derive(Drop)]
 pub struct PlainText<'a> {
     bytes: Bytes<'a>,
 }

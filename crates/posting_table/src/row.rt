@@ -8,7 +8,7 @@ use bean_base::{Account, Amount, Currency, Flag};
 use bean_lots::Position;
 
 /// What a posting weighs in its transaction, as a count of `10^-16`.
-#[derive(Debug, Drop, PartialEq, Eq)]
+#[derive(Drop, PartialEq, Eq)]
 pub struct Weight<'a> {
     pub count: i128,
     pub currency: Currency<'a>,
@@ -27,7 +27,7 @@ impl<'a> Weight<'a> {
 }
 
 /// A booked posting.
-#[derive(Debug, Drop)]
+#[derive(Drop)]
 pub struct Row<'a> {
     /// What it has from its transaction.
     pub entry: Shared<Entry<'a>>,

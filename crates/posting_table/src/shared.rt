@@ -6,7 +6,7 @@ use std::marker::Model;
 use std::rc::Rc;
 
 /// A value that stands once, for all that hold it. Contracts see the value itself.
-#[derive(Debug, Drop)]
+#[derive(Drop)]
 pub struct Shared<T> {
     place: Rc<T>,
 }

@@ -1,6 +1,6 @@
 //! Runs side by side.
 ghost use Rattle.query_batch.specs.Batch.{AreJoined, TakesTurn};
-ghost use Rattle.std.specs.Prelude.{◌≡◌, IfOk};
+ghost use Rattle.std.specs.Prelude.{◌≡◌, ◌<◌, IfOk, Some, length, slice_get};
 
 use crate::cause::BatchCause;
 use crate::member::Member;
@@ -58,10 +58,18 @@ impl<'r, 'a> Batch<'r, 'a> {
         Ok(run.turn(k))
     }
 
-    /// The runs in the order of their programs, each of which tells what it answers.
-    pub fn answers(&self) -> &[Member<'r, 'a>]
-        ensures { result.now ≡ self.now }
+    /// How many runs there are.
+    pub fn len(&self) -> usize
+        ensures { result ≡ length self.now }
     {
-        self.runs.as_slice()
+        self.runs.len()
+    }
+
+    /// The run of this number, in the order of the programs, which tells what it answers.
+    pub fn member(&self, number: usize) -> &Member<'r, 'a>
+        requires { number < length self.now }
+        ensures { Some result.now ≡ slice_get self.now number }
+    {
+        &self.runs[number]
     }
 }

@@ -4,8 +4,8 @@
 //! let mut batch = Batch::new(alloc, &ledger, &programs)?;
 //! batch.turn(2, 1)?;                          // run 2 makes one step, the others none
 //! batch.turn(0, 1000)?;                       // Turn::Going, Turn::Done or Turn::Failed
-//! for run in batch.answers() {
-//!     match run.answer() {
+//! for number in 0..batch.len() {
+//!     match batch.member(number).answer() {
 //!         Ok(Some(answer)) => ..,             // done
 //!         Ok(None) => ..,                     // going
 //!         Err(refusal) => ..,                 // M1 outside its bounds, M2 for want of memory

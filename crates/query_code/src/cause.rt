@@ -51,7 +51,7 @@ impl Cause for FileCause {
 }
 
 /// What is wrong, and how many bytes are left where it is.
-#[derive(Clone, Copy, Debug, Drop, PartialEq, Eq)]
+#[derive(Clone, Copy, Drop, PartialEq, Eq)]
 pub struct Stop {
     pub cause: FileCauseKind,
     pub left: usize,

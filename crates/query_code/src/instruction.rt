@@ -3,7 +3,7 @@
 use query_values::Binary;
 
 /// An instruction that gives a value.
-#[derive(Clone, Copy, Debug, Drop, PartialEq, Eq)]
+#[derive(Clone, Copy, Drop, PartialEq, Eq)]
 pub enum Push {
     True,
     False,
@@ -24,7 +24,7 @@ pub enum Push {
 }
 
 /// An instruction that works on one value.
-#[derive(Clone, Copy, Debug, Drop, PartialEq, Eq)]
+#[derive(Clone, Copy, Drop, PartialEq, Eq)]
 pub enum Unary {
     /// To so many decimals.
     Align(u8),
@@ -54,7 +54,7 @@ pub enum Unary {
 }
 
 /// An instruction.
-#[derive(Clone, Copy, Debug, Drop, PartialEq, Eq)]
+#[derive(Clone, Copy, Drop, PartialEq, Eq)]
 pub enum Instruction {
     Push(Push),
     Unary(Unary),

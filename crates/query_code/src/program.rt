@@ -9,21 +9,21 @@ use limits::{Bounds, Version};
 use query_values::{Aggregate, Decimal};
 
 /// Whether the rows of a query are postings or groups.
-#[derive(Clone, Copy, Debug, Drop, PartialEq, Eq)]
+#[derive(Clone, Copy, Drop, PartialEq, Eq)]
 pub enum Mode {
     Plain,
     Grouped,
 }
 
 /// Counts of numbers that all have so many decimals.
-#[derive(Debug, Drop)]
+#[derive(Drop)]
 pub struct Numbers {
     pub places: u8,
     pub counts: List<i128>,
 }
 
 /// An entry of the pool.
-#[derive(Debug, Drop)]
+#[derive(Drop)]
 pub enum Constant<'a> {
     Text(Slice<'a>),
     Number(Decimal),
@@ -36,7 +36,7 @@ pub enum Constant<'a> {
 }
 
 /// What becomes of the rows that the code gives.
-#[derive(Debug, Drop)]
+#[derive(Drop)]
 pub struct Output<'a> {
     /// Only the first of equal rows.
     pub is_distinct: bool,
@@ -52,7 +52,7 @@ pub struct Output<'a> {
 }
 
 /// The sections of instructions, and what they refer to.
-#[derive(Debug, Drop)]
+#[derive(Drop)]
 pub struct Code<'a> {
     /// How many keys a group has.
     pub keys: u8,
@@ -67,7 +67,7 @@ pub struct Code<'a> {
 }
 
 /// The parts of a program.
-#[derive(Debug, Drop)]
+#[derive(Drop)]
 pub struct Parts<'a> {
     pub bounds: Bounds,
     pub mode: Mode,
@@ -77,7 +77,7 @@ pub struct Parts<'a> {
 
 /// A compiled query: parts that keep the limits of a query file. Its texts are slices of the query,
 /// or of the file, that it was made from.
-#[derive(Debug, Drop)]
+#[derive(Drop)]
 pub struct Program<'a> {
     pub parts: Parts<'a>,
     ghost has_file: { ∥ file.fits parts ∥₁ },

@@ -10,7 +10,7 @@ use std::marker::Model;
 
 /// Texts, each kept as its length in two bytes and its own bytes: those that a file has, which are
 /// lent, and those that were added behind them. Its value is the list of them.
-#[derive(Debug, Drop)]
+#[derive(Drop)]
 pub struct TextList<'a> {
     lent: &'a [u8],
     added: Vec<u8>,

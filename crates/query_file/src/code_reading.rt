@@ -278,7 +278,7 @@ pub fn order_at(
 
 /// The columns of an answer: the names of those that are shown, how many are hidden, and those to
 /// order by.
-#[derive(Debug, Drop)]
+#[derive(Drop)]
 struct Columns<'a> {
     targets: List<Slice<'a>>,
     hidden: u8,

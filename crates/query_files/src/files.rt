@@ -8,7 +8,7 @@ use refusals::Refusal;
 use std::alloc::Global;
 
 /// How deep the stack of a program becomes, and how many instructions its sections have.
-#[derive(Clone, Copy, Debug, Drop, PartialEq, Eq)]
+#[derive(Clone, Copy, Drop, PartialEq, Eq)]
 pub struct Outline {
     /// The most values that stand on its stack at once.
     pub depth: u16,

@@ -15,12 +15,9 @@ use Rattle.query_rows.specs.Row.{Row}
 use Rattle.query_rows.specs.Shaped.{IsShaped}
 use Rattle.query_code.specs.QueryFile.{file}
 use Rattle.query_code.specs.declared.program.Parts.{Parts}
-use Rattle.plain_machine.proofs.AlikeFacts.{stand_alike}
 use Rattle.plain_machine.proofs.AnswerFacts.{has_answer, within_budget}
-use Rattle.plain_machine.specs.Alike.{stand_as}
 use Rattle.plain_machine.specs.Answer as plain
 use Rattle.plain_machine.specs.Answer.{Answers, NeverFaults, groups}
-use Rattle.plain_machine.specs.Gathering.{aggregates_over}
 use Rattle.plain_machine.specs.WholeRun.{budget, is_going}
 use Rattle.well_shaped.proofs.SafetyFacts.{safely_where_it_fits}
 use Rattle.limits.specs.Version.{most_postings}
@@ -40,11 +37,6 @@ use Rattle.well_shaped.specs.Program.{IsDepth}
 -- ---- no more steps than the budget
 
 module _ (p : Parts) (rows : List Row) where
-  pub plain_never : (depth : ℕ) → IsSafe p (run_after p rows 0) depth → NeverFaults p rows
-  plain_never depth safe n fault =
-      safe.never_faults n
-      (sym (stand_alike p rows n) ∙ ap (stand_as (aggregates_over p.code.aggregates)) fault)
-
   -- a group of its own for each posting is the most
   pub budget_of_groups : (a : plain.Answer) → Answers p rows a
       → a.steps ≤ budget p (length rows) (length rows)
@@ -55,21 +47,21 @@ module _ (p : Parts) (rows : List Row) where
       let few = within.steps_few in
       omega (arith, few, less)
 
-  pub not_past : (a : plain.Answer) → Answers p rows a → (n : ℕ)
+  pub not_past : NeverFaults p rows → (a : plain.Answer) → Answers p rows a → (n : ℕ)
       → ((k : ℕ) → k < n → is_going (run_after p rows k) ≡ true) → n ≤ a.steps
-  not_past a is n going =
+  not_past never a is n going =
       elim (cases_lt a.steps n) [
         | inl past ↦ absurd (true≢false
-            (sym (going a.steps past) ∙ sym (goes_as_plain p rows a.steps) ∙ ap is_going is.done))
+            (sym (going a.steps past) ∙ sym (goes_as_plain p rows never a.steps) ∙ ap is_going is.done))
         | inr le ↦ le
       ]
 
-  pub few_steps : (depth : ℕ) → IsSafe p (run_after p rows 0) depth → (n : ℕ)
+  pub few_steps : NeverFaults p rows → (n : ℕ)
       → ((k : ℕ) → k < n → is_going (run_after p rows k) ≡ true)
       → n ≤ budget p (length rows) (length rows)
-  few_steps depth safe n going =
-      let a = has_answer p rows (plain_never depth safe) in
-      let le = not_past a.0 a.1 n going in
+  few_steps never n going =
+      let a = has_answer p rows never in
+      let le = not_past never a.0 a.1 n going in
       let few = budget_of_groups a.0 a.1 in
       omega (arith, le, few)
 
@@ -132,6 +124,7 @@ module _ (c : Checked) (rows : List Row) (fit : fits c.program.parts.bounds rows
       → IsUnderWay c.program.parts rows (record { run = run; steps = 0; dropped = 0 })
   starts_under_way run stands built room = record {
     safe = with_more_room c.program.parts rows depth run.frame.stack.room room starts_safely;
+    never = starts_without_fault;
     built = built;
     brief = brief c.program.parts c.depth rows c.program.has_file c.is_well_shaped fit;
     stands = subst (λ s. IsTrimmed c.program.parts 0 s (run_after c.program.parts rows 0)) (sym stands)

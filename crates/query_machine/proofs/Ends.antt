@@ -96,7 +96,7 @@ module _ (p : Parts) (rows : List Row) (s : Standing) (under : IsUnderWay p rows
 
   pub still_going : is_at_end s.run.stage ≡ false → is_going (stand_after p rows s.steps) ≡ true
   still_going inside =
-      goes_as_plain p rows s.steps
+      goes_as_plain p rows under.never s.steps
       ∙ sym (goes_alike p under.stands.rows (run_after p rows s.steps))
       ∙ ap is_going (sym under.stands.is)
       ∙ stands_going rows s.run inside (safe_here.never_faults 0)
@@ -105,7 +105,7 @@ module _ (p : Parts) (rows : List Row) (s : Standing) (under : IsUnderWay p rows
   pub rows_counted : s.dropped + length s.run.rows.items < 2 ^ 64
   rows_counted =
       let few = few_given p rows under.safe.never_faults s.steps in
-      let steps_few = few_steps p rows s.run.frame.stack.room under.safe s.steps under.going in
+      let steps_few = few_steps p rows under.never s.steps under.going in
       let brief = under.brief in
       let count = under.stands.count in
       let long = ap (λ l. length l) kept_is in
@@ -118,10 +118,10 @@ module _ (p : Parts) (rows : List Row) (s : Standing) (under : IsUnderWay p rows
   run_of answer ended headers comes_out made groups = record {
     plain = record { steps = s.steps; rows = given; final = answer.rows };
     answers = record {
-      done = ends_as_plain p rows s.steps given
+      done = ends_as_plain p rows under.never s.steps given
           (ended_alike p under.stands.rows s.run.rows.items (run_after p rows s.steps)
           (sym under.stands.is ∙ stands_ended rows s.run ended)).0;
-      going = λ k lt. goes_as_plain p rows k ∙ under.going k lt;
+      going = λ k lt. goes_as_plain p rows under.never k ∙ under.going k lt;
       comes_out = subst (λ l. ComesOut p.output l answer.rows) (append-nil given)
           (under.stands.enough.alike [] answer.rows
           (subst (λ l. ComesOut p.output l answer.rows)
@@ -144,6 +144,7 @@ module _ (p : Parts) (rows : List Row) (s : Standing) (under : IsUnderWay p rows
       (record { run = run_with p rows s.run few; steps = s.steps; dropped = dropped })
   drops few dropped enough same = record {
     safe = under.safe;
+    never = under.never;
     built = under.built;
     brief = under.brief;
     stands = trims_more p rows s.run few s.dropped dropped (run_after p rows s.steps)
@@ -186,7 +187,7 @@ module _ (p : Parts) (rows : List Row) (s : Standing) (under : IsUnderWay p rows
 
   pub counted : s.steps + made < 2 ^ 64
   counted =
-      let few = few_steps p rows s.run.frame.stack.room under.safe (s.steps + made) goes_further in
+      let few = few_steps p rows under.never (s.steps + made) goes_further in
       let brief = under.brief in
       omega (arith, few, brief)
 
@@ -196,6 +197,7 @@ module _ (p : Parts) (rows : List Row) (s : Standing) (under : IsUnderWay p rows
   still_under_way t run_is steps_is dropped_is finders room = record {
     safe = subst (IsSafe p (run_after p rows 0))
         (sym (ap (λ (r : runs.Run). r.frame.stack.room) run_is ∙ room)) under.safe;
+    never = under.never;
     built = ap (λ (r : runs.Run). r.finders) run_is ∙ finders ∙ under.built;
     brief = under.brief;
     stands = subst (λ d. IsTrimmed p d (stand_of rows t.run) (run_after p rows t.steps))

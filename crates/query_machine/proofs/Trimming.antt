@@ -17,7 +17,7 @@ use Rattle.plain_machine.specs.PlainMachine.{Kept, Stand, InFilter, InRow, InLas
 use Rattle.plain_machine.specs.PlainMachine.{begin_filter, begin_last, begin_row, end_last, end_row}
 use Rattle.plain_machine.specs.PlainMachine.{ended, filter_acts, go_on, go_on_last, grouped_with}
 use Rattle.plain_machine.specs.PlainMachine.{in_filter, in_last, in_row, judged, kept_with, last_acts}
-use Rattle.plain_machine.specs.PlainMachine.{nothing_kept, one_truth, row_acts, row_of, running_with}
+use Rattle.plain_machine.specs.PlainMachine.{nothing_kept, one_truth, row_acts, row_of}
 use Rattle.plain_machine.specs.PlainMachine.{step, steps, with_groups, with_row, with_running}
 use Rattle.plain_machine.specs.SectionRun.{Outcome, Standing, Stopped, one_step, start}
 use Rattle.plain_machine.specs.WholeRun.{is_going}
@@ -238,7 +238,7 @@ module _ (p : Parts) where
       (judged (keeps p) p r left k o)
   judged_alike r left k kept None among fine = absurd (fine refl)
   judged_alike r left k kept (Some true) among fine =
-      passes_alike r left k kept (running_with k.running r) among fine
+      passes_alike r left k kept ((keeps p).running_on k.running r) among fine
   judged_alike r left k kept (Some false) among fine =
       as_it_was kept k.rows (begin_filter p left (having kept k)) (begin_filter p left k)
       (filter_stays left k kept among fine)

@@ -9,7 +9,7 @@ use crate::progress::{Progress, Standing};
 use crate::turn::Turn;
 use posting_table::Ledger;
 use query_answer::Answer;
-use query_runs::{Inputs, start};
+use query_runs::{Inputs, reads_running, start};
 use refusals::Refusal;
 use std::alloc::Global;
 use std::marker::Model;
@@ -64,7 +64,11 @@ impl<'r, 'a> Run<'r, 'a> {
         if !ledger.fits(&parts.bounds) {
             return Err(Refusal::Refused(RunCause::OutsideBounds));
         }
-        let input = Inputs { parts, ledger };
+        let input = Inputs {
+            parts,
+            ledger,
+            reads_running: reads_running(parts),
+        };
         let depth = program.depth() as usize;
         let run = start(alloc, &input, program.patterns.as_slice(), depth)?;
         Ok(Run {

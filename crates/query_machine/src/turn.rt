@@ -1,7 +1,7 @@
 //! What turns tell.
 
 /// Where a turn left its run.
-#[derive(Clone, Copy, Debug, Drop, PartialEq, Eq)]
+#[derive(Clone, Copy, Drop, PartialEq, Eq)]
 pub enum Turn {
     /// Before an instruction.
     Going,

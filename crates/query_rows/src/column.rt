@@ -5,7 +5,7 @@ ghost use Rattle.query_rows.specs.Column as columns;
 use limits::Version;
 
 /// A column of the postings.
-#[derive(Clone, Copy, Debug, Drop, PartialEq, Eq)]
+#[derive(Clone, Copy, Drop, PartialEq, Eq)]
 pub enum Column {
     Date,
     Year,

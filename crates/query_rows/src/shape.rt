@@ -6,7 +6,7 @@ use limits::{COUNT_BOUND, LARGEST_TEXT, MOST_PLACES};
 
 /// What is known of a value: its kind, its decimals, and the most that its counts may be, signs
 /// left off. Null is of every shape.
-#[derive(Clone, Copy, Debug, Drop, PartialEq, Eq)]
+#[derive(Clone, Copy, Drop, PartialEq, Eq)]
 pub enum Shape {
     Truth,
     /// A text of at most [`LARGEST_TEXT`] bytes.
@@ -36,7 +36,7 @@ pub enum Shape {
 }
 
 /// Why an operation gives no shape.
-#[derive(Clone, Copy, Debug, Drop, PartialEq, Eq)]
+#[derive(Clone, Copy, Drop, PartialEq, Eq)]
 pub enum Misfit {
     /// An operand is of another kind, or of other decimals, than the operation takes.
     Kind,

@@ -3,14 +3,12 @@ use Rattle.std.proofs.Common.{◌≡◌, ◌≢◌, ℕ, ◌+◌, ◌<◌, ◌�
 use Rattle.std.proofs.Common.{take, drop, reverse, Bool, true, false, cond, Option, Some, None, refl}
 use Rattle.std.proofs.Common.{sym, ap, subst, ◌∙◌, arith}
 use Rattle.std.proofs.lemmas.Bool.{eq-eqb, eqb-true}
-use Rattle.std.proofs.lemmas.List.{reverse-append, length-reverse, length-drop, take-append-drop}
-use Rattle.std.proofs.lemmas.List.{take_at, drop_at, take_all}
 use Rattle.std.specs.Prelude.{slice_get, option_map, option_and_then, ◌==◌}
 use Rattle.plain_machine.specs.Gathering.{Group, inputs_of, put}
 use Rattle.plain_machine.specs.PlainMachine.{Kept, InRow, Fault}
 use Rattle.plain_machine.specs.PlainMachine.{begin_filter, begin_last, begin_row, end_filter, end_row}
 use Rattle.plain_machine.specs.PlainMachine.{go_on, go_on_last, grouped_with}
-use Rattle.plain_machine.specs.PlainMachine.{kept_with, row_of, running_with, width_of}
+use Rattle.plain_machine.specs.PlainMachine.{kept_with, row_of, width_of}
 use Rattle.plain_machine.specs.PlainMachine.{with_groups, with_row, with_running}
 use Rattle.plain_machine.specs.SectionRun.{start}
 use Rattle.query_code.specs.declared.program.Output.{Output}
@@ -113,7 +111,7 @@ module _ (p : Parts) (r : Row) (rest : List Row) (k : Kept Gathered) where
   passes : (stack left : List Value) (x : Value) → stack ≡ x ∷ left → is_true x ≡ true
       → end_filter (keeps p) p r rest k stack ≢ Fault
       → end_filter (keeps p) p r rest k stack
-      ≡ begin_row (keeps p) p r rest (option_map (with_running k) (running_with k.running r))
+      ≡ begin_row (keeps p) p r rest (option_map (with_running k) ((keeps p).running_on k.running r))
   passes [] left x is truth fine = absurd (fine refl)
   passes (Null ∷ []) left x is truth fine =
       let e : Null ≡ x = cc in absurd (false_is_true (ap is_true e ∙ truth))
@@ -156,26 +154,26 @@ module _ (p : Parts) (rows : List Row) (j : ℕ) (k : Kept Gathered) (stack : Li
   begun : (left : List Value) (x : Value) → stack ≡ x ∷ left → is_true x ≡ true
       → filter_ends p (drop j rows) k stack
       ≡ begin_row (keeps p) p f.head (drop (j + 1) rows)
-      (option_map (with_running k) (running_with k.running f.head))
+      (option_map (with_running k) ((keeps p).running_on k.running f.head))
   begun left x is truth =
       ap (λ l. filter_ends p l k stack) f.is
       ∙ passes p f.head (drop (j + 1) rows) k stack left x is truth fine_here
 
   pub running_there : (left : List Value) (x : Value) → stack ≡ x ∷ left → is_true x ≡ true
-      → option_and_then (running_with k.running) (slice_get rows j) ≢ None
+      → option_and_then ((keeps p).running_on k.running) (slice_get rows j) ≢ None
   running_there left x is truth none =
       fine (begun left x is truth
       ∙ ap (λ o. begin_row (keeps p) p f.head (drop (j + 1) rows) (option_map (with_running k) o))
-      (ap (option_and_then (running_with k.running)) (sym f.at) ∙ none))
+      (ap (option_and_then ((keeps p).running_on k.running)) (sym f.at) ∙ none))
 
   pub filter_takes : (left : List Value) (x : Value) (total : Value) → stack ≡ x ∷ left
       → is_true x ≡ true
-      → option_and_then (running_with k.running) (slice_get rows j) ≡ Some total
+      → option_and_then ((keeps p).running_on k.running) (slice_get rows j) ≡ Some total
       → filter_ends p (drop j rows) k stack ≡ row_begins p (drop j rows) (with_running k total)
   filter_takes left x total is truth taken =
       begun left x is truth
       ∙ ap (λ o. begin_row (keeps p) p f.head (drop (j + 1) rows) (option_map (with_running k) o))
-      (ap (option_and_then (running_with k.running)) (sym f.at) ∙ taken)
+      (ap (option_and_then ((keeps p).running_on k.running)) (sym f.at) ∙ taken)
       ∙ ap (λ l. row_begins p l (with_running k total)) (sym f.is)
 
   pub filter_next : (left : List Value) (x : Value) (n : ℕ) (g : Kept Gathered)
@@ -188,7 +186,7 @@ module _ (p : Parts) (rows : List Row) (j : ℕ) (k : Kept Gathered) (stack : Li
 
   pub filter_on : (left : List Value) (x total : Value) (n : ℕ) (g : Kept Gathered)
       → stack ≡ x ∷ left → is_true x ≡ true
-      → option_and_then (running_with k.running) (slice_get rows j) ≡ Some total
+      → option_and_then ((keeps p).running_on k.running) (slice_get rows j) ≡ Some total
       → n ≡ j → g ≡ with_running k total
       → filter_ends p (drop j rows) k stack ≡ row_begins p (drop n rows) g
   filter_on left x total n g is truth taken at same =

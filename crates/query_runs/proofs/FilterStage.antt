@@ -99,12 +99,13 @@ posting_acts p pool r = value_acts pool (record {
 
 module _ (p : Parts) (rows : List Row) (run : Run) (before room : ℕ)
     (f : InFilterAt p rows run before) (code : List Instruction) (pool : List Constant)
-    (code_is : code ≡ p.code.filter) (pool_is : pool ≡ p.code.pool) (safe : IsSafe p (stand_of rows run) room) where
+    (code_is : code ≡ p.code.filter) (pool_is : pool ≡ p.code.pool) (posting : Option Row)
+    (posting_is : posting ≡ slice_get rows run.row) (safe : IsSafe p (stand_of rows run) room) where
   abbrev m : Acts Value
-  m = posting_acts p pool (slice_get rows run.row)
+  m = posting_acts p pool posting
 
   acts : m ≡ filter_acts p f.head
-  acts = ap (posting_acts p pool) f.at ∙ ap (λ l. posting_acts p l (Some f.head)) pool_is
+  acts = ap (posting_acts p pool) (posting_is ∙ f.at) ∙ ap (λ l. posting_acts p l (Some f.head)) pool_is
 
   in_section : IsSection p code m
       (in_filter (keeps p) p f.head (drop (run.row + 1) rows) (kept_in run))

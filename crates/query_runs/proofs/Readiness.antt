@@ -10,7 +10,7 @@ use Rattle.plain_machine.specs.PlainMachine.{Kept, Stand, InFilter, InRow, InLas
 use Rattle.plain_machine.specs.PlainMachine.{begin_filter, begin_last, begin_row, end_filter, end_last}
 use Rattle.plain_machine.specs.PlainMachine.{end_row, filter_acts, go_on, go_on_last, in_filter, in_last}
 use Rattle.plain_machine.specs.PlainMachine.{in_row, judged, kept_with, last_acts, nothing_kept}
-use Rattle.plain_machine.specs.PlainMachine.{one_truth, row_acts, row_of, running_with, step, steps, with_running}
+use Rattle.plain_machine.specs.PlainMachine.{one_truth, row_acts, row_of, step, steps, with_running}
 use Rattle.plain_machine.specs.SectionRun.{Acts, Outcome, Standing, State, Stopped, effect, leads_on}
 use Rattle.plain_machine.specs.SectionRun.{moved, next_place, one_step, start, stepped}
 use Rattle.query_code.specs.declared.instruction.Instruction.{Instruction}
@@ -98,7 +98,7 @@ module _ (p : Parts) where
       → is_ready p (judged (keeps p) p r rest k t)
   judged_ready r rest k None = tt
   judged_ready r rest k (Some true) =
-      row_ready r rest (option_map (with_running k) (running_with k.running r))
+      row_ready r rest (option_map (with_running k) ((keeps p).running_on k.running r))
   judged_ready r rest k (Some false) = filter_ready rest k
 
   end_last_ready : (rest : List (Group Gathered)) (rows : List (List Value)) (row : Option (List Value))

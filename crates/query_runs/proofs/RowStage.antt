@@ -100,13 +100,14 @@ passing_acts p pool balance r = value_acts pool (record {
 module _ (p : Parts) (rows : List Row) (run : Run) (before room : ℕ)
     (f : InRowAt p rows run before) (code : List Instruction) (pool : List Constant)
     (code_is : code ≡ p.code.row) (pool_is : pool ≡ p.code.pool) (balance : Option Value)
-    (balance_is : balance ≡ balance_in p.mode run.running) (safe : IsSafe p (stand_of rows run) room) where
+    (balance_is : balance ≡ balance_in p.mode run.running) (posting : Option Row)
+    (posting_is : posting ≡ slice_get rows run.row) (safe : IsSafe p (stand_of rows run) room) where
   abbrev m : Acts Value
-  m = passing_acts p pool balance (slice_get rows run.row)
+  m = passing_acts p pool balance posting
 
   acts : m ≡ row_acts p run.running f.head
   acts =
-      ap (passing_acts p pool balance) f.at
+      ap (passing_acts p pool balance) (posting_is ∙ f.at)
       ∙ ap (λ l. passing_acts p l balance (Some f.head)) pool_is
       ∙ ap (λ b. passing_acts p p.code.pool b (Some f.head)) balance_is
 

@@ -1,12 +1,16 @@
--- A run that keeps what is gathered so far is as safe as the plain machine, which keeps all inputs.
+-- A run that keeps what is gathered so far, and the running inventory where it is read, is as safe as
+-- the plain machine, which keeps all inputs.
 use Rattle.std.proofs.Common.{◌≡◌, ◌≢◌, ℕ, ◌≤◌, List, [], length, refl, sym, ap, subst, ◌∙◌, arith}
-use Rattle.plain_machine.proofs.AlikeFacts.{stand_alike}
+use Rattle.plain_machine.proofs.ReadingFacts.{readers_alike, row_steps_alike}
 use Rattle.plain_machine.specs.Alike.{stand_as}
+use Rattle.plain_machine.specs.Answer.{NeverFaults}
 use Rattle.plain_machine.specs.Depth.{outcome_of, values_in}
 use Rattle.plain_machine.specs.Gathering.{Group, aggregates_over, all_inputs}
 use Rattle.plain_machine.specs.PlainMachine.{Stand, InFilter, InRow, InLast, Done, Fault, begin_filter}
 use Rattle.plain_machine.specs.PlainMachine.{stand_after}
+use Rattle.plain_machine.specs.Reading.{reads_running, stand_read}
 use Rattle.plain_machine.specs.Safety.{RunsSafely}
+use Rattle.plain_machine.specs.SectionRun.{Standing}
 use Rattle.plain_machine.specs.WholeRun.{is_going}
 use Rattle.query_code.specs.declared.program.Parts.{Parts}
 use Rattle.query_rows.specs.Row.{Row}
@@ -22,7 +26,7 @@ module _ (p : Parts) where
   Inputs = List (List Value)
 
   abbrev as_gathered : Stand Inputs → Stand Gathered
-  as_gathered = stand_as (aggregates_over p.code.aggregates)
+  as_gathered s = stand_read (reads_running p) (stand_as (aggregates_over p.code.aggregates) s)
 
   fault_alike : (s : Stand Inputs) → as_gathered s ≡ Fault → s ≡ Fault
   fault_alike (InFilter r rest k q s) e = absurd cc
@@ -49,7 +53,8 @@ module _ (p : Parts) where
   outcome_alike : (s : Stand Inputs) → outcome_of (all_inputs p.code.aggregates) p s
       ≡ outcome_of (keeps p) p (as_gathered s)
   outcome_alike (InFilter r rest k q s) = refl
-  outcome_alike (InRow r rest k q s) = refl
+  outcome_alike (InRow r rest k q s) =
+      row_steps_alike p (reads_running p) refl k.running r (Standing q s)
   outcome_alike (InLast g rest rows q s) = refl
   outcome_alike (Done rows) = refl
   outcome_alike Fault = refl
@@ -59,10 +64,11 @@ module _ (p : Parts) where
     is_safe depth safe = record {
       ready = begins_ready p rows;
       never_faults = λ n fault. safe.never_faults n
-          (fault_alike (stand_after p rows n) (stand_alike p rows n ∙ fault));
+          (fault_alike (stand_after p rows n) (readers_alike p rows safe.never_faults n ∙ fault));
       stays_within = λ n.
           subst (λ o. length (values_in o) ≤ depth)
-          (outcome_alike (stand_after p rows n) ∙ ap (outcome_of (keeps p) p) (stand_alike p rows n))
+          (outcome_alike (stand_after p rows n)
+          ∙ ap (outcome_of (keeps p) p) (readers_alike p rows safe.never_faults n))
           (safe.stays_within n);
     }
 
@@ -74,12 +80,15 @@ module _ (p : Parts) where
       stays_within = λ n. let few = safe.stays_within n in omega (arith, few, more);
     }
 
-    pub goes_as_plain : (n : ℕ) → is_going (stand_after p rows n) ≡ is_going (run_after p rows n)
-    goes_as_plain n = goes_alike (stand_after p rows n) ∙ ap is_going (stand_alike p rows n)
+    pub goes_as_plain : NeverFaults p rows → (n : ℕ)
+        → is_going (stand_after p rows n) ≡ is_going (run_after p rows n)
+    goes_as_plain never n =
+        goes_alike (stand_after p rows n) ∙ ap is_going (readers_alike p rows never n)
 
-    pub ends_as_plain : (n : ℕ) (out : List (List Value)) → run_after p rows n ≡ Done out
-        → stand_after p rows n ≡ Done out
-    ends_as_plain n out e = ended_alike (stand_after p rows n) out (stand_alike p rows n ∙ e)
+    pub ends_as_plain : NeverFaults p rows → (n : ℕ) (out : List (List Value))
+        → run_after p rows n ≡ Done out → stand_after p rows n ≡ Done out
+    ends_as_plain never n out e =
+        ended_alike (stand_after p rows n) out (readers_alike p rows never n ∙ e)
 
     pub begins_safely : (depth : ℕ) → IsSafe p (run_after p rows 0) depth → (running : Value)
         (groups : List (Group Gathered)) (out : List (List Value))

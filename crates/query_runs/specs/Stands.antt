@@ -1,9 +1,10 @@
 -- Where the plain machine stands when a run stands so.
 use Rattle.std.specs.Prelude.{◌≡◌, ℕ, List, [], ◌∷◌, drop, map}
-use Rattle.plain_machine.specs.Gathering.{Group, Keeping, running_values}
+use Rattle.plain_machine.specs.Gathering.{Group, Keeping}
 use Rattle.plain_machine.specs.PlainMachine.{Kept, Stand, InFilter, InRow, InLast, Done, Fault}
 use Rattle.plain_machine.specs.PlainMachine.{after}
 use Rattle.plain_machine.specs.Pool.{pattern_in}
+use Rattle.plain_machine.specs.Reading.{reads_running, values_read}
 use Rattle.posting_table.specs.Rows.{rows_of}
 use Rattle.query_code.specs.declared.program.Parts.{Parts}
 use Rattle.query_rows.specs.Row.{Row}
@@ -14,12 +15,12 @@ use Rattle.query_runs.specs.declared.run.Stage.TheVariants as stage
 use Rattle.query_sections.specs.Standing.{state_in}
 use Rattle.query_values.specs.declared.value.Value.{Value}
 
--- groups keep what is gathered so far
+-- groups keep what is gathered so far, and the running inventory is kept where the program reads it
 abbrev pub Gathered : Type 0
 Gathered = List Value
 
 abbrev pub keeps : Parts → Keeping Gathered
-keeps p = running_values p.code.aggregates
+keeps p = values_read (reads_running p) p.code.aggregates
 
 abbrev pub rows_in : Inputs → List Row
 rows_in i = rows_of i.ledger.now

@@ -2,7 +2,8 @@
 ghost use Rattle.std.specs.Prelude.{◌≡◌, ◌≢◌, ◌<◌, ◌+◌, [], Some, None, OnOk, drop, length, reverse};
 ghost use Rattle.std.specs.Prelude.{option_and_then, slice_get};
 ghost use Rattle.plain_machine.specs.PlainMachine.{Fault, begin_filter, begin_last, grouped_with};
-ghost use Rattle.plain_machine.specs.PlainMachine.{kept_with, running_with, with_row};
+ghost use Rattle.plain_machine.specs.Gathering.{running_with};
+ghost use Rattle.plain_machine.specs.PlainMachine.{kept_with, with_row};
 ghost use Rattle.query_runs.specs.Ends.{filter_ends, last_ends, row_begins, row_ends};
 ghost use Rattle.query_runs.specs.Stands.{keeps, kept_in, rows_in, stand_of};
 
@@ -144,7 +145,7 @@ fn begin_row(alloc: Global, input: &Inputs<'_, '_>, run: &mut Run<'_>) -> Result
 }
 
 /// The running inventory takes the position of the posting.
-fn take_position<'r>(input: &Inputs<'r, '_>, run: &mut Run<'r>) -> Result<(), AllocError>
+fn add_position<'r>(input: &Inputs<'r, '_>, run: &mut Run<'r>) -> Result<(), AllocError>
     requires there { run.old.row < length (rows_in input.now) }
     requires fine { option_and_then (running_with run.old.running)
         (slice_get (rows_in input.now) run.old.row) ≢ None }
@@ -161,6 +162,29 @@ fn take_position<'r>(input: &Inputs<'r, '_>, run: &mut Run<'r>) -> Result<(), Al
 {
     let position = input.ledger.cell(run.row, Column::Position);
     Aggregate::SumInventory(8).add(&mut run.running, &position)
+}
+
+/// The running inventory takes the position of the posting, where the program reads it.
+fn take_position<'r>(input: &Inputs<'r, '_>, run: &mut Run<'r>) -> Result<(), AllocError>
+    requires there { run.old.row < length (rows_in input.now) }
+    requires fine { option_and_then ((keeps input.now.parts.now).running_on run.old.running)
+        (slice_get (rows_in input.now) run.old.row) ≢ None }
+    ensures taken { OnOk result
+        (option_and_then ((keeps input.now.parts.now).running_on run.old.running)
+        (slice_get (rows_in input.now) run.old.row) ≡ Some run.new.running) }
+    ensures kept { kept_in run.new ≡ record {
+      running = run.new.running;
+      groups = run.old.groups;
+      rows = run.old.rows.items;
+    } }
+    ensures row { run.new.row ≡ run.old.row }
+    ensures finders { run.new.finders ≡ run.old.finders }
+    ensures room { run.new.frame.stack.room ≡ run.old.frame.stack.room }
+{
+    if input.reads_running {
+        add_position(input, run)?;
+    }
+    Ok(())
 }
 
 /// Goes on behind the end of the filter.

@@ -11,7 +11,7 @@ use crate::ends::{end_filter, end_last, end_row};
 use crate::run::{Inputs, Run, Stage};
 use query_code::Mode;
 use query_sections as sections;
-use query_sections::{Loads, Posting, Section};
+use query_sections::{Loads, Section};
 use query_values::Value;
 use std::alloc::{AllocError, Global};
 
@@ -50,10 +50,7 @@ pub fn filter_on<'r>(
     };
     let loads = Loads {
         schema: input.parts.bounds.schema,
-        posting: Some(Posting {
-            ledger: input.ledger,
-            row: run.row,
-        }),
+        posting: Some(input.ledger.row(run.row)),
         running: None,
         keys: &[],
         aggregates: &[],
@@ -97,10 +94,7 @@ pub fn row_on<'r>(
     };
     let loads = Loads {
         schema: input.parts.bounds.schema,
-        posting: Some(Posting {
-            ledger: input.ledger,
-            row: run.row,
-        }),
+        posting: Some(input.ledger.row(run.row)),
         running: readable(input.parts.mode, &run.running),
         keys: &[],
         aggregates: &[],

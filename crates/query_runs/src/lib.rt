@@ -2,7 +2,8 @@
 //! what comes between its sections.
 //!
 //! ```text
-//! let input = Inputs { parts: &program.parts, ledger: &ledger };
+//! let parts = &program.parts;
+//! let input = Inputs { parts, ledger: &ledger, reads_running: reads_running(parts) };
 //! let mut run = start(alloc, &input, patterns, depth)?;   // before the first instruction
 //! let made = go_on(alloc, &input, &mut run, 1000)?;       // so many instructions, at most
 //! if is_done(&run) { .. }                                 // run.into_rows() are its rows
@@ -14,7 +15,7 @@
 //! section, at most to its end and what follows there.
 //!
 //! What comes between two sections isn't counted as a step: the running inventory takes the
-//! posting's position, a row of the answer is kept, or its group gathers what the posting brings.
+//! posting's position where the program reads it, a row of the answer is kept, or its group gathers what the posting brings.
 //! Each function here leaves the run where the plain machine then stands.
 //!
 //! # What is asked of the program
@@ -35,10 +36,12 @@
 
 mod ends;
 mod going;
+mod reading;
 mod run;
 mod starting;
 
 pub use ends::{end_filter, end_last, end_row, start_row};
 pub use going::{filter_on, go_on, is_done, last_on, row_on};
+pub use reading::reads_running;
 pub use run::{Inputs, Run, Stage};
 pub use starting::start;

@@ -1,5 +1,6 @@
 //! What a run reads, and where it stands.
 ghost use Rattle.std.specs.Prelude.{◌≡◌};
+ghost use Rattle.plain_machine.specs.Reading as spec;
 
 use bean_base::List;
 use posting_table::Ledger;
@@ -13,10 +14,13 @@ use query_values::Value;
 pub struct Inputs<'r, 'a> {
     pub parts: &'r Parts<'r>,
     pub ledger: &'r Ledger<'a>,
+    /// Whether the program reads the running inventory, which else isn't kept.
+    pub reads_running: bool,
+    ghost reads: { reads_running ≡ spec.reads_running parts.now },
 }
 
 /// The section that a run is in.
-#[derive(Clone, Copy, Debug, Drop, PartialEq, Eq)]
+#[derive(Clone, Copy, Drop, PartialEq, Eq)]
 pub enum Stage {
     /// At a posting, of which it is told whether it passes.
     Filter,
@@ -37,7 +41,8 @@ pub struct Run<'r> {
     pub group: usize,
     pub frame: Frame<'r>,
     pub finders: Finders<'r>,
-    /// The sum of the positions of all postings that passed.
+    /// The sum of the positions of all postings that passed; nothing where the program doesn't read
+    /// it.
     pub running: Value<'r>,
     pub groups: Groups<'r>,
     /// The rows that came out, in their order.

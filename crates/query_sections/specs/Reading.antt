@@ -1,25 +1,20 @@
 -- What the instructions of a section read.
-use Rattle.std.specs.Prelude.{◌≡◌, true, option_map, List, Option, Some, None, slice_get, option_and_then}
+use Rattle.std.specs.Prelude.{◌≡◌, true, option_map, List, Some}
 use Rattle.std.specs.List.{list_all}
 use Rattle.std.specs.Option.{option_copied}
 use Rattle.plain_machine.specs.Loading.{Loads, value_acts}
 use Rattle.plain_machine.specs.Pool.{members_in}
 use Rattle.plain_machine.specs.SectionRun.{Acts}
-use Rattle.posting_table.specs.Rows.{rows_of}
+use Rattle.posting_table.specs.Rows.{row_of}
 use Rattle.query_code.specs.declared.program.Constant.{Constant}
-use Rattle.query_rows.specs.Row.{Row}
 use Rattle.query_sections.specs.declared.loads.Loads as loads
-use Rattle.query_sections.specs.declared.loads.Posting.{Posting}
 use Rattle.query_values.specs.Operand.{are_alike}
 use Rattle.query_values.specs.declared.value.Value.{Value}
-
-abbrev pub row_of : Posting → Option Row
-row_of p = slice_get (rows_of p.ledger.now) p.row
 
 abbrev pub loads_of : loads.Loads → Loads
 loads_of l = record {
   schema = l.schema;
-  row = option_and_then row_of l.posting;
+  row = option_map row_of (option_copied l.posting);
   balance = option_copied l.running;
   keys = l.keys.now;
   aggregates = l.aggregates.now;

@@ -1,5 +1,5 @@
 -- Slots, as their callers see them.
-use Rattle.std.specs.Prelude.{ℕ, ◌≡◌, false, List, length, replicate, Option, None, Bool}
+use Rattle.std.specs.Prelude.{List, replicate, Option, None}
 use Rattle.limits.specs.declared.counts.TheConstants.{SLOTS}
 use Rattle.query_values.specs.declared.value.Value.{Value}
 

@@ -8,6 +8,7 @@ use query_values::membership::in_set;
 use query_values::{Binary, Value};
 
 /// What an operation gives, where it may be applied and the result can be held.
+#[inline(always)]
 pub fn apply_binary<'r>(op: Binary, x: &Value<'_>, y: &Value<'_>) -> Value<'r>
     requires { binary_of op x.now y.now ≢ None }
     ensures { binary_of op x.now y.now ≡ Some result }

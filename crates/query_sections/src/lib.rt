@@ -3,7 +3,7 @@
 //! ```text
 //! let mut finders = Finders::new(alloc, &patterns)?;      // one for each pattern of the pool
 //! let mut frame = Frame::new(alloc, depth)?;              // room for the whole stack, once
-//! let loads = Loads { schema, posting: Some(Posting { ledger, row }), .. };
+//! let loads = Loads { schema, posting: Some(ledger.row(number)), .. };
 //! let made = go_on(alloc, &section, &loads, &mut finders, &mut frame, 1000)?;
 //! if frame.place == section.instructions.len() { .. }     // frame.stack has what the section left
 //! ```
@@ -42,7 +42,7 @@ mod unary;
 
 pub use finders::Finders;
 pub use frame::Frame;
-pub use loads::{Loads, Posting};
+pub use loads::Loads;
 pub use running::{Section, go_on};
 pub use slots::Slots;
 pub use stack::Stack;

@@ -1,20 +1,26 @@
 //! What instructions load.
-ghost use Rattle.std.specs.Prelude.{◌≡◌, ◌≢◌, Some, None, IfOk, option_map, slice_get};
+ghost use Rattle.std.specs.Prelude.{◌≡◌, ◌≢◌, Some, None, IfOk, OnOk, option_map, slice_get};
 ghost use Rattle.std.specs.Option.{option_copied};
 ghost use Rattle.plain_machine.specs.Loading.{cell_in, column_at, loaded, push_of};
 ghost use Rattle.plain_machine.specs.Pool.{key_in, value_in};
+ghost use Rattle.plain_machine.specs.SectionRun.{with_top};
+ghost use Rattle.query_code.specs.declared.instruction.Push.TheVariants.{LoadColumn};
 ghost use Rattle.query_rows.specs.Row as rows;
-ghost use Rattle.query_rows.specs.Row.{any_text, posting_text, text_or_null, transaction_text};
-ghost use Rattle.query_sections.specs.Reading.{loads_of, row_of};
+ghost use Rattle.posting_table.specs.Rows.{row_of};
+ghost use Rattle.query_sections.specs.Reading.{loads_of};
+ghost use Rattle.query_sections.specs.Room.{HasRoom};
 
-use crate::loads::{Loads, Posting};
+use crate::loads::Loads;
+use crate::stack::Stack;
 use bean_base::Slice;
+use posting_table::HeldRow;
 use query_code::{Constant, Push};
 use query_rows::Column;
 use query_values::Value;
 use std::alloc::AllocError;
 
 /// The value that an entry of the pool is.
+#[inline(always)]
 fn constant<'r>(entry: &Constant<'r>) -> Value<'r>
     requires { value_in entry.now ≢ None }
     ensures { value_in entry.now ≡ Some result }
@@ -51,37 +57,36 @@ fn text_or_null<'r>(text: Option<&'r str>) -> Value<'r>
     }
 }
 
-impl<'r> Posting<'r, '_> {
-    /// A text of the posting's metadata.
-    fn posting_text(&self, key: &str) -> Value<'r>
-        ensures { option_map (posting_text key.now) (row_of self.now) ≡ Some result }
-    {
-        text_or_null(self.ledger.meta(self.row, key))
-    }
+/// A text of a posting's metadata.
+fn posting_text<'r>(posting: &'r HeldRow<'_>, key: &str) -> Value<'r>
+    ensures { result ≡ rows.posting_text key.now (row_of posting.now) }
+{
+    text_or_null(posting.meta(key))
+}
 
-    /// A text of its transaction's metadata.
-    fn transaction_text(&self, key: &str) -> Value<'r>
-        ensures { option_map (transaction_text key.now) (row_of self.now) ≡ Some result }
-    {
-        text_or_null(self.ledger.entry_meta(self.row, key))
-    }
+/// A text of the metadata of a posting's transaction.
+fn transaction_text<'r>(posting: &'r HeldRow<'_>, key: &str) -> Value<'r>
+    ensures { result ≡ rows.transaction_text key.now (row_of posting.now) }
+{
+    text_or_null(posting.entry_meta(key))
+}
 
-    /// A text of the posting's metadata, else of its transaction's.
-    fn any_text(&self, key: &str) -> Value<'r>
-        ensures { option_map (any_text key.now) (row_of self.now) ≡ Some result }
-    {
-        match self.posting_text(key) {
-            Value::Null => self.transaction_text(key),
-            text => text,
-        }
+/// A text of a posting's metadata, else of its transaction's.
+fn any_text<'r>(posting: &'r HeldRow<'_>, key: &str) -> Value<'r>
+    ensures { result ≡ rows.any_text key.now (row_of posting.now) }
+{
+    match posting_text(posting, key) {
+        Value::Null => transaction_text(posting, key),
+        text => text,
     }
 }
 
 impl<'r, 'a> Loads<'_, 'r, 'a> {
     /// The posting, which is there.
-    fn posting(&self) -> Posting<'r, 'a>
+    #[inline(always)]
+    fn posting(&self) -> &'r HeldRow<'a>
         requires { (loads_of self.now).row ≢ None }
-        ensures { row_of result ≡ (loads_of self.now).row }
+        ensures { (loads_of self.now).row ≡ Some (row_of result.now) }
     {
         let Some(posting) = self.posting else {
             unreachable!();
@@ -89,26 +94,16 @@ impl<'r, 'a> Loads<'_, 'r, 'a> {
         posting
     }
 
-    /// What stands in a column, by its number.
-    fn column(&self, number: u8) -> Result<Value<'r>, AllocError>
+    /// The column of a number, which is there.
+    #[inline(always)]
+    fn numbered(&self, number: u8) -> Column
         requires { column_at (loads_of self.now) number ≢ None }
-        ensures { IfOk result (λ x. column_at (loads_of self.now) number ≡ Some x) }
+        ensures { column_at (loads_of self.now) number ≡ cell_in (loads_of self.now) result }
     {
         let Some(column) = Column::numbered(number) else {
             unreachable!();
         };
-        self.cell(column)
-    }
-
-    /// What stands in a column; in that of the balance the running inventory.
-    fn cell(&self, column: Column) -> Result<Value<'r>, AllocError>
-        requires { cell_in (loads_of self.now) column ≢ None }
-        ensures { IfOk result (λ x. cell_in (loads_of self.now) column ≡ Some x) }
-    {
-        match column {
-            Column::Balance => self.balance(),
-            column => Ok(self.cell_of_row(column)),
-        }
+        column
     }
 
     fn balance(&self) -> Result<Value<'r>, AllocError>
@@ -121,13 +116,13 @@ impl<'r, 'a> Loads<'_, 'r, 'a> {
         running.clone()
     }
 
+    #[inline(always)]
     fn cell_of_row(&self, column: Column) -> Value<'r>
         requires balance { column ≢ Column.Balance }
-        requires there { (loads_of self.now).row ≢ None }
-        ensures { option_map (λ r. r.cell column) (loads_of self.now).row ≡ Some result }
+        requires there { cell_in (loads_of self.now) column ≢ None }
+        ensures { cell_in (loads_of self.now) column ≡ Some result }
     {
-        let posting = self.posting();
-        posting.ledger.cell(posting.row, column)
+        self.posting().cell(column)
     }
 }
 
@@ -139,36 +134,109 @@ fn value_at<'r>(values: &[Value<'r>], place: u8) -> Result<Value<'r>, AllocError
     values[place as usize].clone()
 }
 
-/// What an instruction loads.
-fn load<'r>(
+/// Puts what an instruction loads on the stack. Each does so by itself: a value that takes no memory
+/// goes through no `Result`.
+#[inline(always)]
+fn put<'r>(
     pool: &[Constant<'r>],
     loads: &Loads<'_, 'r, '_>,
     op: Push,
-) -> Result<Value<'r>, AllocError>
-    requires { loaded pool.now (loads_of loads.now) op ≢ None }
-    ensures { IfOk result (λ x. loaded pool.now (loads_of loads.now) op ≡ Some x) }
+    value: Value<'r>,
+    stack: &mut Stack<'r>,
+)
+    requires room { HasRoom stack.old.room
+        (with_top (push_of pool.now (loads_of loads.now) op) stack.old.values) }
+    requires is { loaded pool.now (loads_of loads.now) op ≡ Some value }
+    ensures values { with_top (push_of pool.now (loads_of loads.now) op) stack.old.values
+        ≡ Some stack.new.values }
+    ensures room { stack.new.room ≡ stack.old.room }
 {
-    match op {
-        Push::True => Ok(Value::Truth(true)),
-        Push::False => Ok(Value::Truth(false)),
-        Push::Const(place) => Ok(constant(&pool[place as usize])),
-        Push::LoadColumn(number) => loads.column(number),
-        Push::LoadKey(place) => value_at(loads.keys, place),
-        Push::LoadAggregate(place) => value_at(loads.aggregates, place),
-        Push::Meta(place) => Ok(loads.posting().posting_text(key(&pool[place as usize]))),
-        Push::EntryMeta(place) => Ok(loads.posting().transaction_text(key(&pool[place as usize]))),
-        Push::AnyMeta(place) => Ok(loads.posting().any_text(key(&pool[place as usize]))),
-    }
+    stack.push(value);
 }
 
-/// What an instruction puts on the stack.
-pub fn pushed<'r>(
+/// Puts what stands in a column on the stack; in that of the balance the running inventory.
+#[inline(always)]
+fn load_column<'r>(
+    pool: &[Constant<'r>],
+    loads: &Loads<'_, 'r, '_>,
+    number: u8,
+    stack: &mut Stack<'r>,
+) -> Result<(), AllocError>
+    requires room { HasRoom stack.old.room
+        (with_top (push_of pool.now (loads_of loads.now) (LoadColumn number)) stack.old.values) }
+    requires there { column_at (loads_of loads.now) number ≢ None }
+    ensures values { OnOk result
+        (with_top (push_of pool.now (loads_of loads.now) (LoadColumn number)) stack.old.values
+        ≡ Some stack.new.values) }
+    ensures room { stack.new.room ≡ stack.old.room }
+{
+    match loads.numbered(number) {
+        Column::Balance => {
+            let running = loads.balance()?;
+            put(pool, loads, Push::LoadColumn(number), running, stack);
+        }
+        column => {
+            let cell = loads.cell_of_row(column);
+            put(pool, loads, Push::LoadColumn(number), cell, stack);
+        }
+    }
+    Ok(())
+}
+
+/// Puts what an instruction loads on the stack.
+#[inline(always)]
+pub fn load<'r>(
     pool: &[Constant<'r>],
     loads: &Loads<'_, 'r, '_>,
     op: Push,
-) -> Result<Value<'r>, AllocError>
-    requires { push_of pool.now (loads_of loads.now) op ≢ None }
-    ensures { IfOk result (λ x. push_of pool.now (loads_of loads.now) op ≡ Some x) }
+    stack: &mut Stack<'r>,
+) -> Result<(), AllocError>
+    requires room { HasRoom stack.old.room
+        (with_top (push_of pool.now (loads_of loads.now) op) stack.old.values) }
+    requires there { loaded pool.now (loads_of loads.now) op ≢ None }
+    ensures values { OnOk result (with_top (push_of pool.now (loads_of loads.now) op)
+        stack.old.values ≡ Some stack.new.values) }
+    ensures room { stack.new.room ≡ stack.old.room }
 {
-    load(pool, loads, op)
+    match op {
+        Push::True => {
+            put(pool, loads, op, Value::Truth(true), stack);
+            Ok(())
+        }
+        Push::False => {
+            put(pool, loads, op, Value::Truth(false), stack);
+            Ok(())
+        }
+        Push::Const(place) => {
+            let value = constant(&pool[place as usize]);
+            put(pool, loads, op, value, stack);
+            Ok(())
+        }
+        Push::LoadColumn(number) => load_column(pool, loads, number, stack),
+        Push::LoadKey(place) => {
+            let value = value_at(loads.keys, place)?;
+            put(pool, loads, op, value, stack);
+            Ok(())
+        }
+        Push::LoadAggregate(place) => {
+            let value = value_at(loads.aggregates, place)?;
+            put(pool, loads, op, value, stack);
+            Ok(())
+        }
+        Push::Meta(place) => {
+            let value = posting_text(loads.posting(), key(&pool[place as usize]));
+            put(pool, loads, op, value, stack);
+            Ok(())
+        }
+        Push::EntryMeta(place) => {
+            let value = transaction_text(loads.posting(), key(&pool[place as usize]));
+            put(pool, loads, op, value, stack);
+            Ok(())
+        }
+        Push::AnyMeta(place) => {
+            let value = any_text(loads.posting(), key(&pool[place as usize]));
+            put(pool, loads, op, value, stack);
+            Ok(())
+        }
+    }
 }

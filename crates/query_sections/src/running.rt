@@ -15,7 +15,7 @@ ghost use Rattle.query_sections.specs.Standing.{standing, state_in};
 use crate::binary::apply_binary;
 use crate::finders::Finders;
 use crate::frame::Frame;
-use crate::loading::pushed;
+use crate::loading::load;
 use crate::loads::Loads;
 use crate::slots::Slots;
 use crate::stack::Stack;
@@ -33,6 +33,7 @@ pub struct Section<'s, 'r> {
 }
 
 /// Puts what an instruction loads on the stack.
+#[inline(always)]
 fn push<'r>(
     pool: &[Constant<'r>],
     loads: &Loads<'_, 'r, '_>,
@@ -45,8 +46,7 @@ fn push<'r>(
         stack.old.values ≡ Some stack.new.values) }
     ensures room { stack.new.room ≡ stack.old.room }
 {
-    stack.push(pushed(pool, loads, op)?);
-    Ok(())
+    load(pool, loads, op, stack)
 }
 
 /// Puts what an operation gives in place of its operand.
@@ -70,6 +70,7 @@ fn unary<'r>(
 }
 
 /// Puts what an operation gives in place of its operands.
+#[inline(always)]
 fn binary(op: Binary, stack: &mut Stack<'_>)
     requires { HasRoom stack.old.room (two_operands (binary_of op) stack.old.values) }
     ensures values { two_operands (binary_of op) stack.old.values ≡ Some stack.new.values }
@@ -107,6 +108,7 @@ fn store_slot(slot: u8, frame: &mut Frame<'_>)
 }
 
 /// Takes the top of the stack, and tells whether it is true.
+#[inline(always)]
 fn pop_test(stack: &mut Stack<'_>, slots: &Slots<'_>) -> bool
     requires { tested is_truth stack.old.values slots.now ≢ None }
     ensures truth { result ≡ has_true_top stack.old.values }
@@ -126,6 +128,7 @@ fn behind_test(goes_on: bool, place: usize, to: u16) -> usize
 }
 
 /// What an instruction makes of stack and slots, and where it leads.
+#[inline(always)]
 fn execute<'r>(
     alloc: Global,
     pool: &[Constant<'r>],
@@ -185,6 +188,7 @@ fn execute<'r>(
 }
 
 /// The next instruction, which is there.
+#[inline(always)]
 fn step<'r>(
     alloc: Global,
     section: &Section<'_, 'r>,

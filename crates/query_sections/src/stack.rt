@@ -32,6 +32,7 @@ impl<'r> Stack<'r> {
     }
 
     /// Puts a value on top. Takes no memory.
+    #[inline(always)]
     pub fn push(&mut self, value: Value<'r>)
         requires { length self.old.values < self.old.room }
         ensures values { self.new.values ≡ value.entry ∷ self.old.values }
@@ -41,6 +42,7 @@ impl<'r> Stack<'r> {
     }
 
     /// Takes the value on top.
+    #[inline(always)]
     pub fn pop(&mut self) -> Value<'r>
         requires { self.old.values ≢ [] }
         ensures values { self.old.values ≡ result ∷ self.new.values }

@@ -57,7 +57,7 @@ fn round(batch: &mut Batch<'_, '_>, k: u64) -> bool
     ensures goes { result ≡ list_any spec.is_going batch.new }
 {
     let mut is_any_going = false;
-    for number in 0..batch.answers().len() {
+    for number in 0..batch.len() {
         is_any_going |= turn_of(batch, number, k);
     }
     is_any_going

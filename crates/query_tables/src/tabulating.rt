@@ -14,7 +14,7 @@ use std::alloc::{AllocError, Global};
 use verified_program::Checked;
 
 /// What becomes of a program over a ledger.
-#[derive(Debug, Drop)]
+#[derive(Drop)]
 pub enum Fate {
     /// The table of what it comes to.
     Table(List<u8>),
@@ -52,10 +52,9 @@ pub fn fates(
     ensures { IfOk result (λ fates. AreFates ledger.now (map verified programs.now) fates.items) }
 {
     let batch = rounds(alloc, programs, ledger, k)?;
-    let runs = batch.answers();
     let mut fates = Vec::with_capacity(alloc, programs.len())?;
     for (number, program) in programs.iter().enumerate() {
-        fates.push(fate_of(alloc, program, &runs[number], ledger))?;
+        fates.push(fate_of(alloc, program, batch.member(number), ledger))?;
     }
     Ok(fates)
 }

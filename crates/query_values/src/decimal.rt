@@ -8,7 +8,7 @@ use bean_base::Num;
 use limits::MOST_PLACES;
 
 /// `count * 10^-places`, with at most 32 places and a count of at most `2^127 - 1`, signs left off.
-#[derive(Clone, Copy, Debug, Drop, PartialEq, Eq)]
+#[derive(Clone, Copy, Drop, PartialEq, Eq)]
 pub struct Decimal {
     pub count: i128,
     pub places: u8,

@@ -5,7 +5,7 @@ use std::marker::Model;
 
 /// A reference whose value is the thing that it leads to, wherever that lies; a bare reference's
 /// value has its address too.
-#[derive(Debug, Drop)]
+#[derive(Drop)]
 pub struct Lent<'r, T> {
     thing: &'r T,
 }

@@ -1,7 +1,7 @@
 //! The operations on two values, and what is gathered over many.
 
 /// An operation on two values.
-#[derive(Clone, Copy, Debug, Drop, PartialEq, Eq)]
+#[derive(Clone, Copy, Drop, PartialEq, Eq)]
 pub enum Binary {
     Add,
     Sub,
@@ -16,7 +16,7 @@ pub enum Binary {
 }
 
 /// What is gathered over the postings of a group.
-#[derive(Clone, Copy, Debug, Drop, PartialEq, Eq)]
+#[derive(Clone, Copy, Drop, PartialEq, Eq)]
 pub enum Aggregate {
     /// How many postings there are.
     CountRows,

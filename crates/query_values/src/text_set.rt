@@ -9,7 +9,7 @@ use bean_base::Slice;
 use std::marker::Model;
 
 /// Texts, each once. Its value is the list of them in the order of their bytes.
-#[derive(Debug, Drop)]
+#[derive(Drop)]
 pub struct TextSet<'a> {
     texts: Vec<Slice<'a>>,
 }

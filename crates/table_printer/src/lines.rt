@@ -1,10 +1,10 @@
 //! The lines of a table: the header line, the rule and the rows.
 ghost use Rattle.std.specs.Prelude.{◌≡◌, ◌<◌, ◌≤◌, ◌++◌, ◌∷◌, [], List, Some, length, vec_len, map};
-ghost use Rattle.std.specs.Prelude.{take, drop, slice_get, OnOk};
-ghost use Rattle.bean_base.specs.Character.{line_feed};
+ghost use Rattle.std.specs.Prelude.{take, drop, slice_get, OnOk, IfOk, replicate};
+ghost use Rattle.bean_base.specs.Character.{line_feed, space};
 ghost use Rattle.posting_table.specs.Decimals.{decimals_of};
 ghost use Rattle.table_printer.specs.Heading.{width_of};
-ghost use Rattle.table_printer.specs.Layout.{trimmed, joined, rule_of, gap};
+ghost use Rattle.table_printer.specs.Layout.{Leaves, trimmed, joined, rule_of, gap};
 ghost use Rattle.table_printer.specs.Line.{placed_text};
 ghost use Rattle.table_printer.specs.Table.{padded, pieces, line_of};
 ghost use Rattle.table_printer.specs.declared.lines.Placed.{Placed};
@@ -88,6 +88,16 @@ fn trimmed_len(bytes: &[u8]) -> usize
     n
 }
 
+/// How many spaces stand before a cell: those that the cell before it leaves, and the gap.
+fn spaces_before(left: usize, column: usize) -> Result<usize, AllocError>
+    ensures { IfOk result (λ n. replicate n space ≡ replicate left space ++ gap column) }
+{
+    if column == 0 {
+        return Ok(left);
+    }
+    left.checked_add(2).ok_or(AllocError)
+}
+
 /// What stands before a column.
 fn push_gap(out: &mut Vec<u8>, column: usize) -> Result<(), AllocError>
     ensures { OnOk result (out.new.items ≡ out.old.items ++ gap column) }
@@ -98,46 +108,50 @@ fn push_gap(out: &mut Vec<u8>, column: usize) -> Result<(), AllocError>
     Ok(())
 }
 
-/// A cell, filled up to its column's width.
-fn push_padded(
+/// A cell behind so many spaces. Tells how many more fill it up to its column's width.
+fn push_placed(
     out: &mut Vec<u8>,
     placed: &Placed<'_>,
+    spaces: usize,
     width: usize,
     scratch: &mut Scratch,
     display: &Display<'_>,
-) -> Result<(), AllocError>
-    ensures { OnOk result (out.new.items ≡ out.old.items
-        ++ padded width (placed_text (decimals_of display.now) placed.now)) }
+) -> Result<usize, AllocError>
+    ensures { IfOk result (λ left. Leaves out.old.items out.new.items left
+        (replicate spaces space
+        ++ padded width (placed_text (decimals_of display.now) placed.now))) }
 {
+    push_run(out, b' ', spaces)?;
     if placed.stands_right {
         let own = cell_width(&placed.cell, scratch, display)?;
         push_run(out, b' ', width.saturating_sub(own))?;
         push_cell(out, &placed.cell, scratch, display)?;
-        return Ok(());
+        return Ok(0);
     }
     let own = push_cell(out, &placed.cell, scratch, display)?;
-    push_run(out, b' ', width.saturating_sub(own))?;
-    Ok(())
+    Ok(width.saturating_sub(own))
 }
 
-/// The cells of a line, with the gaps between them.
+/// The cells of a line, with the gaps between them. Spaces are added before a cell, all at once: so
+/// those at the line's end are told alone.
 fn push_joined<L: Line>(
     out: &mut Vec<u8>,
     line: &L,
     headings: &[Heading<'_>],
     scratch: &mut Scratch,
     display: &Display<'_>,
-) -> Result<(), AllocError>
+) -> Result<usize, AllocError>
     requires { length (L.cells line.now) ≡ length headings.now }
-    ensures { OnOk result (out.new.items
-        ≡ out.old.items ++ joined (pieces (map width_of headings.now)
-        (map (placed_text (decimals_of display.now)) (L.cells line.now)))) }
+    ensures { IfOk result (λ left. Leaves out.old.items out.new.items left
+        (joined (pieces (map width_of headings.now)
+        (map (placed_text (decimals_of display.now)) (L.cells line.now))))) }
 {
+    let mut left = 0;
     for (i, heading) in headings.iter().enumerate() {
-        push_gap(out, i)?;
-        push_padded(out, &line.cell(i), heading.width, scratch, display)?;
+        let spaces = spaces_before(left, i)?;
+        left = push_placed(out, &line.cell(i), spaces, heading.width, scratch, display)?;
     }
-    Ok(())
+    Ok(left)
 }
 
 /// Ends the line that begins at `start`: no spaces stand at its end.

@@ -17,7 +17,7 @@ use Rattle.query_rows.specs.ColumnShape.{AreBounds, column_shape}
 use Rattle.query_rows.specs.declared.column.Column.TheVariants.{Balance, Position}
 use Rattle.query_rows.specs.Row.{Row}
 use Rattle.query_rows.specs.Shaped.{IsShaped}
-use Rattle.plain_machine.specs.PlainMachine.{running_with}
+use Rattle.plain_machine.specs.Gathering.{running_with}
 use Rattle.well_shaped.proofs.GatheringFacts.{AreInputs, Gives, gathers, held_more, may_more}
 use Rattle.well_shaped.proofs.GatheringFacts.{one_more, later}
 

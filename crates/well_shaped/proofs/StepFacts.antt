@@ -21,10 +21,10 @@ use Rattle.query_code.specs.declared.program.Mode.TheVariants.{Plain, Grouped}
 use Rattle.query_code.specs.declared.program.Parts.{Parts}
 use Rattle.plain_machine.specs.Depth.{outcome_of, values_in}
 use Rattle.plain_machine.specs.Finishing.{are_orderable}
-use Rattle.plain_machine.specs.Gathering.{Group, Keeping, all_inputs, aggregates_over}
+use Rattle.plain_machine.specs.Gathering.{Group, Keeping, all_inputs, aggregates_over, running_with}
 use Rattle.plain_machine.specs.PlainMachine.{Kept, Stand, InFilter, InRow, InLast, Done, Fault}
 use Rattle.plain_machine.specs.PlainMachine.{balance_in, filter_loads, row_loads, last_loads}
-use Rattle.plain_machine.specs.PlainMachine.{running_with, with_running}
+use Rattle.plain_machine.specs.PlainMachine.{with_running}
 use Rattle.plain_machine.specs.PlainMachine.{filter_acts, row_acts, last_acts, ended, begin_last}
 use Rattle.plain_machine.specs.PlainMachine.{go_on_last, end_last, begin_filter, go_on, kept_with}
 use Rattle.plain_machine.specs.PlainMachine.{end_row, begin_row, judged, end_filter, in_filter}

@@ -8,18 +8,17 @@ ghost use Rattle.bean_lots.specs.Costs.{AreNoted, AreTold, IsAsTold, IsNoted, Is
 ghost use Rattle.bean_lots.specs.Days.{has_day};
 ghost use Rattle.bean_lots.specs.declared.lot.Lot.{Lot as LotValue};
 
-use super::positions::slot_at;
 use crate::lot::{Key, Lot};
 use bean_base::Day;
 use indexmap::IndexMap;
-use indexmap::map::Slice;
+use key_counts::Run;
 use std::alloc::{AllocError, Global};
 
 /// So few slots are looked at one by one, with no table beside them.
 const FEW: usize = 32;
 
 /// On which day the lots of a cost stand, none of which has a label, or that they don't stand so.
-#[derive(Clone, Copy, Debug, Drop, PartialEq, Eq)]
+#[derive(Clone, Copy, Drop, PartialEq, Eq)]
 pub(crate) enum LotDay {
     On(Day),
     Several,
@@ -110,12 +109,12 @@ impl CostDays {
 }
 
 /// What slots tell.
-fn costs_of(alloc: Global, slots: &Slice<'_, Key<'_>, i128>) -> Result<CostDays, AllocError>
+fn costs_of(alloc: Global, slots: &Run<'_, Key<'_>>) -> Result<CostDays, AllocError>
     ensures { IfOk result (λ costs. AreNoted costs slots.now) }
 {
     let mut costs = CostDays::new(alloc);
     for index in 0..slots.len() {
-        let (key, _) = slot_at(slots, index);
+        let (key, _) = slots.slot_at(index);
         costs.note(key)?;
     }
     Ok(costs)
@@ -126,7 +125,7 @@ fn costs_of(alloc: Global, slots: &Slice<'_, Key<'_>, i128>) -> Result<CostDays,
 fn table_of(
     alloc: Global,
     known: Option<Box<CostDays>>,
-    slots: &Slice<'_, Key<'_>, i128>,
+    slots: &Run<'_, Key<'_>>,
 ) -> Result<Option<Box<CostDays>>, AllocError>
     requires { AreTold known slots.now }
     ensures { IfOk result (λ costs. AreTold costs slots.now) }
@@ -158,7 +157,7 @@ fn noted(known: Box<CostDays>, key: &Key<'_>) -> Result<Option<Box<CostDays>>, A
 pub(crate) fn costs_with(
     alloc: Global,
     known: Option<Box<CostDays>>,
-    slots: &Slice<'_, Key<'_>, i128>,
+    slots: &Run<'_, Key<'_>>,
     key: &Key<'_>,
 ) -> Result<Option<Box<CostDays>>, AllocError>
     requires { AreTold known slots.now }

@@ -10,7 +10,7 @@ use super::costs::{CostDays, costs_with};
 use super::signs::{SignTable, Signs};
 use crate::lot::Key;
 use bean_base::Currency;
-use indexmap::map::Slice;
+use key_counts::Run;
 use std::alloc::{AllocError, Global};
 
 /// The table that is there, or that of no lots.
@@ -94,7 +94,7 @@ impl<'a> KnownLots<'a> {
     pub(crate) fn note(
         &mut self,
         alloc: Global,
-        slots: &Slice<'_, Key<'a>, i128>,
+        slots: &Run<'_, Key<'a>>,
         key: &Key<'_>,
     ) -> Result<(), AllocError>
         requires { AreTold self.old.costs slots.now }

@@ -4,10 +4,9 @@ ghost use Rattle.bean_lots.specs.Part.{HasAllSlots};
 ghost use Rattle.bean_lots.specs.Part as spec;
 ghost use Rattle.bean_lots.specs.Slots.{AreInOrder};
 
-use super::positions::slot_at;
 use crate::lot::Key;
 use bean_base::Day;
-use indexmap::map::Slice;
+use key_counts::Run;
 use std::cmp::Ordering;
 
 /// On which side of a day a key stands that is that of a lot.
@@ -21,7 +20,7 @@ fn side_of(key: &Key<'_>, day: Day) -> Ordering
 }
 
 /// The half that has all lots of a day, or none where the slot in the middle may be one of these.
-fn half_on<'s, 'a>(slots: &Slice<'s, Key<'a>, i128>, day: Day) -> Option<Slice<'s, Key<'a>, i128>>
+fn half_on<'s, 'a>(slots: &Run<'s, Key<'a>>, day: Day) -> Option<Run<'s, Key<'a>>>
     requires { AreInOrder slots.now }
     ensures half { IfSome result (λ half. HasAllSlots day half slots.now) }
     ensures less { IfSome result (λ half. length half < length slots.now) }
@@ -30,7 +29,7 @@ fn half_on<'s, 'a>(slots: &Slice<'s, Key<'a>, i128>, day: Day) -> Option<Slice<'
         return None;
     }
     let middle = slots.len() / 2;
-    let (key, _) = slot_at(slots, middle);
+    let (key, _) = slots.slot_at(middle);
     match side_of(key, day) {
         Ordering::Less => {
             let (_, behind) = slots.split_at(middle + 1);
@@ -45,7 +44,7 @@ fn half_on<'s, 'a>(slots: &Slice<'s, Key<'a>, i128>, day: Day) -> Option<Slice<'
 }
 
 /// A part of some slots that has all lots of a day, and few others.
-pub(crate) fn part_on<'s, 'a>(slots: Slice<'s, Key<'a>, i128>, day: Day) -> Slice<'s, Key<'a>, i128>
+pub(crate) fn part_on<'s, 'a>(slots: Run<'s, Key<'a>>, day: Day) -> Run<'s, Key<'a>>
     requires { AreInOrder slots }
     ensures { HasAllSlots day result slots.entry }
 {

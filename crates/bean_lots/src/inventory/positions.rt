@@ -1,6 +1,6 @@
 //! The positions of an inventory, one after the other.
 ghost use Rattle.std.specs.Prelude.{◌≡◌, ◌<◌, ◌≤◌, ◌∷◌, ◌++◌, ◌-◌, [], IfSome, IfNone, Some, drop};
-ghost use Rattle.std.specs.Prelude.{length, slice_get, take, true};
+ghost use Rattle.std.specs.Prelude.{length, take, true};
 ghost use Rattle.bean_lots.specs.Inventory.{position_of};
 ghost use Rattle.bean_lots.specs.Part.{HasAllOf};
 ghost use Rattle.bean_lots.specs.Slots.{AreInOrder, positions};
@@ -8,13 +8,13 @@ ghost use Rattle.bean_lots.specs.Slots.{AreInOrder, positions};
 use super::part::part_on;
 use crate::lot::{Key, Position};
 use bean_base::Day;
-use indexmap::map::Slice;
+use key_counts::Run;
 use std::marker::Model;
 
 /// The positions that are still to come, in order of entry.
 #[derive(Drop)]
 pub struct Positions<'s, 'a> {
-    slots: Slice<'s, Key<'a>, i128>,
+    slots: Run<'s, Key<'a>>,
     /// Whether lots are known to stand in the order of their days.
     in_order: bool,
 }
@@ -31,19 +31,8 @@ impl<'s, 'a> Model for Positions<'s, 'a> {
     ghost invariant = { λ p. p.in_order ≡ true → AreInOrder p.slots };
 }
 
-/// The key and the count of a slot.
-pub(crate) fn slot_at<'s, 'a>(slots: &Slice<'s, Key<'a>, i128>, index: usize) -> (&'s Key<'a>, i128)
-    requires { index < length slots.now }
-    ensures { slice_get slots.now index ≡ Some (result.0.now, result.1) }
-{
-    match slots.get_index(index) {
-        Some((key, count)) => (key, *count),
-        None => unreachable!(),
-    }
-}
-
 /// The first slot in which something is held, as its key and its count, and the index behind it.
-fn first_of<'s, 'a>(slots: &Slice<'s, Key<'a>, i128>) -> Option<(&'s Key<'a>, i128, usize)>
+fn first_of<'s, 'a>(slots: &Run<'s, Key<'a>>) -> Option<(&'s Key<'a>, i128, usize)>
     ensures some { IfSome result (λ p. positions slots.now
         ≡ position_of p.0.now p.1 ∷ positions (drop p.2 slots.now)) }
     ensures from { IfSome result (λ p. positions (drop (p.2 - 1) slots.now) ≡ positions slots.now) }
@@ -51,7 +40,7 @@ fn first_of<'s, 'a>(slots: &Slice<'s, Key<'a>, i128>) -> Option<(&'s Key<'a>, i1
     ensures none { IfNone result (positions slots.now ≡ []) }
 {
     for index in 0..slots.len() {
-        let (key, count) = slot_at(slots, index);
+        let (key, count) = slots.slot_at(index);
         if count != 0 {
             return Some((key, count, index + 1));
         }
@@ -60,7 +49,7 @@ fn first_of<'s, 'a>(slots: &Slice<'s, Key<'a>, i128>) -> Option<(&'s Key<'a>, i1
 }
 
 /// The last slot in which something is held, as its key and its count, and the index behind it.
-fn last_of<'s, 'a>(slots: &Slice<'s, Key<'a>, i128>) -> Option<(&'s Key<'a>, i128, usize)>
+fn last_of<'s, 'a>(slots: &Run<'s, Key<'a>>) -> Option<(&'s Key<'a>, i128, usize)>
     ensures some { IfSome result (λ p. positions slots.now
         ≡ positions (take (p.2 - 1) slots.now) ++ position_of p.0.now p.1 ∷ []) }
     ensures until { IfSome result (λ p. positions (take p.2 slots.now) ≡ positions slots.now) }
@@ -68,7 +57,7 @@ fn last_of<'s, 'a>(slots: &Slice<'s, Key<'a>, i128>) -> Option<(&'s Key<'a>, i12
     ensures none { IfNone result (positions slots.now ≡ []) }
 {
     for index in (0..slots.len()).rev() {
-        let (key, count) = slot_at(slots, index);
+        let (key, count) = slots.slot_at(index);
         if count != 0 {
             return Some((key, count, index + 1));
         }
@@ -77,7 +66,7 @@ fn last_of<'s, 'a>(slots: &Slice<'s, Key<'a>, i128>) -> Option<(&'s Key<'a>, i12
 }
 
 /// Slots without the holes in front of all that is held.
-fn without_first_holes<'s, 'a>(slots: Slice<'s, Key<'a>, i128>) -> Slice<'s, Key<'a>, i128>
+fn without_first_holes<'s, 'a>(slots: Run<'s, Key<'a>>) -> Run<'s, Key<'a>>
     ensures same { positions result ≡ positions slots.entry }
     ensures ordered { AreInOrder slots.entry → AreInOrder result }
 {
@@ -91,7 +80,7 @@ fn without_first_holes<'s, 'a>(slots: Slice<'s, Key<'a>, i128>) -> Slice<'s, Key
 }
 
 /// Slots without the holes behind all that is held.
-fn without_last_holes<'s, 'a>(slots: Slice<'s, Key<'a>, i128>) -> Slice<'s, Key<'a>, i128>
+fn without_last_holes<'s, 'a>(slots: Run<'s, Key<'a>>) -> Run<'s, Key<'a>>
     ensures same { positions result ≡ positions slots.entry }
     ensures ordered { AreInOrder slots.entry → AreInOrder result }
 {
@@ -106,7 +95,7 @@ fn without_last_holes<'s, 'a>(slots: Slice<'s, Key<'a>, i128>) -> Slice<'s, Key<
 
 impl<'s, 'a> Positions<'s, 'a> {
     /// What is held in slots, of which it may be known that they are in the order of days.
-    pub(crate) fn new(slots: Slice<'s, Key<'a>, i128>, in_order: bool) -> Positions<'s, 'a>
+    pub(crate) fn new(slots: Run<'s, Key<'a>>, in_order: bool) -> Positions<'s, 'a>
         requires { in_order ≡ true → AreInOrder slots }
         ensures { result ≡ positions slots.entry }
     {

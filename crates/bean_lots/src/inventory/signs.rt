@@ -13,7 +13,7 @@ use indexmap::IndexMap;
 use std::alloc::{AllocError, Global};
 
 /// How many lots of a currency are held with a count above 0, and how many with one below.
-#[derive(Clone, Copy, Debug, Drop, PartialEq, Eq)]
+#[derive(Clone, Copy, Drop, PartialEq, Eq)]
 pub struct Signs {
     pub long: usize,
     pub short: usize,
@@ -81,7 +81,7 @@ fn as_short(count: i128) -> usize
 }
 
 /// The key of a currency of which lots were held.
-#[derive(Debug, Drop, PartialEq, Eq, Hash)]
+#[derive(Drop, PartialEq, Eq, Hash)]
 pub(crate) struct LotCurrency<'a> {
     currency: Currency<'a>,
 }
@@ -129,10 +129,7 @@ impl<'a> SignTable<'a> {
         let key = LotCurrency {
             currency: currency.lend(),
         };
-        match self.by_currency.get(&key) {
-            Some(signs) => *signs,
-            None => Signs::none(),
-        }
+        self.by_currency.get(&key).copied().unwrap_or(Signs::none())
     }
 
     fn set(&mut self, currency: Currency<'a>, signs: Signs) -> Result<(), AllocError>

@@ -1,16 +1,15 @@
 //! The slots of an inventory: a count for each key, 0 once what was held of it is gone.
 //!
 //! Nothing moves where a count comes to 0: its slot is a hole, until half of all slots are holes
-//! and all of these are swept out. So a lot that goes costs no more than one that comes. Holes
-//! behind all that is held go at once, so what is looked at from the end is held.
-ghost use Rattle.std.specs.Prelude.{◌≡◌, ◌≢◌, ◌+ℤ◌, ◌<◌, ◌^◌, All, IfNone, IfSome, IsTrue, List, None};
-ghost use Rattle.std.specs.Prelude.{OnErr, OnOk, Some, [], drop, filter, length, map, not, pos, position};
-ghost use Rattle.std.specs.Prelude.{slice_get, take, true, ℕ, ℤ};
+//! and all of these are swept out. So a lot that goes costs no more than one that comes. Where a lot
+//! goes, holes behind all that is held go at once, and where there are more than a few slots, so that
+//! what is looked at from the end is held, or stands before few holes.
+ghost use Rattle.std.specs.Prelude.{◌≡◌, ◌≢◌, ◌+◌, ◌+ℤ◌, ◌++◌, ◌∷◌, ◌<◌, ◌^◌, All, IfSome, List};
+ghost use Rattle.std.specs.Prelude.{None, OnErr, OnOk, Some, [], drop, filter, length, map, pos};
+ghost use Rattle.std.specs.Prelude.{position, take, true, ℕ, ℤ};
 ghost use Rattle.std.specs.Int.{w128};
 ghost use Rattle.std.specs.Int.RustNames.{FitsSigned};
-ghost use Rattle.std.specs.List.{IsDistinct};
-ghost use Rattle.std.specs.Map.{lookup, keys_of, values_of};
-ghost use Rattle.std.specs.Ordering.{int_eq};
+ghost use Rattle.std.specs.Map.{lookup, keys_of};
 ghost use Rattle.bean_lots.specs.AtCost.{is_lot_at};
 ghost use Rattle.bean_lots.specs.Costs.{IsTold};
 ghost use Rattle.bean_lots.specs.Inventory.{IsInventory, MayBeNegated, added, count_of, negative_entry};
@@ -28,23 +27,11 @@ use super::positions::Positions;
 use super::signs::Signs;
 use crate::lot::{Cost, Key, Lot};
 use bean_base::{Currency, Day};
-use indexmap::IndexMap;
-use indexmap::map::Slice;
+use key_counts::{KeyCounts, Run};
 use std::alloc::{AllocError, Global};
 
-/// Fewer holes are never swept out.
+/// Fewer holes are never swept out, and among so few slots a hole may stand last.
 const FEW: usize = 16;
-
-/// Keeps the slots that are no holes.
-fn keep_full(counts: &mut IndexMap<Key<'_>, i128>)
-    ensures { counts.new.entries ≡ filter is_full counts.old.entries }
-{
-    counts.retain(
-        |_key: &Key<'_>, count: &mut i128| -> bool
-            ensures { (result ≡ not (int_eq count.old (pos 0))) × (count.new ≡ count.old) }
-        { *count != 0 },
-    );
-}
 
 /// The key of a lot of a currency that was bought at a cost on a day, without a label.
 fn key_on<'k>(currency: &Currency<'k>, cost: &Cost<'k>, day: Day) -> Key<'k>
@@ -61,7 +48,7 @@ fn key_on<'k>(currency: &Currency<'k>, cost: &Cost<'k>, day: Day) -> Key<'k>
 }
 
 /// What is held in a slot.
-fn held_in<'s, 'a>(slots: &Slice<'s, Key<'a>, i128>, index: usize) -> Positions<'s, 'a>
+fn held_in<'s, 'a>(slots: &Run<'s, Key<'a>>, index: usize) -> Positions<'s, 'a>
     requires { index < length slots.now }
     ensures { result ≡ spec.positions (take 1 (drop index slots.now)) }
 {
@@ -73,7 +60,7 @@ fn held_in<'s, 'a>(slots: &Slice<'s, Key<'a>, i128>, index: usize) -> Positions<
 /// A slot for each key that is held, and for some that were.
 #[derive(Drop)]
 pub(crate) struct Slots<'a> {
-    pub counts: IndexMap<Key<'a>, i128>,
+    pub counts: KeyCounts<Key<'a>>,
     /// All slots below are holes.
     pub first: usize,
     /// About how many holes there are: how soon they are swept out.
@@ -83,7 +70,7 @@ pub(crate) struct Slots<'a> {
 }
 
 impl Clone for Slots<'_> {
-    ghost is_clone = { λ a b. (b.counts.entries ≡ a.counts.entries) × (IsKept a → IsKept b) };
+    ghost is_clone = { λ a b. (b.counts ≡ a.counts) × (IsKept a → IsKept b) };
 
     fn clone(&self) -> Result<Self, AllocError> {
         Ok(Slots {
@@ -103,7 +90,7 @@ impl<'a> Slots<'a> {
         ensures kept { IsKept result }
     {
         Slots {
-            counts: IndexMap::new(alloc),
+            counts: KeyCounts::new(alloc),
             first: 0,
             holes: 0,
             lots: KnownLots::none(),
@@ -116,11 +103,8 @@ impl<'a> Slots<'a> {
         ensures count { result ≡ count_of (held self.now) key.now }
         ensures inventory { IsInventory (held self.now) }
     {
-        if self.counts.len() == 0 {
-            return 0;
-        }
-        match self.counts.get(key) {
-            Some(count) => *count,
+        match self.counts.place_of(key) {
+            Some(index) => self.counts.count_at(index),
             None => 0,
         }
     }
@@ -136,7 +120,7 @@ impl<'a> Slots<'a> {
     /// The signs of the lots of a currency.
     pub(crate) fn signs_of(&self, currency: &Currency<'_>) -> Signs
         ensures signs { result ≡ signs_of self.now.lots currency.now }
-        ensures few { length self.now.counts.entries < 2 ^ 63 }
+        ensures few { length self.now.counts < 2 ^ 63 }
     {
         // There are no more slots than the map has room for.
         let _slots = self.counts.len();
@@ -148,7 +132,7 @@ impl<'a> Slots<'a> {
         requires { IsKept self.now }
         ensures { result ≡ held self.now }
     {
-        let (_, held) = self.counts.as_slice().split_at(self.first);
+        let (_, held) = self.counts.as_run().split_at(self.first);
         Positions::new(held, self.days.in_order)
     }
 
@@ -158,18 +142,18 @@ impl<'a> Slots<'a> {
         ensures counts { self.new.counts ≡ self.old.counts }
         ensures kept { IsKept self.new }
     {
-        while self.first < self.counts.len() && self.counts[self.first] == 0 {
+        while self.first < self.counts.len() && self.counts.count_at(self.first) == 0 {
             self.first += 1;
         }
     }
 
     /// How many slots there are up to the last that is no hole.
     fn end_of_held(&self) -> usize
-        ensures { filter is_full (take result self.now.counts.entries)
-            ≡ filter is_full self.now.counts.entries }
+        ensures { filter is_full (take result self.now.counts)
+            ≡ filter is_full self.now.counts }
     {
         let mut end = self.counts.len();
-        while end > 0 && self.counts[end - 1] == 0 {
+        while end > 0 && self.counts.count_at(end - 1) == 0 {
             end -= 1;
         }
         end
@@ -182,9 +166,8 @@ impl<'a> Slots<'a> {
         ensures same { held self.new ≡ held self.old }
     {
         let end = self.end_of_held();
-        self.holes = self
-            .holes
-            .saturating_sub(self.counts.len().saturating_sub(end));
+        let gone = self.counts.len().saturating_sub(end);
+        self.holes = self.holes.saturating_sub(gone);
         self.counts.truncate(end);
         self.first = self.first.min(end);
         if end == 0 {
@@ -207,7 +190,7 @@ impl<'a> Slots<'a> {
     {
         // There are no more lots than slots, and so few of these that the counts have room.
         let _slots = self.counts.len();
-        let alloc = *self.counts.allocator();
+        let alloc = self.counts.alloc();
         self.lots.recount(alloc, key, before, after)
     }
 
@@ -220,8 +203,8 @@ impl<'a> Slots<'a> {
         after: i128,
     ) -> Result<(), AllocError>
         requires kept { IsKept self.old }
-        requires at { position (same_key key.now) (keys_of self.old.counts.entries) ≡ Some index }
-        requires count { lookup (same_key key.now) self.old.counts.entries ≡ Some before }
+        requires at { position (same_key key.now) (keys_of self.old.counts) ≡ Some index }
+        requires count { lookup (same_key key.now) self.old.counts ≡ Some before }
         requires some { before ≢ pos 0 }
         ensures kept { IsKept self.new }
         ensures ok { OnOk result ((n : ℤ) → after ≡ before +ℤ n
@@ -229,13 +212,42 @@ impl<'a> Slots<'a> {
         ensures err { OnErr result (held self.new ≡ held self.old) }
     {
         self.recount(key, before, after)?;
-        self.counts[index] = after;
+        self.counts.set(index, after);
         if after == 0 {
             self.holes = self.holes.saturating_add(1);
-            self.pass_holes();
-            self.drop_last_holes();
+            self.leave_hole(key.lot.is_some());
         }
         Ok(())
+    }
+
+    /// Looks to the holes at both ends, once one more is left. Among few slots the last may stay where
+    /// it is of no lot: its key often comes again at once.
+    fn leave_hole(&mut self, is_lot: bool)
+        requires { IsKept self.old }
+        ensures kept { IsKept self.new }
+        ensures same { held self.new ≡ held self.old }
+    {
+        self.pass_holes();
+        if is_lot || self.counts.len() > FEW {
+            self.drop_last_holes();
+        }
+    }
+
+    /// Forgets all slots where nothing is held.
+    fn begin_anew(&mut self)
+        requires { IsKept self.old }
+        ensures kept { IsKept self.new }
+        ensures same { held self.new ≡ held self.old }
+        ensures absent { (k : KeyValue) → lookup (same_key k) self.old.counts ≡ None
+            → lookup (same_key k) self.new.counts ≡ None }
+    {
+        if self.first > 0 && self.first == self.counts.len() {
+            self.counts.truncate(0);
+            self.first = 0;
+            self.holes = 0;
+            self.days = Days::new();
+            self.lots.costs = None;
+        }
     }
 
     /// Takes the holes out.
@@ -243,10 +255,10 @@ impl<'a> Slots<'a> {
         requires { IsKept self.old }
         ensures kept { IsKept self.new }
         ensures same { held self.new ≡ held self.old }
-        ensures absent { (k : KeyValue) → lookup (same_key k) self.old.counts.entries ≡ None
-            → lookup (same_key k) self.new.counts.entries ≡ None }
+        ensures absent { (k : KeyValue) → lookup (same_key k) self.old.counts ≡ None
+            → lookup (same_key k) self.new.counts ≡ None }
     {
-        keep_full(&mut self.counts);
+        self.counts.keep_full();
         self.first = 0;
         self.holes = 0;
         // Another table tells of no lot that is gone.
@@ -260,8 +272,8 @@ impl<'a> Slots<'a> {
         requires { IsKept self.old }
         ensures kept { IsKept self.new }
         ensures same { held self.new ≡ held self.old }
-        ensures absent { (k : KeyValue) → lookup (same_key k) self.old.counts.entries ≡ None
-            → lookup (same_key k) self.new.counts.entries ≡ None }
+        ensures absent { (k : KeyValue) → lookup (same_key k) self.old.counts ≡ None
+            → lookup (same_key k) self.new.counts ≡ None }
     {
         if self.holes >= FEW && self.holes > self.counts.len() / 2 {
             self.sweep();
@@ -278,74 +290,79 @@ impl<'a> Slots<'a> {
         ensures kept { IsKept self.new }
         ensures own { OnOk result (IsTold (self.new.lots.costs) key.now.lot) }
     {
-        let alloc = *self.counts.allocator();
-        self.lots.note(alloc, &self.counts.as_slice(), key)
+        let alloc = self.counts.alloc();
+        self.lots.note(alloc, &self.counts.as_run(), key)
     }
 
-    /// Puts a key that has no slot behind all others.
-    fn push(&mut self, key: Key<'a>, count: i128) -> Result<(), AllocError>
+    /// Puts a key that has no slot behind all others, with nothing held.
+    fn push_hole(&mut self, key: &Key<'a>) -> Result<(), AllocError>
         requires kept { IsKept self.old }
-        requires absent { lookup (same_key key) self.old.counts.entries ≡ None }
+        requires absent { lookup (same_key key.now) self.old.counts ≡ None }
         ensures kept { IsKept self.new }
-        ensures ok { OnOk result (held self.new ≡ added (held self.old) key.entry count) }
-        ensures err { OnErr result (held self.new ≡ held self.old) }
+        ensures same { held self.new ≡ held self.old }
+        ensures ok { OnOk result (self.new.counts ≡ self.old.counts ++ (key.now, pos 0) ∷ []) }
     {
-        // Room comes first, so that the key goes in once its lot is counted.
-        self.counts.reserve(1)?;
-        self.note_cost(&key)?;
-        self.recount(&key, 0, count)?;
-        self.days = self.days.with(&key);
-        self.counts.insert(key, count)?;
+        self.note_cost(key)?;
+        let days = self.days.with(key);
+        self.counts.push(key.lend(), 0)?;
+        self.days = days;
+        self.holes = self.holes.saturating_add(1);
         Ok(())
     }
 
-    /// Takes out the hole of a key.
-    fn remove_hole(&mut self, key: &Key<'a>)
+    /// Writes the count of a key whose hole is the last slot.
+    fn fill(&mut self, key: &Key<'a>, index: usize, count: i128) -> Result<(), AllocError>
         requires kept { IsKept self.old }
-        requires hole { lookup (same_key key.now) self.old.counts.entries ≡ Some (pos 0) }
+        requires at { position (same_key key.now) (keys_of self.old.counts) ≡ Some index }
+        requires hole { lookup (same_key key.now) self.old.counts ≡ Some (pos 0) }
+        requires last { index + 1 ≡ length self.old.counts }
+        ensures kept { IsKept self.new }
+        ensures ok { OnOk result (held self.new ≡ added (held self.old) key.now count) }
+        ensures err { OnErr result (held self.new ≡ held self.old) }
+    {
+        self.recount(key, 0, count)?;
+        self.counts.set(index, count);
+        self.first = self.first.min(index);
+        self.holes = self.holes.saturating_sub(1);
+        Ok(())
+    }
+
+    /// Puts a key that has no slot behind all others.
+    fn push(&mut self, key: &Key<'a>, count: i128) -> Result<(), AllocError>
+        requires kept { IsKept self.old }
+        requires absent { lookup (same_key key.now) self.old.counts ≡ None }
+        ensures kept { IsKept self.new }
+        ensures ok { OnOk result (held self.new ≡ added (held self.old) key.now count) }
+        ensures err { OnErr result (held self.new ≡ held self.old) }
+    {
+        self.begin_anew();
+        let last = self.counts.len();
+        self.push_hole(key)?;
+        self.fill(key, last, count)
+    }
+
+    /// Takes out the hole of a key.
+    fn remove_hole(&mut self, key: &Key<'_>, index: usize)
+        requires kept { IsKept self.old }
+        requires at { position (same_key key.now) (keys_of self.old.counts) ≡ Some index }
+        requires hole { lookup (same_key key.now) self.old.counts ≡ Some (pos 0) }
         ensures kept { IsKept self.new }
         ensures same { held self.new ≡ held self.old }
-        ensures absent { lookup (same_key key.now) self.new.counts.entries ≡ None }
+        ensures absent { lookup (same_key key.now) self.new.counts ≡ None }
     {
-        self.counts.shift_remove(key);
+        self.counts.remove(index);
         self.first = self.first.saturating_sub(1);
         self.holes = self.holes.saturating_sub(1);
-    }
-
-    /// Whether the first slot is that of a key.
-    fn is_first(&self, key: &Key<'_>) -> bool
-        ensures { IsTrue result → spec.slot_of key.now self.now.counts.entries ≡ Some 0 }
-    {
-        match self.counts.get_index(0) {
-            Some((first, _)) => *key == *first,
-            None => false,
-        }
-    }
-
-    /// Which slot is that of a key, where there is one. What is held of one currency alone has one
-    /// slot, and its key isn't hashed.
-    fn slot_of(&self, key: &Key<'_>) -> Option<usize>
-        ensures slot { result ≡ spec.slot_of key.now self.now.counts.entries }
-        ensures inside { IfSome result (λ slot. slot < length self.now.counts.entries) }
-        ensures value { IfSome result (λ slot. slice_get (values_of self.now.counts.entries) slot
-            ≡ lookup (same_key key.now) self.now.counts.entries) }
-        ensures none { IfNone result (lookup (same_key key.now) self.now.counts.entries ≡ None) }
-        ensures unique { IsDistinct same_key (keys_of self.now.counts.entries) }
-    {
-        if self.counts.len() > 0 && self.is_first(key) {
-            return Some(0);
-        }
-        self.counts.get_index_of(key)
     }
 
     /// What is held under a key.
     fn positions_of(&self, key: &Key<'_>) -> Positions<'_, 'a>
         ensures { result ≡ filter (λ e. same_key key.now e.key) (held self.now) }
     {
-        let slots = self.counts.as_slice();
-        match self.slot_of(key) {
+        let slots = self.counts.as_run();
+        match self.counts.place_of(key) {
             Some(index) => held_in(&slots, index),
-            None => Positions::new(Slice::new(), false),
+            None => Positions::new(Run::new(), false),
         }
     }
 
@@ -365,7 +382,7 @@ impl<'a> Slots<'a> {
         match costs.day_at(cost.count) {
             Some(LotDay::On(day)) => Some(self.positions_of(&key_on(currency, cost, day))),
             Some(LotDay::Several) => None,
-            None => Some(Positions::new(Slice::new(), false)),
+            None => Some(Positions::new(Run::new(), false)),
         }
     }
 
@@ -377,16 +394,19 @@ impl<'a> Slots<'a> {
         ensures ok { OnOk result (held self.new ≡ added (held self.old) key.entry count) }
         ensures err { OnErr result (held self.new ≡ held self.old) }
     {
-        let Some(index) = self.slot_of(&key) else {
+        let Some(index) = self.counts.place_of(&key) else {
             self.sweep_where_due();
-            return self.push(key, count);
+            return self.push(&key, count);
         };
-        let before = self.counts[index];
+        let before = self.counts.count_at(index);
         if before != 0 {
             return self.write(&key, index, before, before + count);
         }
-        self.remove_hole(&key);
-        self.push(key, count)
+        if key.lot.is_none() && self.counts.len() - index == 1 {
+            return self.fill(&key, index, count);
+        }
+        self.remove_hole(&key, index);
+        self.push(&key, count)
     }
 
     /// Changes the sign of every count.
@@ -397,8 +417,8 @@ impl<'a> Slots<'a> {
         ensures negated { held self.new ≡ map negative_entry (held self.old) }
     {
         for index in 0..self.counts.len() {
-            let count = self.counts[index];
-            self.counts[index] = -count;
+            let count = self.counts.count_at(index);
+            self.counts.set(index, -count);
         }
         self.lots.negate();
     }

@@ -1,6 +1,7 @@
-use Rattle.std.proofs.Common.{◌≡◌, ◌++◌, ◌∷◌, [], ap, append_assoc, arith, length, length-append}
+use Rattle.std.proofs.Common.{◌≡◌, ◌++◌, ◌∷◌, [], ap, append_assoc, arith}
 use Rattle.std.proofs.Common.{neg_ℤ, subst, sym, ◌∙◌}
 use Rattle.std.proofs.lemmas.Result.{on_ok_weaker}
+use Rattle.posting_table.specs.Ledger.{Ledger}
 use Rattle.posting_table.specs.Shaped.{IsShaped}
 use Rattle.query_rows.specs.ColumnShape.{widest}
 use Rattle.posting_table.proofs.PartFacts.{row_lies}
@@ -9,8 +10,8 @@ use Rattle.bean_book.proofs.PaddingFacts.{same, turned, unsigned_abs-neg}
 use Rattle.bean_book.proofs.ShapedFacts.{padding_small}
 use Rattle.bean_book.proofs.paddings.push_note.Goals as goal
 
-pub push_row-requires : goal.push_row-requires
-push_row-requires c =
+pub push-requires-clause-shaped : goal.push-requires-clause-shaped
+push-requires-clause-shaped c =
     let pad = c.args.noted.now in
     let currency = c.args.note.now.currency in
     let n = c.scaled-count.result in
@@ -23,8 +24,8 @@ push_row-requires c =
     (padding_small pad pad.pad.account currency n c.requires.pad c.requires.pad.pad.account c.requires.note
     small))
 
-pub push_row-requires-2 : goal.push_row-requires-2
-push_row-requires-2 c =
+pub push-requires-2-clause-shaped : goal.push-requires-2-clause-shaped
+push-requires-2-clause-shaped c =
     let pad = c.args.noted.now in
     let currency = c.args.note.now.currency in
     let n = c.scaled-count.result in
@@ -49,21 +50,11 @@ returns-clause-rows c =
     ∙ ap (padding_row pad pad.pad.account currency) (same n (omega (arith, small))) in
     let second : c.in_ok-row-2.row ≡ padding_row pad pad.pad.source currency (neg_ℤ n) =
     c.in_ok-row-2.ensures ∙ ap (padding_row pad pad.pad.source currency) (turned n small) in
-    on_ok_weaker c.push_row-2.result (λ rows.
-    rows ∙ ap (λ l. l ++ c.in_ok-row-2.row ∷ []) c.in-Ok.ensures.rows
+    on_ok_weaker c.push-2.result (λ pushed.
+    ap (λ (l : Ledger). l.rows) pushed
+    ∙ ap (λ (l : Ledger). l.rows ++ c.in_ok-row-2.row ∷ []) c.in_ok-push.ensures.pushed
     ∙ append_assoc old (c.in_ok-row.row ∷ []) (c.in_ok-row-2.row ∷ [])
     ∙ (λ i. old ++ first i ∷ second i ∷ [])
     ∙ ap (λ m. old ++ padding_row pad pad.pad.account currency m
     ∷ padding_row pad pad.pad.source currency (neg_ℤ m) ∷ []) c.scaled-count.ensures.value
-    ∙ ap (λ o. old ++ rows_by pad currency o) (sym c.in-Padding.is)) c.push_row-2.ensures.rows
-
-pub returns-clause-full : goal.returns-clause-full
-returns-clause-full c = λ refused.
-    let pad = c.args.noted.now in
-    let currency = c.args.note.now.currency in
-    let old = c.args.ledger.now.rows in
-    let full = c.push_row-2.ensures.full refused in
-    let before =
-    ap length c.in-Ok.ensures.rows ∙ length-append old (c.in_ok-row.row ∷ []) in
-    let two = ap (λ o. length (rows_by pad currency o)) c.in-Padding.is in
-    omega (arith, full, before, two)
+    ∙ ap (λ o. old ++ rows_by pad currency o) (sym c.in-Padding.is)) c.push-2.ensures.pushed

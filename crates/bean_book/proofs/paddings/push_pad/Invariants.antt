@@ -1,5 +1,4 @@
-use Rattle.limits.specs.declared.counts.TheConstants.{MOST_POSTINGS}
-use Rattle.std.proofs.Common.{length, ◌≤◌, ◌≡◌, ◌++◌, take}
+use Rattle.std.proofs.Common.{◌≡◌, ◌++◌, take}
 use Rattle.std.specs.List.{flat_map}
 use Rattle.bean_book.specs.Rows.{rows_of_note}
 use Rattle.bean_book.proofs.paddings.push_pad.Given as goal
@@ -10,5 +9,4 @@ invariant-loop-note l = record {
       ≡ l.initial.ledger.rows
       ++ flat_map (rows_of_note l.noted) (take l.note-index l.noted.notes);
   decimals : l.ledger.decimals ≡ l.initial.ledger.decimals;
-  room : length l.ledger.rows ≤ MOST_POSTINGS;
 }

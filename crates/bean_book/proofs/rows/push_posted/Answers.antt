@@ -11,6 +11,7 @@ use Rattle.bean_replay.proofs.SmallPlaceFacts.{found_at}
 use Rattle.bean_replay.specs.Small.{IsSmallPosted}
 use Rattle.bean_transactions.specs.Tried.{booked_leg, booked_legs}
 use Rattle.bean_holdings.specs.declared.posted.Posted.{Posted}
+use Rattle.posting_table.specs.Ledger.{Ledger}
 use Rattle.posting_table.specs.Shaped.{IsShaped}
 use Rattle.query_rows.specs.ColumnShape.{widest}
 use Rattle.posting_table.proofs.PartFacts.{row_lies}
@@ -37,8 +38,8 @@ row_of-requires-clause-light c =
     (subst (λ l. AllByRecursion IsLight (booked_legs k.written.transaction.postings l))
     (sym c.as_slice-one-items.ensures) c.requires.tame.small.light))
 
-pub push_row-requires : goal.push_row-requires
-push_row-requires c =
+pub push-requires-clause-shaped : goal.push-requires-clause-shaped
+push-requires-clause-shaped c =
     let k = c.args.kept.now in
     let p = c.one-item.result in
     let ps = k.written.transaction.postings in
@@ -58,10 +59,10 @@ push_row-requires c =
     (row_small (entry_of k) line ps p (entry_short k c.requires.tame) own light
     small.transaction.postings small.line))
 
-pub returns-in-Err-clause-full : goal.returns-in-Err-clause-full
-returns-in-Err-clause-full c = λ refused.
+pub push-requires-clause-room : goal.push-requires-clause-room
+push-requires-clause-room c =
     let k = c.args.kept.now in
-    let full = c.in-Err.ensures.full refused in
+    let room = c.requires.room in
     let row = row_of (entry_of k) k.written.place.line k.written.transaction.postings in
     let taken = take c.loop-one.one-index k.postings in
     let before =
@@ -70,7 +71,7 @@ returns-in-Err-clause-full c = λ refused.
     let as_many = length-map taken row in
     let count = ap length c.as_slice-one-items.ensures in
     let few = length-take-le c.loop-one.one-index k.postings (omega (arith, count)) in
-    omega (arith, full, before, as_many, few, count)
+    omega (arith, room, before, as_many, few, count)
 
 pub loop-one-preserved : goal.loop-one-preserved
 loop-one-preserved c =
@@ -93,12 +94,12 @@ loop-one-preserved c =
     ∙ map-append row (take i items) (get_or items i p ∷ [])
     ∙ ap (λ q. map row (take i items) ++ row q ∷ []) (sym c.one-item.is)
     ∙ ap (λ l. map row (take i l) ++ row p ∷ []) are in record {
-      rows = c.in-Ok.ensures.rows
+      rows = ap (λ (l : Ledger). l.rows) c.in_ok-push.ensures.pushed
           ∙ (λ j. c.loop-one.invariant.rows j ++ is j ∷ [])
           ∙ append_assoc old (map row (take i posted)) (row p ∷ [])
           ∙ ap (λ l. old ++ l) (sym more);
-      decimals = c.in-Ok.ensures.decimals ∙ c.loop-one.invariant.decimals;
-      room = c.in-Ok.ensures.room;
+      decimals = ap (λ (l : Ledger). l.decimals) c.in_ok-push.ensures.pushed
+          ∙ c.loop-one.invariant.decimals;
       noted = c.in_ok-noted-2.ensures.items
           ∙ ap (λ n. items_in (slice_get c.as_slice-postings.result.now n))
           (sym c.in_ok-noted-2.ensures.number);

@@ -1,5 +1,4 @@
-use Rattle.limits.specs.declared.counts.TheConstants.{MOST_POSTINGS}
-use Rattle.std.proofs.Common.{length, ◌≤◌, ◌≡◌, ◌++◌, map, slice_get, take}
+use Rattle.std.proofs.Common.{◌≡◌, ◌++◌, map, slice_get, take}
 use Rattle.bean_book.specs.Rows.{entry_of, items_in, row_of}
 use Rattle.bean_book.proofs.rows.push_posted.Given as goal
 
@@ -10,6 +9,5 @@ invariant-loop-one l = record {
       ++ map (row_of (entry_of l.kept) l.kept.written.place.line l.kept.written.transaction.postings)
       (take l.one-index l.kept.postings);
   decimals : l.ledger.decimals ≡ l.initial.ledger.decimals;
-  room : length l.ledger.rows ≤ MOST_POSTINGS;
   noted : l.noted.metadata ≡ items_in (slice_get l.postings l.noted.written);
 }

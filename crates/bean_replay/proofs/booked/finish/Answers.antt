@@ -1,24 +1,25 @@
 use Rattle.std.proofs.Common.{◌++◌, ◌∙◌, ap, append_assoc, subst, sym}
 use Rattle.bean_pad.specs.Following.{Follows}
-use Rattle.bean_replay.specs.Booked.{faults_before, with_pads}
-use Rattle.bean_replay.specs.Booker.{unseen}
+use Rattle.bean_replay.specs.Booked.{faults_before}
+use Rattle.bean_replay.specs.Stand.{postings_of}
+use Rattle.bean_replay.specs.Watched.{unseen_of}
 use Rattle.bean_replay.proofs.ShownFacts.{padded_by_seen}
 use Rattle.bean_replay.proofs.booked.finish.Goals as goal
 
 pub returns-clause-booked : goal.returns-clause-booked
-returns-clause-booked c = λ l told m past st is.
+returns-clause-booked g c = λ l told m past st led.
+    let is = led.stands in
     let parts = c.into_found-padder.ensures in
     let padded =
-    padded_by_seen (unseen c.args.booker) is.seen st.steps c.in_ok-padded.padded is.steps_are
+    padded_by_seen (unseen_of c.args.led.booker.watched (postings_of st.drafts)) is.seen st.steps
+    c.in_ok-padded.padded is.steps_are
     (c.in_ok-padded.ensures is.seen (subst (Follows is.seen) (sym (ap (λ r. r.0) parts)) is.follows)) in
-    let own = c.deref.ensures.value ∙ ap (λ r. r.2.items) parts ∙ is.faults_are in
-    let found = c.as_slice.ensures ∙ padded.faults in
-    let pads = c.into_vec.ensures ∙ padded.pads in record {
-      bookings_are =
-          c.new.ensures ∙ c.in_ok-bookings.ensures
-          ∙ (λ k. with_pads ((ap (λ r. r.1.items) parts ∙ is.drafts_are) k) (pads k));
+    let own = c.deref.ensures.value ∙ ap (λ r. r.1.items) parts ∙ is.faults_are in
+    let found = c.as_slice.ensures ∙ padded.faults in record {
+      taken = led.taken;
+      pads_are = padded.pads;
       faults_are =
-          c.new-2.ensures ∙ c.in_ok-extend_from_slice-2.ensures.items
+          c.new.ensures ∙ c.in_ok-extend_from_slice-2.ensures.items
           ∙ ap (λ l. l ++ c.as_slice.result.now) c.in_ok-extend_from_slice.ensures.items
           ∙ (λ k. (told k ++ own k) ++ found k)
           ∙ append_assoc (faults_before l) st.faults _;

@@ -3,7 +3,7 @@ use Rattle.std.specs.List.{list_all}
 use Rattle.posting_table.specs.Shaped.{IsShaped}
 use Rattle.query_rows.specs.ColumnShape.{widest}
 use Rattle.posting_table.proofs.FitFacts.{row_fits, within_these}
-use Rattle.posting_table.proofs.PieceFacts.{all_of, of_behind, of_each}
+use Rattle.pieces.proofs.PieceFacts.{all_of, of_behind, of_each}
 use Rattle.posting_table.proofs.bounded.all_fit.Goals as goal
 
 pub returns-then-are_widest : goal.returns-then-are_widest

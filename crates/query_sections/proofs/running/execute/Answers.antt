@@ -1,4 +1,3 @@
-use Rattle.std.proofs.Common.{sym, ◌∙◌}
 use Rattle.query_sections.proofs.StepFacts.{push_room, unary_room, binary_room, slot_room}
 use Rattle.query_sections.proofs.StepFacts.{store_there, test_there, push_is, unary_is, binary_is}
 use Rattle.query_sections.proofs.StepFacts.{slot_is, store_is, jump_is, test_is}

@@ -1,6 +1,6 @@
-use Rattle.std.proofs.Common.{◌≡◌, ap, subst, sym, ◌∙◌, arith}
+use Rattle.std.proofs.Common.{ap, subst, sym, ◌∙◌, arith}
 use Rattle.plain_machine.specs.SectionRun.{one_step}
-use Rattle.query_sections.proofs.StepFacts.{inside_more, none_inside, one_more, room_more}
+use Rattle.query_sections.proofs.StepFacts.{inside_more, one_more, room_more}
 use Rattle.query_sections.specs.Reading.{acts_of}
 use Rattle.query_sections.specs.Room.{OutcomeHasRoom}
 use Rattle.query_sections.specs.Standing.{standing}

@@ -1,4 +1,4 @@
-use Rattle.std.proofs.Common.{◌≡◌, List, ℕ, map, nat_eq, sym, ap, ◌∙◌}
+use Rattle.std.proofs.Common.{List, ℕ, map, nat_eq, sym, ap, ◌∙◌}
 use Rattle.std.specs.Cmp.Lexicographic.{pointwise}
 use Rattle.std.specs.List.{list_any}
 use Rattle.query_values.specs.Choice.{text_choice}

@@ -1,14 +1,12 @@
-use Rattle.std.proofs.Common.{◌<◌, ap, arith, length, subst}
+use Rattle.std.proofs.Common.{arith}
 use Rattle.query_tables.proofs.RoundFacts.{any_of_all, any_told, as_long, round_ends, takes_next}
 use Rattle.query_tables.proofs.rounds.round.Goals as goal
 
 pub turn_of-is_any_going-requires : goal.turn_of-is_any_going-requires
 turn_of-is_any_going-requires c =
-    let there = subst (λ runs. c.loop-number.number < length runs) c.answers-number-end.ensures
-    c.loop-number-test.true in
     let long = as_long c.loop-number.number c.args.k c.args.batch.now c.loop-number.batch
     c.loop-number.invariant.0 in
-    omega (arith, there, long)
+    omega (arith, c.len-number-end.ensures, c.loop-number-test.true, long)
 
 pub loop-number-preserved : goal.loop-number-preserved
 loop-number-preserved c = (
@@ -20,15 +18,13 @@ loop-number-preserved c = (
 
 pub returns-clause-turned : goal.returns-clause-turned
 returns-clause-turned c =
-    let long = ap (λ runs. length runs) c.answers-number-end.ensures in
     round_ends c.loop-number.number c.args.k c.args.batch.now c.loop-number.batch
-    (omega (arith, long, c.loop-number-test.false, c.loop-number.auto.number-end))
+    (omega (arith, c.len-number-end.ensures, c.loop-number-test.false, c.loop-number.auto.number-end))
     c.loop-number.invariant.0
 
 pub returns-clause-goes : goal.returns-clause-goes
 returns-clause-goes c =
-    let long = ap (λ runs. length runs) c.answers-number-end.ensures in
     any_of_all c.loop-number.number c.args.k c.args.batch.now c.loop-number.batch
     c.loop-number.is_any_going
-    (omega (arith, long, c.loop-number-test.false, c.loop-number.auto.number-end))
+    (omega (arith, c.len-number-end.ensures, c.loop-number-test.false, c.loop-number.auto.number-end))
     c.loop-number.invariant.0 c.loop-number.invariant.1

@@ -6,4 +6,4 @@ use Rattle.bean_lots.proofs.inventory.Inventory.rises_in_days.Goals as goal
 pub returns : goal.returns
 returns c = λ t.
     subst RiseInDays c.self.view_is
-    (rising c.self.inside.slots.counts.entries (c.self.invariant.days t).0)
+    (rising c.self.inside.slots.counts (c.self.invariant.days t).0)

@@ -8,19 +8,19 @@ pub returns-clause-long : goal.returns-clause-long
 returns-clause-long c =
     let cur = c.args.currency.now in
     ap (λ s. s.long) c.signs_of.ensures.signs ∙ c.self.invariant.long cur
-    ∙ in_slots (long_lot cur) (not_long cur) c.self.inside.slots.counts.entries
+    ∙ in_slots (long_lot cur) (not_long cur) c.self.inside.slots.counts
     ∙ ap (long_lots cur) c.self.view_is
 
 pub returns-clause-short : goal.returns-clause-short
 returns-clause-short c =
     let cur = c.args.currency.now in
     ap (λ s. s.short) c.signs_of.ensures.signs ∙ c.self.invariant.short cur
-    ∙ in_slots (short_lot cur) (not_short cur) c.self.inside.slots.counts.entries
+    ∙ in_slots (short_lot cur) (not_short cur) c.self.inside.slots.counts
     ∙ ap (short_lots cur) c.self.view_is
 
 pub returns-clause-few : goal.returns-clause-few
 returns-clause-few c =
-    let es = c.self.inside.slots.counts.entries in
+    let es = c.self.inside.slots.counts in
     let fewer = no_more_held es in
     let same = ap length c.self.view_is in
     let all = c.signs_of.ensures.few in

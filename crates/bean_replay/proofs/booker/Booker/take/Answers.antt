@@ -1,7 +1,7 @@
-use Rattle.std.proofs.Common.{◌≡◌, ◌++◌, ◌∷◌, [], append_assoc, ap, arith, drop, length, sym}
+use Rattle.std.proofs.Common.{◌≡◌, ◌++◌, ◌∷◌, [], append_assoc, ap, arith, sym, true}
 use Rattle.std.proofs.Common.{◌∙◌, refl, subst}
-use Rattle.std.proofs.lemmas.List.{append-nil, length-append}
-use Rattle.std.proofs.lemmas.Result.{on_ok_weaker}
+use Rattle.std.proofs.lemmas.List.{append-nil}
+use Rattle.std.proofs.lemmas.Result.{IfOk-weaker}
 use Rattle.bean_accounts.specs.Faults.{faults_at, of_close, of_open, of_use}
 use Rattle.bean_accounts.specs.Kept.{IsKept}
 use Rattle.bean_directives.specs.declared.directive.DirectiveKind.TheVariants as kind
@@ -12,13 +12,14 @@ use Rattle.bean_holdings.specs.Held.{held}
 use Rattle.bean_directives.specs.declared.numbers.Balance.{Balance}
 use Rattle.bean_holdings.specs.Holdings.{AreHeld, holding}
 use Rattle.bean_transactions.specs.Tried.{Tries}
-use Rattle.bean_replay.specs.Booker.{IsStanding}
+use Rattle.bean_replay.specs.Booker.{IsBehind}
 use Rattle.bean_replay.specs.Stand.{IsFull, IsStepBy, account_step, account_steps, after_trial}
-use Rattle.bean_replay.specs.Stand.{place_of, postings_of, setting_of, steps_of, with_balance}
-use Rattle.bean_replay.specs.Stand.{with_faults, with_pad, written_in}
+use Rattle.bean_replay.specs.Stand.{place_of, postings_of, setting_of, steps_of_postings}
+use Rattle.bean_replay.specs.Stand.{with_balance, with_faults, with_pad, written_in}
+use Rattle.bean_replay.specs.Watched.{is_watching, unseen_of}
 use Rattle.bean_replay.specs.declared.booking.Draft.TheVariants as draft
 use Rattle.bean_replay.specs.declared.booking.Written.{Written}
-use Rattle.bean_replay.proofs.ShownFacts.{count_more, postings_more, unseen_more}
+use Rattle.bean_replay.proofs.ShownFacts.{count_more, postings_more}
 use Rattle.bean_replay.proofs.TakeFacts.{later, other, stepped}
 use Rattle.bean_replay.proofs.booker.Booker.take.Goals as goal
 
@@ -39,15 +40,15 @@ returns-in-Transaction-clause-standing c = λ m past st is.
       metadata = d.item.metadata;
       transaction = t;
     } in
-    on_ok_weaker c.transaction.result
-    (λ done.
+    IfOk-weaker c.transaction.result _ _
+    (λ booked done.
     stepped m past st (after_trial past st (written_in d t) done.0) d (kind.Transaction t)
-    c.transaction.new.self c.in-Transaction.is (
+    c.transaction.new.self booked c.in-Transaction.is (
       done.0,
       subst (λ w. Tries (setting_of m st w) t.postings done.0) same done.1,
       refl,
     ) refl
-    (subst (λ w. IsStanding m past (after_trial past st w done.0) c.transaction.new.self) same
+    (subst (λ w. IsBehind m past st (after_trial past st w done.0) booked c.transaction.new.self) same
     done.2))
     (c.transaction.ensures.standing m past st is)
 
@@ -74,9 +75,9 @@ returns-in-Transaction-clause-full c = λ is_full m past st is new step.
     (subst (λ w. IsFull (after_trial past st w by.0)) same
     (c.transaction.ensures.full is_full m past st is by.0 tries))
 
-pub returns-in_ok-take_open-in-Open-clause-standing :
-    goal.returns-in_ok-take_open-in-Open-clause-standing
-returns-in_ok-take_open-in-Open-clause-standing c = λ m past st is.
+pub returns-in-Open-clause-standing :
+    goal.returns-in-Open-clause-standing
+returns-in-Open-clause-standing c = λ m past st is.
     let d = c.args.placed in
     let o = c.in-Open.open in
     let steps = account_steps past in
@@ -86,32 +87,33 @@ returns-in_ok-take_open-in-Open-clause-standing c = λ m past st is.
       new,
       subst (λ k. IsStepBy m past st d k new) (sym c.in-Open.is) refl,
       record {
-        methods = is.methods;
-        accounts =
-            subst (λ k. IsKept (account_step k ++ steps) c.take_open.new.accounts)
-            (sym c.in-Open.is) (done.kept steps is.accounts);
-        held = is.held;
-        count = is.count;
-        seen = is.seen;
-        follows = is.follows;
-        steps_are = is.steps_are;
-        drafts_are = is.drafts_are;
-        faults_are =
-            done.faults steps is.accounts
-            ∙ (λ k. is.faults_are k ++ faults_at (at k) (of_open o.account o.method steps));
-        room = record {
-          bounded = is.room.bounded;
-          near = is.room.near;
-          few = is.room.few;
-          shown = is.room.shown;
-          steps = let few = is.room.steps in omega (arith, few);
+        stands = record {
+          methods = is.methods;
+          accounts =
+              subst (λ k. IsKept (account_step k ++ steps) c.take_open.new.accounts)
+              (sym c.in-Open.is) (done.kept steps is.accounts);
+          held = is.held;
+          count = is.count;
+          seen = is.seen;
+          follows = is.follows;
+          steps_are = is.steps_are;
+          faults_are =
+              done.faults steps is.accounts
+              ∙ (λ k. is.faults_are k ++ faults_at (at k) (of_open o.account o.method steps));
+          room = record {
+            bounded = is.room.bounded;
+            near = is.room.near;
+            few = is.room.few;
+            steps = let few = is.room.steps in omega (arith, few);
+          };
         };
+        adds = sym (append-nil st.drafts);
       },
     )
 
-pub returns-in_ok-take_close-in-Close-clause-standing :
-    goal.returns-in_ok-take_close-in-Close-clause-standing
-returns-in_ok-take_close-in-Close-clause-standing c = λ m past st is.
+pub returns-in-Close-clause-standing :
+    goal.returns-in-Close-clause-standing
+returns-in-Close-clause-standing c = λ m past st is.
     let d = c.args.placed in
     let o = c.in-Close.close in
     let steps = account_steps past in
@@ -121,71 +123,62 @@ returns-in_ok-take_close-in-Close-clause-standing c = λ m past st is.
       new,
       subst (λ k. IsStepBy m past st d k new) (sym c.in-Close.is) refl,
       record {
-        methods = is.methods;
-        accounts =
-            subst (λ k. IsKept (account_step k ++ steps) c.take_close.new.accounts)
-            (sym c.in-Close.is) (done.kept steps is.accounts);
-        held = is.held;
-        count = is.count;
-        seen = is.seen;
-        follows = is.follows;
-        steps_are = is.steps_are;
-        drafts_are = is.drafts_are;
-        faults_are =
-            done.faults steps is.accounts
-            ∙ (λ k. is.faults_are k ++ faults_at (at k) (of_close o.account steps));
-        room = record {
-          bounded = is.room.bounded;
-          near = is.room.near;
-          few = is.room.few;
-          shown = is.room.shown;
-          steps = let few = is.room.steps in omega (arith, few);
+        stands = record {
+          methods = is.methods;
+          accounts =
+              subst (λ k. IsKept (account_step k ++ steps) c.take_close.new.accounts)
+              (sym c.in-Close.is) (done.kept steps is.accounts);
+          held = is.held;
+          count = is.count;
+          seen = is.seen;
+          follows = is.follows;
+          steps_are = is.steps_are;
+          faults_are =
+              done.faults steps is.accounts
+              ∙ (λ k. is.faults_are k ++ faults_at (at k) (of_close o.account steps));
+          room = record {
+            bounded = is.room.bounded;
+            near = is.room.near;
+            few = is.room.few;
+            steps = let few = is.room.steps in omega (arith, few);
+          };
         };
+        adds = sym (append-nil st.drafts);
       },
     )
 
 pub take_pad-requires-clause-near : goal.take_pad-requires-clause-near
-take_pad-requires-clause-near c =
-    let z = c.requires in
-    (c.in_ok-show-in-Pad.ensures.standing z.method_of z.past z.stand z.is).room.near
+take_pad-requires-clause-near c = c.requires.stands.is.room.near
 
 pub take_pad-requires-clause-few : goal.take_pad-requires-clause-few
 take_pad-requires-clause-few c =
-    let z = c.requires in
-    let room = (c.in_ok-show-in-Pad.ensures.standing z.method_of z.past z.stand z.is).room in
+    let z = c.requires.stands in
+    let room = z.is.room in
     let few = z.few in omega (arith, room.steps, room.few, few)
 
 pub take_balance-requires-clause-near : goal.take_balance-requires-clause-near
-take_balance-requires-clause-near c =
-    let z = c.requires in
-    (c.in_ok-show-in-Balance.ensures.standing z.method_of z.past z.stand z.is).room.near
+take_balance-requires-clause-near c = c.requires.stands.is.room.near
 
 pub take_balance-requires-clause-few : goal.take_balance-requires-clause-few
 take_balance-requires-clause-few c =
-    let z = c.requires in
-    let room = (c.in_ok-show-in-Balance.ensures.standing z.method_of z.past z.stand z.is).room in
+    let z = c.requires.stands in
+    let room = z.is.room in
     let few = z.few in omega (arith, room.steps, room.few, few)
 
-pub returns-in_ok-push-in-Pad-clause-standing : goal.returns-in_ok-push-in-Pad-clause-standing
-returns-in_ok-push-in-Pad-clause-standing c = λ m past st before.
-    let is = c.in_ok-show-in-Pad.ensures.standing m past st before in
-    let shown = c.show.new.self in
-    let all = c.in_ok-show-in-Pad.ensures.all in
-    let same : st.steps ≡ is.seen =
-    is.steps_are ∙ ap (λ l. steps_of l ++ is.seen) all in
+pub returns-in-Pad-clause-standing :
+    goal.returns-in-Pad-clause-standing
+returns-in-Pad-clause-standing c = λ m past st is.
+    let b = c.args.self.now in
     let d = c.args.placed in
     let p = c.in-Pad.pad in
+    let watched : b.watched ≡ true = c.requires.watched (ap is_watching c.in-Pad.is) in
+    let same : st.steps ≡ is.seen =
+    is.steps_are
+    ∙ ap (λ w. steps_of_postings (unseen_of w (postings_of st.drafts)) ++ is.seen) watched in
     let steps = account_steps past in
     let done = c.in_ok-take_pad-in-Pad.ensures in
     let at = c.place_of-place.ensures in
-    let items = c.in_ok-push-in-Pad.ensures.items in
-    let unseen_now =
-    ap (drop shown.shown) items
-    ∙ unseen_more shown.shown shown.drafts.items draft.Pad is.room.shown
-    ∙ ap (λ l. l ++ draft.Pad ∷ []) all in
-    let longer = ap length items ∙ length-append shown.drafts.items (draft.Pad ∷ []) in
-    let none = ap (λ l. length (postings_of l)) unseen_now in
-    let none_before = ap (λ l. length (postings_of l)) all in
+    let later = postings_of (st.drafts ++ draft.Pad ∷ []) in
     let first = faults_at (place_of d) (of_use p.account steps) in
     let second = faults_at (place_of d) (of_use p.source steps) in
     let own = step.Pad p d.item.day (place_of d) in
@@ -193,49 +186,53 @@ returns-in_ok-push-in-Pad-clause-standing c = λ m past st before.
       new,
       subst (λ k. IsStepBy m past st d k new) (sym c.in-Pad.is) refl,
       record {
-        methods = is.methods;
-        accounts =
-            subst (λ k. IsKept (account_step k ++ steps) shown.accounts)
-            (sym c.in-Pad.is) is.accounts;
-        held =
-            subst (λ l. AreHeld l shown.holdings)
-            (sym (postings_more st.drafts draft.Pad ∙ append-nil (postings_of st.drafts))) is.held;
-        count =
-            let more = count_more st.drafts draft.Pad in
-            let count = is.count in omega (arith, more, count);
-        seen = own ∷ is.seen;
-        follows =
-            subst (λ at. Follows (step.Pad p d.item.day at ∷ is.seen)
-            c.take_pad.new.padder) at (done.follows is.seen is.follows);
-        steps_are =
-            ap (λ l. own ∷ l) same ∙ sym (ap (λ l. steps_of l ++ own ∷ is.seen) unseen_now);
-        drafts_are = items ∙ ap (λ l. l ++ draft.Pad ∷ []) is.drafts_are;
-        faults_are =
-            done.faults steps is.accounts
-            ∙ (λ k. (is.faults_are k ++ faults_at (at k) (of_use p.account steps))
-            ++ faults_at (at k) (of_use p.source steps))
-            ∙ append_assoc st.faults first second;
-        room = record {
-          bounded = is.room.bounded;
-          near = done.near;
-          few = is.room.few;
-          shown = let few = is.room.shown in omega (arith, longer, few);
-          steps =
-              let few = is.room.steps in
-              let one = done.steps in omega (arith, none, none_before, few, one);
+        stands = record {
+          methods = is.methods;
+          accounts =
+              subst (λ k. IsKept (account_step k ++ steps) b.accounts) (sym c.in-Pad.is)
+              is.accounts;
+          held =
+              subst (λ l. AreHeld l b.holdings)
+              (sym (postings_more st.drafts draft.Pad ∙ append-nil (postings_of st.drafts)))
+              is.held;
+          count =
+              let more = count_more st.drafts draft.Pad in
+              let count = is.count in omega (arith, more, count);
+          seen = own ∷ is.seen;
+          follows =
+              subst (λ at. Follows (step.Pad p d.item.day at ∷ is.seen) c.take_pad.new.padder) at
+              (done.follows is.seen is.follows);
+          steps_are =
+              ap (λ l. own ∷ l) same
+              ∙ sym (ap (λ w. steps_of_postings (unseen_of w later) ++ own ∷ is.seen) watched);
+          faults_are =
+              done.faults steps is.accounts
+              ∙ (λ k. (is.faults_are k ++ faults_at (at k) (of_use p.account steps))
+              ++ faults_at (at k) (of_use p.source steps))
+              ∙ append_assoc st.faults first second;
+          room = record {
+            bounded = is.room.bounded;
+            near = done.near;
+            few = is.room.few;
+            steps =
+                let few = is.room.steps in
+                let one = done.steps in omega (arith, few, one);
+          };
         };
+        adds = refl;
       },
     )
 
-pub returns-in_ok-take_balance-in-Balance-clause-standing :
-    goal.returns-in_ok-take_balance-in-Balance-clause-standing
-returns-in_ok-take_balance-in-Balance-clause-standing c = λ m past st before.
-    let is = c.in_ok-show-in-Balance.ensures.standing m past st before in
-    let all = c.in_ok-show-in-Balance.ensures.all in
-    let same : st.steps ≡ is.seen =
-    is.steps_are ∙ ap (λ l. steps_of l ++ is.seen) all in
+pub returns-in-Balance-clause-standing :
+    goal.returns-in-Balance-clause-standing
+returns-in-Balance-clause-standing c = λ m past st is.
+    let own_booker = c.args.self.now in
     let d = c.args.placed in
     let b = c.in-Balance.balance in
+    let watched : own_booker.watched ≡ true = c.requires.watched (ap is_watching c.in-Balance.is) in
+    let before = postings_of st.drafts in
+    let same : st.steps ≡ is.seen =
+    is.steps_are ∙ ap (λ w. steps_of_postings (unseen_of w before) ++ is.seen) watched in
     let lent = c.get.ensures in
     let steps = account_steps past in
     let done = c.in_ok-take_balance-in-Balance.ensures in
@@ -247,45 +244,53 @@ returns-in_ok-take_balance-in-Balance-clause-standing c = λ m past st before.
       new,
       subst (λ k. IsStepBy m past st d k new) (sym c.in-Balance.is) refl,
       record {
-        methods = is.methods;
-        accounts =
-            subst (λ k. IsKept (account_step k ++ steps) c.show-in-Balance.new.self.accounts)
-            (sym c.in-Balance.is) is.accounts;
-        held = is.held;
-        count = is.count;
-        seen = own ∷ is.seen;
-        follows =
-            subst (λ at. Follows (step.Balance b at cost ∷ is.seen)
-            c.take_balance.new.padder) at
-            (subst (λ es. Follows
-            (step.Balance b c.place_of-place.result (has_lot b.currency es) ∷ is.seen)
-            c.take_balance.new.padder) (is.held.each b.account)
-            (subst (λ (b : Balance). Follows
-            (step.Balance b c.place_of-place.result
-            (has_lot b.currency (holding c.show-in-Balance.new.self.holdings b.account)) ∷ is.seen)
-            c.take_balance.new.padder) lent (done.follows is.seen is.follows)));
-        steps_are =
-            ap (λ l. own ∷ l) same ∙ sym (ap (λ l. steps_of l ++ own ∷ is.seen) all);
-        drafts_are = is.drafts_are;
-        faults_are =
-            done.faults steps is.accounts
-            ∙ (λ k. is.faults_are k ++ faults_at (at k) (of_use (lent k).account steps));
-        room = record {
-          bounded = is.room.bounded;
-          near = done.near;
-          few = is.room.few;
-          shown = is.room.shown;
-          steps =
-              let few = is.room.steps in
-              let one = done.steps in omega (arith, few, one);
+        stands = record {
+          methods = is.methods;
+          accounts =
+              subst (λ k. IsKept (account_step k ++ steps) own_booker.accounts)
+              (sym c.in-Balance.is) is.accounts;
+          held = is.held;
+          count = is.count;
+          seen = own ∷ is.seen;
+          follows =
+              subst (λ at. Follows (step.Balance b at cost ∷ is.seen)
+              c.take_balance.new.padder) at
+              (subst (λ es. Follows
+              (step.Balance b c.place_of-place.result (has_lot b.currency es) ∷ is.seen)
+              c.take_balance.new.padder) (is.held.each b.account)
+              (subst (λ (b : Balance). Follows
+              (step.Balance b c.place_of-place.result
+              (has_lot b.currency (holding own_booker.holdings b.account)) ∷ is.seen)
+              c.take_balance.new.padder) lent (done.follows is.seen is.follows)));
+          steps_are =
+              ap (λ l. own ∷ l) same
+              ∙ sym (ap (λ w. steps_of_postings (unseen_of w before) ++ own ∷ is.seen) watched);
+          faults_are =
+              done.faults steps is.accounts
+              ∙ (λ k. is.faults_are k ++ faults_at (at k) (of_use (lent k).account steps));
+          room = record {
+            bounded = is.room.bounded;
+            near = done.near;
+            few = is.room.few;
+            steps =
+                let few = is.room.steps in
+                let one = done.steps in omega (arith, few, one);
+          };
         };
+        adds = sym (append-nil st.drafts);
       },
     )
 
-pub returns-in_default-clause-standing : goal.returns-in_default-clause-standing
-returns-in_default-clause-standing c = λ m past st is.
+pub returns-clause-standing : goal.returns-clause-standing
+returns-clause-standing c = λ m past st is.
     let d = c.args.placed in
     let none =
     other m past st d d.item.kind c.in_default.not-Transaction c.in_default.not-Open
-    c.in_default.not-Close c.in_default.not-Pad c.in_default.not-Balance in
-    (st, none.0, later m past st d c.args.self.now none.1 is)
+    c.in_default.not-Close c.in_default.not-Pad c.in_default.not-Balance in (
+      st,
+      none.0,
+      record {
+        stands = later m past st d c.args.self.now none.1 is;
+        adds = sym (append-nil st.drafts);
+      },
+    )

@@ -1,5 +1,5 @@
 use Rattle.std.proofs.Common.{◌+◌, ◌<◌, Ok, Err, length, subst}
-use Rattle.std.proofs.lemmas.Result.{on_ok_weaker}
+use Rattle.std.proofs.lemmas.Result.{IfOk-weaker}
 use Rattle.limits.specs.declared.counts.TheConstants.{MOST_POSTINGS}
 use Rattle.bean_transactions.proofs.LightFacts.{kept_light}
 use Rattle.bean_transactions.specs.Outcome.{StopsAt}
@@ -35,7 +35,7 @@ returns-in-Ok-clause-standing c = λ m past st is.
     let tries =
     subst (λ ps. Tries s ps (Ok c.in-Ok.tried.posted)) c.as_slice.ensures
     (c.in-Ok.ensures.tried s (settled m past st w c.args.self.now is)) in
-    on_ok_weaker c.keep.result (λ standing. (Ok c.in-Ok.tried.posted, tries, standing))
+    IfOk-weaker c.keep.result _ _ (λ booked behind. (Ok c.in-Ok.tried.posted, tries, behind))
     (c.keep.ensures.standing m past st (reweighed m past st c.args.self.now _ is))
 
 pub returns-in-Err-Refused-clause-standing : goal.returns-in-Err-Refused-clause-standing
@@ -47,7 +47,7 @@ returns-in-Err-Refused-clause-standing c = λ m past st is.
     let tries =
     subst (λ ps. Tries s ps (Err c.in-Err-Refused.fault)) c.as_slice.ensures
     (subst (StopsAt (λ f. Tries s c.as_slice.result.now (Err f))) c.in-Err-Refused.field-0-is told) in
-    on_ok_weaker c.drop_with.result (λ standing. (Err c.in-Err-Refused.fault, tries, standing))
+    IfOk-weaker c.drop_with.result _ _ (λ booked behind. (Err c.in-Err-Refused.fault, tries, behind))
     (c.drop_with.ensures.standing m past st (reweighed m past st c.args.self.now _ is))
 
 pub returns-in-Ok-clause-full : goal.returns-in-Ok-clause-full

@@ -11,10 +11,10 @@ none_taken l n e = ap (λ m. take m l) e
 
 pub returns-then-end-eq0-clause-kept : goal.returns-then-end-eq0-clause-kept
 returns-then-end-eq0-clause-kept c =
-    let es = c.args.self.now.counts.entries in
+    let es = c.args.self.now.counts in
     let end = c.end_of_held-end.result in
-    let gone = c.truncate.ensures.entries ∙ none_taken es end c.if-end-eq0.true in
-    kept.in_front c.args.self.now _ end c.requires c.truncate.ensures.entries
+    let gone = c.truncate.ensures ∙ none_taken es end c.if-end-eq0.true in
+    kept.in_front c.args.self.now _ end c.requires c.truncate.ensures
     c.end_of_held-end.ensures (omega (arith, c.min-self.ensures))
     (omega (arith, c.min-self.ensures))
     (subst (AreDays c.new-self.result) (sym gone) c.new-self.ensures)
@@ -22,23 +22,23 @@ returns-then-end-eq0-clause-kept c =
 
 pub returns-then-end-eq0-clause-same : goal.returns-then-end-eq0-clause-same
 returns-then-end-eq0-clause-same c =
-    let es = c.args.self.now.counts.entries in
-    ap positions c.truncate.ensures.entries ∙ sym (same (take c.end_of_held-end.result es))
+    let es = c.args.self.now.counts in
+    ap positions c.truncate.ensures ∙ sym (same (take c.end_of_held-end.result es))
     ∙ ap positions c.end_of_held-end.ensures ∙ same es
 
 pub returns-else-end-eq0-clause-kept : goal.returns-else-end-eq0-clause-kept
 returns-else-end-eq0-clause-kept c =
     let end = c.end_of_held-end.result in
-    kept.in_front c.args.self.now _ end c.requires c.truncate.ensures.entries
+    kept.in_front c.args.self.now _ end c.requires c.truncate.ensures
     c.end_of_held-end.ensures (omega (arith, c.min-self.ensures))
     (omega (arith, c.min-self.ensures))
-    (kept.front_days c.args.self.now end c.truncate.new.self.entries c.requires
-    c.truncate.ensures.entries) (λ cur. refl)
-    (kept.front_costs c.args.self.now end c.truncate.new.self.entries c.requires
-    c.truncate.ensures.entries)
+    (kept.front_days c.args.self.now end c.truncate.new.self c.requires
+    c.truncate.ensures) (λ cur. refl)
+    (kept.front_costs c.args.self.now end c.truncate.new.self c.requires
+    c.truncate.ensures)
 
 pub returns-else-end-eq0-clause-same : goal.returns-else-end-eq0-clause-same
 returns-else-end-eq0-clause-same c =
-    let es = c.args.self.now.counts.entries in
-    ap positions c.truncate.ensures.entries ∙ sym (same (take c.end_of_held-end.result es))
+    let es = c.args.self.now.counts in
+    ap positions c.truncate.ensures ∙ sym (same (take c.end_of_held-end.result es))
     ∙ ap positions c.end_of_held-end.ensures ∙ same es

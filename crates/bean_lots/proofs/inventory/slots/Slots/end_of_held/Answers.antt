@@ -6,13 +6,13 @@ use Rattle.bean_lots.proofs.inventory.slots.Slots.end_of_held.Goals as goal
 
 pub loop-end-preserved : goal.loop-end-preserved
 loop-end-preserved c =
-    let es = c.args.self.now.counts.entries in
+    let es = c.args.self.now.counts in
     let i = c.loop-end.end - 1 in
     let next : suc i ≡ c.loop-end.end = omega (arith, c.loop-end-test.true) in
-    let zero : c.index.result.now ≡ pos 0 = grind (arith, ints, c.if-index-eq0.true) in
+    let zero : c.count_at.result ≡ pos 0 = grind (arith, ints, c.if-count_at-eq0.true) in
     record {
       inside = omega (arith, c.loop-end.invariant.inside);
       same =
-          last_hole es i (c.index.ensures ∙ ap Some zero)
+          last_hole es i (c.count_at.ensures ∙ ap Some zero)
           ∙ ap (λ j. filter is_full (take j es)) next ∙ c.loop-end.invariant.same;
     }

@@ -12,7 +12,7 @@ none (e ∷ es) h = absurd (omega (arith, h))
 pub returns-clause-bare : goal.returns-clause-bare
 returns-clause-bare c = λ t.
     ap positions
-    (none c.args.self.now.counts.entries (grind (arith, nat_tests, t, c.len.ensures.len)))
+    (none c.args.self.now.counts (grind (arith, nat_tests, t, c.len.ensures.len)))
 
 pub returns-clause-inventory : goal.returns-clause-inventory
-returns-clause-inventory c = inventory c.args.self.now.counts.entries c.len.ensures.unique
+returns-clause-inventory c = inventory c.args.self.now.counts c.len.ensures.unique

@@ -22,45 +22,45 @@ turned n small = omega (arith, ints)
 may_turn : (n : ℤ) → unsigned_abs n < 2 ^ 127 → FitsSigned w128 (pos 0 -ℤ to_z w128 (of_z w128 n))
 may_turn n small = omega (arith, ints)
 
-pub index-count-requires : goal.index-count-requires
-index-count-requires c =
-    let es = c.args.self.now.counts.entries in
+pub count_at-count-requires : goal.count_at-count-requires
+count_at-count-requires c =
+    let es = c.args.self.now.counts in
     let i = c.loop-index.index in
     let same = ap length c.loop-index.invariant.entries ∙ same_length neg_ℤ i es in
     omega (arith, same, c.loop-index-test.true, c.len-index-end.ensures.len)
 
 pub overflow_sub-count : goal.overflow_sub-count
 overflow_sub-count c =
-    let es = c.args.self.now.counts.entries in
+    let es = c.args.self.now.counts in
     let i = c.loop-index.index in
-    let n = c.index-count.result.now in
+    let n = c.count_at-count.result in
     let at : slice_get (values_of es) i ≡ Some n =
     sym (next neg_ℤ i es) ∙ ap (λ l. slice_get (values_of l) i) (sym c.loop-index.invariant.entries)
-    ∙ c.index-count.ensures in
+    ∙ c.count_at-count.ensures in
     may_turn n
     (fits es i n (recursion_from_All MayBeNegated (positions es) c.requires.wide) at)
 
-pub index_mut-requires : goal.index_mut-requires
-index_mut-requires c =
-    let es = c.args.self.now.counts.entries in
+pub set-requires : goal.set-requires
+set-requires c =
+    let es = c.args.self.now.counts in
     let i = c.loop-index.index in
     let same = ap length c.loop-index.invariant.entries ∙ same_length neg_ℤ i es in
     omega (arith, same, c.loop-index-test.true, c.len-index-end.ensures.len)
 
 pub loop-index-preserved : goal.loop-index-preserved
 loop-index-preserved c =
-    let es = c.args.self.now.counts.entries in
+    let es = c.args.self.now.counts in
     let i = c.loop-index.index in
-    let n = c.index-count.result.now in
+    let n = c.count_at-count.result in
     let at : slice_get (values_of es) i ≡ Some n =
     sym (next neg_ℤ i es) ∙ ap (λ l. slice_get (values_of l) i) (sym c.loop-index.invariant.entries)
-    ∙ c.index-count.ensures in
+    ∙ c.count_at-count.ensures in
     let small =
     fits es i n (recursion_from_All MayBeNegated (positions es) c.requires.wide) at in
     record {
       entries =
           rw add-one
-          (ap (set_value_at c.loop-index.self.counts.entries i) (turned n small)
+          (c.set.ensures ∙ ap (set_value_at c.loop-index.self.counts i) (turned n small)
           ∙ ap (λ l. set_value_at l i (neg_ℤ n)) c.loop-index.invariant.entries
           ∙ one_more neg_ℤ i es n at);
       first = c.loop-index.invariant.first;
@@ -71,10 +71,10 @@ loop-index-preserved c =
 pub returns-clause-kept : goal.returns-clause-kept
 returns-clause-kept c =
     let s = c.args.self.now in
-    let end : c.loop-index.index ≡ length s.counts.entries = omega arith in
+    let end : c.loop-index.index ≡ length s.counts = omega arith in
     let entries =
-    c.loop-index.invariant.entries ∙ ap (λ n. negative_front n s.counts.entries) end
-    ∙ all neg_ℤ s.counts.entries in
+    c.loop-index.invariant.entries ∙ ap (λ n. negative_front n s.counts) end
+    ∙ all neg_ℤ s.counts in
     kept s _ c.requires.kept entries c.loop-index.invariant.first c.loop-index.invariant.days
     (λ cur. c.negate.ensures.signs cur
     ∙ ap (λ x. negated (signs_of x cur)) c.loop-index.invariant.lots)
@@ -82,7 +82,7 @@ returns-clause-kept c =
 
 pub returns-clause-negated : goal.returns-clause-negated
 returns-clause-negated c =
-    let es = c.args.self.now.counts.entries in
+    let es = c.args.self.now.counts in
     let end : c.loop-index.index ≡ length es = omega arith in
     ap positions
     (c.loop-index.invariant.entries ∙ ap (λ n. negative_front n es) end ∙ all neg_ℤ es) ∙ held es

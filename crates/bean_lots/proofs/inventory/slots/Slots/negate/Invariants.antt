@@ -4,7 +4,7 @@ use Rattle.bean_lots.proofs.inventory.slots.Slots.negate.Given as goal
 
 abbrev pub invariant-loop-index : goal.invariant-loop-index
 invariant-loop-index l = record {
-  entries : l.self.counts.entries ≡ negative_front l.index l.initial.self.counts.entries;
+  entries : l.self.counts ≡ negative_front l.index l.initial.self.counts;
   first : l.self.first ≡ l.initial.self.first;
   lots : l.self.lots ≡ l.initial.self.lots;
   days : l.self.days ≡ l.initial.self.days;

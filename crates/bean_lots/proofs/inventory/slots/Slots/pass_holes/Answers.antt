@@ -7,13 +7,13 @@ pub loop-self-preserved : goal.loop-self-preserved
 loop-self-preserved c =
     let s = c.loop-self.self in
     let h = c.loop-self.invariant.kept in
-    let zero : c.index.result.now ≡ pos 0 = grind (arith, ints, c.if-index-eq0.true) in
+    let zero : c.count_at.result ≡ pos 0 = grind (arith, ints, c.if-count_at-eq0.true) in
     record {
       counts = c.loop-self.invariant.counts;
       kept = record {
         holes =
             rw add-one
-            (one_hole_more s.first s.counts.entries h.holes (c.index.ensures ∙ ap Some zero));
+            (one_hole_more s.first s.counts h.holes (c.count_at.ensures ∙ ap Some zero));
         long = h.long;
         short = h.short;
         days = h.days;

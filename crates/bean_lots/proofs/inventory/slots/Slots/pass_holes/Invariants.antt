@@ -9,4 +9,4 @@ invariant-loop-self l = record {
 }
 
 abbrev pub decreases-loop-self : goal.decreases-loop-self
-decreases-loop-self l = length l.self.counts.entries - l.self.first
+decreases-loop-self l = length l.self.counts - l.self.first

@@ -11,7 +11,7 @@ use Rattle.bean_lots.proofs.inventory.slots.Slots.positions_at.Goals as goal
 
 pub returns-in-Some-On : goal.returns-in-Some-On
 returns-in-Some-On c =
-    let es = c.args.self.now.counts.entries in
+    let es = c.args.self.now.counts in
     let cost = c.args.cost.now in
     let day = c.in-Some-On.day in
     let t = c.deref.result.now in
@@ -28,7 +28,7 @@ returns-in-Some-On c =
 
 pub returns-in-None : goal.returns-in-None
 returns-in-None c =
-    let es = c.args.self.now.counts.entries in
+    let es = c.args.self.now.counts in
     let cost = c.args.cost.now in
     let t = c.deref.result.now in
     let noted : AreNoted t es =

@@ -7,15 +7,15 @@ use Rattle.bean_lots.proofs.inventory.slots.Slots.positions_of.Goals as goal
 
 pub returns-in-Some : goal.returns-in-Some
 returns-in-Some c =
-    let es = c.args.self.now.counts.entries in
+    let es = c.args.self.now.counts in
     let k = c.args.key.now in
     let i = c.in-Some.index in
     let at : position (same_key k) (keys_of es) ≡ Some i =
-    sym c.slot_of.ensures.slot ∙ c.in-Some.is in
-    c.held_in.ensures ∙ ap (λ l. positions (take 1 (drop i l))) c.as_slice-slots.ensures.entries
-    ∙ sym (one_of k es i at c.slot_of.ensures.unique)
+    sym c.place_of.ensures.place ∙ c.in-Some.is in
+    c.held_in.ensures ∙ ap (λ l. positions (take 1 (drop i l))) c.as_run-slots.ensures
+    ∙ sym (one_of k es i at c.place_of.ensures.unique)
 
 pub returns-in-None : goal.returns-in-None
 returns-in-None c =
     c.new-in-None.ensures ∙ ap positions c.new.ensures
-    ∙ sym (none_of c.args.key.now c.args.self.now.counts.entries c.in-None.ensures.none)
+    ∙ sym (none_of c.args.key.now c.args.self.now.counts c.in-None.ensures.none)

@@ -19,24 +19,24 @@ returns-then-is_empty-clause-kept c =
 
 pub returns-then-is_empty-clause-same : goal.returns-then-is_empty-clause-same
 returns-then-is_empty-clause-same c =
-    ap positions c.keep_full.ensures ∙ swept.same c.args.self.now.counts.entries
+    ap positions c.keep_full.ensures ∙ swept.same c.args.self.now.counts
 
 pub returns-then-is_empty-clause-absent : goal.returns-then-is_empty-clause-absent
 returns-then-is_empty-clause-absent c = λ k h.
     ap (lookup (same_key k)) c.keep_full.ensures
-    ∙ swept.absent (same_key k) c.args.self.now.counts.entries h
+    ∙ swept.absent (same_key k) c.args.self.now.counts h
 
 pub returns-else-is_empty-clause-kept : goal.returns-else-is_empty-clause-kept
 returns-else-is_empty-clause-kept c =
     kept.swept_out c.args.self.now _ c.requires c.keep_full.ensures refl
-    (kept.same_days c.args.self.now c.keep_full.new.counts.entries c.requires c.keep_full.ensures)
+    (kept.same_days c.args.self.now c.keep_full.new.self c.requires c.keep_full.ensures)
     (λ cur. refl) refl
 
 pub returns-else-is_empty-clause-same : goal.returns-else-is_empty-clause-same
 returns-else-is_empty-clause-same c =
-    ap positions c.keep_full.ensures ∙ swept.same c.args.self.now.counts.entries
+    ap positions c.keep_full.ensures ∙ swept.same c.args.self.now.counts
 
 pub returns-else-is_empty-clause-absent : goal.returns-else-is_empty-clause-absent
 returns-else-is_empty-clause-absent c = λ k h.
     ap (lookup (same_key k)) c.keep_full.ensures
-    ∙ swept.absent (same_key k) c.args.self.now.counts.entries h
+    ∙ swept.absent (same_key k) c.args.self.now.counts h

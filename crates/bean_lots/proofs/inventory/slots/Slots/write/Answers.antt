@@ -21,17 +21,17 @@ recount-requires-clause-counted c =
     subst (IsCounted (signs_of s.lots) k) (sym wide)
     (kept.counted s k c.args.before c.requires.kept c.requires.count)
 
-pub pass_holes-requires : goal.pass_holes-requires
-pass_holes-requires c =
+pub leave_hole-requires : goal.leave_hole-requires
+leave_hole-requires c =
     let s = c.args.self.now in
-    let es = s.counts.entries in
+    let es = s.counts in
     let k = c.args.key.now in
     let wide : to_z w128 (of_z w128 c.args.before) ≡ c.args.before = omega (arith, ints) in
     let some : int_eq c.args.before (pos 0) ≡ false = grind (arith, ints, c.requires.some) in
     let n = to_z w128 (of_z w128 c.args.after) in
     let t = c.recount.new.self in
     let entries =
-    ap (λ m. set_value_at m.entries c.args.index n) c.recount.ensures.counts
+    c.set.ensures ∙ ap (λ m. set_value_at m c.args.index n) c.recount.ensures.counts
     ∙ slot.written es k c.args.index n c.requires.at in
     kept.written s _ k c.args.before n c.requires.kept c.requires.count some entries
     c.recount.ensures.first c.recount.ensures.days c.recount.ensures.costs
@@ -40,30 +40,30 @@ pass_holes-requires c =
 
 pub returns-then-after-eq0-clause-ok : goal.returns-then-after-eq0-clause-ok
 returns-then-after-eq0-clause-ok c = λ n e.
-    let es = c.args.self.now.counts.entries in
+    let es = c.args.self.now.counts in
     let k = c.args.key.now in
     let wide : to_z w128 (of_z w128 c.args.after) ≡ c.args.before +ℤ n = omega (arith, ints, e) in
     let some : int_eq c.args.before (pos 0) ≡ false = grind (arith, ints, c.requires.some) in
     let entries =
-    ap (λ m. set_value_at m.entries c.args.index (to_z w128 (of_z w128 c.args.after)))
+    c.set.ensures
+    ∙ ap (λ m. set_value_at m c.args.index (to_z w128 (of_z w128 c.args.after)))
     c.recount.ensures.counts
     ∙ slot.written es k c.args.index _ c.requires.at in
-    c.drop_last_holes.ensures.same ∙ ap (λ m. positions m.entries) c.pass_holes.ensures.counts
-    ∙ ap positions entries
+    c.leave_hole.ensures.same ∙ ap positions entries
     ∙ ap (λ m. positions (insert_entry same_key es k m)) wide
     ∙ held_key es k c.args.before n c.requires.count some
 
 pub returns-else-after-eq0-clause-kept : goal.returns-else-after-eq0-clause-kept
 returns-else-after-eq0-clause-kept c =
     let s = c.args.self.now in
-    let es = s.counts.entries in
+    let es = s.counts in
     let k = c.args.key.now in
     let wide : to_z w128 (of_z w128 c.args.before) ≡ c.args.before = omega (arith, ints) in
     let some : int_eq c.args.before (pos 0) ≡ false = grind (arith, ints, c.requires.some) in
     let n = to_z w128 (of_z w128 c.args.after) in
     let t = c.recount.new.self in
     let entries =
-    ap (λ m. set_value_at m.entries c.args.index n) c.recount.ensures.counts
+    c.set.ensures ∙ ap (λ m. set_value_at m c.args.index n) c.recount.ensures.counts
     ∙ slot.written es k c.args.index n c.requires.at in
     kept.written s _ k c.args.before n c.requires.kept c.requires.count some entries
     c.recount.ensures.first c.recount.ensures.days c.recount.ensures.costs
@@ -72,12 +72,13 @@ returns-else-after-eq0-clause-kept c =
 
 pub returns-else-after-eq0-clause-ok : goal.returns-else-after-eq0-clause-ok
 returns-else-after-eq0-clause-ok c = λ n e.
-    let es = c.args.self.now.counts.entries in
+    let es = c.args.self.now.counts in
     let k = c.args.key.now in
     let wide : to_z w128 (of_z w128 c.args.after) ≡ c.args.before +ℤ n = omega (arith, ints, e) in
     let some : int_eq c.args.before (pos 0) ≡ false = grind (arith, ints, c.requires.some) in
     let entries =
-    ap (λ m. set_value_at m.entries c.args.index (to_z w128 (of_z w128 c.args.after)))
+    c.set.ensures
+    ∙ ap (λ m. set_value_at m c.args.index (to_z w128 (of_z w128 c.args.after)))
     c.recount.ensures.counts
     ∙ slot.written es k c.args.index _ c.requires.at in
     ap positions entries

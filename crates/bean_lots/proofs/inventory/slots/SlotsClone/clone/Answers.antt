@@ -1,5 +1,4 @@
 use Rattle.std.proofs.Common.{◌≡◌, refl}
-use Rattle.std.proofs.lemmas.Map.Entries.{entries_from_clone}
 use Rattle.bean_lots.proofs.KeptFacts.{counted_as_before}
 use Rattle.bean_lots.proofs.CostFacts.{nothing_told}
 use Rattle.bean_lots.proofs.inventory.slots.SlotsClone.clone.Goals as goal
@@ -7,7 +6,7 @@ use Rattle.bean_lots.proofs.inventory.slots.SlotsClone.clone.Goals as goal
 pub returns : goal.returns
 returns c =
     let s = c.args.self.now in
-    let same : c.in_ok-clone.field-0.entries ≡ s.counts.entries = entries_from_clone _ _ (λ x y h. h) (λ v w h. h) _ _ c.in_ok-clone.ensures.cases in
+    let same : c.in_ok-clone.field-0 ≡ s.counts = c.in_ok-clone.ensures.cases in
     record {
       cases = (
         same,

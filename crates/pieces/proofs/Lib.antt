@@ -1,0 +1,2 @@
+pub mod PieceFacts
+pub mod TakenFacts

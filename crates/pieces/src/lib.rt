@@ -1,0 +1,24 @@
+//! Lists in pieces of memory: they grow without being moved, and are given up piece by piece.
+//!
+//! ```text
+//! let mut list = Pieces::new(alloc);
+//! list.push(alloc, item)?;
+//! let first = list.at(0);
+//! let mut taken = Taken::new(alloc, list)?;       // its items, to be put into another list
+//! move_items(alloc, &mut other, &mut taken, 3)?;
+//! ```
+//!
+//! # Faults
+//!
+//! The only cause of an error is want of memory. `push` left the list as it was then.
+//!
+//! # Cost
+//!
+//! A piece has 512 items. `new` takes no memory; `push` and `at` take a few steps. Items that are
+//! taken out of a list are moved once each, and a piece is given up as soon as it is empty.
+#![tactic(auto)]
+
+mod pieces;
+
+pub use pieces::Pieces;
+pub use pieces::taken::{Taken, move_items};

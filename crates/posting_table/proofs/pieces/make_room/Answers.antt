@@ -1,9 +1,0 @@
-use Rattle.std.proofs.Common.{◌∙◌}
-use Rattle.posting_table.specs.Pieces.{pieced}
-use Rattle.posting_table.proofs.PieceFacts.{turned}
-use Rattle.posting_table.proofs.pieces.make_room.Goals as goal
-
-pub returns-in_ok-begin_piece-clause-same : goal.returns-in_ok-begin_piece-clause-same
-returns-in_ok-begin_piece-clause-same g c =
-    (λ i. pieced (c.in_ok-begin_piece.ensures.begun i) (c.in_ok-begin_piece.ensures.empty i))
-    ∙ turned c.args.full.now.items c.args.last.now.items
