@@ -9,7 +9,7 @@
 //!
 //! # Cost
 //!
-//! Few keys are compared one by one, which takes less than to hash one: they lie in one piece of
+//! Few keys are compared one by one, which takes no more than to hash one: they lie in one piece of
 //! memory with their counts. Where there are more, all of them are hashed beside that, so that a key
 //! is found in constant time, whatever their number. To take a key out is linear, but at the end.
 #![tactic(auto)]

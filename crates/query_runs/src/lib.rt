@@ -15,8 +15,8 @@
 //! section, at most to its end and what follows there.
 //!
 //! What comes between two sections isn't counted as a step: the running inventory takes the
-//! posting's position where the program reads it, a row of the answer is kept, or its group gathers what the posting brings.
-//! Each function here leaves the run where the plain machine then stands.
+//! posting's position where the program reads it, a row of the answer is kept, or its group gathers
+//! what the posting brings. Each function here leaves the run where the plain machine then stands.
 //!
 //! # What is asked of the program
 //!

@@ -1,5 +1,5 @@
 //! What instructions load.
-ghost use Rattle.std.specs.Prelude.{◌≡◌, ◌≢◌, Some, None, IfOk, OnOk, option_map, slice_get};
+ghost use Rattle.std.specs.Prelude.{◌≡◌, ◌≢◌, Some, None, IfOk, OnOk, slice_get};
 ghost use Rattle.std.specs.Option.{option_copied};
 ghost use Rattle.plain_machine.specs.Loading.{cell_in, column_at, loaded, push_of};
 ghost use Rattle.plain_machine.specs.Pool.{key_in, value_in};
