@@ -1,9 +1,11 @@
 //! The rows of kept transactions.
-ghost use Rattle.std.specs.Prelude.{◌≡◌, ◌≤◌, ◌+◌, ◌++◌, IfOk, OnOk, length};
+ghost use Rattle.std.specs.Prelude.{◌≡◌, ◌≤◌, ◌+◌, ◌++◌, ℕ, IfOk, IfSome, IsTrue, OnOk, length};
 ghost use Rattle.std.specs.Prelude.{slice_get};
 ghost use Rattle.bean_interp.specs.Residual.{IsLight};
 ghost use Rattle.bean_transactions.specs.Tried.{booked_leg, whole_at};
 ghost use Rattle.limits.specs.declared.counts.TheConstants.{MOST_POSTINGS};
+ghost use Rattle.posting_table.specs.Plain as plain;
+ghost use Rattle.bean_book.specs.Plain.{IsPlain};
 ghost use Rattle.bean_book.specs.Rows as spec;
 ghost use Rattle.bean_book.specs.Tame.{IsTameKept};
 
@@ -15,7 +17,7 @@ use bean_lots::{Key, Position};
 use bean_postings::{Posting, Price};
 use bean_replay::Kept;
 use bean_transactions::whole;
-use posting_table::{Entry, Ledger, Metadata, Row, Shared, Weight};
+use posting_table::{Entry, Ledger, Metadata, PlainRow, Row, Shared, Weight};
 use std::alloc::{AllocError, Global};
 
 /// The metadata of a written posting, for all that it is booked as.
@@ -99,6 +101,40 @@ fn price_of<'a>(written: &Posting<'a>) -> Option<Amount<'a>>
     }
 }
 
+/// Whether a posting has nothing of its own but what it adds to its account.
+fn is_plain(written: &Posting<'_>, posted: &Posted<'_>) -> bool
+    ensures { IsTrue result → IsPlain written.now posted.now }
+{
+    match written.details.get() {
+        Some(_) => false,
+        None => posted.lot.is_none(),
+    }
+}
+
+/// The row of a booked posting that has nothing of its own but what it adds to its account.
+fn plain_row<'a>(
+    entry: &Shared<Entry<'a>>,
+    postings: &[Posting<'a>],
+    posted: &Posted<'a>,
+) -> Result<Option<PlainRow<'a>>, AllocError>
+    ensures { IfOk result (λ found. IfSome found (λ row. (line : ℕ) → plain.row_of row
+        ≡ spec.row_of entry.now line postings.now posted.now)) }
+{
+    let Some(written) = postings.get(posted.written) else {
+        return Ok(None);
+    };
+    if !is_plain(written, posted) {
+        return Ok(None);
+    }
+    Ok(Some(PlainRow {
+        entry: entry.share()?,
+        account: posted.account.lend(),
+        currency: posted.units.currency.lend(),
+        count: posted.units.number.scaled(8),
+        line: written.details.line(),
+    }))
+}
+
 /// The row of a booked posting, which has the metadata and the price of the written one.
 fn row_of<'a>(
     entry: &Shared<Entry<'a>>,
@@ -151,6 +187,10 @@ fn push_posted<'a>(
     let postings = kept.written.transaction.postings.as_slice();
     let mut noted = noted_at(alloc, postings, 0)?;
     for one in kept.postings.as_slice() {
+        if let Some(row) = plain_row(entry, postings, one)? {
+            ledger.push_plain(row)?;
+            continue;
+        }
         noted = next_noted(alloc, postings, noted, one.written)?;
         let metadata = noted.metadata.share()?;
         let row = row_of(entry, line, postings, metadata, one)?;

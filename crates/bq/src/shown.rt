@@ -42,7 +42,7 @@ impl Postings<'_, '_> {
         requires { row < length self.now.ledger.now.rows }
         ensures { Some result ≡ slice_get (row_at (map shown_row self.now.ledger.now.rows) row) 0 }
     {
-        Cell::day(self.ledger.date(row))
+        Cell::day(self.ledger.row(row).date())
     }
 
     /// How its transaction is marked.
@@ -50,7 +50,7 @@ impl Postings<'_, '_> {
         requires { row < length self.now.ledger.now.rows }
         ensures { Some result ≡ slice_get (row_at (map shown_row self.now.ledger.now.rows) row) 1 }
     {
-        flag_cell(self.ledger.flag(row))
+        flag_cell(self.ledger.row(row).flag())
     }
 
     /// The account of a posting.
@@ -58,7 +58,7 @@ impl Postings<'_, '_> {
         requires { row < length self.now.ledger.now.rows }
         ensures { Some result ≡ slice_get (row_at (map shown_row self.now.ledger.now.rows) row) 2 }
     {
-        Cell::text(self.ledger.account(row).text())
+        Cell::text(self.ledger.row(row).account().text())
     }
 
     /// The position of a posting.
@@ -67,7 +67,8 @@ impl Postings<'_, '_> {
         requires { row < length self.now.ledger.now.rows }
         ensures { Some result ≡ slice_get (row_at (map shown_row self.now.ledger.now.rows) row) 3 }
     {
-        Cell::position(self.ledger.key(row), self.ledger.count(row))
+        let posting = self.ledger.row(row);
+        Cell::position(posting.key(), posting.count())
     }
 }
 

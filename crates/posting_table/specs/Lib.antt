@@ -3,6 +3,7 @@ pub mod Row
 pub mod Cells
 pub mod Decimals
 pub mod Held
+pub mod Plain
 pub mod Beside
 pub mod Ledger
 pub mod Rows

@@ -2,6 +2,7 @@
 ghost use Rattle.std.specs.Prelude.{◌≡◌, IfOk};
 ghost use Rattle.std.specs.Option.{option_copied};
 ghost use Rattle.posting_table.specs.Rows.{entries_of};
+ghost use Rattle.posting_table.specs.Beside as spec;
 ghost use Rattle.query_rows.specs.Row as row_spec;
 
 use crate::metadata::Metadata;
@@ -57,9 +58,16 @@ impl<'a> Beside<'a> {
                 kept: Kept::Parts(Apart::new(alloc, parts)?),
             });
         }
-        Ok(Beside {
-            kept: Kept::Line(parts.line),
-        })
+        Ok(Beside::line_alone(parts.line))
+    }
+
+    /// A line with nothing else. Takes no memory.
+    pub(crate) fn line_alone(line: usize) -> Beside<'a>
+        ensures { result ≡ spec.line_alone line }
+    {
+        Beside {
+            kept: Kept::Line(line),
+        }
     }
 
     /// What the posting weighs, where that isn't what its units weigh by themselves.

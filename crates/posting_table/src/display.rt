@@ -35,12 +35,15 @@ impl<'a> Display<'a> {
         }
     }
 
-    /// The decimals of a currency, where it is the one that was set first.
-    fn first_places(&self, currency: &Currency<'_>) -> Option<u8>
+    /// The decimals of a currency, where it is the one at that place.
+    fn places_at(&self, place: usize, currency: &Currency<'_>) -> Option<u8>
         ensures { IfSome result (λ places. places ≡ decimals_of self.now currency.now) }
     {
-        let (first, places) = self.places.get_index(0)?;
-        if *currency == *first {
+        if place >= self.places.len() {
+            return None;
+        }
+        let (found, places) = self.places.get_index(place)?;
+        if *currency == *found {
             return Some(*places);
         }
         None
@@ -50,14 +53,22 @@ impl<'a> Display<'a> {
     pub fn places(&self, currency: &Currency<'_>) -> u8
         ensures { result ≡ decimals_of self.now currency.now }
     {
-        // Most amounts of a ledger are in the currency that it shows first, which isn't hashed.
-        if let Some(places) = self.first_places(currency) {
+        self.places_near(currency, &mut 0)
+    }
+
+    /// The same, where `near` tells at which place the last one was found that was asked for: most
+    /// often it is this one, which isn't hashed then.
+    pub fn places_near(&self, currency: &Currency<'_>, near: &mut usize) -> u8
+        ensures { result ≡ decimals_of self.now currency.now }
+    {
+        if let Some(places) = self.places_at(*near, currency) {
             return places;
         }
-        match self.places.get(currency) {
-            Some(places) => *places,
-            None => 0,
-        }
+        let Some(place) = self.places.get_index_of(currency) else {
+            return 0;
+        };
+        *near = place;
+        self.places[place]
     }
 
     /// Sets the decimals of one currency; the others stay as they were.

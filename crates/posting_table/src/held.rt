@@ -3,17 +3,18 @@ ghost use Rattle.std.specs.Prelude.{◌≡◌, ◌<◌, ◌^◌, IfOk, None};
 ghost use Rattle.std.specs.Int.RustNames.{unsigned_abs};
 ghost use Rattle.std.specs.Option.{option_copied};
 ghost use Rattle.posting_table.specs.Held.{weight_in};
+ghost use Rattle.posting_table.specs.Plain as plain;
 ghost use Rattle.posting_table.specs.Rows.{row_of};
 ghost use Rattle.query_rows.specs.Row.{text_under};
 ghost use Rattle.posting_table.specs.Row as spec;
 
 use crate::beside::{Beside, BesideParts};
 use crate::cells::{flag_or_null, price_cell, whole};
-use crate::entry::Entry;
+use crate::entry::{Entry, EntryFlag};
 use crate::keys::{HeldKey, Keys};
-use crate::row::{Row, Weight};
+use crate::row::{PlainRow, Row, Weight};
 use crate::shared::Shared;
-use bean_base::{Account, Amount, Slice};
+use bean_base::{Account, Amount, Day, Slice};
 use bean_lots::{Key, Position};
 use query_rows::Column;
 use query_values::{Lent, Value};
@@ -103,6 +104,24 @@ impl<'a> HeldRow<'a> {
         })
     }
 
+    /// The row, whose key is held as others are.
+    pub(crate) fn plain(
+        alloc: Global,
+        keys: &mut Keys<'a>,
+        row: PlainRow<'a>,
+    ) -> Result<HeldRow<'a>, AllocError>
+        requires { unsigned_abs row.count < 10 ^ 20 }
+        ensures { IfOk result (λ held. held ≡ plain.row_of row.entry) }
+    {
+        Ok(HeldRow {
+            count: row.count,
+            account: row.account,
+            entry: row.entry,
+            key: keys.plain(alloc, row.currency)?,
+            beside: Beside::line_alone(row.line),
+        })
+    }
+
     /// What the row has from its transaction.
     pub(crate) fn entry(&self) -> &Entry<'a>
         ensures { result.now ≡ self.now.entry }
@@ -124,22 +143,36 @@ impl<'a> HeldRow<'a> {
         self.entry().metadata.text_under(key)
     }
 
+    /// The day of its transaction.
+    pub fn date(&self) -> Day
+        ensures { result ≡ self.now.entry.date }
+    {
+        self.entry().date
+    }
+
+    /// How its transaction is marked.
+    pub fn flag(&self) -> EntryFlag
+        ensures { result ≡ self.now.entry.flag }
+    {
+        self.entry().flag
+    }
+
     /// The account.
-    pub(crate) fn account(&self) -> &Account<'a>
+    pub fn account(&self) -> &Account<'a>
         ensures { result.now ≡ self.now.account }
     {
         &self.account
     }
 
     /// How many units the posting has, as a count of `10^-8`.
-    pub(crate) fn count(&self) -> i128
+    pub fn count(&self) -> i128
         ensures { result ≡ self.now.position.count }
     {
         self.count
     }
 
     /// What its units are held as.
-    pub(crate) fn key(&self) -> &Key<'a>
+    pub fn key(&self) -> &Key<'a>
         ensures { result.now ≡ self.now.position.key }
     {
         self.key.get().key()

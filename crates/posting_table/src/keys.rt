@@ -1,6 +1,7 @@
 //! The keys of positions, as a ledger holds them.
 ghost use Rattle.std.specs.Prelude.{◌≡◌, IfOk, IfSome};
 ghost use Rattle.posting_table.specs.Cells.{lot_cell};
+ghost use Rattle.posting_table.specs.Plain.{without_lot};
 ghost use Rattle.posting_table.specs.Row as spec;
 ghost use Rattle.query_rows.specs.Row.{text_or_null};
 
@@ -86,15 +87,18 @@ impl<'a> HeldKey<'a> {
     }
 }
 
-/// A key that is held, where it is this one.
-fn of_key<'s, 'a>(held: &'s Shared<HeldKey<'a>>, key: &Key<'a>) -> Option<&'s Shared<HeldKey<'a>>>
-    ensures { IfSome result (λ held. held.now ≡ key.now) }
+/// A key that is held, where it is that of a currency without a lot.
+fn of_currency<'s, 'a>(
+    held: &'s Shared<HeldKey<'a>>,
+    currency: &Currency<'_>,
+) -> Option<&'s Shared<HeldKey<'a>>>
+    ensures { IfSome result (λ held. held.now ≡ without_lot currency.now) }
 {
-    if *held.get().key() == *key {
-        Some(held)
-    } else {
-        None
+    let key = held.get().key();
+    if key.lot.is_none() && key.currency == *currency {
+        return Some(held);
     }
+    None
 }
 
 /// The keys of currencies without a lot, each of which stands once for all rows of the currency.
@@ -114,38 +118,66 @@ impl<'a> Keys<'a> {
         }
     }
 
-    /// The key, where it was the last one.
-    fn last(&self, key: &Key<'a>) -> Option<&Shared<HeldKey<'a>>>
-        ensures { IfSome result (λ last. last.now ≡ key.now) }
+    /// The key of a currency, where it was the last one.
+    fn last(&self, currency: &Currency<'_>) -> Option<&Shared<HeldKey<'a>>>
+        ensures { IfSome result (λ last. last.now ≡ without_lot currency.now) }
     {
-        of_key(self.last.as_ref()?, key)
+        of_currency(self.last.as_ref()?, currency)
     }
 
-    /// The key, where it stands already.
-    fn known(&self, key: &Key<'a>) -> Option<&Shared<HeldKey<'a>>>
-        ensures { IfSome result (λ known. known.now ≡ key.now) }
+    /// The key of a currency, where it stands already.
+    fn known(&self, currency: &Currency<'a>) -> Option<&Shared<HeldKey<'a>>>
+        ensures { IfSome result (λ known. known.now ≡ without_lot currency.now) }
     {
-        of_key(self.plain.get(&key.currency)?, key)
+        of_currency(self.plain.get(currency)?, currency)
     }
 
     /// Keeps the key of a currency for later rows.
-    fn keep(&mut self, alloc: Global, key: Key<'a>) -> Result<Shared<HeldKey<'a>>, AllocError>
-        ensures { IfOk result (λ held. held ≡ key.entry) }
+    fn keep(
+        &mut self,
+        alloc: Global,
+        currency: Currency<'a>,
+    ) -> Result<Shared<HeldKey<'a>>, AllocError>
+        ensures { IfOk result (λ held. held ≡ without_lot currency.entry) }
     {
-        let currency = key.currency.lend();
+        let key = Key {
+            currency: currency.lend(),
+            lot: None,
+        };
         let held = HeldKey::shared(alloc, key)?;
         self.plain.insert(currency, held.share()?)?;
         Ok(held)
     }
 
-    /// The key of a currency without a lot, as it is held.
-    fn plain(&mut self, alloc: Global, key: Key<'a>) -> Result<Shared<HeldKey<'a>>, AllocError>
-        ensures { IfOk result (λ held. held ≡ key.entry) }
+    /// The key of a currency that wasn't the last one, as it is held.
+    fn found(
+        &mut self,
+        alloc: Global,
+        currency: Currency<'a>,
+    ) -> Result<Shared<HeldKey<'a>>, AllocError>
+        ensures { IfOk result (λ held. held ≡ without_lot currency.entry) }
     {
-        if let Some(known) = self.known(&key) {
+        if let Some(known) = self.known(&currency) {
             return known.share();
         }
-        self.keep(alloc, key)
+        self.keep(alloc, currency)
+    }
+
+    /// The key of a currency without a lot, as it is held.
+    pub(crate) fn plain(
+        &mut self,
+        alloc: Global,
+        currency: Currency<'a>,
+    ) -> Result<Shared<HeldKey<'a>>, AllocError>
+        ensures { IfOk result (λ held. held ≡ without_lot currency.entry) }
+    {
+        // The postings of a transaction are mostly of one currency, which is hashed once then.
+        if let Some(last) = self.last(&currency) {
+            return last.share();
+        }
+        let held = self.found(alloc, currency)?;
+        self.last = Some(held.share()?);
+        Ok(held)
     }
 
     /// The key as it is held: one of a lot stands by itself.
@@ -159,12 +191,6 @@ impl<'a> Keys<'a> {
         if key.lot.is_some() {
             return HeldKey::shared(alloc, key);
         }
-        // The postings of a transaction are mostly of one currency, which is hashed once then.
-        if let Some(last) = self.last(&key) {
-            return last.share();
-        }
-        let held = self.plain(alloc, key)?;
-        self.last = Some(held.share()?);
-        Ok(held)
+        self.plain(alloc, key.currency)
     }
 }

@@ -1,23 +1,22 @@
 //! The ledger: rows in order, and the display decimals.
 ghost use Rattle.std.specs.Prelude.{◌≡◌, ◌≢◌, ◌==◌, [], ◌∷◌, ◌++◌, ◌<◌, ◌≤◌, OnOk, OnErr, length};
 ghost use Rattle.std.specs.Prelude.{All, IsTrue, Some, slice_get, true};
-ghost use Rattle.std.specs.Option.{option_and_then, option_copied, option_map};
+ghost use Rattle.std.specs.Option.{option_map};
 ghost use Rattle.std.specs.FinMap as map;
+ghost use Rattle.posting_table.specs.Plain as plain;
 ghost use Rattle.posting_table.specs.Rows.{row_of, rows_of};
 ghost use Rattle.posting_table.specs.Shaped.{IsShaped};
 ghost use Rattle.query_rows.specs.ColumnShape.{widest};
 ghost use Rattle.query_rows.specs.Fits as spec;
-ghost use Rattle.query_rows.specs.Row.{text_under};
 ghost use Rattle.query_rows.specs.Shaped as rows;
 
-mod listed;
 pub(crate) mod taken;
 
 use crate::bounded::all_fit;
 use crate::display::Display;
 use crate::held::HeldRow;
 use crate::keys::Keys;
-use crate::row::Row;
+use crate::row::{PlainRow, Row};
 use bean_base::Currency;
 use limits::{Bounds, MOST_POSTINGS};
 use pieces::Pieces;
@@ -80,6 +79,21 @@ impl<'a> Ledger<'a> {
         Ok(())
     }
 
+    /// Adds a posting at the end that has nothing of its own but what it adds to its account.
+    pub fn push_plain(&mut self, row: PlainRow<'a>) -> Result<(), AllocError>
+        requires room { length self.old.rows < MOST_POSTINGS }
+        requires shaped { IsShaped widest (plain.row_of row) }
+        ensures pushed { OnOk result (self.new ≡ record {
+          rows = self.old.rows ++ plain.row_of row.entry ∷ [];
+          decimals = self.old.decimals;
+        }) }
+        ensures unchanged { OnErr result (self.new ≡ self.old) }
+    {
+        let row = HeldRow::plain(self.alloc, &mut self.keys, row)?;
+        self.rows.push(self.alloc, row)?;
+        Ok(())
+    }
+
     /// Sets how many decimals a currency shows.
     pub fn set_display(&mut self, currency: Currency<'a>, places: u8) -> Result<(), AllocError>
         ensures set { OnOk result (self.new ≡ record {
@@ -110,7 +124,8 @@ impl<'a> Ledger<'a> {
     #[inline(always)]
     pub fn row(&self, row: usize) -> &HeldRow<'a>
         requires { row < length self.now.rows }
-        ensures { Some (row_of result.now) ≡ slice_get (rows_of self.now) row }
+        ensures held { Some result.now ≡ slice_get self.now.rows row }
+        ensures row { Some (row_of result.now) ≡ slice_get (rows_of self.now) row }
     {
         self.rows.at(row)
     }
@@ -123,24 +138,6 @@ impl<'a> Ledger<'a> {
             ≡ option_map (λ r. r.cell column) (slice_get (rows_of self.now) row) }
     {
         self.rows.at(row).cell(column)
-    }
-
-    /// What a posting's metadata has under a key: none where nothing stands behind it.
-    pub fn meta(&self, row: usize, key: &str) -> Option<&str>
-        requires { row < length self.now.rows }
-        ensures { option_copied result ≡ option_and_then
-            (λ r. text_under key.now r.posting_entries) (slice_get (rows_of self.now) row) }
-    {
-        self.rows.at(row).meta(key)
-    }
-
-    /// What the metadata of a posting's transaction has under a key.
-    pub fn entry_meta(&self, row: usize, key: &str) -> Option<&str>
-        requires { row < length self.now.rows }
-        ensures { option_copied result ≡ option_and_then
-            (λ r. text_under key.now r.transaction_entries) (slice_get (rows_of self.now) row) }
-    {
-        self.rows.at(row).entry_meta(key)
     }
 
     /// Whether it is within bounds: it has no more postings than they allow, and no wider counts.

@@ -27,8 +27,8 @@
 //! ledger.set_display(parse_currency("USD")?, 2)?;
 //! let account = ledger.cell(0, Column::Account);   // Value::Text of Assets:Cash
 //! let number = ledger.row(0).cell(Column::Number); // the same for several cells of a row
-//! let date = ledger.date(0);                       // 2014-01-02
-//! let receipt = ledger.entry_meta(0, "receipt");   // None
+//! let date = ledger.row(0).date();                 // 2014-01-02
+//! let receipt = ledger.row(0).entry_meta("receipt");   // None
 //! let fits = ledger.fits(&bounds);
 //! ```
 //!
@@ -45,17 +45,19 @@
 //! What a row has in a [`Column`] is a `Value` of queries, lent from where the row is kept: names
 //! and texts as slices, sets and the keys of positions by reference (`Lent`). Contracts see what is
 //! lent as the thing itself. By itself a posting has no balance. What listings show, its date, its
-//! flag, its account, and the key and the count of its position, is lent without a value around it.
+//! flag, its account, and the key and the count of its position, a row ([`HeldRow`]) lends without a
+//! value around it, as it does what stands under a key of its metadata.
 //!
 //! # What may be asked
 //!
 //! `push` wants room, since a ledger holds at most [`limits::MOST_POSTINGS`], and a row whose cells lie in
 //! the shapes that its columns have by the widest bounds: its texts are short and its counts small
 //! ([`rows_of_small_parts_are_shaped`]). So in a ledger that is within narrower bounds
-//! ([`Ledger::fits`]) they lie in the shapes by these. `cell`, `meta`, `entry_meta`, `date` and its
-//! like want a row that is there, as does `row`, which lends it whole ([`HeldRow`]). Rows are taken
-//! out, to be put back with others between them, by `take_rows` and `put_back`. Of the other calls
-//! one that answers with an error left the ledger as it was; the only cause is want of memory.
+//! ([`Ledger::fits`]) they lie in the shapes by these. `cell` wants a row that is there, as does
+//! `row`, which lends it whole. Rows are taken out, to be put back with others between them, by
+//! `take_rows` and `put_back`. Of the other calls one that answers with an error left the ledger as
+//! it was; the only cause is want of memory. `push_plain` adds a row that has nothing of its own but
+//! what it adds to its account, as most have, and needn't look for more.
 //!
 //! # Cost
 //!
@@ -90,5 +92,5 @@ pub use ledger::taken::TakenRows;
 pub use metadata::{MetaItem, Metadata};
 pub use plain_text::PlainText;
 pub use query_rows::Column;
-pub use row::{Row, Weight};
+pub use row::{PlainRow, Row, Weight};
 pub use shared::Shared;

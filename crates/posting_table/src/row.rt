@@ -26,6 +26,20 @@ impl<'a> Weight<'a> {
     }
 }
 
+/// A booked posting that has nothing of its own but what it adds to its account: it weighs what its
+/// units are, and has no lot, no price, no flag and no metadata.
+#[derive(Drop)]
+pub struct PlainRow<'a> {
+    /// What it has from its transaction.
+    pub entry: Shared<Entry<'a>>,
+    pub account: Account<'a>,
+    pub currency: Currency<'a>,
+    /// How many units, as a count of `10^-8`.
+    pub count: i128,
+    /// The line of the written posting, or of the pad.
+    pub line: usize,
+}
+
 /// A booked posting.
 #[derive(Drop)]
 pub struct Row<'a> {

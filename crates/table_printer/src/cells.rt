@@ -31,6 +31,8 @@ pub(crate) struct Scratch {
     pub read: String,
     /// A text that is only measured.
     pub measured: Vec<u8>,
+    /// Where the decimals of a currency were found last: most often the next is the same.
+    pub near: usize,
 }
 
 impl Scratch {
@@ -40,6 +42,7 @@ impl Scratch {
             clean: String::new(alloc),
             read: String::new(alloc),
             measured: Vec::new(alloc),
+            near: 0,
         }
     }
 }
@@ -199,6 +202,7 @@ pub(crate) fn push_units(
     places: u8,
     currency: &Currency<'_>,
     display: &Display<'_>,
+    near: &mut usize,
 ) -> Result<usize, AllocError>
     ensures text { OnOk result (out.new.items ≡ out.old.items
         ++ units_text (decimals_of display.now) count places currency.now) }
@@ -208,7 +212,7 @@ pub(crate) fn push_units(
         (units_text (decimals_of display.now) count places currency.now) ≡ true) }
 {
     let start = out.len();
-    push_number(out, count, places, display.places(currency))?;
+    push_number(out, count, places, display.places_near(currency, near))?;
     out.push(b' ')?;
     out.extend_from_slice(currency.text().as_bytes())?;
     Ok(out.len() - start)
@@ -227,10 +231,11 @@ pub(crate) fn units_width(
     places: u8,
     currency: &Currency<'_>,
     display: &Display<'_>,
+    near: &mut usize,
 ) -> usize
     ensures { result ≡ text_width (units_text (decimals_of display.now) count places currency.now) }
 {
-    let number = number_len(count, places, display.places(currency));
+    let number = number_len(count, places, display.places_near(currency, near));
     number + 1 + currency.text().len()
 }
 
@@ -263,7 +268,7 @@ pub(crate) fn push_cell(
             places,
             count,
             currency,
-        } => push_units(out, *count, *places, currency, display),
+        } => push_units(out, *count, *places, currency, display, &mut scratch.near),
         Shown::Position { key, count } => push_position(out, key.get(), *count, scratch, display),
         Shown::Inventory { places, held } => push_inventory(out, *places, held, scratch, display),
     }
@@ -290,7 +295,7 @@ pub(crate) fn cell_width(
             places,
             count,
             currency,
-        } => Ok(units_width(*count, *places, currency, display)),
+        } => Ok(units_width(*count, *places, currency, display, &mut scratch.near)),
         Shown::Position { key, count } => position_width(key.get(), *count, scratch, display),
         Shown::Inventory { places, held } => inventory_width(*places, held, scratch, display),
     }

@@ -42,7 +42,14 @@ fn add_units(
         ++ units_text (decimals_of display.now) count places currency.now) }
 {
     scratch.measured.clear();
-    push_units(&mut scratch.measured, count, places, currency, display)?;
+    push_units(
+        &mut scratch.measured,
+        count,
+        places,
+        currency,
+        display,
+        &mut scratch.near,
+    )?;
     add_printable(&mut scratch.clean, &scratch.measured)?;
     Ok(())
 }
@@ -138,7 +145,14 @@ pub(crate) fn push_position(
 {
     // Most are held without a lot: their width is told without looking at characters.
     if key.lot.is_none() {
-        return push_units(out, count, COUNT_PLACES, &key.currency, display);
+        return push_units(
+            out,
+            count,
+            COUNT_PLACES,
+            &key.currency,
+            display,
+            &mut scratch.near,
+        );
     }
     make_position(scratch, key, count, display)?;
     out.extend_from_slice(scratch.clean.as_bytes())?;
@@ -156,7 +170,13 @@ pub(crate) fn position_width(
         ≡ text_width (position_text (decimals_of display.now) key.now count)) }
 {
     if key.lot.is_none() {
-        return Ok(units_width(count, COUNT_PLACES, &key.currency, display));
+        return Ok(units_width(
+            count,
+            COUNT_PLACES,
+            &key.currency,
+            display,
+            &mut scratch.near,
+        ));
     }
     make_position(scratch, key, count, display)?;
     Ok(width_of(&scratch.clean))

@@ -23,7 +23,7 @@ go_on-requires-clause-within c =
     let f = in_row_there p rows run 0 room c.requires.stage refl
     c.requires.safe in
     let inside = row_inside p rows run 0 room f c.as_slice.result.now c.as_slice-2.result.now
-    c.as_slice.ensures c.as_slice-2.ensures _ c.readable.ensures _ c.row.ensures c.requires.safe in
+    c.as_slice.ensures c.as_slice-2.ensures _ c.readable.ensures _ c.row.ensures.row c.requires.safe in
     omega (arith, inside)
 
 pub go_on-requires-clause-safe : goal.go_on-requires-clause-safe
@@ -35,7 +35,7 @@ go_on-requires-clause-safe c =
     let f = in_row_there p rows run 0 room c.requires.stage refl
     c.requires.safe in
     row_safely p rows run 0 room f c.as_slice.result.now c.as_slice-2.result.now
-    c.as_slice.ensures c.as_slice-2.ensures _ c.readable.ensures _ c.row.ensures c.requires.safe
+    c.as_slice.ensures c.as_slice-2.ensures _ c.readable.ensures _ c.row.ensures.row c.requires.safe
 
 pub end_row-requires-clause-fine : goal.end_row-requires-clause-fine
 end_row-requires-clause-fine c = λ fault.
@@ -47,7 +47,7 @@ end_row-requires-clause-fine c = λ fault.
     c.requires.safe in
     c.requires.safe.never_faults (0 + c.in_ok-made.made)
     (row_ended p rows run 0 room f c.as_slice.result.now c.as_slice-2.result.now
-    c.as_slice.ensures c.as_slice-2.ensures _ c.readable.ensures _ c.row.ensures c.requires.safe c.in_ok-made.made c.in_ok-made.ensures.inside c.go_on.new.frame
+    c.as_slice.ensures c.as_slice-2.ensures _ c.readable.ensures _ c.row.ensures.row c.requires.safe c.in_ok-made.made c.in_ok-made.ensures.inside c.go_on.new.frame
     c.in_ok-made.ensures.stands
     c.if-run-section.true ∙ fault)
 
@@ -60,7 +60,7 @@ returns-in_ok-end_row-clause-some c =
     let f = in_row_there p rows run 0 room c.requires.stage refl
     c.requires.safe in
     row_made p rows run 0 room f c.as_slice.result.now c.as_slice-2.result.now
-    c.as_slice.ensures c.as_slice-2.ensures _ c.readable.ensures _ c.row.ensures c.requires.safe c.in_ok-made.made c.in_ok-made.ensures.inside c.go_on.new.frame
+    c.as_slice.ensures c.as_slice-2.ensures _ c.readable.ensures _ c.row.ensures.row c.requires.safe c.in_ok-made.made c.in_ok-made.ensures.inside c.go_on.new.frame
     c.in_ok-made.ensures.stands
     c.args.most c.requires.more c.in_ok-made.ensures.ends
 
@@ -73,7 +73,7 @@ returns-else-run-section-clause-some c =
     let f = in_row_there p rows run 0 room c.requires.stage refl
     c.requires.safe in
     row_made p rows run 0 room f c.as_slice.result.now c.as_slice-2.result.now
-    c.as_slice.ensures c.as_slice-2.ensures _ c.readable.ensures _ c.row.ensures c.requires.safe c.in_ok-made.made c.in_ok-made.ensures.inside c.go_on.new.frame
+    c.as_slice.ensures c.as_slice-2.ensures _ c.readable.ensures _ c.row.ensures.row c.requires.safe c.in_ok-made.made c.in_ok-made.ensures.inside c.go_on.new.frame
     c.in_ok-made.ensures.stands
     c.args.most c.requires.more c.in_ok-made.ensures.ends
 
@@ -88,11 +88,11 @@ returns-in_ok-end_row-clause-goes c =
     goes_on_from p (stand_of rows run) 0 c.in_ok-made.made _ _ refl
     (c.in_ok-end_row.ensures.stand
     ∙ sym (row_ended p rows run 0 room f c.as_slice.result.now c.as_slice-2.result.now
-    c.as_slice.ensures c.as_slice-2.ensures _ c.readable.ensures _ c.row.ensures c.requires.safe c.in_ok-made.made c.in_ok-made.ensures.inside c.go_on.new.frame
+    c.as_slice.ensures c.as_slice-2.ensures _ c.readable.ensures _ c.row.ensures.row c.requires.safe c.in_ok-made.made c.in_ok-made.ensures.inside c.go_on.new.frame
     c.in_ok-made.ensures.stands
     c.if-run-section.true))
     (row_going p rows run 0 room f c.as_slice.result.now c.as_slice-2.result.now
-    c.as_slice.ensures c.as_slice-2.ensures _ c.readable.ensures _ c.row.ensures c.requires.safe c.in_ok-made.made c.in_ok-made.ensures.inside c.go_on.new.frame
+    c.as_slice.ensures c.as_slice-2.ensures _ c.readable.ensures _ c.row.ensures.row c.requires.safe c.in_ok-made.made c.in_ok-made.ensures.inside c.go_on.new.frame
     c.in_ok-made.ensures.stands)
 
 pub returns-else-run-section-clause-goes : goal.returns-else-run-section-clause-goes
@@ -105,9 +105,9 @@ returns-else-run-section-clause-goes c =
     c.requires.safe in
     goes_on_from p (stand_of rows run) 0 c.in_ok-made.made _ _ refl
     (row_at_next p rows run 0 room f c.as_slice.result.now c.as_slice-2.result.now
-    c.as_slice.ensures c.as_slice-2.ensures _ c.readable.ensures _ c.row.ensures c.requires.safe c.in_ok-made.made c.in_ok-made.ensures.inside c.go_on.new.frame
+    c.as_slice.ensures c.as_slice-2.ensures _ c.readable.ensures _ c.row.ensures.row c.requires.safe c.in_ok-made.made c.in_ok-made.ensures.inside c.go_on.new.frame
     c.in_ok-made.ensures.stands
     _ c.if-run-section.false refl refl refl c.requires.stage)
     (row_going p rows run 0 room f c.as_slice.result.now c.as_slice-2.result.now
-    c.as_slice.ensures c.as_slice-2.ensures _ c.readable.ensures _ c.row.ensures c.requires.safe c.in_ok-made.made c.in_ok-made.ensures.inside c.go_on.new.frame
+    c.as_slice.ensures c.as_slice-2.ensures _ c.readable.ensures _ c.row.ensures.row c.requires.safe c.in_ok-made.made c.in_ok-made.ensures.inside c.go_on.new.frame
     c.in_ok-made.ensures.stands)
