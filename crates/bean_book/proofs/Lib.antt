@@ -1,5 +1,6 @@
 mod FaultOrder
 pub mod ListFacts
+mod PlainFacts
 mod ShapedFacts
 mod PaddingFacts
 mod TakenFacts

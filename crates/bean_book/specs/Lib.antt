@@ -1,4 +1,5 @@
 pub mod Metadata
+pub mod Plain
 pub mod Rows
 pub mod Reported
 pub mod Tame

@@ -12,7 +12,11 @@ use posting_table::Ledger;
 use std::alloc::AllocError;
 
 /// Shows at least the decimals of a number.
-fn note_amount<'a>(ledger: &mut Ledger<'a>, units: &Amount<'a>) -> Result<(), AllocError>
+fn note_amount<'a>(
+    ledger: &mut Ledger<'a>,
+    near: &mut usize,
+    units: &Amount<'a>,
+) -> Result<(), AllocError>
     ensures decimals { OnOk result ((name : List ℕ) → decimals_of ledger.new.decimals name
         ≡ (if bytes_eq units.now.currency name
         then max (decimals_of ledger.old.decimals name) units.now.number.places
@@ -20,27 +24,33 @@ fn note_amount<'a>(ledger: &mut Ledger<'a>, units: &Amount<'a>) -> Result<(), Al
     ensures rows { OnOk result (ledger.new.rows ≡ ledger.old.rows) }
 {
     let places = units.number.places;
-    if ledger.display().places(&units.currency) < places {
+    if ledger.display().places_near(&units.currency, near) < places {
         ledger.set_display(units.currency.lend(), places)?;
     }
     Ok(())
 }
 
 /// Shows at least the decimals of the number that is written for a posting's units.
-fn note_posting<'a>(ledger: &mut Ledger<'a>, posting: &Posting<'a>) -> Result<(), AllocError>
+fn note_posting<'a>(
+    ledger: &mut Ledger<'a>,
+    near: &mut usize,
+    posting: &Posting<'a>,
+) -> Result<(), AllocError>
     ensures decimals { OnOk result ((name : List ℕ) → decimals_of ledger.new.decimals name
         ≡ decimals_from (decimals_of ledger.old.decimals name) name (written_in posting.now)) }
     ensures rows { OnOk result (ledger.new.rows ≡ ledger.old.rows) }
 {
     match &posting.units {
-        Units::Amount(units) => note_amount(ledger, units),
+        Units::Amount(units) => note_amount(ledger, near, units),
         _ => Ok(()),
     }
 }
 
-/// Shows at least the decimals of the numbers that are written for the postings' units.
+/// Shows at least the decimals of the numbers that are written for the postings' units. Where the
+/// decimals of the last currency were found is told by `near`: most often the next is the same.
 pub(crate) fn note_written<'a>(
     ledger: &mut Ledger<'a>,
+    near: &mut usize,
     postings: &[Posting<'a>],
 ) -> Result<(), AllocError>
     ensures decimals { OnOk result ((name : List ℕ) → decimals_of ledger.new.decimals name
@@ -49,7 +59,7 @@ pub(crate) fn note_written<'a>(
     ensures rows { OnOk result (ledger.new.rows ≡ ledger.old.rows) }
 {
     for posting in postings {
-        note_posting(ledger, posting)?;
+        note_posting(ledger, near, posting)?;
     }
     Ok(())
 }

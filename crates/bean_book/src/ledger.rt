@@ -30,6 +30,8 @@ pub(crate) struct LedgerRows<'a> {
     ledger: Ledger<'a>,
     /// How many rows stand before each pad.
     places: Vec<usize>,
+    /// Where the decimals of the last currency were found.
+    near: usize,
 }
 
 impl<'a> LedgerRows<'a> {
@@ -41,18 +43,24 @@ impl<'a> LedgerRows<'a> {
             alloc,
             ledger: Ledger::new(alloc),
             places: Vec::new(alloc),
+            near: 0,
         }
     }
 }
 
 /// Adds a transaction that is kept.
-fn push_kept<'a>(alloc: Global, ledger: &mut Ledger<'a>, kept: &Kept<'a>) -> Result<(), AllocError>
+fn push_kept<'a>(
+    alloc: Global,
+    ledger: &mut Ledger<'a>,
+    near: &mut usize,
+    kept: &Kept<'a>,
+) -> Result<(), AllocError>
     requires tame { IsTameKept kept.now }
     requires room { length ledger.old.rows + length kept.now.postings ≤ MOST_POSTINGS }
     ensures { OnOk result (Adds (booking.Transaction kept.now) ledger.old ledger.new) }
 {
     push_transaction(alloc, ledger, kept)?;
-    note_written(ledger, kept.written.transaction.postings.as_slice())?;
+    note_written(ledger, near, kept.written.transaction.postings.as_slice())?;
     Ok(())
 }
 
@@ -62,7 +70,7 @@ impl<'a> Bookings<'a> for LedgerRows<'a> {
     ghost has_taken = { λ l ds. IsLedgerSoFar ds l };
 
     fn keep(&mut self, kept: &Kept<'a>) -> Result<(), AllocError> {
-        push_kept(self.alloc, &mut self.ledger, kept)
+        push_kept(self.alloc, &mut self.ledger, &mut self.near, kept)
     }
 
     fn pad(&mut self) -> Result<(), AllocError> {
@@ -134,6 +142,7 @@ pub(crate) fn with_pads<'a>(
         alloc,
         ledger,
         places,
+        ..
     } = rows;
     let kept = ledger.len();
     let all = match count_pads(kept, &pads) {

@@ -187,8 +187,8 @@ fn push_posted<'a>(
     let postings = kept.written.transaction.postings.as_slice();
     let mut noted = noted_at(alloc, postings, 0)?;
     for one in kept.postings.as_slice() {
-        if let Some(row) = plain_row(entry, postings, one)? {
-            ledger.push_plain(row)?;
+        if let Some(plain) = plain_row(entry, postings, one)? {
+            ledger.push_plain(plain)?;
             continue;
         }
         noted = next_noted(alloc, postings, noted, one.written)?;

@@ -1,8 +1,11 @@
 -- What a map of entries has at a name.
 use Rattle.std.proofs.Common.{◌≡◌, ℕ, Bool, true, false, cond, List, [], ◌∷◌, Option, Some, refl}
-use Rattle.std.proofs.Common.{unwrap_or, slice_get, sym, ap, ◌∙◌, nat_eq}
+use Rattle.std.proofs.Common.{unwrap_or, is_some, None, true≢false, slice_get, sym, ap, ◌∙◌, nat_eq, map}
 use Rattle.std.specs.Cmp.{eq_by_cmp_equiv}
+use Rattle.std.proofs.lemmas.Map.Entries.{lookup_from_place}
 use Rattle.std.specs.Cmp.Lexicographic.{pointwise, slice_cmp, texts_ties, nat_list_cmp_total}
+use Rattle.std.specs.Cmp.Lexicographic.{nat_list_eq_equiv, same_text}
+use Rattle.std.specs.List.{IsDistinct}
 use Rattle.std.specs.FinMap.{get, insert, from_entries, find, get-from_entries, get-insert}
 use Rattle.std.specs.FinMap.{same_map, slice_cmp-IsAntisymmetric, nat_cmp-IsAntisymmetric}
 use Rattle.std.specs.Map.{lookup}
@@ -19,20 +22,22 @@ pub got : (name : List ℕ) (es : List (List ℕ × ℕ))
     → get (from_entries {R = slice_cmp nat_cmp} es) name ≡ lookup (pointwise nat_eq name) es
 got name es = get-from_entries nat_list_cmp_total es name ∙ found name es
 
--- what the first entry has is the count at its name
-pub first_is : (name : List ℕ) (es : List (List ℕ × ℕ)) (k : List ℕ) (n : ℕ)
-    → slice_get es 0 ≡ Some (k, n) → pointwise nat_eq name k ≡ true
+-- where nothing is found
+pub none_found : (o : Option ℕ) → false ≡ is_some o → 0 ≡ unwrap_or o 0
+none_found None h = refl
+none_found (Some n) h = absurd (true≢false (sym h))
+
+-- what an entry has is the count at its name, as no two have one name
+pub placed_is : (name : List ℕ) (es : List (List ℕ × ℕ)) (i : ℕ) (k : List ℕ) (n : ℕ)
+    → IsDistinct (pointwise nat_eq) (map (λ e. e.0) es)
+    → slice_get es i ≡ Some (k, n) → pointwise nat_eq name k ≡ true
     → n ≡ decimals_of (from_entries es) name
-first_is name [] k n at h = cc
-first_is name (e ∷ es) k n at h =
-    let same : e ≡ (k, n) = ap (λ (o : Option (List ℕ × ℕ)). unwrap_or o e) at in
-    let hit : pointwise nat_eq name e.0 ≡ true =
-    ap (λ (x : List ℕ × ℕ). pointwise nat_eq name x.0) same ∙ h in
+placed_is name es i k n apart at h =
+    let same : name ≡ k = same_text name k (sym h) in
     sym
     (ap (λ o. unwrap_or o 0)
-    (got name (e ∷ es)
-    ∙ ap (λ b. cond b (Some e.1) (lookup (pointwise nat_eq name) es)) hit)
-    ∙ ap (λ (x : List ℕ × ℕ). x.1) same)
+    (got name es ∙ ap (λ t. lookup (pointwise nat_eq t) es) same
+    ∙ lookup_from_place nat_list_eq_equiv es i k n apart at))
 
 -- entries that have the count at the name, and at all others what was there
 pub updated : (before after : List (List ℕ × ℕ)) (name : List ℕ) (count : ℕ)

@@ -26,9 +26,9 @@ returns-in_ok-set_display-clause-decimals c = λ name.
     let old = c.args.ledger.now.decimals in
     let currency = c.args.units.now.currency in
     let places = c.args.units.now.number.places in
-    let shown : c.places.result ≡ decimals_of old currency =
-    c.places.ensures ∙ ap (λ d. decimals_of d currency) c.display.ensures in
-    let more : decimals_of old currency < places = omega (arith, shown, c.if-places.true) in
+    let shown : c.places_near.result ≡ decimals_of old currency =
+    c.places_near.ensures ∙ ap (λ d. decimals_of d currency) c.display.ensures in
+    let more : decimals_of old currency < places = omega (arith, shown, c.if-places_near-places.true) in
     ap (λ (l : Ledger). decimals_of l.decimals name) c.in_ok-set_display.ensures.set
     ∙ decimals_of-insert old c.lend.result places name
     ∙ ap (λ (n : List ℕ). cond (pointwise nat_eq n name) places (decimals_of old name))

@@ -2,7 +2,7 @@ use Rattle.std.proofs.Common.{◌≡◌, ◌+◌, ◌++◌, ◌∷◌, [], ap, a
 use Rattle.std.proofs.Common.{length-append}
 use Rattle.std.proofs.Common.{subst, sym, take, ◌∙◌}
 use Rattle.std.proofs.lemmas.List.{length-map, length-take-le, map-append, take_more}
-use Rattle.std.proofs.Common.{ℕ, ◌<◌, List, slice_get}
+use Rattle.std.proofs.Common.{ℕ, ◌<◌, List, slice_get, Option, Some, IfSome}
 use Rattle.std.specs.List.{AllByRecursion}
 use Rattle.bean_postings.specs.declared.posting.Posting.{Posting}
 use Rattle.bean_interp.specs.Residual.{IsLight}
@@ -12,7 +12,11 @@ use Rattle.bean_replay.specs.Small.{IsSmallPosted}
 use Rattle.bean_transactions.specs.Tried.{booked_leg, booked_legs}
 use Rattle.bean_holdings.specs.declared.posted.Posted.{Posted}
 use Rattle.posting_table.specs.Ledger.{Ledger}
+use Rattle.posting_table.specs.Plain as plain
 use Rattle.posting_table.specs.Shaped.{IsShaped}
+use Rattle.posting_table.specs.declared.row.Row.{Row}
+use Rattle.bean_replay.specs.declared.booking.Kept.{Kept}
+use Rattle.bean_book.specs.Tame.{IsTameKept}
 use Rattle.query_rows.specs.ColumnShape.{widest}
 use Rattle.posting_table.proofs.PartFacts.{row_lies}
 use Rattle.bean_book.specs.Rows.{entry_of, items_in, row_of}
@@ -38,26 +42,79 @@ row_of-requires-clause-light c =
     (subst (λ l. AllByRecursion IsLight (booked_legs k.written.transaction.postings l))
     (sym c.as_slice-one-items.ensures) c.requires.tame.small.light))
 
+-- what holds of something that is there
+given_some : {X : Type 0} (P : X → Type 0) (o : Option X) (x : X) → o ≡ Some x → IfSome o P → P x
+given_some P o x is h = subst (λ q. IfSome q P) is h
+
+-- the row of a booked posting of a tame transaction lies in the widest shapes
+lies : (k : Kept) (posted : List Posted) (i : ℕ) (p : Posted) (row : Row) → IsTameKept k
+    → posted ≡ k.postings → i < length posted → p ≡ get_or posted i p
+    → row ≡ row_of (entry_of k) k.written.place.line k.written.transaction.postings p
+    → IsShaped widest row
+lies k posted i p row tame same within at is =
+    let ps = k.written.transaction.postings in
+    let line = k.written.place.line in
+    let small = tame.small in
+    let light = light_at ps posted i p within at
+    (subst (λ l. AllByRecursion IsLight (booked_legs ps l)) (sym same) small.light) in
+    let own = found_at IsSmallPosted posted i p within at
+    (subst (AllByRecursion IsSmallPosted) (sym same) small.postings) in
+    subst (IsShaped widest) (sym is)
+    (row_lies (row_of (entry_of k) line ps p)
+    (row_small (entry_of k) line ps p (entry_short k tame) own light small.transaction.postings
+    small.line))
+
+-- one row more
+one_more : (k : Kept) (items : List Posted) (i : ℕ) (p : Posted) → items ≡ k.postings
+    → i < length items → p ≡ get_or items i p
+    → map (row_of (entry_of k) k.written.place.line k.written.transaction.postings)
+    (take (i + 1) k.postings)
+    ≡ map (row_of (entry_of k) k.written.place.line k.written.transaction.postings)
+    (take i k.postings)
+    ++ row_of (entry_of k) k.written.place.line k.written.transaction.postings p ∷ []
+one_more k items i p are within at =
+    let row = row_of (entry_of k) k.written.place.line k.written.transaction.postings in
+    ap (λ l. map row (take (i + 1) l)) (sym are)
+    ∙ ap (map row) (take_more items i p within)
+    ∙ map-append row (take i items) (get_or items i p ∷ [])
+    ∙ ap (λ q. map row (take i items) ++ row q ∷ []) (sym at)
+    ∙ ap (λ l. map row (take i l) ++ row p ∷ []) are
+
+-- rows with one more behind them
+behind : (k : Kept) (old new before : List Row) (row : Row) (i : ℕ) (p : Posted) (items : List Posted)
+    → new ≡ before ++ row ∷ []
+    → before ≡ old ++ map (row_of (entry_of k) k.written.place.line k.written.transaction.postings)
+    (take i k.postings)
+    → row ≡ row_of (entry_of k) k.written.place.line k.written.transaction.postings p
+    → items ≡ k.postings → i < length items → p ≡ get_or items i p
+    → new ≡ old ++ map (row_of (entry_of k) k.written.place.line k.written.transaction.postings)
+    (take (i + 1) k.postings)
+behind k old new before row i p items pushed was is are within at =
+    let row_at = row_of (entry_of k) k.written.place.line k.written.transaction.postings in
+    pushed ∙ (λ j. was j ++ is j ∷ [])
+    ∙ append_assoc old (map row_at (take i k.postings)) (row_at p ∷ [])
+    ∙ ap (λ l. old ++ l) (sym (one_more k items i p are within at))
+
 pub push-requires-clause-shaped : goal.push-requires-clause-shaped
 push-requires-clause-shaped c =
     let k = c.args.kept.now in
-    let p = c.one-item.result in
-    let ps = k.written.transaction.postings in
     let line = k.written.place.line in
-    let posted = c.as_slice-one-items.result.now in
-    let small = c.requires.tame.small in
-    let same = sym c.as_slice-one-items.ensures in
-    let light = light_at ps posted c.loop-one.one-index p (omega arith) c.one-item.is
-    (subst (λ l. AllByRecursion IsLight (booked_legs ps l)) same small.light) in
-    let own = found_at IsSmallPosted posted c.loop-one.one-index p (omega arith) c.one-item.is
-    (subst (AllByRecursion IsSmallPosted) same small.postings) in
-    let is =
-    c.in_ok-row.ensures ∙ ap (λ e. row_of e line c.as_slice-postings.result.now p) c.requires.entry
-    ∙ ap (λ ps. row_of (entry_of k) line ps p) c.as_slice-postings.ensures in
-    subst (IsShaped widest) (sym is)
-    (row_lies (row_of (entry_of k) line ps p)
-    (row_small (entry_of k) line ps p (entry_short k c.requires.tame) own light
-    small.transaction.postings small.line))
+    let p = c.one-item.result in
+    lies k c.as_slice-one-items.result.now c.loop-one.one-index p c.in_ok-row.row c.requires.tame
+    c.as_slice-one-items.ensures (omega arith) c.one-item.is
+    (c.in_ok-row.ensures ∙ ap (λ e. row_of e line c.as_slice-postings.result.now p) c.requires.entry
+    ∙ ap (λ ps. row_of (entry_of k) line ps p) c.as_slice-postings.ensures)
+
+pub push_plain-requires-clause-shaped : goal.push_plain-requires-clause-shaped
+push_plain-requires-clause-shaped c =
+    let k = c.args.kept.now in
+    let line = k.written.place.line in
+    let p = c.one-item.result in
+    lies k c.as_slice-one-items.result.now c.loop-one.one-index p (plain.row_of c.in-Some.plain)
+    c.requires.tame c.as_slice-one-items.ensures (omega arith) c.one-item.is
+    (given_some _ _ c.in-Some.plain c.in-Some.is c.in_ok-plain.ensures line
+    ∙ ap (λ e. row_of e line c.as_slice-postings.result.now p) c.requires.entry
+    ∙ ap (λ ps. row_of (entry_of k) line ps p) c.as_slice-postings.ensures)
 
 pub push-requires-clause-room : goal.push-requires-clause-room
 push-requires-clause-room c =
@@ -73,31 +130,50 @@ push-requires-clause-room c =
     let few = length-take-le c.loop-one.one-index k.postings (omega (arith, count)) in
     omega (arith, room, before, as_many, few, count)
 
+pub push_plain-requires-clause-room : goal.push_plain-requires-clause-room
+push_plain-requires-clause-room c =
+    let k = c.args.kept.now in
+    let room = c.requires.room in
+    let row = row_of (entry_of k) k.written.place.line k.written.transaction.postings in
+    let taken = take c.loop-one.one-index k.postings in
+    let before =
+    ap length c.loop-one.invariant.rows ∙ length-append c.args.ledger.now.rows (map row taken)
+    in
+    let as_many = length-map taken row in
+    let count = ap length c.as_slice-one-items.ensures in
+    let few = length-take-le c.loop-one.one-index k.postings (omega (arith, count)) in
+    omega (arith, room, before, as_many, few, count)
+
+pub loop-one-preserved-in-Some : goal.loop-one-preserved-in-Some
+loop-one-preserved-in-Some c =
+    let k = c.args.kept.now in
+    let line = k.written.place.line in
+    let p = c.one-item.result in record {
+      rows = behind k c.args.ledger.now.rows _ _ (plain.row_of c.in-Some.plain)
+          c.loop-one.one-index p c.as_slice-one-items.result.now
+          (ap (λ (l : Ledger). l.rows) c.in_ok-push_plain.ensures.pushed)
+          c.loop-one.invariant.rows
+          (given_some _ _ c.in-Some.plain c.in-Some.is c.in_ok-plain.ensures line
+          ∙ ap (λ e. row_of e line c.as_slice-postings.result.now p) c.requires.entry
+          ∙ ap (λ ps. row_of (entry_of k) line ps p) c.as_slice-postings.ensures)
+          c.as_slice-one-items.ensures (omega arith) c.one-item.is;
+      decimals = ap (λ (l : Ledger). l.decimals) c.in_ok-push_plain.ensures.pushed
+          ∙ c.loop-one.invariant.decimals;
+      noted = c.loop-one.invariant.noted;
+    }
+
 pub loop-one-preserved : goal.loop-one-preserved
 loop-one-preserved c =
     let k = c.args.kept.now in
     let line = k.written.place.line in
-    let ps = k.written.transaction.postings in
-    let row = row_of (entry_of k) line ps in
-    let items = c.as_slice-one-items.result.now in
-    let posted = k.postings in
-    let are = c.as_slice-one-items.ensures in
-    let i = c.loop-one.one-index in
-    let p = c.one-item.result in
-    let old = c.args.ledger.now.rows in
-    let is =
-    c.in_ok-row.ensures ∙ ap (λ e. row_of e line c.as_slice-postings.result.now p) c.requires.entry
-    ∙ ap (λ ps. row_of (entry_of k) line ps p) c.as_slice-postings.ensures in
-    let more : map row (take (i + 1) posted) ≡ map row (take i posted) ++ row p ∷ [] =
-    ap (λ l. map row (take (i + 1) l)) (sym are)
-    ∙ ap (map row) (take_more items i p (omega arith))
-    ∙ map-append row (take i items) (get_or items i p ∷ [])
-    ∙ ap (λ q. map row (take i items) ++ row q ∷ []) (sym c.one-item.is)
-    ∙ ap (λ l. map row (take i l) ++ row p ∷ []) are in record {
-      rows = ap (λ (l : Ledger). l.rows) c.in_ok-push.ensures.pushed
-          ∙ (λ j. c.loop-one.invariant.rows j ++ is j ∷ [])
-          ∙ append_assoc old (map row (take i posted)) (row p ∷ [])
-          ∙ ap (λ l. old ++ l) (sym more);
+    let p = c.one-item.result in record {
+      rows = behind k c.args.ledger.now.rows _ _ c.in_ok-row.row c.loop-one.one-index p
+          c.as_slice-one-items.result.now
+          (ap (λ (l : Ledger). l.rows) c.in_ok-push.ensures.pushed) c.loop-one.invariant.rows
+          (c.in_ok-row.ensures
+          ∙ ap (λ e. row_of e line c.as_slice-postings.result.now p) c.requires.entry
+          ∙ ap (λ ps. row_of (entry_of k) line ps p) c.as_slice-postings.ensures)
+          c.as_slice-one-items.ensures (omega arith) c.one-item.is;
       decimals = ap (λ (l : Ledger). l.decimals) c.in_ok-push.ensures.pushed
           ∙ c.loop-one.invariant.decimals;
       noted = c.in_ok-noted-2.ensures.items

@@ -1,0 +1,45 @@
+-- Plain rows are those of their postings.
+use Rattle.std.proofs.Common.{◌≡◌, ℕ, ℤ, pos, ◌*ℤ◌, ◌^◌, Some, sym, ap, ◌∙◌}
+use Rattle.bean_interp.proofs.CountFacts.{scaled_16}
+use Rattle.bean_interp.specs.Weight.{at_8, count_of, currency_of}
+use Rattle.bean_postings.specs.declared.posting.Posting.{Posting}
+use Rattle.bean_transactions.specs.Tried.{worth_of}
+use Rattle.bean_holdings.specs.declared.posted.Posted.{Posted}
+use Rattle.posting_table.specs.Plain as plain
+use Rattle.posting_table.specs.declared.entry.Entry.{Entry}
+use Rattle.bean_book.specs.Metadata.{items_of}
+use Rattle.bean_book.specs.Plain.{IsPlain}
+use Rattle.bean_book.specs.Rows.{row_by, unit_price}
+
+-- what units weigh by themselves
+weighs : (w : Posting) (p : Posted) → IsPlain w p
+    → at_8 p.units.number *ℤ pos (10 ^ 8) ≡ count_of p.units (worth_of p.lot w.details.price)
+weighs w p h =
+    let number = p.units.number in
+    scaled_16 number.count number.places number.in_range.0
+    ∙ (λ i. count_of p.units (worth_of (sym h.held i) (sym h.alone.price i)))
+
+pub plain_is : (e : Entry) (line : ℕ) (w : Posting) (p : Posted) → IsPlain w p
+    → plain.row_of (record {
+      entry = e;
+      account = p.account;
+      currency = p.units.currency;
+      count = at_8 p.units.number;
+      line = w.details.line;
+    }) ≡ row_by e line (Some w) p
+plain_is e line w p h = λ i. record {
+  entry = e;
+  account = p.account;
+  position = record {
+    key = record { currency = p.units.currency; lot = sym h.held i };
+    count = at_8 p.units.number;
+  };
+  weight = record {
+    count = weighs w p h i;
+    currency = currency_of p.units (worth_of (sym h.held i) (sym h.alone.price i));
+  };
+  price = unit_price (sym h.alone.price i);
+  metadata = items_of (sym h.alone.metadata i);
+  line = w.details.line;
+  flag = sym h.alone.flag i;
+}
