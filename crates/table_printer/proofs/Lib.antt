@@ -1,6 +1,7 @@
 pub mod LayoutFacts
 pub mod TableFacts
 pub mod InColumn
+mod InventoryFacts
 mod HeadingFacts
 pub mod Printable
 pub mod Written

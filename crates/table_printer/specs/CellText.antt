@@ -3,6 +3,7 @@ use Rattle.std.specs.Prelude.{ℕ, ℤ, Bool, true, false, Option, Some, None, L
 use Rattle.std.specs.Prelude.{chars, codes, encode_utf8, slice_index_or, if◌then◌else◌}
 use Rattle.std.specs.Char.{is_control}
 use Rattle.std.specs.List.{flat_map}
+use Rattle.std.specs.Option.{is_none}
 use Rattle.theory.specs.Arrangement.{by_key, arranged_by}
 use Rattle.theory.specs.Joined.{joined}
 use Rattle.bean_base.specs.Character.{comma, space}
@@ -85,10 +86,17 @@ between_entries = codes ", "
 abbrev pub text_of_entry : (List ℕ → ℕ) → ℕ → Entry → List ℕ
 text_of_entry display places entry = entry_text display places entry.key entry.count
 
+abbrev pub entries_text : (List ℕ → ℕ) → ℕ → List Entry → List ℕ
+entries_text display places entries =
+    joined between_entries (map (text_of_entry display places) entries)
+
 -- the entries of an inventory in the order of their keys, whatever the order in which they came
 abbrev pub bag_text : (List ℕ → ℕ) → Bag → List ℕ
-bag_text display bag =
-    joined between_entries (map (text_of_entry display bag.places) (in_order bag.held))
+bag_text display bag = entries_text display bag.places (in_order bag.held)
+
+-- held without a lot
+abbrev pub is_plain : Entry → Bool
+is_plain entry = is_none entry.key.lot
 
 -- a number has the fewest decimals that are exact, and amounts, units and costs at least those that
 -- their currency shows

@@ -31,9 +31,13 @@ pub(crate) struct Scratch {
     pub read: String,
     /// A text that is only measured.
     pub measured: Vec<u8>,
-    /// Where the decimals of a currency were found last: most often the next is the same.
-    pub near: usize,
+    /// Where the decimals of a currency were found last, by its place among entries: most often
+    /// the next there is the same.
+    pub nears: [usize; NEARS],
 }
+
+/// How many places have one of their own.
+pub(crate) const NEARS: usize = 8;
 
 impl Scratch {
     pub(crate) fn new(alloc: Global) -> Scratch {
@@ -42,7 +46,7 @@ impl Scratch {
             clean: String::new(alloc),
             read: String::new(alloc),
             measured: Vec::new(alloc),
-            near: 0,
+            nears: [0; NEARS],
         }
     }
 }
@@ -233,7 +237,10 @@ pub(crate) fn units_width(
     display: &Display<'_>,
     near: &mut usize,
 ) -> usize
-    ensures { result ≡ text_width (units_text (decimals_of display.now) count places currency.now) }
+    ensures width { result
+        ≡ text_width (units_text (decimals_of display.now) count places currency.now) }
+    ensures printable { list_all (is_in_range 32 126)
+        (units_text (decimals_of display.now) count places currency.now) ≡ true }
 {
     let number = number_len(count, places, display.places_near(currency, near));
     number + 1 + currency.text().len()
@@ -268,7 +275,14 @@ pub(crate) fn push_cell(
             places,
             count,
             currency,
-        } => push_units(out, *count, *places, currency, display, &mut scratch.near),
+        } => push_units(
+            out,
+            *count,
+            *places,
+            currency,
+            display,
+            &mut scratch.nears[0],
+        ),
         Shown::Position { key, count } => push_position(out, key.get(), *count, scratch, display),
         Shown::Inventory { places, held } => push_inventory(out, *places, held, scratch, display),
     }
@@ -295,7 +309,7 @@ pub(crate) fn cell_width(
             places,
             count,
             currency,
-        } => Ok(units_width(*count, *places, currency, display, &mut scratch.near)),
+        } => Ok(units_width(*count, *places, currency, display, &mut scratch.nears[0])),
         Shown::Position { key, count } => position_width(key.get(), *count, scratch, display),
         Shown::Inventory { places, held } => inventory_width(*places, held, scratch, display),
     }

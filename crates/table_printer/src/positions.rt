@@ -48,7 +48,7 @@ fn add_units(
         places,
         currency,
         display,
-        &mut scratch.near,
+        &mut scratch.nears[0],
     )?;
     add_printable(&mut scratch.clean, &scratch.measured)?;
     Ok(())
@@ -151,7 +151,7 @@ pub(crate) fn push_position(
             COUNT_PLACES,
             &key.currency,
             display,
-            &mut scratch.near,
+            &mut scratch.nears[0],
         );
     }
     make_position(scratch, key, count, display)?;
@@ -175,7 +175,7 @@ pub(crate) fn position_width(
             COUNT_PLACES,
             &key.currency,
             display,
-            &mut scratch.near,
+            &mut scratch.nears[0],
         ));
     }
     make_position(scratch, key, count, display)?;

@@ -7,8 +7,8 @@ use Rattle.number_texts.proofs.PrintableFacts.{bounded, printable_number, printa
 use Rattle.table_printer.proofs.Printable.{width_printable}
 use Rattle.table_printer.proofs.cells.units_width.Goals as goal
 
-pub returns : goal.returns
-returns c =
+pub returns-clause-width : goal.returns-clause-width
+returns-clause-width c =
     let currency = c.args.currency.now in
     let count = c.args.count in
     let places = c.args.places in
@@ -24,3 +24,11 @@ returns c =
     ∙ ap (λ n. length (number_text n places least)) (to_z-of_z w128 count c.ranges.count) in
     let named = ap length c.text.ensures.text in
     omega (arith, wide, sized, named, length-append number (32 ∷ currency))
+
+pub returns-clause-printable : goal.returns-clause-printable
+returns-clause-printable c =
+    let currency = c.args.currency.now in
+    let least = decimals_of c.args.display.now currency in
+    printable_units (number_text c.args.count c.args.places least) currency
+    (printable_number c.args.count c.args.places least (bounded c.args.count c.ranges.count))
+    c.text.ensures.is_currency

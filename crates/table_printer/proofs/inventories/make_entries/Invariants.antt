@@ -3,10 +3,10 @@ use Rattle.std.specs.String.{string_bytes}
 use Rattle.posting_table.specs.Decimals.{decimals_of}
 use Rattle.theory.specs.Joined.{joined}
 use Rattle.table_printer.specs.CellText.{between_entries, text_of_entry}
-use Rattle.table_printer.proofs.inventories.make_inventory.Given as goal
+use Rattle.table_printer.proofs.inventories.make_entries.Given as goal
 
 abbrev pub invariant-loop-i : goal.invariant-loop-i
 invariant-loop-i l =
     string_bytes l.scratch.clean
     ≡ joined between_entries
-    (map (text_of_entry (decimals_of l.display) l.places) (take l.i l.entry-items))
+    (map (text_of_entry (decimals_of l.display) l.places) (take l.i l.entries))

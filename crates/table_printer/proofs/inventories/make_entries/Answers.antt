@@ -8,15 +8,15 @@ use Rattle.posting_table.specs.Decimals.{decimals_of}
 use Rattle.theory.specs.Joined.{joined, gap_before}
 use Rattle.theory.proofs.JoinedFacts.{joined_next}
 use Rattle.table_printer.specs.CellText.{between_entries, entry_text, text_of_entry}
-use Rattle.table_printer.proofs.inventories.make_inventory.Goals as goal
+use Rattle.table_printer.proofs.inventories.make_entries.Goals as goal
 
 pub loop-i-preserved : goal.loop-i-preserved
 loop-i-preserved c =
     let display = decimals_of c.args.display.now in
     let places = c.args.places in
-    let entries = c.deref-entry-items.result.now in
+    let entries = c.args.entries.now in
     let i = c.loop-i.i in
-    let entry = c.entry-item.result in
+    let entry = c.index-entries-i.result in
     let so_far = joined between_entries (map (text_of_entry display places) (take i entries)) in
     let gap = gap_before between_entries i in
     let fits : FitsSigned w128 entry.count = search rules in
@@ -28,4 +28,4 @@ loop-i-preserved c =
     ∙ ap (λ l. (l ++ gap) ++ text_of_entry display places entry) c.loop-i.invariant
     ∙ append_assoc so_far gap (text_of_entry display places entry)
     ∙ sym (joined_next between_entries (text_of_entry display places) entries i entry
-    (omega (arith, c.loop-i-test.true)) c.entry-item.is)
+    (omega (arith, c.loop-i-test.true)) c.index-entries-i.is)
