@@ -1,0 +1,10 @@
+use Rattle.std.proofs.Common.{sym, ◌∙◌, ap}
+use Rattle.bean_grammar.specs.Exact.{signed}
+use Rattle.bean_grammar.proofs.PlainFacts.{reads_plain}
+use Rattle.bean_grammar.proofs.expression.plain.Goals as goal
+
+pub returns-clause-read : goal.returns-clause-read
+returns-clause-read c =
+    reads_plain _ _ _ _ _ _ c.past_sign-is_minus.ensures.front c.in_ok-written.ensures.front
+    (sym c.goes_on.ensures ∙ c.if-goes_on.false)
+    (c.signed.ensures ∙ ap (signed c.past_sign-is_minus.result.0) c.number_of.ensures)
