@@ -1,5 +1,4 @@
-use Rattle.std.proofs.Common.{sym, ◌∙◌, ap}
-use Rattle.bean_grammar.specs.Exact.{signed}
+use Rattle.std.proofs.Common.{sym, ◌∙◌}
 use Rattle.bean_grammar.proofs.PlainFacts.{reads_plain}
 use Rattle.bean_grammar.proofs.expression.plain.Goals as goal
 
@@ -7,4 +6,4 @@ pub returns-clause-read : goal.returns-clause-read
 returns-clause-read c =
     reads_plain _ _ _ _ _ _ c.past_sign-is_minus.ensures.front c.in_ok-written.ensures.front
     (sym c.goes_on.ensures ∙ c.if-goes_on.false)
-    (c.signed.ensures ∙ ap (signed c.past_sign-is_minus.result.0) c.number_of.ensures)
+    c.number_of.ensures
