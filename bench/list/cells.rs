@@ -1,119 +1,144 @@
 //! Tables of what questions answer: the cells of rows, and the lines that they stand in.
 
-use crate::inventory::Lot;
-use crate::numbers::Day;
-use crate::table::{push_amount, push_day, push_position};
-use std::collections::{BTreeMap, HashMap};
+use crate::digits::{Shown, day_text, width_of};
+use crate::escapes::cleaned;
+use crate::names::NONE;
+use crate::rows::Listed;
+use crate::sums::Sums;
 use std::iter;
 
-/// What is held, by currency, of `10^-8`.
-pub type Sums<'a> = BTreeMap<&'a str, i128>;
-
-/// What is held, by currency and lot, of `10^-8`.
-pub type Held<'l, 'a> = HashMap<(&'a str, Option<&'l Lot<'a>>), i128>;
-
 /// The cells of a table, one row behind the other, and where each ends.
-pub struct Cells {
+pub struct Cells<'l> {
+    listed: &'l Listed,
     texts: Vec<u8>,
     ends: Vec<usize>,
-    columns: usize,
+    widths: Vec<usize>,
+    column: usize,
+    /// By currency its place in the order of their texts.
+    ranks: Vec<u32>,
+    /// The positions of a cell.
+    positions: Vec<(u32, u32, i128)>,
 }
 
-impl Cells {
-    pub fn of(headers: &[&str]) -> Cells {
+impl<'l> Cells<'l> {
+    pub fn of(listed: &'l Listed, headers: &[&str]) -> Cells<'l> {
         let mut cells = Cells {
+            listed,
             texts: Vec::new(),
             ends: Vec::new(),
-            columns: headers.len(),
+            widths: vec![0; headers.len()],
+            column: 0,
+            ranks: ranks(listed.ledger.currencies.texts()),
+            positions: Vec::new(),
         };
         headers.iter().for_each(|header| cells.text(header));
         cells
     }
 
-    fn end(&mut self) {
+    /// Ends a cell of so many characters.
+    fn end(&mut self, width: usize) {
         self.ends.push(self.texts.len());
+        let widest = &mut self.widths[self.column];
+        *widest = width.max(*widest);
+        self.column = (self.column + 1) % self.widths.len();
+    }
+
+    /// Ends a cell whose text begins at a place.
+    fn end_from(&mut self, start: usize) {
+        self.end(width_of(&self.texts[start..]));
     }
 
     pub fn text(&mut self, text: &str) {
-        self.texts.extend_from_slice(text.as_bytes());
-        self.end();
+        self.texts.extend_from_slice(cleaned(text).as_bytes());
+        self.end(width_of(text.as_bytes()));
     }
 
-    pub fn day(&mut self, day: Day) {
-        push_day(&mut self.texts, day);
-        self.end();
+    pub fn day(&mut self, day: u32) {
+        self.texts.extend_from_slice(&day_text(day));
+        self.end(10);
     }
 
-    pub fn sums(&mut self, sums: &Sums<'_>, decimals: &HashMap<&str, u8>) {
-        for (number, (currency, count)) in sums.iter().filter(|(_, count)| **count != 0).enumerate() {
-            if number > 0 {
-                self.texts.extend_from_slice(b", ");
-            }
-            push_amount(&mut self.texts, *count, currency, decimals);
+    /// Units of `10^-8`, where they are any.
+    pub fn units(&mut self, count: i128, currency: u32) {
+        let start = self.texts.len();
+        if count != 0 {
+            self.listed.push_position(&mut self.texts, count, currency, NONE);
         }
-        self.end();
+        self.end_from(start);
     }
 
     /// Positions in the order of their currencies and lots.
-    pub fn held(&mut self, held: &Held<'_, '_>, decimals: &HashMap<&str, u8>) {
-        let mut positions: Vec<_> = held.iter().collect();
-        positions.sort_by_key(|((currency, lot), _)| (*currency, lot.map(Lot::rank)));
-        for (number, ((currency, lot), count)) in positions.into_iter().enumerate() {
+    pub fn sums(&mut self, sums: &Sums) {
+        let start = self.texts.len();
+        self.positions.clear();
+        self.positions.extend(sums.entries());
+        let rank = |lot: u32| self.listed.lots.rank(lot, &self.listed.ledger);
+        self.positions.sort_unstable_by(|(a, a_lot, _), (b, b_lot, _)| {
+            let currencies = self.ranks[*a as usize].cmp(&self.ranks[*b as usize]);
+            currencies.then_with(|| rank(*a_lot).cmp(&rank(*b_lot)))
+        });
+        for (number, (currency, lot, count)) in self.positions.iter().enumerate() {
             if number > 0 {
                 self.texts.extend_from_slice(b", ");
             }
-            push_position(&mut self.texts, *count, currency, *lot, decimals);
+            self.listed.push_position(&mut self.texts, *count, *currency, *lot);
         }
-        self.end();
+        self.end_from(start);
     }
 
-    /// A number, of a count of `10^-8`, with as few decimals as are exact.
-    pub fn number(&mut self, count: i128) {
-        let sign = if count < 0 { "-" } else { "" };
-        let (whole, rest) = (count.unsigned_abs() / 100_000_000, count.unsigned_abs() % 100_000_000);
-        let text = format!("{sign}{whole}.{rest:08}");
-        self.text(text.trim_end_matches('0').trim_end_matches('.'));
+    /// A number with as few decimals as are exact.
+    pub fn number(&mut self, count: i128, places: u8) {
+        let shown = Shown::new(count, places, 0);
+        shown.push(&mut self.texts);
+        self.end(shown.width());
     }
 
     /// The table; `right` tells which columns are set to the right, with their names.
     pub fn table(self, right: &[bool]) -> Vec<u8> {
-        let starts = iter::once(0).chain(self.ends.iter().copied());
-        let cells: Vec<&[u8]> = starts.zip(&self.ends).map(|(start, end)| &self.texts[start..*end]).collect();
-        let mut widths = vec![0; self.columns];
-        for row in cells.chunks(self.columns) {
-            for (width, cell) in widths.iter_mut().zip(row) {
-                *width = cell.len().max(*width);
+        let columns = self.widths.len();
+        let mut out = Vec::with_capacity(self.texts.len());
+        let mut start = 0;
+        for (number, ends) in self.ends.chunks(columns).enumerate() {
+            for (column, end) in ends.iter().enumerate() {
+                let is_right = right.get(column) == Some(&true);
+                push_cell(&mut out, &self.texts[start..*end], self.widths[column], is_right);
+                start = *end;
             }
-        }
-        let mut out = Vec::new();
-        for (number, row) in cells.chunks(self.columns).enumerate() {
-            push_line(&mut out, row, &widths, right);
+            end_line(&mut out);
             if number == 0 {
-                let rules: Vec<Vec<u8>> = widths.iter().map(|width| vec![b'-'; *width]).collect();
-                let rules: Vec<&[u8]> = rules.iter().map(Vec::as_slice).collect();
-                push_line(&mut out, &rules, &widths, &[]);
+                self.widths
+                    .iter()
+                    .for_each(|width| push_cell(&mut out, &vec![b'-'; *width], *width, false));
+                end_line(&mut out);
             }
         }
         out
     }
 }
 
-fn push_line(out: &mut Vec<u8>, cells: &[&[u8]], widths: &[usize], right: &[bool]) {
-    for (column, (cell, width)) in cells.iter().zip(widths).enumerate() {
-        if column > 0 {
-            out.extend_from_slice(b"  ");
-        }
-        let gap = iter::repeat_n(b' ', width - cell.len());
-        if right.get(column) == Some(&true) {
-            out.extend(gap);
-            out.extend_from_slice(cell);
-        } else {
-            out.extend_from_slice(cell);
-            out.extend(gap);
-        }
-    }
+fn push_cell(out: &mut Vec<u8>, cell: &[u8], width: usize, is_right: bool) {
+    let gap = width - width_of(cell);
+    let (before, behind) = if is_right { (gap, 2) } else { (0, gap + 2) };
+    out.extend(iter::repeat_n(b' ', before));
+    out.extend_from_slice(cell);
+    out.extend(iter::repeat_n(b' ', behind));
+}
+
+/// No space ends a line.
+fn end_line(out: &mut Vec<u8>) {
     while out.last() == Some(&b' ') {
         out.pop();
     }
     out.push(b'\n');
+}
+
+/// For each name its place in the order of their texts.
+pub fn ranks(texts: &[&str]) -> Vec<u32> {
+    let mut order: Vec<u32> = (0..texts.len() as u32).collect();
+    order.sort_unstable_by_key(|name| texts[*name as usize]);
+    let mut ranks = vec![0; texts.len()];
+    for (rank, name) in (0..).zip(order) {
+        ranks[name as usize] = rank;
+    }
+    ranks
 }

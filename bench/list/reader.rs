@@ -1,238 +1,555 @@
-//! Reads the tokens of a line from the front: expressions, amounts, metadata, tags and links.
+//! Reads the words of a text from the front. The reader stands at a word or at the end of a line: behind each word
+//! it goes over the spaces.
 
-use crate::directives::{Amount, Entry, Mark, Value};
-use crate::numbers::{Day, Number};
-use crate::tokens::{Kind, Sign, Token, Word};
+use crate::ledger::{Ledger, Mark};
 
-/// So many signs and parentheses may stand in one another.
-const DEEPEST: u32 = 200;
+/// What is read, or none where the text is not of the grammar.
+pub type Read<T> = Option<T>;
 
-/// The tokens are not of the grammar.
-#[derive(Debug)]
-pub struct NotOfTheGrammar;
-
-pub type Read<T> = Result<T, NotOfTheGrammar>;
-
-pub struct Reader<'t, 'a> {
-    rest: &'t [Token<'a>],
-    /// Whether every day and number that was read is one that a ledger may hold.
+pub struct Reader<'l> {
+    text: &'static str,
+    pub at: usize,
+    pub line: u32,
+    pub file: u16,
+    /// Whether every day and number of the block is one that a ledger may hold.
     pub is_in_range: bool,
+    pub ledger: &'l mut Ledger,
 }
 
-impl<'t, 'a> Reader<'t, 'a> {
-    pub fn new(line: &'t [Token<'a>]) -> Self {
+/// What stands at the front behind the end of a line.
+#[derive(Clone, Copy, Debug, PartialEq, Eq)]
+pub enum Front {
+    /// A word in column one.
+    Block,
+    /// An indented word.
+    Line,
+    End,
+}
+
+#[derive(Clone, Copy, Debug, PartialEq, Eq)]
+pub enum Word {
+    Open,
+    Close,
+    Commodity,
+    Txn,
+    Balance,
+    Pad,
+    Note,
+    Document,
+    Price,
+    Event,
+    Query,
+    Custom,
+    Option,
+    Include,
+    Plugin,
+    PushTag,
+    PopTag,
+    PushMeta,
+    PopMeta,
+}
+
+/// A class of bytes: letters of both cases, if they are wanted, capitals, digits and some more.
+const fn class(has_all_letters: bool, others: &[u8]) -> [bool; 256] {
+    let mut class = [false; 256];
+    let mut b = 0;
+    while b < 256 {
+        let byte = b as u8;
+        class[b] = byte.is_ascii_uppercase() || byte.is_ascii_digit() || has_all_letters && byte.is_ascii_lowercase();
+        b += 1;
+    }
+    let mut i = 0;
+    while i < others.len() {
+        class[others[i] as usize] = true;
+        i += 1;
+    }
+    class
+}
+
+/// What an account's component goes on with; it is every byte of a character past ASCII, too.
+static IN_COMPONENT: [bool; 256] = {
+    let mut class = class(true, b"-");
+    let mut b = 128;
+    while b < 256 {
+        class[b] = true;
+        b += 1;
+    }
+    class
+};
+static IN_CURRENCY: [bool; 256] = class(false, b"'._-");
+static IN_MARK: [bool; 256] = class(true, b"-_/.");
+static IN_KEY: [bool; 256] = class(true, b"-_");
+
+const LONGEST_CURRENCY: usize = 24;
+
+impl<'l> Reader<'l> {
+    pub fn new(text: &'static str, file: u16, ledger: &'l mut Ledger) -> Self {
         Reader {
-            rest: line,
+            text,
+            at: 0,
+            line: 1,
+            file,
             is_in_range: true,
+            ledger,
         }
     }
 
-    pub fn go_to(&mut self, line: &'t [Token<'a>]) {
-        self.rest = line;
+    // Bytes and lines.
+
+    fn bytes(&self) -> &'static [u8] {
+        self.text.as_bytes()
     }
 
-    // Single tokens.
-
-    pub fn kind(&self) -> Option<Kind> {
-        self.rest.first().map(|token| token.kind)
+    fn rest(&self) -> &'static [u8] {
+        &self.bytes()[self.at..]
     }
 
-    /// The number of the line in the text.
-    pub fn line(&self) -> usize {
-        self.rest.first().map_or(0, |token| token.line)
+    /// The byte at the front; 0 where there is none.
+    #[inline]
+    pub fn byte(&self) -> u8 {
+        self.bytes().get(self.at).copied().unwrap_or(0)
     }
 
-    pub fn next(&mut self) -> Read<&'t Token<'a>> {
-        let (token, rest) = self.rest.split_first().ok_or(NotOfTheGrammar)?;
-        self.rest = rest;
-        Ok(token)
+    /// The byte behind that.
+    fn byte_behind(&self) -> u8 {
+        self.bytes().get(self.at + 1).copied().unwrap_or(0)
     }
 
-    pub fn end(&self) -> Read<()> {
-        if self.rest.is_empty() {
-            Ok(())
-        } else {
-            Err(NotOfTheGrammar)
+    pub fn is_at_text_end(&self) -> bool {
+        self.at >= self.text.len()
+    }
+
+    #[inline]
+    fn spaces(&mut self) {
+        while matches!(self.byte(), b' ' | b'\t' | b'\r') {
+            self.at += 1;
         }
     }
 
-    pub fn if_any(&mut self, kind: Kind) -> Option<&'a str> {
-        let (token, rest) = self.rest.split_first()?;
-        if token.kind != kind {
-            return None;
+    /// Where the bytes of a class end.
+    #[inline]
+    fn run(&self, start: usize, class: &[bool; 256]) -> usize {
+        let bytes = &self.bytes()[start..];
+        start + bytes.iter().take_while(|b| class[**b as usize]).count()
+    }
+
+    /// Goes to the end of the line.
+    fn skip_line(&mut self) {
+        let rest = self.rest();
+        self.at += rest.iter().position(|b| *b == b'\n').unwrap_or(rest.len());
+    }
+
+    /// Whether the line ends here.
+    #[inline]
+    pub fn is_at_end(&self) -> bool {
+        match self.byte() {
+            b'\n' | b';' => true,
+            0 => self.is_at_text_end(),
+            _ => false,
         }
-        self.rest = rest;
-        Some(token.text)
     }
 
-    pub fn one(&mut self, kind: Kind) -> Read<&'a str> {
-        self.if_any(kind).ok_or(NotOfTheGrammar)
+    /// Nothing more stands in the line but a comment.
+    #[inline]
+    pub fn end(&mut self) -> Read<()> {
+        match self.byte() {
+            b'\n' => return Some(()),
+            b';' => self.skip_line(),
+            _ if self.is_at_text_end() => {}
+            _ => return None,
+        }
+        Some(())
     }
 
-    pub fn is_sign(&mut self, sign: Sign) -> bool {
-        self.if_any(Kind::Sign(sign)).is_some()
-    }
-
-    pub fn account(&mut self) -> Read<&'a str> {
-        self.one(Kind::Account)
-    }
-
-    pub fn currency(&mut self) -> Read<&'a str> {
-        self.one(Kind::Currency)
-    }
-
-    pub fn text_if_any(&mut self) -> Option<&'a str> {
-        self.if_any(Kind::Text).map(|text| &text[1..text.len() - 1])
-    }
-
-    pub fn text(&mut self) -> Read<&'a str> {
-        self.text_if_any().ok_or(NotOfTheGrammar)
-    }
-
-    pub fn tag(&mut self) -> Read<&'a str> {
-        Ok(&self.one(Kind::Tag)?[1..])
-    }
-
-    pub fn key(&mut self) -> Read<&'a str> {
-        let key = self.one(Kind::Key)?;
-        Ok(&key[..key.len() - 1])
-    }
-
-    pub fn day_of(&mut self, text: &str) -> Day {
-        let day = Day::parse(text);
-        self.is_in_range &= day.is_some();
-        day.unwrap_or_default()
-    }
-
-    pub fn day(&mut self) -> Read<Day> {
-        let text = self.one(Kind::Day)?;
-        Ok(self.day_of(text))
-    }
-
-    // Numbers.
-
-    /// The longest expression; none where a part of it is out of range.
-    pub fn expression(&mut self) -> Read<Option<Number>> {
-        self.sum(DEEPEST)
-    }
-
-    fn sum(&mut self, room: u32) -> Read<Option<Number>> {
-        let mut sum = self.product(room)?;
+    /// Goes from the start of a line over white space, comments and lines that are skipped to the next word.
+    fn go_to_front(&mut self) -> Front {
         loop {
-            let apply = if self.is_sign(Sign::Plus) {
-                Number::plus
-            } else if self.is_sign(Sign::Minus) {
-                Number::minus
-            } else {
-                return Ok(sum);
-            };
-            sum = sum.zip(self.product(room)?).and_then(|(a, b)| apply(a, b));
-        }
-    }
-
-    fn product(&mut self, room: u32) -> Read<Option<Number>> {
-        let mut product = self.factor(room)?;
-        while self.is_sign(Sign::Star) {
-            product = product
-                .zip(self.factor(room)?)
-                .and_then(|(a, b)| a.times(b));
-        }
-        Ok(product)
-    }
-
-    fn factor(&mut self, room: u32) -> Read<Option<Number>> {
-        if let Some(text) = self.if_any(Kind::Number) {
-            return Ok(Number::parse(text));
-        }
-        let room = room.checked_sub(1).ok_or(NotOfTheGrammar)?;
-        if self.is_sign(Sign::Plus) {
-            return self.factor(room);
-        }
-        if self.is_sign(Sign::Minus) {
-            return Ok(self.factor(room)?.map(Number::negated));
-        }
-        self.one(Kind::Sign(Sign::OpenParenthesis))?;
-        let inside = self.sum(room)?;
-        self.one(Kind::Sign(Sign::CloseParenthesis))?;
-        Ok(inside)
-    }
-
-    pub fn number(&mut self) -> Read<Number> {
-        let number = self.expression()?;
-        self.is_in_range &= number.is_some();
-        Ok(number.unwrap_or_default())
-    }
-
-    pub fn number_if_any(&mut self) -> Read<Option<Number>> {
-        match self.kind() {
-            Some(Kind::Number | Kind::Sign(Sign::Plus | Sign::Minus | Sign::OpenParenthesis)) => {
-                self.number().map(Some)
+            let start = self.at;
+            if matches!(self.byte(), b'*' | b':' | b'#') {
+                self.skip_line();
             }
-            _ => Ok(None),
-        }
-    }
-
-    pub fn amount_parts(&mut self) -> Read<(Option<Number>, Option<&'a str>)> {
-        let number = self.number_if_any()?;
-        Ok((number, self.if_any(Kind::Currency)))
-    }
-
-    // Metadata, tags and links.
-
-    pub fn marks(&mut self) -> Vec<Mark<'a>> {
-        let mut marks = Vec::new();
-        while let Some(token) = self.rest.first() {
-            match token.kind {
-                Kind::Tag => marks.push(Mark::Tag(&token.text[1..])),
-                Kind::Link => marks.push(Mark::Link(&token.text[1..])),
-                _ => break,
+            self.spaces();
+            if self.byte() == b';' {
+                self.skip_line();
             }
-            self.rest = &self.rest[1..];
+            if self.is_at_text_end() {
+                return Front::End;
+            }
+            if self.byte() != b'\n' {
+                return if self.at == start { Front::Block } else { Front::Line };
+            }
+            self.go_over_line_feed();
         }
-        marks
     }
 
-    fn value(&mut self) -> Read<Value<'a>> {
-        let token = self.rest.first().ok_or(NotOfTheGrammar)?;
-        let value = match token.kind {
-            Kind::Text => Value::Text(&token.text[1..token.text.len() - 1]),
-            Kind::Account => Value::Account(token.text),
-            Kind::Day => Value::Day(self.day_of(token.text)),
-            Kind::Currency => Value::Currency(token.text),
-            Kind::Tag => Value::Tag(&token.text[1..]),
-            Kind::Word(Word::True) => Value::Truth(true),
-            Kind::Word(Word::False) => Value::Truth(false),
-            _ => return self.numeric_value(),
-        };
-        self.rest = &self.rest[1..];
-        Ok(value)
+    fn go_over_line_feed(&mut self) {
+        self.at += 1;
+        self.line += 1;
     }
 
-    fn numeric_value(&mut self) -> Read<Value<'a>> {
-        let number = self.number()?;
-        Ok(match self.if_any(Kind::Currency) {
-            Some(currency) => Value::Amount(Amount { number, currency }),
-            None => Value::Number(number),
+    /// What stands first in a text.
+    pub fn first(&mut self) -> Front {
+        self.go_to_front()
+    }
+
+    /// Goes from the end of a line to what stands behind it.
+    #[inline]
+    pub fn next(&mut self) -> Front {
+        if self.is_at_text_end() {
+            return Front::End;
+        }
+        self.go_over_line_feed();
+        self.go_to_front()
+    }
+
+    /// Goes on behind a block that begins here, whatever stands in it.
+    pub fn skip_block(&mut self) -> Front {
+        loop {
+            match self.byte() {
+                b'"' => self.skip_text(),
+                b';' => self.skip_line(),
+                b'\n' => match self.next() {
+                    Front::Line => {}
+                    front => return front,
+                },
+                _ if self.is_at_text_end() => return Front::End,
+                _ => self.at += 1,
+            }
+        }
+    }
+
+    /// Goes behind a text that may have unknown escapes, or to the end where it isn't closed.
+    fn skip_text(&mut self) {
+        self.at += 1;
+        loop {
+            match self.byte() {
+                b'"' => return self.at += 1,
+                b'\n' => self.go_over_line_feed(),
+                b'\\' => {
+                    self.at += 1;
+                    if self.byte() == b'\n' {
+                        self.line += 1;
+                    }
+                    self.at += 1;
+                }
+                _ => self.at += 1,
+            }
+            if self.is_at_text_end() {
+                return self.at = self.text.len();
+            }
+        }
+    }
+
+    // Words.
+
+    /// A sign of one byte, if it stands here.
+    #[inline]
+    pub fn is_sign(&mut self, sign: u8) -> bool {
+        let is_here = self.byte() == sign;
+        if is_here {
+            self.at += 1;
+            self.spaces();
+        }
+        is_here
+    }
+
+    /// How often a sign stands here that is another one when it stands twice: not at all, once or twice.
+    pub fn times(&mut self, sign: u8) -> u8 {
+        if self.byte() != sign {
+            return 0;
+        }
+        let times = if self.byte_behind() == sign { 2 } else { 1 };
+        self.at += usize::from(times);
+        self.spaces();
+        times
+    }
+
+    /// The sign of a compound cost, which begins no tag.
+    pub fn is_hash(&mut self) -> bool {
+        !IN_MARK[self.byte_behind() as usize] && self.is_sign(b'#')
+    }
+
+    /// A number from digits that stand at the front, or none where other than digits do.
+    fn digits(bytes: &[u8]) -> Option<u32> {
+        bytes.iter().try_fold(0, |number, b| {
+            let digit = b.wrapping_sub(b'0');
+            (digit <= 9).then_some(10 * number + u32::from(digit))
         })
     }
 
-    pub fn values(&mut self) -> Read<Vec<Value<'a>>> {
-        let mut values = Vec::new();
-        while !self.rest.is_empty() {
-            values.push(self.value()?);
+    /// The year, the month and the day from a place on where they have the form of one.
+    fn day_form(&self, start: usize) -> Option<(u32, u32, u32)> {
+        let bytes = self.bytes()[start..].first_chunk::<10>()?;
+        if !matches!(bytes[4], b'-' | b'/') || bytes[7] != bytes[4] {
+            return None;
         }
-        Ok(values)
+        Some((
+            Self::digits(&bytes[..4])?,
+            Self::digits(&bytes[5..7])?,
+            Self::digits(&bytes[8..])?,
+        ))
     }
 
-    /// An entry, whose value may lack.
-    pub fn entry(&mut self) -> Read<Entry<'a>> {
-        let key = self.key()?;
-        let value = if self.rest.is_empty() {
-            Value::Nothing
-        } else {
-            self.value()?
+    /// A day, as the number that its digits write.
+    #[inline]
+    pub fn day_if_any(&mut self) -> Option<u32> {
+        let (year, month, day) = self.day_form(self.at)?;
+        self.is_in_range &= year > 0 && (1..=12).contains(&month) && (1..=days_of(year, month)).contains(&day);
+        self.at += 10;
+        self.spaces();
+        Some((year * 100 + month) * 100 + day)
+    }
+
+    /// The digits of a number with commas between them, from the front on; their value is of no use where there
+    /// are more than 18.
+    #[inline]
+    pub fn whole_digits(&mut self) -> u64 {
+        let mut value: u64 = 0;
+        loop {
+            let digit = self.byte().wrapping_sub(b'0');
+            if digit <= 9 {
+                value = value.wrapping_mul(10).wrapping_add(u64::from(digit));
+            } else if digit != b','.wrapping_sub(b'0') || !self.byte_behind().is_ascii_digit() {
+                return value;
+            }
+            self.at += 1;
+        }
+    }
+
+    /// The digits of a number, if one begins here: what stands before its point, and the decimals with their number
+    /// if it has a point, and where it began.
+    #[inline]
+    pub fn digits_if_any(&mut self) -> Option<(u64, u64, usize, &'static str)> {
+        let start = self.at;
+        if !self.byte().is_ascii_digit() {
+            return None;
+        }
+        let whole = self.whole_digits();
+        if self.at == start + 4 && matches!(self.byte(), b'-' | b'/') && self.day_form(start).is_some() {
+            self.at = start;
+            return None;
+        }
+        let (mut decimals, mut places) = (0, 0);
+        if self.byte() == b'.' {
+            self.at += 1;
+            let first = self.at;
+            let mut digit = self.byte().wrapping_sub(b'0');
+            while digit <= 9 {
+                decimals = 10u64.wrapping_mul(decimals).wrapping_add(u64::from(digit));
+                self.at += 1;
+                digit = self.byte().wrapping_sub(b'0');
+            }
+            places = self.at - first;
+        }
+        let text = &self.text[start..self.at];
+        self.spaces();
+        Some((whole, decimals, places, text))
+    }
+
+    /// What stands between quotes, if a text stands here, and the place of the first quote.
+    #[inline]
+    pub fn text_if_any(&mut self) -> Read<Option<(u32, &'static str)>> {
+        if self.byte() != b'"' {
+            return Some(None);
+        }
+        let start = self.at;
+        let end = self.text_end()?;
+        self.at = end + 1;
+        self.spaces();
+        Some(Some((start as u32, &self.text[start + 1..end])))
+    }
+
+    /// Where the text that begins here ends, whose escapes must be known.
+    fn text_end(&mut self) -> Read<usize> {
+        let bytes = self.bytes();
+        let mut end = self.at + 1;
+        loop {
+            end += bytes[end..].iter().position(|b| matches!(b, b'"' | b'\\' | b'\n'))?;
+            match bytes[end] {
+                b'"' => return Some(end),
+                b'\n' => {
+                    self.line += 1;
+                    end += 1;
+                }
+                _ => match bytes.get(end + 1)? {
+                    b'"' | b'\\' | b'n' | b't' => end += 2,
+                    _ => return None,
+                },
+            }
+        }
+    }
+
+    /// A text, and the place of its quote.
+    pub fn text(&mut self) -> Read<(u32, &'static str)> {
+        self.text_if_any()?
+    }
+
+    /// The place of a text.
+    pub fn text_place(&mut self) -> Read<u32> {
+        self.text().map(|(place, _)| place)
+    }
+
+    /// What stands from the front up to a place, as a word.
+    #[inline]
+    fn word_to(&mut self, end: usize) -> &'static str {
+        let word = &self.text[self.at..end];
+        self.at = end;
+        self.spaces();
+        word
+    }
+
+    #[inline]
+    pub fn account(&mut self) -> Read<u32> {
+        self.account_if_any()
+    }
+
+    #[inline]
+    pub fn account_if_any(&mut self) -> Option<u32> {
+        let rest = self.rest();
+        let root = match rest.first()? {
+            b'A' if rest.starts_with(b"Assets:") => 6,
+            b'L' if rest.starts_with(b"Liabilities:") => 11,
+            b'E' if rest.starts_with(b"Expenses:") => 8,
+            b'E' if rest.starts_with(b"Equity:") => 6,
+            b'I' if rest.starts_with(b"Income:") => 6,
+            _ => return None,
         };
-        self.end()?;
-        Ok(Entry { key, value })
+        let bytes = self.bytes();
+        let begins_component = |b: &u8| b.is_ascii_uppercase() || b.is_ascii_digit() || *b >= 128;
+        let mut end = self.at + root;
+        while bytes.get(end) == Some(&b':') && bytes.get(end + 1).is_some_and(begins_component) {
+            end = self.run(end + 1, &IN_COMPONENT);
+        }
+        if end == self.at + root {
+            return None;
+        }
+        let account = self.word_to(end);
+        Some(self.ledger.accounts.of(account))
+    }
+
+    #[inline]
+    pub fn currency_if_any(&mut self) -> Option<u32> {
+        if !self.byte().is_ascii_uppercase() {
+            return None;
+        }
+        let bytes = self.bytes();
+        let ends_currency = |b: u8| b.is_ascii_uppercase() || b.is_ascii_digit();
+        let mut end = self.run(self.at, &IN_CURRENCY).min(self.at + LONGEST_CURRENCY);
+        while !ends_currency(bytes[end - 1]) {
+            end -= 1;
+        }
+        // A small letter behind it goes on with an account, or with nothing of the grammar.
+        let goes_on = bytes.get(end).is_some_and(u8::is_ascii_lowercase);
+        if goes_on || matches!(&bytes[self.at..end], b"TRUE" | b"FALSE") {
+            return None;
+        }
+        let currency = self.word_to(end);
+        Some(self.ledger.currencies.of_repeated(currency))
+    }
+
+    pub fn currency(&mut self) -> Read<u32> {
+        self.currency_if_any()
+    }
+
+    pub fn truth_if_any(&mut self) -> Option<bool> {
+        if !self.byte().is_ascii_uppercase() {
+            return None;
+        }
+        let end = self.run(self.at, &IN_CURRENCY);
+        let truth = match self.text[self.at..end].trim_end_matches(['\'', '.', '_', '-']) {
+            "TRUE" => true,
+            "FALSE" => false,
+            _ => return None,
+        };
+        self.at += if truth { 4 } else { 5 };
+        self.spaces();
+        Some(truth)
+    }
+
+    /// The name behind a sign, if there is one.
+    fn mark_if_any(&mut self, sign: u8) -> Option<u32> {
+        if self.byte() != sign {
+            return None;
+        }
+        let end = self.run(self.at + 1, &IN_MARK);
+        if end == self.at + 1 {
+            return None;
+        }
+        let mark = &self.word_to(end)[1..];
+        Some(self.ledger.marks.of(mark))
+    }
+
+    pub fn tag_if_any(&mut self) -> Option<u32> {
+        self.mark_if_any(b'#')
+    }
+
+    /// Tags and links of the directive that is being read.
+    #[inline]
+    pub fn marks(&mut self) {
+        while matches!(self.byte(), b'#' | b'^') {
+            let tag = self.tag_if_any().map(Mark::Tag);
+            let Some(mark) = tag.or_else(|| self.mark_if_any(b'^').map(Mark::Link)) else {
+                return;
+            };
+            let directive = self.ledger.next();
+            self.ledger.marked.push((directive, mark));
+        }
+    }
+
+    /// Whether a small letter begins a key here, and where its colon stands.
+    fn key_end(&self) -> Option<usize> {
+        let end = self.run(self.at, &IN_KEY);
+        (self.bytes().get(end) == Some(&b':')).then_some(end)
+    }
+
+    pub fn key(&mut self) -> Read<u32> {
+        if !self.byte().is_ascii_lowercase() {
+            return None;
+        }
+        let end = self.key_end()?;
+        let key = self.word_to(end + 1);
+        Some(self.ledger.keys.of(&key[..key.len() - 1]))
+    }
+
+    /// A word of the ledger language.
+    pub fn word(&mut self) -> Read<Word> {
+        let letters = self.rest().iter().take_while(|b| b.is_ascii_lowercase()).count();
+        let end = self.at + letters;
+        let word = match &self.text[self.at..end] {
+            "open" => Word::Open,
+            "close" => Word::Close,
+            "commodity" => Word::Commodity,
+            "txn" => Word::Txn,
+            "balance" => Word::Balance,
+            "pad" => Word::Pad,
+            "note" => Word::Note,
+            "document" => Word::Document,
+            "price" => Word::Price,
+            "event" => Word::Event,
+            "query" => Word::Query,
+            "custom" => Word::Custom,
+            "option" => Word::Option,
+            "include" => Word::Include,
+            "plugin" => Word::Plugin,
+            "pushtag" => Word::PushTag,
+            "poptag" => Word::PopTag,
+            "pushmeta" => Word::PushMeta,
+            "popmeta" => Word::PopMeta,
+            _ => return None,
+        };
+        if self.key_end().is_some() {
+            return None;
+        }
+        self.word_to(end);
+        Some(word)
+    }
+}
+
+fn days_of(year: u32, month: u32) -> u32 {
+    match month {
+        4 | 6 | 9 | 11 => 30,
+        2 if year % 4 == 0 && (year % 100 != 0 || year % 400 == 0) => 29,
+        2 => 28,
+        _ => 31,
     }
 }
