@@ -2,31 +2,23 @@
 
 use crate::ledger::{Amount, Entry, Unit, Value};
 use crate::names::NONE;
-use crate::numbers::{Number, power};
+use crate::numbers::Number;
 use crate::reader::{Read, Reader};
 
 /// So many signs and parentheses may stand in one another.
 const DEEPEST: u32 = 200;
 
-/// So many whole digits fit into 64 bits, and a number with at least this whole part is too large.
-const MOST_WHOLE_DIGITS: usize = 18;
-const TOO_LARGE: u64 = 1_000_000_000_000;
-
 impl Reader<'_> {
     /// A number of digits, none where it is out of range.
     #[inline]
     fn literal_if_any(&mut self) -> Option<Option<Number>> {
-        let (whole, decimals, places, text) = self.digits_if_any()?;
-        if text.len() > MOST_WHOLE_DIGITS {
-            return Some(Number::parse(text));
+        let digits = self.digits_if_any()?;
+        if !digits.are_few() {
+            return Some(Number::parse(self.written(&digits)));
         }
-        if whole >= TOO_LARGE || places > 8 {
-            return Some(None);
-        }
-        let places = places as u8;
         Some(Some(Number {
-            count: i128::from(whole) * power(places) + i128::from(decimals),
-            places,
+            count: i128::from(digits.value),
+            places: digits.places as u8,
         }))
     }
 

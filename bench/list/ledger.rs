@@ -51,7 +51,7 @@ impl Unit {
         self.0 & CURRENCY_LACKS != 0
     }
 
-    fn is_wide(self) -> bool {
+    pub fn is_wide(self) -> bool {
         self.0 & WIDE != 0
     }
 }

@@ -13,18 +13,26 @@ pub fn mixed(state: u64, word: u64) -> u64 {
     (state.rotate_left(5) ^ word).wrapping_mul(FACTOR)
 }
 
-/// Eight bytes at a time, and the last eight whatever they have in common with those before.
-fn hash_of(text: &[u8]) -> u64 {
-    let (chunks, _) = text.as_chunks::<8>();
-    let last = match text.last_chunk::<8>() {
-        Some(last) => u64::from_le_bytes(*last),
-        None => text.iter().fold(0, |word, b| word << 8 | u64::from(*b)),
-    };
-    let state = chunks.iter().fold(text.len() as u64, |state, chunk| {
-        mixed(state, u64::from_le_bytes(*chunk))
-    });
-    let state = mixed(state, last);
+/// The hash of a text from its words of eight bytes, the bytes behind them and its length.
+fn ended(state: u64, last: u64, len: usize) -> u64 {
+    let state = mixed(mixed(state, last), len as u64);
     state ^ state >> 32
+}
+
+fn hash_of(text: &[u8]) -> u64 {
+    let (words, rest) = text.as_chunks::<8>();
+    let state = words
+        .iter()
+        .fold(0, |state, word| mixed(state, u64::from_le_bytes(*word)));
+    let last = rest.iter().rev().fold(0, |last, b| last << 8 | u64::from(*b));
+    ended(state, last, text.len())
+}
+
+/// Where the first byte of white space stands in a word, in bits from its lowest, or 64 where it has none.
+fn white_space(word: u64) -> u32 {
+    const ONES: u64 = 0x0101_0101_0101_0101;
+    let ends = word.wrapping_sub(ONES * 0x21) & !word & (ONES * 0x80);
+    ends.trailing_zeros() & !7
 }
 
 /// A quick hasher of keys that are numbers.
@@ -52,16 +60,18 @@ impl Hasher for Quick {
 /// A map whose keys are numbers.
 pub type QuickMap<K, V> = HashMap<K, V, BuildHasherDefault<Quick>>;
 
-/// Finds numbered things by their hashes: the number of each stands at its hash or behind it.
+/// Finds numbered things by their hashes: each stands at the lower half of its hash or behind it, with the upper half.
 pub struct Index {
-    slots: Vec<u32>,
+    slots: Vec<(u32, u32)>,
     len: usize,
 }
+
+const FREE: (u32, u32) = (0, NONE);
 
 impl Index {
     pub fn new() -> Index {
         Index {
-            slots: vec![NONE; 64],
+            slots: vec![FREE; 64],
             len: 0,
         }
     }
@@ -72,18 +82,21 @@ impl Index {
         let mask = self.slots.len() - 1;
         let mut at = hash as usize & mask;
         loop {
-            match self.slots[at] {
-                NONE => return Err(at),
-                number if is_it(number) => return Ok(number),
-                _ => at = (at + 1) & mask,
+            let (upper, number) = self.slots[at];
+            if number == NONE {
+                return Err(at);
             }
+            if upper == (hash >> 32) as u32 && is_it(number) {
+                return Ok(number);
+            }
+            at = (at + 1) & mask;
         }
     }
 
     /// Puts the next number into its slot; the hashes of all are asked where more slots are needed.
     pub fn add(&mut self, at: usize, hash: impl Fn(u32) -> u64) -> u32 {
         let number = self.len as u32;
-        self.slots[at] = number;
+        self.slots[at] = ((hash(number) >> 32) as u32, number);
         self.len += 1;
         if 2 * self.len > self.slots.len() {
             self.grow(hash);
@@ -92,11 +105,43 @@ impl Index {
     }
 
     fn grow(&mut self, hash: impl Fn(u32) -> u64) {
-        self.slots = vec![NONE; 2 * self.slots.len()];
+        self.slots = vec![FREE; 2 * self.slots.len()];
         for number in 0..self.len as u32 {
-            if let Err(at) = self.look_up(hash(number), |_| false) {
-                self.slots[at] = number;
+            let hash = hash(number);
+            if let Err(at) = self.look_up(hash, |_| false) {
+                self.slots[at] = ((hash >> 32) as u32, number);
             }
+        }
+    }
+}
+
+/// A text of at most seven bytes as a word, the bits of it that count, and its name.
+#[derive(Clone, Copy)]
+struct Short {
+    word: u64,
+    bits: u64,
+    len: usize,
+    name: u32,
+}
+
+impl Short {
+    /// Of no text.
+    const NONE: Short = Short {
+        word: 1,
+        bits: 0,
+        len: 0,
+        name: NONE,
+    };
+
+    fn of(text: &str, name: u32) -> Short {
+        if text.len() > 7 {
+            return Short::NONE;
+        }
+        Short {
+            word: text.bytes().rev().fold(0, |word, b| word << 8 | u64::from(b)),
+            bits: (1 << (8 * text.len())) - 1,
+            len: text.len(),
+            name,
         }
     }
 }
@@ -104,8 +149,8 @@ impl Index {
 pub struct Names {
     texts: Vec<&'static str>,
     index: Index,
-    /// The name that was found last.
-    last: u32,
+    /// The one of them that was met last, where that is short.
+    last: Short,
 }
 
 impl Names {
@@ -113,7 +158,7 @@ impl Names {
         Names {
             texts: Vec::new(),
             index: Index::new(),
-            last: 0,
+            last: Short::NONE,
         }
     }
 
@@ -131,20 +176,18 @@ impl Names {
     }
 
     #[inline]
-    fn look_up(&self, text: &str) -> Result<u32, usize> {
-        self.index
-            .look_up(hash_of(text.as_bytes()), |name| self.text(name) == text)
+    fn look_up(&self, text: &[u8], hash: u64) -> Result<u32, usize> {
+        self.index.look_up(hash, |name| self.text(name).as_bytes() == text)
     }
 
     /// The name of that text where there is one.
     pub fn known(&self, text: &str) -> Option<u32> {
-        self.look_up(text).ok()
+        self.look_up(text.as_bytes(), hash_of(text.as_bytes())).ok()
     }
 
     /// The name of a text, a new one where there is none.
-    #[inline]
     pub fn of(&mut self, text: &'static str) -> u32 {
-        match self.look_up(text) {
+        match self.look_up(text.as_bytes(), hash_of(text.as_bytes())) {
             Ok(name) => name,
             Err(at) => {
                 self.texts.push(text);
@@ -153,12 +196,40 @@ impl Names {
         }
     }
 
-    /// The same, of a text that is often the one before.
+    /// The same, of a text that is often met again, see `repeated`.
+    pub fn of_short(&mut self, text: &'static str) -> u32 {
+        let name = self.of(text);
+        self.last = Short::of(text, name);
+        name
+    }
+
+    /// The name whose text stands in front of white space, and its length, where there is one.
     #[inline]
-    pub fn of_repeated(&mut self, text: &'static str) -> u32 {
-        if self.texts.get(self.last as usize) != Some(&text) {
-            self.last = self.of(text);
+    pub fn before_white_space(&self, front: &[u8]) -> Option<(u32, usize)> {
+        let (mut state, mut len) = (0, 0);
+        loop {
+            let word = u64::from_le_bytes(*front.get(len..)?.first_chunk()?);
+            let end = white_space(word);
+            if end < 64 {
+                len += end as usize / 8;
+                let hash = ended(state, word & ((1 << end) - 1), len);
+                return self.look_up(&front[..len], hash).ok().map(|name| (name, len));
+            }
+            state = mixed(state, word);
+            len += 8;
         }
-        self.last
+    }
+
+    /// The name that was met last, the length of its text and the byte behind it, where that text stands in front.
+    #[inline]
+    pub fn repeated(&self, front: &[u8]) -> Option<(u32, usize, u8)> {
+        let word = u64::from_le_bytes(*front.first_chunk()?);
+        let Short {
+            word: last,
+            bits,
+            len,
+            name,
+        } = self.last;
+        (word & bits == last).then(|| (name, len, (word >> (8 * len)) as u8))
     }
 }

@@ -2,7 +2,7 @@
 
 use crate::ledger::{Amount, Braces, Extra, Flag, Posting, Price, Shape, Unit};
 use crate::names::NONE;
-use crate::reader::{Read, Reader};
+use crate::reader::{Digits, Read, Reader};
 
 /// The parts of a cost; each form of a part may be written once.
 #[derive(Default)]
@@ -63,8 +63,29 @@ impl Reader<'_> {
         Some(())
     }
 
+    /// Most amounts: digits that 64 bits hold, perhaps behind a sign, and a currency.
+    #[inline]
+    fn plain_amount(&mut self) -> Option<Amount> {
+        let is_negative = self.is_sign(b'-');
+        let digits = self.digits_if_any().filter(Digits::are_few)?;
+        let count = i64::try_from(digits.value).ok()?;
+        let unit = Unit::new(self.currency_if_any()?, digits.places as u8);
+        let count = if is_negative { -count } else { count };
+        Some(Amount { count, unit })
+    }
+
     #[inline]
     fn units(&mut self) -> Read<Amount> {
+        let start = self.at;
+        if let Some(amount) = self.plain_amount() {
+            return Some(amount);
+        }
+        self.at = start;
+        self.other_units()
+    }
+
+    #[inline(never)]
+    fn other_units(&mut self) -> Read<Amount> {
         let number = self.number_if_any()?;
         let currency = self.currency_if_any();
         Some(match (number, currency) {

@@ -49,6 +49,23 @@ pub enum Word {
     PopMeta,
 }
 
+/// A number of digits: their value, which is of no use where they are more than 64 bits hold, how many of them are
+/// decimals, and where they are written.
+pub struct Digits {
+    pub value: u64,
+    pub places: usize,
+    start: usize,
+    len: usize,
+}
+
+impl Digits {
+    /// Whether the number is surely in range, by the length of how it is written.
+    #[inline]
+    pub fn are_few(&self) -> bool {
+        self.places <= 8 && self.len - self.places <= 12
+    }
+}
+
 /// A class of bytes: letters of both cases, if they are wanted, capitals, digits and some more.
 const fn class(has_all_letters: bool, others: &[u8]) -> [bool; 256] {
     let mut class = [false; 256];
@@ -270,7 +287,7 @@ impl<'l> Reader<'l> {
     }
 
     /// A number from digits that stand at the front, or none where other than digits do.
-    fn digits(bytes: &[u8]) -> Option<u32> {
+    fn number_of(bytes: &[u8]) -> Option<u32> {
         bytes.iter().try_fold(0, |number, b| {
             let digit = b.wrapping_sub(b'0');
             (digit <= 9).then_some(10 * number + u32::from(digit))
@@ -284,9 +301,9 @@ impl<'l> Reader<'l> {
             return None;
         }
         Some((
-            Self::digits(&bytes[..4])?,
-            Self::digits(&bytes[5..7])?,
-            Self::digits(&bytes[8..])?,
+            Self::number_of(&bytes[..4])?,
+            Self::number_of(&bytes[5..7])?,
+            Self::number_of(&bytes[8..])?,
         ))
     }
 
@@ -300,50 +317,34 @@ impl<'l> Reader<'l> {
         Some((year * 100 + month) * 100 + day)
     }
 
-    /// The digits of a number with commas between them, from the front on; their value is of no use where there
-    /// are more than 18.
+    /// A number of digits if one stands here.
     #[inline]
-    pub fn whole_digits(&mut self) -> u64 {
-        let mut value: u64 = 0;
-        loop {
-            let digit = self.byte().wrapping_sub(b'0');
-            if digit <= 9 {
-                value = value.wrapping_mul(10).wrapping_add(u64::from(digit));
-            } else if digit != b','.wrapping_sub(b'0') || !self.byte_behind().is_ascii_digit() {
-                return value;
+    pub fn digits_if_any(&mut self) -> Option<Digits> {
+        let bytes = self.rest();
+        let (value, end) = digits(bytes, 0, 0, true);
+        let mut found = Digits {
+            value,
+            places: 0,
+            start: self.at,
+            len: end,
+        };
+        match bytes.get(end) {
+            Some(b'.') if end > 0 => {
+                (found.value, found.len) = digits(bytes, end + 1, value, false);
+                found.places = found.len - end - 1;
             }
-            self.at += 1;
+            Some(b'-' | b'/') if end == 4 && self.day_form(self.at).is_some() => return None,
+            _ if end == 0 => return None,
+            _ => {}
         }
+        self.at += found.len;
+        self.spaces();
+        Some(found)
     }
 
-    /// The digits of a number, if one begins here: what stands before its point, and the decimals with their number
-    /// if it has a point, and where it began.
-    #[inline]
-    pub fn digits_if_any(&mut self) -> Option<(u64, u64, usize, &'static str)> {
-        let start = self.at;
-        if !self.byte().is_ascii_digit() {
-            return None;
-        }
-        let whole = self.whole_digits();
-        if self.at == start + 4 && matches!(self.byte(), b'-' | b'/') && self.day_form(start).is_some() {
-            self.at = start;
-            return None;
-        }
-        let (mut decimals, mut places) = (0, 0);
-        if self.byte() == b'.' {
-            self.at += 1;
-            let first = self.at;
-            let mut digit = self.byte().wrapping_sub(b'0');
-            while digit <= 9 {
-                decimals = 10u64.wrapping_mul(decimals).wrapping_add(u64::from(digit));
-                self.at += 1;
-                digit = self.byte().wrapping_sub(b'0');
-            }
-            places = self.at - first;
-        }
-        let text = &self.text[start..self.at];
-        self.spaces();
-        Some((whole, decimals, places, text))
+    /// How digits are written.
+    pub fn written(&self, digits: &Digits) -> &'static str {
+        &self.text[digits.start..digits.start + digits.len]
     }
 
     /// What stands between quotes, if a text stands here, and the place of the first quote.
@@ -405,6 +406,19 @@ impl<'l> Reader<'l> {
 
     #[inline]
     pub fn account_if_any(&mut self) -> Option<u32> {
+        match self.ledger.accounts.before_white_space(self.rest()) {
+            Some((account, len)) => {
+                self.at += len;
+                self.spaces();
+                Some(account)
+            }
+            None => self.new_account_if_any(),
+        }
+    }
+
+    /// An account that wasn't met before, or that no white space ends.
+    #[inline(never)]
+    fn new_account_if_any(&mut self) -> Option<u32> {
         let rest = self.rest();
         let root = match rest.first()? {
             b'A' if rest.starts_with(b"Assets:") => 6,
@@ -432,6 +446,20 @@ impl<'l> Reader<'l> {
         if !self.byte().is_ascii_uppercase() {
             return None;
         }
+        if let Some((currency, len, behind)) = self.ledger.currencies.repeated(self.rest())
+            && !IN_COMPONENT[behind as usize]
+            && !IN_CURRENCY[behind as usize]
+        {
+            self.at += len;
+            self.spaces();
+            return Some(currency);
+        }
+        self.other_currency_if_any()
+    }
+
+    /// A currency that isn't that which was met last.
+    #[inline(never)]
+    fn other_currency_if_any(&mut self) -> Option<u32> {
         let bytes = self.bytes();
         let ends_currency = |b: u8| b.is_ascii_uppercase() || b.is_ascii_digit();
         let mut end = self.run(self.at, &IN_CURRENCY).min(self.at + LONGEST_CURRENCY);
@@ -444,7 +472,7 @@ impl<'l> Reader<'l> {
             return None;
         }
         let currency = self.word_to(end);
-        Some(self.ledger.currencies.of_repeated(currency))
+        Some(self.ledger.currencies.of_short(currency))
     }
 
     pub fn currency(&mut self) -> Read<u32> {
@@ -543,6 +571,22 @@ impl<'l> Reader<'l> {
         self.word_to(end);
         Some(word)
     }
+}
+
+/// The value of digits from a place on behind those of a value, and where they end; there may be commas between them.
+#[inline]
+fn digits(bytes: &[u8], start: usize, mut value: u64, may_have_commas: bool) -> (u64, usize) {
+    let mut at = start;
+    while let Some(b) = bytes.get(at) {
+        let digit = b.wrapping_sub(b'0');
+        if digit <= 9 {
+            value = value.wrapping_mul(10).wrapping_add(u64::from(digit));
+        } else if !may_have_commas || *b != b',' || at == start || !bytes.get(at + 1).is_some_and(u8::is_ascii_digit) {
+            break;
+        }
+        at += 1;
+    }
+    (value, at)
 }
 
 fn days_of(year: u32, month: u32) -> u32 {

@@ -19,14 +19,33 @@ struct Widths {
 
 fn widths(listed: &Listed) -> Widths {
     let mut is_shown = vec![false; listed.ledger.accounts.len()];
-    let currencies = listed.ledger.currencies.texts();
-    let lengths: Vec<usize> = currencies.iter().map(|currency| 1 + currency.len()).collect();
+    // By currency the rows without a lot whose count is the least and the greatest, of those that are shown with the
+    // decimals that they have: no other of these is wider.
+    let mut extremes: Vec<Option<[&Row; 2]>> = vec![None; listed.ledger.currencies.len()];
     let mut position = HEADERS[3].len();
     for row in &listed.rows {
         is_shown[row.account as usize] = true;
-        let units = listed.shown(row).width() + lengths[row.unit.currency() as usize];
-        position = position.max(units + listed.lot_width(row.lot));
+        if row.lot != NONE || !listed.has_shown_decimals(row) {
+            position = position.max(listed.position_width(row));
+            continue;
+        }
+        match &mut extremes[row.unit.currency() as usize] {
+            Some([least, greatest]) => {
+                if row.count < least.count {
+                    *least = row;
+                } else if row.count > greatest.count {
+                    *greatest = row;
+                }
+            }
+            first => *first = Some([row, row]),
+        }
     }
+    let position = extremes
+        .iter()
+        .flatten()
+        .flatten()
+        .map(|row| listed.position_width(row))
+        .fold(position, usize::max);
     let accounts = listed.ledger.accounts.texts().iter().zip(&is_shown);
     let shown = accounts
         .filter(|(_, is_shown)| **is_shown)
