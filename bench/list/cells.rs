@@ -3,15 +3,20 @@
 use crate::digits::{Shown, day_text, width_of};
 use crate::escapes::cleaned;
 use crate::names::NONE;
-use crate::rows::Listed;
+use crate::rows::{Listed, Row};
 use crate::sums::Sums;
-use std::iter;
 
-/// The cells of a table, one row behind the other, and where each ends.
+/// Where a cell ends, and its characters.
+struct End {
+    at: usize,
+    width: usize,
+}
+
+/// The cells of a table, one row behind the other.
 pub struct Cells<'l> {
     listed: &'l Listed,
     texts: Vec<u8>,
-    ends: Vec<usize>,
+    ends: Vec<End>,
     widths: Vec<usize>,
     column: usize,
     /// By currency its place in the order of their texts.
@@ -37,10 +42,16 @@ impl<'l> Cells<'l> {
 
     /// Ends a cell of so many characters.
     fn end(&mut self, width: usize) {
-        self.ends.push(self.texts.len());
+        self.ends.push(End {
+            at: self.texts.len(),
+            width,
+        });
         let widest = &mut self.widths[self.column];
         *widest = width.max(*widest);
-        self.column = (self.column + 1) % self.widths.len();
+        self.column += 1;
+        if self.column == self.widths.len() {
+            self.column = 0;
+        }
     }
 
     /// Ends a cell whose text begins at a place.
@@ -72,11 +83,9 @@ impl<'l> Cells<'l> {
         let start = self.texts.len();
         self.positions.clear();
         self.positions.extend(sums.entries());
-        let rank = |lot: u32| self.listed.lots.rank(lot, &self.listed.ledger);
-        self.positions.sort_unstable_by(|(a, a_lot, _), (b, b_lot, _)| {
-            let currencies = self.ranks[*a as usize].cmp(&self.ranks[*b as usize]);
-            currencies.then_with(|| rank(*a_lot).cmp(&rank(*b_lot)))
-        });
+        if self.positions.len() > 1 {
+            self.arrange();
+        }
         for (number, (currency, lot, count)) in self.positions.iter().enumerate() {
             if number > 0 {
                 self.texts.extend_from_slice(b", ");
@@ -86,11 +95,12 @@ impl<'l> Cells<'l> {
         self.end_from(start);
     }
 
-    /// A number with as few decimals as are exact.
-    pub fn number(&mut self, count: i128, places: u8) {
-        let shown = Shown::new(count, places, 0);
-        shown.push(&mut self.texts);
-        self.end(shown.width());
+    fn arrange(&mut self) {
+        let rank = |lot: u32| self.listed.lots.rank(lot, &self.listed.ledger);
+        self.positions.sort_unstable_by(|(a, a_lot, _), (b, b_lot, _)| {
+            let currencies = self.ranks[*a as usize].cmp(&self.ranks[*b as usize]);
+            currencies.then_with(|| rank(*a_lot).cmp(&rank(*b_lot)))
+        });
     }
 
     /// The table; `right` tells which columns are set to the right, with their names.
@@ -99,29 +109,31 @@ impl<'l> Cells<'l> {
         let mut out = Vec::with_capacity(self.texts.len());
         let mut start = 0;
         for (number, ends) in self.ends.chunks(columns).enumerate() {
-            for (column, end) in ends.iter().enumerate() {
-                let is_right = right.get(column) == Some(&true);
-                push_cell(&mut out, &self.texts[start..*end], self.widths[column], is_right);
-                start = *end;
+            for (column, End { at, width }) in ends.iter().enumerate() {
+                let gap = self.widths[column] - width;
+                let (before, behind) = if right.get(column) == Some(&true) {
+                    (gap, 0)
+                } else {
+                    (0, gap)
+                };
+                push_spaces(&mut out, before);
+                out.extend_from_slice(&self.texts[start..*at]);
+                if column + 1 < columns {
+                    push_spaces(&mut out, behind + 2);
+                }
+                start = *at;
             }
             end_line(&mut out);
             if number == 0 {
-                self.widths
-                    .iter()
-                    .for_each(|width| push_cell(&mut out, &vec![b'-'; *width], *width, false));
-                end_line(&mut out);
+                push_rule(&mut out, &self.widths);
             }
         }
         out
     }
 }
 
-fn push_cell(out: &mut Vec<u8>, cell: &[u8], width: usize, is_right: bool) {
-    let gap = width - width_of(cell);
-    let (before, behind) = if is_right { (gap, 2) } else { (0, gap + 2) };
-    out.extend(iter::repeat_n(b' ', before));
-    out.extend_from_slice(cell);
-    out.extend(iter::repeat_n(b' ', behind));
+fn push_spaces(out: &mut Vec<u8>, count: usize) {
+    out.resize(out.len() + count, b' ');
 }
 
 /// No space ends a line.
@@ -129,6 +141,12 @@ fn end_line(out: &mut Vec<u8>) {
     while out.last() == Some(&b' ') {
         out.pop();
     }
+    out.push(b'\n');
+}
+
+fn push_rule(out: &mut Vec<u8>, widths: &[usize]) {
+    let rules: Vec<String> = widths.iter().map(|width| "-".repeat(*width)).collect();
+    out.extend_from_slice(rules.join("  ").as_bytes());
     out.push(b'\n');
 }
 
@@ -141,4 +159,48 @@ pub fn ranks(texts: &[&str]) -> Vec<u32> {
         ranks[name as usize] = rank;
     }
     ranks
+}
+
+/// A row's number, with as few decimals as are exact.
+fn number(listed: &Listed, row: &Row) -> Shown {
+    Shown::new(listed.count(row), row.unit.places(), 0)
+}
+
+/// The table of the days, the accounts and the numbers of rows.
+pub fn entries<'l>(listed: &Listed, rows: impl ExactSizeIterator<Item = &'l Row> + Clone) -> Vec<u8> {
+    let accounts = listed.ledger.accounts.texts();
+    let mut texts: Vec<String> = accounts.iter().map(|account| cleaned(account).into_owned()).collect();
+    let account_widths: Vec<usize> = accounts.iter().map(|account| width_of(account.as_bytes())).collect();
+    let mut widths = [4, "account".len(), "number".len()];
+    for row in rows.clone() {
+        widths[0] = 10;
+        widths[1] = widths[1].max(account_widths[row.account as usize]);
+        widths[2] = widths[2].max(number(listed, row).width());
+    }
+    let padded = |text: &mut String, width: &usize| text.push_str(&" ".repeat((widths[1] + 2).saturating_sub(*width)));
+    texts
+        .iter_mut()
+        .zip(&account_widths)
+        .for_each(|(text, width)| padded(text, width));
+    let line = widths.iter().sum::<usize>() + 5;
+    let mut out = Vec::with_capacity(line * (rows.len() + 2));
+    let [date, account, number_width] = widths;
+    out.extend_from_slice(
+        format!(
+            "{:date$}  {:account$}  {:>number_width$}\n",
+            "date", "account", "number"
+        )
+        .as_bytes(),
+    );
+    push_rule(&mut out, &widths);
+    for row in rows {
+        out.extend_from_slice(&day_text(listed.day(row)));
+        out.extend_from_slice(b"  ");
+        out.extend_from_slice(texts[row.account as usize].as_bytes());
+        let number = number(listed, row);
+        push_spaces(&mut out, number_width - number.width());
+        number.push(&mut out);
+        out.push(b'\n');
+    }
+    out
 }

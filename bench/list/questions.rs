@@ -1,8 +1,8 @@
 //! Three questions that queries ask, over the rows of a ledger that holds no lots.
 
-use crate::cells::Cells;
+use crate::cells::{Cells, entries};
 use crate::names::NONE;
-use crate::numbers::power;
+use crate::numbers::{POWERS, power};
 use crate::rows::{Listed, Row};
 use crate::sums::Sums;
 
@@ -57,7 +57,11 @@ pub fn journal(listed: &Listed) -> Vec<u8> {
 /// Whether a row's number is more than 1000.
 #[inline]
 pub fn is_above_1000(listed: &Listed, row: &Row) -> bool {
-    listed.count(row) > 1000 * power(row.unit.places())
+    let places = row.unit.places();
+    if row.unit.is_wide() {
+        return listed.count(row) > 1000 * power(places);
+    }
+    row.count > 1000 * POWERS[usize::from(places)]
 }
 
 /// `SELECT date, account, number WHERE number > 1000 ORDER BY number DESC LIMIT 10`: the largest so far are kept in
@@ -74,15 +78,4 @@ pub fn largest(listed: &Listed) -> Vec<u8> {
         rows.truncate(MOST);
     }
     entries(listed, rows.into_iter().map(|(_, row)| row))
-}
-
-/// The table of the days, the accounts and the numbers of rows.
-pub fn entries<'l>(listed: &'l Listed, rows: impl Iterator<Item = &'l Row>) -> Vec<u8> {
-    let mut cells = Cells::of(listed, &["date", "account", "number"]);
-    for row in rows {
-        cells.day(listed.day(row));
-        cells.text(listed.account(row));
-        cells.number(listed.count(row), row.unit.places());
-    }
-    cells.table(&[false, false, true])
 }

@@ -5,10 +5,11 @@ use crate::names::{NONE, QuickMap};
 /// Sums of so few entries are looked through.
 const FEW: usize = 16;
 
-/// Counts of `10^-8`, by a key of currency and lot; none is 0.
+/// Counts of `10^-8`, each with its key of currency and lot; none is 0.
 #[derive(Default)]
 pub struct Sums {
-    entries: Vec<(u64, i128)>,
+    keys: Vec<u64>,
+    counts: Vec<i128>,
     /// The places of entries, once there are more than a few.
     places: QuickMap<u64, u32>,
 }
@@ -21,7 +22,7 @@ impl Sums {
     #[inline]
     fn place(&self, key: u64) -> Option<usize> {
         if self.places.is_empty() {
-            return self.entries.iter().position(|(of, _)| *of == key);
+            return self.keys.iter().position(|of| *of == key);
         }
         self.places.get(&key).map(|place| *place as usize)
     }
@@ -32,8 +33,8 @@ impl Sums {
         let Some(place) = self.place(key) else {
             return self.push(key, count);
         };
-        self.entries[place].1 += count;
-        if self.entries[place].1 == 0 {
+        self.counts[place] += count;
+        if self.counts[place] == 0 {
             self.remove(place);
         }
     }
@@ -42,32 +43,32 @@ impl Sums {
         if count == 0 {
             return;
         }
-        self.entries.push((key, count));
-        if self.places.is_empty() && self.entries.len() > FEW {
-            let keys = self.entries.iter().map(|(key, _)| *key);
-            self.places = keys.zip(0..).collect();
-        } else if !self.places.is_empty() {
-            self.places.insert(key, self.entries.len() as u32 - 1);
+        self.keys.push(key);
+        self.counts.push(count);
+        if !self.places.is_empty() {
+            self.places.insert(key, self.keys.len() as u32 - 1);
+        } else if self.keys.len() > FEW {
+            self.places = self.keys.iter().copied().zip(0..).collect();
         }
     }
 
     /// Takes an entry out; the last one gets its place.
     fn remove(&mut self, place: usize) {
-        let (key, _) = self.entries.swap_remove(place);
+        let key = self.keys.swap_remove(place);
+        self.counts.swap_remove(place);
         if self.places.is_empty() {
             return;
         }
         self.places.remove(&key);
-        if let Some((moved, _)) = self.entries.get(place) {
+        if let Some(moved) = self.keys.get(place) {
             self.places.insert(*moved, place as u32);
         }
     }
 
     /// Each with its currency and its lot, in no order.
     pub fn entries(&self) -> impl Iterator<Item = (u32, u32, i128)> {
-        self.entries
-            .iter()
-            .map(|(key, count)| ((key >> 32) as u32, *key as u32, *count))
+        let entries = self.keys.iter().zip(&self.counts);
+        entries.map(|(key, count)| ((key >> 32) as u32, *key as u32, *count))
     }
 
     /// The same without lots.
