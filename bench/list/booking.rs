@@ -186,7 +186,7 @@ impl<'l> Booking<'l> {
 
     /// Postings of which some lack their amount.
     fn amounts_with_missing(&mut self, postings: &[Posting], start: usize) -> Option<()> {
-        self.begin();
+        self.begin(8);
         for posting in postings {
             if posting.unit.lacks_number() {
                 self.lacks(posting, start);
@@ -198,8 +198,8 @@ impl<'l> Booking<'l> {
         self.complete(start)
     }
 
-    fn begin(&mut self) {
-        self.residuals.begin();
+    fn begin(&mut self, scale: u8) {
+        self.residuals.begin(scale);
         self.missing.clear();
     }
 
@@ -215,14 +215,14 @@ impl<'l> Booking<'l> {
     #[inline]
     fn units(&mut self, posting: &Posting) {
         let (currency, places) = (posting.unit.currency(), posting.unit.places());
-        let weight = self.wide.count(posting.count, posting.unit) * power(16 - places);
+        let weight = self.wide.count(posting.count, posting.unit) * power(self.residuals.scale - places);
         self.residuals.weigh(currency, weight);
         self.residuals.show(currency, places);
     }
 
     /// Postings of which some have a cost or a price.
     fn priced(&mut self, postings: &[Posting], start: usize) -> Option<()> {
-        self.begin();
+        self.begin(16);
         self.taken.clear();
         for posting in postings {
             if posting.unit.lacks_number() {
@@ -326,6 +326,11 @@ impl<'l> Booking<'l> {
     fn complete(&mut self, start: usize) -> Option<()> {
         if !self.is_told_apart() {
             return None;
+        }
+        if let [missing] = self.missing[..]
+            && start + missing.at == self.rows.len()
+        {
+            return self.fill(&missing);
         }
         let missing = std::mem::take(&mut self.missing);
         let mut moved = std::mem::take(&mut self.moved);

@@ -1,11 +1,10 @@
 //! What the postings of a transaction come to in each currency, and what fills in what lacks.
 
-use crate::numbers::{Number, exactly_minus, rounded_minus};
+use crate::numbers::{Number, exact, rounded};
 
 #[derive(Clone, Copy)]
 pub struct Residual {
     pub currency: u32,
-    /// Of `10^-16`.
     pub sum: i128,
 }
 
@@ -22,6 +21,8 @@ struct Known {
 
 /// The sums of the transaction in turn, in the order in which their currencies first came.
 pub struct Residuals {
+    /// Sums count `10^-scale`, which is `10^-8`, or `10^-16` where there are costs or prices.
+    pub scale: u8,
     pub sums: Vec<Residual>,
     /// By currency.
     known: Vec<Known>,
@@ -31,6 +32,7 @@ pub struct Residuals {
 impl Residuals {
     pub fn new(currencies: usize) -> Residuals {
         Residuals {
+            scale: 8,
             sums: Vec::new(),
             known: vec![Known::default(); currencies],
             turn: 0,
@@ -38,7 +40,8 @@ impl Residuals {
     }
 
     /// Begins another transaction.
-    pub fn begin(&mut self) {
+    pub fn begin(&mut self, scale: u8) {
+        self.scale = scale;
         self.sums.clear();
         self.turn += 1;
     }
@@ -90,8 +93,8 @@ impl Residuals {
     /// The number that lacks, rounded to the decimals that are written.
     pub fn filled(&mut self, residual: Residual) -> Option<Number> {
         match self.known(residual.currency).precision {
-            0 => exactly_minus(residual.sum),
-            places => rounded_minus(residual.sum, places),
+            0 => exact(-residual.sum, self.scale),
+            places => rounded(-residual.sum, self.scale, places),
         }
     }
 }
