@@ -41,13 +41,7 @@ struct Booking<'l> {
 }
 
 fn row_of(posting: &Posting, directive: u32, lot: u32) -> Row {
-    Row {
-        count: posting.count,
-        account: posting.account,
-        directive,
-        lot,
-        unit: posting.unit,
-    }
+    Row { count: posting.count, account: posting.account, directive, lot, unit: posting.unit }
 }
 
 /// Books a ledger that is arranged.
@@ -57,20 +51,9 @@ pub fn listed(mut ledger: Ledger) -> Listed {
     for key in &ledger.order {
         booking.take(*key as u32);
     }
-    let Booking {
-        wide,
-        rows,
-        decimals,
-        lots,
-        ..
-    } = booking.padded();
+    let Booking { wide, rows, decimals, lots, .. } = booking.padded();
     ledger.wide = wide;
-    Listed {
-        ledger,
-        lots,
-        rows,
-        decimals,
-    }
+    Listed { ledger, lots, rows, decimals }
 }
 
 impl<'l> Booking<'l> {
@@ -116,8 +99,7 @@ impl<'l> Booking<'l> {
         };
         let number = self.wide.of(balance.amount);
         let is_at_cost = || self.holdings.has_lots(balance.account, currency);
-        self.pads
-            .balance(balance.account, currency, number, tolerance, is_at_cost);
+        self.pads.balance(balance.account, currency, number, tolerance, is_at_cost);
     }
 
     /// Puts in the rows of pads.
@@ -159,13 +141,7 @@ impl<'l> Booking<'l> {
 
     fn push(&mut self, account: u32, number: Number, currency: u32, lot: u32) {
         let amount = self.wide.kept(number, currency);
-        self.rows.push(Row {
-            count: amount.count,
-            account,
-            directive: self.directive,
-            lot,
-            unit: amount.unit,
-        });
+        self.rows.push(Row { count: amount.count, account, directive: self.directive, lot, unit: amount.unit });
     }
 
     /// Shows the decimals of the numbers that are written.
@@ -179,8 +155,7 @@ impl<'l> Booking<'l> {
     /// Postings whose amounts are all written: nothing can be at fault that changes a row.
     fn amounts(&mut self, postings: &[Posting]) -> Option<()> {
         let directive = self.directive;
-        self.rows
-            .extend(postings.iter().map(|posting| row_of(posting, directive, NONE)));
+        self.rows.extend(postings.iter().map(|posting| row_of(posting, directive, NONE)));
         Some(())
     }
 
@@ -239,11 +214,7 @@ impl<'l> Booking<'l> {
                 }
             }
         }
-        if self.missing.is_empty() {
-            Some(())
-        } else {
-            self.complete(start)
-        }
+        if self.missing.is_empty() { Some(()) } else { self.complete(start) }
     }
 
     fn weigh(&mut self, currency: u32, weight: i128) -> Option<()> {
@@ -257,11 +228,8 @@ impl<'l> Booking<'l> {
     fn at_price(&mut self, posting: &Posting, price: &Price) -> Option<()> {
         let units = self.wide.at_8(posting.count, posting.unit);
         let price_at_8 = self.wide.of(price.amount);
-        let weight = if price.is_total {
-            price_at_8 * units.signum() * power(8)
-        } else {
-            units.checked_mul(price_at_8)?
-        };
+        let weight =
+            if price.is_total { price_at_8 * units.signum() * power(8) } else { units.checked_mul(price_at_8)? };
         self.weigh(price.amount.unit.currency(), weight)?;
         self.residuals.show(posting.unit.currency(), posting.unit.places());
         self.push_posting(posting, NONE);
@@ -273,17 +241,11 @@ impl<'l> Booking<'l> {
         let (account, currency) = (posting.account, posting.unit.currency());
         let want = self.wide.at_8(posting.count, posting.unit);
         self.residuals.show(currency, posting.unit.places());
-        let cost = braces
-            .amount
-            .map(|amount| (self.wide.of(amount), amount.unit.currency()));
+        let cost = braces.amount.map(|amount| (self.wide.of(amount), amount.unit.currency()));
         if let Some(number) = self.holdings.number(account, currency)
             && self.holdings.inventory(number).sells(want, &self.taken.of(number))
         {
-            let selector = Selector {
-                cost,
-                day: braces.day,
-                label: braces.label,
-            };
+            let selector = Selector { cost, day: braces.day, label: braces.label };
             return self.sell(number, posting, want, &selector);
         }
         let (cost, cost_currency) = cost.filter(|(cost, _)| *cost >= 0)?;
@@ -313,12 +275,7 @@ impl<'l> Booking<'l> {
         self.taken.add(number, take);
         let lot = *self.lots.get(take.lot);
         self.weigh(lot.currency, take.count.checked_mul(lot.cost)?)?;
-        self.push(
-            posting.account,
-            Number::shortest(take.count),
-            posting.unit.currency(),
-            take.lot,
-        );
+        self.push(posting.account, Number::shortest(take.count), posting.unit.currency(), take.lot);
         Some(())
     }
 

@@ -42,10 +42,7 @@ impl<'l> Cells<'l> {
 
     /// Ends a cell of so many characters.
     fn end(&mut self, width: usize) {
-        self.ends.push(End {
-            at: self.texts.len(),
-            width,
-        });
+        self.ends.push(End { at: self.texts.len(), width });
         let widest = &mut self.widths[self.column];
         *widest = width.max(*widest);
         self.column += 1;
@@ -111,11 +108,7 @@ impl<'l> Cells<'l> {
         for (number, ends) in self.ends.chunks(columns).enumerate() {
             for (column, End { at, width }) in ends.iter().enumerate() {
                 let gap = self.widths[column] - width;
-                let (before, behind) = if right.get(column) == Some(&true) {
-                    (gap, 0)
-                } else {
-                    (0, gap)
-                };
+                let (before, behind) = if right.get(column) == Some(&true) { (gap, 0) } else { (0, gap) };
                 push_spaces(&mut out, before);
                 out.extend_from_slice(&self.texts[start..*at]);
                 if column + 1 < columns {
@@ -178,19 +171,12 @@ pub fn entries<'l>(listed: &Listed, rows: impl ExactSizeIterator<Item = &'l Row>
         widths[2] = widths[2].max(number(listed, row).width());
     }
     let padded = |text: &mut String, width: &usize| text.push_str(&" ".repeat((widths[1] + 2).saturating_sub(*width)));
-    texts
-        .iter_mut()
-        .zip(&account_widths)
-        .for_each(|(text, width)| padded(text, width));
+    texts.iter_mut().zip(&account_widths).for_each(|(text, width)| padded(text, width));
     let line = widths.iter().sum::<usize>() + 5;
     let mut out = Vec::with_capacity(line * (rows.len() + 2));
     let [date, account, number_width] = widths;
     out.extend_from_slice(
-        format!(
-            "{:date$}  {:account$}  {:>number_width$}\n",
-            "date", "account", "number"
-        )
-        .as_bytes(),
+        format!("{:date$}  {:account$}  {:>number_width$}\n", "date", "account", "number").as_bytes(),
     );
     push_rule(&mut out, &widths);
     for row in rows {

@@ -11,15 +11,12 @@ const DEEPEST: u32 = 200;
 impl Reader<'_> {
     /// A number of digits, none where it is out of range.
     #[inline]
-    fn literal_if_any(&mut self) -> Option<Option<Number>> {
-        let digits = self.digits_if_any()?;
+    fn literal(&mut self) -> Option<Option<Number>> {
+        let digits = self.digits()?;
         if !digits.are_few() {
             return Some(Number::parse(self.written(&digits)));
         }
-        Some(Some(Number {
-            count: i128::from(digits.value),
-            places: digits.places as u8,
-        }))
+        Some(Some(Number { count: i128::from(digits.value), places: digits.places as u8 }))
     }
 
     /// The longest expression; none where a part of it is out of range.
@@ -50,7 +47,7 @@ impl Reader<'_> {
     }
 
     fn factor(&mut self, room: u32) -> Read<Option<Number>> {
-        if let Some(number) = self.literal_if_any() {
+        if let Some(number) = self.literal() {
             return Some(number);
         }
         let room = room.checked_sub(1)?;
@@ -71,15 +68,11 @@ impl Reader<'_> {
     #[inline]
     fn plain_number(&mut self) -> Option<Option<Number>> {
         let is_negative = self.is_sign(b'-');
-        let number = self.literal_if_any()?;
+        let number = self.literal()?;
         if matches!(self.byte(), b'+' | b'-' | b'*') {
             return None;
         }
-        Some(if is_negative {
-            number.map(Number::negated)
-        } else {
-            number
-        })
+        Some(if is_negative { number.map(Number::negated) } else { number })
     }
 
     #[inline]
@@ -104,11 +97,7 @@ impl Reader<'_> {
 
     #[inline]
     pub fn number_if_any(&mut self) -> Read<Option<Number>> {
-        if self.is_at_number() {
-            self.number().map(Some)
-        } else {
-            Some(None)
-        }
+        if self.is_at_number() { self.number().map(Some) } else { Some(None) }
     }
 
     pub fn amount(&mut self) -> Read<Amount> {
@@ -118,12 +107,8 @@ impl Reader<'_> {
 
     /// A number and a currency, where both are written; none where one of them lacks.
     pub fn amount_or_less(&mut self) -> Read<Option<Amount>> {
-        let (number, currency) = (self.number_if_any()?, self.currency_if_any());
-        Some(
-            number
-                .zip(currency)
-                .map(|(number, currency)| self.ledger.wide.kept(number, currency)),
-        )
+        let (number, currency) = (self.number_if_any()?, self.currency());
+        Some(number.zip(currency).map(|(number, currency)| self.ledger.wide.kept(number, currency)))
     }
 
     // Metadata.
@@ -132,13 +117,13 @@ impl Reader<'_> {
         if let Some((place, _)) = self.text_if_any()? {
             return Some(Value::Text(place));
         }
-        if let Some(day) = self.day_if_any() {
+        if let Some(day) = self.day() {
             return Some(Value::Day(day));
         }
-        let name = self.account_if_any().map(Value::Account);
-        let name = name.or_else(|| self.truth_if_any().map(Value::Truth));
-        let name = name.or_else(|| self.currency_if_any().map(Value::Currency));
-        match name.or_else(|| self.tag_if_any().map(Value::Tag)) {
+        let name = self.account().map(Value::Account);
+        let name = name.or_else(|| self.truth().map(Value::Truth));
+        let name = name.or_else(|| self.currency().map(Value::Currency));
+        match name.or_else(|| self.tag().map(Value::Tag)) {
             Some(value) => Some(value),
             None => self.numeric_value(),
         }
@@ -146,7 +131,7 @@ impl Reader<'_> {
 
     fn numeric_value(&mut self) -> Read<Value> {
         let number = self.number()?;
-        let currency = self.currency_if_any();
+        let currency = self.currency();
         let amount = self.ledger.wide.kept(number, currency.unwrap_or_default());
         Some(match currency {
             Some(_) => Value::Amount(amount),
@@ -166,26 +151,14 @@ impl Reader<'_> {
     /// An entry of the directive that is being read, or of a posting, whose value may lack.
     pub fn entry(&mut self, posting: Option<u32>) -> Read<Entry> {
         let key = self.key()?;
-        let value = if self.is_at_end() {
-            Value::Nothing
-        } else {
-            self.value()?
-        };
+        let value = if self.is_at_end() { Value::Nothing } else { self.value()? };
         self.end()?;
-        Some(Entry {
-            directive: self.ledger.next(),
-            posting: posting.unwrap_or(NONE),
-            key,
-            value,
-        })
+        Some(Entry { directive: self.ledger.next(), posting: posting.unwrap_or(NONE), key, value })
     }
 
     /// An amount without its currency, as what is kept of a number.
     pub fn kept_alone(&mut self, number: Number) -> Amount {
         let Amount { count, unit } = self.ledger.wide.kept(number, 0);
-        Amount {
-            count,
-            unit: Unit::without_currency(unit),
-        }
+        Amount { count, unit: Unit::without_currency(unit) }
     }
 }

@@ -4,7 +4,8 @@ use crate::escapes::unescaped;
 use crate::inventory::Method;
 use crate::ledger::{Balance, Directive, Entry, Flag, Pushed, Shape, Transaction, What};
 use crate::names::NONE;
-use crate::reader::{Front, Read, Reader, Word};
+use crate::reader::{Front, Read, Reader};
+use crate::words::Word;
 
 pub enum Undated {
     Title(&'static str),
@@ -22,8 +23,8 @@ impl Reader<'_> {
     /// Reads a directive up to what stands behind it.
     pub fn directive(&mut self) -> Read<(Directive, Front)> {
         let line = self.line;
-        let day = self.day_if_any()?;
-        let (what, front) = match self.flag_if_any() {
+        let day = self.day()?;
+        let (what, front) = match self.flag() {
             Some(flag) => self.transaction(flag)?,
             None => match self.word()? {
                 Word::Txn => self.transaction(Flag::Complete)?,
@@ -106,20 +107,11 @@ impl Reader<'_> {
             Word::Commodity => self.currency().map(|currency| What::Commodity { currency }),
             Word::Balance => self.balance(),
             Word::Pad => self.pad(),
-            Word::Note => Some(What::Note {
-                account: self.account()?,
-                text: self.text_place()?,
-            }),
+            Word::Note => Some(What::Note { account: self.account()?, text: self.text_place()? }),
             Word::Document => self.document(),
             Word::Price => self.price_directive(),
-            Word::Event => Some(What::Event {
-                name: self.text_place()?,
-                value: self.text_place()?,
-            }),
-            Word::Query => Some(What::Query {
-                name: self.text_place()?,
-                query: self.text_place()?,
-            }),
+            Word::Event => Some(What::Event { name: self.text_place()?, value: self.text_place()? }),
+            Word::Query => Some(What::Query { name: self.text_place()?, query: self.text_place()? }),
             Word::Custom => self.custom(),
             _ => None,
         }
@@ -128,7 +120,7 @@ impl Reader<'_> {
     fn open(&mut self) -> Read<What> {
         let account = self.account()?;
         let first = self.ledger.open_currencies.len();
-        if let Some(currency) = self.currency_if_any() {
+        if let Some(currency) = self.currency() {
             self.ledger.open_currencies.push(currency);
             while self.is_sign(b',') {
                 let currency = self.currency()?;
@@ -186,11 +178,7 @@ impl Reader<'_> {
         let name = self.text_place()?;
         let first = self.ledger.values.len();
         self.values()?;
-        Some(What::Custom {
-            name,
-            first: first as u32,
-            values: (self.ledger.values.len() - first) as u32,
-        })
+        Some(What::Custom { name, first: first as u32, values: (self.ledger.values.len() - first) as u32 })
     }
 
     /// Reads a line without a day up to what stands behind it.
@@ -203,8 +191,8 @@ impl Reader<'_> {
                 self.text_if_any()?;
                 Undated::Ignored
             }
-            Word::PushTag => Undated::Push(Pushed::Tag(self.tag_if_any()?)),
-            Word::PopTag => Undated::PopTag(self.tag_if_any()?),
+            Word::PushTag => Undated::Push(Pushed::Tag(self.tag()?)),
+            Word::PopTag => Undated::PopTag(self.tag()?),
             Word::PushMeta => Undated::Push(Pushed::Entry(self.entry(None)?)),
             Word::PopMeta => Undated::PopKey(self.key()?),
             _ => return None,

@@ -29,11 +29,7 @@ fn methods(ledger: &Ledger) -> Vec<Method> {
 
 impl Holdings {
     pub fn new(ledger: &Ledger) -> Holdings {
-        Holdings {
-            methods: methods(ledger),
-            inventories: Vec::new(),
-            numbers: QuickMap::default(),
-        }
+        Holdings { methods: methods(ledger), inventories: Vec::new(), numbers: QuickMap::default() }
     }
 
     /// The number of the inventory of an account and a currency, if there is one.
@@ -46,8 +42,7 @@ impl Holdings {
     }
 
     pub fn has_lots(&self, account: u32, currency: u32) -> bool {
-        self.number(account, currency)
-            .is_some_and(|number| !self.inventory(number).is_empty())
+        self.number(account, currency).is_some_and(|number| !self.inventory(number).is_empty())
     }
 
     pub fn add(&mut self, account: u32, currency: u32, lot: u32, day: u32, count: i128) {

@@ -103,22 +103,13 @@ impl TakenOf<'_> {
 
     /// What is left of what is held at a place.
     fn left(&self, place: Place, count: i128) -> i128 {
-        if self.is_nothing() {
-            count
-        } else {
-            count + self.taken.0.get(&(self.inventory, place)).unwrap_or(&0)
-        }
+        if self.is_nothing() { count } else { count + self.taken.0.get(&(self.inventory, place)).unwrap_or(&0) }
     }
 }
 
 impl Inventory {
     pub fn new(method: Method) -> Self {
-        Inventory {
-            method,
-            sides: Default::default(),
-            places: QuickMap::default(),
-            came: 0,
-        }
+        Inventory { method, sides: Default::default(), places: QuickMap::default(), came: 0 }
     }
 
     pub fn is_empty(&self) -> bool {
@@ -186,11 +177,7 @@ impl Inventory {
         self.sides[side_of(-want)]
             .range(places)
             .filter(move |(_, held)| selector.agrees(lots.get(held.lot)))
-            .map(move |(&place, held)| Take {
-                place,
-                lot: held.lot,
-                count: taken.left(place, held.count),
-            })
+            .map(move |(&place, held)| Take { place, lot: held.lot, count: taken.left(place, held.count) })
             .filter(|candidate| candidate.count != 0)
     }
 
@@ -209,11 +196,7 @@ impl Inventory {
         }
         let mut rest = want;
         for candidate in candidates {
-            let count = if candidate.count.abs() < rest.abs() {
-                -candidate.count
-            } else {
-                rest
-            };
+            let count = if candidate.count.abs() < rest.abs() { -candidate.count } else { rest };
             takes.push(Take { count, ..candidate });
             rest -= count;
             if rest == 0 {

@@ -69,21 +69,14 @@ impl Wide {
             Ok(count) => Amount { count, unit },
             Err(_) => {
                 self.0.push(number.count);
-                Amount {
-                    count: self.0.len() as i64 - 1,
-                    unit: Unit(unit.0 | WIDE),
-                }
+                Amount { count: self.0.len() as i64 - 1, unit: Unit(unit.0 | WIDE) }
             }
         }
     }
 
     #[inline]
     pub fn count(&self, count: i64, unit: Unit) -> i128 {
-        if unit.is_wide() {
-            self.0[count as usize]
-        } else {
-            i128::from(count)
-        }
+        if unit.is_wide() { self.0[count as usize] } else { i128::from(count) }
     }
 
     /// The count of `10^-8`.
@@ -367,18 +360,14 @@ impl Ledger {
     #[inline]
     pub fn add(&mut self, directive: Directive) {
         let number = u64::from(self.next());
-        self.order
-            .push(u64::from(directive.day) << 35 | directive.what.rank() << 32 | number);
+        self.order.push(u64::from(directive.day) << 35 | directive.what.rank() << 32 | number);
         self.directives.push(directive);
     }
 
     /// The directives of opens, in the order in which they are taken, once that is made.
     pub fn opens(&self) -> impl DoubleEndedIterator<Item = &Directive> {
         let is_open = |key: &&u64| **key >> 32 & 7 == 0;
-        self.order
-            .iter()
-            .filter(is_open)
-            .map(|key| &self.directives[*key as u32 as usize])
+        self.order.iter().filter(is_open).map(|key| &self.directives[*key as u32 as usize])
     }
 
     /// Puts the directives into the order in which they are taken.
@@ -404,17 +393,7 @@ impl Ledger {
     /// Takes back what a block at fault has put into the tables; counts beyond 64 bits may stay, as nothing tells
     /// where they lie.
     pub fn truncate(&mut self, lengths: &Lengths) {
-        let [
-            postings,
-            extras,
-            metadata,
-            marked,
-            open_currencies,
-            balances,
-            prices,
-            values,
-            padded,
-        ] = lengths.0;
+        let [postings, extras, metadata, marked, open_currencies, balances, prices, values, padded] = lengths.0;
         self.postings.truncate(postings);
         self.extras.truncate(extras);
         self.metadata.truncate(metadata);

@@ -14,11 +14,7 @@ pub struct Lot {
 
 impl Lot {
     fn hash(&self) -> u64 {
-        let words = [
-            self.cost as u64,
-            u64::from(self.currency) << 32 | u64::from(self.day),
-            u64::from(self.label),
-        ];
+        let words = [self.cost as u64, u64::from(self.currency) << 32 | u64::from(self.day), u64::from(self.label)];
         let hash = words.into_iter().fold(0, mixed);
         hash ^ hash >> 32
     }
@@ -32,10 +28,7 @@ pub struct Lots {
 
 impl Lots {
     pub fn new() -> Lots {
-        Lots {
-            lots: Vec::new(),
-            index: Index::new(),
-        }
+        Lots { lots: Vec::new(), index: Index::new() }
     }
 
     pub fn get(&self, number: u32) -> &Lot {
@@ -44,11 +37,12 @@ impl Lots {
 
     /// The number of a lot, a new one where there is none.
     pub fn of(&mut self, lot: Lot) -> u32 {
-        match self.index.look_up(lot.hash(), |number| *self.get(number) == lot) {
+        let hash = lot.hash();
+        match self.index.look_up(hash, |number| *self.get(number) == lot) {
             Ok(number) => number,
             Err(at) => {
                 self.lots.push(lot);
-                self.index.add(at, |number| self.lots[number as usize].hash())
+                self.index.add(at, hash, |number| self.lots[number as usize].hash())
             }
         }
     }

@@ -67,9 +67,7 @@ fn rows_of<'l>(listed: &'l Listed, keys: &'l [u128]) -> impl ExactSizeIterator<I
 pub fn ordered(listed: &Listed) -> Vec<u8> {
     let ranks = ranks(listed.ledger.accounts.texts());
     let rows = (0..).zip(&listed.rows);
-    let mut keys: Vec<u128> = rows
-        .map(|(place, row)| key(listed, ranks[row.account as usize], place, row))
-        .collect();
+    let mut keys: Vec<u128> = rows.map(|(place, row)| key(listed, ranks[row.account as usize], place, row)).collect();
     keys.sort_unstable();
     entries(listed, rows_of(listed, &keys))
 }

@@ -29,6 +29,7 @@ mod rows;
 mod sums;
 mod table;
 mod texts;
+mod words;
 
 use booking::listed;
 use rows::Listed;

@@ -21,9 +21,7 @@ fn ended(state: u64, last: u64, len: usize) -> u64 {
 
 fn hash_of(text: &[u8]) -> u64 {
     let (words, rest) = text.as_chunks::<8>();
-    let state = words
-        .iter()
-        .fold(0, |state, word| mixed(state, u64::from_le_bytes(*word)));
+    let state = words.iter().fold(0, |state, word| mixed(state, u64::from_le_bytes(*word)));
     let last = rest.iter().rev().fold(0, |last, b| last << 8 | u64::from(*b));
     ended(state, last, text.len())
 }
@@ -70,10 +68,7 @@ const FREE: (u32, u32) = (0, NONE);
 
 impl Index {
     pub fn new() -> Index {
-        Index {
-            slots: vec![FREE; 64],
-            len: 0,
-        }
+        Index { slots: vec![FREE; 64], len: 0 }
     }
 
     /// The number of the thing with this hash that is the one, or else the slot that is free for it.
@@ -94,20 +89,20 @@ impl Index {
     }
 
     /// Puts the next number into its slot; the hashes of all are asked where more slots are needed.
-    pub fn add(&mut self, at: usize, hash: impl Fn(u32) -> u64) -> u32 {
+    pub fn add(&mut self, at: usize, hash: u64, hash_of: impl Fn(u32) -> u64) -> u32 {
         let number = self.len as u32;
-        self.slots[at] = ((hash(number) >> 32) as u32, number);
+        self.slots[at] = ((hash >> 32) as u32, number);
         self.len += 1;
         if 2 * self.len > self.slots.len() {
-            self.grow(hash);
+            self.grow(hash_of);
         }
         number
     }
 
-    fn grow(&mut self, hash: impl Fn(u32) -> u64) {
+    fn grow(&mut self, hash_of: impl Fn(u32) -> u64) {
         self.slots = vec![FREE; 2 * self.slots.len()];
         for number in 0..self.len as u32 {
-            let hash = hash(number);
+            let hash = hash_of(number);
             if let Err(at) = self.look_up(hash, |_| false) {
                 self.slots[at] = ((hash >> 32) as u32, number);
             }
@@ -126,12 +121,7 @@ struct Short {
 
 impl Short {
     /// Of no text.
-    const NONE: Short = Short {
-        word: 1,
-        bits: 0,
-        len: 0,
-        name: NONE,
-    };
+    const NONE: Short = Short { word: 1, bits: 0, len: 0, name: NONE };
 
     fn of(text: &str, name: u32) -> Short {
         if text.len() > 7 {
@@ -155,11 +145,7 @@ pub struct Names {
 
 impl Names {
     pub fn new() -> Names {
-        Names {
-            texts: Vec::new(),
-            index: Index::new(),
-            last: Short::NONE,
-        }
+        Names { texts: Vec::new(), index: Index::new(), last: Short::NONE }
     }
 
     pub fn len(&self) -> usize {
@@ -187,11 +173,12 @@ impl Names {
 
     /// The name of a text, a new one where there is none.
     pub fn of(&mut self, text: &'static str) -> u32 {
-        match self.look_up(text.as_bytes(), hash_of(text.as_bytes())) {
+        let hash = hash_of(text.as_bytes());
+        match self.look_up(text.as_bytes(), hash) {
             Ok(name) => name,
             Err(at) => {
                 self.texts.push(text);
-                self.index.add(at, |name| hash_of(self.texts[name as usize].as_bytes()))
+                self.index.add(at, hash, |name| hash_of(self.texts[name as usize].as_bytes()))
             }
         }
     }
@@ -224,12 +211,7 @@ impl Names {
     #[inline]
     pub fn repeated(&self, front: &[u8]) -> Option<(u32, usize, u8)> {
         let word = u64::from_le_bytes(*front.first_chunk()?);
-        let Short {
-            word: last,
-            bits,
-            len,
-            name,
-        } = self.last;
+        let Short { word: last, bits, len, name } = self.last;
         (word & bits == last).then(|| (name, len, (word >> (8 * len)) as u8))
     }
 }

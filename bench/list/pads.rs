@@ -32,9 +32,10 @@ pub struct Pads {
     sums: QuickMap<u64, i128>,
 }
 
-/// The accounts that are filled of one and those above it.
-fn filled_of(account: &str, accounts: &Names, is_filled: &[bool]) -> Vec<u32> {
+/// The accounts that are filled of one and those above it; no account is filled that is longer than the longest.
+fn filled_of(account: &str, accounts: &Names, is_filled: &[bool], longest: usize) -> Vec<u32> {
     let ends = account.match_indices(':').map(|(end, _)| end).chain([account.len()]);
+    let ends = ends.take_while(|end| *end <= longest);
     let names = ends.filter_map(|end| accounts.known(&account[..end]));
     names.filter(|name| is_filled[*name as usize]).collect()
 }
@@ -49,15 +50,9 @@ impl Pads {
         for account in &ledger.padded {
             is_filled[*account as usize] = true;
         }
-        let filled = accounts
-            .texts()
-            .iter()
-            .map(|account| filled_of(account, accounts, &is_filled));
-        Pads {
-            filled: filled.collect(),
-            latest: vec![NONE; accounts.len()],
-            ..Pads::default()
-        }
+        let longest = ledger.padded.iter().map(|account| accounts.text(*account).len()).max().unwrap_or(0);
+        let filled = accounts.texts().iter().map(|account| filled_of(account, accounts, &is_filled, longest));
+        Pads { filled: filled.collect(), latest: vec![NONE; accounts.len()], ..Pads::default() }
     }
 
     pub fn is_empty(&self) -> bool {
@@ -76,13 +71,7 @@ impl Pads {
 
     pub fn pad(&mut self, directive: u32, account: u32, source: u32, at: usize) {
         self.latest[account as usize] = self.pads.len() as u32;
-        self.pads.push(Pad {
-            directive,
-            account,
-            source,
-            at,
-            inserted: Vec::new(),
-        });
+        self.pads.push(Pad { directive, account, source, at, inserted: Vec::new() });
     }
 
     /// The latest pad fills what lacks, unless the account holds the currency at cost.
@@ -144,13 +133,7 @@ impl Pad {
             |(currency, count): &(u32, i128)| [(self.account, *currency, *count), (self.source, *currency, -count)];
         self.inserted.iter().flat_map(both).map(|(account, currency, count)| {
             let amount = wide.kept(Number::shortest(count), currency);
-            Row {
-                count: amount.count,
-                account,
-                directive: self.directive,
-                lot: NONE,
-                unit: amount.unit,
-            }
+            Row { count: amount.count, account, directive: self.directive, lot: NONE, unit: amount.unit }
         })
     }
 }

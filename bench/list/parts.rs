@@ -26,32 +26,20 @@ pub struct Part {
 
 impl Part {
     pub fn new(text: &'static str, file: u16) -> Part {
-        Part {
-            text,
-            file,
-            at: 0,
-            line: 1,
-            front: None,
-            pushes: Vec::new(),
-            given: Vec::new(),
-        }
+        Part { text, file, at: 0, line: 1, front: None, pushes: Vec::new(), given: Vec::new() }
     }
 
     /// Reads up to the next include line, which is told with its name, or to the end.
     pub fn read(&mut self, ledger: &mut Ledger) -> Option<(u32, &'static str)> {
         let mut reader = Reader::new(self.text, self.file, ledger);
         (reader.at, reader.line) = (self.at, self.line);
-        let mut front = self.front.unwrap_or_else(|| reader.first());
+        let mut front = self.front.unwrap_or_else(|| reader.front());
         let mut include = None;
         while front != Front::End && include.is_none() {
             let (at, line) = (reader.at, reader.line);
             let lengths = reader.ledger.lengths();
             reader.is_in_range = true;
-            let read = if front == Front::Block {
-                self.block(&mut reader, &mut include)
-            } else {
-                None
-            };
+            let read = if front == Front::Block { self.block(&mut reader, &mut include) } else { None };
             if read.is_none() || !reader.is_in_range {
                 reader.ledger.truncate(&lengths);
                 self.fault(&mut reader, line);
@@ -118,13 +106,7 @@ impl Part {
         match self.pushes.iter().rposition(|push| is_named(&push.pushed)) {
             Some(place) => {
                 let OpenPush { line, from, pushed } = self.pushes.remove(place);
-                self.given.push(Given {
-                    file: self.file,
-                    line,
-                    from,
-                    to: reader.ledger.next(),
-                    pushed,
-                });
+                self.given.push(Given { file: self.file, line, from, to: reader.ledger.next(), pushed });
             }
             None => self.fault(reader, line),
         }
@@ -135,8 +117,6 @@ impl Part {
         self.given.sort_by_key(|given| given.line);
         ledger.given.append(&mut self.given);
         let file = self.file;
-        ledger
-            .faults
-            .extend(self.pushes.drain(..).map(|push| Fault { file, line: push.line }));
+        ledger.faults.extend(self.pushes.drain(..).map(|push| Fault { file, line: push.line }));
     }
 }

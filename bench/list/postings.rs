@@ -2,7 +2,8 @@
 
 use crate::ledger::{Amount, Braces, Extra, Flag, Posting, Price, Shape, Unit};
 use crate::names::NONE;
-use crate::reader::{Digits, Read, Reader};
+use crate::reader::{Read, Reader};
+use crate::words::Digits;
 
 /// The parts of a cost; each form of a part may be written once.
 #[derive(Default)]
@@ -18,9 +19,7 @@ struct CostParts {
 
 impl CostParts {
     fn are_outside_profile(&self) -> bool {
-        [self.number, self.currency, self.merge, self.compound]
-            .iter()
-            .any(Option::is_some)
+        [self.number, self.currency, self.merge, self.compound].iter().any(Option::is_some)
     }
 }
 
@@ -29,7 +28,7 @@ fn put_once<T>(place: &mut Option<T>, part: T) -> Read<()> {
 }
 
 impl Reader<'_> {
-    pub fn flag_if_any(&mut self) -> Option<Flag> {
+    pub fn flag(&mut self) -> Option<Flag> {
         let flag = match self.byte() {
             b'*' => Flag::Complete,
             b'!' => Flag::Incomplete,
@@ -43,7 +42,7 @@ impl Reader<'_> {
     #[inline]
     pub fn posting(&mut self, shape: &mut Shape) -> Read<()> {
         let line = self.line;
-        let flag = self.flag_if_any();
+        let flag = self.flag();
         let account = self.account()?;
         let Amount { count, unit } = self.units()?;
         let mut extra = NONE;
@@ -53,13 +52,7 @@ impl Reader<'_> {
         self.end()?;
         shape.lacks |= unit.lacks_number();
         shape.is_outside_profile |= unit.lacks_currency() && !unit.lacks_number();
-        self.ledger.postings.push(Posting {
-            count,
-            account,
-            line,
-            extra,
-            unit,
-        });
+        self.ledger.postings.push(Posting { count, account, line, extra, unit });
         Some(())
     }
 
@@ -67,9 +60,9 @@ impl Reader<'_> {
     #[inline]
     fn plain_amount(&mut self) -> Option<Amount> {
         let is_negative = self.is_sign(b'-');
-        let digits = self.digits_if_any().filter(Digits::are_few)?;
+        let digits = self.digits().filter(Digits::are_few)?;
         let count = i64::try_from(digits.value).ok()?;
-        let unit = Unit::new(self.currency_if_any()?, digits.places as u8);
+        let unit = Unit::new(self.currency()?, digits.places as u8);
         let count = if is_negative { -count } else { count };
         Some(Amount { count, unit })
     }
@@ -87,18 +80,12 @@ impl Reader<'_> {
     #[inline(never)]
     fn other_units(&mut self) -> Read<Amount> {
         let number = self.number_if_any()?;
-        let currency = self.currency_if_any();
+        let currency = self.currency();
         Some(match (number, currency) {
             (Some(number), Some(currency)) => self.ledger.wide.kept(number, currency),
             (Some(number), None) => self.kept_alone(number),
-            (None, Some(currency)) => Amount {
-                count: 0,
-                unit: Unit::without_number(currency),
-            },
-            (None, None) => Amount {
-                count: 0,
-                unit: Unit::MISSING,
-            },
+            (None, Some(currency)) => Amount { count: 0, unit: Unit::without_number(currency) },
+            (None, None) => Amount { count: 0, unit: Unit::MISSING },
         })
     }
 
@@ -138,7 +125,7 @@ impl Reader<'_> {
     }
 
     fn cost_part(&mut self, parts: &mut CostParts) -> Read<()> {
-        if let Some(day) = self.day_if_any() {
+        if let Some(day) = self.day() {
             return put_once(&mut parts.day, day);
         }
         if let Some((_, written)) = self.text_if_any()? {
@@ -152,7 +139,7 @@ impl Reader<'_> {
             self.amount_or_less()?;
             return put_once(&mut parts.compound, ());
         }
-        match (number, self.currency_if_any()) {
+        match (number, self.currency()) {
             (Some(number), Some(currency)) => {
                 let amount = self.ledger.wide.kept(number, currency);
                 put_once(&mut parts.amount, amount)

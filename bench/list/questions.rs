@@ -28,19 +28,14 @@ pub fn by_account<'l>(listed: &'l Listed, cells: &mut Cells<'l>, add: impl Fn(&m
 #[inline(never)]
 pub fn accounts(listed: &Listed) -> Vec<u8> {
     let mut cells = Cells::of(listed, &["account", "sum(position)"]);
-    by_account(listed, &mut cells, |sums, row| {
-        sums.add_units(row.unit.currency(), listed.at_8(row))
-    });
+    by_account(listed, &mut cells, |sums, row| sums.add_units(row.unit.currency(), listed.at_8(row)));
     cells.table(&[])
 }
 
 /// `SELECT date, account, position, balance WHERE account ~ 'bank'`.
 pub fn journal(listed: &Listed) -> Vec<u8> {
     let accounts = listed.ledger.accounts.texts();
-    let is_bank: Vec<bool> = accounts
-        .iter()
-        .map(|account| account.to_ascii_lowercase().contains("bank"))
-        .collect();
+    let is_bank: Vec<bool> = accounts.iter().map(|account| account.to_ascii_lowercase().contains("bank")).collect();
     let mut balance = Sums::default();
     let mut cells = Cells::of(listed, &["date", "account", "position", "balance"]);
     for row in listed.rows.iter().filter(|row| is_bank[row.account as usize]) {

@@ -31,12 +31,7 @@ pub struct Residuals {
 
 impl Residuals {
     pub fn new(currencies: usize) -> Residuals {
-        Residuals {
-            scale: 8,
-            sums: Vec::new(),
-            known: vec![Known::default(); currencies],
-            turn: 0,
-        }
+        Residuals { scale: 8, sums: Vec::new(), known: vec![Known::default(); currencies], turn: 0 }
     }
 
     /// Begins another transaction.
@@ -51,10 +46,7 @@ impl Residuals {
         let turn = self.turn;
         let known = &mut self.known[currency as usize];
         if known.turn != turn {
-            *known = Known {
-                turn,
-                ..Known::default()
-            };
+            *known = Known { turn, ..Known::default() };
         }
         known
     }

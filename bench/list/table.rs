@@ -40,34 +40,17 @@ fn widths(listed: &Listed) -> Widths {
             first => *first = Some([row, row]),
         }
     }
-    let position = extremes
-        .iter()
-        .flatten()
-        .flatten()
-        .map(|row| listed.position_width(row))
-        .fold(position, usize::max);
+    let position = extremes.iter().flatten().flatten().map(|row| listed.position_width(row)).fold(position, usize::max);
     let accounts = listed.ledger.accounts.texts().iter().zip(&is_shown);
-    let shown = accounts
-        .filter(|(_, is_shown)| **is_shown)
-        .map(|(account, _)| width_of(account.as_bytes()));
-    let date = if listed.rows.is_empty() {
-        HEADERS[0].len()
-    } else {
-        "2014-01-01".len()
-    };
+    let shown = accounts.filter(|(_, is_shown)| **is_shown).map(|(account, _)| width_of(account.as_bytes()));
+    let date = if listed.rows.is_empty() { HEADERS[0].len() } else { "2014-01-01".len() };
     let account = shown.fold(HEADERS[2].len(), usize::max);
-    Widths {
-        columns: [date, HEADERS[1].len(), account, position],
-        is_shown,
-    }
+    Widths { columns: [date, HEADERS[1].len(), account, position], is_shown }
 }
 
 /// The header or the rule.
 fn line(cells: [&str; 4], widths: [usize; 4]) -> String {
-    let cells = cells
-        .into_iter()
-        .zip(widths)
-        .map(|(cell, width)| format!("{cell:width$}"));
+    let cells = cells.into_iter().zip(widths).map(|(cell, width)| format!("{cell:width$}"));
     let cells: Vec<String> = cells.collect();
     format!("{}\n", cells.join("  ").trim_end())
 }
@@ -75,16 +58,11 @@ fn line(cells: [&str; 4], widths: [usize; 4]) -> String {
 /// What stands in a row between the flag and the position, for each account that is shown.
 fn account_texts(listed: &Listed, widths: &Widths) -> Vec<String> {
     let text = |account: &str| {
-        let (before, behind) = (
-            widths.columns[1] + 1,
-            widths.columns[2] - width_of(account.as_bytes()) + 2,
-        );
+        let (before, behind) = (widths.columns[1] + 1, widths.columns[2] - width_of(account.as_bytes()) + 2);
         format!("{:before$}{}{:behind$}", "", cleaned(account), "")
     };
     let accounts = listed.ledger.accounts.texts().iter().zip(&widths.is_shown);
-    accounts
-        .map(|(account, is_shown)| if *is_shown { text(account) } else { String::new() })
-        .collect()
+    accounts.map(|(account, is_shown)| if *is_shown { text(account) } else { String::new() }).collect()
 }
 
 /// The texts that are the same for many rows, and the front of the rows of the directive in turn.
@@ -127,18 +105,8 @@ pub fn write(listed: &Listed, to: &mut impl Write) -> io::Result<()> {
     out.reserve(BLOCK + 2 * out.len());
     let mut texts = Texts {
         listed,
-        accounts: if listed.rows.is_empty() {
-            Vec::new()
-        } else {
-            account_texts(listed, &widths)
-        },
-        currencies: listed
-            .ledger
-            .currencies
-            .texts()
-            .iter()
-            .map(|currency| format!(" {currency}\n"))
-            .collect(),
+        accounts: if listed.rows.is_empty() { Vec::new() } else { account_texts(listed, &widths) },
+        currencies: listed.ledger.currencies.texts().iter().map(|currency| format!(" {currency}\n")).collect(),
         directive: NONE,
         front: [b' '; 13],
     };

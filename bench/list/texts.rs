@@ -48,11 +48,7 @@ fn too_large() -> Error {
 
 /// What the ledger of that name says, in the order in which it is taken.
 pub fn loaded(name: &str) -> io::Result<Ledger> {
-    let mut texts = Texts {
-        ledger: Ledger::new(),
-        asked: Vec::new(),
-        read: 0,
-    };
+    let mut texts = Texts { ledger: Ledger::new(), asked: Vec::new(), read: 0 };
     let text = texts.ask(name)?;
     texts.add(name, text, DEEPEST)?;
     texts.ledger.arrange();
