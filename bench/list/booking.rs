@@ -2,7 +2,7 @@
 
 use crate::holdings::Holdings;
 use crate::inventory::{Selector, Take, Taken};
-use crate::ledger::{Balance, Braces, Extra, Ledger, Posting, Price, Transaction, What, Wide};
+use crate::ledger::{Amount, Balance, Braces, Extra, Ledger, Posting, Price, Transaction, What, Wide};
 use crate::lots::{Lot, Lots};
 use crate::names::NONE;
 use crate::numbers::{Number, power};
@@ -13,11 +13,12 @@ use crate::rows::{Listed, Row};
 /// A weight is less than this count of `10^-16`.
 const TOO_HEAVY: i128 = 10i128.pow(28);
 
-/// A posting that lacks its number or its amount: before which row of the transaction.
+/// A posting that lacks its number or its amount: before which row of the transaction, and where it is written.
 #[derive(Clone, Copy)]
 struct Missing {
     at: usize,
     account: u32,
+    posting: u32,
     currency: Option<u32>,
 }
 
@@ -29,8 +30,9 @@ struct Booking<'l> {
     lots: Lots,
     holdings: Holdings,
     pads: Pads,
-    // What is known of the transaction that is being booked.
+    // What is known of the transaction that is being booked, and of the posting.
     directive: u32,
+    posting: u32,
     day: u32,
     residuals: Residuals,
     missing: Vec<Missing>,
@@ -40,8 +42,9 @@ struct Booking<'l> {
     moved: Vec<Row>,
 }
 
-fn row_of(posting: &Posting, directive: u32, lot: u32) -> Row {
-    Row { count: posting.count, account: posting.account, directive, lot, unit: posting.unit }
+/// The row of a posting as it is written, whose number is told beside.
+fn row_of(posting: &Posting, number: u32, directive: u32, lot: u32) -> Row {
+    Row { count: posting.count, account: posting.account, directive, posting: number, lot, unit: posting.unit }
 }
 
 /// Books a ledger that is arranged.
@@ -67,6 +70,7 @@ impl<'l> Booking<'l> {
             holdings: Holdings::new(ledger),
             pads: Pads::new(ledger),
             directive: 0,
+            posting: 0,
             day: 0,
             residuals: Residuals::new(ledger.currencies.len()),
             missing: Vec::new(),
@@ -119,9 +123,9 @@ impl<'l> Booking<'l> {
         let postings = &self.ledger.postings[first..first + transaction.postings as usize];
         let start = self.rows.len();
         let is_booked = match (shape.is_priced, shape.lacks) {
-            (false, false) => self.amounts(postings),
-            (false, true) => self.amounts_with_missing(postings, start),
-            (true, _) => self.priced(postings, start),
+            (false, false) => self.amounts(postings, transaction.first),
+            (false, true) => self.amounts_with_missing(postings, transaction.first, start),
+            (true, _) => self.priced(postings, transaction.first, start),
         };
         if is_booked.is_none() {
             return self.rows.truncate(start);
@@ -136,12 +140,12 @@ impl<'l> Booking<'l> {
     }
 
     fn push_posting(&mut self, posting: &Posting, lot: u32) {
-        self.rows.push(row_of(posting, self.directive, lot));
+        self.rows.push(row_of(posting, self.posting, self.directive, lot));
     }
 
-    fn push(&mut self, account: u32, number: Number, currency: u32, lot: u32) {
-        let amount = self.wide.kept(number, currency);
-        self.rows.push(Row { count: amount.count, account, directive: self.directive, lot, unit: amount.unit });
+    fn push(&mut self, account: u32, posting: u32, number: Number, currency: u32, lot: u32) {
+        let Amount { count, unit } = self.wide.kept(number, currency);
+        self.rows.push(Row { count, account, directive: self.directive, posting, lot, unit });
     }
 
     /// Shows the decimals of the numbers that are written.
@@ -153,16 +157,18 @@ impl<'l> Booking<'l> {
     }
 
     /// Postings whose amounts are all written: nothing can be at fault that changes a row.
-    fn amounts(&mut self, postings: &[Posting]) -> Option<()> {
+    fn amounts(&mut self, postings: &[Posting], first: u32) -> Option<()> {
         let directive = self.directive;
-        self.rows.extend(postings.iter().map(|posting| row_of(posting, directive, NONE)));
+        let numbered = (first..).zip(postings);
+        self.rows.extend(numbered.map(|(number, posting)| row_of(posting, number, directive, NONE)));
         Some(())
     }
 
     /// Postings of which some lack their amount.
-    fn amounts_with_missing(&mut self, postings: &[Posting], start: usize) -> Option<()> {
+    fn amounts_with_missing(&mut self, postings: &[Posting], first: u32, start: usize) -> Option<()> {
         self.begin(8);
-        for posting in postings {
+        for (number, posting) in (first..).zip(postings) {
+            self.posting = number;
             if posting.unit.lacks_number() {
                 self.lacks(posting, start);
             } else {
@@ -182,6 +188,7 @@ impl<'l> Booking<'l> {
         self.missing.push(Missing {
             at: self.rows.len() - start,
             account: posting.account,
+            posting: self.posting,
             currency: (!posting.unit.lacks_currency()).then(|| posting.unit.currency()),
         });
     }
@@ -196,10 +203,11 @@ impl<'l> Booking<'l> {
     }
 
     /// Postings of which some have a cost or a price.
-    fn priced(&mut self, postings: &[Posting], start: usize) -> Option<()> {
+    fn priced(&mut self, postings: &[Posting], first: u32, start: usize) -> Option<()> {
         self.begin(16);
         self.taken.clear();
-        for posting in postings {
+        for (number, posting) in (first..).zip(postings) {
+            self.posting = number;
             if posting.unit.lacks_number() {
                 self.lacks(posting, start);
                 continue;
@@ -275,7 +283,8 @@ impl<'l> Booking<'l> {
         self.taken.add(number, take);
         let lot = *self.lots.get(take.lot);
         self.weigh(lot.currency, take.count.checked_mul(lot.cost)?)?;
-        self.push(posting.account, Number::shortest(take.count), posting.unit.currency(), take.lot);
+        let (count, currency) = (Number::shortest(take.count), posting.unit.currency());
+        self.push(posting.account, self.posting, count, currency, take.lot);
         Some(())
     }
 
@@ -323,14 +332,14 @@ impl<'l> Booking<'l> {
         if let Some(currency) = missing.currency {
             let residual = self.residuals.of(currency);
             let number = self.residuals.filled(residual)?;
-            self.push(missing.account, number, currency, NONE);
+            self.push(missing.account, missing.posting, number, currency, NONE);
             return Some(());
         }
         for place in 0..self.residuals.sums.len() {
             let residual = self.residuals.sums[place];
             if residual.sum != 0 {
                 let number = self.residuals.filled(residual)?;
-                self.push(missing.account, number, residual.currency, NONE);
+                self.push(missing.account, missing.posting, number, residual.currency, NONE);
             }
         }
         Some(())

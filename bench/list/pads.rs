@@ -133,7 +133,7 @@ impl Pad {
             |(currency, count): &(u32, i128)| [(self.account, *currency, *count), (self.source, *currency, -count)];
         self.inserted.iter().flat_map(both).map(|(account, currency, count)| {
             let amount = wide.kept(Number::shortest(count), currency);
-            Row { count: amount.count, account, directive: self.directive, lot: NONE, unit: amount.unit }
+            Row { count: amount.count, account, directive: self.directive, posting: NONE, lot: NONE, unit: amount.unit }
         })
     }
 }

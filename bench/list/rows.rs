@@ -4,10 +4,13 @@ use crate::ledger::{Flag, Ledger, Unit, What};
 use crate::lots::Lots;
 
 #[derive(Clone, Copy)]
+#[allow(dead_code)]
 pub struct Row {
     pub count: i64,
     pub account: u32,
     pub directive: u32,
+    /// Where its line, its flag, its price and its metadata are told, if it is written.
+    pub posting: u32,
     /// The number of its lot, if it has one.
     pub lot: u32,
     pub unit: Unit,
@@ -55,4 +58,4 @@ impl Listed {
     }
 }
 
-const _: () = assert!(size_of::<Row>() == 24);
+const _: () = assert!(size_of::<Row>() == 32);
