@@ -71,6 +71,14 @@ static IN_COMPONENT: [bool; 256] = {
     class
 };
 static IN_CURRENCY: [bool; 256] = class(false, b"'._-");
+/// What a text's end, its escapes and its lines don't begin with.
+static IN_TEXT: [bool; 256] = {
+    let mut class = [true; 256];
+    class[b'"' as usize] = false;
+    class[b'\\' as usize] = false;
+    class[b'\n' as usize] = false;
+    class
+};
 static IN_MARK: [bool; 256] = class(true, b"-_/.");
 static IN_KEY: [bool; 256] = class(true, b"-_");
 
@@ -174,8 +182,8 @@ impl Reader<'_> {
         let bytes = self.bytes();
         let mut end = self.at + 1;
         loop {
-            end += bytes[end..].iter().position(|b| matches!(b, b'"' | b'\\' | b'\n'))?;
-            match bytes[end] {
+            end = self.run(end, &IN_TEXT);
+            match bytes.get(end)? {
                 b'"' => return Some(end),
                 b'\n' => {
                     self.line += 1;
