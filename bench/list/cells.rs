@@ -66,12 +66,10 @@ impl<'l> Cells<'l> {
         self.end(10);
     }
 
-    /// Units of `10^-8`, where they are any.
+    /// Units of `10^-8`.
     pub fn units(&mut self, count: i128, currency: u32) {
         let start = self.texts.len();
-        if count != 0 {
-            self.listed.push_position(&mut self.texts, count, currency, NONE);
-        }
+        self.listed.push_position(&mut self.texts, count, currency, NONE);
         self.end_from(start);
     }
 
