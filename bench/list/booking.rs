@@ -1,7 +1,7 @@
 //! Books a ledger: its directives in their order, by the numbers of their accounts and currencies.
 
 use crate::holdings::Holdings;
-use crate::inventory::{Selector, Take, Taken};
+use crate::inventory::{Selector, Take};
 use crate::ledger::{Amount, Balance, Braces, Extra, Ledger, Posting, Price, Transaction, What, Wide};
 use crate::lots::{Lot, Lots};
 use crate::names::NONE;
@@ -36,9 +36,10 @@ struct Booking<'l> {
     day: u32,
     residuals: Residuals,
     missing: Vec<Missing>,
-    /// What its postings so far took.
-    taken: Taken,
+    /// What its postings so far took, and of which inventories.
     takes: Vec<Take>,
+    took: Vec<u32>,
+    has_bought: bool,
     moved: Vec<Row>,
 }
 
@@ -74,8 +75,9 @@ impl<'l> Booking<'l> {
             day: 0,
             residuals: Residuals::new(ledger.currencies.len()),
             missing: Vec::new(),
-            taken: Taken::default(),
             takes: Vec::new(),
+            took: Vec::new(),
+            has_bought: false,
             moved: Vec::new(),
         }
     }
@@ -128,6 +130,7 @@ impl<'l> Booking<'l> {
             (true, _) => self.priced(postings, transaction.first, start),
         };
         if is_booked.is_none() {
+            self.put_back();
             return self.rows.truncate(start);
         }
         self.show(postings);
@@ -205,7 +208,7 @@ impl<'l> Booking<'l> {
     /// Postings of which some have a cost or a price.
     fn priced(&mut self, postings: &[Posting], first: u32, start: usize) -> Option<()> {
         self.begin(16);
-        self.taken.clear();
+        self.has_bought = false;
         for (number, posting) in (first..).zip(postings) {
             self.posting = number;
             if posting.unit.lacks_number() {
@@ -251,7 +254,7 @@ impl<'l> Booking<'l> {
         self.residuals.show(currency, posting.unit.places());
         let cost = braces.amount.map(|amount| (self.wide.of(amount), amount.unit.currency()));
         if let Some(number) = self.holdings.number(account, currency)
-            && self.holdings.inventory(number).sells(want, &self.taken.of(number))
+            && self.holdings.inventory(number).sells(want)
         {
             let selector = Selector { cost, day: braces.day, label: braces.label };
             return self.sell(number, posting, want, &selector);
@@ -265,27 +268,31 @@ impl<'l> Booking<'l> {
         };
         self.weigh(cost_currency, want.checked_mul(cost)?)?;
         let lot = self.lots.of(lot);
+        self.has_bought = true;
         self.push_posting(posting, lot);
         Some(())
     }
 
     fn sell(&mut self, number: u32, posting: &Posting, want: i128, selector: &Selector) -> Option<()> {
-        let mut takes = std::mem::take(&mut self.takes);
-        takes.clear();
-        let inventory = self.holdings.inventory(number);
-        let is_done = inventory.take(want, selector, &self.lots, &self.taken.of(number), &mut takes);
-        let is_done = is_done.and_then(|()| takes.iter().try_for_each(|take| self.push_take(number, posting, take)));
-        self.takes = takes;
-        is_done
+        let before = self.takes.len();
+        self.holdings.inventory_mut(number).take(want, selector, &self.lots, &mut self.takes)?;
+        self.took.resize(self.takes.len(), number);
+        (before..self.takes.len()).try_for_each(|place| self.push_take(posting, place))
     }
 
-    fn push_take(&mut self, number: u32, posting: &Posting, take: &Take) -> Option<()> {
-        self.taken.add(number, take);
-        let lot = *self.lots.get(take.lot);
-        self.weigh(lot.currency, take.count.checked_mul(lot.cost)?)?;
-        let (count, currency) = (Number::shortest(take.count), posting.unit.currency());
-        self.push(posting.account, self.posting, count, currency, take.lot);
+    fn push_take(&mut self, posting: &Posting, place: usize) -> Option<()> {
+        let Take { lot, count, .. } = self.takes[place];
+        let Lot { cost, currency, .. } = *self.lots.get(lot);
+        self.weigh(currency, count.checked_mul(cost)?)?;
+        self.push(posting.account, self.posting, Number::shortest(count), posting.unit.currency(), lot);
         Some(())
+    }
+
+    /// Puts back what the transaction took, the last first.
+    fn put_back(&mut self) {
+        for (take, number) in self.takes.drain(..).zip(self.took.drain(..)).rev() {
+            self.holdings.inventory_mut(number).put_back(&take);
+        }
     }
 
     /// Puts what lacks into its places.
@@ -345,8 +352,19 @@ impl<'l> Booking<'l> {
         Some(())
     }
 
-    /// Puts the lots of a booked transaction, whose rows begin with the first, into their inventories.
+    /// Leaves what a booked transaction took out of its lots. Where it bought lots, too, all is put into the
+    /// inventories in the order of its rows, of which this is the first.
     fn hold(&mut self, first: usize) {
+        if self.has_bought {
+            self.put_back();
+            return self.add_lots(first);
+        }
+        for (take, number) in self.takes.drain(..).zip(self.took.drain(..)) {
+            self.holdings.inventory_mut(number).forget(&take);
+        }
+    }
+
+    fn add_lots(&mut self, first: usize) {
         for row in self.rows[first..].iter().filter(|row| row.lot != NONE) {
             let count = self.wide.at_8(row.count, row.unit);
             let day = self.lots.get(row.lot).day;

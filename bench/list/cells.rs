@@ -1,6 +1,6 @@
 //! Tables of what questions answer: the cells of rows, and the lines that they stand in.
 
-use crate::digits::{Shown, day_text, width_of};
+use crate::digits::{Shown, day_text, padded, width_of};
 use crate::escapes::cleaned;
 use crate::names::NONE;
 use crate::rows::{Listed, Row};
@@ -159,23 +159,26 @@ fn number(listed: &Listed, row: &Row) -> Shown {
 
 /// The table of the days, the accounts and the numbers of rows.
 pub fn entries<'l>(listed: &Listed, rows: impl ExactSizeIterator<Item = &'l Row> + Clone) -> Vec<u8> {
-    let accounts = listed.ledger.accounts.texts();
-    let mut texts: Vec<String> = accounts.iter().map(|account| cleaned(account).into_owned()).collect();
-    let account_widths: Vec<usize> = accounts.iter().map(|account| width_of(account.as_bytes())).collect();
-    let mut widths = [4, "account".len(), "number".len()];
+    let mut is_shown = vec![false; listed.ledger.accounts.len()];
+    let mut widths = ["date".len(), "account".len(), "number".len()];
     for row in rows.clone() {
-        widths[0] = 10;
-        widths[1] = widths[1].max(account_widths[row.account as usize]);
+        is_shown[row.account as usize] = true;
+        widths[0] = "2014-01-01".len();
         widths[2] = widths[2].max(number(listed, row).width());
     }
-    let padded = |text: &mut String, width: &usize| text.push_str(&" ".repeat((widths[1] + 2).saturating_sub(*width)));
-    texts.iter_mut().zip(&account_widths).for_each(|(text, width)| padded(text, width));
+    let accounts = listed.ledger.accounts.texts().iter().zip(&is_shown);
+    let shown = accounts.clone().filter(|(_, is_shown)| **is_shown);
+    widths[1] = shown.map(|(account, _)| width_of(account.as_bytes())).fold(widths[1], usize::max);
+    let text = |account: &str| padded(&cleaned(account), widths[1] + 2);
+    let texts = accounts.map(|(account, is_shown)| if *is_shown { text(account) } else { String::new() });
+    let texts: Vec<String> = texts.collect();
     let line = widths.iter().sum::<usize>() + 5;
     let mut out = Vec::with_capacity(line * (rows.len() + 2));
     let [date, account, number_width] = widths;
-    out.extend_from_slice(
-        format!("{:date$}  {:account$}  {:>number_width$}\n", "date", "account", "number").as_bytes(),
-    );
+    let front = padded("date", date + 2) + &padded("account", account + 2);
+    out.extend_from_slice(front.as_bytes());
+    push_spaces(&mut out, number_width - "number".len());
+    out.extend_from_slice(b"number\n");
     push_rule(&mut out, &widths);
     for row in rows {
         out.extend_from_slice(&day_text(listed.day(row)));

@@ -41,6 +41,10 @@ impl Holdings {
         &self.inventories[number as usize]
     }
 
+    pub fn inventory_mut(&mut self, number: u32) -> &mut Inventory {
+        &mut self.inventories[number as usize]
+    }
+
     pub fn has_lots(&self, account: u32, currency: u32) -> bool {
         self.number(account, currency).is_some_and(|number| !self.inventory(number).is_empty())
     }

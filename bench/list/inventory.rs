@@ -55,9 +55,11 @@ struct Held {
 /// What is taken of the lot at a place.
 #[derive(Clone, Copy)]
 pub struct Take {
-    pub place: Place,
+    place: Place,
     pub lot: u32,
     pub count: i128,
+    /// Nothing is left of it.
+    is_all: bool,
 }
 
 pub struct Inventory {
@@ -70,41 +72,6 @@ pub struct Inventory {
 
 fn side_of(count: i128) -> usize {
     usize::from(count < 0)
-}
-
-/// What earlier postings of a transaction took, by inventory and place.
-#[derive(Default)]
-pub struct Taken(QuickMap<(u32, Place), i128>);
-
-/// What they took of one inventory.
-pub struct TakenOf<'t> {
-    taken: &'t Taken,
-    inventory: u32,
-}
-
-impl Taken {
-    pub fn clear(&mut self) {
-        self.0.clear();
-    }
-
-    pub fn add(&mut self, inventory: u32, take: &Take) {
-        *self.0.entry((inventory, take.place)).or_default() += take.count;
-    }
-
-    pub fn of(&self, inventory: u32) -> TakenOf<'_> {
-        TakenOf { taken: self, inventory }
-    }
-}
-
-impl TakenOf<'_> {
-    fn is_nothing(&self) -> bool {
-        self.taken.0.is_empty()
-    }
-
-    /// What is left of what is held at a place.
-    fn left(&self, place: Place, count: i128) -> i128 {
-        if self.is_nothing() { count } else { count + self.taken.0.get(&(self.inventory, place)).unwrap_or(&0) }
-    }
 }
 
 impl Inventory {
@@ -154,61 +121,75 @@ impl Inventory {
     }
 
     /// Whether units with braces are sold, and not bought.
-    pub fn sells(&self, want: i128, taken: &TakenOf<'_>) -> bool {
-        let held = &self.sides[side_of(-want)];
-        self.method != Method::None
-            && want != 0
-            && !held.is_empty()
-            && (taken.is_nothing() || held.iter().any(|(place, held)| taken.left(*place, held.count) != 0))
+    pub fn sells(&self, want: i128) -> bool {
+        self.method != Method::None && want != 0 && !self.sides[side_of(-want)].is_empty()
     }
 
-    /// The lots that a sale may take from, with what is left of them.
+    /// The lots that a sale may take from.
     fn candidates<'i>(
         &'i self,
         want: i128,
         selector: &'i Selector,
         lots: &'i Lots,
-        taken: &'i TakenOf<'i>,
-    ) -> impl Iterator<Item = Take> + Clone + 'i {
+    ) -> impl Iterator<Item = (Place, Held)> + Clone + 'i {
         let places = match selector.day {
             0 => 0..=Place::MAX,
             day => self.first_of(day)..=self.first_of(day) | u64::from(u32::MAX),
         };
-        self.sides[side_of(-want)]
-            .range(places)
-            .filter(move |(_, held)| selector.agrees(lots.get(held.lot)))
-            .map(move |(&place, held)| Take { place, lot: held.lot, count: taken.left(place, held.count) })
-            .filter(|candidate| candidate.count != 0)
+        let held = self.sides[side_of(-want)].range(places);
+        held.filter(move |(_, held)| selector.agrees(lots.get(held.lot))).map(|(place, held)| (*place, *held))
     }
 
-    /// Tells what a sale takes, or none where it is at fault.
-    pub fn take(
-        &self,
-        want: i128,
-        selector: &Selector,
-        lots: &Lots,
-        taken: &TakenOf<'_>,
-        takes: &mut Vec<Take>,
-    ) -> Option<()> {
-        let candidates = self.candidates(want, selector, lots, taken);
+    /// Takes what is sold from the lots and tells it behind other takes, or takes nothing where the sale is at fault.
+    pub fn take(&mut self, want: i128, selector: &Selector, lots: &Lots, takes: &mut Vec<Take>) -> Option<()> {
+        let candidates = self.candidates(want, selector, lots);
         if self.method == Method::Strict && is_ambiguous(candidates.clone(), want) {
             return None;
         }
+        let before = takes.len();
         let mut rest = want;
-        for candidate in candidates {
-            let count = if candidate.count.abs() < rest.abs() { -candidate.count } else { rest };
-            takes.push(Take { count, ..candidate });
+        for (place, held) in candidates {
+            let is_all = held.count.abs() <= rest.abs();
+            let count = if is_all { -held.count } else { rest };
+            takes.push(Take { place, lot: held.lot, count, is_all });
             rest -= count;
             if rest == 0 {
-                return Some(());
+                break;
             }
         }
-        None
+        if rest != 0 {
+            takes.truncate(before);
+            return None;
+        }
+        takes[before..].iter().for_each(|take| self.remove(take));
+        Some(())
+    }
+
+    fn remove(&mut self, take: &Take) {
+        let side = &mut self.sides[side_of(-take.count)];
+        if take.is_all {
+            side.remove(&take.place);
+        } else if let Some(held) = side.get_mut(&take.place) {
+            held.count += take.count;
+        }
+    }
+
+    /// Puts back what was taken last.
+    pub fn put_back(&mut self, take: &Take) {
+        let side = &mut self.sides[side_of(-take.count)];
+        side.entry(take.place).or_insert(Held { lot: take.lot, count: 0 }).count -= take.count;
+    }
+
+    /// Forgets the place of a lot of which nothing is left.
+    pub fn forget(&mut self, take: &Take) {
+        if take.is_all {
+            self.places.remove(&take.lot);
+        }
     }
 }
 
 /// Whether several lots may be taken from, and not all of them together are wanted.
-fn is_ambiguous(candidates: impl Iterator<Item = Take>, want: i128) -> bool {
-    let (several, sum) = candidates.fold((0, 0), |(n, sum), candidate| (n + 1, sum + candidate.count));
+fn is_ambiguous(candidates: impl Iterator<Item = (Place, Held)>, want: i128) -> bool {
+    let (several, sum) = candidates.fold((0, 0), |(n, sum), (_, held)| (n + 1, sum + held.count));
     several > 1 && sum != -want
 }

@@ -1,6 +1,6 @@
 //! The table of a ledger's postings.
 
-use crate::digits::{day_text, width_of};
+use crate::digits::{day_text, padded, width_of};
 use crate::escapes::cleaned;
 use crate::names::NONE;
 use crate::rows::{Listed, Row};
@@ -50,17 +50,15 @@ fn widths(listed: &Listed) -> Widths {
 
 /// The header or the rule.
 fn line(cells: [&str; 4], widths: [usize; 4]) -> String {
-    let cells = cells.into_iter().zip(widths).map(|(cell, width)| format!("{cell:width$}"));
+    let cells = cells.into_iter().zip(widths).map(|(cell, width)| padded(cell, width));
     let cells: Vec<String> = cells.collect();
     format!("{}\n", cells.join("  ").trim_end())
 }
 
 /// What stands in a row between the flag and the position, for each account that is shown.
 fn account_texts(listed: &Listed, widths: &Widths) -> Vec<String> {
-    let text = |account: &str| {
-        let (before, behind) = (widths.columns[1] + 1, widths.columns[2] - width_of(account.as_bytes()) + 2);
-        format!("{:before$}{}{:behind$}", "", cleaned(account), "")
-    };
+    let (before, width) = (widths.columns[1] + 1, widths.columns[2] + 2);
+    let text = |account: &str| " ".repeat(before) + &padded(&cleaned(account), width);
     let accounts = listed.ledger.accounts.texts().iter().zip(&widths.is_shown);
     accounts.map(|(account, is_shown)| if *is_shown { text(account) } else { String::new() }).collect()
 }
