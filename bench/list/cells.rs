@@ -73,11 +73,15 @@ impl<'l> Cells<'l> {
         self.end_from(start);
     }
 
-    /// Positions in the order of their currencies and lots.
     pub fn sums(&mut self, sums: &Sums) {
+        self.positions(sums.entries());
+    }
+
+    /// Counts of `10^-8`, each with its currency and its lot, in the order of these.
+    pub fn positions(&mut self, positions: impl Iterator<Item = (u32, u32, i128)>) {
         let start = self.texts.len();
         self.positions.clear();
-        self.positions.extend(sums.entries());
+        self.positions.extend(positions);
         if self.positions.len() > 1 {
             self.arrange();
         }

@@ -24,11 +24,39 @@ pub fn by_account<'l>(listed: &'l Listed, cells: &mut Cells<'l>, add: impl Fn(&m
     }
 }
 
+/// The same in a sum for each account and currency.
+fn by_account_and_currency<'l>(listed: &'l Listed, cells: &mut Cells<'l>) {
+    let (accounts, currencies) = (listed.ledger.accounts.len(), listed.ledger.currencies.len());
+    let mut sums = vec![0; accounts * currencies];
+    let mut is_met = vec![false; accounts];
+    let mut met: Vec<u32> = Vec::new();
+    for row in &listed.rows {
+        let account = row.account as usize;
+        if !is_met[account] {
+            is_met[account] = true;
+            met.push(row.account);
+        }
+        sums[account * currencies + row.unit.currency() as usize] += listed.at_8(row);
+    }
+    for account in met {
+        cells.text(listed.ledger.accounts.text(account));
+        let first = account as usize * currencies;
+        let sums = (0..).zip(&sums[first..first + currencies]).filter(|(_, sum)| **sum != 0);
+        cells.positions(sums.map(|(currency, sum)| (currency, NONE, *sum)));
+    }
+}
+
 /// `SELECT account, sum(position)`.
 #[inline(never)]
 pub fn accounts(listed: &Listed) -> Vec<u8> {
+    /// So many sums may stand beside each other, of accounts and currencies that never meet, too.
+    const MOST_SUMS: usize = 1 << 20;
     let mut cells = Cells::of(listed, &["account", "sum(position)"]);
-    by_account(listed, &mut cells, |sums, row| sums.add_units(row.unit.currency(), listed.at_8(row)));
+    if listed.ledger.accounts.len() * listed.ledger.currencies.len() <= MOST_SUMS {
+        by_account_and_currency(listed, &mut cells);
+    } else {
+        by_account(listed, &mut cells, |sums, row| sums.add_units(row.unit.currency(), listed.at_8(row)));
+    }
     cells.table(&[])
 }
 
