@@ -1,151 +1,240 @@
-//! The first lines of blocks.
+//! Directives, and the lines without a day.
 
-use crate::directives::{Amount, Flag, Name, Pushed, Setting, Transaction, Undated, What};
-use crate::numbers::Day;
-use crate::reader::{NotOfTheGrammar, Read, Reader};
-use crate::tokens::{Kind, Sign, Word};
+use crate::escapes::unescaped;
+use crate::inventory::Method;
+use crate::ledger::{Balance, Directive, Entry, Flag, Pushed, Shape, Transaction, What};
+use crate::names::NONE;
+use crate::reader::{Front, Read, Reader};
+use crate::words::Word;
 
-impl<'a> Reader<'_, 'a> {
-    /// A day and what is dated; a transaction is still without its postings.
-    pub fn head(&mut self) -> Read<(Day, What<'a>)> {
+pub enum Undated {
+    Title(&'static str),
+    OperatingCurrency(&'static str),
+    BookingMethod(&'static str),
+    Include(&'static str),
+    Push(Pushed),
+    PopTag(u32),
+    PopKey(u32),
+    /// A plugin, or an option that the books don't have.
+    Ignored,
+}
+
+impl Reader<'_> {
+    /// Reads a directive up to what stands behind it.
+    pub fn directive(&mut self) -> Read<(Directive, Front)> {
+        let line = self.line;
         let day = self.day()?;
-        let what = match self.next()?.kind {
-            Kind::Sign(Sign::Star) => self.transaction(Flag::Complete),
-            Kind::Sign(Sign::Bang) => self.transaction(Flag::Incomplete),
-            Kind::Word(word) => self.behind_word(word)?,
-            _ => return Err(NotOfTheGrammar),
+        let (what, front) = match self.flag() {
+            Some(flag) => self.transaction(flag)?,
+            None => match self.word()? {
+                Word::Txn => self.transaction(Flag::Complete)?,
+                word => self.other(word)?,
+            },
         };
-        self.end()?;
-        Ok((day, what))
+        let file = self.file;
+        Some((Directive { day, line, file, what }, front))
     }
 
-    fn behind_word(&mut self, word: Word) -> Read<What<'a>> {
-        match word {
-            Word::Txn => Ok(self.transaction(Flag::Complete)),
-            Word::Open => self.open(),
-            Word::Close => self.account().map(What::Close),
-            Word::Commodity => self.currency().map(What::Commodity),
-            Word::Balance => self.balance(),
-            Word::Pad => Ok(What::Pad {
-                account: self.account()?,
-                source: self.account()?,
-            }),
-            Word::Note => Ok(What::Note {
-                account: self.account()?,
-                text: self.text()?,
-            }),
-            Word::Document => Ok(What::Document {
-                account: self.account()?,
-                name: self.text()?,
-                marks: self.marks(),
-            }),
-            Word::Price => self.price(),
-            Word::Event => Ok(What::Event {
-                name: self.text()?,
-                value: self.text()?,
-            }),
-            Word::Query => Ok(What::Query {
-                name: self.text()?,
-                query: self.text()?,
-            }),
-            Word::Custom => Ok(What::Custom {
-                name: self.text()?,
-                values: self.values()?,
-            }),
-            _ => Err(NotOfTheGrammar),
-        }
-    }
-
-    fn transaction(&mut self, flag: Flag) -> What<'a> {
-        let (first, second) = (self.text_if_any(), self.text_if_any());
-        let (payee, narration) = match (first, second) {
-            (payee, Some(narration)) => (payee, narration),
-            (narration, None) => (None, narration.unwrap_or_default()),
-        };
-        What::Transaction(Transaction {
-            flag,
-            payee,
-            narration,
-            marks: self.marks(),
-            postings: Vec::new(),
-        })
-    }
-
-    fn open(&mut self) -> Read<What<'a>> {
-        let account = self.account()?;
-        let mut currencies = Vec::new();
-        if let Some(currency) = self.if_any(Kind::Currency) {
-            currencies.push(currency);
-            while self.is_sign(Sign::Comma) {
-                currencies.push(self.currency()?);
+    fn transaction(&mut self, flag: Flag) -> Read<(What, Front)> {
+        let (mut payee, mut narration) = (NONE, NONE);
+        if let Some((place, first)) = self.text_if_any()? {
+            narration = place;
+            if let Some((place, _)) = self.text_if_any()? {
+                payee = self.ledger.payees.of(first);
+                narration = place;
             }
         }
-        Ok(What::Open {
+        self.marks();
+        self.end()?;
+        let first = self.ledger.postings.len();
+        let mut shape = Shape::default();
+        let mut front = self.next();
+        while front == Front::Line {
+            self.transaction_line(first, &mut shape)?;
+            front = self.next();
+        }
+        let transaction = Transaction {
+            flag,
+            shape,
+            payee,
+            narration,
+            first: first as u32,
+            postings: (self.ledger.postings.len() - first) as u32,
+        };
+        Some((What::Transaction(transaction), front))
+    }
+
+    /// A line under a transaction, whose postings begin with the first.
+    #[inline]
+    fn transaction_line(&mut self, first: usize, shape: &mut Shape) -> Read<()> {
+        match self.byte() {
+            b'a'..=b'z' => {
+                let postings = self.ledger.postings.len();
+                self.add_entry((postings > first).then(|| postings as u32 - 1))
+            }
+            b'#' | b'^' => {
+                let marks = self.ledger.marked.len();
+                self.marks();
+                self.end()?;
+                (self.ledger.marked.len() > marks).then_some(())
+            }
+            _ => self.posting(shape),
+        }
+    }
+
+    fn add_entry(&mut self, posting: Option<u32>) -> Read<()> {
+        let entry = self.entry(posting)?;
+        self.ledger.metadata.push(entry);
+        Some(())
+    }
+
+    /// What is dated but no transaction, with its entries.
+    fn other(&mut self, word: Word) -> Read<(What, Front)> {
+        let what = self.behind_word(word)?;
+        self.end()?;
+        let mut front = self.next();
+        while front == Front::Line {
+            self.add_entry(None)?;
+            front = self.next();
+        }
+        Some((what, front))
+    }
+
+    fn behind_word(&mut self, word: Word) -> Read<What> {
+        match word {
+            Word::Open => self.open(),
+            Word::Close => self.account().map(|account| What::Close { account }),
+            Word::Commodity => self.currency().map(|currency| What::Commodity { currency }),
+            Word::Balance => self.balance(),
+            Word::Pad => self.pad(),
+            Word::Note => Some(What::Note { account: self.account()?, text: self.text_place()? }),
+            Word::Document => self.document(),
+            Word::Price => self.price_directive(),
+            Word::Event => Some(What::Event { name: self.text_place()?, value: self.text_place()? }),
+            Word::Query => Some(What::Query { name: self.text_place()?, query: self.text_place()? }),
+            Word::Custom => self.custom(),
+            _ => None,
+        }
+    }
+
+    fn open(&mut self) -> Read<What> {
+        let account = self.account()?;
+        let first = self.ledger.open_currencies.len();
+        if let Some(currency) = self.currency() {
+            self.ledger.open_currencies.push(currency);
+            while self.is_sign(b',') {
+                let currency = self.currency()?;
+                self.ledger.open_currencies.push(currency);
+            }
+        }
+        let method = self.text_if_any()?.and_then(|(_, name)| Method::named(name));
+        Some(What::Open {
             account,
-            currencies,
-            method: self.text_if_any(),
+            first: first as u32,
+            currencies: (self.ledger.open_currencies.len() - first) as u32,
+            method,
         })
     }
 
-    fn balance(&mut self) -> Read<What<'a>> {
-        let account = self.account()?;
-        let number = self.number()?;
+    fn balance(&mut self) -> Read<What> {
+        let (account, number) = (self.account()?, self.number()?);
         let mut tolerance = None;
-        if self.is_sign(Sign::Tilde) {
+        if self.is_sign(b'~') {
             tolerance = self.expression()?;
             self.is_in_range &= tolerance.is_some();
         }
         if tolerance.is_some_and(|tolerance| tolerance.count < 0) {
-            return Err(NotOfTheGrammar);
+            return None;
         }
-        Ok(What::Balance {
+        let currency = self.currency()?;
+        let wide = &mut self.ledger.wide;
+        self.ledger.balances.push(Balance {
             account,
-            number,
-            tolerance,
-            currency: self.currency()?,
-        })
+            amount: wide.kept(number, currency),
+            tolerance: tolerance.map(|tolerance| wide.kept(tolerance, currency)),
+        });
+        Some(What::Balance(self.ledger.balances.len() as u32 - 1))
     }
 
-    fn price(&mut self) -> Read<What<'a>> {
-        Ok(What::Price {
-            currency: self.currency()?,
-            amount: Amount {
-                number: self.number()?,
-                currency: self.currency()?,
-            },
-        })
+    fn pad(&mut self) -> Read<What> {
+        let (account, source) = (self.account()?, self.account()?);
+        self.ledger.padded.push(account);
+        Some(What::Pad { account, source })
     }
 
-    pub fn undated(&mut self) -> Read<Undated<'a>> {
-        let Kind::Word(word) = self.next()?.kind else {
-            return Err(NotOfTheGrammar);
-        };
-        let undated = match word {
+    fn document(&mut self) -> Read<What> {
+        let (account, name) = (self.account()?, self.text_place()?);
+        self.marks();
+        Some(What::Document { account, name })
+    }
+
+    fn price_directive(&mut self) -> Read<What> {
+        let (currency, amount) = (self.currency()?, self.amount()?);
+        self.ledger.prices.push((currency, amount));
+        Some(What::Price(self.ledger.prices.len() as u32 - 1))
+    }
+
+    fn custom(&mut self) -> Read<What> {
+        let name = self.text_place()?;
+        let first = self.ledger.values.len();
+        self.values()?;
+        Some(What::Custom { name, first: first as u32, values: (self.ledger.values.len() - first) as u32 })
+    }
+
+    /// Reads a line without a day up to what stands behind it.
+    pub fn undated(&mut self) -> Read<(Undated, Front)> {
+        let undated = match self.word()? {
             Word::Option => self.option()?,
-            Word::Include => Undated::Setting(Setting::Include(self.text()?)),
+            Word::Include => Undated::Include(self.text()?.1),
             Word::Plugin => {
                 self.text()?;
-                self.text_if_any();
+                self.text_if_any()?;
                 Undated::Ignored
             }
             Word::PushTag => Undated::Push(Pushed::Tag(self.tag()?)),
-            Word::PopTag => Undated::Pop(Name::Tag(self.tag()?)),
-            Word::PushMeta => Undated::Push(Pushed::Entry(self.entry()?)),
-            Word::PopMeta => Undated::Pop(Name::Key(self.key()?)),
-            _ => return Err(NotOfTheGrammar),
+            Word::PopTag => Undated::PopTag(self.tag()?),
+            Word::PushMeta => Undated::Push(Pushed::Entry(self.entry(None)?)),
+            Word::PopMeta => Undated::PopKey(self.key()?),
+            _ => return None,
         };
         self.end()?;
-        Ok(undated)
+        let front = self.next();
+        (front != Front::Line).then_some((undated, front))
     }
 
-    fn option(&mut self) -> Read<Undated<'a>> {
-        let name = self.text()?;
-        let value = self.text()?;
-        Ok(match name {
-            "title" => Undated::Setting(Setting::Title(value)),
-            "operating_currency" => Undated::Setting(Setting::OperatingCurrency(value)),
-            "booking_method" => Undated::Setting(Setting::BookingMethod(value)),
+    fn option(&mut self) -> Read<Undated> {
+        let ((_, name), (_, value)) = (self.text()?, self.text()?);
+        Some(match name {
+            "title" => Undated::Title(value),
+            "operating_currency" => Undated::OperatingCurrency(value),
+            "booking_method" => Undated::BookingMethod(value),
             _ => Undated::Ignored,
         })
+    }
+}
+
+impl crate::ledger::Ledger {
+    /// The number of a label that is written with escapes.
+    pub fn label(&mut self, written: &'static str) -> u32 {
+        if !written.contains('\\') {
+            return self.labels.of(written);
+        }
+        let label = unescaped(written);
+        match self.labels.known(&label) {
+            Some(known) => known,
+            None => self.labels.of(label.into_owned().leak()),
+        }
+    }
+}
+
+impl Pushed {
+    /// Whether a pop of that tag takes it back.
+    pub fn is_tag(&self, name: u32) -> bool {
+        matches!(self, Pushed::Tag(tag) if *tag == name)
+    }
+
+    /// Whether a pop of that key takes it back.
+    pub fn is_key(&self, name: u32) -> bool {
+        matches!(self, Pushed::Entry(Entry { key, .. }) if *key == name)
     }
 }

@@ -6,62 +6,67 @@
 //! `--balance`, `--ordered` and `--first` what five more do, see `machine`. Characters are taken to be one column
 //! wide.
 
+mod booking;
 mod cells;
-mod directives;
+mod digits;
 mod escapes;
+mod expressions;
 mod heads;
+mod holdings;
 mod inventory;
+mod ledger;
+mod lots;
 mod machine;
+mod names;
 mod numbers;
 mod pads;
-mod parse;
+mod parts;
 mod postings;
 mod questions;
 mod reader;
+mod residuals;
 mod rows;
-mod scan;
+mod sums;
 mod table;
 mod texts;
-mod tokens;
-mod trial;
+mod words;
 
-use rows::{Listed, listed};
+use booking::listed;
+use rows::Listed;
 use std::env;
 use std::io::{self, Write};
 use std::process::ExitCode;
-use table::table;
-use texts::Texts;
+use texts::loaded;
 
 const MOST_POSTINGS: usize = 4_000_000;
 
-/// The texts of a ledger, with what they say arranged.
-fn loaded(name: &str) -> io::Result<Texts> {
-    let mut texts = Texts::of(name)?;
-    texts.directives.sort_by_key(|directive| (directive.day, directive.rank()));
-    Ok(texts)
-}
-
 fn load(name: &str) -> io::Result<()> {
-    let texts = loaded(name)?;
+    let ledger = loaded(name)?;
     println!(
-        "{} tokens, {} directives, {} faults",
-        texts.tokens,
-        texts.directives.len(),
-        texts.faults
+        "{} directives, {} postings, {} faults",
+        ledger.directives.len(),
+        ledger.postings.len(),
+        ledger.faults.len()
     );
     Ok(())
 }
 
-/// Prints a table of what is booked.
-fn print(name: &str, table: fn(&Listed<'_>) -> Vec<u8>) -> io::Result<()> {
-    let Texts {
-        directives, method, ..
-    } = loaded(name)?;
-    let listed = listed(&directives, method);
+/// What is booked of a ledger.
+fn booked(name: &str) -> io::Result<Listed> {
+    let listed = listed(loaded(name)?);
     if listed.rows.len() > MOST_POSTINGS {
         return Err(io::Error::other("there are more than 4,000,000 postings"));
     }
-    io::stdout().write_all(&table(&listed))
+    Ok(listed)
+}
+
+fn list(name: &str) -> io::Result<()> {
+    table::write(&booked(name)?, &mut io::stdout().lock())
+}
+
+/// Prints what a question answers.
+fn answer(name: &str, question: fn(&Listed) -> Vec<u8>) -> io::Result<()> {
+    io::stdout().write_all(&question(&booked(name)?))
 }
 
 fn main() -> ExitCode {
@@ -69,16 +74,18 @@ fn main() -> ExitCode {
     let words: Vec<&str> = words.iter().map(String::as_str).collect();
     let done = match words[..] {
         ["--load", name] => load(name),
-        ["--accounts", name] => print(name, questions::accounts),
-        ["--journal", name] => print(name, questions::journal),
-        ["--largest", name] => print(name, questions::largest),
-        ["--filter", name] => print(name, machine::filter),
-        ["--lots", name] => print(name, machine::lots),
-        ["--balance", name] => print(name, machine::balance),
-        ["--ordered", name] => print(name, machine::ordered),
-        ["--first", name] => print(name, machine::first),
-        [name] => print(name, table),
-        _ => Err(io::Error::other("usage: list [--load|--accounts|--journal|--largest|--filter|--lots|--balance|--ordered|--first] FILE|-")),
+        ["--accounts", name] => answer(name, questions::accounts),
+        ["--journal", name] => answer(name, questions::journal),
+        ["--largest", name] => answer(name, questions::largest),
+        ["--filter", name] => answer(name, machine::filter),
+        ["--lots", name] => answer(name, machine::lots),
+        ["--balance", name] => answer(name, machine::balance),
+        ["--ordered", name] => answer(name, machine::ordered),
+        ["--first", name] => answer(name, machine::first),
+        [name] => list(name),
+        _ => Err(io::Error::other(
+            "usage: list [--load|--accounts|--journal|--largest|--filter|--lots|--balance|--ordered|--first] FILE|-",
+        )),
     };
     match done {
         Ok(()) => ExitCode::SUCCESS,

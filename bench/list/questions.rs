@@ -1,60 +1,104 @@
 //! Three questions that queries ask, over the rows of a ledger that holds no lots.
 
-use crate::cells::{Cells, Sums};
+use crate::cells::{Cells, entries};
+use crate::names::NONE;
+use crate::numbers::{POWERS, power};
 use crate::rows::{Listed, Row};
-use std::collections::HashMap;
+use crate::sums::Sums;
 
-fn add<'a>(sums: &mut Sums<'a>, row: &Row<'a>) {
-    *sums.entry(row.currency).or_insert(0) += row.count;
+/// The rows of each account that has any, in the order in which these first came, gathered in sums.
+pub fn by_account<'l>(listed: &'l Listed, cells: &mut Cells<'l>, add: impl Fn(&mut Sums, &Row)) {
+    let mut places = vec![NONE; listed.ledger.accounts.len()];
+    let mut groups: Vec<(u32, Sums)> = Vec::new();
+    for row in &listed.rows {
+        let place = &mut places[row.account as usize];
+        if *place == NONE {
+            *place = groups.len() as u32;
+            groups.push((row.account, Sums::default()));
+        }
+        add(&mut groups[*place as usize].1, row);
+    }
+    for (account, sums) in &groups {
+        cells.text(listed.ledger.accounts.text(*account));
+        cells.sums(sums);
+    }
+}
+
+/// The same in a sum for each account and currency.
+fn by_account_and_currency<'l>(listed: &'l Listed, cells: &mut Cells<'l>) {
+    let (accounts, currencies) = (listed.ledger.accounts.len(), listed.ledger.currencies.len());
+    let mut sums = vec![0; accounts * currencies];
+    let mut is_met = vec![false; accounts];
+    let mut met: Vec<u32> = Vec::new();
+    for row in &listed.rows {
+        let account = row.account as usize;
+        if !is_met[account] {
+            is_met[account] = true;
+            met.push(row.account);
+        }
+        sums[account * currencies + row.unit.currency() as usize] += listed.at_8(row);
+    }
+    for account in met {
+        cells.text(listed.ledger.accounts.text(account));
+        let first = account as usize * currencies;
+        let sums = (0..).zip(&sums[first..first + currencies]).filter(|(_, sum)| **sum != 0);
+        cells.positions(sums.map(|(currency, sum)| (currency, NONE, *sum)));
+    }
 }
 
 /// `SELECT account, sum(position)`.
 #[inline(never)]
-pub fn accounts(listed: &Listed<'_>) -> Vec<u8> {
-    let mut places = HashMap::new();
-    let mut groups: Vec<(&str, Sums<'_>)> = Vec::new();
-    for row in &listed.rows {
-        let place = *places.entry(row.account).or_insert_with(|| {
-            groups.push((row.account, Sums::new()));
-            groups.len() - 1
-        });
-        add(&mut groups[place].1, row);
-    }
-    let mut cells = Cells::of(&["account", "sum(position)"]);
-    for (account, sums) in &groups {
-        cells.text(account);
-        cells.sums(sums, &listed.decimals);
+pub fn accounts(listed: &Listed) -> Vec<u8> {
+    /// So many sums may stand beside each other, of accounts and currencies that never meet, too.
+    const MOST_SUMS: usize = 1 << 20;
+    let mut cells = Cells::of(listed, &["account", "sum(position)"]);
+    if listed.ledger.accounts.len() * listed.ledger.currencies.len() <= MOST_SUMS {
+        by_account_and_currency(listed, &mut cells);
+    } else {
+        by_account(listed, &mut cells, |sums, row| sums.add_units(row.unit.currency(), listed.at_8(row)));
     }
     cells.table(&[])
 }
 
 /// `SELECT date, account, position, balance WHERE account ~ 'bank'`.
-pub fn journal(listed: &Listed<'_>) -> Vec<u8> {
-    let mut balance = Sums::new();
-    let mut cells = Cells::of(&["date", "account", "position", "balance"]);
-    for row in &listed.rows {
-        if !row.account.to_ascii_lowercase().contains("bank") {
-            continue;
-        }
-        add(&mut balance, row);
-        cells.day(row.day);
-        cells.text(row.account);
-        cells.sums(&Sums::from([(row.currency, row.count)]), &listed.decimals);
-        cells.sums(&balance, &listed.decimals);
+pub fn journal(listed: &Listed) -> Vec<u8> {
+    let accounts = listed.ledger.accounts.texts();
+    let is_bank: Vec<bool> = accounts.iter().map(|account| account.to_ascii_lowercase().contains("bank")).collect();
+    let mut balance = Sums::default();
+    let mut cells = Cells::of(listed, &["date", "account", "position", "balance"]);
+    for row in listed.rows.iter().filter(|row| is_bank[row.account as usize]) {
+        let (count, currency) = (listed.at_8(row), row.unit.currency());
+        balance.add_units(currency, count);
+        cells.day(listed.day(row));
+        cells.text(listed.account(row));
+        cells.units(count, currency);
+        cells.sums(&balance);
     }
     cells.table(&[])
 }
 
-/// `SELECT date, account, number WHERE number > 1000 ORDER BY number DESC LIMIT 10`.
-pub fn largest(listed: &Listed<'_>) -> Vec<u8> {
-    const LEAST: i128 = 1000 * 100_000_000;
-    let mut rows: Vec<&Row<'_>> = listed.rows.iter().filter(|row| row.count > LEAST).collect();
-    rows.sort_by_key(|row| -row.count);
-    let mut cells = Cells::of(&["date", "account", "number"]);
-    for row in rows.into_iter().take(10) {
-        cells.day(row.day);
-        cells.text(row.account);
-        cells.number(row.count);
+/// Whether a row's number is more than 1000.
+#[inline]
+pub fn is_above_1000(listed: &Listed, row: &Row) -> bool {
+    let places = row.unit.places();
+    if row.unit.is_wide() {
+        return listed.count(row) > 1000 * power(places);
     }
-    cells.table(&[false, false, true])
+    row.count > 1000 * POWERS[usize::from(places)]
+}
+
+/// `SELECT date, account, number WHERE number > 1000 ORDER BY number DESC LIMIT 10`: the largest so far are kept in
+/// their order.
+pub fn largest(listed: &Listed) -> Vec<u8> {
+    const MOST: usize = 10;
+    let mut rows: Vec<(i128, &Row)> = Vec::with_capacity(MOST + 1);
+    for row in listed.rows.iter().filter(|row| is_above_1000(listed, row)) {
+        let count = listed.at_8(row);
+        if rows.len() == MOST && rows[MOST - 1].0 >= count {
+            continue;
+        }
+        rows.insert(rows.partition_point(|(kept, _)| *kept >= count), (count, row));
+        rows.truncate(MOST);
+    }
+    entries(listed, rows.into_iter().map(|(_, row)| row))
 }

@@ -1,238 +1,180 @@
-//! Reads the tokens of a line from the front: expressions, amounts, metadata, tags and links.
+//! Reads a text from the front: its bytes, lines, signs and blocks. The reader stands at a word or at the end of a
+//! line, since behind each word it goes over the spaces.
 
-use crate::directives::{Amount, Entry, Mark, Value};
-use crate::numbers::{Day, Number};
-use crate::tokens::{Kind, Sign, Token, Word};
+use crate::ledger::Ledger;
 
-/// So many signs and parentheses may stand in one another.
-const DEEPEST: u32 = 200;
+/// What is read, or none where the text is not of the grammar.
+pub type Read<T> = Option<T>;
 
-/// The tokens are not of the grammar.
-#[derive(Debug)]
-pub struct NotOfTheGrammar;
-
-pub type Read<T> = Result<T, NotOfTheGrammar>;
-
-pub struct Reader<'t, 'a> {
-    rest: &'t [Token<'a>],
-    /// Whether every day and number that was read is one that a ledger may hold.
+pub struct Reader<'l> {
+    pub text: &'static str,
+    pub at: usize,
+    pub line: u32,
+    pub file: u16,
+    /// Whether every day and number of the block is one that a ledger may hold.
     pub is_in_range: bool,
+    pub ledger: &'l mut Ledger,
 }
 
-impl<'t, 'a> Reader<'t, 'a> {
-    pub fn new(line: &'t [Token<'a>]) -> Self {
-        Reader {
-            rest: line,
-            is_in_range: true,
+/// What stands at the front behind the end of a line.
+#[derive(Clone, Copy, Debug, PartialEq, Eq)]
+pub enum Front {
+    /// A word in column one.
+    Block,
+    /// An indented word.
+    Line,
+    End,
+}
+
+impl<'l> Reader<'l> {
+    pub fn new(text: &'static str, file: u16, ledger: &'l mut Ledger) -> Self {
+        Reader { text, at: 0, line: 1, file, is_in_range: true, ledger }
+    }
+
+    // Bytes and lines.
+
+    #[inline]
+    pub fn bytes(&self) -> &'static [u8] {
+        self.text.as_bytes()
+    }
+
+    #[inline]
+    pub fn rest(&self) -> &'static [u8] {
+        &self.bytes()[self.at..]
+    }
+
+    /// The byte at the front; 0 where there is none.
+    #[inline]
+    pub fn byte(&self) -> u8 {
+        self.bytes().get(self.at).copied().unwrap_or(0)
+    }
+
+    /// The byte behind that.
+    #[inline]
+    pub fn byte_behind(&self) -> u8 {
+        self.bytes().get(self.at + 1).copied().unwrap_or(0)
+    }
+
+    #[inline]
+    pub fn is_at_text_end(&self) -> bool {
+        self.at >= self.text.len()
+    }
+
+    #[inline]
+    pub fn spaces(&mut self) {
+        while matches!(self.byte(), b' ' | b'\t' | b'\r') {
+            self.at += 1;
         }
     }
 
-    pub fn go_to(&mut self, line: &'t [Token<'a>]) {
-        self.rest = line;
+    /// Where the bytes of a class end.
+    #[inline]
+    pub fn run(&self, start: usize, class: &[bool; 256]) -> usize {
+        let bytes = &self.bytes()[start..];
+        start + bytes.iter().take_while(|b| class[**b as usize]).count()
     }
 
-    // Single tokens.
-
-    pub fn kind(&self) -> Option<Kind> {
-        self.rest.first().map(|token| token.kind)
+    /// Goes to the end of the line.
+    fn skip_line(&mut self) {
+        let rest = self.rest();
+        self.at += rest.iter().position(|b| *b == b'\n').unwrap_or(rest.len());
     }
 
-    /// The number of the line in the text.
-    pub fn line(&self) -> usize {
-        self.rest.first().map_or(0, |token| token.line)
-    }
-
-    pub fn next(&mut self) -> Read<&'t Token<'a>> {
-        let (token, rest) = self.rest.split_first().ok_or(NotOfTheGrammar)?;
-        self.rest = rest;
-        Ok(token)
-    }
-
-    pub fn end(&self) -> Read<()> {
-        if self.rest.is_empty() {
-            Ok(())
-        } else {
-            Err(NotOfTheGrammar)
+    /// Whether the line ends here.
+    #[inline]
+    pub fn is_at_end(&self) -> bool {
+        match self.byte() {
+            b'\n' | b';' => true,
+            0 => self.is_at_text_end(),
+            _ => false,
         }
     }
 
-    pub fn if_any(&mut self, kind: Kind) -> Option<&'a str> {
-        let (token, rest) = self.rest.split_first()?;
-        if token.kind != kind {
-            return None;
+    /// Nothing more stands in the line but a comment.
+    #[inline]
+    pub fn end(&mut self) -> Read<()> {
+        match self.byte() {
+            b'\n' => return Some(()),
+            b';' => self.skip_line(),
+            _ if self.is_at_text_end() => {}
+            _ => return None,
         }
-        self.rest = rest;
-        Some(token.text)
+        Some(())
     }
 
-    pub fn one(&mut self, kind: Kind) -> Read<&'a str> {
-        self.if_any(kind).ok_or(NotOfTheGrammar)
-    }
-
-    pub fn is_sign(&mut self, sign: Sign) -> bool {
-        self.if_any(Kind::Sign(sign)).is_some()
-    }
-
-    pub fn account(&mut self) -> Read<&'a str> {
-        self.one(Kind::Account)
-    }
-
-    pub fn currency(&mut self) -> Read<&'a str> {
-        self.one(Kind::Currency)
-    }
-
-    pub fn text_if_any(&mut self) -> Option<&'a str> {
-        self.if_any(Kind::Text).map(|text| &text[1..text.len() - 1])
-    }
-
-    pub fn text(&mut self) -> Read<&'a str> {
-        self.text_if_any().ok_or(NotOfTheGrammar)
-    }
-
-    pub fn tag(&mut self) -> Read<&'a str> {
-        Ok(&self.one(Kind::Tag)?[1..])
-    }
-
-    pub fn key(&mut self) -> Read<&'a str> {
-        let key = self.one(Kind::Key)?;
-        Ok(&key[..key.len() - 1])
-    }
-
-    pub fn day_of(&mut self, text: &str) -> Day {
-        let day = Day::parse(text);
-        self.is_in_range &= day.is_some();
-        day.unwrap_or_default()
-    }
-
-    pub fn day(&mut self) -> Read<Day> {
-        let text = self.one(Kind::Day)?;
-        Ok(self.day_of(text))
-    }
-
-    // Numbers.
-
-    /// The longest expression; none where a part of it is out of range.
-    pub fn expression(&mut self) -> Read<Option<Number>> {
-        self.sum(DEEPEST)
-    }
-
-    fn sum(&mut self, room: u32) -> Read<Option<Number>> {
-        let mut sum = self.product(room)?;
+    /// Goes from the start of a line over white space, comments and lines that are skipped to the next word.
+    #[inline]
+    pub fn front(&mut self) -> Front {
         loop {
-            let apply = if self.is_sign(Sign::Plus) {
-                Number::plus
-            } else if self.is_sign(Sign::Minus) {
-                Number::minus
-            } else {
-                return Ok(sum);
-            };
-            sum = sum.zip(self.product(room)?).and_then(|(a, b)| apply(a, b));
-        }
-    }
-
-    fn product(&mut self, room: u32) -> Read<Option<Number>> {
-        let mut product = self.factor(room)?;
-        while self.is_sign(Sign::Star) {
-            product = product
-                .zip(self.factor(room)?)
-                .and_then(|(a, b)| a.times(b));
-        }
-        Ok(product)
-    }
-
-    fn factor(&mut self, room: u32) -> Read<Option<Number>> {
-        if let Some(text) = self.if_any(Kind::Number) {
-            return Ok(Number::parse(text));
-        }
-        let room = room.checked_sub(1).ok_or(NotOfTheGrammar)?;
-        if self.is_sign(Sign::Plus) {
-            return self.factor(room);
-        }
-        if self.is_sign(Sign::Minus) {
-            return Ok(self.factor(room)?.map(Number::negated));
-        }
-        self.one(Kind::Sign(Sign::OpenParenthesis))?;
-        let inside = self.sum(room)?;
-        self.one(Kind::Sign(Sign::CloseParenthesis))?;
-        Ok(inside)
-    }
-
-    pub fn number(&mut self) -> Read<Number> {
-        let number = self.expression()?;
-        self.is_in_range &= number.is_some();
-        Ok(number.unwrap_or_default())
-    }
-
-    pub fn number_if_any(&mut self) -> Read<Option<Number>> {
-        match self.kind() {
-            Some(Kind::Number | Kind::Sign(Sign::Plus | Sign::Minus | Sign::OpenParenthesis)) => {
-                self.number().map(Some)
+            let start = self.at;
+            if matches!(self.byte(), b'*' | b':' | b'#') {
+                self.skip_line();
             }
-            _ => Ok(None),
-        }
-    }
-
-    pub fn amount_parts(&mut self) -> Read<(Option<Number>, Option<&'a str>)> {
-        let number = self.number_if_any()?;
-        Ok((number, self.if_any(Kind::Currency)))
-    }
-
-    // Metadata, tags and links.
-
-    pub fn marks(&mut self) -> Vec<Mark<'a>> {
-        let mut marks = Vec::new();
-        while let Some(token) = self.rest.first() {
-            match token.kind {
-                Kind::Tag => marks.push(Mark::Tag(&token.text[1..])),
-                Kind::Link => marks.push(Mark::Link(&token.text[1..])),
-                _ => break,
+            self.spaces();
+            if self.byte() == b';' {
+                self.skip_line();
             }
-            self.rest = &self.rest[1..];
+            if self.is_at_text_end() {
+                return Front::End;
+            }
+            if self.byte() != b'\n' {
+                return if self.at == start { Front::Block } else { Front::Line };
+            }
+            self.go_over_line_feed();
         }
-        marks
     }
 
-    fn value(&mut self) -> Read<Value<'a>> {
-        let token = self.rest.first().ok_or(NotOfTheGrammar)?;
-        let value = match token.kind {
-            Kind::Text => Value::Text(&token.text[1..token.text.len() - 1]),
-            Kind::Account => Value::Account(token.text),
-            Kind::Day => Value::Day(self.day_of(token.text)),
-            Kind::Currency => Value::Currency(token.text),
-            Kind::Tag => Value::Tag(&token.text[1..]),
-            Kind::Word(Word::True) => Value::Truth(true),
-            Kind::Word(Word::False) => Value::Truth(false),
-            _ => return self.numeric_value(),
-        };
-        self.rest = &self.rest[1..];
-        Ok(value)
+    #[inline]
+    fn go_over_line_feed(&mut self) {
+        self.at += 1;
+        self.line += 1;
     }
 
-    fn numeric_value(&mut self) -> Read<Value<'a>> {
-        let number = self.number()?;
-        Ok(match self.if_any(Kind::Currency) {
-            Some(currency) => Value::Amount(Amount { number, currency }),
-            None => Value::Number(number),
-        })
-    }
-
-    pub fn values(&mut self) -> Read<Vec<Value<'a>>> {
-        let mut values = Vec::new();
-        while !self.rest.is_empty() {
-            values.push(self.value()?);
+    /// Goes from the end of a line to what stands behind it.
+    #[inline]
+    pub fn next(&mut self) -> Front {
+        if self.is_at_text_end() {
+            return Front::End;
         }
-        Ok(values)
+        self.go_over_line_feed();
+        self.front()
     }
 
-    /// An entry, whose value may lack.
-    pub fn entry(&mut self) -> Read<Entry<'a>> {
-        let key = self.key()?;
-        let value = if self.rest.is_empty() {
-            Value::Nothing
-        } else {
-            self.value()?
-        };
-        self.end()?;
-        Ok(Entry { key, value })
+    /// Goes on behind a block that begins here, whatever stands in it.
+    pub fn skip_block(&mut self) -> Front {
+        loop {
+            match self.byte() {
+                b'"' => self.skip_text(),
+                b';' => self.skip_line(),
+                b'\n' => match self.next() {
+                    Front::Line => {}
+                    front => return front,
+                },
+                _ if self.is_at_text_end() => return Front::End,
+                _ => self.at += 1,
+            }
+        }
+    }
+
+    /// Goes behind a text that may have unknown escapes, or to the end where it isn't closed.
+    fn skip_text(&mut self) {
+        self.at += 1;
+        loop {
+            match self.byte() {
+                b'"' => return self.at += 1,
+                b'\n' => self.go_over_line_feed(),
+                b'\\' => {
+                    self.at += 1;
+                    if self.byte() == b'\n' {
+                        self.line += 1;
+                    }
+                    self.at += 1;
+                }
+                _ => self.at += 1,
+            }
+            if self.is_at_text_end() {
+                return self.at = self.text.len();
+            }
+        }
     }
 }

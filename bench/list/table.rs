@@ -1,135 +1,119 @@
 //! The table of a ledger's postings.
 
+use crate::digits::{day_text, padded, width_of};
 use crate::escapes::cleaned;
-use crate::inventory::Lot;
-use crate::numbers::Day;
+use crate::names::NONE;
 use crate::rows::{Listed, Row};
-use std::collections::HashMap;
-use std::io::Write;
-use std::iter;
+use std::io::{self, Write};
 
-/// An amount, of a count of `10^-8`: its decimals are as few as are exact, but at least those that
-/// its currency shows.
-pub fn push_amount(out: &mut Vec<u8>, count: i128, currency: &str, decimals: &HashMap<&str, u8>) {
-    const UNIT: u128 = 100_000_000;
-    let magnitude = count.unsigned_abs();
-    let (whole, mut rest) = match u64::try_from(magnitude) {
-        Ok(small) => (small / UNIT as u64, small % UNIT as u64),
-        Err(_) => ((magnitude / UNIT) as u64, (magnitude % UNIT) as u64),
-    };
-    let least = decimals
-        .get(currency)
-        .map_or(0, |least| usize::from(*least));
-    let mut width = 8;
-    while width > least && rest % 10 == 0 {
-        rest /= 10;
-        width -= 1;
+const HEADERS: [&str; 4] = ["date", "flag", "account", "position"];
+
+/// What is written at once has at least so many bytes.
+const BLOCK: usize = 1 << 16;
+
+/// How wide the columns are, and which accounts stand in them.
+struct Widths {
+    columns: [usize; 4],
+    is_shown: Vec<bool>,
+}
+
+fn widths(listed: &Listed) -> Widths {
+    let mut is_shown = vec![false; listed.ledger.accounts.len()];
+    // By currency the rows without a lot whose count is the least and the greatest, of those that are shown with the
+    // decimals that they have: no other of these is wider.
+    let mut extremes: Vec<Option<[&Row; 2]>> = vec![None; listed.ledger.currencies.len()];
+    let mut position = HEADERS[3].len();
+    for row in &listed.rows {
+        is_shown[row.account as usize] = true;
+        if row.lot != NONE || !listed.has_shown_decimals(row) {
+            position = position.max(listed.position_width(row));
+            continue;
+        }
+        match &mut extremes[row.unit.currency() as usize] {
+            Some([least, greatest]) => {
+                if row.count < least.count {
+                    *least = row;
+                } else if row.count > greatest.count {
+                    *greatest = row;
+                }
+            }
+            first => *first = Some([row, row]),
+        }
     }
-    let sign = if count < 0 { "-" } else { "" };
-    // Writing to a vector never fails.
-    let _ = if width == 0 {
-        write!(out, "{sign}{whole} {currency}")
-    } else {
-        write!(out, "{sign}{whole}.{rest:0width$} {currency}")
-    };
-}
-
-pub fn push_day(out: &mut Vec<u8>, Day { year, month, day }: Day) {
-    // Writing to a vector never fails.
-    let _ = write!(out, "{year:04}-{month:02}-{day:02}");
-}
-
-pub fn push_position(
-    out: &mut Vec<u8>,
-    count: i128,
-    currency: &str,
-    lot: Option<&Lot<'_>>,
-    decimals: &HashMap<&str, u8>,
-) {
-    push_amount(out, count, currency, decimals);
-    let Some(lot) = lot else {
-        return;
-    };
-    out.extend_from_slice(b" {");
-    push_amount(out, lot.cost, lot.currency, decimals);
-    out.extend_from_slice(b", ");
-    push_day(out, lot.day);
-    if let Some(label) = &lot.label {
-        // Writing to a vector never fails.
-        let _ = write!(out, ", \"{}\"", cleaned(label));
-    }
-    out.push(b'}');
-}
-
-fn push_padded(out: &mut Vec<u8>, text: &str, width: usize) {
-    out.extend_from_slice(text.as_bytes());
-    out.extend(iter::repeat_n(
-        b' ',
-        width.saturating_sub(text.chars().count()),
-    ));
+    let position = extremes.iter().flatten().flatten().map(|row| listed.position_width(row)).fold(position, usize::max);
+    let accounts = listed.ledger.accounts.texts().iter().zip(&is_shown);
+    let shown = accounts.filter(|(_, is_shown)| **is_shown).map(|(account, _)| width_of(account.as_bytes()));
+    let date = if listed.rows.is_empty() { HEADERS[0].len() } else { "2014-01-01".len() };
+    let account = shown.fold(HEADERS[2].len(), usize::max);
+    Widths { columns: [date, HEADERS[1].len(), account, position], is_shown }
 }
 
 /// The header or the rule.
-fn push_line(out: &mut Vec<u8>, cells: [&str; 4], widths: [usize; 4]) {
-    for (i, (cell, width)) in cells.into_iter().zip(widths).enumerate() {
-        if i > 0 {
-            out.extend_from_slice(b"  ");
+fn line(cells: [&str; 4], widths: [usize; 4]) -> String {
+    let cells = cells.into_iter().zip(widths).map(|(cell, width)| padded(cell, width));
+    let cells: Vec<String> = cells.collect();
+    format!("{}\n", cells.join("  ").trim_end())
+}
+
+/// What stands in a row between the flag and the position, for each account that is shown.
+fn account_texts(listed: &Listed, widths: &Widths) -> Vec<String> {
+    let (before, width) = (widths.columns[1] + 1, widths.columns[2] + 2);
+    let text = |account: &str| " ".repeat(before) + &padded(&cleaned(account), width);
+    let accounts = listed.ledger.accounts.texts().iter().zip(&widths.is_shown);
+    accounts.map(|(account, is_shown)| if *is_shown { text(account) } else { String::new() }).collect()
+}
+
+/// The texts that are the same for many rows, and the front of the rows of the directive in turn.
+struct Texts<'l> {
+    listed: &'l Listed,
+    accounts: Vec<String>,
+    /// Each with the end of the line.
+    currencies: Vec<String>,
+    directive: u32,
+    front: [u8; 13],
+}
+
+impl Texts<'_> {
+    #[inline]
+    fn push(&mut self, row: &Row, out: &mut Vec<u8>) {
+        if row.directive != self.directive {
+            self.directive = row.directive;
+            let (day, flag) = self.listed.day_and_flag(row.directive);
+            self.front[..10].copy_from_slice(&day_text(day));
+            self.front[12] = flag;
         }
-        push_padded(out, cell, width);
+        out.extend_from_slice(&self.front);
+        out.extend_from_slice(self.accounts[row.account as usize].as_bytes());
+        self.listed.shown(row).push(out);
+        out.extend_from_slice(self.currencies[row.unit.currency() as usize].as_bytes());
+        if row.lot != NONE {
+            out.pop();
+            self.listed.push_lot(out, row.lot);
+            out.push(b'\n');
+        }
     }
-    while out.last() == Some(&b' ') {
-        out.pop();
-    }
-    out.push(b'\n');
 }
 
-/// A row, which no space ends.
-fn push_row(out: &mut Vec<u8>, row: &Row<'_>, position: &str, widths: [usize; 4]) {
-    push_day(out, row.day);
-    out.extend_from_slice(b"  ");
-    out.push(row.flag);
-    out.extend(iter::repeat_n(b' ', widths[1] + 1));
-    push_padded(out, &cleaned(row.account), widths[2] + 2);
-    out.extend_from_slice(position.as_bytes());
-    out.push(b'\n');
-}
-
-/// The texts of the positions one behind another, and where each ends.
-fn positions(listed: &Listed<'_>) -> (String, Vec<usize>) {
-    let mut texts = Vec::new();
-    let mut ends = Vec::with_capacity(listed.rows.len());
+/// Writes the table in blocks of lines.
+pub fn write(listed: &Listed, to: &mut impl Write) -> io::Result<()> {
+    let widths = widths(listed);
+    let rules = widths.columns.map(|width| "-".repeat(width));
+    let mut out = line(HEADERS, widths.columns).into_bytes();
+    out.extend_from_slice(line(rules.each_ref().map(String::as_str), widths.columns).as_bytes());
+    out.reserve(BLOCK + 2 * out.len());
+    let mut texts = Texts {
+        listed,
+        accounts: if listed.rows.is_empty() { Vec::new() } else { account_texts(listed, &widths) },
+        currencies: listed.ledger.currencies.texts().iter().map(|currency| format!(" {currency}\n")).collect(),
+        directive: NONE,
+        front: [b' '; 13],
+    };
     for row in &listed.rows {
-        push_position(&mut texts, row.count, row.currency, row.lot.as_deref(), &listed.decimals);
-        ends.push(texts.len());
+        texts.push(row, &mut out);
+        if out.len() >= BLOCK {
+            to.write_all(&out)?;
+            out.clear();
+        }
     }
-    (String::from_utf8(texts).unwrap_or_default(), ends)
-}
-
-pub fn table(listed: &Listed<'_>) -> Vec<u8> {
-    const HEADERS: [&str; 4] = ["date", "flag", "account", "position"];
-    let rows = &listed.rows;
-    let (texts, ends) = positions(listed);
-    let starts = iter::once(0).chain(ends.iter().copied());
-    let positions = starts.zip(&ends).map(|(start, end)| &texts[start..*end]);
-    let mut widths = HEADERS.map(str::len);
-    if !rows.is_empty() {
-        widths[0] = 10;
-    }
-    for (row, position) in rows.iter().zip(positions.clone()) {
-        widths[2] = widths[2].max(row.account.chars().count());
-        widths[3] = widths[3].max(position.chars().count());
-    }
-    let line = widths.iter().sum::<usize>() + 3 * 2 + 1;
-    let mut out = Vec::with_capacity(line * (rows.len() + 2));
-    push_line(&mut out, HEADERS, widths);
-    let rules = widths.map(|width| "-".repeat(width));
-    push_line(
-        &mut out,
-        [&rules[0], &rules[1], &rules[2], &rules[3]],
-        widths,
-    );
-    for (row, position) in rows.iter().zip(positions) {
-        push_row(&mut out, row, position, widths);
-    }
-    out
+    to.write_all(&out)
 }

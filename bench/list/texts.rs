@@ -1,25 +1,19 @@
 //! The texts of a ledger: the top one, and those that its include lines name.
 
-use crate::directives::{Directive, Setting};
 use crate::escapes::unescaped;
-use crate::inventory::Method;
-use crate::parse::parse;
+use crate::ledger::{Fault, Ledger};
+use crate::parts::Part;
+use std::fs::File;
 use std::io::{self, Error, ErrorKind, Read};
-use std::{fs, iter};
 
 const LARGEST_TEXT: usize = 16_777_216;
 const LARGEST_LEDGER: usize = 67_108_864;
 const MOST_NAMES: usize = 1_000;
 const DEEPEST: usize = 16;
 
-/// What the texts of a ledger say, in reading order. Texts are kept to the program's end.
-#[derive(Default)]
-pub struct Texts {
-    pub directives: Vec<Directive<'static>>,
-    /// The last that is known.
-    pub method: Method,
-    pub tokens: usize,
-    pub faults: usize,
+/// The texts that were asked for. They are kept to the program's end, as names lend from them.
+struct Texts {
+    ledger: Ledger,
     asked: Vec<String>,
     read: usize,
 }
@@ -27,12 +21,14 @@ pub struct Texts {
 /// The first bytes of a file or of standard input; one more than a text may have show that it is
 /// too large.
 fn bytes_of(name: &str) -> io::Result<Vec<u8>> {
-    let mut bytes = Vec::new();
     let most = LARGEST_TEXT as u64 + 1;
+    let mut bytes = Vec::new();
     if name == "-" {
         io::stdin().take(most).read_to_end(&mut bytes)?;
     } else {
-        fs::File::open(name)?.take(most).read_to_end(&mut bytes)?;
+        let file = File::open(name)?;
+        bytes.reserve_exact(file.metadata()?.len().min(most) as usize + 1);
+        file.take(most).read_to_end(&mut bytes)?;
     }
     Ok(bytes)
 }
@@ -50,15 +46,16 @@ fn too_large() -> Error {
     Error::from(ErrorKind::FileTooLarge)
 }
 
-impl Texts {
-    /// The texts of the ledger of that name.
-    pub fn of(name: &str) -> io::Result<Texts> {
-        let mut texts = Texts::default();
-        let text = texts.ask(name)?;
-        texts.add(name, text, DEEPEST)?;
-        Ok(texts)
-    }
+/// What the ledger of that name says, in the order in which it is taken.
+pub fn loaded(name: &str) -> io::Result<Ledger> {
+    let mut texts = Texts { ledger: Ledger::new(), asked: Vec::new(), read: 0 };
+    let text = texts.ask(name)?;
+    texts.add(name, text, DEEPEST)?;
+    texts.ledger.arrange();
+    Ok(texts.ledger)
+}
 
+impl Texts {
     fn ask(&mut self, name: &str) -> io::Result<&'static str> {
         self.asked.push(name.to_owned());
         let bytes = bytes_of(name)?;
@@ -70,45 +67,31 @@ impl Texts {
         Ok(text.leak())
     }
 
-    /// Adds what a text says, and the texts of its include lines, each at its line.
+    /// Reads a text, and those of its include lines, each at its line.
     fn add(&mut self, name: &str, text: &'static str, room: usize) -> io::Result<()> {
-        let parsed = parse(text);
-        self.tokens += parsed.tokens;
-        self.faults += parsed.faults.len();
-        let mut directives = parsed.directives.into_iter().peekable();
-        for (line, setting) in parsed.settings {
-            match setting {
-                Setting::BookingMethod(method) => {
-                    self.method = Method::named(method).unwrap_or(self.method);
-                }
-                Setting::Include(written) => {
-                    let before =
-                        iter::from_fn(|| directives.next_if(|directive| directive.line < line));
-                    self.directives.extend(before);
-                    self.include(&joined(name, &unescaped(written)), room)?;
-                }
-                _ => {}
+        let file = self.ledger.texts.len() as u16;
+        self.ledger.texts.push(text);
+        let mut part = Part::new(text, file);
+        while let Some((line, written)) = part.read(&mut self.ledger) {
+            if !self.include(&joined(name, &unescaped(written)), room)? {
+                self.ledger.faults.push(Fault { file, line });
             }
         }
-        self.directives.extend(directives);
         Ok(())
     }
 
-    fn include(&mut self, name: &str, room: usize) -> io::Result<()> {
+    /// Whether there is a text of that name that wasn't read before.
+    fn include(&mut self, name: &str, room: usize) -> io::Result<bool> {
         if self.asked.iter().any(|asked| asked == name) {
-            self.faults += 1;
-            return Ok(());
+            return Ok(false);
         }
         if room == 0 || self.asked.len() >= MOST_NAMES {
             return Err(too_large());
         }
         match self.ask(name) {
-            Ok(text) => self.add(name, text, room - 1),
+            Ok(text) => self.add(name, text, room - 1).map(|()| true),
             Err(error) if error.kind() == ErrorKind::FileTooLarge => Err(error),
-            Err(_) => {
-                self.faults += 1;
-                Ok(())
-            }
+            Err(_) => Ok(false),
         }
     }
 }
