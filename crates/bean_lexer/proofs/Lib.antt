@@ -1,3 +1,4 @@
+pub mod GapFacts
 pub mod BoundaryFacts
 pub mod NumberFacts
 pub mod FirstByteFacts

@@ -1,5 +1,5 @@
 //! What stands between tokens: white space, line feeds, comments and skipped lines.
-ghost use Rattle.std.specs.Prelude.{◌≡◌, ◌≤◌, length, take, count_by};
+ghost use Rattle.std.specs.Prelude.{◌≡◌, ◌≤◌, length, take, count_by, IsTrue};
 ghost use Rattle.bean_lexer.specs.Gap.{is_line_feed, gap_len, behind_gap, gap_step, place_of};
 ghost use Rattle.bean_lexer.specs.Gap as spec;
 ghost use Rattle.bean_lexer.specs.Gap.{spot_at};
@@ -73,8 +73,21 @@ impl Spot {
     }
 }
 
-/// The gap at the front of a text.
-pub fn gap_at(start: Spot, bytes: &[u8]) -> Gap
+/// White space stands at the front, and behind its first byte a token's byte.
+#[tactic(auto, using(crate::proofs::GapFacts::one_white))]
+fn is_one_white(start: Spot, bytes: &[u8]) -> bool
+    ensures len { IsTrue result → gap_len start bytes.now ≡ 1 }
+    ensures end { IsTrue result → behind_gap start bytes.now ≡ spec.behind_white start }
+    ensures inside { IsTrue result → 1 ≤ length bytes.now }
+    ensures line_feeds { IsTrue result → count_by is_line_feed (take 1 bytes.now) ≡ 0 }
+{
+    bytes.len() >= 2
+        && (bytes[0] == b' ' || bytes[0] == b'\t')
+        && start.behind_white().step(bytes[1]).is_none()
+}
+
+/// The gap at the front of a text, byte by byte.
+fn long_gap(start: Spot, bytes: &[u8]) -> Gap
     ensures len { result.len ≡ gap_len start bytes.now }
     ensures end { result.end ≡ behind_gap start bytes.now }
     ensures inside { result.len ≤ length bytes.now }
@@ -97,5 +110,23 @@ pub fn gap_at(start: Spot, bytes: &[u8]) -> Gap
         len,
         line_feeds,
         end,
+    }
+}
+
+/// The gap at the front of a text.
+pub fn gap_at(start: Spot, bytes: &[u8]) -> Gap
+    ensures len { result.len ≡ gap_len start bytes.now }
+    ensures end { result.end ≡ behind_gap start bytes.now }
+    ensures inside { result.len ≤ length bytes.now }
+    ensures line_feeds { result.line_feeds ≡ count_by is_line_feed (take result.len bytes.now) }
+{
+    if is_one_white(start, bytes) {
+        Gap {
+            len: 1,
+            line_feeds: 0,
+            end: start.behind_white(),
+        }
+    } else {
+        long_gap(start, bytes)
     }
 }

@@ -1,7 +1,7 @@
 use Rattle.std.proofs.Common.{◌≡◌, ◌+◌, ◌-◌, ◌≤◌, length, take, drop}
 use Rattle.std.specs.List.{count_by}
 use Rattle.bean_lexer.specs.Gap.{is_line_feed, gap_len, behind_gap}
-use Rattle.bean_lexer.proofs.gaps.gap_at.Given as goal
+use Rattle.bean_lexer.proofs.gaps.long_gap.Given as goal
 
 abbrev pub invariant-loop-len : goal.invariant-loop-len
 invariant-loop-len l = record {
