@@ -27,6 +27,23 @@ fn unit_of(places: u8) -> u128
     power_of_ten(places).unsigned_abs()
 }
 
+/// A number of 64 bits before and behind its last `places` digits. Most counts have 8 decimals, of
+/// which two are shown, and what is divided by a known number is multiplied instead.
+fn split_few_at(number: u64, places: u8) -> (u64, u64)
+    requires { places < 20 }
+    ensures before { result.0 ≡ number / 10 ^ places }
+    ensures behind { result.1 ≡ number % 10 ^ places }
+{
+    match places {
+        8 => (number / 100_000_000, number % 100_000_000),
+        6 => (number / 1_000_000, number % 1_000_000),
+        _ => {
+            let unit = power_of_ten(places) as u64;
+            (number / unit, number % unit)
+        }
+    }
+}
+
 /// A number before and behind its last `places` digits.
 fn split_at(number: u128, places: u8) -> (u128, u128)
     ensures before { result.0 ≡ number / 10 ^ places }
@@ -40,8 +57,8 @@ fn split_at(number: u128, places: u8) -> (u128, u128)
     match u64::try_from(number) {
         // Most fit, and 64 bits are divided much faster than 128.
         Ok(number) if places < 20 => {
-            let unit = power_of_ten(places) as u64;
-            ((number / unit) as u128, (number % unit) as u128)
+            let (before, behind) = split_few_at(number, places);
+            (before as u128, behind as u128)
         }
         _ => {
             let unit = unit_of(places);
