@@ -1,12 +1,12 @@
-use Rattle.std.proofs.Common.{◌≡◌, ◌+◌, ◌-◌, ◌*◌, ◌<◌, length, drop, true, false, cond, get_or}
+use Rattle.std.proofs.Common.{◌≡◌, ◌^◌, min, ◌+◌, ◌-◌, ◌*◌, ◌<◌, length, drop, true, false, cond, get_or}
 use Rattle.std.proofs.Common.{arith, ap, ◌∙◌, sym}
 use Rattle.std.proofs.lemmas.Bool.Decides.{nat_tests}
 use Rattle.std.specs.List.{before_first}
 use Rattle.std.specs.Char.{is_ascii_digit}
 use Rattle.bean_base.specs.Numeral.{is_point, goes_on}
 use Rattle.bean_base.proofs.NumeralFacts.{completes}
-use Rattle.bean_base.proofs.ShortFacts.{whole_kept, place_step, counted_byte}
-use Rattle.bean_base.proofs.num.short_whole.Goals as goal
+use Rattle.bean_base.proofs.OnePassFacts.{whole_kept, place_step, counted_byte}
+use Rattle.bean_base.proofs.num.whole_part.Goals as goal
 
 pub loop-at-preserved : goal.loop-at-preserved
 loop-at-preserved c =
@@ -25,6 +25,6 @@ loop-at-preserved c =
           ∙ whole_kept c.loop-at.after_digit bs at _ here other holds so_far.rest;
       place = omega arith;
       counted = c.counted-count.ensures
-          ∙ ap (λ n. cond (is_ascii_digit b) (n * 10 + (b - 48)) n) so_far.counted
+          ∙ ap (λ n. cond (is_ascii_digit b) (min (10 ^ 18) (n * 10 + (b - 48))) n) so_far.counted
           ∙ sym (counted_byte bs at here);
     }
