@@ -6,8 +6,7 @@ use bean_base::{Flag, Slice, parse_account, parse_currency, parse_day};
 use bean_lots::{Key, Position};
 use limits::MOST_POSTINGS;
 use posting_table::{Entry, EntryFlag, Ledger, Metadata, PlainText, Row, Shared, Weight};
-use query_answer::Answer;
-use query_values::{TextSet, Value};
+use query_values::TextSet;
 use std::alloc::Global;
 use std::test::Fail;
 
@@ -90,20 +89,4 @@ pub fn dollars(alloc: Global, count: usize) -> Result<Ledger<'static>, Fail> {
         }
     }
     Ok(ledger)
-}
-
-/// The one number that an answer has, where it has one row of one value.
-pub fn number_in(answer: &Answer<'_>) -> Option<i128> {
-    let rows = answer.rows.as_slice();
-    if rows.len() != 1 {
-        return None;
-    }
-    let row = rows[0].as_slice();
-    if row.len() != 1 {
-        return None;
-    }
-    match &row[0] {
-        Value::Number { count, .. } => Some(*count),
-        _ => None,
-    }
 }

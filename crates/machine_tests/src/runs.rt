@@ -1,135 +1,105 @@
 //! Runs, whole and in turns.
 
-use crate::ledgers::{COUNT, count_of_few, dollars, number_in};
+use crate::ledgers::{COUNT, count_of_few, dollars};
+use crate::words::{add_words, answer_words, turn_word};
 use posting_table::Ledger;
-use query_answer::Answer;
-use query_machine::{Run, RunCause, Turn, run};
+use query_machine::{Run, run};
 use query_verifier::check_file;
-use refusals::Refusal;
-use std::alloc::Global;
+use std::alloc::{AllocError, Global};
 use std::test::Fail;
 use verified_program::Checked;
 
-/// What a run has counted, and how many steps and groups that took.
-#[derive(Clone, Copy, Debug, PartialEq, Eq)]
-struct Counted {
-    number: Option<i128>,
-    steps: u64,
-    groups: u64,
-}
-
-fn counted_in(answer: &Answer<'_>) -> Counted {
-    Counted {
-        number: number_in(answer),
-        steps: answer.steps,
-        groups: answer.groups,
-    }
-}
-
-/// What a program counts over a ledger.
-fn count(
+/// What a program answers over a ledger, or why it doesn't.
+fn answered(
     alloc: Global,
     program: &Checked<'_>,
     ledger: &Ledger<'_>,
-) -> Result<Counted, Refusal<RunCause>> {
+) -> Result<String, AllocError> {
     match run(alloc, program, ledger) {
-        Ok(answer) => Ok(counted_in(&answer)),
-        Err(refusal) => Err(refusal),
+        Ok(answer) => answer_words(alloc, &answer),
+        Err(refusal) => String::from_str(alloc, refusal.code()),
     }
 }
 
-/// What the program of a file counts.
-fn count_by(alloc: Global, file: &[u8], ledger: &Ledger<'_>) -> Option<Counted> {
+/// The same of the program of a file.
+fn answered_by(alloc: Global, file: &[u8], ledger: &Ledger<'_>) -> Result<String, AllocError> {
     match check_file(alloc, file) {
-        Ok(program) => count(alloc, &program, ledger).ok(),
-        Err(_) => None,
+        Ok(program) => answered(alloc, &program, ledger),
+        Err(refusal) => String::from_str(alloc, refusal.code()),
     }
 }
 
-/// Whether the program of a file is refused for its bounds.
-fn is_outside(alloc: Global, file: &[u8], ledger: &Ledger<'_>) -> bool {
-    match check_file(alloc, file) {
-        Ok(program) => {
-            let refusal = count(alloc, &program, ledger).err();
-            refusal == Some(Refusal::Refused(RunCause::OutsideBounds))
-        }
-        Err(_) => false,
+/// Where a run stands, and what it answers, if it does.
+fn standing_words(alloc: Global, run: &Run<'_, '_>) -> Result<String, AllocError> {
+    let mut told = String::from_str(alloc, turn_word(run.standing()))?;
+    if let Some(answer) = run.answer() {
+        let words = answer_words(alloc, answer)?;
+        add_words(&mut told, &words)?;
     }
+    Ok(told)
 }
 
-/// Where turns lead a run, and what it has counted then.
+/// Where turns lead a run, and what it answers then.
 fn after(
     alloc: Global,
     program: &Checked<'_>,
     ledger: &Ledger<'_>,
     turns: &[u64],
-) -> Result<(Turn, Option<Counted>), Refusal<RunCause>> {
+) -> Result<String, AllocError> {
     let mut run = match Run::start(alloc, program, ledger) {
         Ok(run) => run,
-        Err(refusal) => return Err(refusal),
+        Err(refusal) => return String::from_str(alloc, refusal.code()),
     };
     for k in turns {
         run.turn(*k);
     }
-    match run.answer() {
-        Some(answer) => Ok((run.standing(), Some(counted_in(answer)))),
-        None => Ok((run.standing(), None)),
-    }
+    standing_words(alloc, &run)
 }
 
 /// The same of the program that counts.
-fn count_after(
-    alloc: Global,
-    ledger: &Ledger<'_>,
-    turns: &[u64],
-) -> Option<(Turn, Option<Counted>)> {
+fn count_after(alloc: Global, ledger: &Ledger<'_>, turns: &[u64]) -> Result<String, AllocError> {
     match check_file(alloc, &COUNT) {
-        Ok(program) => after(alloc, &program, ledger, turns).ok(),
-        Err(_) => None,
+        Ok(program) => after(alloc, &program, ledger, turns),
+        Err(refusal) => String::from_str(alloc, refusal.code()),
     }
 }
 
 #[test]
 fn runs_with_ample_memory(rt: HostRuntime) -> Result<(), Fail> {
     let ledger = dollars(rt.alloc(), 3)?;
-    let three = Counted {
-        number: Some(3),
-        steps: 4,
-        groups: 1,
-    };
     let mut second = COUNT;
     second[5] = 2;
-    assert_eq!(rt; count_by(rt.alloc(), &COUNT, &ledger), Some(three));
-    assert_eq!(rt; count_by(rt.alloc(), &second, &ledger), Some(three));
-    assert_eq!(rt;
-        count_by(rt.alloc(), &count_of_few(3), &ledger),
-        Some(three)
-    );
-    assert!(rt; is_outside(rt.alloc(), &count_of_few(2), &ledger));
+    let (three, two) = (count_of_few(3), count_of_few(2));
+    let counted = "3, steps 4, groups 1";
+    for (file, wanted) in [
+        (&COUNT, counted),
+        (&second, counted),
+        (&three, counted),
+        (&two, "M1"),
+    ] {
+        let told = answered_by(rt.alloc(), file, &ledger)?;
+        assert_eq!(rt; told.as_str(), wanted);
+    }
     Ok(())
 }
 
 #[test]
 fn turns_stop_between_steps(rt: HostRuntime) -> Result<(), Fail> {
-    let ledger = dollars(rt.alloc(), 8)?;
-    let eight = Counted {
-        number: Some(8),
-        steps: 9,
-        groups: 1,
-    };
-    let going = Some((Turn::Going, None));
-    let done = Some((Turn::Done, Some(eight)));
-    assert!(rt; count_after(rt.alloc(), &ledger, &[]) == going);
-    assert!(rt; count_after(rt.alloc(), &ledger, &[0]) == going);
-    assert!(rt; count_after(rt.alloc(), &ledger, &[0, 4, 4]) == going);
-    assert!(rt; count_after(rt.alloc(), &ledger, &[0, 4, 4, 1]) == done);
-    assert!(rt; count_after(rt.alloc(), &ledger, &[0, 4, 4, 1, 5]) == done);
-    let empty = dollars(rt.alloc(), 0)?;
-    let nothing = Counted {
-        number: None,
-        steps: 0,
-        groups: 0,
-    };
-    assert!(rt; count_after(rt.alloc(), &empty, &[0]) == Some((Turn::Done, Some(nothing))));
+    let (ledger, empty) = (dollars(rt.alloc(), 8)?, dollars(rt.alloc(), 0)?);
+    let done = "done; 8, steps 9, groups 1";
+    let nothing = "done; no number, steps 0, groups 0";
+    let all = [0, 4, 4, 1, 5];
+    for (count, wanted) in [
+        (0, "going"),
+        (1, "going"),
+        (3, "going"),
+        (4, done),
+        (5, done),
+    ] {
+        let told = count_after(rt.alloc(), &ledger, &all[..count])?;
+        assert_eq!(rt; told.as_str(), wanted);
+    }
+    let told = count_after(rt.alloc(), &empty, &all[..1])?;
+    assert_eq!(rt; told.as_str(), nothing);
     Ok(())
 }
