@@ -52,14 +52,14 @@ pub record IsFinished {S : Type 0} (o : BookingsOf S) (l : Loaded) (st : Stand)
   pub pads_are : b.pads ≡ noted_pads st.steps
   pub faults_are : b.faults ≡ faults_of l st
 
--- the transactions that are kept have at most a million postings
+-- the transactions that are kept have no more postings than a ledger may have
 pub record IsBooked {S : Type 0} (o : BookingsOf S) (l : Loaded) (b : declared.Booked S) : Type 0 where
   pub stand : Stand
   pub leads : LeadsTo (method_in_ledger l) (reverse l.directives) stand
   pub few : length (postings_of stand.drafts) ≤ MOST_POSTINGS
   pub finished : IsFinished o l stand b
 
--- the transactions that are kept have more than a million postings
+-- the transactions that are kept have more postings than a ledger may have
 abbrev pub HasTooMany : Loaded → Type 0
 HasTooMany l =
     (st : Stand) → LeadsTo (method_in_ledger l) (reverse l.directives) st → IsFull st

@@ -17,7 +17,7 @@ use Rattle.bean_replay.specs.declared.booker.Booker.{Booker}
 use Rattle.bean_replay.specs.declared.booking.Draft.{Draft}
 use Rattle.bean_replay.specs.declared.bookings.Bookings.{Ghosts as BookingsOf}
 
--- so many directives and a million postings can't have made a sum too great
+-- so many directives, and as many postings as a ledger may have, can't have made a sum too great
 pub record HasRoom (n : ℕ) (b : Booker) : Type 0 where
   pub bounded : holdings.IsBounded b.holdings
   pub near : following.IsBounded b.padder
