@@ -32,6 +32,10 @@ impl<'a> TextSet<'a> {
     pub fn new(texts: Vec<Slice<'a>>) -> TextSet<'a>
         ensures { result ≡ set_of texts.entry.items }
     {
+        // Most sets are of no text or of one, which stand in order as they are.
+        if texts.len() < 2 {
+            return TextSet { texts };
+        }
         let mut texts = texts;
         texts.sort_unstable();
         texts.dedup();
