@@ -12,3 +12,4 @@ pub mod GapFacts
 pub mod LackingFacts
 pub mod DueFacts
 pub mod PrecisionFacts
+mod WeightFacts

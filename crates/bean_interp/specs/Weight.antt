@@ -41,6 +41,11 @@ currency_of units (Total total) = total.currency
 abbrev pub weight_of : Whole → ℤ
 weight_of w = count_of w.units w.worth
 
+-- these units, which are worth themselves
+pub record IsOfUnits (units : Amount) (w : Whole) : Type 0 where
+  pub units_are : w.units ≡ units
+  pub worth_is : w.worth ≡ Units
+
 -- the weight, or that it is too wide, exactly where it is
 abbrev pub Weighs : Whole → Result Weight TooWide → Type 0
 Weighs w (Ok weight) =

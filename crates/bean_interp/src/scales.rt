@@ -40,7 +40,10 @@ impl<'a> Scales<'a> {
     ghost use Rattle.bean_interp.specs.Filling.{currency_at, gaps_in};
     ghost use Rattle.bean_interp.specs.Residual.{AreInRange};
     ghost use Rattle.bean_interp.specs.Scales.{AreNoted, AreSet, AreWeighed, GivesFill, HasNoFill};
+    ghost use Rattle.bean_interp.specs.Weight.{IsOfUnits};
     ghost use Rattle.bean_interp.specs.declared.leg.Leg.{Leg};
+    ghost use Rattle.bean_interp.specs.declared.leg.Leg.TheVariants as leg;
+    ghost use Rattle.bean_interp.specs.declared.leg.Whole.{Whole};
 
     /// Scales with nothing on them. Takes no memory.
     pub fn new(alloc: Global) -> Scales<'a>
@@ -73,6 +76,20 @@ impl<'a> Scales<'a> {
             → ¬ AreInRange (legs ++ leg.now ∷ later) }
     {
         self.sums.add_leg(leg)
+    }
+
+    /// The same for a leg of units that are worth themselves.
+    pub fn add_units(&mut self, units: &Amount<'a>) -> Result<(), Refusal<WeighCause>>
+        ensures weighed { (w : Whole) → IsOfUnits units.now w
+            → OnOk result ((legs : prelude.List Leg) → AreWeighed self.old legs
+            → AreWeighed self.new (legs ++ leg.Whole w ∷ [])) }
+        ensures noted { (legs : prelude.List Leg) → AreNoted self.old legs
+            → AreNoted self.new legs }
+        ensures wide { result ≡ Err (Refusal.Refused WeighCause.TooWide)
+            → (w : Whole) → IsOfUnits units.now w → (legs later : prelude.List Leg)
+            → AreWeighed self.old legs → ¬ AreInRange (legs ++ leg.Whole w ∷ later) }
+    {
+        self.sums.add_units(units)
     }
 
     /// Notes the decimals that are written in one more leg.

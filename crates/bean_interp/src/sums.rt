@@ -8,11 +8,14 @@ ghost use Rattle.std.specs.Str.{bytes_eq};
 ghost use Rattle.bean_interp.specs.Residual.{AreInRange, Weighed, weighed};
 ghost use Rattle.bean_interp.specs.Sums.{Fits, IsNarrow, added, entry_of, is_zero, sum_with, table};
 ghost use Rattle.bean_interp.specs.Sums.{with_leg};
+ghost use Rattle.bean_interp.specs.Weight.{IsOfUnits};
+ghost use Rattle.bean_interp.specs.declared.leg.Leg.TheVariants as leg;
+ghost use Rattle.bean_interp.specs.declared.leg.Whole.{Whole};
 
 use crate::cause::WeighCause;
 use crate::leg::Leg;
 use crate::weight::{TooWide, Weight};
-use bean_base::Currency;
+use bean_base::{Amount, Currency};
 use indexmap::IndexMap;
 use refusals::Refusal;
 use std::alloc::Global;
@@ -153,6 +156,18 @@ impl<'a> Sums<'a> {
         ensures { self.new ≡ [] }
     {
         self.by_currency.clear();
+    }
+
+    /// Adds what units weigh that are worth themselves.
+    pub fn add_units(&mut self, units: &Amount<'a>) -> Result<(), Refusal<WeighCause>>
+        ensures added { (w : Whole) → IsOfUnits units.now w
+            → OnOk result (self.new ≡ with_leg self.old (leg.Whole w)) }
+        ensures fits { (w : Whole) → IsOfUnits units.now w
+            → OnOk result (Fits self.old (leg.Whole w)) }
+        ensures wide { result ≡ Err (Refusal.Refused WeighCause.TooWide)
+            → (w : Whole) → IsOfUnits units.now w → ¬ Fits self.old (leg.Whole w) }
+    {
+        self.add(Weight::of_units(units))
     }
 
     /// Adds what a leg weighs.

@@ -4,7 +4,7 @@ ghost use Rattle.std.specs.Int.RustNames.{unsigned_abs};
 ghost use Rattle.bean_base.specs.Decimal.{scaled};
 
 use crate::leg::{Whole, Worth};
-use bean_base::{Currency, Num};
+use bean_base::{Amount, Currency, Num};
 use thiserror::Error;
 
 /// `10^28` counts or more, signs left off.
@@ -39,6 +39,21 @@ fn product(a: i128, b: i128) -> Option<i128>
     match a.checked_mul(b) {
         Some(product) if product.unsigned_abs() < MOST => Some(product),
         _ => None,
+    }
+}
+
+impl<'a> Weight<'a> {
+    ghost use Rattle.bean_interp.specs.Weight.{at_16};
+
+    /// What units weigh that are worth themselves.
+    pub(crate) fn of_units(units: &Amount<'a>) -> Weight<'a>
+        ensures count { result.count ≡ at_16 units.now.number }
+        ensures currency { result.currency ≡ units.now.currency }
+    {
+        Weight {
+            count: at_16(units.number),
+            currency: units.currency.lend(),
+        }
     }
 }
 
