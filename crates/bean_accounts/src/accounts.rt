@@ -93,20 +93,13 @@ impl<'a> Accounts<'a> {
         self.insert(account, life)
     }
 
-    /// An account is closed, if it is open.
-    pub fn close(&mut self, account: &Account<'a>) -> Result<(), AllocError>
+    /// An account is closed, if it is open. It keeps its place.
+    pub fn close(&mut self, account: &Account<'a>)
         ensures { (past : prelude.List Step) → IsKept past self.old
-            → OnOk result (IsKept (step.Close account.now ∷ past) self.new) }
+            → IsKept (step.Close account.now ∷ past) self.new }
     {
-        match self.lives.swap_remove(account) {
-            Some(life) => self.insert(
-                account,
-                Life {
-                    currencies: life.currencies,
-                    is_closed: true,
-                },
-            ),
-            None => Ok(()),
+        if let Some(life) = self.lives.get_mut(account) {
+            life.is_closed = true;
         }
     }
 
@@ -127,22 +120,26 @@ impl<'a> Accounts<'a> {
         }
     }
 
-    /// Adds the faults of a posting: F6, F7, F8.
+    /// Adds the faults of a posting: F6, F7, F8. It gives the place of the account in the order in
+    /// which they were opened, where it was: most often what else is kept of accounts in that order
+    /// has it at the same place.
     pub fn note_posting(
         &self,
         account: &Account<'_>,
         currency: &Currency<'_>,
         at: Place,
         faults: &mut Vec<Fault>,
-    ) -> Result<(), AllocError>
+    ) -> Result<usize, AllocError>
         ensures { (past : prelude.List Step) → IsKept past self.now
             → OnOk result (faults.new.items ≡ faults.old.items
             ++ faults_at at (spec.of_posting account.now currency.now past)) }
     {
-        match self.lives.get(account) {
-            Some(life) => note_life(life, currency, at, faults),
-            None => note_if(true, FaultKind::AccountNotOpen, at, faults),
-        }
+        let Some((place, _, life)) = self.lives.get_full(account) else {
+            note_if(true, FaultKind::AccountNotOpen, at, faults)?;
+            return Ok(0);
+        };
+        note_life(life, currency, at, faults)?;
+        Ok(place)
     }
 
     /// Adds the fault of what wants an account to be opened: F6.

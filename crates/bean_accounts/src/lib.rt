@@ -6,7 +6,7 @@
 //! let mut accounts = Accounts::new(alloc);
 //! accounts.open(alloc, &cash, &[usd])?;
 //! accounts.note_posting(&cash, &eur, at, &mut faults)?;     // F8
-//! accounts.close(&cash)?;
+//! accounts.close(&cash);
 //! accounts.note_posting(&cash, &usd, at, &mut faults)?;     // F7
 //! ```
 //!
@@ -27,6 +27,8 @@
 //!
 //! A look-up by the account's name for each call; a posting also looks through the currencies that
 //! the account's open lists. Memory is taken for each account, and for each currency of its open.
+//! Accounts keep the places in which they were opened: what else is kept of them in that order is
+//! found by these without a look-up of its own.
 #![tactic(auto)]
 
 mod accounts;

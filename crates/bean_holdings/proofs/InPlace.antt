@@ -1,13 +1,16 @@
 -- A map by names after a write at the index of a name.
 use Rattle.std.proofs.Common.{◌≡◌, ℕ, Bool, true, false, cond, List, [], ◌∷◌, Option, Some, None}
-use Rattle.std.proofs.Common.{unwrap_or, position, refl, sym, ap, ◌∙◌, true≢false}
+use Rattle.std.proofs.Common.{IfNone, IfSome, slice_get, unwrap_or, position, refl, sym, ap, ◌∙◌}
+use Rattle.std.proofs.Common.{true≢false}
+use Rattle.std.specs.List.{IsDistinct}
 use Rattle.std.specs.Map.{keys_of, lookup}
 use Rattle.std.specs.Option.{is_some}
 use Rattle.std.specs.Str.{bytes_eq}
 use Rattle.std.proofs.lemmas.Cmp.{nat_list_eq_equiv}
 use Rattle.std.proofs.lemmas.Slice.Eq.{bytes_eq-Decides}
 use Rattle.indexmap.specs.IndexMap.{insert_entry, set_value_at}
-use Rattle.indexmap.proofs.MapLemmas.{Found-position, insert_entry-first}
+use Rattle.indexmap.proofs.MapLemmas.{Found-position, index-first, insert_entry-first}
+use Rattle.indexmap.proofs.RemoveLemmas.{own_first}
 
 module _ {V : Type 0} where
   -- what stands under a name, once a value is put under another or the same
@@ -61,3 +64,31 @@ module _ {V : Type 0} where
       → unwrap_or (cond b (Some new) before) none ≡ cond b new (unwrap_or before none)
   put_or_before true new none before = refl
   put_or_before false new none before = refl
+
+  -- a name stands where an entry of it is, as no two have one name
+  pub placed : (es : List (List ℕ × V)) (name k : List ℕ) (i : ℕ) (v : V)
+      → IsDistinct bytes_eq (keys_of es) → slice_get es i ≡ Some (k, v) → bytes_eq name k ≡ true
+      → position (bytes_eq name) (keys_of es) ≡ Some i
+  placed es name k i v apart at h =
+      ap (λ n. position (bytes_eq n) (keys_of es)) ((bytes_eq-Decides name k).0 h)
+      ∙ index-first (bytes_eq k) es i (own_first bytes_eq nat_list_eq_equiv es i k v apart at)
+
+  -- nothing stands under a name that has no place
+  pub nothing_there : (o : Option ℕ) (found : Option V) (none : V) → is_some o ≡ is_some found
+      → IfNone o (unwrap_or found none ≡ none)
+  nothing_there None None none h = refl
+  nothing_there None (Some v) none h = absurd (true≢false (sym h))
+  nothing_there (Some i) found none h = tt
+
+  -- where nothing is put under a name that had nothing, all stays as it was
+  pub as_before : (f : List ℕ → V) (name a : List ℕ) (none now : V) → f name ≡ none
+      → now ≡ cond (bytes_eq name a) none (f a) → now ≡ f a
+  as_before f name a none now absent is = is ∙ by (bytes_eq name a) refl
+    where
+      by : (b : Bool) → bytes_eq name a ≡ b → cond b none (f a) ≡ f a
+      by true same = sym absent ∙ ap f ((bytes_eq-Decides name a).0 same)
+      by false other = refl
+
+pub such : (o p : Option ℕ) → o ≡ p → IfSome o (λ i. p ≡ Some i)
+such None p e = tt
+such (Some i) p e = sym e

@@ -1,5 +1,5 @@
 //! What each account holds.
-ghost use Rattle.std.specs.Prelude.{◌≡◌, ◌<◌, ◌≤◌, ◌+◌, ◌^◌, [], ◌∷◌, ◌++◌, OnOk, List, ℕ, length};
+ghost use Rattle.std.specs.Prelude.{◌≡◌, ◌<◌, ◌+◌, ◌^◌, [], ◌∷◌, ◌++◌, OnOk, List, ℕ};
 ghost use Rattle.std.specs.Prelude.{if◌then◌else◌};
 ghost use Rattle.std.specs.Str.{bytes_eq};
 ghost use Rattle.bean_lots.specs.Inventory.{added};
@@ -48,8 +48,25 @@ impl<'a> Holdings<'a> {
         self.inventories.of(account, nothing)
     }
 
-    /// Adds a posting to what its account holds.
-    pub fn post(&mut self, alloc: Global, posted: &Posted<'a>) -> Result<(), AllocError>
+    /// Gives an account the next place, unless it has one. What accounts hold stays as it was.
+    pub fn open(&mut self, alloc: Global, account: &Account<'a>) -> Result<(), AllocError>
+        ensures held { OnOk result ((ps : List spec.Posted) → AreHeld ps self.old
+            → AreHeld ps self.new) }
+        ensures holding { OnOk result ((a : List ℕ) → holding self.new a ≡ holding self.old a) }
+        ensures bounded { IsBounded self.old → OnOk result (IsBounded self.new) }
+        ensures additions { OnOk result (additions_in self.new ≡ additions_in self.old) }
+    {
+        self.inventories.open(alloc, account)
+    }
+
+    /// Adds a posting to what its account holds. Where the account is the one at `near` it is found
+    /// without a look-up; where it isn't, it is looked up.
+    pub fn post(
+        &mut self,
+        alloc: Global,
+        posted: &Posted<'a>,
+        near: usize,
+    ) -> Result<(), AllocError>
         requires bounded { IsBounded self.old }
         requires few { additions_in self.old < 2 ^ 40 }
         ensures held { OnOk result ((ps : List spec.Posted) → AreHeld ps self.old
@@ -61,24 +78,8 @@ impl<'a> Holdings<'a> {
         ensures bounded { OnOk result (IsBounded self.new) }
         ensures additions { OnOk result (additions_in self.new ≡ additions_in self.old + 1) }
     {
-        self.inventories.post(alloc, posted)?;
+        self.inventories.post(alloc, posted, near)?;
         self.additions += 1;
-        Ok(())
-    }
-
-    /// Adds postings, one after the other.
-    pub fn post_all(&mut self, alloc: Global, posted: &[Posted<'a>]) -> Result<(), AllocError>
-        requires bounded { IsBounded self.old }
-        requires few { additions_in self.old + length posted.now ≤ 2 ^ 40 }
-        ensures held { OnOk result ((ps : List spec.Posted) → AreHeld ps self.old
-            → AreHeld (ps ++ posted.now) self.new) }
-        ensures bounded { OnOk result (IsBounded self.new) }
-        ensures additions { OnOk result
-            (additions_in self.new ≡ additions_in self.old + length posted.now) }
-    {
-        for one in posted {
-            self.post(alloc, one)?;
-        }
         Ok(())
     }
 }

@@ -1,7 +1,9 @@
 //! An inventory for each account.
 ghost use Rattle.std.specs.Prelude.{◌≡◌, ◌+ℤ◌, [], OnOk, List, ℕ, if◌then◌else◌};
+ghost use Rattle.std.specs.Prelude.{IfNone, IfSome, IsTrue, Some, position};
 ghost use Rattle.std.specs.Int.{w128};
 ghost use Rattle.std.specs.Int.RustNames.{FitsSigned};
+ghost use Rattle.std.specs.Map.{keys_of};
 ghost use Rattle.std.specs.Str.{bytes_eq};
 ghost use Rattle.bean_lots.specs.Inventory.{added, count_of};
 ghost use Rattle.bean_holdings.specs.Held.{at_8, key_of};
@@ -37,6 +39,30 @@ impl<'a> Inventories<'a> {
         self.by_account.get(account).unwrap_or(nothing)
     }
 
+    /// Whether an account is the one at a place.
+    fn is_at(&self, place: usize, account: &Account<'a>) -> bool
+        ensures { IsTrue result
+            → position (bytes_eq account.now) (keys_of self.now.by_account.entries) ≡ Some place }
+    {
+        let _accounts = self.by_account.len();
+        match self.by_account.get_index(place) {
+            Some((found, _)) => *account == *found,
+            None => false,
+        }
+    }
+
+    /// The place of an account, if it has one. It isn't hashed where it is the one at `near`.
+    fn place_near(&self, account: &Account<'a>, near: usize) -> Option<usize>
+        ensures some { IfSome result
+            (λ i. position (bytes_eq account.now) (keys_of self.now.by_account.entries) ≡ Some i) }
+        ensures none { IfNone result (inventory_in self.now account.now ≡ []) }
+    {
+        if self.is_at(near, account) {
+            return Some(near);
+        }
+        self.by_account.get_index_of(account)
+    }
+
     /// Puts an inventory in place of that of an account.
     fn put(&mut self, account: Account<'a>, inventory: Inventory<'a>) -> Result<(), AllocError>
         ensures { OnOk result ((a : List ℕ) → inventory_in self.new a
@@ -48,6 +74,17 @@ impl<'a> Inventories<'a> {
         }
     }
 
+    /// Gives an account the next place, with nothing in it, unless it has one.
+    pub fn open(&mut self, alloc: Global, account: &Account<'a>) -> Result<(), AllocError>
+        ensures { OnOk result
+            ((a : List ℕ) → inventory_in self.new a ≡ inventory_in self.old a) }
+    {
+        match self.place_near(account, self.by_account.len()) {
+            Some(_) => Ok(()),
+            None => self.put(account.lend(), Inventory::new(alloc)),
+        }
+    }
+
     /// Adds to the inventory of an account. The sum fits.
     fn add(
         &mut self,
@@ -55,13 +92,14 @@ impl<'a> Inventories<'a> {
         account: Account<'a>,
         key: Key<'a>,
         count: i128,
+        near: usize,
     ) -> Result<(), AllocError>
         requires { FitsSigned w128 (count_of (inventory_in self.old account) key +ℤ count) }
         ensures { OnOk result ((a : List ℕ) → inventory_in self.new a
             ≡ (if bytes_eq account.entry a then added (inventory_in self.old a) key.entry count
             else inventory_in self.old a)) }
     {
-        let Some(index) = self.by_account.get_index_of(&account) else {
+        let Some(index) = self.place_near(&account, near) else {
             let mut inventory = Inventory::new(alloc);
             inventory.add(key, count)?;
             return self.put(account, inventory);
@@ -69,8 +107,14 @@ impl<'a> Inventories<'a> {
         self.by_account[index].add(key, count)
     }
 
-    /// Adds a posting to the inventory of its account. The caller knows that the sum fits.
-    pub fn post(&mut self, alloc: Global, posted: &Posted<'a>) -> Result<(), AllocError>
+    /// Adds a posting to the inventory of its account, which is found sooner where it is the one at
+    /// `near`. The caller knows that the sum fits.
+    pub fn post(
+        &mut self,
+        alloc: Global,
+        posted: &Posted<'a>,
+        near: usize,
+    ) -> Result<(), AllocError>
         requires { FitsSigned w128 (count_of (inventory_in self.old posted.now.account)
             (key_of posted.now) +ℤ at_8 posted.now.units.number) }
         ensures { OnOk result ((a : List ℕ) → inventory_in self.new a
@@ -79,6 +123,6 @@ impl<'a> Inventories<'a> {
             else inventory_in self.old a)) }
     {
         let count = posted.units.number.scaled(8);
-        self.add(alloc, posted.account.lend(), posted.key(), count)
+        self.add(alloc, posted.account.lend(), posted.key(), count, near)
     }
 }

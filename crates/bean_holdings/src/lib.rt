@@ -2,7 +2,10 @@
 //!
 //! ```text
 //! let mut holdings = Holdings::new(alloc);
-//! holdings.post_all(alloc, bought)?;              // 10 X at 100 USD and 5 at 110 USD in Assets:Shares
+//! holdings.open(alloc, &shares)?;                 // Assets:Shares, the first account
+//! for posted in bought {                          // 10 X at 100 USD and 5 at 110 USD
+//!     holdings.post(alloc, posted, 0)?;
+//! }
 //! let held = holdings.of(&shares, &nothing);      // these two lots
 //! ```
 //!
@@ -14,7 +17,8 @@
 //!
 //! # Cost
 //!
-//! [`Inventories`] are looked up by account and change where they stand. [`Holdings`] count their
+//! [`Inventories`] are looked up by account, but for an account that is where the caller thinks, and
+//! change where they stand. [`Holdings`] count their
 //! additions: each sum is at most `10^20` times that count, which is below `2^40`. Takes have no
 //! such count, since what they come to is a part of what is held. No contract shows how either is
 //! kept. A take is counted in constant time among the lots that are left, and the first and the

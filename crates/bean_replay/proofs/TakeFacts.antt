@@ -1,6 +1,8 @@
 -- One more directive.
 use Rattle.std.proofs.Common.{◌≡◌, ℕ, suc, ◌+◌, List, [], ◌∷◌, ◌++◌, length}
 use Rattle.std.proofs.Common.{Option, refl, sym, ap, ◌∙◌, subst, arith}
+use Rattle.std.specs.declared.vec.Vec.{Vec}
+use Rattle.std.specs.declared.alloc.Global.{Global}
 use Rattle.bean_accounts.specs.Kept.{IsKept}
 use Rattle.bean_directives.specs.declared.accounts.Close as closes
 use Rattle.bean_directives.specs.declared.accounts.Open as opens
@@ -10,6 +12,7 @@ use Rattle.bean_directives.specs.declared.directive.DirectiveKind.{DirectiveKind
 use Rattle.bean_directives.specs.declared.directive.DirectiveKind.TheVariants as kind
 use Rattle.bean_directives.specs.declared.numbers.Balance as balances
 use Rattle.bean_directives.specs.declared.transaction.Transaction.{Transaction}
+use Rattle.bean_holdings.specs.declared.posted.Posted.{Posted}
 use Rattle.bean_interp.specs.declared.scales.Scales.{Scales}
 use Rattle.bean_load.specs.declared.placed.Placed.{Placed}
 use Rattle.bean_reductions.specs.declared.reduction.Method.{Method}
@@ -36,10 +39,11 @@ one_more n b room = record {
   steps = let few = room.steps in omega (arith, few);
 }
 
--- scales are used again, and say nothing of what is booked
+-- scales are used again, and memory is: neither says anything of what is booked
 pub reweighed : (m : List ℕ → Method) (past : List (Placed Directive)) (st : Stand) (b : Booker)
-    (s : Scales) → IsStanding m past st b → IsStanding m past st (record b { scales = s })
-reweighed m past st b s is = record {
+    (s : Scales) (v : Vec Posted Global) → IsStanding m past st b
+    → IsStanding m past st (record b { scales = s; spare = v })
+reweighed m past st b s v is = record {
   methods = is.methods;
   accounts = is.accounts;
   held = is.held;

@@ -12,17 +12,17 @@ ghost use Rattle.bean_interp.specs.Residual.{IsLight};
 ghost use Rattle.bean_reductions.specs.declared.reduction.Method.{Method};
 ghost use Rattle.bean_transactions.specs.Methods.{method_in};
 ghost use Rattle.bean_transactions.specs.Tried.{KnowsBalance, Tries, booked_legs};
-ghost use Rattle.bean_holdings.specs.declared.posted.Posted.{Posted};
+ghost use Rattle.bean_holdings.specs.declared.posted.Posted as declared;
 ghost use Rattle.bean_transactions.specs.declared.stop.LineFault as trials;
 
 use crate::accounts::{take_balance, take_close, take_open, take_pad};
 use crate::booking::{Draft, Kept, Written};
 use crate::cause::BookCause;
-use crate::postings::{note_balance, note_postings};
+use crate::postings::{book_postings, note_balance};
 use crate::steps::show_watched;
 use bean_accounts::Accounts;
 use bean_base::{Fault, Place};
-use bean_holdings::Holdings;
+use bean_holdings::{Holdings, Posted};
 use bean_interp::Scales;
 use bean_load::Placed;
 use bean_pad::Padder;
@@ -31,6 +31,7 @@ use bean_transactions::{Head, LineFault, Methods, Tried, try_transaction};
 use limits::MOST_POSTINGS;
 use refusals::Refusal;
 use std::alloc::Global;
+use std::mem::replace;
 
 /// The place of a directive.
 fn place_of(placed: &Placed<Directive<'_>>) -> Place
@@ -50,6 +51,8 @@ pub(crate) struct Booker<'a> {
     accounts: Accounts<'a>,
     holdings: Holdings<'a>,
     scales: Scales<'a>,
+    /// A list that is used no more, for what the next transaction is booked as.
+    spare: Vec<Posted<'a>>,
     pub padder: Padder<'a>,
     /// Whether any directive is a pad or a balance. Where none is the padder is shown nothing, so
     /// that such a ledger sums nothing up.
@@ -71,6 +74,7 @@ impl<'a> Booker<'a> {
             accounts: Accounts::new(alloc),
             holdings: Holdings::new(alloc),
             scales: Scales::new(alloc),
+            spare: Vec::new(alloc),
             padder: Padder::new(alloc),
             watched,
             faults: Vec::new(alloc),
@@ -100,8 +104,15 @@ impl<'a> Booker<'a> {
         let at = written.place;
         let postings = written.transaction.postings.as_slice();
         note_balance(&mut self.scales, &mut self.faults, at, postings, &tried)?;
-        note_postings(&self.accounts, &mut self.faults, at, postings, booked)?;
-        self.holdings.post_all(self.alloc, booked)?;
+        book_postings(
+            self.alloc,
+            &self.accounts,
+            &mut self.holdings,
+            &mut self.faults,
+            at,
+            postings,
+            booked,
+        )?;
         show_watched(self.watched, &mut self.padder, booked)?;
         Ok(Some(Draft::Transaction(Kept {
             written,
@@ -135,13 +146,13 @@ impl<'a> Booker<'a> {
     fn transaction(&mut self, written: Written<'a>) -> Result<Option<Draft<'a>>, Refusal<BookCause>>
         requires { Stands self.old }
         ensures standing { Wherever self.old (λ m past st. IfOk result (λ booked.
-            (r : prelude.Result (prelude.List Posted) trials.LineFault)
+            (r : prelude.Result (prelude.List declared.Posted) trials.LineFault)
             × Tries (setting_of m st written.entry) written.entry.transaction.postings r
             × IsBehind m past st (after_trial past st written.entry r) booked self.new)) }
         ensures watched { OnOk result (self.new.watched ≡ self.old.watched) }
         ensures full { result ≡ prelude.Err (Refusal.Refused BookCause.TooManyPostings)
             → Wherever self.old (λ m past st.
-            (r : prelude.Result (prelude.List Posted) trials.LineFault)
+            (r : prelude.Result (prelude.List declared.Posted) trials.LineFault)
             → Tries (setting_of m st written.entry) written.entry.transaction.postings r
             → IsFull (after_trial past st written.entry r)) }
     {
@@ -149,11 +160,13 @@ impl<'a> Booker<'a> {
             day: written.day,
             line: written.place.line,
         };
+        let spare = replace(&mut self.spare, Vec::new(self.alloc));
         match try_transaction(
             self.alloc,
             &self.holdings,
             &self.methods,
             &mut self.scales,
+            spare,
             head,
             written.transaction.postings.as_slice(),
         ) {
@@ -196,6 +209,7 @@ impl<'a> Booker<'a> {
                 take_open(
                     self.alloc,
                     &mut self.accounts,
+                    &mut self.holdings,
                     &mut self.faults,
                     place,
                     &open,
@@ -230,6 +244,17 @@ impl<'a> Booker<'a> {
                 Ok(None)
             }
             _ => Ok(None),
+        }
+    }
+
+    /// Takes back what was booked of a directive, once it is handed over: the next transaction is
+    /// booked in its memory.
+    pub(crate) fn reuse(&mut self, booked: Option<Draft<'a>>)
+        ensures standing { Wherever self.old (λ m past st. IsStanding m past st self.new) }
+        ensures watched { self.new.watched ≡ self.old.watched }
+    {
+        if let Some(Draft::Transaction(kept)) = booked {
+            self.spare = kept.postings.into_vec();
         }
     }
 

@@ -73,6 +73,7 @@ pub(crate) fn take_into<'a, S: Bookings<'a>>(
     match booker.take(placed) {
         Ok(booked) => {
             hand_over(&booked, to)?;
+            booker.reuse(booked);
             Ok(())
         }
         Err(fault) => Err(fault),

@@ -1,5 +1,6 @@
 //! The booked postings of a transaction.
-ghost use Rattle.std.specs.Prelude.{◌≡◌, ◌≤◌, ◌^◌, ◌++◌, IfOk, OnOk, length, not, slice_get};
+ghost use Rattle.std.specs.Prelude.{◌≡◌, ◌<◌, ◌≤◌, ◌+◌, ◌^◌, ◌∷◌, ◌++◌, [], IfOk, OnOk, length};
+ghost use Rattle.std.specs.Prelude.{not, slice_get};
 ghost use Rattle.std.specs.Prelude as prelude;
 ghost use Rattle.std.specs.List.{AllByRecursion, flat_map};
 ghost use Rattle.bean_accounts.specs.Faults.{faults_at, kind_if};
@@ -7,16 +8,18 @@ ghost use Rattle.bean_accounts.specs.Kept.{IsKept};
 ghost use Rattle.bean_accounts.specs.declared.step.Step as lives;
 ghost use Rattle.bean_replay.specs.Stand as spec;
 ghost use Rattle.bean_interp.specs.Balance.{is_balanced};
+ghost use Rattle.bean_holdings.specs.Holdings.{AreHeld, IsBounded, additions_in};
+ghost use Rattle.bean_holdings.specs.declared.posted.Posted as declared;
 ghost use Rattle.bean_interp.specs.Residual.{IsLight};
 ghost use Rattle.bean_transactions.specs.Tried.{KnowsBalance, booked_legs};
 
 use bean_accounts::Accounts;
 use bean_base::{Fault, FaultKind, Place};
-use bean_holdings::Posted;
+use bean_holdings::{Holdings, Posted};
 use bean_interp::Scales;
 use bean_postings::Posting;
 use bean_transactions::{Tried, balances};
-use std::alloc::AllocError;
+use std::alloc::{AllocError, Global};
 
 /// The place of a posting of a transaction at a place.
 fn place_in(at: Place, postings: &[Posting<'_>], written: usize) -> Place
@@ -31,36 +34,56 @@ fn place_in(at: Place, postings: &[Posting<'_>], written: usize) -> Place
     }
 }
 
-/// Adds the faults of a booked posting.
-fn note_posting<'a>(
+/// Adds the faults of a booked posting, and the posting to what its account holds. The accounts
+/// that were opened have the same places in both.
+fn book_posting<'a>(
+    alloc: Global,
     accounts: &Accounts<'a>,
+    holdings: &mut Holdings<'a>,
     faults: &mut Vec<Fault>,
     at: Place,
     postings: &[Posting<'a>],
     posted: &Posted<'a>,
 ) -> Result<(), AllocError>
-    ensures { (past : prelude.List lives.Step) → IsKept past accounts.now
+    requires bounded { IsBounded holdings.old }
+    requires few { additions_in holdings.old < 2 ^ 40 }
+    ensures faults { (past : prelude.List lives.Step) → IsKept past accounts.now
         → OnOk result (faults.new.items ≡ faults.old.items
         ++ spec.posted_faults past at postings.now posted.now) }
+    ensures held { OnOk result ((ps : prelude.List declared.Posted) → AreHeld ps holdings.old
+        → AreHeld (ps ++ posted.now ∷ []) holdings.new) }
+    ensures bounded { OnOk result (IsBounded holdings.new) }
+    ensures additions { OnOk result (additions_in holdings.new ≡ additions_in holdings.old + 1) }
 {
     let at = place_in(at, postings, posted.written);
-    accounts.note_posting(&posted.account, &posted.units.currency, at, faults)
+    let near = accounts.note_posting(&posted.account, &posted.units.currency, at, faults)?;
+    holdings.post(alloc, posted, near)
 }
 
-/// Adds the faults of all booked postings of a transaction.
-pub(crate) fn note_postings<'a>(
+/// Adds the faults of all booked postings of a transaction, and the postings to what their accounts
+/// hold.
+pub(crate) fn book_postings<'a>(
+    alloc: Global,
     accounts: &Accounts<'a>,
+    holdings: &mut Holdings<'a>,
     faults: &mut Vec<Fault>,
     at: Place,
     postings: &[Posting<'a>],
     posted: &[Posted<'a>],
 ) -> Result<(), AllocError>
-    ensures { (past : prelude.List lives.Step) → IsKept past accounts.now
+    requires bounded { IsBounded holdings.old }
+    requires few { additions_in holdings.old + length posted.now ≤ 2 ^ 40 }
+    ensures faults { (past : prelude.List lives.Step) → IsKept past accounts.now
         → OnOk result (faults.new.items ≡ faults.old.items
         ++ flat_map (spec.posted_faults past at postings.now) posted.now) }
+    ensures held { OnOk result ((ps : prelude.List declared.Posted) → AreHeld ps holdings.old
+        → AreHeld (ps ++ posted.now) holdings.new) }
+    ensures bounded { OnOk result (IsBounded holdings.new) }
+    ensures additions { OnOk result
+        (additions_in holdings.new ≡ additions_in holdings.old + length posted.now) }
 {
     for one in posted {
-        note_posting(accounts, faults, at, postings, one)?;
+        book_posting(alloc, accounts, holdings, faults, at, postings, one)?;
     }
     Ok(())
 }

@@ -5,10 +5,11 @@ ghost use Rattle.bean_transactions.specs.Filled.{AreFrom, IsCutBehind};
 ghost use Rattle.bean_transactions.specs.Tried as spec;
 
 use crate::line::Line;
+use crate::spare::emptied;
 use bean_base::Account;
 use bean_holdings::Posted;
 use bean_interp::Fill;
-use std::alloc::{AllocError, Global};
+use std::alloc::AllocError;
 
 /// Adds the posting of what is filled in, where it is filled in at that line.
 fn push_fill<'a>(
@@ -95,17 +96,17 @@ fn cut_behind<'f, 'a>(fills: &'f [Fill<'a>], line: usize) -> (&'f [Fill<'a>], &'
     fills.split_at(reach(fills, line))
 }
 
-/// The postings that lines are booked as. What is filled in stands in the order of its lines, so
-/// each line looks at its own alone.
+/// The postings that lines are booked as, in the memory of a list that is used no more. What is
+/// filled in stands in the order of its lines, so each line looks at its own alone.
 pub(crate) fn completed<'a>(
-    alloc: Global,
+    spare: Vec<Posted<'a>>,
     fills: &[Fill<'a>],
     lines: Vec<Line<'a>>,
 ) -> Result<Vec<Posted<'a>>, AllocError>
     requires { AreFrom 0 fills.now }
     ensures { IfOk result (λ posted. posted.items ≡ spec.completed fills.now lines.entry.items) }
 {
-    let mut posted = Vec::with_capacity(alloc, lines.len())?;
+    let mut posted = emptied(spare, lines.len())?;
     let mut number = 0;
     let (_, mut left) = fills.split_at(0);
     for line in lines {

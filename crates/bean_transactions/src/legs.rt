@@ -1,9 +1,11 @@
 //! Transactions as their completion sees them.
-ghost use Rattle.std.specs.Prelude.{◌≡◌, [], slice_get, Err, IfOk, OnOk};
+ghost use Rattle.std.specs.Prelude.{◌≡◌, ◌∷◌, ◌++◌, [], slice_get, Err, IfOk, IsTrue, OnOk};
 ghost use Rattle.std.specs.Prelude as prelude;
 ghost use Rattle.bean_interp.specs.Balance.{Judges};
 ghost use Rattle.bean_interp.specs.Residual.{AreInRange};
 ghost use Rattle.bean_interp.specs.Scales.{AreNoted, AreSet, AreWeighed};
+ghost use Rattle.bean_interp.specs.Weight.{IsOfUnits};
+ghost use Rattle.bean_interp.specs.declared.leg.Leg.{Leg};
 ghost use Rattle.bean_postings.specs.declared.price.Price as prices;
 ghost use Rattle.bean_transactions.specs.Tried as spec;
 ghost use Rattle.bean_transactions.specs.Tried.{whole_at};
@@ -107,6 +109,42 @@ pub(crate) fn legs_of<'a>(
     Ok(legs)
 }
 
+/// Whether a booked posting weighs what its units are: it has no lot, and nothing is written beside
+/// its units.
+fn is_of_units<'a>(postings: &[Posting<'a>], posted: &Posted<'a>) -> bool
+    ensures { IsTrue result → IsOfUnits posted.now.units
+        (whole_at (slice_get postings.now posted.now.written) posted.now) }
+{
+    if posted.lot.is_some() {
+        return false;
+    }
+    match postings.get(posted.written) {
+        Some(written) => written.details.get().is_none(),
+        None => true,
+    }
+}
+
+/// Lays a booked posting on the scales.
+fn lay_one<'a>(
+    scales: &mut Scales<'a>,
+    postings: &[Posting<'a>],
+    posted: &Posted<'a>,
+) -> Result<(), Refusal<WeighCause>>
+    ensures weighed { OnOk result ((legs : prelude.List Leg) → AreWeighed scales.old legs
+        → AreWeighed scales.new (legs ++ spec.booked_leg postings.now posted.now ∷ [])) }
+    ensures noted { (legs : prelude.List Leg) → AreNoted scales.old legs
+        → AreNoted scales.new legs }
+    ensures wide { result ≡ Err (Refusal.Refused WeighCause.TooWide)
+        → (legs later : prelude.List Leg) → AreWeighed scales.old legs
+        → ¬ AreInRange (legs ++ spec.booked_leg postings.now posted.now ∷ later) }
+{
+    // Most postings are of this kind, and no leg is made of them.
+    if is_of_units(postings, posted) {
+        return scales.add_units(&posted.units);
+    }
+    scales.add(&Leg::Whole(whole(postings, posted)))
+}
+
 /// Lays the booked postings of a transaction on the scales, in place of what lay there.
 fn lay<'a>(
     scales: &mut Scales<'a>,
@@ -121,7 +159,7 @@ fn lay<'a>(
 {
     scales.clear();
     for one in posted {
-        match scales.add(&Leg::Whole(whole(postings, one))) {
+        match lay_one(scales, postings, one) {
             Ok(()) => {}
             Err(fault) => return Err(fault),
         }

@@ -9,9 +9,9 @@
 //! let mut holdings = Holdings::new(alloc);        // Assets:Shares has lots of 10 at 100 USD and
 //! let mut scales = Scales::new(alloc);            // of 5 at 110 USD
 //! let head = Head { day: parse_day("2014-02-01")?, line: 7 };
-//! match try_transaction(alloc, &holdings, &methods, &mut scales, head, postings) {
+//! match try_transaction(alloc, &holdings, &methods, &mut scales, spare, head, postings) {
 //!     // -10 X at 100 USD, -2 X at 110 USD, 1300.00 USD, and -80.00 USD for Income:Gain
-//!     Ok(tried) => holdings.post_all(alloc, tried.posted.as_slice())?,
+//!     Ok(tried) => book(tried.posted),
 //!     Err(Refusal::Refused(fault)) => report(fault),
 //!     Err(Refusal::OutOfMemory) => return Err(AllocError),
 //! }
@@ -55,7 +55,8 @@
 //! For each posting in braces, and for no other, a look-up in its account and what a reduction
 //! costs in [`bean_reductions`]; that it is one is told by how many lots of each sign are left,
 //! which are counted take by take. The first and the last lots of an account that are taken whole
-//! are passed once for all sales of the transaction. What is filled in is looked at once.
+//! are passed once for all sales of the transaction. What is filled in is looked at once. What the
+//! transaction is booked as stands in the memory of a list that is given, as that of an earlier one.
 #![tactic(auto)]
 
 mod completed;
@@ -67,6 +68,7 @@ mod methods;
 mod outcome;
 mod plain;
 mod setting;
+mod spare;
 mod stock;
 mod stop;
 mod trial;

@@ -90,7 +90,7 @@ impl<'s, 'a> Lines<'s, 'a> {
         let count = take.units.number.scaled(8);
         self.left.note(&take.account, held, taken, &key, count)?;
         let rest = self.rests.before_take(&take.account, held, taken, &key);
-        self.taken.post(alloc, take)?;
+        self.taken.post(alloc, take, 0)?;
         match rest {
             Some(rest) => {
                 let taken = self.taken.of(&take.account, self.nothing);

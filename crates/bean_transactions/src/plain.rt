@@ -9,13 +9,14 @@ ghost use Rattle.bean_transactions.specs.Tried.{KnowsBalance, TriesOrLacks, is_o
 use crate::legs::judge;
 use crate::line::Tried;
 use crate::setting::Head;
+use crate::spare::emptied;
 use crate::stop::{LineFault, refusal_of};
 use bean_base::List;
 use bean_holdings::Posted;
 use bean_interp::{Scales, completion_refusal};
 use bean_postings::{Cost, Posting, Units};
 use refusals::Refusal;
-use std::alloc::{AllocError, Global};
+use std::alloc::AllocError;
 
 /// Whether a posting has no cost.
 fn has_no_cost(posting: &Posting<'_>) -> bool
@@ -57,12 +58,15 @@ fn posted_as_written<'a>(index: usize, posting: &Posting<'a>) -> Posted<'a>
     }
 }
 
-/// The postings as they are booked.
-fn as_written<'a>(alloc: Global, postings: &[Posting<'a>]) -> Result<Vec<Posted<'a>>, AllocError>
+/// The postings as they are booked, in the memory of a list that is used no more.
+fn as_written<'a>(
+    spare: Vec<Posted<'a>>,
+    postings: &[Posting<'a>],
+) -> Result<Vec<Posted<'a>>, AllocError>
     requires { list_all spec.is_plain postings.now ≡ true }
     ensures { IfOk result (λ posted. AreAsWritten (reverse postings.now) posted.items) }
 {
-    let mut posted = Vec::with_capacity(alloc, postings.len())?;
+    let mut posted = emptied(spare, postings.len())?;
     for index in 0..postings.len() {
         posted.push(posted_as_written(index, &postings[index]))?;
     }
@@ -72,8 +76,8 @@ fn as_written<'a>(alloc: Global, postings: &[Posting<'a>]) -> Result<Vec<Posted<
 /// Tries a transaction whose postings are all booked as they are written. They are its lines, which
 /// lack nothing, so one weighing tells whether it is too wide and whether it balances.
 pub(crate) fn try_plain<'a>(
-    alloc: Global,
     scales: &mut Scales<'a>,
+    spare: Vec<Posted<'a>>,
     head: Head,
     postings: &[Posting<'a>],
 ) -> Result<Tried<'a>, Refusal<LineFault>>
@@ -82,7 +86,7 @@ pub(crate) fn try_plain<'a>(
     ensures tried { (s : Setting) → s.head ≡ head → TriesOrLacks s postings.now result }
     ensures balances { IfOk result (KnowsBalance postings.now) }
 {
-    let posted = as_written(alloc, postings)?;
+    let posted = as_written(spare, postings)?;
     match judge(scales, postings, posted.as_slice()) {
         Ok(balances) => Ok(Tried {
             posted: List::new(posted),

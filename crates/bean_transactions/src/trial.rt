@@ -36,6 +36,7 @@ fn are_outside_profile(postings: &[Posting<'_>]) -> bool
 fn complete<'a>(
     alloc: Global,
     scales: &mut Scales<'a>,
+    spare: Vec<Posted<'a>>,
     head: Head,
     postings: &[Posting<'a>],
     lines: Vec<Line<'a>>,
@@ -48,7 +49,7 @@ fn complete<'a>(
     let legs = legs_of(alloc, postings, &lines)?;
     match scales.complete(alloc, &legs) {
         Ok(fills) => {
-            let posted = completed(alloc, fills.as_slice(), lines)?;
+            let posted = completed(spare, fills.as_slice(), lines)?;
             Ok(Tried {
                 posted: List::new(posted),
                 balances: None,
@@ -59,12 +60,14 @@ fn complete<'a>(
 }
 
 /// The postings that a transaction is booked as, or its first fault. Nothing that is held is
-/// changed. Where all are booked as they are written, it is known as well whether they balance.
+/// changed. Where all are booked as they are written, it is known as well whether they balance. The
+/// postings stand in the memory of `spare`, whatever that list has.
 pub fn try_transaction<'a>(
     alloc: Global,
     holdings: &Holdings<'a>,
     methods: &Methods<'a>,
     scales: &mut Scales<'a>,
+    spare: Vec<Posted<'a>>,
     head: Head,
     postings: &[Posting<'a>],
 ) -> Result<Tried<'a>, Refusal<LineFault>>
@@ -81,11 +84,11 @@ pub fn try_transaction<'a>(
         }));
     }
     if are_plain(postings) {
-        return try_plain(alloc, scales, head, postings);
+        return try_plain(scales, spare, head, postings);
     }
     let nothing = Inventory::new(alloc);
     match line_up(alloc, holdings, &nothing, methods, head, postings) {
-        Ok(lines) => complete(alloc, scales, head, postings, lines),
+        Ok(lines) => complete(alloc, scales, spare, head, postings, lines),
         Err(stop) => Err(stop),
     }
 }

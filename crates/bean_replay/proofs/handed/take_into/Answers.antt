@@ -47,7 +47,7 @@ returns-in_ok-hand_over-in-Ok-clause-led g c = λ m past st led.
       next.0,
       record {
         leads = (st, led.leads, next.1);
-        stands = next.2.stands;
+        stands = c.reuse.ensures.standing m (c.args.placed ∷ past) next.0 next.2.stands;
         taken = subst (λ l. g.S.Bookings.has_taken c.hand_over.new.to l) (sym next.2.adds)
             (c.in_ok-hand_over-in-Ok.ensures st.drafts led.taken);
       },

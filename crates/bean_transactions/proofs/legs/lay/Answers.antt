@@ -1,7 +1,6 @@
-use Rattle.std.proofs.Common.{ap, arith, drop, map, subst, suc, sym, take, ◌++◌, ◌∷◌, ◌∙◌, []}
+use Rattle.std.proofs.Common.{arith, drop, map, subst, suc, sym, take, []}
 use Rattle.bean_interp.specs.Residual.{AreInRange}
 use Rattle.bean_interp.specs.Scales.{AreWeighed}
-use Rattle.bean_interp.specs.declared.leg.Leg.TheVariants as leg
 use Rattle.bean_transactions.specs.Tried as spec
 use Rattle.bean_transactions.proofs.LegFacts.{mapped_split}
 use Rattle.bean_transactions.proofs.OutcomeFacts.{mapped_more}
@@ -13,11 +12,10 @@ loop-one-preserved c =
     let qs = c.args.posted.now in
     let i = c.loop-one.one-index in
     let legs = map f (take i qs) in
-    let is = ap (λ w. legs ++ leg.Whole w ∷ []) c.whole.ensures in
     record {
       weighed =
-          subst (AreWeighed c.add.new.self)
-          (is ∙ sym (mapped_more f qs i c.one-item.result (omega arith) c.one-item.is))
+          subst (AreWeighed c.lay_one.new.scales)
+          (sym (mapped_more f qs i c.one-item.result (omega arith) c.one-item.is))
           (c.in-Ok.ensures.weighed legs c.loop-one.invariant.weighed);
       noted = c.in-Ok.ensures.noted [] c.loop-one.invariant.noted;
     }
@@ -30,6 +28,5 @@ returns-in-Err-clause-wide c = λ is range.
     let legs = map f (take i qs) in
     let later = map f (drop (suc i) qs) in
     let split = mapped_split f qs i c.one-item.result (omega arith) c.one-item.is in
-    let whole = ap (λ w. legs ++ leg.Whole w ∷ later) c.whole.ensures in
     c.in-Err.ensures.wide is legs later c.loop-one.invariant.weighed
-    (subst AreInRange (split ∙ sym whole) range)
+    (subst AreInRange split range)

@@ -4,11 +4,11 @@ use Rattle.std.specs.Int.{w128}
 use Rattle.std.specs.Int.RustNames.{FitsSigned}
 use Rattle.std.specs.Str.{bytes_eq}
 use Rattle.std.proofs.lemmas.Int.{ints}
-use Rattle.indexmap.proofs.MapLemmas.{OnOk-map}
+use Rattle.indexmap.proofs.MapLemmas.{Found-position, OnOk-map}
 use Rattle.bean_lots.specs.Inventory.{added, count_of}
 use Rattle.bean_holdings.specs.Inventories.{inventory_in}
 use Rattle.bean_holdings.proofs.BoundFacts.{added_at}
-use Rattle.bean_holdings.proofs.InPlace.{nothing, put_or_before, written}
+use Rattle.bean_holdings.proofs.InPlace.{put_or_before, written}
 use Rattle.bean_holdings.proofs.inventories.Inventories.add.Goals as goal
 
 pub returns-in_default : goal.returns-in_default
@@ -17,7 +17,7 @@ returns-in_default c =
     let count : to_z w128 (of_z w128 c.args.count) ≡ c.args.count = omega (arith, ints) in
     OnOk-map c.put.result _ _ (λ put a.
     added_at (inventory_in i) c.args.account a [] c.add.new.self _ c.args.key c.args.count _
-    (nothing _ [] c.in_default.ensures.found)
+    (sym c.in_default.ensures.none)
     (c.in_ok-add.ensures.ok
     ∙ ap (λ es. added es c.args.key (to_z w128 (of_z w128 c.args.count))) c.new-inventory.ensures)
     count (put a))
@@ -27,8 +27,10 @@ pub add-requires-2 : goal.add-requires-2
 add-requires-2 c =
     let i = c.args.self.now in
     let count : to_z w128 (of_z w128 c.args.count) ≡ c.args.count = omega (arith, ints) in
+    let there = Found-position (bytes_eq c.args.account) i.by_account.entries c.in-Some.index
+    c.in-Some.ensures.some in
     let own : inventory_in i c.args.account ≡ c.index_mut.result.now =
-    ap (λ o. unwrap_or o []) (sym c.in-Some.ensures.value ∙ c.index_mut.ensures.value) in
+    ap (λ o. unwrap_or o []) (there.value ∙ c.index_mut.ensures.value) in
     subst (λ es. FitsSigned w128 (count_of es c.args.key +ℤ to_z w128 (of_z w128 c.args.count))) own
     (subst (λ n. FitsSigned w128 (count_of (inventory_in i c.args.account) c.args.key +ℤ n))
     (sym count) c.requires)
@@ -37,13 +39,15 @@ pub returns : goal.returns
 returns c =
     let i = c.args.self.now in
     let count : to_z w128 (of_z w128 c.args.count) ≡ c.args.count = omega (arith, ints) in
+    let there = Found-position (bytes_eq c.args.account) i.by_account.entries c.in-Some.index
+    c.in-Some.ensures.some in
     let own : inventory_in i c.args.account ≡ c.index_mut.result.now =
-    ap (λ o. unwrap_or o []) (sym c.in-Some.ensures.value ∙ c.index_mut.ensures.value) in
+    ap (λ o. unwrap_or o []) (there.value ∙ c.index_mut.ensures.value) in
     OnOk-map c.add-2.result _ _ (λ new a.
     added_at (inventory_in i) c.args.account a c.index_mut.result.now c.add-2.new.self _ c.args.key
     c.args.count _ (sym own) new count
     (ap (λ o. unwrap_or o [])
     (written i.by_account.entries c.args.account a c.in-Some.index c.add-2.new.self
-    (sym c.in-Some.ensures.index))
+    c.in-Some.ensures.some)
     ∙ put_or_before (bytes_eq c.args.account a) c.add-2.new.self [] _))
     c.add-2.ensures.ok

@@ -25,7 +25,7 @@ show_watched-requires-clause-few c =
     let steps = z.is.room.steps in
     let few = z.is.room.few in
     let past = z.few in
-    let added = c.in_ok-post_all.ensures.additions in omega (arith, steps, few, past, added)
+    let added = c.in_ok-book_postings.ensures.additions in omega (arith, steps, few, past, added)
 
 pub returns-clause-standing : goal.returns-clause-standing
 returns-clause-standing c = λ m past st is.
@@ -37,7 +37,7 @@ returns-clause-standing c = λ m past st is.
     let booked = c.as_slice-booked.ensures in
     let written = c.as_slice-postings.ensures in
     let count = count_more st.drafts one in
-    let added = c.in_ok-post_all.ensures.additions in
+    let added = c.in_ok-book_postings.ensures.additions in
     let same = ap length booked in
     let before = is.count in
     let own : List Posting → List Posted → List _ = λ ps l.
@@ -48,9 +48,9 @@ returns-clause-standing c = λ m past st is.
       stands = record {
         methods = is.methods;
         accounts = is.accounts;
-        held = subst (λ l. AreHeld l c.post_all.new.self)
+        held = subst (λ l. AreHeld l c.book_postings.new.holdings)
             (ap (λ l. postings_of st.drafts ++ l) booked ∙ sym (postings_more st.drafts one))
-            (c.in_ok-post_all.ensures.held (postings_of st.drafts) is.held);
+            (c.in_ok-book_postings.ensures.held (postings_of st.drafts) is.held);
         count = omega (arith, count, added, same, before);
         seen = seen_of b.watched posted ++ is.seen;
         follows = subst (λ l. Follows (seen_of b.watched l ++ is.seen) c.show_watched.new.padder) booked
@@ -58,13 +58,13 @@ returns-clause-standing c = λ m past st is.
         steps_are = shown_more b.watched (postings_of st.drafts) posted
             (postings_of (st.drafts ++ one ∷ [])) st.steps is.seen (postings_more st.drafts one)
             is.steps_are;
-        faults_are = c.in_ok-note_postings.ensures (account_steps past) is.accounts
+        faults_are = c.in_ok-book_postings.ensures.faults (account_steps past) is.accounts
             ∙ ap (λ l. l ++ each c.as_slice-postings.result.now c.as_slice-booked.result.now)
             c.in_ok-note_balance.ensures
             ∙ (λ k. (is.faults_are k ++ own (written k) posted) ++ each (written k) (booked k))
             ∙ append_assoc st.faults (own _ posted) (each _ posted);
         room = record {
-          bounded = c.in_ok-post_all.ensures.bounded;
+          bounded = c.in_ok-book_postings.ensures.bounded;
           near = c.in_ok-show_watched.ensures.near;
           few = omega arith;
           steps =

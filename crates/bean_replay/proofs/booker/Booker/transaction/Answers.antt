@@ -15,7 +15,7 @@ keep-requires-clause-stands c =
       method_of = z.method_of;
       past = z.past;
       stand = z.stand;
-      is = reweighed z.method_of z.past z.stand c.args.self.now _ z.is;
+      is = reweighed z.method_of z.past z.stand c.args.self.now _ _ z.is;
       few = z.few;
     }
 
@@ -36,7 +36,7 @@ returns-in-Ok-clause-standing c = λ m past st is.
     subst (λ ps. Tries s ps (Ok c.in-Ok.tried.posted)) c.as_slice.ensures
     (c.in-Ok.ensures.tried s (settled m past st w c.args.self.now is)) in
     IfOk-weaker c.keep.result _ _ (λ booked behind. (Ok c.in-Ok.tried.posted, tries, behind))
-    (c.keep.ensures.standing m past st (reweighed m past st c.args.self.now _ is))
+    (c.keep.ensures.standing m past st (reweighed m past st c.args.self.now _ _ is))
 
 pub returns-in-Err-Refused-clause-standing : goal.returns-in-Err-Refused-clause-standing
 returns-in-Err-Refused-clause-standing c = λ m past st is.
@@ -48,7 +48,7 @@ returns-in-Err-Refused-clause-standing c = λ m past st is.
     subst (λ ps. Tries s ps (Err c.in-Err-Refused.fault)) c.as_slice.ensures
     (subst (StopsAt (λ f. Tries s c.as_slice.result.now (Err f))) c.in-Err-Refused.field-0-is told) in
     IfOk-weaker c.drop_with.result _ _ (λ booked behind. (Err c.in-Err-Refused.fault, tries, behind))
-    (c.drop_with.ensures.standing m past st (reweighed m past st c.args.self.now _ is))
+    (c.drop_with.ensures.standing m past st (reweighed m past st c.args.self.now _ _ is))
 
 pub returns-in-Ok-clause-full : goal.returns-in-Ok-clause-full
 returns-in-Ok-clause-full c = λ is_full m past st is r tries.

@@ -1,0 +1,20 @@
+use Rattle.std.proofs.Common.{◌≡◌, ◌+◌, ◌++◌, List, take}
+use Rattle.std.specs.List.{flat_map}
+use Rattle.bean_accounts.specs.Kept.{IsKept}
+use Rattle.bean_accounts.specs.declared.step.Step as lives
+use Rattle.bean_holdings.specs.Holdings.{AreHeld, IsBounded, additions_in}
+use Rattle.bean_holdings.specs.declared.posted.Posted.{Posted}
+use Rattle.bean_replay.specs.Stand as spec
+use Rattle.bean_replay.proofs.postings.book_postings.Given as goal
+
+abbrev pub invariant-loop-one : goal.invariant-loop-one
+invariant-loop-one l = record {
+  faults : (past : List lives.Step) → IsKept past l.accounts
+      → l.faults.items
+      ≡ l.initial.faults.items
+      ++ flat_map (spec.posted_faults past l.at l.postings) (take l.one-index l.posted);
+  bounded : IsBounded l.holdings;
+  additions : additions_in l.holdings ≡ additions_in l.initial.holdings + l.one-index;
+  held : (ps : List Posted) → AreHeld ps l.initial.holdings
+      → AreHeld (ps ++ take l.one-index l.posted) l.holdings;
+}
