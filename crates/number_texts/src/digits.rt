@@ -1,9 +1,9 @@
 //! The texts of numbers and days.
 ghost use Rattle.std.specs.Prelude.{◌≡◌, ◌≤◌, ◌<◌, ◌+◌, ◌-◌, ◌/◌, ◌%◌, ◌^◌, [], ◌∷◌, ◌++◌, OnOk};
-ghost use Rattle.std.specs.Prelude.{length, if◌then◌else◌};
+ghost use Rattle.std.specs.Prelude.{drop, length, if◌then◌else◌};
 ghost use Rattle.std.specs.Fmt.{decimal};
 ghost use Rattle.std.specs.Int.RustNames.{unsigned_abs};
-ghost use Rattle.bean_base.specs.Character.{point};
+ghost use Rattle.bean_base.specs.Character.{dash, point};
 ghost use Rattle.number_texts.specs.Digits.{digits_of, exact_decimals, number_text, parts_text};
 ghost use Rattle.number_texts.specs.Digits.{day_text, zeros};
 
@@ -194,71 +194,145 @@ fn digits_in(number: u128) -> usize
     }
 }
 
+/// The parts of a magnitude as they are shown.
+#[derive(Clone, Copy)]
+struct Parts {
+    whole: u128,
+    /// How many decimals are shown.
+    shown: u8,
+    /// The number that they write.
+    digits: u128,
+}
+
+/// The parts of the magnitude `number` · `10^-places`, without the zeros at the end behind the first
+/// `least` decimals.
+fn any_parts(number: u128, places: u8, least: u8) -> Parts
+    ensures whole { result.whole ≡ number / 10 ^ places }
+    ensures digits { digits_of result.shown result.digits ++ zeros (least - result.shown)
+        ≡ exact_decimals places (number % 10 ^ places)
+        ++ zeros (least - length (exact_decimals places (number % 10 ^ places))) }
+    ensures small { result.digits < 10 ^ result.shown }
+{
+    let (whole, decimals) = split_at(number, places);
+    let (shown, digits) = without_zeros(places, decimals, least);
+    Parts {
+        whole,
+        shown,
+        digits,
+    }
+}
+
+/// The same. Most counts have 8 decimals, and are of hundredths, of which two decimals are shown:
+/// these are told first, since what is divided by a known number is multiplied instead.
+#[inline(always)]
+fn parts_of(number: u128, places: u8, least: u8) -> Parts
+    ensures whole { result.whole ≡ number / 10 ^ places }
+    ensures digits { digits_of result.shown result.digits ++ zeros (least - result.shown)
+        ≡ exact_decimals places (number % 10 ^ places)
+        ++ zeros (least - length (exact_decimals places (number % 10 ^ places))) }
+    ensures small { result.digits < 10 ^ result.shown }
+{
+    if let Ok(few) = u64::try_from(number) {
+        if places == 8 && least == 2 && few % 1_000_000 == 0 {
+            let hundredths = few / 1_000_000;
+            return Parts {
+                whole: (hundredths / 100) as u128,
+                shown: 2,
+                digits: (hundredths % 100) as u128,
+            };
+        }
+    }
+    any_parts(number, places, least)
+}
+
 /// How many bytes the text of `count` · `10^-places` has, as [`push_number`] adds it. It is told
 /// without making the text.
 pub fn number_len(count: i128, places: u8, least: u8) -> usize
     ensures len { result ≡ length (number_text count places least) }
     ensures few { result ≤ 300 }
 {
-    let (whole, decimals) = split_at(count.unsigned_abs(), places);
-    let (shown, _) = without_zeros(places, decimals, least);
-    let behind = shown.max(least) as usize;
-    len_if(count < 0) + digits_in(whole) + len_if(behind > 0) + behind
+    let parts = parts_of(count.unsigned_abs(), places, least);
+    let behind = parts.shown.max(least) as usize;
+    len_if(count < 0) + digits_in(parts.whole) + len_if(behind > 0) + behind
 }
 
-/// A whole part, a point and decimals, where they are few: one text, which is added at once.
-fn push_few_parts(out: &mut Vec<u8>, whole: u64, shown: u8, digits: u64) -> Result<(), AllocError>
+/// Puts a sign before the text that begins at `start`, and tells where the text begins with it. It
+/// stands there whether or not it is wanted.
+fn put_sign(text: &mut [u8; 40], start: usize, is_wanted: bool) -> usize
+    requires { (0 < start) × (start ≤ 40) }
+    ensures text { drop result text.new
+        ≡ (if is_wanted then dash ∷ [] else []) ++ drop start text.old }
+    ensures inside { result ≤ 40 }
+{
+    text[start - 1] = b'-';
+    start - len_if(is_wanted)
+}
+
+/// A sign where it is wanted, a whole part, a point and decimals, where they are few: one text, which
+/// is added at once.
+fn push_few_parts(
+    out: &mut Vec<u8>,
+    is_negative: bool,
+    whole: u64,
+    shown: u8,
+    digits: u64,
+) -> Result<(), AllocError>
     requires some { 0 < shown }
     requires few { shown ≤ 18 }
     requires small { digits < 10 ^ shown }
-    ensures { OnOk result (out.new.items
-        ≡ out.old.items ++ (decimal whole ++ point ∷ digits_of shown digits)) }
+    ensures { OnOk result (out.new.items ≡ out.old.items
+        ++ (if is_negative then dash ∷ [] else [])
+        ++ (decimal whole ++ point ∷ digits_of shown digits)) }
 {
     let mut text = [0; 40];
     // A one before the digits keeps the zeros in front of them. The point takes its place.
     let point = write_digits(power_of_ten(shown) as u64 + digits, &mut text, 40);
     text[point] = b'.';
-    let start = write_digits(whole, &mut text, point);
+    let whole = write_digits(whole, &mut text, point);
+    let start = put_sign(&mut text, whole, is_negative);
     out.extend_from_slice(&text[start..])?;
     Ok(())
 }
 
-/// A whole part and the decimals that are shown, with zeros behind them up to the least count: one
-/// after the other, whatever they are.
+/// A sign where it is wanted, a whole part and the decimals that are shown, with zeros behind them up
+/// to the least count: one after the other, whatever they are.
 fn push_any_parts(
     out: &mut Vec<u8>,
-    whole: u128,
-    shown: u8,
-    digits: u128,
+    is_negative: bool,
+    parts: Parts,
     least: u8,
 ) -> Result<(), AllocError>
-    requires { digits < 10 ^ shown }
-    ensures { OnOk result (out.new.items ≡ out.old.items ++ parts_text whole shown digits least) }
+    requires { parts.digits < 10 ^ parts.shown }
+    ensures { OnOk result (out.new.items ≡ out.old.items
+        ++ (if is_negative then dash ∷ [] else [])
+        ++ parts_text parts.whole parts.shown parts.digits least) }
 {
-    out.extend_from_slice(Buffer::new().format(whole).as_bytes())?;
-    push_if(out, b'.', shown.max(least) > 0)?;
-    push_digits(out, shown, digits)?;
-    push_run(out, b'0', least.saturating_sub(shown) as usize)?;
+    push_if(out, b'-', is_negative)?;
+    out.extend_from_slice(Buffer::new().format(parts.whole).as_bytes())?;
+    push_if(out, b'.', parts.shown.max(least) > 0)?;
+    push_digits(out, parts.shown, parts.digits)?;
+    push_run(out, b'0', least.saturating_sub(parts.shown) as usize)?;
     Ok(())
 }
 
 /// The same, at once where they are few, as most are.
 fn push_parts(
     out: &mut Vec<u8>,
-    whole: u128,
-    shown: u8,
-    digits: u128,
+    is_negative: bool,
+    parts: Parts,
     least: u8,
 ) -> Result<(), AllocError>
-    requires { digits < 10 ^ shown }
-    ensures { OnOk result (out.new.items ≡ out.old.items ++ parts_text whole shown digits least) }
+    requires { parts.digits < 10 ^ parts.shown }
+    ensures { OnOk result (out.new.items ≡ out.old.items
+        ++ (if is_negative then dash ∷ [] else [])
+        ++ parts_text parts.whole parts.shown parts.digits least) }
 {
-    match u64::try_from(whole) {
-        Ok(whole) if 0 < shown && shown <= 18 && least <= shown => {
-            push_few_parts(out, whole, shown, digits as u64)?;
+    match u64::try_from(parts.whole) {
+        Ok(whole) if 0 < parts.shown && parts.shown <= 18 && least <= parts.shown => {
+            push_few_parts(out, is_negative, whole, parts.shown, parts.digits as u64)?;
             Ok(())
         }
-        _ => push_any_parts(out, whole, shown, digits, least),
+        _ => push_any_parts(out, is_negative, parts, least),
     }
 }
 
@@ -266,11 +340,8 @@ fn push_parts(
 pub fn push_number(out: &mut Vec<u8>, count: i128, places: u8, least: u8) -> Result<(), AllocError>
     ensures { OnOk result (out.new.items ≡ out.old.items ++ number_text count places least) }
 {
-    let (whole, decimals) = split_at(count.unsigned_abs(), places);
-    let (shown, digits) = without_zeros(places, decimals, least);
-    push_if(out, b'-', count < 0)?;
-    push_parts(out, whole, shown, digits, least)?;
-    Ok(())
+    let parts = parts_of(count.unsigned_abs(), places, least);
+    push_parts(out, count < 0, parts, least)
 }
 
 /// A day as `2014-01-31`.

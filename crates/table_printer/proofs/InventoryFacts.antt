@@ -1,6 +1,6 @@
 -- Entries that are held without a lot: their texts, one behind the other.
 use Rattle.std.proofs.Common.{◌≡◌, ℕ, ◌+◌, ◌<◌, Bool, true, false, cond, nat_lt, List, [], take, ◌++◌}
-use Rattle.std.proofs.Common.{codes, length, get_or, Option, Some, None, refl, subst, sym, ap, ◌∙◌}
+use Rattle.std.proofs.Common.{length, get_or, Option, Some, None, refl, subst, sym, ap, ◌∙◌}
 use Rattle.std.proofs.Common.{true≢false}
 use Rattle.std.proofs.lemmas.List.Folds.{list_all_at}
 use Rattle.std.specs.List.{list_all}

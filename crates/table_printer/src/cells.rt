@@ -250,6 +250,7 @@ pub(crate) fn units_width(
 const DAY_WIDTH: usize = 10;
 
 /// Adds the text of a cell, and tells how many columns of a terminal it takes.
+#[inline(always)]
 pub(crate) fn push_cell(
     out: &mut Vec<u8>,
     cell: &Cell<'_>,
@@ -279,16 +280,23 @@ pub(crate) fn push_cell(
             out,
             *count,
             *places,
-            currency,
+            &currency.lend(),
             display,
             &mut scratch.nears[0],
         ),
         Shown::Position { key, count } => push_position(out, key.get(), *count, scratch, display),
-        Shown::Inventory { places, held } => push_inventory(out, *places, held, scratch, display),
+        Shown::Inventory { places, held } => push_inventory(
+            out,
+            *places,
+            &held.lend(),
+            scratch,
+            display,
+        ),
     }
 }
 
 /// How many columns of a terminal the text of a cell takes.
+#[inline(always)]
 pub(crate) fn cell_width(
     cell: &Cell<'_>,
     scratch: &mut Scratch,
@@ -309,8 +317,19 @@ pub(crate) fn cell_width(
             places,
             count,
             currency,
-        } => Ok(units_width(*count, *places, currency, display, &mut scratch.nears[0])),
+        } => Ok(units_width(
+            *count,
+            *places,
+            &currency.lend(),
+            display,
+            &mut scratch.nears[0],
+        )),
         Shown::Position { key, count } => position_width(key.get(), *count, scratch, display),
-        Shown::Inventory { places, held } => inventory_width(*places, held, scratch, display),
+        Shown::Inventory { places, held } => inventory_width(
+            *places,
+            &held.lend(),
+            scratch,
+            display,
+        ),
     }
 }

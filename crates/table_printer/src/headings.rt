@@ -63,6 +63,7 @@ fn bare_headings<'t, T: Rows>(
 }
 
 /// Makes a heading as wide as a cell, where it is less, and notes whether the cell is a number.
+#[inline(always)]
 fn widen(
     heading: &mut Heading<'_>,
     cell: &Cell<'_>,

@@ -109,6 +109,7 @@ fn push_gap(out: &mut Vec<u8>, column: usize) -> Result<(), AllocError>
 }
 
 /// A cell behind so many spaces. Tells how many more fill it up to its column's width.
+#[inline(always)]
 fn push_placed(
     out: &mut Vec<u8>,
     placed: &Placed<'_>,

@@ -131,6 +131,7 @@ fn make_position(
 }
 
 /// Adds a position, and tells its width.
+#[inline(always)]
 pub(crate) fn push_position(
     out: &mut Vec<u8>,
     key: &Key<'_>,
@@ -160,6 +161,7 @@ pub(crate) fn push_position(
 }
 
 /// How many columns of a terminal a position takes.
+#[inline(always)]
 pub(crate) fn position_width(
     key: &Key<'_>,
     count: i128,

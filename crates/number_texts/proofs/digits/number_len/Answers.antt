@@ -13,18 +13,16 @@ returns-clause-len c =
     let count = c.args.count in
     let places = c.args.places in
     let least = c.args.least in
-    let split = c.split_at-whole in
-    let shown = c.without_zeros-shown in
+    let parts = c.parts_of-parts in
     let signed = to_z-of_z w128 count c.ranges.count in
     let magnitude : c.unsigned_abs.result ≡ unsigned_abs count =
     c.unsigned_abs.ensures.value ∙ ap unsigned_abs signed in
-    let whole : split.result.0 ≡ unsigned_abs count / 10 ^ places =
-    split.ensures.before ∙ ap (λ n. n / 10 ^ places) magnitude in
-    let decimals : split.result.1 ≡ unsigned_abs count % 10 ^ places =
-    split.ensures.behind ∙ ap (λ n. n % 10 ^ places) magnitude in
+    let whole : parts.result.whole ≡ unsigned_abs count / 10 ^ places =
+    parts.ensures.whole ∙ ap (λ n. n / 10 ^ places) magnitude in
     let all =
-    length-number count places least shown.result.0 shown.result.1
-    (shown.ensures.digits ∙ ap (λ n. filled least (exact_decimals places n)) decimals) in
+    length-number count places least parts.result.shown parts.result.digits
+    (parts.ensures.digits
+    ∙ ap (λ n. filled least (exact_decimals places (n % 10 ^ places))) magnitude) in
     let sign = c.len_if.ensures ∙ ap (λ z. cond (int_lt z (pos 0)) 1 0) signed in
     let front = c.digits_in.ensures.count ∙ ap (λ n. length (decimal n)) whole in
     let point = c.len_if-2.ensures ∙ ap (λ n. cond (nat_lt 0 n) 1 0) c.max-behind.ensures in

@@ -1,10 +1,11 @@
 use Rattle.std.proofs.Common.{◌≡◌, ◌≤◌, ◌+◌, ◌^◌, ◌++◌, drop, ap, ◌∙◌, arith}
-use Rattle.std.proofs.Common.{◌-◌, length-drop, length-set, take}
+use Rattle.std.proofs.Common.{ℕ, List, sym, append_assoc, ◌-◌, ◌∷◌, [], cond, length-drop, length-set, take}
 use Rattle.std.specs.Fmt.{decimal}
 use Rattle.std.proofs.Math.Nat.{pow-le-pow_right}
 use Rattle.std.proofs.lemmas.Fmt.{length-decimal-le}
 use Rattle.std.proofs.lemmas.List.{append-nil, take_all}
 use Rattle.number_texts.proofs.NumberFacts.{in_buffer, length-leading_one}
+use Rattle.number_texts.specs.Digits.{digits_of}
 use Rattle.number_texts.proofs.PowerFacts.{looked_up}
 use Rattle.number_texts.proofs.digits.push_few_parts.Goals as goal
 
@@ -37,8 +38,8 @@ bounds-text-point c =
     c.requires.small in
     omega (arith, len, c.write_digits-point.ensures.start)
 
-pub write_digits-start-requires : goal.write_digits-start-requires
-write_digits-start-requires c =
+pub write_digits-whole-requires : goal.write_digits-whole-requires
+write_digits-whole-requires c =
     let unit =
     looked_up c.power_of_ten.result c.args.shown (omega (arith, c.requires.few))
     c.power_of_ten.ensures in
@@ -53,6 +54,23 @@ write_digits-start-requires c =
       omega (arith, same, c.write_digits-point.ensures.start),
     )
 
+pub put_sign-start-requires : goal.put_sign-start-requires
+put_sign-start-requires c =
+    let unit =
+    looked_up c.power_of_ten.result c.args.shown (omega (arith, c.requires.few))
+    c.power_of_ten.ensures in
+    let len =
+    length-leading_one _ c.args.shown c.args.digits unit (omega (arith, c.requires.few))
+    c.requires.small in
+    let whole =
+    length-decimal-le 20 c.args.whole (omega arith) (omega (arith, c.ranges.whole.fits))
+    (omega (arith, c.ranges.whole.fits)) in
+    let first = c.write_digits-point.ensures.start in
+    let start = c.write_digits-whole.ensures.start in (
+      omega (arith, len, first, start, whole, c.requires.few),
+      omega (arith, len, first, start, whole),
+    )
+
 pub returns : goal.returns
 returns c =
     let shown = c.args.shown in
@@ -64,11 +82,16 @@ returns c =
     length-leading_one _ shown digits unit (omega (arith, c.requires.few)) c.requires.small in
     let written : drop at.result at.new.buf ≡ decimal (10 ^ shown + digits) =
     at.ensures.written ∙ append-nil _ ∙ ap (λ u. decimal (u + digits)) unit in
-    let from = c.write_digits-start in
-    let whole : take (40 - from.result) (drop from.result from.new.buf) ≡ drop from.result from.new.buf =
-    take_all (40 - from.result) (drop from.result from.new.buf)
-    (omega (arith, length-drop from.result from.new.buf)) in
+    let from = c.write_digits-whole in
+    let start = c.put_sign-start in
+    let sign : List ℕ = cond c.args.is_negative (45 ∷ []) [] in
+    let all : take (40 - start.result) (drop start.result start.new.text)
+    ≡ drop start.result start.new.text =
+    take_all (40 - start.result) (drop start.result start.new.text)
+    (omega (arith, length-drop start.result start.new.text)) in
     c.in_ok-extend_from_slice.ensures.items ∙ ap (λ l. c.args.out.now.items ++ l)
-    (whole ∙ in_buffer at.new.buf (drop c.write_digits-start.result c.write_digits-start.new.buf) at.result
+    (all ∙ start.ensures.text ∙ ap (λ l. sign ++ l)
+    (in_buffer at.new.buf (drop from.result from.new.buf) at.result
     c.args.whole shown digits (omega (arith, c.requires.few)) c.requires.small
-    (omega (arith, len, at.ensures.start)) written c.write_digits-start.ensures.written)
+    (omega (arith, len, at.ensures.start)) written from.ensures.written))
+    ∙ sym (append_assoc c.args.out.now.items sign (decimal c.args.whole ++ 46 ∷ digits_of shown digits))

@@ -1,9 +1,6 @@
-use Rattle.std.proofs.Common.{◌^◌, ◌/◌, ◌%◌, ◌<◌, to_z, of_z, ap, ◌∙◌, sym, subst, arith}
-use Rattle.std.specs.Int.{w128}
-use Rattle.std.specs.Int.RustNames.{unsigned_abs}
+use Rattle.std.proofs.Common.{◌^◌, ◌/◌, ◌%◌, ◌<◌, ap, ◌∙◌, sym, subst, arith}
 use Rattle.std.proofs.Math.Nat.{one-le-pow, mod-lt, mod-eq_of_lt, div-eq_of_lt}
 use Rattle.number_texts.proofs.DigitsFacts.{wide}
-use Rattle.number_texts.proofs.PowerFacts.{looked_up}
 use Rattle.number_texts.proofs.digits.split_at.Goals as goal
 
 pub returns-in-Ok : goal.returns-in-Ok

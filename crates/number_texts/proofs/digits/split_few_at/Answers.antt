@@ -1,7 +1,5 @@
-use Rattle.std.proofs.Common.{◌^◌, ◌%◌, ◌<◌, ◌/◌, to_z, of_z, ap, ◌∙◌, sym, subst, arith}
-use Rattle.std.specs.Int.{w128}
-use Rattle.std.specs.Int.RustNames.{unsigned_abs}
-use Rattle.std.proofs.Math.Nat.{one-le-pow, mod-lt}
+use Rattle.std.proofs.Common.{◌%◌, ◌/◌, arith}
+use Rattle.std.proofs.Math.Nat.{one-le-pow}
 use Rattle.number_texts.proofs.PowerFacts.{looked_up}
 use Rattle.number_texts.proofs.digits.split_few_at.Goals as goal
 

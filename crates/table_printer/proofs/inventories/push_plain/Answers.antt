@@ -1,4 +1,4 @@
-use Rattle.std.proofs.Common.{ℕ, ℤ, ◌<◌, List, ◌++◌, length, append_assoc, arith, rules, subst, sym, ap, take, to_z, of_z, ◌∙◌}
+use Rattle.std.proofs.Common.{ℕ, ℤ, ◌<◌, List, ◌++◌, length, append_assoc, arith, rules, subst, sym, ap, take, ◌∙◌}
 use Rattle.std.specs.Int.{w128}
 use Rattle.std.specs.Int.RustNames.{FitsSigned}
 use Rattle.std.proofs.lemmas.Int.{to_z-of_z}
