@@ -1,17 +1,12 @@
 -- What is the same is hashed alike.
-use Rattle.std.proofs.Common.{◌≡◌, ℕ, zero, suc, ◌+◌, ◌-◌, ◌*◌, ◌^◌, ◌/◌, ◌%◌}
-use Rattle.std.proofs.Common.{max, ℤ, pos, ◌*ℤ◌, Bool, true, false, cond, ◌==◌, List, []}
-use Rattle.std.proofs.Common.{◌∷◌, ◌++◌, refl, sym, ap, ap₂, ◌∙◌, arith, rules}
+use Rattle.std.proofs.Common.{◌≡◌, ◌^◌, ◌%◌, Bool, true, false, List, [], ◌∷◌, ◌++◌, refl, sym, ap}
+use Rattle.std.proofs.Common.{ap₂, rules, ℕ}
 use Rattle.std.proofs.lemmas.Bool.Decides.{Decides-int_eq}
 use Rattle.std.proofs.lemmas.Bool.{and_parts}
-use Rattle.std.proofs.lemmas.Int.{unsigned_abs-mul}
-use Rattle.std.proofs.Math.Nat.{pow-suc, mul_assoc, le-max_left, le-max_right}
 use Rattle.std.specs.Bool.{Decides}
 use Rattle.std.specs.Cmp.Lexicographic.{pointwise}
-use Rattle.std.specs.Int.RustNames.{unsigned_abs}
 use Rattle.std.specs.Ordering.{int_eq}
 use Rattle.bean_base.specs.Day.{number}
-use Rattle.bean_base.specs.Decimal.{scaled}
 use Rattle.bean_lots.proofs.LotFacts.{same_key_Decides}
 use Rattle.bean_lots.specs.Lot.{same_key, same_text}
 use Rattle.query_rows.specs.Same.{same_values}
@@ -21,54 +16,9 @@ use Rattle.query_values.specs.declared.value.Value.TheVariants.{Null, Truth, Num
 use Rattle.query_values.specs.declared.value.Value.TheVariants.{Amount, Position, Inventory}
 use Rattle.std.specs.Hash as fed
 use Rattle.std.specs.List.{flat_map}
-use Rattle.value_hashes.specs.Fed.{fewest, number_fed, value_fed, values_fed}
-
--- ---- numbers
-
-ten_more : (p x : ℕ) → fewest (suc p) (x * 10) ≡ fewest p x
-ten_more p x =
-    let none : (x * 10) % 10 ≡ 0 = omega arith in
-    let tenth : x * 10 / 10 ≡ x = omega arith in
-    ap (λ r. cond (r == 0) (fewest p (x * 10 / 10)) (x * 10)) none ∙ ap (fewest p) tenth
-
-ten_times : (n t u : ℕ) → u ≡ t * 10 → n * u ≡ n * t * 10
-ten_times n t u e = ap (λ u. n * u) e ∙ sym (mul_assoc n t 10)
-
--- decimals that are zeros change nothing
-more_decimals : (k p q n : ℕ) → q ≡ k + p → fewest q (n * 10 ^ k) ≡ fewest p n
-more_decimals zero p q n e =
-    let same : q ≡ p = omega (arith, e) in
-    let one : n * 1 ≡ n = omega arith in ap₂ fewest same one
-more_decimals (suc k) p zero n e = absurd (omega (arith, e))
-more_decimals (suc k) p (suc q) n e =
-    ap (fewest (suc q)) (ten_times n (10 ^ k) (10 ^ suc k) (pow-suc 10 k))
-    ∙ ten_more q (n * 10 ^ k) ∙ more_decimals k p q n (omega (arith, e))
-
-magnitude : (m : ℤ) (t : ℕ) → unsigned_abs (m *ℤ pos t) ≡ unsigned_abs m * t
-magnitude m t = unsigned_abs-mul m (pos t)
-
-up_to : (p q : ℕ) → max p q - p + p ≡ max p q
-up_to p q = let few = le-max_left p q in omega arith
-
-up_to_other : (p q : ℕ) → max p q - q + q ≡ max p q
-up_to_other p q = let few = le-max_right p q in omega arith
-
-same_counts : (p q most : ℕ) (m n : ℤ) → most - p + p ≡ most → most - q + q ≡ most
-    → m *ℤ pos (10 ^ (most - p)) ≡ n *ℤ pos (10 ^ (most - q))
-    → fewest p (unsigned_abs m) ≡ fewest q (unsigned_abs n)
-same_counts p q most m n ends other is =
-    sym (more_decimals (most - p) p most (unsigned_abs m) (sym ends))
-    ∙ ap (fewest most)
-    (sym (magnitude m (10 ^ (most - p))) ∙ ap unsigned_abs is ∙ magnitude n (10 ^ (most - q)))
-    ∙ more_decimals (most - q) q most (unsigned_abs n) (sym other)
-
-numbers_alike : (p : ℕ) (m : ℤ) (q : ℕ) (n : ℤ) → same_number p m q n ≡ true
-    → number_fed p m ≡ number_fed q n
-numbers_alike p m q n h =
-    ap fed.u128 (same_counts p q (max p q) m n (up_to p q) (up_to_other p q)
-    ((Decides-int_eq (scaled m p (max p q)) (scaled n q (max p q))).0 h))
-
--- ---- other values
+use Rattle.value_hashes.proofs.BagFacts.{bags_alike}
+use Rattle.value_hashes.proofs.NumberFacts.{numbers_alike}
+use Rattle.value_hashes.specs.Fed.{value_fed, values_fed}
 
 one_text : (s t : List ℕ) → same_text s t ≡ true → s ≡ t
 one_text s t h = (texts_decided s t).0 h
@@ -104,7 +54,7 @@ alike (Position j m) (Position k n) h =
     let parts = and_parts (same_key j k) (int_eq m n) h in
     ap₂ (λ k n. value_fed (Position k n)) ((same_key_Decides j k).0 parts.0)
     ((Decides-int_eq m n).0 parts.1)
-alike (Inventory a) (Inventory b) h = refl
+alike (Inventory a) (Inventory b) h = ap (λ n. fed.u64 (n % 2 ^ 64)) (bags_alike a b h)
 alike x y h = cc
 
 pub values_alike : (xs ys : List Value) → same_values xs ys ≡ true → values_fed xs ≡ values_fed ys

@@ -1,1 +1,3 @@
+pub mod NumberFacts
+pub mod BagFacts
 pub mod FedFacts

@@ -1,1 +1,2 @@
 pub mod FeedFacts
+pub mod MarkFacts

@@ -1,13 +1,13 @@
 //! What a value feeds a hasher.
-ghost use Rattle.std.specs.Prelude.{◌≡◌, fold};
+ghost use Rattle.std.specs.Prelude.{◌≡◌, ◌%◌, ◌^◌, [], fold};
 ghost use Rattle.std.specs.Hash as fed;
 ghost use Rattle.std.specs.List.{flat_map};
 ghost use Rattle.value_hashes.specs.Fed as spec;
 
 use bean_base::Slice;
-use bean_lots::Lot;
-use query_values::{TextSet, Value};
-use std::hash::{Hash, Hasher};
+use bean_lots::{Key, Lot};
+use query_values::{Bag, TextSet, Value};
+use std::hash::{FoldHasher, Hash, Hasher};
 
 /// A magnitude in the fewest decimals that are exact.
 fn fewest(mut places: u8, mut magnitude: u128) -> u128
@@ -44,6 +44,41 @@ fn feed_set<H: Hasher>(set: &TextSet<'_>, state: &mut H)
     Slice::hash_slice(set.as_slice(), state);
 }
 
+fn feed_key<H: Hasher>(key: &Key<'_>, state: &mut H)
+    ensures { state.new ≡ fold H.write state.old (spec.key_fed key.now) }
+{
+    key.currency.hash(state);
+    feed_lot(&key.lot, state);
+}
+
+/// What a key with a count is hashed to by itself; where nothing is held, 0.
+fn mark_of(places: u8, key: &Key<'_>, count: i128) -> u64
+    ensures { result ≡ spec.mark_of places key.now count }
+{
+    let magnitude = fewest(places, count.unsigned_abs());
+    if magnitude == 0 {
+        return 0;
+    }
+    let mut own = FoldHasher::default();
+    magnitude.hash(&mut own);
+    feed_key(key, &mut own);
+    own.finish()
+}
+
+/// The sum of the marks of all entries, whatever their order.
+fn marks_of(bag: &Bag<'_>) -> u64
+    ensures { result ≡ spec.marks_beside bag.now.places [] bag.now.held % 2 ^ 64 }
+{
+    let mut marks: u64 = 0;
+    // Each key stands once among them.
+    let _ = bag.held.is_bare();
+    let mut rest = bag.held.positions();
+    while let Some((key, count)) = rest.next_held() {
+        marks = marks.wrapping_add(mark_of(bag.places, key, count));
+    }
+    marks
+}
+
 /// Feeds a value, as all that are the same feed it.
 pub fn feed<H: Hasher>(value: &Value<'_>, state: &mut H)
     ensures { state.new ≡ fold H.write state.old (spec.value_fed value.now) }
@@ -64,12 +99,10 @@ pub fn feed<H: Hasher>(value: &Value<'_>, state: &mut H)
             currency.hash(state);
         }
         Value::Position { key, count } => {
-            let key = key.get();
             count.hash(state);
-            key.currency.hash(state);
-            feed_lot(&key.lot, state);
+            feed_key(key.get(), state);
         }
-        Value::Inventory(_) => {}
+        Value::Inventory(bag) => marks_of(bag.get()).hash(state),
     }
 }
 

@@ -16,8 +16,8 @@
 //!
 //! # Cost
 //!
-//! Nothing takes memory. Of an inventory the hash says nothing, so keys that differ in inventories
-//! alone are looked through one after the other.
+//! Nothing takes memory. Of an inventory the hash tells the sum of what its entries are hashed to, so
+//! that the order of these doesn't matter.
 #![tactic(auto)]
 
 mod feeding;
