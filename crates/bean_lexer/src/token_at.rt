@@ -13,6 +13,7 @@ use crate::texts::text_or_fault;
 use crate::words::{key_or_keyword, sign_or_fault};
 
 /// The token at the front of a text.
+#[inline(always)]
 pub fn token_at(bytes: &[u8]) -> Found
     requires { 0 < length bytes.now }
     ensures token { IsToken bytes.now result.kind result.len }
@@ -30,6 +31,7 @@ pub fn token_at(bytes: &[u8]) -> Found
 }
 
 /// The line feeds in a token, which has none unless it is a text or a fault.
+#[inline(always)]
 pub fn line_feeds_of(kind: Kind, bytes: &[u8]) -> usize
     requires { IsTrue (may_be kind bytes.now) }
     ensures { result ≡ count_by is_line_feed bytes.now }

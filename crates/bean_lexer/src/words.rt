@@ -17,6 +17,7 @@ use crate::kind::{Keyword, Kind, Sign, WORDS};
 use byte_runs::{end_of_run, has_front};
 
 /// The key or the word that begins with a small letter, or a fault.
+#[inline(never)]
 pub fn key_or_keyword(bytes: &[u8]) -> Found
     requires some { 0 < length bytes.now }
     requires small { IsTrue (is_ascii_lowercase (slice_index bytes.now 0)) }
@@ -119,6 +120,7 @@ fn character_len(bytes: &[u8]) -> usize
 }
 
 /// The sign that begins with any other byte, or a fault of one character.
+#[inline(always)]
 pub fn sign_or_fault(bytes: &[u8]) -> Found
     requires some { 0 < length bytes.now }
     requires other { IsTrue (begins_other (slice_index bytes.now 0)) }
