@@ -17,7 +17,9 @@ use bean_grammar::literal::day;
 use bean_lexer::{Keyword, Kind, Sign, Token};
 use std::alloc::{AllocError, Global};
 
-/// What stands behind a word that tells the kind, and what stands behind that.
+/// What stands behind a word that tells the kind, and what stands behind that. It stays a call of its
+/// own, since nearly all directives are told by a sign.
+#[inline(never)]
 fn kind_behind_word<'t, 'a>(
     alloc: Global,
     word: Keyword,

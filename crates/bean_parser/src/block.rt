@@ -1,15 +1,18 @@
 //! Blocks: what each gives.
-ghost use Rattle.std.specs.Prelude.{◌≡◌, MatchOption, IfOk};
+ghost use Rattle.std.specs.Prelude.{◌≡◌, [], map, MatchOption, IfOk};
+ghost use Rattle.std.specs.Prelude as prelude;
 ghost use Rattle.bean_parser.specs.Block as spec;
+ghost use Rattle.bean_parser.specs.Block.{Line};
 ghost use Rattle.bean_parser.specs.Grammar as rule;
 ghost use Rattle.bean_parser.specs.Outcome as outcomes;
 ghost use Rattle.bean_parser.specs.Outcome.{Gives};
-ghost use Rattle.bean_parser.specs.Reading.{ReadsBlock, ReadsDated, ReadsUndated};
+ghost use Rattle.bean_parser.specs.Reading.{InLines, ReadsBlock, ReadsDated, ReadsUndated};
+ghost use Rattle.bean_parser.specs.Under.{no_lines, said_posting, with_lines};
 
 use crate::part::{Part, first_line, first_part};
 use crate::statement::Statement;
-use crate::under::{Body, all_postings, read_lines};
-use bean_base::{Day, Fault, FaultKind, List, Place};
+use crate::under::{Body, all_postings, other_lines, plain_lines};
+use bean_base::{Day, Fault, FaultKind, Few, List, Place};
 use bean_directives::head::head;
 use bean_directives::undated::undated_line;
 use bean_directives::{Directive, DirectiveKind, Transaction, Undated};
@@ -120,6 +123,64 @@ fn dated<'a>(
     Ok(Ranged::Within(Statement::Directive(directive)))
 }
 
+/// The kind, with the postings that stand under it.
+fn with_postings<'a>(kind: DirectiveKind<'a>, postings: List<Posting<'a>>) -> DirectiveKind<'a>
+    ensures { result ≡ rule.with_body kind.entry [] postings.entry }
+{
+    match kind {
+        DirectiveKind::Transaction(transaction) => DirectiveKind::Transaction(Transaction {
+            flag: transaction.flag,
+            payee: transaction.payee,
+            narration: transaction.narration,
+            marks: transaction.marks,
+            postings,
+        }),
+        other => other,
+    }
+}
+
+/// What a head says with nothing but postings under it, where all of it is in range.
+fn plainly_dated<'a>(
+    line: usize,
+    day: Ranged<Day>,
+    kind: Ranged<DirectiveKind<'a>>,
+    postings: List<Posting<'a>>,
+) -> Ranged<Statement<'a>>
+    ensures { result ≡ rule.dated line day kind.entry
+        (with_lines no_lines (map said_posting postings.entry)) }
+{
+    let (Ranged::Within(day), Ranged::Within(kind)) = (day, kind) else {
+        return Ranged::Outside;
+    };
+    Ranged::Within(Statement::Directive(Directive {
+        day,
+        line,
+        metadata: Few::new(),
+        kind: with_postings(kind, postings),
+    }))
+}
+
+/// What a block says whose first line is a head, with lines under it of which those at the front
+/// say `front`. It stays a call of its own, since nearly all blocks are read without it.
+#[inline(never)]
+fn other_block<'a>(
+    alloc: Global,
+    line: usize,
+    day: Ranged<Day>,
+    kind: Ranged<DirectiveKind<'a>>,
+    front: Body<'a>,
+    others: &[Token<'a>],
+) -> Result<Option<Ranged<Statement<'a>>>, AllocError>
+    ensures { IfOk result (λ found. (ls : prelude.List Line)
+        → InLines (rule.takes_postings kind.entry) ls (spec.lines others.now) front.entry
+        → ReadsDated line day kind.entry ls found) }
+{
+    match other_lines(alloc, takes_postings(&kind), front, others)? {
+        Some(body) => Ok(Some(dated(alloc, line, day, kind, body)?)),
+        None => Ok(None),
+    }
+}
+
 /// What a block says whose first line is a head.
 fn dated_block<'a>(
     alloc: Global,
@@ -130,13 +191,21 @@ fn dated_block<'a>(
 ) -> Result<Option<Ranged<Statement<'a>>>, AllocError>
     ensures { IfOk result (ReadsDated line day kind.entry (spec.lines under.now)) }
 {
-    match read_lines(alloc, takes_postings(&kind), under)? {
-        Some(body) => Ok(Some(dated(alloc, line, day, kind, body)?)),
-        None => Ok(None),
+    if !takes_postings(&kind) {
+        let front = Body::of_postings(alloc, Vec::new(alloc));
+        return other_block(alloc, line, day, kind, front, under);
     }
+    let (postings, others) = plain_lines(alloc, under)?;
+    if others.is_empty() {
+        let postings = List::new(postings);
+        return Ok(Some(plainly_dated(line, day, kind, postings)));
+    }
+    let front = Body::of_postings(alloc, postings);
+    other_block(alloc, line, day, kind, front, others)
 }
 
 /// What a block without a day says that begins with a line.
+#[inline(never)]
 fn undated_block<'a>(
     line: usize,
     first: &[Token<'a>],
