@@ -1,5 +1,5 @@
 //! Blocks: what each gives.
-ghost use Rattle.std.specs.Prelude.{◌≡◌, [], map, MatchOption, IfOk};
+ghost use Rattle.std.specs.Prelude.{◌≡◌, [], map, MatchOption, IfSome, IfOk};
 ghost use Rattle.std.specs.Prelude as prelude;
 ghost use Rattle.bean_parser.specs.Block as spec;
 ghost use Rattle.bean_parser.specs.Block.{Line};
@@ -8,12 +8,14 @@ ghost use Rattle.bean_parser.specs.Outcome as outcomes;
 ghost use Rattle.bean_parser.specs.Outcome.{Gives};
 ghost use Rattle.bean_parser.specs.Reading.{InLines, ReadsBlock, ReadsDated, ReadsUndated};
 ghost use Rattle.bean_parser.specs.Under.{no_lines, said_posting, with_lines};
+ghost use Rattle.bean_parser.specs.declared.block.Outcome.TheVariants as outcome;
+ghost use Rattle.bean_parser.specs.declared.statement.Statement.TheVariants as statements;
 
 use crate::part::{Part, first_line, first_part};
 use crate::statement::Statement;
 use crate::under::{Body, all_postings, other_lines, plain_lines};
 use bean_base::{Day, Fault, FaultKind, Few, List, Place};
-use bean_directives::head::head;
+use bean_directives::head::{head, plain_head};
 use bean_directives::undated::undated_line;
 use bean_directives::{Directive, DirectiveKind, Transaction, Undated};
 use bean_grammar::{Mark, Ranged};
@@ -255,7 +257,46 @@ pub fn fault_at(kind: FaultKind, line: usize) -> Fault
     }
 }
 
-/// What a block says, or its first fault.
+/// The directive that a block gives which is a transaction with a plain first line and nothing but
+/// plain postings under it. Nearly all blocks are such, and what they say is read without a look at
+/// what others may say; of the others nothing is said.
+#[inline(always)]
+pub fn plain_block<'a>(
+    alloc: Global,
+    block: &[Token<'a>],
+) -> Result<Option<Directive<'a>>, AllocError>
+    ensures { IfOk result (λ found. IfSome found (λ d.
+        Gives block.now (outcome.Statement (statements.Directive d)))) }
+{
+    if fault_line(block).is_some() {
+        return Ok(None);
+    }
+    if !is_in_column_one(block) {
+        return Ok(None);
+    }
+    let Some((first, under)) = first_part(Part::Line, block) else {
+        return Ok(None);
+    };
+    let Some(found) = plain_head(alloc, first) else {
+        return Ok(None);
+    };
+    let (day, transaction) = found;
+    let (postings, others) = plain_lines(alloc, under)?;
+    if !others.is_empty() {
+        return Ok(None);
+    }
+    let kind = DirectiveKind::Transaction(transaction);
+    Ok(Some(Directive {
+        day,
+        line: first_line(block),
+        metadata: Few::new(),
+        kind: with_postings(kind, List::new(postings)),
+    }))
+}
+
+/// What a block says, or its first fault. It stays a call of its own, since nearly all blocks are
+/// plain.
+#[inline(never)]
 pub fn read_block<'a>(alloc: Global, block: &[Token<'a>]) -> Result<Outcome<'a>, AllocError>
     ensures { IfOk result (Gives block.now) }
 {

@@ -19,7 +19,8 @@ use bean_grammar::{AmountParts, Ranged, expression};
 use bean_lexer::{Kind, Sign, Token};
 use std::alloc::{AllocError, Global};
 
-fn after_flag_sign<'t, 'a>(tokens: &'t [Token<'a>]) -> Option<(Flag, &'t [Token<'a>])>
+/// The flag that a sign at the front is, and what stands behind it.
+pub fn after_flag_sign<'t, 'a>(tokens: &'t [Token<'a>]) -> Option<(Flag, &'t [Token<'a>])>
     ensures front { MatchOption result (rule.begins_with_flag_sign (lexemes tokens.now) ≡ false)
         (λ r. lexemes tokens.now ≡ rule.flag_sign r.0 ∷ lexemes r.1.now) }
     ensures shorter { IfSome result (λ r. length r.1.now < length tokens.now) }
