@@ -60,6 +60,7 @@ fn keyword_at(bytes: &[u8]) -> Option<Keyword>
 }
 
 /// The sign of one byte, but for `#`.
+#[inline(always)]
 fn sign_of(b: u8) -> Option<Sign>
     ensures value { result ≡ spec.sign_of b }
     ensures spelling { IfSome result (λ sign. sign_spelling sign ≡ b ∷ []) }
