@@ -126,6 +126,7 @@ fn dated<'a>(
 }
 
 /// The kind, with the postings that stand under it.
+#[inline(always)]
 fn with_postings<'a>(kind: DirectiveKind<'a>, postings: List<Posting<'a>>) -> DirectiveKind<'a>
     ensures { result ≡ rule.with_body kind.entry [] postings.entry }
 {
