@@ -132,14 +132,21 @@ fn plainly<'a>(
     }
 }
 
-/// The posting that a line is which has an account, a number, alone or behind a sign, and a
-/// currency. Nearly every posting is one of these, and they are read without a look at what others
-/// may have.
+/// The posting that a line is which has an account, and a number, alone or behind a sign, with a
+/// currency, or neither. Nearly every posting is one of these, and they are read without a look at
+/// what others may have.
 #[inline(always)]
 pub fn plain_posting<'a>(line: usize, tokens: &[Token<'a>]) -> Option<Ranged<Posting<'a>>>
     ensures { IfSome result (Is (rule.posting line) (lexemes tokens.now)) }
 {
     let (account, rest) = after_account(tokens)?;
+    let Some(_) = next(rest) else {
+        return Some(Ranged::Within(Posting {
+            units: Units::Missing,
+            account,
+            details: Details::alone(line),
+        }));
+    };
     let (number, rest) = expression::plain(rest)?;
     let (currency, rest) = after_currency(rest)?;
     match next(rest) {
