@@ -1,6 +1,12 @@
 -- A block that is a plain transaction gives it.
-use Rattle.std.proofs.Common.{◌≡◌, ℕ, true, false, List, [], ◌∷◌, Option, Some, None, map, refl, sym}
-use Rattle.std.proofs.Common.{subst, is_some}
+use Rattle.std.proofs.Common.{◌≡◌, ℕ, true, false, List, [], ◌∷◌, Some, None, map, refl, sym}
+use Rattle.std.proofs.Common.{subst, ap, ◌∙◌, Bool}
+use Rattle.std.specs.Prelude.{if◌then◌else◌}
+use Rattle.std.specs.List.{find, list_all}
+use Rattle.std.specs.Option.{option_map}
+use Rattle.bean_lexer.specs.declared.kind.Kind.{Kind}
+use Rattle.bean_lexer.specs.declared.kind.Kind.TheVariants as kinds_of
+use Rattle.bean_lexer.proofs.OneListOfTokensFacts.{two_true}
 use Rattle.theory.specs.Cut.{cut_before}
 use Rattle.bean_base.specs.declared.days.Day as days
 use Rattle.bean_lexer.specs.declared.token.Token.{Token}
@@ -11,6 +17,7 @@ use Rattle.bean_directives.specs.Head.{IsHead}
 use Rattle.bean_directives.specs.declared.directive.DirectiveKind.TheVariants as kinds
 use Rattle.bean_directives.specs.declared.transaction.Transaction.{Transaction}
 use Rattle.bean_parser.specs.Block.{lines, first_line, begins_line, is_in_column_one, fault_line}
+use Rattle.bean_parser.specs.Block.{is_fault, is_plain}
 use Rattle.bean_parser.specs.Grammar.{with_body}
 use Rattle.bean_parser.specs.Outcome.{Gives, GivesAt}
 use Rattle.bean_parser.specs.Reading.{InLines, ReadsBlock}
@@ -48,6 +55,20 @@ plain_gives block line under others d t ps n no_fault column cut number head at 
     end (plainly_said n d (kinds.Transaction t) ps)) in
     subst (λ o. GivesAt o block (outcomes.Statement (plainly n d t ps))) (sym no_fault) (said.0, said.1, sym said.2)
 
-pub no_value : {X : Type 0} (o : Option X) → is_some o ≡ false → o ≡ None
-no_value None absent = refl
-no_value (Some x) absent = absurd (cc)
+plain_sound : (k : Kind) → is_plain k ≡ true → is_fault k ≡ false
+plain_sound kinds_of.Fault plain = absurd (cc)
+plain_sound kinds_of.Day plain = refl
+plain_sound k plain = refl
+
+find_past : (p : Token → Bool) (t : Token) (ts : List Token) → p t ≡ false
+    → find p (t ∷ ts) ≡ find p ts
+find_past p t ts h = ap (λ b. if b then Some t else find p ts) h
+
+-- no fault stands where each token may stand in a plain block
+pub no_plain_fault : (ts : List Token) → list_all (λ t. is_plain t.kind) ts ≡ true
+    → fault_line ts ≡ None
+no_plain_fault [] all = refl
+no_plain_fault (t ∷ ts) all =
+    let both = two_true (is_plain t.kind) (list_all (λ t. is_plain t.kind) ts) all in
+    ap (option_map (λ t. t.line)) (find_past (λ t. is_fault t.kind) t ts
+    (plain_sound t.kind both.0)) ∙ no_plain_fault ts both.1

@@ -1,5 +1,6 @@
 //! Blocks: what each gives.
 ghost use Rattle.std.specs.Prelude.{◌≡◌, [], map, MatchOption, IfSome, IfOk};
+ghost use Rattle.std.specs.List.{list_all};
 ghost use Rattle.std.specs.Prelude as prelude;
 ghost use Rattle.bean_parser.specs.Block as spec;
 ghost use Rattle.bean_parser.specs.Block.{Line};
@@ -19,7 +20,7 @@ use bean_directives::head::{head, plain_head};
 use bean_directives::undated::undated_line;
 use bean_directives::{Directive, DirectiveKind, Transaction, Undated};
 use bean_grammar::{Mark, Ranged};
-use bean_lexer::{Kind, Token};
+use bean_lexer::{Kind, Sign, Token};
 use bean_postings::Posting;
 use std::alloc::{AllocError, Global};
 
@@ -258,6 +259,24 @@ pub fn fault_at(kind: FaultKind, line: usize) -> Fault
     }
 }
 
+/// Whether a token may stand in a plain block.
+fn is_plain(kind: Kind) -> bool
+    ensures { result ≡ spec.is_plain kind }
+{
+    match kind {
+        Kind::Day | Kind::Number | Kind::Text | Kind::Account | Kind::Currency => true,
+        Kind::Sign(Sign::Star | Sign::Bang | Sign::Plus | Sign::Minus) => true,
+        _ => false,
+    }
+}
+
+/// Whether each token may stand in a plain block: a look that leaves out most of the others.
+fn are_plain(block: &[Token<'_>]) -> bool
+    ensures { result ≡ list_all (λ t. spec.is_plain t.kind) block.now }
+{
+    block.iter().all(|token| is_plain(token.kind))
+}
+
 /// The directive that a block gives which is a transaction with a plain first line and nothing but
 /// plain postings under it. Nearly all blocks are such, and what they say is read without a look at
 /// what others may say; of the others nothing is said.
@@ -269,7 +288,7 @@ pub fn plain_block<'a>(
     ensures { IfOk result (λ found. IfSome found (λ d.
         Gives block.now (outcome.Statement (statements.Directive d)))) }
 {
-    if fault_line(block).is_some() {
+    if !are_plain(block) {
         return Ok(None);
     }
     if !is_in_column_one(block) {

@@ -1,12 +1,11 @@
 use Rattle.std.proofs.Common.{sym, ◌∙◌}
-use Rattle.bean_parser.proofs.PlainBlockFacts.{no_value, plain_gives}
+use Rattle.bean_parser.proofs.PlainBlockFacts.{no_plain_fault, plain_gives}
 use Rattle.bean_parser.proofs.PlainLinesFacts.{no_others}
 use Rattle.bean_parser.proofs.block.plain_block.Goals as goal
 
 pub returns : goal.returns
 returns c =
-    let no_fault =
-    sym c.fault_line.ensures ∙ no_value _ (sym c.is_some.ensures ∙ c.if-is_some.false) in
+    let no_fault = no_plain_fault c.args.block.now (sym c.are_plain.ensures ∙ c.if-not-are_plain.false) in
     rw (c.new.ensures, c.with_postings.ensures, c.new-2.ensures)
     (plain_gives c.args.block.now c.in-Some.first.now c.in-Some.under.now
     c.in_ok-postings.others.now c.in-Some-plain_head.found.0 c.in-Some-plain_head.found.1
