@@ -1,23 +1,28 @@
 //! The first line of a directive.
-ghost use Rattle.std.specs.Prelude.{◌≡◌, MatchOption, IfOk};
+ghost use Rattle.std.specs.Prelude.{◌≡◌, MatchOption, IfSome, IfOk};
 ghost use Rattle.theory.specs.Form.{Reads, HasNone};
 ghost use Rattle.bean_grammar.specs.Lexeme as lexeme;
 ghost use Rattle.bean_grammar.specs.Lexeme.{lexemes, lexeme_of};
+ghost use Rattle.bean_grammar.specs.declared.ranged.Ranged.TheVariants.{Within};
 ghost use Rattle.bean_directives.specs.Head as rule;
+ghost use Rattle.bean_directives.specs.declared.directive.DirectiveKind.TheVariants as kinds;
 
 use crate::accounts::{close_line, open_line, pad_line};
 use crate::directive::DirectiveKind;
 use crate::notes::{custom_line, document_line, event_line, note_line, query_line};
 use crate::numbers::{balance_line, commodity_line, price_line};
-use crate::transaction::transaction_line;
-use bean_base::{Day, Flag};
+use crate::transaction::{Transaction, transaction_line, words};
+use bean_base::{Day, Few, Flag, List};
 use bean_grammar::Ranged;
 use bean_grammar::front::next;
 use bean_grammar::literal::day;
 use bean_lexer::{Keyword, Kind, Sign, Token};
+use bean_postings::posting_line::after_flag_sign;
 use std::alloc::{AllocError, Global};
 
-/// What stands behind a word that tells the kind, and what stands behind that.
+/// What stands behind a word that tells the kind, and what stands behind that. It stays a call of its
+/// own, since nearly all directives are told by a sign.
+#[inline(never)]
 fn kind_behind_word<'t, 'a>(
     alloc: Global,
     word: Keyword,
@@ -102,5 +107,33 @@ pub fn head<'a>(
     match next(rest) {
         Some(_) => Ok(None),
         None => Ok(Some((day, kind))),
+    }
+}
+
+/// The day and the transaction of a first line that has a day of the calendar, a sign and at most two
+/// texts. Nearly all first lines are such, and are read without a look at what others have.
+#[inline(always)]
+pub fn plain_head<'a>(alloc: Global, line: &[Token<'a>]) -> Option<(Day, Transaction<'a>)>
+    ensures { IfSome result (λ r. rule.IsHead (lexemes line.now) (Within r.0)
+        (Within (kinds.Transaction r.1))) }
+{
+    let (found, rest) = day(line)?;
+    let Ranged::Within(day) = found else {
+        return None;
+    };
+    let (flag, rest) = after_flag_sign(rest)?;
+    let (words, rest) = words(rest);
+    match next(rest) {
+        Some(_) => None,
+        None => {
+            let transaction = Transaction {
+                flag,
+                payee: words.payee,
+                narration: words.narration,
+                marks: Few::new(),
+                postings: List::new(Vec::new(alloc)),
+            };
+            Some((day, transaction))
+        }
     }
 }

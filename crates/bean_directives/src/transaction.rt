@@ -54,7 +54,8 @@ fn words_of<'a>(first: Option<Text<'a>>, second: Option<Text<'a>>) -> PayeeAndNa
 }
 
 /// Up to two texts at the front, and what stands behind them.
-fn words<'t, 'a>(tokens: &'t [Token<'a>]) -> (PayeeAndNarration<'a>, &'t [Token<'a>])
+#[inline(always)]
+pub(crate) fn words<'t, 'a>(tokens: &'t [Token<'a>]) -> (PayeeAndNarration<'a>, &'t [Token<'a>])
     ensures { Reads rule.words (lexemes tokens.now) result.0 (lexemes result.1.now) }
 {
     let (first, rest) = text_if_due(tokens);

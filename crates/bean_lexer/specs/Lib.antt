@@ -1,6 +1,7 @@
 pub mod TokenForm
 pub mod KindForm
 pub mod Gap
+pub mod InGap
 pub mod Between
 pub mod Lookahead
 pub mod Tokens

@@ -15,6 +15,7 @@ use bean_base::Day;
 use byte_runs::{Digit, end_of_run};
 
 /// The day or the number that begins with a digit.
+#[inline(always)]
 pub fn day_or_number(bytes: &[u8]) -> Found
     requires some { 0 < length bytes.now }
     requires digit { IsTrue (is_ascii_digit (slice_index bytes.now 0)) }
@@ -34,6 +35,7 @@ pub fn day_or_number(bytes: &[u8]) -> Found
     }
 }
 
+#[inline(always)]
 fn begins_with_day(bytes: &[u8]) -> bool
     ensures { result ≡ (nat_le 10 (length bytes.now) && is_day_form (take 10 bytes.now)) }
 {
@@ -55,6 +57,7 @@ fn has_point(bytes: &[u8], at: usize) -> bool
 }
 
 /// The length of the number that begins with a digit.
+#[inline(always)]
 fn number_len(bytes: &[u8]) -> usize
     requires some { 0 < length bytes.now }
     requires digit { IsTrue (is_ascii_digit (slice_index bytes.now 0)) }

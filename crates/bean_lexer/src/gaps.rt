@@ -1,8 +1,10 @@
 //! What stands between tokens: white space, line feeds, comments and skipped lines.
-ghost use Rattle.std.specs.Prelude.{◌≡◌, ◌≤◌, length, take, count_by, IsTrue};
+ghost use Rattle.std.specs.Prelude.{◌≡◌, ◌≤◌, ◌&&◌, nat_lt, length, slice_index, take, count_by};
+ghost use Rattle.std.specs.Prelude.{IsTrue};
 ghost use Rattle.bean_lexer.specs.Gap.{is_line_feed, gap_len, behind_gap, gap_step, place_of};
 ghost use Rattle.bean_lexer.specs.Gap as spec;
 ghost use Rattle.bean_lexer.specs.Gap.{spot_at};
+ghost use Rattle.bean_lexer.specs.InGap.{IsInGap, is_blank};
 
 use crate::kind::Place;
 
@@ -29,6 +31,7 @@ pub struct Gap {
 
 impl Spot {
     /// Where a gap begins at a place of a text: at its start, or behind a token.
+    #[inline(always)]
     pub fn at(place: usize) -> Spot
         ensures { result ≡ spot_at place }
     {
@@ -39,6 +42,7 @@ impl Spot {
     }
 
     /// The place of a token that begins here.
+    #[inline(always)]
     pub fn place(self) -> Place
         ensures { result ≡ place_of self }
     {
@@ -49,6 +53,7 @@ impl Spot {
         }
     }
 
+    #[inline(always)]
     fn behind_white(self) -> Spot
         ensures { result ≡ spec.behind_white self }
     {
@@ -59,6 +64,7 @@ impl Spot {
     }
 
     /// Behind one more byte of a gap, if it goes on with that byte.
+    #[inline(always)]
     fn step(self, b: u8) -> Option<Spot>
         ensures { result ≡ gap_step self b }
     {
@@ -75,6 +81,7 @@ impl Spot {
 
 /// White space stands at the front, and behind its first byte a token's byte.
 #[tactic(auto, using(crate::proofs::GapFacts::one_white))]
+#[inline(always)]
 fn is_one_white(start: Spot, bytes: &[u8]) -> bool
     ensures len { IsTrue result → gap_len start bytes.now ≡ 1 }
     ensures end { IsTrue result → behind_gap start bytes.now ≡ spec.behind_white start }
@@ -86,16 +93,52 @@ fn is_one_white(start: Spot, bytes: &[u8]) -> bool
         && start.behind_white().step(bytes[1]).is_none()
 }
 
-/// The gap at the front of a text, byte by byte.
-fn long_gap(start: Spot, bytes: &[u8]) -> Gap
+#[inline(always)]
+fn is_blank_at(bytes: &[u8], at: usize) -> bool
+    ensures { result ≡ (nat_lt at (length bytes.now) && is_blank (slice_index bytes.now at)) }
+{
+    at < bytes.len() && (bytes[at] == b' ' || bytes[at] == b'\t')
+}
+
+/// The front of the gap at the front of a text: at most one line feed, and then white space.
+#[inline(always)]
+fn front_of_gap(start: Spot, bytes: &[u8]) -> Gap
+    ensures { IsInGap start bytes.now result }
+{
+    let mut line_feeds = 0;
+    let mut end = start;
+    if !bytes.is_empty() && bytes[0] == b'\n' {
+        line_feeds = 1;
+        end = Spot::LineStart;
+    }
+    let mut len = line_feeds;
+    if is_blank_at(bytes, len) {
+        end = end.behind_white();
+        len += 1;
+        while is_blank_at(bytes, len) {
+            len += 1;
+        }
+    }
+    Gap {
+        len,
+        line_feeds,
+        end,
+    }
+}
+
+/// The gap of which a front is known, byte by byte.
+#[inline(always)]
+fn long_gap(start: Spot, front: Gap, bytes: &[u8]) -> Gap
+    requires { IsInGap start bytes.now front }
     ensures len { result.len ≡ gap_len start bytes.now }
     ensures end { result.end ≡ behind_gap start bytes.now }
     ensures inside { result.len ≤ length bytes.now }
     ensures line_feeds { result.line_feeds ≡ count_by is_line_feed (take result.len bytes.now) }
 {
-    let mut end = start;
-    let mut len = 0;
-    let mut line_feeds = 0;
+    let _ = start;
+    let mut end = front.end;
+    let mut len = front.len;
+    let mut line_feeds = front.line_feeds;
     while len < bytes.len() {
         match end.step(bytes[len]) {
             Some(next) => {
@@ -114,6 +157,7 @@ fn long_gap(start: Spot, bytes: &[u8]) -> Gap
 }
 
 /// The gap at the front of a text.
+#[inline(always)]
 pub fn gap_at(start: Spot, bytes: &[u8]) -> Gap
     ensures len { result.len ≡ gap_len start bytes.now }
     ensures end { result.end ≡ behind_gap start bytes.now }
@@ -127,6 +171,6 @@ pub fn gap_at(start: Spot, bytes: &[u8]) -> Gap
             end: start.behind_white(),
         }
     } else {
-        long_gap(start, bytes)
+        long_gap(start, front_of_gap(start, bytes), bytes)
     }
 }

@@ -35,6 +35,7 @@ pub fn account_or_currency(bytes: &[u8]) -> Found
 }
 
 /// The length of a root and its colon at the front, or 0.
+#[inline(always)]
 fn root_len(bytes: &[u8]) -> usize
     ensures { result ≡ lookahead.root_len bytes.now }
 {
@@ -74,6 +75,7 @@ fn has_next_component(bytes: &[u8], at: usize) -> bool
 }
 
 /// The length of the account at the front.
+#[inline(always)]
 fn account_len(bytes: &[u8]) -> Option<usize>
     ensures account { MatchOption result (HasNoFront is_account bytes.now)
         (IsLongestFront is_account bytes.now) }
@@ -139,6 +141,7 @@ fn has_bad_end(bytes: &[u8], len: usize) -> bool
 
 /// How many characters of a currency stand at the front, up to the longest. No more are looked at, so
 /// a run of very many costs no more than the tokens that it is cut into.
+#[inline(always)]
 fn currency_reach(bytes: &[u8]) -> usize
     ensures reach { result ≡ min (prefix_len is_in_currency bytes.now) 24 }
     ensures inside { result ≤ length bytes.now }
@@ -148,6 +151,7 @@ fn currency_reach(bytes: &[u8]) -> usize
 }
 
 /// The length of the currency or the truth value that begins with a capital.
+#[inline(always)]
 fn currency_len(bytes: &[u8]) -> usize
     requires some { 0 < length bytes.now }
     requires capital { IsTrue (is_ascii_uppercase (slice_index bytes.now 0)) }

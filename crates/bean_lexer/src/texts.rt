@@ -13,6 +13,7 @@ use crate::kind::Kind;
 use byte_runs::end_of_run;
 
 /// The text that begins with a quote, or a fault as long.
+#[inline(always)]
 pub fn text_or_fault(bytes: &[u8]) -> Found
     requires some { 0 < length bytes.now }
     requires quote { slice_index bytes.now 0 ≡ quote }

@@ -12,16 +12,21 @@ use crate::names::{account_or_currency, link_or_fault, tag_or_hash};
 use crate::texts::text_or_fault;
 use crate::words::{key_or_keyword, sign_or_fault};
 
-/// The token at the front of a text.
+/// The token at the front of a text. Most begin with a capital or a digit, which are told first.
+#[inline(always)]
 pub fn token_at(bytes: &[u8]) -> Found
     requires { 0 < length bytes.now }
     ensures token { IsToken bytes.now result.kind result.len }
     ensures boundary { IsUtf8 bytes.now → IsCharBoundary bytes.now result.len }
 {
+    if bytes[0].is_ascii_uppercase() {
+        return account_or_currency(bytes);
+    }
+    if bytes[0].is_ascii_digit() {
+        return day_or_number(bytes);
+    }
     match bytes[0] {
-        b'0'..=b'9' => day_or_number(bytes),
         b'"' => text_or_fault(bytes),
-        b'A'..=b'Z' => account_or_currency(bytes),
         b'a'..=b'z' => key_or_keyword(bytes),
         b'#' => tag_or_hash(bytes),
         b'^' => link_or_fault(bytes),
@@ -30,6 +35,7 @@ pub fn token_at(bytes: &[u8]) -> Found
 }
 
 /// The line feeds in a token, which has none unless it is a text or a fault.
+#[inline(always)]
 pub fn line_feeds_of(kind: Kind, bytes: &[u8]) -> usize
     requires { IsTrue (may_be kind bytes.now) }
     ensures { result ≡ count_by is_line_feed bytes.now }

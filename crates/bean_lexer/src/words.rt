@@ -17,6 +17,7 @@ use crate::kind::{Keyword, Kind, Sign, WORDS};
 use byte_runs::{end_of_run, has_front};
 
 /// The key or the word that begins with a small letter, or a fault.
+#[inline(never)]
 pub fn key_or_keyword(bytes: &[u8]) -> Found
     requires some { 0 < length bytes.now }
     requires small { IsTrue (is_ascii_lowercase (slice_index bytes.now 0)) }
@@ -59,6 +60,7 @@ fn keyword_at(bytes: &[u8]) -> Option<Keyword>
 }
 
 /// The sign of one byte, but for `#`.
+#[inline(always)]
 fn sign_of(b: u8) -> Option<Sign>
     ensures value { result ≡ spec.sign_of b }
     ensures spelling { IfSome result (λ sign. sign_spelling sign ≡ b ∷ []) }
@@ -119,6 +121,7 @@ fn character_len(bytes: &[u8]) -> usize
 }
 
 /// The sign that begins with any other byte, or a fault of one character.
+#[inline(always)]
 pub fn sign_or_fault(bytes: &[u8]) -> Found
     requires some { 0 < length bytes.now }
     requires other { IsTrue (begins_other (slice_index bytes.now 0)) }

@@ -1,6 +1,8 @@
 pub mod BlockReaderFacts
 pub mod LineFacts
 pub mod LinesFacts
+pub mod PlainLinesFacts
+pub mod PlainBlockFacts
 pub mod BlockFacts
 pub mod ScopeFacts
 pub mod MatchFacts

@@ -5,19 +5,10 @@ use Rattle.std.proofs.lemmas.List.{append-nil}
 use Rattle.theory.specs.Cut.{cut_before}
 use Rattle.bean_lexer.specs.declared.token.Token.{Token}
 use Rattle.bean_parser.specs.Block.{Line, line_of, lines, begins_line}
-use Rattle.bean_parser.specs.Reading.{ReadsLine, ReadsLines}
+use Rattle.bean_parser.specs.Reading.{ReadsLine, ReadsLines, InLines}
 use Rattle.bean_parser.specs.Under.{IsLine, AreLines, no_lines, with_line, with_lines}
 use Rattle.bean_parser.specs.declared.under.Body.{Body}
 use Rattle.bean_parser.specs.declared.under.LineKind.{LineKind}
-
--- Some lines are read: what completes the rest completes the whole, and each whole goes on so.
-pub record InLines (in_transaction : Bool) (ls rest : List Line) (b : Body) : Type 0 where
-  pub read : List LineKind
-  pub whole : (us : List LineKind) → AreLines in_transaction rest us
-      → AreLines in_transaction ls (read ++ us)
-  pub only : (ws : List LineKind) → AreLines in_transaction ls ws
-      → (us : List LineKind) × AreLines in_transaction rest us
-  pub said : b ≡ with_lines no_lines read
 
 pub lines_begin : (in_transaction : Bool) (ls : List Line) (b : Body) → b ≡ no_lines
     → InLines in_transaction ls ls b
@@ -30,7 +21,7 @@ next_line : (rest line after : List Token)
     → lines rest ≡ line_of line ∷ lines after
 next_line rest line after e = ap (map line_of) e
 
-with_one_more : (b : Body) (ks : List LineKind) (k : LineKind)
+pub with_one_more : (b : Body) (ks : List LineKind) (k : LineKind)
     → with_lines b (ks ++ k ∷ []) ≡ with_line (with_lines b ks) k
 with_one_more b [] k = refl
 with_one_more b (j ∷ ks) k = with_one_more (with_line b j) ks k

@@ -1,5 +1,5 @@
 -- What the parts of a block are read as.
-use Rattle.std.specs.Prelude.{◌≡◌, ℕ, Bool, List, [], Option, Some, None}
+use Rattle.std.specs.Prelude.{◌≡◌, ℕ, Bool, List, [], ◌++◌, Option, Some, None}
 use Rattle.bean_base.specs.declared.days.Day.{Day}
 use Rattle.bean_lexer.specs.declared.token.Token.{Token}
 use Rattle.bean_grammar.specs.declared.ranged.Ranged.{Ranged}
@@ -23,6 +23,15 @@ abbrev pub ReadsLines : Bool → List Line → Option Body → Type 0
 ReadsLines in_transaction ls None = (ks : List LineKind) → AreLines in_transaction ls ks → ⊥
 ReadsLines in_transaction ls (Some b) =
     (ks : List LineKind) × AreLines in_transaction ls ks × (b ≡ with_lines no_lines ks)
+
+-- Some lines are read: what completes the rest completes the whole, and each whole goes on so.
+pub record InLines (in_transaction : Bool) (ls rest : List Line) (b : Body) : Type 0 where
+  pub read : List LineKind
+  pub whole : (us : List LineKind) → AreLines in_transaction rest us
+      → AreLines in_transaction ls (read ++ us)
+  pub only : (ws : List LineKind) → AreLines in_transaction ls ws
+      → (us : List LineKind) × AreLines in_transaction rest us
+  pub said : b ≡ with_lines no_lines read
 
 -- what a block says that begins on that line with such a head, and has these lines under it
 abbrev pub ReadsDated : ℕ → Ranged Day → Ranged DirectiveKind → List Line

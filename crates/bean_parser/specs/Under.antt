@@ -57,5 +57,9 @@ abbrev pub with_lines : Body → List LineKind → Body
 with_lines b [] = b
 with_lines b (k ∷ ks) = with_lines (with_line b k) ks
 
+-- what a line says that is a posting in range
+abbrev pub said_posting : Posting → LineKind
+said_posting p = kinds.Posting (Within p)
+
 abbrev pub postings_in : Body → List Posting
 postings_in b = all_before b.before b.last

@@ -1,20 +1,26 @@
 //! Blocks: what each gives.
-ghost use Rattle.std.specs.Prelude.{◌≡◌, MatchOption, IfOk};
+ghost use Rattle.std.specs.Prelude.{◌≡◌, [], map, MatchOption, IfSome, IfOk};
+ghost use Rattle.std.specs.List.{list_all};
+ghost use Rattle.std.specs.Prelude as prelude;
 ghost use Rattle.bean_parser.specs.Block as spec;
+ghost use Rattle.bean_parser.specs.Block.{Line};
 ghost use Rattle.bean_parser.specs.Grammar as rule;
 ghost use Rattle.bean_parser.specs.Outcome as outcomes;
 ghost use Rattle.bean_parser.specs.Outcome.{Gives};
-ghost use Rattle.bean_parser.specs.Reading.{ReadsBlock, ReadsDated, ReadsUndated};
+ghost use Rattle.bean_parser.specs.Reading.{InLines, ReadsBlock, ReadsDated, ReadsUndated};
+ghost use Rattle.bean_parser.specs.Under.{no_lines, said_posting, with_lines};
+ghost use Rattle.bean_parser.specs.declared.block.Outcome.TheVariants as outcome;
+ghost use Rattle.bean_parser.specs.declared.statement.Statement.TheVariants as statements;
 
 use crate::part::{Part, first_line, first_part};
 use crate::statement::Statement;
-use crate::under::{Body, all_postings, read_lines};
-use bean_base::{Day, Fault, FaultKind, List, Place};
-use bean_directives::head::head;
+use crate::under::{Body, all_postings, other_lines, plain_lines};
+use bean_base::{Day, Fault, FaultKind, Few, List, Place};
+use bean_directives::head::{head, plain_head};
 use bean_directives::undated::undated_line;
 use bean_directives::{Directive, DirectiveKind, Transaction, Undated};
 use bean_grammar::{Mark, Ranged};
-use bean_lexer::{Kind, Token};
+use bean_lexer::{Kind, Sign, Token};
 use bean_postings::Posting;
 use std::alloc::{AllocError, Global};
 
@@ -120,6 +126,65 @@ fn dated<'a>(
     Ok(Ranged::Within(Statement::Directive(directive)))
 }
 
+/// The kind, with the postings that stand under it.
+#[inline(always)]
+fn with_postings<'a>(kind: DirectiveKind<'a>, postings: List<Posting<'a>>) -> DirectiveKind<'a>
+    ensures { result ≡ rule.with_body kind.entry [] postings.entry }
+{
+    match kind {
+        DirectiveKind::Transaction(transaction) => DirectiveKind::Transaction(Transaction {
+            flag: transaction.flag,
+            payee: transaction.payee,
+            narration: transaction.narration,
+            marks: transaction.marks,
+            postings,
+        }),
+        other => other,
+    }
+}
+
+/// What a head says with nothing but postings under it, where all of it is in range.
+fn plainly_dated<'a>(
+    line: usize,
+    day: Ranged<Day>,
+    kind: Ranged<DirectiveKind<'a>>,
+    postings: List<Posting<'a>>,
+) -> Ranged<Statement<'a>>
+    ensures { result ≡ rule.dated line day kind.entry
+        (with_lines no_lines (map said_posting postings.entry)) }
+{
+    let (Ranged::Within(day), Ranged::Within(kind)) = (day, kind) else {
+        return Ranged::Outside;
+    };
+    Ranged::Within(Statement::Directive(Directive {
+        day,
+        line,
+        metadata: Few::new(),
+        kind: with_postings(kind, postings),
+    }))
+}
+
+/// What a block says whose first line is a head, with lines under it of which those at the front
+/// say `front`. It stays a call of its own, since nearly all blocks are read without it.
+#[inline(never)]
+fn other_block<'a>(
+    alloc: Global,
+    line: usize,
+    day: Ranged<Day>,
+    kind: Ranged<DirectiveKind<'a>>,
+    front: Body<'a>,
+    others: &[Token<'a>],
+) -> Result<Option<Ranged<Statement<'a>>>, AllocError>
+    ensures { IfOk result (λ found. (ls : prelude.List Line)
+        → InLines (rule.takes_postings kind.entry) ls (spec.lines others.now) front.entry
+        → ReadsDated line day kind.entry ls found) }
+{
+    match other_lines(alloc, takes_postings(&kind), front, others)? {
+        Some(body) => Ok(Some(dated(alloc, line, day, kind, body)?)),
+        None => Ok(None),
+    }
+}
+
 /// What a block says whose first line is a head.
 fn dated_block<'a>(
     alloc: Global,
@@ -130,13 +195,21 @@ fn dated_block<'a>(
 ) -> Result<Option<Ranged<Statement<'a>>>, AllocError>
     ensures { IfOk result (ReadsDated line day kind.entry (spec.lines under.now)) }
 {
-    match read_lines(alloc, takes_postings(&kind), under)? {
-        Some(body) => Ok(Some(dated(alloc, line, day, kind, body)?)),
-        None => Ok(None),
+    if !takes_postings(&kind) {
+        let front = Body::of_postings(alloc, Vec::new(alloc));
+        return other_block(alloc, line, day, kind, front, under);
     }
+    let (postings, others) = plain_lines(alloc, under)?;
+    if others.is_empty() {
+        let postings = List::new(postings);
+        return Ok(Some(plainly_dated(line, day, kind, postings)));
+    }
+    let front = Body::of_postings(alloc, postings);
+    other_block(alloc, line, day, kind, front, others)
 }
 
 /// What a block without a day says that begins with a line.
+#[inline(never)]
 fn undated_block<'a>(
     line: usize,
     first: &[Token<'a>],
@@ -186,7 +259,64 @@ pub fn fault_at(kind: FaultKind, line: usize) -> Fault
     }
 }
 
-/// What a block says, or its first fault.
+/// Whether a token may stand in a plain block.
+fn is_plain(kind: Kind) -> bool
+    ensures { result ≡ spec.is_plain kind }
+{
+    match kind {
+        Kind::Day | Kind::Number | Kind::Text | Kind::Account | Kind::Currency => true,
+        Kind::Sign(Sign::Star | Sign::Bang | Sign::Plus | Sign::Minus) => true,
+        _ => false,
+    }
+}
+
+/// Whether each token may stand in a plain block: a look that leaves out most of the others.
+fn are_plain(block: &[Token<'_>]) -> bool
+    ensures { result ≡ list_all (λ t. spec.is_plain t.kind) block.now }
+{
+    block.iter().all(|token| is_plain(token.kind))
+}
+
+/// The directive that a block gives which is a transaction with a plain first line and nothing but
+/// plain postings under it. Nearly all blocks are such, and what they say is read without a look at
+/// what others may say; of the others nothing is said.
+#[inline(always)]
+pub fn plain_block<'a>(
+    alloc: Global,
+    block: &[Token<'a>],
+) -> Result<Option<Directive<'a>>, AllocError>
+    ensures { IfOk result (λ found. IfSome found (λ d.
+        Gives block.now (outcome.Statement (statements.Directive d)))) }
+{
+    if !are_plain(block) {
+        return Ok(None);
+    }
+    if !is_in_column_one(block) {
+        return Ok(None);
+    }
+    let Some((first, under)) = first_part(Part::Line, block) else {
+        return Ok(None);
+    };
+    let Some(found) = plain_head(alloc, first) else {
+        return Ok(None);
+    };
+    let (day, transaction) = found;
+    let (postings, others) = plain_lines(alloc, under)?;
+    if !others.is_empty() {
+        return Ok(None);
+    }
+    let kind = DirectiveKind::Transaction(transaction);
+    Ok(Some(Directive {
+        day,
+        line: first_line(block),
+        metadata: Few::new(),
+        kind: with_postings(kind, List::new(postings)),
+    }))
+}
+
+/// What a block says, or its first fault. It stays a call of its own, since nearly all blocks are
+/// plain.
+#[inline(never)]
 pub fn read_block<'a>(alloc: Global, block: &[Token<'a>]) -> Result<Outcome<'a>, AllocError>
     ensures { IfOk result (Gives block.now) }
 {

@@ -4,14 +4,17 @@ ghost use Rattle.bean_parser.specs.Parsed.{IsParsed, ComeTo, AreByLine};
 ghost use Rattle.bean_parser.specs.Gathered.{IsGathered, undated_at};
 ghost use Rattle.bean_parser.specs.declared.block.Outcome.{Outcome};
 ghost use Rattle.bean_parser.specs.declared.block.Outcome.TheVariants as outcome;
+ghost use Rattle.bean_parser.specs.declared.statement.Statement.TheVariants as statements;
+ghost use Rattle.bean_parser.specs.Outcome.{Gives};
 
-use crate::block::{Outcome, fault_at, read_block};
+use crate::block::{Outcome, fault_at, plain_block, read_block};
 use crate::matches::reaches;
 use crate::reader::BlockReader;
 use crate::scope::{PlacedBound, add_unmatched, give_all};
 use crate::statement::Statement;
 use bean_base::{Fault, FaultKind, List};
 use bean_directives::{Directive, Setting, UndatedKind};
+use bean_lexer::Token;
 use std::alloc::{AllocError, Global};
 
 /// What a ledger's text says, in reading order. The faults have file 0.
@@ -73,10 +76,7 @@ impl<'a> Gathered<'a> {
             → IsGathered (os ++ outcome.Statement statement.entry ∷ []) self.new) }
     {
         match statement {
-            Statement::Directive(directive) => {
-                self.directives.push(directive)?;
-                Ok(())
-            }
+            Statement::Directive(directive) => self.add_directive(directive),
             Statement::Undated(undated) => self.add_undated(undated.line, undated.kind),
         }
     }
@@ -91,6 +91,30 @@ impl<'a> Gathered<'a> {
             Outcome::Fault(fault) => {
                 self.faults.push(fault)?;
                 Ok(())
+            }
+        }
+    }
+
+    /// Adds a directive that a block says.
+    fn add_directive(&mut self, directive: Directive<'a>) -> Result<(), AllocError>
+        ensures { OnOk result ((os : List Outcome) → IsGathered os self.old
+            → IsGathered (os ++ outcome.Statement (statements.Directive directive.entry) ∷ [])
+            self.new) }
+    {
+        self.directives.push(directive)?;
+        Ok(())
+    }
+
+    /// Adds what a block gives.
+    fn add_block(&mut self, alloc: Global, block: &[Token<'a>]) -> Result<(), AllocError>
+        ensures { OnOk result ((o : Outcome) × Gives block.now o
+            × ((os : List Outcome) → IsGathered os self.old → IsGathered (os ++ o ∷ []) self.new)) }
+    {
+        match plain_block(alloc, block)? {
+            Some(directive) => self.add_directive(directive),
+            None => {
+                let outcome = read_block(alloc, block)?;
+                self.add(outcome)
             }
         }
     }
@@ -122,7 +146,7 @@ pub fn parse(alloc: Global, text: &str) -> Result<Parsed<'_>, AllocError>
     let mut block = Vec::new(alloc);
     let mut reader = BlockReader::new(text);
     while reader.next_block(&mut block)? {
-        gathered.add(read_block(alloc, &block)?)?;
+        gathered.add_block(alloc, &block)?;
     }
     gathered.parsed(alloc)
 }

@@ -1,13 +1,14 @@
 //! The lines under the first one of a directive.
-ghost use Rattle.std.specs.Prelude.{◌≡◌, true, false, MatchOption, IfOk, OnOk};
+ghost use Rattle.std.specs.Prelude.{◌≡◌, true, false, List, map, MatchOption, IfOk, OnOk};
 ghost use Rattle.theory.specs.Form.{Is, IsNone};
 ghost use Rattle.bean_grammar.specs.Lexeme.{lexemes};
 ghost use Rattle.bean_grammar.specs.Lexeme as spec;
 ghost use Rattle.bean_grammar.specs.Mark as mark_spec;
 ghost use Rattle.bean_grammar.specs.Metadata as metadata;
-ghost use Rattle.bean_parser.specs.Block.{line_of, lines};
-ghost use Rattle.bean_parser.specs.Reading.{ReadsLines, ReadsLine};
+ghost use Rattle.bean_parser.specs.Block.{Line, line_of, lines};
+ghost use Rattle.bean_parser.specs.Reading.{ReadsLines, ReadsLine, InLines};
 ghost use Rattle.bean_parser.specs.Under as rule;
+ghost use Rattle.bean_parser.specs.Under.{with_lines};
 
 use crate::part::{Part, first_line, first_part};
 use bean_base::{Few, List};
@@ -17,7 +18,7 @@ use bean_grammar::mark::line_of_marks;
 use bean_grammar::{Mark, MetaEntry, Ranged};
 use bean_lexer::{Kind, Token};
 use bean_postings::Posting;
-use bean_postings::posting_line::posting;
+use bean_postings::posting_line::{plain_posting, posting};
 use std::alloc::{AllocError, Global};
 
 /// What a line says.
@@ -112,17 +113,19 @@ fn line_kind<'a>(
 }
 
 impl<'a> Body<'a> {
-    /// No lines say nothing. There is room for so many postings.
-    fn new(alloc: Global, postings: usize) -> Result<Body<'a>, AllocError>
-        ensures { IfOk result (λ body. body ≡ rule.no_lines) }
+    /// What lines say of which no one says anything but postings.
+    pub(crate) fn of_postings(alloc: Global, postings: Vec<Posting<'a>>) -> Body<'a>
+        ensures { result ≡ with_lines rule.no_lines (map rule.said_posting postings.entry.items) }
     {
-        Ok(Body {
+        let mut before = postings;
+        let last = before.pop();
+        Body {
             metadata: Few::new(),
             marks: List::new(Vec::new(alloc)),
-            before: List::new(Vec::with_capacity(alloc, postings)?),
-            last: None,
+            before: List::new(before),
+            last,
             is_in_range: true,
-        })
+        }
     }
 
     /// Adds an entry.
@@ -188,16 +191,46 @@ pub fn all_postings<'a>(
     Ok(all)
 }
 
-/// What lines say, where each is one that may stand there.
-pub fn read_lines<'a>(
+/// The postings that the lines at the front are, as far as each is a plain one, and what stands
+/// behind them. Nearly all lines are, and each of their postings is moved but once, to the list that
+/// the transaction keeps; that has room for all.
+pub fn plain_lines<'t, 'a>(
+    alloc: Global,
+    under: &'t [Token<'a>],
+) -> Result<(Vec<Posting<'a>>, &'t [Token<'a>]), AllocError>
+    ensures { IfOk result (λ r. InLines true (lines under.now) (lines r.1.now)
+        (with_lines rule.no_lines (map rule.said_posting r.0.items))) }
+{
+    let mut postings = Vec::with_capacity(alloc, most_postings(under))?;
+    let mut rest = Unread { tokens: under };
+    while let Some((line, after)) = first_part(Part::Line, rest.tokens) {
+        let Some(found) = plain_posting(first_line(line), line) else {
+            break;
+        };
+        let Ranged::Within(posting) = found else {
+            break;
+        };
+        postings.push(posting)?;
+        rest = Unread { tokens: after };
+    }
+    Ok((postings, rest.tokens))
+}
+
+/// What lines say of which those at the front say `front`, where each of the others is one that may
+/// stand there. It stays a call of its own, since few lines are read by it.
+#[inline(never)]
+pub fn other_lines<'a>(
     alloc: Global,
     in_transaction: bool,
-    under: &[Token<'a>],
+    front: Body<'a>,
+    others: &[Token<'a>],
 ) -> Result<Option<Body<'a>>, AllocError>
-    ensures { IfOk result (ReadsLines in_transaction (lines under.now)) }
+    ensures { IfOk result (λ found. (ls : List Line)
+        → InLines in_transaction ls (lines others.now) front.entry
+        → ReadsLines in_transaction ls found) }
 {
-    let mut body = Body::new(alloc, most_postings(under))?;
-    let mut rest = Unread { tokens: under };
+    let mut body = front;
+    let mut rest = Unread { tokens: others };
     while let Some((line, after)) = first_part(Part::Line, rest.tokens) {
         let Some(kind) = line_kind(alloc, in_transaction, line)? else {
             return Ok(None);

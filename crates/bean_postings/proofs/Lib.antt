@@ -2,4 +2,5 @@ pub mod PriceFacts
 pub mod CostPartFacts
 pub mod CostFacts
 pub mod PostingFacts
+pub mod PlainFacts
 mod Examples

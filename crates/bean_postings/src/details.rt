@@ -1,7 +1,9 @@
 //! What postings have beside their account and their units.
-ghost use Rattle.std.specs.Prelude.{◌≡◌, MatchOption, IfOk, OnOk};
+ghost use Rattle.std.specs.Prelude.{◌≡◌, MatchOption, IfOk, OnOk, None};
 ghost use Rattle.bean_postings.specs.Details as rule;
 ghost use Rattle.bean_postings.specs.Details.{IsLineAlone};
+ghost use Rattle.bean_postings.specs.declared.cost.Cost.TheVariants as costs;
+ghost use Rattle.bean_postings.specs.declared.price.Price.TheVariants as prices;
 
 use crate::cost::Cost;
 use crate::price::Price;
@@ -48,6 +50,15 @@ impl<'a> Model for Details<'a> {
 }
 
 impl<'a> Details<'a> {
+    /// The details of a line that has nothing but its number.
+    pub(crate) fn alone(line: usize) -> Details<'a>
+        ensures { result ≡ rule.on_line line None costs.Absent prices.Absent }
+    {
+        Details {
+            kept: Kept::Line(line),
+        }
+    }
+
     /// The details of a posting's own line. Where there is nothing but its number no memory is
     /// taken.
     pub fn of(
@@ -60,9 +71,7 @@ impl<'a> Details<'a> {
         ensures { IfOk result (λ d. d ≡ rule.on_line line flag cost.entry price.entry) }
     {
         match (flag, cost, price) {
-            (None, Cost::Absent, Price::Absent) => Ok(Details {
-                kept: Kept::Line(line),
-            }),
+            (None, Cost::Absent, Price::Absent) => Ok(Details::alone(line)),
             (flag, cost, price) => {
                 let parts = DetailParts {
                     cost,

@@ -1,22 +1,26 @@
 //! Lines that are postings.
 ghost use Rattle.std.specs.Prelude.{◌≡◌, ◌∷◌, ◌<◌, ◌≤◌, false, length, MatchOption, IfSome, IfOk};
-ghost use Rattle.std.specs.Prelude.{ℕ};
+ghost use Rattle.std.specs.Prelude.{ℕ, Some, None};
 ghost use Rattle.theory.specs.Form.{HasNone, Reads, Is, IsNone};
 ghost use Rattle.bean_grammar.specs.Lexeme.{lexemes};
+ghost use Rattle.bean_grammar.specs.declared.ranged.Ranged.TheVariants.{Within};
 ghost use Rattle.bean_postings.specs.Posting as rule;
+ghost use Rattle.bean_postings.specs.declared.cost.Cost.TheVariants as costs;
+ghost use Rattle.bean_postings.specs.declared.price.Price.TheVariants as prices;
 
 use crate::cost::{Cost, cost_if_due};
 use crate::details::Details;
 use crate::posting::{Posting, Units};
 use crate::price::{Price, price_if_due};
-use bean_base::{Account, Amount, Flag};
+use bean_base::{Account, Amount, Currency, Flag, Num};
 use bean_grammar::amount::amount_parts;
-use bean_grammar::front::{after_account, next};
-use bean_grammar::{AmountParts, Ranged};
+use bean_grammar::front::{after_account, after_currency, next};
+use bean_grammar::{AmountParts, Ranged, expression};
 use bean_lexer::{Kind, Sign, Token};
 use std::alloc::{AllocError, Global};
 
-fn after_flag_sign<'t, 'a>(tokens: &'t [Token<'a>]) -> Option<(Flag, &'t [Token<'a>])>
+/// The flag that a sign at the front is, and what stands behind it.
+pub fn after_flag_sign<'t, 'a>(tokens: &'t [Token<'a>]) -> Option<(Flag, &'t [Token<'a>])>
     ensures front { MatchOption result (rule.begins_with_flag_sign (lexemes tokens.now) ≡ false)
         (λ r. lexemes tokens.now ≡ rule.flag_sign r.0 ∷ lexemes r.1.now) }
     ensures shorter { IfSome result (λ r. length r.1.now < length tokens.now) }
@@ -106,6 +110,51 @@ fn posted<'t, 'a>(
     Some((flag, account, units, rest))
 }
 
+/// The posting on a line that has an account, a number and a currency, and nothing else.
+#[inline(always)]
+fn plainly<'a>(
+    line: usize,
+    account: Account<'a>,
+    number: Ranged<Num>,
+    currency: Currency<'a>,
+) -> Ranged<Posting<'a>>
+    ensures { result ≡ rule.posting_of line None account.entry
+        (rule.units_by (Some number) (Some currency.entry)) (Within costs.Absent)
+        (Within prices.Absent) }
+{
+    match number {
+        Ranged::Within(number) => Ranged::Within(Posting {
+            units: Units::Amount(Amount { number, currency }),
+            account,
+            details: Details::alone(line),
+        }),
+        Ranged::Outside => Ranged::Outside,
+    }
+}
+
+/// The posting that a line is which has an account, and a number, alone or behind a sign, with a
+/// currency, or neither. Nearly every posting is one of these, and they are read without a look at
+/// what others may have.
+#[inline(always)]
+pub fn plain_posting<'a>(line: usize, tokens: &[Token<'a>]) -> Option<Ranged<Posting<'a>>>
+    ensures { IfSome result (Is (rule.posting line) (lexemes tokens.now)) }
+{
+    let (account, rest) = after_account(tokens)?;
+    let Some(_) = next(rest) else {
+        return Some(Ranged::Within(Posting {
+            units: Units::Missing,
+            account,
+            details: Details::alone(line),
+        }));
+    };
+    let (number, rest) = expression::plain(rest)?;
+    let (currency, rest) = after_currency(rest)?;
+    match next(rest) {
+        Some(_) => None,
+        None => Some(plainly(line, account, number, currency)),
+    }
+}
+
 /// The posting that a line of that number is. It takes memory where it has a flag,
 /// a cost or a price alone.
 pub fn posting<'a>(
@@ -117,6 +166,9 @@ pub fn posting<'a>(
         MatchOption found (IsNone (rule.posting line) (lexemes tokens.now))
         (Is (rule.posting line) (lexemes tokens.now))) }
 {
+    if let Some(posting) = plain_posting(line, tokens) {
+        return Ok(Some(posting));
+    }
     let Some(found) = posted(tokens) else {
         return Ok(None);
     };

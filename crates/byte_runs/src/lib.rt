@@ -11,6 +11,7 @@
 ghost use Rattle.std.specs.Prelude.{◌≡◌, ℕ, Bool, ◌+◌, ◌<◌, ◌≤◌, nat_eq, length, drop};
 ghost use Rattle.std.specs.List.{prefix_len, starts_with};
 ghost use Rattle.std.specs.Char.{is_ascii_digit};
+ghost use Rattle.std.specs.Cmp.Lexicographic.{pointwise};
 
 /// A class of bytes.
 pub trait ByteClass {
@@ -33,14 +34,31 @@ pub fn end_of_run<C: ByteClass>(bytes: &[u8], start: usize) -> usize
     end
 }
 
-/// Whether some bytes stand at the front. The first byte is looked at before the others, since it
-/// mostly decides.
+/// Whether two slices of one length are the same, byte by byte: what is looked for is short, and known
+/// where this is put in place, so that it is a few comparisons and no call.
+#[inline(always)]
+#[tactic(auto, using(crate::proofs::FrontFacts::next_pair))]
+fn are_same(front: &[u8], part: &[u8]) -> bool
+    requires { length part.now ≡ length front.now }
+    ensures { result ≡ pointwise nat_eq front.now part.now }
+{
+    let mut at = 0;
+    while at < front.len() {
+        if front[at] != part[at] {
+            return false;
+        }
+        at += 1;
+    }
+    true
+}
+
+/// Whether some bytes stand at the front.
 #[inline(always)]
 pub fn has_front(bytes: &[u8], front: &[u8]) -> bool
     requires { 0 < length front.now }
     ensures { result ≡ starts_with nat_eq bytes.now front.now }
 {
-    bytes.len() >= front.len() && bytes[0] == front[0] && front == &bytes[..front.len()]
+    bytes.len() >= front.len() && are_same(front, &bytes[..front.len()])
 }
 
 /// The digits of a number.

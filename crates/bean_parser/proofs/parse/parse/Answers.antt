@@ -13,11 +13,10 @@ loop-block-preserved c =
     let takes =
     subst (λ some. TakesBlock some before block after) c.if-branch.true
     c.in_ok-next_block.ensures.block in
-    let gives =
-    subst (λ b. Gives b c.in_ok-read_block.field-0) c.deref.ensures.value
-    c.in_ok-read_block.ensures in
-    block_more c.args.text.now before after block _ c.loop-block.gathered _ c.loop-block.invariant
-    takes gives c.in_ok-add.ensures
+    let added = c.in_ok-add_block.ensures in
+    block_more c.args.text.now before after block added.0 c.loop-block.gathered _
+    c.loop-block.invariant takes
+    (subst (λ b. Gives b added.0) c.deref.ensures.value added.1) added.2
 
 pub returns : goal.returns
 returns c =

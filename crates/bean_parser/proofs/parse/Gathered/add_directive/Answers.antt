@@ -1,0 +1,7 @@
+use Rattle.bean_parser.proofs.GatheredFacts.{directive_adds}
+use Rattle.bean_parser.proofs.parse.Gathered.add_directive.Goals as goal
+use Rattle.std.proofs.Common.{refl}
+
+pub returns : goal.returns
+returns c =
+    λ os h. directive_adds os _ _ c.args.self.now _ refl c.in_ok-push.ensures.items refl refl refl h
