@@ -2,8 +2,6 @@
 ghost use Rattle.std.specs.Prelude.{◌≡◌, ◌<◌, ◌^◌, [], OnOk, Err, length, get_or};
 ghost use Rattle.std.specs.Int.RustNames.{unsigned_abs};
 ghost use Rattle.std.specs.List.{list_all};
-ghost use Rattle.std.specs.Str.{bytes_eq};
-ghost use Rattle.indexmap.specs.IndexMap.{insert_entry};
 ghost use Rattle.bean_interp.specs.Kept as rule;
 ghost use Rattle.bean_interp.specs.Residual.{AreInRange, Weighed, weighed};
 ghost use Rattle.bean_interp.specs.Sums.{Fits, IsNarrow, added, entry_of, is_zero, sum_with, table};
@@ -18,7 +16,7 @@ use crate::weight::{TooWide, Weight};
 use bean_base::{Amount, Currency};
 use indexmap::IndexMap;
 use refusals::Refusal;
-use std::alloc::{AllocError, Global};
+use std::alloc::Global;
 use std::marker::Model;
 
 /// The most that a sum may count, and one.
@@ -38,6 +36,30 @@ fn comes_first(first: &Option<First<'_>>, currency: &Currency<'_>) -> bool
     match first {
         Some(first) => *currency == first.currency,
         None => true,
+    }
+}
+
+/// The sum of a currency, of which it is known whether it comes first.
+fn sum_before<'a>(
+    is_first: bool,
+    first: &Option<First<'a>>,
+    others: &IndexMap<Currency<'a>, i128>,
+    currency: &Currency<'a>,
+) -> i128
+    requires first { is_first ≡ rule.comes_first first.now currency.now }
+    requires kept { rule.AreKept first.now others.now.entries }
+    ensures sum { result ≡ entry_of (rule.sums_in first.now others.now.entries) currency.now }
+    ensures bound { unsigned_abs result < 10 ^ 38 }
+{
+    let Some(first) = first else {
+        return 0;
+    };
+    if is_first {
+        return first.sum;
+    }
+    match others.get(currency) {
+        Some(sum) => *sum,
+        None => 0,
     }
 }
 
@@ -132,19 +154,6 @@ impl<'a> Sums<'a> {
         true
     }
 
-    /// Puts a sum in place of that of its currency, which goes last where it is new.
-    fn set(&mut self, currency: Currency<'a>, sum: i128) -> Result<(), AllocError>
-        requires { IsNarrow sum }
-        ensures { OnOk result (self.new ≡ insert_entry bytes_eq self.old currency.entry sum) }
-    {
-        if comes_first(&self.first, &currency) {
-            self.first = Some(First { currency, sum });
-            return Ok(());
-        }
-        self.others.insert(currency, sum)?;
-        Ok(())
-    }
-
     /// Adds a weight, unless the sum of its currency would be too wide.
     fn add(&mut self, weight: Weight<'a>) -> Result<(), Refusal<WeighCause>>
         ensures added { OnOk result
@@ -153,11 +162,20 @@ impl<'a> Sums<'a> {
         ensures wide { result ≡ Err (Refusal.Refused WeighCause.TooWide)
             → ¬ IsNarrow (sum_with self.old weight.entry) }
     {
-        let sum = self.of(&weight.currency) + weight.count;
+        let is_first = comes_first(&self.first, &weight.currency);
+        let before = sum_before(is_first, &self.first, &self.others, &weight.currency);
+        let sum = before + weight.count;
         if sum.unsigned_abs() >= MOST {
             return Err(Refusal::Refused(WeighCause::TooWide));
         }
-        self.set(weight.currency, sum)?;
+        if is_first {
+            self.first = Some(First {
+                currency: weight.currency,
+                sum,
+            });
+            return Ok(());
+        }
+        self.others.insert(weight.currency, sum)?;
         Ok(())
     }
 
