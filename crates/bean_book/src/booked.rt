@@ -25,7 +25,8 @@ pub struct Booked<'a> {
 pub fn book<'a>(alloc: Global, loaded: Loaded<'a>) -> Result<Booked<'a>, Refusal<BookCause>>
     ensures { Books loaded.entry result }
 {
-    let booked = match book_directives(alloc, loaded, LedgerRows::new(alloc)) {
+    let rows = LedgerRows::new(alloc)?;
+    let booked = match book_directives(alloc, loaded, rows) {
         Ok(booked) => booked,
         Err(fault) => return Err(fault),
     };

@@ -13,31 +13,78 @@ use bean_replay::Kept;
 use posting_table::{Entry, EntryFlag, Metadata, PlainText, Shared};
 use query_values::TextSet;
 use std::alloc::{AllocError, Global};
+use std::marker::Model;
+
+/// The set of no texts, which stands once for all transactions without tags or without links.
+#[derive(Drop)]
+pub(crate) struct NoTexts<'a> {
+    set: Shared<TextSet<'a>>,
+}
+
+impl<'a> Model for NoTexts<'a> {
+    ghost use Rattle.std.specs.Prelude.{◌≡◌, [], ℕ};
+    ghost use Rattle.std.specs.Prelude as prelude;
+
+    ghost Value = { prelude.List (prelude.List ℕ) };
+
+    ghost view = { λ n. n.set };
+
+    ghost invariant = { λ n. n.set ≡ [] };
+}
+
+impl<'a> NoTexts<'a> {
+    pub(crate) fn new(alloc: Global) -> Result<NoTexts<'a>, AllocError> {
+        Ok(NoTexts {
+            set: Shared::new(alloc, TextSet::new(Vec::new(alloc)))?,
+        })
+    }
+
+    /// The set once more.
+    pub(crate) fn share(&self) -> Result<Shared<TextSet<'a>>, AllocError>
+        ensures { IfOk result (λ set. set ≡ []) }
+    {
+        self.set.share()
+    }
+}
 
 /// The names of the tags.
-fn tags_of<'a>(alloc: Global, marks: &[Mark<'a>]) -> Result<TextSet<'a>, AllocError>
+fn tags_of<'a>(
+    alloc: Global,
+    none: &NoTexts<'a>,
+    marks: &[Mark<'a>],
+) -> Result<Shared<TextSet<'a>>, AllocError>
     ensures { IfOk result (λ set. set ≡ set_of (flat_map spec.tag_in marks.now)) }
 {
+    if marks.is_empty() {
+        return none.share();
+    }
     let mut names = Vec::new(alloc);
     for mark in marks {
         if let Mark::Tag(tag) = mark {
             names.push(Slice::new(tag.text()))?;
         }
     }
-    Ok(TextSet::new(names))
+    Shared::new(alloc, TextSet::new(names))
 }
 
 /// The names of the links.
-fn links_of<'a>(alloc: Global, marks: &[Mark<'a>]) -> Result<TextSet<'a>, AllocError>
+fn links_of<'a>(
+    alloc: Global,
+    none: &NoTexts<'a>,
+    marks: &[Mark<'a>],
+) -> Result<Shared<TextSet<'a>>, AllocError>
     ensures { IfOk result (λ set. set ≡ set_of (flat_map spec.link_in marks.now)) }
 {
+    if marks.is_empty() {
+        return none.share();
+    }
     let mut names = Vec::new(alloc);
     for mark in marks {
         if let Mark::Link(link) = mark {
             names.push(Slice::new(link.text()))?;
         }
     }
-    Ok(TextSet::new(names))
+    Shared::new(alloc, TextSet::new(names))
 }
 
 /// The accounts of booked postings.
@@ -65,7 +112,11 @@ fn payee_of<'a>(
 }
 
 /// What the booked postings of a transaction have in common.
-pub(crate) fn entry_of<'a>(alloc: Global, kept: &Kept<'a>) -> Result<Shared<Entry<'a>>, AllocError>
+pub(crate) fn entry_of<'a>(
+    alloc: Global,
+    none: &NoTexts<'a>,
+    kept: &Kept<'a>,
+) -> Result<Shared<Entry<'a>>, AllocError>
     ensures { IfOk result (λ entry. entry ≡ spec.entry_of kept.now) }
 {
     let written = &kept.written;
@@ -74,8 +125,8 @@ pub(crate) fn entry_of<'a>(alloc: Global, kept: &Kept<'a>) -> Result<Shared<Entr
     let entry = Entry {
         payee: payee_of(alloc, &transaction.payee)?,
         narration: PlainText::of(alloc, &transaction.narration)?,
-        tags: tags_of(alloc, marks)?,
-        links: links_of(alloc, marks)?,
+        tags: tags_of(alloc, none, marks)?,
+        links: links_of(alloc, none, marks)?,
         accounts: accounts_of(alloc, kept.postings.as_slice())?,
         metadata: metadata_of(alloc, written.metadata.as_slice())?,
         date: written.day,
@@ -87,6 +138,7 @@ pub(crate) fn entry_of<'a>(alloc: Global, kept: &Kept<'a>) -> Result<Shared<Entr
 /// What the two postings have in common that a pad inserts.
 pub(crate) fn padding_entry<'a>(
     alloc: Global,
+    none: &NoTexts<'a>,
     noted: &NotedPad<'a>,
 ) -> Result<Shared<Entry<'a>>, AllocError>
     ensures { IfOk result (λ entry. entry ≡ spec.padding_entry noted.now) }
@@ -98,8 +150,8 @@ pub(crate) fn padding_entry<'a>(
     let entry = Entry {
         payee: None,
         narration: PlainText::lent("Padding"),
-        tags: TextSet::new(Vec::new(alloc)),
-        links: TextSet::new(Vec::new(alloc)),
+        tags: none.share()?,
+        links: none.share()?,
         accounts: TextSet::new(Vec::from_array(alloc, names)?),
         metadata: Metadata::empty(),
         date: noted.day,

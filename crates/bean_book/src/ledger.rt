@@ -1,5 +1,5 @@
 //! The ledger of what is booked, made while it is booked.
-ghost use Rattle.std.specs.Prelude.{◌≡◌, ◌≤◌, ◌+◌, ◌++◌, [], List, OnOk, drop, length, take};
+ghost use Rattle.std.specs.Prelude.{◌≡◌, ◌≤◌, ◌+◌, ◌++◌, [], IfOk, List, OnOk, drop, length, take};
 ghost use Rattle.std.specs.List.{AllByRecursion};
 ghost use Rattle.limits.specs.declared.counts.TheConstants.{MOST_POSTINGS};
 ghost use Rattle.bean_book.specs.Booked.{Adds, MakesLedger};
@@ -13,6 +13,7 @@ ghost use Rattle.bean_replay.specs.declared.booking.Draft as drafts;
 
 use crate::counts::count_pads;
 use crate::decimals::note_written;
+use crate::entries::NoTexts;
 use crate::paddings::push_pad;
 use crate::rows::push_transaction;
 use bean_pad::NotedPad;
@@ -27,6 +28,7 @@ use std::alloc::{AllocError, Global};
 #[derive(Drop)]
 pub(crate) struct LedgerRows<'a> {
     alloc: Global,
+    none: NoTexts<'a>,
     ledger: Ledger<'a>,
     /// How many rows stand before each pad.
     places: Vec<usize>,
@@ -35,22 +37,24 @@ pub(crate) struct LedgerRows<'a> {
 }
 
 impl<'a> LedgerRows<'a> {
-    /// Nothing so far. Takes no memory.
-    pub(crate) fn new(alloc: Global) -> LedgerRows<'a>
-        ensures { IsLedgerSoFar [] result }
+    /// Nothing so far.
+    pub(crate) fn new(alloc: Global) -> Result<LedgerRows<'a>, AllocError>
+        ensures { IfOk result (IsLedgerSoFar []) }
     {
-        LedgerRows {
+        Ok(LedgerRows {
             alloc,
+            none: NoTexts::new(alloc)?,
             ledger: Ledger::new(alloc),
             places: Vec::new(alloc),
             near: 0,
-        }
+        })
     }
 }
 
 /// Adds a transaction that is kept.
 fn push_kept<'a>(
     alloc: Global,
+    none: &NoTexts<'a>,
     ledger: &mut Ledger<'a>,
     near: &mut usize,
     kept: &Kept<'a>,
@@ -59,7 +63,7 @@ fn push_kept<'a>(
     requires room { length ledger.old.rows + length kept.now.postings ≤ MOST_POSTINGS }
     ensures { OnOk result (Adds (booking.Transaction kept.now) ledger.old ledger.new) }
 {
-    push_transaction(alloc, ledger, kept)?;
+    push_transaction(alloc, none, ledger, kept)?;
     note_written(ledger, near, kept.written.transaction.postings.as_slice())?;
     Ok(())
 }
@@ -70,7 +74,13 @@ impl<'a> Bookings<'a> for LedgerRows<'a> {
     ghost has_taken = { λ l ds. IsLedgerSoFar ds l };
 
     fn keep(&mut self, kept: &Kept<'a>) -> Result<(), AllocError> {
-        push_kept(self.alloc, &mut self.ledger, &mut self.near, kept)
+        push_kept(
+            self.alloc,
+            &self.none,
+            &mut self.ledger,
+            &mut self.near,
+            kept,
+        )
     }
 
     fn pad(&mut self) -> Result<(), AllocError> {
@@ -83,6 +93,7 @@ impl<'a> Bookings<'a> for LedgerRows<'a> {
 /// Puts so many rows back, and behind them those that a pad inserts.
 fn put_pad<'a>(
     alloc: Global,
+    none: &NoTexts<'a>,
     ledger: &mut Ledger<'a>,
     rest: &mut TakenRows<'a>,
     count: usize,
@@ -97,12 +108,13 @@ fn put_pad<'a>(
     ensures rest { OnOk result (rest.new ≡ drop count rest.old) }
 {
     ledger.put_back(rest, count)?;
-    push_pad(alloc, ledger, noted)
+    push_pad(alloc, none, ledger, noted)
 }
 
 /// Puts the rows in that pads insert, each at its place.
 fn put_pads<'a>(
     alloc: Global,
+    none: &NoTexts<'a>,
     ledger: &mut Ledger<'a>,
     places: Vec<usize>,
     pads: Vec<NotedPad<'a>>,
@@ -119,7 +131,7 @@ fn put_pads<'a>(
     for noted in pads {
         if let Some(place) = left.next() {
             let count = place.saturating_sub(passed);
-            put_pad(alloc, ledger, &mut rest, count, &noted)?;
+            put_pad(alloc, none, ledger, &mut rest, count, &noted)?;
             passed = place;
         }
     }
@@ -140,6 +152,7 @@ pub(crate) fn with_pads<'a>(
 {
     let LedgerRows {
         alloc,
+        none,
         ledger,
         places,
         ..
@@ -153,6 +166,6 @@ pub(crate) fn with_pads<'a>(
         return Ok(ledger);
     }
     let mut ledger = ledger;
-    put_pads(alloc, &mut ledger, places, pads)?;
+    put_pads(alloc, &none, &mut ledger, places, pads)?;
     Ok(ledger)
 }

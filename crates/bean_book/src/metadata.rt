@@ -81,6 +81,9 @@ pub(crate) fn metadata_of<'a>(
 ) -> Result<Metadata<'a>, AllocError>
     ensures { IfOk result (λ metadata. metadata ≡ spec.items_of entries.now) }
 {
+    if entries.is_empty() {
+        return Ok(Metadata::empty());
+    }
     let mut items = Vec::with_capacity(alloc, entries.len())?;
     for entry in entries {
         items.push(MetaItem {

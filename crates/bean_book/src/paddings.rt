@@ -5,7 +5,7 @@ ghost use Rattle.bean_replay.specs.Small.{IsSmallNote, IsSmallNoted};
 ghost use Rattle.limits.specs.declared.counts.TheConstants.{MOST_POSTINGS};
 ghost use Rattle.bean_book.specs.Rows as spec;
 
-use crate::entries::padding_entry;
+use crate::entries::{NoTexts, padding_entry};
 use bean_base::{Account, Currency};
 use bean_lots::{Key, Position};
 use bean_pad::{Note, NotedPad, Outcome};
@@ -75,6 +75,7 @@ fn push_note<'a>(
 /// Adds the rows that a pad inserts.
 pub(crate) fn push_pad<'a>(
     alloc: Global,
+    none: &NoTexts<'a>,
     ledger: &mut Ledger<'a>,
     noted: &NotedPad<'a>,
 ) -> Result<(), AllocError>
@@ -83,7 +84,7 @@ pub(crate) fn push_pad<'a>(
     ensures rows { OnOk result (ledger.new.rows ≡ ledger.old.rows ++ spec.rows_of_pad noted.now) }
     ensures decimals { OnOk result (ledger.new.decimals ≡ ledger.old.decimals) }
 {
-    let entry = padding_entry(alloc, noted)?;
+    let entry = padding_entry(alloc, none, noted)?;
     for note in noted.notes.as_slice() {
         push_note(ledger, &entry, noted, note)?;
     }

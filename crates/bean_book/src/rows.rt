@@ -9,7 +9,7 @@ ghost use Rattle.bean_book.specs.Plain.{IsPlain};
 ghost use Rattle.bean_book.specs.Rows as spec;
 ghost use Rattle.bean_book.specs.Tame.{IsTameKept};
 
-use crate::entries::entry_of;
+use crate::entries::{NoTexts, entry_of};
 use crate::metadata::metadata_of;
 use bean_base::Amount;
 use bean_holdings::Posted;
@@ -202,6 +202,7 @@ fn push_posted<'a>(
 /// Adds the rows of a transaction that is kept.
 pub(crate) fn push_transaction<'a>(
     alloc: Global,
+    none: &NoTexts<'a>,
     ledger: &mut Ledger<'a>,
     kept: &Kept<'a>,
 ) -> Result<(), AllocError>
@@ -211,6 +212,6 @@ pub(crate) fn push_transaction<'a>(
         ≡ ledger.old.rows ++ spec.rows_of_transaction kept.now) }
     ensures decimals { OnOk result (ledger.new.decimals ≡ ledger.old.decimals) }
 {
-    let entry = entry_of(alloc, kept)?;
+    let entry = entry_of(alloc, none, kept)?;
     push_posted(alloc, ledger, &entry, kept)
 }

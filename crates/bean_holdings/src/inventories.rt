@@ -85,6 +85,26 @@ impl<'a> Inventories<'a> {
         }
     }
 
+    /// Begins the inventory of an account that has no place. It is a function of its own, so that
+    /// an addition where something is makes no room for another inventory.
+    #[inline(never)]
+    fn begin(
+        &mut self,
+        alloc: Global,
+        account: Account<'a>,
+        key: Key<'a>,
+        count: i128,
+    ) -> Result<(), AllocError>
+        requires { inventory_in self.old account ≡ [] }
+        ensures { OnOk result ((a : List ℕ) → inventory_in self.new a
+            ≡ (if bytes_eq account.entry a then added (inventory_in self.old a) key.entry count
+            else inventory_in self.old a)) }
+    {
+        let mut inventory = Inventory::new(alloc);
+        inventory.add(key, count)?;
+        self.put(account, inventory)
+    }
+
     /// Adds to the inventory of an account. The sum fits.
     fn add(
         &mut self,
@@ -100,9 +120,7 @@ impl<'a> Inventories<'a> {
             else inventory_in self.old a)) }
     {
         let Some(index) = self.place_near(&account, near) else {
-            let mut inventory = Inventory::new(alloc);
-            inventory.add(key, count)?;
-            return self.put(account, inventory);
+            return self.begin(alloc, account, key, count);
         };
         self.by_account[index].add(key, count)
     }

@@ -1,4 +1,3 @@
-pub mod FirstFacts
 pub mod WholeFacts
 pub mod CountFacts
 pub mod EntryFacts
@@ -12,4 +11,5 @@ pub mod GapFacts
 pub mod LackingFacts
 pub mod DueFacts
 pub mod PrecisionFacts
+mod SumsFacts
 mod WeightFacts

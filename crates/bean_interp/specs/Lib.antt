@@ -9,4 +9,5 @@ pub mod Filling
 pub mod Evened
 pub mod Scales
 pub mod Sums
+pub mod Kept
 pub mod Causes

@@ -89,7 +89,9 @@ impl<'a> Precisions<'a> {
     pub fn clear(&mut self)
         ensures { self.new ≡ [] }
     {
-        self.by_currency.clear();
+        if !self.by_currency.is_empty() {
+            self.by_currency.clear();
+        }
     }
 
     /// Notes the decimals that are written in a leg.

@@ -1,10 +1,8 @@
 //! Sums of weights, by currency.
-ghost use Rattle.std.specs.Prelude.{◌≡◌, ◌≢◌, ◌<◌, ◌≤◌, ◌^◌, ◌+ℤ◌, [], OnOk, Err, length, get_or};
-ghost use Rattle.std.specs.Prelude.{IfNone, IfSome, IsTrue, Some, pos, position};
+ghost use Rattle.std.specs.Prelude.{◌≡◌, ◌<◌, ◌^◌, [], OnOk, Err, length, get_or};
 ghost use Rattle.std.specs.Int.RustNames.{unsigned_abs};
 ghost use Rattle.std.specs.List.{list_all};
-ghost use Rattle.std.specs.Map.{keys_of};
-ghost use Rattle.std.specs.Str.{bytes_eq};
+ghost use Rattle.bean_interp.specs.Kept as rule;
 ghost use Rattle.bean_interp.specs.Residual.{AreInRange, Weighed, weighed};
 ghost use Rattle.bean_interp.specs.Sums.{Fits, IsNarrow, added, entry_of, is_zero, sum_with, table};
 ghost use Rattle.bean_interp.specs.Sums.{with_leg};
@@ -24,24 +22,67 @@ use std::marker::Model;
 /// The most that a sum may count, and one.
 const MOST: u128 = 100_000_000_000_000_000_000_000_000_000_000_000_000;
 
-/// What weights sum to in each currency, in the order in which the currencies first appeared.
+/// The first currency of some weights, with their sum.
+#[derive(Drop)]
+struct First<'a> {
+    currency: Currency<'a>,
+    sum: i128,
+}
+
+/// Whether a currency is the first, or would be.
+fn comes_first(first: &Option<First<'_>>, currency: &Currency<'_>) -> bool
+    ensures { result ≡ rule.comes_first first.now currency.now }
+{
+    match first {
+        Some(first) => *currency == first.currency,
+        None => true,
+    }
+}
+
+/// The sum of a currency, of which it is known whether it comes first.
+fn sum_before<'a>(
+    is_first: bool,
+    first: &Option<First<'a>>,
+    others: &IndexMap<Currency<'a>, i128>,
+    currency: &Currency<'a>,
+) -> i128
+    requires first { is_first ≡ rule.comes_first first.now currency.now }
+    requires kept { rule.AreKept first.now others.now.entries }
+    ensures sum { result ≡ entry_of (rule.sums_in first.now others.now.entries) currency.now }
+    ensures bound { unsigned_abs result < 10 ^ 38 }
+{
+    let Some(first) = first else {
+        return 0;
+    };
+    if is_first {
+        return first.sum;
+    }
+    match others.get(currency) {
+        Some(sum) => *sum,
+        None => 0,
+    }
+}
+
+/// What weights sum to in each currency, in the order in which the currencies first appeared. The
+/// weights of most transactions are of one currency, which is hashed nowhere.
 ///
 /// Its value is that table; no sum is `10^38` or more, signs left off.
 #[derive(Drop)]
 pub struct Sums<'a> {
-    by_currency: IndexMap<Currency<'a>, i128>,
+    first: Option<First<'a>>,
+    others: IndexMap<Currency<'a>, i128>,
 }
 
 impl<'a> Model for Sums<'a> {
     ghost use Rattle.std.specs.Prelude.{List};
+    ghost use Rattle.bean_interp.specs.Kept.{AreKept, sums_in};
     ghost use Rattle.bean_interp.specs.Residual.{Weighed};
-    ghost use Rattle.bean_interp.specs.Sums.{AreNarrow};
 
     ghost Value = { List Weighed };
 
-    ghost view = { λ s. s.by_currency.entries };
+    ghost view = { λ s. sums_in s.first s.others.entries };
 
-    ghost invariant = { λ s. AreNarrow s.by_currency.entries };
+    ghost invariant = { λ s. AreKept s.first s.others.entries };
 }
 
 impl<'a> Sums<'a> {
@@ -50,7 +91,8 @@ impl<'a> Sums<'a> {
         ensures { result ≡ [] }
     {
         Sums {
-            by_currency: IndexMap::new(alloc),
+            first: None,
+            others: IndexMap::new(alloc),
         }
     }
 
@@ -59,7 +101,13 @@ impl<'a> Sums<'a> {
         ensures sum { result ≡ entry_of self.now currency.now }
         ensures bound { unsigned_abs result < 10 ^ 38 }
     {
-        match self.by_currency.get(currency) {
+        let Some(first) = &self.first else {
+            return 0;
+        };
+        if *currency == first.currency {
+            return first.sum;
+        }
+        match self.others.get(currency) {
             Some(sum) => *sum,
             None => 0,
         }
@@ -69,7 +117,10 @@ impl<'a> Sums<'a> {
     pub fn len(&self) -> usize
         ensures { result ≡ length self.now }
     {
-        self.by_currency.len()
+        match self.first {
+            Some(_) => 1 + self.others.len(),
+            None => 0,
+        }
     }
 
     /// The currency at an index, in order of first appearance, with its sum.
@@ -79,7 +130,13 @@ impl<'a> Sums<'a> {
         ensures sum { (d : Weighed) → result.1 ≡ (get_or self.now index d).1 }
         ensures bound { unsigned_abs result.1 < 10 ^ 38 }
     {
-        match self.by_currency.get_index(index) {
+        let Some(first) = &self.first else {
+            unreachable!()
+        };
+        if index == 0 {
+            return (&first.currency, first.sum);
+        }
+        match self.others.get_index(index - 1) {
             Some((currency, sum)) => (currency, *sum),
             None => unreachable!(),
         }
@@ -97,41 +154,6 @@ impl<'a> Sums<'a> {
         true
     }
 
-    /// Whether a currency is the first.
-    fn is_first(&self, currency: &Currency<'_>) -> bool
-        ensures { IsTrue result → position (bytes_eq currency.now) (keys_of self.now) ≡ Some 0 }
-    {
-        match self.by_currency.get_index(0) {
-            Some((first, _)) => *currency == *first,
-            None => false,
-        }
-    }
-
-    /// The index of a currency, where it is there.
-    fn index_of(&self, currency: &Currency<'_>) -> Option<usize>
-        ensures some { IfSome result
-            (λ i. position (bytes_eq currency.now) (keys_of self.now) ≡ Some i) }
-        ensures none { IfNone result (entry_of self.now currency.now ≡ pos 0) }
-    {
-        // The weights of most transactions are of one currency, which isn't hashed then.
-        if self.is_first(currency) {
-            return Some(0);
-        }
-        self.by_currency.get_index_of(currency)
-    }
-
-    /// Adds the first weight in its currency.
-    fn push(&mut self, weight: Weight<'a>) -> Result<(), Refusal<WeighCause>>
-        requires { entry_of self.old weight.currency ≡ pos 0 }
-        ensures added { OnOk result
-            (self.new ≡ added self.old weight.entry.currency weight.entry.count) }
-        ensures narrow { OnOk result (IsNarrow (sum_with self.old weight.entry)) }
-        ensures memory { result ≢ Err (Refusal.Refused WeighCause.TooWide) }
-    {
-        self.by_currency.insert(weight.currency, weight.count)?;
-        Ok(())
-    }
-
     /// Adds a weight, unless the sum of its currency would be too wide.
     fn add(&mut self, weight: Weight<'a>) -> Result<(), Refusal<WeighCause>>
         ensures added { OnOk result
@@ -140,14 +162,20 @@ impl<'a> Sums<'a> {
         ensures wide { result ≡ Err (Refusal.Refused WeighCause.TooWide)
             → ¬ IsNarrow (sum_with self.old weight.entry) }
     {
-        let Some(index) = self.index_of(&weight.currency) else {
-            return self.push(weight);
-        };
-        let sum = self.by_currency[index] + weight.count;
+        let is_first = comes_first(&self.first, &weight.currency);
+        let before = sum_before(is_first, &self.first, &self.others, &weight.currency);
+        let sum = before + weight.count;
         if sum.unsigned_abs() >= MOST {
             return Err(Refusal::Refused(WeighCause::TooWide));
         }
-        self.by_currency[index] = sum;
+        if is_first {
+            self.first = Some(First {
+                currency: weight.currency,
+                sum,
+            });
+            return Ok(());
+        }
+        self.others.insert(weight.currency, sum)?;
         Ok(())
     }
 
@@ -155,7 +183,10 @@ impl<'a> Sums<'a> {
     pub fn clear(&mut self)
         ensures { self.new ≡ [] }
     {
-        self.by_currency.clear();
+        self.first = None;
+        if !self.others.is_empty() {
+            self.others.clear();
+        }
     }
 
     /// Adds what units weigh that are worth themselves.

@@ -42,8 +42,8 @@ fn lunch(alloc: Global) -> Result<Entry<'static>, Fail>
     Ok(Entry {
         payee: None,
         narration: PlainText::lent("Lunch"),
-        tags: set_of(alloc, "trip")?,
-        links: set_of(alloc, "a-1")?,
+        tags: Shared::new(alloc, set_of(alloc, "trip")?)?,
+        links: Shared::new(alloc, set_of(alloc, "a-1")?)?,
         accounts: set_of(alloc, "Assets:Cash")?,
         metadata: Metadata::empty(),
         date: parse_day("2014-01-02")?,

@@ -86,8 +86,8 @@ impl<'a> Entry<'a> {
             Column::Flag => Value::Text(Slice::new(self.flag.spelling())),
             Column::Payee => text_or_null(&self.payee),
             Column::Narration => Value::Text(Slice::new(self.narration.as_str())),
-            Column::Tags => Value::Set(Lent::new(&self.tags)),
-            Column::Links => Value::Set(Lent::new(&self.links)),
+            Column::Tags => Value::Set(Lent::new(self.tags.get())),
+            Column::Links => Value::Set(Lent::new(self.links.get())),
             Column::Accounts => Value::Set(Lent::new(&self.accounts)),
             _ => Value::Null,
         }

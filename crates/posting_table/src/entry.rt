@@ -4,6 +4,7 @@ ghost use Rattle.posting_table.specs.Row.{entry_spelling};
 
 use crate::metadata::Metadata;
 use crate::plain_text::PlainText;
+use crate::shared::Shared;
 use bean_base::{Day, Flag};
 use query_values::TextSet;
 
@@ -33,8 +34,8 @@ impl EntryFlag {
 pub struct Entry<'a> {
     pub payee: Option<PlainText<'a>>,
     pub narration: PlainText<'a>,
-    pub tags: TextSet<'a>,
-    pub links: TextSet<'a>,
+    pub tags: Shared<TextSet<'a>>,
+    pub links: Shared<TextSet<'a>>,
     /// The accounts of all its postings.
     pub accounts: TextSet<'a>,
     pub metadata: Metadata<'a>,

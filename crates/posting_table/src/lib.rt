@@ -34,11 +34,11 @@
 //!
 //! # Rows
 //!
-//! What the postings of a transaction have in common, its [`Entry`], stands once for all of them,
-//! and so does the [`Metadata`] of a written posting that became several. A text is a slice of the
-//! ledger's text, and is made only where it is written with an escape or stands for no text. What
-//! units of a currency are held as without a lot stands once for all rows of the currency, and a
-//! weight is kept only where it isn't that of the units themselves.
+//! What the postings of a transaction have in common, its [`Entry`], stands once for all of them, and
+//! so does the [`Metadata`] of a written posting that became several; the set of no tags may stand
+//! once for all. A text is a slice of the ledger's text, and is made only where it is written with an
+//! escape or stands for no text. What units of a currency are held as without a lot stands once for
+//! all rows of the currency, and a weight is kept only where it isn't that of the units themselves.
 //!
 //! # Cells
 //!

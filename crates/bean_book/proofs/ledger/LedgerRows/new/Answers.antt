@@ -8,8 +8,8 @@ use Rattle.bean_book.proofs.ledger.LedgerRows.new.Goals as goal
 
 pub returns : goal.returns
 returns c = record {
-  rows = ap (λ (l : Ledger). l.rows) c.new.ensures;
-  decimals = λ name. ap (λ (l : Ledger). decimals_of l.decimals name) c.new.ensures
+  rows = ap (λ (l : Ledger). l.rows) c.new-2.ensures;
+  decimals = λ name. ap (λ (l : Ledger). decimals_of l.decimals name) c.new-2.ensures
       ∙ ap (λ o. unwrap_or o 0) (get-empty (slice_cmp nat_cmp) name);
-  places = c.new-2.ensures.items;
+  places = c.new-3.ensures.items;
 }

@@ -11,20 +11,8 @@ use Rattle.bean_holdings.proofs.BoundFacts.{added_at}
 use Rattle.bean_holdings.proofs.InPlace.{put_or_before, written}
 use Rattle.bean_holdings.proofs.inventories.Inventories.add.Goals as goal
 
-pub returns-in_default : goal.returns-in_default
-returns-in_default c =
-    let i = c.args.self.now in
-    let count : to_z w128 (of_z w128 c.args.count) ≡ c.args.count = omega (arith, ints) in
-    OnOk-map c.put.result _ _ (λ put a.
-    added_at (inventory_in i) c.args.account a [] c.add.new.self _ c.args.key c.args.count _
-    (sym c.in_default.ensures.none)
-    (c.in_ok-add.ensures.ok
-    ∙ ap (λ es. added es c.args.key (to_z w128 (of_z w128 c.args.count))) c.new-inventory.ensures)
-    count (put a))
-    c.put.ensures
-
-pub add-requires-2 : goal.add-requires-2
-add-requires-2 c =
+pub add-requires : goal.add-requires
+add-requires c =
     let i = c.args.self.now in
     let count : to_z w128 (of_z w128 c.args.count) ≡ c.args.count = omega (arith, ints) in
     let there = Found-position (bytes_eq c.args.account) i.by_account.entries c.in-Some.index
@@ -43,11 +31,11 @@ returns c =
     c.in-Some.ensures.some in
     let own : inventory_in i c.args.account ≡ c.index_mut.result.now =
     ap (λ o. unwrap_or o []) (there.value ∙ c.index_mut.ensures.value) in
-    OnOk-map c.add-2.result _ _ (λ new a.
-    added_at (inventory_in i) c.args.account a c.index_mut.result.now c.add-2.new.self _ c.args.key
+    OnOk-map c.add.result _ _ (λ new a.
+    added_at (inventory_in i) c.args.account a c.index_mut.result.now c.add.new.self _ c.args.key
     c.args.count _ (sym own) new count
     (ap (λ o. unwrap_or o [])
-    (written i.by_account.entries c.args.account a c.in-Some.index c.add-2.new.self
+    (written i.by_account.entries c.args.account a c.in-Some.index c.add.new.self
     c.in-Some.ensures.some)
-    ∙ put_or_before (bytes_eq c.args.account a) c.add-2.new.self [] _))
-    c.add-2.ensures.ok
+    ∙ put_or_before (bytes_eq c.args.account a) c.add.new.self [] _))
+    c.add.ensures.ok
