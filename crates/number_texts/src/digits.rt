@@ -344,14 +344,14 @@ pub fn push_number(out: &mut Vec<u8>, count: i128, places: u8, least: u8) -> Res
     push_parts(out, count < 0, parts, least)
 }
 
-/// A day as `2014-01-31`.
-pub fn push_day(out: &mut Vec<u8>, day: Day) -> Result<(), AllocError>
-    ensures { OnOk result (out.new.items ≡ out.old.items ++ day_text day) }
+/// The text of a day, as `2014-01-31`.
+pub fn day_bytes(day: Day) -> [u8; 10]
+    ensures { result ≡ day_text day }
 {
     let year = day.year().unsigned_abs() as u64;
     let month = day.month() as u64;
     let day = day.day() as u64;
-    let text = [
+    [
         digit(year / 10 / 10 / 10),
         digit(year / 10 / 10),
         digit(year / 10),
@@ -362,7 +362,12 @@ pub fn push_day(out: &mut Vec<u8>, day: Day) -> Result<(), AllocError>
         b'-',
         digit(day / 10),
         digit(day),
-    ];
-    out.extend_from_slice(&text)?;
-    Ok(())
+    ]
+}
+
+/// Adds the text of a day.
+pub fn push_day(out: &mut Vec<u8>, day: Day) -> Result<(), AllocError>
+    ensures { OnOk result (out.new.items ≡ out.old.items ++ day_text day) }
+{
+    out.extend_from_slice(&day_bytes(day))
 }

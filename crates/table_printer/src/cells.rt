@@ -64,16 +64,45 @@ fn shown_character(c: char) -> char
     if c.is_control() { ' ' } else { c }
 }
 
+/// Whether bytes are printable ASCII characters, one after the other.
+fn are_printable(bytes: &[u8]) -> bool
+    ensures { result ≡ list_all (is_in_range 32 126) bytes.now }
+{
+    let mut all = true;
+    for b in bytes {
+        all &= 32 <= *b && *b <= 126;
+    }
+    all
+}
+
+/// The same of eight bytes, which are looked at at once.
+#[inline(always)]
+fn eight_are_printable(bytes: &[u8; 8]) -> bool
+    ensures { result ≡ list_all (is_in_range 32 126) bytes.now }
+{
+    let mut all = true;
+    for b in bytes {
+        all &= 32 <= *b && *b <= 126;
+    }
+    all
+}
+
 /// Whether a text has printable ASCII characters alone, as most have. It shows as it is then, and
-/// takes a column for each byte.
+/// takes a column for each byte. The last eight bytes may have been looked at before: so none are
+/// left that are looked at by themselves.
+#[inline(always)]
 fn is_printable(text: &str) -> bool
     ensures { result ≡ list_all (is_in_range 32 126) text.now }
 {
     let bytes = text.as_bytes();
-    let mut all = true;
-    // It goes on to the end, so that many bytes are looked at at once.
-    for b in bytes {
-        all &= 32 <= *b && *b <= 126;
+    let Some(last) = bytes.last_chunk::<8>() else {
+        return are_printable(bytes);
+    };
+    let mut all = eight_are_printable(last);
+    let mut at = 0;
+    while let Some(eight) = bytes[at..].first_chunk::<8>() {
+        all &= eight_are_printable(eight);
+        at += 8;
     }
     all
 }
@@ -99,7 +128,9 @@ pub(crate) fn add_clean(clean: &mut String, text: &str) -> Result<(), AllocError
     Ok(())
 }
 
-/// A text with spaces in place of its control characters, in place of what was there.
+/// A text with spaces in place of its control characters, in place of what was there. Few texts are
+/// made so: it stays out of what is done for each cell.
+#[inline(never)]
 fn make_clean(clean: &mut String, text: &str) -> Result<(), AllocError>
     ensures { OnOk result (string_bytes clean.new ≡ clean_text text.now) }
 {
@@ -131,6 +162,7 @@ fn make_set(clean: &mut String, set: &TextSet<'_>) -> Result<(), AllocError>
 }
 
 /// How many columns of a terminal a text takes without its control characters.
+#[inline(always)]
 fn clean_width(text: &str, clean: &mut String) -> Result<usize, AllocError>
     ensures { IfOk result (λ n. n ≡ text_width (clean_text text.now)) }
 {
@@ -142,6 +174,7 @@ fn clean_width(text: &str, clean: &mut String) -> Result<usize, AllocError>
 }
 
 /// Adds a text without its control characters, and tells its width.
+#[inline(always)]
 fn push_clean(out: &mut Vec<u8>, text: &str, clean: &mut String) -> Result<usize, AllocError>
     ensures text { OnOk result (out.new.items ≡ out.old.items ++ clean_text text.now) }
     ensures width { IfOk result (λ n. n ≡ text_width (clean_text text.now)) }

@@ -88,6 +88,20 @@ fn trimmed_len(bytes: &[u8]) -> usize
     n
 }
 
+/// Adds spaces. Where they are few, as they mostly are, so many are added as are copied at once, and
+/// those that are too many taken off.
+#[inline(always)]
+fn push_spaces(out: &mut Vec<u8>, count: usize) -> Result<(), AllocError>
+    ensures { OnOk result (out.new.items ≡ out.old.items ++ replicate count space) }
+{
+    if count > 16 {
+        return push_run(out, b' ', count);
+    }
+    out.extend_from_slice(&[b' '; 16])?;
+    out.truncate(out.len() - (16 - count));
+    Ok(())
+}
+
 /// How many spaces stand before a cell: those that the cell before it leaves, and the gap.
 fn spaces_before(left: usize, column: usize) -> Result<usize, AllocError>
     ensures { IfOk result (λ n. replicate n space ≡ replicate left space ++ gap column) }
@@ -122,10 +136,10 @@ fn push_placed(
         (replicate spaces space
         ++ padded width (placed_text (decimals_of display.now) placed.now))) }
 {
-    push_run(out, b' ', spaces)?;
+    push_spaces(out, spaces)?;
     if placed.stands_right {
         let own = cell_width(&placed.cell, scratch, display)?;
-        push_run(out, b' ', width.saturating_sub(own))?;
+        push_spaces(out, width.saturating_sub(own))?;
         push_cell(out, &placed.cell, scratch, display)?;
         return Ok(0);
     }
