@@ -12,10 +12,12 @@ ghost use Rattle.table_printer.specs.CellText.{set_text, units_text};
 ghost use Rattle.theory.specs.Joined.{gap_before};
 
 use crate::cell::{Cell, Shown};
+use crate::days::LastDay;
 use crate::inventories::{inventory_width, push_inventory};
+use crate::nears::Nears;
 use crate::positions::{position_width, push_position};
 use bean_base::Currency;
-use number_texts::{number_len, push_day, push_number};
+use number_texts::{number_len, push_number};
 use posting_table::Display;
 use query_values::TextSet;
 use std::alloc::{AllocError, Global};
@@ -31,13 +33,11 @@ pub(crate) struct Scratch {
     pub read: String,
     /// A text that is only measured.
     pub measured: Vec<u8>,
-    /// Where the decimals of a currency were found last, by its place among entries: most often
-    /// the next there is the same.
-    pub nears: [usize; NEARS],
+    /// The day that was written last.
+    pub day: LastDay,
+    /// Where decimals were found last.
+    pub nears: Nears,
 }
-
-/// How many places have one of their own.
-pub(crate) const NEARS: usize = 8;
 
 impl Scratch {
     pub(crate) fn new(alloc: Global) -> Scratch {
@@ -46,7 +46,8 @@ impl Scratch {
             clean: String::new(alloc),
             read: String::new(alloc),
             measured: Vec::new(alloc),
-            nears: [0; NEARS],
+            day: LastDay::new(),
+            nears: Nears::new(),
         }
     }
 }
@@ -239,7 +240,7 @@ pub(crate) fn push_units(
     places: u8,
     currency: &Currency<'_>,
     display: &Display<'_>,
-    near: &mut usize,
+    nears: &mut Nears,
 ) -> Result<usize, AllocError>
     ensures text { OnOk result (out.new.items ≡ out.old.items
         ++ units_text (decimals_of display.now) count places currency.now) }
@@ -249,7 +250,7 @@ pub(crate) fn push_units(
         (units_text (decimals_of display.now) count places currency.now) ≡ true) }
 {
     let start = out.len();
-    push_number(out, count, places, display.places_near(currency, near))?;
+    push_number(out, count, places, nears.decimals(display, currency))?;
     out.push(b' ')?;
     out.extend_from_slice(currency.text().as_bytes())?;
     Ok(out.len() - start)
@@ -268,14 +269,14 @@ pub(crate) fn units_width(
     places: u8,
     currency: &Currency<'_>,
     display: &Display<'_>,
-    near: &mut usize,
+    nears: &mut Nears,
 ) -> usize
     ensures width { result
         ≡ text_width (units_text (decimals_of display.now) count places currency.now) }
     ensures printable { list_all (is_in_range 32 126)
         (units_text (decimals_of display.now) count places currency.now) ≡ true }
 {
-    let number = number_len(count, places, display.places_near(currency, near));
+    let number = number_len(count, places, nears.decimals(display, currency));
     number + 1 + currency.text().len()
 }
 
@@ -301,7 +302,7 @@ pub(crate) fn push_cell(
         Shown::Number { places, count } => push_exact(out, *count, *places),
         Shown::Text(text) => push_clean(out, text.text(), &mut scratch.clean),
         Shown::Day(day) => {
-            push_day(out, *day)?;
+            scratch.day.push(out, *day)?;
             Ok(DAY_WIDTH)
         }
         Shown::Set(set) => push_set(out, set.get(), &mut scratch.clean),
@@ -315,7 +316,7 @@ pub(crate) fn push_cell(
             *places,
             &currency.lend(),
             display,
-            &mut scratch.nears[0],
+            &mut scratch.nears,
         ),
         Shown::Position { key, count } => push_position(out, key.get(), *count, scratch, display),
         Shown::Inventory { places, held } => push_inventory(
@@ -355,7 +356,7 @@ pub(crate) fn cell_width(
             *places,
             &currency.lend(),
             display,
-            &mut scratch.nears[0],
+            &mut scratch.nears,
         )),
         Shown::Position { key, count } => position_width(key.get(), *count, scratch, display),
         Shown::Inventory { places, held } => inventory_width(
