@@ -207,6 +207,7 @@ struct Parts {
 
 /// The parts of the magnitude `number` · `10^-places`, without the zeros at the end behind the first
 /// `least` decimals.
+#[inline(never)]
 fn any_parts(number: u128, places: u8, least: u8) -> Parts
     ensures whole { result.whole ≡ number / 10 ^ places }
     ensures digits { digits_of result.shown result.digits ++ zeros (least - result.shown)
@@ -274,6 +275,7 @@ fn put_sign(text: &mut [u8], start: usize, is_wanted: bool) -> usize
 }
 
 /// Adds so many hundredths, behind a sign where it is wanted: one text, which is added at once.
+#[inline(always)]
 fn push_hundredths(out: &mut Vec<u8>, is_negative: bool, hundredths: u64) -> Result<(), AllocError>
     ensures { OnOk result (out.new.items ≡ out.old.items
         ++ ((if is_negative then dash ∷ [] else [])
@@ -337,6 +339,7 @@ fn push_any_parts(
 }
 
 /// The same, at once where they are few, as most are.
+#[inline(never)]
 fn push_parts(
     out: &mut Vec<u8>,
     is_negative: bool,
@@ -358,6 +361,7 @@ fn push_parts(
 }
 
 /// The number `count` · `10^-places` with the fewest decimals that are exact, but at least so many.
+#[inline(always)]
 pub fn push_number(out: &mut Vec<u8>, count: i128, places: u8, least: u8) -> Result<(), AllocError>
     ensures { OnOk result (out.new.items ≡ out.old.items ++ number_text count places least) }
 {
