@@ -94,6 +94,9 @@ fn trimmed_len(bytes: &[u8]) -> usize
 fn push_spaces(out: &mut Vec<u8>, count: usize) -> Result<(), AllocError>
     ensures { OnOk result (out.new.items ≡ out.old.items ++ replicate count space) }
 {
+    if count == 0 {
+        return Ok(());
+    }
     if count > 16 {
         return push_run(out, b' ', count);
     }
@@ -122,21 +125,18 @@ fn push_gap(out: &mut Vec<u8>, column: usize) -> Result<(), AllocError>
     Ok(())
 }
 
-/// A cell behind so many spaces. Tells how many more fill it up to its column's width.
+/// A cell. Tells how many spaces fill it up to its column's width.
 #[inline(always)]
 fn push_placed(
     out: &mut Vec<u8>,
     placed: &Placed<'_>,
-    spaces: usize,
     width: usize,
     scratch: &mut Scratch,
     display: &Display<'_>,
 ) -> Result<usize, AllocError>
     ensures { IfOk result (λ left. Leaves out.old.items out.new.items left
-        (replicate spaces space
-        ++ padded width (placed_text (decimals_of display.now) placed.now))) }
+        (padded width (placed_text (decimals_of display.now) placed.now))) }
 {
-    push_spaces(out, spaces)?;
     if placed.stands_right {
         let own = cell_width(&placed.cell, scratch, display)?;
         push_spaces(out, width.saturating_sub(own))?;
@@ -164,7 +164,9 @@ fn push_joined<L: Line>(
     let mut left = 0;
     for (i, heading) in headings.iter().enumerate() {
         let spaces = spaces_before(left, i)?;
-        left = push_placed(out, &line.cell(i), spaces, heading.width, scratch, display)?;
+        push_spaces(out, spaces)?;
+        // The cell is made where it is looked at.
+        left = push_placed(out, &line.cell(i), heading.width, scratch, display)?;
     }
     Ok(left)
 }
