@@ -174,6 +174,18 @@ fn clean_width(text: &str, clean: &mut String) -> Result<usize, AllocError>
     Ok(clean.width())
 }
 
+/// Adds bytes. One alone, as a flag is, needs no copying of many.
+#[inline(always)]
+fn push_bytes(out: &mut Vec<u8>, bytes: &[u8]) -> Result<(), AllocError>
+    ensures { OnOk result (out.new.items ≡ out.old.items ++ bytes.now) }
+{
+    if let [byte] = bytes {
+        out.push(*byte)?;
+        return Ok(());
+    }
+    out.extend_from_slice(bytes)
+}
+
 /// Adds a text without its control characters, and tells its width.
 #[inline(always)]
 fn push_clean(out: &mut Vec<u8>, text: &str, clean: &mut String) -> Result<usize, AllocError>
@@ -181,7 +193,7 @@ fn push_clean(out: &mut Vec<u8>, text: &str, clean: &mut String) -> Result<usize
     ensures width { IfOk result (λ n. n ≡ text_width (clean_text text.now)) }
 {
     if is_printable(text) {
-        out.extend_from_slice(text.as_bytes())?;
+        push_bytes(out, text.as_bytes())?;
         return Ok(text.len());
     }
     make_clean(clean, text)?;
