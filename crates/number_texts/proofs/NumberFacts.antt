@@ -4,6 +4,8 @@ use Rattle.std.proofs.Common.{◌≤◌, max, nat_lt, int_lt, Bool, true, false,
 use Rattle.std.proofs.Common.{length, drop, set, refl, sym, ap, ◌∙◌, append_assoc, arith}
 use Rattle.std.proofs.Common.{length-append}
 use Rattle.std.proofs.Math.Nat.{pow-succ'}
+use Rattle.std.proofs.Common.{take, take-take}
+use Rattle.std.proofs.Math.Seq.{take-append-add, take-append_seam}
 use Rattle.std.proofs.lemmas.Bool.Decides.{nat_tests}
 use Rattle.std.proofs.lemmas.Fmt.{decimal_digit, decimal_step_wide}
 use Rattle.std.proofs.lemmas.List.{append-nil, drop-set, length-replicate}
@@ -177,3 +179,13 @@ pub signed : (count : ℤ) (places least : ℕ)
 signed (pos n) places least =
     ap (λ b. cond b (45 ∷ []) [] ++ magnitude_text n places least) (not_below n)
 signed (negsuc n) places least = refl
+
+-- so many are added, and those that are too many taken off
+pub window : (old new rest front behind : List ℕ) (many n : ℕ) → length front ≤ many
+    → n ≡ length old + length front → new ≡ old ++ take many rest → rest ≡ front ++ behind
+    → take n new ≡ old ++ front
+window old new rest front behind many n fits at added is =
+    (λ i. take (at i) (added i)) ∙ take-append-add old (take many rest) (length front)
+    ∙ ap (λ l. old ++ l)
+    (take-take (length front) many rest fits ∙ ap (take (length front)) is
+    ∙ take-append_seam front behind)

@@ -268,26 +268,29 @@ fn put_sign(text: &mut [u8], start: usize, is_wanted: bool) -> usize
     requires { (0 < start) × (start ≤ length text.old) }
     ensures text { drop result text.new
         ≡ (if is_wanted then dash ∷ [] else []) ++ drop start text.old }
-    ensures inside { result ≤ length text.old }
+    ensures start { result + length (if is_wanted then dash ∷ [] else []) ≡ start }
 {
     text[start - 1] = b'-';
     start - len_if(is_wanted)
 }
 
-/// Adds so many hundredths, behind a sign where it is wanted: one text, which is added at once.
+/// Adds so many hundredths, behind a sign where it is wanted: one text of at most 24 bytes. So many are
+/// added, whatever its length, and those that are too many taken off: copies of a known length are
+/// made in place.
 #[inline(always)]
 fn push_hundredths(out: &mut Vec<u8>, is_negative: bool, hundredths: u64) -> Result<(), AllocError>
     ensures { OnOk result (out.new.items ≡ out.old.items
         ++ ((if is_negative then dash ∷ [] else [])
         ++ (decimal (hundredths / 100) ++ point ∷ digits_of 2 (hundredths % 100)))) }
 {
-    let mut text = [0; 24];
+    let mut text = [0; 48];
     text[21] = b'.';
     text[22] = digit(hundredths / 10);
     text[23] = digit(hundredths);
     let whole = write_digits(hundredths / 100, &mut text, 21);
     let start = put_sign(&mut text, whole, is_negative);
-    out.extend_from_slice(&text[start..])?;
+    out.extend_from_slice(&text[start..start + 24])?;
+    out.truncate(out.len() - start);
     Ok(())
 }
 

@@ -1,5 +1,5 @@
 //! The texts of cells, and how wide they are.
-ghost use Rattle.std.specs.Prelude.{◌≡◌, ◌≤◌, ◌++◌, OnOk, IfOk, true};
+ghost use Rattle.std.specs.Prelude.{◌≡◌, ◌≤◌, ◌+◌, ◌++◌, OnOk, IfOk, length, true, vec_len};
 ghost use Rattle.std.specs.Int.{is_in_range};
 ghost use Rattle.std.specs.List.{list_all};
 ghost use Rattle.std.specs.String.{string_bytes};
@@ -174,16 +174,21 @@ fn clean_width(text: &str, clean: &mut String) -> Result<usize, AllocError>
     Ok(clean.width())
 }
 
-/// Adds bytes. One alone, as a flag is, needs no copying of many.
+/// Adds bytes. One alone, as a flag is, or three, as most names of currencies have, need no copying
+/// of many.
 #[inline(always)]
 fn push_bytes(out: &mut Vec<u8>, bytes: &[u8]) -> Result<(), AllocError>
-    ensures { OnOk result (out.new.items ≡ out.old.items ++ bytes.now) }
+    ensures items { OnOk result (out.new.items ≡ out.old.items ++ bytes.now) }
+    ensures len { OnOk result (vec_len out.new ≡ vec_len out.old + length bytes.now) }
 {
-    if let [byte] = bytes {
-        out.push(*byte)?;
-        return Ok(());
+    match bytes {
+        [byte] => {
+            out.push(*byte)?;
+            Ok(())
+        }
+        [first, second, third] => out.extend_from_slice(&[*first, *second, *third]),
+        _ => out.extend_from_slice(bytes),
     }
-    out.extend_from_slice(bytes)
 }
 
 /// Adds a text without its control characters, and tells its width.
@@ -264,7 +269,7 @@ pub(crate) fn push_units(
     let start = out.len();
     push_number(out, count, places, nears.decimals(display, currency))?;
     out.push(b' ')?;
-    out.extend_from_slice(currency.text().as_bytes())?;
+    push_bytes(out, currency.text().as_bytes())?;
     Ok(out.len() - start)
 }
 

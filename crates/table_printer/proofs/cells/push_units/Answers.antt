@@ -13,7 +13,7 @@ returns-clause-text c =
     let currency = c.args.currency.now in
     let least = decimals_of c.args.display.now currency in
     let number = number_text c.args.count c.args.places least in
-    c.in_ok-extend_from_slice.ensures.items
+    c.in_ok-push_bytes.ensures.items
     ∙ (λ k. c.in_ok-push.ensures.items k ++ (c.as_bytes.ensures.value ∙ c.text.ensures.text) k)
     ∙ ap (λ l. (l ++ 32 ∷ []) ++ currency)
     (rw c.decimals.ensures at c.in_ok-push_number.ensures
@@ -46,7 +46,7 @@ returns-clause-width c =
       length-append
           number (32 ∷ currency),
       c.in_ok-push.ensures.len,
-      c.in_ok-extend_from_slice.ensures.len,
+      c.in_ok-push_bytes.ensures.len,
       c.len.ensures,
       c.len-start.ensures,
     )
