@@ -19,9 +19,10 @@ struct Written {
 fn are_one(first: Day, second: Day) -> bool
     ensures { IsTrue result → day_text first ≡ day_text second }
 {
-    first.day() == second.day()
-        && first.month() == second.month()
-        && first.year().unsigned_abs() == second.year().unsigned_abs()
+    // All at once: they lie beside each other.
+    (first.year() == second.year())
+        & (first.month() == second.month())
+        & (first.day() == second.day())
 }
 
 impl Written {
