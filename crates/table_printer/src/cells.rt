@@ -240,6 +240,13 @@ fn push_truth(out: &mut Vec<u8>, truth: bool) -> Result<usize, AllocError>
     Ok(text.len())
 }
 
+/// How many columns of a terminal a truth value takes.
+fn truth_width(truth: bool) -> usize
+    ensures { result ≡ text_width (spec.truth_text truth) }
+{
+    truth_text(truth).len()
+}
+
 /// Adds a number with the fewest decimals that are exact, and tells its width.
 fn push_exact(out: &mut Vec<u8>, count: i128, places: u8) -> Result<usize, AllocError>
     ensures text { OnOk result (out.new.items ≡ out.old.items ++ number_text count places 0) }
@@ -356,10 +363,9 @@ pub(crate) fn cell_width(
     ensures { IfOk result (λ n. n
         ≡ text_width (cell_text (decimals_of display.now) cell.now)) }
 {
-    scratch.measured.clear();
     match cell.shown() {
         Shown::Null => Ok(0),
-        Shown::Truth(truth) => push_truth(&mut scratch.measured, *truth),
+        Shown::Truth(truth) => Ok(truth_width(*truth)),
         Shown::Number { places, count } => Ok(exact_width(*count, *places)),
         Shown::Text(text) => clean_width(text.text(), &mut scratch.clean),
         Shown::Day(_) => Ok(DAY_WIDTH),
