@@ -4,14 +4,17 @@ use Rattle.std.proofs.Common.{◌≤◌, max, nat_lt, int_lt, Bool, true, false,
 use Rattle.std.proofs.Common.{length, drop, set, refl, sym, ap, ◌∙◌, append_assoc, arith}
 use Rattle.std.proofs.Common.{length-append}
 use Rattle.std.proofs.Math.Nat.{pow-succ'}
+use Rattle.std.proofs.Common.{take, take-take}
+use Rattle.std.proofs.Math.Seq.{take-append-add, take-append_seam}
 use Rattle.std.proofs.lemmas.Bool.Decides.{nat_tests}
 use Rattle.std.proofs.lemmas.Fmt.{decimal_digit, decimal_step_wide}
 use Rattle.std.proofs.lemmas.List.{append-nil, drop-set, length-replicate}
 use Rattle.std.specs.Fmt.{decimal}
 use Rattle.std.specs.Int.RustNames.{unsigned_abs}
 use Rattle.number_texts.specs.Digits.{behind_point, decimals_text, digits_of, exact_decimals}
-use Rattle.number_texts.specs.Digits.{number_text, parts_text, zeros}
+use Rattle.number_texts.specs.Digits.{magnitude_text, number_text, parts_text, zeros}
 use Rattle.number_texts.proofs.DigitsFacts.{behind_some, filled, length-digits_of, leading_one}
+use Rattle.number_texts.proofs.DigitsFacts.{stripped}
 
 -- between two powers of ten the count of digits is the same
 pub count_digits : (k n : ℕ) → 10 ^ k ≤ n → n < 10 * 10 ^ k → n < 10 ^ 64
@@ -155,3 +158,34 @@ length-leading_one unit shown digits is few small =
     let long =
     ap (λ u. length (decimal (u + digits))) is ∙ ap length (leading_one shown digits few small) in
     omega (arith, long, length-digits_of shown digits)
+
+-- what so many hundredths show
+pub hundredths_show : (n h : ℕ) → n % 1000000 ≡ 0 → h ≡ n / 1000000
+    → magnitude_text n 8 2 ≡ decimal (h / 100) ++ 46 ∷ digits_of 2 (h % 100)
+hundredths_show n h ends is =
+    let decimals = n % 100000000 in
+    let whole : n / 100000000 ≡ h / 100 = omega (arith, is) in
+    let digits : decimals / 1000000 ≡ h % 100 = omega (arith, is) in
+    let none : decimals % 1000000 ≡ 0 = omega (arith, ends) in
+    ap (λ ds. decimal (n / 100000000) ++ behind_point ds)
+    (sym (stripped 6 2 decimals 2 none (omega arith)))
+    ∙ sym (few_parts (n / 100000000) 2 (decimals / 1000000) 2 (omega arith) (omega arith))
+    ∙ (λ i. decimal (whole i) ++ 46 ∷ digits_of 2 (digits i))
+
+-- a sign and a magnitude
+pub signed : (count : ℤ) (places least : ℕ)
+    → cond (int_lt count (pos 0)) (45 ∷ []) [] ++ magnitude_text (unsigned_abs count) places least
+    ≡ number_text count places least
+signed (pos n) places least =
+    ap (λ b. cond b (45 ∷ []) [] ++ magnitude_text n places least) (not_below n)
+signed (negsuc n) places least = refl
+
+-- so many are added, and those that are too many taken off
+pub window : (old new rest front behind : List ℕ) (many n : ℕ) → length front ≤ many
+    → n ≡ length old + length front → new ≡ old ++ take many rest → rest ≡ front ++ behind
+    → take n new ≡ old ++ front
+window old new rest front behind many n fits at added is =
+    (λ i. take (at i) (added i)) ∙ take-append-add old (take many rest) (length front)
+    ∙ ap (λ l. old ++ l)
+    (take-take (length front) many rest fits ∙ ap (take (length front)) is
+    ∙ take-append_seam front behind)

@@ -1,10 +1,11 @@
 //! The texts of numbers and days.
 ghost use Rattle.std.specs.Prelude.{◌≡◌, ◌≤◌, ◌<◌, ◌+◌, ◌-◌, ◌/◌, ◌%◌, ◌^◌, [], ◌∷◌, ◌++◌, OnOk};
-ghost use Rattle.std.specs.Prelude.{drop, length, if◌then◌else◌};
+ghost use Rattle.std.specs.Prelude.{IfSome, drop, length, max, nat_lt, if◌then◌else◌};
 ghost use Rattle.std.specs.Fmt.{decimal};
 ghost use Rattle.std.specs.Int.RustNames.{unsigned_abs};
 ghost use Rattle.bean_base.specs.Character.{dash, point};
-ghost use Rattle.number_texts.specs.Digits.{digits_of, exact_decimals, number_text, parts_text};
+ghost use Rattle.number_texts.specs.Digits.{digits_of, exact_decimals, magnitude_text, number_text};
+ghost use Rattle.number_texts.specs.Digits.{parts_text};
 ghost use Rattle.number_texts.specs.Digits.{day_text, zeros};
 
 use crate::runs::push_run;
@@ -206,6 +207,7 @@ struct Parts {
 
 /// The parts of the magnitude `number` · `10^-places`, without the zeros at the end behind the first
 /// `least` decimals.
+#[inline(never)]
 fn any_parts(number: u128, places: u8, least: u8) -> Parts
     ensures whole { result.whole ≡ number / 10 ^ places }
     ensures digits { digits_of result.shown result.digits ++ zeros (least - result.shown)
@@ -222,27 +224,29 @@ fn any_parts(number: u128, places: u8, least: u8) -> Parts
     }
 }
 
-/// The same. Most counts have 8 decimals, and are of hundredths, of which two decimals are shown:
-/// these are told first, since what is divided by a known number is multiplied instead.
+/// How many hundredths the magnitude `number` · `10^-places` is, where two decimals are shown of it.
+/// Most counts have 8 decimals and are so many hundredths: they are told first, since what is divided
+/// by a known number is multiplied instead.
 #[inline(always)]
-fn parts_of(number: u128, places: u8, least: u8) -> Parts
-    ensures whole { result.whole ≡ number / 10 ^ places }
-    ensures digits { digits_of result.shown result.digits ++ zeros (least - result.shown)
-        ≡ exact_decimals places (number % 10 ^ places)
-        ++ zeros (least - length (exact_decimals places (number % 10 ^ places))) }
-    ensures small { result.digits < 10 ^ result.shown }
+fn hundredths_of(number: u128, places: u8, least: u8) -> Option<u64>
+    ensures { IfSome result (λ h. magnitude_text number places least
+        ≡ decimal (h / 100) ++ point ∷ digits_of 2 (h % 100)) }
 {
-    if let Ok(few) = u64::try_from(number) {
-        if places == 8 && least == 2 && few % 1_000_000 == 0 {
-            let hundredths = few / 1_000_000;
-            return Parts {
-                whole: (hundredths / 100) as u128,
-                shown: 2,
-                digits: (hundredths % 100) as u128,
-            };
-        }
+    let few = u64::try_from(number).ok()?;
+    if places != 8 || least != 2 || few % 1_000_000 != 0 {
+        return None;
     }
-    any_parts(number, places, least)
+    Some(few / 1_000_000)
+}
+
+/// How many bytes the parts of a magnitude have.
+fn parts_len(parts: Parts, least: u8) -> usize
+    ensures len { result ≡ length (decimal parts.whole)
+        + ((if nat_lt 0 (max parts.shown least) then 1 else 0) + max parts.shown least) }
+    ensures few { result ≤ 299 }
+{
+    let behind = parts.shown.max(least) as usize;
+    digits_in(parts.whole) + (len_if(behind > 0) + behind)
 }
 
 /// How many bytes the text of `count` · `10^-places` has, as [`push_number`] adds it. It is told
@@ -251,21 +255,43 @@ pub fn number_len(count: i128, places: u8, least: u8) -> usize
     ensures len { result ≡ length (number_text count places least) }
     ensures few { result ≤ 300 }
 {
-    let parts = parts_of(count.unsigned_abs(), places, least);
-    let behind = parts.shown.max(least) as usize;
-    len_if(count < 0) + digits_in(parts.whole) + len_if(behind > 0) + behind
+    let number = count.unsigned_abs();
+    match hundredths_of(number, places, least) {
+        Some(hundredths) => len_if(count < 0) + digits_in_word(hundredths / 100) + 3,
+        None => len_if(count < 0) + parts_len(any_parts(number, places, least), least),
+    }
 }
 
 /// Puts a sign before the text that begins at `start`, and tells where the text begins with it. It
 /// stands there whether or not it is wanted.
-fn put_sign(text: &mut [u8; 40], start: usize, is_wanted: bool) -> usize
-    requires { (0 < start) × (start ≤ 40) }
+fn put_sign(text: &mut [u8], start: usize, is_wanted: bool) -> usize
+    requires { (0 < start) × (start ≤ length text.old) }
     ensures text { drop result text.new
         ≡ (if is_wanted then dash ∷ [] else []) ++ drop start text.old }
-    ensures inside { result ≤ 40 }
+    ensures start { result + length (if is_wanted then dash ∷ [] else []) ≡ start }
 {
     text[start - 1] = b'-';
     start - len_if(is_wanted)
+}
+
+/// Adds so many hundredths, behind a sign where it is wanted: one text of at most 24 bytes. So many are
+/// added, whatever its length, and those that are too many taken off: copies of a known length are
+/// made in place.
+#[inline(always)]
+fn push_hundredths(out: &mut Vec<u8>, is_negative: bool, hundredths: u64) -> Result<(), AllocError>
+    ensures { OnOk result (out.new.items ≡ out.old.items
+        ++ ((if is_negative then dash ∷ [] else [])
+        ++ (decimal (hundredths / 100) ++ point ∷ digits_of 2 (hundredths % 100)))) }
+{
+    let mut text = [0; 48];
+    text[21] = b'.';
+    text[22] = digit(hundredths / 10);
+    text[23] = digit(hundredths);
+    let whole = write_digits(hundredths / 100, &mut text, 21);
+    let start = put_sign(&mut text, whole, is_negative);
+    out.extend_from_slice(&text[start..start + 24])?;
+    out.truncate(out.len() - start);
+    Ok(())
 }
 
 /// A sign where it is wanted, a whole part, a point and decimals, where they are few: one text, which
@@ -316,6 +342,7 @@ fn push_any_parts(
 }
 
 /// The same, at once where they are few, as most are.
+#[inline(never)]
 fn push_parts(
     out: &mut Vec<u8>,
     is_negative: bool,
@@ -337,21 +364,25 @@ fn push_parts(
 }
 
 /// The number `count` · `10^-places` with the fewest decimals that are exact, but at least so many.
+#[inline(always)]
 pub fn push_number(out: &mut Vec<u8>, count: i128, places: u8, least: u8) -> Result<(), AllocError>
     ensures { OnOk result (out.new.items ≡ out.old.items ++ number_text count places least) }
 {
-    let parts = parts_of(count.unsigned_abs(), places, least);
-    push_parts(out, count < 0, parts, least)
+    let number = count.unsigned_abs();
+    match hundredths_of(number, places, least) {
+        Some(hundredths) => push_hundredths(out, count < 0, hundredths),
+        None => push_parts(out, count < 0, any_parts(number, places, least), least),
+    }
 }
 
-/// A day as `2014-01-31`.
-pub fn push_day(out: &mut Vec<u8>, day: Day) -> Result<(), AllocError>
-    ensures { OnOk result (out.new.items ≡ out.old.items ++ day_text day) }
+/// The text of a day, as `2014-01-31`.
+pub fn day_bytes(day: Day) -> [u8; 10]
+    ensures { result ≡ day_text day }
 {
     let year = day.year().unsigned_abs() as u64;
     let month = day.month() as u64;
     let day = day.day() as u64;
-    let text = [
+    [
         digit(year / 10 / 10 / 10),
         digit(year / 10 / 10),
         digit(year / 10),
@@ -362,7 +393,12 @@ pub fn push_day(out: &mut Vec<u8>, day: Day) -> Result<(), AllocError>
         b'-',
         digit(day / 10),
         digit(day),
-    ];
-    out.extend_from_slice(&text)?;
-    Ok(())
+    ]
+}
+
+/// Adds the text of a day.
+pub fn push_day(out: &mut Vec<u8>, day: Day) -> Result<(), AllocError>
+    ensures { OnOk result (out.new.items ≡ out.old.items ++ day_text day) }
+{
+    out.extend_from_slice(&day_bytes(day))
 }

@@ -5,6 +5,7 @@
 //! push_number(&mut out, -1050, 2, 2)?;   // -10.50
 //! number_len(-1050, 2, 2);               // 6
 //! push_day(&mut out, day)?;              // 2014-01-31
+//! day_bytes(day);                        // the same ten bytes
 //! ```
 //!
 //! A number has the fewest decimals that are exact, but at least as many as are asked for.
@@ -21,5 +22,5 @@
 mod digits;
 mod runs;
 
-pub use digits::{number_len, push_day, push_number};
+pub use digits::{day_bytes, number_len, push_day, push_number};
 pub use runs::push_run;

@@ -5,3 +5,4 @@ mod InventoryFacts
 mod HeadingFacts
 pub mod Printable
 pub mod Written
+pub mod Eights

@@ -1,6 +1,6 @@
 -- Texts of printable ASCII characters: they stay as they are, and are as wide as they are long.
 use Rattle.std.proofs.Common.{◌≡◌, ℕ, true, false, cond, List, [], ◌∷◌, ◌++◌}
-use Rattle.std.proofs.Common.{length, chars, encode_utf8, refl, ap, ◌∙◌, arith}
+use Rattle.std.proofs.Common.{Bool, length, chars, encode_utf8, refl, sym, ap, ◌∙◌, arith}
 use Rattle.std.specs.Char.{is_control}
 use Rattle.std.specs.List.{flat_map, list_all}
 use Rattle.std.proofs.lemmas.Bool.{and_parts}
@@ -10,7 +10,7 @@ use Rattle.number_texts.proofs.PrintableFacts.{bounds, is_ascii, is_printable}
 use Rattle.unicode_width.specs.Width.{str_width}
 use Rattle.unicode_width.proofs.Rules.{str_width-printable}
 use Rattle.table_printer.specs.Table.{text_width}
-use Rattle.table_printer.specs.CellText.{clean_text, shown_character}
+use Rattle.table_printer.specs.CellText.{clean_text, shown_character, truth_text}
 
 chars_of : (bs : List ℕ) → list_all is_printable bs ≡ true → chars bs ≡ bs
 chars_of bs h = chars-IsAscii bs (is_ascii bs h)
@@ -38,3 +38,7 @@ width_printable bs h = ap (str_width false) (chars_of bs h) ∙ str_width-printa
 pub clean_width_printable : (bs : List ℕ) → list_all is_printable bs ≡ true
     → text_width (clean_text bs) ≡ length bs
 clean_width_printable bs h = ap text_width (clean_printable bs h) ∙ width_printable bs h
+
+pub truth_is_wide : (b : Bool) → length (truth_text b) ≡ text_width (truth_text b)
+truth_is_wide true = sym (width_printable (truth_text true) refl)
+truth_is_wide false = sym (width_printable (truth_text false) refl)

@@ -1,5 +1,5 @@
 //! The texts of cells, and how wide they are.
-ghost use Rattle.std.specs.Prelude.{◌≡◌, ◌≤◌, ◌++◌, OnOk, IfOk, true};
+ghost use Rattle.std.specs.Prelude.{◌≡◌, ◌≤◌, ◌+◌, ◌++◌, OnOk, IfOk, length, true, vec_len};
 ghost use Rattle.std.specs.Int.{is_in_range};
 ghost use Rattle.std.specs.List.{list_all};
 ghost use Rattle.std.specs.String.{string_bytes};
@@ -12,10 +12,12 @@ ghost use Rattle.table_printer.specs.CellText.{set_text, units_text};
 ghost use Rattle.theory.specs.Joined.{gap_before};
 
 use crate::cell::{Cell, Shown};
+use crate::days::LastDay;
 use crate::inventories::{inventory_width, push_inventory};
+use crate::nears::Nears;
 use crate::positions::{position_width, push_position};
 use bean_base::Currency;
-use number_texts::{number_len, push_day, push_number};
+use number_texts::{number_len, push_number};
 use posting_table::Display;
 use query_values::TextSet;
 use std::alloc::{AllocError, Global};
@@ -31,13 +33,11 @@ pub(crate) struct Scratch {
     pub read: String,
     /// A text that is only measured.
     pub measured: Vec<u8>,
-    /// Where the decimals of a currency were found last, by its place among entries: most often
-    /// the next there is the same.
-    pub nears: [usize; NEARS],
+    /// The day that was written last.
+    pub day: LastDay,
+    /// Where decimals were found last.
+    pub nears: Nears,
 }
-
-/// How many places have one of their own.
-pub(crate) const NEARS: usize = 8;
 
 impl Scratch {
     pub(crate) fn new(alloc: Global) -> Scratch {
@@ -46,7 +46,8 @@ impl Scratch {
             clean: String::new(alloc),
             read: String::new(alloc),
             measured: Vec::new(alloc),
-            nears: [0; NEARS],
+            day: LastDay::new(),
+            nears: Nears::new(),
         }
     }
 }
@@ -64,16 +65,45 @@ fn shown_character(c: char) -> char
     if c.is_control() { ' ' } else { c }
 }
 
+/// Whether bytes are printable ASCII characters, one after the other.
+fn are_printable(bytes: &[u8]) -> bool
+    ensures { result ≡ list_all (is_in_range 32 126) bytes.now }
+{
+    let mut all = true;
+    for b in bytes {
+        all &= 32 <= *b && *b <= 126;
+    }
+    all
+}
+
+/// The same of eight bytes, which are looked at at once.
+#[inline(always)]
+fn eight_are_printable(bytes: &[u8; 8]) -> bool
+    ensures { result ≡ list_all (is_in_range 32 126) bytes.now }
+{
+    let mut all = true;
+    for b in bytes {
+        all &= 32 <= *b && *b <= 126;
+    }
+    all
+}
+
 /// Whether a text has printable ASCII characters alone, as most have. It shows as it is then, and
-/// takes a column for each byte.
+/// takes a column for each byte. The last eight bytes may have been looked at before: so none are
+/// left that are looked at by themselves.
+#[inline(always)]
 fn is_printable(text: &str) -> bool
     ensures { result ≡ list_all (is_in_range 32 126) text.now }
 {
     let bytes = text.as_bytes();
-    let mut all = true;
-    // It goes on to the end, so that many bytes are looked at at once.
-    for b in bytes {
-        all &= 32 <= *b && *b <= 126;
+    let Some(last) = bytes.last_chunk::<8>() else {
+        return are_printable(bytes);
+    };
+    let mut all = eight_are_printable(last);
+    let mut at = 0;
+    while let Some(eight) = bytes[at..].first_chunk::<8>() {
+        all &= eight_are_printable(eight);
+        at += 8;
     }
     all
 }
@@ -99,7 +129,9 @@ pub(crate) fn add_clean(clean: &mut String, text: &str) -> Result<(), AllocError
     Ok(())
 }
 
-/// A text with spaces in place of its control characters, in place of what was there.
+/// A text with spaces in place of its control characters, in place of what was there. Few texts are
+/// made so: it stays out of what is done for each cell.
+#[inline(never)]
 fn make_clean(clean: &mut String, text: &str) -> Result<(), AllocError>
     ensures { OnOk result (string_bytes clean.new ≡ clean_text text.now) }
 {
@@ -131,6 +163,7 @@ fn make_set(clean: &mut String, set: &TextSet<'_>) -> Result<(), AllocError>
 }
 
 /// How many columns of a terminal a text takes without its control characters.
+#[inline(always)]
 fn clean_width(text: &str, clean: &mut String) -> Result<usize, AllocError>
     ensures { IfOk result (λ n. n ≡ text_width (clean_text text.now)) }
 {
@@ -141,13 +174,31 @@ fn clean_width(text: &str, clean: &mut String) -> Result<usize, AllocError>
     Ok(clean.width())
 }
 
+/// Adds bytes. One alone, as a flag is, or three, as most names of currencies have, need no copying
+/// of many.
+#[inline(always)]
+fn push_bytes(out: &mut Vec<u8>, bytes: &[u8]) -> Result<(), AllocError>
+    ensures items { OnOk result (out.new.items ≡ out.old.items ++ bytes.now) }
+    ensures len { OnOk result (vec_len out.new ≡ vec_len out.old + length bytes.now) }
+{
+    match bytes {
+        [byte] => {
+            out.push(*byte)?;
+            Ok(())
+        }
+        [first, second, third] => out.extend_from_slice(&[*first, *second, *third]),
+        _ => out.extend_from_slice(bytes),
+    }
+}
+
 /// Adds a text without its control characters, and tells its width.
+#[inline(always)]
 fn push_clean(out: &mut Vec<u8>, text: &str, clean: &mut String) -> Result<usize, AllocError>
     ensures text { OnOk result (out.new.items ≡ out.old.items ++ clean_text text.now) }
     ensures width { IfOk result (λ n. n ≡ text_width (clean_text text.now)) }
 {
     if is_printable(text) {
-        out.extend_from_slice(text.as_bytes())?;
+        push_bytes(out, text.as_bytes())?;
         return Ok(text.len());
     }
     make_clean(clean, text)?;
@@ -189,6 +240,13 @@ fn push_truth(out: &mut Vec<u8>, truth: bool) -> Result<usize, AllocError>
     Ok(text.len())
 }
 
+/// How many columns of a terminal a truth value takes.
+fn truth_width(truth: bool) -> usize
+    ensures { result ≡ text_width (spec.truth_text truth) }
+{
+    truth_text(truth).len()
+}
+
 /// Adds a number with the fewest decimals that are exact, and tells its width.
 fn push_exact(out: &mut Vec<u8>, count: i128, places: u8) -> Result<usize, AllocError>
     ensures text { OnOk result (out.new.items ≡ out.old.items ++ number_text count places 0) }
@@ -206,7 +264,7 @@ pub(crate) fn push_units(
     places: u8,
     currency: &Currency<'_>,
     display: &Display<'_>,
-    near: &mut usize,
+    nears: &mut Nears,
 ) -> Result<usize, AllocError>
     ensures text { OnOk result (out.new.items ≡ out.old.items
         ++ units_text (decimals_of display.now) count places currency.now) }
@@ -216,9 +274,9 @@ pub(crate) fn push_units(
         (units_text (decimals_of display.now) count places currency.now) ≡ true) }
 {
     let start = out.len();
-    push_number(out, count, places, display.places_near(currency, near))?;
+    push_number(out, count, places, nears.decimals(display, currency))?;
     out.push(b' ')?;
-    out.extend_from_slice(currency.text().as_bytes())?;
+    push_bytes(out, currency.text().as_bytes())?;
     Ok(out.len() - start)
 }
 
@@ -235,14 +293,14 @@ pub(crate) fn units_width(
     places: u8,
     currency: &Currency<'_>,
     display: &Display<'_>,
-    near: &mut usize,
+    nears: &mut Nears,
 ) -> usize
     ensures width { result
         ≡ text_width (units_text (decimals_of display.now) count places currency.now) }
     ensures printable { list_all (is_in_range 32 126)
         (units_text (decimals_of display.now) count places currency.now) ≡ true }
 {
-    let number = number_len(count, places, display.places_near(currency, near));
+    let number = number_len(count, places, nears.decimals(display, currency));
     number + 1 + currency.text().len()
 }
 
@@ -268,7 +326,7 @@ pub(crate) fn push_cell(
         Shown::Number { places, count } => push_exact(out, *count, *places),
         Shown::Text(text) => push_clean(out, text.text(), &mut scratch.clean),
         Shown::Day(day) => {
-            push_day(out, *day)?;
+            scratch.day.push(out, *day)?;
             Ok(DAY_WIDTH)
         }
         Shown::Set(set) => push_set(out, set.get(), &mut scratch.clean),
@@ -282,7 +340,7 @@ pub(crate) fn push_cell(
             *places,
             &currency.lend(),
             display,
-            &mut scratch.nears[0],
+            &mut scratch.nears,
         ),
         Shown::Position { key, count } => push_position(out, key.get(), *count, scratch, display),
         Shown::Inventory { places, held } => push_inventory(
@@ -305,10 +363,9 @@ pub(crate) fn cell_width(
     ensures { IfOk result (λ n. n
         ≡ text_width (cell_text (decimals_of display.now) cell.now)) }
 {
-    scratch.measured.clear();
     match cell.shown() {
         Shown::Null => Ok(0),
-        Shown::Truth(truth) => push_truth(&mut scratch.measured, *truth),
+        Shown::Truth(truth) => Ok(truth_width(*truth)),
         Shown::Number { places, count } => Ok(exact_width(*count, *places)),
         Shown::Text(text) => clean_width(text.text(), &mut scratch.clean),
         Shown::Day(_) => Ok(DAY_WIDTH),
@@ -322,7 +379,7 @@ pub(crate) fn cell_width(
             *places,
             &currency.lend(),
             display,
-            &mut scratch.nears[0],
+            &mut scratch.nears,
         )),
         Shown::Position { key, count } => position_width(key.get(), *count, scratch, display),
         Shown::Inventory { places, held } => inventory_width(

@@ -10,7 +10,8 @@ ghost use Rattle.table_printer.specs.CellText.{is_plain};
 ghost use Rattle.theory.specs.Joined.{gap_before};
 ghost use Rattle.bean_lots.specs.Lot.{key_order};
 
-use crate::cells::{NEARS, Scratch, push_units, units_width, width_of};
+use crate::cells::{Scratch, push_units, units_width, width_of};
+use crate::nears::Nears;
 use crate::positions::add_entry;
 use bean_lots::Position;
 use bean_lots::inventory::Positions;
@@ -87,7 +88,7 @@ fn push_plain(
     out: &mut Vec<u8>,
     entries: &[Position<'_>],
     places: u8,
-    nears: &mut [usize; NEARS],
+    nears: &mut Nears,
     display: &Display<'_>,
 ) -> Result<(), AllocError>
     requires plain { list_all is_plain entries.now ≡ true }
@@ -97,9 +98,15 @@ fn push_plain(
         (entries_text (decimals_of display.now) places entries.now) ≡ true) }
 {
     for (i, entry) in entries.iter().enumerate() {
-        let near = &mut nears[i % NEARS];
         push_between(out, i)?;
-        push_units(out, entry.count, places, &entry.key.currency, display, near)?;
+        push_units(
+            out,
+            entry.count,
+            places,
+            &entry.key.currency,
+            display,
+            nears,
+        )?;
     }
     Ok(())
 }
@@ -122,7 +129,7 @@ fn sum(first: usize, second: usize) -> Result<usize, AllocError>
 fn plain_width(
     entries: &[Position<'_>],
     places: u8,
-    nears: &mut [usize; NEARS],
+    nears: &mut Nears,
     display: &Display<'_>,
 ) -> Result<usize, AllocError>
     requires plain { list_all is_plain entries.now ≡ true }
@@ -131,8 +138,7 @@ fn plain_width(
 {
     let mut width: usize = 0;
     for (i, entry) in entries.iter().enumerate() {
-        let near = &mut nears[i % NEARS];
-        let own = units_width(entry.count, places, &entry.key.currency, display, near);
+        let own = units_width(entry.count, places, &entry.key.currency, display, nears);
         let both = sum(between_width(i), own)?;
         width = sum(width, both)?;
     }

@@ -88,6 +88,23 @@ fn trimmed_len(bytes: &[u8]) -> usize
     n
 }
 
+/// Adds spaces. Where they are few, as they mostly are, so many are added as are copied at once, and
+/// those that are too many taken off.
+#[inline(always)]
+fn push_spaces(out: &mut Vec<u8>, count: usize) -> Result<(), AllocError>
+    ensures { OnOk result (out.new.items ≡ out.old.items ++ replicate count space) }
+{
+    if count == 0 {
+        return Ok(());
+    }
+    if count > 16 {
+        return push_run(out, b' ', count);
+    }
+    out.extend_from_slice(&[b' '; 16])?;
+    out.truncate(out.len() - (16 - count));
+    Ok(())
+}
+
 /// How many spaces stand before a cell: those that the cell before it leaves, and the gap.
 fn spaces_before(left: usize, column: usize) -> Result<usize, AllocError>
     ensures { IfOk result (λ n. replicate n space ≡ replicate left space ++ gap column) }
@@ -108,24 +125,21 @@ fn push_gap(out: &mut Vec<u8>, column: usize) -> Result<(), AllocError>
     Ok(())
 }
 
-/// A cell behind so many spaces. Tells how many more fill it up to its column's width.
+/// A cell. Tells how many spaces fill it up to its column's width.
 #[inline(always)]
 fn push_placed(
     out: &mut Vec<u8>,
     placed: &Placed<'_>,
-    spaces: usize,
     width: usize,
     scratch: &mut Scratch,
     display: &Display<'_>,
 ) -> Result<usize, AllocError>
     ensures { IfOk result (λ left. Leaves out.old.items out.new.items left
-        (replicate spaces space
-        ++ padded width (placed_text (decimals_of display.now) placed.now))) }
+        (padded width (placed_text (decimals_of display.now) placed.now))) }
 {
-    push_run(out, b' ', spaces)?;
     if placed.stands_right {
         let own = cell_width(&placed.cell, scratch, display)?;
-        push_run(out, b' ', width.saturating_sub(own))?;
+        push_spaces(out, width.saturating_sub(own))?;
         push_cell(out, &placed.cell, scratch, display)?;
         return Ok(0);
     }
@@ -150,7 +164,9 @@ fn push_joined<L: Line>(
     let mut left = 0;
     for (i, heading) in headings.iter().enumerate() {
         let spaces = spaces_before(left, i)?;
-        left = push_placed(out, &line.cell(i), spaces, heading.width, scratch, display)?;
+        push_spaces(out, spaces)?;
+        // The cell is made where it is looked at.
+        left = push_placed(out, &line.cell(i), heading.width, scratch, display)?;
     }
     Ok(left)
 }

@@ -48,7 +48,7 @@ fn add_units(
         places,
         currency,
         display,
-        &mut scratch.nears[0],
+        &mut scratch.nears,
     )?;
     add_printable(&mut scratch.clean, &scratch.measured)?;
     Ok(())
@@ -152,7 +152,7 @@ pub(crate) fn push_position(
             COUNT_PLACES,
             &key.currency,
             display,
-            &mut scratch.nears[0],
+            &mut scratch.nears,
         );
     }
     make_position(scratch, key, count, display)?;
@@ -177,7 +177,7 @@ pub(crate) fn position_width(
             COUNT_PLACES,
             &key.currency,
             display,
-            &mut scratch.nears[0],
+            &mut scratch.nears,
         ));
     }
     make_position(scratch, key, count, display)?;

@@ -12,7 +12,7 @@ returns-in-Null-clause-width c =
     sym (ap (λ cell. text_width (cell_text (decimals_of c.args.display.now) cell))
     (sym c.shown.ensures ∙ ap value_of c.in-Null.is) ∙ width_printable [] refl)
 
-pub returns-in_ok-push_day-in-Day-clause-width : goal.returns-in_ok-push_day-in-Day-clause-width
-returns-in_ok-push_day-in-Day-clause-width c =
+pub returns-in_ok-push-in-Day-clause-width : goal.returns-in_ok-push-in-Day-clause-width
+returns-in_ok-push-in-Day-clause-width c =
     sym (ap (λ cell. text_width (cell_text (decimals_of c.args.display.now) cell))
     (sym c.shown.ensures ∙ ap value_of c.in-Day.is) ∙ day_width c.in-Day.day)

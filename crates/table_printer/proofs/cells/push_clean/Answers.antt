@@ -6,7 +6,7 @@ use Rattle.table_printer.proofs.cells.push_clean.Goals as goal
 pub returns-then-is_printable : goal.returns-then-is_printable
 returns-then-is_printable c =
     let plain = sym c.is_printable.ensures ∙ c.if-is_printable.true in record {
-      text = c.in_ok-extend_from_slice.ensures.items
+      text = c.in_ok-push_bytes.ensures.items
           ∙ ap (λ l. c.args.out.now.items ++ l)
           (c.as_bytes.ensures.value ∙ sym (clean_printable c.args.text.now plain));
       width = sym (clean_width_printable c.args.text.now plain);
@@ -14,7 +14,7 @@ returns-then-is_printable c =
 
 pub returns : goal.returns
 returns c = record {
-  text = c.in_ok-extend_from_slice-2.ensures.items
+  text = c.in_ok-extend_from_slice.ensures.items
       ∙ ap (λ l. c.args.out.now.items ++ l)
       (c.as_bytes-2.ensures.value ∙ c.in_ok-make_clean.ensures);
   width = c.width.ensures.value ∙ ap text_width (c.deref.ensures ∙ c.in_ok-make_clean.ensures);

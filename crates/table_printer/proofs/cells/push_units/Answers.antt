@@ -13,10 +13,10 @@ returns-clause-text c =
     let currency = c.args.currency.now in
     let least = decimals_of c.args.display.now currency in
     let number = number_text c.args.count c.args.places least in
-    c.in_ok-extend_from_slice.ensures.items
+    c.in_ok-push_bytes.ensures.items
     ∙ (λ k. c.in_ok-push.ensures.items k ++ (c.as_bytes.ensures.value ∙ c.text.ensures.text) k)
     ∙ ap (λ l. (l ++ 32 ∷ []) ++ currency)
-    (rw c.places_near.ensures at c.in_ok-push_number.ensures
+    (rw c.decimals.ensures at c.in_ok-push_number.ensures
     ∙ (λ k. out ++ number_text (to_z-of_z w128 c.args.count c.ranges.count k) c.args.places least))
     ∙ ap (λ l. l ++ currency) (append_assoc out number (32 ∷ []))
     ∙ append_assoc out (number ++ 32 ∷ []) currency
@@ -33,7 +33,7 @@ returns-clause-width c =
     (printable_number c.args.count c.args.places least (bounded c.args.count c.ranges.count))
     c.text.ensures.is_currency) in
     let sized =
-    ap length (rw c.places_near.ensures at c.in_ok-push_number.ensures
+    ap length (rw c.decimals.ensures at c.in_ok-push_number.ensures
     ∙ (λ k. c.args.out.now.items
     ++ number_text (to_z-of_z w128 c.args.count c.ranges.count k) c.args.places least)) in
     let named = ap length (c.as_bytes.ensures.value ∙ c.text.ensures.text) in
@@ -46,7 +46,7 @@ returns-clause-width c =
       length-append
           number (32 ∷ currency),
       c.in_ok-push.ensures.len,
-      c.in_ok-extend_from_slice.ensures.len,
+      c.in_ok-push_bytes.ensures.len,
       c.len.ensures,
       c.len-start.ensures,
     )

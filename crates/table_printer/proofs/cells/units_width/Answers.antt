@@ -20,7 +20,7 @@ returns-clause-width c =
     (printable_number count places least (bounded count c.ranges.count))
     c.text.ensures.is_currency) in
     let sized =
-    rw c.places_near.ensures at c.number_len-number.ensures.len
+    rw c.decimals.ensures at c.number_len-number.ensures.len
     ∙ ap (λ n. length (number_text n places least)) (to_z-of_z w128 count c.ranges.count) in
     let named = ap length c.text.ensures.text in
     omega (arith, wide, sized, named, length-append number (32 ∷ currency))

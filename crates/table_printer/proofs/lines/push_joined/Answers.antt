@@ -1,11 +1,11 @@
-use Rattle.std.proofs.Common.{◌++◌, ℕ, List, [], refl, sym, ap, subst, ◌∙◌, arith, take, map}
+use Rattle.std.proofs.Common.{◌++◌, ℕ, List, [], refl, sym, ap, subst, ◌∙◌, arith, take, map, replicate}
 use Rattle.std.proofs.lemmas.List.{append-nil, length-map, take_all}
 use Rattle.posting_table.specs.Decimals.{decimals_of}
 use Rattle.table_printer.specs.Heading.{width_of}
 use Rattle.table_printer.specs.Layout.{Leaves, joined, gap}
 use Rattle.table_printer.specs.Line.{placed_text}
 use Rattle.table_printer.specs.Table.{pieces, padded}
-use Rattle.table_printer.proofs.LayoutFacts.{leaves_more}
+use Rattle.table_printer.proofs.LayoutFacts.{leaves_behind, leaves_more}
 use Rattle.table_printer.proofs.TableFacts.{pieces_more_at, length-pieces, width_is}
 use Rattle.table_printer.proofs.lines.push_joined.Goals as goal
 
@@ -26,7 +26,10 @@ loop-i-preserved g c =
     width_is c.args.headings.now i c.index-headings-i.result (omega arith) c.index-headings-i.is in
     leaves_more c.args.out.now.items c.loop-i.out.items c.push_placed.new.out.items before _ (gap i)
     (padded c.index-headings-i.result.width (shown x)) c.loop-i.left c.in_ok-spaces.spaces
-    c.in_ok-left.left c.loop-i.invariant c.in_ok-spaces.ensures c.in_ok-left.ensures
+    c.in_ok-left.left c.loop-i.invariant c.in_ok-spaces.ensures
+    (leaves_behind c.loop-i.out.items c.push_spaces.new.out.items c.push_placed.new.out.items
+    (replicate c.in_ok-spaces.spaces 32) (padded c.index-headings-i.result.width (shown x))
+    c.in_ok-left.left c.in_ok-push_spaces.ensures c.in_ok-left.ensures)
     (more ∙ ap (λ w. before ++ gap i ++ padded w (shown x)) (sym width))
 
 pub returns : goal.returns

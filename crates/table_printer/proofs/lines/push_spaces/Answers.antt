@@ -1,0 +1,14 @@
+use Rattle.std.proofs.Common.{◌≡◌, ◌≤◌, ◌+◌, ◌-◌, length, arith, ◌∙◌}
+use Rattle.table_printer.proofs.LayoutFacts.{few_spaces}
+use Rattle.table_printer.proofs.lines.push_spaces.Goals as goal
+
+pub returns : goal.returns
+returns c =
+    let out = c.args.out.now in
+    let count = c.args.count in
+    let few : count ≤ 16 = omega (arith, c.if-count-gt16.false) in
+    let at : c.len.result - (16 - count) ≡ length out.items + count =
+    omega (arith, few, c.len.ensures, c.in_ok-extend_from_slice.ensures.len, out.ok) in
+    c.truncate.ensures.items
+    ∙ few_spaces out.items c.extend_from_slice.new.self.items 16 count _ few at
+    c.in_ok-extend_from_slice.ensures.items
