@@ -3,3 +3,5 @@ pub mod DigitsFacts
 pub mod PrintableFacts
 pub mod LengthFacts
 pub mod NumberFacts
+pub mod Eights
+pub mod RunFacts

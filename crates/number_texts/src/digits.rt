@@ -376,7 +376,7 @@ pub fn push_number(out: &mut Vec<u8>, count: i128, places: u8, least: u8) -> Res
 }
 
 /// The text of a day, as `2014-01-31`.
-pub fn day_bytes(day: Day) -> [u8; 10]
+pub(crate) fn day_bytes(day: Day) -> [u8; 10]
     ensures { result ≡ day_text day }
 {
     let year = day.year().unsigned_abs() as u64;

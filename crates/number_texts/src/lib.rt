@@ -1,11 +1,12 @@
-//! The texts of numbers and days, as tables and metadata show them.
+//! The texts of numbers and days, as tables and metadata show them, spaces between texts, and whether a
+//! text is printable as it is.
 //!
 //! ```text
 //! push_number(&mut out, -1050, 2, 0)?;   // -10.5
 //! push_number(&mut out, -1050, 2, 2)?;   // -10.50
 //! number_len(-1050, 2, 2);               // 6
 //! push_day(&mut out, day)?;              // 2014-01-31
-//! day_bytes(day);                        // the same ten bytes
+//! last.push(&mut out, day)?;             // the same, made once for a day that comes again
 //! ```
 //!
 //! A number has the fewest decimals that are exact, but at least as many as are asked for.
@@ -19,8 +20,12 @@
 //! A few steps a digit. Most numbers are divided as 64 bits.
 #![tactic(auto)]
 
+mod days;
 mod digits;
+mod printable;
 mod runs;
 
-pub use digits::{day_bytes, number_len, push_day, push_number};
-pub use runs::push_run;
+pub use days::LastDay;
+pub use digits::{number_len, push_day, push_number};
+pub use printable::is_printable;
+pub use runs::{push_run, push_spaces};

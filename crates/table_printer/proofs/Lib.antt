@@ -5,4 +5,3 @@ mod InventoryFacts
 mod HeadingFacts
 pub mod Printable
 pub mod Written
-pub mod Eights

@@ -12,12 +12,11 @@ ghost use Rattle.table_printer.specs.CellText.{set_text, units_text};
 ghost use Rattle.theory.specs.Joined.{gap_before};
 
 use crate::cell::{Cell, Shown};
-use crate::days::LastDay;
 use crate::inventories::{inventory_width, push_inventory};
 use crate::nears::Nears;
 use crate::positions::{position_width, push_position};
 use bean_base::Currency;
-use number_texts::{number_len, push_number};
+use number_texts::{LastDay, is_printable, number_len, push_number};
 use posting_table::Display;
 use query_values::TextSet;
 use std::alloc::{AllocError, Global};
@@ -63,49 +62,6 @@ fn shown_character(c: char) -> char
     ensures { result ≡ spec.shown_character c }
 {
     if c.is_control() { ' ' } else { c }
-}
-
-/// Whether bytes are printable ASCII characters, one after the other.
-fn are_printable(bytes: &[u8]) -> bool
-    ensures { result ≡ list_all (is_in_range 32 126) bytes.now }
-{
-    let mut all = true;
-    for b in bytes {
-        all &= 32 <= *b && *b <= 126;
-    }
-    all
-}
-
-/// The same of eight bytes, which are looked at at once.
-#[inline(always)]
-fn eight_are_printable(bytes: &[u8; 8]) -> bool
-    ensures { result ≡ list_all (is_in_range 32 126) bytes.now }
-{
-    let mut all = true;
-    for b in bytes {
-        all &= 32 <= *b && *b <= 126;
-    }
-    all
-}
-
-/// Whether a text has printable ASCII characters alone, as most have. It shows as it is then, and
-/// takes a column for each byte. The last eight bytes may have been looked at before: so none are
-/// left that are looked at by themselves.
-#[inline(always)]
-fn is_printable(text: &str) -> bool
-    ensures { result ≡ list_all (is_in_range 32 126) text.now }
-{
-    let bytes = text.as_bytes();
-    let Some(last) = bytes.last_chunk::<8>() else {
-        return are_printable(bytes);
-    };
-    let mut all = eight_are_printable(last);
-    let mut at = 0;
-    while let Some(eight) = bytes[at..].first_chunk::<8>() {
-        all &= eight_are_printable(eight);
-        at += 8;
-    }
-    all
 }
 
 /// How many columns of a terminal a text takes that has no control characters.

@@ -55,7 +55,6 @@ mod answers;
 mod cause;
 mod cell;
 mod cells;
-mod days;
 mod headings;
 mod inventories;
 mod lines;

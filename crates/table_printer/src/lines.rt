@@ -13,7 +13,7 @@ use crate::cell::Cell;
 use crate::cells::{Scratch, cell_width, is_number, push_cell};
 use crate::headings::Heading;
 use crate::rows::Rows;
-use number_texts::push_run;
+use number_texts::{push_run, push_spaces};
 use posting_table::Display;
 use std::alloc::AllocError;
 
@@ -86,23 +86,6 @@ fn trimmed_len(bytes: &[u8]) -> usize
         n -= 1;
     }
     n
-}
-
-/// Adds spaces. Where they are few, as they mostly are, so many are added as are copied at once, and
-/// those that are too many taken off.
-#[inline(always)]
-fn push_spaces(out: &mut Vec<u8>, count: usize) -> Result<(), AllocError>
-    ensures { OnOk result (out.new.items ≡ out.old.items ++ replicate count space) }
-{
-    if count == 0 {
-        return Ok(());
-    }
-    if count > 16 {
-        return push_run(out, b' ', count);
-    }
-    out.extend_from_slice(&[b' '; 16])?;
-    out.truncate(out.len() - (16 - count));
-    Ok(())
 }
 
 /// How many spaces stand before a cell: those that the cell before it leaves, and the gap.

@@ -1,6 +1,6 @@
 use Rattle.std.proofs.Common.{◌≡◌, ◌≤◌, ◌+◌, ◌-◌, length, arith, ◌∙◌}
-use Rattle.table_printer.proofs.LayoutFacts.{few_spaces}
-use Rattle.table_printer.proofs.lines.push_spaces.Goals as goal
+use Rattle.number_texts.proofs.RunFacts.{few_spaces}
+use Rattle.number_texts.proofs.runs.push_spaces.Goals as goal
 
 pub returns : goal.returns
 returns c =

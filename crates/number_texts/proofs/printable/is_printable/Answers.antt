@@ -2,8 +2,8 @@ use Rattle.std.proofs.Common.{◌<◌, ◌-◌, ◌&&◌, length, length-drop, t
 use Rattle.std.proofs.lemmas.List.{take_all}
 use Rattle.std.specs.Int.{is_in_range}
 use Rattle.std.specs.List.{list_all}
-use Rattle.table_printer.proofs.Eights.{covered, eight_more}
-use Rattle.table_printer.proofs.cells.is_printable.Goals as goal
+use Rattle.number_texts.proofs.Eights.{covered, eight_more}
+use Rattle.number_texts.proofs.printable.is_printable.Goals as goal
 
 pub loop-eight-preserved : goal.loop-eight-preserved
 loop-eight-preserved c =

@@ -1,7 +1,7 @@
 use Rattle.std.proofs.Common.{◌≡◌, ◌≤◌, ◌-◌, ◌&&◌, length, take, drop}
 use Rattle.std.specs.Int.{is_in_range}
 use Rattle.std.specs.List.{list_all}
-use Rattle.table_printer.proofs.cells.is_printable.Given as goal
+use Rattle.number_texts.proofs.printable.is_printable.Given as goal
 
 -- the last eight, and those that were looked at
 abbrev pub invariant-loop-eight : goal.invariant-loop-eight

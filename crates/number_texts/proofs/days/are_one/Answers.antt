@@ -5,7 +5,7 @@ use Rattle.std.proofs.lemmas.Bool.{and_parts}
 use Rattle.std.proofs.lemmas.Bool.Decides.{nat_tests}
 use Rattle.std.proofs.lemmas.Int.{to_z-of_z}
 use Rattle.number_texts.specs.Digits.{digits_of}
-use Rattle.table_printer.proofs.days.are_one.Goals as goal
+use Rattle.number_texts.proofs.days.are_one.Goals as goal
 
 pub returns : goal.returns
 returns c h =

@@ -2,8 +2,8 @@
 ghost use Rattle.std.specs.Prelude.{◌≡◌, ◌++◌, IsTrue, OnOk};
 ghost use Rattle.number_texts.specs.Digits.{day_text};
 
+use crate::digits::day_bytes;
 use bean_base::Day;
-use number_texts::day_bytes;
 use std::alloc::AllocError;
 
 /// A day and its text.
@@ -50,7 +50,7 @@ impl Written {
 /// The day that was written last: most often the next cell has the same, and its text is made once
 /// for all of them.
 #[derive(Clone, Copy)]
-pub(crate) struct LastDay {
+pub struct LastDay {
     written: Option<Written>,
 }
 
@@ -66,13 +66,13 @@ fn written_of(known: Option<Written>, day: Day) -> Written
 }
 
 impl LastDay {
-    pub(crate) fn new() -> LastDay {
+    pub fn new() -> LastDay {
         LastDay { written: None }
     }
 
     /// Adds the text of a day.
     #[inline(always)]
-    pub(crate) fn push(&mut self, out: &mut Vec<u8>, day: Day) -> Result<(), AllocError>
+    pub fn push(&mut self, out: &mut Vec<u8>, day: Day) -> Result<(), AllocError>
         ensures { OnOk result (out.new.items ≡ out.old.items ++ day_text day) }
     {
         let written = written_of(self.written, day);
