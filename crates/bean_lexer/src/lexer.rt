@@ -1,5 +1,5 @@
 //! One token of a text after the other. What reads a token is put in place where tokens are asked for,
-//! since a call for each, whose answer is handed over in memory, took a third of the reading.
+//! since a call for each would hand over its answer in memory.
 ghost use Rattle.std.specs.Prelude.{◌≡◌, ◌-◌, ◌<◌, ◌≤◌, length, drop};
 ghost use Rattle.bean_lexer.specs.Tokens.{line_at};
 
