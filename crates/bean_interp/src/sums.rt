@@ -44,7 +44,7 @@ fn sum_before<'a>(
     is_first: bool,
     first: &Option<First<'a>>,
     others: &IndexMap<Currency<'a>, i128>,
-    currency: &Currency<'a>,
+    currency: &Currency<'_>,
 ) -> i128
     requires first { is_first ≡ rule.comes_first first.now currency.now }
     requires kept { rule.AreKept first.now others.now.entries }
@@ -101,16 +101,8 @@ impl<'a> Sums<'a> {
         ensures sum { result ≡ entry_of self.now currency.now }
         ensures bound { unsigned_abs result < 10 ^ 38 }
     {
-        let Some(first) = &self.first else {
-            return 0;
-        };
-        if *currency == first.currency {
-            return first.sum;
-        }
-        match self.others.get(currency) {
-            Some(sum) => *sum,
-            None => 0,
-        }
+        let is_first = comes_first(&self.first, currency);
+        sum_before(is_first, &self.first, &self.others, currency)
     }
 
     /// How many currencies there are.

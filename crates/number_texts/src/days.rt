@@ -66,6 +66,7 @@ fn written_of(known: Option<Written>, day: Day) -> Written
 }
 
 impl LastDay {
+    /// No day was written.
     pub fn new() -> LastDay {
         LastDay { written: None }
     }
