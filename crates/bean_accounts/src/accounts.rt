@@ -121,8 +121,8 @@ impl<'a> Accounts<'a> {
     }
 
     /// Adds the faults of a posting: F6, F7, F8. It gives the place of the account in the order in
-    /// which they were opened, where it was: most often what else is kept of accounts in that order
-    /// has it at the same place.
+    /// which they were opened, 0 where it wasn't: a number by which what else is kept of it may be
+    /// found sooner.
     pub fn note_posting(
         &self,
         account: &Account<'_>,

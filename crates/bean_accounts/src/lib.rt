@@ -27,8 +27,8 @@
 //!
 //! A look-up by the account's name for each call; a posting also looks through the currencies that
 //! the account's open lists. Memory is taken for each account, and for each currency of its open.
-//! Accounts keep the places in which they were opened: what else is kept of them in that order is
-//! found by these without a look-up of its own.
+//! Accounts are numbered as they are opened, and a posting is told the number of its account, by
+//! which what else is kept of it is found without a look-up.
 #![tactic(auto)]
 
 mod accounts;

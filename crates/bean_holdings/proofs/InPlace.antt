@@ -80,15 +80,6 @@ module _ {V : Type 0} where
   nothing_there None (Some v) none h = absurd (true≢false (sym h))
   nothing_there (Some i) found none h = tt
 
-  -- where nothing is put under a name that had nothing, all stays as it was
-  pub as_before : (f : List ℕ → V) (name a : List ℕ) (none now : V) → f name ≡ none
-      → now ≡ cond (bytes_eq name a) none (f a) → now ≡ f a
-  as_before f name a none now absent is = is ∙ by (bytes_eq name a) refl
-    where
-      by : (b : Bool) → bytes_eq name a ≡ b → cond b none (f a) ≡ f a
-      by true same = sym absent ∙ ap f ((bytes_eq-Decides name a).0 same)
-      by false other = refl
-
 pub such : (o p : Option ℕ) → o ≡ p → IfSome o (λ i. p ≡ Some i)
 such None p e = tt
 such (Some i) p e = sym e

@@ -48,19 +48,8 @@ impl<'a> Holdings<'a> {
         self.inventories.of(account, nothing)
     }
 
-    /// Gives an account the next place, unless it has one. What accounts hold stays as it was.
-    pub fn open(&mut self, alloc: Global, account: &Account<'a>) -> Result<(), AllocError>
-        ensures held { OnOk result ((ps : List spec.Posted) → AreHeld ps self.old
-            → AreHeld ps self.new) }
-        ensures holding { OnOk result ((a : List ℕ) → holding self.new a ≡ holding self.old a) }
-        ensures bounded { IsBounded self.old → OnOk result (IsBounded self.new) }
-        ensures additions { OnOk result (additions_in self.new ≡ additions_in self.old) }
-    {
-        self.inventories.open(alloc, account)
-    }
-
-    /// Adds a posting to what its account holds. Where the account is the one at `near` it is found
-    /// without a look-up; where it isn't, it is looked up.
+    /// Adds a posting to what its account holds. `near` is a small number of the caller's for that
+    /// account: where the account was the last one with this number it is found without a look-up.
     pub fn post(
         &mut self,
         alloc: Global,

@@ -19,6 +19,9 @@ use std::alloc::{AllocError, Global};
 #[derive(Drop)]
 pub struct Inventories<'a> {
     by_account: IndexMap<Account<'a>, Inventory<'a>>,
+    /// At each number that a caller has for accounts, the place at which one of them was found last.
+    /// Nothing rests on it: an account that isn't there is looked up.
+    found: Vec<usize>,
 }
 
 impl<'a> Inventories<'a> {
@@ -28,6 +31,7 @@ impl<'a> Inventories<'a> {
     {
         Inventories {
             by_account: IndexMap::new(alloc),
+            found: Vec::new(alloc),
         }
     }
 
@@ -51,16 +55,43 @@ impl<'a> Inventories<'a> {
         }
     }
 
-    /// The place of an account, if it has one. It isn't hashed where it is the one at `near`.
-    fn place_near(&self, account: &Account<'a>, near: usize) -> Option<usize>
+    /// The place of an account, if it has one. It isn't hashed where it is the one at `first`.
+    fn place_from(&self, account: &Account<'a>, first: usize) -> Option<usize>
         ensures some { IfSome result
             (λ i. position (bytes_eq account.now) (keys_of self.now.by_account.entries) ≡ Some i) }
         ensures none { IfNone result (inventory_in self.now account.now ≡ []) }
     {
-        if self.is_at(near, account) {
-            return Some(near);
+        if self.is_at(first, account) {
+            return Some(first);
         }
         self.by_account.get_index_of(account)
+    }
+
+    /// The place at which an account of a number is looked for first. Past all that is noted it is
+    /// the number itself, as accounts often come in the order of their numbers.
+    fn first_place(&self, near: usize) -> usize {
+        match self.found.get(near) {
+            Some(place) => *place,
+            None => near,
+        }
+    }
+
+    /// Notes the place at which an account of a number was found, unless it is looked for there
+    /// already.
+    fn note_place(&mut self, near: usize, place: usize) -> Result<(), AllocError>
+        ensures { OnOk result
+            ((a : List ℕ) → inventory_in self.new a ≡ inventory_in self.old a) }
+    {
+        if self.first_place(near) == place {
+            return Ok(());
+        }
+        if self.found.len() <= near {
+            self.found.resize(near.saturating_add(1), 0)?;
+        }
+        if let Some(found) = self.found.get_mut(near) {
+            *found = place;
+        }
+        Ok(())
     }
 
     /// Puts an inventory in place of that of an account.
@@ -71,17 +102,6 @@ impl<'a> Inventories<'a> {
         match self.by_account.insert(account, inventory) {
             Ok(_) => Ok(()),
             Err(_) => Err(AllocError),
-        }
-    }
-
-    /// Gives an account the next place, with nothing in it, unless it has one.
-    pub fn open(&mut self, alloc: Global, account: &Account<'a>) -> Result<(), AllocError>
-        ensures { OnOk result
-            ((a : List ℕ) → inventory_in self.new a ≡ inventory_in self.old a) }
-    {
-        match self.place_near(account, self.by_account.len()) {
-            Some(_) => Ok(()),
-            None => self.put(account.lend(), Inventory::new(alloc)),
         }
     }
 
@@ -119,14 +139,15 @@ impl<'a> Inventories<'a> {
             ≡ (if bytes_eq account.entry a then added (inventory_in self.old a) key.entry count
             else inventory_in self.old a)) }
     {
-        let Some(index) = self.place_near(&account, near) else {
+        let Some(index) = self.place_from(&account, self.first_place(near)) else {
             return self.begin(alloc, account, key, count);
         };
-        self.by_account[index].add(key, count)
+        self.by_account[index].add(key, count)?;
+        self.note_place(near, index)
     }
 
-    /// Adds a posting to the inventory of its account, which is found sooner where it is the one at
-    /// `near`. The caller knows that the sum fits.
+    /// Adds a posting to the inventory of its account, which is found sooner where it is the one
+    /// that was found last by the same number. The caller knows that the sum fits.
     pub fn post(
         &mut self,
         alloc: Global,

@@ -2,7 +2,6 @@
 //!
 //! ```text
 //! let mut holdings = Holdings::new(alloc);
-//! holdings.open(alloc, &shares)?;                 // Assets:Shares, the first account
 //! for posted in bought {                          // 10 X at 100 USD and 5 at 110 USD
 //!     holdings.post(alloc, posted, 0)?;
 //! }
@@ -17,12 +16,14 @@
 //!
 //! # Cost
 //!
-//! [`Inventories`] are looked up by account, but for an account that is where the caller thinks, and
-//! change where they stand. [`Holdings`] count their
-//! additions: each sum is at most `10^20` times that count, which is below `2^40`. Takes have no
-//! such count, since what they come to is a part of what is held. No contract shows how either is
-//! kept. A take is counted in constant time among the lots that are left, and the first and the
-//! last lots of an account that are taken whole are passed once for all takes of a transaction.
+//! [`Inventories`] are looked up by account, and change where they stand. A caller that numbers
+//! accounts, from 0, may give the number with a posting: where the account was the last one with
+//! that number its name is compared alone. For that 8 bytes are kept for each number up to the
+//! greatest. [`Holdings`] count their additions: each sum is at most `10^20` times that count, which
+//! is below `2^40`. Takes have no such count, since what they come to is a part of what is held. No
+//! contract shows how either is kept. A take is counted in constant time among the lots that are
+//! left, and the first and the last lots of an account that are taken whole are passed once for all
+//! takes of a transaction.
 #![tactic(auto)]
 
 mod holdings;

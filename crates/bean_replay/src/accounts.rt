@@ -9,9 +9,7 @@ ghost use Rattle.bean_lots.specs.Inventory.{has_lot};
 ghost use Rattle.bean_pad.specs.Following.{Follows, IsBounded, steps_in};
 ghost use Rattle.bean_pad.specs.declared.step.Step.{Step};
 ghost use Rattle.bean_pad.specs.declared.step.Step.TheVariants as step;
-ghost use Rattle.bean_holdings.specs.Holdings as holding_spec;
-ghost use Rattle.bean_holdings.specs.Holdings.{AreHeld, additions_in, holding};
-ghost use Rattle.bean_holdings.specs.declared.posted.Posted.{Posted};
+ghost use Rattle.bean_holdings.specs.Holdings.{holding};
 
 use bean_accounts::Accounts;
 use bean_base::{Day, Fault, Place};
@@ -21,12 +19,10 @@ use bean_lots::Inventory;
 use bean_pad::Padder;
 use std::alloc::{AllocError, Global};
 
-/// Takes an open that is written at a place. The account gets the same place among those that were
-/// opened and among those that hold something.
+/// Takes an open that is written at a place.
 pub(crate) fn take_open<'a>(
     alloc: Global,
     accounts: &mut Accounts<'a>,
-    holdings: &mut Holdings<'a>,
     faults: &mut Vec<Fault>,
     at: Place,
     opening: &Open<'a>,
@@ -37,15 +33,9 @@ pub(crate) fn take_open<'a>(
     ensures faults { (past : prelude.List lives.Step) → IsKept past accounts.old
         → OnOk result (faults.new.items ≡ faults.old.items
         ++ faults_at at (of_open opening.now.account opening.now.method past)) }
-    ensures held { OnOk result ((ps : prelude.List Posted) → AreHeld ps holdings.old
-        → AreHeld ps holdings.new) }
-    ensures bounded { holding_spec.IsBounded holdings.old
-        → OnOk result (holding_spec.IsBounded holdings.new) }
-    ensures additions { OnOk result (additions_in holdings.new ≡ additions_in holdings.old) }
 {
     accounts.note_open(&opening.account, &opening.method, at, faults)?;
-    accounts.open(alloc, &opening.account, opening.currencies.as_slice())?;
-    holdings.open(alloc, &opening.account)
+    accounts.open(alloc, &opening.account, opening.currencies.as_slice())
 }
 
 /// Takes a close that is written at a place.

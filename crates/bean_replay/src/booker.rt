@@ -209,7 +209,6 @@ impl<'a> Booker<'a> {
                 take_open(
                     self.alloc,
                     &mut self.accounts,
-                    &mut self.holdings,
                     &mut self.faults,
                     place,
                     &open,

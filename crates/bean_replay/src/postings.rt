@@ -34,8 +34,8 @@ fn place_in(at: Place, postings: &[Posting<'_>], written: usize) -> Place
     }
 }
 
-/// Adds the faults of a booked posting, and the posting to what its account holds. The accounts
-/// that were opened have the same places in both.
+/// Adds the faults of a booked posting, and the posting to what its account holds. The account's
+/// place among those that were opened tells it apart from others where it holds something.
 fn book_posting<'a>(
     alloc: Global,
     accounts: &Accounts<'a>,

@@ -5,7 +5,7 @@ use Rattle.std.specs.Int.RustNames.{FitsSigned}
 use Rattle.std.specs.Str.{bytes_eq}
 use Rattle.std.proofs.lemmas.Int.{ints}
 use Rattle.indexmap.proofs.MapLemmas.{Found-position, OnOk-map}
-use Rattle.bean_lots.specs.Inventory.{added, count_of}
+use Rattle.bean_lots.specs.Inventory.{count_of}
 use Rattle.bean_holdings.specs.Inventories.{inventory_in}
 use Rattle.bean_holdings.proofs.BoundFacts.{added_at}
 use Rattle.bean_holdings.proofs.InPlace.{put_or_before, written}
@@ -31,11 +31,12 @@ returns c =
     c.in-Some.ensures.some in
     let own : inventory_in i c.args.account ≡ c.index_mut.result.now =
     ap (λ o. unwrap_or o []) (there.value ∙ c.index_mut.ensures.value) in
-    OnOk-map c.add.result _ _ (λ new a.
-    added_at (inventory_in i) c.args.account a c.index_mut.result.now c.add.new.self _ c.args.key
-    c.args.count _ (sym own) new count
+    OnOk-map c.note_place.result _ _ (λ same a.
+    same a
+    ∙ added_at (inventory_in i) c.args.account a c.index_mut.result.now c.add.new.self _ c.args.key
+    c.args.count _ (sym own) c.in_ok-add.ensures.ok count
     (ap (λ o. unwrap_or o [])
     (written i.by_account.entries c.args.account a c.in-Some.index c.add.new.self
     c.in-Some.ensures.some)
     ∙ put_or_before (bytes_eq c.args.account a) c.add.new.self [] _))
-    c.add.ensures.ok
+    c.note_place.ensures

@@ -1,8 +1,7 @@
-use Rattle.std.proofs.Common.{◌≡◌, ◌≤◌, ◌++◌, ◌∷◌, [], append_assoc, ap, arith, sym, true}
+use Rattle.std.proofs.Common.{◌≡◌, ◌++◌, ◌∷◌, [], append_assoc, ap, arith, sym, true}
 use Rattle.std.proofs.Common.{◌∙◌, refl, subst}
 use Rattle.std.proofs.lemmas.List.{append-nil}
 use Rattle.std.proofs.lemmas.Result.{IfOk-weaker}
-use Rattle.limits.specs.declared.counts.TheConstants.{MOST_POSTINGS}
 use Rattle.bean_accounts.specs.Faults.{faults_at, of_close, of_open, of_use}
 use Rattle.bean_accounts.specs.Kept.{IsKept}
 use Rattle.bean_directives.specs.declared.directive.DirectiveKind.TheVariants as kind
@@ -93,8 +92,8 @@ returns-in-Open-clause-standing c = λ m past st is.
           accounts =
               subst (λ k. IsKept (account_step k ++ steps) c.take_open.new.accounts)
               (sym c.in-Open.is) (done.kept steps is.accounts);
-          held = done.held (postings_of st.drafts) is.held;
-          count = done.additions ∙ is.count;
+          held = is.held;
+          count = is.count;
           seen = is.seen;
           follows = is.follows;
           steps_are = is.steps_are;
@@ -102,12 +101,10 @@ returns-in-Open-clause-standing c = λ m past st is.
               done.faults steps is.accounts
               ∙ (λ k. is.faults_are k ++ faults_at (at k) (of_open o.account o.method steps));
           room = record {
-            bounded = done.bounded is.room.bounded;
+            bounded = is.room.bounded;
             near = is.room.near;
-            few = subst (λ n. n ≤ MOST_POSTINGS) (sym done.additions) is.room.few;
-            steps =
-                let few = is.room.steps in
-                let same = done.additions in omega (arith, few, same);
+            few = is.room.few;
+            steps = let few = is.room.steps in omega (arith, few);
           };
         };
         adds = sym (append-nil st.drafts);

@@ -1,6 +1,6 @@
 use Rattle.std.proofs.Common.{[]}
 use Rattle.bean_holdings.proofs.InPlace.{nothing_there, such}
-use Rattle.bean_holdings.proofs.inventories.Inventories.place_near.Goals as goal
+use Rattle.bean_holdings.proofs.inventories.Inventories.place_from.Goals as goal
 
 pub returns-clause-some : goal.returns-clause-some
 returns-clause-some c = such _ _ c.get_index_of.ensures.index
