@@ -120,25 +120,28 @@ impl<'a> Accounts<'a> {
         }
     }
 
-    /// Adds the faults of a posting: F6, F7, F8. It gives the place of the account in the order in
-    /// which they were opened, 0 where it wasn't: a number by which what else is kept of it may be
-    /// found sooner.
+    /// Adds the faults of a posting: F6, F7, F8. Where its account was opened, the name becomes the
+    /// one that the open wrote: these are the same bytes, which all postings on the account lend
+    /// from one place then. It gives the account's place in the order in which accounts were opened,
+    /// 0 where it wasn't: a number by which what else is kept of it may be found sooner.
     pub fn note_posting(
         &self,
-        account: &Account<'_>,
+        account: &mut Account<'a>,
         currency: &Currency<'_>,
         at: Place,
         faults: &mut Vec<Fault>,
     ) -> Result<usize, AllocError>
-        ensures { (past : prelude.List Step) → IsKept past self.now
+        ensures account { account.new ≡ account.old }
+        ensures faults { (past : prelude.List Step) → IsKept past self.now
             → OnOk result (faults.new.items ≡ faults.old.items
-            ++ faults_at at (spec.of_posting account.now currency.now past)) }
+            ++ faults_at at (spec.of_posting account.old currency.now past)) }
     {
-        let Some((place, _, life)) = self.lives.get_full(account) else {
+        let Some((place, opened, life)) = self.lives.get_full(&*account) else {
             note_if(true, FaultKind::AccountNotOpen, at, faults)?;
             return Ok(0);
         };
         note_life(life, currency, at, faults)?;
+        *account = opened.lend();
         Ok(place)
     }
 

@@ -5,9 +5,9 @@
 //! // 2014-03-01 close Assets:Cash
 //! let mut accounts = Accounts::new(alloc);
 //! accounts.open(alloc, &cash, &[usd])?;
-//! accounts.note_posting(&cash, &eur, at, &mut faults)?;     // F8
+//! accounts.note_posting(&mut cash, &eur, at, &mut faults)?; // F8
 //! accounts.close(&cash);
-//! accounts.note_posting(&cash, &usd, at, &mut faults)?;     // F7
+//! accounts.note_posting(&mut cash, &usd, at, &mut faults)?; // F7
 //! ```
 //!
 //! [`Accounts`] are told of opens and closes one after the other. The first open of an account
@@ -28,7 +28,8 @@
 //! A look-up by the account's name for each call; a posting also looks through the currencies that
 //! the account's open lists. Memory is taken for each account, and for each currency of its open.
 //! Accounts are numbered as they are opened, and a posting is told the number of its account, by
-//! which what else is kept of it is found without a look-up.
+//! which what else is kept of it is found without a look-up. It is given the name that the open
+//! wrote too, so that all postings on an account lend their names from one place.
 #![tactic(auto)]
 
 mod accounts;

@@ -1,8 +1,8 @@
 -- One more of a list that is gone through.
-use Rattle.std.proofs.Common.{◌≡◌, ℕ, suc, ◌+◌, ◌<◌, List, [], ◌∷◌, ◌++◌, append_assoc, length}
-use Rattle.std.proofs.Common.{get_or}
+use Rattle.std.proofs.Common.{◌≡◌, ℕ, zero, suc, ◌+◌, ◌<◌, List, [], ◌∷◌, ◌++◌, append_assoc, length}
+use Rattle.std.proofs.Common.{get_or, slice_set}
 use Rattle.std.proofs.Common.{take, drop, map, reverse, fold, refl, sym, ap, ◌∙◌, add-one, arith}
-use Rattle.std.proofs.Math.Seq.{take-suc, drop-cons}
+use Rattle.std.proofs.Math.Seq.{take-append_seam, take-suc, drop-cons}
 use Rattle.std.proofs.lemmas.Grind.{flat_map-append}
 use Rattle.std.proofs.lemmas.List.{append-nil, map-append, reverse-append}
 use Rattle.std.specs.List.{flat_map}
@@ -18,6 +18,20 @@ left_at xs i x h e = rw add-one (drop-cons xs i x h ∙ ap (λ q. q ∷ drop (su
 pub folded : {X Y : Type 0} (f : Y → X → Y) (y : Y) (xs : List X) (i : ℕ) (x : X) → i < length xs
     → x ≡ get_or xs i x → fold f (f y x) (drop (i + 1) xs) ≡ fold f y (drop i xs)
 folded f y xs i x h e = sym (ap (fold f y) (left_at xs i x h e))
+
+-- an item that is written where it stands changes nothing
+pub written_same : {X : Type 0} (xs : List X) (i : ℕ) (x : X) → x ≡ get_or xs i x
+    → slice_set xs i x ≡ xs
+written_same [] i x is = refl
+written_same (y ∷ ys) zero x is = ap (λ z. z ∷ ys) is
+written_same (y ∷ ys) (suc i) x is = ap (λ l. y ∷ l) (written_same ys i x is)
+
+-- a list that is lent as a whole, and comes back as it was
+pub as_booked : {X : Type 0} (n : ℕ) (items lent new own : List X) → length lent ≡ n → new ≡ lent
+    → lent ≡ own → take n (new ++ drop (length new) items) ≡ own
+as_booked n items lent new own len same is =
+    ap (λ m. take m (new ++ drop (length new) items)) (sym (ap length same ∙ len))
+    ∙ take-append_seam new (drop (length new) items) ∙ same ∙ is
 
 pub flat_more : {X Y : Type 0} (f : X
     → List Y) (xs : List X) (i : ℕ) (x : X) (before old new : List Y)

@@ -21,7 +21,7 @@ use crate::cause::BookCause;
 use crate::postings::{book_postings, note_balance};
 use crate::steps::show_watched;
 use bean_accounts::Accounts;
-use bean_base::{Fault, Place};
+use bean_base::{Fault, List, Place};
 use bean_holdings::{Holdings, Posted};
 use bean_interp::Scales;
 use bean_load::Placed;
@@ -97,13 +97,13 @@ impl<'a> Booker<'a> {
         ensures full { result ≡ prelude.Err (Refusal.Refused BookCause.TooManyPostings)
             → MOST_POSTINGS < additions_in self.old.holdings + length tried.entry.posted }
     {
-        let booked = tried.posted.as_slice();
-        if booked.len() > MOST_POSTINGS - self.holdings.additions() {
+        if tried.posted.as_slice().len() > MOST_POSTINGS - self.holdings.additions() {
             return Err(Refusal::Refused(BookCause::TooManyPostings));
         }
         let at = written.place;
         let postings = written.transaction.postings.as_slice();
         note_balance(&mut self.scales, &mut self.faults, at, postings, &tried)?;
+        let mut posted = tried.posted.into_vec();
         book_postings(
             self.alloc,
             &self.accounts,
@@ -111,12 +111,12 @@ impl<'a> Booker<'a> {
             &mut self.faults,
             at,
             postings,
-            booked,
+            posted.as_mut_slice(),
         )?;
-        show_watched(self.watched, &mut self.padder, booked)?;
+        show_watched(self.watched, &mut self.padder, posted.as_slice())?;
         Ok(Some(Draft::Transaction(Kept {
             written,
-            postings: tried.posted,
+            postings: List::new(posted),
         })))
     }
 

@@ -34,8 +34,9 @@ fn place_in(at: Place, postings: &[Posting<'_>], written: usize) -> Place
     }
 }
 
-/// Adds the faults of a booked posting, and the posting to what its account holds. The account's
-/// place among those that were opened tells it apart from others where it holds something.
+/// Adds the faults of a booked posting, and the posting to what its account holds. Its account is
+/// named as the open of the account wrote it then. The account's place among those that were opened
+/// tells it apart from others where it holds something.
 fn book_posting<'a>(
     alloc: Global,
     accounts: &Accounts<'a>,
@@ -43,25 +44,26 @@ fn book_posting<'a>(
     faults: &mut Vec<Fault>,
     at: Place,
     postings: &[Posting<'a>],
-    posted: &Posted<'a>,
+    posted: &mut Posted<'a>,
 ) -> Result<(), AllocError>
     requires bounded { IsBounded holdings.old }
     requires few { additions_in holdings.old < 2 ^ 40 }
+    ensures posted { posted.new ≡ posted.old }
     ensures faults { (past : prelude.List lives.Step) → IsKept past accounts.now
         → OnOk result (faults.new.items ≡ faults.old.items
-        ++ spec.posted_faults past at postings.now posted.now) }
+        ++ spec.posted_faults past at postings.now posted.old) }
     ensures held { OnOk result ((ps : prelude.List declared.Posted) → AreHeld ps holdings.old
-        → AreHeld (ps ++ posted.now ∷ []) holdings.new) }
+        → AreHeld (ps ++ posted.old ∷ []) holdings.new) }
     ensures bounded { OnOk result (IsBounded holdings.new) }
     ensures additions { OnOk result (additions_in holdings.new ≡ additions_in holdings.old + 1) }
 {
     let at = place_in(at, postings, posted.written);
-    let near = accounts.note_posting(&posted.account, &posted.units.currency, at, faults)?;
+    let near = accounts.note_posting(&mut posted.account, &posted.units.currency, at, faults)?;
     holdings.post(alloc, posted, near)
 }
 
 /// Adds the faults of all booked postings of a transaction, and the postings to what their accounts
-/// hold.
+/// hold, which are named as they were opened.
 pub(crate) fn book_postings<'a>(
     alloc: Global,
     accounts: &Accounts<'a>,
@@ -69,21 +71,30 @@ pub(crate) fn book_postings<'a>(
     faults: &mut Vec<Fault>,
     at: Place,
     postings: &[Posting<'a>],
-    posted: &[Posted<'a>],
+    posted: &mut [Posted<'a>],
 ) -> Result<(), AllocError>
     requires bounded { IsBounded holdings.old }
-    requires few { additions_in holdings.old + length posted.now ≤ 2 ^ 40 }
+    requires few { additions_in holdings.old + length posted.old ≤ 2 ^ 40 }
+    ensures posted { OnOk result (posted.new ≡ posted.old) }
     ensures faults { (past : prelude.List lives.Step) → IsKept past accounts.now
         → OnOk result (faults.new.items ≡ faults.old.items
-        ++ flat_map (spec.posted_faults past at postings.now) posted.now) }
+        ++ flat_map (spec.posted_faults past at postings.now) posted.old) }
     ensures held { OnOk result ((ps : prelude.List declared.Posted) → AreHeld ps holdings.old
-        → AreHeld (ps ++ posted.now) holdings.new) }
+        → AreHeld (ps ++ posted.old) holdings.new) }
     ensures bounded { OnOk result (IsBounded holdings.new) }
     ensures additions { OnOk result
-        (additions_in holdings.new ≡ additions_in holdings.old + length posted.now) }
+        (additions_in holdings.new ≡ additions_in holdings.old + length posted.old) }
 {
-    for one in posted {
-        book_posting(alloc, accounts, holdings, faults, at, postings, one)?;
+    for index in 0..posted.len() {
+        book_posting(
+            alloc,
+            accounts,
+            holdings,
+            faults,
+            at,
+            postings,
+            &mut posted[index],
+        )?;
     }
     Ok(())
 }

@@ -7,14 +7,15 @@ use Rattle.bean_holdings.specs.declared.posted.Posted.{Posted}
 use Rattle.bean_replay.specs.Stand as spec
 use Rattle.bean_replay.proofs.postings.book_postings.Given as goal
 
-abbrev pub invariant-loop-one : goal.invariant-loop-one
-invariant-loop-one l = record {
+abbrev pub invariant-loop-index : goal.invariant-loop-index
+invariant-loop-index l = record {
+  posted : l.posted ≡ l.initial.posted;
   faults : (past : List lives.Step) → IsKept past l.accounts
       → l.faults.items
       ≡ l.initial.faults.items
-      ++ flat_map (spec.posted_faults past l.at l.postings) (take l.one-index l.posted);
+      ++ flat_map (spec.posted_faults past l.at l.postings) (take l.index l.initial.posted);
   bounded : IsBounded l.holdings;
-  additions : additions_in l.holdings ≡ additions_in l.initial.holdings + l.one-index;
+  additions : additions_in l.holdings ≡ additions_in l.initial.holdings + l.index;
   held : (ps : List Posted) → AreHeld ps l.initial.holdings
-      → AreHeld (ps ++ take l.one-index l.posted) l.holdings;
+      → AreHeld (ps ++ take l.index l.initial.posted) l.holdings;
 }

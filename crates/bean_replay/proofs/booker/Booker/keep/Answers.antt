@@ -1,4 +1,4 @@
-use Rattle.std.proofs.Common.{◌++◌, ◌∷◌, [], List, ap, arith, length, not, refl, subst}
+use Rattle.std.proofs.Common.{◌++◌, ◌∷◌, [], List, ap, arith, length, not, subst}
 use Rattle.std.proofs.Common.{append_assoc, sym, ◌∙◌}
 use Rattle.std.specs.List.{flat_map}
 use Rattle.bean_accounts.specs.Faults.{faults_at, kind_if}
@@ -14,6 +14,7 @@ use Rattle.bean_replay.specs.Watched.{seen_of}
 use Rattle.bean_replay.specs.declared.booking.Draft.{Draft}
 use Rattle.bean_replay.specs.declared.booking.Draft.TheVariants as draft
 use Rattle.bean_replay.proofs.ShownFacts.{count_more, postings_more, shown_more}
+use Rattle.bean_replay.proofs.StepFacts.{as_booked}
 use Rattle.bean_replay.proofs.booker.Booker.keep.Goals as goal
 
 pub show_watched-requires-clause-near : goal.show_watched-requires-clause-near
@@ -25,7 +26,15 @@ show_watched-requires-clause-few c =
     let steps = z.is.room.steps in
     let few = z.is.room.few in
     let past = z.few in
-    let added = c.in_ok-book_postings.ensures.additions in omega (arith, steps, few, past, added)
+    let room = c.if-as_slice-additions.false in
+    let own = c.additions.ensures in
+    let shown =
+    ap length (c.as_slice-2.ensures.value
+    ∙ as_booked c.into_vec-posted.result.len c.into_vec-posted.result.items
+    c.as_mut_slice.result.now c.book_postings.new.posted c.as_slice.result.now
+    c.as_mut_slice.ensures.len c.in_ok-book_postings.ensures.posted
+    (c.as_mut_slice.ensures.value ∙ c.into_vec-posted.ensures ∙ sym c.as_slice.ensures)) in
+    omega (arith, steps, few, past, room, own, shown)
 
 pub returns-clause-standing : goal.returns-clause-standing
 returns-clause-standing c = λ m past st is.
@@ -34,12 +43,19 @@ returns-clause-standing c = λ m past st is.
     let at = w.place in
     let posted : List Posted = c.args.tried.posted in
     let one : Draft = draft.Transaction (record { written = w; postings = posted }) in
-    let booked = c.as_slice-booked.ensures in
+    let lent = c.as_mut_slice.ensures.value ∙ c.into_vec-posted.ensures in
+    let back =
+    as_booked c.into_vec-posted.result.len c.into_vec-posted.result.items
+    c.as_mut_slice.result.now c.book_postings.new.posted posted c.as_mut_slice.ensures.len
+    c.in_ok-book_postings.ensures.posted lent in
+    let shown = c.as_slice-2.ensures.value ∙ back in
     let written = c.as_slice-postings.ensures in
     let count = count_more st.drafts one in
     let added = c.in_ok-book_postings.ensures.additions in
-    let same = ap length booked in
     let before = is.count in
+    let lengths = ap length lent in
+    let seen = ap length shown in
+    let sizes = ap length c.as_slice.ensures in
     let own : List Posting → List Posted → List _ = λ ps l.
     faults_at at (kind_if (not (is_balanced (booked_legs ps l))) kinds.Unbalanced) in
     let each : List Posting → List Posted → List _ = λ ps l.
@@ -49,28 +65,32 @@ returns-clause-standing c = λ m past st is.
         methods = is.methods;
         accounts = is.accounts;
         held = subst (λ l. AreHeld l c.book_postings.new.holdings)
-            (ap (λ l. postings_of st.drafts ++ l) booked ∙ sym (postings_more st.drafts one))
+            (ap (λ l. postings_of st.drafts ++ l) lent ∙ sym (postings_more st.drafts one))
             (c.in_ok-book_postings.ensures.held (postings_of st.drafts) is.held);
-        count = omega (arith, count, added, same, before);
+        count = omega (arith, count, added, lengths, before);
         seen = seen_of b.watched posted ++ is.seen;
-        follows = subst (λ l. Follows (seen_of b.watched l ++ is.seen) c.show_watched.new.padder) booked
+        follows = subst (λ l. Follows (seen_of b.watched l ++ is.seen) c.show_watched.new.padder) shown
             (c.in_ok-show_watched.ensures.follows is.seen is.follows);
         steps_are = shown_more b.watched (postings_of st.drafts) posted
             (postings_of (st.drafts ++ one ∷ [])) st.steps is.seen (postings_more st.drafts one)
             is.steps_are;
         faults_are = c.in_ok-book_postings.ensures.faults (account_steps past) is.accounts
-            ∙ ap (λ l. l ++ each c.as_slice-postings.result.now c.as_slice-booked.result.now)
+            ∙ ap (λ l. l ++ each c.as_slice-postings.result.now c.as_mut_slice.result.now)
             c.in_ok-note_balance.ensures
-            ∙ (λ k. (is.faults_are k ++ own (written k) posted) ++ each (written k) (booked k))
+            ∙ (λ k. (is.faults_are k ++ own (written k) posted) ++ each (written k) (lent k))
             ∙ append_assoc st.faults (own _ posted) (each _ posted);
         room = record {
           bounded = c.in_ok-book_postings.ensures.bounded;
           near = c.in_ok-show_watched.ensures.near;
-          few = omega arith;
+          few =
+              let room = c.if-as_slice-additions.false in
+              let own = c.additions.ensures in omega (arith, room, own, added, lengths, sizes);
           steps =
               let few = is.room.steps in
-              let more = c.in_ok-show_watched.ensures.steps in omega (arith, more, few, added);
+              let more = c.in_ok-show_watched.ensures.steps in
+              omega (arith, more, few, added, lengths, seen);
         };
       };
-      adds = refl;
+      adds = ap (λ ps. st.drafts ++ draft.Transaction (record { written = w; postings = ps }) ∷ [])
+          (sym (c.new.ensures ∙ back));
     }
