@@ -4,6 +4,7 @@ pub mod WideFacts
 pub mod ArithmeticFacts
 pub mod MembershipFacts
 pub mod TotalFacts
+pub mod HoldingFacts
 pub mod NumberFacts
 pub mod NumberOrder
 pub mod OrderFacts

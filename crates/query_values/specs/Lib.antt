@@ -5,6 +5,7 @@ pub mod Pattern
 pub mod PatternCause
 pub mod Component
 pub mod Total
+pub mod BagKey
 pub mod Bag
 pub mod Equality
 pub mod Order

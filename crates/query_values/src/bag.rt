@@ -3,13 +3,11 @@ ghost use Rattle.std.specs.Prelude.{◌≡◌, ◌≤◌, ◌+ℤ◌, [], All, I
 ghost use Rattle.std.specs.Int.{w128};
 ghost use Rattle.std.specs.Int.RustNames.{FitsSigned};
 ghost use Rattle.bean_lots.specs.Inventory.{MayBeNegated, added, count_of};
-ghost use Rattle.query_values.specs.Total.{adds_up, at_cost, cost_count, cost_currency};
-ghost use Rattle.query_values.specs.Total as spec;
-ghost use Rattle.query_values.specs.Total.{cost_total, is_count, total_from, units_total};
+ghost use Rattle.query_values.specs.Total.{adds_up, at_cost, cost_total, total_from, units_total};
 ghost use Rattle.query_values.specs.Total.{without_lot};
 
-use bean_base::Currency;
-use bean_lots::{Inventory, Key};
+use crate::bag_key::BagKey;
+use crate::holding::Holding;
 use std::alloc::{AllocError, Global};
 use std::marker::Model;
 
@@ -17,7 +15,7 @@ use std::marker::Model;
 #[derive(Drop)]
 pub struct Bag<'r> {
     pub places: u8,
-    pub held: Inventory<'r>,
+    pub held: Holding<'r>,
 }
 
 impl Clone for Bag<'_> {
@@ -31,60 +29,29 @@ impl Clone for Bag<'_> {
     }
 }
 
-/// Units of a currency without a lot.
-pub(crate) fn bare_key<'r>(currency: Currency<'r>) -> Key<'r>
-    ensures { result ≡ spec.bare_key currency.entry }
-{
-    Key {
-        currency,
-        lot: None,
-    }
-}
-
-/// The currency of what a key's units cost; without a lot, their own.
-pub(crate) fn currency_at_cost<'r>(key: &Key<'r>) -> Currency<'r>
-    ensures { result ≡ cost_currency key.now }
-{
-    match &key.lot {
-        Some(lot) => lot.cost.currency.lend(),
-        None => key.currency.lend(),
-    }
-}
-
-/// What so many units of a key cost, with 8 decimals more; without a lot, the units themselves.
-pub(crate) fn count_at_cost(key: &Key<'_>, count: i128) -> i128
-    requires { IsTrue (is_count (cost_count key.now.lot count)) }
-    ensures { result ≡ cost_count key.now.lot count }
-{
-    match &key.lot {
-        Some(lot) => count * lot.cost.count,
-        None => count * 100_000_000,
-    }
-}
-
 /// The inventory without its lots.
-fn units_in<'r>(alloc: Global, inventory: &Inventory<'r>) -> Result<Inventory<'r>, AllocError>
+fn units_in<'r>(alloc: Global, inventory: &Holding<'r>) -> Result<Holding<'r>, AllocError>
     requires { IsTrue (adds_up [] (map without_lot inventory.now)) }
     ensures { IfOk result (λ held. held ≡ units_total inventory.now) }
 {
-    let mut held = Inventory::new(alloc);
+    let mut held = Holding::new(alloc);
     let mut rest = inventory.positions();
-    while let Some(entry) = rest.next() {
-        held.add(bare_key(entry.key.currency.lend()), entry.count)?;
+    while let Some((key, count)) = rest.next_held() {
+        held.add(BagKey::bare(key.currency().lend()), count)?;
     }
     Ok(held)
 }
 
 /// The inventory at cost.
-fn cost_in<'r>(alloc: Global, inventory: &Inventory<'r>) -> Result<Inventory<'r>, AllocError>
+fn cost_in<'r>(alloc: Global, inventory: &Holding<'r>) -> Result<Holding<'r>, AllocError>
     requires { IsTrue (adds_up [] (map at_cost inventory.now)) }
     ensures { IfOk result (λ held. held ≡ cost_total inventory.now) }
 {
-    let mut held = Inventory::new(alloc);
+    let mut held = Holding::new(alloc);
     let mut rest = inventory.positions();
-    while let Some(entry) = rest.next() {
-        let count = count_at_cost(&entry.key, entry.count);
-        held.add(bare_key(currency_at_cost(&entry.key)), count)?;
+    while let Some((key, count)) = rest.next_held() {
+        let cost = key.count_at_cost(count);
+        held.add(BagKey::bare(key.currency_at_cost()), cost)?;
     }
     Ok(held)
 }
@@ -170,7 +137,7 @@ impl<'r> OwnBag<'r> {
     }
 
     /// Adds to the count under a key. The caller knows that the sum fits.
-    pub fn add(&mut self, key: Key<'r>, count: i128) -> Result<(), AllocError>
+    pub fn add(&mut self, key: BagKey<'r>, count: i128) -> Result<(), AllocError>
         requires { FitsSigned w128 (count_of self.old.held key +ℤ count) }
         ensures ok { OnOk result (self.new ≡ with_entry self.old key.entry count) }
         ensures err { OnErr result (self.new ≡ self.old) }

@@ -12,10 +12,13 @@ ghost use Rattle.query_values.specs.Order as order_spec;
 ghost use Rattle.query_values.specs.Operation as operation;
 
 use crate::bag::Bag;
-use crate::number::{number_order, same_number};
+use crate::bag_key::BagKey;
+use crate::holding::Holding;
+pub use crate::number::compare_numbers;
+use crate::number::same_number;
 use crate::value::Value;
 use bean_base::Slice;
-use bean_lots::{Inventory, Key};
+use bean_lots::Key;
 use std::cmp::Ordering;
 
 /// Whether it is null.
@@ -40,19 +43,19 @@ fn same_texts(a: &[Slice<'_>], b: &[Slice<'_>]) -> bool
 }
 
 /// Whether two inventories have the same count under a key.
-fn agree_at(key: &Key<'_>, a: &Bag<'_>, b: &Bag<'_>) -> bool
+fn agree_at(key: &BagKey<'_>, a: &Bag<'_>, b: &Bag<'_>) -> bool
     ensures { (n : ℤ) → result ≡ spec.agree_at a.now b.now (record { key = key.now; count = n }) }
 {
     same_number(a.places, a.held.get(key), b.places, b.held.get(key))
 }
 
 /// Whether two inventories have the same count under each key of a third.
-fn agree_in(held: &Inventory<'_>, a: &Bag<'_>, b: &Bag<'_>) -> bool
+fn agree_in(held: &Holding<'_>, a: &Bag<'_>, b: &Bag<'_>) -> bool
     ensures { result ≡ list_all (spec.agree_at a.now b.now) held.now }
 {
     let mut rest = held.positions();
-    while let Some(entry) = rest.next() {
-        if !agree_at(&entry.key, a, b) {
+    while let Some((key, _)) = rest.next_held() {
+        if !agree_at(key, a, b) {
             return false;
         }
     }
@@ -145,7 +148,7 @@ pub fn compare(a: &Value<'_>, b: &Value<'_>) -> Ordering
                 places: q,
                 count: n,
             },
-        ) => number_order(*p, *m, *q, *n),
+        ) => compare_numbers(*p, *m, *q, *n),
         (Value::Text(a), Value::Text(b)) => a.cmp(b),
         (Value::Day(a), Value::Day(b)) => a.cmp(b),
         _ => kind_rank(a).cmp(&kind_rank(b)),

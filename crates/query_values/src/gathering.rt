@@ -5,11 +5,12 @@ ghost use Rattle.query_values.specs.Held.{is_held};
 ghost use Rattle.query_values.specs.declared.operation.Aggregate.{Aggregate};
 ghost use Rattle.query_values.specs.declared.value.Value.{Value};
 
-use crate::bag::{Bag, OwnBag, bare_key};
+use crate::bag::{Bag, OwnBag};
+use crate::bag_key::BagKey;
 use crate::comparison::{is_null, less};
+use crate::holding::Holding;
 use crate::operation::Aggregate;
 use crate::value::Value;
-use bean_lots::Inventory;
 use std::alloc::{AllocError, Global};
 
 fn count_one(total: &mut Value<'_>)
@@ -49,8 +50,8 @@ fn add_entry<'r>(total: &mut Value<'r>, entry: &Value<'r>) -> Result<(), AllocEr
                 count,
                 currency,
                 ..
-            } => bag.add(bare_key(currency.lend()), *count)?,
-            Value::Position { key, count } => bag.add(key.get().lend(), *count)?,
+            } => bag.add(BagKey::bare(currency.lend()), *count)?,
+            Value::Position { key, count } => bag.add(BagKey::of(key.get()), *count)?,
             _ => {}
         }
     }
@@ -69,7 +70,7 @@ fn take_place<'r>(total: &mut Value<'r>, value: &Value<'r>) -> Result<(), AllocE
 fn empty_bag<'r>(alloc: Global, places: u8) -> Result<OwnBag<'r>, AllocError>
     ensures { IfOk result (λ b. b ≡ record { places = places; held = [] }) }
 {
-    let held = Inventory::new(alloc);
+    let held = Holding::new(alloc);
     OwnBag::new(alloc, Bag { places, held })
 }
 

@@ -44,16 +44,19 @@
 //! # Cost
 //!
 //! An operation takes a few steps; on texts it is linear in the text, on a list in the list, and on
-//! inventories each entry is looked up by going through the others.
+//! inventories it looks up each entry, by going through the others where these are few. An inventory
+//! takes 48 bytes for each of its entries, whose lots are lent ([`BagKey`]).
 #![tactic(auto)]
 
 pub mod arithmetic;
 mod bag;
+mod bag_key;
 mod cause;
 pub mod comparison;
 mod component;
 mod decimal;
 mod gathering;
+mod holding;
 mod lent;
 pub mod membership;
 mod number;
@@ -64,8 +67,10 @@ mod text_set;
 mod value;
 
 pub use bag::{Bag, OwnBag};
+pub use bag_key::BagKey;
 pub use cause::PatternCause;
 pub use decimal::Decimal;
+pub use holding::{Holding, Holdings};
 pub use lent::Lent;
 pub use operation::{Aggregate, Binary};
 pub use pattern::{Finder, Pattern};

@@ -26,7 +26,7 @@ fn scaled_order(count: i128, exponent: u8, other: i128) -> Ordering
 }
 
 /// How `m * 10^-p` stands to `n * 10^-q`.
-pub(crate) fn number_order(p: u8, m: i128, q: u8, n: i128) -> Ordering
+pub fn compare_numbers(p: u8, m: i128, q: u8, n: i128) -> Ordering
     ensures { result ≡ order.number_order p m q n }
 {
     if p <= q {
@@ -40,5 +40,5 @@ pub(crate) fn number_order(p: u8, m: i128, q: u8, n: i128) -> Ordering
 pub(crate) fn same_number(p: u8, m: i128, q: u8, n: i128) -> bool
     ensures { result ≡ spec.same_number p m q n }
 {
-    number_order(p, m, q, n) == Ordering::Equal
+    compare_numbers(p, m, q, n) == Ordering::Equal
 }

@@ -10,7 +10,8 @@ ghost use Rattle.query_values.specs.Total.{cost_count, cost_currency, is_count};
 ghost use Rattle.query_values.specs.Unary as spec;
 ghost use Rattle.query_values.specs.declared.value.Value.TheVariants.{Amount};
 
-use crate::bag::{OwnBag, count_at_cost, currency_at_cost};
+use crate::bag::OwnBag;
+use crate::bag_key::BagKey;
 use crate::component::{leaf_of, parent_of, rank_of_root, root_of};
 use crate::value::Value;
 use bean_base::Slice;
@@ -157,14 +158,14 @@ pub fn units<'r>(alloc: Global, x: &Value<'r>) -> Result<Value<'r>, AllocError>
     })
 }
 
-fn cost_of_units<'r>(key: &Key<'r>, count: i128) -> Value<'r>
+fn cost_of_units<'r>(key: &BagKey<'r>, count: i128) -> Value<'r>
     requires { IsTrue (is_count (cost_count key.now.lot count)) }
     ensures { result ≡ Amount 16 (cost_count key.now.lot count) (cost_currency key.now) }
 {
     Value::Amount {
         places: COST_PLACES,
-        count: count_at_cost(key, count),
-        currency: currency_at_cost(key),
+        count: key.count_at_cost(count),
+        currency: key.currency_at_cost(),
     }
 }
 
@@ -175,7 +176,7 @@ pub fn cost<'r>(alloc: Global, x: &Value<'r>) -> Result<Value<'r>, AllocError>
     ensures { IfOk result (λ y. y ≡ cost_of x.now) }
 {
     Ok(match x {
-        Value::Position { key, count } => cost_of_units(key.get(), *count),
+        Value::Position { key, count } => cost_of_units(&BagKey::of(key.get()), *count),
         Value::Inventory(bag) => Value::Inventory(OwnBag::new(alloc, bag.get().cost(alloc)?)?),
         _ => Value::Null,
     })

@@ -5,8 +5,7 @@ ghost use Rattle.table_printer.specs.Cell.{value_of};
 
 use bean_base::{Currency, Day, Slice};
 use bean_lots::Key;
-use bean_lots::inventory::Positions;
-use query_values::{Lent, TextSet, Value};
+use query_values::{Holdings, Lent, TextSet, Value};
 use std::marker::Model;
 
 /// A value whose parts are lent from where they are kept.
@@ -32,7 +31,7 @@ pub enum Shown<'r> {
     },
     Inventory {
         places: u8,
-        held: Positions<'r, 'r>,
+        held: Holdings<'r, 'r>,
     },
 }
 

@@ -14,13 +14,13 @@ use crate::cells::{Scratch, push_units, units_width, width_of};
 use crate::nears::Nears;
 use crate::positions::add_entry;
 use bean_lots::Position;
-use bean_lots::inventory::Positions;
 use posting_table::Display;
+use query_values::Holdings;
 use std::alloc::{AllocError, Global};
 use std::cmp::Ordering;
 
 /// The entries of an inventory, in order of entry.
-fn entries_of<'b>(alloc: Global, held: &Positions<'_, 'b>) -> Result<Vec<Position<'b>>, AllocError>
+fn entries_of<'b>(alloc: Global, held: &Holdings<'_, 'b>) -> Result<Vec<Position<'b>>, AllocError>
     ensures { IfOk result (λ v. v.items ≡ held.now) }
 {
     // Most have few.
@@ -46,7 +46,7 @@ fn arrange(entries: &mut Vec<Position<'_>>) -> Result<(), AllocError>
 /// The entries of an inventory in the order of their keys.
 fn sorted_entries<'b>(
     alloc: Global,
-    held: &Positions<'_, 'b>,
+    held: &Holdings<'_, 'b>,
 ) -> Result<Vec<Position<'b>>, AllocError>
     ensures { IfOk result (λ v. v.items ≡ in_order held.now) }
 {
@@ -167,7 +167,7 @@ fn make_entries(
 pub(crate) fn push_inventory(
     out: &mut Vec<u8>,
     places: u8,
-    held: &Positions<'_, '_>,
+    held: &Holdings<'_, '_>,
     scratch: &mut Scratch,
     display: &Display<'_>,
 ) -> Result<usize, AllocError>
@@ -189,7 +189,7 @@ pub(crate) fn push_inventory(
 /// How many columns of a terminal an inventory takes.
 pub(crate) fn inventory_width(
     places: u8,
-    held: &Positions<'_, '_>,
+    held: &Holdings<'_, '_>,
     scratch: &mut Scratch,
     display: &Display<'_>,
 ) -> Result<usize, AllocError>

@@ -2,11 +2,12 @@
 ghost use Rattle.std.specs.Prelude.{◌≡◌, ◌%◌, ◌^◌, [], fold};
 ghost use Rattle.std.specs.Hash as fed;
 ghost use Rattle.std.specs.List.{flat_map};
+ghost use Rattle.std.specs.Option.{option_copied};
 ghost use Rattle.value_hashes.specs.Fed as spec;
 
 use bean_base::Slice;
 use bean_lots::{Key, Lot};
-use query_values::{Bag, TextSet, Value};
+use query_values::{Bag, BagKey, TextSet, Value};
 use std::hash::{FoldHasher, Hash, Hasher};
 
 /// A magnitude in the fewest decimals that are exact.
@@ -26,8 +27,8 @@ fn feed_number<H: Hasher>(places: u8, count: i128, state: &mut H)
     fewest(places, count.unsigned_abs()).hash(state);
 }
 
-fn feed_lot<H: Hasher>(lot: &Option<Lot<'_>>, state: &mut H)
-    ensures { state.new ≡ fold H.write state.old (spec.lot_fed lot.now) }
+fn feed_lot<H: Hasher>(lot: Option<&Lot<'_>>, state: &mut H)
+    ensures { state.new ≡ fold H.write state.old (spec.lot_fed (option_copied lot.entry)) }
 {
     if let Some(lot) = lot {
         lot.cost.count.hash(state);
@@ -48,11 +49,18 @@ fn feed_key<H: Hasher>(key: &Key<'_>, state: &mut H)
     ensures { state.new ≡ fold H.write state.old (spec.key_fed key.now) }
 {
     key.currency.hash(state);
-    feed_lot(&key.lot, state);
+    feed_lot(key.lot.as_ref(), state);
+}
+
+fn feed_bag_key<H: Hasher>(key: &BagKey<'_>, state: &mut H)
+    ensures { state.new ≡ fold H.write state.old (spec.key_fed key.now) }
+{
+    key.currency().hash(state);
+    feed_lot(key.lot(), state);
 }
 
 /// What a key with a count is hashed to by itself; where nothing is held, 0.
-fn mark_of(places: u8, key: &Key<'_>, count: i128) -> u64
+fn mark_of(places: u8, key: &BagKey<'_>, count: i128) -> u64
     ensures { result ≡ spec.mark_of places key.now count }
 {
     let magnitude = fewest(places, count.unsigned_abs());
@@ -61,7 +69,7 @@ fn mark_of(places: u8, key: &Key<'_>, count: i128) -> u64
     }
     let mut own = FoldHasher::default();
     magnitude.hash(&mut own);
-    feed_key(key, &mut own);
+    feed_bag_key(key, &mut own);
     own.finish()
 }
 
@@ -70,8 +78,6 @@ fn marks_of(bag: &Bag<'_>) -> u64
     ensures { result ≡ spec.marks_beside bag.now.places [] bag.now.held % 2 ^ 64 }
 {
     let mut marks: u64 = 0;
-    // Each key stands once among them.
-    let _ = bag.held.is_bare();
     let mut rest = bag.held.positions();
     while let Some((key, count)) = rest.next_held() {
         marks = marks.wrapping_add(mark_of(bag.places, key, count));

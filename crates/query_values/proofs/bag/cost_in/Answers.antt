@@ -3,64 +3,64 @@ use Rattle.std.proofs.Common.{rules}
 use Rattle.std.specs.Int.{w128}
 use Rattle.std.specs.Int.RustNames.{FitsSigned}
 use Rattle.std.proofs.lemmas.Int.{to_z-of_z}
-use Rattle.bean_lots.specs.Inventory.{added, count_of}
+use Rattle.bean_lots.specs.Inventory.{added, count_of, position_of}
 use Rattle.query_values.specs.Total.{bare_key, at_cost, cost_count, cost_currency, is_count}
 use Rattle.query_values.proofs.TotalFacts.{IsUpTo, one_more, none_yet, all, fits_sum}
 use Rattle.query_values.proofs.bag.cost_in.Goals as goal
 
-pub loop-entry-init : goal.loop-entry-init
-loop-entry-init c =
+pub loop-key-init : goal.loop-key-init
+loop-key-init c =
     none_yet at_cost c.args.inventory.now c.new-held.result c.positions-rest.result
-    c.new-held.ensures c.positions-rest.ensures c.requires
+    c.new-held.ensures c.positions-rest.ensures.positions c.requires
 
-pub count_at_cost-count-requires : goal.count_at_cost-count-requires
-count_at_cost-count-requires c =
-    let e = c.in-Some.entry in
+pub count_at_cost-cost-requires : goal.count_at_cost-cost-requires
+count_at_cost-cost-requires c =
+    let e = position_of c.in-Some.key.now c.in-Some.count in
     let adds =
-    one_more at_cost c.args.inventory.now c.loop-entry.held c.loop-entry.rest c.next.new.self e
-    c.in-Some.ensures.some c.loop-entry.invariant in
+    one_more at_cost c.args.inventory.now c.loop-key.held c.loop-key.rest c.next_held.new.self e
+    c.in-Some.ensures.some c.loop-key.invariant in
     let fits : FitsSigned w128 e.count = search rules in
     subst (λ n. IsTrue (is_count (cost_count e.key.lot n))) (sym (to_z-of_z w128 e.count fits))
     adds.own
 
 pub add-requires : goal.add-requires
 add-requires c =
-    let e = c.in-Some.entry in
-    let held = c.loop-entry.held in
+    let e = position_of c.in-Some.key.now c.in-Some.count in
+    let held = c.loop-key.held in
     let adds =
-    one_more at_cost c.args.inventory.now held c.loop-entry.rest c.next.new.self e
-    c.in-Some.ensures.some c.loop-entry.invariant in
+    one_more at_cost c.args.inventory.now held c.loop-key.rest c.next_held.new.self e
+    c.in-Some.ensures.some c.loop-key.invariant in
     let fits : FitsSigned w128 e.count = search rules in
-    let own : FitsSigned w128 c.count_at_cost-count.result = search rules in
-    let key = c.bare_key.ensures ∙ ap bare_key c.currency_at_cost.ensures in
+    let own : FitsSigned w128 c.count_at_cost-cost.result = search rules in
+    let key = c.bare.ensures ∙ ap bare_key c.currency_at_cost.ensures in
     let count =
-    c.count_at_cost-count.ensures ∙ ap (cost_count e.key.lot) (to_z-of_z w128 e.count fits) in
-    let sum : IsTrue (is_count (count_of held c.bare_key.result +ℤ c.count_at_cost-count.result)) =
-    subst (λ k. IsTrue (is_count (count_of held k +ℤ c.count_at_cost-count.result))) (sym key)
+    c.count_at_cost-cost.ensures ∙ ap (cost_count e.key.lot) (to_z-of_z w128 e.count fits) in
+    let sum : IsTrue (is_count (count_of held c.bare.result +ℤ c.count_at_cost-cost.result)) =
+    subst (λ k. IsTrue (is_count (count_of held k +ℤ c.count_at_cost-cost.result))) (sym key)
     (subst (λ n. IsTrue (is_count (count_of held (bare_key (cost_currency e.key)) +ℤ n)))
     (sym count) adds.sum) in
-    fits_sum (count_of held c.bare_key.result) c.count_at_cost-count.result own sum
+    fits_sum (count_of held c.bare.result) c.count_at_cost-cost.result own sum
 
-pub loop-entry-preserved : goal.loop-entry-preserved
-loop-entry-preserved c =
-    let e = c.in-Some.entry in
+pub loop-key-preserved : goal.loop-key-preserved
+loop-key-preserved c =
+    let e = position_of c.in-Some.key.now c.in-Some.count in
     let es = c.args.inventory.now in
-    let more = c.next.new.self in
+    let more = c.next_held.new.self in
     let adds =
-    one_more at_cost es c.loop-entry.held c.loop-entry.rest more e c.in-Some.ensures.some
-    c.loop-entry.invariant in
+    one_more at_cost es c.loop-key.held c.loop-key.rest more e c.in-Some.ensures.some
+    c.loop-key.invariant in
     let fits : FitsSigned w128 e.count = search rules in
-    let own : FitsSigned w128 c.count_at_cost-count.result = search rules in
-    let key = c.bare_key.ensures ∙ ap bare_key c.currency_at_cost.ensures in
+    let own : FitsSigned w128 c.count_at_cost-cost.result = search rules in
+    let key = c.bare.ensures ∙ ap bare_key c.currency_at_cost.ensures in
     let count =
-    c.count_at_cost-count.ensures ∙ ap (cost_count e.key.lot) (to_z-of_z w128 e.count fits) in
+    c.count_at_cost-cost.ensures ∙ ap (cost_count e.key.lot) (to_z-of_z w128 e.count fits) in
     let new =
     c.in_ok-add.ensures.ok
-    ∙ ap₂ (added c.loop-entry.held) key
-    (to_z-of_z w128 c.count_at_cost-count.result own ∙ count) in
+    ∙ ap₂ (added c.loop-key.held) key
+    (to_z-of_z w128 c.count_at_cost-cost.result own ∙ count) in
     subst (λ held. IsUpTo at_cost es held more) (sym new) adds.next
 
 pub returns : goal.returns
 returns c =
-    all at_cost c.args.inventory.now c.loop-entry.held c.loop-entry.rest c.in_default.ensures.none
-    c.loop-entry.invariant
+    all at_cost c.args.inventory.now c.loop-key.held c.loop-key.rest c.in_default.ensures.none
+    c.loop-key.invariant

@@ -3,8 +3,8 @@ use Rattle.query_values.proofs.TotalFacts.{IsUpTo}
 use Rattle.query_values.specs.Total.{without_lot}
 use Rattle.query_values.proofs.bag.units_in.Given as goal
 
-abbrev pub invariant-loop-entry : goal.invariant-loop-entry
-invariant-loop-entry l = IsUpTo without_lot l.inventory l.held l.rest
+abbrev pub invariant-loop-key : goal.invariant-loop-key
+invariant-loop-key l = IsUpTo without_lot l.inventory l.held l.rest
 
-abbrev pub decreases-loop-entry : goal.decreases-loop-entry
-decreases-loop-entry l = length l.rest
+abbrev pub decreases-loop-key : goal.decreases-loop-key
+decreases-loop-key l = length l.rest

@@ -14,7 +14,7 @@ add-requires c =
     let b = c.in-Inventory.bag in
     let n = c.in-Amount.count in
     let fits : FitsSigned w128 n = search rules in
-    let key = c.bare_key.ensures ∙ ap bare_key c.lend.ensures in
+    let key = c.bare.ensures ∙ ap bare_key c.lend.ensures in
     let held =
     subst (λ x. IsTrue (is_held (gathered (Inventory b) x))) c.in-Amount.is
     (subst (λ t. IsTrue (is_held (gathered t c.args.entry.now))) c.in-Inventory.is
@@ -28,7 +28,7 @@ add-requires-in-Position c =
     let b = c.in-Inventory.bag in
     let n = c.in-Position.count in
     let fits : FitsSigned w128 n = search rules in
-    let key = c.lend-in-Position.ensures ∙ c.get.ensures in
+    let key = c.of.ensures ∙ c.get.ensures in
     let held =
     subst (λ x. IsTrue (is_held (gathered (Inventory b) x))) c.in-Position.is
     (subst (λ t. IsTrue (is_held (gathered t c.args.entry.now))) c.in-Inventory.is

@@ -9,8 +9,8 @@ use Rattle.value_keys.proofs.feeding.marks_of.Goals as goal
 pub loop-key-init : goal.loop-key-init
 loop-key-init c =
     let bag = c.args.bag.now in
-    at_first bag.places bag.held c.positions-rest.result c.is_bare.ensures.inventory
-    c.positions-rest.ensures
+    at_first bag.places bag.held c.positions-rest.result c.positions-rest.ensures.inventory
+    c.positions-rest.ensures.positions
 
 pub loop-key-preserved : goal.loop-key-preserved
 loop-key-preserved c =

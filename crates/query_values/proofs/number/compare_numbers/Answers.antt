@@ -3,7 +3,7 @@ use Rattle.std.proofs.lemmas.Int.{to_z-of_z}
 use Rattle.std.specs.Int.{w128}
 use Rattle.std.specs.Ordering.{int_cmp, ordering_reverse}
 use Rattle.query_values.proofs.NumberFacts.{up, down}
-use Rattle.query_values.proofs.number.number_order.Goals as goal
+use Rattle.query_values.proofs.number.compare_numbers.Goals as goal
 
 pub returns-then-p-q : goal.returns-then-p-q
 returns-then-p-q c =
