@@ -1,3 +1,6 @@
+pub mod ChainFacts
+pub mod RankFacts
+pub mod WidthFacts
 pub mod OrderFacts
 pub mod ShownFacts
 mod FrontFacts

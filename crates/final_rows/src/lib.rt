@@ -19,12 +19,15 @@
 //!
 //! # Cost
 //!
-//! A stable sort, where there is something to order by, and a table of the rows that are told once.
-//! Rows are moved and never copied. What [`trim`] leaves is at most twice the limit. Where there are
+//! A stable sort for each column that is ordered by, the last one first, over what its values are
+//! ordered by: that lies side by side, and takes 48 bytes a row while it is sorted, so that no row is
+//! looked up where two are compared. And a table of the rows that are told once. Rows are moved and
+//! never copied. What [`trim`] leaves is at most twice the limit. Where there are
 //! more, it compares each row once with the last of those in front, and sorts what comes before it.
 #![tactic(auto)]
 
 mod ordering;
+mod rank;
 mod showing;
 mod trimming;
 

@@ -3,6 +3,8 @@ ghost use Rattle.std.specs.Prelude.{◌≡◌, [], IfOk, map, take};
 ghost use Rattle.plain_machine.specs.Finishing.{ComesOut};
 ghost use Rattle.query_rows.specs.FinalRows.{limited};
 ghost use Rattle.query_rows.specs.Same.{each_once};
+ghost use Rattle.std.specs.List.{list_all};
+ghost use Rattle.final_rows.specs.Width.{is_within};
 
 use crate::ordering::arrange;
 use bean_base::List;
@@ -21,6 +23,14 @@ fn front(row: List<Value<'_>>, width: usize) -> Vec<Value<'_>>
     values
 }
 
+/// Whether no row has more values than are shown.
+fn are_shown_whole(rows: &[List<Value<'_>>], width: usize) -> bool
+    ensures { result ≡ list_all (is_within width) rows.now }
+{
+    rows.iter().all(|row| row.as_slice().len() <= width)
+}
+
+/// What is shown of rows; where that is all of them, they stay where they are.
 fn shown<'r>(
     alloc: Global,
     rows: Vec<List<Value<'r>>>,
@@ -28,6 +38,9 @@ fn shown<'r>(
 ) -> Result<Vec<List<Value<'r>>>, AllocError>
     ensures { IfOk result (λ shown. shown.items ≡ map (take width) rows.entry.items) }
 {
+    if are_shown_whole(&rows, width) {
+        return Ok(rows);
+    }
     let mut shown = Vec::with_capacity(alloc, rows.len())?;
     for row in rows {
         shown.push(List::new(front(row, width)))?;
