@@ -30,6 +30,7 @@ struct First<'a> {
 }
 
 /// Whether a currency is the first, or would be.
+#[inline(always)]
 fn comes_first(first: &Option<First<'_>>, currency: &Currency<'_>) -> bool
     ensures { result ≡ rule.comes_first first.now currency.now }
 {
@@ -40,6 +41,7 @@ fn comes_first(first: &Option<First<'_>>, currency: &Currency<'_>) -> bool
 }
 
 /// The sum of a currency, of which it is known whether it comes first.
+#[inline(always)]
 fn sum_before<'a>(
     is_first: bool,
     first: &Option<First<'a>>,
