@@ -1,15 +1,12 @@
 //! Inventories: what an account holds of each currency, in lots or without one.
-ghost use Rattle.std.specs.Prelude.{All, map, ◌≡◌, ◌+ℤ◌, [], OnOk, OnErr, IsTrue, ◌↔◌, List, ℤ};
-ghost use Rattle.std.specs.Prelude.{◌<◌, ◌^◌, IfSome, filter, length, pos};
-ghost use Rattle.std.specs.Prelude.{false, if◌then◌else◌};
+ghost use Rattle.std.specs.Prelude.{◌≡◌, ◌+ℤ◌, ◌<◌, ◌^◌, ◌↔◌, [], All, IfSome, IsTrue, List, OnErr};
+ghost use Rattle.std.specs.Prelude.{OnOk, false, filter, if◌then◌else◌, length, map, pos, ℤ};
 ghost use Rattle.std.specs.Int.{w128};
 ghost use Rattle.std.specs.Int.RustNames.{FitsSigned};
 ghost use Rattle.bean_lots.specs.AtCost.{is_lot_at};
 ghost use Rattle.bean_lots.specs.Days.{RiseInDays};
-ghost use Rattle.bean_lots.specs.Inventory.{long_lots, short_lots};
+ghost use Rattle.bean_lots.specs.Inventory.{IsInventory, MayBeNegated, added, count_of, negative_entry};
 ghost use Rattle.bean_lots.specs.Inventory as spec;
-ghost use Rattle.bean_lots.specs.Inventory.{count_of, added, negative_entry, MayBeNegated};
-ghost use Rattle.bean_lots.specs.Inventory.{IsInventory};
 ghost use Rattle.bean_lots.specs.Lot.{same_key};
 ghost use Rattle.bean_lots.specs.declared.lot.Key.{Key};
 ghost use Rattle.bean_lots.specs.declared.lot.Position.{Position};
@@ -34,9 +31,15 @@ use std::marker::Model;
 ///
 /// It is seen as the list of its positions, each with a count that isn't 0, in order of entry: a
 /// new key goes last, one that is there keeps its place, and one that comes to 0 goes.
-#[derive(Drop)]
 pub struct Inventory<'a> {
     slots: Slots<'a>,
+}
+
+/// Written out, so that crates which give one up need to know nothing of what is in it.
+impl Drop for Inventory<'_> {
+    fn drop(self) {
+        let Inventory { slots: _ } = self;
+    }
 }
 
 impl<'a> Model for Inventory<'a> {
@@ -141,8 +144,8 @@ impl<'a> Inventory<'a> {
     /// How many lots of a currency are held with a count above 0, and how many with one below. There
     /// are fewer positions than `2^63`.
     pub fn signs_of(&self, currency: &Currency<'_>) -> Signs
-        ensures long { result.long ≡ long_lots currency.now self.now }
-        ensures short { result.short ≡ short_lots currency.now self.now }
+        ensures long { result.long ≡ spec.long_lots currency.now self.now }
+        ensures short { result.short ≡ spec.short_lots currency.now self.now }
         ensures few { length self.now < 2 ^ 63 }
     {
         self.slots.signs_of(currency)

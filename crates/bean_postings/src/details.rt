@@ -35,9 +35,15 @@ enum Kept<'a> {
 
 /// The details of a posting. What few postings have lies in memory of its own, so that the others
 /// stay small. Contracts see the parts.
-#[derive(Drop)]
 pub struct Details<'a> {
     kept: Kept<'a>,
+}
+
+/// Written out, so that crates which give one up need to know nothing of what is in it.
+impl Drop for Details<'_> {
+    fn drop(self) {
+        let Details { kept: _ } = self;
+    }
 }
 
 impl<'a> Model for Details<'a> {

@@ -3,7 +3,6 @@ use bean_base::{List, Slice};
 use query_values::Value;
 
 /// Rows of values under the names of their columns.
-#[derive(Drop)]
 pub struct Answer<'a> {
     pub headers: List<Slice<'a>>,
     pub rows: List<List<Value<'a>>>,
@@ -11,4 +10,16 @@ pub struct Answer<'a> {
     pub steps: u64,
     /// How many groups there were, or how many postings passed where nothing was grouped.
     pub groups: u64,
+}
+
+/// Written out, so that crates which give one up need to know nothing of what is in it.
+impl Drop for Answer<'_> {
+    fn drop(self) {
+        let Answer {
+            headers: _,
+            rows: _,
+            steps: _,
+            groups: _,
+        } = self;
+    }
 }

@@ -10,10 +10,19 @@ use std::marker::Model;
 use value_keys::{LentKey, ValueKey};
 
 /// Keys, and what was gathered under them.
-#[derive(Drop)]
 pub struct Groups<'r> {
     alloc: Global,
     entries: IndexMap<ValueKey<'r>, Totals<'r>>,
+}
+
+/// Written out, so that crates which give one up need to know nothing of what is in it.
+impl Drop for Groups<'_> {
+    fn drop(self) {
+        let Groups {
+            alloc: _,
+            entries: _,
+        } = self;
+    }
 }
 
 impl<'r> Model for Groups<'r> {

@@ -17,11 +17,21 @@ use verified_program::Checked;
 
 /// A run of a program over a ledger, which goes on in turns. Contracts see its program, its ledger
 /// and how far it has come; it stands where the plain machine does after as many steps.
-#[derive(Drop)]
 pub struct Run<'r, 'a> {
     alloc: Global,
     input: Inputs<'r, 'a>,
     progress: Progress<'r>,
+}
+
+/// Written out, so that crates which give one up need to know nothing of what is in it.
+impl Drop for Run<'_, '_> {
+    fn drop(self) {
+        let Run {
+            alloc: _,
+            input: _,
+            progress: _,
+        } = self;
+    }
 }
 
 impl<'r, 'a> Model for Run<'r, 'a> {
@@ -116,7 +126,12 @@ impl<'r, 'a> Run<'r, 'a> {
         ensures there { result ≡ answer_at self.entry.place }
         ensures is { IfSome result (IsRunOf self.entry.parts (rows_under self.entry)) }
     {
-        match self.progress {
+        let Run {
+            alloc: _,
+            input: _,
+            progress,
+        } = self;
+        match progress {
             Progress::Ended(answer) => Some(answer),
             _ => None,
         }

@@ -10,9 +10,15 @@ use std::alloc::{AllocError, Global};
 use std::marker::Model;
 
 /// For each entry of a pool what searches for it, where it is a pattern. Its value is the patterns.
-#[derive(Drop)]
 pub struct Finders<'p> {
     finders: Vec<Option<Finder<'p>>>,
+}
+
+/// Written out, so that crates which give one up need to know nothing of what is in it.
+impl Drop for Finders<'_> {
+    fn drop(self) {
+        let Finders { finders: _ } = self;
+    }
 }
 
 impl<'p> Model for Finders<'p> {

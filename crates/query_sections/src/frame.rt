@@ -8,11 +8,21 @@ use crate::stack::Stack;
 use std::alloc::{AllocError, Global};
 
 /// The place of a section's next instruction, its stack and its slots.
-#[derive(Drop)]
 pub struct Frame<'r> {
     pub place: usize,
     pub stack: Stack<'r>,
     pub slots: Slots<'r>,
+}
+
+/// Written out, so that crates which give one up need to know nothing of what is in it.
+impl Drop for Frame<'_> {
+    fn drop(self) {
+        let Frame {
+            place: _,
+            stack: _,
+            slots: _,
+        } = self;
+    }
 }
 
 impl<'r> Frame<'r> {

@@ -29,10 +29,19 @@ impl Model for Pattern {
 
 /// What searches for a pattern: it keeps the memory that a search needs. Its value is the text that
 /// writes the pattern.
-#[derive(Drop)]
 pub struct Finder<'p> {
     regex: &'p Regex,
     matcher: Matcher<'p>,
+}
+
+/// Written out, so that crates which give one up need to know nothing of what is in it.
+impl Drop for Finder<'_> {
+    fn drop(self) {
+        let Finder {
+            regex: _,
+            matcher: _,
+        } = self;
+    }
 }
 
 impl<'p> Model for Finder<'p> {
