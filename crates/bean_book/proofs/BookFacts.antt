@@ -8,7 +8,7 @@ use Rattle.bean_replay.specs.declared.cause.BookCause.{BookCause}
 use Rattle.bean_replay.specs.declared.cause.BookCause.TheVariants.{TooManyPostings}
 use Rattle.refusals.specs.declared.refusal.Refusal.{Refusal}
 use Rattle.refusals.specs.declared.refusal.Refusal.TheVariants.{OutOfMemory, Refused}
-use Rattle.bean_load.specs.Loaded.{Loaded}
+use Rattle.bean_loaded.specs.Loaded.{Loaded}
 use Rattle.bean_book.specs.Booked.{AreTooMany, Books, MakesLedger}
 use Rattle.bean_book.proofs.LedgerFacts.{rows_hold}
 

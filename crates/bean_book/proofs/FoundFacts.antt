@@ -18,7 +18,7 @@ use Rattle.bean_replay.specs.declared.cause.BookCause.{BookCause}
 use Rattle.bean_replay.specs.declared.cause.BookCause.TheVariants.{TooManyPostings}
 use Rattle.refusals.specs.declared.refusal.Refusal.{Refusal}
 use Rattle.refusals.specs.declared.refusal.Refusal.TheVariants.{OutOfMemory, Refused}
-use Rattle.bean_load.specs.Loaded.{Loaded}
+use Rattle.bean_loaded.specs.Loaded.{Loaded}
 use Rattle.posting_table.proofs.DecimalsFacts.{decimals_of-insert}
 use Rattle.posting_table.specs.Decimals.{Decimals, decimals_of}
 use Rattle.posting_table.specs.Ledger.{Ledger}

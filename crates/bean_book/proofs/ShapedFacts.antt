@@ -29,8 +29,8 @@ use Rattle.bean_pad.specs.declared.note.NotedPad.{NotedPad}
 use Rattle.bean_replay.proofs.SmallListFacts.{all_at, all_flat, all_mapped}
 use Rattle.bean_replay.specs.Small.{IsSmallLot, IsSmallNoted, IsSmallPad, IsSmallPosted}
 use Rattle.bean_replay.specs.declared.booking.Kept.{Kept}
-use Rattle.bean_parser.specs.SmallPart.{IsShort, IsShortCurrency, IsShortEntry, IsShortMark}
-use Rattle.bean_parser.specs.SmallPart.{IsShortPrice, IsShortValue, IsSmallPosting, most}
+use Rattle.bean_directives.specs.SmallPart.{IsShort, IsShortCurrency, IsShortEntry, IsShortMark}
+use Rattle.bean_directives.specs.SmallPart.{IsShortPrice, IsShortValue, IsSmallPosting, most}
 use Rattle.bean_transactions.specs.Tried.{booked_leg, whole_at, worth_of}
 use Rattle.bean_holdings.specs.declared.posted.Posted.{Posted}
 use Rattle.number_texts.proofs.LengthFacts.{length-day, short_number}

@@ -11,7 +11,7 @@ use Rattle.bean_replay.specs.declared.cause.BookCause.{BookCause}
 use Rattle.bean_replay.specs.declared.cause.BookCause.TheVariants.{TooManyPostings}
 use Rattle.refusals.specs.declared.refusal.Refusal.{Refusal}
 use Rattle.refusals.specs.declared.refusal.Refusal.TheVariants.{OutOfMemory, Refused}
-use Rattle.bean_load.specs.Loaded.{Loaded}
+use Rattle.bean_loaded.specs.Loaded.{Loaded}
 use Rattle.posting_table.specs.Decimals.{decimals_of}
 use Rattle.posting_table.specs.Ledger as tables
 use Rattle.limits.specs.declared.counts.TheConstants.{MOST_POSTINGS}

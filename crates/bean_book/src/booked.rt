@@ -6,7 +6,7 @@ use crate::counts::{RowCount, count_pads};
 use crate::faults::report;
 use crate::ledger::{LedgerRows, with_pads};
 use bean_base::{Fault, List};
-use bean_load::Loaded;
+use bean_loaded::Loaded;
 use bean_replay::{BookCause, book_directives};
 use posting_table::Ledger;
 use refusals::Refusal;

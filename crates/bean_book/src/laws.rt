@@ -2,7 +2,7 @@
 ghost use Rattle.bean_book.specs.Booked.{IsBookOf};
 ghost use Rattle.bean_book.specs.OneBook.{AreAlike};
 ghost use Rattle.bean_book.specs.declared.booked.Booked as declared;
-ghost use Rattle.bean_load.specs.Loaded.{Loaded};
+ghost use Rattle.bean_loaded.specs.Loaded.{Loaded};
 
 /// A loaded ledger is booked in one way: the postings, the decimals that currencies show, and the
 /// faults.

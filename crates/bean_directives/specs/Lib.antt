@@ -1,2 +1,4 @@
 pub mod Head
 pub mod Undated
+pub mod SmallPart
+pub mod Small

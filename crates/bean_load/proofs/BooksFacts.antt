@@ -7,7 +7,7 @@ use Rattle.bean_directives.specs.declared.undated.Setting.{Setting}
 use Rattle.bean_load.specs.Loaded.{title_behind, title_in, operating_of, method_of}
 use Rattle.bean_load.specs.Loading.{AddsSetting, AreBooks}
 use Rattle.bean_load.specs.declared.loaded.Books.{Books}
-use Rattle.bean_load.specs.declared.placed.Placed.{Placed}
+use Rattle.bean_loaded.specs.declared.placed.Placed.{Placed}
 
 pub record Completes (all : List (Placed Setting)) (books : Books) (rest : List (Placed Setting)) :
     Type 0 where

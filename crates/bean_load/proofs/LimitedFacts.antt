@@ -19,10 +19,11 @@ use Rattle.bean_load.specs.Texts.{File, Texts}
 use Rattle.refusals.specs.declared.refusal.Refusal.{Refusal}
 use Rattle.bean_load.specs.declared.cause.LoadCause.{LoadCause}
 use Rattle.bean_load.specs.declared.cause.LoadCause.TheVariants.{Unreadable, NotUtf8, TooLarge}
-use Rattle.bean_load.specs.declared.gathering.TheConstants.{DEEPEST, LARGEST_LEDGER}
-use Rattle.bean_parser.specs.SmallPart.{most, IsShort}
+use Rattle.bean_load.specs.declared.gathering.TheConstants.{DEEPEST}
+use Rattle.bean_loaded.specs.declared.loaded.TheConstants.{LARGEST_LEDGER}
+use Rattle.bean_directives.specs.SmallPart.{most, IsShort}
 use Rattle.bean_load.specs.Small.{AreLimited, bytes_in}
-use Rattle.bean_parser.proofs.ShortFacts.{all_pushed}
+use Rattle.theory.proofs.AllFacts.{all_pushed}
 
 -- The texts are short, and all bytes, with so many of a text that isn't there yet, were counted.
 record HasRead (n : ℕ) (s : Gathered) : Type 0 where

@@ -10,7 +10,7 @@ use Rattle.bean_load.specs.Loaded.{operating_of, method_of}
 use Rattle.bean_load.specs.Loading.{HasOneLoading}
 use Rattle.bean_load.specs.Order.{AreInOrder, AreSettingsInOrder, DayKey, Key, key_of, key_cmp}
 use Rattle.bean_load.specs.Texts.{File}
-use Rattle.bean_load.specs.declared.placed.Placed.{Placed}
+use Rattle.bean_loaded.specs.declared.placed.Placed.{Placed}
 use Rattle.bean_directives.specs.declared.directive.Directive.{Directive}
 use Rattle.bean_directives.specs.declared.undated.Setting.{Setting}
 use Rattle.bean_parser.proofs.OneReadingFacts.{one_text as one_reading}

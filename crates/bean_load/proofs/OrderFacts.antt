@@ -11,7 +11,7 @@ use Rattle.bean_base.specs.Day.{number}
 use Rattle.bean_directives.specs.declared.directive.Directive.{Directive}
 use Rattle.bean_load.specs.Order.{key_cmp, key_of, turn_of}
 use Rattle.bean_load.specs.Rank.{rank_number, rank_of}
-use Rattle.bean_load.specs.declared.placed.Placed.{Placed}
+use Rattle.bean_loaded.specs.declared.placed.Placed.{Placed}
 use Rattle.bean_load.specs.declared.rank.Rank.{Rank}
 use Rattle.bean_load.specs.declared.rank.Rank.TheVariants.{Open, Balance, Other, Document, Close}
 use Rattle.theory.specs.Arrangement.{IsArrangement, by_key}

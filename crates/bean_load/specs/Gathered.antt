@@ -6,7 +6,7 @@ use Rattle.bean_base.specs.declared.fault.Fault.{Fault}
 use Rattle.bean_base.specs.declared.fault.FaultKind.TheVariants.{IncludeFault}
 use Rattle.bean_load.specs.Texts.{File, Texts}
 use Rattle.limits.specs.declared.counts.TheConstants.{LARGEST_TEXT}
-use Rattle.bean_load.specs.declared.gathering.TheConstants.{LARGEST_LEDGER}
+use Rattle.bean_loaded.specs.declared.loaded.TheConstants.{LARGEST_LEDGER}
 use Rattle.bean_load.specs.declared.gathering.TheConstants.{MOST_NAMES}
 use Rattle.bean_load.specs.declared.texts.Part.{Part}
 

@@ -6,24 +6,15 @@ use Rattle.bean_directives.specs.declared.directive.Directive.{Directive}
 use Rattle.bean_directives.specs.declared.undated.Setting.{Setting}
 use Rattle.bean_directives.specs.declared.undated.SettingKind.{SettingKind}
 use Rattle.bean_directives.specs.declared.undated.SettingKind.TheVariants as kind
+use Rattle.bean_loaded.specs.Loaded.{Loaded}
 use Rattle.bean_load.specs.Order.{AreInOrder, AreSettingsInOrder}
 use Rattle.bean_load.specs.Placed.{parts_of, placed_directive, placed_setting}
 use Rattle.bean_load.specs.Texts.{File, Texts}
-use Rattle.bean_load.specs.declared.loaded.MethodLine.{MethodLine}
-use Rattle.bean_load.specs.declared.placed.Placed.{Placed}
+use Rattle.bean_loaded.specs.declared.loaded.MethodLine.{MethodLine}
+use Rattle.bean_loaded.specs.declared.placed.Placed.{Placed}
 use Rattle.bean_load.specs.declared.texts.Part.{Part}
 use Rattle.bean_parser.specs.Parsed.{IsParsed}
 use Rattle.bean_parser.specs.declared.parse.Parsed.{Parsed}
-
--- The directives by day and rank, then in reading order; the faults; the last title, the operating
--- currencies and the lines of
--- booking methods in reading order.
-pub record Loaded : Type 0 where
-  pub directives : List (Placed Directive)
-  pub faults : List Fault
-  pub title : Option (List ℕ)
-  pub operating : List (List ℕ)
-  pub methods : List MethodLine
 
 -- each text says its own
 abbrev pub AreParsed : List File → List Parsed → Type 0

@@ -2,7 +2,8 @@
 use Rattle.std.specs.Prelude.{◌≡◌, ℕ, List, ◌++◌, map}
 use Rattle.std.specs.List.{flat_map}
 use Rattle.bean_directives.specs.declared.undated.Setting.{Setting}
-use Rattle.bean_load.specs.Loaded.{AreParsed, IsLoaded, Loaded, directives_in, settings_in}
+use Rattle.bean_load.specs.Loaded.{AreParsed, IsLoaded, directives_in, settings_in}
+use Rattle.bean_loaded.specs.Loaded.{Loaded}
 use Rattle.bean_load.specs.Loaded.{faults_in, fault_in, title_behind, title_in, operating_of}
 use Rattle.bean_load.specs.Loaded.{method_of}
 use Rattle.bean_load.specs.Placed.{placed_directive, placed_setting}
@@ -10,7 +11,7 @@ use Rattle.bean_load.specs.Texts.{Texts}
 use Rattle.bean_load.specs.declared.loaded.Books.{Books}
 use Rattle.bean_load.specs.declared.loaded.Read.{Read}
 use Rattle.bean_load.specs.declared.placed.Own.{Own}
-use Rattle.bean_load.specs.declared.placed.Placed.{Placed}
+use Rattle.bean_loaded.specs.declared.placed.Placed.{Placed}
 use Rattle.bean_parser.specs.declared.parse.Parsed.{Parsed}
 
 -- what a text says goes behind what the texts before it say

@@ -7,7 +7,7 @@ use Rattle.bean_base.specs.Day.{number}
 use Rattle.bean_directives.specs.declared.directive.Directive.{Directive}
 use Rattle.bean_directives.specs.declared.undated.Setting.{Setting}
 use Rattle.bean_load.specs.Rank.{rank_number, rank_of}
-use Rattle.bean_load.specs.declared.placed.Placed.{Placed}
+use Rattle.bean_loaded.specs.declared.placed.Placed.{Placed}
 
 -- the number of a day, and a rank
 abbrev pub DayKey : Type 0

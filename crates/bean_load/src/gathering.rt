@@ -8,15 +8,13 @@ ghost use Rattle.bean_load.specs.Small.{AreLimited};
 use crate::cause::LoadCause;
 use crate::texts::{File, Part, Texts};
 use bean_base::{Fault, FaultKind, Place};
+use bean_loaded::LARGEST_LEDGER;
 use indexmap::IndexSet;
 use limits::LARGEST_TEXT;
 use refusals::Refusal;
 use std::alloc::{AllocError, Global};
 use std::marker::Model;
 use stores::{Source, SourceFault};
-
-/// The most bytes of all texts: 64 MiB.
-pub const LARGEST_LEDGER: usize = 67_108_864;
 
 /// The most names that are asked for.
 pub const MOST_NAMES: usize = 1_000;

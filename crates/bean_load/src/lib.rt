@@ -51,8 +51,7 @@ mod texts;
 
 pub use cause::LoadCause;
 pub use following::{gather, one_gathering};
-pub use gathering::{DEEPEST, LARGEST_LEDGER, MOST_NAMES};
-pub use loaded::{Loaded, MethodLine, load, one_loading};
-pub use placed::Placed;
+pub use gathering::{DEEPEST, MOST_NAMES};
+pub use loaded::{load, one_loading};
 pub use stores::Source;
 pub use texts::{File, Part, Texts};

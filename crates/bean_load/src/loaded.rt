@@ -5,104 +5,16 @@ ghost use Rattle.bean_load.specs.Loaded as spec;
 ghost use Rattle.bean_load.specs.Loaded.{IsLoaded};
 ghost use Rattle.bean_load.specs.Loading.{AddsParsed, AddsSetting, AreBooks, AreRead};
 ghost use Rattle.bean_load.specs.Loading.{HasOneLoading};
-ghost use Rattle.bean_load.specs.Small.{AreFew, AreSmall};
+ghost use Rattle.bean_loaded.specs.Limited.{AreFew, AreSmall};
 
 use crate::order::{order_directives, order_settings};
-use crate::placed::{Own, Placed, add_directives, add_settings, parts_of};
+use crate::placed::{Own, add_directives, add_settings, parts_of};
 use crate::texts::Texts;
 use bean_base::{Apart, Fault, Place, Text};
+use bean_loaded::{Loaded, MethodLine, Placed};
 use bean_parser::parse::parse;
 use bean_parser::{Directive, Parsed, Setting, SettingKind};
 use std::alloc::{AllocError, Global};
-use std::marker::Model;
-
-/// A line of a booking method.
-#[derive(Drop)]
-pub struct MethodLine<'a> {
-    pub place: Place,
-    /// The name of the method, known or not.
-    pub method: Text<'a>,
-}
-
-/// What the texts of a ledger say together, as [`load`] gives it. What a directive holds is no
-/// larger than a text may be ([`bean_parser::texts_say_what_is_small`]), and there are no more
-/// directives than all texts may have bytes, [`crate::LARGEST_LEDGER`].
-#[derive(Drop)]
-pub struct Loaded<'a> {
-    directives: Vec<Apart<Placed<Directive<'a>>>>,
-    faults: Vec<Fault>,
-    title: Option<Text<'a>>,
-    operating: Vec<Text<'a>>,
-    methods: Vec<MethodLine<'a>>,
-}
-
-impl<'a> Model for Loaded<'a> {
-    ghost use Rattle.bean_load.specs.Loaded as spec;
-    ghost use Rattle.bean_load.specs.Small.{AreLimitedDirectives};
-
-    ghost Value = { spec.Loaded };
-
-    ghost view = { λ l. record {
-      directives = l.directives.items;
-      faults = l.faults.items;
-      title = l.title;
-      operating = l.operating.items;
-      methods = l.methods.items;
-    } };
-
-    ghost invariant = { λ l. AreLimitedDirectives l.directives.items };
-}
-
-impl<'a> Loaded<'a> {
-    /// The directives in the order in which they are taken.
-    pub fn directives(&self) -> &[Apart<Placed<Directive<'a>>>]
-        ensures directives { result.now ≡ self.now.directives }
-        ensures small { AreSmall self.now.directives }
-        ensures few { AreFew self.now.directives }
-    {
-        &self.directives
-    }
-
-    /// The directives themselves; all else is given up.
-    pub fn into_directives(self) -> Vec<Apart<Placed<Directive<'a>>>>
-        ensures directives { result.items ≡ self.entry.directives }
-        ensures small { AreSmall self.entry.directives }
-        ensures few { AreFew self.entry.directives }
-    {
-        self.directives
-    }
-
-    /// The faults of the texts' blocks, and those of include lines.
-    pub fn faults(&self) -> &[Fault]
-        ensures { result.now ≡ self.now.faults }
-    {
-        &self.faults
-    }
-
-    /// The last title.
-    pub fn title(&self) -> Option<Text<'a>>
-        ensures { result ≡ self.now.title }
-    {
-        match &self.title {
-            Some(title) => Some(title.lend()),
-            None => None,
-        }
-    }
-
-    /// The operating currencies, in reading order.
-    pub fn operating(&self) -> &[Text<'a>]
-        ensures { result.now ≡ self.now.operating }
-    {
-        &self.operating
-    }
-
-    /// The lines of booking methods, in reading order.
-    pub fn methods(&self) -> &[MethodLine<'a>]
-        ensures { result.now ≡ self.now.methods }
-    {
-        &self.methods
-    }
-}
 
 /// What is read of texts so far.
 #[derive(Drop)]
@@ -222,13 +134,13 @@ pub fn load(alloc: Global, texts: &Texts) -> Result<Loaded<'_>, AllocError>
     order_settings(&mut read.settings)?;
     let books = books_of(alloc, &read.settings)?;
     read.faults.extend_from_slice(texts.faults())?;
-    Ok(Loaded {
-        directives: read.directives,
-        faults: read.faults,
-        title: books.title,
-        operating: books.operating,
-        methods: books.methods,
-    })
+    Ok(Loaded::new(
+        read.directives,
+        read.faults,
+        books.title,
+        books.operating,
+        books.methods,
+    ))
 }
 
 /// Texts say one thing together.

@@ -3,9 +3,9 @@ ghost use Rattle.std.specs.Prelude.{◌≡◌, ◌<◌, ◌+ℤ◌, ◌*ℤ◌, 
 ghost use Rattle.bean_load.specs.Order as spec;
 ghost use Rattle.bean_load.specs.Order.{AreInOrder, AreSettingsInOrder};
 
-use crate::placed::Placed;
 use crate::rank::Rank;
 use bean_base::Apart;
+use bean_loaded::Placed;
 use bean_parser::{Directive, Setting};
 use std::alloc::AllocError;
 

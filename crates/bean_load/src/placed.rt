@@ -4,18 +4,9 @@ ghost use Rattle.bean_load.specs.Placed as spec;
 
 use crate::texts::Part;
 use bean_base::Apart;
+use bean_loaded::Placed;
 use bean_parser::{Directive, Setting};
 use std::alloc::{AllocError, Global};
-
-/// What is written in a text, with its place.
-#[derive(Drop)]
-pub struct Placed<T> {
-    /// The number of its text, from 0.
-    pub file: usize,
-    /// The number of the part of the ledger in which it stands, from 0 in reading order.
-    pub part: usize,
-    pub item: T,
-}
 
 /// A part of a text: the line behind which it begins, and its number in reading order.
 #[derive(Clone, Copy)]

@@ -33,7 +33,7 @@ pub struct Part {
 }
 
 /// The texts of a ledger, as [`crate::gather`] reads them. None is larger than a text may be, nor are
-/// all together larger than [`crate::LARGEST_LEDGER`].
+/// all together larger than [`bean_loaded::LARGEST_LEDGER`].
 #[derive(Drop)]
 pub struct Texts {
     pub(crate) files: Vec<File>,

@@ -1,23 +1,13 @@
--- Lists whose elements are short, and values that are short where they are in range.
-use Rattle.std.proofs.Common.{ℕ, ◌-◌, ◌≤◌, Bool, true, false, nat_eq, cond, List, [], ◌∷◌, ◌++◌}
+-- Values that are short where they are in range.
+use Rattle.std.proofs.Common.{ℕ, ◌-◌, ◌≤◌, Bool, true, false, nat_eq, cond, List, [], ◌∷◌}
 use Rattle.std.proofs.Common.{length, take, drop, Option, Some, None, IfSome, arith}
 use Rattle.std.proofs.lemmas.List.{length-take, length-drop}
-use Rattle.std.specs.List.{AllByRecursion}
 use Rattle.bean_base.specs.Text.{escaped, read_text}
 use Rattle.bean_grammar.specs.declared.ranged.Ranged.{Ranged}
 use Rattle.bean_grammar.specs.declared.ranged.Ranged.TheVariants.{Within, Outside}
 use Rattle.bean_grammar.specs.Literal.{between_quotes, text_of}
 use Rattle.bean_grammar.specs.Ranged.{ranged_map, ranged_map2, ranged_map3, option_within}
-use Rattle.bean_parser.specs.SmallPart.{IsShort}
-
-pub all_joined : {X : Type 0} (P : X → Type 0) (xs ys : List X) → AllByRecursion P xs
-    → AllByRecursion P ys → AllByRecursion P (xs ++ ys)
-all_joined P [] ys h k = k
-all_joined P (x ∷ xs) ys h k = (h.0, all_joined P xs ys h.1 k)
-
-pub all_pushed : {X : Type 0} (P : X → Type 0) (xs : List X) (x : X) → AllByRecursion P xs → P x
-    → AllByRecursion P (xs ++ x ∷ [])
-all_pushed P xs x h k = all_joined P xs (x ∷ []) h (k, tt)
+use Rattle.bean_directives.specs.SmallPart.{IsShort}
 
 -- S holds of a value that is in range
 abbrev pub WhenWithin : {V : Type 0} → (V → Type 0) → Ranged V → Type 0

@@ -17,9 +17,9 @@ use Rattle.bean_parser.specs.Under.{all_before, with_line, with_lines, postings_
 use Rattle.bean_parser.specs.declared.under.Body.{Body}
 use Rattle.bean_parser.specs.declared.under.LineKind.{LineKind}
 use Rattle.bean_parser.specs.declared.under.LineKind.TheVariants as kinds
-use Rattle.bean_parser.specs.SmallPart.{most, IsShortMark, IsShortEntry, IsSmallPosting}
+use Rattle.bean_directives.specs.SmallPart.{most, IsShortMark, IsShortEntry, IsSmallPosting}
 use Rattle.bean_parser.proofs.SmallKeeping.{kept}
-use Rattle.bean_parser.proofs.ShortFacts.{all_joined, all_pushed}
+use Rattle.theory.proofs.AllFacts.{all_joined, all_pushed}
 use Rattle.bean_parser.proofs.SmallLineFacts.{IsShortLexeme, some_marks_kept, entry_kept}
 use Rattle.bean_parser.proofs.SmallPostingFacts.{posting_kept}
 use Rattle.bean_parser.proofs.SmallMarkFacts.{some_marks_no_more}

@@ -31,11 +31,12 @@ use Rattle.bean_directives.specs.Head.{IsHead}
 use Rattle.bean_directives.specs.declared.directive.DirectiveKind.{DirectiveKind}
 use Rattle.bean_directives.specs.declared.directive.DirectiveKind.TheVariants as kinds
 use Rattle.bean_directives.specs.declared.transaction.PayeeAndNarration.{PayeeAndNarration}
-use Rattle.bean_parser.specs.SmallPart.{IsShort, IsShortCurrency}
-use Rattle.bean_parser.specs.Small.{IsSmallKind, marks_of}
+use Rattle.bean_directives.specs.SmallPart.{IsShort, IsShortCurrency}
+use Rattle.bean_directives.specs.Small.{IsSmallKind, marks_of}
 use Rattle.bean_parser.proofs.SmallKeeping.{keeps_made, keeps_applied, keeps_behind, keeps_due, keeps_row}
 use Rattle.bean_parser.proofs.SmallKeeping.{kept}
-use Rattle.bean_parser.proofs.ShortFacts.{Any, WhenWithin, any_within, all_pushed, mapped_any}
+use Rattle.bean_parser.proofs.ShortFacts.{Any, WhenWithin, any_within, mapped_any}
+use Rattle.theory.proofs.AllFacts.{all_pushed}
 use Rattle.bean_parser.proofs.ShortFacts.{mapped2}
 use Rattle.bean_parser.proofs.SmallLineFacts.{IsShortLexeme, Gives, account_kept, currency_kept}
 use Rattle.bean_parser.proofs.SmallLineFacts.{text_kept, day_kept, expression_kept, marks_kept}

@@ -25,11 +25,12 @@ use Rattle.bean_grammar.specs.Mark.{written, begins_with_mark, mark, marks, some
 use Rattle.bean_grammar.specs.Metadata.{IsPlain, any_lexeme, plain, valued, number_value, numeric}
 use Rattle.bean_grammar.specs.Metadata.{value, is_more, with_value, all_values, entry_with}
 use Rattle.bean_grammar.specs.Metadata.{entry_of, entry}
-use Rattle.bean_parser.specs.SmallPart.{IsShort, IsShortCurrency, IsShortMark, IsShortValue, IsShortEntry}
+use Rattle.bean_directives.specs.SmallPart.{IsShort, IsShortCurrency, IsShortMark, IsShortValue, IsShortEntry}
 use Rattle.bean_parser.proofs.SmallKeeping.{Keeps, keeps_word, keeps_made, keeps_applied, keeps_behind}
 use Rattle.bean_parser.proofs.SmallKeeping.{keeps_closed, keeps_related, keeps_due, keeps_either}
 use Rattle.bean_parser.proofs.SmallKeeping.{keeps_ending, keeps_row, keeps_chain}
-use Rattle.bean_parser.proofs.ShortFacts.{all_pushed, Any, WhenWithin, mapped, mapped_any}
+use Rattle.bean_parser.proofs.ShortFacts.{Any, WhenWithin, mapped, mapped_any}
+use Rattle.theory.proofs.AllFacts.{all_pushed}
 use Rattle.bean_parser.proofs.ShortFacts.{text_short}
 
 abbrev pub IsShortLexeme : Lexeme → Type 0

@@ -22,9 +22,10 @@ use Rattle.bean_parser.specs.declared.block.Outcome.TheVariants as outcome
 use Rattle.bean_parser.specs.declared.statement.Statement.{Statement}
 use Rattle.bean_parser.specs.declared.statement.Statement.TheVariants as statement
 use Rattle.bean_parser.specs.declared.under.Body.{Body}
-use Rattle.bean_parser.specs.SmallPart.{most, IsShortMark, IsShortEntry, IsSmallPosting}
-use Rattle.bean_parser.specs.Small.{IsSmallKind, marks_of}
-use Rattle.bean_parser.proofs.ShortFacts.{WhenWithin, all_joined, mapped}
+use Rattle.bean_directives.specs.SmallPart.{most, IsShortMark, IsShortEntry, IsSmallPosting}
+use Rattle.bean_directives.specs.Small.{IsSmallKind, marks_of}
+use Rattle.bean_parser.proofs.ShortFacts.{WhenWithin, mapped}
+use Rattle.theory.proofs.AllFacts.{all_joined}
 use Rattle.bean_parser.proofs.SmallHeadFacts.{marks_in, head_small}
 use Rattle.bean_parser.proofs.SmallUndatedFacts.{IsShortUndated, undated_short}
 use Rattle.bean_parser.proofs.SmallTokenFacts.{IsShortToken}

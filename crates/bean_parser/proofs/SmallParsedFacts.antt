@@ -6,8 +6,8 @@ use Rattle.bean_parser.specs.Block.{begins_block, blocks}
 use Rattle.bean_parser.specs.Parsed.{IsParsed, directives_in, all_bounds}
 use Rattle.bean_parser.specs.Scope.{with_pushes}
 use Rattle.bean_parser.specs.declared.parse.Parsed.{Parsed}
-use Rattle.bean_parser.specs.SmallPart.{most, IsShort}
-use Rattle.bean_parser.specs.Small.{IsSmallDirective}
+use Rattle.bean_directives.specs.SmallPart.{most, IsShort}
+use Rattle.bean_directives.specs.Small.{IsSmallDirective}
 use Rattle.bean_parser.proofs.SmallTokenFacts.{IsShortToken, tokens_short, tokens_few}
 use Rattle.bean_parser.proofs.SmallCutFacts.{cut_all, cut_count}
 use Rattle.bean_parser.proofs.SmallOutcomeFacts.{outcomes_fit, sizes}

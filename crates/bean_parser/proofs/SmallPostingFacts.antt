@@ -35,8 +35,8 @@ use Rattle.bean_postings.specs.Posting.{units_of, units, posting_of, posted_to, 
 use Rattle.bean_postings.specs.Price.{price_sign, begins_with_price, priced, price_by, price_of}
 use Rattle.bean_postings.specs.Price.{price, price_or_absent, price_if_due}
 use Rattle.bean_grammar.specs.Ranged.{ranged_map2, option_within}
-use Rattle.bean_parser.specs.SmallPart.{most, IsShort, IsShortCurrency, AreShortUnits, IsShortCost}
-use Rattle.bean_parser.specs.SmallPart.{IsShortPrice, IsSmallPosting}
+use Rattle.bean_directives.specs.SmallPart.{most, IsShort, IsShortCurrency, AreShortUnits, IsShortCost}
+use Rattle.bean_directives.specs.SmallPart.{IsShortPrice, IsSmallPosting}
 use Rattle.bean_parser.proofs.SmallKeeping.{keeps_word, keeps_made, keeps_applied, keeps_behind}
 use Rattle.bean_parser.proofs.SmallKeeping.{keeps_closed, keeps_checked, keeps_due, keeps_either}
 use Rattle.bean_parser.proofs.SmallKeeping.{keeps_row}

@@ -24,9 +24,9 @@ use Rattle.bean_parser.specs.declared.block.Outcome.{Outcome}
 use Rattle.bean_parser.specs.declared.block.Outcome.TheVariants as outcome
 use Rattle.bean_parser.specs.declared.scope.PlacedBound.{PlacedBound}
 use Rattle.bean_parser.specs.declared.statement.Statement.TheVariants as statement
-use Rattle.bean_parser.specs.SmallPart.{IsShort, IsShortMark, IsShortEntry}
-use Rattle.bean_parser.specs.Small.{IsSmallKind, marks_of}
-use Rattle.bean_parser.proofs.ShortFacts.{all_pushed}
+use Rattle.bean_directives.specs.SmallPart.{IsShort, IsShortMark, IsShortEntry}
+use Rattle.bean_directives.specs.Small.{IsSmallKind, marks_of}
+use Rattle.theory.proofs.AllFacts.{all_pushed}
 use Rattle.bean_parser.proofs.SmallUndatedFacts.{IsShortPushed, IsShortBound, IsShortUndated}
 use Rattle.bean_parser.proofs.SmallOutcomeFacts.{IsSmallApart, IsSmallOutcome, sizes}
 

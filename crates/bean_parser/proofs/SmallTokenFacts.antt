@@ -15,7 +15,7 @@ use Rattle.bean_lexer.specs.declared.kind.Kind.TheVariants as kind
 use Rattle.bean_lexer.specs.declared.token.Token.{Token}
 use Rattle.bean_lexer.proofs.TokensFacts.{token_some}
 use Rattle.bean_grammar.specs.Lexeme.{lexeme_at, lexemes}
-use Rattle.bean_parser.specs.SmallPart.{most, IsShort, IsShortCurrency}
+use Rattle.bean_directives.specs.SmallPart.{most, IsShort, IsShortCurrency}
 use Rattle.bean_parser.proofs.ShortFacts.{drop_short, take_short}
 use Rattle.bean_parser.proofs.SmallLineFacts.{IsShortLexeme}
 

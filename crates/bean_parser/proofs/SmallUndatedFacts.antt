@@ -20,7 +20,7 @@ use Rattle.bean_directives.specs.declared.undated.Pushed.TheVariants as pushed
 use Rattle.bean_directives.specs.declared.undated.SettingKind.TheVariants as settings
 use Rattle.bean_directives.specs.declared.undated.UndatedKind.{UndatedKind}
 use Rattle.bean_directives.specs.declared.undated.UndatedKind.TheVariants as kinds
-use Rattle.bean_parser.specs.SmallPart.{IsShort, IsShortEntry}
+use Rattle.bean_directives.specs.SmallPart.{IsShort, IsShortEntry}
 use Rattle.bean_parser.proofs.SmallKeeping.{keeps_made, keeps_applied, keeps_due, kept}
 use Rattle.bean_parser.proofs.ShortFacts.{WhenWithin, mapped}
 use Rattle.bean_parser.proofs.SmallLineFacts.{IsShortLexeme, Gives, text_kept, tag_kept, key_kept}

@@ -11,5 +11,3 @@ pub mod Gathered
 pub mod OneReading
 pub mod Includes
 pub mod BlockReader
-pub mod SmallPart
-pub mod Small

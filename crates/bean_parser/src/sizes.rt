@@ -10,8 +10,8 @@ ghost use Rattle.std.specs.Prelude.{ℕ, List};
 ghost use Rattle.std.specs.List.{AllByRecursion};
 ghost use Rattle.bean_parser.specs.Parsed.{IsParsed};
 ghost use Rattle.bean_parser.specs.declared.parse.Parsed.{Parsed};
-ghost use Rattle.bean_parser.specs.SmallPart.{IsShort};
-ghost use Rattle.bean_parser.specs.Small.{IsSmallDirective};
+ghost use Rattle.bean_directives.specs.SmallPart.{IsShort};
+ghost use Rattle.bean_directives.specs.Small.{IsSmallDirective};
 
 /// The directives of a text are small where it is no larger than a text may be.
 pub fn texts_say_what_is_small()

@@ -3,8 +3,8 @@ use Rattle.std.proofs.Common.{◌≡◌, ℕ, List, [], ◌∷◌, reverse, sym,
 use Rattle.bean_directives.specs.declared.directive.Directive.{Directive}
 use Rattle.bean_directives.specs.declared.directive.DirectiveKind.{DirectiveKind}
 use Rattle.bean_directives.specs.declared.directive.DirectiveKind.TheVariants as kind
-use Rattle.bean_load.specs.Loaded.{Loaded}
-use Rattle.bean_load.specs.declared.placed.Placed.{Placed}
+use Rattle.bean_loaded.specs.Loaded.{Loaded}
+use Rattle.bean_loaded.specs.declared.placed.Placed.{Placed}
 use Rattle.bean_reductions.specs.declared.reduction.Method.{Method}
 use Rattle.bean_transactions.proofs.OneTrial.{one_trial}
 use Rattle.bean_replay.specs.Booked.{bookings_of, faults_of, method_in_ledger}

@@ -11,7 +11,7 @@ use Rattle.bean_replay.specs.declared.booking.Written.{Written}
 use Rattle.bean_directives.specs.declared.directive.Directive.{Directive}
 use Rattle.bean_directives.specs.declared.directive.DirectiveKind.{DirectiveKind}
 use Rattle.bean_directives.specs.declared.directive.DirectiveKind.TheVariants as kind
-use Rattle.bean_load.specs.declared.placed.Placed.{Placed}
+use Rattle.bean_loaded.specs.declared.placed.Placed.{Placed}
 use Rattle.bean_reductions.specs.declared.reduction.Method.{Method}
 use Rattle.bean_pad.specs.Note.{difference, note_of, noted, noted_at, noted_of, noted_pads, waiting}
 use Rattle.bean_pad.specs.Note.{with_noted}
@@ -27,12 +27,12 @@ use Rattle.bean_holdings.specs.declared.posted.Posted.{Posted}
 use Rattle.bean_transactions.specs.declared.stop.LineFault.{LineFault}
 use Rattle.bean_replay.specs.Small.{IsSmallBooking, IsSmallDraft, IsSmallNote, IsSmallNoted}
 use Rattle.bean_replay.specs.Small.{IsSmallPad, IsSmallPosted}
-use Rattle.bean_parser.specs.SmallPart.{IsShortCurrency, IsShortEntry, most}
-use Rattle.bean_parser.specs.Small.{IsSmallKind, IsSmallTransaction, marks_of}
-use Rattle.bean_load.specs.Small.{IsSmall}
+use Rattle.bean_directives.specs.SmallPart.{IsShortCurrency, IsShortEntry, most}
+use Rattle.bean_directives.specs.Small.{IsSmallKind, IsSmallTransaction, marks_of}
+use Rattle.bean_loaded.specs.Limited.{IsSmall}
 use Rattle.bean_replay.proofs.SmallCompletedFacts.{kept_small}
 use Rattle.bean_replay.proofs.SmallListFacts.{all_flat, all_reversed}
-use Rattle.bean_parser.proofs.ShortFacts.{all_joined, all_pushed}
+use Rattle.theory.proofs.AllFacts.{all_joined, all_pushed}
 
 -- ---- pads
 

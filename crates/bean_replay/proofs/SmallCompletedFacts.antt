@@ -23,11 +23,11 @@ use Rattle.bean_transactions.specs.declared.line.Line.{Line}
 use Rattle.bean_transactions.specs.declared.line.Line.TheVariants as line
 use Rattle.bean_holdings.specs.declared.posted.Posted.{Posted}
 use Rattle.bean_replay.specs.Small.{IsSmallLot, IsSmallPosted}
-use Rattle.bean_parser.specs.SmallPart.{IsShort, IsShortCurrency, IsShortPrice, IsSmallPosting}
+use Rattle.bean_directives.specs.SmallPart.{IsShort, IsShortCurrency, IsShortPrice, IsSmallPosting}
 use Rattle.bean_replay.proofs.SmallLinedFacts.{AreSmallLines, IsSmallLine, lines_small}
 use Rattle.bean_replay.proofs.SmallListFacts.{all_at, all_filtered, all_flat, all_folded, all_mapped}
 use Rattle.bean_replay.proofs.SmallListFacts.{all_reversed, all_unmapped}
-use Rattle.bean_parser.proofs.ShortFacts.{all_joined, all_pushed}
+use Rattle.theory.proofs.AllFacts.{all_joined, all_pushed}
 
 -- ---- legs
 

@@ -25,9 +25,9 @@ use Rattle.bean_holdings.specs.declared.posted.Posted.{Posted}
 use Rattle.bean_transactions.specs.declared.setting.Head.{Head}
 use Rattle.bean_transactions.specs.declared.stop.LineFault.{LineFault}
 use Rattle.bean_replay.specs.Small.{IsSmallLot, IsSmallPosted}
-use Rattle.bean_parser.specs.SmallPart.{AreShortUnits, IsShort, IsShortCost, IsShortCurrency}
-use Rattle.bean_parser.specs.SmallPart.{IsSmallPosting}
-use Rattle.bean_parser.proofs.ShortFacts.{all_joined}
+use Rattle.bean_directives.specs.SmallPart.{AreShortUnits, IsShort, IsShortCost, IsShortCurrency}
+use Rattle.bean_directives.specs.SmallPart.{IsSmallPosting}
+use Rattle.theory.proofs.AllFacts.{all_joined}
 use Rattle.bean_replay.proofs.SmallTakenFacts.{ArePositions, IsSmallSigned, left_small, reduced_small}
 
 abbrev pub IsSmallLine : Line → Type 0

@@ -3,7 +3,7 @@ use Rattle.std.proofs.Common.{ℕ, zero, suc, Bool, true, false, cond, List, [],
 use Rattle.std.proofs.Common.{filter, fold, reverse, slice_get, IfSome, sym, subst}
 use Rattle.std.proofs.lemmas.List.{reverse-append}
 use Rattle.std.specs.List.{AllByRecursion, flat_map}
-use Rattle.bean_parser.proofs.ShortFacts.{all_joined, all_pushed}
+use Rattle.theory.proofs.AllFacts.{all_joined, all_pushed}
 
 pub all_mapped :
     {X Y : Type 0} (P : X → Type 0) (Q : Y → Type 0) (f : X → Y) → ((x : X) → P x → Q (f x))

@@ -27,8 +27,8 @@ use Rattle.bean_transactions.specs.declared.line.Line.{Line}
 use Rattle.bean_holdings.specs.declared.posted.Posted.{Posted}
 use Rattle.bean_replay.specs.Small.{IsSmallLot, IsSmallPosted}
 use Rattle.bean_replay.proofs.SmallListFacts.{all_filtered, all_folded, all_mapped}
-use Rattle.bean_load.proofs.SmallFacts.{in_order_all}
-use Rattle.bean_parser.proofs.ShortFacts.{all_joined}
+use Rattle.theory.proofs.AllFacts.{in_order_all}
+use Rattle.theory.proofs.AllFacts.{all_joined}
 
 -- what is held, by its lot
 abbrev pub IsSmallPosition : Position → Type 0

@@ -14,7 +14,7 @@ use Rattle.bean_directives.specs.declared.numbers.Balance as balances
 use Rattle.bean_directives.specs.declared.transaction.Transaction.{Transaction}
 use Rattle.bean_holdings.specs.declared.posted.Posted.{Posted}
 use Rattle.bean_interp.specs.declared.scales.Scales.{Scales}
-use Rattle.bean_load.specs.declared.placed.Placed.{Placed}
+use Rattle.bean_loaded.specs.declared.placed.Placed.{Placed}
 use Rattle.bean_reductions.specs.declared.reduction.Method.{Method}
 use Rattle.bean_transactions.specs.Lines.{IsSettled}
 use Rattle.bean_replay.specs.Booker.{HasRoom, IsBehind, IsStanding}

@@ -3,10 +3,10 @@ use Rattle.std.proofs.Common.{◌≡◌, ℕ, ◌+◌, ◌<◌, true, false, Lis
 use Rattle.std.proofs.Common.{get_or, refl, sym, subst, ◌∙◌, true≢false}
 use Rattle.std.specs.List.{AllByRecursion}
 use Rattle.bean_directives.specs.declared.directive.Directive.{Directive}
-use Rattle.bean_load.specs.declared.placed.Placed.{Placed}
+use Rattle.bean_loaded.specs.declared.placed.Placed.{Placed}
 use Rattle.bean_replay.specs.Watched.{IsWatched, is_watching}
 use Rattle.bean_replay.proofs.StepFacts.{taken_more}
-use Rattle.bean_parser.proofs.ShortFacts.{all_pushed}
+use Rattle.theory.proofs.AllFacts.{all_pushed}
 
 -- all directives, where postings are
 pub all_watched : (ds : List (Placed Directive)) → AllByRecursion (IsWatched true) ds

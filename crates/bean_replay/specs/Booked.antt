@@ -2,7 +2,7 @@
 use Rattle.std.specs.Prelude.{◌≡◌, ◌≤◌, ℕ, suc, List, [], ◌∷◌, ◌++◌, length, reverse}
 use Rattle.limits.specs.declared.counts.TheConstants.{MOST_POSTINGS}
 use Rattle.bean_base.specs.declared.fault.Fault.{Fault}
-use Rattle.bean_load.specs.Loaded.{Loaded}
+use Rattle.bean_loaded.specs.Loaded.{Loaded}
 use Rattle.bean_reductions.specs.declared.reduction.Method as methods
 use Rattle.bean_pad.specs.Note.{noted_pads}
 use Rattle.bean_pad.specs.Padded.{faults_with}

@@ -10,8 +10,8 @@ use Rattle.bean_base.specs.declared.fault.FaultKind.TheVariants.{UnknownMethod}
 use Rattle.bean_directives.specs.declared.directive.Directive.{Directive}
 use Rattle.bean_directives.specs.declared.directive.DirectiveKind.{DirectiveKind}
 use Rattle.bean_directives.specs.declared.directive.DirectiveKind.TheVariants as kind
-use Rattle.bean_load.specs.declared.loaded.MethodLine.{MethodLine}
-use Rattle.bean_load.specs.declared.placed.Placed.{Placed}
+use Rattle.bean_loaded.specs.declared.loaded.MethodLine.{MethodLine}
+use Rattle.bean_loaded.specs.declared.placed.Placed.{Placed}
 use Rattle.bean_reductions.specs.declared.reduction.Method as methods
 use Rattle.bean_reductions.specs.declared.reduction.Method.TheVariants.{Strict}
 

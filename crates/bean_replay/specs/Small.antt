@@ -14,8 +14,8 @@ use Rattle.bean_replay.specs.declared.booking.Booking.TheVariants as booking
 use Rattle.bean_replay.specs.declared.booking.Draft.{Draft}
 use Rattle.bean_replay.specs.declared.booking.Draft.TheVariants as draft
 use Rattle.bean_replay.specs.declared.booking.Kept.{Kept}
-use Rattle.bean_parser.specs.Small.{IsSmallTransaction}
-use Rattle.bean_parser.specs.SmallPart.{most, IsShort, IsShortCurrency, IsShortEntry}
+use Rattle.bean_directives.specs.Small.{IsSmallTransaction}
+use Rattle.bean_directives.specs.SmallPart.{most, IsShort, IsShortCurrency, IsShortEntry}
 
 -- the currency of a lot's cost, and its label
 abbrev pub IsSmallLot : Lot → Type 0

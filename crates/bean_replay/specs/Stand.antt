@@ -16,7 +16,7 @@ use Rattle.bean_directives.specs.declared.directive.DirectiveKind.{DirectiveKind
 use Rattle.bean_directives.specs.declared.directive.DirectiveKind.TheVariants as kind
 use Rattle.bean_directives.specs.declared.transaction.Transaction.{Transaction}
 use Rattle.bean_interp.specs.Balance.{is_balanced}
-use Rattle.bean_load.specs.declared.placed.Placed.{Placed}
+use Rattle.bean_loaded.specs.declared.placed.Placed.{Placed}
 use Rattle.bean_lots.specs.Inventory.{has_lot}
 use Rattle.bean_reductions.specs.declared.reduction.Method.{Method}
 use Rattle.bean_pad.specs.declared.step.Step.{Step}

@@ -3,7 +3,7 @@ use Rattle.std.specs.Prelude.{◌≡◌, Bool, true, false, List, []}
 use Rattle.bean_directives.specs.declared.directive.Directive.{Directive}
 use Rattle.bean_directives.specs.declared.directive.DirectiveKind.{DirectiveKind}
 use Rattle.bean_directives.specs.declared.directive.DirectiveKind.TheVariants as kind
-use Rattle.bean_load.specs.declared.placed.Placed.{Placed}
+use Rattle.bean_loaded.specs.declared.placed.Placed.{Placed}
 use Rattle.bean_pad.specs.declared.step.Step.{Step}
 use Rattle.bean_holdings.specs.declared.posted.Posted.{Posted}
 use Rattle.bean_replay.specs.Stand.{steps_of_postings}

@@ -3,8 +3,8 @@ ghost use Rattle.std.specs.Prelude.{◌≡◌, List, reverse, ℕ};
 ghost use Rattle.bean_replay.specs.Booked.{bookings_of, faults_of, method_in_ledger};
 ghost use Rattle.bean_replay.specs.Stand.{LeadsTo, Stand};
 ghost use Rattle.bean_directives.specs.declared.directive.Directive.{Directive};
-ghost use Rattle.bean_load.specs.Loaded.{Loaded};
-ghost use Rattle.bean_load.specs.declared.placed.Placed.{Placed};
+ghost use Rattle.bean_loaded.specs.Loaded.{Loaded};
+ghost use Rattle.bean_loaded.specs.declared.placed.Placed.{Placed};
 ghost use Rattle.bean_reductions.specs.declared.reduction.Method.{Method};
 
 /// A loaded ledger is booked in one way: the directives lead to one stand, which has what is booked,

@@ -5,8 +5,8 @@ ghost use Rattle.bean_transactions.specs.Methods.{method_in};
 
 use bean_accounts::method_named;
 use bean_base::{Apart, Fault, FaultKind, Text};
-use bean_load::{MethodLine, Placed};
-use bean_parser::{Directive, DirectiveKind};
+use bean_directives::{Directive, DirectiveKind};
+use bean_loaded::{MethodLine, Placed};
 use bean_reductions::Method;
 use bean_transactions::Methods;
 use std::alloc::{AllocError, Global};

@@ -10,10 +10,10 @@ ghost use Rattle.std.specs.List.{AllByRecursion};
 ghost use Rattle.bean_replay.specs.Booked.{bookings_of};
 ghost use Rattle.bean_replay.specs.Stand.{LeadsTo, Stand};
 ghost use Rattle.bean_directives.specs.declared.directive.Directive.{Directive};
-ghost use Rattle.bean_load.specs.declared.placed.Placed.{Placed};
+ghost use Rattle.bean_loaded.specs.declared.placed.Placed.{Placed};
 ghost use Rattle.bean_reductions.specs.declared.reduction.Method.{Method};
 ghost use Rattle.bean_replay.specs.Small.{IsSmallBooking};
-ghost use Rattle.bean_load.specs.Small.{IsSmall};
+ghost use Rattle.bean_loaded.specs.Limited.{IsSmall};
 
 /// What is booked of small directives is small.
 pub fn booked_ledgers_are_small()

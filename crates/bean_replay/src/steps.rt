@@ -8,10 +8,10 @@ ghost use Rattle.bean_pad.specs.Following.{Follows, IsBounded, steps_in};
 ghost use Rattle.bean_pad.specs.declared.step.Step.{Step};
 
 use bean_base::Apart;
+use bean_directives::{Directive, DirectiveKind};
 use bean_holdings::Posted;
-use bean_load::Placed;
+use bean_loaded::Placed;
 use bean_pad::Padder;
-use bean_parser::{Directive, DirectiveKind};
 use std::alloc::AllocError;
 
 /// Whether a directive sees the postings that are booked before it.

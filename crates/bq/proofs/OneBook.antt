@@ -14,7 +14,8 @@ use Rattle.bean_replay.specs.declared.cause.BookCause.{BookCause}
 use Rattle.bean_replay.specs.declared.cause.BookCause.TheVariants.{TooManyPostings}
 use Rattle.refusals.specs.declared.refusal.Refusal.{Refusal}
 use Rattle.refusals.specs.declared.refusal.Refusal.TheVariants.{OutOfMemory, Refused}
-use Rattle.bean_load.specs.Loaded.{IsLoaded, Loaded}
+use Rattle.bean_load.specs.Loaded.{IsLoaded}
+use Rattle.bean_loaded.specs.Loaded.{Loaded}
 use Rattle.bean_load.specs.Texts.{Texts}
 use Rattle.bean_load.proofs.OneLoading.{one_loading}
 use Rattle.limits.specs.declared.counts.TheConstants.{MOST_POSTINGS}

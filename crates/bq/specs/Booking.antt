@@ -7,7 +7,8 @@ use Rattle.bean_replay.specs.declared.cause.BookCause.{BookCause}
 use Rattle.bean_replay.specs.declared.cause.BookCause.TheVariants.{TooManyPostings}
 use Rattle.refusals.specs.declared.refusal.Refusal.{Refusal}
 use Rattle.refusals.specs.declared.refusal.Refusal.TheVariants.{OutOfMemory, Refused}
-use Rattle.bean_load.specs.Loaded.{IsLoaded, Loaded}
+use Rattle.bean_load.specs.Loaded.{IsLoaded}
+use Rattle.bean_loaded.specs.Loaded.{Loaded}
 use Rattle.bean_load.specs.Texts.{Texts}
 
 -- what the texts say together is booked as this

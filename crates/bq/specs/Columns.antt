@@ -1,7 +1,7 @@
 -- The columns that `list` shows.
 use Rattle.std.specs.Prelude.{ℕ, zero, suc, List, [], ◌∷◌}
-use Rattle.query_rows.specs.declared.column.Column.{Column}
-use Rattle.query_rows.specs.declared.column.Column.TheVariants.{Date, Flag, Account, Position}
+use Rattle.query_terms.specs.declared.column.Column.{Column}
+use Rattle.query_terms.specs.declared.column.Column.TheVariants.{Date, Flag, Account, Position}
 
 -- the column of that number, from 0
 abbrev pub column_at : ℕ → Column

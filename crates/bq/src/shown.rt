@@ -7,7 +7,7 @@ ghost use Rattle.query_values.specs.declared.value.Value.TheVariants as value;
 ghost use Rattle.table_printer.specs.CellText.{row_at};
 
 use posting_table::{EntryFlag, Ledger};
-use query_rows::Column;
+use query_terms::Column;
 use table_printer::{Cell, Rows};
 
 /// Date, flag, account and position of each posting, made from what the ledger lends.

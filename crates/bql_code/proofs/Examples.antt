@@ -6,7 +6,7 @@ use Rattle.query_code.specs.declared.instruction.Push.TheVariants as push
 use Rattle.query_code.specs.declared.instruction.Unary.TheVariants as unary
 use Rattle.query_code.specs.declared.program.Constant.{Constant}
 use Rattle.query_code.specs.declared.program.Constant.TheVariants as constants
-use Rattle.query_rows.specs.declared.column.Column.TheVariants as columns
+use Rattle.query_terms.specs.declared.column.Column.TheVariants as columns
 use Rattle.query_values.specs.declared.operation.Binary.TheVariants as operations
 use Rattle.bql_code.specs.Code.{code, all_code, depth, all_depth}
 use Rattle.bql_code.specs.Core.{Core, constant, column, loading, changing, joining, both}

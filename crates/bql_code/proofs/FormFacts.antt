@@ -24,8 +24,8 @@ use Rattle.query_code.specs.TextForm.{text}
 use Rattle.query_code.specs.declared.program.Constant.{Constant}
 use Rattle.query_code.specs.declared.program.Constant.TheVariants as constants
 use Rattle.query_code.specs.declared.program.Numbers.{Numbers}
-use Rattle.query_values.proofs.WideFacts as wide
-use Rattle.query_values.specs.declared.decimal.Decimal.{Decimal}
+use Rattle.query_terms.proofs.WideFacts as wide
+use Rattle.query_terms.specs.declared.decimal.Decimal.{Decimal}
 use Rattle.bql_code.specs.Kept.{constants_of}
 use Rattle.bql_code.specs.Literals.{constant_of, text_of}
 use Rattle.bql_code.specs.declared.entry.Entry.{Entry}

@@ -12,7 +12,7 @@ use Rattle.query_code.specs.declared.instruction.Unary as unaries
 use Rattle.query_code.specs.declared.instruction.Unary.TheVariants as unary
 use Rattle.query_code.specs.declared.program.Constant.{Constant}
 use Rattle.query_code.specs.declared.program.Constant.TheVariants as constants
-use Rattle.query_rows.specs.Column.{number}
+use Rattle.query_terms.specs.Column.{number}
 use Rattle.bql_code.specs.Core.{Load, truth, constant, column, entry, key, aggregate, Change}
 use Rattle.bql_code.specs.Core.{plainly, matching, some_matching, among, Core, loading, changing}
 use Rattle.bql_code.specs.Core.{joining, both, either}

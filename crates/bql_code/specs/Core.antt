@@ -4,7 +4,7 @@ use Rattle.std.specs.Prelude.{ℕ, Bool, List}
 use Rattle.bql_tree.specs.declared.tree.MetadataOwner.{MetadataOwner}
 use Rattle.query_code.specs.declared.instruction.Unary.{Unary}
 use Rattle.query_code.specs.declared.program.Constant.{Constant}
-use Rattle.query_rows.specs.declared.column.Column.{Column}
+use Rattle.query_terms.specs.declared.column.Column.{Column}
 use Rattle.query_values.specs.declared.operation.Binary.{Binary}
 
 -- a truth value, a constant, a cell, a text of metadata under a key; behind the last row a key or

@@ -4,7 +4,7 @@ use crate::entry::Entry;
 use crate::literal::ShortText;
 use bql_tree::MetadataOwner;
 use query_code::Unary;
-use query_rows::Column;
+use query_terms::Column;
 use query_values::Binary;
 
 /// What puts a value on the stack.

@@ -9,7 +9,7 @@ ghost use Rattle.bql_code.specs.Literals.{constant_of, text_of};
 use crate::literal::{Literal, ShortText};
 use bean_base::{Day, List};
 use query_code::Numbers;
-use query_values::Decimal;
+use query_terms::Decimal;
 
 /// A constant that a file can hold: a list has from 1 to 65,535 members.
 #[derive(Drop)]

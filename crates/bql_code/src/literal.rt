@@ -5,7 +5,7 @@ ghost use Rattle.query_code.specs.TextForm as text_form;
 
 use bean_base::{Day, List, Slice};
 use query_code::Numbers;
-use query_values::Decimal;
+use query_terms::Decimal;
 
 /// A text that a file can hold: one of at most 65,535 bytes.
 #[derive(Drop)]

@@ -20,7 +20,7 @@ use Rattle.query_rows.specs.Rules.{is_like}
 use Rattle.query_rows.specs.declared.shape.Shape.{Shape}
 use Rattle.query_rows.specs.declared.shape.Shape.TheVariants as shape
 use Rattle.query_values.specs.Choice.{text_choice, number_choice, day_choice}
-use Rattle.query_values.specs.declared.decimal.Decimal.{Decimal}
+use Rattle.query_terms.specs.declared.decimal.Decimal.{Decimal}
 use Rattle.query_values.specs.declared.value.Value.{Value}
 use Rattle.well_shaped.specs.Sections.{shape_at, shape_in}
 

@@ -36,11 +36,11 @@ use Rattle.query_code.specs.declared.instruction.Unary.TheVariants as machines
 use Rattle.query_code.specs.declared.program.Constant.{Constant}
 use Rattle.query_code.specs.declared.program.Constant.TheVariants as constants
 use Rattle.query_rows.proofs.BoundFacts.{column_is_held}
-use Rattle.query_rows.proofs.NumberFacts.{has_number}
-use Rattle.query_rows.specs.Column.{number}
+use Rattle.query_terms.proofs.NumberFacts.{has_number}
+use Rattle.query_terms.specs.Column.{number}
 use Rattle.query_rows.specs.ColumnShape.{AreBounds, column_shape}
-use Rattle.query_rows.specs.declared.column.Column.{Column}
-use Rattle.query_rows.specs.declared.column.Column.TheVariants.{Accounts}
+use Rattle.query_terms.specs.declared.column.Column.{Column}
+use Rattle.query_terms.specs.declared.column.Column.TheVariants.{Accounts}
 use Rattle.query_rows.specs.Rules as machine
 use Rattle.query_rows.specs.Rules.{Ruled}
 use Rattle.query_rows.specs.Shape.{fitting, is_held}
@@ -48,7 +48,7 @@ use Rattle.query_rows.specs.declared.shape.Misfit.TheVariants.{Kind, TooWide}
 use Rattle.query_rows.specs.declared.shape.Shape.{Shape}
 use Rattle.query_rows.specs.declared.shape.Shape.TheVariants as shape
 use Rattle.query_values.specs.Unary as operation
-use Rattle.query_values.specs.declared.decimal.Decimal.{Decimal}
+use Rattle.query_terms.specs.declared.decimal.Decimal.{Decimal}
 use Rattle.query_values.specs.declared.operation.Binary as two
 use Rattle.query_values.specs.declared.operation.Binary.TheVariants as operations
 use Rattle.well_shaped.specs.Sections.{Loads, given, push_of, shape_at, shape_of as column_in}

@@ -32,10 +32,10 @@ use Rattle.query_code.specs.declared.instruction.Push.TheVariants as push
 use Rattle.query_code.specs.declared.instruction.Unary.TheVariants as machine
 use Rattle.query_code.specs.declared.program.Constant.{Constant}
 use Rattle.query_code.specs.declared.program.Constant.TheVariants as constants
-use Rattle.query_rows.proofs.NumberFacts.{has_number}
-use Rattle.query_rows.specs.Column.{if_in, is_in, number}
-use Rattle.query_rows.specs.declared.column.Column.{Column}
-use Rattle.query_rows.specs.declared.column.Column.TheVariants.{Accounts}
+use Rattle.query_terms.proofs.NumberFacts.{has_number}
+use Rattle.query_terms.specs.Column.{if_in, is_in, number}
+use Rattle.query_terms.specs.declared.column.Column.{Column}
+use Rattle.query_terms.specs.declared.column.Column.TheVariants.{Accounts}
 use Rattle.query_rows.specs.declared.shape.Shape.{Shape}
 use Rattle.query_values.specs.Equality.{same}
 use Rattle.query_values.specs.Held.{checked}

@@ -33,7 +33,7 @@ use Rattle.query_rows.specs.declared.shape.Misfit.TheVariants.{Kind, TooWide}
 use Rattle.query_rows.specs.declared.shape.Shape.{Shape}
 use Rattle.query_rows.specs.declared.shape.Shape.TheVariants as shape
 use Rattle.query_values.specs.Unary as operation
-use Rattle.query_values.specs.declared.decimal.Decimal.{Decimal}
+use Rattle.query_terms.specs.declared.decimal.Decimal.{Decimal}
 use Rattle.well_shaped.specs.Sections.{Loads, given}
 use Rattle.bql_compiler.proofs.ConstantFacts.{HasMembersAt, days_at, none_at, numbers_at}
 use Rattle.bql_compiler.proofs.ConstantFacts.{texts_at}

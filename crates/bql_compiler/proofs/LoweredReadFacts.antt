@@ -24,10 +24,10 @@ use Rattle.bql_types.specs.Sought.{is_aggregate, is_balance, is_told, misplaced,
 use Rattle.bql_types.specs.Sought.{ungrouped}
 use Rattle.bql_types.specs.declared.cause.TypeCause.{TypeCause}
 use Rattle.bql_types.specs.declared.cause.TypeCauseKind.TheVariants as kind
-use Rattle.query_rows.specs.Column.{is_in}
+use Rattle.query_terms.specs.Column.{is_in}
 use Rattle.query_rows.specs.ColumnShape.{column_shape}
-use Rattle.query_rows.specs.declared.column.Column.{Column}
-use Rattle.query_rows.specs.declared.column.Column.TheVariants as column
+use Rattle.query_terms.specs.declared.column.Column.{Column}
+use Rattle.query_terms.specs.declared.column.Column.TheVariants as column
 use Rattle.query_rows.specs.declared.shape.Misfit.TheVariants.{Kind}
 use Rattle.query_rows.specs.declared.shape.Shape.{Shape}
 use Rattle.query_rows.specs.declared.shape.Shape.TheVariants.{Text}

@@ -17,7 +17,7 @@ use Rattle.query_code.specs.declared.program.Constant.{Constant}
 use Rattle.query_code.specs.declared.program.Constant.TheVariants as constants
 use Rattle.query_code.specs.declared.program.Numbers.{Numbers}
 use Rattle.query_values.specs.Choice.{same_day}
-use Rattle.query_values.specs.declared.decimal.Decimal.{Decimal}
+use Rattle.query_terms.specs.declared.decimal.Decimal.{Decimal}
 
 -- ---- equal constants are one
 

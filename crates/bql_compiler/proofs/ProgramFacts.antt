@@ -37,7 +37,7 @@ use Rattle.query_code.specs.declared.program.Constant.{Constant}
 use Rattle.query_code.specs.declared.program.Mode.TheVariants.{Plain, Grouped}
 use Rattle.query_code.specs.declared.program.Parts.{Parts}
 use Rattle.query_rows.specs.ColumnShape.{AreBounds, column_shape}
-use Rattle.query_rows.specs.declared.column.Column.TheVariants.{Balance}
+use Rattle.query_terms.specs.declared.column.Column.TheVariants.{Balance}
 use Rattle.query_rows.specs.declared.shape.Shape.{Shape}
 use Rattle.query_rows.specs.declared.shape.Shape.TheVariants.{Truth}
 use Rattle.well_shaped.specs.Ends.{gathered}

@@ -17,8 +17,8 @@ use Rattle.bql_types.specs.Sought.{is_key}
 use Rattle.bql_compiler.specs.Reads.{IsOrNone, Reads}
 use Rattle.plain_machine.specs.Loading.{Loads, cell_in}
 use Rattle.plain_machine.specs.PlainMachine.{last_loads}
-use Rattle.query_rows.specs.declared.column.Column.{Column}
-use Rattle.query_rows.specs.declared.column.Column.TheVariants as column
+use Rattle.query_terms.specs.declared.column.Column.{Column}
+use Rattle.query_terms.specs.declared.column.Column.TheVariants as column
 use Rattle.query_rows.specs.Row.{Row}
 use Rattle.query_values.specs.declared.value.Value.{Value}
 use Rattle.bql_compiler.proofs.CarriedListFacts.{no_value, some_is}

@@ -21,7 +21,7 @@ use Rattle.query_code.specs.QueryFile.{is_grouped}
 use Rattle.query_code.specs.declared.program.Mode.TheVariants.{Plain, Grouped}
 use Rattle.query_code.specs.declared.program.Output.{Output}
 use Rattle.query_code.specs.declared.program.Parts.{Parts}
-use Rattle.query_rows.specs.declared.column.Column.TheVariants.{Position}
+use Rattle.query_terms.specs.declared.column.Column.TheVariants.{Position}
 use Rattle.query_rows.specs.Row.{Row}
 use Rattle.query_values.proofs.AggregateFacts.{gathered_more}
 use Rattle.query_values.specs.Aggregate.{aggregate_of, may_take, with_more}

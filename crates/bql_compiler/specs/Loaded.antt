@@ -11,7 +11,7 @@ use Rattle.bql_types.specs.Sought.{is_aggregate}
 use Rattle.query_code.specs.declared.instruction.Push.TheVariants.{LoadAggregate, LoadKey}
 use Rattle.query_code.specs.declared.program.Constant.{Constant}
 use Rattle.query_rows.specs.ColumnShape.{column_shape}
-use Rattle.query_rows.specs.declared.column.Column.TheVariants.{Accounts}
+use Rattle.query_terms.specs.declared.column.Column.TheVariants.{Accounts}
 use Rattle.query_rows.specs.declared.shape.Shape.{Shape}
 use Rattle.query_rows.specs.declared.shape.Shape.TheVariants.{Text}
 use Rattle.well_shaped.specs.Sections.{Loads, push_of, shape_of as column_in, text_at}

@@ -14,7 +14,7 @@ use Rattle.bql_types.specs.Sought.{balances, misplaced, ungrouped}
 use Rattle.bql_compiler.specs.CoreShape.{HasShape}
 use Rattle.query_code.specs.declared.program.Constant.{Constant}
 use Rattle.query_rows.specs.ColumnShape.{AreBounds, column_shape}
-use Rattle.query_rows.specs.declared.column.Column.TheVariants.{Balance}
+use Rattle.query_terms.specs.declared.column.Column.TheVariants.{Balance}
 use Rattle.query_rows.specs.declared.shape.Shape.{Shape}
 use Rattle.well_shaped.specs.Sections.{Loads}
 use Rattle.bql_compiler.specs.Loaded.{AreGathered, IsLoaded}

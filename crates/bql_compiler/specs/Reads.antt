@@ -8,7 +8,7 @@ use Rattle.bql_plan.specs.Plan.{index_of}
 use Rattle.bql_tree.specs.Tree.{Tree}
 use Rattle.bql_tree.specs.declared.tree.MetadataOwner.{MetadataOwner}
 use Rattle.plain_machine.specs.Loading.{Loads, cell_in}
-use Rattle.query_rows.specs.declared.column.Column.{Column}
+use Rattle.query_terms.specs.declared.column.Column.{Column}
 use Rattle.query_values.specs.declared.value.Value.{Value}
 
 -- it is this value, or there is none

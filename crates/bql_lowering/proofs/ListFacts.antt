@@ -25,7 +25,7 @@ use Rattle.query_code.specs.QueryFile.{is_count}
 use Rattle.query_rows.specs.declared.shape.Misfit.TheVariants as misfit
 use Rattle.query_rows.specs.declared.shape.Shape.{Shape}
 use Rattle.query_rows.specs.declared.shape.Shape.TheVariants as shape
-use Rattle.query_values.specs.declared.decimal.Decimal.{Decimal}
+use Rattle.query_terms.specs.declared.decimal.Decimal.{Decimal}
 use Rattle.bql_lowering.specs.Listed.{HasShape, IsHeldWith, AreHeldWith, IsKind, IsListed}
 use Rattle.bql_lowering.specs.Kind.{first_kind, first_leaf}
 use Rattle.bql_lowering.specs.Lowered.{count_in, day_in, each_in, list_places, most_places}

@@ -25,7 +25,7 @@ use Rattle.query_code.specs.declared.instruction.Unary as machine
 use Rattle.query_code.specs.declared.instruction.Unary.TheVariants as operation
 use Rattle.query_code.specs.declared.program.Constant.{Constant}
 use Rattle.query_code.specs.declared.program.Constant.TheVariants as constants
-use Rattle.query_rows.specs.declared.column.Column.TheVariants as columns
+use Rattle.query_terms.specs.declared.column.Column.TheVariants as columns
 use Rattle.query_rows.specs.declared.shape.Shape.{Shape}
 use Rattle.query_rows.specs.declared.shape.Shape.TheVariants.{Number}
 use Rattle.query_values.specs.declared.operation.Binary as two

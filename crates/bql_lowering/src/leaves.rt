@@ -11,7 +11,7 @@ ghost use Rattle.limits.specs.declared.counts.TheConstants.{LARGEST_QUERY};
 use bean_base::Slice;
 use bql_code::{Change, Core, Entry, Load, ShortText};
 use bql_tree::Leaf;
-use query_rows::Column;
+use query_terms::Column;
 use std::alloc::{AllocError, Global};
 
 fn constant<'a>(entry: Entry<'a>) -> Core<'a>

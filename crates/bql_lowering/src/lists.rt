@@ -20,7 +20,7 @@ use bean_base::{Day, List, power_of_ten};
 use bql_code::{Change, Core, Entry, ShortText};
 use bql_tree::{Expr, Leaf};
 use query_code::Numbers;
-use query_values::Decimal;
+use query_terms::Decimal;
 use std::alloc::{AllocError, Global};
 
 /// The greater count of decimals, of a member that is a number.

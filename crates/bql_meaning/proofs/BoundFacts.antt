@@ -18,11 +18,11 @@ use Rattle.bql_tree.specs.declared.tree.Leaf.{Leaf}
 use Rattle.bql_tree.specs.declared.tree.Leaf.TheVariants as leaf
 use Rattle.bql_tree.specs.declared.tree.UnaryOperator.{UnaryOperator}
 use Rattle.bql_tree.specs.declared.tree.UnaryOperator.TheVariants as unary
-use Rattle.query_rows.proofs.NumberFacts.{second_has_all}
-use Rattle.query_rows.specs.Column.{is_in}
+use Rattle.query_terms.proofs.NumberFacts.{second_has_all}
+use Rattle.query_terms.specs.Column.{is_in}
 use Rattle.query_rows.specs.ColumnShape.{column_shape}
-use Rattle.query_rows.specs.declared.column.Column.{Column}
-use Rattle.query_rows.specs.declared.column.Column.TheVariants as column
+use Rattle.query_terms.specs.declared.column.Column.{Column}
+use Rattle.query_terms.specs.declared.column.Column.TheVariants as column
 use Rattle.query_rows.proofs.GatheringFacts.{gathers_rise}
 use Rattle.query_rows.proofs.RisingFacts.{unary_rises, binary_rises}
 use Rattle.query_rows.proofs.OrderFacts.{reflexive, OfPairs, below_cases}

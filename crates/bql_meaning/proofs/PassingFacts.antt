@@ -9,7 +9,7 @@ use Rattle.bql_tree.specs.Tree.{Tree}
 use Rattle.query_rows.specs.Row.{Row}
 use Rattle.query_rows.proofs.BoundFacts.{column_is_held}
 use Rattle.query_rows.specs.ColumnShape.{AreBounds, column_shape}
-use Rattle.query_rows.specs.declared.column.Column.TheVariants as column
+use Rattle.query_terms.specs.declared.column.Column.TheVariants as column
 use Rattle.query_rows.proofs.GatheringFacts.{on_values}
 use Rattle.query_rows.specs.Keeping.{AllIn}
 use Rattle.query_rows.specs.Rules.{aggregate_shape}

@@ -25,9 +25,9 @@ use Rattle.bql_types.specs.Same.{same_truth}
 use Rattle.bql_types.specs.Shaped.{shape_of, shapes_of, ruled, given, beside, operand, is_null}
 use Rattle.bql_types.specs.Shaped.{is_equation}
 use Rattle.bql_types.specs.Sought.{is_aggregate}
-use Rattle.query_rows.specs.contracts.column.Column as columns
+use Rattle.query_terms.specs.contracts.column.Column as columns
 use Rattle.query_values.specs.Aggregate.{aggregate_of}
-use Rattle.query_values.specs.declared.decimal.Decimal.{Decimal}
+use Rattle.query_terms.specs.declared.decimal.Decimal.{Decimal}
 use Rattle.bql_meaning.specs.Bare.{bare, all_bare}
 use Rattle.bql_meaning.specs.Meaning.{value_of, values_of, applied, input_of}
 use Rattle.bql_types.specs.Gathered.{aggregate_by}

@@ -20,10 +20,10 @@ use Rattle.bql_tree.specs.declared.tree.Leaf.TheVariants as leaf
 use Rattle.bql_types.specs.Shaped.{shape_of, shapes_of, ruled, given, rule, is_equation, beside}
 use Rattle.bql_types.specs.Shaped.{operand, is_equality, beside_null}
 use Rattle.bql_types.specs.Sought.{is_aggregate, is_aggregate_function}
-use Rattle.query_rows.specs.Column.{is_in}
+use Rattle.query_terms.specs.Column.{is_in}
 use Rattle.query_rows.specs.ColumnShape.{column_shape}
-use Rattle.query_rows.specs.declared.column.Column.{Column}
-use Rattle.query_rows.specs.declared.column.Column.TheVariants as column
+use Rattle.query_terms.specs.declared.column.Column.{Column}
+use Rattle.query_terms.specs.declared.column.Column.TheVariants as column
 use Rattle.query_rows.proofs.ShapedFacts.{texts_lie}
 use Rattle.query_rows.specs.Row.{Row}
 use Rattle.query_rows.specs.Shaped.{IsShaped}

@@ -9,7 +9,7 @@ use Rattle.bql_types.specs.Typing.{Grouping, grouping_of}
 use Rattle.query_rows.specs.FinalRows.{Ranked, Finish, IsFinal}
 use Rattle.query_rows.specs.Grouping.{groups_of}
 use Rattle.query_rows.specs.Row.{Row}
-use Rattle.query_rows.specs.declared.column.Column.TheVariants as column
+use Rattle.query_terms.specs.declared.column.Column.TheVariants as column
 use Rattle.query_values.specs.Aggregate.{aggregate_of}
 use Rattle.query_values.specs.Operation.{is_true}
 use Rattle.query_values.specs.declared.operation.Aggregate.TheVariants.{SumInventory}

@@ -16,7 +16,7 @@ use Rattle.bql_tree.specs.declared.tree.UnaryOperator.TheVariants as unary
 use Rattle.bql_types.specs.Gathered.{aggregate_by}
 use Rattle.bql_types.specs.Shaped.{shapes_of}
 use Rattle.bql_types.specs.Sought.{is_aggregate}
-use Rattle.query_rows.specs.declared.column.Column.TheVariants as column
+use Rattle.query_terms.specs.declared.column.Column.TheVariants as column
 use Rattle.query_values.specs.Aggregate.{aggregate_of}
 use Rattle.query_values.specs.Operation.{is_true, unary_value, binary_value}
 use Rattle.query_values.specs.Unary as operation

@@ -3,8 +3,8 @@ use Rattle.std.specs.Prelude.{ℕ, List, [], ◌∷◌}
 use Rattle.bql_tree.specs.declared.tree.MetadataOwner as entry
 use Rattle.bql_tree.specs.declared.tree.MetadataOwner.TheVariants.{Posting, Transaction, Any}
 use Rattle.query_rows.specs.Row.{Row, posting_text, transaction_text, any_text}
-use Rattle.query_rows.specs.declared.column.Column.{Column}
-use Rattle.query_rows.specs.declared.column.Column.TheVariants as column
+use Rattle.query_terms.specs.declared.column.Column.{Column}
+use Rattle.query_terms.specs.declared.column.Column.TheVariants as column
 use Rattle.query_values.specs.declared.value.Value.{Value}
 use Rattle.query_values.specs.declared.value.Value.TheVariants.{Null}
 

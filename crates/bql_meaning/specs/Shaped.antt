@@ -9,7 +9,7 @@ use Rattle.bql_types.specs.Shaped.{shape_of}
 use Rattle.query_rows.specs.Row.{Row}
 use Rattle.query_rows.specs.Shaped.{IsShaped}
 use Rattle.query_rows.specs.ColumnShape.{AreBounds, column_shape}
-use Rattle.query_rows.specs.declared.column.Column.TheVariants.{Balance}
+use Rattle.query_terms.specs.declared.column.Column.TheVariants.{Balance}
 use Rattle.query_rows.specs.Shape.{LiesIn, IsShort}
 use Rattle.query_rows.specs.declared.shape.Shape.{Shape}
 use Rattle.bql_meaning.specs.Answer.{passing}

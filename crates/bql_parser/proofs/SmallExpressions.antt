@@ -8,7 +8,7 @@ use Rattle.theory.specs.Form.{Form, made}
 use Rattle.bean_base.specs.CalendarDay as calendar
 use Rattle.bean_base.specs.Day.{is_day_form, year_of, month_of, day_of}
 use Rattle.bean_base.specs.declared.days.Day.{Day}
-use Rattle.query_values.specs.declared.decimal.Decimal.{Decimal}
+use Rattle.query_terms.specs.declared.decimal.Decimal.{Decimal}
 use Rattle.bql_lexer.specs.declared.kind.Kind.{Kind}
 use Rattle.bql_lexer.specs.declared.kind.Kind.TheVariants as kind
 use Rattle.bql_lexer.specs.declared.token.Token.{Token}

@@ -17,8 +17,8 @@ use Rattle.bql_tree.specs.Tree.{Tree}
 use Rattle.bql_tree.specs.declared.cause.PartCause.{PartCause}
 use Rattle.bql_tree.specs.declared.part.Alone.{Alone}
 use Rattle.bql_tree.specs.declared.part.Alone.TheVariants.{No, Name, Number}
-use Rattle.query_rows.specs.declared.column.Column.{Column}
-use Rattle.query_rows.specs.declared.column.Column.TheVariants as column
+use Rattle.query_terms.specs.declared.column.Column.{Column}
+use Rattle.query_terms.specs.declared.column.Column.TheVariants as column
 use Rattle.bql_parser.specs.Asked.{Asked, Target, Item, ItemKind, target_item, tree_item}
 use Rattle.bql_grammar.specs.Clause as clause
 use Rattle.bql_grammar.specs.Clause.{selecting, journaling, balancing}

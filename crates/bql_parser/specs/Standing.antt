@@ -5,10 +5,10 @@ use Rattle.bql_parser.specs.Asked.{Asked, Target, Item, ItemKind, target_item, t
 use Rattle.bql_grammar.specs.Clause as clause
 use Rattle.bql_parser.specs.declared.standing.Valuation.{Valuation}
 use Rattle.bql_parser.specs.declared.standing.Valuation.TheVariants as valuation
-use Rattle.query_rows.specs.Column.{name}
+use Rattle.query_terms.specs.Column.{name}
 use Rattle.bql_tree.specs.Tree.{leaf_of, one_of, call_of, Tree, node, no_trees, trees}
-use Rattle.query_rows.specs.declared.column.Column.{Column}
-use Rattle.query_rows.specs.declared.column.Column.TheVariants as column
+use Rattle.query_terms.specs.declared.column.Column.{Column}
+use Rattle.query_terms.specs.declared.column.Column.TheVariants as column
 use Rattle.bql_tree.specs.declared.function.Function.{Function}
 use Rattle.bql_tree.specs.declared.function.Function.TheVariants as function
 use Rattle.bql_tree.specs.declared.tree.Leaf.TheVariants as leaf

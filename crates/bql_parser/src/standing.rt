@@ -2,7 +2,7 @@
 ghost use Rattle.std.specs.Prelude.{◌≡◌, ◌++◌, ◌∷◌, [], IfOk};
 ghost use Rattle.bql_parser.specs.Standing as rule;
 ghost use Rattle.bql_parser.specs.View as view;
-ghost use Rattle.query_rows.specs.Column.{name};
+ghost use Rattle.query_terms.specs.Column.{name};
 ghost use Rattle.bql_tree.specs.Tree.{tree_of};
 
 use crate::query::{Draft, Filters, Item, ItemKind, Order, Target};

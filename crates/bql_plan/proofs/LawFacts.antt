@@ -13,11 +13,11 @@ use Rattle.bql_plan.specs.Laws.{StandsIn, OrderIsShown, AggregatesAreCounted, Ke
 use Rattle.bql_plan.specs.Plan.{added, index_of, own_trees, shown, aggregates_of}
 use Rattle.bql_tree.specs.Tree.{Operation, leaf_of, one_of, two_of, call_of, Tree, node, Trees}
 use Rattle.bql_tree.specs.Tree.{no_trees, trees}
-use Rattle.query_rows.specs.contracts.column.Column as columns
+use Rattle.query_terms.specs.contracts.column.Column as columns
 use Rattle.bql_tree.specs.contracts.function.Function as functions
 use Rattle.bql_tree.specs.contracts.tree.BinaryOperator as binaries
 use Rattle.bql_tree.specs.contracts.tree.MetadataOwner as entries
-use Rattle.query_rows.specs.declared.column.Column.{Column}
+use Rattle.query_terms.specs.declared.column.Column.{Column}
 use Rattle.bql_tree.specs.declared.function.Function.{Function}
 use Rattle.bql_tree.specs.declared.tree.BinaryOperator.{BinaryOperator}
 use Rattle.bql_tree.specs.declared.tree.MetadataOwner.{MetadataOwner}

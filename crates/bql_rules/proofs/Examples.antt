@@ -2,7 +2,7 @@
 use Rattle.std.proofs.Common.{◌≡◌, ◌^◌, ◌-◌, ◌*◌, ◌+◌, [], ◌∷◌, Ok, Err, refl}
 use Rattle.limits.specs.declared.bounds.Bounds.{Bounds}
 use Rattle.limits.specs.declared.bounds.Version.TheVariants.{First}
-use Rattle.query_rows.specs.declared.column.Column.TheVariants as column
+use Rattle.query_terms.specs.declared.column.Column.TheVariants as column
 use Rattle.bql_tree.specs.declared.function.Function.TheVariants.{Cost, Sum, OneOf, Units}
 use Rattle.bql_tree.specs.declared.tree.BinaryOperator.TheVariants.{Times, Plus}
 use Rattle.query_rows.specs.declared.shape.Misfit.TheVariants.{Kind, TooWide}

@@ -13,7 +13,7 @@ use Rattle.bql_tree.specs.declared.tree.Leaf.{Leaf}
 use Rattle.bql_tree.specs.declared.tree.Leaf.TheVariants as leaf
 use Rattle.bql_tree.specs.declared.tree.UnaryOperator.{UnaryOperator}
 use Rattle.bql_tree.specs.declared.tree.UnaryOperator.TheVariants as unary
-use Rattle.query_rows.specs.Column.{is_in}
+use Rattle.query_terms.specs.Column.{is_in}
 use Rattle.query_rows.specs.ColumnShape.{column_shape}
 use Rattle.query_rows.specs.Rules as machine
 use Rattle.query_rows.specs.Rules.{Ruled}

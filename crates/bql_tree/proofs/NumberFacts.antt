@@ -6,15 +6,15 @@ use Rattle.std.proofs.Common.{refl}
 use Rattle.std.proofs.lemmas.Bool.Decides.{nat_tests}
 use Rattle.std.proofs.lemmas.Int.{ints, to_z-of_z, fits_signed_from_abs}
 use Rattle.std.specs.Int.{w128}
-use Rattle.query_values.specs.declared.decimal.Decimal.{Decimal}
+use Rattle.query_terms.specs.declared.decimal.Decimal.{Decimal}
 use Rattle.std.proofs.lemmas.Grind.{common_steps}
 use Rattle.std.proofs.lemmas.List.Elements.{filter_more}
 use Rattle.std.proofs.lemmas.Int.Digits.{digits_value_push}
 use Rattle.std.specs.Char.{is_ascii_digit, digit_value}
 use Rattle.std.specs.Str.Parse.{digits_value}
 use Rattle.bean_base.specs.Numeral.{count_of}
-use Rattle.query_values.specs.Wide.{decimal_where, decimal_of}
-use Rattle.query_values.specs.WideCount.{is_wide}
+use Rattle.query_terms.specs.Wide.{decimal_where, decimal_of}
+use Rattle.query_terms.specs.WideCount.{is_wide}
 use Rattle.bean_base.proofs.NumeralFacts.{capped_other}
 use Rattle.bql_tree.specs.Number.{is_zero, decimal}
 

@@ -3,8 +3,8 @@ use Rattle.std.specs.Prelude.{ℕ, ◌^◌, ◌==◌, min, Bool, List, drop, len
 use Rattle.std.specs.List.{prefix_len, after_first}
 use Rattle.limits.specs.declared.counts.TheConstants.{COUNT_BOUND}
 use Rattle.bean_base.specs.Numeral.{count_of, is_point}
-use Rattle.query_values.specs.Wide.{decimal_of}
-use Rattle.query_values.specs.declared.decimal.Decimal.{Decimal}
+use Rattle.query_terms.specs.Wide.{decimal_of}
+use Rattle.query_terms.specs.declared.decimal.Decimal.{Decimal}
 use Rattle.bql_tree.specs.declared.tree.Leaf as leaves
 use Rattle.bql_tree.specs.declared.tree.Leaf.TheVariants as leaf
 

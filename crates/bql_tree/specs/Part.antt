@@ -5,12 +5,12 @@ use Rattle.std.specs.declared.alloc.Global.{Global}
 use Rattle.limits.specs.declared.counts.TheConstants.{GREATEST_HEIGHT}
 use Rattle.bql_lexer.specs.declared.token.Token.{Token}
 use Rattle.bql_tree.specs.Cause.{outside_profile, unknown_name, least, both}
-use Rattle.query_rows.specs.Column as columns
+use Rattle.query_terms.specs.Column as columns
 use Rattle.bql_tree.specs.Function.{is_left_out}
 use Rattle.bql_tree.specs.Tree.{leaf_of, one_of, two_of, Tree, node, no_trees}
 use Rattle.bql_tree.specs.Tree.{trees, tree_of}
 use Rattle.bql_tree.specs.declared.cause.PartCause.{PartCause}
-use Rattle.query_rows.specs.declared.column.Column.{Column}
+use Rattle.query_terms.specs.declared.column.Column.{Column}
 use Rattle.bql_tree.specs.declared.function.Scope.{Scope}
 use Rattle.bql_tree.specs.declared.function.Scope.TheVariants.{Transactions, Postings}
 use Rattle.bql_tree.specs.declared.part.Alone.{Alone}

@@ -42,5 +42,5 @@ mod tree;
 pub use cause::{PartCause, PartCauseKind};
 pub use function::{Function, Scope};
 pub use part::{Alone, Part};
-pub use query_rows::Column;
+pub use query_terms::Column;
 pub use tree::{BinaryOperator, Expr, Leaf, MetadataOwner, UnaryOperator};

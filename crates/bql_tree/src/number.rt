@@ -8,7 +8,7 @@ use crate::tree::Leaf;
 use bean_base::Slice;
 use byte_runs::{ByteClass, end_of_run};
 use limits::{COUNT_BOUND, MOST_PLACES};
-use query_values::Decimal;
+use query_terms::Decimal;
 
 /// The zeros in front of a number.
 struct Zero;

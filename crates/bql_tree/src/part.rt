@@ -10,7 +10,7 @@ use crate::tree::{BinaryOperator, Expr, Leaf, UnaryOperator};
 use bean_base::Slice;
 use bql_lexer::Token;
 use limits::GREATEST_HEIGHT;
-use query_rows::Column;
+use query_terms::Column;
 use std::alloc::{AllocError, Global};
 
 /// Whether an expression is one token, without parentheses.

@@ -2,8 +2,7 @@
 
 use crate::function::Function;
 use bean_base::{Day, Slice};
-use query_rows::Column;
-use query_values::Decimal;
+use query_terms::{Column, Decimal};
 
 /// Whose metadata an entry is.
 #[derive(Clone, Copy, Drop, PartialEq, Eq)]

@@ -6,8 +6,8 @@ use Rattle.bql_parser.specs.Asked.{Asked, Target, Item, tree_item, target_item}
 use Rattle.bql_parser.specs.Standing as standing
 use Rattle.bql_parser.specs.declared.standing.Valuation.TheVariants as valuation
 use Rattle.bql_tree.specs.Tree.{leaf_of, two_of, call_of, Tree, node, no_trees, trees}
-use Rattle.query_rows.specs.declared.column.Column.{Column}
-use Rattle.query_rows.specs.declared.column.Column.TheVariants as column
+use Rattle.query_terms.specs.declared.column.Column.{Column}
+use Rattle.query_terms.specs.declared.column.Column.TheVariants as column
 use Rattle.bql_tree.specs.declared.function.Function.{Function}
 use Rattle.bql_tree.specs.declared.function.Function.TheVariants.{Sum, Cost}
 use Rattle.bql_tree.specs.declared.tree.BinaryOperator.TheVariants.{Plus, Times}

@@ -21,9 +21,9 @@ use Rattle.bql_tree.specs.declared.tree.Leaf.{Leaf}
 use Rattle.bql_tree.specs.declared.tree.Leaf.TheVariants as leaf
 use Rattle.bql_tree.specs.declared.tree.UnaryOperator.{UnaryOperator}
 use Rattle.bql_tree.specs.declared.tree.UnaryOperator.TheVariants as unary
-use Rattle.query_rows.specs.contracts.column.Column as columns
+use Rattle.query_terms.specs.contracts.column.Column as columns
 use Rattle.query_rows.specs.Rules.{Ruled}
-use Rattle.query_values.specs.declared.decimal.Decimal.{Decimal}
+use Rattle.query_terms.specs.declared.decimal.Decimal.{Decimal}
 use Rattle.bql_types.specs.Laws.{SameHaveOneShape, SameHaveCausesAlike, cause_kind}
 use Rattle.bql_types.specs.Same.{same, all_same, same_operation, same_leaf, same_unary, same_text}
 use Rattle.bql_types.specs.Same.{same_truth}

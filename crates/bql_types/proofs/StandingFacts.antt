@@ -14,7 +14,7 @@ use Rattle.query_rows.proofs.BoundFacts.{few_postings}
 use Rattle.query_rows.specs.ColumnShape.{AreBounds, units_most, value_most}
 use Rattle.bql_rules.specs.Rules.{of_one}
 use Rattle.bql_tree.specs.Tree.{Tree, call_of}
-use Rattle.query_rows.specs.declared.column.Column.TheVariants as column
+use Rattle.query_terms.specs.declared.column.Column.TheVariants as column
 use Rattle.bql_tree.specs.declared.function.Function.TheVariants as function
 use Rattle.query_rows.specs.Shape.{is_held, fitting}
 use Rattle.query_rows.specs.declared.shape.Misfit.TheVariants.{TooWide}

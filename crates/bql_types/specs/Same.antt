@@ -8,7 +8,7 @@ use denote.Enum.Bare.{sameb}
 use Rattle.bean_base.specs.Day.{number}
 use Rattle.bql_tree.specs.Tree.{Operation, leaf_of, one_of, two_of, call_of, Tree, node, Trees}
 use Rattle.bql_tree.specs.Tree.{no_trees, trees}
-use Rattle.query_rows.specs.contracts.column.Column as columns
+use Rattle.query_terms.specs.contracts.column.Column as columns
 use Rattle.bql_tree.specs.contracts.function.Function as functions
 use Rattle.bql_tree.specs.contracts.tree.BinaryOperator as binaries
 use Rattle.bql_tree.specs.contracts.tree.MetadataOwner as entries

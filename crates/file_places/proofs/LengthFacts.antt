@@ -1,7 +1,7 @@
 -- How many bytes entries of the pool take.
 use Rattle.std.proofs.Common.{◌≡◌, ℕ, ℤ, ◌+◌, ◌*◌, List, [], ◌∷◌, length, refl, arith, length-append}
 use Rattle.bean_base.specs.declared.days.Day as days
-use Rattle.query_values.specs.declared.decimal.Decimal as decimals
+use Rattle.query_terms.specs.declared.decimal.Decimal as decimals
 use Rattle.query_code.specs.ByteForm.{all_written}
 use Rattle.query_code.specs.QueryFile.{constant, count, day, decimal, numbers}
 use Rattle.query_code.specs.TextForm.{text}

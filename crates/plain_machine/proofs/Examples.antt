@@ -3,8 +3,8 @@ use Rattle.std.proofs.Common.{◌≡◌, ◌<◌, ◌≤◌, ◌^◌, ◌-◌, �
 use Rattle.std.proofs.Common.{[], ◌∷◌, None, codes, refl, arith}
 use Rattle.limits.specs.declared.bounds.Version.TheVariants.{First}
 use Rattle.bean_lots.specs.declared.lot.Key.{Key}
-use Rattle.query_rows.specs.declared.column.Column.{Column}
-use Rattle.query_rows.specs.declared.column.Column.TheVariants as column
+use Rattle.query_terms.specs.declared.column.Column.{Column}
+use Rattle.query_terms.specs.declared.column.Column.TheVariants as column
 use Rattle.query_values.specs.declared.operation.Aggregate.{Aggregate}
 use Rattle.query_values.specs.declared.operation.Aggregate.TheVariants as aggregate
 use Rattle.query_values.specs.declared.operation.Binary.TheVariants as binary

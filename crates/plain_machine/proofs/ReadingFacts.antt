@@ -10,11 +10,11 @@ use Rattle.query_values.specs.Held.{checked}
 use Rattle.query_values.specs.declared.operation.Aggregate.{Aggregate}
 use Rattle.query_values.specs.declared.operation.Aggregate.TheVariants.{SumInventory}
 use Rattle.query_values.specs.declared.value.Value.{Value}
-use Rattle.query_rows.specs.Column.{if_in, is_in, numbered}
+use Rattle.query_terms.specs.Column.{if_in, is_in, numbered}
 use Rattle.query_rows.specs.Row.{Row}
 use Rattle.query_rows.specs.Same.{same_values}
-use Rattle.query_rows.specs.declared.column.Column.{Column}
-use Rattle.query_rows.specs.declared.column.Column.TheVariants as column
+use Rattle.query_terms.specs.declared.column.Column.{Column}
+use Rattle.query_terms.specs.declared.column.Column.TheVariants as column
 use Rattle.query_code.specs.QueryFile.{is_grouped}
 use Rattle.query_code.specs.declared.instruction.Instruction.{Instruction}
 use Rattle.query_code.specs.declared.instruction.Instruction.TheVariants.{Push, Unary, Binary}

@@ -5,10 +5,10 @@ use Rattle.std.specs.Prelude.{slice_get, option_and_then}
 use Rattle.std.specs.List.{AllByRecursion}
 use Rattle.limits.specs.declared.bounds.Version.{Version}
 use Rattle.limits.specs.declared.bounds.Version.TheVariants.{Second}
-use Rattle.query_rows.proofs.NumberFacts.{second_has_all}
-use Rattle.query_rows.specs.Column.{if_in, numbered, numbered_in}
-use Rattle.query_rows.specs.declared.column.Column.{Column}
-use Rattle.query_rows.specs.declared.column.Column.TheVariants as column
+use Rattle.query_terms.proofs.NumberFacts.{second_has_all}
+use Rattle.query_terms.specs.Column.{if_in, numbered, numbered_in}
+use Rattle.query_terms.specs.declared.column.Column.{Column}
+use Rattle.query_terms.specs.declared.column.Column.TheVariants as column
 use Rattle.query_code.specs.Upgrade.{upgraded}
 use Rattle.query_code.specs.declared.instruction.Instruction.{Instruction}
 use Rattle.query_code.specs.declared.instruction.Instruction.TheVariants.{Push, Unary, Binary}

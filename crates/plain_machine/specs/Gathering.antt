@@ -9,7 +9,7 @@ use Rattle.query_values.specs.declared.value.Value.{Value}
 use Rattle.query_values.specs.declared.value.Value.TheVariants.{Null}
 use Rattle.query_rows.specs.Row.{Row}
 use Rattle.query_rows.specs.Same.{same_values}
-use Rattle.query_rows.specs.declared.column.Column.TheVariants.{Position}
+use Rattle.query_terms.specs.declared.column.Column.TheVariants.{Position}
 
 -- How a group keeps what comes to it: inputs, one for each aggregate but a count of rows; and what
 -- becomes of the running inventory at a row that passes. None is a fault.

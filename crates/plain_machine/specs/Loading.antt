@@ -2,9 +2,9 @@
 use Rattle.std.specs.Prelude.{ℕ, true, false, List, Option, Some, slice_get, option_map}
 use Rattle.std.specs.Prelude.{option_and_then}
 use Rattle.limits.specs.declared.bounds.Version.{Version}
-use Rattle.query_rows.specs.Column.{numbered_in}
-use Rattle.query_rows.specs.declared.column.Column.{Column}
-use Rattle.query_rows.specs.declared.column.Column.TheVariants.{Balance}
+use Rattle.query_terms.specs.Column.{numbered_in}
+use Rattle.query_terms.specs.declared.column.Column.{Column}
+use Rattle.query_terms.specs.declared.column.Column.TheVariants.{Balance}
 use Rattle.query_values.specs.Held.{checked}
 use Rattle.query_values.specs.Operand.{may_unary, may_binary, is_truth}
 use Rattle.query_values.specs.Operation.{unary_value, binary_value}

@@ -2,7 +2,7 @@
 use Rattle.std.specs.Prelude.{◌≡◌, ℕ, List, ⊤}
 use Rattle.std.specs.List.{AllByRecursion}
 use Rattle.limits.specs.declared.bounds.Version.{Version}
-use Rattle.query_rows.specs.Column.{numbered, numbered_in}
+use Rattle.query_terms.specs.Column.{numbered, numbered_in}
 use Rattle.query_code.specs.Upgrade.{upgraded}
 use Rattle.query_code.specs.declared.instruction.Instruction.{Instruction}
 use Rattle.query_code.specs.declared.instruction.Instruction.TheVariants.{Push}

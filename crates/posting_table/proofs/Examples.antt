@@ -12,7 +12,7 @@ use Rattle.posting_table.specs.Rows.{entries_of}
 use Rattle.posting_table.specs.declared.entry.EntryFlag.TheVariants.{Padding}
 use Rattle.posting_table.specs.declared.metadata.MetaItem.{MetaItem}
 use Rattle.posting_table.specs.declared.row.Row.{Row}
-use Rattle.query_rows.specs.declared.column.Column.TheVariants.{Balance, Tags}
+use Rattle.query_terms.specs.declared.column.Column.TheVariants.{Balance, Tags}
 use Rattle.query_rows.specs.Fits.{has_digits, lot_fits}
 use Rattle.query_rows.specs.Row.{text_or_null, text_under}
 use Rattle.query_values.specs.declared.value.Value.TheVariants.{Null, Set, Text}

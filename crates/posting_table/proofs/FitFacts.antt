@@ -22,10 +22,10 @@ use Rattle.posting_table.specs.Row.{cell_at, of_lot, price_or_null}
 use Rattle.posting_table.specs.Rows.{row_of}
 use Rattle.posting_table.specs.Shaped.{IsShaped}
 use Rattle.posting_table.specs.declared.row.Row.{Row}
-use Rattle.query_rows.specs.Column.{is_in}
+use Rattle.query_terms.specs.Column.{is_in}
 use Rattle.query_rows.specs.ColumnShape.{column_shape, value_most, widest}
-use Rattle.query_rows.specs.declared.column.Column.{Column}
-use Rattle.query_rows.specs.declared.column.Column.TheVariants as column
+use Rattle.query_terms.specs.declared.column.Column.{Column}
+use Rattle.query_terms.specs.declared.column.Column.TheVariants as column
 use Rattle.query_rows.specs.Fits as rows
 use Rattle.query_rows.specs.Fits.{fits, has_digits, lot_fits, price_fits}
 use Rattle.query_rows.specs.Mass.{value_of}

@@ -19,14 +19,14 @@ use Rattle.posting_table.specs.declared.entry.EntryFlag.{EntryFlag}
 use Rattle.posting_table.specs.declared.entry.EntryFlag.TheVariants.{Written, Padding}
 use Rattle.posting_table.specs.declared.row.Row.{Row}
 use Rattle.query_rows.specs.ColumnShape.{column_shape, widest}
-use Rattle.query_rows.specs.declared.column.Column.{Column}
-use Rattle.query_rows.specs.declared.column.Column.TheVariants as column
+use Rattle.query_terms.specs.declared.column.Column.{Column}
+use Rattle.query_terms.specs.declared.column.Column.TheVariants as column
 use Rattle.query_rows.specs.Row.{text_or_null}
 use Rattle.query_rows.specs.Shaped as rows
 use Rattle.query_rows.specs.Shaped.{IsShortIfThere}
 use Rattle.query_rows.specs.Shape.{IsShort, LiesIn}
 use Rattle.query_rows.specs.declared.shape.Shape.TheVariants as shape
-use Rattle.query_values.specs.Total.{cost_currency}
+use Rattle.query_holdings.specs.Total.{cost_currency}
 use Rattle.query_values.specs.declared.value.Value.TheVariants.{Number, Text, Day}
 
 low_month : (d : day.Day) → d.date.month ≤ 12

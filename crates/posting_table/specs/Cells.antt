@@ -3,8 +3,8 @@ use Rattle.std.specs.Int.RustNames.{unsigned_abs}
 use Rattle.bean_lots.specs.declared.lot.Lot.{Lot}
 use Rattle.posting_table.specs.Row.{entry_spelling}
 use Rattle.posting_table.specs.declared.entry.Entry.{Entry}
-use Rattle.query_rows.specs.declared.column.Column.{Column}
-use Rattle.query_rows.specs.declared.column.Column.TheVariants as column
+use Rattle.query_terms.specs.declared.column.Column.{Column}
+use Rattle.query_terms.specs.declared.column.Column.TheVariants as column
 use Rattle.query_rows.specs.Row.{text_or_null}
 use Rattle.query_values.specs.Operation.{whole}
 use Rattle.query_values.specs.declared.value.Value.{Value}

@@ -11,7 +11,7 @@ use crate::entry::Entry;
 use crate::plain_text::PlainText;
 use bean_base::{Amount, Flag, Slice};
 use bean_lots::Lot;
-use query_rows::Column;
+use query_terms::Column;
 use query_values::{Lent, Value, part};
 
 /// A whole number.

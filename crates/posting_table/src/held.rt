@@ -16,7 +16,7 @@ use crate::row::{PlainRow, Row, Weight};
 use crate::shared::Shared;
 use bean_base::{Account, Amount, Day, Slice};
 use bean_lots::{Key, Position};
-use query_rows::Column;
+use query_terms::Column;
 use query_values::{Lent, Value};
 use std::alloc::{AllocError, Global};
 use std::marker::Model;

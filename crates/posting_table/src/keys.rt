@@ -11,7 +11,7 @@ use crate::shared::Shared;
 use bean_base::{Currency, Slice};
 use bean_lots::{Key, Lot};
 use indexmap::IndexMap;
-use query_rows::Column;
+use query_terms::Column;
 use query_values::Value;
 use std::alloc::{AllocError, Global};
 use std::marker::Model;
@@ -88,6 +88,7 @@ impl<'a> HeldKey<'a> {
 }
 
 /// A key that is held, where it is that of a currency without a lot.
+#[inline(always)]
 fn of_currency<'s, 'a>(
     held: &'s Shared<HeldKey<'a>>,
     currency: &Currency<'_>,

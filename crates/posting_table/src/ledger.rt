@@ -20,18 +20,29 @@ use crate::row::{PlainRow, Row};
 use bean_base::Currency;
 use limits::{Bounds, MOST_POSTINGS};
 use pieces::Pieces;
-use query_rows::Column;
+use query_terms::Column;
 use query_values::Value;
 use std::alloc::{AllocError, Global};
 use std::marker::Model;
 
 /// A list of booked postings, and how many decimals each currency shows.
-#[derive(Drop)]
 pub struct Ledger<'a> {
     alloc: Global,
     rows: Pieces<HeldRow<'a>>,
     keys: Keys<'a>,
     display: Display<'a>,
+}
+
+/// Written out, so that crates which give one up need to know nothing of what is in it.
+impl Drop for Ledger<'_> {
+    fn drop(self) {
+        let Ledger {
+            alloc: _,
+            rows: _,
+            keys: _,
+            display: _,
+        } = self;
+    }
 }
 
 impl<'a> Model for Ledger<'a> {

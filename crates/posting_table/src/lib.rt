@@ -91,6 +91,6 @@ pub use ledger::Ledger;
 pub use ledger::taken::TakenRows;
 pub use metadata::{MetaItem, Metadata};
 pub use plain_text::PlainText;
-pub use query_rows::Column;
+pub use query_terms::Column;
 pub use row::{PlainRow, Row, Weight};
 pub use shared::Shared;

@@ -23,9 +23,9 @@ use Rattle.query_code.specs.InstructionForm.{at_least_one, some_byte, word, or_0
 use Rattle.query_code.specs.InstructionForm.{operand_of, bare, with_byte, with_some_byte, with_word}
 use Rattle.query_code.specs.InstructionForm.{bare_before, with_before, operand_cases, word_cases}
 use Rattle.query_code.specs.InstructionForm.{cases, instruction}
-use Rattle.query_values.specs.declared.decimal.Decimal.{Decimal}
+use Rattle.query_terms.specs.declared.decimal.Decimal.{Decimal}
 use Rattle.bean_base.proofs.DayFacts as days
-use Rattle.query_values.proofs.WideFacts as decimals
+use Rattle.query_terms.proofs.WideFacts as decimals
 use Rattle.std.proofs.lemmas.Int.{of_z-to_z}
 use Rattle.query_code.specs.ByteForm.{Form, Case, raw, mapped, such_that, before, both, counted}
 use Rattle.query_code.specs.ByteForm.{byte, number, just, case}

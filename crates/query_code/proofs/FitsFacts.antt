@@ -24,7 +24,7 @@ use Rattle.query_code.specs.InstructionForm.{operand_of, bare, with_byte, with_s
 use Rattle.query_code.specs.InstructionForm.{bare_before, with_before, operand_cases, word_cases}
 use Rattle.query_code.specs.InstructionForm.{cases, instruction}
 use Rattle.bean_base.specs.declared.days.Day.{Day}
-use Rattle.query_values.specs.declared.decimal.Decimal.{Decimal}
+use Rattle.query_terms.specs.declared.decimal.Decimal.{Decimal}
 use Rattle.limits.specs.Version.{numbered}
 use Rattle.limits.specs.Version.{number as version_number}
 use Rattle.limits.specs.declared.bounds.Bounds.{Bounds}

@@ -6,13 +6,13 @@ use Rattle.std.specs.Int.{w32, w128, cast_signed, cast_unsigned}
 use Rattle.std.specs.Int.RustNames.{unsigned_abs}
 use Rattle.limits.specs.declared.counts.TheConstants.{COUNT_BOUND, MOST_PLACES}
 use Rattle.bean_base.specs.CalendarDay as calendar
-use Rattle.query_values.specs.Wide as wide
+use Rattle.query_terms.specs.Wide as wide
 use Rattle.limits.specs.Version.{numbered}
 use Rattle.limits.specs.Version.{number as version_number}
 use Rattle.limits.specs.declared.bounds.Bounds.{Bounds}
 use Rattle.limits.specs.declared.bounds.Version as versions
 use Rattle.bean_base.specs.declared.days.Day.{Day}
-use Rattle.query_values.specs.declared.decimal.Decimal.{Decimal}
+use Rattle.query_terms.specs.declared.decimal.Decimal.{Decimal}
 use Rattle.query_values.specs.declared.operation.Aggregate.{Aggregate}
 use Rattle.query_values.specs.declared.operation.Aggregate.TheVariants as aggregates
 use Rattle.query_code.specs.declared.cause.FileCauseKind.TheVariants.{Magic, Version, TrailingBytes}

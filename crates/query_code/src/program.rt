@@ -6,7 +6,8 @@ use crate::instruction::Instruction;
 use crate::text_list::TextList;
 use bean_base::{Day, List, Slice};
 use limits::{Bounds, Version};
-use query_values::{Aggregate, Decimal};
+use query_terms::Decimal;
+use query_values::Aggregate;
 
 /// Whether the rows of a query are postings or groups.
 #[derive(Clone, Copy, Drop, PartialEq, Eq)]
@@ -23,7 +24,6 @@ pub struct Numbers {
 }
 
 /// An entry of the pool.
-#[derive(Drop)]
 pub enum Constant<'a> {
     Text(Slice<'a>),
     Number(Decimal),
@@ -33,6 +33,21 @@ pub enum Constant<'a> {
     Texts(TextList<'a>),
     Numbers(Numbers),
     Days(List<Day>),
+}
+
+/// Written out, so that crates which give one up need to know nothing of what is in it.
+impl Drop for Constant<'_> {
+    fn drop(self) {
+        match self {
+            Constant::Text(_) => {}
+            Constant::Number(_) => {}
+            Constant::Day(_) => {}
+            Constant::Pattern(_) => {}
+            Constant::Texts(_) => {}
+            Constant::Numbers(_) => {}
+            Constant::Days(_) => {}
+        }
+    }
 }
 
 /// What becomes of the rows that the code gives.

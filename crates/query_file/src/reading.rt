@@ -13,7 +13,7 @@ ghost use Rattle.query_code.specs.TextForm.{text};
 use bean_base::{Day, Slice};
 use limits::MOST_PLACES;
 use query_code::{FileCauseKind, Stop};
-use query_values::Decimal;
+use query_terms::Decimal;
 use refusals::Refusal;
 use std::alloc::Global;
 

@@ -13,7 +13,8 @@ use bean_base::{Day, Slice};
 use limits::{Bounds, Version};
 use query_code::text_list::put_text;
 use query_code::{Code, Constant, Instruction, Mode, Numbers, Output, Parts, Program, Push, Unary};
-use query_values::{Aggregate, Binary, Decimal};
+use query_terms::Decimal;
+use query_values::{Aggregate, Binary};
 use std::alloc::{AllocError, Global};
 
 fn put_byte(out: &mut Vec<u8>, number: u8) -> Result<(), AllocError>

@@ -9,7 +9,7 @@ use Rattle.std.proofs.lemmas.Bool.{and_parts, and_from, ltb-true, leb-true, lt-l
 use Rattle.bean_lots.specs.declared.lot.Position.{Position}
 use Rattle.query_values.specs.Held as values
 use Rattle.query_values.specs.Held.{checked, has_count}
-use Rattle.query_values.specs.WideCount.{is_wide}
+use Rattle.query_terms.specs.WideCount.{is_wide}
 use Rattle.query_values.specs.declared.value.Value.{Value}
 use Rattle.query_values.specs.declared.value.Value.TheVariants as value
 use Rattle.query_rows.specs.Keeping.{Has}

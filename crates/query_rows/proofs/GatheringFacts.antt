@@ -16,7 +16,7 @@ use Rattle.query_values.specs.Held.{checked}
 use Rattle.query_values.specs.Operand.{are_in_order}
 use Rattle.query_values.specs.Operation.{whole}
 use Rattle.query_values.specs.Order.{is_less, is_null}
-use Rattle.query_values.specs.Total.{total_from}
+use Rattle.query_holdings.specs.Total.{total_from}
 use Rattle.query_values.specs.declared.operation.Aggregate.{Aggregate}
 use Rattle.query_values.specs.declared.operation.Aggregate.TheVariants as aggregate
 use Rattle.query_values.specs.declared.value.Value.{Value}

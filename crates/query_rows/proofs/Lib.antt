@@ -8,7 +8,6 @@ pub mod OrderFacts
 pub mod RisingFacts
 pub mod GatheringFacts
 pub mod BoundFacts
-pub mod NumberFacts
 mod ColumnExamples
 pub mod FinalRowsFacts
 pub mod SameFacts

@@ -17,8 +17,8 @@ use Rattle.bean_lots.specs.declared.lot.Lot.{Lot}
 use Rattle.bean_lots.specs.declared.lot.Position.{Position}
 use Rattle.bean_lots.proofs.LotFacts.{same_key_Decides}
 use Rattle.query_values.specs.Held.{has_count}
-use Rattle.query_values.specs.Total.{adds_up, at_cost, cost_count, cost_total, is_count, total_from}
-use Rattle.query_values.specs.Total.{units_total, without_lot}
+use Rattle.query_holdings.specs.Total.{adds_up, at_cost, cost_count, cost_total, is_count, total_from}
+use Rattle.query_holdings.specs.Total.{units_total, without_lot}
 use Rattle.query_rows.specs.Mass.{units_mass, value_mass, value_of}
 
 abs_sum : (a b : ℤ) → unsigned_abs (a +ℤ b) ≤ unsigned_abs a + unsigned_abs b

@@ -33,7 +33,7 @@ use Rattle.query_values.specs.Operation.{has_match, has_member, is_true, of_day,
 use Rattle.query_values.specs.Operation.{unary_value, units_of, whole}
 use Rattle.query_values.specs.Order.{is_null}
 use Rattle.query_values.specs.Pattern.{is_found}
-use Rattle.query_values.specs.Total.{at_cost, without_lot}
+use Rattle.query_holdings.specs.Total.{at_cost, without_lot}
 use Rattle.query_values.specs.Unary as unary
 use Rattle.query_values.specs.declared.value.Value.{Value}
 use Rattle.query_values.specs.declared.value.Value.TheVariants as value

@@ -5,8 +5,8 @@ use Rattle.limits.specs.declared.bounds.Bounds.{Bounds}
 use Rattle.limits.specs.declared.bounds.Version.TheVariants.{Second}
 use Rattle.limits.specs.declared.counts.TheConstants.{MOST_POSTINGS, LARGEST_TEXT}
 use Rattle.limits.specs.declared.counts.TheConstants.{MOST_UNITS_DIGITS, MOST_VALUE_DIGITS}
-use Rattle.query_rows.specs.declared.column.Column.{Column}
-use Rattle.query_rows.specs.declared.column.Column.TheVariants as column
+use Rattle.query_terms.specs.declared.column.Column.{Column}
+use Rattle.query_terms.specs.declared.column.Column.TheVariants as column
 use Rattle.query_rows.specs.Rules.{whole}
 use Rattle.query_rows.specs.declared.shape.Shape.{Shape}
 use Rattle.query_rows.specs.declared.shape.Shape.TheVariants.{Text, Day, Set, Number}

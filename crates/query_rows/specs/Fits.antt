@@ -8,7 +8,7 @@ use Rattle.limits.specs.declared.bounds.Bounds.{Bounds}
 use Rattle.limits.specs.declared.bounds.Version.{Version}
 use Rattle.limits.specs.declared.bounds.Version.TheVariants.{First, Second}
 use Rattle.bean_lots.specs.declared.lot.Lot.{Lot}
-use Rattle.query_rows.specs.declared.column.Column.TheVariants as column
+use Rattle.query_terms.specs.declared.column.Column.TheVariants as column
 use Rattle.query_values.specs.declared.value.Value.{Value}
 use Rattle.query_values.specs.declared.value.Value.TheVariants.{Amount, Position}
 use Rattle.query_rows.specs.Row.{Row}

@@ -2,7 +2,6 @@ pub mod Mass
 pub mod Shape
 pub mod Rules
 pub mod Keeping
-pub mod Column
 pub mod ColumnShape
 pub mod Row
 pub mod Fits

@@ -1,7 +1,7 @@
 -- A row of a ledger, as queries see it: what a posting has in each column, its metadata, and that of
 -- its transaction.
 use Rattle.std.specs.Prelude.{ℕ, List, [], ◌∷◌, bytes_eq, Option, Some, None, if◌then◌else◌}
-use Rattle.query_rows.specs.declared.column.Column.{Column}
+use Rattle.query_terms.specs.declared.column.Column.{Column}
 use Rattle.query_values.specs.Order.{is_null}
 use Rattle.query_values.specs.declared.value.Value.{Value}
 use Rattle.query_values.specs.declared.value.Value.TheVariants.{Null, Text}

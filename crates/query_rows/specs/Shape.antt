@@ -5,7 +5,7 @@ use Rattle.std.specs.Prelude.{length, Option, Some, None, Result, Ok, Err, if◌
 use Rattle.std.specs.Int.RustNames.{unsigned_abs}
 use Rattle.std.specs.List.{AllByRecursion}
 use Rattle.limits.specs.declared.counts.TheConstants.{COUNT_BOUND, LARGEST_TEXT, MOST_PLACES}
-use Rattle.query_values.specs.Total.{cost_currency}
+use Rattle.query_holdings.specs.Total.{cost_currency}
 use Rattle.query_values.specs.declared.value.Value.{Value}
 use Rattle.query_values.specs.declared.value.Value.TheVariants as value
 use Rattle.query_rows.specs.Mass.{units_mass, value_mass, value_of}

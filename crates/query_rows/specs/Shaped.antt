@@ -2,9 +2,9 @@
 use Rattle.std.specs.Prelude.{◌≡◌, true, ℕ, List, Option, Some, None, ⊤}
 use Rattle.std.specs.List.{AllByRecursion}
 use Rattle.limits.specs.declared.bounds.Bounds.{Bounds}
-use Rattle.query_rows.specs.Column.{is_in}
+use Rattle.query_terms.specs.Column.{is_in}
 use Rattle.query_rows.specs.ColumnShape.{column_shape}
-use Rattle.query_rows.specs.declared.column.Column.{Column}
+use Rattle.query_terms.specs.declared.column.Column.{Column}
 use Rattle.query_rows.specs.Shape.{IsShort, LiesIn}
 use Rattle.query_rows.specs.declared.shape.Shape.TheVariants.{Text}
 use Rattle.query_rows.specs.Row.{MetaText, Row, posting_text, transaction_text, any_text}

@@ -2,11 +2,11 @@
 ghost use Rattle.std.specs.Prelude.{◌≡◌, ◌^◌, ◌-◌, ◌≤◌};
 ghost use Rattle.query_rows.specs.ColumnShape as spec;
 
-use crate::column::Column;
 use crate::rules::whole;
 use crate::shape::Shape;
 use bean_base::power_of_ten;
 use limits::{Bounds, LARGEST_TEXT};
+use query_terms::Column;
 
 /// The greatest number of so many digits.
 fn most_of(digits: u8) -> u128

@@ -1,14 +1,13 @@
-//! The laws of shapes, of columns and of rows.
+//! The laws of shapes and of rows.
 ghost use Rattle.std.specs.Prelude.{◌≡◌, true};
 ghost use Rattle.limits.specs.declared.bounds.Bounds.{Bounds};
-ghost use Rattle.query_rows.specs.Column.{ColumnsHaveNumbers, NumbersAreOfColumns};
 ghost use Rattle.query_rows.specs.ColumnShape.{AreBounds, column_shape};
 ghost use Rattle.query_rows.specs.FinalRows.{AreOne, AreThere};
 ghost use Rattle.query_rows.specs.Keeping.{AreMonotone, AreOrdered, GatherShapes, KeepShapes};
 ghost use Rattle.query_rows.specs.Same.{SamenessIsAnEquivalence};
 ghost use Rattle.query_rows.specs.Shape.{is_held};
 ghost use Rattle.query_rows.specs.Shaped.{ShapedRowsHaveShortTexts};
-ghost use Rattle.query_rows.specs.declared.column.Column.{Column};
+ghost use Rattle.query_terms.specs.declared.column.Column.{Column};
 
 /// Where an operation gives a shape, its value is there and is of that shape.
 pub fn operations_keep_shapes()
@@ -33,12 +32,6 @@ pub fn shapes_are_ordered()
 /// Within the limits of bounds, each value of a column can be held.
 pub fn columns_are_held()
     ensures { (b : Bounds) (c : Column) → AreBounds b → is_held (column_shape b c) ≡ true }
-{}
-
-/// Each column has a number, and no two have the same.
-pub fn columns_are_numbered_once()
-    ensures columns { ColumnsHaveNumbers }
-    ensures numbers { NumbersAreOfColumns }
 {}
 
 /// Rows that go in have one list of rows that come out.

@@ -1,5 +1,5 @@
-//! The rows of a ledger as queries see them: their columns, the shapes of the values in these, and
-//! what becomes of rows, which are grouped, put in order, told once and cut.
+//! The rows of a ledger as queries see them: the shapes of the values in their columns, and what
+//! becomes of rows, which are grouped, put in order, told once and cut.
 //!
 //! What a query means and what a program gives are both told over these rows (`specs/Row`), so that
 //! they can be compared. A ledger's table says which rows it has; whoever speaks of a query speaks
@@ -10,20 +10,6 @@
 //! 2014-01-02  Assets:Cash   5     2014-01-03  Assets:Bank  7
 //! 2014-01-03  Assets:Bank   7     2014-01-02  Assets:Cash  5
 //! 2014-01-04  Assets:Cash   1
-//! ```
-//!
-//! # Columns
-//!
-//! Queries name them and tables show them ([`Column`]). Names are the same in small and in capital
-//! letters. A column of a transaction is the same for all its postings, and FROM knows it. The
-//! accounts of a transaction are a column as well, which no query can name: `HAS_ACCOUNT` reads it.
-//! Prices belong to the second schema ([`limits::Version`]), all other columns to both.
-//!
-//! ```text
-//! let column = Column::named("Cost_Number");             // Some(Column::CostNumber)
-//! let name = Column::CostNumber.name();                  // cost_number
-//! Column::CostNumber.is_of_transaction();                // false
-//! Column::CostNumber.number();                           // 13, in the file of a query
 //! ```
 //!
 //! # Shapes
@@ -59,22 +45,19 @@
 //!
 //! # Cost
 //!
-//! A few steps a rule; a column's name is looked for among all. No memory. Of rows themselves there
-//! are definitions and laws alone, and nothing runs.
+//! A few steps a rule. No memory. Of rows themselves there are definitions and laws alone, and
+//! nothing runs.
 #![tactic(auto)]
 
-mod column;
 mod column_shapes;
 mod laws;
 pub mod rules;
 mod shape;
 
-pub use column::{COLUMNS, Column};
 pub use column_shapes::column_shape;
 pub use laws::{
-    aggregates_keep_shapes, columns_are_held, columns_are_numbered_once, final_rows_are_one,
-    lists_are_the_same_alike, operations_keep_shapes, rules_are_monotone,
-    shaped_rows_have_short_texts, shapes_are_ordered,
+    aggregates_keep_shapes, columns_are_held, final_rows_are_one, lists_are_the_same_alike,
+    operations_keep_shapes, rules_are_monotone, shaped_rows_have_short_texts, shapes_are_ordered,
 };
 pub use rules::{aggregate_shape, binary_shape};
 pub use shape::{Misfit, Shape, fitting, joined};

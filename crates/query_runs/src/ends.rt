@@ -10,7 +10,7 @@ ghost use Rattle.query_runs.specs.Stands.{keeps, kept_in, rows_in, stand_of};
 use crate::run::{Inputs, Run, Stage};
 use bean_base::List;
 use query_code::Mode;
-use query_rows::Column;
+use query_terms::Column;
 use query_values::Aggregate;
 use query_values::comparison::is_true;
 use std::alloc::{AllocError, Global};

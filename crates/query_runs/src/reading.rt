@@ -3,7 +3,7 @@ ghost use Rattle.std.specs.Prelude.{◌≡◌};
 ghost use Rattle.plain_machine.specs.Reading as spec;
 
 use query_code::{Instruction, Parts, Push};
-use query_rows::Column;
+use query_terms::Column;
 
 fn is_balance(column: Option<Column>) -> bool
     ensures { result ≡ spec.is_balance column }

@@ -15,7 +15,7 @@ use crate::stack::Stack;
 use bean_base::Slice;
 use posting_table::HeldRow;
 use query_code::{Constant, Push};
-use query_rows::Column;
+use query_terms::Column;
 use query_values::Value;
 use std::alloc::AllocError;
 

@@ -11,7 +11,7 @@ use Rattle.query_values.specs.Aggregate.{last_of, best_from, best_of, better_of,
 use Rattle.query_values.specs.Aggregate.{aggregate_of, counted, summed, gathered, with_more}
 use Rattle.query_values.specs.Operation.{whole}
 use Rattle.query_values.specs.Order.{is_null, is_less, order_of}
-use Rattle.query_values.specs.Total.{bare, total_from}
+use Rattle.query_holdings.specs.Total.{bare, total_from}
 use Rattle.query_values.specs.declared.operation.Aggregate.{Aggregate}
 use Rattle.query_values.specs.declared.operation.Aggregate.TheVariants.{CountRows, Count, Sum}
 use Rattle.query_values.specs.declared.operation.Aggregate.TheVariants.{SumInventory, First, Last}

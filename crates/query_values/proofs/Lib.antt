@@ -1,10 +1,8 @@
 mod Examples
 mod HoldingExamples
-pub mod WideFacts
 pub mod ArithmeticFacts
 pub mod MembershipFacts
 pub mod TotalFacts
-pub mod HoldingFacts
 pub mod NumberFacts
 pub mod NumberOrder
 pub mod OrderFacts

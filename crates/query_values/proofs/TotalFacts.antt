@@ -15,7 +15,7 @@ use Rattle.bean_lots.specs.Lot.{same_key}
 use Rattle.bean_lots.specs.declared.lot.Key.{Key}
 use Rattle.bean_lots.specs.declared.lot.Position.{Position}
 use Rattle.query_values.specs.Held.{has_count}
-use Rattle.query_values.specs.Total.{adds_up, is_count, total_from}
+use Rattle.query_holdings.specs.Total.{adds_up, is_count, total_from}
 
 pub both : (a b : Bool) → IsTrue (a && b) → IsTrue a × IsTrue b
 both true b h = (refl, h)

@@ -1,11 +1,7 @@
-pub mod WideCount
-pub mod Wide
 pub mod TextSet
 pub mod Pattern
 pub mod PatternCause
 pub mod Component
-pub mod Total
-pub mod BagKey
 pub mod Bag
 pub mod Equality
 pub mod Order

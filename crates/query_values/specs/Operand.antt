@@ -2,7 +2,7 @@
 -- still be one that the operation takes.
 use Rattle.std.specs.Prelude.{ℕ, Bool, true, false, ◌&&◌, ◌||◌, ◌==◌, nat_le, [], map}
 use Rattle.std.specs.List.{list_all}
-use Rattle.query_values.specs.Total.{adds_up, without_lot, at_cost}
+use Rattle.query_holdings.specs.Total.{adds_up, without_lot, at_cost}
 use Rattle.query_values.specs.Unary as unary
 use Rattle.query_values.specs.declared.operation.Binary.{Binary}
 use Rattle.query_values.specs.declared.operation.Binary.TheVariants as binary

@@ -3,11 +3,10 @@ ghost use Rattle.std.specs.Prelude.{◌≡◌, ◌≤◌, ◌+ℤ◌, [], All, I
 ghost use Rattle.std.specs.Int.{w128};
 ghost use Rattle.std.specs.Int.RustNames.{FitsSigned};
 ghost use Rattle.bean_lots.specs.Inventory.{MayBeNegated, added, count_of};
-ghost use Rattle.query_values.specs.Total.{adds_up, at_cost, cost_total, total_from, units_total};
-ghost use Rattle.query_values.specs.Total.{without_lot};
+ghost use Rattle.query_holdings.specs.Total.{adds_up, at_cost, cost_total, total_from, units_total};
+ghost use Rattle.query_holdings.specs.Total.{without_lot};
 
-use crate::bag_key::BagKey;
-use crate::holding::Holding;
+use query_holdings::{BagKey, Holding};
 use std::alloc::{AllocError, Global};
 use std::marker::Model;
 

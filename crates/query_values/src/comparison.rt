@@ -12,13 +12,12 @@ ghost use Rattle.query_values.specs.Order as order_spec;
 ghost use Rattle.query_values.specs.Operation as operation;
 
 use crate::bag::Bag;
-use crate::bag_key::BagKey;
-use crate::holding::Holding;
 pub use crate::number::compare_numbers;
 use crate::number::same_number;
 use crate::value::Value;
 use bean_base::Slice;
 use bean_lots::Key;
+use query_holdings::{BagKey, Holding};
 use std::cmp::Ordering;
 
 /// Whether it is null.

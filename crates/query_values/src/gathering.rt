@@ -6,11 +6,10 @@ ghost use Rattle.query_values.specs.declared.operation.Aggregate.{Aggregate};
 ghost use Rattle.query_values.specs.declared.value.Value.{Value};
 
 use crate::bag::{Bag, OwnBag};
-use crate::bag_key::BagKey;
 use crate::comparison::{is_null, less};
-use crate::holding::Holding;
 use crate::operation::Aggregate;
 use crate::value::Value;
+use query_holdings::{BagKey, Holding};
 use std::alloc::{AllocError, Global};
 
 fn count_one(total: &mut Value<'_>)

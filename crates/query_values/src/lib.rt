@@ -50,14 +50,10 @@
 
 pub mod arithmetic;
 mod bag;
-mod bag_key;
 mod cause;
 pub mod comparison;
 mod component;
-mod decimal;
 mod gathering;
-mod holding;
-mod lent;
 pub mod membership;
 mod number;
 mod operation;
@@ -67,12 +63,9 @@ mod text_set;
 mod value;
 
 pub use bag::{Bag, OwnBag};
-pub use bag_key::BagKey;
 pub use cause::PatternCause;
-pub use decimal::Decimal;
-pub use holding::{Holding, Holdings};
-pub use lent::Lent;
 pub use operation::{Aggregate, Binary};
 pub use pattern::{Finder, Pattern};
+pub use query_holdings::{BagKey, Holding, Holdings, Lent};
 pub use text_set::TextSet;
 pub use value::Value;

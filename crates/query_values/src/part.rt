@@ -6,16 +6,16 @@ ghost use Rattle.query_values.specs.Operand.{has_cost, has_units};
 ghost use Rattle.query_values.specs.Operation.{cost_of, currency_of, length_of, number_of};
 ghost use Rattle.query_values.specs.Operation as operation;
 ghost use Rattle.query_values.specs.Operation.{unary_value, units_of};
-ghost use Rattle.query_values.specs.Total.{cost_count, cost_currency, is_count};
+ghost use Rattle.query_holdings.specs.Total.{cost_count, cost_currency, is_count};
 ghost use Rattle.query_values.specs.Unary as spec;
 ghost use Rattle.query_values.specs.declared.value.Value.TheVariants.{Amount};
 
 use crate::bag::OwnBag;
-use crate::bag_key::BagKey;
 use crate::component::{leaf_of, parent_of, rank_of_root, root_of};
 use crate::value::Value;
 use bean_base::Slice;
 use bean_lots::Key;
+use query_holdings::BagKey;
 use std::alloc::{AllocError, Global};
 
 /// The decimals of the counts of positions and costs.

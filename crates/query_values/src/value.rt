@@ -2,10 +2,10 @@
 ghost use Rattle.std.specs.Prelude.{◌≡◌};
 
 use crate::bag::OwnBag;
-use crate::lent::Lent;
 use crate::text_set::TextSet;
 use bean_base::{Currency, Day, Slice};
 use bean_lots::Key;
+use query_holdings::Lent;
 use std::alloc::AllocError;
 
 /// A value. Names, texts, sets and keys are lent from where they are kept.

@@ -3,6 +3,7 @@ pub mod RowFacts
 pub mod OneReading
 pub mod LongestFrontFacts
 pub mod ArrangementFacts
+pub mod AllFacts
 pub mod ArrangedFacts
 pub mod CutFacts
 pub mod JoinedFacts

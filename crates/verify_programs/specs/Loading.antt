@@ -2,7 +2,7 @@
 use Rattle.std.specs.Prelude.{Bool, true, false, List, [], ◌∷◌, Option, Some, None, slice_get, ⊤}
 use Rattle.std.specs.Prelude.{option_and_then}
 use Rattle.query_rows.specs.declared.shape.Shape.{Shape}
-use Rattle.query_rows.specs.declared.column.Column.{Column}
+use Rattle.query_terms.specs.declared.column.Column.{Column}
 use Rattle.query_code.specs.declared.instruction.Push as pushes
 use Rattle.query_code.specs.declared.instruction.Push.TheVariants as push
 use Rattle.query_code.specs.declared.instruction.Instruction.{Instruction}

@@ -8,7 +8,8 @@ ghost use Rattle.verify_programs.specs.Loading as spec;
 use bean_base::List;
 use limits::Bounds;
 use query_code::Mode;
-use query_rows::{Column, Shape, column_shape};
+use query_rows::{Shape, column_shape};
+use query_terms::Column;
 use std::alloc::Global;
 use std::marker::Model;
 

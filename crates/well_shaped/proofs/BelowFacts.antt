@@ -12,10 +12,10 @@ use Rattle.query_rows.specs.Rules.{Ruled, unary_shape, binary_shape}
 use Rattle.query_rows.specs.Shape.{IsBelow, fitting}
 use Rattle.query_rows.specs.declared.shape.Shape.{Shape}
 use Rattle.query_rows.specs.declared.shape.Shape.TheVariants.{Text, Truth}
-use Rattle.query_rows.specs.Column.{numbered}
+use Rattle.query_terms.specs.Column.{numbered}
 use Rattle.query_rows.specs.ColumnShape.{column_shape}
-use Rattle.query_rows.specs.declared.column.Column.{Column}
-use Rattle.query_rows.specs.declared.column.Column.TheVariants.{Balance}
+use Rattle.query_terms.specs.declared.column.Column.{Column}
+use Rattle.query_terms.specs.declared.column.Column.TheVariants.{Balance}
 use Rattle.query_code.specs.declared.instruction.Push.{Push}
 use Rattle.query_code.specs.declared.instruction.Push.TheVariants as push
 use Rattle.query_code.specs.declared.program.Constant.{Constant}

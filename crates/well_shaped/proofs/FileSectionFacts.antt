@@ -19,8 +19,8 @@ use Rattle.query_code.specs.declared.instruction.Instruction.TheVariants.{JumpIf
 use Rattle.query_code.specs.declared.instruction.Push.TheVariants as push
 use Rattle.query_code.specs.declared.instruction.Unary.TheVariants as unary
 use Rattle.query_code.specs.declared.program.Constant.{Constant}
-use Rattle.query_rows.specs.Column.{numbered}
-use Rattle.query_rows.specs.declared.column.TheConstants.{COLUMNS}
+use Rattle.query_terms.specs.Column.{numbered}
+use Rattle.query_terms.specs.declared.column.TheConstants.{COLUMNS}
 use Rattle.query_rows.specs.Rules as machine
 use Rattle.query_rows.specs.Rules.{Ruled, unary_shape}
 use Rattle.query_rows.specs.Shape.{fitting, is_held, is_most}

@@ -21,10 +21,10 @@ use Rattle.query_rows.specs.Rules.{Ruled, unary_shape, binary_shape}
 use Rattle.query_rows.specs.Shape.{IsShort, LiesIn, fitting}
 use Rattle.query_rows.specs.declared.shape.Shape.{Shape}
 use Rattle.query_rows.specs.declared.shape.Shape.TheVariants.{Text, Truth}
-use Rattle.query_rows.specs.Column.{is_in, if_in, numbered}
+use Rattle.query_terms.specs.Column.{is_in, if_in, numbered}
 use Rattle.query_rows.specs.ColumnShape.{column_shape}
-use Rattle.query_rows.specs.declared.column.Column.{Column}
-use Rattle.query_rows.specs.declared.column.Column.TheVariants.{Balance}
+use Rattle.query_terms.specs.declared.column.Column.{Column}
+use Rattle.query_terms.specs.declared.column.Column.TheVariants.{Balance}
 use Rattle.query_rows.proofs.ShapedFacts.{texts_lie}
 use Rattle.query_rows.specs.Row.{Row, posting_text, transaction_text, any_text}
 use Rattle.query_rows.specs.Shaped.{IsShaped}

@@ -14,7 +14,7 @@ use Rattle.query_rows.specs.declared.shape.Misfit.TheVariants.{TooWide}
 use Rattle.query_rows.specs.declared.shape.Shape.{Shape}
 use Rattle.query_rows.proofs.BoundFacts.{column_is_held}
 use Rattle.query_rows.specs.ColumnShape.{AreBounds, column_shape}
-use Rattle.query_rows.specs.declared.column.Column.TheVariants.{Balance, Position}
+use Rattle.query_terms.specs.declared.column.Column.TheVariants.{Balance, Position}
 use Rattle.query_rows.specs.Row.{Row}
 use Rattle.query_rows.specs.Shaped.{IsShaped}
 use Rattle.plain_machine.specs.Gathering.{running_with}

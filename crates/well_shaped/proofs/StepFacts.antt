@@ -12,7 +12,7 @@ use Rattle.query_rows.specs.Shape.{LiesIn}
 use Rattle.query_rows.specs.declared.shape.Shape.{Shape}
 use Rattle.query_rows.specs.declared.shape.Shape.TheVariants.{Truth}
 use Rattle.query_rows.specs.ColumnShape.{column_shape}
-use Rattle.query_rows.specs.declared.column.Column.TheVariants.{Balance}
+use Rattle.query_terms.specs.declared.column.Column.TheVariants.{Balance}
 use Rattle.limits.specs.declared.bounds.Bounds.{Bounds}
 use Rattle.query_rows.specs.Row.{Row}
 use Rattle.query_rows.specs.Shaped.{IsShaped}

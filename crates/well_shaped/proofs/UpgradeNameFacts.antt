@@ -6,10 +6,10 @@ use Rattle.std.specs.List.{AllByRecursion}
 use Rattle.std.proofs.lemmas.Bool.{eqb-true}
 use Rattle.limits.specs.declared.bounds.Bounds.{Bounds}
 use Rattle.limits.specs.declared.bounds.Version.{Version}
-use Rattle.query_rows.specs.Column.{if_in, is_in, numbered, numbered_in}
+use Rattle.query_terms.specs.Column.{if_in, is_in, numbered, numbered_in}
 use Rattle.query_rows.specs.ColumnShape.{column_shape}
-use Rattle.query_rows.specs.declared.column.Column.{Column}
-use Rattle.query_rows.specs.declared.column.Column.TheVariants as column
+use Rattle.query_terms.specs.declared.column.Column.{Column}
+use Rattle.query_terms.specs.declared.column.Column.TheVariants as column
 use Rattle.query_code.specs.QueryFile.{code, file, parts, versioned}
 use Rattle.query_code.specs.declared.instruction.Instruction.{Instruction}
 use Rattle.query_code.specs.declared.instruction.Instruction.TheVariants as instruction

@@ -6,11 +6,11 @@ use Rattle.limits.specs.Version.{most_postings}
 use Rattle.limits.specs.declared.bounds.Bounds.{Bounds}
 use Rattle.limits.specs.declared.bounds.Version.{Version}
 use Rattle.limits.specs.declared.bounds.Version.TheVariants.{First, Second}
-use Rattle.query_rows.proofs.NumberFacts.{second_has_all}
-use Rattle.query_rows.specs.Column.{is_in, numbered}
+use Rattle.query_terms.proofs.NumberFacts.{second_has_all}
+use Rattle.query_terms.specs.Column.{is_in, numbered}
 use Rattle.query_rows.specs.ColumnShape.{AreBounds, column_shape}
-use Rattle.query_rows.specs.declared.column.Column.{Column}
-use Rattle.query_rows.specs.declared.column.Column.TheVariants as column
+use Rattle.query_terms.specs.declared.column.Column.{Column}
+use Rattle.query_terms.specs.declared.column.Column.TheVariants as column
 use Rattle.query_code.specs.Upgrade.{bounds_upgraded, upgraded}
 use Rattle.query_code.specs.declared.instruction.Instruction.{Instruction}
 use Rattle.query_code.specs.declared.instruction.Instruction.TheVariants as instruction

@@ -1,11 +1,12 @@
 use Rattle.bean_load.proofs.SmallFacts.{ordered_few, ordered_small}
 use Rattle.bean_load.proofs.loaded.load.Goals as goal
 
-pub invariant_of-result : goal.invariant_of-result
-invariant_of-result c =
-    let read = c.in_ok-read.read.directives.items in
-    let ordered = c.order_directives.new.directives.items in
-    let in_order = c.in_ok-order_directives.ensures in record {
-      small = ordered_small read ordered in_order c.in_ok-read.ensures.small;
-      few = ordered_few read ordered in_order c.in_ok-read.ensures.few;
-    }
+pub new-requires-clause-small : goal.new-requires-clause-small
+new-requires-clause-small c =
+    ordered_small c.in_ok-read.read.directives.items c.order_directives.new.directives.items
+    c.in_ok-order_directives.ensures c.in_ok-read.ensures.small
+
+pub new-requires-clause-few : goal.new-requires-clause-few
+new-requires-clause-few c =
+    ordered_few c.in_ok-read.read.directives.items c.order_directives.new.directives.items
+    c.in_ok-order_directives.ensures c.in_ok-read.ensures.few

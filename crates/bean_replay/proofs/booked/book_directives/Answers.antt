@@ -2,7 +2,7 @@ use Rattle.std.proofs.Common.{◌≡◌, ◌≤◌, ℕ, List, length, reverse, 
 use Rattle.std.proofs.lemmas.Result.{IfOk-weaker}
 use Rattle.std.specs.List.{AllByRecursion}
 use Rattle.limits.specs.declared.counts.TheConstants.{MOST_POSTINGS}
-use Rattle.bean_load.specs.Small.{IsSmall}
+use Rattle.bean_loaded.specs.Limited.{IsSmall}
 use Rattle.bean_transactions.specs.Methods.{method_in}
 use Rattle.bean_replay.specs.Booked.{IsBooked, IsFinished, method_in_ledger}
 use Rattle.bean_replay.specs.Method as spec

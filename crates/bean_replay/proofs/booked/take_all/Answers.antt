@@ -2,7 +2,7 @@ use Rattle.std.proofs.Common.{◌≡◌, ◌++◌, ◌∷◌, [], Err, reverse, 
 use Rattle.std.proofs.Common.{append_assoc, length, length-append, ◌∙◌}
 use Rattle.std.proofs.lemmas.List.{append-nil, length-reverse, reverse-append}
 use Rattle.std.specs.List.{AllByRecursion}
-use Rattle.bean_load.specs.Small.{IsSmall}
+use Rattle.bean_loaded.specs.Limited.{IsSmall}
 use Rattle.bean_transactions.specs.Methods.{method_in}
 use Rattle.bean_replay.proofs.FullFacts.{fault_of, full_for_good}
 use Rattle.bean_replay.proofs.SmallListFacts.{all_behind, all_front, all_reversed}

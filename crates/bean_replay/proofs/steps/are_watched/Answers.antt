@@ -1,6 +1,6 @@
 use Rattle.std.proofs.Common.{◌∙◌, ap, arith, sym}
 use Rattle.bean_directives.specs.declared.directive.Directive.{Directive}
-use Rattle.bean_load.specs.declared.placed.Placed.{Placed}
+use Rattle.bean_loaded.specs.declared.placed.Placed.{Placed}
 use Rattle.bean_replay.specs.Watched.{is_watching}
 use Rattle.bean_replay.proofs.WatchFacts.{one_unwatched}
 use Rattle.bean_replay.proofs.steps.are_watched.Goals as goal

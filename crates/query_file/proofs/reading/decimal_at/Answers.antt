@@ -1,7 +1,7 @@
 use Rattle.std.proofs.Common.{◌≡◌, Some, ◌∙◌, ap, sym, arith, to_z, of_z, rules}
 use Rattle.std.specs.Int.{w128}
 use Rattle.std.proofs.lemmas.Int.{ints}
-use Rattle.query_values.specs.Wide.{decimal_of}
+use Rattle.query_terms.specs.Wide.{decimal_of}
 use Rattle.query_code.specs.QueryFile.{decimal}
 use Rattle.query_file.proofs.reading.decimal_at.Goals as goal
 

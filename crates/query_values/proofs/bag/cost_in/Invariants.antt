@@ -1,6 +1,6 @@
 use Rattle.std.proofs.Common.{length}
 use Rattle.query_values.proofs.TotalFacts.{IsUpTo}
-use Rattle.query_values.specs.Total.{at_cost}
+use Rattle.query_holdings.specs.Total.{at_cost}
 use Rattle.query_values.proofs.bag.cost_in.Given as goal
 
 abbrev pub invariant-loop-key : goal.invariant-loop-key

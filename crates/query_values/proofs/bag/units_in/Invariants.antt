@@ -1,6 +1,6 @@
 use Rattle.std.proofs.Common.{length}
 use Rattle.query_values.proofs.TotalFacts.{IsUpTo}
-use Rattle.query_values.specs.Total.{without_lot}
+use Rattle.query_holdings.specs.Total.{without_lot}
 use Rattle.query_values.proofs.bag.units_in.Given as goal
 
 abbrev pub invariant-loop-key : goal.invariant-loop-key

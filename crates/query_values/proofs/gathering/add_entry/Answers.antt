@@ -4,7 +4,7 @@ use Rattle.std.specs.Int.RustNames.{FitsSigned}
 use Rattle.bean_lots.specs.Inventory.{count_of}
 use Rattle.query_values.specs.Aggregate.{gathered}
 use Rattle.query_values.specs.Held.{is_held}
-use Rattle.query_values.specs.Total.{bare_key}
+use Rattle.query_holdings.specs.Total.{bare_key}
 use Rattle.query_values.specs.declared.value.Value.TheVariants.{Inventory}
 use Rattle.query_values.proofs.TotalFacts.{both, within, fits_sum}
 use Rattle.query_values.proofs.gathering.add_entry.Goals as goal

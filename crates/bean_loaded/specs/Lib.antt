@@ -1,0 +1,2 @@
+pub mod Limited
+pub mod Loaded

@@ -1,0 +1,3 @@
+mod Examples
+pub mod NumberFacts
+pub mod WideFacts
