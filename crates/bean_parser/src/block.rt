@@ -63,6 +63,23 @@ fn takes_postings(kind: &Ranged<DirectiveKind<'_>>) -> bool
     matches!(kind, Ranged::Within(DirectiveKind::Transaction(_)))
 }
 
+/// The kind, with the postings that stand under it.
+#[inline(always)]
+fn with_postings<'a>(kind: DirectiveKind<'a>, postings: List<Posting<'a>>) -> DirectiveKind<'a>
+    ensures { result ≡ rule.with_body kind.entry [] postings.entry }
+{
+    match kind {
+        DirectiveKind::Transaction(transaction) => DirectiveKind::Transaction(Transaction {
+            flag: transaction.flag,
+            payee: transaction.payee,
+            narration: transaction.narration,
+            marks: transaction.marks,
+            postings,
+        }),
+        other => other,
+    }
+}
+
 /// The kind, with the tags, links and postings that stand under it.
 fn with_body<'a>(
     alloc: Global,
@@ -72,20 +89,11 @@ fn with_body<'a>(
 ) -> Result<DirectiveKind<'a>, AllocError>
     ensures { IfOk result (λ k. k ≡ rule.with_body kind.entry marks.entry postings.entry) }
 {
-    match kind {
-        DirectiveKind::Transaction(transaction) => {
-            let mut all = transaction.marks;
-            all.append(alloc, marks)?;
-            Ok(DirectiveKind::Transaction(Transaction {
-                flag: transaction.flag,
-                payee: transaction.payee,
-                narration: transaction.narration,
-                marks: all,
-                postings,
-            }))
-        }
-        other => Ok(other),
+    let mut kind = with_postings(kind, postings);
+    if let DirectiveKind::Transaction(transaction) = &mut kind {
+        transaction.marks.append(alloc, marks)?;
     }
+    Ok(kind)
 }
 
 fn directive_of<'a>(
@@ -124,23 +132,6 @@ fn dated<'a>(
     };
     let directive = directive_of(alloc, line, body, day, kind)?;
     Ok(Ranged::Within(Statement::Directive(directive)))
-}
-
-/// The kind, with the postings that stand under it.
-#[inline(always)]
-fn with_postings<'a>(kind: DirectiveKind<'a>, postings: List<Posting<'a>>) -> DirectiveKind<'a>
-    ensures { result ≡ rule.with_body kind.entry [] postings.entry }
-{
-    match kind {
-        DirectiveKind::Transaction(transaction) => DirectiveKind::Transaction(Transaction {
-            flag: transaction.flag,
-            payee: transaction.payee,
-            narration: transaction.narration,
-            marks: transaction.marks,
-            postings,
-        }),
-        other => other,
-    }
 }
 
 /// What a head says with nothing but postings under it, where all of it is in range.
