@@ -1,1 +1,2 @@
+pub mod KnownFacts
 pub mod StepFacts

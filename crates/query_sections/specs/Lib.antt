@@ -1,3 +1,4 @@
+pub mod Known
 pub mod Stack
 pub mod Slots
 pub mod Reading

@@ -27,12 +27,15 @@
 //! # Cost
 //!
 //! Each instruction takes a few steps beside what its operation takes. Texts, sets and the keys of
-//! positions are lent; a push on the stack takes no memory.
+//! positions are lent; a push on the stack takes no memory. Where the pool has a pattern, what was
+//! found in the last 1,024 texts is known, so that a text is searched once while it comes again and
+//! again, as the names of accounts do.
 #![tactic(auto)]
 
 mod binary;
 mod finders;
 mod frame;
+mod known;
 mod loading;
 mod loads;
 mod running;

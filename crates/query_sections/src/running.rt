@@ -53,7 +53,7 @@ fn push<'r>(
 fn unary<'r>(
     alloc: Global,
     pool: &[Constant<'r>],
-    finders: &mut Finders<'_>,
+    finders: &mut Finders<'r>,
     op: Unary,
     stack: &mut Stack<'r>,
 ) -> Result<(), AllocError>
@@ -133,7 +133,7 @@ fn execute<'r>(
     alloc: Global,
     pool: &[Constant<'r>],
     loads: &Loads<'_, 'r, '_>,
-    finders: &mut Finders<'_>,
+    finders: &mut Finders<'r>,
     instruction: Instruction,
     frame: &mut Frame<'r>,
 ) -> Result<(), AllocError>
@@ -193,7 +193,7 @@ fn step<'r>(
     alloc: Global,
     section: &Section<'_, 'r>,
     loads: &Loads<'_, 'r, '_>,
-    finders: &mut Finders<'_>,
+    finders: &mut Finders<'r>,
     frame: &mut Frame<'r>,
 ) -> Result<(), AllocError>
     requires built { finders.old ≡ map pattern_in section.now.pool.now }
@@ -216,7 +216,7 @@ pub fn go_on<'r>(
     alloc: Global,
     section: &Section<'_, 'r>,
     loads: &Loads<'_, 'r, '_>,
-    finders: &mut Finders<'_>,
+    finders: &mut Finders<'r>,
     frame: &mut Frame<'r>,
     most: u64,
 ) -> Result<u64, AllocError>

@@ -43,7 +43,7 @@ fn in_list(x: &Value<'_>, list: &Constant<'_>) -> bool
 fn applied<'r>(
     alloc: Global,
     pool: &[Constant<'_>],
-    finders: &mut Finders<'_>,
+    finders: &mut Finders<'r>,
     op: Unary,
     x: &Value<'r>,
 ) -> Result<Value<'r>, AllocError>
@@ -82,7 +82,7 @@ fn applied<'r>(
 pub fn apply_unary<'r>(
     alloc: Global,
     pool: &[Constant<'_>],
-    finders: &mut Finders<'_>,
+    finders: &mut Finders<'r>,
     op: Unary,
     x: Value<'r>,
 ) -> Result<Value<'r>, AllocError>
