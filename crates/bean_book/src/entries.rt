@@ -47,6 +47,21 @@ impl<'a> NoTexts<'a> {
     }
 }
 
+/// The names of the tags among marks. Few transactions have any: it stays out of what is done for
+/// each.
+#[inline(never)]
+fn tags_among<'a>(alloc: Global, marks: &[Mark<'a>]) -> Result<Shared<TextSet<'a>>, AllocError>
+    ensures { IfOk result (λ set. set ≡ set_of (flat_map spec.tag_in marks.now)) }
+{
+    let mut names = Vec::new(alloc);
+    for mark in marks {
+        if let Mark::Tag(tag) = mark {
+            names.push(Slice::new(tag.text()))?;
+        }
+    }
+    Shared::new(alloc, TextSet::new(names))
+}
+
 /// The names of the tags.
 fn tags_of<'a>(
     alloc: Global,
@@ -58,10 +73,18 @@ fn tags_of<'a>(
     if marks.is_empty() {
         return none.share();
     }
+    tags_among(alloc, marks)
+}
+
+/// The names of the links among marks, made apart as those of tags are.
+#[inline(never)]
+fn links_among<'a>(alloc: Global, marks: &[Mark<'a>]) -> Result<Shared<TextSet<'a>>, AllocError>
+    ensures { IfOk result (λ set. set ≡ set_of (flat_map spec.link_in marks.now)) }
+{
     let mut names = Vec::new(alloc);
     for mark in marks {
-        if let Mark::Tag(tag) = mark {
-            names.push(Slice::new(tag.text()))?;
+        if let Mark::Link(link) = mark {
+            names.push(Slice::new(link.text()))?;
         }
     }
     Shared::new(alloc, TextSet::new(names))
@@ -78,13 +101,7 @@ fn links_of<'a>(
     if marks.is_empty() {
         return none.share();
     }
-    let mut names = Vec::new(alloc);
-    for mark in marks {
-        if let Mark::Link(link) = mark {
-            names.push(Slice::new(link.text()))?;
-        }
-    }
-    Shared::new(alloc, TextSet::new(names))
+    links_among(alloc, marks)
 }
 
 /// The accounts of booked postings.

@@ -74,6 +74,22 @@ fn text_of<'a>(alloc: Global, value: &Value<'a>) -> Result<Option<PlainText<'a>>
     }))
 }
 
+/// Entries as texts under their keys, where there are some. It stays out of what is done for each
+/// transaction.
+#[inline(never)]
+fn made_of<'a>(alloc: Global, entries: &[MetaEntry<'a>]) -> Result<Metadata<'a>, AllocError>
+    ensures { IfOk result (λ metadata. metadata ≡ spec.items_of entries.now) }
+{
+    let mut items = Vec::with_capacity(alloc, entries.len())?;
+    for entry in entries {
+        items.push(MetaItem {
+            key: Slice::new(entry.key.text()),
+            text: text_of(alloc, &entry.value)?,
+        })?;
+    }
+    Metadata::new(alloc, items)
+}
+
 /// Entries as texts under their keys.
 pub(crate) fn metadata_of<'a>(
     alloc: Global,
@@ -84,12 +100,5 @@ pub(crate) fn metadata_of<'a>(
     if entries.is_empty() {
         return Ok(Metadata::empty());
     }
-    let mut items = Vec::with_capacity(alloc, entries.len())?;
-    for entry in entries {
-        items.push(MetaItem {
-            key: Slice::new(entry.key.text()),
-            text: text_of(alloc, &entry.value)?,
-        })?;
-    }
-    Metadata::new(alloc, items)
+    made_of(alloc, entries)
 }

@@ -1,10 +1,12 @@
 //! The rows of kept transactions.
-ghost use Rattle.std.specs.Prelude.{◌≡◌, ◌≤◌, ◌+◌, ◌++◌, ℕ, IfOk, IfSome, IsTrue, OnOk, length};
-ghost use Rattle.std.specs.Prelude.{slice_get};
+ghost use Rattle.std.specs.Prelude.{◌≡◌, ◌<◌, ◌≤◌, ◌+◌, ◌++◌, ◌∷◌, [], ℕ, IfOk, IfSome, IsTrue};
+ghost use Rattle.std.specs.Prelude.{OnOk, length, slice_get};
 ghost use Rattle.bean_interp.specs.Residual.{IsLight};
 ghost use Rattle.bean_transactions.specs.Tried.{booked_leg, whole_at};
 ghost use Rattle.limits.specs.declared.counts.TheConstants.{MOST_POSTINGS};
 ghost use Rattle.posting_table.specs.Plain as plain;
+ghost use Rattle.posting_table.specs.Shaped.{IsShaped};
+ghost use Rattle.query_rows.specs.ColumnShape.{widest};
 ghost use Rattle.bean_book.specs.Plain.{IsPlain};
 ghost use Rattle.bean_book.specs.Rows as spec;
 ghost use Rattle.bean_book.specs.Tame.{IsTameKept};
@@ -45,22 +47,33 @@ fn noted_at<'a>(
     Ok(Noted { written, metadata })
 }
 
-/// The same, where the one that was made last is at hand: most often it is of this posting.
-fn next_noted<'a>(
+/// Before any metadata is looked at: that of the posting behind the last, which isn't there.
+fn noted_nowhere<'a>(postings: &[Posting<'a>]) -> Noted<'a>
+    ensures { result.metadata ≡ spec.items_in (slice_get postings.now result.written) }
+{
+    Noted {
+        written: postings.len(),
+        metadata: Metadata::empty(),
+    }
+}
+
+/// Goes on to the metadata of the written posting of that number, which most often is at hand.
+fn go_on<'a>(
     alloc: Global,
     postings: &[Posting<'a>],
-    last: Noted<'a>,
+    noted: &mut Noted<'a>,
     written: usize,
-) -> Result<Noted<'a>, AllocError>
-    requires { last.metadata ≡ spec.items_in (slice_get postings.now last.written) }
-    ensures number { IfOk result (λ noted. noted.written ≡ written) }
-    ensures items { IfOk result (λ noted. noted.metadata
+) -> Result<(), AllocError>
+    requires { noted.old.metadata ≡ spec.items_in (slice_get postings.now noted.old.written) }
+    ensures number { OnOk result (noted.new.written ≡ written) }
+    ensures items { OnOk result (noted.new.metadata
         ≡ spec.items_in (slice_get postings.now written)) }
 {
-    if last.written == written {
-        return Ok(last);
+    if noted.written == written {
+        return Ok(());
     }
-    noted_at(alloc, postings, written)
+    *noted = noted_at(alloc, postings, written)?;
+    Ok(())
 }
 
 /// What a booked posting weighs.
@@ -169,6 +182,35 @@ fn row_of<'a>(
     })
 }
 
+/// Adds the row of a posting that has more of its own than what it adds to its account. It is a
+/// function of its own, so that any other makes no room for such a row.
+#[inline(never)]
+fn push_full<'a>(
+    alloc: Global,
+    ledger: &mut Ledger<'a>,
+    entry: &Shared<Entry<'a>>,
+    line: usize,
+    postings: &[Posting<'a>],
+    noted: &mut Noted<'a>,
+    posted: &Posted<'a>,
+) -> Result<(), AllocError>
+    requires noted { noted.old.metadata ≡ spec.items_in (slice_get postings.now noted.old.written) }
+    requires light { IsLight (booked_leg postings.now posted.now) }
+    requires room { length ledger.old.rows < MOST_POSTINGS }
+    requires shaped { IsShaped widest (spec.row_of entry.now line postings.now posted.now) }
+    ensures rows { OnOk result (ledger.new.rows
+        ≡ ledger.old.rows ++ spec.row_of entry.now line postings.now posted.now ∷ []) }
+    ensures decimals { OnOk result (ledger.new.decimals ≡ ledger.old.decimals) }
+    ensures noted { OnOk result (noted.new.metadata
+        ≡ spec.items_in (slice_get postings.now noted.new.written)) }
+{
+    go_on(alloc, postings, noted, posted.written)?;
+    let metadata = noted.metadata.share()?;
+    let row = row_of(entry, line, postings, metadata, posted)?;
+    ledger.push(row)?;
+    Ok(())
+}
+
 /// Adds the rows of the postings of a transaction that is kept.
 fn push_posted<'a>(
     alloc: Global,
@@ -185,16 +227,13 @@ fn push_posted<'a>(
 {
     let line = kept.written.place.line;
     let postings = kept.written.transaction.postings.as_slice();
-    let mut noted = noted_at(alloc, postings, 0)?;
+    let mut noted = noted_nowhere(postings);
     for one in kept.postings.as_slice() {
         if let Some(plain) = plain_row(entry, postings, one)? {
             ledger.push_plain(plain)?;
             continue;
         }
-        noted = next_noted(alloc, postings, noted, one.written)?;
-        let metadata = noted.metadata.share()?;
-        let row = row_of(entry, line, postings, metadata, one)?;
-        ledger.push(row)?;
+        push_full(alloc, ledger, entry, line, postings, &mut noted, one)?;
     }
     Ok(())
 }

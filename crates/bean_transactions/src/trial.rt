@@ -1,5 +1,5 @@
 //! Transactions that are tried: nothing is booked until all of one is known.
-ghost use Rattle.std.specs.Prelude.{◌≡◌, ◌≤◌, ◌^◌, IfOk, IfErr, length};
+ghost use Rattle.std.specs.Prelude.{◌≡◌, ◌≤◌, ◌^◌, IfOk, IfErr, false, length};
 ghost use Rattle.std.specs.List.{AllByRecursion};
 ghost use Rattle.bean_interp.specs.Balance.{is_balanced};
 ghost use Rattle.bean_interp.specs.Residual.{IsLight};
@@ -59,6 +59,32 @@ fn complete<'a>(
     }
 }
 
+/// Tries a transaction by its lines, as one that isn't booked as it is written. It is a function of
+/// its own, so that any other makes no room for lines.
+#[inline(never)]
+fn try_lines<'a>(
+    alloc: Global,
+    holdings: &Holdings<'a>,
+    methods: &Methods<'a>,
+    scales: &mut Scales<'a>,
+    spare: Vec<Posted<'a>>,
+    head: Head,
+    postings: &[Posting<'a>],
+) -> Result<Tried<'a>, Refusal<LineFault>>
+    requires bounded { IsBounded holdings.now }
+    requires few { additions_in holdings.now ≤ 2 ^ 40 }
+    requires inside { spec.is_outside postings.now ≡ false }
+    ensures tried { (s : Setting) → IsSettled s holdings.now methods.now head
+        → TriesOrLacks s postings.now result }
+    ensures balances { IfOk result (KnowsBalance postings.now) }
+{
+    let nothing = Inventory::new(alloc);
+    match line_up(alloc, holdings, &nothing, methods, head, postings) {
+        Ok(lines) => complete(alloc, scales, spare, head, postings, lines),
+        Err(stop) => Err(stop),
+    }
+}
+
 /// The postings that a transaction is booked as, or its first fault. Nothing that is held is
 /// changed. Where all are booked as they are written, it is known as well whether they balance. The
 /// postings stand in the memory of `spare`, whatever that list has.
@@ -86,11 +112,7 @@ pub fn try_transaction<'a>(
     if are_plain(postings) {
         return try_plain(scales, spare, head, postings);
     }
-    let nothing = Inventory::new(alloc);
-    match line_up(alloc, holdings, &nothing, methods, head, postings) {
-        Ok(lines) => complete(alloc, scales, spare, head, postings, lines),
-        Err(stop) => Err(stop),
-    }
+    try_lines(alloc, holdings, methods, scales, spare, head, postings)
 }
 
 /// Whether a transaction balances by the postings that it is booked as.

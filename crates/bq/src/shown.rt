@@ -1,12 +1,11 @@
 //! What `list` shows of a ledger.
-ghost use Rattle.std.specs.Prelude.{◌≡◌, ◌<◌, length, map, slice_get, Some};
+ghost use Rattle.std.specs.Prelude.{◌≡◌, slice_get, Some};
 ghost use Rattle.bq.specs.Columns as spec;
 ghost use Rattle.bq.specs.List.{shown_row};
 ghost use Rattle.posting_table.specs.Row.{entry_spelling};
 ghost use Rattle.query_values.specs.declared.value.Value.TheVariants as value;
-ghost use Rattle.table_printer.specs.CellText.{row_at};
 
-use posting_table::{EntryFlag, Ledger};
+use posting_table::{EntryFlag, HeldRow, Ledger};
 use query_terms::Column;
 use table_printer::{Cell, Rows};
 
@@ -36,49 +35,45 @@ fn flag_cell<'r>(flag: EntryFlag) -> Cell<'r>
     Cell::text(spelling)
 }
 
-impl Postings<'_, '_> {
-    /// The date of a posting.
-    fn date(&self, row: usize) -> Cell<'_>
-        requires { row < length self.now.ledger.now.rows }
-        ensures { Some result ≡ slice_get (row_at (map shown_row self.now.ledger.now.rows) row) 0 }
-    {
-        Cell::day(self.ledger.row(row).date())
-    }
-
-    /// How its transaction is marked.
-    fn flag(&self, row: usize) -> Cell<'_>
-        requires { row < length self.now.ledger.now.rows }
-        ensures { Some result ≡ slice_get (row_at (map shown_row self.now.ledger.now.rows) row) 1 }
-    {
-        flag_cell(self.ledger.row(row).flag())
-    }
-
-    /// The account of a posting.
-    fn account(&self, row: usize) -> Cell<'_>
-        requires { row < length self.now.ledger.now.rows }
-        ensures { Some result ≡ slice_get (row_at (map shown_row self.now.ledger.now.rows) row) 2 }
-    {
-        Cell::text(self.ledger.row(row).account().text())
-    }
-
-    /// The position of a posting.
-    #[tactic(auto, using(crate::proofs::ShownFacts::position_is_shown))]
-    fn position(&self, row: usize) -> Cell<'_>
-        requires { row < length self.now.ledger.now.rows }
-        ensures { Some result ≡ slice_get (row_at (map shown_row self.now.ledger.now.rows) row) 3 }
-    {
-        let posting = self.ledger.row(row);
-        Cell::position(posting.key(), posting.count())
-    }
+/// The date of a posting.
+fn date_of<'r>(row: &'r HeldRow<'_>) -> Cell<'r>
+    ensures { Some result ≡ slice_get (shown_row row.now) 0 }
+{
+    Cell::day(row.date())
 }
 
-impl Rows for Postings<'_, '_> {
+/// How the transaction of a posting is marked.
+fn flag_of<'r>(row: &'r HeldRow<'_>) -> Cell<'r>
+    ensures { Some result ≡ slice_get (shown_row row.now) 1 }
+{
+    flag_cell(row.flag())
+}
+
+/// The account of a posting.
+fn account_of<'r>(row: &'r HeldRow<'_>) -> Cell<'r>
+    ensures { Some result ≡ slice_get (shown_row row.now) 2 }
+{
+    Cell::text(row.account().text())
+}
+
+/// The position of a posting.
+fn position_of<'r>(row: &'r HeldRow<'_>) -> Cell<'r>
+    ensures { Some result ≡ slice_get (shown_row row.now) 3 }
+{
+    Cell::position(row.key(), row.count())
+}
+
+impl<'a> Rows for Postings<'_, 'a> {
     ghost use Rattle.std.specs.Prelude.{map};
     ghost use Rattle.bq.specs.List.{headers, shown_row};
+
+    type Row = HeldRow<'a>;
 
     ghost names = { λ _. headers };
 
     ghost rows = { λ postings. map shown_row postings.ledger.now.rows };
+
+    ghost values = { λ row. shown_row row };
 
     fn columns(&self) -> usize {
         4
@@ -92,13 +87,19 @@ impl Rows for Postings<'_, '_> {
         self.ledger.len()
     }
 
+    #[tactic(auto, using(crate::proofs::ShownFacts::row_shown))]
+    fn row(&self, number: usize) -> &HeldRow<'a> {
+        self.ledger.row(number)
+    }
+
+    #[inline(always)]
     #[tactic(auto, using(crate::proofs::ShownFacts::in_the_last))]
-    fn cell(&self, row: usize, column: usize) -> Cell<'_> {
+    fn cell<'r>(row: &'r HeldRow<'a>, column: usize) -> Cell<'r> {
         match column {
-            0 => self.date(row),
-            1 => self.flag(row),
-            2 => self.account(row),
-            _ => self.position(row),
+            0 => date_of(row),
+            1 => flag_of(row),
+            2 => account_of(row),
+            _ => position_of(row),
         }
     }
 }

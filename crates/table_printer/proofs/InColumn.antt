@@ -14,23 +14,17 @@ use Rattle.table_printer.specs.Heading.{heading_text}
 use Rattle.table_printer.specs.Line.{placed_text, header_cells, row_cells}
 use Rattle.table_printer.specs.declared.headings.Heading.{Heading}
 
--- a row that has a column is one of the rows
-some_row : {X : Type 0} (rows : List (List X)) (i j : ℕ) → j < length (get_or rows i [])
-    → i < length rows
-some_row [] i j h = absurd (omega arith)
-some_row (r ∷ rows) zero j h = omega arith
-some_row (r ∷ rows) (suc i) j h = let more = some_row rows i j h in omega arith
+-- a row of rows
+pub row_seen : {X : Type 0} (rows : List (List X)) (i : ℕ) (row : List X) → i < length rows
+    → row ≡ get_or rows i row → row ≡ get_or rows i []
+row_seen rows i row within is =
+    sym (get_or_from_slice_get rows i row []
+    (slice_get_read rows (length rows) i row refl within is))
 
--- what a row of rows has
-pub cell_seen : {X : Type 0} (rows : List (List X)) (i j : ℕ) (row : List X) (x : X)
-    → j < length (get_or rows i []) → row ≡ get_or rows i row → x ≡ get_or row j x
-    → Some x ≡ slice_get (get_or rows i []) j
-cell_seen rows i j row x within is_row is_x =
-    let same : get_or rows i [] ≡ row =
-    get_or_from_slice_get rows i row []
-    (slice_get_read rows (length rows) i row refl (some_row rows i j within) is_row) in
-    let wide = ap length same in
-    sym (ap (λ l. slice_get l j) same ∙ slice_get_read row (length row) j x refl (omega arith) is_x)
+-- what a row has
+pub cell_seen : {X : Type 0} (row : List X) (j : ℕ) (x : X) → j < length row → x ≡ get_or row j x
+    → Some x ≡ slice_get row j
+cell_seen row j x within is = sym (slice_get_read row (length row) j x refl within is)
 
 -- a row is what stands at its place, whatever stands behind the last
 pub row_is : (rows : List (List Value)) (i : ℕ) → i < length rows

@@ -1,12 +1,18 @@
 //! The answer of a query, as rows of cells.
 use crate::cell::Cell;
 use crate::rows::Rows;
+use bean_base::List;
 use query_answer::Answer;
+use query_values::Value;
 
-impl Rows for Answer<'_> {
+impl<'a> Rows for Answer<'a> {
+    type Row = List<Value<'a>>;
+
     ghost names = { λ answer. answer.headers };
 
     ghost rows = { λ answer. answer.rows };
+
+    ghost values = { λ row. row };
 
     fn columns(&self) -> usize {
         self.headers.as_slice().len()
@@ -20,7 +26,11 @@ impl Rows for Answer<'_> {
         self.rows.as_slice().len()
     }
 
-    fn cell(&self, row: usize, column: usize) -> Cell<'_> {
-        Cell::kept(&self.rows.as_slice()[row].as_slice()[column])
+    fn row(&self, number: usize) -> &List<Value<'a>> {
+        &self.rows.as_slice()[number]
+    }
+
+    fn cell<'r>(row: &'r List<Value<'a>>, column: usize) -> Cell<'r> {
+        Cell::kept(&row.as_slice()[column])
     }
 }

@@ -3,7 +3,6 @@
 ghost use Rattle.std.specs.Prelude.{◌≡◌, ◌<◌, length, map, slice_get, Some, IfOk, OnOk, All};
 ghost use Rattle.std.specs.Prelude.{vec_len};
 ghost use Rattle.posting_table.specs.Decimals.{decimals_of};
-ghost use Rattle.table_printer.specs.CellText.{row_at};
 ghost use Rattle.table_printer.specs.Heading.{bare_heading, heading_text, width_of, with_cell};
 ghost use Rattle.table_printer.specs.Heading.{with_row};
 ghost use Rattle.table_printer.specs.Table.{text_of, headers_from, widths_of};
@@ -81,19 +80,18 @@ fn widen(
 /// The same for all cells of a row.
 fn widen_all<T: Rows>(
     headings: &mut [Heading<'_>],
-    table: &T,
-    row: usize,
+    row: &T::Row,
     scratch: &mut Scratch,
     display: &Display<'_>,
 ) -> Result<(), AllocError>
-    requires { length headings.old ≡ length (row_at (T.rows table.now) row) }
+    requires { length headings.old ≡ length (T.values row.now) }
     ensures { OnOk result (headings.new
-        ≡ with_row (decimals_of display.now) headings.old (row_at (T.rows table.now) row)) }
+        ≡ with_row (decimals_of display.now) headings.old (T.values row.now)) }
 {
     for column in 0..headings.len() {
         widen(
             &mut headings[column],
-            &table.cell(row, column),
+            &T::cell(row, column),
             scratch,
             display,
         )?;
@@ -118,7 +116,7 @@ pub(crate) fn headings<'t, T: Rows>(
 {
     let mut headings = bare_headings(alloc, table, scratch, display)?;
     for row in 0..table.len() {
-        widen_all(&mut headings, table, row, scratch, display)?;
+        widen_all::<T>(&mut headings, table.row(row), scratch, display)?;
     }
     Ok(headings)
 }

@@ -35,7 +35,8 @@
 //!
 //! A table is printed of whatever gives rows of cells ([`Rows`]): an [`Answer`], which keeps their
 //! values, or a view of a ledger, which makes each when it is asked for ([`Cell`]) and copies no
-//! text. Each row has as many cells as there are names.
+//! text. A row is looked up once for all of its cells, in each of two passes. Each row has as many
+//! cells as there are names.
 //!
 //! # Faults
 //!

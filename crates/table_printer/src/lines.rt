@@ -57,19 +57,17 @@ impl Line for HeaderLine<'_, '_> {
 
 /// A row; numbers stand right.
 #[derive(Clone, Copy)]
-pub(crate) struct RowLine<'t, T> {
-    pub table: &'t T,
-    pub row: usize,
+pub(crate) struct RowLine<'t, T: Rows> {
+    pub row: &'t T::Row,
 }
 
 impl<T: Rows> Line for RowLine<'_, T> {
-    ghost use Rattle.table_printer.specs.CellText.{row_at};
     ghost use Rattle.table_printer.specs.Line.{row_cells};
 
-    ghost cells = { λ line. row_cells (row_at (T.rows line.table.now) line.row) };
+    ghost cells = { λ line. row_cells (T.values line.row.now) };
 
     fn cell(&self, column: usize) -> Placed<'_> {
-        let cell = self.table.cell(self.row, column);
+        let cell = T::cell(self.row, column);
         let stands_right = is_number(&cell);
         Placed { cell, stands_right }
     }

@@ -5,13 +5,20 @@ ghost use Rattle.query_values.specs.declared.value.Value.{Value};
 
 use crate::cell::Cell;
 
-/// What a table is printed of: an answer, or what lends its cells from where they are.
+/// What a table is printed of: an answer, or what lends its cells from where they are. A row is
+/// looked up once for all of its cells.
 pub trait Rows {
+    /// A row, as it is kept.
+    type Row;
+
     /// The names of the columns.
     ghost names: { Self → List (List ℕ) };
 
     /// The rows.
     ghost rows: { Self → List (List Value) };
+
+    /// The cells of a row.
+    ghost values: { Self.Row → List Value };
 
     /// How many columns there are.
     fn columns(&self) -> usize
@@ -26,8 +33,13 @@ pub trait Rows {
     fn len(&self) -> usize
         ensures { result ≡ length (rows self.now) };
 
+    /// The row of that number, from 0.
+    fn row(&self, number: usize) -> &Self::Row
+        requires { number < length (rows self.now) }
+        ensures { values result.now ≡ row_at (rows self.now) number };
+
     /// What a row has in a column.
-    fn cell(&self, row: usize, column: usize) -> Cell<'_>
-        requires { column < length (row_at (rows self.now) row) }
-        ensures { Some result ≡ slice_get (row_at (rows self.now) row) column };
+    fn cell<'r>(row: &'r Self::Row, column: usize) -> Cell<'r>
+        requires { column < length (values row.now) }
+        ensures { Some result ≡ slice_get (values row.now) column };
 }

@@ -26,7 +26,10 @@ fn push_rows<T: Rows>(
         (map (map (text_of (decimals_of display.now))) (T.rows table.now))) }
 {
     for row in 0..table.len() {
-        push_line(out, &RowLine { table, row }, headings, scratch, display)?;
+        let line: RowLine<'_, T> = RowLine {
+            row: table.row(row),
+        };
+        push_line(out, &line, headings, scratch, display)?;
     }
     Ok(())
 }

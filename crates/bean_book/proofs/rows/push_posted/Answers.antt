@@ -14,12 +14,13 @@ use Rattle.bean_holdings.specs.declared.posted.Posted.{Posted}
 use Rattle.posting_table.specs.Ledger.{Ledger}
 use Rattle.posting_table.specs.Plain as plain
 use Rattle.posting_table.specs.Shaped.{IsShaped}
+use Rattle.posting_table.specs.declared.entry.Entry.{Entry}
 use Rattle.posting_table.specs.declared.row.Row.{Row}
 use Rattle.bean_replay.specs.declared.booking.Kept.{Kept}
 use Rattle.bean_book.specs.Tame.{IsTameKept}
 use Rattle.query_rows.specs.ColumnShape.{widest}
 use Rattle.posting_table.proofs.PartFacts.{row_lies}
-use Rattle.bean_book.specs.Rows.{entry_of, items_in, row_of}
+use Rattle.bean_book.specs.Rows.{entry_of, row_of}
 use Rattle.bean_book.proofs.ShapedFacts.{entry_short, row_small}
 use Rattle.bean_book.proofs.rows.push_posted.Goals as goal
 
@@ -32,8 +33,8 @@ light_at ps posted i p within is light =
     (all_unmapped (λ (q : Posted). IsLight (booked_leg ps q)) IsLight (booked_leg ps) (λ q h. h)
     posted light)
 
-pub row_of-requires-clause-light : goal.row_of-requires-clause-light
-row_of-requires-clause-light c =
+pub push_full-requires-clause-light : goal.push_full-requires-clause-light
+push_full-requires-clause-light c =
     let k = c.args.kept.now in
     let posted = c.as_slice-one-items.result.now in
     subst (λ ps. IsLight (booked_leg ps c.one-item.result)) (sym c.as_slice-postings.ensures)
@@ -95,15 +96,21 @@ behind k old new before row i p items pushed was is are within at =
     ∙ append_assoc old (map row_at (take i k.postings)) (row_at p ∷ [])
     ∙ ap (λ l. old ++ l) (sym (one_more k items i p are within at))
 
-pub push-requires-clause-shaped : goal.push-requires-clause-shaped
-push-requires-clause-shaped c =
+-- the row of a posting, of what is at hand of its transaction
+own_row : (k : Kept) (e : Entry) (ps : List Posting) (p : Posted) → e ≡ entry_of k
+    → ps ≡ k.written.transaction.postings
+    → row_of e k.written.place.line ps p
+    ≡ row_of (entry_of k) k.written.place.line k.written.transaction.postings p
+own_row k e ps p is are = λ i. row_of (is i) k.written.place.line (are i) p
+
+pub push_full-requires-clause-shaped : goal.push_full-requires-clause-shaped
+push_full-requires-clause-shaped c =
     let k = c.args.kept.now in
-    let line = k.written.place.line in
     let p = c.one-item.result in
-    lies k c.as_slice-one-items.result.now c.loop-one.one-index p c.in_ok-row.row c.requires.tame
+    lies k c.as_slice-one-items.result.now c.loop-one.one-index p _ c.requires.tame
     c.as_slice-one-items.ensures (omega arith) c.one-item.is
-    (c.in_ok-row.ensures ∙ ap (λ e. row_of e line c.as_slice-postings.result.now p) c.requires.entry
-    ∙ ap (λ ps. row_of (entry_of k) line ps p) c.as_slice-postings.ensures)
+    (own_row k c.args.entry.now c.as_slice-postings.result.now p c.requires.entry
+    c.as_slice-postings.ensures)
 
 pub push_plain-requires-clause-shaped : goal.push_plain-requires-clause-shaped
 push_plain-requires-clause-shaped c =
@@ -116,8 +123,8 @@ push_plain-requires-clause-shaped c =
     ∙ ap (λ e. row_of e line c.as_slice-postings.result.now p) c.requires.entry
     ∙ ap (λ ps. row_of (entry_of k) line ps p) c.as_slice-postings.ensures)
 
-pub push-requires-clause-room : goal.push-requires-clause-room
-push-requires-clause-room c =
+pub push_full-requires-clause-room : goal.push_full-requires-clause-room
+push_full-requires-clause-room c =
     let k = c.args.kept.now in
     let room = c.requires.room in
     let row = row_of (entry_of k) k.written.place.line k.written.transaction.postings in
@@ -165,18 +172,12 @@ loop-one-preserved-in-Some c =
 pub loop-one-preserved : goal.loop-one-preserved
 loop-one-preserved c =
     let k = c.args.kept.now in
-    let line = k.written.place.line in
     let p = c.one-item.result in record {
-      rows = behind k c.args.ledger.now.rows _ _ c.in_ok-row.row c.loop-one.one-index p
-          c.as_slice-one-items.result.now
-          (ap (λ (l : Ledger). l.rows) c.in_ok-push.ensures.pushed) c.loop-one.invariant.rows
-          (c.in_ok-row.ensures
-          ∙ ap (λ e. row_of e line c.as_slice-postings.result.now p) c.requires.entry
-          ∙ ap (λ ps. row_of (entry_of k) line ps p) c.as_slice-postings.ensures)
+      rows = behind k c.args.ledger.now.rows _ _ _ c.loop-one.one-index p
+          c.as_slice-one-items.result.now c.in_ok-push_full.ensures.rows c.loop-one.invariant.rows
+          (own_row k c.args.entry.now c.as_slice-postings.result.now p c.requires.entry
+          c.as_slice-postings.ensures)
           c.as_slice-one-items.ensures (omega arith) c.one-item.is;
-      decimals = ap (λ (l : Ledger). l.decimals) c.in_ok-push.ensures.pushed
-          ∙ c.loop-one.invariant.decimals;
-      noted = c.in_ok-noted-2.ensures.items
-          ∙ ap (λ n. items_in (slice_get c.as_slice-postings.result.now n))
-          (sym c.in_ok-noted-2.ensures.number);
+      decimals = c.in_ok-push_full.ensures.decimals ∙ c.loop-one.invariant.decimals;
+      noted = c.in_ok-push_full.ensures.noted;
     }

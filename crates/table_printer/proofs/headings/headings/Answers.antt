@@ -2,7 +2,6 @@ use Rattle.std.proofs.Common.{◌≡◌, ◌<◌, ◌+◌, ◌++◌, [], ap, ari
 use Rattle.std.proofs.Math.Seq.{take-append_seam}
 use Rattle.std.proofs.lemmas.List.{take_all}
 use Rattle.posting_table.specs.Decimals.{decimals_of}
-use Rattle.table_printer.specs.CellText.{row_at}
 use Rattle.table_printer.specs.Heading.{heading_text, width_of, with_row}
 use Rattle.table_printer.proofs.HeadingFacts.{length-under, one_more, over_none, texts_are, under}
 use Rattle.table_printer.proofs.HeadingFacts.{widths_are}
@@ -23,7 +22,7 @@ widen_all-requires g c =
     let last = c.len-row-end.ensures in
     let before = c.loop-row-test.true in
     c.deref_mut.ensures.len ∙ c.loop-row.invariant.len
-    ∙ sym (c.requires i [] (omega (arith, last, before)))
+    ∙ sym (ap length c.row.ensures ∙ c.requires i [] (omega (arith, last, before)))
 
 pub loop-row-preserved : goal.loop-row-preserved
 loop-row-preserved g c =
@@ -37,8 +36,8 @@ loop-row-preserved g c =
     let new = c.widen_all.new.headings in
     let made : new ≡ under display 0 (take (i + 1) rows) names =
     c.in_ok-widen_all.ensures
-    ∙ ap (λ hs. with_row display hs (row_at rows i))
-    (c.deref_mut.ensures.value ∙ c.loop-row.invariant.under)
+    ∙ (λ k. with_row display
+    ((c.deref_mut.ensures.value ∙ c.loop-row.invariant.under) k) (c.row.ensures k))
     ∙ one_more display rows names i within (c.requires i [] within) in
     let sized : c.loop-row.headings.len ≡ length new =
     c.loop-row.invariant.len

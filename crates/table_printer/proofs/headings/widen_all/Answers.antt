@@ -1,7 +1,6 @@
 use Rattle.std.proofs.Common.{ap, get_or, refl, slice_set, sym, ◌∙◌}
 use Rattle.std.proofs.lemmas.List.{length-set}
 use Rattle.posting_table.specs.Decimals.{decimals_of}
-use Rattle.table_printer.specs.CellText.{row_at}
 use Rattle.table_printer.specs.Heading.{with_cell}
 use Rattle.table_printer.proofs.HeadingFacts.{next_cell, with_none}
 use Rattle.table_printer.proofs.headings.widen_all.Goals as goal
@@ -15,7 +14,7 @@ loop-column-init g c = record {
 pub loop-column-preserved : goal.loop-column-preserved
 loop-column-preserved g c =
     let display = decimals_of c.args.display.now in
-    let row = row_at (g.T.Rows.rows c.args.table.now) c.args.row in
+    let row = g.T.Rows.values c.args.row.now in
     let i = c.loop-column.column in
     let h = c.index-headings-column.result in
     let v = c.cell.result in

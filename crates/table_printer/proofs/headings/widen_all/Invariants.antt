@@ -1,6 +1,5 @@
 use Rattle.std.proofs.Common.{◌≡◌, length, take}
 use Rattle.posting_table.specs.Decimals.{decimals_of}
-use Rattle.table_printer.specs.CellText.{row_at}
 use Rattle.table_printer.specs.Heading.{with_row}
 use Rattle.table_printer.proofs.headings.widen_all.Given as goal
 
@@ -8,6 +7,6 @@ abbrev pub invariant-loop-column : goal.invariant-loop-column
 invariant-loop-column g l = record {
   headings : l.headings
       ≡ with_row (decimals_of l.display) l.initial.headings
-      (take l.column (row_at (g.T.Rows.rows l.table) l.row));
+      (take l.column (g.T.Rows.values l.row));
   len : length l.headings ≡ length l.initial.headings;
 }

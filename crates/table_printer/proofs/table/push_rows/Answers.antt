@@ -17,7 +17,9 @@ loop-row-preserved g c =
     let i = c.loop-row.row in
     let within : i < length rows = omega (arith, c.loop-row-test.true, c.len-row-end.ensures) in
     c.in_ok-push_line.ensures
-    ∙ (λ k. c.loop-row.invariant k ++ line_of ws (row_texts places (row_at rows i) k))
+    ∙ (λ k. c.loop-row.invariant k ++ line_of ws
+    ((row_texts places (g.T.Rows.values c.row.result.now)
+    ∙ ap (map (text_of places)) c.row.ensures) k))
     ∙ append_assoc c.args.out.now.items _ _
     ∙ ap (λ l. c.args.out.now.items ++ l)
     (sym (lines_more (line_of ws) (map (text_of places)) rows i (row_at rows i) within

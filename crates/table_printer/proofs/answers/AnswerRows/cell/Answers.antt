@@ -4,10 +4,8 @@ use Rattle.table_printer.proofs.answers.AnswerRows.cell.Goals as goal
 
 pub returns : goal.returns
 returns c =
-    let row = c.index-as_slice-row.result in
     let cell = c.index-as_slice-column.result in
     ap Some c.kept.ensures
-    ∙ cell_seen c.args.self.now.rows c.args.row c.args.column row cell c.requires
-    (c.index-as_slice-row.is ∙ ap (λ rows. get_or rows c.args.row row) c.as_slice.ensures)
+    ∙ cell_seen c.args.row.now c.args.column cell c.requires
     (c.index-as_slice-column.is
-    ∙ ap (λ cells. get_or cells c.args.column cell) c.as_slice-2.ensures)
+    ∙ ap (λ cells. get_or cells c.args.column cell) c.as_slice.ensures)
