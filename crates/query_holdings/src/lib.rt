@@ -1,15 +1,15 @@
-//! What the inventories of queries hold: counts under keys, whose lots are lent from the ledger.
+//! What the inventories of queries hold: counts under keys that are lent from the ledger.
 //!
 //! ```text
 //! let mut held = Holding::new(alloc);
-//! held.add(BagKey::of(position.key()), 1_000)?;      // lends the lot of the position
-//! held.add(BagKey::bare(usd), 500)?;
-//! held.get(&BagKey::bare(usd));                      // 500
+//! held.add(BagKey::of(position.key()), 1_000)?;      // lends the key of the position
+//! held.add(BagKey::bare(Lent::new(&usd)), 500)?;
+//! held.get(&BagKey::bare(Lent::new(&usd)));          // 500
 //! ```
 //!
 //! A [`Holding`] is seen as an account's inventory is, as the list of its positions in order of
 //! entry, but knows nothing of lots that booking asks for. It is copied for each row of a running
-//! balance, so it is small: 48 bytes for each key ([`BagKey`]), whose lot is lent ([`Lent`]).
+//! balance, so it is small: 32 bytes for each key ([`BagKey`]), which is lent ([`Lent`]).
 //!
 //! # Cost
 //!
