@@ -110,7 +110,7 @@ impl<'r> BagKey<'r> {
     }
 
     /// The order of two keys: by currency, then by lot, none first.
-    pub fn compare(&self, other: &BagKey<'_>) -> Ordering
+    pub(crate) fn compare(&self, other: &BagKey<'_>) -> Ordering
         ensures { result ≡ key_order self.now other.now }
     {
         let currencies = self.currency.get().cmp(other.currency.get());

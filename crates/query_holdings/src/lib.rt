@@ -14,13 +14,16 @@
 //! # Cost
 //!
 //! Few keys are compared one by one, and more are hashed, so that one is found in constant time. What
-//! comes to 0 leaves a hole, until half of all are holes. To copy is linear in what is held.
+//! comes to 0 leaves a hole, until half of all are holes. To copy is linear in what is held. Entries in
+//! the order of their keys ([`Holdings::in_order`]) are lent, 32 bytes for each.
 #![tactic(auto)]
 
 mod bag_key;
+mod entry;
 mod holding;
 mod lent;
 
 pub use bag_key::BagKey;
+pub use entry::Entry;
 pub use holding::{Holding, Holdings};
 pub use lent::Lent;

@@ -66,6 +66,6 @@ pub use bag::{Bag, OwnBag};
 pub use cause::PatternCause;
 pub use operation::{Aggregate, Binary};
 pub use pattern::{Finder, Pattern};
-pub use query_holdings::{BagKey, Holding, Holdings, Lent};
+pub use query_holdings::{BagKey, Entry, Holding, Holdings, Lent};
 pub use text_set::TextSet;
 pub use value::Value;
