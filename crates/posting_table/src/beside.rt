@@ -71,28 +71,22 @@ impl<'a> Beside<'a> {
     }
 
     /// What the posting weighs, where that isn't what its units weigh by themselves.
-    pub(crate) fn weight(&self) -> Option<Weight<'a>>
-        ensures { result ≡ self.now.weight }
+    pub(crate) fn weight(&self) -> Option<&Weight<'a>>
+        ensures { option_copied result ≡ self.now.weight }
     {
         match &self.kept {
             Kept::Line(_) => None,
-            Kept::Parts(parts) => match &parts.get().weight {
-                Some(weight) => Some(weight.lend()),
-                None => None,
-            },
+            Kept::Parts(parts) => parts.get().weight.as_ref(),
         }
     }
 
     /// What a unit is priced at.
-    pub(crate) fn price(&self) -> Option<Amount<'a>>
-        ensures { result ≡ self.now.price }
+    pub(crate) fn price(&self) -> Option<&Amount<'a>>
+        ensures { option_copied result ≡ self.now.price }
     {
         match &self.kept {
             Kept::Line(_) => None,
-            Kept::Parts(parts) => match &parts.get().price {
-                Some(price) => Some(price.lend()),
-                None => None,
-            },
+            Kept::Parts(parts) => parts.get().price.as_ref(),
         }
     }
 

@@ -1,6 +1,7 @@
 //! Whether rows are within bounds.
 ghost use Rattle.std.specs.Prelude.{◌≡◌, ◌<◌, ◌^◌, All, IsTrue};
 ghost use Rattle.std.specs.List.{list_all};
+ghost use Rattle.std.specs.Option.{option_copied};
 ghost use Rattle.posting_table.specs.Row.{price_or_null};
 ghost use Rattle.posting_table.specs.Rows.{row_of};
 ghost use Rattle.posting_table.specs.Shaped.{IsShaped};
@@ -53,8 +54,9 @@ fn lot_fits(bounds: &Bounds, lot: &Option<Lot<'_>>, count: i128) -> bool
 }
 
 /// Whether a price is within bounds. The first schema knows none.
-fn price_fits(bounds: &Bounds, price: Option<Amount<'_>>) -> bool
-    ensures { result ≡ spec.price_fits bounds.now.schema bounds.now (price_or_null price.entry) }
+fn price_fits(bounds: &Bounds, price: Option<&Amount<'_>>) -> bool
+    ensures { result ≡ spec.price_fits bounds.now.schema bounds.now
+        (price_or_null (option_copied price.entry)) }
 {
     match (bounds.schema, price) {
         (Version::Second, Some(price)) => {
@@ -71,7 +73,7 @@ fn row_fits(bounds: &Bounds, row: &HeldRow<'_>) -> bool
 {
     has_digits(bounds.units_digits, row.count().unsigned_abs())
         && lot_fits(bounds, &row.key().lot, row.count())
-        && has_digits(bounds.value_digits, row.weight().count.unsigned_abs())
+        && has_digits(bounds.value_digits, row.weight_count().unsigned_abs())
         && price_fits(bounds, row.price())
 }
 

@@ -1,5 +1,6 @@
 //! Cells, and what the parts of a row have in their columns.
 ghost use Rattle.std.specs.Prelude.{◌≡◌};
+ghost use Rattle.std.specs.Option.{option_copied};
 ghost use Rattle.posting_table.specs.Cells.{entry_cell};
 ghost use Rattle.posting_table.specs.Cells as spec;
 ghost use Rattle.posting_table.specs.Row as row_spec;
@@ -45,14 +46,14 @@ pub(crate) fn flag_or_null<'r>(flag: Option<Flag>) -> Value<'r>
 }
 
 /// A price, or null where there is none.
-pub(crate) fn price_cell<'r>(price: Option<Amount<'r>>) -> Value<'r>
-    ensures { result ≡ price_or_null price.entry }
+pub(crate) fn price_cell<'r>(price: Option<&'r Amount<'_>>) -> Value<'r>
+    ensures { result ≡ price_or_null (option_copied price.entry) }
 {
     match price {
         Some(price) => Value::Amount {
             places: 8,
             count: price.number.scaled(8),
-            currency: price.currency,
+            currency: Lent::new(&price.currency),
         },
         None => Value::Null,
     }

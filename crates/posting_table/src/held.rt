@@ -1,5 +1,5 @@
 //! Rows as a ledger holds them.
-ghost use Rattle.std.specs.Prelude.{◌≡◌, ◌<◌, ◌^◌, IfOk, None};
+ghost use Rattle.std.specs.Prelude.{◌≡◌, ◌<◌, ◌^◌, ◌*ℤ◌, IfOk, None, ℤ, pos};
 ghost use Rattle.std.specs.Int.RustNames.{unsigned_abs};
 ghost use Rattle.std.specs.Option.{option_copied};
 ghost use Rattle.posting_table.specs.Held.{weight_in};
@@ -14,7 +14,7 @@ use crate::entry::{Entry, EntryFlag};
 use crate::keys::{HeldKey, Keys};
 use crate::row::{PlainRow, Row, Weight};
 use crate::shared::Shared;
-use bean_base::{Account, Amount, Day, Slice};
+use bean_base::{Account, Amount, Currency, Day, Slice};
 use bean_lots::{Key, Position};
 use query_terms::Column;
 use query_values::{Lent, Value};
@@ -55,14 +55,33 @@ impl<'a> Model for HeldRow<'a> {
     ghost invariant = { λ h. unsigned_abs h.count < 10 ^ 20 };
 }
 
+/// How much so many units weigh by themselves.
+fn weight_by_itself(count: i128) -> i128
+    requires { unsigned_abs count < 10 ^ 20 }
+    ensures { result ≡ count *ℤ pos (10 ^ 8) }
+{
+    count * 100_000_000
+}
+
 /// What units weigh by themselves.
 fn weight_by<'a>(key: &Key<'a>, count: i128) -> Weight<'a>
     requires { unsigned_abs count < 10 ^ 20 }
     ensures { result ≡ weight_in key.now.currency count None }
 {
     Weight {
-        count: count * 100_000_000,
+        count: weight_by_itself(count),
         currency: key.currency.lend(),
+    }
+}
+
+/// The currency of a weight that is held; where none is, that of the units.
+fn currency_in<'s, 'a>(weight: Option<&'s Weight<'a>>, key: &'s Key<'a>) -> &'s Currency<'a>
+    ensures { (n : ℤ) → result.now
+        ≡ (weight_in key.now.currency n (option_copied weight.entry)).currency }
+{
+    match weight {
+        Some(weight) => &weight.currency,
+        None => &key.currency,
     }
 }
 
@@ -178,31 +197,37 @@ impl<'a> HeldRow<'a> {
         self.key.get().key()
     }
 
-    /// What the posting weighs.
-    pub(crate) fn weight(&self) -> Weight<'a>
-        ensures { result ≡ self.now.weight }
+    /// How much the posting weighs, as a count of `10^-16`.
+    pub(crate) fn weight_count(&self) -> i128
+        ensures { result ≡ self.now.weight.count }
     {
         match self.beside.weight() {
-            Some(weight) => weight,
-            None => weight_by(self.key(), self.count),
+            Some(weight) => weight.count,
+            None => weight_by_itself(self.count),
         }
+    }
+
+    /// The currency of what the posting weighs.
+    fn weight_currency(&self) -> &Currency<'a>
+        ensures { result.now ≡ self.now.weight.currency }
+    {
+        currency_in(self.beside.weight(), self.key())
     }
 
     /// The row's weight as a cell.
     fn weight_cell(&self) -> Value<'_>
         ensures { result ≡ spec.cell_at self.now Column.Weight }
     {
-        let weight = self.weight();
         Value::Amount {
             places: 16,
-            count: weight.count,
-            currency: weight.currency,
+            count: self.weight_count(),
+            currency: Lent::new(self.weight_currency()),
         }
     }
 
     /// What a unit of the posting is priced at.
-    pub(crate) fn price(&self) -> Option<Amount<'a>>
-        ensures { result ≡ self.now.price }
+    pub(crate) fn price(&self) -> Option<&Amount<'a>>
+        ensures { option_copied result ≡ self.now.price }
     {
         self.beside.price()
     }

@@ -2,9 +2,9 @@
 ghost use Rattle.std.specs.Prelude.{◌≡◌, IsTrue};
 ghost use Rattle.std.proofs.Common.{ap};
 ghost use Rattle.std.specs.Cmp.{partial_equiv_from_equiv};
-ghost use Rattle.std.specs.Option.{option_copied, option_eq};
+ghost use Rattle.std.specs.Option.{option_cmp, option_copied, option_eq};
 ghost use Rattle.bean_lots.proofs.LotFacts.{same_key_Decides, same_key_equiv};
-ghost use Rattle.bean_lots.specs.Lot.{same_key, same_lot};
+ghost use Rattle.bean_lots.specs.Lot.{key_order, lot_order, same_key, same_lot};
 ghost use Rattle.query_holdings.specs.BagKey.{key_fed};
 ghost use Rattle.query_holdings.specs.Total.{bare_key, cost_count, cost_currency, is_count};
 
@@ -12,14 +12,15 @@ use crate::lent::Lent;
 use bean_base::Currency;
 use bean_lots::{Key, Lot};
 use key_counts::Lend;
+use std::cmp::Ordering;
 use std::hash::{Hash, Hasher};
 use std::marker::Model;
 
-/// What units in a bag are held as: a currency, in a lot or without one. The lot is lent from where
-/// it is kept, so that a bag is copied in few bytes. Contracts see the key itself.
+/// What units in a bag are held as: a currency, in a lot or without one. Both are lent from where they
+/// are kept, so that a bag is copied in few bytes. Contracts see the key itself.
 #[derive(Drop)]
 pub struct BagKey<'r> {
-    currency: Currency<'r>,
+    currency: Lent<'r, Currency<'r>>,
     lot: Option<Lent<'r, Lot<'r>>>,
 }
 
@@ -42,9 +43,21 @@ fn same_lots(a: &Option<Lent<'_, Lot<'_>>>, b: &Option<Lent<'_, Lot<'_>>>) -> bo
     }
 }
 
+/// The order of two lots, none first.
+fn compare_lots(a: &Option<Lent<'_, Lot<'_>>>, b: &Option<Lent<'_, Lot<'_>>>) -> Ordering
+    ensures { result ≡ option_cmp lot_order a.now b.now }
+{
+    match (a, b) {
+        (None, None) => Ordering::Equal,
+        (None, Some(_)) => Ordering::Less,
+        (Some(_), None) => Ordering::Greater,
+        (Some(a), Some(b)) => a.get().cmp(b.get()),
+    }
+}
+
 impl<'r> BagKey<'r> {
     /// Units of a currency without a lot.
-    pub fn bare(currency: Currency<'r>) -> BagKey<'r>
+    pub fn bare(currency: Lent<'r, Currency<'r>>) -> BagKey<'r>
         ensures { result ≡ bare_key currency.entry }
     {
         BagKey {
@@ -53,12 +66,12 @@ impl<'r> BagKey<'r> {
         }
     }
 
-    /// This key, whose lot is lent.
+    /// This key, lent.
     pub fn of(key: &'r Key<'r>) -> BagKey<'r>
         ensures { result ≡ key.now }
     {
         BagKey {
-            currency: key.currency.lend(),
+            currency: Lent::new(&key.currency),
             lot: match &key.lot {
                 Some(lot) => Some(Lent::new(lot)),
                 None => None,
@@ -71,7 +84,7 @@ impl<'r> BagKey<'r> {
         ensures { result ≡ self.now }
     {
         Key {
-            currency: self.currency.lend(),
+            currency: self.currency.get().lend(),
             lot: match &self.lot {
                 Some(lot) => Some(lot.get().lend()),
                 None => None,
@@ -80,10 +93,10 @@ impl<'r> BagKey<'r> {
     }
 
     /// The currency.
-    pub fn currency(&self) -> &Currency<'r>
+    pub fn currency(&self) -> &'r Currency<'r>
         ensures { result.now ≡ self.now.currency }
     {
-        &self.currency
+        self.currency.get()
     }
 
     /// The lot.
@@ -96,13 +109,21 @@ impl<'r> BagKey<'r> {
         }
     }
 
+    /// The order of two keys: by currency, then by lot, none first.
+    pub(crate) fn compare(&self, other: &BagKey<'_>) -> Ordering
+        ensures { result ≡ key_order self.now other.now }
+    {
+        let currencies = self.currency.get().cmp(other.currency.get());
+        currencies.then(compare_lots(&self.lot, &other.lot))
+    }
+
     /// The currency of what its units cost; without a lot, their own.
-    pub fn currency_at_cost(&self) -> Currency<'r>
-        ensures { result ≡ cost_currency self.now }
+    pub fn currency_at_cost(&self) -> &'r Currency<'r>
+        ensures { result.now ≡ cost_currency self.now }
     {
         match &self.lot {
-            Some(lot) => lot.get().cost.currency.lend(),
-            None => self.currency.lend(),
+            Some(lot) => &lot.get().cost.currency,
+            None => self.currency.get(),
         }
     }
 
@@ -136,7 +157,7 @@ impl PartialEq for BagKey<'_> {
     ghost laws = { partial_equiv_from_equiv same_key_equiv };
 
     fn eq(&self, other: &Self) -> bool {
-        self.currency == other.currency && same_lots(&self.lot, &other.lot)
+        self.currency.get() == other.currency.get() && same_lots(&self.lot, &other.lot)
     }
 }
 
@@ -151,7 +172,7 @@ impl Hash for BagKey<'_> {
     ghost respects_eq = { λ a b same. ap key_fed ((same_key_Decides a b).0 same) };
 
     fn hash<H: Hasher>(&self, state: &mut H) {
-        self.currency.hash(state);
+        self.currency.get().hash(state);
         if let Some(lot) = &self.lot {
             lot.get().cost.count.hash(state);
             lot.get().day.number().hash(state);

@@ -6,7 +6,7 @@ ghost use Rattle.bean_lots.specs.Inventory.{MayBeNegated, added, count_of};
 ghost use Rattle.query_holdings.specs.Total.{adds_up, at_cost, cost_total, total_from, units_total};
 ghost use Rattle.query_holdings.specs.Total.{without_lot};
 
-use query_holdings::{BagKey, Holding};
+use query_holdings::{BagKey, Holding, Lent};
 use std::alloc::{AllocError, Global};
 use std::marker::Model;
 
@@ -36,7 +36,7 @@ fn units_in<'r>(alloc: Global, inventory: &Holding<'r>) -> Result<Holding<'r>, A
     let mut held = Holding::new(alloc);
     let mut rest = inventory.positions();
     while let Some((key, count)) = rest.next_held() {
-        held.add(BagKey::bare(key.currency().lend()), count)?;
+        held.add(BagKey::bare(Lent::new(key.currency())), count)?;
     }
     Ok(held)
 }
@@ -50,7 +50,7 @@ fn cost_in<'r>(alloc: Global, inventory: &Holding<'r>) -> Result<Holding<'r>, Al
     let mut rest = inventory.positions();
     while let Some((key, count)) = rest.next_held() {
         let cost = key.count_at_cost(count);
-        held.add(BagKey::bare(key.currency_at_cost()), cost)?;
+        held.add(BagKey::bare(Lent::new(key.currency_at_cost())), cost)?;
     }
     Ok(held)
 }

@@ -106,7 +106,7 @@ pub fn equal(a: &Value<'_>, b: &Value<'_>) -> bool
                 count: n,
                 currency: d,
             },
-        ) => same_number(*p, *m, *q, *n) && c == d,
+        ) => same_number(*p, *m, *q, *n) && c.get() == d.get(),
         (Value::Position { key: j, count: m }, Value::Position { key: k, count: n }) => {
             same_position(j.get(), *m, k.get(), *n)
         }

@@ -45,7 +45,7 @@
 //!
 //! An operation takes a few steps; on texts it is linear in the text, on a list in the list, and on
 //! inventories it looks up each entry, by going through the others where these are few. An inventory
-//! takes 48 bytes for each of its entries, whose lots are lent ([`BagKey`]).
+//! takes 32 bytes for each of its entries, whose keys are lent ([`BagKey`]).
 #![tactic(auto)]
 
 pub mod arithmetic;
@@ -66,6 +66,6 @@ pub use bag::{Bag, OwnBag};
 pub use cause::PatternCause;
 pub use operation::{Aggregate, Binary};
 pub use pattern::{Finder, Pattern};
-pub use query_holdings::{BagKey, Holding, Holdings, Lent};
+pub use query_holdings::{BagKey, Entry, Holding, Holdings, Lent};
 pub use text_set::TextSet;
 pub use value::Value;

@@ -15,7 +15,7 @@ use crate::component::{leaf_of, parent_of, rank_of_root, root_of};
 use crate::value::Value;
 use bean_base::Slice;
 use bean_lots::Key;
-use query_holdings::BagKey;
+use query_holdings::{BagKey, Lent};
 use std::alloc::{AllocError, Global};
 
 /// The decimals of the counts of positions and costs.
@@ -136,7 +136,7 @@ pub fn currency<'r>(x: &Value<'r>) -> Value<'r>
     ensures { result ≡ currency_of x.now }
 {
     match x {
-        Value::Amount { currency, .. } => Value::Text(Slice::new(currency.text())),
+        Value::Amount { currency, .. } => Value::Text(Slice::new(currency.get().text())),
         Value::Position { key, .. } => Value::Text(Slice::new(key.get().currency.text())),
         _ => Value::Null,
     }
@@ -151,7 +151,7 @@ pub fn units<'r>(alloc: Global, x: &Value<'r>) -> Result<Value<'r>, AllocError>
         Value::Position { key, count } => Value::Amount {
             places: COUNT_PLACES,
             count: *count,
-            currency: key.get().currency.lend(),
+            currency: Lent::new(&key.get().currency),
         },
         Value::Inventory(bag) => Value::Inventory(OwnBag::new(alloc, bag.get().units(alloc)?)?),
         _ => Value::Null,
@@ -165,7 +165,7 @@ fn cost_of_units<'r>(key: &BagKey<'r>, count: i128) -> Value<'r>
     Value::Amount {
         places: COST_PLACES,
         count: key.count_at_cost(count),
-        currency: key.currency_at_cost(),
+        currency: Lent::new(key.currency_at_cost()),
     }
 }
 

@@ -8,7 +8,7 @@ use bean_lots::Key;
 use query_holdings::Lent;
 use std::alloc::AllocError;
 
-/// A value. Names, texts, sets and keys are lent from where they are kept.
+/// A value, in 32 bytes. Names, texts, sets and keys are lent from where they are kept.
 ///
 /// Its numbers are `count * 10^-places`; those of positions count `10^-8`.
 #[derive(Drop)]
@@ -25,7 +25,7 @@ pub enum Value<'r> {
     Amount {
         places: u8,
         count: i128,
-        currency: Currency<'r>,
+        currency: Lent<'r, Currency<'r>>,
     },
     Position {
         key: Lent<'r, Key<'r>>,

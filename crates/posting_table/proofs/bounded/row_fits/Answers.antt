@@ -2,7 +2,6 @@ use Rattle.std.proofs.Common.{◌<◌, ◌^◌, ◌∙◌, ap, of_z, subst, sym,
 use Rattle.std.specs.Int.{w128}
 use Rattle.std.specs.Int.RustNames.{unsigned_abs}
 use Rattle.bean_lots.specs.declared.lot.Key.{Key}
-use Rattle.posting_table.specs.declared.row.Weight.{Weight}
 use Rattle.query_rows.specs.Mass.{value_of}
 use Rattle.posting_table.proofs.FitFacts.{small_units, small_value}
 use Rattle.posting_table.proofs.FitFacts.{units_are_small, value_is_small, weight_is_small}
@@ -30,4 +29,4 @@ has_digits-requires-then-lot_fits c =
     let r = c.args.row.now in
     small_units r.weight.count _ (weight_is_small r c.requires)
     (c.unsigned_abs-then-lot_fits.ensures.value
-    ∙ ap (λ (w : Weight). unsigned_abs (to_z w128 (of_z w128 w.count))) c.weight.ensures)
+    ∙ ap (λ n. unsigned_abs (to_z w128 (of_z w128 n))) c.weight_count.ensures)

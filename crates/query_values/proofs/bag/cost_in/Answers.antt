@@ -32,7 +32,7 @@ add-requires c =
     c.in-Some.ensures.some c.loop-key.invariant in
     let fits : FitsSigned w128 e.count = search rules in
     let own : FitsSigned w128 c.count_at_cost-cost.result = search rules in
-    let key = c.bare.ensures ∙ ap bare_key c.currency_at_cost.ensures in
+    let key = c.bare.ensures ∙ ap bare_key (c.new.ensures ∙ c.currency_at_cost.ensures) in
     let count =
     c.count_at_cost-cost.ensures ∙ ap (cost_count e.key.lot) (to_z-of_z w128 e.count fits) in
     let sum : IsTrue (is_count (count_of held c.bare.result +ℤ c.count_at_cost-cost.result)) =
@@ -51,7 +51,7 @@ loop-key-preserved c =
     c.loop-key.invariant in
     let fits : FitsSigned w128 e.count = search rules in
     let own : FitsSigned w128 c.count_at_cost-cost.result = search rules in
-    let key = c.bare.ensures ∙ ap bare_key c.currency_at_cost.ensures in
+    let key = c.bare.ensures ∙ ap bare_key (c.new.ensures ∙ c.currency_at_cost.ensures) in
     let count =
     c.count_at_cost-cost.ensures ∙ ap (cost_count e.key.lot) (to_z-of_z w128 e.count fits) in
     let new =

@@ -20,7 +20,7 @@ add-requires c =
     one_more without_lot c.args.inventory.now c.loop-key.held c.loop-key.rest c.next_held.new.self e
     c.in-Some.ensures.some c.loop-key.invariant in
     let fits : FitsSigned w128 e.count = search rules in
-    let key = c.bare.ensures ∙ ap bare_key (c.lend.ensures ∙ c.currency.ensures) in
+    let key = c.bare.ensures ∙ ap bare_key (c.new.ensures ∙ c.currency.ensures) in
     subst (λ k. FitsSigned w128 (count_of c.loop-key.held k +ℤ to_z w128 (of_z w128 e.count)))
     (sym key)
     (fits_sum (count_of c.loop-key.held (bare_key e.key.currency)) e.count fits adds.sum)
@@ -34,7 +34,7 @@ loop-key-preserved c =
     one_more without_lot es c.loop-key.held c.loop-key.rest more e c.in-Some.ensures.some
     c.loop-key.invariant in
     let fits : FitsSigned w128 e.count = search rules in
-    let key = c.bare.ensures ∙ ap bare_key (c.lend.ensures ∙ c.currency.ensures) in
+    let key = c.bare.ensures ∙ ap bare_key (c.new.ensures ∙ c.currency.ensures) in
     let new =
     c.in_ok-add.ensures.ok ∙ ap₂ (added c.loop-key.held) key (to_z-of_z w128 e.count fits) in
     subst (λ held. IsUpTo without_lot es held more) (sym new) adds.next

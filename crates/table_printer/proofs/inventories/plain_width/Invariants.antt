@@ -1,13 +1,16 @@
-use Rattle.std.proofs.Common.{◌≡◌, length, take, true}
-use Rattle.std.specs.Int.{is_in_range}
-use Rattle.std.specs.List.{list_all}
+use Rattle.std.proofs.Common.{◌≡◌, ◌+◌, length}
 use Rattle.posting_table.specs.Decimals.{decimals_of}
-use Rattle.table_printer.specs.CellText.{entries_text}
+use Rattle.table_printer.proofs.WidthFacts.{AreBare, widths}
 use Rattle.table_printer.proofs.inventories.plain_width.Given as goal
 
-abbrev pub invariant-loop-i : goal.invariant-loop-i
-invariant-loop-i l = record {
-  width : l.width ≡ length (entries_text (decimals_of l.display) l.places (take l.i l.entries));
-  printable : list_all (is_in_range 32 126)
-      (entries_text (decimals_of l.display) l.places (take l.i l.entries)) ≡ true;
+-- those so far have no lot, and the width is theirs
+abbrev pub invariant-loop-key : goal.invariant-loop-key
+invariant-loop-key l = record {
+  width : l.width + widths (decimals_of l.display) l.places l.rest
+      ≡ widths (decimals_of l.display) l.places l.held;
+  bare : AreBare (decimals_of l.display) l.places l.rest
+      → AreBare (decimals_of l.display) l.places l.held;
 }
+
+abbrev pub decreases-loop-key : goal.decreases-loop-key
+decreases-loop-key l = length l.rest

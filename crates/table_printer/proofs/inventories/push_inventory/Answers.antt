@@ -1,6 +1,7 @@
 use Rattle.std.proofs.Common.{◌≡◌, ◌-◌, arith, length, length-append, ap, ◌∙◌}
 use Rattle.posting_table.specs.Decimals.{decimals_of}
-use Rattle.table_printer.specs.CellText.{entries_text, in_order}
+use Rattle.query_holdings.specs.Entries.{in_order}
+use Rattle.table_printer.specs.CellText.{entries_text}
 use Rattle.table_printer.specs.Table.{text_width}
 use Rattle.table_printer.proofs.Printable.{width_printable}
 use Rattle.table_printer.proofs.inventories.push_inventory.Goals as goal

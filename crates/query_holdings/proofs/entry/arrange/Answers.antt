@@ -6,8 +6,8 @@ use Rattle.theory.proofs.ArrangementFacts.{one_by_key}
 use Rattle.bean_lots.specs.Lot.{key_order}
 use Rattle.bean_lots.specs.declared.lot.Position.{Position}
 use Rattle.bean_lots.proofs.LotOrderFacts.{key_total}
-use Rattle.table_printer.specs.CellText.{comes_before}
-use Rattle.table_printer.proofs.inventories.arrange.Goals as goal
+use Rattle.query_holdings.specs.Entries.{comes_before}
+use Rattle.query_holdings.proofs.entry.arrange.Goals as goal
 
 pub returns : goal.returns
 returns c =
