@@ -6,8 +6,8 @@ ghost use Rattle.bean_pad.specs.Following as following;
 ghost use Rattle.bean_pad.specs.Following.{Follows, IsBounded, steps_in};
 ghost use Rattle.bean_pad.specs.Held.{at_8, held, written};
 ghost use Rattle.bean_pad.specs.Note as spec;
-ghost use Rattle.bean_pad.specs.Note.{IsAmong, IsBelow};
-ghost use Rattle.bean_pad.specs.Padded.{IsPadded};
+ghost use Rattle.bean_pad.specs.Note.{IsAmong, IsBelow, noted_pads};
+ghost use Rattle.bean_pad.specs.Padded.{IsPadded, faults_with};
 ghost use Rattle.bean_pad.specs.Trail.{IsNear, check_of};
 ghost use Rattle.bean_pad.specs.declared.check.Passed.TheVariants as passed;
 ghost use Rattle.bean_pad.specs.declared.step.Step.{Step};
@@ -248,6 +248,26 @@ impl<'a> Padder<'a> {
         }
     }
 
+    /// The faults of the pads, then those of the balances, of all steps.
+    fn faults(&self) -> Result<Vec<Fault>, AllocError>
+        requires bounded { IsBounded self.now }
+        requires few { steps_in self.now ≤ 2 ^ 40 }
+        ensures { (past : prelude.List Step) → Follows past self.now → IfOk result (λ faults.
+            faults.items ≡ faults_with (noted_pads past) past) }
+    {
+        let mut faults = Vec::new(self.alloc);
+        add_faults(&self.pads, &mut faults)?;
+        add_failing(self.alloc, &self.pads, &self.trail, &mut faults)?;
+        Ok(faults)
+    }
+
+    /// The pads, with what comes of each.
+    fn into_pads(self) -> Vec<NotedPad<'a>>
+        ensures { result ≡ self.entry.pads }
+    {
+        self.pads
+    }
+
     /// What the pads and balances come to, of all steps.
     pub fn finish(self) -> Result<Padded<'a>, AllocError>
         requires bounded { IsBounded self }
@@ -255,11 +275,9 @@ impl<'a> Padder<'a> {
         ensures { (past : prelude.List Step) → Follows past self.entry
             → IfOk result (λ padded. IsPadded past padded) }
     {
-        let mut faults = Vec::new(self.alloc);
-        add_faults(&self.pads, &mut faults)?;
-        add_failing(self.alloc, &self.pads, &self.trail, &mut faults)?;
+        let faults = self.faults()?;
         Ok(Padded {
-            pads: List::new(self.pads),
+            pads: List::new(self.into_pads()),
             faults: List::new(faults),
         })
     }

@@ -1,5 +1,3 @@
-pub mod NumberFacts
-pub mod BoundsFacts
 pub mod OneBook
 pub mod ShownFacts
 pub mod EndFacts

@@ -50,7 +50,7 @@ use Rattle.bq.specs.declared.given.Given.TheVariants.{Told, Kept}
 use Rattle.endings.specs.declared.refusal.Cause.TheVariants as cause
 use Rattle.endings.specs.declared.verdict.Verdict.TheVariants as verdict
 use Rattle.endings.specs.declared.verdict.Verdict.TheVariants.{Fine}
-use Rattle.bq.specs.declared.words.Request.TheVariants as request
+use Rattle.requests.specs.declared.words.Request.TheVariants as request
 use Rattle.query_rows.specs.ColumnShape.{widest}
 use Rattle.bq.proofs.EndFacts.{SaysOne, both_are, one_about_book, one_about_file, one_about_ledger}
 use Rattle.bq.proofs.EndFacts.{one_about_program, one_about_program_of, one_at_once, one_is}

@@ -17,7 +17,8 @@ use Rattle.stores.specs.Reading.{Reading}
 use Rattle.stores.specs.Source.{Gave}
 use Rattle.stores.specs.declared.source.Source.{Ghosts as SourceOf}
 use Rattle.bq.specs.Booking.{Books, FindsFaults}
-use Rattle.bq.specs.Commands.{due, due_to, request_in}
+use Rattle.requests.specs.Commands.{request_in}
+use Rattle.bq.specs.Commands.{due, due_to}
 use Rattle.bq.specs.Due.{ComesTo, Due, End, is_of_pattern}
 use Rattle.bq.specs.Files.{FileComes, ReadsFile, about_file}
 use Rattle.bq.specs.Ledgers.{about_book, about_ledger}
@@ -33,7 +34,7 @@ use Rattle.endings.specs.declared.refusal.Refusal.{Refusal}
 use Rattle.endings.specs.declared.refusal.Refusal.TheVariants.{OutOfMemory, Refused, NotWritten, NotKept}
 use Rattle.endings.specs.declared.verdict.Verdict.{Verdict}
 use Rattle.endings.specs.declared.verdict.Verdict.TheVariants.{Fine}
-use Rattle.bq.specs.declared.words.Request.{Request}
+use Rattle.requests.specs.declared.words.Request.{Request}
 use Rattle.bq.specs.Verified.{about_program}
 use Rattle.query_code.specs.declared.program.Parts.{Parts}
 use Rattle.query_files.specs.Files.{IsNotAccepted}

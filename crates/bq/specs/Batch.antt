@@ -1,18 +1,16 @@
 -- `batch K LEDGER FILE..`: what query files answer over a ledger, in turns of K steps each.
-use Rattle.std.specs.Prelude.{◌≡◌, ℕ, ◌^◌, ◌-◌, Bool, true, false, List, [], ◌∷◌, ◌++◌, codes, Ok}
-use Rattle.std.specs.Prelude.{Option, Some, if◌then◌else◌}
+use Rattle.std.specs.Prelude.{◌≡◌, ℕ, Bool, true, false, List, [], ◌∷◌, ◌++◌, codes, Ok}
+use Rattle.std.specs.Prelude.{if◌then◌else◌}
 use Rattle.std.specs.List.{list_any}
-use Rattle.std.specs.Option.{option_and_then, option_map}
 use Rattle.query_tables.specs.Fates.{AreFates, AreFatesOf}
 use Rattle.query_tables.specs.declared.tabulating.Fate.{Fate}
 use Rattle.query_tables.specs.declared.tabulating.Fate.TheVariants as fate
 use Rattle.bean_book.specs.declared.booked.Booked.{Booked}
-use Rattle.clap.specs.Lexer.{usize_max}
-use Rattle.clap.specs.Simple.{with_rule}
-use Rattle.clap.specs.Walk.{Row, Rule, Text, all_of, first_of}
+use Rattle.clap.specs.Walk.{Text}
 use Rattle.query_code.specs.declared.program.Parts.{Parts}
-use Rattle.bq.specs.Command.{Command, named, needed}
-use Rattle.bq.specs.Compile.{number_in}
+use Rattle.requests.specs.Batch as requests
+use Rattle.requests.specs.Batch.{Words}
+use Rattle.bq.specs.Command.{Command}
 use Rattle.bq.specs.Due.{Due, End}
 use Rattle.bq.specs.Files.{about_file}
 use Rattle.bq.specs.Ledgers.{about_book, about_ledger}
@@ -20,32 +18,6 @@ use Rattle.bq.specs.Verified.{about_program}
 use Rattle.bq.specs.declared.given.Given.TheVariants.{Told}
 use Rattle.endings.specs.declared.verdict.Verdict.{Verdict}
 use Rattle.endings.specs.declared.verdict.Verdict.TheVariants as verdict
-
--- ---- the words
-
--- the steps of a turn, the name of the ledger, and those of the files
-pub record Words : Type 0 where
-  pub steps : ℕ
-  pub ledger : Text
-  pub files : List Text
-
-abbrev pub words_of : ℕ → Text → List Text → Words
-words_of steps ledger files = record { steps = steps; ledger = ledger; files = files }
-
--- one or more
-abbrev pub files : Rule
-files = record (needed (codes "FILE")) {
-  range = Some (record { start_inclusive = 1; end_inclusive = usize_max });
-}
-
--- a number from 1 to the largest of 64 bits
-abbrev pub steps_in : List Row → Option ℕ
-steps_in rows = option_and_then (number_in (2 ^ 64 - 1)) (first_of (codes "K") rows)
-
-abbrev pub words_in : List Row → Option Words
-words_in rows =
-    option_and_then (λ steps. option_and_then (λ ledger. option_map (words_of steps ledger)
-    (all_of (codes "FILE") rows)) (first_of (codes "LEDGER") rows)) (steps_in rows)
 
 -- ---- what is told
 
@@ -103,8 +75,7 @@ FilesBatched names files b end =
 -- the same, however many steps a turn has
 abbrev pub batch : Command Words
 batch = record {
-  app = with_rule (named (codes "batch") (codes "K" ∷ codes "LEDGER" ∷ [])) files;
-  words_in = words_in;
+  words = requests.batch;
   due = λ w. about_files (λ programs. about_ledger (about_book (Batched w.files programs)) w.ledger)
       w.files;
 }

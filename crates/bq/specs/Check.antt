@@ -1,10 +1,11 @@
 -- `check LEDGER`: the lines of the faults of a ledger, and whether its books are fine.
-use Rattle.std.specs.Prelude.{◌≡◌, [], ◌∷◌, codes, Ok}
+use Rattle.std.specs.Prelude.{◌≡◌, Ok}
 use Rattle.bean_book.specs.declared.booked.Booked.{Booked}
 use Rattle.bean_load.specs.Texts.{Texts}
-use Rattle.clap.specs.Walk.{Text, first_of}
+use Rattle.clap.specs.Walk.{Text}
 use Rattle.fault_printer.specs.Lines.{lines_of}
-use Rattle.bq.specs.Command.{Command, named}
+use Rattle.requests.specs.Names as requests
+use Rattle.bq.specs.Command.{Command}
 use Rattle.bq.specs.Due.{End}
 use Rattle.bq.specs.Ledgers.{about_book, about_ledger}
 use Rattle.endings.specs.Verdict.{verdict_of}
@@ -20,7 +21,6 @@ Checks texts end = about_book (Checked texts) texts end
 
 abbrev pub check : Command Text
 check = record {
-  app = named (codes "check") (codes "LEDGER" ∷ []);
-  words_in = first_of (codes "LEDGER");
+  words = requests.check;
   due = about_ledger Checks;
 }

@@ -1,10 +1,11 @@
 -- `list LEDGER`: the table of the postings of a ledger.
-use Rattle.std.specs.Prelude.{◌≡◌, ℕ, List, [], ◌∷◌, map, codes, Ok}
+use Rattle.std.specs.Prelude.{◌≡◌, ℕ, List, map, Ok}
 use Rattle.bean_book.specs.declared.booked.Booked.{Booked}
 use Rattle.bean_load.specs.Texts.{Texts}
-use Rattle.clap.specs.Walk.{Text, first_of}
+use Rattle.clap.specs.Walk.{Text}
 use Rattle.bq.specs.Columns.{shown}
-use Rattle.bq.specs.Command.{Command, named}
+use Rattle.requests.specs.Names as requests
+use Rattle.bq.specs.Command.{Command}
 use Rattle.bq.specs.Due.{End}
 use Rattle.bq.specs.Ledgers.{about_book, about_ledger}
 use Rattle.bq.specs.declared.given.Given.TheVariants.{Told}
@@ -39,7 +40,6 @@ Lists texts end = about_book Listed texts end
 
 abbrev pub list : Command Text
 list = record {
-  app = named (codes "list") (codes "LEDGER" ∷ []);
-  words_in = first_of (codes "LEDGER");
+  words = requests.list;
   due = about_ledger Lists;
 }

@@ -20,7 +20,7 @@ use Rattle.endings.specs.declared.refusal.Refusal.{Refusal}
 use Rattle.endings.specs.declared.refusal.Refusal.TheVariants as refusal
 use Rattle.endings.specs.declared.verdict.Verdict.{Verdict}
 use Rattle.endings.specs.declared.verdict.Verdict.TheVariants.{Fine}
-use Rattle.bq.specs.declared.words.Request.{Request}
+use Rattle.requests.specs.declared.words.Request.{Request}
 
 -- What an output took: of this text so many bytes, from the front on, and the rest refused; or
 -- nothing was offered to it.

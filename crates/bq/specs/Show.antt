@@ -1,12 +1,13 @@
 -- `show FILE`: the listing of a query file.
-use Rattle.std.specs.Prelude.{◌≡◌, ℕ, List, [], ◌∷◌, codes, Result, Ok, Err}
-use Rattle.clap.specs.Walk.{Text, first_of}
+use Rattle.std.specs.Prelude.{◌≡◌, ℕ, List, Result, Ok, Err}
+use Rattle.clap.specs.Walk.{Text}
 use Rattle.query_code.specs.Listing.{listing}
 use Rattle.query_code.specs.QueryFile.{decoded}
 use Rattle.query_code.specs.declared.cause.FileCause.{FileCause}
 use Rattle.query_code.specs.declared.program.Parts.{Parts}
 use Rattle.query_verifier.specs.declared.cause.VerifierCause.TheVariants as verifier
-use Rattle.bq.specs.Command.{Command, named}
+use Rattle.requests.specs.Names as requests
+use Rattle.bq.specs.Command.{Command}
 use Rattle.bq.specs.Due.{End, at_once}
 use Rattle.bq.specs.Files.{about_file}
 use Rattle.bq.specs.declared.given.Given.TheVariants.{Told}
@@ -23,7 +24,6 @@ Shows bytes end = end ≡ listed (decoded bytes)
 
 abbrev pub show : Command Text
 show = record {
-  app = named (codes "show") (codes "FILE" ∷ []);
-  words_in = first_of (codes "FILE");
+  words = requests.show;
   due = about_file (λ bytes. at_once (Shows bytes));
 }

@@ -1,9 +1,10 @@
 -- `verify FILE`: whether a query file is accepted, and how long and how deep its program is.
-use Rattle.std.specs.Prelude.{◌≡◌, ℕ, List, [], ◌∷◌, ◌++◌, codes, length, Ok}
+use Rattle.std.specs.Prelude.{◌≡◌, ℕ, List, ◌++◌, codes, length, Ok}
 use Rattle.std.specs.Fmt.{decimal}
-use Rattle.clap.specs.Walk.{Text, first_of}
+use Rattle.clap.specs.Walk.{Text}
 use Rattle.query_code.specs.declared.program.Parts.{Parts}
-use Rattle.bq.specs.Command.{Command, named}
+use Rattle.requests.specs.Names as requests
+use Rattle.bq.specs.Command.{Command}
 use Rattle.bq.specs.Due.{End, at_once}
 use Rattle.bq.specs.Files.{about_file}
 use Rattle.bq.specs.Verified.{about_program}
@@ -25,7 +26,6 @@ Verifies p depth end = end ≡ Ok (Told Fine (line_of p depth))
 
 abbrev pub verify : Command Text
 verify = record {
-  app = named (codes "verify") (codes "FILE" ∷ []);
-  words_in = first_of (codes "FILE");
+  words = requests.verify;
   due = about_file (about_program (λ p depth. at_once (Verifies p depth)));
 }

@@ -2,9 +2,9 @@
 //!
 //! `run_words` is the program over any store and any outputs, and has the promise of the whole:
 //! which answer comes for which words and which texts, what is written with it, and the status.
-//! `words` says what words ask for, and `commands` has a module for what each command answers.
-//! `booking` makes the book of texts, and `shown` says what `list` shows of it; how the program
-//! ends, with an answer or without, is the crate `endings`. `in_memory` is the same over a store and
+//! `commands` has a module for what each command answers; what words ask for is the crate
+//! `requests`. `booking` makes the book of texts, and `shown` says what `list` shows of it; how the
+//! program ends, with an answer or without, is the crate `endings`. `in_memory` is the same over a store and
 //! outputs of memory, and `main` the program on the host's.
 #![tactic(auto)]
 
@@ -20,7 +20,6 @@ mod in_memory;
 mod run;
 mod shown;
 mod text;
-mod words;
 
 use crate::arguments::run_args;
 use endings::{Cause, Refusal};

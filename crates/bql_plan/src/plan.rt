@@ -172,25 +172,34 @@ pub fn numbered<'q, 'a>(
     })
 }
 
+/// What is numbered, with shapes.
+fn planned_over<'q, 'a>(
+    alloc: Global,
+    bounds: &Bounds,
+    query: &'q Query<'a>,
+    numbering: Numbering<'q, 'a>,
+) -> Result<Plan<'q, 'a>, AllocError>
+    requires { AreBounds bounds.now }
+    ensures { IfOk result (λ p. view.plan_of p
+        ≡ rule.planned_over bounds.now (query_of query.now) (view.numbered_of numbering.entry)) }
+{
+    Ok(Plan {
+        from: filter_with_shapes(alloc, bounds, &query.filters.from)?,
+        filter: filter_with_shapes(alloc, bounds, &query.filters.filter)?,
+        shown: all_with_shapes(alloc, bounds, numbering.shown.as_slice())?,
+        keys: all_with_shapes(alloc, bounds, numbering.grouping.keys.as_slice())?,
+        aggregates: all_with_inputs(alloc, bounds, numbering.aggregates.as_slice())?,
+        is_aggregating: numbering.grouping.is_aggregating,
+        order: numbering.order,
+    })
+}
+
 /// What is computed for a query that has a type.
 pub fn planned<'q, 'a>(alloc: Global, typed: &Typed<'q, 'a>) -> Result<Plan<'q, 'a>, AllocError>
     ensures plan { IfOk result (λ p. view.plan_of p
         ≡ rule.planned typed.now.bounds (query_of typed.now.query.now)) }
     ensures whole { IfOk result (λ p. IsWholePlan (view.plan_of p)) }
 {
-    let (bounds, query) = (&typed.bounds, typed.query);
-    let targets = query.targets.as_slice();
-    let items = query.order.items.as_slice();
-    let shown = with_items(targets_shown(alloc, targets)?, items)?;
-    let grouping = grouped_by(alloc, targets, &query.group)?;
-    let aggregates = aggregates(alloc, shown.as_slice())?;
-    Ok(Plan {
-        from: filter_with_shapes(alloc, bounds, &query.filters.from)?,
-        filter: filter_with_shapes(alloc, bounds, &query.filters.filter)?,
-        order: order(alloc, shown.as_slice(), items)?,
-        shown: all_with_shapes(alloc, bounds, shown.as_slice())?,
-        is_aggregating: grouping.is_aggregating,
-        keys: all_with_shapes(alloc, bounds, grouping.keys.as_slice())?,
-        aggregates: all_with_inputs(alloc, bounds, aggregates.as_slice())?,
-    })
+    let numbering = numbered(alloc, typed.query)?;
+    planned_over(alloc, &typed.bounds, typed.query, numbering)
 }

@@ -48,8 +48,37 @@ fn shown<'r>(
     Ok(shown)
 }
 
-/// Only the first of rows that show the same.
+/// What rows show, each once, in the order in which it is first shown.
 #[tactic(auto, using(crate::proofs::ShownFacts::once_on))]
+fn fronts_once<'r>(
+    alloc: Global,
+    rows: Vec<List<Value<'r>>>,
+    width: usize,
+) -> Result<IndexSet<ValueKey<'r>>, AllocError>
+    ensures { IfOk result (λ seen. seen.keys ≡ each_once [] (map (take width) rows.entry.items)) }
+{
+    let mut seen = IndexSet::new(alloc);
+    for row in rows {
+        seen.insert(ValueKey::new(front(row, width)))?;
+    }
+    Ok(seen)
+}
+
+/// The rows that keys are.
+fn rows_of<'r>(
+    alloc: Global,
+    keys: IndexSet<ValueKey<'r>>,
+) -> Result<Vec<List<Value<'r>>>, AllocError>
+    ensures { IfOk result (λ rows. rows.items ≡ keys.entry.keys) }
+{
+    let mut rows = Vec::with_capacity(alloc, keys.len())?;
+    for key in keys {
+        rows.push(List::new(key.into_vec()))?;
+    }
+    Ok(rows)
+}
+
+/// Only the first of rows that show the same.
 fn shown_once<'r>(
     alloc: Global,
     rows: Vec<List<Value<'r>>>,
@@ -57,15 +86,8 @@ fn shown_once<'r>(
 ) -> Result<Vec<List<Value<'r>>>, AllocError>
     ensures { IfOk result (λ shown. shown.items ≡ each_once [] (map (take width) rows.entry.items)) }
 {
-    let mut seen = IndexSet::new(alloc);
-    for row in rows {
-        seen.insert(ValueKey::new(front(row, width)))?;
-    }
-    let mut shown = Vec::with_capacity(alloc, seen.len())?;
-    for key in seen {
-        shown.push(List::new(key.into_vec()))?;
-    }
-    Ok(shown)
+    let seen = fronts_once(alloc, rows, width)?;
+    rows_of(alloc, seen)
 }
 
 fn limit_to(rows: &mut Vec<List<Value<'_>>>, limit: Option<u32>)

@@ -5,6 +5,7 @@ ghost use Rattle.query_tables.specs.Fates.{HasProgram};
 ghost use Rattle.bq.specs.Accepted.{AcceptsFile, AcceptsFiles};
 ghost use Rattle.bq.specs.Batch as command;
 ghost use Rattle.bq.specs.Runs.{Finds};
+ghost use Rattle.requests.specs.Batch as words;
 
 use crate::booking::book_of;
 use crate::commands::file::file_bytes;
@@ -156,7 +157,7 @@ pub fn answer<'w, S: Source>(
 ) -> Result<Given<'w>, Refusal>
     requires { 1 ≤ steps }
     ensures { Finds S.Source store.old store.new
-        (command.batch.due (command.words_of steps ledger.now names.now)) result }
+        (command.batch.due (words.words_of steps ledger.now names.now)) result }
 {
     let files = accepted_files(alloc, names, store)?;
     let batch = Batching {

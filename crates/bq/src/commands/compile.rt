@@ -1,6 +1,7 @@
 //! `compile TEXT FILE`: the file of a query's program.
 ghost use Rattle.std.specs.Prelude.{[]};
 ghost use Rattle.bq.specs.Compile as command;
+ghost use Rattle.requests.specs.Compile as words;
 ghost use Rattle.bq.specs.Due.{ComesTo};
 ghost use Rattle.query_rows.specs.ColumnShape.{AreBounds};
 
@@ -19,7 +20,7 @@ pub fn answer<'w>(
     bounds: &Bounds,
 ) -> Result<Given<'w>, Refusal>
     requires { AreBounds bounds.now }
-    ensures { ComesTo (command.compile.due (command.words_of text.now file.entry bounds.now) [])
+    ensures { ComesTo (command.compile.due (words.words_of text.now file.entry bounds.now) [])
         result }
 {
     let bytes = compiled(alloc, text, bounds)?;

@@ -2,14 +2,15 @@ use Rattle.std.proofs.Common.{[], map, Some, sym, ap, ◌∙◌, subst}
 use Rattle.clap.specs.Walk.{Text}
 use Rattle.stores.proofs.GaveFacts.{gave_none}
 use Rattle.bq.specs.Commands.{due_to}
-use Rattle.bq.specs.Compile.{compile, words_of}
+use Rattle.requests.specs.Compile.{words_of}
+use Rattle.bq.specs.Compile.{compile}
 use Rattle.bq.specs.Due.{ComesTo}
 use Rattle.bq.specs.Query.{query}
 use Rattle.bq.specs.RunFile as run_file
 use Rattle.bq.specs.Runs.{Finds}
 use Rattle.bq.specs.Upgrade.{upgrade}
-use Rattle.bq.specs.declared.words.Request.TheVariants as request
-use Rattle.bq.proofs.BoundsFacts.{bounds_asked, steps_asked}
+use Rattle.requests.specs.declared.words.Request.TheVariants as request
+use Rattle.requests.proofs.BoundsFacts.{bounds_asked, steps_asked}
 use Rattle.bq.proofs.Outcomes.{at_once_found, converted, found_for, unasked}
 use Rattle.bq.proofs.commands.find.Goals as goal
 

@@ -3,7 +3,8 @@ use Rattle.std.specs.List.{AllByRecursion}
 use Rattle.query_tables.specs.Fates.{HasProgram}
 use Rattle.bean_book.specs.declared.booked.Booked.{Booked}
 use Rattle.stores.proofs.GaveFacts.{gave_behind}
-use Rattle.bq.specs.Batch.{Batched, FilesBatched, batch, words_of}
+use Rattle.requests.specs.Batch.{words_of}
+use Rattle.bq.specs.Batch.{Batched, FilesBatched, batch}
 use Rattle.bq.specs.Due.{End}
 use Rattle.bq.specs.Ledgers.{about_book, about_ledger}
 use Rattle.bq.specs.Runs.{Finds}

@@ -10,7 +10,7 @@ use Rattle.bq.specs.Query.{Answered, FileAnswers, HasBounds}
 use Rattle.endings.specs.Refusal.{uncompiled}
 use Rattle.bq.proofs.Outcomes.{converted}
 use Rattle.bq.proofs.Programmed.{answered, has_bounds, of_ledger, programmed, uncompilable}
-use Rattle.bq.proofs.BoundsFacts.{widest_are}
+use Rattle.requests.proofs.BoundsFacts.{widest_are}
 use Rattle.bq.proofs.commands.query.answer.Goals as goal
 
 pub compiled-requires : goal.compiled-requires

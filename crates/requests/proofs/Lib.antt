@@ -1,0 +1,2 @@
+mod NumberFacts
+pub mod BoundsFacts

@@ -1,0 +1,5 @@
+pub mod Command
+pub mod Names
+pub mod Compile
+pub mod Batch
+pub mod Commands
