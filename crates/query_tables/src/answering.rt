@@ -10,14 +10,18 @@ ghost use Rattle.query_tables.specs.Table.{IsTableOfQuery};
 ghost use Rattle.well_shaped.specs.Program.{IsWellShaped};
 
 use crate::cause::AnswerCause;
-use crate::tables::table;
+use crate::tables::tabulated;
 use posting_table::Ledger;
+use query_machine::run;
 use query_verifier::check_file;
 use refusals::Refusal;
 use std::alloc::Global;
+use std::mem::forget;
 use verified_program::Checked;
 
 /// The table of a program that was checked, with the causes of files.
+/// The rows are left to the end of the process: those that were ordered lie anywhere, and to give
+/// them up one by one takes as long as to order them.
 fn run_checked(
     alloc: Global,
     program: &Checked<'_>,
@@ -25,14 +29,18 @@ fn run_checked(
 ) -> Result<Vec<u8>, Refusal<AnswerCause>>
     ensures { RunsChecked program.now.program.parts program.now.depth ledger.now result }
 {
-    match table(alloc, program, ledger) {
-        Ok(text) => Ok(text),
-        Err(Refusal::OutOfMemory) => Err(Refusal::OutOfMemory),
-        Err(Refusal::Refused(cause)) => Err(Refusal::Refused(AnswerCause::NotRun(cause))),
-    }
+    let answer = match run(alloc, program, ledger) {
+        Ok(answer) => answer,
+        Err(Refusal::OutOfMemory) => return Err(Refusal::OutOfMemory),
+        Err(Refusal::Refused(cause)) => return Err(Refusal::Refused(AnswerCause::NotRun(cause))),
+    };
+    let text = tabulated(alloc, program, ledger, &answer)?;
+    forget(answer);
+    Ok(text)
 }
 
-/// The table of what a query file answers over a ledger; or why it gives none.
+/// The table of what a query file answers over a ledger; or why it gives none. It is for a process
+/// that ends with its answer, which takes back the memory of the rows; [`table`] gives them up.
 pub fn answer_file(
     alloc: Global,
     file: &[u8],
