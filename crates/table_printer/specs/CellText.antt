@@ -4,13 +4,12 @@ use Rattle.std.specs.Prelude.{chars, codes, encode_utf8, slice_index_or, if◌th
 use Rattle.std.specs.Char.{is_control}
 use Rattle.std.specs.List.{flat_map}
 use Rattle.std.specs.Option.{is_none}
-use Rattle.theory.specs.Arrangement.{by_key, arranged_by}
 use Rattle.theory.specs.Joined.{joined}
 use Rattle.bean_base.specs.Character.{comma, space}
-use Rattle.bean_lots.specs.Lot.{key_order}
 use Rattle.bean_lots.specs.declared.lot.Key.{Key}
 use Rattle.bean_lots.specs.declared.lot.Lot.{Lot}
 use Rattle.bean_lots.specs.declared.lot.Position.{Position as Entry}
+use Rattle.query_holdings.specs.Entries.{in_order}
 use Rattle.query_values.specs.declared.bag.Bag.{Bag}
 use Rattle.query_values.specs.declared.value.Value.{Value}
 use Rattle.query_values.specs.declared.value.Value.TheVariants.{Null, Truth, Number, Text, Day, Set}
@@ -72,13 +71,6 @@ entry_text display places key count =
 -- the counts of positions and costs are of 10^-8
 abbrev pub position_text : (List ℕ → ℕ) → Key → ℤ → List ℕ
 position_text display key count = entry_text display 8 key count
-
--- by currency, then by lot, none first: by what it cost, its day and its label
-abbrev pub comes_before : Entry → Entry → Bool
-comes_before = by_key (λ entry. entry.key) key_order
-
-abbrev pub in_order : List Entry → List Entry
-in_order entries = arranged_by comes_before entries
 
 abbrev pub between_entries : List ℕ
 between_entries = codes ", "

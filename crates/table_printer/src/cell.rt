@@ -23,7 +23,7 @@ pub enum Shown<'r> {
     Amount {
         places: u8,
         count: i128,
-        currency: Currency<'r>,
+        currency: Lent<'r, Currency<'r>>,
     },
     Position {
         key: Lent<'r, Key<'r>>,
@@ -103,7 +103,7 @@ impl<'r> Cell<'r> {
             } => Shown::Amount {
                 places: *places,
                 count: *count,
-                currency: currency.lend(),
+                currency: Lent::new(currency.get()),
             },
             Value::Position { key, count } => Shown::Position {
                 key: Lent::new(key.get()),

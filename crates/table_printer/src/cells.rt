@@ -294,7 +294,7 @@ pub(crate) fn push_cell(
             out,
             *count,
             *places,
-            &currency.lend(),
+            currency.get(),
             display,
             &mut scratch.nears,
         ),
@@ -330,13 +330,7 @@ pub(crate) fn cell_width(
             places,
             count,
             currency,
-        } => Ok(units_width(
-            *count,
-            *places,
-            &currency.lend(),
-            display,
-            &mut scratch.nears,
-        )),
+        } => Ok(units_width(*count, *places, currency.get(), display, &mut scratch.nears)),
         Shown::Position { key, count } => position_width(key.get(), *count, scratch, display),
         Shown::Inventory { places, held } => inventory_width(
             *places,

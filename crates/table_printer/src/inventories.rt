@@ -1,59 +1,24 @@
 //! The texts of inventories, and how wide they are.
-ghost use Rattle.std.specs.Prelude.{◌≡◌, ◌+◌, ◌++◌, OnOk, IfOk, length, true};
+ghost use Rattle.std.specs.Prelude.{◌≡◌, ◌+◌, ◌++◌, OnOk, IfOk, IfSome, true};
 ghost use Rattle.std.specs.Int.{is_in_range};
 ghost use Rattle.std.specs.List.{list_all};
 ghost use Rattle.std.specs.String.{string_bytes};
 ghost use Rattle.posting_table.specs.Decimals.{decimals_of};
 ghost use Rattle.table_printer.specs.Table.{text_width};
-ghost use Rattle.table_printer.specs.CellText.{bag_text, between_entries, entries_text, in_order};
+ghost use Rattle.query_holdings.specs.Entries.{in_order};
+ghost use Rattle.table_printer.specs.CellText.{bag_text, between_entries, entries_text};
 ghost use Rattle.table_printer.specs.CellText.{is_plain};
 ghost use Rattle.theory.specs.Joined.{gap_before};
-ghost use Rattle.bean_lots.specs.Lot.{key_order};
 
 use crate::cells::{Scratch, push_units, units_width, width_of};
 use crate::nears::Nears;
 use crate::positions::add_entry;
-use bean_lots::Position;
 use posting_table::Display;
-use query_values::Holdings;
-use std::alloc::{AllocError, Global};
-use std::cmp::Ordering;
+use query_values::{Entry, Holdings};
+use std::alloc::AllocError;
 
-/// The entries of an inventory, in order of entry.
-fn entries_of<'b>(alloc: Global, held: &Holdings<'_, 'b>) -> Result<Vec<Position<'b>>, AllocError>
-    ensures { IfOk result (λ v. v.items ≡ held.now) }
-{
-    // Most have few.
-    let mut entries = Vec::with_capacity(alloc, 8)?;
-    let mut rest = held.lend();
-    while let Some(entry) = rest.next() {
-        entries.push(entry)?;
-    }
-    Ok(entries)
-}
-
-/// Puts entries in the order of their keys.
-fn arrange(entries: &mut Vec<Position<'_>>) -> Result<(), AllocError>
-    ensures { OnOk result (entries.new.items ≡ in_order entries.old.items) }
-{
-    entries.sort_by(
-        |a: &Position<'_>, b: &Position<'_>| -> Ordering
-            ensures { result ≡ key_order a.now.key b.now.key }
-        { a.key.cmp(&b.key) },
-    )
-}
-
-/// The entries of an inventory in the order of their keys.
-fn sorted_entries<'b>(
-    alloc: Global,
-    held: &Holdings<'_, 'b>,
-) -> Result<Vec<Position<'b>>, AllocError>
-    ensures { IfOk result (λ v. v.items ≡ in_order held.now) }
-{
-    let mut entries = entries_of(alloc, held)?;
-    arrange(&mut entries)?;
-    Ok(entries)
-}
+/// How wide what stands between two entries is.
+const BETWEEN_WIDTH: usize = 2;
 
 /// Adds what stands before an entry.
 fn add_gap(clean: &mut String, entry: usize) -> Result<(), AllocError>
@@ -77,16 +42,16 @@ fn push_between(out: &mut Vec<u8>, entry: usize) -> Result<(), AllocError>
 }
 
 /// Whether all entries are held without a lot, as most are.
-fn are_plain(entries: &[Position<'_>]) -> bool
+fn are_plain(entries: &[Entry<'_, '_>]) -> bool
     ensures { result ≡ list_all is_plain entries.now }
 {
-    entries.iter().all(|entry| entry.key.lot.is_none())
+    entries.iter().all(|entry| entry.key().lot().is_none())
 }
 
 /// Adds entries that are held without a lot.
 fn push_plain(
     out: &mut Vec<u8>,
-    entries: &[Position<'_>],
+    entries: &[Entry<'_, '_>],
     places: u8,
     nears: &mut Nears,
     display: &Display<'_>,
@@ -101,9 +66,9 @@ fn push_plain(
         push_between(out, i)?;
         push_units(
             out,
-            entry.count,
+            entry.count(),
             places,
-            &entry.key.currency,
+            entry.key().currency(),
             display,
             nears,
         )?;
@@ -111,45 +76,42 @@ fn push_plain(
     Ok(())
 }
 
-/// How many columns what stands before an entry takes.
-fn between_width(entry: usize) -> usize
-    ensures { result ≡ length (gap_before between_entries entry) }
+/// A width with one entry more, and what stands behind it.
+fn wider(width: usize, own: usize) -> Option<usize>
+    ensures { IfSome result (λ n. n ≡ width + own + 2) }
 {
-    if entry > 0 { 2 } else { 0 }
+    width.checked_add(own)?.checked_add(BETWEEN_WIDTH)
 }
 
-/// A sum of widths.
-fn sum(first: usize, second: usize) -> Result<usize, AllocError>
-    ensures { IfOk result (λ n. n ≡ first + second) }
-{
-    first.checked_add(second).ok_or(AllocError)
-}
-
-/// How many columns of a terminal entries take that are held without a lot.
+/// How many columns of a terminal entries take that are all held without a lot, or none where one is
+/// held in a lot. They take as many in any order.
 fn plain_width(
-    entries: &[Position<'_>],
+    held: &Holdings<'_, '_>,
     places: u8,
     nears: &mut Nears,
     display: &Display<'_>,
-) -> Result<usize, AllocError>
-    requires plain { list_all is_plain entries.now ≡ true }
-    ensures { IfOk result (λ n. n
-        ≡ text_width (entries_text (decimals_of display.now) places entries.now)) }
+) -> Option<usize>
+    ensures { IfSome result (λ n. n
+        ≡ text_width (entries_text (decimals_of display.now) places (in_order held.now))) }
 {
     let mut width: usize = 0;
-    for (i, entry) in entries.iter().enumerate() {
-        let own = units_width(entry.count, places, &entry.key.currency, display, nears);
-        let both = sum(between_width(i), own)?;
-        width = sum(width, both)?;
+    let mut rest = held.lend();
+    while let Some((key, count)) = rest.next_held() {
+        if key.lot().is_some() {
+            return None;
+        }
+        let own = units_width(count, places, key.currency(), display, nears);
+        width = wider(width, own)?;
     }
-    Ok(width)
+    // Nothing stands behind the last.
+    Some(width.saturating_sub(BETWEEN_WIDTH))
 }
 
 /// The text of entries, in place of what was there.
 fn make_entries(
     scratch: &mut Scratch,
     places: u8,
-    entries: &[Position<'_>],
+    entries: &[Entry<'_, '_>],
     display: &Display<'_>,
 ) -> Result<(), AllocError>
     ensures { OnOk result (string_bytes scratch.new.clean
@@ -158,7 +120,8 @@ fn make_entries(
     scratch.clean.clear();
     for (i, entry) in entries.iter().enumerate() {
         add_gap(&mut scratch.clean, i)?;
-        add_entry(scratch, &entry.key, entry.count, places, display)?;
+        let lent = entry.key();
+        add_entry(scratch, &lent.key(), entry.count(), places, display)?;
     }
     Ok(())
 }
@@ -175,7 +138,7 @@ pub(crate) fn push_inventory(
         ≡ out.old.items ++ bag_text (decimals_of display.now) (record { places = places; held = held.now })) }
     ensures width { IfOk result (λ n. n ≡ text_width (bag_text (decimals_of display.now) (record { places = places; held = held.now }))) }
 {
-    let entries = sorted_entries(scratch.alloc, held)?;
+    let entries = held.in_order(scratch.alloc)?;
     if are_plain(&entries) {
         let start = out.len();
         push_plain(out, &entries, places, &mut scratch.nears, display)?;
@@ -195,10 +158,10 @@ pub(crate) fn inventory_width(
 ) -> Result<usize, AllocError>
     ensures { IfOk result (λ n. n ≡ text_width (bag_text (decimals_of display.now) (record { places = places; held = held.now }))) }
 {
-    let entries = sorted_entries(scratch.alloc, held)?;
-    if are_plain(&entries) {
-        return plain_width(&entries, places, &mut scratch.nears, display);
+    if let Some(width) = plain_width(held, places, &mut scratch.nears, display) {
+        return Ok(width);
     }
+    let entries = held.in_order(scratch.alloc)?;
     make_entries(scratch, places, &entries, display)?;
     Ok(width_of(&scratch.clean))
 }

@@ -48,8 +48,8 @@
 //!
 //! Two passes over the rows: one measures all columns, one writes. The memory is that of the text,
 //! for which room is taken at once where its columns are narrow, of a few buffers that every cell
-//! uses again, of a word or two for each column, and of a word for each entry of an inventory while
-//! it is written.
+//! uses again, of a word or two for each column, and of 32 bytes for each entry of an inventory
+//! while it is written.
 #![tactic(auto)]
 
 mod answers;

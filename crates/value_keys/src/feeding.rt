@@ -102,7 +102,7 @@ pub fn feed<H: Hasher>(value: &Value<'_>, state: &mut H)
             currency,
         } => {
             feed_number(*places, *count, state);
-            currency.hash(state);
+            currency.get().hash(state);
         }
         Value::Position { key, count } => {
             count.hash(state);

@@ -20,11 +20,10 @@ loop-i-preserved c =
     let so_far = joined between_entries (map (text_of_entry display places) (take i entries)) in
     let gap = gap_before between_entries i in
     let fits : FitsSigned w128 entry.count = search rules in
+    let count = ap (λ n. to_z w128 (of_z w128 n)) c.count.ensures ∙ to_z-of_z w128 entry.count fits in
+    let key = c.key.ensures ∙ c.key-lent.ensures in
     c.in_ok-add_entry.ensures
-    ∙ (λ k. c.in_ok-add_gap.ensures k
-    ++ entry_text display places entry.key (to_z w128 (of_z w128 entry.count)))
-    ∙ ap (λ n. (string_bytes c.loop-i.scratch.clean ++ gap)
-    ++ entry_text display places entry.key n) (to_z-of_z w128 entry.count fits)
+    ∙ (λ k. c.in_ok-add_gap.ensures k ++ entry_text display places (key k) (count k))
     ∙ ap (λ l. (l ++ gap) ++ text_of_entry display places entry) c.loop-i.invariant
     ∙ append_assoc so_far gap (text_of_entry display places entry)
     ∙ sym (joined_next between_entries (text_of_entry display places) entries i entry

@@ -1,4 +1,4 @@
-use Rattle.std.proofs.Common.{◌≡◌, ℤ, List, None, arith, rules, subst, sym, ap, ◌∙◌}
+use Rattle.std.proofs.Common.{◌≡◌, ℕ, ℤ, List, None, arith, rules, subst, sym, ap, ◌∙◌, of_z, to_z}
 use Rattle.std.specs.Int.{w128}
 use Rattle.std.specs.Int.RustNames.{FitsSigned}
 use Rattle.std.proofs.lemmas.Int.{to_z-of_z}
@@ -8,7 +8,7 @@ use Rattle.number_texts.proofs.PrintableFacts.{Printable}
 use Rattle.table_printer.specs.CellText.{units_text}
 use Rattle.table_printer.specs.Table.{text_width}
 use Rattle.table_printer.proofs.Printable.{width_printable}
-use Rattle.table_printer.proofs.WidthFacts.{AreBare, widths, width_in_order}
+use Rattle.table_printer.proofs.WidthFacts.{AreBare, none_for, widths, width_in_order}
 use Rattle.table_printer.proofs.inventories.plain_width.Goals as goal
 
 pub loop-key-preserved : goal.loop-key-preserved
@@ -19,21 +19,24 @@ loop-key-preserved c =
     let front = c.in-Some.ensures.some in
     let units : ℤ → List ℕ → List ℕ = λ n currency. units_text display n places currency in
     let fits : FitsSigned w128 e.count = search rules in
-    let text = λ k. units (to_z-of_z w128 e.count fits k) (c.currency.ensures k) in
+    let text : units (to_z w128 (of_z w128 e.count)) c.currency.result.now ≡ units e.count e.key.currency =
+    λ k. units (to_z-of_z w128 e.count fits k) (c.currency.ensures k) in
     let own : Printable (units e.count e.key.currency) =
     subst Printable text c.units_width-own.ensures.printable in
+    let bare : e.key.lot ≡ None = sym c.lot.ensures
+    ∙ none_for _ c.lot.result (sym c.is_some.ensures ∙ c.if-is_some.false) in
     let wide = c.units_width-own.ensures.width ∙ ap text_width text
-        ∙ width_printable (units e.count e.key.currency) own in
+    ∙ width_printable (units e.count e.key.currency) own in
     record {
       width = omega (
         arith,
-        c.in_some-wider.ensures,
+        c.in_ok-width.ensures,
         wide,
         c.loop-key.invariant.width,
         ap (widths display places) front,
       );
       bare = λ h. c.loop-key.invariant.bare
-          (subst (AreBare display places) (sym front) (record { bare = ?; shown = own }, h));
+          (subst (AreBare display places) (sym front) (record { bare = bare; shown = own }, h));
     }
 
 pub returns : goal.returns
@@ -43,5 +46,5 @@ returns c =
     let done = c.in_default.ensures.none in
     let none = ap (widths display places) done in
     let width = width_in_order display places c.args.held.now
-        (c.loop-key.invariant.bare (subst (AreBare display places) (sym done) tt)) in
+    (c.loop-key.invariant.bare (subst (AreBare display places) (sym done) tt)) in
     omega (arith, c.saturating_sub.ensures, none, width, c.loop-key.invariant.width)

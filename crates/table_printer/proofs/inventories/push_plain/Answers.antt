@@ -1,7 +1,9 @@
 use Rattle.std.proofs.Common.{ℕ, ℤ, ◌<◌, List, ◌++◌, length, append_assoc, arith, rules, subst, sym, ap, take, ◌∙◌}
+use Rattle.std.proofs.Common.{of_z, to_z}
 use Rattle.std.specs.Int.{w128}
 use Rattle.std.specs.Int.RustNames.{FitsSigned}
 use Rattle.std.proofs.lemmas.Int.{to_z-of_z}
+use Rattle.bean_lots.specs.declared.lot.Key.{Key}
 use Rattle.posting_table.specs.Decimals.{decimals_of}
 use Rattle.number_texts.proofs.PrintableFacts.{Printable}
 use Rattle.theory.specs.Joined.{gap_before}
@@ -18,18 +20,20 @@ loop-i-preserved c =
     let entry = c.index-entries-i.result in
     let so_far = entries_text display places (take i entries) in
     let gap = gap_before between_entries i in
-    let units : ℤ → List ℕ = λ n. units_text display n places entry.key.currency in
+    let units : ℤ → List ℕ → List ℕ = λ n currency. units_text display n places currency in
+    let own = units entry.count entry.key.currency in
     let fits : FitsSigned w128 entry.count = search rules in
-    let same = to_z-of_z w128 entry.count fits in
+    let count = ap (λ n. to_z w128 (of_z w128 n)) c.count.ensures ∙ to_z-of_z w128 entry.count fits in
+    let currency = c.currency.ensures ∙ ap (λ (k : Key). k.currency) c.key.ensures in
     let within : i < length entries = omega (arith, c.loop-i-test.true) in record {
       text = c.in_ok-push_units.ensures.text
-          ∙ (λ k. c.in_ok-push_between.ensures k ++ units (same k))
-          ∙ ap (λ l. (l ++ gap) ++ units entry.count) c.loop-i.invariant.text
-          ∙ append_assoc (c.args.out.now.items ++ so_far) gap (units entry.count)
-          ∙ append_assoc c.args.out.now.items so_far (gap ++ units entry.count)
+          ∙ (λ k. c.in_ok-push_between.ensures k ++ units (count k) (currency k))
+          ∙ ap (λ l. (l ++ gap) ++ own) c.loop-i.invariant.text
+          ∙ append_assoc (c.args.out.now.items ++ so_far) gap own
+          ∙ append_assoc c.args.out.now.items so_far (gap ++ own)
           ∙ ap (λ l. c.args.out.now.items ++ l)
           (sym (next_is display places entries i entry within c.index-entries-i.is c.requires.plain));
       printable = next_printable display places entries i entry within c.index-entries-i.is
           c.requires.plain c.loop-i.invariant.printable
-          (subst (λ n. Printable (units n)) same c.in_ok-push_units.ensures.printable);
+          (subst Printable (λ k. units (count k) (currency k)) c.in_ok-push_units.ensures.printable);
     }
