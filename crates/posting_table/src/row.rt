@@ -14,18 +14,6 @@ pub struct Weight<'a> {
     pub currency: Currency<'a>,
 }
 
-impl<'a> Weight<'a> {
-    /// The same weight once more.
-    pub fn lend(&self) -> Weight<'a>
-        ensures { result ≡ self.now }
-    {
-        Weight {
-            count: self.count,
-            currency: self.currency.lend(),
-        }
-    }
-}
-
 /// A booked posting that has nothing of its own but what it adds to its account: it weighs what its
 /// units are, and has no lot, no price, no flag and no metadata.
 #[derive(Drop)]

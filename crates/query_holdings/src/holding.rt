@@ -14,7 +14,6 @@ ghost use Rattle.bean_lots.specs.Slots.{positions};
 ghost use Rattle.bean_lots.specs.declared.lot.Key.{Key as KeyValue};
 
 use crate::bag_key::BagKey;
-use bean_lots::Position;
 use key_counts::{KeyCounts, Run};
 use std::alloc::{AllocError, Global};
 use std::marker::Model;
@@ -222,15 +221,5 @@ impl<'s, 'r> Holdings<'s, 'r> {
         let (_, rest) = self.slots.split_at(behind);
         self.slots = rest;
         Some((key, count))
-    }
-
-    /// The next position, or none where there are no more.
-    pub fn next(&mut self) -> Option<Position<'r>>
-        ensures some { IfSome result (λ e. self.old ≡ e ∷ self.new) }
-        ensures none { IfNone result (self.old ≡ []) }
-    {
-        let (key, count) = self.next_held()?;
-        let key = key.key();
-        Some(Position { key, count })
     }
 }
