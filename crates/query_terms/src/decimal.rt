@@ -4,7 +4,6 @@ ghost use Rattle.std.specs.Int.RustNames.{unsigned_abs};
 ghost use Rattle.limits.specs.declared.counts.TheConstants.{COUNT_BOUND, MOST_PLACES};
 ghost use Rattle.query_terms.specs.WideCount as spec;
 
-use bean_base::Num;
 use limits::MOST_PLACES;
 
 /// `count * 10^-places`, with at most 32 places and a count of at most `2^127 - 1`, signs left off.
@@ -33,17 +32,6 @@ impl Decimal {
             Some(Decimal { count, places })
         } else {
             None
-        }
-    }
-
-    /// A number of the ledger.
-    pub fn of_num(number: Num) -> Decimal
-        ensures count { result.count ≡ number.count }
-        ensures places { result.places ≡ number.places }
-    {
-        Decimal {
-            count: number.count,
-            places: number.places,
         }
     }
 }
