@@ -170,7 +170,7 @@ module _ (b : Bounds) (pool : List Constant) (l : Loads) (g : Gathered) (rows : 
   null_beside (value.Text t) = refl
   null_beside (value.Day d) = refl
   null_beside (value.Set ts) = refl
-  null_beside (value.Amount p m c) = refl
+  null_beside (value.Amount p c m) = refl
   null_beside (value.Position k m) = refl
   null_beside (value.Inventory i) = refl
 
@@ -181,7 +181,7 @@ module _ (b : Bounds) (pool : List Constant) (l : Loads) (g : Gathered) (rows : 
   null_before (value.Text t) = refl
   null_before (value.Day d) = refl
   null_before (value.Set ts) = refl
-  null_before (value.Amount p m c) = refl
+  null_before (value.Amount p c m) = refl
   null_before (value.Position k m) = refl
   null_before (value.Inventory i) = refl
 

@@ -197,7 +197,7 @@ module _ (b : Bounds) (rows : List Reading) where
   as_they_are r (value.Day d) (value.Number q n ∷ ys) all may = absurd cc
   as_they_are r (value.Truth t) (value.Number q n ∷ ys) all may = absurd cc
   as_they_are r (value.Set ts) (value.Number q n ∷ ys) all may = absurd cc
-  as_they_are r (value.Amount p m c) (value.Number q n ∷ ys) all may = absurd cc
+  as_they_are r (value.Amount p c m) (value.Number q n ∷ ys) all may = absurd cc
   as_they_are r (value.Position k m) (value.Number q n ∷ ys) all may = absurd cc
   as_they_are r (value.Inventory i) (value.Number q n ∷ ys) all may = absurd cc
   as_they_are r x (y ∷ ys) all may = absurd all.0

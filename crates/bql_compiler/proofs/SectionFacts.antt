@@ -92,7 +92,7 @@ truth_of (value.Number p n) t e = absurd (no_value t e)
 truth_of (value.Text w) t e = absurd (no_value t e)
 truth_of (value.Day d) t e = absurd (no_value t e)
 truth_of (value.Set ts) t e = absurd (no_value t e)
-truth_of (value.Amount p n c) t e = absurd (no_value t e)
+truth_of (value.Amount p c n) t e = absurd (no_value t e)
 truth_of (value.Position k n) t e = absurd (no_value t e)
 truth_of (value.Inventory i) t e = absurd (no_value t e)
 

@@ -276,7 +276,7 @@ sold account units balance =
     ∷ balance ∷ []
 
 abbrev some_units : List ℕ → ℤ → Value
-some_units currency n = Amount 8 n currency
+some_units currency n = Amount 8 currency n
 
 journal :
     answer_of widest

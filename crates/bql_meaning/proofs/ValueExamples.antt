@@ -173,7 +173,7 @@ long = refl
 
 -- cost(position), cost(balance), abs(number), -number, number(position), currency(position)
 cost : at_posting (applied function.Cost (of_column column.Position))
-    ≡ Amount 16 (neg_ℤ (pos (1000 * 10 ^ 16))) (codes "USD")
+    ≡ Amount 16 (codes "USD") (neg_ℤ (pos (1000 * 10 ^ 16)))
 cost = refl
 
 cost_of_balance : at_posting (applied function.Cost (of_column column.Balance))

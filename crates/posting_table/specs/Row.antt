@@ -36,7 +36,7 @@ of_lot told (Some lot) = told lot
 abbrev pub price_or_null : Option amounts.Amount → Value
 price_or_null None = Null
 price_or_null (Some price) =
-    Amount 8 (scaled price.number.count price.number.places 8) price.currency
+    Amount 8 price.currency (scaled price.number.count price.number.places 8)
 
 -- the label of a lot
 abbrev pub label_of : Option Lot → Option (List ℕ)
@@ -63,7 +63,7 @@ cell_at r column.CostCurrency = of_lot (λ lot. Text lot.cost.currency) r.positi
 cell_at r column.CostDate = of_lot (λ lot. Day lot.day) r.position.key.lot
 cell_at r column.CostLabel = text_or_null (label_of r.position.key.lot)
 cell_at r column.Position = Position r.position.key r.position.count
-cell_at r column.Weight = Amount 16 r.weight.count r.weight.currency
+cell_at r column.Weight = Amount 16 r.weight.currency r.weight.count
 cell_at r column.Balance = Null
 cell_at r column.Lineno = whole r.line
 cell_at r column.Accounts = Set r.entry.accounts

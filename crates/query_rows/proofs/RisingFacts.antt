@@ -251,7 +251,7 @@ same_like p m n (value.Text t) = refl
 same_like p m n (value.Day d) = refl
 same_like p m n (value.Set ts) = refl
 same_like p m n (value.Number q k) = refl
-same_like p m n (value.Amount q k c) = refl
+same_like p m n (value.Amount q c k) = refl
 same_like p m n (value.Position k j) = refl
 same_like p m n (value.Inventory b) = refl
 

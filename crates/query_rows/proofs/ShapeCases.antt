@@ -23,7 +23,7 @@ truth_cases P null one (value.Text t) h = absurd h
 truth_cases P null one (value.Day d) h = absurd h
 truth_cases P null one (value.Set ts) h = absurd h
 truth_cases P null one (value.Number p n) h = absurd h
-truth_cases P null one (value.Amount p n c) h = absurd h
+truth_cases P null one (value.Amount p c n) h = absurd h
 truth_cases P null one (value.Position k n) h = absurd h
 truth_cases P null one (value.Inventory b) h = absurd h
 
@@ -36,7 +36,7 @@ text_cases P null one (value.Text t) h = one t h
 text_cases P null one (value.Day d) h = absurd h
 text_cases P null one (value.Set ts) h = absurd h
 text_cases P null one (value.Number p n) h = absurd h
-text_cases P null one (value.Amount p n c) h = absurd h
+text_cases P null one (value.Amount p c n) h = absurd h
 text_cases P null one (value.Position k n) h = absurd h
 text_cases P null one (value.Inventory b) h = absurd h
 
@@ -49,7 +49,7 @@ day_cases P null one (value.Text t) h = absurd h
 day_cases P null one (value.Day d) h = one d
 day_cases P null one (value.Set ts) h = absurd h
 day_cases P null one (value.Number p n) h = absurd h
-day_cases P null one (value.Amount p n c) h = absurd h
+day_cases P null one (value.Amount p c n) h = absurd h
 day_cases P null one (value.Position k n) h = absurd h
 day_cases P null one (value.Inventory b) h = absurd h
 
@@ -62,7 +62,7 @@ set_cases P null one (value.Text t) h = absurd h
 set_cases P null one (value.Day d) h = absurd h
 set_cases P null one (value.Set ts) h = one ts h.0 h.1
 set_cases P null one (value.Number p n) h = absurd h
-set_cases P null one (value.Amount p n c) h = absurd h
+set_cases P null one (value.Amount p c n) h = absurd h
 set_cases P null one (value.Position k n) h = absurd h
 set_cases P null one (value.Inventory b) h = absurd h
 
@@ -76,12 +76,12 @@ number_cases P q m null one (value.Day d) h = absurd h
 number_cases P q m null one (value.Set ts) h = absurd h
 number_cases P q m null one (value.Number p n) h =
     subst (λ r. P (value.Number r n)) (sym h.0) (one n h.1)
-number_cases P q m null one (value.Amount p n c) h = absurd h
+number_cases P q m null one (value.Amount p c n) h = absurd h
 number_cases P q m null one (value.Position k n) h = absurd h
 number_cases P q m null one (value.Inventory b) h = absurd h
 
 pub amount_cases : (P : Value → Type 0) (q m : ℕ) → P value.Null
-    → ((n : ℤ) (c : List ℕ) → unsigned_abs n ≤ m → IsShort c → P (value.Amount q n c))
+    → ((n : ℤ) (c : List ℕ) → unsigned_abs n ≤ m → IsShort c → P (value.Amount q c n))
     → (x : Value) → LiesIn x (shape.Amount q m) → P x
 amount_cases P q m null one value.Null h = null
 amount_cases P q m null one (value.Truth b) h = absurd h
@@ -89,8 +89,8 @@ amount_cases P q m null one (value.Text t) h = absurd h
 amount_cases P q m null one (value.Day d) h = absurd h
 amount_cases P q m null one (value.Set ts) h = absurd h
 amount_cases P q m null one (value.Number p n) h = absurd h
-amount_cases P q m null one (value.Amount p n c) h =
-    subst (λ r. P (value.Amount r n c)) (sym h.0) (one n c h.1 h.2)
+amount_cases P q m null one (value.Amount p c n) h =
+    subst (λ r. P (value.Amount r c n)) (sym h.0) (one n c h.1 h.2)
 amount_cases P q m null one (value.Position k n) h = absurd h
 amount_cases P q m null one (value.Inventory b) h = absurd h
 
@@ -104,7 +104,7 @@ position_cases P u v null one (value.Text t) h = absurd h
 position_cases P u v null one (value.Day d) h = absurd h
 position_cases P u v null one (value.Set ts) h = absurd h
 position_cases P u v null one (value.Number p n) h = absurd h
-position_cases P u v null one (value.Amount p n c) h = absurd h
+position_cases P u v null one (value.Amount p c n) h = absurd h
 position_cases P u v null one (value.Position k n) h = one k n h.0 h.1 h.2 h.3
 position_cases P u v null one (value.Inventory b) h = absurd h
 
@@ -118,6 +118,6 @@ inventory_cases P q u v null one (value.Text t) h = absurd h
 inventory_cases P q u v null one (value.Day d) h = absurd h
 inventory_cases P q u v null one (value.Set ts) h = absurd h
 inventory_cases P q u v null one (value.Number p n) h = absurd h
-inventory_cases P q u v null one (value.Amount p n c) h = absurd h
+inventory_cases P q u v null one (value.Amount p c n) h = absurd h
 inventory_cases P q u v null one (value.Position k n) h = absurd h
 inventory_cases P q u v null one (value.Inventory b) h = one b h.0 h.1 h.2

@@ -421,7 +421,7 @@ text_alike t (value.Text u) h = refl
 text_alike t (value.Day d) h = absurd cc
 text_alike t (value.Set ts) h = absurd cc
 text_alike t (value.Number p n) h = absurd cc
-text_alike t (value.Amount p n c) h = absurd cc
+text_alike t (value.Amount p c n) h = absurd cc
 text_alike t (value.Position k n) h = absurd cc
 text_alike t (value.Inventory b) h = absurd cc
 
@@ -432,7 +432,7 @@ day_alike d (value.Text u) h = absurd cc
 day_alike d (value.Day e) h = refl
 day_alike d (value.Set ts) h = absurd cc
 day_alike d (value.Number p n) h = absurd cc
-day_alike d (value.Amount p n c) h = absurd cc
+day_alike d (value.Amount p c n) h = absurd cc
 day_alike d (value.Position k n) h = absurd cc
 day_alike d (value.Inventory b) h = absurd cc
 
@@ -443,7 +443,7 @@ number_alike q m n (value.Text u) h = absurd cc
 number_alike q m n (value.Day e) h = absurd cc
 number_alike q m n (value.Set ts) h = absurd cc
 number_alike q m n (value.Number p k) h = h
-number_alike q m n (value.Amount p k c) h = absurd cc
+number_alike q m n (value.Amount p c k) h = absurd cc
 number_alike q m n (value.Position k i) h = absurd cc
 number_alike q m n (value.Inventory b) h = absurd cc
 

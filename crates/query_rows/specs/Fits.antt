@@ -31,13 +31,13 @@ position_fits b (Position key n) =
 position_fits b x = true
 
 abbrev pub weight_fits : Bounds → Value → Bool
-weight_fits b (Amount places n currency) = has_digits b.value_digits (unsigned_abs n)
+weight_fits b (Amount places currency n) = has_digits b.value_digits (unsigned_abs n)
 weight_fits b x = true
 
 -- a price; of the first schema, which knows none, nothing is asked
 abbrev pub price_fits : Version → Bounds → Value → Bool
 price_fits First b x = true
-price_fits Second b (Amount places n currency) = has_digits b.units_digits (unsigned_abs n)
+price_fits Second b (Amount places currency n) = has_digits b.units_digits (unsigned_abs n)
 price_fits Second b x = true
 
 abbrev pub row_fits : Bounds → Row → Bool

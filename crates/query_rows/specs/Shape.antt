@@ -26,7 +26,7 @@ LiesIn (value.Text t) Text = IsShort t
 LiesIn (value.Day d) Day = Unit {0}
 LiesIn (value.Set ts) Set = (length ts ≤ LARGEST_TEXT) × AllByRecursion IsShort ts
 LiesIn (value.Number p n) (Number q m) = (p ≡ q) × (unsigned_abs n ≤ m)
-LiesIn (value.Amount p n c) (Amount q m) = (p ≡ q) × (unsigned_abs n ≤ m) × IsShort c
+LiesIn (value.Amount p c n) (Amount q m) = (p ≡ q) × (unsigned_abs n ≤ m) × IsShort c
 LiesIn (value.Position k n) (Position u v) =
     (unsigned_abs n ≤ u) × (value_of k.lot n ≤ v) × IsShort k.currency
     × IsShort (cost_currency k)

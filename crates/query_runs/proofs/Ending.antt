@@ -104,7 +104,7 @@ module _ (p : Parts) (r : Row) (rest : List Row) (k : Kept Gathered) where
   stays (Text t ∷ ys) left x is no_truth fine = absurd (fine refl)
   stays (Day d ∷ ys) left x is no_truth fine = absurd (fine refl)
   stays (Set ts ∷ ys) left x is no_truth fine = absurd (fine refl)
-  stays (Amount q n c ∷ ys) left x is no_truth fine = absurd (fine refl)
+  stays (Amount q c n ∷ ys) left x is no_truth fine = absurd (fine refl)
   stays (Position c n ∷ ys) left x is no_truth fine = absurd (fine refl)
   stays (Inventory b ∷ ys) left x is no_truth fine = absurd (fine refl)
 
@@ -130,7 +130,7 @@ module _ (p : Parts) (r : Row) (rest : List Row) (k : Kept Gathered) where
   passes (Text t ∷ ys) left x is truth fine = absurd (fine refl)
   passes (Day d ∷ ys) left x is truth fine = absurd (fine refl)
   passes (Set ts ∷ ys) left x is truth fine = absurd (fine refl)
-  passes (Amount q n c ∷ ys) left x is truth fine = absurd (fine refl)
+  passes (Amount q c n ∷ ys) left x is truth fine = absurd (fine refl)
   passes (Position c n ∷ ys) left x is truth fine = absurd (fine refl)
   passes (Inventory b ∷ ys) left x is truth fine = absurd (fine refl)
 

@@ -76,7 +76,7 @@ sum_with p n (Number q m) = refl
 sum_with p n (Text t) = ap (Number p) (zero_more n)
 sum_with p n (Day d) = ap (Number p) (zero_more n)
 sum_with p n (Set ts) = ap (Number p) (zero_more n)
-sum_with p n (Amount q m c) = ap (Number p) (zero_more n)
+sum_with p n (Amount q c m) = ap (Number p) (zero_more n)
 sum_with p n (Position k m) = ap (Number p) (zero_more n)
 sum_with p n (Inventory b) = ap (Number p) (zero_more n)
 
@@ -96,7 +96,7 @@ entries_more (Number p n ∷ xs) x = entries_more xs x
 entries_more (Text t ∷ xs) x = entries_more xs x
 entries_more (Day d ∷ xs) x = entries_more xs x
 entries_more (Set ts ∷ xs) x = entries_more xs x
-entries_more (Amount p n c ∷ xs) x = ap (λ l. bare c n ∷ l) (entries_more xs x)
+entries_more (Amount p c n ∷ xs) x = ap (λ l. bare c n ∷ l) (entries_more xs x)
 entries_more (Position k n ∷ xs) x = ap (λ l. position k n ∷ l) (entries_more xs x)
 entries_more (Inventory b ∷ xs) x = entries_more xs x
 
@@ -114,7 +114,7 @@ gathered_with p es (Number q n) = refl
 gathered_with p es (Text t) = refl
 gathered_with p es (Day d) = refl
 gathered_with p es (Set ts) = refl
-gathered_with p es (Amount q n c) = refl
+gathered_with p es (Amount q c n) = refl
 gathered_with p es (Position k n) = refl
 gathered_with p es (Inventory b) = refl
 
@@ -148,7 +148,7 @@ null_is (Number p n) e = cc
 null_is (Text t) e = cc
 null_is (Day d) e = cc
 null_is (Set ts) e = cc
-null_is (Amount p n c) e = cc
+null_is (Amount p c n) e = cc
 null_is (Position k n) e = cc
 null_is (Inventory b) e = cc
 

@@ -141,12 +141,12 @@ bags_equiv = record {
 -- a value's parts, with nothing in place of what it lacks
 abbrev number_in : Value → ℕ × ℤ
 number_in (Number p n) = (p, n)
-number_in (Amount p n c) = (p, n)
+number_in (Amount p c n) = (p, n)
 number_in x = (0, pos 0)
 
 abbrev text_in : Value → List ℕ
 text_in (Text t) = t
-text_in (Amount p n c) = c
+text_in (Amount p c n) = c
 text_in x = []
 
 abbrev day_in : Value → ℤ
@@ -202,7 +202,7 @@ as_parts (Number p m) (Number q n) = and_true (same_number p m q n)
 as_parts (Text a) (Text b) = and_true (same_text a b)
 as_parts (Day a) (Day b) = and_true (int_eq (number a) (number b))
 as_parts (Set a) (Set b) = and_true (pointwise same_text a b)
-as_parts (Amount p m c) (Amount q n d) =
+as_parts (Amount p c m) (Amount q d n) =
     ap (λ b. same_number p m q n && b) (and_true (same_text c d))
 as_parts (Position j m) (Position k n) = ap (λ b. same_key j k && b) (and_true (int_eq m n))
 as_parts (Inventory a) (Inventory b) = refl

@@ -89,7 +89,7 @@ other_sign = refl
 without_sign : one unary.Abs (Number 0 (neg_ℤ (pos most))) ≡ Some (Number 0 (pos most))
 without_sign = refl
 
-without_sign_of_an_amount : one unary.Abs (Amount 0 (pos 1) (codes "USD")) ≡ None
+without_sign_of_an_amount : one unary.Abs (Amount 0 (codes "USD") (pos 1)) ≡ None
 without_sign_of_an_amount = refl
 
 -- comparisons

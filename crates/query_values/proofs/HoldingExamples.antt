@@ -48,14 +48,14 @@ at_cost = record {
   });
 }
 
-units : one unary.Units (Position at_cost (pos 10)) ≡ Some (Amount 8 (pos 10) (codes "HOOL"))
+units : one unary.Units (Position at_cost (pos 10)) ≡ Some (Amount 8 (codes "HOOL") (pos 10))
 units = refl
 
-cost : one unary.Cost (Position at_cost (pos 10)) ≡ Some (Amount 16 (pos 1000) (codes "USD"))
+cost : one unary.Cost (Position at_cost (pos 10)) ≡ Some (Amount 16 (codes "USD") (pos 1000))
 cost = refl
 
 cost_without_lot :
-    one unary.Cost (Position bare (pos 10)) ≡ Some (Amount 16 (pos 1000000000) (codes "USD"))
+    one unary.Cost (Position bare (pos 10)) ≡ Some (Amount 16 (codes "USD") (pos 1000000000))
 cost_without_lot = refl
 
 cost_of_null : one unary.Cost Null ≡ Some Null
@@ -89,7 +89,7 @@ costs_that_cancel = refl
 too_many_decimals_of_a_cost : one unary.Cost (bag 25 []) ≡ None
 too_many_decimals_of_a_cost = refl
 
-number : one unary.Number (Amount 16 (pos 7) (codes "USD")) ≡ Some (Number 16 (pos 7))
+number : one unary.Number (Amount 16 (codes "USD") (pos 7)) ≡ Some (Number 16 (pos 7))
 number = refl
 
 number_of_position : one unary.Number (Position at_cost (pos 7)) ≡ Some (Number 8 (pos 7))
@@ -158,7 +158,7 @@ least_of_nothing = refl
 inventory :
     aggregate_of (aggregate.SumInventory 8)
     (Position bare (pos 5) ∷ Null ∷ Position at_cost (pos 3) ∷ Position bare (negsuc 4)
-    ∷ Amount 8 (pos 1) (codes "USD") ∷ [])
+    ∷ Amount 8 (codes "USD") (pos 1) ∷ [])
     ≡ bag 8 (held at_cost (pos 3) ∷ held bare (pos 1) ∷ [])
 inventory = refl
 

@@ -32,7 +32,7 @@ sum_in (x ∷ xs) = count_in x +ℤ sum_in xs
 -- an amount or a position, as what is added to an inventory
 abbrev pub entries_in : List Value → List entry.Position
 entries_in [] = []
-entries_in (Amount p n c ∷ xs) = bare c n ∷ entries_in xs
+entries_in (Amount p c n ∷ xs) = bare c n ∷ entries_in xs
 entries_in (Position k n ∷ xs) = record { key = k; count = n } ∷ entries_in xs
 entries_in (x ∷ xs) = entries_in xs
 
@@ -86,7 +86,7 @@ bag_with b k n = record { places = b.places; held = added b.held k n }
 
 -- an inventory with an amount or a position more
 abbrev pub gathered : Value → Value → Value
-gathered (Inventory b) (Amount p n c) = Inventory (bag_with b (bare c n).key n)
+gathered (Inventory b) (Amount p c n) = Inventory (bag_with b (bare c n).key n)
 gathered (Inventory b) (Position k n) = Inventory (bag_with b k n)
 gathered t x = t
 
@@ -112,7 +112,7 @@ is_summand places x = false
 
 abbrev pub is_entry : ℕ → Value → Bool
 is_entry places Null = true
-is_entry places (Amount p n c) = p == places
+is_entry places (Amount p c n) = p == places
 is_entry places (Position k n) = places == 8
 is_entry places x = false
 

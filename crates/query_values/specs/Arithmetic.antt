@@ -30,7 +30,7 @@ product_of x y = Null
 
 abbrev pub negative_of : Value → Value
 negative_of (Number p n) = Number p (neg_ℤ n)
-negative_of (Amount p n c) = Amount p (neg_ℤ n) c
+negative_of (Amount p c n) = Amount p c (neg_ℤ n)
 negative_of (Position k n) = Position k (neg_ℤ n)
 negative_of (Inventory b) = Inventory (negative_bag b)
 negative_of x = Null

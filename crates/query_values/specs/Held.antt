@@ -17,7 +17,7 @@ is_held_bag b = nat_le b.places MOST_PLACES && list_all has_count b.held
 
 abbrev pub is_held : Value → Bool
 is_held (Number p n) = is_wide p n
-is_held (Amount p n c) = is_wide p n
+is_held (Amount p c n) = is_wide p n
 is_held (Position k n) = is_count n
 is_held (Inventory b) = is_held_bag b
 is_held x = true

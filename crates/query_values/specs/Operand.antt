@@ -38,7 +38,7 @@ is_set x = false
 -- an amount or a position
 abbrev pub is_priced : Value → Bool
 is_priced Null = true
-is_priced (Amount p n c) = true
+is_priced (Amount p c n) = true
 is_priced (Position k n) = true
 is_priced x = false
 

@@ -62,22 +62,22 @@ length_of (Set ts) = whole (length ts)
 length_of x = Null
 
 abbrev pub units_of : Value → Value
-units_of (Position k n) = Amount 8 n k.currency
+units_of (Position k n) = Amount 8 k.currency n
 units_of (Inventory b) = Inventory (bag_units b)
 units_of x = Null
 
 abbrev pub cost_of : Value → Value
-cost_of (Position k n) = Amount 16 (cost_count k.lot n) (cost_currency k)
+cost_of (Position k n) = Amount 16 (cost_currency k) (cost_count k.lot n)
 cost_of (Inventory b) = Inventory (bag_cost b)
 cost_of x = Null
 
 abbrev pub number_of : Value → Value
-number_of (Amount p n c) = Number p n
+number_of (Amount p c n) = Number p n
 number_of (Position k n) = Number 8 n
 number_of x = Null
 
 abbrev pub currency_of : Value → Value
-currency_of (Amount p n c) = Text c
+currency_of (Amount p c n) = Text c
 currency_of (Position k n) = Text k.currency
 currency_of x = Null
 

@@ -17,7 +17,7 @@ kind_rank (Number p n) = 2
 kind_rank (Text t) = 3
 kind_rank (Day d) = 4
 kind_rank (Set ts) = 5
-kind_rank (Amount p n c) = 6
+kind_rank (Amount p c n) = 6
 kind_rank (Position k n) = 7
 kind_rank (Inventory b) = 8
 

@@ -160,7 +160,7 @@ pub fn units<'r>(alloc: Global, x: &Value<'r>) -> Result<Value<'r>, AllocError>
 
 fn cost_of_units<'r>(key: &BagKey<'r>, count: i128) -> Value<'r>
     requires { IsTrue (is_count (cost_count key.now.lot count)) }
-    ensures { result ≡ Amount 16 (cost_count key.now.lot count) (cost_currency key.now) }
+    ensures { result ≡ Amount 16 (cost_currency key.now) (cost_count key.now.lot count) }
 {
     Value::Amount {
         places: COST_PLACES,

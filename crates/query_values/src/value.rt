@@ -22,10 +22,11 @@ pub enum Value<'r> {
     Text(Slice<'r>),
     Day(Day),
     Set(Lent<'r, TextSet<'r>>),
+    // Fields lie as they stand here: so this one takes no more than the others.
     Amount {
         places: u8,
-        count: i128,
         currency: Lent<'r, Currency<'r>>,
+        count: i128,
     },
     Position {
         key: Lent<'r, Key<'r>>,

@@ -14,6 +14,6 @@ value_of (shown.Number places count) = value.Number places count
 value_of (shown.Text text) = value.Text text
 value_of (shown.Day day) = value.Day day
 value_of (shown.Set texts) = value.Set texts
-value_of (shown.Amount places count currency) = value.Amount places count currency
+value_of (shown.Amount places count currency) = value.Amount places currency count
 value_of (shown.Position key count) = value.Position key count
 value_of (shown.Inventory places held) = value.Inventory (record { places = places; held = held })

@@ -99,6 +99,6 @@ cell_text display (Number p n) = number_text n p 0
 cell_text display (Text t) = clean_text t
 cell_text display (Day d) = day_text d
 cell_text display (Set texts) = set_text texts
-cell_text display (Amount p n currency) = units_text display n p currency
+cell_text display (Amount p currency n) = units_text display n p currency
 cell_text display (Position key n) = position_text display key n
 cell_text display (Inventory bag) = bag_text display bag

@@ -47,7 +47,7 @@ alike (Number p m) (Number q n) h = numbers_alike p m q n h
 alike (Text s) (Text t) h = ap fed.str (one_text s t h)
 alike (Day d) (Day e) h = ap fed.i32 ((Decides-int_eq (number d) (number e)).0 h)
 alike (Set ss) (Set ts) h = ap (flat_map fed.str) (one_set ss ts h)
-alike (Amount p m c) (Amount q n d) h =
+alike (Amount p c m) (Amount q d n) h =
     let parts = and_parts (same_number p m q n) (same_text c d) h in
     ap₂ ◌++◌ (numbers_alike p m q n parts.0) (ap fed.str (one_text c d parts.1))
 alike (Position j m) (Position k n) h =

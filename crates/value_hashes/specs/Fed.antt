@@ -64,7 +64,7 @@ value_fed (Number places n) = number_fed places n
 value_fed (Text t) = fed.str t
 value_fed (Day d) = fed.i32 (number d)
 value_fed (Set texts) = flat_map fed.str texts
-value_fed (Amount places n currency) = number_fed places n ++ fed.str currency
+value_fed (Amount places currency n) = number_fed places n ++ fed.str currency
 value_fed (value.Position key n) = fed.i128 n ++ key_fed key
 value_fed (Inventory b) = bag_fed b
 
