@@ -33,7 +33,6 @@ pub struct Padded<'a> {
 }
 
 /// What is known of pads and balances while the steps of a ledger are gone through.
-#[derive(Drop)]
 pub struct Padder<'a> {
     alloc: Global,
     written: Sums<'a>,
@@ -42,6 +41,21 @@ pub struct Padder<'a> {
     pads: Vec<NotedPad<'a>>,
     trail: Vec<Passed<'a>>,
     steps: usize,
+}
+
+/// Written out, so that crates which give one up need to know nothing of what is in it.
+impl Drop for Padder<'_> {
+    fn drop(self) {
+        let Padder {
+            alloc: _,
+            written: _,
+            balanced: _,
+            latest: _,
+            pads: _,
+            trail: _,
+            steps: _,
+        } = self;
+    }
 }
 
 /// The latest pad, unless it stands before the latest balance.
@@ -265,7 +279,16 @@ impl<'a> Padder<'a> {
     fn into_pads(self) -> Vec<NotedPad<'a>>
         ensures { result ≡ self.entry.pads }
     {
-        self.pads
+        let Padder {
+            alloc: _,
+            written: _,
+            balanced: _,
+            latest: _,
+            pads,
+            trail: _,
+            steps: _,
+        } = self;
+        pads
     }
 
     /// What the pads and balances come to, of all steps.

@@ -13,10 +13,16 @@ use std::alloc::{AllocError, Global};
 use std::marker::Model;
 
 /// Counts by account and currency, 0 where nothing was added.
-#[derive(Drop)]
 pub(crate) struct Table<'a> {
     tree: Tree<'a>,
     counts: Counts<'a>,
+}
+
+/// Written out, so that what gives one up needs to know nothing of what is in it.
+impl Drop for Table<'_> {
+    fn drop(self) {
+        let Table { tree: _, counts: _ } = self;
+    }
 }
 
 impl<'a> Model for Table<'a> {

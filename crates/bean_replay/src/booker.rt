@@ -44,7 +44,6 @@ fn place_of(placed: &Placed<Directive<'_>>) -> Place
 }
 
 /// What is known of all that was booked so far. What is booked itself is handed over.
-#[derive(Drop)]
 pub(crate) struct Booker<'a> {
     alloc: Global,
     methods: Methods<'a>,
@@ -58,6 +57,23 @@ pub(crate) struct Booker<'a> {
     /// that such a ledger sums nothing up.
     pub watched: bool,
     pub faults: Vec<Fault>,
+}
+
+/// Written out, so that what gives one up needs to know nothing of what is in it.
+impl Drop for Booker<'_> {
+    fn drop(self) {
+        let Booker {
+            alloc: _,
+            methods: _,
+            accounts: _,
+            holdings: _,
+            scales: _,
+            spare: _,
+            padder: _,
+            watched: _,
+            faults: _,
+        } = self;
+    }
 }
 
 impl<'a> Booker<'a> {
@@ -262,6 +278,17 @@ impl<'a> Booker<'a> {
     pub(crate) fn into_found(self) -> (Padder<'a>, Vec<Fault>)
         ensures { result ≡ (self.entry.padder, self.entry.faults) }
     {
-        (self.padder, self.faults)
+        let Booker {
+            alloc: _,
+            methods: _,
+            accounts: _,
+            holdings: _,
+            scales: _,
+            spare: _,
+            padder,
+            watched: _,
+            faults,
+        } = self;
+        (padder, faults)
     }
 }

@@ -6,12 +6,23 @@ use bean_holdings::Posted;
 use bean_pad::NotedPad;
 
 /// A transaction as it is written.
-#[derive(Drop)]
 pub struct Written<'a> {
     pub day: Day,
     pub place: Place,
     pub metadata: Few<MetaEntry<'a>>,
     pub transaction: Transaction<'a>,
+}
+
+/// Written out, so that what gives one up needs to know nothing of what is in it.
+impl Drop for Written<'_> {
+    fn drop(self) {
+        let Written {
+            day: _,
+            place: _,
+            metadata: _,
+            transaction: _,
+        } = self;
+    }
 }
 
 /// A transaction that is kept.

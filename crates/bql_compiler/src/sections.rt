@@ -26,11 +26,21 @@ use limits::Bounds;
 use std::alloc::{AllocError, Global};
 
 /// What each section computes: of the filter one expression, of the others one behind the other.
-#[derive(Drop)]
 pub struct Sections<'a> {
     pub filter: Core<'a>,
     pub row: Vec<Core<'a>>,
     pub last: Vec<Core<'a>>,
+}
+
+/// Written out, so that what gives one up needs to know nothing of what is in it.
+impl Drop for Sections<'_> {
+    fn drop(self) {
+        let Sections {
+            filter: _,
+            row: _,
+            last: _,
+        } = self;
+    }
 }
 
 /// A row has no keys and no aggregates to be loaded.

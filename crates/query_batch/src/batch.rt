@@ -11,9 +11,15 @@ use std::marker::Model;
 use verified_program::Checked;
 
 /// Runs of several programs over one ledger. Its value is the list of them.
-#[derive(Drop)]
 pub struct Batch<'r, 'a> {
     runs: Vec<Member<'r, 'a>>,
+}
+
+/// Written out, so that crates which give one up need to know nothing of what is in it.
+impl Drop for Batch<'_, '_> {
+    fn drop(self) {
+        let Batch { runs: _ } = self;
+    }
 }
 
 impl<'r, 'a> Model for Batch<'r, 'a> {

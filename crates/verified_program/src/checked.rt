@@ -9,7 +9,6 @@ use query_code::{Instruction, Program};
 use query_values::Pattern;
 
 /// A program that is well shaped, with its patterns as built and the depth of its stack.
-#[derive(Drop)]
 pub struct Checked<'a> {
     pub program: Program<'a>,
     /// For each entry of the pool its pattern, where it is one.
@@ -18,6 +17,17 @@ pub struct Checked<'a> {
     pub depth: u16,
     ghost is_well_shaped: { ∥ IsDepth program.parts depth ∥₁ },
     ghost are_built: { patterns ≡ map pattern_in program.parts.code.pool },
+}
+
+/// Written out, so that crates which give one up need to know nothing of what is in it.
+impl Drop for Checked<'_> {
+    fn drop(self) {
+        let Checked {
+            program: _,
+            patterns: _,
+            depth: _,
+        } = self;
+    }
 }
 
 impl Checked<'_> {
