@@ -50,20 +50,18 @@ fn column_of<'a>(
     })
 }
 
-/// The table of a column of three cells.
-fn printed<'a>(
+fn sets_printed<'s>(
     alloc: Global,
-    first: Value<'a>,
-    second: Value<'a>,
-    third: Value<'a>,
+    first: &'s TextSet<'static>,
+    second: &'s TextSet<'static>,
+    third: &'s TextSet<'static>,
 ) -> Result<Vec<u8>, AllocError> {
+    let first = Value::Set(Lent::new(first));
+    let second = Value::Set(Lent::new(second));
+    let third = Value::Set(Lent::new(third));
     let answer = column_of(alloc, first, second, third)?;
     let display = Display::new(alloc);
     print(alloc, &answer, &display)
-}
-
-fn lent<'s>(set: &'s TextSet<'static>) -> Value<'s> {
-    Value::Set(Lent::new(set))
 }
 
 #[test]
@@ -78,19 +76,33 @@ fn prints_sets_in_the_order_of_bytes(rt: HostRuntime) -> Result<(), Fail> {
     let many = TextSet::new(Vec::from_array(alloc, many)?);
     let none = TextSet::new(Vec::new(alloc));
     let one = TextSet::new(Vec::from_array(alloc, [Slice::new("trip")])?);
-    let text = printed(alloc, lent(&many), lent(&none), lent(&one))?;
-    assert_eq!(rt; text.as_slice(), SETS.as_bytes());
+    assert_eq!(rt;
+        sets_printed(alloc, &many, &none, &one)?.as_slice(),
+        SETS.as_bytes()
+    );
     Ok(())
-}
-
-fn number<'a>(places: u8, count: i128) -> Value<'a> {
-    Value::Number { places, count }
 }
 
 #[test]
 fn prints_numbers_of_many_decimals(rt: HostRuntime) -> Result<(), Fail> {
-    let (half, long, whole) = (number(1, 5), number(79, i128::MAX), number(0, -1));
-    let text = printed(rt.alloc(), half, long, whole)?;
-    assert_eq!(rt; text.as_slice(), LONG.as_bytes());
+    let alloc = rt.alloc();
+    let half = Value::Number {
+        places: 1,
+        count: 5,
+    };
+    let long = Value::Number {
+        places: 79,
+        count: i128::MAX,
+    };
+    let whole = Value::Number {
+        places: 0,
+        count: -1,
+    };
+    let answer = column_of(alloc, half, long, whole)?;
+    let display = Display::new(alloc);
+    assert_eq!(rt;
+        print(alloc, &answer, &display)?.as_slice(),
+        LONG.as_bytes()
+    );
     Ok(())
 }
