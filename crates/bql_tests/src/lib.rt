@@ -2,7 +2,7 @@
 #![tactic(auto)]
 
 #[cfg(test)]
-mod compiled_queries;
+mod bounds;
 #[cfg(test)]
 mod cut_files;
 #[cfg(test)]

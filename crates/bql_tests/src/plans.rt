@@ -1,20 +1,13 @@
 //! What is computed for queries.
 
+use crate::bounds::WIDEST;
 use crate::shapes::push_letters;
 use bql_parser::parse_query;
 use bql_plan::{Gathered, Plan, Shaped, planned};
 use bql_types::type_query;
-use limits::{Bounds, Version};
 use query_values::Aggregate;
 use std::alloc::{AllocError, Global};
 use std::test::Fail;
-
-const WIDEST: Bounds = Bounds {
-    schema: Version::Second,
-    postings: 4_000_000,
-    units_digits: 20,
-    value_digits: 28,
-};
 
 /// How many expressions are shown or hidden, how many keys and aggregates there are, and what
 /// orders rows.

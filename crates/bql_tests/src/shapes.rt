@@ -1,18 +1,11 @@
 //! Shapes of expressions and of their parts.
 
+use crate::bounds::WIDEST;
 use bql_parser::parse_query;
 use bql_plan::{Shapes, shapes_of};
-use limits::{Bounds, Version};
 use query_rows::Shape;
 use std::alloc::{AllocError, Global};
 use std::test::Fail;
-
-const WIDEST: Bounds = Bounds {
-    schema: Version::Second,
-    postings: 4_000_000,
-    units_digits: 20,
-    value_digits: 28,
-};
 
 /// A letter for the kind of a shape.
 fn letter(shape: Option<Shape>) -> &'static str {

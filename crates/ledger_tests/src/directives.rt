@@ -1,8 +1,9 @@
 //! Directives that no table tells, read back with their parts.
 
 use bean_grammar::Value;
+use bean_parser::DirectiveKind;
 use bean_parser::parse::parse;
-use bean_parser::{DirectiveKind, Parsed};
+use std::alloc::{AllocError, Global};
 use std::test::Fail;
 
 const DATED: &str = "2014-01-06 note Assets:Cash \"a
@@ -15,37 +16,57 @@ c\"
 2014-01-11 custom \"budget\" Assets:Cash 1 USD TRUE
 ";
 
-fn kind_at<'p, 'a>(parsed: &'p Parsed<'a>, index: usize) -> Option<&'p DirectiveKind<'a>> {
-    Some(&parsed.directives.as_slice().get(index)?.kind)
+const TOLD: [&str; 6] = [
+    "note a\nb\nc",
+    "document with 2 marks",
+    "price 125",
+    "event here",
+    "query SELECT *",
+    "custom of 3, the last true",
+];
+
+/// A kind with a text of it.
+fn quoted(alloc: Global, kind: &str, text: Option<&str>) -> Result<String, AllocError> {
+    let text = text.unwrap_or("with escapes");
+    format!(in alloc; "{kind} {text}")
+}
+
+/// How many values there are, where the last of them is true.
+fn values(alloc: Global, values: &[Value<'_>]) -> Result<String, AllocError> {
+    let count = values.len();
+    match values.last() {
+        Some(Value::Truth(true)) => format!(in alloc; "custom of {count}, the last true"),
+        _ => String::from_str(alloc, "custom"),
+    }
+}
+
+/// What is told of a directive that booking passes over.
+fn told(alloc: Global, kind: &DirectiveKind<'_>) -> Result<String, AllocError> {
+    match kind {
+        DirectiveKind::Note(note) => quoted(alloc, "note", note.text.plain()),
+        DirectiveKind::Document(document) => {
+            let count = document.marks.as_slice().len();
+            format!(in alloc; "document with {count} marks")
+        }
+        DirectiveKind::Price(price) => {
+            let count = price.get().amount.number.count;
+            format!(in alloc; "price {count}")
+        }
+        DirectiveKind::Event(event) => quoted(alloc, "event", event.value.plain()),
+        DirectiveKind::Query(query) => quoted(alloc, "query", query.query.plain()),
+        DirectiveKind::Custom(custom) => values(alloc, custom.values.as_slice()),
+        _ => String::from_str(alloc, "another"),
+    }
 }
 
 #[test]
 fn what_booking_passes_over(rt: HostRuntime) -> Result<(), Fail> {
     let parsed = parse(rt.alloc(), DATED)?;
-    let Some(DirectiveKind::Note(note)) = kind_at(&parsed, 0) else {
-        return Err(Fail::from("a note"));
-    };
-    assert!(rt; note.text.plain() == Some("a\nb\nc"));
-    let Some(DirectiveKind::Document(document)) = kind_at(&parsed, 1) else {
-        return Err(Fail::from("a document"));
-    };
-    assert_eq!(rt; document.marks.as_slice().len(), 2);
-    let Some(DirectiveKind::Price(price)) = kind_at(&parsed, 2) else {
-        return Err(Fail::from("a price"));
-    };
-    assert_eq!(rt; price.get().amount.number.count, 125);
-    let Some(DirectiveKind::Event(event)) = kind_at(&parsed, 3) else {
-        return Err(Fail::from("an event"));
-    };
-    assert!(rt; event.value.plain() == Some("here"));
-    let Some(DirectiveKind::Query(query)) = kind_at(&parsed, 4) else {
-        return Err(Fail::from("a query"));
-    };
-    assert!(rt; query.query.plain() == Some("SELECT *"));
-    let Some(DirectiveKind::Custom(custom)) = kind_at(&parsed, 5) else {
-        return Err(Fail::from("a custom"));
-    };
-    assert_eq!(rt; custom.values.as_slice().len(), 3);
-    assert!(rt; matches!(custom.values.as_slice()[2], Value::Truth(true)));
+    let directives = parsed.directives.as_slice();
+    assert_eq!(rt; directives.len(), TOLD.len());
+    for (directive, wanted) in directives.iter().zip(TOLD) {
+        let words = told(rt.alloc(), &directive.kind)?;
+        assert_eq!(rt; words.as_str(), wanted);
+    }
     Ok(())
 }

@@ -22,18 +22,25 @@ fn leaves(alloc: Global, call: u64, line: usize, left: &[&str]) -> Result<bool, 
     Ok(all && are_texts(&texts, left) && are_faults(&texts, &[(0, line)]))
 }
 
+/// The call that fails, the line that names what was asked then, and the texts that are left.
+const LEFT: [(u64, usize, [&str; 3]); 3] = [
+    (2, 1, ["l", "b", "c"]),
+    (3, 2, ["l", "a", "c"]),
+    (4, 3, ["l", "a", "b"]),
+];
+
+/// Whether a source that fails at the first call makes a ledger that can't be read.
+fn is_unreadable(alloc: Global) -> Result<bool, Fail> {
+    let mut store = store_of(alloc, &FILES, 1)?;
+    let read = gather(alloc, &mut store, "l");
+    Ok(matches!(read, Err(Refusal::Refused(LoadCause::Unreadable))))
+}
+
 #[test]
 fn a_source_that_fails_at_a_call(rt: HostRuntime) -> Result<(), Fail> {
-    let alloc = rt.alloc();
-    let mut store = store_of(alloc, &FILES, 1)?;
-    assert!(rt;
-        matches!(
-            gather(alloc, &mut store, "l"),
-            Err(Refusal::Refused(LoadCause::Unreadable))
-        )
-    );
-    assert!(rt; leaves(alloc, 2, 1, &["l", "b", "c"])?);
-    assert!(rt; leaves(alloc, 3, 2, &["l", "a", "c"])?);
-    assert!(rt; leaves(alloc, 4, 3, &["l", "a", "b"])?);
+    assert!(rt; is_unreadable(rt.alloc())?);
+    for (call, line, left) in LEFT {
+        assert!(rt; leaves(rt.alloc(), call, line, &left)?);
+    }
     Ok(())
 }
