@@ -9,7 +9,7 @@
 //!
 //! A [`Holding`] is seen as an account's inventory is, as the list of its positions in order of
 //! entry, but knows nothing of lots that booking asks for. It is copied for each row of a running
-//! balance, so it is small: 32 bytes for each key ([`BagKey`]), which is lent ([`Lent`]).
+//! balance, so it is small: 48 bytes for each key ([`BagKey`]), which is lent ([`Lent`]), and its count.
 //!
 //! # Cost
 //!

@@ -45,7 +45,7 @@
 //!
 //! An operation takes a few steps; on texts it is linear in the text, on a list in the list, and on
 //! inventories it looks up each entry, by going through the others where these are few. An inventory
-//! takes 32 bytes for each of its entries, whose keys are lent ([`BagKey`]).
+//! takes 48 bytes for each of its entries, whose keys are lent ([`BagKey`]).
 #![tactic(auto)]
 
 pub mod arithmetic;
