@@ -1,6 +1,6 @@
-//! Runs of several programs over one ledger, each in turns of its own.
+//! Batches.
 
-use crate::ledgers::{COUNT, OF_THREE, OF_TWO, SECOND, SORTED, dollars};
+use crate::ledgers::{COUNT, count_of_few, dollars};
 use crate::words::{add_words, answer_words, turn_word};
 use posting_table::Ledger;
 use query_batch::{Batch, BatchCause, Member};
@@ -10,52 +10,11 @@ use std::alloc::{AllocError, Global};
 use std::test::Fail;
 use verified_program::Checked;
 
-/// Files, how many dollars their programs run over, turns, and what is told of them.
-const TURNS: [(&[&[u8]], usize, &[(usize, u64)], &str); 8] = [
-    // Runs in turns of any order: one that is outside its bounds stands for that.
-    (
-        &[&COUNT, &COUNT, &COUNT, &OF_TWO],
-        8,
-        &[(2, 1), (0, 1), (2, 1), (1, 1), (3, 1), (4, 1)],
-        "going; going; going; going; failed; no such run; \
-         no answer; no answer; no answer; M1",
-    ),
-    (
-        &[&COUNT, &COUNT, &COUNT, &OF_TWO],
-        8,
-        &[(2, 8), (0, 9), (2, 1), (1, 9)],
-        "going; done; done; done; 8, steps 9, groups 1; 8, steps 9, groups 1; \
-         8, steps 9, groups 1; M1",
-    ),
-    // A short run waits for no long one.
-    (
-        &[&COUNT, &SORTED],
-        8,
-        &[(0, 3), (1, 3), (0, 3), (1, 3), (0, 3), (1, 3)],
-        "going; going; going; going; done; going; 8, steps 9, groups 1; no answer",
-    ),
-    // Turns stop between steps.
-    (&[&COUNT], 8, &[], "no answer"),
-    (&[&COUNT], 8, &[(0, 0)], "going; no answer"),
-    (
-        &[&COUNT],
-        8,
-        &[(0, 0), (0, 4), (0, 4), (0, 1), (0, 5)],
-        "going; going; going; done; done; 8, steps 9, groups 1",
-    ),
-    (
-        &[&COUNT],
-        0,
-        &[(0, 0)],
-        "done; no number, steps 0, groups 0",
-    ),
-    // Either version, and bounds that are just wide enough.
-    (
-        &[&SECOND, &OF_THREE, &OF_TWO],
-        3,
-        &[(0, 9), (1, 9), (2, 9)],
-        "done; done; failed; 3, steps 4, groups 1; 3, steps 4, groups 1; M1",
-    ),
+/// `SELECT number ORDER BY number DESC` at the widest bounds.
+const SORTED: [u8; 41] = [
+    0x42, 0x51, 0x4c, 0x43, 0x00, 0x02, 0x00, 0x3d, 0x09, 0x00, 0x14, 0x1c, 0x00, 0x00, 0x01, 0x00,
+    0x01, 0x00, 0x06, 0x6e, 0x75, 0x6d, 0x62, 0x65, 0x72, 0x00, 0x01, 0x00, 0x00, 0x00, 0x00, 0x00,
+    0x00, 0x01, 0x00, 0x00, 0x01, 0x03, 0x0b, 0x00, 0x00,
 ];
 
 /// What a turn of a batch told.
@@ -88,36 +47,67 @@ fn take(
     for (number, k) in turns {
         add_words(&mut told, told_word(batch.turn(*number, *k)))?;
     }
-    for number in 0..batch.len() {
-        let words = run_words(alloc, batch.member(number))?;
-        add_words(&mut told, &words)?;
+    for number in 0..programs.len() {
+        if number < batch.len() {
+            let words = run_words(alloc, batch.member(number))?;
+            add_words(&mut told, &words)?;
+        }
     }
     Ok(told)
 }
 
-/// The same of programs of these files, over a ledger of so many dollars.
+/// The same of programs of these files.
 fn take_of(
     alloc: Global,
     files: &[&[u8]],
-    postings: usize,
+    ledger: &Ledger<'_>,
     turns: &[(usize, u64)],
-) -> Result<String, Fail> {
+) -> Result<String, AllocError> {
     let mut programs = Vec::new(alloc);
     for file in files {
         match check_file(alloc, file) {
             Ok(program) => programs.push(program)?,
-            Err(_) => return Err(Fail::from("a file that is accepted")),
+            Err(_) => return Err(AllocError),
         }
     }
-    let ledger = dollars(alloc, postings)?;
-    Ok(take(alloc, programs.as_slice(), &ledger, turns)?)
+    take(alloc, programs.as_slice(), ledger, turns)
 }
 
 #[test]
-fn turns_of_runs(rt: HostRuntime) -> Result<(), Fail> {
-    for (files, postings, turns, words) in TURNS {
-        let told = take_of(rt.alloc(), files, postings, turns)?;
-        assert_eq!(rt; told.as_str(), words);
+fn batch_starts_with_ample_memory(rt: HostRuntime) -> Result<(), Fail> {
+    let ledger = dollars(rt.alloc(), 8)?;
+    let few = count_of_few(7);
+    let files = [COUNT.as_slice(), &COUNT, &COUNT, &few];
+    let first = [(2, 1), (0, 1), (2, 1), (1, 1), (3, 1), (4, 1)];
+    let told = take_of(rt.alloc(), &files, &ledger, &first)?;
+    let wanted = "going; going; going; going; failed; no such run; \
+        no answer; no answer; no answer; M1";
+    assert_eq!(rt; told.as_str(), wanted);
+    let all = [(2, 8), (0, 9), (2, 1), (1, 9)];
+    let told = take_of(rt.alloc(), &files, &ledger, &all)?;
+    let wanted = "going; done; done; done; 8, steps 9, groups 1; 8, steps 9, groups 1; \
+        8, steps 9, groups 1; M1";
+    assert_eq!(rt; told.as_str(), wanted);
+    Ok(())
+}
+
+/// Rounds in which a run that counts and one that sorts have turns of 1000 steps.
+fn rounds(alloc: Global, count: usize) -> Result<Vec<(usize, u64)>, AllocError> {
+    let mut turns = Vec::new(alloc);
+    for _ in 0..count {
+        turns.push((0, 1000))?;
+        turns.push((1, 1000))?;
     }
+    Ok(turns)
+}
+
+#[test]
+fn a_short_run_waits_for_no_long_one(rt: HostRuntime) -> Result<(), Fail> {
+    let ledger = dollars(rt.alloc(), 100_000)?;
+    let files = [COUNT.as_slice(), &SORTED];
+    let turns = rounds(rt.alloc(), 101)?;
+    let told = take_of(rt.alloc(), &files, &ledger, &turns)?;
+    let end = "done; going; 100000, steps 100001, groups 1; no answer";
+    assert!(rt; told.as_str().ends_with(end));
     Ok(())
 }

@@ -1,11 +1,12 @@
-//! Runs of programs over ledgers, in turns, by public calls of the libraries and with ample memory.
-//! What they tell is told in words, so that a test compares texts; and what is tested is a table,
-//! since few functions are given a run then.
+//! Runs of programs over ledgers, whole, in turns and in batches, by public calls of the libraries
+//! and with ample memory. What they tell is told in words, so that a test compares texts.
 #![tactic(auto)]
 
 #[cfg(test)]
 mod batches;
 #[cfg(test)]
 mod ledgers;
+#[cfg(test)]
+mod runs;
 #[cfg(test)]
 mod words;
