@@ -12,7 +12,11 @@ impl ByteClass for InComponent {
     ghost holds = { is_in_component };
 
     fn has(b: u8) -> bool {
-        b.is_ascii_alphanumeric() || b == b'-' || b >= 128
+        // Most are letters: they are told first.
+        if b.is_ascii_alphabetic() {
+            return true;
+        }
+        b.is_ascii_digit() || b == b'-' || b >= 128
     }
 }
 

@@ -1,7 +1,8 @@
 //! Accounts, currencies, tags and links.
 ghost use Rattle.std.specs.Prelude.{◌≡◌, ℕ, ◌+◌, ◌<◌, ◌≤◌, ◌&&◌, ◌||◌, ◌==◌, false, true, nat_lt};
-ghost use Rattle.std.specs.Prelude.{length, slice_index, IsTrue, take, drop, min, MatchOption};
+ghost use Rattle.std.specs.Prelude.{nat_eq, length, slice_index, IsTrue, take, drop, min, MatchOption};
 ghost use Rattle.std.specs.List.{prefix_len};
+ghost use Rattle.std.specs.Cmp.Lexicographic.{pointwise};
 ghost use Rattle.std.specs.Char.{is_ascii_digit, is_ascii_uppercase};
 ghost use Rattle.std.specs.Str.{IsUtf8, IsCharBoundary};
 ghost use Rattle.bean_base.specs.Character.{hash, colon, caret};
@@ -96,6 +97,14 @@ fn account_len(bytes: &[u8]) -> Option<usize>
     Some(len)
 }
 
+/// Whether a name is a word: its length tells most apart.
+#[inline(always)]
+fn is_word(name: &[u8], word: &[u8]) -> bool
+    ensures { result ≡ pointwise nat_eq name.now word.now }
+{
+    name.len() == word.len() && name == word
+}
+
 /// The currency or the truth value that begins with a capital.
 #[inline(always)]
 fn currency_or_truth(bytes: &[u8]) -> Found
@@ -107,12 +116,12 @@ fn currency_or_truth(bytes: &[u8]) -> Found
 {
     let len = currency_len(bytes);
     let name = &bytes[..len];
-    if name == b"TRUE".as_slice() {
+    if is_word(name, b"TRUE") {
         Found {
             kind: Kind::Keyword(Keyword::True),
             len,
         }
-    } else if name == b"FALSE".as_slice() {
+    } else if is_word(name, b"FALSE") {
         Found {
             kind: Kind::Keyword(Keyword::False),
             len,

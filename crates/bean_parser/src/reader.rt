@@ -1,5 +1,5 @@
 //! The blocks of a text, one after the other.
-ghost use Rattle.std.specs.Prelude.{List, ◌<◌, length, IfOk, IfSome, IsTrue};
+ghost use Rattle.std.specs.Prelude.{◌≡◌, ◌++◌, ◌∷◌, [], List, ◌<◌, length, IfOk, OnOk, IfSome, IsTrue};
 ghost use Rattle.bean_lexer.specs.declared.token.Token.{Token};
 ghost use Rattle.bean_lexer.specs.Tokens.{AreTokens};
 ghost use Rattle.bean_parser.specs.BlockReader.{ToRead, left_of, TakesBlock, TakesOthers};
@@ -37,9 +37,25 @@ impl<'a> BlockReader<'a> {
             return Ok(false);
         };
         block.push(first)?;
-        self.first = take_others(&mut self.lexer, block)?;
+        // What a lexer keeps lies in registers while it goes on from token to token.
+        let mut lexer = self.lexer;
+        self.first = take_others(&mut lexer, block)?;
+        self.lexer = lexer;
         Ok(true)
     }
+}
+
+/// Adds a token. Mostly there is room, since a block comes where others were.
+#[inline(always)]
+fn add_token<'a>(block: &mut Vec<Token<'a>>, token: Token<'a>) -> Result<(), AllocError>
+    ensures { OnOk result (block.new.items ≡ block.old.items ++ token.entry ∷ []) }
+{
+    if block.len() < block.capacity() {
+        block.push_reserved(token);
+        return Ok(());
+    }
+    block.push(token)?;
+    Ok(())
 }
 
 /// Adds the tokens of a lexer up to the next one that begins a block, which it gives.
@@ -56,7 +72,7 @@ fn take_others<'a>(
         if Part::Block.begins_at(token.place) {
             return Ok(Some(token));
         }
-        block.push(token)?;
+        add_token(block, token)?;
     }
     Ok(None)
 }

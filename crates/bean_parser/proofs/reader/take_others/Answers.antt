@@ -21,9 +21,9 @@ returns-then-begins_at-clause-shorter c =
 pub loop-token-preserved : goal.loop-token-preserved
 loop-token-preserved c =
     taking_more _ _ c.loop-token.lexer c.next_token.new.self c.loop-token.block.items
-    c.push.new.self.items c.in-Some.token c.loop-token.invariant c.in-Some.ensures.tokens
+    c.add_token.new.block.items c.in-Some.token c.loop-token.invariant c.in-Some.ensures.tokens
     (sym c.begins_at.ensures ∙ c.if-begins_at.false) c.in-Some.ensures.shorter
-    c.in_ok-push.ensures.items
+    c.in_ok-add_token.ensures
 
 pub returns-clause-others : goal.returns-clause-others
 returns-clause-others c =
