@@ -57,18 +57,25 @@ impl<'r, 'a> Batch<'r, 'a> {
     pub fn turn(&mut self, number: usize, k: u64) -> Result<Turn, BatchCause>
         ensures { TakesTurn number k self.old self.new result }
     {
-        if number >= self.runs.len() {
+        if number >= self.len() {
             return Err(BatchCause::NoSuchRun);
         }
         let run = &mut self.runs[number];
         Ok(run.turn(k))
     }
 
+    /// The runs, in the order of the programs.
+    fn runs(&self) -> &[Member<'r, 'a>]
+        ensures { result.now ≡ self.now }
+    {
+        self.runs.as_slice()
+    }
+
     /// How many runs there are.
     pub fn len(&self) -> usize
         ensures { result ≡ length self.now }
     {
-        self.runs.len()
+        self.runs().len()
     }
 
     /// The run of this number, in the order of the programs, which tells what it answers.
@@ -76,6 +83,6 @@ impl<'r, 'a> Batch<'r, 'a> {
         requires { number < length self.now }
         ensures { Some result.now ≡ slice_get self.now number }
     {
-        &self.runs[number]
+        &self.runs()[number]
     }
 }
