@@ -180,6 +180,15 @@ range_split a (suc m) n =
     one_in : (a m : ℕ) → (a + 1) + m ≡ a + suc m
     one_in a m = omega arith
 
+-- one number more
+pub one_number_more : (n : ℕ) (ns more : List ℕ) → ns ≡ range_with_len 0 n → more ≡ ns ++ n ∷ []
+    → more ≡ range_with_len 0 (n + 1)
+one_number_more n ns more are added =
+    added ∙ ap₂ (λ l k. l ++ k ∷ []) are (none_in_front n) ∙ sym (range_split 0 n 1)
+  where
+    none_in_front : (k : ℕ) → k ≡ 0 + k
+    none_in_front k = omega arith
+
 is_below : (m n : ℕ) → m < n → nat_lt m n ≡ true
 is_below m n less = grind (arith, nat_tests)
 

@@ -1,9 +1,8 @@
 -- What comes out of rows that stand in order.
 use Rattle.std.proofs.Common.{◌≡◌, ℕ, ◌+◌, ◌<◌, Bool, true, false, cond, List, [], ◌∷◌, ◌++◌, map, take, drop, length}
-use Rattle.std.proofs.Common.{append_assoc, get_or, not, refl, subst, sym, ap, ◌∙◌, Option, Some, None}
-use Rattle.std.proofs.lemmas.List.{drop_more, map-append, take-map}
+use Rattle.std.proofs.Common.{append_assoc, refl, subst, sym, ap, ◌∙◌, Option, Some, None}
+use Rattle.std.proofs.lemmas.List.{map-append, take-map}
 use Rattle.std.specs.List.{list_any}
-use Rattle.indexmap.specs.IndexSet.{insert_key}
 use Rattle.plain_machine.specs.Finishing.{ComesOut, ranked}
 use Rattle.query_answer.specs.Rows.{ArePicked, row_at}
 use Rattle.query_code.specs.declared.program.Output.{Output}
@@ -14,7 +13,7 @@ use Rattle.theory.specs.Arrangement.{IsArrangement}
 use Rattle.final_rows.proofs.NumberFacts.{picked_without}
 use Rattle.final_rows.proofs.OrderFacts.{ranked_in_order}
 use Rattle.final_rows.proofs.RankFacts.{as_they_stand}
-use Rattle.final_rows.specs.Numbers.{numbers_limited, rows_at}
+use Rattle.final_rows.specs.Numbers.{numbers_limited, numbers_with_new, rows_at}
 use Rattle.final_rows.specs.Order.{comes_before, goes_before}
 
 fronts : (o : Output) (rows : List (List Value))
@@ -93,33 +92,48 @@ pub record AreOnce (shown : ℕ → List Value) (count : ℕ) (numbers rest once
   pub keys_are : map shown once ≡ keys
   pub picked : ArePicked count (once ++ rest)
 
-module _ (shown : ℕ → List Value) (count : ℕ) (numbers rest once others : List ℕ)
-    (keys new : List (List Value)) (n : ℕ) (now : AreOnce shown count numbers rest once keys)
-    (split : rest ≡ n ∷ others) (inserted : new ≡ insert_key same_values keys (shown n)) where
-  next_each : each_once [] (map shown numbers) ≡ each_once new (map shown others)
-  next_each =
-      now.each ∙ ap (λ l. each_once keys (map shown l)) split
-      ∙ ap (λ k. each_once k (map shown others)) (sym inserted)
+pub noted : (shown : ℕ → List Value) (count : ℕ) (numbers rest once others more : List ℕ)
+    (keys new : List (List Value)) (n : ℕ) → AreOnce shown count numbers rest once keys
+    → rest ≡ n ∷ others → new ≡ with_new keys (shown n)
+    → more ≡ numbers_with_new keys (shown n) once n → AreOnce shown count numbers others more new
+noted shown count numbers rest once others more keys new n now split seen told =
+    by (list_any (same_values (shown n)) keys) seen told
+  where
+    picked_here : ArePicked count (once ++ n ∷ others)
+    picked_here = subst (λ l. ArePicked count (once ++ l)) split now.picked
 
-  picked_here : ArePicked count (once ++ n ∷ others)
-  picked_here = subst (λ l. ArePicked count (once ++ l)) split now.picked
+    next : each_once [] (map shown numbers) ≡ each_once new (map shown others)
+    next =
+        now.each ∙ ap (λ l. each_once keys (map shown l)) split
+        ∙ ap (λ k. each_once k (map shown others)) (sym seen)
 
-  pub once_seen : list_any (same_values (shown n)) keys ≡ true
-      → AreOnce shown count numbers others once new
-  once_seen seen = record {
-    each = next_each;
-    keys_are = now.keys_are
-        ∙ sym (inserted ∙ ap (λ b. cond b keys (keys ++ shown n ∷ [])) seen);
-    picked = picked_without count once n others picked_here;
-  }
+    by : (b : Bool) → new ≡ cond b keys (keys ++ shown n ∷ []) → more ≡ cond b once (once ++ n ∷ [])
+        → AreOnce shown count numbers others more new
+    by true kept same = record {
+      each = next;
+      keys_are = ap (map shown) same ∙ now.keys_are ∙ sym kept;
+      picked = subst (λ l. ArePicked count (l ++ others)) (sym same)
+          (picked_without count once n others picked_here);
+    }
+    by false kept added = record {
+      each = next;
+      keys_are = ap (map shown) added ∙ map-append shown once (n ∷ [])
+          ∙ ap (λ l. l ++ shown n ∷ []) now.keys_are ∙ sym kept;
+      picked = subst (λ l. ArePicked count l)
+          (sym (ap (λ l. l ++ others) added ∙ append_assoc once (n ∷ []) others)) picked_here;
+    }
 
-  pub once_new : (more : List ℕ) → list_any (same_values (shown n)) keys ≡ false
-      → more ≡ once ++ n ∷ [] → AreOnce shown count numbers others more new
-  once_new more unseen added = record {
-    each = next_each;
-    keys_are = ap (map shown) added ∙ map-append shown once (n ∷ [])
-        ∙ ap (λ l. l ++ shown n ∷ []) now.keys_are
-        ∙ sym (inserted ∙ ap (λ b. cond b keys (keys ++ shown n ∷ [])) unseen);
-    picked = subst (λ l. ArePicked count l)
-        (sym (ap (λ l. l ++ others) added ∙ append_assoc once (n ∷ []) others)) picked_here;
-  }
+fused : (f : List Value → List Value) (g : ℕ → List Value) (ns : List ℕ)
+    → map f (map g ns) ≡ map (λ n. f (g n)) ns
+fused f g [] = refl
+fused f g (n ∷ ns) = ap (λ l. f (g n) ∷ l) (fused f g ns)
+
+-- where all are gone through
+pub once_told : (rows : List (List Value)) (width : ℕ) (numbers rest once : List ℕ)
+    (keys : List (List Value))
+    → AreOnce (λ n. take width (row_at rows n)) (length rows) numbers rest once keys → rest ≡ []
+    → map (take width) (rows_at rows once) ≡ each_once [] (map (take width) (rows_at rows numbers))
+once_told rows width numbers rest once keys now ended =
+    fused (take width) (row_at rows) once ∙ now.keys_are
+    ∙ sym (now.each ∙ ap (λ l. each_once keys (map (λ n. take width (row_at rows n)) l)) ended)
+    ∙ ap (each_once []) (sym (fused (take width) (row_at rows) numbers))

@@ -1,7 +1,9 @@
 -- Rows by their numbers.
-use Rattle.std.specs.Prelude.{ℕ, Bool, List, length, map, take, Option, Some, None}
-use Rattle.std.specs.List.{range_with_len}
+use Rattle.std.specs.Prelude.{ℕ, Bool, List, [], ◌∷◌, ◌++◌, length, map, take}
+use Rattle.std.specs.Prelude.{Option, Some, None, if◌then◌else◌}
+use Rattle.std.specs.List.{list_any, range_with_len}
 use Rattle.query_answer.specs.Rows.{row_at}
+use Rattle.query_rows.specs.Same.{same_values}
 use Rattle.query_values.specs.declared.value.Value.{Value}
 
 -- the numbers of all rows
@@ -20,3 +22,8 @@ by_number rows before m n = before (row_at rows m) (row_at rows n)
 abbrev pub numbers_limited : Option ℕ → List ℕ → List ℕ
 numbers_limited None numbers = numbers
 numbers_limited (Some most) numbers = take most numbers
+
+-- with one behind the others, unless the values that it shows are there
+abbrev pub numbers_with_new : List (List Value) → List Value → List ℕ → ℕ → List ℕ
+numbers_with_new kept shown numbers n =
+    if list_any (same_values shown) kept then numbers else numbers ++ n ∷ []

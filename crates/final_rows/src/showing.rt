@@ -1,10 +1,10 @@
 //! What rows show, each once where that is asked for, and at most so many.
-ghost use Rattle.std.specs.Prelude.{◌≡◌, [], false, IfOk, length, map, take};
+ghost use Rattle.std.specs.Prelude.{◌≡◌, [], false, IfOk, OnOk, length, map, take};
 ghost use Rattle.plain_machine.specs.Finishing.{ComesOut};
 ghost use Rattle.query_answer.specs.Rows.{ArePicked};
 ghost use Rattle.query_rows.specs.FinalRows.{limited};
-ghost use Rattle.query_rows.specs.Same.{each_once};
-ghost use Rattle.final_rows.specs.Numbers.{numbers_limited, rows_at};
+ghost use Rattle.query_rows.specs.Same.{each_once, with_new};
+ghost use Rattle.final_rows.specs.Numbers.{numbers_limited, numbers_with_new, rows_at};
 
 use crate::ordering::{arrange, numbers_of};
 use indexmap::IndexSet;
@@ -19,6 +19,23 @@ fn front<'s, 'r>(row: &'s [Value<'r>], width: usize) -> &'s [Value<'r>]
     ensures { result.now ≡ take width row.now }
 {
     &row[..width.min(row.len())]
+}
+
+/// Notes what a row shows, and its number where none before it shows the same.
+fn note<'s, 'r>(
+    number: usize,
+    shown: &'s [Value<'r>],
+    seen: &mut IndexSet<LentKey<'s, 'r>>,
+    once: &mut Vec<usize>,
+) -> Result<(), AllocError>
+    ensures seen { OnOk result (seen.new.keys ≡ with_new seen.old.keys shown.now) }
+    ensures once { OnOk result (once.new.items
+        ≡ numbers_with_new seen.old.keys shown.now once.old.items number) }
+{
+    if seen.insert(LentKey::new(shown))? {
+        once.push(number)?;
+    }
+    Ok(())
 }
 
 /// The numbers of rows without those that show the same as one before.
@@ -37,9 +54,7 @@ fn shown_once(
     let mut once = Vec::new(alloc);
     for number in numbers {
         let shown = front(rows.row(*number), width);
-        if seen.insert(LentKey::new(shown))? {
-            once.push(*number)?;
-        }
+        note(*number, shown, &mut seen, &mut once)?;
     }
     Ok(once)
 }

@@ -27,11 +27,7 @@ fn enough(output: &Output<'_>) -> Option<usize>
 }
 
 /// The one of two rows that comes later, the first where they tie.
-fn later<'s, 'r>(
-    output: &Output<'_>,
-    a: &'s [Value<'r>],
-    b: &'s [Value<'r>],
-) -> &'s [Value<'r>]
+fn later<'s, 'r>(output: &Output<'_>, a: &'s [Value<'r>], b: &'s [Value<'r>]) -> &'s [Value<'r>]
     ensures { result.now ≡ spec.later_of output.now a.now b.now }
 {
     if comes_before(output, a, b) { b } else { a }
@@ -134,11 +130,7 @@ fn cut(
 
 /// Lets go of rows that can't come out any more, whatever rows follow, where there are more than
 /// twice as many as can.
-pub fn trim(
-    alloc: Global,
-    output: &Output<'_>,
-    rows: &mut AnswerRows<'_>,
-) -> Result<(), AllocError>
+pub fn trim(alloc: Global, output: &Output<'_>, rows: &mut AnswerRows<'_>) -> Result<(), AllocError>
     ensures enough { OnOk result (AreEnough output.now rows.new rows.old) }
     ensures few { OnOk result (AreFew output.now rows.new) }
     ensures less { OnOk result (length rows.new ≤ length rows.old) }
