@@ -63,17 +63,17 @@ fn position_of<'r>(row: &'r HeldRow<'_>) -> Cell<'r>
     Cell::position(row.key(), row.count())
 }
 
-impl<'a> Rows for Postings<'_, 'a> {
+impl<'l, 'a> Rows for Postings<'l, 'a> {
     ghost use Rattle.std.specs.Prelude.{map};
     ghost use Rattle.bq.specs.List.{headers, shown_row};
 
-    type Row = HeldRow<'a>;
+    type Row = &'l HeldRow<'a>;
 
     ghost names = { λ _. headers };
 
     ghost rows = { λ postings. map shown_row postings.ledger.now.rows };
 
-    ghost values = { λ row. shown_row row };
+    ghost values = { λ row. shown_row row.now };
 
     fn columns(&self) -> usize {
         4
@@ -88,13 +88,13 @@ impl<'a> Rows for Postings<'_, 'a> {
     }
 
     #[tactic(auto, using(crate::proofs::ShownFacts::row_shown))]
-    fn row(&self, number: usize) -> &HeldRow<'a> {
+    fn row(&self, number: usize) -> &'l HeldRow<'a> {
         self.ledger.row(number)
     }
 
     #[inline(always)]
     #[tactic(auto, using(crate::proofs::ShownFacts::in_the_last))]
-    fn cell<'r>(row: &'r HeldRow<'a>, column: usize) -> Cell<'r> {
+    fn cell<'r>(row: &'r &'l HeldRow<'a>, column: usize) -> Cell<'r> {
         match column {
             0 => date_of(row),
             1 => flag_of(row),
