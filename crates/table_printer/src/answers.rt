@@ -1,4 +1,6 @@
 //! The answer of a query, as rows of cells.
+ghost use Rattle.std.specs.Prelude.{◌≡◌, ◌<◌, length, slice_get, Some};
+
 use crate::cell::Cell;
 use crate::rows::Rows;
 use query_answer::Answer;
@@ -10,14 +12,28 @@ pub struct AnswerTable<'t, 'a> {
     pub answer: &'t Answer<'a>,
 }
 
+/// A row of an answer.
+#[derive(Clone, Copy)]
+pub struct AnswerRow<'t, 'a> {
+    pub values: &'t [Value<'a>],
+}
+
+/// What values have in a column.
+fn cell_of<'r>(values: &'r [Value<'_>], column: usize) -> Cell<'r>
+    requires { column < length values.now }
+    ensures { Some result ≡ slice_get values.now column }
+{
+    Cell::kept(&values[column])
+}
+
 impl<'t, 'a> Rows for AnswerTable<'t, 'a> {
-    type Row = &'t [Value<'a>];
+    type Row = AnswerRow<'t, 'a>;
 
     ghost names = { λ table. table.answer.now.headers };
 
     ghost rows = { λ table. table.answer.now.rows };
 
-    ghost values = { λ row. row.now };
+    ghost values = { λ row. row.values.now };
 
     fn columns(&self) -> usize {
         self.answer.headers.as_slice().len()
@@ -31,11 +47,13 @@ impl<'t, 'a> Rows for AnswerTable<'t, 'a> {
         self.answer.rows.len()
     }
 
-    fn row(&self, number: usize) -> &'t [Value<'a>] {
-        self.answer.rows.row(number)
+    fn row(&self, number: usize) -> AnswerRow<'t, 'a> {
+        AnswerRow {
+            values: self.answer.rows.row(number),
+        }
     }
 
-    fn cell<'r>(row: &'r &'t [Value<'a>], column: usize) -> Cell<'r> {
-        Cell::kept(&row[column])
+    fn cell<'r>(row: &'r AnswerRow<'t, 'a>, column: usize) -> Cell<'r> {
+        cell_of(row.values, column)
     }
 }

@@ -22,7 +22,7 @@ widen_all-requires g c =
     let last = c.len-number-end.ensures in
     let before = c.loop-number-test.true in
     c.deref_mut.ensures.len ∙ c.loop-number.invariant.len
-    ∙ sym (ap length c.row.ensures ∙ c.requires i [] (omega (arith, last, before)))
+    ∙ sym (ap length c.row-row.ensures ∙ c.requires i [] (omega (arith, last, before)))
 
 pub loop-number-preserved : goal.loop-number-preserved
 loop-number-preserved g c =
@@ -37,7 +37,7 @@ loop-number-preserved g c =
     let made : new ≡ under display 0 (take (i + 1) rows) names =
     c.in_ok-widen_all.ensures
     ∙ (λ k. with_row display
-    ((c.deref_mut.ensures.value ∙ c.loop-number.invariant.under) k) (c.row.ensures k))
+    ((c.deref_mut.ensures.value ∙ c.loop-number.invariant.under) k) (c.row-row.ensures k))
     ∙ one_more display rows names i within (c.requires i [] within) in
     let sized : c.loop-number.headings.len ≡ length new =
     c.loop-number.invariant.len

@@ -18,8 +18,8 @@ loop-number-preserved g c =
     let within : i < length rows = omega (arith, c.loop-number-test.true, c.len-number-end.ensures) in
     c.in_ok-push_line.ensures
     ∙ (λ k. c.loop-number.invariant k ++ line_of ws
-    ((row_texts places (g.T.Rows.values c.row.result)
-    ∙ ap (map (text_of places)) c.row.ensures) k))
+    ((row_texts places (g.T.Rows.values c.row-row.result)
+    ∙ ap (map (text_of places)) c.row-row.ensures) k))
     ∙ append_assoc c.args.out.now.items _ _
     ∙ ap (λ l. c.args.out.now.items ++ l)
     (sym (lines_more (line_of ws) (map (text_of places)) rows i (row_at rows i) within
