@@ -15,6 +15,12 @@ pub struct Postings<'l, 'a> {
     pub ledger: &'l Ledger<'a>,
 }
 
+/// A posting that is listed.
+#[derive(Clone, Copy)]
+pub struct Posting<'l, 'a> {
+    pub row: &'l HeldRow<'a>,
+}
+
 /// The column of that number, from 0.
 fn column_at(number: usize) -> Column
     ensures { result ≡ spec.column_at number }
@@ -63,17 +69,17 @@ fn position_of<'r>(row: &'r HeldRow<'_>) -> Cell<'r>
     Cell::position(row.key(), row.count())
 }
 
-impl<'a> Rows for Postings<'_, 'a> {
+impl<'l, 'a> Rows for Postings<'l, 'a> {
     ghost use Rattle.std.specs.Prelude.{map};
     ghost use Rattle.bq.specs.List.{headers, shown_row};
 
-    type Row = HeldRow<'a>;
+    type Row = Posting<'l, 'a>;
 
     ghost names = { λ _. headers };
 
     ghost rows = { λ postings. map shown_row postings.ledger.now.rows };
 
-    ghost values = { λ row. shown_row row };
+    ghost values = { λ posting. shown_row posting.row.now };
 
     fn columns(&self) -> usize {
         4
@@ -88,18 +94,20 @@ impl<'a> Rows for Postings<'_, 'a> {
     }
 
     #[tactic(auto, using(crate::proofs::ShownFacts::row_shown))]
-    fn row(&self, number: usize) -> &HeldRow<'a> {
-        self.ledger.row(number)
+    fn row(&self, number: usize) -> Posting<'l, 'a> {
+        Posting {
+            row: self.ledger.row(number),
+        }
     }
 
     #[inline(always)]
     #[tactic(auto, using(crate::proofs::ShownFacts::in_the_last))]
-    fn cell<'r>(row: &'r HeldRow<'a>, column: usize) -> Cell<'r> {
+    fn cell<'r>(posting: &'r Posting<'l, 'a>, column: usize) -> Cell<'r> {
         match column {
-            0 => date_of(row),
-            1 => flag_of(row),
-            2 => account_of(row),
-            _ => position_of(row),
+            0 => date_of(posting.row),
+            1 => flag_of(posting.row),
+            2 => account_of(posting.row),
+            _ => position_of(posting.row),
         }
     }
 }

@@ -6,6 +6,7 @@ use Rattle.std.proofs.lemmas.Bool.{and_parts}
 use Rattle.std.proofs.lemmas.List.{append_assoc, length-map, length-take, map-append, take-append-drop}
 use Rattle.std.proofs.lemmas.List.{take-map}
 use Rattle.plain_machine.specs.Finishing.{ComesOut, ranked}
+use Rattle.query_answer.specs.Rows.{row_at}
 use Rattle.query_code.specs.declared.program.Output.{Output}
 use Rattle.query_rows.specs.FinalRows.{Ranked, limited, once_if, shown_of}
 use Rattle.query_values.specs.declared.value.Value.{Value}
@@ -14,10 +15,12 @@ use Rattle.theory.proofs.ArrangementFacts.{one_arrangement}
 use Rattle.theory.specs.Arrangement.{IsArrangement, arranged_by, put_by}
 use Rattle.final_rows.proofs.FrontFacts.{front_stays, thin_front}
 use Rattle.final_rows.proofs.LastFacts.{none_behind_last}
+use Rattle.final_rows.proofs.NumberFacts.{all_rows, front_and_some, rows_in_order}
 use Rattle.final_rows.proofs.OrderFacts.{before_ranked, goes_in_order, in_a_row, one_order}
 use Rattle.final_rows.proofs.OrderFacts.{ranked_in_order, same_order}
 use Rattle.final_rows.specs.Enough.{AreAmong, AreEnough, ComeOutAlike, enough_of}
-use Rattle.final_rows.specs.Enough.{last_of}
+use Rattle.final_rows.specs.Enough.{last_of, stays}
+use Rattle.final_rows.specs.Numbers.{by_number, numbers_of, rows_at}
 use Rattle.final_rows.specs.Order.{comes_before}
 
 -- ---- what holds of each of them
@@ -288,11 +291,35 @@ thinned_rows o most is rows front behind few room front_is behind_is few_is =
     many : length front ≡ most
     many = ap length front_is ∙ length-take most rows ∙ omega (arith, room)
 
--- rows that are cut and joined again
-pub joined_rows : (o : Output) (most : ℕ) (rows front behind : List (List Value))
-    → front ≡ take most rows → behind ≡ drop most rows → AreEnough o (front ++ behind) rows
-joined_rows o most rows front behind front_is behind_is =
+-- the same by their numbers
+pub thinned_numbers : (o : Output) (most : ℕ) → enough_of o ≡ Some most
+    → (rows : List (List Value)) (last : List Value) (numbers few : List ℕ) → most ≤ length rows
+    → numbers ≡ numbers_of rows → last ≡ last_of o (take most rows)
+    → few ≡ filter (stays o rows most last) numbers
+    → AreEnough o (rows_at rows few) rows
+thinned_numbers o most is rows last numbers few many all last_is few_is =
     subst (λ l. AreEnough o l rows)
-    (sym (ap (λ l. l ++ behind) front_is ∙ ap (λ l. take most rows ++ l) behind_is
-    ∙ take-append-drop most rows))
+    (sym (ap (rows_at rows) (few_is ∙ ap (filter (stays o rows most last)) all)
+    ∙ front_and_some rows (comes o last) most many))
+    (thinned_rows o most is rows (take most rows) (drop most rows)
+    (filter (comes o last) (drop most rows)) many refl refl
+    (ap (λ l. filter (comes o l) (drop most rows)) last_is))
+
+pub all_numbers : (o : Output) (rows : List (List Value)) (numbers : List ℕ)
+    → numbers ≡ numbers_of rows → AreEnough o (rows_at rows numbers) rows
+all_numbers o rows numbers all =
+    subst (λ l. AreEnough o l rows) (sym (ap (rows_at rows) all ∙ all_rows rows))
     (all_enough o rows)
+
+-- so many in the front of the order of those that are enough
+pub front_numbers : (o : Output) (most : ℕ) → enough_of o ≡ Some most
+    → (rows : List (List Value)) (some sorted few : List ℕ) → AreEnough o (rows_at rows some) rows
+    → IsArrangement (by_number rows (comes_before o)) some sorted → few ≡ take most sorted
+    → AreEnough o (rows_at rows few) rows
+front_numbers o most is rows some sorted few enough in_order cut =
+    enough_of_enough o (rows_at rows few) (rows_at rows some) rows
+    (subst (λ l. AreEnough o l (rows_at rows some))
+    (take-map (row_at rows) most sorted ∙ ap (rows_at rows) (sym cut))
+    (front_enough o most is (rows_at rows some) (rows_at rows sorted)
+    (rows_in_order rows o.is_descending o.order some sorted in_order)))
+    enough

@@ -1,7 +1,9 @@
 -- The last of some rows comes before none of them.
-use Rattle.std.proofs.Common.{◌≡◌, Bool, true, false, cond, List, [], ◌∷◌, refl}
+use Rattle.std.proofs.Common.{◌≡◌, ℕ, zero, suc, ◌+◌, ◌<◌, ◌≤◌, Bool, true, false, cond, List, [], ◌∷◌, ◌++◌}
+use Rattle.std.proofs.Common.{add-one, ap, arith, length, refl, sym, take, take-suc, ◌∙◌}
 use Rattle.std.specs.Cmp.{IsStrictWeakOrder}
 use Rattle.std.specs.List.{AllByRecursion}
+use Rattle.query_answer.specs.Rows.{row_at}
 use Rattle.query_code.specs.declared.program.Output.{Output}
 use Rattle.query_values.specs.declared.value.Value.{Value}
 use Rattle.final_rows.proofs.FrontFacts.{never_itself}
@@ -39,3 +41,25 @@ module _ (o : Output) where
   none_behind_last (row ∷ rows) =
       under_all (last_from o row rows) row rows
       (never_itself (comes_before o) order (last_from o row rows))
+
+  -- ---- the last of a list's front
+
+  last_from_more : (last x : List Value) (rows : List (List Value))
+      → last_from o last (rows ++ x ∷ []) ≡ later_of o (last_from o last rows) x
+  last_from_more last x [] = refl
+  last_from_more last x (row ∷ rows) = last_from_more (later_of o last row) x rows
+
+  pub last_more : (rows : List (List Value)) (n : ℕ) → 1 ≤ n → n < length rows
+      → later_of o (last_of o (take n rows)) (row_at rows n) ≡ last_of o (take (n + 1) rows)
+  last_more [] n some within = absurd (omega (arith, within))
+  last_more (row ∷ rows) zero some within = absurd (omega (arith, some))
+  last_more (row ∷ rows) (suc n) some within =
+      sym (last_from_more row (row_at rows n) (take n rows))
+      ∙ ap (last_from o row)
+      (sym (take-suc rows n [] (omega (arith, within))))
+      ∙ ap (λ k. last_of o (take k (row ∷ rows))) (sym (add-one (suc n)))
+
+  pub first_is_last : (rows : List (List Value)) → 1 ≤ length rows
+      → row_at rows 0 ≡ last_of o (take 1 rows)
+  first_is_last [] some = absurd (omega (arith, some))
+  first_is_last (row ∷ rows) some = refl

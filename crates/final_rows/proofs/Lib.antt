@@ -1,7 +1,7 @@
 pub mod ChainFacts
 pub mod RankFacts
-pub mod WidthFacts
 pub mod OrderFacts
+pub mod NumberFacts
 pub mod ShownFacts
 mod FrontFacts
 pub mod LastFacts

@@ -1,8 +1,9 @@
 -- Rows that are enough of more: the same comes out of them, whatever rows follow.
-use Rattle.std.specs.Prelude.{◌≡◌, ℕ, ◌+◌, ◌≤◌, Bool, true, List, [], ◌∷◌, ◌++◌, length, Option, Some}
+use Rattle.std.specs.Prelude.{◌≡◌, ℕ, ◌+◌, ◌≤◌, ◌||◌, Bool, nat_lt, true, List, [], ◌∷◌, ◌++◌, length, Option, Some}
 use Rattle.std.specs.Prelude.{None, if◌then◌else◌}
 use Rattle.std.specs.List.{list_all}
 use Rattle.plain_machine.specs.Finishing.{ComesOut}
+use Rattle.query_answer.specs.Rows.{row_at}
 use Rattle.query_code.specs.declared.program.Output.{Output}
 use Rattle.query_values.specs.declared.value.Value.{Value}
 use Rattle.final_rows.specs.Order.{comes_before}
@@ -29,6 +30,10 @@ enough_of o = if o.is_distinct then None else o.limit
 -- at most twice as many as are enough
 abbrev pub AreFew : Output → List (List Value) → Type 0
 AreFew o rows = (most : ℕ) → enough_of o ≡ Some most → length rows ≤ most + most
+
+-- the rows in front stay, and those that come before one
+abbrev pub stays : Output → List (List Value) → ℕ → List Value → ℕ → Bool
+stays o rows most last n = nat_lt n most || comes_before o (row_at rows n) last
 
 -- the one of two rows that comes later, the first where they tie
 abbrev pub later_of : Output → List Value → List Value → List Value

@@ -1,101 +1,114 @@
 //! What rows show, each once where that is asked for, and at most so many.
-ghost use Rattle.std.specs.Prelude.{◌≡◌, [], IfOk, map, take};
+ghost use Rattle.std.specs.Prelude.{◌≡◌, [], false, IfOk, OnOk, length, map, take};
 ghost use Rattle.plain_machine.specs.Finishing.{ComesOut};
+ghost use Rattle.query_answer.specs.Rows.{ArePicked};
 ghost use Rattle.query_rows.specs.FinalRows.{limited};
-ghost use Rattle.query_rows.specs.Same.{each_once};
-ghost use Rattle.std.specs.List.{list_all};
-ghost use Rattle.final_rows.specs.Width.{is_within};
+ghost use Rattle.query_rows.specs.Same.{each_once, with_new};
+ghost use Rattle.final_rows.specs.Numbers.{numbers_limited, numbers_with_new, rows_at};
 
-use crate::ordering::arrange;
-use bean_base::List;
+use crate::ordering::{arrange, numbers_of};
 use indexmap::IndexSet;
+use query_answer::AnswerRows;
 use query_code::Output;
 use query_values::Value;
 use std::alloc::{AllocError, Global};
-use value_keys::ValueKey;
+use value_keys::LentKey;
 
 /// The front of a row that is shown.
-fn front(row: List<Value<'_>>, width: usize) -> Vec<Value<'_>>
-    ensures { result.items ≡ take width row.entry }
+fn front<'s, 'r>(row: &'s [Value<'r>], width: usize) -> &'s [Value<'r>]
+    ensures { result.now ≡ take width row.now }
 {
-    let mut values = row.into_vec();
-    values.truncate(width);
-    values
+    &row[..width.min(row.len())]
 }
 
-/// Whether no row has more values than are shown.
-fn are_shown_whole(rows: &[List<Value<'_>>], width: usize) -> bool
-    ensures { result ≡ list_all (is_within width) rows.now }
+/// Notes what a row shows, and its number where none before it shows the same.
+fn note<'s, 'r>(
+    number: usize,
+    shown: &'s [Value<'r>],
+    seen: &mut IndexSet<LentKey<'s, 'r>>,
+    once: &mut Vec<usize>,
+) -> Result<(), AllocError>
+    ensures seen { OnOk result (seen.new.keys ≡ with_new seen.old.keys shown.now) }
+    ensures once { OnOk result (once.new.items
+        ≡ numbers_with_new seen.old.keys shown.now once.old.items number) }
 {
-    rows.iter().all(|row| row.as_slice().len() <= width)
-}
-
-/// What is shown of rows; where that is all of them, they stay where they are.
-fn shown<'r>(
-    alloc: Global,
-    rows: Vec<List<Value<'r>>>,
-    width: usize,
-) -> Result<Vec<List<Value<'r>>>, AllocError>
-    ensures { IfOk result (λ shown. shown.items ≡ map (take width) rows.entry.items) }
-{
-    if are_shown_whole(&rows, width) {
-        return Ok(rows);
+    if seen.insert(LentKey::new(shown))? {
+        once.push(number)?;
     }
-    let mut shown = Vec::with_capacity(alloc, rows.len())?;
-    for row in rows {
-        shown.push(List::new(front(row, width)))?;
-    }
-    Ok(shown)
+    Ok(())
 }
 
-/// What rows show, each once, in the order in which it is first shown.
-#[tactic(auto, using(crate::proofs::ShownFacts::once_on))]
-fn fronts_once<'r>(
+/// The numbers of rows without those that show the same as one before.
+fn shown_once(
     alloc: Global,
-    rows: Vec<List<Value<'r>>>,
+    rows: &AnswerRows<'_>,
+    numbers: &[usize],
     width: usize,
-) -> Result<IndexSet<ValueKey<'r>>, AllocError>
-    ensures { IfOk result (λ seen. seen.keys ≡ each_once [] (map (take width) rows.entry.items)) }
+) -> Result<Vec<usize>, AllocError>
+    requires { ArePicked (length rows.now) numbers.now }
+    ensures picked { IfOk result (λ once. ArePicked (length rows.now) once.items) }
+    ensures shown { IfOk result (λ once. map (take width) (rows_at rows.now once.items)
+        ≡ each_once [] (map (take width) (rows_at rows.now numbers.now))) }
 {
     let mut seen = IndexSet::new(alloc);
-    for row in rows {
-        seen.insert(ValueKey::new(front(row, width)))?;
+    let mut once = Vec::new(alloc);
+    for number in numbers {
+        let shown = front(rows.row(*number), width);
+        note(*number, shown, &mut seen, &mut once)?;
     }
-    Ok(seen)
+    Ok(once)
 }
 
-/// The rows that keys are.
-fn rows_of<'r>(
-    alloc: Global,
-    keys: IndexSet<ValueKey<'r>>,
-) -> Result<Vec<List<Value<'r>>>, AllocError>
-    ensures { IfOk result (λ rows. rows.items ≡ keys.entry.keys) }
+/// At most so many numbers.
+fn limit_to(numbers: &mut Vec<usize>, limit: Option<u32>)
+    ensures { numbers.new.items ≡ numbers_limited limit numbers.old.items }
 {
-    let mut rows = Vec::with_capacity(alloc, keys.len())?;
-    for key in keys {
-        rows.push(List::new(key.into_vec()))?;
+    if let Some(most) = limit {
+        numbers.truncate(most as usize);
     }
-    Ok(rows)
 }
 
-/// Only the first of rows that show the same.
-fn shown_once<'r>(
-    alloc: Global,
-    rows: Vec<List<Value<'r>>>,
-    width: usize,
-) -> Result<Vec<List<Value<'r>>>, AllocError>
-    ensures { IfOk result (λ shown. shown.items ≡ each_once [] (map (take width) rows.entry.items)) }
-{
-    let seen = fronts_once(alloc, rows, width)?;
-    rows_of(alloc, seen)
-}
-
-fn limit_to(rows: &mut Vec<List<Value<'_>>>, limit: Option<u32>)
-    ensures { rows.new.items ≡ limited limit rows.old.items }
+/// At most so many rows.
+fn limit_rows(rows: &mut AnswerRows<'_>, limit: Option<u32>)
+    ensures { rows.new ≡ limited limit rows.old }
 {
     if let Some(most) = limit {
         rows.truncate(most as usize);
     }
+}
+
+/// What comes out where there is nothing to order by: the first rows, where they lie.
+fn first_rows<'r>(output: &Output<'_>, rows: AnswerRows<'r>) -> AnswerRows<'r>
+    requires none { output.now.order ≡ [] }
+    requires all { output.now.is_distinct ≡ false }
+    ensures { ComesOut output.now rows.entry result }
+{
+    let mut rows = rows;
+    limit_rows(&mut rows, output.limit);
+    rows.narrow(output.targets.as_slice().len());
+    rows
+}
+
+/// The numbers of the rows that come out, in the order in which they do.
+fn numbers_out(
+    alloc: Global,
+    output: &Output<'_>,
+    rows: &AnswerRows<'_>,
+) -> Result<Vec<usize>, AllocError>
+    ensures picked { IfOk result (λ numbers. ArePicked (length rows.now) numbers.items) }
+    ensures out { IfOk result (λ numbers. ComesOut output.now rows.now
+        (map (take (length output.now.targets)) (rows_at rows.now numbers.items))) }
+{
+    let mut numbers = numbers_of(alloc, rows)?;
+    arrange(output, rows, &mut numbers)?;
+    if output.is_distinct {
+        let width = output.targets.as_slice().len();
+        let mut once = shown_once(alloc, rows, &numbers, width)?;
+        limit_to(&mut once, output.limit);
+        return Ok(once);
+    }
+    limit_to(&mut numbers, output.limit);
+    Ok(numbers)
 }
 
 /// The rows that come out of those at the end of a program: in its order, what is shown of them,
@@ -103,19 +116,15 @@ fn limit_to(rows: &mut Vec<List<Value<'_>>>, limit: Option<u32>)
 pub fn finish<'r>(
     alloc: Global,
     output: &Output<'_>,
-    rows: Vec<List<Value<'r>>>,
-) -> Result<Vec<List<Value<'r>>>, AllocError>
-    ensures { IfOk result (λ final. ComesOut output.now rows.entry.items final.items) }
+    rows: AnswerRows<'r>,
+) -> Result<AnswerRows<'r>, AllocError>
+    ensures { IfOk result (λ final. ComesOut output.now rows.entry final) }
 {
-    let mut rows = rows;
-    arrange(output, &mut rows)?;
-    let width = output.targets.as_slice().len();
-    if output.is_distinct {
-        let mut once = shown_once(alloc, rows, width)?;
-        limit_to(&mut once, output.limit);
-        Ok(once)
-    } else {
-        limit_to(&mut rows, output.limit);
-        shown(alloc, rows, width)
+    if output.order.as_slice().is_empty() && !output.is_distinct {
+        return Ok(first_rows(output, rows));
     }
+    let numbers = numbers_out(alloc, output, &rows)?;
+    let mut out = rows.picked(alloc, &numbers)?;
+    out.narrow(output.targets.as_slice().len());
+    Ok(out)
 }

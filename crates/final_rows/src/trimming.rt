@@ -1,14 +1,16 @@
 //! How many rows have to be kept while rows still come.
-ghost use Rattle.std.specs.Prelude.{◌≡◌, ◌≤◌, Some, IfSome, OnOk, filter, length};
+ghost use Rattle.std.specs.Prelude.{◌≡◌, ◌<◌, ◌≤◌, Some, IfOk, OnOk, filter, length, take};
+ghost use Rattle.query_answer.specs.Rows.{ArePicked};
 ghost use Rattle.final_rows.specs.Enough as spec;
-ghost use Rattle.final_rows.specs.Enough.{AreEnough, AreFew};
-ghost use Rattle.final_rows.specs.Order.{comes_before};
+ghost use Rattle.final_rows.specs.Enough.{AreEnough, AreFew, stays};
+ghost use Rattle.final_rows.specs.Numbers.{rows_at};
 
-use crate::ordering::{arrange, comes_before};
-use bean_base::List;
+use crate::ordering::{arrange, comes_before, numbers_of};
+use query_answer::AnswerRows;
 use query_code::Output;
 use query_values::Value;
-use std::alloc::AllocError;
+use std::alloc::{AllocError, Global};
+use std::mem::replace;
 
 /// How many rows in the front of the output's order are enough, whatever rows follow. Where rows
 /// are told once there is no such number.
@@ -25,87 +27,117 @@ fn enough(output: &Output<'_>) -> Option<usize>
 }
 
 /// The one of two rows that comes later, the first where they tie.
-fn later<'s, 'r>(
-    output: &Output<'_>,
-    a: &'s List<Value<'r>>,
-    b: &'s List<Value<'r>>,
-) -> &'s List<Value<'r>>
+fn later<'s, 'r>(output: &Output<'_>, a: &'s [Value<'r>], b: &'s [Value<'r>]) -> &'s [Value<'r>]
     ensures { result.now ≡ spec.later_of output.now a.now b.now }
 {
-    if comes_before(output, a.as_slice(), b.as_slice()) {
-        b
-    } else {
-        a
-    }
+    if comes_before(output, a, b) { b } else { a }
 }
 
-/// The row of these that comes last, if there is any: the first of those that tie.
-fn last_of<'s, 'r>(output: &Output<'_>, rows: &'s [List<Value<'r>>]) -> Option<&'s List<Value<'r>>>
-    ensures { IfSome result (λ last. last.now ≡ spec.last_of output.now rows.now) }
+/// The row that comes last of so many in front: the first of those that tie.
+fn last_of<'s, 'r>(output: &Output<'_>, rows: &'s AnswerRows<'r>, most: usize) -> &'s [Value<'r>]
+    requires some { 0 < most }
+    requires many { most ≤ length rows.now }
+    ensures { result.now ≡ spec.last_of output.now (take most rows.now) }
 {
-    let [first, others @ ..] = rows else {
-        return None;
-    };
-    let mut last = first;
-    let mut rest = others;
-    while let [row, behind @ ..] = rest {
-        last = later(output, last, row);
-        rest = behind;
+    let mut last = rows.row(0);
+    for number in 1..most {
+        last = later(output, last, rows.row(number));
     }
-    Some(last)
+    last
 }
 
-/// Keeps the rows that come before one.
-fn keep_before(output: &Output<'_>, last: &List<Value<'_>>, rows: &mut Vec<List<Value<'_>>>)
-    ensures { rows.new.items ≡ filter (λ row. comes_before output.now row last.now) rows.old.items }
+/// Keeps the numbers of the first rows, and of those that come before a row.
+fn keep_before(
+    output: &Output<'_>,
+    rows: &AnswerRows<'_>,
+    most: usize,
+    last: &[Value<'_>],
+    numbers: &mut Vec<usize>,
+)
+    ensures { numbers.new.items
+        ≡ filter (stays output.now rows.now most last.now) numbers.old.items }
 {
-    rows.retain(
-        |row: &List<Value<'_>>| -> bool
-            ensures answer { result ≡ comes_before output.entry.now row.now last.entry.now }
+    numbers.retain(
+        |number: &usize| -> bool
+            ensures answer { result ≡ stays output.entry.now rows.entry.now most
+                last.entry.now number.now }
             ensures output { output.exit.now ≡ output.entry.now }
+            ensures rows { rows.exit.now ≡ rows.entry.now }
             ensures last { last.exit.now ≡ last.entry.now }
-        { comes_before(output, row.as_slice(), last.as_slice()) },
+        { *number < most || comes_before(output, rows.row(*number), last) },
     );
 }
 
-/// Lets go of the rows behind so many that don't come before the last of these.
-fn thin(output: &Output<'_>, most: usize, rows: &mut Vec<List<Value<'_>>>) -> Result<(), AllocError>
+/// The numbers of so many rows in front and of those behind them that come before the last of these.
+fn thinned(
+    alloc: Global,
+    output: &Output<'_>,
+    most: usize,
+    rows: &AnswerRows<'_>,
+) -> Result<Vec<usize>, AllocError>
     requires enough { spec.enough_of output.now ≡ Some most }
-    requires many { most ≤ length rows.old.items }
-    ensures { OnOk result (AreEnough output.now rows.new.items rows.old.items) }
+    requires many { most < length rows.now }
+    ensures picked { IfOk result (λ numbers. ArePicked (length rows.now) numbers.items) }
+    ensures enough { IfOk result (λ numbers.
+        AreEnough output.now (rows_at rows.now numbers.items) rows.now) }
 {
-    let mut behind = rows.split_off(most)?;
-    if let Some(last) = last_of(output, rows) {
-        keep_before(output, last, &mut behind);
+    let mut numbers = numbers_of(alloc, rows)?;
+    if most > 0 {
+        let last = last_of(output, rows, most);
+        keep_before(output, rows, most, last, &mut numbers);
     }
-    rows.append(&mut behind)?;
-    Ok(())
+    Ok(numbers)
 }
 
-/// Keeps so many rows in the front of the order.
-fn cut(output: &Output<'_>, most: usize, rows: &mut Vec<List<Value<'_>>>) -> Result<(), AllocError>
+/// The numbers of so many rows in the front of the order.
+fn front(
+    alloc: Global,
+    output: &Output<'_>,
+    most: usize,
+    rows: &AnswerRows<'_>,
+) -> Result<Vec<usize>, AllocError>
     requires enough { spec.enough_of output.now ≡ Some most }
-    requires many { most ≤ length rows.old.items }
-    ensures enough { OnOk result (AreEnough output.now rows.new.items rows.old.items) }
-    ensures few { OnOk result (length rows.new.items ≤ most) }
+    requires many { most < length rows.now }
+    ensures picked { IfOk result (λ numbers. ArePicked (length rows.now) numbers.items) }
+    ensures enough { IfOk result (λ numbers.
+        AreEnough output.now (rows_at rows.now numbers.items) rows.now) }
+    ensures few { IfOk result (λ numbers. length numbers.items ≤ most) }
 {
     // Few are left to be sorted: where rows come in any order, most stand behind those in front.
-    thin(output, most, rows)?;
-    arrange(output, rows)?;
-    rows.truncate(most);
+    let mut numbers = thinned(alloc, output, most, rows)?;
+    arrange(output, rows, &mut numbers)?;
+    numbers.truncate(most);
+    Ok(numbers)
+}
+
+/// Keeps so many rows in the front of the order, and the memory of these alone.
+fn cut(
+    alloc: Global,
+    output: &Output<'_>,
+    most: usize,
+    rows: &mut AnswerRows<'_>,
+) -> Result<(), AllocError>
+    requires enough { spec.enough_of output.now ≡ Some most }
+    requires many { most < length rows.old }
+    ensures enough { OnOk result (AreEnough output.now rows.new rows.old) }
+    ensures few { OnOk result (length rows.new ≤ most) }
+{
+    let numbers = front(alloc, output, most, rows)?;
+    let all = replace(rows, AnswerRows::new(alloc));
+    *rows = all.picked(alloc, &numbers)?;
     Ok(())
 }
 
 /// Lets go of rows that can't come out any more, whatever rows follow, where there are more than
 /// twice as many as can.
-pub fn trim(output: &Output<'_>, rows: &mut Vec<List<Value<'_>>>) -> Result<(), AllocError>
-    ensures enough { OnOk result (AreEnough output.now rows.new.items rows.old.items) }
-    ensures few { OnOk result (AreFew output.now rows.new.items) }
-    ensures less { OnOk result (length rows.new.items ≤ length rows.old.items) }
+pub fn trim(alloc: Global, output: &Output<'_>, rows: &mut AnswerRows<'_>) -> Result<(), AllocError>
+    ensures enough { OnOk result (AreEnough output.now rows.new rows.old) }
+    ensures few { OnOk result (AreFew output.now rows.new) }
+    ensures less { OnOk result (length rows.new ≤ length rows.old) }
 {
     if let Some(most) = enough(output) {
         if rows.len() > most && rows.len() - most > most {
-            cut(output, most, rows)?;
+            cut(alloc, output, most, rows)?;
         }
     }
     Ok(())

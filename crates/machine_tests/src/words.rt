@@ -16,11 +16,10 @@ pub fn turn_word(turn: Turn) -> &'static str {
 
 /// The one number that an answer has, where it has one row of one value.
 fn number_in(answer: &Answer<'_>) -> Option<i128> {
-    let rows = answer.rows.as_slice();
-    if rows.len() != 1 {
+    if answer.rows.len() != 1 {
         return None;
     }
-    let row = rows[0].as_slice();
+    let row = answer.rows.row(0);
     if row.len() != 1 {
         return None;
     }

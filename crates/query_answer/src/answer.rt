@@ -1,11 +1,11 @@
 //! Named columns of values, and what they took.
+use crate::rows::AnswerRows;
 use bean_base::{List, Slice};
-use query_values::Value;
 
 /// Rows of values under the names of their columns.
 pub struct Answer<'a> {
     pub headers: List<Slice<'a>>,
-    pub rows: List<List<Value<'a>>>,
+    pub rows: AnswerRows<'a>,
     /// How many instructions were executed.
     pub steps: u64,
     /// How many groups there were, or how many postings passed where nothing was grouped.

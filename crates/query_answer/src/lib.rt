@@ -22,5 +22,7 @@
 #![tactic(auto)]
 
 mod answer;
+mod rows;
 
 pub use answer::Answer;
+pub use rows::AnswerRows;

@@ -1,8 +1,6 @@
 -- Where a run stands behind a turn, and what it answers at its end.
 use Rattle.std.proofs.Common.{◌≡◌, ◌≢◌, ℕ, ◌+◌, ◌-◌, ◌<◌, ◌≤◌, ◌^◌, List, [], ◌∷◌, length, drop}
 use Rattle.std.proofs.Common.{true, false, refl, sym, ap, subst, ◌∙◌, arith, inl, inr}
-use Rattle.std.specs.Prelude.{Vec}
-use Rattle.std.specs.declared.alloc.Global.{Global}
 use Rattle.std.proofs.lemmas.List.{append-nil}
 use Rattle.final_rows.specs.Enough.{AreEnough}
 use Rattle.std.proofs.lemmas.Bool.{cases_lt}
@@ -35,10 +33,10 @@ use Rattle.query_runs.specs.declared.run.Stage.TheVariants as stage
 -- ---- the end
 
 module _ (rows : List Row) (r : runs.Run) where
-  pub stands_ended : is_at_end r.stage ≡ true → stand_of rows r ≡ Done r.rows.items
+  pub stands_ended : is_at_end r.stage ≡ true → stand_of rows r ≡ Done r.rows
   stands_ended = by r.stage
     where
-      by : (s : Stage) → is_at_end s ≡ true → by_stage s rows r ≡ Done r.rows.items
+      by : (s : Stage) → is_at_end s ≡ true → by_stage s rows r ≡ Done r.rows
       by stage.Filter e = absurd cc
       by stage.Row e = absurd cc
       by stage.Last e = absurd cc
@@ -89,7 +87,7 @@ module _ (p : Parts) (rows : List Row) (s : Standing) (under : IsUnderWay p rows
       (safe_further p s.run.frame.stack.room s.steps (run_after p rows 0)
       (run_after p rows s.steps) under.safe refl) under.stands
 
-  kept_is : under.stands.rows ≡ s.run.rows.items
+  kept_is : under.stands.rows ≡ s.run.rows
   kept_is =
       kept_are p rows s.run s.dropped (run_after p rows s.steps) (under.safe.never_faults s.steps)
       under.stands
@@ -102,7 +100,7 @@ module _ (p : Parts) (rows : List Row) (s : Standing) (under : IsUnderWay p rows
       ∙ stands_going rows s.run inside (safe_here.never_faults 0)
 
   -- there are no more rows than steps
-  pub rows_counted : s.dropped + length s.run.rows.items < 2 ^ 64
+  pub rows_counted : s.dropped + length s.run.rows < 2 ^ 64
   rows_counted =
       let few = few_given p rows under.safe.never_faults s.steps in
       let steps_few = few_steps p rows under.never s.steps under.going in
@@ -112,14 +110,14 @@ module _ (p : Parts) (rows : List Row) (s : Standing) (under : IsUnderWay p rows
       omega (arith, few, steps_few, brief, count, long)
 
   pub run_of : (answer : Answer) → is_at_end s.run.stage ≡ true
-      → answer.headers ≡ p.output.targets → ComesOut p.output s.run.rows.items answer.rows
-      → answer.steps ≡ s.steps → answer.groups ≡ s.dropped + length s.run.rows.items
+      → answer.headers ≡ p.output.targets → ComesOut p.output s.run.rows answer.rows
+      → answer.steps ≡ s.steps → answer.groups ≡ s.dropped + length s.run.rows
       → IsRunOf p rows answer
   run_of answer ended headers comes_out made groups = record {
     plain = record { steps = s.steps; rows = given; final = answer.rows };
     answers = record {
       done = ends_as_plain p rows under.never s.steps given
-          (ended_alike p under.stands.rows s.run.rows.items (run_after p rows s.steps)
+          (ended_alike p under.stands.rows s.run.rows (run_after p rows s.steps)
           (sym under.stands.is ∙ stands_ended rows s.run ended)).0;
       going = λ k lt. goes_as_plain p rows under.never k ∙ under.going k lt;
       comes_out = subst (λ l. ComesOut p.output l answer.rows) (append-nil given)
@@ -137,9 +135,9 @@ module _ (p : Parts) (rows : List Row) (s : Standing) (under : IsUnderWay p rows
       given = rows_given (run_after p rows s.steps)
 
   -- with fewer rows
-  pub drops : (few : Vec (List Value) Global) (dropped : ℕ)
-      → AreEnough p.output few.items s.run.rows.items
-      → s.dropped + length s.run.rows.items ≡ dropped + length few.items
+  pub drops : (few : List (List Value)) (dropped : ℕ)
+      → AreEnough p.output few s.run.rows
+      → s.dropped + length s.run.rows ≡ dropped + length few
       → IsUnderWay p rows
       (record { run = run_with p rows s.run few; steps = s.steps; dropped = dropped })
   drops few dropped enough same = record {

@@ -2,8 +2,7 @@
 use Rattle.std.proofs.Common.{◌≡◌, ◌≢◌, ℕ, zero, suc, ◌+◌, ◌≤◌, Bool, true, false, cond, List, []}
 use Rattle.std.proofs.Common.{◌∷◌, ◌++◌, length, reverse, take, drop, Option, Some, None, option_map, refl}
 use Rattle.std.proofs.Common.{sym, ap, subst, ◌∙◌, arith}
-use Rattle.std.specs.Prelude.{nat_eq, Vec}
-use Rattle.std.specs.declared.alloc.Global.{Global}
+use Rattle.std.specs.Prelude.{nat_eq}
 use Rattle.std.specs.List.{list_all}
 use Rattle.std.proofs.lemmas.Bool.{and_parts}
 use Rattle.std.proofs.lemmas.List.{append-nil, length-append}
@@ -465,26 +464,26 @@ module _ (p : Parts) where
   given_with kept Fault fine = absurd (fine refl)
 
   module _ (rows : List Row) (r : Run) where
-    given_in : stand_of rows r ≢ Fault → rows_given (stand_of rows r) ≡ r.rows.items
+    given_in : stand_of rows r ≢ Fault → rows_given (stand_of rows r) ≡ r.rows
     given_in = by r.stage
       where
         filter : (left : List Row) → in_filter_at left r ≢ Fault
-            → rows_given (in_filter_at left r) ≡ r.rows.items
+            → rows_given (in_filter_at left r) ≡ r.rows
         filter [] fine = absurd (fine refl)
         filter (x ∷ rest) fine = refl
 
         row : (left : List Row) → in_row_at left r ≢ Fault
-            → rows_given (in_row_at left r) ≡ r.rows.items
+            → rows_given (in_row_at left r) ≡ r.rows
         row [] fine = absurd (fine refl)
         row (x ∷ rest) fine = refl
 
         last : (left : List (Group Gathered)) → in_last_at left r ≢ Fault
-            → rows_given (in_last_at left r) ≡ r.rows.items
+            → rows_given (in_last_at left r) ≡ r.rows
         last [] fine = absurd (fine refl)
         last (g ∷ rest) fine = refl
 
         by : (s : Stage) → by_stage s rows r ≢ Fault
-            → rows_given (by_stage s rows r) ≡ r.rows.items
+            → rows_given (by_stage s rows r) ≡ r.rows
         by stage.Filter fine = filter (drop r.row rows) fine
         by stage.Row fine = row (drop r.row rows) fine
         by stage.Last fine = last (drop r.group r.groups) fine
@@ -492,12 +491,12 @@ module _ (p : Parts) where
 
     -- the rows of a trimmed stand are those that its run has
     pub kept_are : (dropped : ℕ) (s : Stand Gathered) → s ≢ Fault
-        → (trimmed : IsTrimmed p dropped (stand_of rows r) s) → trimmed.rows ≡ r.rows.items
+        → (trimmed : IsTrimmed p dropped (stand_of rows r) s) → trimmed.rows ≡ r.rows
     kept_are dropped s fine trimmed =
         sym (given_with trimmed.rows s fine) ∙ ap rows_given (sym trimmed.is)
         ∙ given_in (λ fault. fine (fault_alike trimmed.rows s (sym trimmed.is ∙ fault)))
 
-    module _ (few : Vec (List Value) Global) where
+    module _ (few : List (List Value)) where
       abbrev pub run_with : Run
       run_with = record {
         stage = r.stage;
@@ -510,42 +509,42 @@ module _ (p : Parts) where
         rows = few;
       }
 
-      stands_with : stand_of rows run_with ≡ with_rows few.items (stand_of rows r)
+      stands_with : stand_of rows run_with ≡ with_rows few (stand_of rows r)
       stands_with = by r.stage
         where
           filter : (left : List Row)
-              → in_filter_at left run_with ≡ with_rows few.items (in_filter_at left r)
+              → in_filter_at left run_with ≡ with_rows few (in_filter_at left r)
           filter [] = refl
           filter (x ∷ rest) = refl
 
           row : (left : List Row)
-              → in_row_at left run_with ≡ with_rows few.items (in_row_at left r)
+              → in_row_at left run_with ≡ with_rows few (in_row_at left r)
           row [] = refl
           row (x ∷ rest) = refl
 
           last : (left : List (Group Gathered))
-              → in_last_at left run_with ≡ with_rows few.items (in_last_at left r)
+              → in_last_at left run_with ≡ with_rows few (in_last_at left r)
           last [] = refl
           last (g ∷ rest) = refl
 
-          by : (s : Stage) → by_stage s rows run_with ≡ with_rows few.items (by_stage s rows r)
+          by : (s : Stage) → by_stage s rows run_with ≡ with_rows few (by_stage s rows r)
           by stage.Filter = filter (drop r.row rows)
           by stage.Row = row (drop r.row rows)
           by stage.Last = last (drop r.group r.groups)
           by stage.Done = refl
 
       pub trims_more : (dropped more : ℕ) (s : Stand Gathered) → s ≢ Fault
-          → IsTrimmed p dropped (stand_of rows r) s → AreEnough p.output few.items r.rows.items
-          → dropped + length r.rows.items ≡ more + length few.items
+          → IsTrimmed p dropped (stand_of rows r) s → AreEnough p.output few r.rows
+          → dropped + length r.rows ≡ more + length few
           → IsTrimmed p more (stand_of rows run_with) s
       trims_more dropped more s fine trimmed enough same =
           let kept = kept_are dropped s fine trimmed in
           let count = trimmed.count in
           let long = ap (λ l. length l) kept in record {
-            rows = few.items;
-            is = stands_with ∙ ap (with_rows few.items) trimmed.is
-                ∙ with_others few.items trimmed.rows s;
-            enough = enough_of_enough p.output few.items r.rows.items (rows_given s) enough
+            rows = few;
+            is = stands_with ∙ ap (with_rows few) trimmed.is
+                ∙ with_others few trimmed.rows s;
+            enough = enough_of_enough p.output few r.rows (rows_given s) enough
                 (subst (λ l. AreEnough p.output l (rows_given s)) kept trimmed.enough);
             count = omega (arith, count, long, same);
           }

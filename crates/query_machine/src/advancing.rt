@@ -52,7 +52,7 @@ fn answer_of<'r>(
     let rows = run.into_rows();
     let groups = dropped + rows.len() as u64;
     let headers = List::new(headers_of(alloc, &input.parts.output)?);
-    let rows = List::new(finish(alloc, &input.parts.output, rows)?);
+    let rows = finish(alloc, &input.parts.output, rows)?;
     Ok(Answer {
         headers,
         rows,
@@ -62,7 +62,11 @@ fn answer_of<'r>(
 }
 
 /// Lets go of rows that can't come out any more, where there are many.
-fn drop_rows<'r>(input: &Inputs<'r, '_>, standing: &mut Standing<'r>) -> Result<(), AllocError>
+fn drop_rows<'r>(
+    alloc: Global,
+    input: &Inputs<'r, '_>,
+    standing: &mut Standing<'r>,
+) -> Result<(), AllocError>
     requires { IsUnderWay input.now.parts.now (rows_in input.now) standing.old }
     ensures under_way { OnOk result
         (IsUnderWay input.now.parts.now (rows_in input.now) standing.new) }
@@ -70,7 +74,7 @@ fn drop_rows<'r>(input: &Inputs<'r, '_>, standing: &mut Standing<'r>) -> Result<
     ensures steps { standing.new.steps ≡ standing.old.steps }
 {
     let before = standing.run.rows.len();
-    trim(&input.parts.output, &mut standing.run.rows)?;
+    trim(alloc, &input.parts.output, &mut standing.run.rows)?;
     standing.dropped += (before - standing.run.rows.len()) as u64;
     Ok(())
 }
@@ -94,7 +98,7 @@ fn stretch<'r>(
 {
     let made = go_on(alloc, input, &mut standing.run, k)?;
     standing.steps += made;
-    drop_rows(input, standing)?;
+    drop_rows(alloc, input, standing)?;
     Ok(made)
 }
 

@@ -58,7 +58,7 @@ pub record InLastAt (p : Parts) (rows : List Row) (run : Run) (before : ℕ) : T
   pub there : run.group < length run.groups
   pub within : run.frame.place < length p.code.last
   pub here : steps (keeps p) p before (stand_of rows run)
-      ≡ in_last (keeps p) p head (drop (run.group + 1) run.groups) run.rows.items
+      ≡ in_last (keeps p) p head (drop (run.group + 1) run.groups) run.rows
       (standing run.frame)
 
 pub in_last_there : (p : Parts) (rows : List Row) (run : Run) (before room : ℕ)
@@ -69,7 +69,7 @@ in_last_there p rows run before room stage_is stands safe =
       | inl there ↦
           let f = front run.groups run.group there in
           let is : steps (keeps p) p before (stand_of rows run)
-          ≡ InLast f.head (drop (run.group + 1) run.groups) run.rows.items run.frame.place
+          ≡ InLast f.head (drop (run.group + 1) run.groups) run.rows run.frame.place
           (state_in run.frame) =
           sym here ∙ ap (λ l. in_last_at l run) f.is in
           let within : run.frame.place < length p.code.last =
@@ -81,7 +81,7 @@ in_last_there p rows run before room stage_is stands safe =
             there = there;
             within = within;
             here = is ∙ sym ((last_section p f.head (drop (run.group + 1) run.groups)
-                run.rows.items).inside run.frame.place (state_in run.frame) within);
+                run.rows).inside run.frame.place (state_in run.frame) within);
           }
       | inr past ↦ absurd (safe.never_faults before
           (sym here ∙ ap (λ l. in_last_at l run) (nothing_left run.groups run.group past)))
@@ -132,16 +132,16 @@ module _ (p : Parts) (rows : List Row) (run : Run) (before room : ℕ)
       (pair_is (keys, totals) f.head (group_is ∙ f.at))
 
   in_section : IsSection p code m
-      (in_last (keeps p) p f.head (drop (run.group + 1) run.groups) run.rows.items)
-      (InLast f.head (drop (run.group + 1) run.groups) run.rows.items)
+      (in_last (keeps p) p f.head (drop (run.group + 1) run.groups) run.rows)
+      (InLast f.head (drop (run.group + 1) run.groups) run.rows)
   in_section =
       subst (λ c. IsSection p c m
-      (in_last (keeps p) p f.head (drop (run.group + 1) run.groups) run.rows.items)
-      (InLast f.head (drop (run.group + 1) run.groups) run.rows.items)) (sym code_is)
+      (in_last (keeps p) p f.head (drop (run.group + 1) run.groups) run.rows)
+      (InLast f.head (drop (run.group + 1) run.groups) run.rows)) (sym code_is)
       (subst (λ a. IsSection p p.code.last a
-      (in_last (keeps p) p f.head (drop (run.group + 1) run.groups) run.rows.items)
-      (InLast f.head (drop (run.group + 1) run.groups) run.rows.items)) (sym acts)
-      (last_section p f.head (drop (run.group + 1) run.groups) run.rows.items))
+      (in_last (keeps p) p f.head (drop (run.group + 1) run.groups) run.rows)
+      (InLast f.head (drop (run.group + 1) run.groups) run.rows)) (sym acts)
+      (last_section p f.head (drop (run.group + 1) run.groups) run.rows))
 
   pub last_inside : run.frame.place < length code
   last_inside = subst (λ c. run.frame.place < length c) (sym code_is) f.within
@@ -149,27 +149,27 @@ module _ (p : Parts) (rows : List Row) (run : Run) (before room : ℕ)
   pub last_safely : GoesSafely room code m (standing run.frame)
   last_safely =
       goes_safely p (stand_of rows run) code m
-      (in_last (keeps p) p f.head (drop (run.group + 1) run.groups) run.rows.items)
-      (InLast f.head (drop (run.group + 1) run.groups) run.rows.items) in_section before
+      (in_last (keeps p) p f.head (drop (run.group + 1) run.groups) run.rows)
+      (InLast f.head (drop (run.group + 1) run.groups) run.rows) in_section before
       (standing run.frame) f.here room safe last_inside
 
   module _ (made : ℕ) (are : AreInside code m made (standing run.frame)) (frame : Frame)
       (stands : standing frame ≡ after_steps code m made (standing run.frame)) where
     went : steps (keeps p) p (before + made) (stand_of rows run)
-        ≡ in_last (keeps p) p f.head (drop (run.group + 1) run.groups) run.rows.items
+        ≡ in_last (keeps p) p f.head (drop (run.group + 1) run.groups) run.rows
         (standing frame)
     went =
         reached p (stand_of rows run) code m
-        (in_last (keeps p) p f.head (drop (run.group + 1) run.groups) run.rows.items)
-        (InLast f.head (drop (run.group + 1) run.groups) run.rows.items) in_section before
+        (in_last (keeps p) p f.head (drop (run.group + 1) run.groups) run.rows)
+        (InLast f.head (drop (run.group + 1) run.groups) run.rows) in_section before
         (standing run.frame) f.here made are
-        ∙ ap (in_last (keeps p) p f.head (drop (run.group + 1) run.groups) run.rows.items) (sym stands)
+        ∙ ap (in_last (keeps p) p f.head (drop (run.group + 1) run.groups) run.rows) (sym stands)
 
     pub last_going : AreGoing p (stand_of rows run) before made
     last_going =
         going p (stand_of rows run) code m
-        (in_last (keeps p) p f.head (drop (run.group + 1) run.groups) run.rows.items)
-        (InLast f.head (drop (run.group + 1) run.groups) run.rows.items) in_section before
+        (in_last (keeps p) p f.head (drop (run.group + 1) run.groups) run.rows)
+        (InLast f.head (drop (run.group + 1) run.groups) run.rows) in_section before
         (standing run.frame) f.here made are
 
     pub last_made : (most : ℕ) → 0 < most → (made < most → frame.place ≡ length code) → 0 < made
@@ -194,27 +194,27 @@ module _ (p : Parts) (rows : List Row) (run : Run) (before room : ℕ)
 
     pub last_ended : frame.place ≡ length code
         → steps (keeps p) p (before + made) (stand_of rows run)
-        ≡ last_ends p (drop run.group run.groups) run.rows.items frame.stack.values
+        ≡ last_ends p (drop run.group run.groups) run.rows frame.stack.values
     last_ended end =
         went
         ∙ ap (λ b. cond b
-        (end_last p (drop (run.group + 1) run.groups) run.rows.items frame.stack.values)
-        (InLast f.head (drop (run.group + 1) run.groups) run.rows.items frame.place (state_in frame)))
+        (end_last p (drop (run.group + 1) run.groups) run.rows frame.stack.values)
+        (InLast f.head (drop (run.group + 1) run.groups) run.rows frame.place (state_in frame)))
         (eq-eqb frame.place (length p.code.last) (end ∙ ap length code_is))
-        ∙ ap (λ l. last_ends p l run.rows.items frame.stack.values) (sym f.is)
+        ∙ ap (λ l. last_ends p l run.rows frame.stack.values) (sym f.is)
 
     pub last_goes : frame.place ≢ length code
-        → steps (keeps p) p (before + made) (stand_of rows run) ≡ InLast f.head (drop (run.group + 1) run.groups) run.rows.items
+        → steps (keeps p) p (before + made) (stand_of rows run) ≡ InLast f.head (drop (run.group + 1) run.groups) run.rows
         frame.place (state_in frame)
     last_goes inside =
         went
         ∙ ap (λ b. cond b
-        (end_last p (drop (run.group + 1) run.groups) run.rows.items frame.stack.values)
-        (InLast f.head (drop (run.group + 1) run.groups) run.rows.items frame.place (state_in frame)))
+        (end_last p (drop (run.group + 1) run.groups) run.rows frame.stack.values)
+        (InLast f.head (drop (run.group + 1) run.groups) run.rows frame.place (state_in frame)))
         (ne_eqb frame.place (length p.code.last) (λ e. inside (e ∙ sym (ap length code_is))))
 
     pub last_at_next : (next : Run) → frame.place ≢ length code → next.group ≡ run.group
-        → next.groups ≡ run.groups → next.rows.items ≡ run.rows.items → next.frame ≡ frame
+        → next.groups ≡ run.groups → next.rows ≡ run.rows → next.frame ≡ frame
         → next.stage ≡ stage.Last → stand_of rows next ≡ steps (keeps p) p (before + made) (stand_of rows run)
     last_at_next next inside group groups out frame_is stage_is =
         ap (λ s. by_stage s rows next) stage_is
@@ -223,6 +223,6 @@ module _ (p : Parts) (rows : List Row) (run : Run) (before room : ℕ)
         ∙ ap (λ l. in_last_at l next) f.is
         ∙ ap (λ o. InLast f.head (drop (run.group + 1) run.groups) o next.frame.place
         (state_in next.frame)) out
-        ∙ ap (λ g. InLast f.head (drop (run.group + 1) run.groups) run.rows.items g.place
+        ∙ ap (λ g. InLast f.head (drop (run.group + 1) run.groups) run.rows g.place
         (state_in g)) frame_is
         ∙ sym (last_goes inside)

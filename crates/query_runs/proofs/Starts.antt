@@ -84,7 +84,7 @@ module _ (p : Parts) (groups : List (Group Gathered)) (rows : List (List Value))
 
   pub group_starts : (j : ℕ) (r : Run) → j < length groups
       → begin_last p (drop j groups) rows ≢ Fault → r.groups ≡ groups → r.group ≡ j
-      → r.rows.items ≡ rows → standing r.frame ≡ begun
+      → r.rows ≡ rows → standing r.frame ≡ begun
       → in_last_at (drop r.group r.groups) r ≡ begin_last p (drop j groups) rows
   group_starts j r within fine same at out begins =
       let f = front groups j within in

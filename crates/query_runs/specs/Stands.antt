@@ -26,7 +26,7 @@ abbrev pub rows_in : Inputs → List Row
 rows_in i = rows_of i.ledger.now
 
 abbrev pub kept_in : Run → Kept Gathered
-kept_in r = record { running = r.running; groups = r.groups; rows = r.rows.items }
+kept_in r = record { running = r.running; groups = r.groups; rows = r.rows }
 
 abbrev pub in_filter_at : List Row → Run → Stand Gathered
 in_filter_at [] r = Fault
@@ -38,13 +38,13 @@ in_row_at (x ∷ rest) r = InRow x rest (kept_in r) r.frame.place (state_in r.fr
 
 abbrev pub in_last_at : List (Group Gathered) → Run → Stand Gathered
 in_last_at [] r = Fault
-in_last_at (g ∷ rest) r = InLast g rest r.rows.items r.frame.place (state_in r.frame)
+in_last_at (g ∷ rest) r = InLast g rest r.rows r.frame.place (state_in r.frame)
 
 abbrev pub by_stage : Stage → List Row → Run → Stand Gathered
 by_stage stage.Filter rows r = in_filter_at (drop r.row rows) r
 by_stage stage.Row rows r = in_row_at (drop r.row rows) r
 by_stage stage.Last rows r = in_last_at (drop r.group r.groups) r
-by_stage stage.Done rows r = Done r.rows.items
+by_stage stage.Done rows r = Done r.rows
 
 abbrev pub stand_of : List Row → Run → Stand Gathered
 stand_of rows r = by_stage r.stage rows r

@@ -8,7 +8,6 @@ ghost use Rattle.query_runs.specs.Ends.{filter_ends, last_ends, row_begins, row_
 ghost use Rattle.query_runs.specs.Stands.{keeps, kept_in, rows_in, stand_of};
 
 use crate::run::{Inputs, Run, Stage};
-use bean_base::List;
 use query_code::Mode;
 use query_terms::Column;
 use query_values::Aggregate;
@@ -18,9 +17,9 @@ use std::alloc::{AllocError, Global};
 /// Goes to the next group, or to the end.
 fn start_group(alloc: Global, input: &Inputs<'_, '_>, run: &mut Run<'_>) -> Result<(), AllocError>
     requires { begin_last input.now.parts.now (drop run.old.group run.old.groups)
-        run.old.rows.items ≢ Fault }
+        run.old.rows ≢ Fault }
     ensures stand { OnOk result (stand_of (rows_in input.now) run.new ≡ begin_last
-        input.now.parts.now (drop run.old.group run.old.groups) run.old.rows.items) }
+        input.now.parts.now (drop run.old.group run.old.groups) run.old.rows) }
     ensures finders { run.new.finders ≡ run.old.finders }
     ensures room { run.new.frame.stack.room ≡ run.old.frame.stack.room }
 {
@@ -52,7 +51,7 @@ pub fn start_row(alloc: Global, input: &Inputs<'_, '_>, run: &mut Run<'_>) -> Re
 }
 
 /// Keeps what a section left as a row of the answer.
-fn keep_row(alloc: Global, run: &mut Run<'_>) -> Result<(), AllocError>
+fn keep_row(run: &mut Run<'_>) -> Result<(), AllocError>
     ensures kept { OnOk result
         (kept_in run.new ≡ with_row (kept_in run.old) (reverse run.old.frame.stack.values)) }
     ensures row { run.new.row ≡ run.old.row }
@@ -60,9 +59,7 @@ fn keep_row(alloc: Global, run: &mut Run<'_>) -> Result<(), AllocError>
     ensures finders { run.new.finders ≡ run.old.finders }
     ensures room { run.new.frame.stack.room ≡ run.old.frame.stack.room }
 {
-    let values = run.frame.stack.take_all(alloc)?;
-    run.rows.push(List::new(values))?;
-    Ok(())
+    run.frame.stack.move_to(&mut run.rows)
 }
 
 /// Gathers what a row section left: keys, and inputs above them.
@@ -82,7 +79,7 @@ fn gather(input: &Inputs<'_, '_>, run: &mut Run<'_>) -> Result<(), AllocError>
 }
 
 /// Keeps what a row section left: a row of the answer, or a member of a group.
-fn keep(alloc: Global, input: &Inputs<'_, '_>, run: &mut Run<'_>) -> Result<(), AllocError>
+fn keep(input: &Inputs<'_, '_>, run: &mut Run<'_>) -> Result<(), AllocError>
     requires { kept_with (keeps input.now.parts.now) input.now.parts.now (kept_in run.old)
         run.old.frame.stack.values ≢ None }
     ensures kept { OnOk result (kept_with (keeps input.now.parts.now) input.now.parts.now
@@ -92,7 +89,7 @@ fn keep(alloc: Global, input: &Inputs<'_, '_>, run: &mut Run<'_>) -> Result<(), 
     ensures room { run.new.frame.stack.room ≡ run.old.frame.stack.room }
 {
     match input.parts.mode {
-        Mode::Plain => keep_row(alloc, run),
+        Mode::Plain => keep_row(run),
         Mode::Grouped => gather(input, run),
     }
 }
@@ -121,7 +118,7 @@ pub fn end_row(alloc: Global, input: &Inputs<'_, '_>, run: &mut Run<'_>) -> Resu
     ensures finders { run.new.finders ≡ run.old.finders }
     ensures room { run.new.frame.stack.room ≡ run.old.frame.stack.room }
 {
-    keep(alloc, input, run)?;
+    keep(input, run)?;
     next_row(input, run);
     start_row(alloc, input, run)
 }
@@ -154,7 +151,7 @@ fn add_position<'r>(input: &Inputs<'r, '_>, run: &mut Run<'r>) -> Result<(), All
     ensures kept { kept_in run.new ≡ record {
       running = run.new.running;
       groups = run.old.groups;
-      rows = run.old.rows.items;
+      rows = run.old.rows;
     } }
     ensures row { run.new.row ≡ run.old.row }
     ensures finders { run.new.finders ≡ run.old.finders }
@@ -175,7 +172,7 @@ fn take_position<'r>(input: &Inputs<'r, '_>, run: &mut Run<'r>) -> Result<(), Al
     ensures kept { kept_in run.new ≡ record {
       running = run.new.running;
       groups = run.old.groups;
-      rows = run.old.rows.items;
+      rows = run.old.rows;
     } }
     ensures row { run.new.row ≡ run.old.row }
     ensures finders { run.new.finders ≡ run.old.finders }
@@ -215,14 +212,14 @@ pub fn end_filter<'r>(
 pub fn end_last(alloc: Global, input: &Inputs<'_, '_>, run: &mut Run<'_>) -> Result<(), AllocError>
     requires there { run.old.group < length run.old.groups }
     requires fine { last_ends input.now.parts.now (drop run.old.group run.old.groups)
-        run.old.rows.items run.old.frame.stack.values ≢ Fault }
+        run.old.rows run.old.frame.stack.values ≢ Fault }
     ensures stand { OnOk result (stand_of (rows_in input.now) run.new ≡ last_ends
-        input.now.parts.now (drop run.old.group run.old.groups) run.old.rows.items
+        input.now.parts.now (drop run.old.group run.old.groups) run.old.rows
         run.old.frame.stack.values) }
     ensures finders { run.new.finders ≡ run.old.finders }
     ensures room { run.new.frame.stack.room ≡ run.old.frame.stack.room }
 {
-    keep_row(alloc, run)?;
+    keep_row(run)?;
     let is_there = run.group < run.groups.len();
     prove!(is_there);
     run.group += 1;

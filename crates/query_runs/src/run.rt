@@ -2,8 +2,8 @@
 ghost use Rattle.std.specs.Prelude.{◌≡◌};
 ghost use Rattle.plain_machine.specs.Reading as spec;
 
-use bean_base::List;
 use posting_table::Ledger;
+use query_answer::AnswerRows;
 use query_code::Parts;
 use query_groups::Groups;
 use query_sections::{Finders, Frame};
@@ -46,13 +46,13 @@ pub struct Run<'r> {
     pub running: Value<'r>,
     pub groups: Groups<'r>,
     /// The rows that came out, in their order.
-    pub rows: Vec<List<Value<'r>>>,
+    pub rows: AnswerRows<'r>,
 }
 
 impl<'r> Run<'r> {
     /// The rows that came out so far, in their order.
-    pub fn into_rows(self) -> Vec<List<Value<'r>>>
-        ensures { result.items ≡ self.entry.rows.items }
+    pub fn into_rows(self) -> AnswerRows<'r>
+        ensures { result ≡ self.entry.rows }
     {
         self.rows
     }

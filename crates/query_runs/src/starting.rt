@@ -6,6 +6,7 @@ ghost use Rattle.query_runs.specs.Turns.{IsSafe};
 
 use crate::ends::start_row;
 use crate::run::{Inputs, Run, Stage};
+use query_answer::AnswerRows;
 use query_groups::Groups;
 use query_sections::{Finders, Frame};
 use query_values::{Aggregate, Pattern};
@@ -37,7 +38,7 @@ pub fn start<'r>(
         finders: Finders::new(alloc, patterns)?,
         running,
         groups: Groups::new(alloc),
-        rows: Vec::new(alloc),
+        rows: AnswerRows::new(alloc),
     };
     start_row(alloc, input, &mut run)?;
     Ok(run)

@@ -1,6 +1,7 @@
 //! Stacks of values, whose room is taken once.
-ghost use Rattle.std.specs.Prelude.{◌≡◌, ◌≢◌, ◌<◌, ◌≤◌, [], ◌∷◌, reverse, length, IfOk, OnOk};
+ghost use Rattle.std.specs.Prelude.{◌≡◌, ◌≢◌, ◌<◌, ◌≤◌, [], ◌∷◌, ◌++◌, reverse, length, IfOk, OnOk};
 
+use query_answer::AnswerRows;
 use query_values::Value;
 use std::alloc::{AllocError, Global};
 use std::marker::Model;
@@ -58,15 +59,13 @@ impl<'r> Stack<'r> {
         self.values.as_slice()
     }
 
-    /// Takes all values away, the top last, and keeps the room.
-    pub fn take_all(&mut self, alloc: Global) -> Result<Vec<Value<'r>>, AllocError>
-        ensures all { IfOk result (λ v. v.items ≡ reverse self.old.values) }
+    /// Moves all values behind others, as a row with the top last, and keeps the room.
+    pub fn move_to(&mut self, rows: &mut AnswerRows<'r>) -> Result<(), AllocError>
+        ensures all { OnOk result (rows.new ≡ rows.old ++ reverse self.old.values ∷ []) }
         ensures none { OnOk result (self.new.values ≡ []) }
         ensures room { self.new.room ≡ self.old.room }
     {
-        let mut values = Vec::with_capacity(alloc, self.values.len())?;
-        values.append(&mut self.values)?;
-        Ok(values)
+        rows.push(&mut self.values)
     }
 
     /// Takes all values away, and keeps the room.

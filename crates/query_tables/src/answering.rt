@@ -20,8 +20,8 @@ use std::mem::forget;
 use verified_program::Checked;
 
 /// The table of a program that was checked, with the causes of files.
-/// The rows are left to the end of the process: those that were ordered lie anywhere, and to give
-/// them up one by one takes as long as to order them.
+/// The rows are left to the end of the process, which takes back their memory at once: to give them
+/// up looks at each of their values.
 fn run_checked(
     alloc: Global,
     program: &Checked<'_>,

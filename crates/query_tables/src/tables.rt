@@ -10,7 +10,7 @@ use query_answer::Answer;
 use query_machine::{RunCause, run};
 use refusals::Refusal;
 use std::alloc::{AllocError, Global};
-use table_printer::print;
+use table_printer::{AnswerTable, print};
 use verified_program::Checked;
 
 /// The table of what a run of a program answered over a ledger, which is within its bounds.
@@ -27,7 +27,7 @@ pub fn tabulated(
 {
     // So its cells lie in the shapes that columns have by the program's bounds.
     prove!(ledger.fits(&program.program.parts.bounds));
-    let text = print(alloc, answer, ledger.display())?;
+    let text = print(alloc, &AnswerTable { answer }, ledger.display())?;
     Ok(text)
 }
 

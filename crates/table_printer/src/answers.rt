@@ -1,36 +1,59 @@
 //! The answer of a query, as rows of cells.
+ghost use Rattle.std.specs.Prelude.{◌≡◌, ◌<◌, length, slice_get, Some};
+
 use crate::cell::Cell;
 use crate::rows::Rows;
-use bean_base::List;
 use query_answer::Answer;
 use query_values::Value;
 
-impl<'a> Rows for Answer<'a> {
-    type Row = List<Value<'a>>;
+/// The table of an answer, which lends its rows from where they lie.
+#[derive(Clone, Copy)]
+pub struct AnswerTable<'t, 'a> {
+    pub answer: &'t Answer<'a>,
+}
 
-    ghost names = { λ answer. answer.headers };
+/// A row of an answer.
+#[derive(Clone, Copy)]
+pub struct AnswerRow<'t, 'a> {
+    pub values: &'t [Value<'a>],
+}
 
-    ghost rows = { λ answer. answer.rows };
+/// What values have in a column.
+fn cell_of<'r>(values: &'r [Value<'_>], column: usize) -> Cell<'r>
+    requires { column < length values.now }
+    ensures { Some result ≡ slice_get values.now column }
+{
+    Cell::kept(&values[column])
+}
 
-    ghost values = { λ row. row };
+impl<'t, 'a> Rows for AnswerTable<'t, 'a> {
+    type Row = AnswerRow<'t, 'a>;
+
+    ghost names = { λ table. table.answer.now.headers };
+
+    ghost rows = { λ table. table.answer.now.rows };
+
+    ghost values = { λ row. row.values.now };
 
     fn columns(&self) -> usize {
-        self.headers.as_slice().len()
+        self.answer.headers.as_slice().len()
     }
 
     fn name(&self, column: usize) -> &str {
-        self.headers.as_slice()[column].text()
+        self.answer.headers.as_slice()[column].text()
     }
 
     fn len(&self) -> usize {
-        self.rows.as_slice().len()
+        self.answer.rows.len()
     }
 
-    fn row(&self, number: usize) -> &List<Value<'a>> {
-        &self.rows.as_slice()[number]
+    fn row(&self, number: usize) -> AnswerRow<'t, 'a> {
+        AnswerRow {
+            values: self.answer.rows.row(number),
+        }
     }
 
-    fn cell<'r>(row: &'r List<Value<'a>>, column: usize) -> Cell<'r> {
-        Cell::kept(&row.as_slice()[column])
+    fn cell<'r>(row: &'r AnswerRow<'t, 'a>, column: usize) -> Cell<'r> {
+        cell_of(row.values, column)
     }
 }

@@ -115,8 +115,9 @@ pub(crate) fn headings<'t, T: Rows>(
     ensures len { IfOk result (λ v. vec_len v ≡ length (T.names table.now)) }
 {
     let mut headings = bare_headings(alloc, table, scratch, display)?;
-    for row in 0..table.len() {
-        widen_all::<T>(&mut headings, table.row(row), scratch, display)?;
+    for number in 0..table.len() {
+        let row = table.row(number);
+        widen_all::<T>(&mut headings, &row, scratch, display)?;
     }
     Ok(headings)
 }

@@ -65,6 +65,7 @@ mod rows;
 mod table;
 mod writing;
 
+pub use answers::{AnswerRow, AnswerTable};
 pub use cause::PrintCause;
 pub use cell::Cell;
 pub use query_answer::Answer;

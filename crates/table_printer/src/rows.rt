@@ -8,8 +8,8 @@ use crate::cell::Cell;
 /// What a table is printed of: an answer, or what lends its cells from where they are. A row is
 /// looked up once for all of its cells.
 pub trait Rows {
-    /// A row, as it is kept.
-    type Row;
+    /// A row, as it is lent.
+    type Row: Copy;
 
     /// The names of the columns.
     ghost names: { Self → List (List ℕ) };
@@ -34,9 +34,9 @@ pub trait Rows {
         ensures { result ≡ length (rows self.now) };
 
     /// The row of that number, from 0.
-    fn row(&self, number: usize) -> &Self::Row
+    fn row(&self, number: usize) -> Self::Row
         requires { number < length (rows self.now) }
-        ensures { values result.now ≡ row_at (rows self.now) number };
+        ensures { values result ≡ row_at (rows self.now) number };
 
     /// What a row has in a column.
     fn cell<'r>(row: &'r Self::Row, column: usize) -> Cell<'r>

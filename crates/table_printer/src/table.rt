@@ -25,10 +25,9 @@ fn push_rows<T: Rows>(
         ≡ out.old.items ++ flat_map (line_of (map width_of headings.now))
         (map (map (text_of (decimals_of display.now))) (T.rows table.now))) }
 {
-    for row in 0..table.len() {
-        let line: RowLine<'_, T> = RowLine {
-            row: table.row(row),
-        };
+    for number in 0..table.len() {
+        let row = table.row(number);
+        let line: RowLine<'_, T> = RowLine { row: &row };
         push_line(out, &line, headings, scratch, display)?;
     }
     Ok(())

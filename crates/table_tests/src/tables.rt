@@ -1,12 +1,13 @@
 //! Tables of values that no query answers.
-ghost use Rattle.std.specs.Prelude.{◌≡◌, length, IfOk, All};
+ghost use Rattle.std.specs.Prelude.{◌≡◌, ◌++◌, ◌∷◌, [], length, IfOk, OnOk, All};
 
 use bean_base::{List, Slice};
 use posting_table::Display;
+use query_answer::AnswerRows;
 use query_values::{Lent, TextSet, Value};
 use std::alloc::{AllocError, Global};
 use std::test::Fail;
-use table_printer::{Answer, print};
+use table_printer::{Answer, AnswerTable, print};
 
 const LONG: &str =
     "                                                                             cell
@@ -23,10 +24,16 @@ const SETS: &str = "cell
 trip
 ";
 
-fn row_of<'a>(alloc: Global, cell: Value<'a>) -> Result<List<Value<'a>>, AllocError>
-    ensures { IfOk result (λ row. length row ≡ 1) }
+/// Adds a row of one cell.
+fn add_row<'a>(
+    alloc: Global,
+    rows: &mut AnswerRows<'a>,
+    cell: Value<'a>,
+) -> Result<(), AllocError>
+    ensures { OnOk result (rows.new ≡ rows.old ++ (cell.entry ∷ []) ∷ []) }
 {
-    Ok(List::new(Vec::from_array(alloc, [cell])?))
+    let mut row = Vec::from_array(alloc, [cell])?;
+    rows.push(&mut row)
 }
 
 /// A column of three cells.
@@ -38,13 +45,13 @@ fn column_of<'a>(
 ) -> Result<Answer<'a>, AllocError>
     ensures { IfOk result (λ a. All (λ row. length row ≡ length a.headers) a.rows) }
 {
-    let mut rows = Vec::new(alloc);
-    rows.push(row_of(alloc, first)?)?;
-    rows.push(row_of(alloc, second)?)?;
-    rows.push(row_of(alloc, third)?)?;
+    let mut rows = AnswerRows::new(alloc);
+    add_row(alloc, &mut rows, first)?;
+    add_row(alloc, &mut rows, second)?;
+    add_row(alloc, &mut rows, third)?;
     Ok(Answer {
         headers: List::new(Vec::from_array(alloc, [Slice::new("cell")])?),
-        rows: List::new(rows),
+        rows,
         steps: 0,
         groups: 0,
     })
@@ -61,7 +68,7 @@ fn sets_printed<'s>(
     let third = Value::Set(Lent::new(third));
     let answer = column_of(alloc, first, second, third)?;
     let display = Display::new(alloc);
-    print(alloc, &answer, &display)
+    print(alloc, &AnswerTable { answer: &answer }, &display)
 }
 
 #[test]
@@ -101,7 +108,7 @@ fn prints_numbers_of_many_decimals(rt: HostRuntime) -> Result<(), Fail> {
     let answer = column_of(alloc, half, long, whole)?;
     let display = Display::new(alloc);
     assert_eq!(rt;
-        print(alloc, &answer, &display)?.as_slice(),
+        print(alloc, &AnswerTable { answer: &answer }, &display)?.as_slice(),
         LONG.as_bytes()
     );
     Ok(())

@@ -1,9 +1,9 @@
-use Rattle.std.proofs.Common.{◌≡◌, length}
-use Rattle.final_rows.specs.Enough.{last_from, last_of}
+use Rattle.std.proofs.Common.{◌≡◌, ◌≤◌, take}
+use Rattle.final_rows.specs.Enough.{last_of}
 use Rattle.final_rows.proofs.trimming.last_of.Given as goal
 
-abbrev pub invariant-loop-rest : goal.invariant-loop-rest
-invariant-loop-rest l = last_of l.output l.fn.rows ≡ last_from l.output l.last l.rest
-
-abbrev pub decreases-loop-rest : goal.decreases-loop-rest
-decreases-loop-rest l = length l.rest
+abbrev pub invariant-loop-number : goal.invariant-loop-number
+invariant-loop-number l = record {
+  some : 1 ≤ l.number;
+  last : l.last ≡ last_of l.output (take l.number l.rows);
+}

@@ -9,7 +9,7 @@ overflow_add-groups c =
     let few = rows_counted c.args.input.now.parts.now (rows_in c.args.input.now) c.args.standing
     c.requires.under_way in
     let long =
-    c.len.ensures ∙ c.into_rows-rows.result.ok.0 ∙ ap length c.into_rows-rows.ensures in
+    c.len.ensures ∙ ap length c.into_rows-rows.ensures in
     omega (arith, few, long)
 
 pub returns-clause-is : goal.returns-clause-is
@@ -18,8 +18,7 @@ returns-clause-is c =
     let run = c.args.standing.run in
     run_of p (rows_in c.args.input.now) c.args.standing c.requires.under_way _ c.requires.ended
     (c.new-headers.ensures ∙ c.in_ok-headers_of.ensures)
-    (subst (λ out. ComesOut p.output run.rows.items out) (sym c.new-rows.ensures)
-    (subst (λ rows. ComesOut p.output rows c.in_ok-finish.field-0.items) c.into_rows-rows.ensures
-    c.in_ok-finish.ensures)) refl
+    (subst (λ rows. ComesOut p.output rows c.in_ok-rows.rows) c.into_rows-rows.ensures
+    c.in_ok-rows.ensures) refl
     (ap (λ n. c.args.standing.dropped + n)
-    (c.len.ensures ∙ c.into_rows-rows.result.ok.0 ∙ ap length c.into_rows-rows.ensures))
+    (c.len.ensures ∙ ap length c.into_rows-rows.ensures))

@@ -7,8 +7,8 @@ use Rattle.table_printer.proofs.HeadingFacts.{length-under, one_more, over_none,
 use Rattle.table_printer.proofs.HeadingFacts.{widths_are}
 use Rattle.table_printer.proofs.headings.headings.Goals as goal
 
-pub loop-row-init : goal.loop-row-init
-loop-row-init g c = record {
+pub loop-number-init : goal.loop-number-init
+loop-number-init g c = record {
   under = c.in_ok-headings.ensures.bare
       ∙ over_none (decimals_of c.args.display.now) 0 (g.T.Rows.names c.args.table.now);
   len = c.in_ok-headings.ensures.len;
@@ -18,34 +18,34 @@ pub widen_all-requires : goal.widen_all-requires
 widen_all-requires g c =
     let rows = g.T.Rows.rows c.args.table.now in
     let names = g.T.Rows.names c.args.table.now in
-    let i = c.loop-row.row in
-    let last = c.len-row-end.ensures in
-    let before = c.loop-row-test.true in
-    c.deref_mut.ensures.len ∙ c.loop-row.invariant.len
-    ∙ sym (ap length c.row.ensures ∙ c.requires i [] (omega (arith, last, before)))
+    let i = c.loop-number.number in
+    let last = c.len-number-end.ensures in
+    let before = c.loop-number-test.true in
+    c.deref_mut.ensures.len ∙ c.loop-number.invariant.len
+    ∙ sym (ap length c.row-row.ensures ∙ c.requires i [] (omega (arith, last, before)))
 
-pub loop-row-preserved : goal.loop-row-preserved
-loop-row-preserved g c =
+pub loop-number-preserved : goal.loop-number-preserved
+loop-number-preserved g c =
     let display = decimals_of c.args.display.now in
     let rows = g.T.Rows.rows c.args.table.now in
     let names = g.T.Rows.names c.args.table.now in
-    let i = c.loop-row.row in
-    let last = c.len-row-end.ensures in
-    let before = c.loop-row-test.true in
+    let i = c.loop-number.number in
+    let last = c.len-number-end.ensures in
+    let before = c.loop-number-test.true in
     let within : i < length rows = omega (arith, last, before) in
     let new = c.widen_all.new.headings in
     let made : new ≡ under display 0 (take (i + 1) rows) names =
     c.in_ok-widen_all.ensures
     ∙ (λ k. with_row display
-    ((c.deref_mut.ensures.value ∙ c.loop-row.invariant.under) k) (c.row.ensures k))
+    ((c.deref_mut.ensures.value ∙ c.loop-number.invariant.under) k) (c.row-row.ensures k))
     ∙ one_more display rows names i within (c.requires i [] within) in
-    let sized : c.loop-row.headings.len ≡ length new =
-    c.loop-row.invariant.len
+    let sized : c.loop-number.headings.len ≡ length new =
+    c.loop-number.invariant.len
     ∙ sym (ap length made ∙ length-under display 0 (take (i + 1) rows) names) in
     record {
-      under = ap (λ n. take n (new ++ drop (length new) c.loop-row.headings.items)) sized
-          ∙ take-append_seam new (drop (length new) c.loop-row.headings.items) ∙ made;
-      len = c.loop-row.invariant.len;
+      under = ap (λ n. take n (new ++ drop (length new) c.loop-number.headings.items)) sized
+          ∙ take-append_seam new (drop (length new) c.loop-number.headings.items) ∙ made;
+      len = c.loop-number.invariant.len;
     }
 
 pub returns : goal.returns
@@ -53,13 +53,13 @@ returns g c =
     let display = decimals_of c.args.display.now in
     let rows = g.T.Rows.rows c.args.table.now in
     let names = g.T.Rows.names c.args.table.now in
-    let last = c.len-row-end.ensures in
-    let all = c.loop-row.invariant.under
+    let last = c.len-number-end.ensures in
+    let all = c.loop-number.invariant.under
     ∙ ap (λ rs. under display 0 rs names)
-    (take_all c.loop-row.row rows
-    (omega (arith, last, c.loop-row.auto.row-end, c.loop-row-test.false))) in
+    (take_all c.loop-number.number rows
+    (omega (arith, last, c.loop-number.auto.number-end, c.loop-number-test.false))) in
     record {
       headers = ap (map heading_text) all ∙ texts_are display 0 rows names;
       widths = ap (map width_of) all ∙ widths_are display rows names;
-      len = c.loop-row.invariant.len;
+      len = c.loop-number.invariant.len;
     }

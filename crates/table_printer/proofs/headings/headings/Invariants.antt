@@ -3,10 +3,10 @@ use Rattle.posting_table.specs.Decimals.{decimals_of}
 use Rattle.table_printer.proofs.HeadingFacts.{under}
 use Rattle.table_printer.proofs.headings.headings.Given as goal
 
-abbrev pub invariant-loop-row : goal.invariant-loop-row
-invariant-loop-row g l = record {
+abbrev pub invariant-loop-number : goal.invariant-loop-number
+invariant-loop-number g l = record {
   under : l.headings.items
-      ≡ under (decimals_of l.display) 0 (take l.row (g.T.Rows.rows l.table))
+      ≡ under (decimals_of l.display) 0 (take l.number (g.T.Rows.rows l.table))
       (g.T.Rows.names l.table);
   len : vec_len l.headings ≡ length (g.T.Rows.names l.table);
 }

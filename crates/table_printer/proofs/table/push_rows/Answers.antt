@@ -9,17 +9,17 @@ use Rattle.table_printer.proofs.TableFacts.{lines_more}
 use Rattle.table_printer.proofs.InColumn.{row_texts, row_is}
 use Rattle.table_printer.proofs.table.push_rows.Goals as goal
 
-pub loop-row-preserved : goal.loop-row-preserved
-loop-row-preserved g c =
+pub loop-number-preserved : goal.loop-number-preserved
+loop-number-preserved g c =
     let places = decimals_of c.args.display.now in
     let ws : List ℕ = map width_of c.args.headings.now in
     let rows = g.T.Rows.rows c.args.table.now in
-    let i = c.loop-row.row in
-    let within : i < length rows = omega (arith, c.loop-row-test.true, c.len-row-end.ensures) in
+    let i = c.loop-number.number in
+    let within : i < length rows = omega (arith, c.loop-number-test.true, c.len-number-end.ensures) in
     c.in_ok-push_line.ensures
-    ∙ (λ k. c.loop-row.invariant k ++ line_of ws
-    ((row_texts places (g.T.Rows.values c.row.result.now)
-    ∙ ap (map (text_of places)) c.row.ensures) k))
+    ∙ (λ k. c.loop-number.invariant k ++ line_of ws
+    ((row_texts places (g.T.Rows.values c.row-row.result)
+    ∙ ap (map (text_of places)) c.row-row.ensures) k))
     ∙ append_assoc c.args.out.now.items _ _
     ∙ ap (λ l. c.args.out.now.items ++ l)
     (sym (lines_more (line_of ws) (map (text_of places)) rows i (row_at rows i) within
@@ -27,9 +27,9 @@ loop-row-preserved g c =
 
 pub returns : goal.returns
 returns g c =
-    c.loop-row.invariant
+    c.loop-number.invariant
     ∙ ap (λ rows. c.args.out.now.items
     ++ flat_map (line_of (map width_of c.args.headings.now))
     (map (map (text_of (decimals_of c.args.display.now))) rows))
-    (take_all c.loop-row.row (g.T.Rows.rows c.args.table.now)
-    (omega (arith, c.loop-row-test.false, c.len-row-end.ensures)))
+    (take_all c.loop-number.number (g.T.Rows.rows c.args.table.now)
+    (omega (arith, c.loop-number-test.false, c.len-number-end.ensures)))

@@ -5,8 +5,8 @@ use Rattle.table_printer.specs.Heading.{width_of}
 use Rattle.table_printer.specs.Table.{line_of, text_of}
 use Rattle.table_printer.proofs.table.push_rows.Given as goal
 
-abbrev pub invariant-loop-row : goal.invariant-loop-row
-invariant-loop-row g l =
+abbrev pub invariant-loop-number : goal.invariant-loop-number
+invariant-loop-number g l =
     l.out.items ≡ l.initial.out.items
     ++ flat_map (line_of (map width_of l.headings))
-    (map (map (text_of (decimals_of l.display))) (take l.row (g.T.Rows.rows l.table)))
+    (map (map (text_of (decimals_of l.display))) (take l.number (g.T.Rows.rows l.table)))

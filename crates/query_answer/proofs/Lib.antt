@@ -1,0 +1,2 @@
+pub mod SpanFacts
+pub mod MovedFacts

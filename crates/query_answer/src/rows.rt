@@ -1,0 +1,193 @@
+//! Rows of values that lie one behind the other.
+ghost use Rattle.std.specs.Prelude.{◌≡◌, ◌<◌, ◌≤◌, ◌++◌, ◌∷◌, [], length, map, take, vec_capacity};
+ghost use Rattle.std.specs.Prelude.{IfOk, OnOk, All};
+ghost use Rattle.query_answer.specs.Rows.{ArePicked, row_at};
+ghost use Rattle.query_answer.specs.Spans.{IsSameAround, between, narrowed_to, values_in};
+
+use query_values::Value;
+use std::alloc::{AllocError, Global};
+use std::marker::Model;
+use std::mem::replace;
+
+/// From where to where the values of a row lie.
+#[derive(Clone, Copy)]
+struct Span {
+    start: usize,
+    end: usize,
+}
+
+/// Rows of values. All values lie in one piece of memory, which is gone through as it lies where
+/// the rows are. Its value is the list of the rows.
+pub struct AnswerRows<'a> {
+    values: Vec<Value<'a>>,
+    spans: Vec<Span>,
+}
+
+/// Written out, so that crates which give one up need to know nothing of what is in it.
+impl Drop for AnswerRows<'_> {
+    fn drop(self) {
+        let AnswerRows {
+            values: _,
+            spans: _,
+        } = self;
+    }
+}
+
+impl<'a> Model for AnswerRows<'a> {
+    ghost use Rattle.std.specs.Prelude.{List, length};
+    ghost use Rattle.query_values.specs.declared.value.Value as of_queries;
+
+    ghost Value = { List (List of_queries.Value) };
+
+    ghost use Rattle.query_answer.specs.Spans.{LieApart, rows_in};
+
+    ghost view = { λ r. rows_in r.values.items r.spans.items };
+
+    ghost invariant = { λ r. LieApart 0 (length r.values.items) r.spans.items };
+}
+
+/// The span of a row that is shown up to so many values.
+fn narrowed(span: Span, width: usize) -> Span
+    ensures { result ≡ narrowed_to width span }
+{
+    let end = span.start.saturating_add(width).min(span.end);
+    Span {
+        start: span.start,
+        end,
+    }
+}
+
+/// The spans of rows that are shown up to so many values.
+fn narrow_all(spans: &mut [Span], width: usize)
+    ensures { spans.new ≡ map (narrowed_to width) spans.old }
+{
+    for i in 0..spans.len() {
+        let span = spans[i];
+        spans[i] = narrowed(span, width);
+    }
+}
+
+/// The values of a span.
+fn within<'v, 'a>(values: &'v [Value<'a>], span: Span) -> &'v [Value<'a>]
+    requires up { span.start ≤ span.end }
+    requires inside { span.end ≤ length values.now }
+    ensures { result.now ≡ values_in values.now span }
+{
+    &values[span.start..span.end]
+}
+
+/// Moves values behind others, and leaves as many nulls.
+fn move_values<'a>(from: &mut [Value<'a>], to: &mut Vec<Value<'a>>) -> Result<(), AllocError>
+    ensures moved { OnOk result (to.new.items ≡ to.old.items ++ from.old) }
+    ensures left { length from.new ≡ length from.old }
+{
+    for i in 0..from.len() {
+        to.push(replace(&mut from[i], Value::Null))?;
+    }
+    Ok(())
+}
+
+/// Moves the values of a span behind others, leaves as many nulls, and tells where they lie now.
+fn move_span<'a>(
+    from: &mut [Value<'a>],
+    span: Span,
+    to: &mut Vec<Value<'a>>,
+) -> Result<Span, AllocError>
+    requires up { span.start ≤ span.end }
+    requires inside { span.end ≤ length from.old }
+    ensures moved { OnOk result (to.new.items ≡ to.old.items ++ values_in from.old span) }
+    ensures lies { IfOk result (λ s. s ≡ between to.old.items to.new.items) }
+    ensures left { IsSameAround span from.old from.new }
+{
+    let start = to.len();
+    move_values(&mut from[span.start..span.end], to)?;
+    let end = to.len();
+    Ok(Span { start, end })
+}
+
+impl<'a> AnswerRows<'a> {
+    /// No rows.
+    pub fn new(alloc: Global) -> AnswerRows<'a>
+        ensures { result ≡ [] }
+    {
+        AnswerRows {
+            values: Vec::new(alloc),
+            spans: Vec::new(alloc),
+        }
+    }
+
+    /// How many rows there are.
+    pub fn len(&self) -> usize
+        ensures { result ≡ length self.now }
+    {
+        self.spans.len()
+    }
+
+    /// The row of this number, from 0; one without values where there is none.
+    pub fn row(&self, number: usize) -> &[Value<'a>]
+        ensures { result.now ≡ row_at self.now number }
+    {
+        if number >= self.spans.len() {
+            return &[];
+        }
+        within(self.values.as_slice(), self.spans[number])
+    }
+
+    /// Adds a row of these values, which are moved. The vector keeps its room.
+    pub fn push(&mut self, row: &mut Vec<Value<'a>>) -> Result<(), AllocError>
+        ensures added { OnOk result (self.new ≡ self.old ++ row.old.items ∷ []) }
+        ensures taken { OnOk result (row.new.items ≡ []) }
+        ensures room { vec_capacity row.new ≡ vec_capacity row.old }
+    {
+        let start = self.values.len();
+        self.values.append(row)?;
+        let end = self.values.len();
+        self.spans.push(Span { start, end })?;
+        Ok(())
+    }
+
+    /// Only so many of the first rows.
+    pub fn truncate(&mut self, most: usize)
+        ensures { self.new ≡ take most self.old }
+    {
+        self.spans.truncate(most);
+    }
+
+    /// Only so many of the first values of each row. No value is moved.
+    pub fn narrow(&mut self, width: usize)
+        ensures { self.new ≡ map (take width) self.old }
+    {
+        narrow_all(&mut self.spans, width);
+    }
+
+    /// How many values the rows of these numbers have.
+    fn count_of(&self, numbers: &[usize]) -> usize {
+        let mut count: usize = 0;
+        for number in numbers {
+            count = count.saturating_add(self.row(*number).len());
+        }
+        count
+    }
+
+    /// The rows of these numbers, moved side by side in this order. None is picked twice.
+    pub fn picked(self, alloc: Global, numbers: &[usize]) -> Result<AnswerRows<'a>, AllocError>
+        requires { ArePicked (length self) numbers.now }
+        ensures { IfOk result (λ picked. picked ≡ map (row_at self.entry) numbers.now) }
+    {
+        let room = self.count_of(numbers);
+        let AnswerRows { values, spans } = self;
+        let mut left = values;
+        let mut values = Vec::with_capacity(alloc, room)?;
+        let mut picked = Vec::with_capacity(alloc, numbers.len())?;
+        let mut rest = numbers;
+        while let [number, others @ ..] = rest {
+            let span = move_span(&mut left, spans[*number], &mut values)?;
+            picked.push(span)?;
+            rest = others;
+        }
+        Ok(AnswerRows {
+            values,
+            spans: picked,
+        })
+    }
+}
