@@ -49,7 +49,11 @@ impl ByteClass for InCurrency {
     ghost holds = { is_in_currency };
 
     fn has(b: u8) -> bool {
-        b.is_ascii_uppercase() || b.is_ascii_digit() || matches!(b, b'\'' | b'.' | b'_' | b'-')
+        // Most are letters: they are told first.
+        if b.is_ascii_uppercase() {
+            return true;
+        }
+        b.is_ascii_digit() || matches!(b, b'\'' | b'.' | b'_' | b'-')
     }
 }
 
