@@ -1,5 +1,5 @@
 -- What comes out of rows that stand in order.
-use Rattle.std.proofs.Common.{◌≡◌, ℕ, ◌+◌, ◌<◌, Bool, true, false, cond, List, [], ◌∷◌, ◌++◌, map, take, drop, length}
+use Rattle.std.proofs.Common.{◌≡◌, ℕ, Bool, true, false, cond, List, [], ◌∷◌, ◌++◌, map, take, length}
 use Rattle.std.proofs.Common.{append_assoc, refl, subst, sym, ap, ◌∙◌, Option, Some, None}
 use Rattle.std.proofs.lemmas.List.{map-append, take-map}
 use Rattle.std.specs.List.{list_any}

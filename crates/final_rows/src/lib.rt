@@ -19,11 +19,14 @@
 //!
 //! # Cost
 //!
-//! A stable sort for each column that is ordered by, the last one first, over what its values are
-//! ordered by: that lies side by side, and takes 48 bytes a row while it is sorted, so that no row is
-//! looked up where two are compared. And a table of the rows that are told once. Rows are moved and
-//! never copied. What [`trim`] leaves is at most twice the limit. Where there are
-//! more, it compares each row once with the last of those in front, and sorts what comes before it.
+//! What is ordered are the numbers of rows, 8 bytes each: by a stable sort for each column that is
+//! ordered by, the last one first, over what its values are ordered by. That lies side by side, and
+//! takes 48 bytes a row while it is sorted, so that no row is looked up where two are compared. And a
+//! table of what the rows show that are told once, where they lie. Then the rows that come out are
+//! moved side by side in their order, and never copied; where there is nothing to order by, and they
+//! aren't told once, none is moved. What [`trim`] leaves is at most twice the limit, in memory of its
+//! own size. Where there are more, it compares each row once with the last of those in front, and
+//! sorts what comes before it.
 #![tactic(auto)]
 
 mod ordering;

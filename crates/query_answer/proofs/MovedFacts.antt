@@ -1,13 +1,14 @@
 -- Rows of which one was moved out, and rows that are picked.
 use Rattle.std.proofs.Common.{◌≡◌, ◌≢◌, ℕ, zero, suc, ◌+◌, ◌-◌, ◌<◌, ◌≤◌, List, [], ◌∷◌, ◌++◌, length, map}
 use Rattle.std.proofs.Common.{append_assoc, take, drop, get_or, refl, slice_index_or, slice_set, sym, take-suc, add-one, ap, ap₂, subst, ◌∙◌, arith, inl, inr}
-use Rattle.std.proofs.Math.Seq.{length-take-le, take-length}
+use Rattle.std.proofs.Math.Seq.{length-take-le}
 use Rattle.std.proofs.lemmas.Bool.{cases_lt}
-use Rattle.std.proofs.lemmas.List.{drop-drop, drop-set-lt, get_or-drop, get_or-map}
+use Rattle.std.proofs.lemmas.List.{drop-drop, drop-set-lt, drop_more, get_or-drop, get_or-map}
+use Rattle.std.proofs.lemmas.List.{get_or_default, length-map}
 use Rattle.std.proofs.lemmas.List.{length-append, take-append-drop}
 use Rattle.std.specs.List.{AllByRecursion}
 use Rattle.query_answer.specs.Rows.{ArePicked, row_at}
-use Rattle.query_answer.specs.Spans.{IsSameAround, LieApart, between, rows_in, values_in}
+use Rattle.query_answer.specs.Spans.{IsSameAround, LieApart, between, rows_in, span_at, values_in}
 use Rattle.query_answer.specs.declared.rows.Span.{Span}
 use Rattle.query_values.specs.declared.value.Value.{Value}
 use Rattle.query_answer.proofs.SpanFacts.{LiesWithin, apart_added, lies_at, lies_there, no_row}
@@ -79,16 +80,6 @@ pub record ArePicking (rows : List (List Value)) (numbers : List ℕ) (old vs : 
   pub apart : LieApart 0 (length vs) ps
   pub is : map (row_at rows) numbers ≡ rows_in vs ps ++ map (row_at (rows_in old ss)) rest
 
-none_left : (n : ℕ) → suc n - 1 ≡ n
-none_left n = omega arith
-
--- numbers that aren't none
-pub first_and_others : (ns : List ℕ) → 1 ≤ length ns
-    → ns ≡ slice_index_or ns 0 0 ∷ take (length ns - 1) (drop 1 ns)
-first_and_others [] some = absurd (omega (arith, some))
-first_and_others (n ∷ ns) some =
-    ap (λ l. n ∷ l) (sym (ap (λ k. take k ns) (none_left (length ns)) ∙ take-length ns))
-
 module _ (rows : List (List Value)) (numbers : List ℕ) (old vs : List Value) (ss ps : List Span)
     (rest others : List ℕ) (n : ℕ) (now : ArePicking rows numbers old vs ss ps rest)
     (split : rest ≡ n ∷ others) (s : Span) (lies : s ≡ get_or ss n s) where
@@ -116,6 +107,29 @@ module _ (rows : List (List Value)) (numbers : List ℕ) (old vs : List Value) (
     where
       spans : qs ≡ ps ++ between vs ws ∷ []
       spans = behind ∙ ap (λ x. ps ++ x ∷ []) at
+
+-- the same while where they lie is gone through, which is known of all of them
+pub one_more : (ns : List ℕ) (i : ℕ) → i < length ns
+    → drop i ns ≡ slice_index_or ns i 0 ∷ drop (i + 1) ns
+one_more ns i within = drop_more ns i 0 within
+
+pub number_there : (ss lying : List Span) (ns : List ℕ) (i : ℕ) → lying ≡ map (span_at ss) ns
+    → i < length lying → i < length ns
+number_there ss lying ns i all within =
+    let long = ap length all ∙ length-map ns (span_at ss) in omega (arith, within, long)
+
+pub lies_at_number : (ss lying : List Span) (ns : List ℕ) (i : ℕ) (s : Span)
+    → lying ≡ map (span_at ss) ns → i < length lying → s ≡ get_or lying i s
+    → ArePicked (length ss) (drop i ns)
+    → s ≡ get_or ss (slice_index_or ns i 0) s
+lies_at_number ss lying ns i s all within is picked =
+    is ∙ ap (λ l. get_or l i s) all
+    ∙ get_or-map (span_at ss) ns i 0 s here
+    ∙ get_or_default ss (slice_index_or ns i 0) (record { start = 0; end = 0 }) s
+    (subst (ArePicked (length ss)) (one_more ns i here) picked).0
+  where
+    here : i < length ns
+    here = number_there ss lying ns i all within
 
 -- ---- values that are moved one by one
 

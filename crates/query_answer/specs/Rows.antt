@@ -1,5 +1,5 @@
 -- Rows by their numbers.
-use Rattle.std.specs.Prelude.{◌≡◌, ◌≢◌, ℕ, ◌<◌, List, [], ◌∷◌, length, slice_index_or}
+use Rattle.std.specs.Prelude.{◌≢◌, ℕ, ◌<◌, List, [], ◌∷◌, slice_index_or}
 use Rattle.std.specs.List.{AllByRecursion}
 use Rattle.query_values.specs.declared.value.Value.{Value}
 

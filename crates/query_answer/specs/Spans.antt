@@ -1,10 +1,14 @@
 -- Where the values of rows lie.
-use Rattle.std.specs.Prelude.{◌≡◌, ℕ, ◌+◌, ◌≤◌, List, [], ◌∷◌, drop, length, map, min, slice_range, take}
+use Rattle.std.specs.Prelude.{◌≡◌, ℕ, ◌+◌, ◌≤◌, List, [], ◌∷◌, drop, get_or, length, map, min, slice_range, take}
 use Rattle.query_answer.specs.declared.rows.Span.{Span}
 use Rattle.query_values.specs.declared.value.Value.{Value}
 
 abbrev pub values_in : List Value → Span → List Value
 values_in values s = slice_range values s.start s.end
+
+-- where the row of a number lies
+abbrev pub span_at : List Span → ℕ → Span
+span_at spans n = get_or spans n (record { start = 0; end = 0 })
 
 abbrev pub rows_in : List Value → List Span → List (List Value)
 rows_in values spans = map (values_in values) spans

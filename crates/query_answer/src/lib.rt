@@ -1,24 +1,34 @@
 //! What a query answers.
 //!
 //! ```text
+//! let mut rows = AnswerRows::new(alloc);
+//! let mut row = vec![in alloc;
+//!     Value::Text(Slice::new("Assets:Cash")),
+//!     Value::Number { places: 0, count: 3 },
+//! ]?;
+//! rows.push(&mut row)?;                   // row is empty then, and keeps its room
 //! let answer = Answer {
 //!     headers: List::new(vec![in alloc; Slice::new("account"), Slice::new("count(*)")]?),
-//!     rows: List::new(vec![in alloc; List::new(vec![in alloc;
-//!         Value::Text(Slice::new("Assets:Cash")),
-//!         Value::Number { places: 0, count: 3 },
-//!     ]?)]?),
+//!     rows,
 //!     steps: 9,
 //!     groups: 1,
 //! };
+//! answer.rows.row(0)                      // its values
 //! ```
+//!
+//! Rows are handled by their numbers: whoever orders them orders these, and then picks the rows of
+//! those that are left ([`AnswerRows::picked`]), side by side in that order.
 //!
 //! # Faults
 //!
-//! None.
+//! [`AnswerRows::push`] and [`AnswerRows::picked`] answer an error where memory lacks.
 //!
 //! # Cost
 //!
-//! Nothing takes memory.
+//! The values of all rows lie one behind the other in one piece of memory, which grows as a vector
+//! does, and beside it 16 bytes a row tell where they lie. To cut rows, or to show less of them,
+//! moves no value and gives none up. Picked rows are moved once, to a piece of their size; the
+//! values of the others are given up with the old one.
 #![tactic(auto)]
 
 mod answer;

@@ -1,8 +1,8 @@
 //! Rows of values that lie one behind the other.
-ghost use Rattle.std.specs.Prelude.{◌≡◌, ◌<◌, ◌≤◌, ◌++◌, ◌∷◌, [], length, map, take, vec_capacity};
-ghost use Rattle.std.specs.Prelude.{IfOk, OnOk, All};
+ghost use Rattle.std.specs.Prelude.{◌≡◌, ◌≤◌, ◌++◌, ◌∷◌, [], length, map, take, vec_capacity};
+ghost use Rattle.std.specs.Prelude.{IfOk, OnOk};
 ghost use Rattle.query_answer.specs.Rows.{ArePicked, row_at};
-ghost use Rattle.query_answer.specs.Spans.{IsSameAround, between, narrowed_to, values_in};
+ghost use Rattle.query_answer.specs.Spans.{IsSameAround, between, narrowed_to, span_at, values_in};
 
 use query_values::Value;
 use std::alloc::{AllocError, Global};
@@ -16,8 +16,8 @@ struct Span {
     end: usize,
 }
 
-/// Rows of values. All values lie in one piece of memory, which is gone through as it lies where
-/// the rows are. Its value is the list of the rows.
+/// Rows of values. The values of all rows lie one behind the other in one piece of memory. Its value
+/// is the list of the rows.
 pub struct AnswerRows<'a> {
     values: Vec<Value<'a>>,
     spans: Vec<Span>,
@@ -68,12 +68,36 @@ fn narrow_all(spans: &mut [Span], width: usize)
 }
 
 /// The values of a span.
+#[inline(always)]
 fn within<'v, 'a>(values: &'v [Value<'a>], span: Span) -> &'v [Value<'a>]
     requires up { span.start ≤ span.end }
     requires inside { span.end ≤ length values.now }
     ensures { result.now ≡ values_in values.now span }
 {
     &values[span.start..span.end]
+}
+
+/// The spans of these numbers.
+fn spans_of(alloc: Global, spans: &[Span], numbers: &[usize]) -> Result<Vec<Span>, AllocError>
+    requires { ArePicked (length spans.now) numbers.now }
+    ensures { IfOk result (λ found. found.items ≡ map (span_at spans.now) numbers.now) }
+{
+    let mut found = Vec::with_capacity(alloc, numbers.len())?;
+    let mut rest = numbers;
+    while let [number, others @ ..] = rest {
+        found.push(spans[*number])?;
+        rest = others;
+    }
+    Ok(found)
+}
+
+/// How many values spans have, for which room is taken at once.
+fn room_for(spans: &[Span]) -> usize {
+    let mut count: usize = 0;
+    for span in spans {
+        count = count.saturating_add(span.end.saturating_sub(span.start));
+    }
+    count
 }
 
 /// Moves values behind others, and leaves as many nulls.
@@ -124,6 +148,7 @@ impl<'a> AnswerRows<'a> {
     }
 
     /// The row of this number, from 0; one without values where there is none.
+    #[inline(always)]
     pub fn row(&self, number: usize) -> &[Value<'a>]
         ensures { result.now ≡ row_at self.now number }
     {
@@ -160,30 +185,21 @@ impl<'a> AnswerRows<'a> {
         narrow_all(&mut self.spans, width);
     }
 
-    /// How many values the rows of these numbers have.
-    fn count_of(&self, numbers: &[usize]) -> usize {
-        let mut count: usize = 0;
-        for number in numbers {
-            count = count.saturating_add(self.row(*number).len());
-        }
-        count
-    }
-
     /// The rows of these numbers, moved side by side in this order. None is picked twice.
     pub fn picked(self, alloc: Global, numbers: &[usize]) -> Result<AnswerRows<'a>, AllocError>
         requires { ArePicked (length self) numbers.now }
         ensures { IfOk result (λ picked. picked ≡ map (row_at self.entry) numbers.now) }
     {
-        let room = self.count_of(numbers);
         let AnswerRows { values, spans } = self;
+        // Where they lie is looked up for all of them first, so that no look-up waits for a row on
+        // its way.
+        let lying = spans_of(alloc, spans.as_slice(), numbers)?;
         let mut left = values;
-        let mut values = Vec::with_capacity(alloc, room)?;
-        let mut picked = Vec::with_capacity(alloc, numbers.len())?;
-        let mut rest = numbers;
-        while let [number, others @ ..] = rest {
-            let span = move_span(&mut left, spans[*number], &mut values)?;
+        let mut values = Vec::with_capacity(alloc, room_for(lying.as_slice()))?;
+        let mut picked = Vec::with_capacity(alloc, lying.len())?;
+        for lies in lying.as_slice() {
+            let span = move_span(&mut left, *lies, &mut values)?;
             picked.push(span)?;
-            rest = others;
         }
         Ok(AnswerRows {
             values,

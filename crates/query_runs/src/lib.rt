@@ -31,7 +31,8 @@
 //! # Cost
 //!
 //! A run takes the memory of its stack where it begins. A posting that doesn't pass takes none; one
-//! that does takes that of its row, or of its keys where these are new.
+//! that does takes room for its row, behind the others in one piece of memory, or that of its keys
+//! where these are new.
 #![tactic(auto)]
 
 mod ends;

@@ -2,16 +2,18 @@
 //! terminal shows them.
 //!
 //! ```text
+//! let mut rows = AnswerRows::new(alloc);
+//! rows.push(&mut vec![in alloc;
+//!     Value::Text(Slice::new("Assets:Cash")),
+//!     Value::Position { key: Lent::new(&dollars), count: 10_000_000_000 },
+//! ]?)?;
 //! let answer = Answer {
 //!     headers: List::new(vec![in alloc; Slice::new("account"), Slice::new("position")]?),
-//!     rows: List::new(vec![in alloc; List::new(vec![in alloc;
-//!         Value::Text(Slice::new("Assets:Cash")),
-//!         Value::Position { key: Lent::new(&dollars), count: 10_000_000_000 },
-//!     ]?)]?),
+//!     rows,
 //!     steps: 0,
 //!     groups: 0,
 //! };
-//! let table = print(alloc, &answer, ledger.display())?;
+//! let table = print(alloc, &AnswerTable { answer: &answer }, ledger.display())?;
 //! // account      position
 //! // -----------  ----------
 //! // Assets:Cash  100.00 USD
@@ -33,9 +35,9 @@
 //!
 //! # Rows
 //!
-//! A table is printed of whatever gives rows of cells ([`Rows`]): an [`Answer`], which keeps their
-//! values, or a view of a ledger, which makes each when it is asked for ([`Cell`]) and copies no
-//! text. A row is looked up once for all of its cells, in each of two passes. Each row has as many
+//! A table is printed of whatever gives rows of cells ([`Rows`]): an answer, which lends the values
+//! that it keeps ([`AnswerTable`]), or a view of a ledger, which makes each cell when it is asked for
+//! ([`Cell`]) and copies no text. A row is looked up once for all of its cells, in each of two passes. Each row has as many
 //! cells as there are names.
 //!
 //! # Faults

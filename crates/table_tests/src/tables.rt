@@ -25,11 +25,7 @@ trip
 ";
 
 /// Adds a row of one cell.
-fn add_row<'a>(
-    alloc: Global,
-    rows: &mut AnswerRows<'a>,
-    cell: Value<'a>,
-) -> Result<(), AllocError>
+fn add_row<'a>(alloc: Global, rows: &mut AnswerRows<'a>, cell: Value<'a>) -> Result<(), AllocError>
     ensures { OnOk result (rows.new ≡ rows.old ++ (cell.entry ∷ []) ∷ []) }
 {
     let mut row = Vec::from_array(alloc, [cell])?;

@@ -1,4 +1,4 @@
-use Rattle.std.proofs.Common.{◌+◌, ◌≤◌, ap, arith, drop, drop_of_length-le, length, slice_index_or, take, ◌∙◌}
+use Rattle.std.proofs.Common.{◌+◌, ap, arith, drop, drop_of_length-le, length, slice_index_or, take, ◌∙◌}
 use Rattle.std.proofs.lemmas.List.{drop_more}
 use Rattle.query_answer.specs.Rows.{row_at}
 use Rattle.query_rows.specs.Same.{with_new}

@@ -1,9 +1,8 @@
-use Rattle.std.proofs.Common.{arith, drop, length, ◌-◌, ◌∙◌}
+use Rattle.std.proofs.Common.{arith, drop, ◌-◌, ◌∙◌}
 use Rattle.std.proofs.Math.Seq.{length-take-le}
 use Rattle.std.proofs.lemmas.List.{length-drop}
 use Rattle.std.proofs.lemmas.Slice.{drop-put_mid, take-put_mid, take-put_mid_below}
 use Rattle.query_answer.proofs.MovedFacts.{same_around}
-use Rattle.query_answer.specs.Spans.{IsSameAround}
 use Rattle.query_answer.proofs.rows.move_span.Goals as goal
 
 pub returns-in_err-move_values-clause-left : goal.returns-in_err-move_values-clause-left

@@ -1,4 +1,4 @@
-use Rattle.std.proofs.Common.{ap, arith, get_or, length, slice_set, subst, ◌<◌, ◌∙◌}
+use Rattle.std.proofs.Common.{ap, arith, get_or, slice_set, ◌∙◌}
 use Rattle.std.proofs.lemmas.List.{get_or_default}
 use Rattle.std.proofs.lemmas.List.Edits.{map_over_more}
 use Rattle.query_answer.specs.Spans.{narrowed_to}

@@ -1,4 +1,4 @@
-use Rattle.std.proofs.Common.{◌≡◌, ap, length, map, subst, sym, take, ◌∙◌}
+use Rattle.std.proofs.Common.{ap, length, map, subst, sym, take, ◌∙◌}
 use Rattle.std.proofs.lemmas.List.{length-map, with_items_is}
 use Rattle.query_answer.proofs.SpanFacts.{apart_narrowed, rows_narrowed}
 use Rattle.query_answer.specs.Spans.{LieApart, narrowed_to, rows_in}

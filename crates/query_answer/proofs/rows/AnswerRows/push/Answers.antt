@@ -1,4 +1,4 @@
-use Rattle.std.proofs.Common.{◌≡◌, ◌++◌, ◌∷◌, [], ap, ap₂, length, subst, sym, ◌∙◌}
+use Rattle.std.proofs.Common.{◌++◌, ◌∷◌, [], ap, ap₂, length, subst, sym, ◌∙◌}
 use Rattle.query_answer.proofs.SpanFacts.{apart_added, grown, not_fewer, rows_added}
 use Rattle.query_answer.specs.Spans.{LieApart, between}
 use Rattle.query_answer.proofs.rows.AnswerRows.push.Goals as goal

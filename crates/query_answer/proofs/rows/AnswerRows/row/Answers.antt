@@ -1,4 +1,4 @@
-use Rattle.std.proofs.Common.{◌≤◌, ◌<◌, arith, length, subst, sym, ◌∙◌}
+use Rattle.std.proofs.Common.{◌≤◌, ◌<◌, length, subst, sym, ◌∙◌}
 use Rattle.query_answer.proofs.SpanFacts.{lies_there}
 use Rattle.query_answer.proofs.rows.AnswerRows.row.Goals as goal
 
