@@ -67,6 +67,24 @@ fn narrow_all(spans: &mut [Span], width: usize)
     }
 }
 
+/// From how many items on a list is taken for one that becomes long.
+const MANY: usize = 1 << 16;
+
+/// How many items a long list has room for at once. So much memory is taken from the system by
+/// itself: what isn't written to costs nothing, and what grows further isn't copied.
+const ROOM: usize = 1 << 21;
+
+/// Takes room for a long list before it grows step by step, which would leave a hole behind at each.
+fn make_room<T>(items: &mut Vec<T>) -> Result<(), AllocError>
+    ensures { items.new.items ≡ items.old.items }
+{
+    let len = items.len();
+    if len < MANY || items.capacity() >= ROOM {
+        return Ok(());
+    }
+    items.reserve(ROOM - len.min(ROOM))
+}
+
 /// The values of a span.
 #[inline(always)]
 fn within<'v, 'a>(values: &'v [Value<'a>], span: Span) -> &'v [Value<'a>]
@@ -158,8 +176,26 @@ impl<'a> AnswerRows<'a> {
         within(self.values.as_slice(), self.spans[number])
     }
 
+    /// Takes room for many rows, where they become many.
+    fn make_room(&mut self) -> Result<(), AllocError>
+        ensures { self.new ≡ self.old }
+    {
+        make_room(&mut self.values)?;
+        make_room(&mut self.spans)
+    }
+
     /// Adds a row of these values, which are moved. The vector keeps its room.
     pub fn push(&mut self, row: &mut Vec<Value<'a>>) -> Result<(), AllocError>
+        ensures added { OnOk result (self.new ≡ self.old ++ row.old.items ∷ []) }
+        ensures taken { OnOk result (row.new.items ≡ []) }
+        ensures room { vec_capacity row.new ≡ vec_capacity row.old }
+    {
+        self.make_room()?;
+        self.add(row)
+    }
+
+    /// The same where room was taken.
+    fn add(&mut self, row: &mut Vec<Value<'a>>) -> Result<(), AllocError>
         ensures added { OnOk result (self.new ≡ self.old ++ row.old.items ∷ []) }
         ensures taken { OnOk result (row.new.items ≡ []) }
         ensures room { vec_capacity row.new ≡ vec_capacity row.old }

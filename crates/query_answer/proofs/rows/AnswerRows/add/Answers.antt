@@ -1,7 +1,7 @@
 use Rattle.std.proofs.Common.{◌++◌, ◌∷◌, [], ap, ap₂, length, subst, sym, ◌∙◌}
 use Rattle.query_answer.proofs.SpanFacts.{apart_added, grown, not_fewer, rows_added}
 use Rattle.query_answer.specs.Spans.{LieApart, between}
-use Rattle.query_answer.proofs.rows.AnswerRows.push.Goals as goal
+use Rattle.query_answer.proofs.rows.AnswerRows.add.Goals as goal
 
 pub invariant_of-self-in_err-push : goal.invariant_of-self-in_err-push
 invariant_of-self-in_err-push c =
