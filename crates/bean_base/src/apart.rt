@@ -4,8 +4,7 @@ ghost use Rattle.std.specs.Prelude.{◌≡◌, IfOk};
 use std::alloc::{AllocError, Global};
 use std::marker::Model;
 
-/// A value in memory of its own, so that a struct stays small that seldom has one. Contracts see
-/// the value itself.
+/// A value in memory of its own, for structs that seldom have one. Contracts see the value itself.
 #[derive(Drop)]
 pub struct Apart<T> {
     place: Box<T>,

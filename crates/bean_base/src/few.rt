@@ -6,8 +6,7 @@ use crate::list::List;
 use std::alloc::{AllocError, Global};
 use std::marker::Model;
 
-/// A list that most often is empty, in memory of its own where it isn't, so that a struct stays
-/// small. Its value is the list of its items.
+/// A list that most often is empty, else in memory of its own. Its value is the list of its items.
 #[derive(Drop)]
 pub struct Few<T> {
     items: Option<Apart<List<T>>>,

@@ -2,8 +2,7 @@
 ghost use Rattle.std.specs.Prelude.{◌≡◌};
 ghost use Rattle.bean_base.specs.Flag as spec;
 
-/// Whether a transaction or a posting is marked as complete, by `*` or `txn`, or as incomplete, by
-/// `!`.
+/// Whether a transaction or posting is marked as complete, by `*` or `txn`, or incomplete, by `!`.
 #[derive(Clone, Copy, Drop, PartialEq, Eq, Hash)]
 pub enum Flag {
     Complete,

@@ -12,8 +12,7 @@ use std::cmp::Ordering;
 use std::hash::{Hash, Hasher};
 use std::marker::Model;
 
-/// A slice of a text. Its value is its bytes, wherever they lie, so a struct of slices is the value
-/// that contracts speak of.
+/// A slice of a text. Its value is its bytes, so contracts speak of a struct of slices itself.
 #[derive(Drop)]
 pub struct Slice<'a> {
     text: &'a str,

@@ -23,8 +23,7 @@ use std::marker::Model;
 /// A quoted text, as a slice of what is written between its quotes.
 ///
 /// Its value is what it stands for: `\n` is a line feed, `\t` a tab, and a backslash before any
-/// other character stands for that character. So two texts are `==` where they stand for the same,
-/// however they are written.
+/// other character stands for it. So two texts are `==` where they stand for the same.
 #[derive(Drop)]
 pub struct Text<'a> {
     written: &'a str,

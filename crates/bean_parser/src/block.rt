@@ -305,8 +305,7 @@ pub fn plain_block<'a>(
     }))
 }
 
-/// What a block says, or its first fault. It stays a call of its own, since nearly all blocks are
-/// plain.
+/// What a block says, or its first fault. It stays a call of its own: nearly all blocks are plain.
 #[inline(never)]
 pub fn read_block<'a>(alloc: Global, block: &[Token<'a>]) -> Result<Outcome<'a>, AllocError>
     ensures { IfOk result (Gives block.now) }

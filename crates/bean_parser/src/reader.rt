@@ -26,8 +26,7 @@ impl<'a> BlockReader<'a> {
         BlockReader { lexer, first }
     }
 
-    /// Fills `block` with the tokens of the next block, in place of what it held. Says whether
-    /// there was one.
+    /// Fills `block` with the tokens of the next block, if there is one, in place of what it held.
     pub fn next_block(&mut self, block: &mut Vec<Token<'a>>) -> Result<bool, AllocError>
         ensures block { IfOk result (λ some. TakesBlock some self.old block.new.items self.new) }
         ensures shorter { IfOk result (λ some. IsTrue some → left_of self.new < left_of self.old) }
