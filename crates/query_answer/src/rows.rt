@@ -16,8 +16,8 @@ struct Span {
     end: usize,
 }
 
-/// Rows of values. The values of all rows lie one behind the other in one piece of memory. Its value
-/// is the list of the rows.
+/// Rows of values, all of which lie one behind the other in one piece of memory. Its value is the
+/// list of the rows.
 pub struct AnswerRows<'a> {
     values: Vec<Value<'a>>,
     spans: Vec<Span>,
@@ -75,6 +75,7 @@ const MANY: usize = 1 << 16;
 const ROOM: usize = 1 << 21;
 
 /// Takes room for a long list before it grows step by step, which would leave a hole behind at each.
+/// What room is taken is in no clause: a list that lacks it grows as it is added to.
 fn make_room<T>(items: &mut Vec<T>) -> Result<(), AllocError>
     ensures { items.new.items ≡ items.old.items }
 {

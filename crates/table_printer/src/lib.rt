@@ -37,8 +37,8 @@
 //!
 //! A table is printed of whatever gives rows of cells ([`Rows`]): an answer, which lends the values
 //! that it keeps ([`AnswerTable`]), or a view of a ledger, which makes each cell when it is asked for
-//! ([`Cell`]) and copies no text. A row is looked up once for all of its cells, in each of two passes. Each row has as many
-//! cells as there are names.
+//! ([`Cell`]) and copies no text. A row is looked up once for all of its cells, in each of two
+//! passes. Each row has as many cells as there are names.
 //!
 //! # Faults
 //!
