@@ -33,6 +33,9 @@ use refusals::Refusal;
 use std::alloc::Global;
 use std::mem::replace;
 
+/// How many transactions are given up at once.
+const MANY: usize = 512;
+
 /// The place of a directive.
 fn place_of(placed: &Placed<Directive<'_>>) -> Place
     ensures { result ≡ spec.place_of placed.now }
@@ -41,6 +44,16 @@ fn place_of(placed: &Placed<Directive<'_>>) -> Place
         file: placed.file,
         line: placed.item.line,
     }
+}
+
+/// Gives a transaction up, together with many others. The memory of one alone is a hole between those of
+/// others, and whatever takes memory next looks through all holes; that of many lies side by side.
+fn give_up<'a>(spent: &mut Vec<Written<'a>>, written: Written<'a>) {
+    if spent.len() >= MANY {
+        spent.clear();
+    }
+    // Where memory lacks for the list it is given up at once.
+    let _ = spent.push(written);
 }
 
 /// What is known of all that was booked so far. What is booked itself is handed over.
@@ -52,6 +65,8 @@ pub(crate) struct Booker<'a> {
     scales: Scales<'a>,
     /// A list that is used no more, for what the next transaction is booked as.
     spare: Vec<Posted<'a>>,
+    /// Transactions that were handed over, up to [`MANY`].
+    spent: Vec<Written<'a>>,
     pub padder: Padder<'a>,
     /// Whether any directive is a pad or a balance. Where none is the padder is shown nothing, so
     /// that such a ledger sums nothing up.
@@ -69,6 +84,7 @@ impl Drop for Booker<'_> {
             holdings: _,
             scales: _,
             spare: _,
+            spent: _,
             padder: _,
             watched: _,
             faults: _,
@@ -91,6 +107,7 @@ impl<'a> Booker<'a> {
             holdings: Holdings::new(alloc),
             scales: Scales::new(alloc),
             spare: Vec::new(alloc),
+            spent: Vec::new(alloc),
             padder: Padder::new(alloc),
             watched,
             faults: Vec::new(alloc),
@@ -270,6 +287,7 @@ impl<'a> Booker<'a> {
     {
         if let Some(Draft::Transaction(kept)) = booked {
             self.spare = kept.postings.into_vec();
+            give_up(&mut self.spent, kept.written);
         }
     }
 
@@ -285,6 +303,7 @@ impl<'a> Booker<'a> {
             holdings: _,
             scales: _,
             spare: _,
+            spent: _,
             padder,
             watched: _,
             faults,
