@@ -9,6 +9,7 @@ ghost use Rattle.bean_lots.specs.Inventory.{added, count_of};
 ghost use Rattle.bean_holdings.specs.Held.{at_8, key_of};
 ghost use Rattle.bean_holdings.specs.Inventories.{inventory_in};
 
+use crate::known::Known;
 use crate::posted::Posted;
 use bean_base::Account;
 use bean_lots::{Inventory, Key};
@@ -22,6 +23,7 @@ pub struct Inventories<'a> {
     /// At each number that a caller has for accounts, the place at which one of them was found last.
     /// Nothing rests on it: an account that isn't there is looked up.
     found: Vec<usize>,
+    known: Known<'a>,
 }
 
 impl<'a> Inventories<'a> {
@@ -32,6 +34,7 @@ impl<'a> Inventories<'a> {
         Inventories {
             by_account: IndexMap::new(alloc),
             found: Vec::new(alloc),
+            known: Known::new(alloc),
         }
     }
 
@@ -162,6 +165,7 @@ impl<'a> Inventories<'a> {
             else inventory_in self.old a)) }
     {
         let count = posted.units.number.scaled(8);
-        self.add(alloc, posted.account.lend(), posted.key(), count, near)
+        let key = self.known.key(posted);
+        self.add(alloc, posted.account.lend(), key, count, near)
     }
 }

@@ -28,6 +28,7 @@
 
 mod holdings;
 mod inventories;
+mod known;
 mod lots_left;
 mod posted;
 mod rests;

@@ -16,10 +16,10 @@ add-requires c =
     let wide : to_z w128 (of_z w128 c.scaled-count.result) ≡ at_8 p.units.number =
     omega (arith, ints, c.scaled-count.ensures.value) in
     subst
-    (λ n. FitsSigned w128 (count_of (inventory_in i c.lend.result) c.key.result +ℤ n)) (sym wide)
+    (λ n. FitsSigned w128 (count_of (inventory_in i c.lend.result) c.key-key.result +ℤ n)) (sym wide)
     (subst
     (λ k. FitsSigned w128 (count_of (inventory_in i c.lend.result) k +ℤ at_8 p.units.number))
-    (sym c.key.ensures)
+    (sym c.key-key.ensures)
     (subst
     (λ a. FitsSigned w128 (count_of (inventory_in i a) (key_of p) +ℤ at_8 p.units.number))
     (sym c.lend.ensures) c.requires))
@@ -33,5 +33,5 @@ returns c =
     OnOk-map c.add.result _ _ (λ more a.
     more a
     ∙ (λ j. cond (bytes_eq (c.lend.ensures j) a)
-    (added (inventory_in i a) (c.key.ensures j) (wide j)) (inventory_in i a)))
+    (added (inventory_in i a) (c.key-key.ensures j) (wide j)) (inventory_in i a)))
     c.add.ensures
