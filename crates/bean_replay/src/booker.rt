@@ -34,7 +34,7 @@ use std::alloc::Global;
 use std::mem::replace;
 
 /// How many transactions are given up at once.
-const MANY: usize = 512;
+const MANY: usize = 8_192;
 
 /// The place of a directive.
 fn place_of(placed: &Placed<Directive<'_>>) -> Place
