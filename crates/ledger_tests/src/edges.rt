@@ -42,16 +42,11 @@ fn store_of_many(alloc: Global, last: &str) -> Result<MemoryStore, Fail> {
 }
 
 #[test]
-fn a_thousand_names(rt: HostRuntime) -> Result<(), Fail> {
+fn a_thousand_names_and_no_more(rt: HostRuntime) -> Result<(), Fail> {
     let mut store = store_of_many(rt.alloc(), "include \"l\"\n")?;
     let texts = gather(rt.alloc(), &mut store, "l")?;
     assert_eq!(rt; texts.files().len(), 1_000);
     assert!(rt; are_faults(&texts, &[(0, 1_000)]));
-    Ok(())
-}
-
-#[test]
-fn one_name_more(rt: HostRuntime) -> Result<(), Fail> {
     let mut store = store_of_many(rt.alloc(), "include \"x\"\n")?;
     let read = gather(rt.alloc(), &mut store, "l");
     assert!(rt; matches!(read, Err(Refusal::Refused(LoadCause::TooLarge))));

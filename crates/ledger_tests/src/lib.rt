@@ -1,5 +1,5 @@
-//! Tokens, directives that booking passes over, and the texts and settings of ledgers, by the
-//! libraries' public calls, with ample memory.
+//! Tokens, directives that booking passes over, the texts and settings of ledgers, and stores of
+//! memory, by the libraries' public calls, with ample memory.
 #![tactic(auto)]
 
 #[cfg(test)]
@@ -12,5 +12,7 @@ mod gathering;
 mod loading;
 #[cfg(test)]
 mod made;
+#[cfg(test)]
+mod memory_stores;
 #[cfg(test)]
 mod tokens;
