@@ -3,7 +3,6 @@ ghost use Rattle.std.specs.Prelude.{◌≡◌, [], map, MatchOption, IfSome, IfO
 ghost use Rattle.std.specs.List.{list_all};
 ghost use Rattle.std.specs.Prelude as prelude;
 ghost use Rattle.bean_parser.specs.Block as spec;
-ghost use Rattle.bean_parser.specs.Block.{Line};
 ghost use Rattle.bean_parser.specs.Grammar as rule;
 ghost use Rattle.bean_parser.specs.Outcome as outcomes;
 ghost use Rattle.bean_parser.specs.Outcome.{Gives};
@@ -80,22 +79,7 @@ fn with_postings<'a>(kind: DirectiveKind<'a>, postings: List<Posting<'a>>) -> Di
     }
 }
 
-/// The kind, with the tags, links and postings that stand under it.
-fn with_body<'a>(
-    alloc: Global,
-    kind: DirectiveKind<'a>,
-    marks: List<Mark<'a>>,
-    postings: List<Posting<'a>>,
-) -> Result<DirectiveKind<'a>, AllocError>
-    ensures { IfOk result (λ k. k ≡ rule.with_body kind.entry marks.entry postings.entry) }
-{
-    let mut kind = with_postings(kind, postings);
-    if let DirectiveKind::Transaction(transaction) = &mut kind {
-        transaction.marks.append(alloc, marks)?;
-    }
-    Ok(kind)
-}
-
+/// The directive that a head makes, with what the lines under it say.
 fn directive_of<'a>(
     alloc: Global,
     line: usize,
@@ -105,12 +89,23 @@ fn directive_of<'a>(
 ) -> Result<Directive<'a>, AllocError>
     ensures { IfOk result (λ d. d ≡ rule.directive_of line body.entry day kind.entry) }
 {
-    let postings = all_postings(body.before, body.last)?;
+    let Body {
+        metadata,
+        marks,
+        before,
+        last,
+        ..
+    } = body;
+    let postings = all_postings(before, last)?;
+    let mut kind = with_postings(kind, postings);
+    if let DirectiveKind::Transaction(transaction) = &mut kind {
+        transaction.marks.append(alloc, marks)?;
+    }
     Ok(Directive {
         day,
         line,
-        metadata: body.metadata,
-        kind: with_body(alloc, kind, body.marks, postings)?,
+        metadata,
+        kind,
     })
 }
 
@@ -121,17 +116,19 @@ fn dated<'a>(
     day: Ranged<Day>,
     kind: Ranged<DirectiveKind<'a>>,
     body: Body<'a>,
-) -> Result<Ranged<Statement<'a>>, AllocError>
-    ensures { IfOk result (λ s. s ≡ rule.dated line day kind.entry body.entry) }
+) -> Result<Option<Ranged<Statement<'a>>>, AllocError>
+    ensures { IfOk result (λ o. o ≡ prelude.Some (rule.dated line day kind.entry body.entry)) }
 {
-    if !body.is_in_range {
-        return Ok(Ranged::Outside);
-    }
-    let (Ranged::Within(day), Ranged::Within(kind)) = (day, kind) else {
-        return Ok(Ranged::Outside);
+    let (Ranged::Within(day), true) = (day, body.is_in_range) else {
+        return Ok(Some(Ranged::Outside));
     };
-    let directive = directive_of(alloc, line, body, day, kind)?;
-    Ok(Ranged::Within(Statement::Directive(directive)))
+    let Ranged::Within(kind) = kind else {
+        return Ok(Some(Ranged::Outside));
+    };
+    match directive_of(alloc, line, body, day, kind) {
+        Ok(directive) => Ok(Some(Ranged::Within(Statement::Directive(directive)))),
+        Err(error) => Err(error),
+    }
 }
 
 /// What a head says with nothing but postings under it, where all of it is in range.
@@ -144,7 +141,10 @@ fn plainly_dated<'a>(
     ensures { result ≡ rule.dated line day kind.entry
         (with_lines no_lines (map said_posting postings.entry)) }
 {
-    let (Ranged::Within(day), Ranged::Within(kind)) = (day, kind) else {
+    let Ranged::Within(day) = day else {
+        return Ranged::Outside;
+    };
+    let Ranged::Within(kind) = kind else {
         return Ranged::Outside;
     };
     Ranged::Within(Statement::Directive(Directive {
@@ -166,13 +166,14 @@ fn other_block<'a>(
     front: Body<'a>,
     others: &[Token<'a>],
 ) -> Result<Option<Ranged<Statement<'a>>>, AllocError>
-    ensures { IfOk result (λ found. (ls : prelude.List Line)
+    ensures { IfOk result (λ found. (ls : prelude.List spec.Line)
         → InLines (rule.takes_postings kind.entry) ls (spec.lines others.now) front.entry
         → ReadsDated line day kind.entry ls found) }
 {
-    match other_lines(alloc, takes_postings(&kind), front, others)? {
-        Some(body) => Ok(Some(dated(alloc, line, day, kind, body)?)),
-        None => Ok(None),
+    match other_lines(alloc, takes_postings(&kind), front, others) {
+        Ok(Some(body)) => dated(alloc, line, day, kind, body),
+        Ok(None) => Ok(None),
+        Err(error) => Err(error),
     }
 }
 
@@ -232,12 +233,10 @@ fn statement<'a>(
         return Ok(None);
     };
     let line = first_line(block);
-    match head(alloc, first)? {
-        Some(found) => {
-            let (day, kind) = found;
-            dated_block(alloc, line, day, kind, under)
-        }
-        None => Ok(undated_block(line, first, under)),
+    match head(alloc, first) {
+        Ok(Some((day, kind))) => dated_block(alloc, line, day, kind, under),
+        Ok(None) => Ok(undated_block(line, first, under)),
+        Err(error) => Err(error),
     }
 }
 
@@ -288,21 +287,20 @@ pub fn plain_block<'a>(
     let Some((first, under)) = first_part(Part::Line, block) else {
         return Ok(None);
     };
-    let Some(found) = plain_head(alloc, first) else {
-        return Ok(None);
-    };
-    let (day, transaction) = found;
+    // What can fail comes first, so that a transaction that was read is given up nowhere.
     let (postings, others) = plain_lines(alloc, under)?;
     if !others.is_empty() {
         return Ok(None);
     }
-    let kind = DirectiveKind::Transaction(transaction);
-    Ok(Some(Directive {
-        day,
-        line: first_line(block),
-        metadata: Few::new(),
-        kind: with_postings(kind, List::new(postings)),
-    }))
+    match plain_head(alloc, first) {
+        Some((day, transaction)) => Ok(Some(Directive {
+            day,
+            line: first_line(block),
+            metadata: Few::new(),
+            kind: with_postings(DirectiveKind::Transaction(transaction), List::new(postings)),
+        })),
+        None => Ok(None),
+    }
 }
 
 /// What a block says, or its first fault. It stays a call of its own: nearly all blocks are plain.
@@ -314,9 +312,10 @@ pub fn read_block<'a>(alloc: Global, block: &[Token<'a>]) -> Result<Outcome<'a>,
         return Ok(Outcome::Fault(fault_at(FaultKind::BadToken, line)));
     }
     let line = first_line(block);
-    match statement(alloc, block)? {
-        Some(Ranged::Within(statement)) => Ok(Outcome::Statement(statement)),
-        Some(Ranged::Outside) => Ok(Outcome::Fault(fault_at(FaultKind::OutOfRange, line))),
-        None => Ok(Outcome::Fault(fault_at(FaultKind::NotADirective, line))),
+    match statement(alloc, block) {
+        Ok(Some(Ranged::Within(statement))) => Ok(Outcome::Statement(statement)),
+        Ok(Some(Ranged::Outside)) => Ok(Outcome::Fault(fault_at(FaultKind::OutOfRange, line))),
+        Ok(None) => Ok(Outcome::Fault(fault_at(FaultKind::NotADirective, line))),
+        Err(error) => Err(error),
     }
 }

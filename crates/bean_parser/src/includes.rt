@@ -23,33 +23,34 @@ pub struct IncludeLine<'a> {
     pub name: Text<'a>,
 }
 
-fn include_of_setting(line: usize, kind: SettingKind<'_>) -> Option<IncludeLine<'_>>
-    ensures { result ≡ spec.include_of_setting line kind.entry }
+fn include_of_setting<'a>(line: usize, kind: &SettingKind<'a>) -> Option<IncludeLine<'a>>
+    ensures { result ≡ spec.include_of_setting line kind.now }
 {
     match kind {
-        SettingKind::Include(name) => Some(IncludeLine { line, name }),
+        SettingKind::Include(name) => Some(IncludeLine {
+            line,
+            name: name.lend(),
+        }),
         _ => None,
     }
 }
 
-fn include_of(undated: Undated<'_>) -> Option<IncludeLine<'_>>
-    ensures { result ≡ spec.include_of undated.entry.line undated.entry.kind }
+fn include_of<'a>(undated: &Undated<'a>) -> Option<IncludeLine<'a>>
+    ensures { result ≡ spec.include_of undated.now.line undated.now.kind }
 {
-    let Undated { line, kind } = undated;
-    match kind {
-        UndatedKind::Setting(kind) => include_of_setting(line, kind),
+    match &undated.kind {
+        UndatedKind::Setting(kind) => include_of_setting(undated.line, kind),
         _ => None,
     }
 }
 
 /// The include line that a block gave, if it gave one.
-fn include_in(outcome: Outcome<'_>) -> Option<IncludeLine<'_>>
-    ensures { result ≡ spec.include_in outcome.entry }
+fn include_in<'a>(outcome: &Outcome<'a>) -> Option<IncludeLine<'a>>
+    ensures { result ≡ spec.include_in outcome.now }
 {
     match outcome {
         Outcome::Statement(Statement::Undated(undated)) => include_of(undated),
-        Outcome::Statement(Statement::Directive(_directive)) => None,
-        Outcome::Fault(_fault) => None,
+        _ => None,
     }
 }
 
@@ -61,7 +62,7 @@ fn include_at<'a>(alloc: Global, block: &[Token<'a>]) -> Result<Option<IncludeLi
         return Ok(None);
     };
     let outcome = read_block(alloc, block)?;
-    Ok(include_in(outcome))
+    Ok(include_in(&outcome))
 }
 
 /// Adds the include line that a block gives, if it gives one.

@@ -63,21 +63,25 @@ pub(crate) fn take_pad<'a>(
     faults: &mut Vec<Fault>,
     day: Day,
     at: Place,
-    pad: Pad<'a>,
+    pad: &Pad<'a>,
 ) -> Result<(), AllocError>
     requires near { IsBounded padder.old }
     requires few { steps_in padder.old < 2 ^ 40 }
     ensures faults { (past : prelude.List lives.Step) → IsKept past accounts.now
         → OnOk result (faults.new.items ≡ (faults.old.items
-        ++ faults_at at (of_use pad.entry.account past))
-        ++ faults_at at (of_use pad.entry.source past)) }
+        ++ faults_at at (of_use pad.now.account past))
+        ++ faults_at at (of_use pad.now.source past)) }
     ensures follows { OnOk result ((past : prelude.List Step) → Follows past padder.old
-        → Follows (step.Pad pad.entry day at ∷ past) padder.new) }
+        → Follows (step.Pad pad.now day at ∷ past) padder.new) }
     ensures near { OnOk result (IsBounded padder.new) }
     ensures steps { OnOk result (steps_in padder.new ≡ steps_in padder.old + 1) }
 {
     accounts.note_use(&pad.account, at, faults)?;
     accounts.note_use(&pad.source, at, faults)?;
+    let pad = Pad {
+        account: pad.account.lend(),
+        source: pad.source.lend(),
+    };
     padder.pad(pad, day, at)
 }
 

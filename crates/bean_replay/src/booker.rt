@@ -6,8 +6,12 @@ ghost use Rattle.limits.specs.declared.counts.TheConstants.{MOST_POSTINGS};
 ghost use Rattle.bean_replay.specs.Booker.{IsBehind, IsStanding, Stands, Wherever};
 ghost use Rattle.bean_replay.specs.Stand as spec;
 ghost use Rattle.bean_replay.specs.Stand.{IsFull, IsStepBy, Stand, after_trial, setting_of, start};
-ghost use Rattle.bean_replay.specs.Watched.{IsWatched};
+ghost use Rattle.bean_replay.specs.Watched.{IsWatched, is_watching};
+ghost use Rattle.bean_directives.specs.declared.directive.Directive as directives;
+ghost use Rattle.bean_directives.specs.declared.directive.DirectiveKind.TheVariants as kinds;
+ghost use Rattle.bean_directives.specs.declared.transaction.Transaction as transactions;
 ghost use Rattle.bean_holdings.specs.Holdings.{additions_in};
+ghost use Rattle.bean_loaded.specs.declared.placed.Placed as places;
 ghost use Rattle.bean_interp.specs.Residual.{IsLight};
 ghost use Rattle.bean_reductions.specs.declared.reduction.Method.{Method};
 ghost use Rattle.bean_transactions.specs.Methods.{method_in};
@@ -21,7 +25,7 @@ use crate::cause::BookCause;
 use crate::postings::{book_postings, note_balance};
 use crate::steps::show_watched;
 use bean_accounts::Accounts;
-use bean_base::{Fault, List, Place};
+use bean_base::{Day, Fault, List, Place};
 use bean_directives::{Directive, DirectiveKind};
 use bean_holdings::{Holdings, Posted};
 use bean_interp::Scales;
@@ -209,47 +213,37 @@ impl<'a> Booker<'a> {
         }
     }
 
-    /// Takes the next directive, and gives what is booked of it.
-    pub(crate) fn take(
+    /// Takes a directive that is no transaction.
+    fn take_other(
         &mut self,
-        placed: Placed<Directive<'a>>,
+        day: Day,
+        place: Place,
+        kind: &DirectiveKind<'a>,
     ) -> Result<Option<Draft<'a>>, Refusal<BookCause>>
         requires stands { Stands self.old }
-        requires watched { IsWatched self.old.watched placed }
-        ensures standing { Wherever self.old (λ m past st. IfOk result (λ booked. (new : Stand)
-            × IsStepBy m past st placed.entry placed.entry.item.kind new
-            × IsBehind m (placed.entry ∷ past) st new booked self.new)) }
+        requires watched { is_watching kind.now ≡ true → self.old.watched ≡ true }
+        requires other { (t : transactions.Transaction) → kind.now ≢ kinds.Transaction t }
+        ensures standing { Wherever self.old (λ m past st.
+            (d : places.Placed directives.Directive) → d.item.day ≡ day → spec.place_of d ≡ place
+            → d.item.kind ≡ kind.now → IfOk result (λ booked. (new : Stand)
+            × IsStepBy m past st d d.item.kind new
+            × IsBehind m (d ∷ past) st new booked self.new)) }
         ensures watched { OnOk result (self.new.watched ≡ self.old.watched) }
-        ensures full { result ≡ prelude.Err (Refusal.Refused BookCause.TooManyPostings)
-            → Wherever self.old (λ m past st. (new : Stand)
-            → IsStepBy m past st placed.entry placed.entry.item.kind new → IsFull new) }
+        ensures full { result ≢ prelude.Err (Refusal.Refused BookCause.TooManyPostings) }
     {
-        let place = place_of(&placed);
-        let Directive {
-            day,
-            metadata,
-            kind,
-            ..
-        } = placed.item;
         match kind {
-            DirectiveKind::Transaction(transaction) => self.transaction(Written {
-                day,
-                place,
-                metadata,
-                transaction,
-            }),
             DirectiveKind::Open(open) => {
                 take_open(
                     self.alloc,
                     &mut self.accounts,
                     &mut self.faults,
                     place,
-                    &open,
+                    open,
                 )?;
                 Ok(None)
             }
             DirectiveKind::Close(close) => {
-                take_close(&mut self.accounts, &mut self.faults, place, &close)?;
+                take_close(&mut self.accounts, &mut self.faults, place, close)?;
                 Ok(None)
             }
             DirectiveKind::Pad(pad) => {
@@ -279,6 +273,39 @@ impl<'a> Booker<'a> {
         }
     }
 
+    /// Takes the next directive, and gives what is booked of it.
+    pub(crate) fn take(
+        &mut self,
+        placed: Placed<Directive<'a>>,
+    ) -> Result<Option<Draft<'a>>, Refusal<BookCause>>
+        requires stands { Stands self.old }
+        requires watched { IsWatched self.old.watched placed }
+        ensures standing { Wherever self.old (λ m past st. IfOk result (λ booked. (new : Stand)
+            × IsStepBy m past st placed.entry placed.entry.item.kind new
+            × IsBehind m (placed.entry ∷ past) st new booked self.new)) }
+        ensures watched { OnOk result (self.new.watched ≡ self.old.watched) }
+        ensures full { result ≡ prelude.Err (Refusal.Refused BookCause.TooManyPostings)
+            → Wherever self.old (λ m past st. (new : Stand)
+            → IsStepBy m past st placed.entry placed.entry.item.kind new → IsFull new) }
+    {
+        let place = place_of(&placed);
+        let Directive {
+            day,
+            metadata,
+            kind,
+            ..
+        } = placed.item;
+        match kind {
+            DirectiveKind::Transaction(transaction) => self.transaction(Written {
+                day,
+                place,
+                metadata,
+                transaction,
+            }),
+            other => self.take_other(day, place, &other),
+        }
+    }
+
     /// Takes back what was booked of a directive, once it is handed over: the next transaction is
     /// booked in its memory.
     pub(crate) fn reuse(&mut self, booked: Option<Draft<'a>>)
@@ -296,18 +323,10 @@ impl<'a> Booker<'a> {
     pub(crate) fn into_found(self) -> (Padder<'a>, Vec<Fault>)
         ensures { result ≡ (self.entry.padder, self.entry.faults) }
     {
-        let Booker {
-            alloc: _,
-            methods: _,
-            accounts: _,
-            holdings: _,
-            scales: _,
-            spare: _,
-            spent: _,
-            padder,
-            watched: _,
-            faults,
-        } = self;
+        let alloc = self.alloc;
+        let mut booker = self;
+        let padder = replace(&mut booker.padder, Padder::new(alloc));
+        let faults = replace(&mut booker.faults, Vec::new(alloc));
         (padder, faults)
     }
 }

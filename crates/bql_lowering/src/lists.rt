@@ -189,6 +189,7 @@ pub(crate) fn in_list<'a>(
     ensures { IfOk result (λ r. core_of r
         ≡ rule.in_list places (core_of x.entry) (trees_of members.now)) }
 {
+    let x = Box::new(alloc, x)?;
     let (x, most) = match places {
         Some(places) => {
             let most = most_places(places, members);
@@ -197,5 +198,5 @@ pub(crate) fn in_list<'a>(
         None => (x, 0),
     };
     let list = list_by(alloc, most, members)?;
-    Ok(Core::Change(Change::Among(list), Box::new(alloc, x)?))
+    Ok(Core::Change(Change::Among(list), x))
 }

@@ -1,6 +1,5 @@
 //! The machine's operations for those of a query.
 ghost use Rattle.std.specs.Prelude.{◌≡◌, Some, IfOk};
-ghost use Rattle.bql_code.specs.Core.{joining, both, either};
 ghost use Rattle.bql_code.specs.Kept.{core_of};
 ghost use Rattle.bql_lowering.specs.Lowered as rule;
 ghost use Rattle.bql_parser.specs.Small.{IsSmallUnary};
@@ -18,36 +17,18 @@ pub(crate) fn on_one<'a>(alloc: Global, op: Unary, x: Core<'a>) -> Result<Core<'
     Ok(Core::Change(Change::Plain(op), Box::new(alloc, x)?))
 }
 
-/// One on two values.
-fn join<'a>(alloc: Global, op: Binary, x: Core<'a>, y: Core<'a>) -> Result<Core<'a>, AllocError>
-    ensures { IfOk result (λ r. core_of r ≡ joining op (core_of x.entry) (core_of y.entry)) }
-{
-    Ok(Core::Join(op, Box::new(alloc, x)?, Box::new(alloc, y)?))
-}
-
-fn and<'a>(alloc: Global, x: Core<'a>, y: Core<'a>) -> Result<Core<'a>, AllocError>
-    ensures { IfOk result (λ r. core_of r ≡ both (core_of x.entry) (core_of y.entry)) }
-{
-    Ok(Core::And(Box::new(alloc, x)?, Box::new(alloc, y)?))
-}
-
-fn or<'a>(alloc: Global, x: Core<'a>, y: Core<'a>) -> Result<Core<'a>, AllocError>
-    ensures { IfOk result (λ r. core_of r ≡ either (core_of x.entry) (core_of y.entry)) }
-{
-    Ok(Core::Or(Box::new(alloc, x)?, Box::new(alloc, y)?))
-}
-
 /// A number brought to more decimals, where it has fewer.
 pub(crate) fn aligned<'a>(
     alloc: Global,
     places: u8,
     to: u8,
-    x: Core<'a>,
-) -> Result<Core<'a>, AllocError>
-    ensures { IfOk result (λ r. core_of r ≡ rule.aligned (Some places) to (core_of x.entry)) }
+    x: Box<Core<'a>>,
+) -> Result<Box<Core<'a>>, AllocError>
+    ensures { IfOk result (λ r. core_of r.value
+        ≡ rule.aligned (Some places) to (core_of x.entry.value)) }
 {
     if places < to {
-        on_one(alloc, Unary::Align(to), x)
+        Ok(Box::new(alloc, Core::Change(Change::Plain(Unary::Align(to)), x))?)
     } else {
         Ok(x)
     }
@@ -58,20 +39,20 @@ fn joined<'a>(
     alloc: Global,
     op: Binary,
     places: (Option<u8>, Option<u8>),
-    x: Core<'a>,
-    y: Core<'a>,
+    x: Box<Core<'a>>,
+    y: Box<Core<'a>>,
 ) -> Result<Core<'a>, AllocError>
     ensures { IfOk result (λ r. core_of r
-        ≡ rule.joined op places.0 places.1 (core_of x.entry) (core_of y.entry)) }
+        ≡ rule.joined op places.0 places.1 (core_of x.entry.value) (core_of y.entry.value)) }
 {
     match places {
         (Some(p), Some(q)) => {
             let most = p.max(q);
             let x = aligned(alloc, p, most, x)?;
             let y = aligned(alloc, q, most, y)?;
-            join(alloc, op, x, y)
+            Ok(Core::Join(op, x, y))
         }
-        _ => join(alloc, op, x, y),
+        _ => Ok(Core::Join(op, x, y)),
     }
 }
 
@@ -121,19 +102,21 @@ pub(crate) fn of_binary<'a>(
     ensures { IfOk result (λ r. core_of r
         ≡ rule.of_binary op places.0 places.1 (core_of x.entry) (core_of y.entry)) }
 {
+    let x = Box::new(alloc, x)?;
+    let y = Box::new(alloc, y)?;
     match op {
-        BinaryOperator::Or => or(alloc, x, y),
-        BinaryOperator::And => and(alloc, x, y),
+        BinaryOperator::Or => Ok(Core::Or(x, y)),
+        BinaryOperator::And => Ok(Core::And(x, y)),
         BinaryOperator::Equal => joined(alloc, Binary::Equal, places, x, y),
         BinaryOperator::NotEqual => joined(alloc, Binary::NotEqual, places, x, y),
         BinaryOperator::Less => joined(alloc, Binary::Less, places, x, y),
         BinaryOperator::LessOrEqual => joined(alloc, Binary::AtMost, places, x, y),
         BinaryOperator::Greater => joined(alloc, Binary::Greater, places, x, y),
         BinaryOperator::GreaterOrEqual => joined(alloc, Binary::AtLeast, places, x, y),
-        BinaryOperator::In => join(alloc, Binary::InSet, x, y),
+        BinaryOperator::In => Ok(Core::Join(Binary::InSet, x, y)),
         BinaryOperator::Plus => joined(alloc, Binary::Add, places, x, y),
         BinaryOperator::Minus => joined(alloc, Binary::Sub, places, x, y),
-        BinaryOperator::Times => join(alloc, Binary::Mul, x, y),
+        BinaryOperator::Times => Ok(Core::Join(Binary::Mul, x, y)),
     }
 }
 
