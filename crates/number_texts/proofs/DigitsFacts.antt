@@ -1,9 +1,11 @@
 -- How the pieces of decimals come together.
 use Rattle.std.proofs.Common.{◌≡◌, ℕ, zero, suc, ◌+◌, ◌-◌, ◌*◌, ◌/◌, ◌%◌, ◌^◌, ◌<◌, ◌≤◌}
 use Rattle.std.proofs.Common.{nat_eq, nat_lt, Bool, true, false, cond, List, [], ◌∷◌, ◌++◌, length}
-use Rattle.std.proofs.Common.{refl, sym, ap, ◌∙◌, append_assoc, arith, length-append}
+use Rattle.std.proofs.Common.{refl, sym, ap, subst, ◌∙◌, append_assoc, arith, length-append}
 use Rattle.std.proofs.Math.Arith.{mod-mul}
-use Rattle.std.proofs.Math.Nat.{div-div-eq-div-mul, one-le-pow, pow-le-pow_right, pow-suc}
+use Rattle.std.proofs.Math.Nat.{div-div-eq-div-mul, div-lt_iff_lt-mul, one-le-pow}
+use Rattle.std.proofs.Math.Nat.{pow-le-pow_right, pow-suc}
+use Rattle.std.proofs.lemmas.Nat.{pow-add}
 use Rattle.std.proofs.Math.Nat.{pow-succ'}
 use Rattle.std.proofs.lemmas.Fmt.{decimal_digit, decimal_step_wide}
 use Rattle.std.specs.Fmt.{decimal}
@@ -137,3 +139,13 @@ stripped (suc surplus) places n least ends fits =
     ap (λ m. digits_of places m ++ zeros (least - places)) shorter
     ∙ stripped surplus places (n / 10) least rest fits
     ∙ ap (filled least) (sym (ap (λ p. exact_decimals p n) next ∙ fewer (surplus + places) n last))
+
+-- the digits that are kept are few
+pub kept_small : (places surplus kept n : ℕ) → surplus + kept ≡ places → n < 10 ^ places
+    → n / 10 ^ surplus < 10 ^ kept
+kept_small places surplus kept n all small =
+    let power : 10 ^ places ≡ 10 ^ kept * 10 ^ surplus =
+    ap (λ k. 10 ^ k) (let e : places ≡ kept + surplus = omega (arith, all) in e)
+    ∙ pow-add 10 kept surplus in
+    let below : n < 10 ^ kept * 10 ^ surplus = subst (λ u. n < u) power small in
+    (div-lt_iff_lt-mul (one-le-pow surplus 10 (omega arith))).1 below

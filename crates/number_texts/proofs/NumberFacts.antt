@@ -1,6 +1,6 @@
 -- The parts of a number's text: how long they are, and how they come together.
 use Rattle.std.proofs.Common.{◌≡◌, ℕ, ℤ, zero, suc, pos, negsuc, ◌+◌, ◌-◌, ◌*◌, ◌/◌, ◌%◌, ◌^◌, ◌<◌}
-use Rattle.std.proofs.Common.{◌≤◌, max, nat_lt, int_lt, Bool, true, false, cond, List, [], ◌∷◌, ◌++◌}
+use Rattle.std.proofs.Common.{◌≤◌, max, nat_eq, nat_lt, int_lt, Bool, true, false, cond, List, [], ◌∷◌, ◌++◌}
 use Rattle.std.proofs.Common.{length, drop, set, refl, sym, ap, ◌∙◌, append_assoc, arith}
 use Rattle.std.proofs.Common.{length-append}
 use Rattle.std.proofs.Math.Nat.{pow-succ'}
@@ -12,9 +12,8 @@ use Rattle.std.proofs.lemmas.List.{append-nil, drop-set, length-replicate}
 use Rattle.std.specs.Fmt.{decimal}
 use Rattle.std.specs.Int.RustNames.{unsigned_abs}
 use Rattle.number_texts.specs.Digits.{behind_point, decimals_text, digits_of, exact_decimals}
-use Rattle.number_texts.specs.Digits.{magnitude_text, number_text, parts_text, zeros}
+use Rattle.number_texts.specs.Digits.{number_text, parts_text, zeros}
 use Rattle.number_texts.proofs.DigitsFacts.{behind_some, filled, length-digits_of, leading_one}
-use Rattle.number_texts.proofs.DigitsFacts.{stripped}
 
 -- between two powers of ten the count of digits is the same
 pub count_digits : (k n : ℕ) → 10 ^ k ≤ n → n < 10 * 10 ^ k → n < 10 ^ 64
@@ -106,16 +105,11 @@ pushed_parts before whole shown digits least =
     ∙ append_assoc before (decimal whole) (behind_point (ds ++ rest))
 
 -- decimals without zeros behind them
-pub few_parts : (whole shown digits least : ℕ) → 0 < shown → least ≤ shown
-    → decimal whole ++ 46 ∷ digits_of shown digits ≡ parts_text whole shown digits least
-few_parts whole shown digits least some fits =
+pub few_parts : (whole shown digits least : ℕ) → least ≤ shown
+    → decimal whole ++ behind_point (digits_of shown digits) ≡ parts_text whole shown digits least
+few_parts whole shown digits least fits =
     let none : least - shown ≡ 0 = omega arith in
-    let long = length-digits_of shown digits in
-    let yes : nat_lt 0 shown ≡ true = grind (arith, nat_tests) in
-    ap (λ l. decimal whole ++ l)
-    (sym (behind_some (digits_of shown digits) shown long
-    ∙ ap (λ b. cond b (46 ∷ []) [] ++ digits_of shown digits) yes))
-    ∙ ap (λ l. decimal whole ++ behind_point l)
+    ap (λ l. decimal whole ++ behind_point l)
     (sym (append-nil (digits_of shown digits))
     ∙ ap (λ k. digits_of shown digits ++ zeros k) (sym none))
 
@@ -135,22 +129,48 @@ number_parts before (negsuc n) whole places shown digits least is same =
     ∙ (λ i. before ++ 45 ∷ (decimal (is i) ++ behind_point (same i)))
 
 -- the text in the buffer: the point takes the place of the one before the digits
-pub in_buffer : (text after : List ℕ) (at : ℕ) (whole shown digits : ℕ) → shown ≤ 32
+pub in_buffer : (text after behind : List ℕ) (at : ℕ) (whole shown digits : ℕ) → shown ≤ 32
     → digits < 10 ^ shown → at < length text
-    → drop at text ≡ decimal (10 ^ shown + digits)
+    → drop at text ≡ decimal (10 ^ shown + digits) ++ behind
     → after ≡ decimal whole ++ drop at (set text at 46)
-    → after ≡ decimal whole ++ 46 ∷ digits_of shown digits
-in_buffer text after at whole shown digits few small inside written is =
+    → after ≡ decimal whole ++ 46 ∷ (digits_of shown digits ++ behind)
+in_buffer text after behind at whole shown digits few small inside written is =
     let e : at + 1 ≡ suc at = omega arith in
-    let rest : drop (at + 1) text ≡ digits_of shown digits =
-    ap (λ k. drop k text) e ∙ behind text at inside
-    ∙ ap (drop 1) (written ∙ leading_one shown digits few small) in
+    let rest : drop (at + 1) text ≡ digits_of shown digits ++ behind =
+    ap (λ k. drop k text) e ∙ past text at inside
+    ∙ ap (drop 1) (written ∙ ap (λ l. l ++ behind) (leading_one shown digits few small)) in
     is ∙ ap (λ l. decimal whole ++ l) (drop-set text at 46 inside ∙ ap (λ l. 46 ∷ l) rest)
   where
-    behind : (xs : List ℕ) (k : ℕ) → k < length xs → drop (suc k) xs ≡ drop 1 (drop k xs)
-    behind [] k low = absurd (omega arith)
-    behind (x ∷ xs) zero low = refl
-    behind (x ∷ xs) (suc k) low = behind xs k (omega arith)
+    past : (xs : List ℕ) (k : ℕ) → k < length xs → drop (suc k) xs ≡ drop 1 (drop k xs)
+    past [] k low = absurd (omega arith)
+    past (x ∷ xs) zero low = refl
+    past (x ∷ xs) (suc k) low = past xs k (omega arith)
+
+-- a point that no decimals follow is one too many
+pub pointed : (shown digits : ℕ) (behind : List ℕ)
+    → 46 ∷ (digits_of shown digits ++ behind)
+    ≡ behind_point (digits_of shown digits) ++ (cond (nat_eq shown 0) (46 ∷ []) [] ++ behind)
+pointed zero digits behind = refl
+pointed (suc shown) digits behind =
+    let ds = digits_of (suc shown) digits in
+    let some : nat_lt 0 (suc shown) ≡ true = grind (arith, nat_tests) in
+    let other : nat_eq (suc shown) 0 ≡ false = grind (arith, nat_tests) in
+    sym (ap (λ l. l ++ (cond (nat_eq (suc shown) 0) (46 ∷ []) [] ++ behind))
+    (behind_some ds (suc shown) (length-digits_of (suc shown) digits)
+    ∙ ap (λ b. cond b (46 ∷ []) [] ++ ds) some)
+    ∙ ap (λ b. (46 ∷ ds) ++ (cond b (46 ∷ []) [] ++ behind)) other)
+
+pub length-pointed : (shown digits : ℕ)
+    → length (behind_point (digits_of shown digits)) + cond (nat_eq shown 0) 1 0 ≡ 1 + shown
+length-pointed zero digits = refl
+length-pointed (suc shown) digits =
+    let ds = digits_of (suc shown) digits in
+    let long = length-digits_of (suc shown) digits in
+    let some : nat_lt 0 (suc shown) ≡ true = grind (arith, nat_tests) in
+    let other : nat_eq (suc shown) 0 ≡ false = grind (arith, nat_tests) in
+    (λ i. length ((behind_some ds (suc shown) long ∙ ap (λ b. cond b (46 ∷ []) [] ++ ds) some) i)
+    + cond {A = ℕ} (other i) 1 0)
+    ∙ (let e : suc (length ds) + 0 ≡ 1 + suc shown = omega (arith, long) in e)
 
 pub length-leading_one : (unit shown digits : ℕ) → unit ≡ 10 ^ shown → shown ≤ 32
     → digits < 10 ^ shown → length (decimal (unit + digits)) ≡ 1 + shown
@@ -158,27 +178,6 @@ length-leading_one unit shown digits is few small =
     let long =
     ap (λ u. length (decimal (u + digits))) is ∙ ap length (leading_one shown digits few small) in
     omega (arith, long, length-digits_of shown digits)
-
--- what so many hundredths show
-pub hundredths_show : (n h : ℕ) → n % 1000000 ≡ 0 → h ≡ n / 1000000
-    → magnitude_text n 8 2 ≡ decimal (h / 100) ++ 46 ∷ digits_of 2 (h % 100)
-hundredths_show n h ends is =
-    let decimals = n % 100000000 in
-    let whole : n / 100000000 ≡ h / 100 = omega (arith, is) in
-    let digits : decimals / 1000000 ≡ h % 100 = omega (arith, is) in
-    let none : decimals % 1000000 ≡ 0 = omega (arith, ends) in
-    ap (λ ds. decimal (n / 100000000) ++ behind_point ds)
-    (sym (stripped 6 2 decimals 2 none (omega arith)))
-    ∙ sym (few_parts (n / 100000000) 2 (decimals / 1000000) 2 (omega arith) (omega arith))
-    ∙ (λ i. decimal (whole i) ++ 46 ∷ digits_of 2 (digits i))
-
--- a sign and a magnitude
-pub signed : (count : ℤ) (places least : ℕ)
-    → cond (int_lt count (pos 0)) (45 ∷ []) [] ++ magnitude_text (unsigned_abs count) places least
-    ≡ number_text count places least
-signed (pos n) places least =
-    ap (λ b. cond b (45 ∷ []) [] ++ magnitude_text n places least) (not_below n)
-signed (negsuc n) places least = refl
 
 -- so many are added, and those that are too many taken off
 pub window : (old new rest front behind : List ℕ) (many n : ℕ) → length front ≤ many

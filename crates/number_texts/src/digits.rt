@@ -3,8 +3,8 @@ ghost use Rattle.std.specs.Prelude.{◌≡◌, ◌≤◌, ◌<◌, ◌+◌, ◌-
 ghost use Rattle.std.specs.Prelude.{IfSome, drop, length, max, nat_lt, if◌then◌else◌};
 ghost use Rattle.std.specs.Fmt.{decimal};
 ghost use Rattle.std.specs.Int.RustNames.{unsigned_abs};
-ghost use Rattle.bean_base.specs.Character.{dash, point};
-ghost use Rattle.number_texts.specs.Digits.{digits_of, exact_decimals, magnitude_text, number_text};
+ghost use Rattle.bean_base.specs.Character.{dash};
+ghost use Rattle.number_texts.specs.Digits.{behind_point, digits_of, exact_decimals, number_text};
 ghost use Rattle.number_texts.specs.Digits.{parts_text};
 ghost use Rattle.number_texts.specs.Digits.{day_text, zeros};
 
@@ -28,8 +28,9 @@ fn unit_of(places: u8) -> u128
     power_of_ten(places).unsigned_abs()
 }
 
-/// A number of 64 bits before and behind its last `places` digits. Most counts have 8 decimals, of
-/// which two are shown, and what is divided by a known number is multiplied instead.
+/// A number of 64 bits before and behind its last `places` digits. Most counts have 8 decimals, and
+/// what is divided by a known number is multiplied instead.
+#[inline(always)]
 fn split_few_at(number: u64, places: u8) -> (u64, u64)
     requires { places < 20 }
     ensures before { result.0 ≡ number / 10 ^ places }
@@ -37,7 +38,14 @@ fn split_few_at(number: u64, places: u8) -> (u64, u64)
 {
     match places {
         8 => (number / 100_000_000, number % 100_000_000),
+        7 => (number / 10_000_000, number % 10_000_000),
         6 => (number / 1_000_000, number % 1_000_000),
+        5 => (number / 100_000, number % 100_000),
+        4 => (number / 10_000, number % 10_000),
+        3 => (number / 1_000, number % 1_000),
+        2 => (number / 100, number % 100),
+        1 => (number / 10, number % 10),
+        0 => (number, 0),
         _ => {
             let unit = power_of_ten(places) as u64;
             (number / unit, number % unit)
@@ -224,19 +232,27 @@ fn any_parts(number: u128, places: u8, least: u8) -> Parts
     }
 }
 
-/// How many hundredths the magnitude `number` · `10^-places` is, where two decimals are shown of it.
-/// Most counts have 8 decimals and are so many hundredths: they are told first, since what is divided
-/// by a known number is multiplied instead.
+/// The whole part and the decimals that are shown, where the number is one of 64 bits with 8 decimals,
+/// as most are, and has zeros alone behind the first `least`.
 #[inline(always)]
-fn hundredths_of(number: u128, places: u8, least: u8) -> Option<u64>
-    ensures { IfSome result (λ h. magnitude_text number places least
-        ≡ decimal (h / 100) ++ point ∷ digits_of 2 (h % 100)) }
+fn few_parts(number: u128, places: u8, least: u8) -> Option<(u64, u64)>
+    ensures few { IfSome result (λ parts. least ≤ 8) }
+    ensures whole { IfSome result (λ parts. parts.0 ≡ number / 10 ^ places) }
+    ensures digits { IfSome result (λ parts. digits_of least parts.1 ++ zeros (least - least)
+        ≡ exact_decimals places (number % 10 ^ places)
+        ++ zeros (least - length (exact_decimals places (number % 10 ^ places)))) }
+    ensures small { IfSome result (λ parts. parts.1 < 10 ^ least) }
 {
-    let few = u64::try_from(number).ok()?;
-    if places != 8 || least != 2 || few % 1_000_000 != 0 {
+    let number = u64::try_from(number).ok()?;
+    if places != 8 || least > 8 {
         return None;
     }
-    Some(few / 1_000_000)
+    let (whole, decimals) = split_few_at(number, 8);
+    let (digits, rest) = split_few_at(decimals, 8 - least);
+    if rest != 0 {
+        return None;
+    }
+    Some((whole, digits))
 }
 
 /// How many bytes the parts of a magnitude have.
@@ -256,8 +272,9 @@ pub fn number_len(count: i128, places: u8, least: u8) -> usize
     ensures few { result ≤ 300 }
 {
     let number = count.unsigned_abs();
-    match hundredths_of(number, places, least) {
-        Some(hundredths) => len_if(count < 0) + digits_in_word(hundredths / 100) + 3,
+    match few_parts(number, places, least) {
+        Some((whole, _)) => len_if(count < 0)
+            + (digits_in_word(whole) + (len_if(least > 0) + least as usize)),
         None => len_if(count < 0) + parts_len(any_parts(number, places, least), least),
     }
 }
@@ -274,28 +291,10 @@ fn put_sign(text: &mut [u8], start: usize, is_wanted: bool) -> usize
     start - len_if(is_wanted)
 }
 
-/// Adds so many hundredths, behind a sign where it is wanted: one text of at most 24 bytes. So many are
-/// added, whatever its length, and those that are too many taken off: copies of a known length are
-/// made in place.
+/// A sign where it is wanted, a whole part and decimals, where they are few: one text of at most 40
+/// bytes. So many are added, whatever its length, and those that are too many taken off: copies of a
+/// known length are made in place.
 #[inline(always)]
-fn push_hundredths(out: &mut Vec<u8>, is_negative: bool, hundredths: u64) -> Result<(), AllocError>
-    ensures { OnOk result (out.new.items ≡ out.old.items
-        ++ ((if is_negative then dash ∷ [] else [])
-        ++ (decimal (hundredths / 100) ++ point ∷ digits_of 2 (hundredths % 100)))) }
-{
-    let mut text = [0; 48];
-    text[21] = b'.';
-    text[22] = digit(hundredths / 10);
-    text[23] = digit(hundredths);
-    let whole = write_digits(hundredths / 100, &mut text, 21);
-    let start = put_sign(&mut text, whole, is_negative);
-    out.extend_from_slice(&text[start..start + 24])?;
-    out.truncate(out.len() - start);
-    Ok(())
-}
-
-/// A sign where it is wanted, a whole part, a point and decimals, where they are few: one text, which
-/// is added at once.
 fn push_few_parts(
     out: &mut Vec<u8>,
     is_negative: bool,
@@ -303,20 +302,21 @@ fn push_few_parts(
     shown: u8,
     digits: u64,
 ) -> Result<(), AllocError>
-    requires some { 0 < shown }
     requires few { shown ≤ 18 }
     requires small { digits < 10 ^ shown }
     ensures { OnOk result (out.new.items ≡ out.old.items
         ++ (if is_negative then dash ∷ [] else [])
-        ++ (decimal whole ++ point ∷ digits_of shown digits)) }
+        ++ (decimal whole ++ behind_point (digits_of shown digits))) }
 {
-    let mut text = [0; 40];
+    let mut text = [0; 80];
     // A one before the digits keeps the zeros in front of them. The point takes its place.
     let point = write_digits(power_of_ten(shown) as u64 + digits, &mut text, 40);
     text[point] = b'.';
     let whole = write_digits(whole, &mut text, point);
     let start = put_sign(&mut text, whole, is_negative);
-    out.extend_from_slice(&text[start..])?;
+    out.extend_from_slice(&text[start..start + 40])?;
+    // Without decimals the point is one too many.
+    out.truncate(out.len() - (start + len_if(shown == 0)));
     Ok(())
 }
 
@@ -355,7 +355,7 @@ fn push_parts(
         ++ parts_text parts.whole parts.shown parts.digits least) }
 {
     match u64::try_from(parts.whole) {
-        Ok(whole) if 0 < parts.shown && parts.shown <= 18 && least <= parts.shown => {
+        Ok(whole) if parts.shown <= 18 && least <= parts.shown => {
             push_few_parts(out, is_negative, whole, parts.shown, parts.digits as u64)?;
             Ok(())
         }
@@ -369,8 +369,8 @@ pub fn push_number(out: &mut Vec<u8>, count: i128, places: u8, least: u8) -> Res
     ensures { OnOk result (out.new.items ≡ out.old.items ++ number_text count places least) }
 {
     let number = count.unsigned_abs();
-    match hundredths_of(number, places, least) {
-        Some(hundredths) => push_hundredths(out, count < 0, hundredths),
+    match few_parts(number, places, least) {
+        Some((whole, digits)) => push_few_parts(out, count < 0, whole, least, digits),
         None => push_parts(out, count < 0, any_parts(number, places, least), least),
     }
 }

@@ -36,6 +36,7 @@ impl<'a> Display<'a> {
     }
 
     /// The decimals of a currency, where it is the one at that place.
+    #[inline(always)]
     fn places_at(&self, place: usize, currency: &Currency<'_>) -> Option<u8>
         ensures { IfSome result (λ places. places ≡ decimals_of self.now currency.now) }
     {
@@ -44,9 +45,10 @@ impl<'a> Display<'a> {
         }
         let (found, places) = self.places.get_index(place)?;
         if *currency == *found {
-            return Some(*places);
+            Some(*places)
+        } else {
+            None
         }
-        None
     }
 
     /// The decimals of a currency.
@@ -58,12 +60,21 @@ impl<'a> Display<'a> {
 
     /// The same, where `near` tells at which place the last one was found that was asked for: most
     /// often it is this one, which isn't hashed then.
+    #[inline(always)]
     pub fn places_near(&self, currency: &Currency<'_>, near: &mut usize) -> u8
         ensures { result ≡ decimals_of self.now currency.now }
     {
-        if let Some(places) = self.places_at(*near, currency) {
-            return places;
+        match self.places_at(*near, currency) {
+            Some(places) => places,
+            None => self.places_found(currency, near),
         }
+    }
+
+    /// The same, where it isn't that one.
+    #[inline(never)]
+    fn places_found(&self, currency: &Currency<'_>, near: &mut usize) -> u8
+        ensures { result ≡ decimals_of self.now currency.now }
+    {
         let Some(place) = self.places.get_index_of(currency) else {
             return 0;
         };

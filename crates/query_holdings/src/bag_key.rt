@@ -4,7 +4,7 @@ ghost use Rattle.std.proofs.Common.{ap};
 ghost use Rattle.std.specs.Cmp.{partial_equiv_from_equiv};
 ghost use Rattle.std.specs.Option.{option_cmp, option_copied, option_eq};
 ghost use Rattle.bean_lots.proofs.LotFacts.{same_key_Decides, same_key_equiv};
-ghost use Rattle.bean_lots.specs.Lot.{key_order, lot_order, same_key, same_lot};
+ghost use Rattle.bean_lots.specs.Lot.{key_order, lot_order, same_key, same_lot, text_order};
 ghost use Rattle.query_holdings.specs.BagKey.{key_fed};
 ghost use Rattle.query_holdings.specs.Total.{bare_key, cost_count, cost_currency, is_count};
 
@@ -40,6 +40,17 @@ fn same_lots(a: &Option<Lent<'_, Lot<'_>>>, b: &Option<Lent<'_, Lot<'_>>>) -> bo
         (None, None) => true,
         (Some(a), Some(b)) => a.get() == b.get(),
         _ => false,
+    }
+}
+
+/// The order of two currencies. Most begin with different letters: these are looked at first.
+#[inline(always)]
+fn compare_currencies(a: &Currency<'_>, b: &Currency<'_>) -> Ordering
+    ensures { result ≡ text_order a.now b.now }
+{
+    match (a.text().as_bytes(), b.text().as_bytes()) {
+        ([x, ..], [y, ..]) if *x != *y => x.cmp(y),
+        _ => a.cmp(b),
     }
 }
 
@@ -113,8 +124,10 @@ impl<'r> BagKey<'r> {
     pub(crate) fn compare(&self, other: &BagKey<'_>) -> Ordering
         ensures { result ≡ key_order self.now other.now }
     {
-        let currencies = self.currency.get().cmp(other.currency.get());
-        currencies.then(compare_lots(&self.lot, &other.lot))
+        match compare_currencies(self.currency.get(), other.currency.get()) {
+            Ordering::Equal => compare_lots(&self.lot, &other.lot),
+            unequal => unequal,
+        }
     }
 
     /// The currency of what its units cost; without a lot, their own.

@@ -1,11 +1,11 @@
 use Rattle.std.proofs.Common.{◌≡◌, ◌≤◌, ◌+◌, ◌^◌, ◌++◌, drop, ap, ◌∙◌, arith}
-use Rattle.std.proofs.Common.{ℕ, List, sym, append_assoc, ◌-◌, ◌∷◌, [], cond, length-drop, length-set, take}
+use Rattle.std.proofs.Common.{ℕ, List, sym, append_assoc, ◌-◌, ◌∷◌, [], cond, length, length-append, length-set, nat_eq, replicate, take}
 use Rattle.std.specs.Fmt.{decimal}
 use Rattle.std.proofs.Math.Nat.{pow-le-pow_right}
 use Rattle.std.proofs.lemmas.Fmt.{length-decimal-le}
-use Rattle.std.proofs.lemmas.List.{append-nil, take_all}
-use Rattle.number_texts.proofs.NumberFacts.{in_buffer, length-leading_one}
-use Rattle.number_texts.specs.Digits.{digits_of}
+use Rattle.number_texts.proofs.NumberFacts.{in_buffer, length-leading_one, length-pointed, pointed}
+use Rattle.number_texts.proofs.NumberFacts.{window}
+use Rattle.number_texts.specs.Digits.{behind_point, digits_of}
 use Rattle.number_texts.proofs.PowerFacts.{looked_up}
 use Rattle.number_texts.proofs.digits.push_few_parts.Goals as goal
 
@@ -71,27 +71,70 @@ put_sign-start-requires c =
       omega (arith, len, first, start, whole),
     )
 
+pub overflow_sub-len : goal.overflow_sub-len
+overflow_sub-len c =
+    let unit =
+    looked_up c.power_of_ten.result c.args.shown (omega (arith, c.requires.few))
+    c.power_of_ten.ensures in
+    let len =
+    length-leading_one _ c.args.shown c.args.digits unit (omega (arith, c.requires.few))
+    c.requires.small in
+    omega (
+      arith,
+      len,
+      length-pointed c.args.shown c.args.digits,
+      c.len_if.ensures,
+      c.put_sign-start.ensures.start,
+      c.write_digits-whole.ensures.start,
+      c.write_digits-point.ensures.start,
+      c.len.ensures,
+      c.in_ok-extend_from_slice.ensures.len,
+    )
+
 pub returns : goal.returns
 returns c =
+    let out = c.args.out.now in
     let shown = c.args.shown in
     let digits = c.args.digits in
     let at = c.write_digits-point in
+    let from = c.write_digits-whole in
+    let start = c.put_sign-start in
     let unit =
     looked_up c.power_of_ten.result shown (omega (arith, c.requires.few)) c.power_of_ten.ensures in
     let len =
     length-leading_one _ shown digits unit (omega (arith, c.requires.few)) c.requires.small in
-    let written : drop at.result at.new.buf ≡ decimal (10 ^ shown + digits) =
-    at.ensures.written ∙ append-nil _ ∙ ap (λ u. decimal (u + digits)) unit in
-    let from = c.write_digits-whole in
-    let start = c.put_sign-start in
+    let written : drop at.result at.new.buf ≡ decimal (10 ^ shown + digits) ++ replicate 40 0 =
+    at.ensures.written ∙ ap (λ u. decimal (u + digits) ++ replicate 40 0) unit in
     let sign : List ℕ = cond c.args.is_negative (45 ∷ []) [] in
-    let all : take (40 - start.result) (drop start.result start.new.text)
-    ≡ drop start.result start.new.text =
-    take_all (40 - start.result) (drop start.result start.new.text)
-    (omega (arith, length-drop start.result start.new.text)) in
-    c.in_ok-extend_from_slice.ensures.items ∙ ap (λ l. c.args.out.now.items ++ l)
-    (all ∙ start.ensures.text ∙ ap (λ l. sign ++ l)
-    (in_buffer at.new.buf (drop from.result from.new.buf) at.result
+    let number : List ℕ = decimal c.args.whole ++ behind_point (digits_of shown digits) in
+    let behind : List ℕ = cond (nat_eq shown 0) (46 ∷ []) [] ++ replicate 40 0 in
+    let inside : drop from.result from.new.buf ≡ number ++ behind =
+    in_buffer at.new.buf (drop from.result from.new.buf) (replicate 40 0) at.result
     c.args.whole shown digits (omega (arith, c.requires.few)) c.requires.small
-    (omega (arith, len, at.ensures.start)) written from.ensures.written))
-    ∙ sym (append_assoc c.args.out.now.items sign (decimal c.args.whole ++ 46 ∷ digits_of shown digits))
+    (omega (arith, len, at.ensures.start)) written from.ensures.written
+    ∙ ap (λ l. decimal c.args.whole ++ l) (pointed shown digits (replicate 40 0))
+    ∙ sym (append_assoc (decimal c.args.whole) (behind_point (digits_of shown digits)) behind) in
+    let is : drop start.result start.new.text ≡ (sign ++ number) ++ behind =
+    start.ensures.text ∙ ap (λ l. sign ++ l) inside ∙ sym (append_assoc sign number behind) in
+    let long : length (sign ++ number) + (start.result + c.len_if.result) ≡ 40 =
+    omega (
+      arith,
+      len,
+      length-append sign number,
+      length-append (decimal c.args.whole) (behind_point (digits_of shown digits)),
+      length-pointed shown digits,
+      c.len_if.ensures,
+      start.ensures.start,
+      from.ensures.start,
+      at.ensures.start,
+    ) in
+    let kept : c.len.result - (start.result + c.len_if.result)
+    ≡ length out.items + length (sign ++ number) =
+    omega (arith, long, c.len.ensures, c.in_ok-extend_from_slice.ensures.len, out.ok) in
+    let many : start.result + 40 - start.result ≡ 40 = omega arith in
+    c.truncate.ensures.items
+    ∙ window out.items c.extend_from_slice.new.self.items (drop start.result start.new.text)
+    (sign ++ number) behind 40 _ (omega (arith, long)) kept
+    (c.in_ok-extend_from_slice.ensures.items
+    ∙ ap (λ k. out.items ++ take k (drop start.result start.new.text)) many) is
+    ∙ sym (append_assoc out.items sign number)
