@@ -23,23 +23,17 @@ pub struct IncludeLine<'a> {
     pub name: Text<'a>,
 }
 
-fn include_of_setting<'a>(line: usize, kind: &SettingKind<'a>) -> Option<IncludeLine<'a>>
-    ensures { result ≡ spec.include_of_setting line kind.now }
-{
-    match kind {
-        SettingKind::Include(name) => Some(IncludeLine {
-            line,
-            name: name.lend(),
-        }),
-        _ => None,
-    }
-}
-
 fn include_of<'a>(undated: &Undated<'a>) -> Option<IncludeLine<'a>>
     ensures { result ≡ spec.include_of undated.now.line undated.now.kind }
 {
-    match &undated.kind {
-        UndatedKind::Setting(kind) => include_of_setting(undated.line, kind),
+    let UndatedKind::Setting(kind) = &undated.kind else {
+        return None;
+    };
+    match kind {
+        SettingKind::Include(name) => Some(IncludeLine {
+            line: undated.line,
+            name: name.lend(),
+        }),
         _ => None,
     }
 }
