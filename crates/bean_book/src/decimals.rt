@@ -24,7 +24,9 @@ fn note_amount<'a>(
     ensures rows { OnOk result (ledger.new.rows ≡ ledger.old.rows) }
 {
     let places = units.number.places;
-    if ledger.display().places_near(&units.currency, near) < places {
+    let shown = ledger.display().places_near(&units.currency, near);
+    // A currency that shows none is set too: so it is found at once where it is shown.
+    if shown == 0 || shown < places {
         ledger.set_display(units.currency.lend(), places)?;
     }
     Ok(())

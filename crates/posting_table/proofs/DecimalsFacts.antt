@@ -1,11 +1,9 @@
 -- What a map of entries has at a name.
 use Rattle.std.proofs.Common.{◌≡◌, ℕ, Bool, true, false, cond, List, [], ◌∷◌, Option, Some, refl}
-use Rattle.std.proofs.Common.{unwrap_or, is_some, None, true≢false, slice_get, sym, ap, ◌∙◌, nat_eq, map}
+use Rattle.std.proofs.Common.{unwrap_or, is_some, None, true≢false, sym, ap, ◌∙◌, nat_eq}
 use Rattle.std.specs.Cmp.{eq_by_cmp_equiv}
-use Rattle.std.proofs.lemmas.Map.Entries.{lookup_from_place}
 use Rattle.std.specs.Cmp.Lexicographic.{pointwise, slice_cmp, texts_ties, nat_list_cmp_total}
-use Rattle.std.specs.Cmp.Lexicographic.{nat_list_eq_equiv, same_text}
-use Rattle.std.specs.List.{IsDistinct}
+use Rattle.std.specs.Cmp.Lexicographic.{same_text}
 use Rattle.std.specs.FinMap.{get, insert, from_entries, find, get-from_entries, get-insert}
 use Rattle.std.specs.FinMap.{same_map, slice_cmp-IsAntisymmetric, nat_cmp-IsAntisymmetric}
 use Rattle.std.specs.Map.{lookup}
@@ -28,16 +26,14 @@ none_found None h = refl
 none_found (Some n) h = absurd (true≢false (sym h))
 
 -- what an entry has is the count at its name, as no two have one name
-pub placed_is : (name : List ℕ) (es : List (List ℕ × ℕ)) (i : ℕ) (k : List ℕ) (n : ℕ)
-    → IsDistinct (pointwise nat_eq) (map (λ e. e.0) es)
-    → slice_get es i ≡ Some (k, n) → pointwise nat_eq name k ≡ true
+pub placed_is : (name : List ℕ) (es : List (List ℕ × ℕ)) (k : List ℕ) (n : ℕ)
+    → lookup (pointwise nat_eq k) es ≡ Some n → pointwise nat_eq name k ≡ true
     → n ≡ decimals_of (from_entries es) name
-placed_is name es i k n apart at h =
+placed_is name es k n at h =
     let same : name ≡ k = same_text name k (sym h) in
     sym
     (ap (λ o. unwrap_or o 0)
-    (got name es ∙ ap (λ t. lookup (pointwise nat_eq t) es) same
-    ∙ lookup_from_place nat_list_eq_equiv es i k n apart at))
+    (got name es ∙ ap (λ t. lookup (pointwise nat_eq t) es) same ∙ at))
 
 -- entries that have the count at the name, and at all others what was there
 pub updated : (before after : List (List ℕ × ℕ)) (name : List ℕ) (count : ℕ)

@@ -1,5 +1,5 @@
 //! How many decimals each currency shows.
-ghost use Rattle.std.specs.Prelude.{◌≡◌, IfSome, OnOk, OnErr};
+ghost use Rattle.std.specs.Prelude.{◌≡◌, OnOk, OnErr};
 ghost use Rattle.std.specs.FinMap as map;
 ghost use Rattle.posting_table.specs.Decimals.{decimals_of};
 
@@ -35,22 +35,6 @@ impl<'a> Display<'a> {
         }
     }
 
-    /// The decimals of a currency, where it is the one at that place.
-    #[inline(always)]
-    fn places_at(&self, place: usize, currency: &Currency<'_>) -> Option<u8>
-        ensures { IfSome result (λ places. places ≡ decimals_of self.now currency.now) }
-    {
-        if place >= self.places.len() {
-            return None;
-        }
-        let (found, places) = self.places.get_index(place)?;
-        if *currency == *found {
-            Some(*places)
-        } else {
-            None
-        }
-    }
-
     /// The decimals of a currency.
     pub fn places(&self, currency: &Currency<'_>) -> u8
         ensures { result ≡ decimals_of self.now currency.now }
@@ -64,9 +48,9 @@ impl<'a> Display<'a> {
     pub fn places_near(&self, currency: &Currency<'_>, near: &mut usize) -> u8
         ensures { result ≡ decimals_of self.now currency.now }
     {
-        match self.places_at(*near, currency) {
-            Some(places) => places,
-            None => self.places_found(currency, near),
+        match self.places.get_index(*near) {
+            Some((found, places)) if *currency == *found => *places,
+            _ => self.places_found(currency, near),
         }
     }
 

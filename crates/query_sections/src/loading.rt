@@ -175,6 +175,19 @@ fn load_column<'r>(
             let running = loads.balance()?;
             put(pool, loads, Push::LoadColumn(number), running, stack);
         }
+        // Those that most queries read are told apart here: what is in them goes to the stack at once.
+        Column::Account => {
+            let cell = loads.cell_of_row(Column::Account);
+            put(pool, loads, Push::LoadColumn(number), cell, stack);
+        }
+        Column::Date => {
+            let cell = loads.cell_of_row(Column::Date);
+            put(pool, loads, Push::LoadColumn(number), cell, stack);
+        }
+        Column::Position => {
+            let cell = loads.cell_of_row(Column::Position);
+            put(pool, loads, Push::LoadColumn(number), cell, stack);
+        }
         column => {
             let cell = loads.cell_of_row(column);
             put(pool, loads, Push::LoadColumn(number), cell, stack);

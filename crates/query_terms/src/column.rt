@@ -62,6 +62,9 @@ pub const COLUMNS: [Column; 23] = [
     Column::Price,
 ];
 
+/// The same, where they stay: looking one up builds none of them.
+static NUMBERED: [Column; 23] = COLUMNS;
+
 impl Column {
     /// The name of the column in small letters. No query can write that of `Accounts`.
     pub fn name(self) -> &'static str
@@ -122,8 +125,8 @@ impl Column {
         ensures { result ≡ columns.numbered number }
     {
         let place = number as usize;
-        if place < COLUMNS.len() {
-            Some(COLUMNS[place])
+        if place < NUMBERED.len() {
+            Some(NUMBERED[place])
         } else {
             None
         }
