@@ -267,6 +267,7 @@ fn parts_len(parts: Parts, least: u8) -> usize
 
 /// How many bytes the text of `count` · `10^-places` has, as [`push_number`] adds it. It is told
 /// without making the text.
+#[inline(always)]
 pub fn number_len(count: i128, places: u8, least: u8) -> usize
     ensures len { result ≡ length (number_text count places least) }
     ensures few { result ≤ 300 }

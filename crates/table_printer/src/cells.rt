@@ -1,14 +1,14 @@
 //! The texts of cells, and how wide they are.
-ghost use Rattle.std.specs.Prelude.{◌≡◌, ◌≤◌, ◌+◌, ◌++◌, OnOk, IfOk, length, true, vec_len};
+ghost use Rattle.std.specs.Prelude.{◌≡◌, ◌≤◌, ◌+◌, ◌++◌, ◌∷◌, OnOk, IfOk, length, true, vec_len};
+ghost use Rattle.bean_base.specs.Character.{space};
 ghost use Rattle.std.specs.Int.{is_in_range};
 ghost use Rattle.std.specs.List.{list_all};
 ghost use Rattle.std.specs.String.{string_bytes};
 ghost use Rattle.posting_table.specs.Decimals.{decimals_of};
 ghost use Rattle.number_texts.specs.Digits.{number_text};
 ghost use Rattle.table_printer.specs.Table.{text_width};
-ghost use Rattle.table_printer.specs.CellText.{between_members, cell_text, clean_text};
+ghost use Rattle.table_printer.specs.CellText.{between_members, cell_text, clean_text, set_text, units_text};
 ghost use Rattle.table_printer.specs.CellText as spec;
-ghost use Rattle.table_printer.specs.CellText.{set_text, units_text};
 ghost use Rattle.theory.specs.Joined.{gap_before};
 
 use crate::cell::{Cell, Shown};
@@ -134,17 +134,26 @@ fn clean_width(text: &str, clean: &mut String) -> Result<usize, AllocError>
 /// of many.
 #[inline(always)]
 fn push_bytes(out: &mut Vec<u8>, bytes: &[u8]) -> Result<(), AllocError>
-    ensures items { OnOk result (out.new.items ≡ out.old.items ++ bytes.now) }
-    ensures len { OnOk result (vec_len out.new ≡ vec_len out.old + length bytes.now) }
+    ensures { OnOk result (out.new.items ≡ out.old.items ++ bytes.now) }
 {
     match bytes {
-        [byte] => {
-            out.push(*byte)?;
-            Ok(())
-        }
+        [byte] => out.extend_from_slice(&[*byte]),
         [first, second, third] => out.extend_from_slice(&[*first, *second, *third]),
         _ => out.extend_from_slice(bytes),
     }
+}
+
+/// Adds a space and a name: at once where it is of three bytes.
+#[inline(always)]
+fn push_name(out: &mut Vec<u8>, name: &[u8]) -> Result<(), AllocError>
+    ensures items { OnOk result (out.new.items ≡ out.old.items ++ space ∷ name.now) }
+    ensures len { OnOk result (vec_len out.new ≡ vec_len out.old + (1 + length name.now)) }
+{
+    if let [first, second, third] = name {
+        return out.extend_from_slice(&[b' ', *first, *second, *third]);
+    }
+    out.push(b' ')?;
+    out.extend_from_slice(name)
 }
 
 /// Adds a text without its control characters, and tells its width.
@@ -231,8 +240,7 @@ pub(crate) fn push_units(
 {
     let start = out.len();
     push_number(out, count, places, nears.decimals(display, currency))?;
-    out.push(b' ')?;
-    push_bytes(out, currency.text().as_bytes())?;
+    push_name(out, currency.text().as_bytes())?;
     Ok(out.len() - start)
 }
 

@@ -6,8 +6,7 @@ ghost use Rattle.std.specs.String.{string_bytes};
 ghost use Rattle.posting_table.specs.Decimals.{decimals_of};
 ghost use Rattle.table_printer.specs.Table.{text_width};
 ghost use Rattle.query_holdings.specs.Entries.{in_order};
-ghost use Rattle.table_printer.specs.CellText.{bag_text, between_entries, entries_text};
-ghost use Rattle.table_printer.specs.CellText.{is_plain};
+ghost use Rattle.table_printer.specs.CellText.{bag_text, between_entries, entries_text, is_plain};
 ghost use Rattle.theory.specs.Joined.{gap_before};
 
 use crate::cells::{Scratch, push_units, units_width, width_of};

@@ -6,8 +6,7 @@ ghost use Rattle.std.specs.String.{string_bytes};
 ghost use Rattle.posting_table.specs.Decimals.{decimals_of};
 ghost use Rattle.number_texts.specs.Digits.{day_text};
 ghost use Rattle.table_printer.specs.Table.{text_width};
-ghost use Rattle.table_printer.specs.CellText.{entry_text, label_text, lot_text, position_text};
-ghost use Rattle.table_printer.specs.CellText.{units_text};
+ghost use Rattle.table_printer.specs.CellText.{entry_text, label_text, lot_text, position_text, units_text};
 
 use crate::cells::{Scratch, add_clean, push_units, units_width, width_of};
 use bean_base::{Currency, Day, Text};

@@ -6,7 +6,7 @@ use Rattle.table_printer.proofs.cells.push_clean.Goals as goal
 pub returns-then-is_printable : goal.returns-then-is_printable
 returns-then-is_printable c =
     let plain = sym c.is_printable.ensures ∙ c.if-is_printable.true in record {
-      text = c.in_ok-push_bytes.ensures.items
+      text = c.in_ok-push_bytes.ensures
           ∙ ap (λ l. c.args.out.now.items ++ l)
           (c.as_bytes.ensures.value ∙ sym (clean_printable c.args.text.now plain));
       width = sym (clean_width_printable c.args.text.now plain);

@@ -1,4 +1,4 @@
-use Rattle.std.proofs.Common.{length, ◌++◌, ◌∷◌, ap, ◌∙◌, arith, length-append, append_assoc, []}
+use Rattle.std.proofs.Common.{length, ◌++◌, ◌∷◌, ap, ◌∙◌, arith, length-append, append_assoc}
 use Rattle.std.specs.Int.{w128}
 use Rattle.std.proofs.lemmas.Int.{to_z-of_z}
 use Rattle.posting_table.specs.Decimals.{decimals_of}
@@ -13,14 +13,12 @@ returns-clause-text c =
     let currency = c.args.currency.now in
     let least = decimals_of c.args.display.now currency in
     let number = number_text c.args.count c.args.places least in
-    c.in_ok-push_bytes.ensures.items
-    ∙ (λ k. c.in_ok-push.ensures.items k ++ (c.as_bytes.ensures.value ∙ c.text.ensures.text) k)
-    ∙ ap (λ l. (l ++ 32 ∷ []) ++ currency)
+    c.in_ok-push_name.ensures.items
+    ∙ ap (λ l. c.push_number.new.out.items ++ 32 ∷ l) (c.as_bytes.ensures.value ∙ c.text.ensures.text)
+    ∙ ap (λ l. l ++ 32 ∷ currency)
     (rw c.decimals.ensures at c.in_ok-push_number.ensures
     ∙ (λ k. out ++ number_text (to_z-of_z w128 c.args.count c.ranges.count k) c.args.places least))
-    ∙ ap (λ l. l ++ currency) (append_assoc out number (32 ∷ []))
-    ∙ append_assoc out (number ++ 32 ∷ []) currency
-    ∙ ap (λ l. out ++ l) (append_assoc number (32 ∷ []) currency)
+    ∙ append_assoc out number (32 ∷ currency)
 
 pub returns-clause-width : goal.returns-clause-width
 returns-clause-width c =
@@ -45,8 +43,7 @@ returns-clause-width c =
       length-append c.args.out.now.items number,
       length-append
           number (32 ∷ currency),
-      c.in_ok-push.ensures.len,
-      c.in_ok-push_bytes.ensures.len,
+      c.in_ok-push_name.ensures.len,
       c.len.ensures,
       c.len-start.ensures,
     )
