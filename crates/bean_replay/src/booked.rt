@@ -46,8 +46,8 @@ struct Led<'a, S> {
     bookings: S,
 }
 
-/// Takes all directives. Each is given up as soon as it is taken, and so is what is booked of it
-/// once it is handed over.
+/// Takes all directives. Each is given up as soon as it is taken, and what is booked of it once it is
+/// handed over, small transactions many at once.
 fn take_all<'a, S: Bookings<'a> + Drop>(
     alloc: Global,
     methods: Methods<'a>,

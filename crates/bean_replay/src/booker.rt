@@ -40,6 +40,10 @@ use std::mem::replace;
 /// How many transactions are given up at once.
 const MANY: usize = 8_192;
 
+/// The most postings of those: a larger transaction is given up by itself, so that what waits stays
+/// small.
+const FEW_POSTINGS: usize = 8;
+
 /// The place of a directive.
 fn place_of(placed: &Placed<Directive<'_>>) -> Place
     ensures { result ≡ spec.place_of placed.now }
@@ -53,6 +57,9 @@ fn place_of(placed: &Placed<Directive<'_>>) -> Place
 /// Gives a transaction up, together with many others. The memory of one alone is a hole between those of
 /// others, and whatever takes memory next looks through all holes; that of many lies side by side.
 fn give_up<'a>(spent: &mut Vec<Written<'a>>, written: Written<'a>) {
+    if written.transaction.postings.as_slice().len() > FEW_POSTINGS {
+        return;
+    }
     if spent.len() >= MANY {
         spent.clear();
     }

@@ -27,7 +27,9 @@
 //!
 //! # Cost
 //!
-//! What the trials cost, and for each posting, pad and balance a few look-ups by names.
+//! What the trials cost, and for each posting, pad and balance a few look-ups by names. Transactions
+//! that were handed over wait until 8,192 of at most 8 postings are given up together, in some 8 MB at
+//! most.
 #![tactic(auto)]
 
 mod accounts;
