@@ -10,10 +10,10 @@ use Rattle.std.proofs.lemmas.Int.{ints}
 use Rattle.std.proofs.lemmas.Slice.Eq.{bytes_eq-Decides}
 use Rattle.bean_lots.specs.Inventory.{IsInventory, added, as_long, as_short, count_of, long_lot}
 use Rattle.bean_lots.specs.Inventory.{short_lot}
-use Rattle.bean_lots.specs.declared.inventory.signs.Signs.{Signs}
+use Rattle.bean_inventories.specs.declared.inventory.signs.Signs.{Signs}
 use Rattle.bean_lots.specs.declared.lot.Key.{Key}
 use Rattle.bean_lots.specs.declared.lot.Position.{Position}
-use Rattle.bean_lots.proofs.TallyFacts.{not_long, not_short, one_long, one_short}
+use Rattle.bean_inventories.proofs.TallyFacts.{not_long, not_short, one_long, one_short}
 use Rattle.bean_reductions.specs.After.{AreSmall, after}
 use Rattle.bean_reductions.proofs.AfterFacts.{count_small}
 use Rattle.bean_reductions.proofs.LeftFacts as left

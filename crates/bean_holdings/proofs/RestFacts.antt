@@ -15,7 +15,7 @@ use Rattle.bean_lots.specs.declared.lot.Key.{Key}
 use Rattle.bean_lots.specs.declared.lot.Position.{Position}
 use Rattle.bean_lots.proofs.InventoryFacts.{pointwise_added}
 use Rattle.bean_lots.proofs.LotFacts.{same_key_Decides, same_key_equiv}
-use Rattle.bean_lots.proofs.PartFacts.{both, first, middle, second}
+use Rattle.bean_inventories.proofs.PartFacts.{both, first, middle, second}
 use Rattle.bean_reductions.specs.After.{AreSmall, IsSmall}
 use Rattle.bean_reductions.specs.Rest.{HasAllLeft, IsGone}
 use Rattle.bean_holdings.specs.Holdings.{holding}

@@ -3,7 +3,7 @@ use Rattle.std.specs.Prelude.{◌≡◌, ◌&&◌, ℕ, Bool, List, unwrap_or}
 use Rattle.std.specs.Str.{bytes_eq}
 use Rattle.indexmap.specs.IndexMap.{get}
 use Rattle.bean_lots.specs.Inventory.{long_lots, short_lots}
-use Rattle.bean_lots.specs.declared.inventory.signs.Signs.{Signs}
+use Rattle.bean_inventories.specs.declared.inventory.signs.Signs.{Signs}
 use Rattle.bean_lots.specs.declared.lot.Position.{Position}
 use Rattle.bean_reductions.specs.After.{after}
 use Rattle.bean_holdings.specs.declared.lots_left.LotsLeft.{LotsLeft}

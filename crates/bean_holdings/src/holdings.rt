@@ -10,7 +10,7 @@ ghost use Rattle.bean_holdings.specs.declared.posted.Posted as spec;
 use crate::inventories::Inventories;
 use crate::posted::Posted;
 use bean_base::Account;
-use bean_lots::Inventory;
+use bean_inventories::Inventory;
 use std::alloc::{AllocError, Global};
 
 /// What each account holds, of which each addition is counted.

@@ -12,7 +12,8 @@ ghost use Rattle.bean_holdings.specs.Inventories.{inventory_in};
 use crate::known::Known;
 use crate::posted::Posted;
 use bean_base::Account;
-use bean_lots::{Inventory, Key};
+use bean_inventories::Inventory;
+use bean_lots::Key;
 use indexmap::IndexMap;
 use std::alloc::{AllocError, Global};
 

@@ -9,7 +9,8 @@ ghost use Rattle.bean_lots.specs.declared.lot.Position.{Position};
 ghost use Rattle.bean_holdings.specs.LotsLeft.{AreLeft, left_in, same_place, signs_in};
 
 use bean_base::{Account, Currency};
-use bean_lots::{Inventory, Key, Signs};
+use bean_inventories::{Inventory, Signs};
+use bean_lots::Key;
 use indexmap::IndexMap;
 use std::alloc::{AllocError, Global};
 

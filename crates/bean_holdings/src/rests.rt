@@ -15,8 +15,9 @@ ghost use Rattle.bean_reductions.specs.Rest.{HasAllLeft, IsGone};
 ghost use Rattle.bean_holdings.specs.Rests.{rest_in};
 
 use bean_base::Account;
-use bean_lots::inventory::Positions;
-use bean_lots::{Inventory, Key};
+use bean_inventories::Inventory;
+use bean_inventories::inventory::Positions;
+use bean_lots::Key;
 use indexmap::IndexMap;
 use std::alloc::{AllocError, Global};
 

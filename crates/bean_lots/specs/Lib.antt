@@ -1,10 +1,3 @@
 pub mod Lot
 pub mod Inventory
-pub mod Days
-pub mod Signs
-pub mod Recount
-pub mod Costs
-pub mod Known
-pub mod AtCost
 pub mod Slots
-pub mod Part

@@ -1,36 +1,18 @@
--- How an inventory is kept: a slot for each key, and what is known of all slots.
-use Rattle.std.specs.Prelude.{◌≡◌, ◌≤ℤ◌, ◌+◌, ℕ, zero, suc, ℤ, pos, Bool, true, List, [], ◌∷◌}
-use Rattle.std.specs.Prelude.{◌++◌, not, Option, Some, None}
-use Rattle.std.specs.List.{AllByRecursion}
+-- An inventory as it is kept: a slot for each key, with its count.
+use Rattle.std.specs.Prelude.{◌≡◌, ◌+◌, ℕ, zero, suc, ℤ, pos, Bool, List, [], ◌∷◌}
+use Rattle.std.specs.Prelude.{◌++◌, not}
 use Rattle.std.specs.Ordering.{int_eq}
-use Rattle.bean_base.specs.Day.{number}
-use Rattle.bean_lots.specs.Days.{IsNotBefore}
-use Rattle.bean_lots.specs.Inventory.{held_as, long_lot, short_lot}
-use Rattle.bean_lots.specs.Costs.{AreTold}
-use Rattle.bean_lots.specs.Known.{signs_of}
-use Rattle.bean_base.specs.declared.days.Day.{Day}
-use Rattle.bean_lots.specs.declared.lot.Cost.{Cost}
+use Rattle.bean_lots.specs.Inventory.{held_as}
 use Rattle.bean_lots.specs.declared.lot.Key.{Key}
-use Rattle.bean_lots.specs.declared.lot.Lot.{Lot}
 use Rattle.bean_lots.specs.declared.lot.Position.{Position}
-use Rattle.bean_lots.specs.declared.inventory.days.Days.{Days}
-use Rattle.bean_lots.specs.declared.inventory.slots.Slots.{Slots}
 
 -- what is held in slots: nothing in one whose count is 0
 abbrev pub positions : List (Key × ℤ) → List Position
 positions [] = []
 positions (e ∷ es) = held_as e.0 e.1 ++ positions es
 
-abbrev pub held : Slots → List Position
-held s = positions s.counts
-
 abbrev pub is_full : Key × ℤ → Bool
 is_full e = not (int_eq e.1 (pos 0))
-
--- the key of a lot of that currency, cost and day, without a label
-abbrev pub key_on : List ℕ → Cost → Day → Key
-key_on currency cost day =
-    record { currency = currency; lot = Some (record { cost = cost; day = day; label = None }) }
 
 -- the first n slots are empty
 abbrev pub AreHoles : ℕ → List (Key × ℤ) → Type 0
@@ -42,29 +24,3 @@ AreHoles (suc n) (e ∷ es) = (e.1 ≡ pos 0) × AreHoles n es
 abbrev pub in_all : (Key → ℤ → ℕ) → List (Key × ℤ) → ℕ
 in_all f [] = 0
 in_all f (e ∷ es) = f e.0 e.1 + in_all f es
-
--- a lot is of that day or an earlier one
-abbrev pub IsBy : ℤ → Option Lot → Type 0
-IsBy day None = Unit {0}
-IsBy day (Some lot) = number lot.day ≤ℤ day
-
-abbrev pub AreBy : ℤ → List (Key × ℤ) → Type 0
-AreBy day es = AllByRecursion {X = Key × ℤ} (λ e. IsBy day e.0.lot) es
-
--- the days of the lots never go down
-abbrev pub AreInOrder : List (Key × ℤ) → Type 0
-AreInOrder [] = Unit {0}
-AreInOrder (e ∷ es) =
-    AllByRecursion {X = Key × ℤ} (λ f. IsNotBefore e.0.lot f.0.lot) es × AreInOrder es
-
-abbrev pub AreDays : Days → List (Key × ℤ) → Type 0
-AreDays d es = d.in_order ≡ true → AreInOrder es × AreBy d.latest es
-
--- the lots of each currency and sign are counted, slots below the first are empty, and where lots are said to be
--- in order they are; what is told of the costs of lots holds
-pub record IsKept (s : Slots) : Type 0 where
-  pub holes : AreHoles s.first s.counts
-  pub long : (c : List ℕ) → (signs_of s.lots c).long ≡ in_all (long_lot c) s.counts
-  pub short : (c : List ℕ) → (signs_of s.lots c).short ≡ in_all (short_lot c) s.counts
-  pub days : AreDays s.days s.counts
-  pub costs : AreTold (s.lots.costs) s.counts

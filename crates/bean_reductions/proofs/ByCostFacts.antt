@@ -2,8 +2,8 @@
 use Rattle.std.proofs.Common.{◌≡◌, ℕ, ℤ, Bool, true, false, cond, ◌&&◌, filter, List, [], ◌∷◌}
 use Rattle.std.proofs.Common.{◌++◌, Option, Some, None, ◌+ℤ◌, refl, sym, ◌∙◌, ap}
 use Rattle.std.specs.Int.RustNames.{unsigned_abs}
-use Rattle.bean_lots.specs.AtCost.{is_at, is_lot_at}
-use Rattle.bean_lots.specs.Days.{has_day}
+use Rattle.bean_inventories.specs.AtCost.{is_at, is_lot_at}
+use Rattle.bean_inventories.specs.Days.{has_day}
 use Rattle.bean_lots.specs.Inventory.{count_of, held_as, is_opposite}
 use Rattle.bean_lots.specs.Lot.{same_cost, same_text}
 use Rattle.bean_lots.specs.declared.lot.Cost.{Cost}

@@ -17,7 +17,7 @@ use Rattle.bean_base.specs.declared.num.Num.{Num}
 use Rattle.bean_reductions.specs.After.{after}
 use Rattle.bean_lots.specs.Inventory.{is_opposite}
 use Rattle.bean_reductions.specs.Candidate.{IsHeld, agrees, candidate_of, candidates}
-use Rattle.bean_lots.specs.Days.{IsNotBefore, RiseInDays}
+use Rattle.bean_inventories.specs.Days.{IsNotBefore, RiseInDays}
 use Rattle.bean_reductions.specs.Front.{IsFront}
 use Rattle.bean_lots.specs.Inventory.{count_of}
 use Rattle.bean_lots.specs.Lot.{same_text}

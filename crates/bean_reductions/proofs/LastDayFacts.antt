@@ -14,7 +14,7 @@ use Rattle.theory.specs.Arrangement.{put_by}
 use Rattle.bean_base.specs.Day.{number}
 use Rattle.bean_base.specs.declared.days.Day.{Day}
 use Rattle.bean_base.specs.declared.num.Num.{Num}
-use Rattle.bean_lots.specs.Days.{IsNotBefore, RiseInDays, has_day}
+use Rattle.bean_inventories.specs.Days.{IsNotBefore, RiseInDays, has_day}
 use Rattle.bean_lots.specs.Inventory.{count_of, is_opposite}
 use Rattle.bean_lots.specs.Lot.{same_text}
 use Rattle.bean_lots.specs.declared.lot.Lot.{Lot}

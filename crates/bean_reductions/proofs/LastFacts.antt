@@ -11,14 +11,14 @@ use Rattle.std.proofs.lemmas.Int.{ints}
 use Rattle.std.proofs.lemmas.List.{append-nil, reverse-append}
 use Rattle.std.proofs.lemmas.List.Sorted.{IsPermutation-reverse, sum_by-IsPermutation}
 use Rattle.bean_base.specs.Day.{number}
-use Rattle.bean_lots.specs.Days.{IsNotBefore, RiseInDays}
+use Rattle.bean_inventories.specs.Days.{IsNotBefore, RiseInDays}
 use Rattle.bean_lots.specs.Inventory.{count_of, is_opposite}
 use Rattle.bean_lots.specs.Lot.{same_text}
-use Rattle.bean_lots.specs.Part.{HasAllOf}
+use Rattle.bean_inventories.specs.Part.{HasAllOf}
 use Rattle.bean_lots.specs.declared.lot.Lot.{Lot}
 use Rattle.bean_lots.specs.declared.lot.Position.{Position}
 use Rattle.bean_base.specs.declared.days.Day.{Day}
-use Rattle.bean_lots.proofs.PartFacts.{first, own_day, second}
+use Rattle.bean_inventories.proofs.PartFacts.{first, own_day, second}
 use Rattle.bean_lots.proofs.SlotFacts.{is_none, same_some}
 use Rattle.bean_reductions.specs.After.{AreSmall, IsSmall, after}
 use Rattle.bean_reductions.specs.Back.{AreEarlier, IsBack, is_earlier}

@@ -3,10 +3,10 @@ use Rattle.std.proofs.Common.{◌≡◌, ℕ, ℤ, Bool, true, false, cond, ◌&
 use Rattle.std.proofs.Common.{Option, Some, None, ◌+ℤ◌, refl, sym, ◌∙◌, ap}
 use Rattle.std.specs.Int.RustNames.{unsigned_abs}
 use Rattle.std.proofs.lemmas.List.{append-nil}
-use Rattle.bean_lots.specs.Days.{has_day}
+use Rattle.bean_inventories.specs.Days.{has_day}
 use Rattle.bean_lots.specs.Inventory.{count_of, is_opposite}
 use Rattle.bean_lots.specs.Lot.{same_text}
-use Rattle.bean_lots.specs.Part.{AreOff, HasAllOf, IsOff}
+use Rattle.bean_inventories.specs.Part.{AreOff, HasAllOf, IsOff}
 use Rattle.bean_lots.specs.declared.lot.Lot.{Lot}
 use Rattle.bean_lots.specs.declared.lot.Position.{Position}
 use Rattle.bean_reductions.specs.After.{after}

@@ -2,10 +2,10 @@
 use Rattle.std.proofs.Common.{◌≡◌, ◌+ℤ◌, ◌^◌, List, [], ◌∷◌, ◌++◌, append_assoc, refl, sym, ◌∙◌, ap}
 use Rattle.std.proofs.Common.{subst}
 use Rattle.std.proofs.lemmas.List.{append-nil}
-use Rattle.bean_lots.specs.Days.{RiseInDays}
+use Rattle.bean_inventories.specs.Days.{RiseInDays}
 use Rattle.bean_lots.specs.Inventory.{count_of, held_as}
 use Rattle.bean_lots.specs.declared.lot.Position.{Position}
-use Rattle.bean_lots.proofs.PartFacts.{middle}
+use Rattle.bean_inventories.proofs.PartFacts.{middle}
 use Rattle.bean_reductions.specs.After.{AreSmall, IsSmall, after}
 use Rattle.bean_reductions.specs.Rest.{AreGone, HasAllLeft}
 use Rattle.bean_reductions.proofs.LastFacts.{rise_first, rise_second}

@@ -7,7 +7,7 @@ use Rattle.std.proofs.lemmas.Bool.Decides.{nat_tests}
 use Rattle.std.proofs.lemmas.Int.{ints}
 use Rattle.bean_lots.specs.Inventory.{is_opposite, long_lots, short_lots}
 use Rattle.bean_lots.specs.Lot.{same_text}
-use Rattle.bean_lots.specs.Signs.{against}
+use Rattle.bean_inventories.specs.Signs.{against}
 use Rattle.bean_lots.specs.declared.lot.Position.{Position}
 use Rattle.bean_reductions.specs.After.{has_opposite}
 

@@ -4,7 +4,7 @@ use Rattle.std.specs.Prelude.{◌<◌, Bool, true, false, ◌&&◌, ℕ, ℤ, Li
 use Rattle.std.specs.Prelude.{None, if◌then◌else◌}
 use Rattle.std.specs.Int.RustNames.{unsigned_abs}
 use Rattle.std.specs.Option.{option_eq}
-use Rattle.bean_lots.specs.Days.{has_day}
+use Rattle.bean_inventories.specs.Days.{has_day}
 use Rattle.bean_lots.specs.Inventory.{is_opposite}
 use Rattle.bean_lots.specs.Lot.{same_text, same_cost}
 use Rattle.bean_lots.specs.declared.lot.Cost.{Cost}

@@ -36,7 +36,7 @@ pub struct Selector<'a> {
 
 impl<'a> Selector<'a> {
     ghost use Rattle.std.specs.Prelude.{Some};
-    ghost use Rattle.bean_lots.specs.Days.{has_day};
+    ghost use Rattle.bean_inventories.specs.Days.{has_day};
     ghost use Rattle.bean_reductions.specs.Candidate.{has_cost, has_label, agrees};
 
     /// The lots of one day among those that it selects, where it gives no day.

@@ -15,7 +15,7 @@ use bean_accounts::Accounts;
 use bean_base::{Day, Fault, Place};
 use bean_directives::{Balance, Close, Open, Pad};
 use bean_holdings::Holdings;
-use bean_lots::Inventory;
+use bean_inventories::Inventory;
 use bean_pad::Padder;
 use std::alloc::{AllocError, Global};
 

@@ -19,7 +19,7 @@ use crate::setting::Head;
 use crate::stock::Stock;
 use crate::stop::LineFault;
 use bean_holdings::{Holdings, Inventories, LotsLeft, Posted, Rests, without_gone};
-use bean_lots::Inventory;
+use bean_inventories::Inventory;
 use bean_postings::{Cost, Posting};
 use refusals::Refusal;
 use std::alloc::{AllocError, Global};

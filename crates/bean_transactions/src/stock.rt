@@ -2,7 +2,7 @@
 ghost use Rattle.std.specs.Prelude.{◌≡◌};
 
 use bean_holdings::{LotsLeft, Rests};
-use bean_lots::Inventory;
+use bean_inventories::Inventory;
 use bean_reductions::Method;
 
 /// An account as a posting meets it: what it held before the transaction, what the transaction took

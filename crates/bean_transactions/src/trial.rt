@@ -21,7 +21,7 @@ use crate::stop::{LineFault, refusal_of};
 use bean_base::{FaultKind, List};
 use bean_holdings::{Holdings, Posted};
 use bean_interp::{Scales, WeighCause};
-use bean_lots::Inventory;
+use bean_inventories::Inventory;
 use bean_postings::Posting;
 use refusals::Refusal;
 use std::alloc::{AllocError, Global};

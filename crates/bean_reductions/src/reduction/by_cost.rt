@@ -12,8 +12,9 @@ use super::takes::reduce_candidates;
 use super::{Method, Selector};
 use crate::cause::LotCause;
 use bean_base::Num;
-use bean_lots::inventory::Positions;
-use bean_lots::{Inventory, Lot};
+use bean_inventories::Inventory;
+use bean_inventories::inventory::Positions;
+use bean_lots::Lot;
 use refusals::Refusal;
 use std::alloc::Global;
 

@@ -10,7 +10,8 @@ ghost use Rattle.bean_reductions.specs.Filling.{Judges};
 
 use super::{Method, Selector};
 use crate::cause::LotCause;
-use bean_lots::{Inventory, Key, Lot};
+use bean_inventories::Inventory;
+use bean_lots::{Key, Lot};
 use refusals::Refusal;
 use std::alloc::{AllocError, Global};
 use std::cmp::Reverse;

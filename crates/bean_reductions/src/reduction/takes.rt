@@ -15,7 +15,8 @@ use super::queue::{Candidate, arrange, candidates, judge};
 use super::{Method, Selector};
 use crate::cause::LotCause;
 use bean_base::Num;
-use bean_lots::{Inventory, Lot};
+use bean_inventories::Inventory;
+use bean_lots::Lot;
 use refusals::Refusal;
 use std::alloc::{AllocError, Global};
 

@@ -2,7 +2,7 @@ use Rattle.std.proofs.Common.{◌≡◌, nat_lt, to_z, of_z, arith, ap, sym, ◌
 use Rattle.std.specs.Int.{w128}
 use Rattle.std.proofs.lemmas.Int.{ints}
 use Rattle.bean_base.specs.Decimal.{scaled}
-use Rattle.bean_lots.specs.Signs.{against}
+use Rattle.bean_inventories.specs.Signs.{against}
 use Rattle.bean_reductions.proofs.SignFacts.{counted}
 use Rattle.bean_reductions.proofs.reduction.after.has_opposite.Goals as goal
 

@@ -13,7 +13,7 @@ use Rattle.bean_reductions.proofs.CandidateFacts.{all_held, wanted}
 use Rattle.bean_reductions.specs.declared.reduction.Method.TheVariants.{Lifo}
 use Rattle.bean_reductions.proofs.FrontFacts.{by_day, front_held, front_some, of_all}
 use Rattle.bean_lots.specs.declared.lot.Position.{Position}
-use Rattle.bean_lots.proofs.PartFacts.{middle}
+use Rattle.bean_inventories.proofs.PartFacts.{middle}
 use Rattle.bean_reductions.proofs.PartFacts.{same_candidates}
 use Rattle.bean_reductions.proofs.RestFacts.{rise_rest, same_left, small_rest}
 use Rattle.bean_reductions.proofs.reduction.after.reduce_after.Goals as goal

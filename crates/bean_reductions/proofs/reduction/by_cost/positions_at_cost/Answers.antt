@@ -1,5 +1,5 @@
 use Rattle.std.proofs.Common.{Option, Some, None, IfSome, ap, subst, sym, ◌∙◌}
-use Rattle.bean_lots.specs.AtCost.{is_lot_at}
+use Rattle.bean_inventories.specs.AtCost.{is_lot_at}
 use Rattle.bean_reductions.specs.After.{AreSmall, after}
 use Rattle.bean_reductions.specs.Candidate.{candidates}
 use Rattle.bean_reductions.proofs.ByCostFacts.{same_candidates, small}

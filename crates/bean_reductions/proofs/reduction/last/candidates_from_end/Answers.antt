@@ -3,7 +3,7 @@ use Rattle.std.proofs.Common.{subst, sym, ap, ◌∙◌, ◌-◌, length, slice_
 use Rattle.std.specs.Int.{w128}
 use Rattle.std.specs.Int.RustNames.{unsigned_abs}
 use Rattle.std.proofs.lemmas.Int.{ints}
-use Rattle.bean_lots.specs.Days.{RiseInDays}
+use Rattle.bean_inventories.specs.Days.{RiseInDays}
 use Rattle.bean_lots.specs.Inventory.{count_of, position_of}
 use Rattle.bean_reductions.specs.After.{after}
 use Rattle.bean_reductions.specs.Back.{IsBack, is_earlier}

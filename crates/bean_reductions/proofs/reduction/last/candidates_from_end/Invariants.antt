@@ -1,6 +1,6 @@
 use Rattle.std.proofs.Common.{◌≡◌, ◌^◌, ◌-◌, ◌++◌, length, reverse, sum_by}
 use Rattle.std.specs.Int.RustNames.{unsigned_abs}
-use Rattle.bean_lots.specs.Days.{RiseInDays}
+use Rattle.bean_inventories.specs.Days.{RiseInDays}
 use Rattle.bean_reductions.specs.After.{AreSmall, after}
 use Rattle.bean_reductions.specs.Candidate.{candidates}
 use Rattle.bean_reductions.specs.Take.{units_of}

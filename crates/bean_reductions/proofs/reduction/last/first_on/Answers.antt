@@ -3,8 +3,8 @@ use Rattle.std.specs.Int.{w128}
 use Rattle.std.specs.Int.RustNames.{unsigned_abs}
 use Rattle.std.proofs.lemmas.Int.{ints}
 use Rattle.bean_base.specs.Day.{number}
-use Rattle.bean_lots.specs.Part.{HasAllOf}
-use Rattle.bean_lots.proofs.PartFacts.{middle}
+use Rattle.bean_inventories.specs.Part.{HasAllOf}
+use Rattle.bean_inventories.proofs.PartFacts.{middle}
 use Rattle.bean_reductions.specs.After.{IsSmall, after}
 use Rattle.bean_reductions.specs.Back.{AreBy, IsFirst}
 use Rattle.bean_reductions.specs.Candidate.{candidates}

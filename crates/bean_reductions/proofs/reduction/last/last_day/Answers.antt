@@ -2,7 +2,7 @@ use Rattle.std.proofs.Common.{◌≡◌, ◌++◌, ◌∷◌, [], to_z, of_z, ar
 use Rattle.std.specs.Int.{w128}
 use Rattle.std.proofs.lemmas.Int.{ints}
 use Rattle.bean_base.specs.Day.{number}
-use Rattle.bean_lots.specs.Days.{RiseInDays}
+use Rattle.bean_inventories.specs.Days.{RiseInDays}
 use Rattle.bean_lots.specs.Inventory.{position_of}
 use Rattle.bean_reductions.specs.After.{after}
 use Rattle.bean_reductions.specs.Back.{AreBy}

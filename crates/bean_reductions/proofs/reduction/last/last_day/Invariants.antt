@@ -1,5 +1,5 @@
 use Rattle.std.proofs.Common.{◌≡◌, ◌^◌, length}
-use Rattle.bean_lots.specs.Days.{RiseInDays}
+use Rattle.bean_inventories.specs.Days.{RiseInDays}
 use Rattle.bean_reductions.specs.After.{AreSmall, after}
 use Rattle.bean_reductions.specs.Candidate.{candidates}
 use Rattle.bean_reductions.proofs.reduction.last.last_day.Given as goal

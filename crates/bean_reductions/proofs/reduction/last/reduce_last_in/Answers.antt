@@ -2,7 +2,7 @@ use Rattle.std.proofs.Common.{◌≡◌, ◌^◌, to_z, of_z, arith, subst, IfSo
 use Rattle.std.specs.Int.{w128}
 use Rattle.std.specs.Int.RustNames.{unsigned_abs}
 use Rattle.std.proofs.lemmas.Int.{ints}
-use Rattle.bean_lots.proofs.PartFacts.{middle}
+use Rattle.bean_inventories.proofs.PartFacts.{middle}
 use Rattle.bean_reductions.specs.After.{IsSmall, after}
 use Rattle.bean_reductions.specs.Back.{IsFirst}
 use Rattle.bean_reductions.specs.Candidate.{candidates}

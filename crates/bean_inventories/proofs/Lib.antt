@@ -1,0 +1,11 @@
+pub mod TallyFacts
+pub mod SignFacts
+pub mod DayFacts
+pub mod EndFacts
+pub mod OrderLeftFacts
+pub mod CostFacts
+pub mod AtCostFacts
+pub mod KeptFacts
+pub mod NegatedFacts
+pub mod PartFacts
+pub mod HeldFacts
