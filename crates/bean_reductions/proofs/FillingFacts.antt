@@ -1,7 +1,8 @@
 -- Takes, one candidate after the other.
-use Rattle.std.proofs.Common.{◌≡◌, ℕ, suc, ◌+◌, ◌-◌, ◌<◌, ◌==◌, ℤ, false, cond, List, [], ◌∷◌, ◌++◌}
+use Rattle.std.proofs.Common.{◌≡◌, ℕ, suc, ◌+◌, ◌-◌, ◌<◌, ◌≤◌, ◌==◌, ℤ, false, cond, List, [], ◌∷◌, ◌++◌}
 use Rattle.std.proofs.Common.{length, get_or, drop, min, refl, sym, ◌∙◌, ap, arith, add-one}
 use Rattle.std.proofs.Common.{append_assoc}
+use Rattle.std.proofs.lemmas.List.{append-nil, drop_all}
 use Rattle.std.proofs.Math.Seq.{drop-cons}
 use Rattle.bean_lots.specs.declared.lot.Lot.{Lot}
 use Rattle.bean_reductions.specs.Take.{signed_take, signed_takes}
@@ -31,3 +32,17 @@ pub more :
 more q i c want rest done all h is some told =
     append_assoc done (signed_take want (c.0, min c.1 rest) ∷ []) _
     ∙ ap (λ l. done ++ signed_takes want l) (sym (filled_more q i c rest h is some)) ∙ told
+
+-- where nothing is wanted any more, what was taken is all
+pub none_wanted : (q : List (Lot × ℕ)) (want : ℤ) (rest : ℕ) (done all : List (Lot × ℤ × ℕ)) → rest ≡ 0
+    → done ++ signed_takes want (filled q rest) ≡ all → done ≡ all
+none_wanted q want rest done all none told =
+    sym (append-nil done)
+    ∙ ap (λ l. done ++ signed_takes want l) (sym (ap (filled q) none ∙ filled_zero q)) ∙ told
+
+-- and where there are no more candidates
+pub none_left : (q : List (Lot × ℕ)) (i : ℕ) (want : ℤ) (rest : ℕ) (done all : List (Lot × ℤ × ℕ))
+    → length q ≤ i → done ++ signed_takes want (filled (drop i q) rest) ≡ all → done ≡ all
+none_left q i want rest done all h told =
+    sym (append-nil done)
+    ∙ ap (λ l. done ++ signed_takes want (filled l rest)) (sym (drop_all i q h)) ∙ told

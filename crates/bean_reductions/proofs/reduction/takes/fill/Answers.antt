@@ -1,10 +1,26 @@
-use Rattle.std.proofs.Common.{◌≡◌, ◌==◌, false, ◌++◌, ◌∷◌, [], map, min, to_z, of_z, arith, ap, ◌∙◌}
+use Rattle.std.proofs.Common.{rules, FitsSigned, ◌≡◌, ◌==◌, false, drop, ◌++◌, ◌∷◌, [], map, min, to_z, of_z, arith, ap, ◌∙◌}
 use Rattle.std.specs.Int.{w128}
 use Rattle.std.proofs.lemmas.Bool.Decides.{nat_tests}
 use Rattle.bean_reductions.specs.Take.{take_counts}
 use Rattle.bean_reductions.specs.Take.{signed_take}
-use Rattle.bean_reductions.proofs.FillingFacts.{more}
+use Rattle.std.proofs.lemmas.Int.{to_z-of_z}
+use Rattle.bean_reductions.proofs.FillingFacts.{more, none_left, none_wanted}
 use Rattle.bean_reductions.proofs.reduction.takes.fill.Goals as goal
+
+pub returns-then-rest-eq0 : goal.returns-then-rest-eq0
+returns-then-rest-eq0 c =
+    let queue = c.args.queue.now in
+    let fits : FitsSigned w128 c.args.want = search rules in
+    let same = to_z-of_z w128 c.args.want fits in
+    none_wanted (drop c.loop-c.c-index queue) c.args.want c.loop-c.rest _ _ c.if-rest-eq0.true
+    (rw same at c.loop-c.invariant.told)
+
+pub returns : goal.returns
+returns c =
+    let fits : FitsSigned w128 c.args.want = search rules in
+    let same = to_z-of_z w128 c.args.want fits in
+    none_left c.args.queue.now c.loop-c.c-index c.args.want c.loop-c.rest _ _ c.loop-c-test.false
+    (rw same at c.loop-c.invariant.told)
 
 pub loop-c-preserved : goal.loop-c-preserved
 loop-c-preserved c =
