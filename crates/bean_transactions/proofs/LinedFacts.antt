@@ -52,11 +52,11 @@ module _ (m : Method) (rest : List Position) (head : Head) (account : List ℕ) 
       let same : is_reduction m (lots_in rest) units ≡ is_reduction m rest units =
       ap (λ b. reduces m && b) (opposite_among_lots units.currency want rest) in (
         λ is.
-        let by = reduced (same ∙ is) in (
-          by.0,
-          by.1,
-          subst (λ cs. IsReduced m cs account units i n r) (candidates_among_lots by.0 want rest) by.2,
-        ),
+            let by = reduced (same ∙ is) in (
+              by.0,
+              by.1,
+              subst (λ cs. IsReduced m cs account units i n r) (candidates_among_lots by.0 want rest) by.2,
+            ),
         λ is. augmented (same ∙ is),
       )
 
