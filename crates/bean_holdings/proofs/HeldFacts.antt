@@ -44,7 +44,7 @@ one_more_in ps p f g held more a =
     ∙ ap (λ es. cond (bytes_eq p.account a) (added es (key_of p) (at_8 p.units.number)) es) (held a)
     ∙ sym (held_more a ps p)
 
--- of an account's lots with those of one more posting
+-- an account's lots with that of one more posting, if it is the account's and has one
 abbrev pub with_lot : Posted → List ℕ → List Position → List Position
 with_lot p a es =
     cond (bytes_eq p.account a && is_some p.lot) (added es (key_of p) (at_8 p.units.number)) es

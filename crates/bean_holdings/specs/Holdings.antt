@@ -20,6 +20,6 @@ pub record IsBounded (h : Holdings) : Type 0 where
   pub inventories : (a : List ℕ) → IsInventory (holding h a)
   pub counts : (a : List ℕ) → AreSmall (h.additions * 10 ^ 20) (holding h a)
 
--- of what each account holds the lots are there
+-- each account has the lots of what it holds by its postings
 pub record AreHeld (ps : List Posted) (h : Holdings) : Type 0 where
   pub each : (a : List ℕ) → holding h a ≡ lots_in (held a ps)
