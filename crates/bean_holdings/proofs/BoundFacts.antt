@@ -1,8 +1,9 @@
 -- Counts after one more addition.
-use Rattle.std.proofs.Common.{◌≡◌, ℕ, ◌+◌, ◌*◌, ◌<◌, ◌≤◌, ◌^◌, ℤ, pos, ◌+ℤ◌, Bool, true, false}
-use Rattle.std.proofs.Common.{cond, List, [], ◌∷◌, ◌++◌, refl, ap, subst, ◌∙◌, arith}
+use Rattle.std.proofs.Common.{◌≡◌, ℕ, ◌+◌, ◌*◌, ◌<◌, ◌≤◌, ◌^◌, ℤ, pos, ◌+ℤ◌, ◌&&◌, Bool, true, false}
+use Rattle.std.proofs.Common.{cond, List, [], ◌∷◌, ◌++◌, refl, sym, ap, subst, ◌∙◌, arith}
 use Rattle.std.specs.Int.{w128}
 use Rattle.std.specs.Int.RustNames.{unsigned_abs, FitsSigned}
+use Rattle.std.specs.Option.{is_some}
 use Rattle.std.specs.Ordering.{int_eq}
 use Rattle.std.specs.Str.{bytes_eq}
 use Rattle.std.proofs.lemmas.Slice.Eq.{bytes_eq-Decides}
@@ -17,11 +18,13 @@ use Rattle.bean_lots.proofs.InventoryFacts.{kept}
 use Rattle.bean_reductions.specs.After.{AreSmall}
 use Rattle.bean_reductions.proofs.AfterFacts.{count_small}
 use Rattle.std.specs.List.{AllByRecursion}
+use Rattle.bean_holdings.proofs.HeldFacts.{with_lot}
 use Rattle.bean_holdings.proofs.RestFacts.{own_counts}
-use Rattle.bean_holdings.specs.Held.{at_8}
+use Rattle.bean_holdings.specs.Held.{at_8, key_of}
 use Rattle.bean_holdings.specs.Holdings.{IsBounded, holding}
 use Rattle.bean_holdings.specs.Parts.{AreParts, IsPart}
 use Rattle.bean_holdings.specs.declared.holdings.Holdings.{Holdings}
+use Rattle.bean_holdings.specs.declared.posted.Posted.{Posted}
 
 pub more : (n m : ℕ) (es : List Position) → n ≤ m → AreSmall n es → AreSmall m es
 more n m [] le h = tt
@@ -83,6 +86,21 @@ added_at f name a own new now k c d o p e i = i ∙ by (bytes_eq name a) refl
     by true s = p ∙ ap (λ n. added own k n) e ∙ ap (λ es. added es k c) (o
         ∙ ap f ((bytes_eq-Decides name a).0 s))
     by false s = refl
+
+-- of one more posting the lot is held
+pub one_posting_more : (p : Posted) (g h : Holdings) → h.additions ≡ g.additions + 1
+    → ((a : List ℕ) → holding h a ≡ with_lot p a (holding g a)) → IsBounded g → IsBounded h
+one_posting_more p g h count more b = record {
+  inventories = λ a.
+      subst IsInventory (sym (more a))
+      (kept_at (bytes_eq p.account a && is_some p.lot) (holding g a) (key_of p)
+      (at_8 p.units.number) (b.inventories a));
+  counts = λ a.
+      subst (λ n. AreSmall (n * 10 ^ 20) (holding h a)) (sym count)
+      (subst (AreSmall ((g.additions + 1) * 10 ^ 20)) (sym (more a))
+      (either (bytes_eq p.account a && is_some p.lot) g.additions (holding g a) (key_of p)
+      (at_8 p.units.number) (at_8_small p.units.number) (b.counts a)));
+}
 
 pub bounded_small : (h : Holdings) (a : List ℕ) → IsBounded h → h.additions ≤ 2 ^ 40
     → AreSmall (2 ^ 125) (holding h a)

@@ -1,4 +1,5 @@
 pub mod InPlace
+pub mod LotFacts
 pub mod HeldFacts
 pub mod LotsLeftFacts
 pub mod RestFacts

@@ -1,5 +1,6 @@
 -- What accounts hold, by what was booked.
 use Rattle.std.specs.Prelude.{ℕ, ℤ, Bool, List, [], fold, filter}
+use Rattle.std.specs.Option.{is_some}
 use Rattle.std.specs.Str.{bytes_eq}
 use Rattle.bean_base.specs.Decimal.{scaled}
 use Rattle.bean_base.specs.declared.num.Num.{Num}
@@ -24,3 +25,7 @@ sum_of ps = fold (λ es p. added es (key_of p) (at_8 p.units.number)) [] ps
 -- what an account holds: the sum of its postings
 abbrev pub held : List ℕ → List Posted → List Position
 held account ps = sum_of (filter (is_on account) ps)
+
+-- those of positions that are lots
+abbrev pub lots_in : List Position → List Position
+lots_in es = filter (λ e. is_some e.key.lot) es

@@ -1,6 +1,7 @@
-//! What each account holds.
+//! The lots that each account holds.
 ghost use Rattle.std.specs.Prelude.{◌≡◌, ◌<◌, ◌+◌, ◌^◌, [], ◌∷◌, ◌++◌, OnOk, List, ℕ};
-ghost use Rattle.std.specs.Prelude.{if◌then◌else◌};
+ghost use Rattle.std.specs.Prelude.{◌&&◌, if◌then◌else◌};
+ghost use Rattle.std.specs.Option.{is_some};
 ghost use Rattle.std.specs.Str.{bytes_eq};
 ghost use Rattle.bean_lots.specs.Inventory.{added};
 ghost use Rattle.bean_holdings.specs.Held.{at_8, key_of};
@@ -13,7 +14,8 @@ use bean_base::Account;
 use bean_inventories::Inventory;
 use std::alloc::{AllocError, Global};
 
-/// What each account holds, of which each addition is counted.
+/// The lots that each account holds. Units that are held without a lot are no part of it: nothing asks
+/// for them. Each posting is counted, whatever it is of.
 #[derive(Drop)]
 pub struct Holdings<'a> {
     inventories: Inventories<'a>,
@@ -33,14 +35,14 @@ impl<'a> Holdings<'a> {
         }
     }
 
-    /// How many additions were made.
+    /// How many postings were added.
     pub fn additions(&self) -> usize
         ensures { result ≡ additions_in self.now }
     {
         self.additions
     }
 
-    /// What an account holds; `nothing` stands in for an account that isn't there.
+    /// The lots of an account; `nothing` stands in for an account that isn't there.
     pub fn of<'s>(&'s self, account: &Account<'a>, nothing: &'s Inventory<'a>) -> &'s Inventory<'a>
         requires { nothing.now ≡ [] }
         ensures { result.now ≡ holding self.now account.now }
@@ -48,8 +50,9 @@ impl<'a> Holdings<'a> {
         self.inventories.of(account, nothing)
     }
 
-    /// Adds a posting to what its account holds. `near` is a small number of the caller's for that
-    /// account: where the account was the last one with this number it is found without a look-up.
+    /// Adds a posting to what its account holds. Where its units have no lot it is only counted.
+    /// `near` is a small number of the caller's for that account: where the account was the last one
+    /// with this number it is found without a look-up.
     pub fn post(
         &mut self,
         alloc: Global,
@@ -61,14 +64,16 @@ impl<'a> Holdings<'a> {
         ensures held { OnOk result ((ps : List spec.Posted) → AreHeld ps self.old
             → AreHeld (ps ++ posted.now ∷ []) self.new) }
         ensures holding { OnOk result ((a : List ℕ) → holding self.new a
-            ≡ (if bytes_eq posted.now.account a
+            ≡ (if bytes_eq posted.now.account a && is_some posted.now.lot
             then added (holding self.old a) (key_of posted.now) (at_8 posted.now.units.number)
             else holding self.old a)) }
         ensures bounded { OnOk result (IsBounded self.new) }
         ensures additions { OnOk result (additions_in self.new ≡ additions_in self.old + 1) }
     {
-        self.inventories.post(alloc, posted, near)?;
         self.additions += 1;
-        Ok(())
+        if posted.lot.is_none() {
+            return Ok(());
+        }
+        self.inventories.post(alloc, posted, near)
     }
 }

@@ -72,11 +72,11 @@ impl<'a> Inventories<'a> {
     }
 
     /// The place at which an account of a number is looked for first. Past all that is noted it is
-    /// the number itself, as accounts often come in the order of their numbers.
+    /// the first of all, as few accounts hold lots.
     fn first_place(&self, near: usize) -> usize {
         match self.found.get(near) {
             Some(place) => *place,
-            None => near,
+            None => 0,
         }
     }
 

@@ -1,5 +1,5 @@
 -- The lines of a transaction, one posting after the other.
-use Rattle.std.proofs.Common.{◌≡◌, ℕ, suc, zero, ◌+◌, ◌<◌, Bool, true, false, ◌||◌, List, [], ◌∷◌}
+use Rattle.std.proofs.Common.{◌≡◌, ℕ, suc, zero, ◌+◌, ◌<◌, Bool, true, false, ◌||◌, ◌&&◌, List, [], ◌∷◌}
 use Rattle.std.proofs.Common.{◌++◌}
 use Rattle.std.proofs.Common.{length, get_or, take, drop, reverse, Result, Ok, Err, refl, sym, ap}
 use Rattle.std.proofs.Common.{◌∙◌}
@@ -8,16 +8,25 @@ use Rattle.std.specs.List.{list_any}
 use Rattle.std.proofs.Math.Seq.{take-suc, drop-cons}
 use Rattle.std.proofs.lemmas.List.{length-reverse, length-take-le, reverse-append}
 use Rattle.std.proofs.lemmas.List.{take-append-drop}
+use Rattle.bean_base.specs.declared.amounts.Amount.{Amount}
+use Rattle.bean_postings.specs.declared.cost.Cost.{Cost}
+use Rattle.bean_postings.specs.declared.cost.Cost.TheVariants as cost_kind
+use Rattle.bean_postings.specs.declared.cost.LotParts.{LotParts}
 use Rattle.bean_postings.specs.declared.posting.Posting.{Posting}
+use Rattle.bean_postings.specs.declared.posting.Units.{Units}
+use Rattle.bean_postings.specs.declared.posting.Units.TheVariants as units_kind
 use Rattle.bean_reductions.specs.After.{after}
 use Rattle.bean_lots.specs.declared.lot.Position.{Position}
 use Rattle.bean_reductions.specs.declared.reduction.Method.{Method}
 use Rattle.bean_transactions.specs.declared.stop.LineFault.{LineFault}
-use Rattle.bean_holdings.specs.Held.{held}
-use Rattle.bean_transactions.specs.Held.{left}
+use Rattle.bean_holdings.specs.Held.{at_8, held, lots_in}
+use Rattle.bean_holdings.proofs.LotFacts.{candidates_among_lots, lots_after, opposite_among_lots}
+use Rattle.bean_transactions.specs.Held.{left, takes_in}
 use Rattle.bean_holdings.specs.Holdings.{holding}
 use Rattle.bean_holdings.specs.Inventories.{inventory_in}
-use Rattle.bean_transactions.specs.Lined.{AreLined, IsFirstFault, IsLinedByUnits, IsNext, Setting}
+use Rattle.bean_transactions.specs.Lined.{AreLined, IsFirstFault, IsInBraces, IsLinedByCost}
+use Rattle.bean_transactions.specs.Lined.{IsLinedByUnits, IsNext, IsReduced, Setting, is_reduction}
+use Rattle.bean_transactions.specs.Lined.{reduces}
 use Rattle.bean_transactions.specs.Lines.{IsKeeping, IsSettled}
 use Rattle.bean_transactions.specs.Methods.{method_in}
 use Rattle.bean_transactions.specs.Outcome.{ComesOf, StopsAt}
@@ -29,6 +38,42 @@ use Rattle.bean_transactions.specs.declared.outcome.Outcome.{Outcome}
 use Rattle.bean_transactions.specs.declared.setting.Head.{Head}
 use Rattle.refusals.specs.declared.refusal.Refusal.{Refusal}
 use Rattle.refusals.specs.declared.refusal.Refusal.TheVariants as stop
+use Rattle.bean_transactions.proofs.OutcomeFacts.{comes_more}
+
+-- ---- what comes of a posting is the same whether units without a lot are held or not
+
+module _ (m : Method) (rest : List Position) (head : Head) (account : List ℕ) (i n : ℕ)
+    (r : Result (List Line) LineFault) where
+  by_lots_in_braces : (parts : LotParts) (units : Amount)
+      → IsInBraces m (lots_in rest) head parts account units i n r
+      → IsInBraces m rest head parts account units i n r
+  by_lots_in_braces parts units (reduced, augmented) =
+      let want = at_8 units.number in
+      let same : is_reduction m (lots_in rest) units ≡ is_reduction m rest units =
+      ap (λ b. reduces m && b) (opposite_among_lots units.currency want rest) in (
+        λ is.
+            let by = reduced (same ∙ is) in (
+              by.0,
+              by.1,
+              subst (λ cs. IsReduced m cs account units i n r) (candidates_among_lots by.0 want rest) by.2,
+            ),
+        λ is. augmented (same ∙ is),
+      )
+
+  by_lots_at : (units : Amount) (cost : Cost)
+      → IsLinedByCost m (lots_in rest) head account units cost i n r
+      → IsLinedByCost m rest head account units cost i n r
+  by_lots_at units cost_kind.Absent h = h
+  by_lots_at units (cost_kind.Lot parts) h = by_lots_in_braces parts units h
+  by_lots_at units cost_kind.OutsideProfile h = h
+
+  by_lots : (units : Units) (cost : Cost)
+      → IsLinedByUnits m (lots_in rest) head account units cost i n r
+      → IsLinedByUnits m rest head account units cost i n r
+  by_lots units_kind.Missing cost h = h
+  by_lots (units_kind.Currency c) cost h = h
+  by_lots (units_kind.Amount units) cost h = by_lots_at units cost h
+  by_lots units_kind.NumberAlone cost h = h
 
 -- what the program says of a posting, said of the setting
 pub next_of :
@@ -41,16 +86,21 @@ pub next_of :
     → ComesOf (IsNext s ls.lines.items i p) r
 next_of s h ms head ls m before taken i p r is keeping e f g comes =
     let a = p.account in
-    let left_is : after before taken ≡ left a s.before ls.lines.items =
+    let rest = left a s.before ls.lines.items in
+    let lots_are : after before taken ≡ lots_in rest =
     ap (λ es. after es taken) (f ∙ is.held.each a)
-    ∙ ap (after (held a s.before)) (g ∙ keeping.takes a) in
+    ∙ ap (after (lots_in (held a s.before))) (g ∙ keeping.takes a)
+    ∙ lots_after (held a s.before) (held a (takes_in ls.lines.items)) in
     let cost = p.details.cost in
     let line = p.details.line in
-    subst (λ m. ComesOf (IsLinedByUnits m (left a s.before ls.lines.items) s.head a p.units cost i
-    line) r) (e ∙ sym (is.methods a))
-    (subst (λ rest. ComesOf (IsLinedByUnits m rest s.head a p.units cost i line) r) left_is
+    subst (λ m. ComesOf (IsLinedByUnits m rest s.head a p.units cost i line) r)
+    (e ∙ sym (is.methods a))
+    (comes_more (IsLinedByUnits m (lots_in rest) s.head a p.units cost i line)
+    (IsLinedByUnits m rest s.head a p.units cost i line) r
+    (λ q. by_lots m rest s.head a i line q p.units cost)
+    (subst (λ es. ComesOf (IsLinedByUnits m es s.head a p.units cost i line) r) lots_are
     (subst (λ hd. ComesOf (IsLinedByUnits m (after before taken) hd a p.units cost i line) r)
-    (sym is.head_is) comes))
+    (sym is.head_is) comes)))
 
 pub each_inside : {X : Type 0} (f : X → Bool) (xs : List X) (i : ℕ) (x : X) → i < length xs
     → x ≡ get_or xs i x → list_any f xs ≡ false → f x ≡ false

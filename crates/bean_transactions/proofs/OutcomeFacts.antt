@@ -13,7 +13,8 @@ use Rattle.bean_transactions.specs.Lined.{AreTakeLines, IsAugmented, IsLotOf, Is
 use Rattle.bean_transactions.specs.declared.line.Line.{Line}
 use Rattle.bean_transactions.specs.declared.line.Line.TheVariants as line
 use Rattle.bean_transactions.specs.declared.setting.Head.{Head}
-use Rattle.bean_transactions.specs.Outcome.{StopsWith}
+use Rattle.bean_transactions.specs.Outcome.{ComesOf, StopsWith, lines_of}
+use Rattle.bean_transactions.specs.declared.outcome.Outcome.{Outcome}
 use Rattle.bean_transactions.specs.declared.stop.LineFault.{LineFault}
 use Rattle.refusals.specs.declared.refusal.Refusal.{Refusal}
 use Rattle.refusals.specs.declared.refusal.Refusal.TheVariants as stop
@@ -54,3 +55,9 @@ pub stops_more : (P Q : Result (List Line) LineFault → Type 0) (e : Refusal Li
     → ((r : Result (List Line) LineFault) → P r → Q r) → StopsWith P e → StopsWith Q e
 stops_more P Q (stop.Refused f) more h = more (Err f) h
 stops_more P Q stop.OutOfMemory more h = tt
+
+pub comes_more : (P Q : Result (List Line) LineFault → Type 0)
+    (r : Result Outcome (Refusal LineFault))
+    → ((r : Result (List Line) LineFault) → P r → Q r) → ComesOf P r → ComesOf Q r
+comes_more P Q (Ok o) more h = more (Ok (lines_of o)) h
+comes_more P Q (Err e) more h = stops_more P Q e more h

@@ -9,6 +9,7 @@ use Rattle.bean_pad.specs.declared.step.Step.TheVariants as step
 use Rattle.bean_holdings.specs.Held.{held}
 use Rattle.bean_directives.specs.declared.numbers.Balance.{Balance}
 use Rattle.bean_holdings.specs.Holdings.{AreHeld, holding}
+use Rattle.bean_holdings.proofs.LotFacts.{lot_among_lots}
 use Rattle.bean_replay.specs.Stand.{IsStepBy, account_step, account_steps}
 use Rattle.bean_replay.specs.Stand.{place_of, postings_of, steps_of_postings}
 use Rattle.bean_replay.specs.Stand.{with_balance, with_faults, with_pad}
@@ -195,9 +196,10 @@ returns-in_ok-take_balance-in-Balance-clause-standing c = λ m past st is d same
           follows =
               subst (λ at. Follows (step.Balance b at cost ∷ is.seen)
               c.take_balance.new.padder) at
-              (subst (λ es. Follows
-              (step.Balance b c.args.place (has_lot b.currency es) ∷ is.seen)
-              c.take_balance.new.padder) (is.held.each b.account)
+              (subst (λ q. Follows (step.Balance b c.args.place q ∷ is.seen)
+              c.take_balance.new.padder)
+              (ap (has_lot b.currency) (is.held.each b.account)
+              ∙ lot_among_lots b.currency (held b.account before))
               (subst (λ (b : Balance). Follows
               (step.Balance b c.args.place
               (has_lot b.currency (holding own_booker.holdings b.account)) ∷ is.seen)
