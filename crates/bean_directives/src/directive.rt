@@ -4,8 +4,9 @@ use crate::accounts::{Close, Open, Pad};
 use crate::notes::{Custom, Document, Event, Note, Query};
 use crate::numbers::{Balance, Commodity, Price};
 use crate::transaction::Transaction;
-use bean_base::{Apart, Day, Few};
+use bean_base::{Apart, Day, Few, Flag, List, Text};
 use bean_grammar::MetaEntry;
+use std::alloc::Global;
 
 /// What a directive does. What few directives have, and is large, lies apart.
 #[derive(Drop)]
@@ -34,4 +35,23 @@ pub struct Directive<'a> {
     /// the latest push first. The first entry of a key stands.
     pub metadata: Few<MetaEntry<'a>>,
     pub kind: DirectiveKind<'a>,
+}
+
+impl<'a> Directive<'a> {
+    /// A transaction of nothing, which stands in for a directive that is changed elsewhere. Takes no
+    /// memory.
+    pub fn stand_in(alloc: Global, day: Day) -> Directive<'a> {
+        Directive {
+            day,
+            line: 0,
+            metadata: Few::new(),
+            kind: DirectiveKind::Transaction(Transaction {
+                flag: Flag::Complete,
+                payee: None,
+                narration: Text::new(""),
+                marks: Few::new(),
+                postings: List::new(Vec::new(alloc)),
+            }),
+        }
+    }
 }

@@ -19,7 +19,7 @@ use std::alloc::{AllocError, Global};
 /// What is read of texts so far.
 #[derive(Drop)]
 pub struct Read<'a> {
-    pub directives: Vec<Apart<Placed<Directive<'a>>>>,
+    pub directives: Vec<Placed<Apart<Directive<'a>>>>,
     pub settings: Vec<Placed<Setting<'a>>>,
     pub faults: Vec<Fault>,
 }
@@ -41,17 +41,10 @@ fn add_faults(file: usize, faults: &[Fault], out: &mut Vec<Fault>) -> Result<(),
 
 impl<'a> Read<'a> {
     /// Adds what the text of that number says.
-    fn add(
-        &mut self,
-        alloc: Global,
-        file: usize,
-        own: &[Own],
-        parsed: Parsed<'a>,
-    ) -> Result<(), AllocError>
+    fn add(&mut self, file: usize, own: &[Own], parsed: Parsed<'a>) -> Result<(), AllocError>
         ensures { OnOk result (AddsParsed file own.now parsed.entry self.old self.new) }
     {
         add_directives(
-            alloc,
             file,
             own,
             parsed.directives.into_vec(),
@@ -120,7 +113,7 @@ fn read_all(alloc: Global, texts: &Texts) -> Result<Read<'_>, AllocError>
     let files = texts.files();
     for (number, file) in files.iter().enumerate() {
         let own = parts_of(alloc, number, texts.parts())?;
-        read.add(alloc, number, &own, parse(alloc, &file.text)?)?;
+        read.add(number, &own, parse(alloc, &file.text)?)?;
     }
     Ok(read)
 }

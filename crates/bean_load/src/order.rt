@@ -19,20 +19,21 @@ fn turn(day: i32, rank: u8) -> i64
 
 /// The turn of a directive, and its part of the ledger: so two whole numbers are all that is
 /// compared.
-fn turn_of(placed: &Placed<Directive<'_>>) -> (i64, usize)
+fn turn_of(placed: &Placed<Apart<Directive<'_>>>) -> (i64, usize)
     ensures { result ≡ spec.turn_of placed.now }
 {
-    let rank = Rank::of(&placed.item.kind);
-    (turn(placed.item.day.number(), rank.number()), placed.part)
+    let directive = placed.item.get();
+    let rank = Rank::of(&directive.kind);
+    (turn(directive.day.number(), rank.number()), placed.part)
 }
 
 /// By day, of one day opens, then balances, all else, documents and closes, then in reading order.
 pub fn order_directives(
-    directives: &mut Vec<Apart<Placed<Directive<'_>>>>,
+    directives: &mut Vec<Placed<Apart<Directive<'_>>>>,
 ) -> Result<(), AllocError>
     ensures { OnOk result (AreInOrder directives.old.items directives.new.items) }
 {
-    directives.sort_by_cached_key(|placed| turn_of(placed.get()))
+    directives.sort_by_cached_key(turn_of)
 }
 
 /// In reading order.

@@ -52,26 +52,24 @@ fn part_at(own: &[Own], line: usize) -> usize
     number
 }
 
-/// Adds the directives of a text with their places. Each lies apart, so that little is moved where
-/// they are sorted, and each is given up alone.
+/// Adds the directives of a text with their places. Each lies apart, so that little is moved here and
+/// where they are sorted, and each is given up alone.
 pub fn add_directives<'a>(
-    alloc: Global,
     file: usize,
     own: &[Own],
-    directives: Vec<Directive<'a>>,
-    out: &mut Vec<Apart<Placed<Directive<'a>>>>,
+    directives: Vec<Apart<Directive<'a>>>,
+    out: &mut Vec<Placed<Apart<Directive<'a>>>>,
 ) -> Result<(), AllocError>
     ensures { OnOk result (out.new.items
         ≡ out.old.items ++ map (spec.placed_directive file own.now) directives.entry.items) }
 {
     out.reserve(directives.len())?;
     for directive in directives {
-        let placed = Placed {
+        out.push(Placed {
             file,
-            part: part_at(own, directive.line),
+            part: part_at(own, directive.get().line),
             item: directive,
-        };
-        out.push(Apart::new(alloc, placed)?)?;
+        })?;
     }
     Ok(())
 }

@@ -23,7 +23,7 @@ pub struct MethodLine<'a> {
 /// directives than all texts may have bytes, [`LARGEST_LEDGER`].
 #[derive(Drop)]
 pub struct Loaded<'a> {
-    directives: Vec<Apart<Placed<Directive<'a>>>>,
+    directives: Vec<Placed<Apart<Directive<'a>>>>,
     faults: Vec<Fault>,
     title: Option<Text<'a>>,
     operating: Vec<Text<'a>>,
@@ -50,7 +50,7 @@ impl<'a> Model for Loaded<'a> {
 impl<'a> Loaded<'a> {
     /// These directives, in the order in which they are taken, and what else the texts say.
     pub fn new(
-        directives: Vec<Apart<Placed<Directive<'a>>>>,
+        directives: Vec<Placed<Apart<Directive<'a>>>>,
         faults: Vec<Fault>,
         title: Option<Text<'a>>,
         operating: Vec<Text<'a>>,
@@ -76,7 +76,7 @@ impl<'a> Loaded<'a> {
     }
 
     /// The directives in the order in which they are taken.
-    pub fn directives(&self) -> &[Apart<Placed<Directive<'a>>>]
+    pub fn directives(&self) -> &[Placed<Apart<Directive<'a>>>]
         ensures directives { result.now ≡ self.now.directives }
         ensures small { AreSmall self.now.directives }
         ensures few { AreFew self.now.directives }
@@ -85,7 +85,7 @@ impl<'a> Loaded<'a> {
     }
 
     /// The directives themselves; all else is given up.
-    pub fn into_directives(self) -> Vec<Apart<Placed<Directive<'a>>>>
+    pub fn into_directives(self) -> Vec<Placed<Apart<Directive<'a>>>>
         ensures directives { result.items ≡ self.entry.directives }
         ensures small { AreSmall self.entry.directives }
         ensures few { AreFew self.entry.directives }

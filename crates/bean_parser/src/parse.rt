@@ -12,7 +12,7 @@ use crate::matches::reaches;
 use crate::reader::BlockReader;
 use crate::scope::{PlacedBound, add_unmatched, give_all};
 use crate::statement::Statement;
-use bean_base::{Fault, FaultKind, List};
+use bean_base::{Apart, Fault, FaultKind, List};
 use bean_directives::{Directive, Setting, UndatedKind};
 use bean_lexer::Token;
 use std::alloc::{AllocError, Global};
@@ -20,7 +20,7 @@ use std::alloc::{AllocError, Global};
 /// What a ledger's text says, in reading order. The faults have file 0.
 #[derive(Drop)]
 pub struct Parsed<'a> {
-    pub directives: List<Directive<'a>>,
+    pub directives: List<Apart<Directive<'a>>>,
     pub settings: List<Setting<'a>>,
     pub faults: List<Fault>,
 }
@@ -28,7 +28,7 @@ pub struct Parsed<'a> {
 /// What blocks gave so far, scopes aside.
 #[derive(Drop)]
 pub struct Gathered<'a> {
-    pub directives: Vec<Directive<'a>>,
+    pub directives: Vec<Apart<Directive<'a>>>,
     pub settings: Vec<Setting<'a>>,
     pub bounds: Vec<PlacedBound<'a>>,
     pub faults: Vec<Fault>,
@@ -71,23 +71,23 @@ impl<'a> Gathered<'a> {
     }
 
     /// Adds what a block says.
-    fn add_statement(&mut self, statement: Statement<'a>) -> Result<(), AllocError>
+    fn add_statement(&mut self, alloc: Global, statement: Statement<'a>) -> Result<(), AllocError>
         ensures { OnOk result ((os : List Outcome) → IsGathered os self.old
             → IsGathered (os ++ outcome.Statement statement.entry ∷ []) self.new) }
     {
         match statement {
-            Statement::Directive(directive) => self.add_directive(directive),
+            Statement::Directive(directive) => self.add_directive(alloc, directive),
             Statement::Undated(undated) => self.add_undated(undated.line, undated.kind),
         }
     }
 
     /// Adds what a block gives.
-    fn add(&mut self, outcome: Outcome<'a>) -> Result<(), AllocError>
+    fn add(&mut self, alloc: Global, outcome: Outcome<'a>) -> Result<(), AllocError>
         ensures { OnOk result ((os : List Outcome) → IsGathered os self.old
             → IsGathered (os ++ outcome.entry ∷ []) self.new) }
     {
         match outcome {
-            Outcome::Statement(statement) => self.add_statement(statement),
+            Outcome::Statement(statement) => self.add_statement(alloc, statement),
             Outcome::Fault(fault) => {
                 self.faults.push(fault)?;
                 Ok(())
@@ -95,13 +95,13 @@ impl<'a> Gathered<'a> {
         }
     }
 
-    /// Adds a directive that a block says.
-    fn add_directive(&mut self, directive: Directive<'a>) -> Result<(), AllocError>
+    /// Adds a directive that a block says. It lies apart, and stays there until it is booked.
+    fn add_directive(&mut self, alloc: Global, directive: Directive<'a>) -> Result<(), AllocError>
         ensures { OnOk result ((os : List Outcome) → IsGathered os self.old
             → IsGathered (os ++ outcome.Statement (statements.Directive directive.entry) ∷ [])
             self.new) }
     {
-        self.directives.push(directive)?;
+        self.directives.push(Apart::new(alloc, directive)?)?;
         Ok(())
     }
 
@@ -111,10 +111,10 @@ impl<'a> Gathered<'a> {
             × ((os : List Outcome) → IsGathered os self.old → IsGathered (os ++ o ∷ []) self.new)) }
     {
         match plain_block(alloc, block)? {
-            Some(directive) => self.add_directive(directive),
+            Some(directive) => self.add_directive(alloc, directive),
             None => {
                 let outcome = read_block(alloc, block)?;
-                self.add(outcome)
+                self.add(alloc, outcome)
             }
         }
     }

@@ -1,5 +1,5 @@
 //! Pushes and pops: what is given to the transactions between them.
-ghost use Rattle.std.specs.Prelude.{◌≡◌, ◌++◌, ◌∷◌, [], OnOk, option_copied};
+ghost use Rattle.std.specs.Prelude.{◌≡◌, ◌++◌, ◌∷◌, [], IfOk, OnOk, option_copied};
 ghost use Rattle.std.specs.Prelude as prelude;
 ghost use Rattle.bean_directives.specs.declared.undated.PushName as names;
 ghost use Rattle.bean_directives.specs.declared.undated.Pushed as pushed_declared;
@@ -9,11 +9,12 @@ ghost use Rattle.bean_parser.specs.declared.scope.PlacedBound as placed;
 
 use crate::block::fault_at;
 use crate::matches::{Opens, name_in};
-use bean_base::{Fault, FaultKind, Few};
+use bean_base::{Apart, Fault, FaultKind, Few};
 use bean_directives::{Bound, Directive, DirectiveKind, Pushed};
 use bean_grammar::{Mark, MetaEntry};
 use bean_lexer::Tag;
 use std::alloc::{AllocError, Global};
+use std::mem::replace;
 
 /// Where a scope begins or ends, with its place.
 #[derive(Drop)]
@@ -102,20 +103,35 @@ fn give_entry<'a>(
     }
 }
 
-/// Gives what is pushed to a transaction.
+/// A directive with what is pushed, where it is a transaction.
+fn given<'a>(
+    alloc: Global,
+    pushed: &Pushed<'a>,
+    directive: Directive<'a>,
+) -> Result<Directive<'a>, AllocError>
+    ensures { IfOk result (λ d. d ≡ spec.with_pushed pushed.now directive.entry) }
+{
+    let mut own = directive;
+    let lent = &mut own;
+    match pushed {
+        Pushed::Tag(tag) => give_tag(alloc, tag, &mut lent.kind)?,
+        Pushed::Entry(entry) => give_entry(alloc, entry, &lent.kind, &mut lent.metadata)?,
+    }
+    Ok(own)
+}
+
+/// Gives what is pushed to a directive, which is taken out of its memory for that.
 fn give<'a>(
     alloc: Global,
     pushed: &Pushed<'a>,
-    directive: &mut Directive<'a>,
+    directive: &mut Apart<Directive<'a>>,
 ) -> Result<(), AllocError>
     ensures { OnOk result (directive.new ≡ spec.with_pushed pushed.now directive.old) }
 {
-    match pushed {
-        Pushed::Tag(tag) => give_tag(alloc, tag, &mut directive.kind),
-        Pushed::Entry(entry) => {
-            give_entry(alloc, entry, &directive.kind, &mut directive.metadata)
-        }
-    }
+    let stand_in = Apart::new(alloc, Directive::stand_in(alloc, directive.get().day))?;
+    let own = replace(directive, stand_in).into_inner();
+    let _ = replace(directive, Apart::new(alloc, given(alloc, pushed, own)?)?);
+    Ok(())
 }
 
 /// Gives what is pushed to the transactions from one place up to another.
@@ -124,7 +140,7 @@ fn give_between<'a>(
     pushed: &Pushed<'a>,
     from: usize,
     to: usize,
-    directives: &mut Vec<Directive<'a>>,
+    directives: &mut Vec<Apart<Directive<'a>>>,
 ) -> Result<(), AllocError>
     ensures { OnOk result (directives.new.items
         ≡ spec.given_between pushed.now from to 0 directives.old.items) }
@@ -144,7 +160,7 @@ fn give_up_to<'a>(
     pushed: Option<&Pushed<'a>>,
     from: usize,
     to: Option<usize>,
-    directives: &mut Vec<Directive<'a>>,
+    directives: &mut Vec<Apart<Directive<'a>>>,
 ) -> Result<(), AllocError>
     ensures { OnOk result (directives.new.items
         ≡ spec.given_up_to (option_copied pushed.entry) from to directives.old.items) }
@@ -160,7 +176,7 @@ pub(crate) fn give_all<'a>(
     alloc: Global,
     bounds: &[PlacedBound<'a>],
     reaches: &[Option<usize>],
-    directives: &mut Vec<Directive<'a>>,
+    directives: &mut Vec<Apart<Directive<'a>>>,
 ) -> Result<(), AllocError>
     requires { reaches.now ≡ reaches_of bounds.now }
     ensures { OnOk result (directives.new.items

@@ -19,6 +19,7 @@ use crate::bookings::Bookings;
 use crate::cause::BookCause;
 use crate::handed::take_into;
 use crate::methods::{methods_of, note_unknown, otherwise};
+use crate::placed::taken_out;
 use crate::steps::are_watched;
 use bean_base::{Apart, Fault, List};
 use bean_directives::Directive;
@@ -51,7 +52,7 @@ struct Led<'a, S> {
 fn take_all<'a, S: Bookings<'a> + Drop>(
     alloc: Global,
     methods: Methods<'a>,
-    directives: Vec<Apart<Placed<Directive<'a>>>>,
+    directives: Vec<Placed<Apart<Directive<'a>>>>,
     bookings: S,
 ) -> Result<Led<'a, S>, Refusal<BookCause>>
     requires few { length directives.items ≤ 2 ^ 39 }
@@ -70,7 +71,7 @@ fn take_all<'a, S: Bookings<'a> + Drop>(
     let mut booker = Booker::new(alloc, methods, are_watched(&directives));
     let mut bookings = bookings;
     for placed in directives {
-        match take_into(&mut booker, &mut bookings, placed.into_inner()) {
+        match take_into(&mut booker, &mut bookings, taken_out(placed)) {
             Ok(()) => {}
             Err(fault) => return Err(fault),
         }

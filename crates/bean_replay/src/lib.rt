@@ -41,6 +41,7 @@ mod cause;
 mod handed;
 mod laws;
 mod methods;
+mod placed;
 mod postings;
 mod sizes;
 mod steps;

@@ -3,6 +3,7 @@ ghost use Rattle.std.specs.Prelude.{◌≡◌, ◌++◌, List, ℕ, OnOk, IfOk};
 ghost use Rattle.bean_replay.specs.Method as spec;
 ghost use Rattle.bean_transactions.specs.Methods.{method_in};
 
+use crate::placed::kind_of;
 use bean_accounts::method_named;
 use bean_base::{Apart, Fault, FaultKind, Text};
 use bean_directives::{Directive, DirectiveKind};
@@ -87,7 +88,7 @@ fn note_open<'a>(
 pub(crate) fn methods_of<'a>(
     alloc: Global,
     otherwise: Method,
-    directives: &[Apart<Placed<Directive<'a>>>],
+    directives: &[Placed<Apart<Directive<'a>>>],
 ) -> Result<Methods<'a>, AllocError>
     ensures { IfOk result (λ ms. (a : List ℕ)
         → method_in ms a ≡ spec.method_of otherwise directives.now a) }
@@ -95,8 +96,8 @@ pub(crate) fn methods_of<'a>(
     let mut methods = Methods::new(alloc, otherwise);
     let count = directives.len();
     for taken in 0..count {
-        let directive = directives[count - 1 - taken].get();
-        note_open(&mut methods, otherwise, &directive.item.kind)?;
+        let placed = &directives[count - 1 - taken];
+        note_open(&mut methods, otherwise, kind_of(placed))?;
     }
     Ok(methods)
 }

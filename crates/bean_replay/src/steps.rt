@@ -7,6 +7,7 @@ ghost use Rattle.bean_replay.specs.Watched.{IsWatched, seen_of};
 ghost use Rattle.bean_pad.specs.Following.{Follows, IsBounded, steps_in};
 ghost use Rattle.bean_pad.specs.declared.step.Step.{Step};
 
+use crate::placed::kind_of;
 use bean_base::Apart;
 use bean_directives::{Directive, DirectiveKind};
 use bean_holdings::Posted;
@@ -22,11 +23,11 @@ fn is_watching(kind: &DirectiveKind<'_>) -> bool
 }
 
 /// Whether any directive is a pad or a balance.
-pub(crate) fn are_watched(directives: &[Apart<Placed<Directive<'_>>>]) -> bool
+pub(crate) fn are_watched(directives: &[Placed<Apart<Directive<'_>>>]) -> bool
     ensures { AllByRecursion (IsWatched result) directives.now }
 {
     for directive in directives {
-        if is_watching(&directive.get().item.kind) {
+        if is_watching(kind_of(directive)) {
             return true;
         }
     }

@@ -65,7 +65,7 @@ fn what_booking_passes_over(rt: HostRuntime) -> Result<(), Fail> {
     let directives = parsed.directives.as_slice();
     assert_eq!(rt; directives.len(), TOLD.len());
     for (directive, wanted) in directives.iter().zip(TOLD) {
-        let words = told(rt.alloc(), &directive.kind)?;
+        let words = told(rt.alloc(), &directive.get().kind)?;
         assert_eq!(rt; words.as_str(), wanted);
     }
     Ok(())

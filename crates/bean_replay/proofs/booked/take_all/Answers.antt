@@ -20,7 +20,7 @@ take_into-requires g c = λ k.
     let whole = ap length c.loop-placed.invariant.whole in
     let parts = length-append before c.loop-placed.placed-iterator.rest.items in
     let turned = length-reverse before in
-    let next = c.in-Some.ensures.steps.0 ∙ ap (λ d. d ∷ after) (sym c.into_inner.ensures) in
+    let next = c.in-Some.ensures.steps.0 ∙ ap (λ d. d ∷ after) (sym c.taken_out.ensures) in
     let small =
     subst (AllByRecursion IsSmall)
     (sym c.loop-placed.invariant.whole ∙ ap (λ l. before ++ l) next) c.requires.small in (
@@ -32,9 +32,9 @@ take_into-requires g c = λ k.
           led.0,
           led.1,
           (
-            (all_behind IsSmall before (c.into_inner.result ∷ after) small).0,
+            (all_behind IsSmall before (c.taken_out.result ∷ after) small).0,
             all_reversed IsSmall before
-                (all_front IsSmall before (c.into_inner.result ∷ after) small),
+                (all_front IsSmall before (c.taken_out.result ∷ after) small),
           ),
           let few = c.requires.few in omega (arith, few, whole, parts, turned),
         ),
@@ -67,7 +67,7 @@ pub loop-placed-preserved : goal.loop-placed-preserved
 loop-placed-preserved g c =
     let before = c.loop-placed.yielded in
     let after = c.next.new.self.rest.items in
-    let same = c.into_inner.ensures in record {
+    let same = c.taken_out.ensures in record {
       whole =
           append_assoc before (c.in-Some.placed ∷ []) after
           ∙ ap (λ l. before ++ l) (sym c.in-Some.ensures.steps.0)
@@ -116,8 +116,8 @@ pub returns-in-Err-clause-full : goal.returns-in-Err-clause-full
 returns-in-Err-clause-full g c = λ is_full m methods st all.
     let before = c.loop-placed.yielded in
     let after = c.next.new.self.rest.items in
-    let d = c.into_inner.result in
-    let next = c.in-Some.ensures.steps.0 ∙ ap (λ d. d ∷ after) (sym c.into_inner.ensures) in
+    let d = c.taken_out.result in
+    let next = c.in-Some.ensures.steps.0 ∙ ap (λ d. d ∷ after) (sym c.taken_out.ensures) in
     let led = c.loop-placed.invariant.leads m methods in
     let full =
     c.in-Err.ensures.full (ap Err (ap fault_of is_full)) m (reverse before) led.0 led.1 in

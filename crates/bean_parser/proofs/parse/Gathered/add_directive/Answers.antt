@@ -4,4 +4,6 @@ use Rattle.std.proofs.Common.{refl}
 
 pub returns : goal.returns
 returns c =
-    λ os h. directive_adds os _ _ c.args.self.now _ refl c.in_ok-push.ensures.items refl refl refl h
+    λ os h.
+    let pushed = rw c.in_ok-new.ensures at c.in_ok-push.ensures.items in
+    directive_adds os _ _ c.args.self.now _ refl pushed refl refl refl h

@@ -1,0 +1,24 @@
+//! Directives at their places, which lie apart from these until they are booked.
+ghost use Rattle.std.specs.Prelude.{◌≡◌};
+
+use bean_base::Apart;
+use bean_directives::{Directive, DirectiveKind};
+use bean_loaded::Placed;
+
+/// What a directive does.
+pub(crate) fn kind_of<'s, 'a>(placed: &'s Placed<Apart<Directive<'a>>>) -> &'s DirectiveKind<'a>
+    ensures { result.now ≡ placed.now.item.kind }
+{
+    &placed.item.get().kind
+}
+
+/// The directive with its place, out of its memory.
+pub(crate) fn taken_out<'a>(placed: Placed<Apart<Directive<'a>>>) -> Placed<Directive<'a>>
+    ensures { result ≡ placed.entry }
+{
+    Placed {
+        file: placed.file,
+        part: placed.part,
+        item: placed.item.into_inner(),
+    }
+}
