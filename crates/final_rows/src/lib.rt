@@ -33,6 +33,7 @@ mod ordering;
 mod rank;
 mod showing;
 mod trimming;
+mod words;
 
 pub use showing::finish;
 pub use trimming::trim;
