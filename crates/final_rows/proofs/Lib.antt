@@ -1,5 +1,6 @@
 pub mod ChainFacts
 pub mod RankFacts
+pub mod WordFacts
 pub mod OrderFacts
 pub mod NumberFacts
 pub mod ShownFacts

@@ -20,8 +20,11 @@
 //! # Cost
 //!
 //! What is ordered are the numbers of rows, 8 bytes each: by a stable sort for each column that is
-//! ordered by, the last one first, over what its values are ordered by. That lies side by side, and
-//! takes 48 bytes a row while it is sorted, so that no row is looked up where two are compared. And a
+//! ordered by, the last one first. Where the values of a column are numbers of the same decimals,
+//! days, or at most 4,096 different texts, a word of 8 bytes stands for each of them, and words are
+//! sorted, each before the number of its row: that takes 40 bytes a row. Else, and where only a few
+//! rows are ordered, what is sorted is what the values are ordered by, in 96 bytes a row. Either lies
+//! side by side, so that no row is looked up where two are compared. And there is a
 //! table of what the rows show that are told once, where they lie. Then the rows that come out are
 //! moved side by side in their order, and never copied; where there is nothing to order by, and they
 //! aren't told once, none is moved. What [`trim`] leaves is at most twice the limit, in memory of its
@@ -33,6 +36,7 @@ mod ordering;
 mod rank;
 mod showing;
 mod trimming;
+mod words;
 
 pub use showing::finish;
 pub use trimming::trim;

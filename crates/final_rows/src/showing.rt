@@ -100,7 +100,7 @@ fn numbers_out(
         (map (take (length output.now.targets)) (rows_at rows.now numbers.items))) }
 {
     let mut numbers = numbers_of(alloc, rows)?;
-    arrange(output, rows, &mut numbers)?;
+    arrange(alloc, output, rows, &mut numbers)?;
     if output.is_distinct {
         let width = output.targets.as_slice().len();
         let mut once = shown_once(alloc, rows, &numbers, width)?;

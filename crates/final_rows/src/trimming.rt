@@ -105,7 +105,7 @@ fn front(
 {
     // Few are left to be sorted: where rows come in any order, most stand behind those in front.
     let mut numbers = thinned(alloc, output, most, rows)?;
-    arrange(output, rows, &mut numbers)?;
+    arrange(alloc, output, rows, &mut numbers)?;
     numbers.truncate(most);
     Ok(numbers)
 }
