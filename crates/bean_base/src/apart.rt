@@ -5,9 +5,15 @@ use std::alloc::{AllocError, Global};
 use std::marker::Model;
 
 /// A value in memory of its own, for structs that seldom have one. Contracts see the value itself.
-#[derive(Drop)]
 pub struct Apart<T> {
     place: Box<T>,
+}
+
+/// Written out, so that what gives one up needs to know nothing of what is in it.
+impl<T: Drop> Drop for Apart<T> {
+    fn drop(self) {
+        let Apart { place: _ } = self;
+    }
 }
 
 impl<T> Model for Apart<T> {
@@ -30,7 +36,8 @@ impl<T: Drop> Apart<T> {
     pub fn into_inner(self) -> T
         ensures { result ≡ self }
     {
-        Box::into_inner(self.place)
+        let Apart { place } = self;
+        Box::into_inner(place)
     }
 
     /// The value.

@@ -7,9 +7,15 @@ use std::alloc::{AllocError, Global};
 use std::marker::Model;
 
 /// A list that most often is empty, else in memory of its own. Its value is the list of its items.
-#[derive(Drop)]
 pub struct Few<T> {
     items: Option<Apart<List<T>>>,
+}
+
+/// Written out, so that what gives one up needs to know nothing of what is in it.
+impl<T: Drop> Drop for Few<T> {
+    fn drop(self) {
+        let Few { items: _ } = self;
+    }
 }
 
 impl<T> Model for Few<T> {

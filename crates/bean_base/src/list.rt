@@ -5,9 +5,15 @@ use std::alloc::{AllocError, Global};
 use std::marker::Model;
 
 /// A vector whose value is the list of its items.
-#[derive(Drop)]
 pub struct List<T> {
     items: Vec<T>,
+}
+
+/// Written out, so that what gives one up needs to know nothing of what is in it.
+impl<T: Drop> Drop for List<T> {
+    fn drop(self) {
+        let List { items: _ } = self;
+    }
 }
 
 impl<T> Model for List<T> {
@@ -45,7 +51,7 @@ impl<T: Drop> List<T> {
     pub fn append(&mut self, others: List<T>) -> Result<(), AllocError>
         ensures { OnOk result (self.new ≡ self.old ++ others) }
     {
-        let mut others = others.items;
+        let List { items: mut others } = others;
         self.items.append(&mut others)?;
         Ok(())
     }
@@ -54,6 +60,7 @@ impl<T: Drop> List<T> {
     pub fn into_vec(self) -> Vec<T>
         ensures { result.items ≡ self }
     {
-        self.items
+        let List { items } = self;
+        items
     }
 }

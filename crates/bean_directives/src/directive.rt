@@ -9,7 +9,6 @@ use bean_grammar::MetaEntry;
 use std::alloc::Global;
 
 /// What a directive does. What few directives have, and is large, lies apart.
-#[derive(Drop)]
 pub enum DirectiveKind<'a> {
     Open(Open<'a>),
     Close(Close<'a>),
@@ -23,6 +22,46 @@ pub enum DirectiveKind<'a> {
     Event(Event<'a>),
     Query(Query<'a>),
     Custom(Custom<'a>),
+}
+
+/// Written out, so that what gives one up needs to know nothing of what is in it.
+impl Drop for DirectiveKind<'_> {
+    fn drop(self) {
+        match self {
+            DirectiveKind::Open(_) => {}
+            DirectiveKind::Close(_) => {}
+            DirectiveKind::Commodity(_) => {}
+            DirectiveKind::Transaction(_) => {}
+            DirectiveKind::Balance(_) => {}
+            DirectiveKind::Pad(_) => {}
+            DirectiveKind::Note(_) => {}
+            DirectiveKind::Document(_) => {}
+            DirectiveKind::Price(_) => {}
+            DirectiveKind::Event(_) => {}
+            DirectiveKind::Query(_) => {}
+            DirectiveKind::Custom(_) => {}
+        }
+    }
+}
+
+impl<'a> DirectiveKind<'a> {
+    ghost use Rattle.std.specs.Prelude.{◌≡◌, ◌≢◌, IfErr, IfOk};
+    ghost use Rattle.bean_directives.specs.declared.transaction.Transaction.{Transaction};
+    ghost use Rattle.bean_directives.specs.declared.directive.DirectiveKind.TheVariants as kinds;
+
+    /// The transaction that a directive is, or else what it is.
+    #[inline(always)]
+    pub fn into_transaction(self) -> Result<Transaction<'a>, DirectiveKind<'a>>
+        ensures transaction { IfOk result (λ t. self.entry ≡ kinds.Transaction t) }
+        ensures same { IfErr result (λ kind. kind ≡ self.entry) }
+        ensures other { IfErr result (λ kind. (t : Transaction)
+            → kind ≢ kinds.Transaction t) }
+    {
+        match self {
+            DirectiveKind::Transaction(transaction) => Ok(transaction),
+            other => Err(other),
+        }
+    }
 }
 
 /// A block of a ledger's text that begins with a day.

@@ -67,15 +67,15 @@ fn takes_postings(kind: &Ranged<DirectiveKind<'_>>) -> bool
 fn with_postings<'a>(kind: DirectiveKind<'a>, postings: List<Posting<'a>>) -> DirectiveKind<'a>
     ensures { result ≡ rule.with_body kind.entry [] postings.entry }
 {
-    match kind {
-        DirectiveKind::Transaction(transaction) => DirectiveKind::Transaction(Transaction {
+    match kind.into_transaction() {
+        Ok(transaction) => DirectiveKind::Transaction(Transaction {
             flag: transaction.flag,
             payee: transaction.payee,
             narration: transaction.narration,
             marks: transaction.marks,
             postings,
         }),
-        other => other,
+        Err(other) => other,
     }
 }
 

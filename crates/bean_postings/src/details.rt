@@ -14,7 +14,6 @@ use std::marker::Model;
 use std::mem::replace;
 
 /// The line of a posting, and a flag, a cost, a price and entries, each of which may be absent.
-#[derive(Drop)]
 pub struct DetailParts<'a> {
     pub cost: Cost<'a>,
     pub price: Price<'a>,
@@ -23,6 +22,19 @@ pub struct DetailParts<'a> {
     /// The line on which the posting is written, from 1.
     pub line: usize,
     pub flag: Option<Flag>,
+}
+
+/// Written out, so that what gives one up needs to know nothing of what is in it.
+impl Drop for DetailParts<'_> {
+    fn drop(self) {
+        let DetailParts {
+            cost: _,
+            price: _,
+            metadata: _,
+            line: _,
+            flag: _,
+        } = self;
+    }
 }
 
 /// How details are kept.

@@ -1,9 +1,9 @@
 -- Takes, one candidate after the other.
-use Rattle.std.proofs.Common.{◌≡◌, ℕ, suc, ◌+◌, ◌-◌, ◌<◌, ◌≤◌, ◌==◌, ℤ, false, cond, List, [], ◌∷◌, ◌++◌}
+use Rattle.std.proofs.Common.{◌≡◌, ℕ, suc, ◌+◌, ◌-◌, ◌<◌, ◌==◌, ℤ, ◌≤◌, false, cond, List, [], ◌∷◌, ◌++◌}
 use Rattle.std.proofs.Common.{length, get_or, drop, min, refl, sym, ◌∙◌, ap, arith, add-one}
 use Rattle.std.proofs.Common.{append_assoc}
-use Rattle.std.proofs.lemmas.List.{append-nil, drop_all}
 use Rattle.std.proofs.Math.Seq.{drop-cons}
+use Rattle.std.proofs.lemmas.List.{append-nil, drop_all}
 use Rattle.bean_lots.specs.declared.lot.Lot.{Lot}
 use Rattle.bean_reductions.specs.Take.{signed_take, signed_takes}
 use Rattle.bean_reductions.specs.Filling.{filled}
@@ -33,16 +33,18 @@ more q i c want rest done all h is some told =
     append_assoc done (signed_take want (c.0, min c.1 rest) ∷ []) _
     ∙ ap (λ l. done ++ signed_takes want l) (sym (filled_more q i c rest h is some)) ∙ told
 
--- where nothing is wanted any more, what was taken is all
-pub none_wanted : (q : List (Lot × ℕ)) (want : ℤ) (rest : ℕ) (done all : List (Lot × ℤ × ℕ)) → rest ≡ 0
-    → done ++ signed_takes want (filled q rest) ≡ all → done ≡ all
-none_wanted q want rest done all none told =
+-- nothing is left to be taken
+pub nothing_wanted : (q : List (Lot × ℕ)) (i : ℕ) (want : ℤ) (rest : ℕ) (done all : List (Lot × ℤ × ℕ))
+    → rest ≡ 0 → done ++ signed_takes want (filled (drop i q) rest) ≡ all → done ≡ all
+nothing_wanted q i want rest done all is_zero told =
     sym (append-nil done)
-    ∙ ap (λ l. done ++ signed_takes want l) (sym (ap (filled q) none ∙ filled_zero q)) ∙ told
+    ∙ ap (λ l. done ++ signed_takes want l)
+    (sym (ap (filled (drop i q)) is_zero ∙ filled_zero (drop i q)))
+    ∙ told
 
--- and where there are no more candidates
+-- no candidate is left
 pub none_left : (q : List (Lot × ℕ)) (i : ℕ) (want : ℤ) (rest : ℕ) (done all : List (Lot × ℤ × ℕ))
     → length q ≤ i → done ++ signed_takes want (filled (drop i q) rest) ≡ all → done ≡ all
-none_left q i want rest done all h told =
+none_left q i want rest done all seen told =
     sym (append-nil done)
-    ∙ ap (λ l. done ++ signed_takes want (filled l rest)) (sym (drop_all i q h)) ∙ told
+    ∙ ap (λ l. done ++ signed_takes want (filled l rest)) (sym (drop_all i q seen)) ∙ told

@@ -302,14 +302,14 @@ impl<'a> Booker<'a> {
             kind,
             ..
         } = placed.item;
-        match kind {
-            DirectiveKind::Transaction(transaction) => self.transaction(Written {
+        match kind.into_transaction() {
+            Ok(transaction) => self.transaction(Written {
                 day,
                 place,
                 metadata,
                 transaction,
             }),
-            other => self.take_other(day, place, &other),
+            Err(other) => self.take_other(day, place, &other),
         }
     }
 

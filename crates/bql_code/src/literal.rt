@@ -43,7 +43,6 @@ impl<'a> ShortText<'a> {
 }
 
 /// A constant that an expression writes.
-#[derive(Drop)]
 pub enum Literal<'a> {
     Text(ShortText<'a>),
     Number(Decimal),
@@ -53,4 +52,18 @@ pub enum Literal<'a> {
     Texts(List<ShortText<'a>>),
     Numbers(Numbers),
     Days(List<Day>),
+}
+
+/// Written out, so that what gives one up needs to know nothing of what is in it.
+impl Drop for Literal<'_> {
+    fn drop(self) {
+        match self {
+            Literal::Text(_) | Literal::Pattern(_) => {}
+            Literal::Number(_) => {}
+            Literal::Day(_) => {}
+            Literal::Texts(_) => {}
+            Literal::Numbers(_) => {}
+            Literal::Days(_) => {}
+        }
+    }
 }

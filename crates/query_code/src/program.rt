@@ -51,7 +51,6 @@ impl Drop for Constant<'_> {
 }
 
 /// What becomes of the rows that the code gives.
-#[derive(Drop)]
 pub struct Output<'a> {
     /// Only the first of equal rows.
     pub is_distinct: bool,
@@ -66,8 +65,21 @@ pub struct Output<'a> {
     pub order: List<u8>,
 }
 
+/// Written out, so that what gives one up needs to know nothing of what is in it.
+impl Drop for Output<'_> {
+    fn drop(self) {
+        let Output {
+            is_distinct: _,
+            is_descending: _,
+            limit: _,
+            targets: _,
+            hidden: _,
+            order: _,
+        } = self;
+    }
+}
+
 /// The sections of instructions, and what they refer to.
-#[derive(Drop)]
 pub struct Code<'a> {
     /// How many keys a group has.
     pub keys: u8,
@@ -81,8 +93,21 @@ pub struct Code<'a> {
     pub last: List<Instruction>,
 }
 
+/// Written out, so that what gives one up needs to know nothing of what is in it.
+impl Drop for Code<'_> {
+    fn drop(self) {
+        let Code {
+            keys: _,
+            aggregates: _,
+            pool: _,
+            filter: _,
+            row: _,
+            last: _,
+        } = self;
+    }
+}
+
 /// The parts of a program.
-#[derive(Drop)]
 pub struct Parts<'a> {
     pub bounds: Bounds,
     pub mode: Mode,
@@ -90,12 +115,30 @@ pub struct Parts<'a> {
     pub code: Code<'a>,
 }
 
+/// Written out, so that what gives one up needs to know nothing of what is in it.
+impl Drop for Parts<'_> {
+    fn drop(self) {
+        let Parts {
+            bounds: _,
+            mode: _,
+            output: _,
+            code: _,
+        } = self;
+    }
+}
+
 /// A compiled query: parts that keep the limits of a query file. Its texts are slices of the query,
 /// or of the file, that it was made from.
-#[derive(Drop)]
 pub struct Program<'a> {
     pub parts: Parts<'a>,
     ghost has_file: { ∥ file.fits parts ∥₁ },
+}
+
+/// Written out, so that what gives one up needs to know nothing of what is in it.
+impl Drop for Program<'_> {
+    fn drop(self) {
+        let Program { parts: _ } = self;
+    }
 }
 
 impl Program<'_> {

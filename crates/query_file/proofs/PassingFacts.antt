@@ -13,7 +13,7 @@ pub record IsPassing (left : ℕ) (rest : List ℕ) (count : ℕ) (bytes : List 
   pub front : List (List ℕ)
   pub so_far : IsOnTheWay text front left rest count bytes
 
-pub begins : (count : ℕ) (bytes : List ℕ) → IsPassing count bytes count bytes
+pub begins : (count : ℕ) (bytes : List ℕ) → IsPassing (count - 0) bytes count bytes
 begins count bytes = record { front = []; so_far = row.begins text count bytes }
 
 pub goes_on : (count i : ℕ) (rest t after bytes : List ℕ) → i < count

@@ -23,8 +23,10 @@ nothing_before (Ok x) = refl
 nothing_before (Err f) = refl
 
 pub begins : {A : Type 0} (a : Form A) (count : ℕ) (bytes : List ℕ)
-    → IsOnTheWay a [] count bytes count bytes
-begins a count bytes = record { total = nothing_before (read_all a count bytes) }
+    → IsOnTheWay a [] (count - 0) bytes count bytes
+begins a count bytes =
+    let k : count - 0 ≡ count = omega arith in
+    record { total = rw k (nothing_before (read_all a count bytes)) }
 
 regroup : {A : Type 0} (front : List A) (v : A) (read : Read (List A))
     → with_front front (read >>= λ x. Ok (v ∷ x.0, x.1)) ≡ with_front (front ++ v ∷ []) read

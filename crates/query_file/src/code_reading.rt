@@ -23,7 +23,6 @@ use refusals::Refusal;
 use std::alloc::Global;
 
 /// So many instructions.
-#[tactic(auto, using(crate::proofs::RowFacts::in_a_row))]
 pub fn instructions_at(
     alloc: Global,
     len: usize,
@@ -43,7 +42,6 @@ pub fn instructions_at(
 }
 
 /// So many texts.
-#[tactic(auto, using(crate::proofs::RowFacts::in_a_row))]
 pub fn texts_at(
     alloc: Global,
     len: usize,
@@ -83,7 +81,6 @@ pub fn counts_at(
 }
 
 /// So many days.
-#[tactic(auto, using(crate::proofs::RowFacts::in_a_row))]
 pub fn days_at(alloc: Global, len: usize, bytes: &[u8]) -> Result<(Vec<Day>, &[u8]), Refusal<Stop>>
     ensures read { Gives (λ x. (x.0.items, x.1.now)) result (read_all day len bytes.now) }
     ensures number { IfOk result (λ x. length x.0.items ≡ len) }
@@ -123,7 +120,6 @@ fn aggregate_at(bytes: &[u8]) -> Result<(Aggregate, &[u8]), Refusal<Stop>>
 }
 
 /// So many aggregates.
-#[tactic(auto, using(crate::proofs::RowFacts::in_a_row))]
 pub fn aggregates_at(
     alloc: Global,
     len: usize,
@@ -224,7 +220,6 @@ fn constant_at(alloc: Global, bytes: &[u8]) -> Result<(Constant<'_>, &[u8]), Ref
 }
 
 /// So many entries of the pool.
-#[tactic(auto, using(crate::proofs::RowFacts::in_a_row))]
 pub fn constants_at(
     alloc: Global,
     len: usize,
@@ -255,7 +250,6 @@ fn place_below_at(most: usize, bytes: &[u8]) -> Result<(u8, &[u8]), Refusal<Stop
 }
 
 /// So many columns, each below the count of all.
-#[tactic(auto, using(crate::proofs::RowFacts::in_a_row))]
 pub fn order_at(
     alloc: Global,
     most: usize,

@@ -11,10 +11,16 @@ use std::alloc::{AllocError, Global};
 use std::marker::Model;
 
 /// An inventory, and how many decimals its counts have: they are counts of `10^-places`.
-#[derive(Drop)]
 pub struct Bag<'r> {
     pub places: u8,
     pub held: Holding<'r>,
+}
+
+/// Written out, so that what gives one up needs to know nothing of what is in it.
+impl Drop for Bag<'_> {
+    fn drop(self) {
+        let Bag { places: _, held: _ } = self;
+    }
 }
 
 impl Clone for Bag<'_> {
@@ -83,9 +89,15 @@ impl<'r> Bag<'r> {
 }
 
 /// A bag in memory of its own: values stay small, few of which are bags. Contracts see the bag itself.
-#[derive(Drop)]
 pub struct OwnBag<'r> {
     place: Box<Bag<'r>>,
+}
+
+/// Written out, so that what gives one up needs to know nothing of what is in it.
+impl Drop for OwnBag<'_> {
+    fn drop(self) {
+        let OwnBag { place: _ } = self;
+    }
 }
 
 impl<'r> Model for OwnBag<'r> {
@@ -130,7 +142,7 @@ impl<'r> OwnBag<'r> {
         requires { All MayBeNegated self.held }
         ensures { result ≡ negative_bag self.entry }
     {
-        let mut place = self.place;
+        let OwnBag { mut place } = self;
         place.held.negate();
         OwnBag { place }
     }

@@ -12,7 +12,8 @@ use std::marker::Model;
 /// that writes it.
 #[derive(Drop)]
 pub struct Pattern {
-    regex: Regex,
+    /// In memory of its own, so that crates which hold a pattern need to know nothing of what is in it.
+    regex: Box<Regex>,
 }
 
 impl Model for Pattern {
@@ -22,16 +23,18 @@ impl Model for Pattern {
 
     ghost Value = { List ℕ };
 
-    ghost view = { λ p. regex_source p.regex };
+    ghost view = { λ p. regex_source p.regex.value };
 
-    ghost invariant = { λ p. (regex_config p.regex ≡ any_case) × IsReadFromSource p.regex };
+    ghost invariant = { λ p. (regex_config p.regex.value ≡ any_case)
+        × IsReadFromSource p.regex.value };
 }
 
 /// What searches for a pattern: it keeps the memory that a search needs. Its value is the text that
 /// writes the pattern.
 pub struct Finder<'p> {
-    regex: &'p Regex,
-    matcher: Matcher<'p>,
+    regex: &'p Box<Regex>,
+    /// As with a pattern, apart from it.
+    matcher: Box<Matcher<'p>>,
 }
 
 /// Written out, so that crates which give one up need to know nothing of what is in it.
@@ -52,10 +55,11 @@ impl<'p> Model for Finder<'p> {
 
     ghost Value = { List ℕ };
 
-    ghost view = { λ f. regex_source f.regex.now };
+    ghost view = { λ f. regex_source f.regex.now.value };
 
-    ghost invariant = { λ f. (regex_config f.regex.now ≡ any_case)
-        × IsReadFromSource f.regex.now × (matcher_pattern f.matcher ≡ regex_pattern f.regex.now) };
+    ghost invariant = { λ f. (regex_config f.regex.now.value ≡ any_case)
+        × IsReadFromSource f.regex.now.value
+        × (matcher_pattern f.matcher.value ≡ regex_pattern f.regex.now.value) };
 }
 
 impl Pattern {
@@ -64,7 +68,9 @@ impl Pattern {
         ensures { IfOk result (λ p. p ≡ text.now) }
     {
         match RegexBuilder::new(text).case_insensitive(true).build(alloc) {
-            Ok(regex) => Ok(Pattern { regex }),
+            Ok(regex) => Ok(Pattern {
+                regex: Box::new(alloc, regex)?,
+            }),
             Err(regex::Error::OutOfMemory) => Err(Refusal::OutOfMemory),
             Err(_) => Err(Refusal::Refused(PatternCause::NotBuilt)),
         }
@@ -74,10 +80,9 @@ impl Pattern {
     pub fn finder(&self, alloc: Global) -> Result<Finder<'_>, AllocError>
         ensures { IfOk result (λ f. f ≡ self.now) }
     {
-        let matcher = self.regex.matcher(alloc)?;
         Ok(Finder {
             regex: &self.regex,
-            matcher,
+            matcher: Box::new(alloc, self.regex.matcher(alloc)?)?,
         })
     }
 }

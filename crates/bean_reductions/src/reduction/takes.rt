@@ -48,7 +48,6 @@ fn push_take<'a>(
 }
 
 /// Takes what is wanted, of one candidate after the other.
-#[tactic(auto, using(crate::proofs::FillingFacts::more, crate::proofs::FillingFacts::filled_zero))]
 fn fill<'a>(
     alloc: Global,
     queue: &[Candidate<'a>],

@@ -1,26 +1,13 @@
-use Rattle.std.proofs.Common.{rules, FitsSigned, ◌≡◌, ◌==◌, false, drop, ◌++◌, ◌∷◌, [], map, min, to_z, of_z, arith, ap, ◌∙◌}
+use Rattle.std.proofs.Common.{◌≡◌, ◌==◌, false, ◌++◌, ◌∷◌, [], map, min, to_z, of_z, arith, ap, ◌∙◌, subst}
 use Rattle.std.specs.Int.{w128}
+use Rattle.std.specs.Int.RustNames.{unsigned_abs}
+use Rattle.std.proofs.lemmas.Int.{to_z-of_z}
 use Rattle.std.proofs.lemmas.Bool.Decides.{nat_tests}
 use Rattle.bean_reductions.specs.Take.{take_counts}
-use Rattle.bean_reductions.specs.Take.{signed_take}
-use Rattle.std.proofs.lemmas.Int.{to_z-of_z}
-use Rattle.bean_reductions.proofs.FillingFacts.{more, none_left, none_wanted}
+use Rattle.bean_reductions.specs.Take.{signed_take, signed_takes}
+use Rattle.bean_reductions.proofs.FillingFacts.{more, nothing_wanted, none_left}
+use Rattle.bean_reductions.specs.Filling.{filled}
 use Rattle.bean_reductions.proofs.reduction.takes.fill.Goals as goal
-
-pub returns-then-rest-eq0 : goal.returns-then-rest-eq0
-returns-then-rest-eq0 c =
-    let queue = c.args.queue.now in
-    let fits : FitsSigned w128 c.args.want = search rules in
-    let same = to_z-of_z w128 c.args.want fits in
-    none_wanted (drop c.loop-c.c-index queue) c.args.want c.loop-c.rest _ _ c.if-rest-eq0.true
-    (rw same at c.loop-c.invariant.told)
-
-pub returns : goal.returns
-returns c =
-    let fits : FitsSigned w128 c.args.want = search rules in
-    let same = to_z-of_z w128 c.args.want fits in
-    none_left c.args.queue.now c.loop-c.c-index c.args.want c.loop-c.rest _ _ c.loop-c-test.false
-    (rw same at c.loop-c.invariant.told)
 
 pub loop-c-preserved : goal.loop-c-preserved
 loop-c-preserved c =
@@ -42,3 +29,19 @@ loop-c-preserved c =
       small = omega arith;
       told = rw (pushed, units) next;
     }
+
+pub returns-then-rest-eq0 : goal.returns-then-rest-eq0
+returns-then-rest-eq0 c =
+    let want = to_z w128 (of_z w128 c.args.want) in
+    let done = map take_counts c.loop-c.takes.items in
+    subst (λ w. done ≡ signed_takes w (filled c.args.queue.now (unsigned_abs w)))
+    (to_z-of_z w128 c.args.want c.ranges.want)
+    (nothing_wanted c.args.queue.now c.loop-c.c-index want c.loop-c.rest done _ c.if-rest-eq0.true c.loop-c.invariant.told)
+
+pub returns : goal.returns
+returns c =
+    let want = to_z w128 (of_z w128 c.args.want) in
+    let done = map take_counts c.loop-c.takes.items in
+    subst (λ w. done ≡ signed_takes w (filled c.args.queue.now (unsigned_abs w)))
+    (to_z-of_z w128 c.args.want c.ranges.want)
+    (none_left c.args.queue.now c.loop-c.c-index want c.loop-c.rest done _ c.loop-c-test.false c.loop-c.invariant.told)

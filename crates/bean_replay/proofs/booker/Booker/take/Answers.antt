@@ -11,10 +11,10 @@ use Rattle.bean_replay.specs.declared.booking.Written.{Written}
 use Rattle.bean_replay.proofs.TakeFacts.{stepped}
 use Rattle.bean_replay.proofs.booker.Booker.take.Goals as goal
 
-pub returns-in-Transaction-clause-standing : goal.returns-in-Transaction-clause-standing
-returns-in-Transaction-clause-standing c = λ m past st is.
+pub returns-in-Ok-clause-standing : goal.returns-in-Ok-clause-standing
+returns-in-Ok-clause-standing c = λ m past st is.
     let d = c.args.placed in
-    let t = c.in-Transaction.transaction in
+    let t = c.in-Ok.transaction in
     let at = c.place_of-place.ensures in
     let own : Written = record {
       day = d.item.day;
@@ -31,7 +31,7 @@ returns-in-Transaction-clause-standing c = λ m past st is.
     IfOk-weaker c.transaction.result _ _
     (λ booked done.
     stepped m past st (after_trial past st (written_in d t) done.0) d (kind.Transaction t)
-    c.transaction.new.self booked c.in-Transaction.is (
+    c.transaction.new.self booked c.in-Ok.ensures.transaction (
       done.0,
       subst (λ w. Tries (setting_of m st w) t.postings done.0) same done.1,
       refl,
@@ -40,10 +40,10 @@ returns-in-Transaction-clause-standing c = λ m past st is.
     done.2))
     (c.transaction.ensures.standing m past st is)
 
-pub returns-in-Transaction-clause-full : goal.returns-in-Transaction-clause-full
-returns-in-Transaction-clause-full c = λ is_full m past st is new step.
+pub returns-in-Ok-clause-full : goal.returns-in-Ok-clause-full
+returns-in-Ok-clause-full c = λ is_full m past st is new step.
     let d = c.args.placed in
-    let t = c.in-Transaction.transaction in
+    let t = c.in-Ok.transaction in
     let at = c.place_of-place.ensures in
     let own : Written = record {
       day = d.item.day;
@@ -57,7 +57,7 @@ returns-in-Transaction-clause-full c = λ is_full m past st is new step.
       metadata = d.item.metadata;
       transaction = t;
     } in
-    let by = subst (λ k. IsStepBy m past st d k new) c.in-Transaction.is step in
+    let by = subst (λ k. IsStepBy m past st d k new) c.in-Ok.ensures.transaction step in
     let tries = subst (λ w. Tries (setting_of m st w) t.postings by.0) (sym same) by.1 in
     subst IsFull (sym by.2)
     (subst (λ w. IsFull (after_trial past st w by.0)) same
