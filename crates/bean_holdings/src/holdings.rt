@@ -14,10 +14,19 @@ use bean_lots::Inventory;
 use std::alloc::{AllocError, Global};
 
 /// What each account holds, of which each addition is counted.
-#[derive(Drop)]
 pub struct Holdings<'a> {
     inventories: Inventories<'a>,
     additions: usize,
+}
+
+/// Written out, so that what gives one up needs to know nothing of what is in it.
+impl Drop for Holdings<'_> {
+    fn drop(self) {
+        let Holdings {
+            inventories: _,
+            additions: _,
+        } = self;
+    }
 }
 
 impl<'a> Holdings<'a> {
