@@ -16,10 +16,19 @@ use std::alloc::{AllocError, Global};
 
 /// The lots that each account holds. Units that are held without a lot are no part of it: nothing asks
 /// for them. Each posting is counted, whatever it is of.
-#[derive(Drop)]
 pub struct Holdings<'a> {
     inventories: Inventories<'a>,
     additions: usize,
+}
+
+/// Written out, so that what gives one up needs to know nothing of what is in it.
+impl Drop for Holdings<'_> {
+    fn drop(self) {
+        let Holdings {
+            inventories: _,
+            additions: _,
+        } = self;
+    }
 }
 
 impl<'a> Holdings<'a> {

@@ -18,13 +18,23 @@ use indexmap::IndexMap;
 use std::alloc::{AllocError, Global};
 
 /// An inventory for each account. The inventory of an account that isn't there is empty.
-#[derive(Drop)]
 pub struct Inventories<'a> {
     by_account: IndexMap<Account<'a>, Inventory<'a>>,
     /// At each number that a caller has for accounts, the place at which one of them was found last.
     /// Nothing rests on it: an account that isn't there is looked up.
     found: Vec<usize>,
     known: Known<'a>,
+}
+
+/// Written out, so that what gives one up needs to know nothing of what is in it.
+impl Drop for Inventories<'_> {
+    fn drop(self) {
+        let Inventories {
+            by_account: _,
+            found: _,
+            known: _,
+        } = self;
+    }
 }
 
 impl<'a> Inventories<'a> {

@@ -23,9 +23,15 @@ pub struct TakenFrom<'a> {
 
 /// The signs of the lots that are left, of each account and currency of which lots were taken. Of
 /// any other all lots that the account held are left.
-#[derive(Drop)]
 pub struct LotsLeft<'a> {
     signs: IndexMap<TakenFrom<'a>, Signs>,
+}
+
+/// Written out, so that what gives one up needs to know nothing of what is in it.
+impl Drop for LotsLeft<'_> {
+    fn drop(self) {
+        let LotsLeft { signs: _ } = self;
+    }
 }
 
 impl<'a> LotsLeft<'a> {

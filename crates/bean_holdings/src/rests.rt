@@ -98,9 +98,15 @@ pub fn without_gone<'s, 'a>(rest: Positions<'s, 'a>, taken: &Inventory<'_>) -> P
 }
 
 /// The rest of each account from which a transaction took. Of any other it is all that it held.
-#[derive(Drop)]
 pub struct Rests<'s, 'a> {
     rests: IndexMap<Account<'a>, Positions<'s, 'a>>,
+}
+
+/// Written out, so that what gives one up needs to know nothing of what is in it.
+impl Drop for Rests<'_, '_> {
+    fn drop(self) {
+        let Rests { rests: _ } = self;
+    }
 }
 
 impl<'s, 'a> Rests<'s, 'a> {

@@ -11,12 +11,22 @@ use indexmap::IndexSet;
 use std::alloc::{AllocError, Global};
 
 /// What some legs lack.
-#[derive(Drop)]
 pub(crate) struct Lacks<'a> {
     pub has_amount: bool,
     pub has_number: bool,
     /// The currencies in which a number lacks.
     pub currencies: IndexSet<Currency<'a>>,
+}
+
+/// Written out, so that what gives one up needs to know nothing of what is in it.
+impl Drop for Lacks<'_> {
+    fn drop(self) {
+        let Lacks {
+            has_amount: _,
+            has_number: _,
+            currencies: _,
+        } = self;
+    }
 }
 
 impl<'a> Lacks<'a> {

@@ -14,9 +14,15 @@ use std::marker::Model;
 /// The least positive counts of decimals that are written for units, by currency.
 ///
 /// Its value is the list of currencies that have one, with it; no count is above 8.
-#[derive(Drop)]
 pub struct Precisions<'a> {
     by_currency: IndexMap<Currency<'a>, u8>,
+}
+
+/// Written out, so that what gives one up needs to know nothing of what is in it.
+impl Drop for Precisions<'_> {
+    fn drop(self) {
+        let Precisions { by_currency: _ } = self;
+    }
 }
 
 impl<'a> Model for Precisions<'a> {

@@ -20,10 +20,19 @@ use std::alloc::{AllocError, Global};
 /// What the legs of one transaction weigh together, and the decimals to which it is exact.
 ///
 /// They are used again for the next transaction, so that weighing takes no memory in the long run.
-#[derive(Drop)]
 pub struct Scales<'a> {
     pub sums: Sums<'a>,
     pub precisions: Precisions<'a>,
+}
+
+/// Written out, so that what gives one up needs to know nothing of what is in it.
+impl Drop for Scales<'_> {
+    fn drop(self) {
+        let Scales {
+            sums: _,
+            precisions: _,
+        } = self;
+    }
 }
 
 /// Whether no leg lacks anything.

@@ -69,10 +69,19 @@ fn sum_before<'a>(
 /// weights of most transactions are of one currency, which is hashed nowhere.
 ///
 /// Its value is that table; no sum is `10^38` or more, signs left off.
-#[derive(Drop)]
 pub struct Sums<'a> {
     first: Option<First<'a>>,
     others: IndexMap<Currency<'a>, i128>,
+}
+
+/// Written out, so that what gives one up needs to know nothing of what is in it.
+impl Drop for Sums<'_> {
+    fn drop(self) {
+        let Sums {
+            first: _,
+            others: _,
+        } = self;
+    }
 }
 
 impl<'a> Model for Sums<'a> {

@@ -32,7 +32,6 @@ pub enum SourceAnswer {
 }
 
 /// What is known while texts are gathered.
-#[derive(Drop)]
 pub struct Gathering {
     pub alloc: Global,
     asked: IndexSet<String>,
@@ -40,6 +39,20 @@ pub struct Gathering {
     files: Vec<File>,
     parts: Vec<Part>,
     faults: Vec<Fault>,
+}
+
+/// Written out, so that what gives one up needs to know nothing of what is in it.
+impl Drop for Gathering {
+    fn drop(self) {
+        let Gathering {
+            alloc: _,
+            asked: _,
+            read: _,
+            files: _,
+            parts: _,
+            faults: _,
+        } = self;
+    }
 }
 
 impl Model for Gathering {
@@ -185,10 +198,18 @@ impl Gathering {
         requires { AreLimited self.files }
         ensures { result ≡ spec.texts_of self }
     {
+        let Gathering {
+            alloc: _,
+            asked: _,
+            read: _,
+            files,
+            parts,
+            faults,
+        } = self;
         Texts {
-            files: self.files,
-            parts: self.parts,
-            faults: self.faults,
+            files,
+            parts,
+            faults,
         }
     }
 }

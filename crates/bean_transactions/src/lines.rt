@@ -26,7 +26,6 @@ use std::alloc::{AllocError, Global};
 
 /// The lines of a transaction so far, what its takes come to in each account, which lots these leave
 /// there, and where they stand.
-#[derive(Drop)]
 pub(crate) struct Lines<'s, 'a> {
     lines: Vec<Line<'a>>,
     taken: Inventories<'a>,
@@ -34,6 +33,19 @@ pub(crate) struct Lines<'s, 'a> {
     rests: Rests<'s, 'a>,
     /// What an account holds that isn't there.
     nothing: &'s Inventory<'a>,
+}
+
+/// Written out, so that what gives one up needs to know nothing of what is in it.
+impl Drop for Lines<'_, '_> {
+    fn drop(self) {
+        let Lines {
+            lines: _,
+            taken: _,
+            left: _,
+            rests: _,
+            nothing: _,
+        } = self;
+    }
 }
 
 /// Whether a posting has a cost in braces. What comes of any other doesn't depend on what its
@@ -66,7 +78,14 @@ impl<'s, 'a> Lines<'s, 'a> {
     fn into_vec(self) -> Vec<Line<'a>>
         ensures { result.items ≡ self.entry.lines.items }
     {
-        self.lines
+        let Lines {
+            lines,
+            taken: _,
+            left: _,
+            rests: _,
+            nothing: _,
+        } = self;
+        lines
     }
 
     /// Adds a take to what is taken.

@@ -9,10 +9,19 @@ use indexmap::IndexMap;
 use std::alloc::{AllocError, Global};
 
 /// The booking method of each account.
-#[derive(Drop)]
 pub struct Methods<'a> {
     methods: IndexMap<Account<'a>, Method>,
     otherwise: Method,
+}
+
+/// Written out, so that what gives one up needs to know nothing of what is in it.
+impl Drop for Methods<'_> {
+    fn drop(self) {
+        let Methods {
+            methods: _,
+            otherwise: _,
+        } = self;
+    }
 }
 
 impl<'a> Methods<'a> {

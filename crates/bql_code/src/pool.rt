@@ -180,9 +180,15 @@ fn index_in(entries: &[Entry<'_>], literal: &Literal<'_>) -> usize
 
 /// The constants that expressions use, in order of first use, equal ones once. Its value is the list
 /// of them.
-#[derive(Drop)]
 pub struct Pool<'a> {
     entries: Vec<Entry<'a>>,
+}
+
+/// Written out, so that what gives one up needs to know nothing of what is in it.
+impl Drop for Pool<'_> {
+    fn drop(self) {
+        let Pool { entries: _ } = self;
+    }
 }
 
 impl<'a> Model for Pool<'a> {

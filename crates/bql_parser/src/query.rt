@@ -29,17 +29,32 @@ pub struct Item<'a> {
 }
 
 /// Which transactions pass, and which of their postings.
-#[derive(Drop)]
 pub struct Filters<'a> {
     pub from: Option<Box<Expr<'a>>>,
     pub filter: Option<Box<Expr<'a>>>,
 }
 
+/// Written out, so that what gives one up needs to know nothing of what is in it.
+impl Drop for Filters<'_> {
+    fn drop(self) {
+        let Filters { from: _, filter: _ } = self;
+    }
+}
+
 /// How rows are ordered: not at all, where there are no items.
-#[derive(Drop)]
 pub struct Order<'a> {
     pub items: Vec<Item<'a>>,
     pub descending: bool,
+}
+
+/// Written out, so that what gives one up needs to know nothing of what is in it.
+impl Drop for Order<'_> {
+    fn drop(self) {
+        let Order {
+            items: _,
+            descending: _,
+        } = self;
+    }
 }
 
 /// A query whose text may still be too long.
@@ -56,7 +71,6 @@ pub struct Draft<'a> {
 /// What is asked of the postings that pass: a SELECT, as it is written or as a JOURNAL or a
 /// BALANCES stands for it. It has from 1 to 255 targets, at most 255 items of GROUP BY and of ORDER
 /// BY, each, no text or list in it is longer than 65,535, and lists have members, all literals.
-#[derive(Drop)]
 pub struct Query<'a> {
     pub distinct: bool,
     pub targets: Vec<Target<'a>>,
@@ -66,4 +80,18 @@ pub struct Query<'a> {
     pub order: Order<'a>,
     pub limit: Option<u32>,
     ghost is_small: { ∥ IsSmall (asked_of distinct targets filters group order limit) ∥₁ },
+}
+
+/// Written out, so that what gives one up needs to know nothing of what is in it.
+impl Drop for Query<'_> {
+    fn drop(self) {
+        let Query {
+            distinct: _,
+            targets: _,
+            filters: _,
+            group: _,
+            order: _,
+            limit: _,
+        } = self;
+    }
 }

@@ -14,10 +14,16 @@ use query_rows::{Misfit, Shape};
 use std::alloc::{AllocError, Global};
 
 /// The shape of an expression, if it has one, and those of its parts, in their order.
-#[derive(Drop)]
 pub struct Shapes {
     pub shape: Option<Shape>,
     pub parts: Vec<Shapes>,
+}
+
+/// Written out, so that what gives one up needs to know nothing of what is in it.
+impl Drop for Shapes {
+    fn drop(self) {
+        let Shapes { shape: _, parts: _ } = self;
+    }
 }
 
 fn given(ruled: Option<Result<Shape, Misfit>>) -> Option<Shape>

@@ -37,7 +37,6 @@ pub struct Gathered<'q, 'a> {
 }
 
 /// What is computed for a query, numbered as a program has it. All expressions are lent from it.
-#[derive(Drop)]
 pub struct Numbering<'q, 'a> {
     /// The targets, and behind them what only orders rows, equal ones once.
     pub shown: Vec<Key<'q, 'a>>,
@@ -49,8 +48,34 @@ pub struct Numbering<'q, 'a> {
     pub aggregates: Vec<Key<'q, 'a>>,
 }
 
+/// Written out, so that what gives one up needs to know nothing of what is in it.
+impl Drop for Numbering<'_, '_> {
+    fn drop(self) {
+        let Numbering {
+            shown: _,
+            order: _,
+            grouping: _,
+            aggregates: _,
+        } = self;
+    }
+}
+
+impl Numbering<'_, '_> {
+    /// What orders rows.
+    fn into_order(self) -> Vec<usize>
+        ensures { result ≡ self.entry.order }
+    {
+        let Numbering {
+            shown: _,
+            order,
+            grouping: _,
+            aggregates: _,
+        } = self;
+        order
+    }
+}
+
 /// The same with shapes.
-#[derive(Drop)]
 pub struct Plan<'q, 'a> {
     /// Which transactions pass.
     pub from: Option<Shaped<'q, 'a>>,
@@ -65,6 +90,21 @@ pub struct Plan<'q, 'a> {
     pub keys: Vec<Shaped<'q, 'a>>,
     /// The aggregates of all that is shown, in order of reading, equal ones once.
     pub aggregates: Vec<Gathered<'q, 'a>>,
+}
+
+/// Written out, so that what gives one up needs to know nothing of what is in it.
+impl Drop for Plan<'_, '_> {
+    fn drop(self) {
+        let Plan {
+            from: _,
+            filter: _,
+            shown: _,
+            order: _,
+            is_aggregating: _,
+            keys: _,
+            aggregates: _,
+        } = self;
+    }
 }
 
 /// An expression with its shapes.
@@ -190,7 +230,7 @@ fn planned_over<'q, 'a>(
         keys: all_with_shapes(alloc, bounds, numbering.grouping.keys.as_slice())?,
         aggregates: all_with_inputs(alloc, bounds, numbering.aggregates.as_slice())?,
         is_aggregating: numbering.grouping.is_aggregating,
-        order: numbering.order,
+        order: numbering.into_order(),
     })
 }
 

@@ -30,7 +30,6 @@ impl EntryFlag {
 }
 
 /// What the postings of a transaction have in common.
-#[derive(Drop)]
 pub struct Entry<'a> {
     pub payee: Option<PlainText<'a>>,
     pub narration: PlainText<'a>,
@@ -41,4 +40,20 @@ pub struct Entry<'a> {
     pub metadata: Metadata<'a>,
     pub date: Day,
     pub flag: EntryFlag,
+}
+
+/// Written out, so that what gives one up needs to know nothing of what is in it.
+impl Drop for Entry<'_> {
+    fn drop(self) {
+        let Entry {
+            payee: _,
+            narration: _,
+            tags: _,
+            links: _,
+            accounts: _,
+            metadata: _,
+            date: _,
+            flag: _,
+        } = self;
+    }
 }

@@ -19,9 +19,15 @@ pub struct MetaItem<'a> {
 
 /// The metadata of a posting or of a transaction, in order. It stands once for all that have it,
 /// and none takes no memory. Its value is the list of its items.
-#[derive(Drop)]
 pub struct Metadata<'a> {
     items: Option<Shared<List<MetaItem<'a>>>>,
+}
+
+/// Written out, so that what gives one up needs to know nothing of what is in it.
+impl Drop for Metadata<'_> {
+    fn drop(self) {
+        let Metadata { items: _ } = self;
+    }
 }
 
 impl<'a> Model for Metadata<'a> {

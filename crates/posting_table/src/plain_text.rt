@@ -15,9 +15,15 @@ enum Bytes<'a> {
 
 /// A text without escapes: a slice of where it stands, or one that was made. Its value is its
 /// bytes, wherever they lie.
-#[derive(Drop)]
 pub struct PlainText<'a> {
     bytes: Bytes<'a>,
+}
+
+/// Written out, so that what gives one up needs to know nothing of what is in it.
+impl Drop for PlainText<'_> {
+    fn drop(self) {
+        let PlainText { bytes: _ } = self;
+    }
 }
 
 impl<'a> Model for PlainText<'a> {

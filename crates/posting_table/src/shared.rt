@@ -6,9 +6,15 @@ use std::marker::Model;
 use std::rc::Rc;
 
 /// A value that stands once, for all that hold it. Contracts see the value itself.
-#[derive(Drop)]
 pub struct Shared<T> {
     place: Rc<T>,
+}
+
+/// Written out, so that what gives one up needs to know nothing of what is in it.
+impl<T: Drop> Drop for Shared<T> {
+    fn drop(self) {
+        let Shared { place: _ } = self;
+    }
 }
 
 impl<T> Model for Shared<T> {

@@ -32,7 +32,6 @@ pub enum Stage {
 }
 
 /// A run that stands before an instruction, or has come to its end.
-#[derive(Drop)]
 pub struct Run<'r> {
     pub stage: Stage,
     /// The number of the posting.
@@ -49,11 +48,37 @@ pub struct Run<'r> {
     pub rows: AnswerRows<'r>,
 }
 
+/// Written out, so that what gives one up needs to know nothing of what is in it.
+impl Drop for Run<'_> {
+    fn drop(self) {
+        let Run {
+            stage: _,
+            row: _,
+            group: _,
+            frame: _,
+            finders: _,
+            running: _,
+            groups: _,
+            rows: _,
+        } = self;
+    }
+}
+
 impl<'r> Run<'r> {
     /// The rows that came out so far, in their order.
     pub fn into_rows(self) -> AnswerRows<'r>
         ensures { result ≡ self.entry.rows }
     {
-        self.rows
+        let Run {
+            stage: _,
+            row: _,
+            group: _,
+            frame: _,
+            finders: _,
+            running: _,
+            groups: _,
+            rows,
+        } = self;
+        rows
     }
 }

@@ -9,9 +9,15 @@ use bean_base::Slice;
 use std::marker::Model;
 
 /// Texts, each once. Its value is the list of them in the order of their bytes.
-#[derive(Drop)]
 pub struct TextSet<'a> {
     texts: Vec<Slice<'a>>,
+}
+
+/// Written out, so that what gives one up needs to know nothing of what is in it.
+impl Drop for TextSet<'_> {
+    fn drop(self) {
+        let TextSet { texts: _ } = self;
+    }
 }
 
 impl<'a> Model for TextSet<'a> {
