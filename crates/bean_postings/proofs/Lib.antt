@@ -1,4 +1,5 @@
 pub mod PriceFacts
+mod WrittenAmountFacts
 pub mod CostPartFacts
 pub mod CostFacts
 pub mod PostingFacts

@@ -27,8 +27,10 @@ mod grammar;
 mod posting;
 pub mod posting_line;
 mod price;
+mod written_amount;
 
 pub use cost::{Cost, LotParts};
 pub use details::{DetailParts, Details};
 pub use posting::{Posting, Units};
 pub use price::Price;
+pub use written_amount::WrittenAmount;

@@ -5,7 +5,8 @@ ghost use Rattle.bean_postings.specs.Posting as rule;
 use crate::cost::Cost;
 use crate::details::Details;
 use crate::price::Price;
-use bean_base::{Account, Amount, Currency};
+use crate::written_amount::WrittenAmount;
+use bean_base::{Account, Currency};
 
 /// What a posting adds to its account, as far as it is written.
 #[derive(Drop)]
@@ -13,7 +14,7 @@ pub enum Units<'a> {
     Missing,
     /// A currency without a number.
     Currency(Currency<'a>),
-    Amount(Amount<'a>),
+    Amount(WrittenAmount<'a>),
     /// A number without a currency, which is outside the profile.
     NumberAlone,
 }

@@ -12,7 +12,8 @@ use crate::cost::{Cost, cost_if_due};
 use crate::details::Details;
 use crate::posting::{Posting, Units};
 use crate::price::{Price, price_if_due};
-use bean_base::{Account, Amount, Currency, Flag, Num};
+use crate::written_amount::WrittenAmount;
+use bean_base::{Account, Currency, Flag, Num};
 use bean_grammar::amount::amount_parts;
 use bean_grammar::front::{after_account, after_currency, next};
 use bean_grammar::{AmountParts, Ranged, expression};
@@ -52,7 +53,7 @@ fn units_of<'a>(parts: AmountParts<'a>) -> Ranged<Units<'a>>
         (Some(Ranged::Outside), _) => Ranged::Outside,
         (Some(Ranged::Within(_)), None) => Ranged::Within(Units::NumberAlone),
         (Some(Ranged::Within(number)), Some(currency)) => {
-            Ranged::Within(Units::Amount(Amount { number, currency }))
+            Ranged::Within(Units::Amount(WrittenAmount::new(number, currency)))
         }
     }
 }
@@ -124,7 +125,7 @@ fn plainly<'a>(
 {
     match number {
         Ranged::Within(number) => Ranged::Within(Posting {
-            units: Units::Amount(Amount { number, currency }),
+            units: Units::Amount(WrittenAmount::new(number, currency)),
             account,
             details: Details::alone(line),
         }),

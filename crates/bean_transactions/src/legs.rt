@@ -49,7 +49,7 @@ fn number_in(units: &Units<'_>) -> Option<Num>
     ensures { result ≡ spec.number_in units.now }
 {
     match units {
-        Units::Amount(amount) => Some(amount.number),
+        Units::Amount(amount) => Some(amount.number()),
         _ => None,
     }
 }

@@ -296,7 +296,9 @@ pub(crate) fn outcome_of<'a>(
             currency.lend(),
             index,
         ))),
-        Units::Amount(units) => outcome_by_cost(alloc, stock, head, index, posting, units),
+        Units::Amount(units) => {
+            outcome_by_cost(alloc, stock, head, index, posting, &units.lend())
+        }
         Units::NumberAlone => unreachable!(),
     }
 }
