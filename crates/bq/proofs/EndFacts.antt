@@ -27,7 +27,7 @@ use Rattle.bq.specs.Ledgers.{about_book, about_ledger}
 use Rattle.bq.specs.Verified.{about_program}
 use Rattle.endings.specs.declared.refusal.Cause.{Cause}
 use Rattle.endings.specs.declared.refusal.Cause.TheVariants as cause
-use Rattle.bq.proofs.OneBook.{not_too_many, one_book}
+use Rattle.bean_books.proofs.OneBook.{not_too_many, one_book}
 
 -- ---- ends that are alike
 

@@ -1,4 +1,3 @@
-pub mod OneBook
 pub mod ShownFacts
 pub mod EndFacts
 pub mod OneEnd

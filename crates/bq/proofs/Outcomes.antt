@@ -16,7 +16,7 @@ use Rattle.stores.proofs.GaveFacts.{gave_none}
 use Rattle.stores.specs.Reading.{Reading}
 use Rattle.stores.specs.Source.{Gave}
 use Rattle.stores.specs.declared.source.Source.{Ghosts as SourceOf}
-use Rattle.bq.specs.Booking.{Books, FindsFaults}
+use Rattle.bean_books.specs.Booking.{Books, FindsFaults}
 use Rattle.requests.specs.Commands.{request_in}
 use Rattle.bq.specs.Commands.{due, due_to}
 use Rattle.bq.specs.Due.{ComesTo, Due, End, is_of_pattern}

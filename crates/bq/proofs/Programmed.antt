@@ -22,7 +22,7 @@ use Rattle.refusals.specs.declared.refusal.Refusal as refusals
 use Rattle.refusals.specs.declared.refusal.Refusal.TheVariants as refusal
 use Rattle.stores.specs.Reading.{Reading}
 use Rattle.bq.specs.Asking.{about_program_of}
-use Rattle.bq.specs.Booking.{IsBookOf}
+use Rattle.bean_books.specs.Booking.{IsBookOf}
 use Rattle.bq.specs.Due.{ComesTo, Due, End}
 use Rattle.bq.specs.Ledgers.{about_book, about_ledger}
 use Rattle.bq.specs.Query.{Answered, FileAnswers, HasBounds}

@@ -6,7 +6,7 @@ use Rattle.bean_load.specs.Texts.{Texts}
 use Rattle.bean_load.specs.declared.cause.LoadCause.{LoadCause}
 use Rattle.clap.specs.Walk.{Text}
 use Rattle.refusals.specs.declared.refusal.Refusal.TheVariants as refusal
-use Rattle.bq.specs.Booking.{HasTooMany, IsBookOf}
+use Rattle.bean_books.specs.Booking.{HasTooMany, IsBookOf}
 use Rattle.bq.specs.Due.{Due, End}
 use Rattle.endings.specs.declared.refusal.Cause.TheVariants.{Load, TooManyPostings}
 

@@ -1,6 +1,5 @@
 pub mod Due
 pub mod Command
-pub mod Booking
 pub mod Files
 pub mod Ledgers
 pub mod Text

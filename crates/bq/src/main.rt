@@ -3,8 +3,8 @@
 //! `run_words` is the program over any store and any outputs, and has the promise of the whole:
 //! which answer comes for which words and which texts, what is written with it, and the status.
 //! `commands` has a module for what each command answers; what words ask for is the crate
-//! `requests`. `booking` makes the book of texts, and `shown` says what `list` shows of it; how the
-//! program ends, with an answer or without, is the crate `endings`. `in_memory` is the same over a store and
+//! `requests`. `shown` says what `list` shows of a book; how the program ends, with an answer or
+//! without, is the crate `endings`. `in_memory` is the same over a store and
 //! outputs of memory, and `main` the program on the host's.
 #![tactic(auto)]
 
@@ -13,7 +13,6 @@ ghost use Rattle.std.specs.Process.{exit_status};
 ghost use Rattle.bq.specs.Process.{EndsOrLacksWords, IsRefusedBy, IsStatus};
 
 mod arguments;
-mod booking;
 mod commands;
 mod given;
 mod in_memory;

@@ -7,7 +7,7 @@ ghost use Rattle.bq.specs.Batch as command;
 ghost use Rattle.bq.specs.Runs.{Finds};
 ghost use Rattle.requests.specs.Batch as words;
 
-use crate::booking::book_of;
+use bean_books::book_of;
 use crate::commands::file::file_bytes;
 use crate::commands::ledger::{Question, answer_about};
 use crate::given::Given;

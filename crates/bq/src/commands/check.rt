@@ -1,5 +1,5 @@
 //! `check LEDGER`: the lines of the faults of a ledger, and whether its books are fine.
-use crate::booking::faults_in;
+use bean_books::faults_in;
 use crate::commands::ledger::Question;
 use crate::given::Given;
 use crate::text::Text;

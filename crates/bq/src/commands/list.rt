@@ -1,5 +1,5 @@
 //! `list LEDGER`: the table of the postings of a ledger.
-use crate::booking::book_of;
+use bean_books::book_of;
 use crate::commands::ledger::Question;
 use crate::given::Given;
 use crate::shown::Postings;

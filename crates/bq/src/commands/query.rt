@@ -4,7 +4,7 @@ ghost use Rattle.bq.specs.Query.{HasBounds};
 ghost use Rattle.bq.specs.Runs.{Finds};
 ghost use Rattle.query_rows.specs.ColumnShape.{widest};
 
-use crate::booking::book_of;
+use bean_books::book_of;
 use crate::commands::ledger::{Question, answer_about};
 use crate::commands::table::table_of;
 use crate::given::Given;

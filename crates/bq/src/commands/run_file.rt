@@ -2,7 +2,7 @@
 ghost use Rattle.bq.specs.RunFile as command;
 ghost use Rattle.bq.specs.Runs.{Finds};
 
-use crate::booking::book_of;
+use bean_books::book_of;
 use crate::commands::file::file_bytes;
 use crate::commands::ledger::{Question, answer_about};
 use crate::commands::table::table_of;

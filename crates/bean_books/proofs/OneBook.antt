@@ -19,7 +19,7 @@ use Rattle.bean_loaded.specs.Loaded.{Loaded}
 use Rattle.bean_load.specs.Texts.{Texts}
 use Rattle.bean_load.proofs.OneLoading.{one_loading}
 use Rattle.limits.specs.declared.counts.TheConstants.{MOST_POSTINGS}
-use Rattle.bq.specs.Booking.{FindsFaults, HasTooMany, IsBookOf}
+use Rattle.bean_books.specs.Booking.{FindsFaults, HasTooMany, IsBookOf}
 
 too_many : (most n m : ℕ) → n ≤ most → n ≡ m → most < m → ⊥
 too_many most n m few same many = absurd (omega (arith, few, same, many))

@@ -1,5 +1,5 @@
-use Rattle.bq.proofs.OneBook.{found_in}
-use Rattle.bq.proofs.booking.faults_in.Goals as goal
+use Rattle.bean_books.proofs.OneBook.{found_in}
+use Rattle.bean_books.proofs.booking.faults_in.Goals as goal
 
 pub returns : goal.returns
 returns c =

@@ -1,5 +1,5 @@
 //! The book of texts.
-ghost use Rattle.bq.specs.Booking.{Books, FindsFaults};
+ghost use Rattle.bean_books.specs.Booking.{Books, FindsFaults};
 
 use bean_base::{Fault, List};
 use bean_book::{BookCause, Booked, book, find_faults};

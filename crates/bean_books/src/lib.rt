@@ -1,0 +1,19 @@
+//! The book of texts: a ledger from its texts to its booked postings and its faults.
+//!
+//! ```text
+//! let texts = gather(alloc, &mut store, "main.beancount")?;
+//! let booked = book_of(alloc, &texts)?;          // its postings, and all that is wrong
+//! let faults = faults_in(alloc, &texts)?;        // the faults alone
+//! ```
+//!
+//! [`bean_load`] reads what the texts say together, and [`bean_book`] books it. Texts have one book,
+//! and not both a book and too many postings: that is proved beside (`OneBook`).
+//!
+//! # Refusals
+//!
+//! `B1`: the texts have more than 4,000,000 postings. It is answered exactly there.
+#![tactic(auto)]
+
+mod booking;
+
+pub use booking::{book_of, faults_in};
