@@ -6,7 +6,8 @@ ghost use Rattle.posting_table.specs.Decimals.{decimals_of};
 ghost use Rattle.bean_book.specs.Booked.{decimals_from};
 ghost use Rattle.bean_book.specs.Rows.{written_in};
 
-use bean_postings::{Posting, Units, WrittenAmount};
+use bean_base::Amount;
+use bean_postings::{Posting, Units};
 use posting_table::Ledger;
 use std::alloc::AllocError;
 
@@ -14,7 +15,7 @@ use std::alloc::AllocError;
 fn note_amount<'a>(
     ledger: &mut Ledger<'a>,
     near: &mut usize,
-    units: &WrittenAmount<'a>,
+    units: &Amount<'a>,
 ) -> Result<(), AllocError>
     ensures decimals { OnOk result ((name : List ℕ) → decimals_of ledger.new.decimals name
         ≡ (if bytes_eq units.now.currency name
@@ -22,11 +23,11 @@ fn note_amount<'a>(
         else decimals_of ledger.old.decimals name)) }
     ensures rows { OnOk result (ledger.new.rows ≡ ledger.old.rows) }
 {
-    let places = units.number().places;
-    let shown = ledger.display().places_near(units.currency(), near);
+    let places = units.number.places;
+    let shown = ledger.display().places_near(&units.currency, near);
     // A currency that shows none is set too: so it is found at once where it is shown.
     if shown == 0 || shown < places {
-        ledger.set_display(units.currency().lend(), places)?;
+        ledger.set_display(units.currency.lend(), places)?;
     }
     Ok(())
 }
@@ -42,7 +43,7 @@ fn note_posting<'a>(
     ensures rows { OnOk result (ledger.new.rows ≡ ledger.old.rows) }
 {
     match &posting.units {
-        Units::Amount(units) => note_amount(ledger, near, units),
+        Units::Amount(units) => note_amount(ledger, near, &units.lend()),
         _ => Ok(()),
     }
 }
