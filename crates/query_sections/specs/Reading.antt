@@ -7,6 +7,8 @@ use Rattle.plain_machine.specs.Pool.{members_in}
 use Rattle.plain_machine.specs.SectionRun.{Acts}
 use Rattle.posting_table.specs.Rows.{row_of}
 use Rattle.query_code.specs.declared.program.Constant.{Constant}
+use Rattle.query_code.specs.declared.instruction.Push.{Push}
+use Rattle.query_code.specs.declared.instruction.Push.TheVariants as push
 use Rattle.query_sections.specs.declared.loads.Loads as loads
 use Rattle.query_values.specs.Operand.{are_alike}
 use Rattle.query_values.specs.declared.value.Value.{Value}
@@ -26,3 +28,11 @@ acts_of pool l = value_acts pool (loads_of l)
 -- a value may be looked for in a list of the pool
 abbrev pub MayBeIn : Constant → Value → Type 0
 MayBeIn list x = option_map (λ ys. list_all (are_alike x) ys) (members_in list) ≡ Some true
+
+-- what few instructions load: neither a column nor a constant
+abbrev pub IsOther : Push → Type 0
+IsOther push.True = ⊥
+IsOther push.False = ⊥
+IsOther (push.Const c) = ⊥
+IsOther (push.LoadColumn c) = ⊥
+IsOther p = Unit {0}
