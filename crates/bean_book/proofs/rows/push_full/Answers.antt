@@ -1,9 +1,9 @@
-use Rattle.std.proofs.Common.{ap, subst, sym, ◌∙◌}
-use Rattle.posting_table.specs.Ledger.{Ledger}
+use Rattle.std.proofs.Common.{subst, sym}
 use Rattle.posting_table.specs.Shaped.{IsShaped}
 use Rattle.query_rows.specs.ColumnShape.{widest}
 use Rattle.bean_book.proofs.rows.push_full.Goals as goal
 
 pub push-requires-clause-shaped : goal.push-requires-clause-shaped
 push-requires-clause-shaped c =
-    subst (IsShaped widest) (sym c.in_ok-row.ensures) c.requires.shaped
+    let shaped = c.requires.shaped in
+    (shaped.0, shaped.1, subst (IsShaped widest) (sym (c.own_row-row.ensures shaped.0)) shaped.2)
