@@ -14,7 +14,7 @@ use std::alloc::{AllocError, Global};
 /// A text that was made byte by byte.
 fn made<'a>(alloc: Global, bytes: Vec<u8>) -> Result<PlainText<'a>, AllocError>
     requires { IsAscii bytes.items }
-    ensures { IfOk result (λ text. text ≡ bytes.entry.items) }
+    ensures { IfOk result (λ text. text ≡ bytes.items) }
 {
     match String::from_utf8(bytes) {
         Ok(text) => PlainText::made(alloc, text),

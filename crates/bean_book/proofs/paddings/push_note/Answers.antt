@@ -1,5 +1,5 @@
 use Rattle.std.proofs.Common.{◌≡◌, ◌++◌, ◌∷◌, [], ap, append_assoc, arith}
-use Rattle.std.proofs.Common.{neg_ℤ, subst, sym, ◌∙◌}
+use Rattle.std.proofs.Common.{length, length-append, neg_ℤ, subst, sym, ◌∙◌}
 use Rattle.std.proofs.lemmas.Result.{on_ok_weaker}
 use Rattle.posting_table.specs.Ledger.{Ledger}
 use Rattle.posting_table.specs.Shaped.{IsShaped}
@@ -28,6 +28,16 @@ push-requires-clause-shaped c =
       (padding_small pad pad.pad.account currency n c.requires.pad c.requires.pad.pad.account
       c.requires.note small)),
     )
+
+pub push-requires-2-clause-room : goal.push-requires-2-clause-room
+push-requires-2-clause-room c =
+    let pad = c.args.noted.now in
+    let entry = padding_entry pad in
+    let once =
+    ap (λ (l : Ledger). length l.rows) (c.in_ok-push.ensures.pushed entry c.requires.entry) in
+    let longer = length-append c.args.ledger.now.rows (row_with entry c.padding_row-row.result ∷ []) in
+    let two = ap (λ o. length (rows_by pad c.args.note.now.currency o)) c.in-Padding.is in
+    let room = c.requires.room in omega (arith, once, longer, two, room)
 
 pub push-requires-2-clause-shaped : goal.push-requires-2-clause-shaped
 push-requires-2-clause-shaped c =

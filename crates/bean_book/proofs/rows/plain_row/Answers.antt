@@ -9,8 +9,8 @@ use Rattle.bean_book.proofs.rows.plain_row.Goals as goal
 pub returns : goal.returns
 returns c =
     let posted = c.args.posted.now in
-    let written = c.in_some-written.written.now in
-    let at = c.in_some-written.ensures.lookup in
+    let written = c.in_ok-written.written.now in
+    let at = c.in_ok-written.ensures.lookup in
     let small = c.scaled.ensures.bound in
     let count = same c.scaled.result (omega (arith, small)) ∙ c.scaled.ensures.value in
     λ entry line. (λ i. plain.row_of entry (record {
