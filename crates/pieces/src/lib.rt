@@ -14,7 +14,7 @@
 //!
 //! # Cost
 //!
-//! A piece has 512 items. `new` takes no memory; `push` and `at` take a few steps. Items that are
+//! A piece has 128 items. `new` takes no memory; `push` and `at` take a few steps. Items that are
 //! taken out of a list are moved once each, and a piece is given up as soon as it is empty.
 #![tactic(auto)]
 

@@ -12,7 +12,7 @@ use std::marker::Model;
 use std::mem::replace;
 
 /// How many items a piece has.
-pub(crate) const PIECE: usize = 512;
+pub(crate) const PIECE: usize = 128;
 
 /// A list in pieces.
 #[derive(Drop)]
