@@ -133,13 +133,13 @@ pub(crate) fn entry_of<'a>(
     alloc: Global,
     none: &NoTexts<'a>,
     kept: &Kept<'a>,
-) -> Result<Shared<Entry<'a>>, AllocError>
+) -> Result<Entry<'a>, AllocError>
     ensures { IfOk result (λ entry. entry ≡ spec.entry_of kept.now) }
 {
     let written = &kept.written;
     let transaction = &written.transaction;
     let marks = transaction.marks.as_slice();
-    let entry = Entry {
+    Ok(Entry {
         payee: payee_of(alloc, &transaction.payee)?,
         narration: PlainText::of(alloc, &transaction.narration)?,
         tags: tags_of(alloc, none, marks)?,
@@ -148,8 +148,7 @@ pub(crate) fn entry_of<'a>(
         metadata: metadata_of(alloc, written.metadata.as_slice())?,
         date: written.day,
         flag: EntryFlag::Written(transaction.flag),
-    };
-    Shared::new(alloc, entry)
+    })
 }
 
 /// What the two postings have in common that a pad inserts.
@@ -157,14 +156,14 @@ pub(crate) fn padding_entry<'a>(
     alloc: Global,
     none: &NoTexts<'a>,
     noted: &NotedPad<'a>,
-) -> Result<Shared<Entry<'a>>, AllocError>
+) -> Result<Entry<'a>, AllocError>
     ensures { IfOk result (λ entry. entry ≡ spec.padding_entry noted.now) }
 {
     let names = [
         Slice::new(noted.pad.account.text()),
         Slice::new(noted.pad.source.text()),
     ];
-    let entry = Entry {
+    Ok(Entry {
         payee: None,
         narration: PlainText::lent("Padding"),
         tags: none.share()?,
@@ -173,6 +172,5 @@ pub(crate) fn padding_entry<'a>(
         metadata: Metadata::empty(),
         date: noted.day,
         flag: EntryFlag::Padding,
-    };
-    Shared::new(alloc, entry)
+    })
 }

@@ -7,11 +7,12 @@ use Rattle.limits.specs.declared.bounds.Bounds.{Bounds}
 use Rattle.limits.specs.declared.bounds.Version.TheVariants.{Second}
 use Rattle.bean_base.specs.declared.days.Day as day
 use Rattle.bean_lots.specs.declared.lot.Lot.{Lot}
-use Rattle.posting_table.specs.Row.{cell_at, entry_spelling, of_lot}
-use Rattle.posting_table.specs.Rows.{entries_of}
-use Rattle.posting_table.specs.declared.entry.EntryFlag.TheVariants.{Padding}
-use Rattle.posting_table.specs.declared.metadata.MetaItem.{MetaItem}
-use Rattle.posting_table.specs.declared.row.Row.{Row}
+use Rattle.posting_entries.specs.Entry.{entry_spelling}
+use Rattle.posting_table.specs.Row.{cell_at, of_lot}
+use Rattle.posting_entries.specs.Metadata.{entries_of}
+use Rattle.posting_entries.specs.declared.entry.EntryFlag.TheVariants.{Padding}
+use Rattle.posting_entries.specs.declared.metadata.MetaItem.{MetaItem}
+use Rattle.posting_table.specs.Whole.{Row}
 use Rattle.query_terms.specs.declared.column.Column.TheVariants.{Balance, Tags}
 use Rattle.query_rows.specs.Fits.{has_digits, lot_fits}
 use Rattle.query_rows.specs.Row.{text_or_null, text_under}

@@ -1,16 +1,18 @@
 //! The keys of positions, as a ledger holds them.
-ghost use Rattle.std.specs.Prelude.{◌≡◌, IfOk, IfSome};
+ghost use Rattle.std.specs.Prelude.{◌≡◌, IfOk, IfSome, Some, slice_get};
 ghost use Rattle.posting_table.specs.Cells.{lot_cell};
 ghost use Rattle.posting_table.specs.Plain.{without_lot};
 ghost use Rattle.posting_table.specs.Row as spec;
+ghost use Rattle.posting_table.specs.Tables.{Keeps};
 ghost use Rattle.query_rows.specs.Row.{text_or_null};
 
 use crate::cells::lot_cell;
-use crate::plain_text::PlainText;
-use crate::shared::Shared;
+use crate::tables::add;
 use bean_base::{Currency, Slice};
 use bean_lots::{Key, Lot};
 use indexmap::IndexMap;
+use pieces::Pieces;
+use posting_entries::PlainText;
 use query_terms::Column;
 use query_values::Value;
 use std::alloc::{AllocError, Global};
@@ -51,12 +53,12 @@ fn label_of<'a>(alloc: Global, lot: &Option<Lot<'a>>) -> Result<Option<PlainText
 }
 
 impl<'a> HeldKey<'a> {
-    /// The key, with its label made plain, held once so far.
-    fn shared(alloc: Global, key: Key<'a>) -> Result<Shared<HeldKey<'a>>, AllocError>
+    /// The key, with its label made plain.
+    fn new(alloc: Global, key: Key<'a>) -> Result<HeldKey<'a>, AllocError>
         ensures { IfOk result (λ held. held ≡ key.entry) }
     {
         let label = label_of(alloc, &key.lot)?;
-        Shared::new(alloc, HeldKey { key, label })
+        Ok(HeldKey { key, label })
     }
 
     /// The key.
@@ -87,111 +89,121 @@ impl<'a> HeldKey<'a> {
     }
 }
 
-/// A key that is held, where it is that of a currency without a lot.
+/// The number of a key, where it is that of a currency without a lot.
 #[inline(always)]
-fn of_currency<'s, 'a>(
-    held: &'s Shared<HeldKey<'a>>,
-    currency: &Currency<'_>,
-) -> Option<&'s Shared<HeldKey<'a>>>
-    ensures { IfSome result (λ held. held.now ≡ without_lot currency.now) }
+fn of_currency(keys: &Pieces<HeldKey<'_>>, number: u32, currency: &Currency<'_>) -> Option<u32>
+    ensures { IfSome result (λ n. slice_get keys.now n ≡ Some (without_lot currency.now)) }
 {
-    let key = held.get().key();
+    if number as usize >= keys.len() {
+        return None;
+    }
+    let key = keys.at(number as usize).key();
     if key.lot.is_none() && key.currency == *currency {
-        return Some(held);
+        return Some(number);
     }
     None
 }
 
-/// The keys of currencies without a lot, each of which stands once for all rows of the currency.
+/// The numbers of the keys of currencies without a lot, each of which stands once for all rows of the
+/// currency.
 #[derive(Drop)]
-pub(crate) struct Keys<'a> {
-    plain: IndexMap<Currency<'a>, Shared<HeldKey<'a>>>,
+pub(crate) struct KeyNumbers<'a> {
+    plain: IndexMap<Currency<'a>, u32>,
     /// The one that was asked for last.
-    last: Option<Shared<HeldKey<'a>>>,
+    last: Option<u32>,
 }
 
-impl<'a> Keys<'a> {
+impl<'a> KeyNumbers<'a> {
     /// No keys. Takes no memory.
-    pub(crate) fn new(alloc: Global) -> Keys<'a> {
-        Keys {
+    pub(crate) fn new(alloc: Global) -> KeyNumbers<'a> {
+        KeyNumbers {
             plain: IndexMap::new(alloc),
             last: None,
         }
     }
 
     /// The key of a currency, where it was the last one.
-    fn last(&self, currency: &Currency<'_>) -> Option<&Shared<HeldKey<'a>>>
-        ensures { IfSome result (λ last. last.now ≡ without_lot currency.now) }
+    fn last(&self, keys: &Pieces<HeldKey<'a>>, currency: &Currency<'_>) -> Option<u32>
+        ensures { IfSome result (λ n. slice_get keys.now n ≡ Some (without_lot currency.now)) }
     {
-        of_currency(self.last.as_ref()?, currency)
+        of_currency(keys, self.last?, currency)
     }
 
     /// The key of a currency, where it stands already.
-    fn known(&self, currency: &Currency<'a>) -> Option<&Shared<HeldKey<'a>>>
-        ensures { IfSome result (λ known. known.now ≡ without_lot currency.now) }
+    fn known(&self, keys: &Pieces<HeldKey<'a>>, currency: &Currency<'a>) -> Option<u32>
+        ensures { IfSome result (λ n. slice_get keys.now n ≡ Some (without_lot currency.now)) }
     {
-        of_currency(self.plain.get(currency)?, currency)
+        of_currency(keys, *self.plain.get(currency)?, currency)
     }
 
     /// Keeps the key of a currency for later rows.
     fn keep(
         &mut self,
         alloc: Global,
+        keys: &mut Pieces<HeldKey<'a>>,
         currency: Currency<'a>,
-    ) -> Result<Shared<HeldKey<'a>>, AllocError>
-        ensures { IfOk result (λ held. held ≡ without_lot currency.entry) }
+    ) -> Result<u32, AllocError>
+        ensures key { IfOk result (λ n. slice_get keys.new n ≡ Some (without_lot currency.entry)) }
+        ensures kept { Keeps keys.old keys.new }
     {
         let key = Key {
             currency: currency.lend(),
             lot: None,
         };
-        let held = HeldKey::shared(alloc, key)?;
-        self.plain.insert(currency, held.share()?)?;
-        Ok(held)
+        let number = add(alloc, keys, HeldKey { key, label: None })?;
+        self.plain.insert(currency, number)?;
+        Ok(number)
     }
 
-    /// The key of a currency that wasn't the last one, as it is held.
+    /// The key of a currency that wasn't the last one.
     fn found(
         &mut self,
         alloc: Global,
+        keys: &mut Pieces<HeldKey<'a>>,
         currency: Currency<'a>,
-    ) -> Result<Shared<HeldKey<'a>>, AllocError>
-        ensures { IfOk result (λ held. held ≡ without_lot currency.entry) }
+    ) -> Result<u32, AllocError>
+        ensures key { IfOk result (λ n. slice_get keys.new n ≡ Some (without_lot currency.entry)) }
+        ensures kept { Keeps keys.old keys.new }
     {
-        if let Some(known) = self.known(&currency) {
-            return known.share();
+        if let Some(known) = self.known(keys, &currency) {
+            return Ok(known);
         }
-        self.keep(alloc, currency)
+        self.keep(alloc, keys, currency)
     }
 
-    /// The key of a currency without a lot, as it is held.
+    /// The key of a currency without a lot.
     pub(crate) fn plain(
         &mut self,
         alloc: Global,
+        keys: &mut Pieces<HeldKey<'a>>,
         currency: Currency<'a>,
-    ) -> Result<Shared<HeldKey<'a>>, AllocError>
-        ensures { IfOk result (λ held. held ≡ without_lot currency.entry) }
+    ) -> Result<u32, AllocError>
+        ensures key { IfOk result (λ n. slice_get keys.new n ≡ Some (without_lot currency.entry)) }
+        ensures kept { Keeps keys.old keys.new }
     {
         // The postings of a transaction are mostly of one currency, which is hashed once then.
-        if let Some(last) = self.last(&currency) {
-            return last.share();
+        if let Some(last) = self.last(keys, &currency) {
+            return Ok(last);
         }
-        let held = self.found(alloc, currency)?;
-        self.last = Some(held.share()?);
-        Ok(held)
+        let number = self.found(alloc, keys, currency)?;
+        self.last = Some(number);
+        Ok(number)
     }
 
-    /// The key as it is held: one of a lot stands by itself.
+    /// The key: one of a lot stands by itself.
     pub(crate) fn held(
         &mut self,
         alloc: Global,
+        keys: &mut Pieces<HeldKey<'a>>,
         key: Key<'a>,
-    ) -> Result<Shared<HeldKey<'a>>, AllocError>
-        ensures { IfOk result (λ held. held ≡ key.entry) }
+    ) -> Result<u32, AllocError>
+        ensures key { IfOk result (λ n. slice_get keys.new n ≡ Some key.entry) }
+        ensures kept { Keeps keys.old keys.new }
     {
         if key.lot.is_some() {
-            return HeldKey::shared(alloc, key);
+            let held = HeldKey::new(alloc, key)?;
+            return add(alloc, keys, held);
         }
-        self.plain(alloc, key.currency)
+        self.plain(alloc, keys, key.currency)
     }
 }

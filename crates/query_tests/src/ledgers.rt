@@ -5,7 +5,7 @@ ghost use Rattle.posting_table.specs.Parts.{HasShortTexts, HasSmallParts, IsShor
 use bean_base::{Flag, Slice, parse_account, parse_currency, parse_day};
 use bean_lots::{Key, Position};
 use limits::MOST_POSTINGS;
-use posting_table::{Entry, EntryFlag, Ledger, Metadata, PlainText, Row, Shared, Weight};
+use posting_table::{Entry, EntryFlag, Ledger, Metadata, OwnRow, PlainText, Shared, Weight};
 use query_values::TextSet;
 use std::alloc::Global;
 use std::test::Fail;
@@ -52,12 +52,10 @@ fn lunch(alloc: Global) -> Result<Entry<'static>, Fail>
 }
 
 /// A dollar that was paid.
-fn dollar(entry: Shared<Entry<'static>>) -> Result<Row<'static>, Fail>
-    requires { HasShortTexts entry }
-    ensures { IfOk result (λ row. HasSmallParts row) }
+fn dollar() -> Result<OwnRow<'static>, Fail>
+    ensures { IfOk result (λ row. (e : Entry) → HasShortTexts e → HasSmallParts (row_with e row)) }
 {
-    Ok(Row {
-        entry,
+    Ok(OwnRow {
         account: parse_account("Assets:Cash")?,
         position: Position {
             key: Key {
@@ -82,8 +80,8 @@ fn dollar(entry: Shared<Entry<'static>>) -> Result<Row<'static>, Fail>
 pub fn dollars(alloc: Global, count: usize) -> Result<Ledger<'static>, Fail> {
     let mut ledger = Ledger::new(alloc);
     for _ in 0..count {
-        let entry = Shared::new(alloc, lunch(alloc)?)?;
-        let row = dollar(entry)?;
+        let row = dollar()?;
+        ledger.begin(lunch(alloc)?)?;
         if ledger.len() < MOST_POSTINGS {
             ledger.push(row)?;
         }

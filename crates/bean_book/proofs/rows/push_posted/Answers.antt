@@ -14,8 +14,8 @@ use Rattle.bean_holdings.specs.declared.posted.Posted.{Posted}
 use Rattle.posting_table.specs.Ledger.{Ledger}
 use Rattle.posting_table.specs.Plain as plain
 use Rattle.posting_table.specs.Shaped.{IsShaped}
-use Rattle.posting_table.specs.declared.entry.Entry.{Entry}
-use Rattle.posting_table.specs.declared.row.Row.{Row}
+use Rattle.posting_entries.specs.declared.entry.Entry.{Entry}
+use Rattle.posting_table.specs.Whole.{Row}
 use Rattle.bean_replay.specs.declared.booking.Kept.{Kept}
 use Rattle.bean_book.specs.Tame.{IsTameKept}
 use Rattle.query_rows.specs.ColumnShape.{widest}
@@ -42,10 +42,6 @@ push_full-requires-clause-light c =
     (omega arith) c.one-item.is
     (subst (λ l. AllByRecursion IsLight (booked_legs k.written.transaction.postings l))
     (sym c.as_slice-one-items.ensures) c.requires.tame.small.light))
-
--- what holds of something that is there
-given_some : {X : Type 0} (P : X → Type 0) (o : Option X) (x : X) → o ≡ Some x → IfSome o P → P x
-given_some P o x is h = subst (λ q. IfSome q P) is h
 
 -- the row of a booked posting of a tame transaction lies in the widest shapes
 lies : (k : Kept) (posted : List Posted) (i : ℕ) (p : Posted) (row : Row) → IsTameKept k
@@ -97,31 +93,34 @@ behind k old new before row i p items pushed was is are within at =
     ∙ ap (λ l. old ++ l) (sym (one_more k items i p are within at))
 
 -- the row of a posting, of what is at hand of its transaction
-own_row : (k : Kept) (e : Entry) (ps : List Posting) (p : Posted) → e ≡ entry_of k
-    → ps ≡ k.written.transaction.postings
-    → row_of e k.written.place.line ps p
+own_row : (k : Kept) (ps : List Posting) (p : Posted) → ps ≡ k.written.transaction.postings
+    → row_of (entry_of k) k.written.place.line ps p
     ≡ row_of (entry_of k) k.written.place.line k.written.transaction.postings p
-own_row k e ps p is are = λ i. row_of (is i) k.written.place.line (are i) p
+own_row k ps p are = ap (λ l. row_of (entry_of k) k.written.place.line l p) are
 
 pub push_full-requires-clause-shaped : goal.push_full-requires-clause-shaped
 push_full-requires-clause-shaped c =
     let k = c.args.kept.now in
-    let p = c.one-item.result in
-    lies k c.as_slice-one-items.result.now c.loop-one.one-index p _ c.requires.tame
-    c.as_slice-one-items.ensures (omega arith) c.one-item.is
-    (own_row k c.args.entry.now c.as_slice-postings.result.now p c.requires.entry
-    c.as_slice-postings.ensures)
+    let p = c.one-item.result in (
+      entry_of k,
+      c.loop-one.invariant.entry,
+      lies k c.as_slice-one-items.result.now c.loop-one.one-index p _ c.requires.tame
+          c.as_slice-one-items.ensures (omega arith) c.one-item.is
+          (own_row k c.as_slice-postings.result.now p c.as_slice-postings.ensures),
+    )
 
 pub push_plain-requires-clause-shaped : goal.push_plain-requires-clause-shaped
 push_plain-requires-clause-shaped c =
     let k = c.args.kept.now in
-    let line = k.written.place.line in
-    let p = c.one-item.result in
-    lies k c.as_slice-one-items.result.now c.loop-one.one-index p (plain.row_of c.in-Some.plain)
-    c.requires.tame c.as_slice-one-items.ensures (omega arith) c.one-item.is
-    (given_some _ _ c.in-Some.plain c.in-Some.is c.in_ok-plain.ensures line
-    ∙ ap (λ e. row_of e line c.as_slice-postings.result.now p) c.requires.entry
-    ∙ ap (λ ps. row_of (entry_of k) line ps p) c.as_slice-postings.ensures)
+    let p = c.one-item.result in (
+      entry_of k,
+      c.loop-one.invariant.entry,
+      lies k c.as_slice-one-items.result.now c.loop-one.one-index p
+          (plain.row_of (entry_of k) c.in-Some.plain) c.requires.tame
+          c.as_slice-one-items.ensures (omega arith) c.one-item.is
+          (c.in-Some.ensures (entry_of k) k.written.place.line
+          ∙ own_row k c.as_slice-postings.result.now p c.as_slice-postings.ensures),
+    )
 
 pub push_full-requires-clause-room : goal.push_full-requires-clause-room
 push_full-requires-clause-room c =
@@ -154,30 +153,33 @@ push_plain-requires-clause-room c =
 pub loop-one-preserved-in-Some : goal.loop-one-preserved-in-Some
 loop-one-preserved-in-Some c =
     let k = c.args.kept.now in
-    let line = k.written.place.line in
-    let p = c.one-item.result in record {
-      rows = behind k c.args.ledger.now.rows _ _ (plain.row_of c.in-Some.plain)
+    let p = c.one-item.result in
+    let pushed = c.in_ok-push_plain.ensures.pushed (entry_of k) c.loop-one.invariant.entry in
+    record {
+      rows = behind k c.args.ledger.now.rows _ _ (plain.row_of (entry_of k) c.in-Some.plain)
           c.loop-one.one-index p c.as_slice-one-items.result.now
-          (ap (λ (l : Ledger). l.rows) c.in_ok-push_plain.ensures.pushed)
+          (ap (λ (l : Ledger). l.rows) pushed)
           c.loop-one.invariant.rows
-          (given_some _ _ c.in-Some.plain c.in-Some.is c.in_ok-plain.ensures line
-          ∙ ap (λ e. row_of e line c.as_slice-postings.result.now p) c.requires.entry
-          ∙ ap (λ ps. row_of (entry_of k) line ps p) c.as_slice-postings.ensures)
+          (c.in-Some.ensures (entry_of k) k.written.place.line
+          ∙ own_row k c.as_slice-postings.result.now p c.as_slice-postings.ensures)
           c.as_slice-one-items.ensures (omega arith) c.one-item.is;
-      decimals = ap (λ (l : Ledger). l.decimals) c.in_ok-push_plain.ensures.pushed
-          ∙ c.loop-one.invariant.decimals;
+      decimals = ap (λ (l : Ledger). l.decimals) pushed ∙ c.loop-one.invariant.decimals;
+      entry = ap (λ (l : Ledger). l.entry) pushed ∙ c.loop-one.invariant.entry;
       noted = c.loop-one.invariant.noted;
     }
 
 pub loop-one-preserved : goal.loop-one-preserved
 loop-one-preserved c =
     let k = c.args.kept.now in
-    let p = c.one-item.result in record {
+    let p = c.one-item.result in
+    let pushed = c.in_ok-push_full.ensures.pushed (entry_of k) c.loop-one.invariant.entry in
+    record {
       rows = behind k c.args.ledger.now.rows _ _ _ c.loop-one.one-index p
-          c.as_slice-one-items.result.now c.in_ok-push_full.ensures.rows c.loop-one.invariant.rows
-          (own_row k c.args.entry.now c.as_slice-postings.result.now p c.requires.entry
-          c.as_slice-postings.ensures)
+          c.as_slice-one-items.result.now (ap (λ (l : Ledger). l.rows) pushed)
+          c.loop-one.invariant.rows
+          (own_row k c.as_slice-postings.result.now p c.as_slice-postings.ensures)
           c.as_slice-one-items.ensures (omega arith) c.one-item.is;
-      decimals = c.in_ok-push_full.ensures.decimals ∙ c.loop-one.invariant.decimals;
+      decimals = ap (λ (l : Ledger). l.decimals) pushed ∙ c.loop-one.invariant.decimals;
+      entry = ap (λ (l : Ledger). l.entry) pushed ∙ c.loop-one.invariant.entry;
       noted = c.in_ok-push_full.ensures.noted;
     }
