@@ -13,7 +13,7 @@ use crate::cells::{Scratch, push_units, units_width, width_of};
 use crate::nears::Nears;
 use crate::positions::add_entry;
 use posting_table::Display;
-use query_values::{Entry, Holdings};
+use query_values::{Holdings, InOrder, OwnBag};
 use std::alloc::AllocError;
 
 /// How wide what stands between two entries is.
@@ -41,16 +41,21 @@ fn push_between(out: &mut Vec<u8>, entry: usize) -> Result<(), AllocError>
 }
 
 /// Whether all entries are held without a lot, as most are.
-fn are_plain(entries: &[Entry<'_, '_>]) -> bool
+fn are_plain(entries: &InOrder<'_, '_>) -> bool
     ensures { result ≡ list_all is_plain entries.now }
 {
-    entries.iter().all(|entry| entry.key().lot().is_none())
+    for place in 0..entries.len() {
+        if entries.entry(place).key().lot().is_some() {
+            return false;
+        }
+    }
+    true
 }
 
 /// Adds entries that are held without a lot.
 fn push_plain(
     out: &mut Vec<u8>,
-    entries: &[Entry<'_, '_>],
+    entries: &InOrder<'_, '_>,
     places: u8,
     nears: &mut Nears,
     display: &Display<'_>,
@@ -61,8 +66,9 @@ fn push_plain(
     ensures printable { OnOk result (list_all (is_in_range 32 126)
         (entries_text (decimals_of display.now) places entries.now) ≡ true) }
 {
-    for (i, entry) in entries.iter().enumerate() {
-        push_between(out, i)?;
+    for place in 0..entries.len() {
+        let entry = entries.entry(place);
+        push_between(out, place)?;
         push_units(
             out,
             entry.count(),
@@ -110,17 +116,17 @@ fn plain_width(
 fn make_entries(
     scratch: &mut Scratch,
     places: u8,
-    entries: &[Entry<'_, '_>],
+    entries: &InOrder<'_, '_>,
     display: &Display<'_>,
 ) -> Result<(), AllocError>
     ensures { OnOk result (string_bytes scratch.new.clean
         ≡ entries_text (decimals_of display.now) places entries.now) }
 {
     scratch.clean.clear();
-    for (i, entry) in entries.iter().enumerate() {
-        add_gap(&mut scratch.clean, i)?;
-        let lent = entry.key();
-        add_entry(scratch, &lent.key(), entry.count(), places, display)?;
+    for place in 0..entries.len() {
+        let entry = entries.entry(place);
+        add_gap(&mut scratch.clean, place)?;
+        add_entry(scratch, &entry.key().key(), entry.count(), places, display)?;
     }
     Ok(())
 }
@@ -128,39 +134,43 @@ fn make_entries(
 /// Adds an inventory, and tells its width.
 pub(crate) fn push_inventory(
     out: &mut Vec<u8>,
-    places: u8,
-    held: &Holdings<'_, '_>,
+    bag: &OwnBag<'_>,
     scratch: &mut Scratch,
     display: &Display<'_>,
 ) -> Result<usize, AllocError>
     ensures text { OnOk result (out.new.items
-        ≡ out.old.items ++ bag_text (decimals_of display.now) (record { places = places; held = held.now })) }
-    ensures width { IfOk result (λ n. n ≡ text_width (bag_text (decimals_of display.now) (record { places = places; held = held.now }))) }
+        ≡ out.old.items ++ bag_text (decimals_of display.now) bag.now) }
+    ensures width { IfOk result (λ n. n
+        ≡ text_width (bag_text (decimals_of display.now) bag.now)) }
 {
-    let entries = held.in_order(scratch.alloc)?;
+    let entries = bag.in_order(scratch.alloc)?;
     if are_plain(&entries) {
         let start = out.len();
-        push_plain(out, &entries, places, &mut scratch.nears, display)?;
+        push_plain(out, &entries, bag.places(), &mut scratch.nears, display)?;
         return Ok(out.len() - start);
     }
-    make_entries(scratch, places, &entries, display)?;
+    make_entries(scratch, bag.places(), &entries, display)?;
     out.extend_from_slice(scratch.clean.as_bytes())?;
     Ok(width_of(&scratch.clean))
 }
 
 /// How many columns of a terminal an inventory takes.
 pub(crate) fn inventory_width(
-    places: u8,
-    held: &Holdings<'_, '_>,
+    bag: &OwnBag<'_>,
     scratch: &mut Scratch,
     display: &Display<'_>,
 ) -> Result<usize, AllocError>
-    ensures { IfOk result (λ n. n ≡ text_width (bag_text (decimals_of display.now) (record { places = places; held = held.now }))) }
+    ensures { IfOk result (λ n. n ≡ text_width (bag_text (decimals_of display.now) bag.now)) }
 {
-    if let Some(width) = plain_width(held, places, &mut scratch.nears, display) {
+    if let Some(width) = plain_width(
+        &bag.positions(),
+        bag.places(),
+        &mut scratch.nears,
+        display,
+    ) {
         return Ok(width);
     }
-    let entries = held.in_order(scratch.alloc)?;
-    make_entries(scratch, places, &entries, display)?;
+    let entries = bag.in_order(scratch.alloc)?;
+    make_entries(scratch, bag.places(), &entries, display)?;
     Ok(width_of(&scratch.clean))
 }
