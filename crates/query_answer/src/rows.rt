@@ -2,12 +2,12 @@
 ghost use Rattle.std.specs.Prelude.{◌≡◌, ◌≤◌, ◌++◌, ◌∷◌, [], length, map, take, vec_capacity};
 ghost use Rattle.std.specs.Prelude.{IfOk, IfSome, OnOk};
 ghost use Rattle.query_answer.specs.Places as spec;
-ghost use Rattle.query_answer.specs.Places.{AreEven, AreMixed, HaveBecome, MayGo};
+ghost use Rattle.query_answer.specs.Places.{AreDense, AreMixed, HaveBecome, MayGo};
 ghost use Rattle.query_answer.specs.Rows.{ArePicked, row_at};
 ghost use Rattle.query_answer.specs.Spans.{IsSameAround, LieApart, between, narrowed_to, rows_in, span_at};
 ghost use Rattle.query_answer.specs.Spans.{values_in};
 
-use crate::places::{bring_all, have_width, places_of};
+use crate::places::{are_dense, bring_all, places_of};
 use query_values::Value;
 use std::alloc::{AllocError, Global};
 use std::marker::Model;
@@ -162,8 +162,8 @@ fn width_of(spans: &[Span]) -> usize
     }
 }
 
-/// Where each row goes if rows are picked by these numbers, where these are all rows, and all have as
-/// many values.
+/// Where each row goes if rows are picked by these numbers, where these are all rows, and rows of as
+/// many values lie one behind the other.
 fn places_for(
     alloc: Global,
     spans: &[Span],
@@ -172,7 +172,7 @@ fn places_for(
     ensures { IfOk result (λ found. IfSome found (λ places.
         MayGo spans.now numbers.now places.items)) }
 {
-    if numbers.len() != spans.len() || !have_width(spans, width_of(spans)) {
+    if numbers.len() != spans.len() || !are_dense(spans, width_of(spans)) {
         return Ok(None);
     }
     places_of(alloc, numbers)
@@ -181,14 +181,15 @@ fn places_for(
 /// All rows in another order, where they lie.
 fn brought<'a>(values: Vec<Value<'a>>, spans: Vec<Span>, places: Vec<usize>) -> AnswerRows<'a>
     requires apart { LieApart 0 (length values.items) spans.items }
-    requires even { AreEven spans.items }
+    requires dense { AreDense spans.items }
     requires mixed { AreMixed places.items }
     requires count { length places.items ≡ length spans.items }
     ensures { HaveBecome (rows_in values.entry.items spans.items) places.items result }
 {
     let mut values = values;
     let mut places = places;
-    bring_all(&mut values, spans.as_slice(), &mut places);
+    let width = width_of(spans.as_slice());
+    bring_all(&mut values, spans.as_slice(), width, &mut places);
     AnswerRows { values, spans }
 }
 

@@ -14,6 +14,6 @@ returns c =
     (c.bring_all.ensures.lasts ∙ ap length c.deref_mut.ensures.value ∙ sym c.args.values.ok.0) in
     λ wanted long is.
     ap (λ l. rows_in l ss) kept
-    ∙ become_so c.deref_mut.result.now c.args.values.items new c.as_slice.result.now ss
-    c.deref_mut-2.result.now c.args.places.items c.deref_mut.ensures.value c.as_slice.ensures.value
+    ∙ become_so c.deref_mut.result.now c.args.values.items new c.as_slice-2.result.now ss
+    c.deref_mut-2.result.now c.args.places.items c.deref_mut.ensures.value c.as_slice-2.ensures.value
     c.deref_mut-2.ensures.value c.bring_all.ensures.rows wanted long is

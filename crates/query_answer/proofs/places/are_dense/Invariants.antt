@@ -1,9 +1,9 @@
 use Rattle.std.proofs.Common.{◌≡◌, length}
-use Rattle.query_answer.specs.Places.{have_width}
-use Rattle.query_answer.proofs.places.have_width.Given as goal
+use Rattle.query_answer.specs.Places.{are_dense}
+use Rattle.query_answer.proofs.places.are_dense.Given as goal
 
 abbrev pub invariant-loop-spans : goal.invariant-loop-spans
-invariant-loop-spans l = have_width l.width l.fn.spans ≡ have_width l.width l.spans
+invariant-loop-spans l = are_dense 0 l.width l.fn.spans ≡ are_dense l.at l.width l.spans
 
 abbrev pub decreases-loop-spans : goal.decreases-loop-spans
 decreases-loop-spans l = length l.spans

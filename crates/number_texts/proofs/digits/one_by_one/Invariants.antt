@@ -1,6 +1,6 @@
 use Rattle.std.proofs.Common.{◌≡◌, ◌<◌, ◌≤◌, ◌^◌}
 use Rattle.number_texts.specs.Digits.{exact_decimals}
-use Rattle.number_texts.proofs.digits.zeros_taken_off_few.Given as goal
+use Rattle.number_texts.proofs.digits.one_by_one.Given as goal
 
 abbrev pub invariant-loop-places : goal.invariant-loop-places
 invariant-loop-places l = record {

@@ -1,7 +1,7 @@
 use Rattle.std.proofs.Common.{ap, ◌∙◌, arith}
 use Rattle.std.proofs.lemmas.Bool.Decides.{nat_tests}
 use Rattle.number_texts.proofs.DigitsFacts.{filled, all_exact, all_shown}
-use Rattle.number_texts.proofs.digits.zeros_taken_off_few.Goals as goal
+use Rattle.number_texts.proofs.digits.one_by_one.Goals as goal
 
 pub returns-else-decimals-eq0 : goal.returns-else-decimals-eq0
 returns-else-decimals-eq0 c = record {
