@@ -82,11 +82,7 @@ fn row_fits(bounds: &Bounds, row: &LentRow<'_, '_>) -> bool
 }
 
 /// Whether the counts of some rows are within bounds.
-fn are_fit<'l, 'a>(
-    bounds: &Bounds,
-    tables: &'l Tables<'a>,
-    rows: &'l [HeldRow<'a>],
-) -> bool
+fn are_fit<'l, 'a>(bounds: &Bounds, tables: &'l Tables<'a>, rows: &'l [HeldRow<'a>]) -> bool
     requires { All (IsHeld tables.now) rows.now }
     ensures { result
         ≡ list_all (λ h. spec.row_fits bounds.now (row_of (row_in tables.now h))) rows.now }

@@ -119,13 +119,7 @@ impl<'a> Ledger<'a> {
         let Some(entry) = self.begun else {
             unreachable!();
         };
-        let row = HeldRow::new(
-            self.alloc,
-            &mut self.tables,
-            &mut self.numbers,
-            entry,
-            row,
-        )?;
+        let row = HeldRow::new(self.alloc, &mut self.tables, &mut self.numbers, entry, row)?;
         self.rows.push(self.alloc, row)?;
         Ok(())
     }
@@ -143,13 +137,7 @@ impl<'a> Ledger<'a> {
         let Some(entry) = self.begun else {
             unreachable!();
         };
-        let row = HeldRow::plain(
-            self.alloc,
-            &mut self.tables,
-            &mut self.numbers,
-            entry,
-            row,
-        )?;
+        let row = HeldRow::plain(self.alloc, &mut self.tables, &mut self.numbers, entry, row)?;
         self.rows.push(self.alloc, row)?;
         Ok(())
     }

@@ -64,7 +64,11 @@ impl<'l, 'a> LentRow<'l, 'a> {
         match self.row.beside {
             Beside::Line(_) => None,
             Beside::Parts(number) => {
-                self.tables.besides.at(number as usize).metadata.text_under(key)
+                self.tables
+                    .besides
+                    .at(number as usize)
+                    .metadata
+                    .text_under(key)
             }
         }
     }

@@ -19,11 +19,7 @@ pub(crate) struct Tables<'a> {
 
 /// Puts an item at the end of a table, and tells its number. It fails where memory lacks, and where
 /// there are as many as can be numbered.
-pub(crate) fn add<T: Drop>(
-    alloc: Global,
-    table: &mut Pieces<T>,
-    item: T,
-) -> Result<u32, AllocError>
+pub(crate) fn add<T: Drop>(alloc: Global, table: &mut Pieces<T>, item: T) -> Result<u32, AllocError>
     ensures there { IfOk result (λ n. slice_get table.new n ≡ Some item) }
     ensures kept { Keeps table.old table.new }
 {

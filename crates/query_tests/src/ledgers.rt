@@ -1,6 +1,7 @@
 //! Ledgers and programs that the tests run.
 ghost use Rattle.std.specs.Prelude.{IfOk, ◌≤◌, length};
 ghost use Rattle.posting_table.specs.Parts.{HasShortTexts, HasSmallParts, IsShortSet};
+ghost use Rattle.posting_table.specs.Whole.{row_with};
 
 use bean_base::{Flag, Slice, parse_account, parse_currency, parse_day};
 use bean_lots::{Key, Position};

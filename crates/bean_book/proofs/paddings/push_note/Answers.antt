@@ -24,9 +24,9 @@ push-requires-clause-shaped c =
       padding_entry pad,
       c.requires.entry,
       subst (IsShaped widest) (sym is)
-      (row_lies (padding_row pad pad.pad.account currency n)
-      (padding_small pad pad.pad.account currency n c.requires.pad c.requires.pad.pad.account
-      c.requires.note small)),
+          (row_lies (padding_row pad pad.pad.account currency n)
+          (padding_small pad pad.pad.account currency n c.requires.pad c.requires.pad.pad.account
+          c.requires.note small)),
     )
 
 pub push-requires-2-clause-room : goal.push-requires-2-clause-room
@@ -53,9 +53,9 @@ push-requires-2-clause-shaped c =
       padding_entry pad,
       ap (λ (l : Ledger). l.entry) first ∙ c.requires.entry,
       subst (IsShaped widest) (sym is)
-      (row_lies (padding_row pad pad.pad.source currency (neg_ℤ n))
-      (padding_small pad pad.pad.source currency (neg_ℤ n) c.requires.pad
-      c.requires.pad.pad.source c.requires.note (omega (arith, small, e)))),
+          (row_lies (padding_row pad pad.pad.source currency (neg_ℤ n))
+          (padding_small pad pad.pad.source currency (neg_ℤ n) c.requires.pad
+          c.requires.pad.pad.source c.requires.note (omega (arith, small, e)))),
     )
 
 pub returns : goal.returns
