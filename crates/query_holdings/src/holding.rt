@@ -12,10 +12,8 @@ ghost use Rattle.bean_lots.specs.Inventory.{negative_entry, position_of};
 ghost use Rattle.bean_lots.specs.Lot.{same_key};
 ghost use Rattle.bean_lots.specs.Slots.{positions};
 ghost use Rattle.bean_lots.specs.declared.lot.Key.{Key as KeyValue};
-ghost use Rattle.query_holdings.specs.Entries.{in_order};
 
 use crate::bag_key::BagKey;
-use crate::entry::InOrder;
 use crate::holdings::Holdings;
 use crate::kept::{Kept, ROOM};
 use crate::keys::Keys;
@@ -160,13 +158,6 @@ impl<'r> Holding<'r> {
         // Each key stands once.
         let _count = self.counts.len();
         Holdings::in_slots(self.counts.as_run())
-    }
-
-    /// The entries in the order of their keys.
-    pub fn in_order(&self, alloc: Global) -> Result<InOrder<'_, 'r>, AllocError>
-        ensures { IfOk result (λ o. o ≡ in_order self.now) }
-    {
-        InOrder::of(alloc, &self.positions())
     }
 
     /// Adds to the count under a key. The caller knows that the sum fits.

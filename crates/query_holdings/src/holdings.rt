@@ -1,18 +1,28 @@
 //! The positions of a bag, one after the other.
-ghost use Rattle.std.specs.Prelude.{◌≡◌, ◌≤◌, ◌∷◌, [], IfNone, IfSome, drop, length};
+ghost use Rattle.std.specs.Prelude.{◌≡◌, ◌≤◌, ◌∷◌, [], IfNone, IfOk, IfSome, drop, length, map};
 ghost use Rattle.bean_lots.specs.Inventory.{position_of};
 ghost use Rattle.bean_lots.specs.Slots.{positions};
+ghost use Rattle.query_holdings.specs.Entries.{in_order};
 ghost use Rattle.query_holdings.specs.Kept.{held_in};
+ghost use Rattle.query_holdings.specs.Placed.{entry_in};
 
 use crate::bag_key::BagKey;
+use crate::entry::InOrder;
+use crate::keys::PlacedList;
 use key_counts::Run;
+use std::alloc::{AllocError, Global};
 use std::marker::Model;
 
-/// Positions that are still to come, as they lie: in slots, some of which are empty, or as keys with
-/// counts beside them.
+/// Positions that are still to come, as they lie: in slots, some of which are empty; or as keys with
+/// counts beside them, of which all are still to come, so that their order is known, or not all.
 #[derive(Drop)]
 pub(crate) enum Rest<'s, 'r> {
     Slots(Run<'s, BagKey<'r>>),
+    Whole {
+        keys: &'s [BagKey<'r>],
+        counts: &'s [i64],
+        placed: PlacedList<'s, 'r>,
+    },
     Beside {
         keys: &'s [BagKey<'r>],
         counts: &'s [i64],
@@ -28,11 +38,13 @@ pub struct Holdings<'s, 'r> {
 impl<'s, 'r> Model for Holdings<'s, 'r> {
     ghost use Rattle.std.specs.Prelude.{List};
     ghost use Rattle.bean_lots.specs.declared.lot.Position.{Position};
-    ghost use Rattle.query_holdings.specs.Rest.{still_to_come};
+    ghost use Rattle.query_holdings.specs.Rest.{AreInOrder, still_to_come};
 
     ghost Value = { List Position };
 
     ghost view = { λ h. still_to_come h.rest };
+
+    ghost invariant = { λ h. AreInOrder h.rest };
 }
 
 /// The first count that isn't 0, with its key and the place behind it.
@@ -93,12 +105,21 @@ impl<'s, 'r> Holdings<'s, 'r> {
         }
     }
 
-    /// What keys hold with counts beside them.
-    pub(crate) fn beside(keys: &'s [BagKey<'r>], counts: &'s [i64]) -> Holdings<'s, 'r>
+    /// What keys hold with counts beside them, and the keys in their order.
+    pub(crate) fn beside(
+        keys: &'s [BagKey<'r>],
+        counts: &'s [i64],
+        placed: PlacedList<'s, 'r>,
+    ) -> Holdings<'s, 'r>
+        requires { map (entry_in counts.now) placed ≡ in_order (held_in keys.now counts.now) }
         ensures { result ≡ held_in keys.now counts.now }
     {
         Holdings {
-            rest: Rest::Beside { keys, counts },
+            rest: Rest::Whole {
+                keys,
+                counts,
+                placed,
+            },
         }
     }
 
@@ -108,9 +129,28 @@ impl<'s, 'r> Holdings<'s, 'r> {
     {
         let rest = match &self.rest {
             Rest::Slots(slots) => Rest::Slots(slots.split_at(0).1),
+            Rest::Whole {
+                keys,
+                counts,
+                placed,
+            } => Rest::Whole {
+                keys,
+                counts,
+                placed: placed.lend(),
+            },
             Rest::Beside { keys, counts } => Rest::Beside { keys, counts },
         };
         Holdings { rest }
+    }
+
+    /// The positions in the order of their keys.
+    pub fn in_order(&self, alloc: Global) -> Result<InOrder<'s, 'r>, AllocError>
+        ensures { IfOk result (λ o. o ≡ in_order self.now) }
+    {
+        match &self.rest {
+            Rest::Whole { counts, placed, .. } => Ok(InOrder::placed(placed.as_slice(), counts)),
+            _ => InOrder::of(alloc, self),
+        }
     }
 
     /// The key and the count of the next position, or none where there are no more.
@@ -118,8 +158,19 @@ impl<'s, 'r> Holdings<'s, 'r> {
         ensures some { IfSome result (λ e. self.old ≡ position_of e.0.now e.1 ∷ self.new) }
         ensures none { IfNone result (self.old ≡ []) }
     {
+        if let Rest::Whole { keys, counts, .. } = &self.rest {
+            let mut other_keys = *keys;
+            let mut other_counts = *counts;
+            let next = next_beside(&mut other_keys, &mut other_counts);
+            self.rest = Rest::Beside {
+                keys: other_keys,
+                counts: other_counts,
+            };
+            return next;
+        }
         match &mut self.rest {
             Rest::Slots(slots) => next_slot(slots),
+            Rest::Whole { .. } => unreachable!(),
             Rest::Beside { keys, counts } => next_beside(keys, counts),
         }
     }

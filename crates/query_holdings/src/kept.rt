@@ -4,11 +4,9 @@ ghost use Rattle.std.specs.Map.{keys_of};
 ghost use Rattle.std.specs.Ordering.{int_eq};
 ghost use Rattle.bean_lots.specs.Inventory.{IsInventory, count_of, negative_entry};
 ghost use Rattle.bean_lots.specs.Slots.{positions};
-ghost use Rattle.query_holdings.specs.Entries.{in_order};
 ghost use Rattle.query_holdings.specs.Kept.{MayTurn, held_in};
 
 use crate::bag_key::BagKey;
-use crate::entry::InOrder;
 use crate::holding::Holding;
 use crate::holdings::Holdings;
 use crate::keys::Keys;
@@ -138,14 +136,11 @@ impl<'r> Kept<'r> {
         ensures positions { result ≡ self.now }
         ensures inventory { IsInventory self.now }
     {
-        Holdings::beside(self.keys.as_slice(), self.counts.as_slice())
-    }
-
-    /// The entries in the order of their keys. Takes no memory.
-    pub fn in_order(&self) -> InOrder<'_, 'r>
-        ensures { result ≡ in_order self.now }
-    {
-        InOrder::placed(self.keys.placed(), self.counts.as_slice())
+        Holdings::beside(
+            self.keys.as_slice(),
+            self.counts.as_slice(),
+            self.keys.placed(),
+        )
     }
 
     /// Changes the sign of every count.

@@ -24,6 +24,39 @@ impl Drop for Placed<'_> {
     }
 }
 
+/// Keys with their places, lent.
+#[derive(Drop)]
+pub(crate) struct PlacedList<'s, 'r> {
+    placed: &'s [Placed<'r>],
+}
+
+impl<'s, 'r> Model for PlacedList<'s, 'r> {
+    ghost use Rattle.std.specs.Prelude.{List};
+    ghost use Rattle.query_holdings.specs.declared.keys.Placed as keys;
+
+    ghost Value = { List keys.Placed };
+
+    ghost view = { λ l. l.placed.now };
+}
+
+impl<'s, 'r> PlacedList<'s, 'r> {
+    /// The keys themselves.
+    pub(crate) fn as_slice(&self) -> &'s [Placed<'r>]
+        ensures { result.now ≡ self.now }
+    {
+        self.placed
+    }
+
+    /// The same once more.
+    pub(crate) fn lend(&self) -> PlacedList<'s, 'r>
+        ensures { result ≡ self.now }
+    {
+        PlacedList {
+            placed: self.placed,
+        }
+    }
+}
+
 /// Keys in order of entry, and the same in the order of keys.
 struct Ordered<'r> {
     keys: Vec<BagKey<'r>>,
@@ -117,10 +150,12 @@ impl<'r> Keys<'r> {
     }
 
     /// The keys in their order, each with its place in the order of entry.
-    pub(crate) fn placed(&self) -> &[Placed<'r>]
-        ensures { result.now ≡ in_key_order (placed_from 0 self.now) }
+    pub(crate) fn placed(&self) -> PlacedList<'_, 'r>
+        ensures { result ≡ in_key_order (placed_from 0 self.now) }
     {
-        self.place.placed.as_slice()
+        PlacedList {
+            placed: self.place.placed.as_slice(),
+        }
     }
 
     /// The same keys, held once more. Takes no memory; it fails only where they are held as often as

@@ -10,8 +10,8 @@ ghost use Rattle.query_runs.specs.Stands.{keeps, kept_in, rows_in, stand_of};
 use crate::run::{Inputs, Run, Stage};
 use query_code::Mode;
 use query_terms::Column;
-use query_values::{Aggregate, share_keys};
 use query_values::comparison::is_true;
+use query_values::{Aggregate, share_keys};
 use std::alloc::{AllocError, Global};
 
 /// Goes to the next group, or to the end.

@@ -3,13 +3,12 @@ ghost use Rattle.std.specs.Prelude.{◌≡◌, ◌≤◌, ◌+ℤ◌, [], All, I
 ghost use Rattle.std.specs.Int.{w128};
 ghost use Rattle.std.specs.Int.RustNames.{FitsSigned};
 ghost use Rattle.bean_lots.specs.Inventory.{IsInventory, MayBeNegated, count_of};
-ghost use Rattle.query_holdings.specs.Entries.{in_order};
 ghost use Rattle.query_holdings.specs.Total.{adds_up, at_cost, cost_total, units_total};
 ghost use Rattle.query_holdings.specs.Total.{without_lot};
 ghost use Rattle.query_values.specs.Bag.{bag_cost, bag_units, negative_bag, with_entry};
 ghost use Rattle.query_values.specs.Own.{bag_in};
 
-use query_holdings::{BagKey, Holding, Holdings, InOrder, Kept, Lent};
+use query_holdings::{BagKey, Holding, Holdings, Kept, Lent};
 use std::alloc::{AllocError, Global};
 use std::marker::Model;
 
@@ -178,16 +177,6 @@ impl<'r> OwnBag<'r> {
         match &self.form {
             Form::Grown(bag) => bag.held.positions(),
             Form::Kept { held, .. } => held.positions(),
-        }
-    }
-
-    /// The entries in the order of their keys.
-    pub fn in_order(&self, alloc: Global) -> Result<InOrder<'_, 'r>, AllocError>
-        ensures { IfOk result (λ o. o ≡ in_order self.now.held) }
-    {
-        match &self.form {
-            Form::Grown(bag) => bag.held.in_order(alloc),
-            Form::Kept { held, .. } => Ok(held.in_order()),
         }
     }
 

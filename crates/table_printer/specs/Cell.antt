@@ -16,4 +16,4 @@ value_of (shown.Day day) = value.Day day
 value_of (shown.Set texts) = value.Set texts
 value_of (shown.Amount places count currency) = value.Amount places currency count
 value_of (shown.Position key count) = value.Position key count
-value_of (shown.Inventory bag) = value.Inventory bag
+value_of (shown.Inventory places held) = value.Inventory (record { places = places; held = held })

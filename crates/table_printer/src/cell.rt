@@ -5,7 +5,7 @@ ghost use Rattle.table_printer.specs.Cell.{value_of};
 
 use bean_base::{Currency, Day, Slice};
 use bean_lots::Key;
-use query_values::{Lent, OwnBag, TextSet, Value};
+use query_values::{Holdings, Lent, TextSet, Value};
 use std::marker::Model;
 
 /// A value whose parts are lent from where they are kept.
@@ -29,7 +29,10 @@ pub enum Shown<'r> {
         key: Lent<'r, Key<'r>>,
         count: i128,
     },
-    Inventory(Lent<'r, OwnBag<'r>>),
+    Inventory {
+        places: u8,
+        held: Holdings<'r, 'r>,
+    },
 }
 
 /// What stands in a cell: a text, a day or a position, made when the cell is asked for, or any value
@@ -106,7 +109,10 @@ impl<'r> Cell<'r> {
                 key: Lent::new(key.get()),
                 count: *count,
             },
-            Value::Inventory(bag) => Shown::Inventory(Lent::new(bag)),
+            Value::Inventory(bag) => Shown::Inventory {
+                places: bag.places(),
+                held: bag.positions(),
+            },
         };
         Cell { shown }
     }

@@ -307,7 +307,13 @@ pub(crate) fn push_cell(
             &mut scratch.nears,
         ),
         Shown::Position { key, count } => push_position(out, key.get(), *count, scratch, display),
-        Shown::Inventory(bag) => push_inventory(out, bag.get(), scratch, display),
+        Shown::Inventory { places, held } => push_inventory(
+            out,
+            *places,
+            &held.lend(),
+            scratch,
+            display,
+        ),
     }
 }
 
@@ -334,6 +340,11 @@ pub(crate) fn cell_width(
             currency,
         } => Ok(units_width(*count, *places, currency.get(), display, &mut scratch.nears)),
         Shown::Position { key, count } => position_width(key.get(), *count, scratch, display),
-        Shown::Inventory(bag) => inventory_width(bag.get(), scratch, display),
+        Shown::Inventory { places, held } => inventory_width(
+            *places,
+            &held.lend(),
+            scratch,
+            display,
+        ),
     }
 }

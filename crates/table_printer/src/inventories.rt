@@ -6,14 +6,15 @@ ghost use Rattle.std.specs.String.{string_bytes};
 ghost use Rattle.posting_table.specs.Decimals.{decimals_of};
 ghost use Rattle.table_printer.specs.Table.{text_width};
 ghost use Rattle.query_holdings.specs.Entries.{in_order};
-ghost use Rattle.table_printer.specs.CellText.{bag_text, between_entries, entries_text, is_plain};
+ghost use Rattle.table_printer.specs.CellText.{bag_text, between_entries, entries_text};
+ghost use Rattle.table_printer.specs.CellText as spec;
 ghost use Rattle.theory.specs.Joined.{gap_before};
 
 use crate::cells::{Scratch, push_units, units_width, width_of};
 use crate::nears::Nears;
 use crate::positions::add_entry;
 use posting_table::Display;
-use query_values::{Holdings, InOrder, OwnBag};
+use query_values::{Entry, Holdings, InOrder};
 use std::alloc::AllocError;
 
 /// How wide what stands between two entries is.
@@ -40,12 +41,19 @@ fn push_between(out: &mut Vec<u8>, entry: usize) -> Result<(), AllocError>
     Ok(())
 }
 
+/// Whether an entry is held without a lot.
+fn is_plain(entry: &Entry<'_, '_>) -> bool
+    ensures { result ≡ spec.is_plain entry.now }
+{
+    entry.key().lot().is_none()
+}
+
 /// Whether all entries are held without a lot, as most are.
 fn are_plain(entries: &InOrder<'_, '_>) -> bool
-    ensures { result ≡ list_all is_plain entries.now }
+    ensures { result ≡ list_all spec.is_plain entries.now }
 {
     for place in 0..entries.len() {
-        if entries.entry(place).key().lot().is_some() {
+        if !is_plain(&entries.entry(place)) {
             return false;
         }
     }
@@ -60,7 +68,7 @@ fn push_plain(
     nears: &mut Nears,
     display: &Display<'_>,
 ) -> Result<(), AllocError>
-    requires plain { list_all is_plain entries.now ≡ true }
+    requires plain { list_all spec.is_plain entries.now ≡ true }
     ensures text { OnOk result (out.new.items
         ≡ out.old.items ++ entries_text (decimals_of display.now) places entries.now) }
     ensures printable { OnOk result (list_all (is_in_range 32 126)
@@ -126,7 +134,8 @@ fn make_entries(
     for place in 0..entries.len() {
         let entry = entries.entry(place);
         add_gap(&mut scratch.clean, place)?;
-        add_entry(scratch, &entry.key().key(), entry.count(), places, display)?;
+        let lent = entry.key();
+        add_entry(scratch, &lent.key(), entry.count(), places, display)?;
     }
     Ok(())
 }
@@ -134,43 +143,39 @@ fn make_entries(
 /// Adds an inventory, and tells its width.
 pub(crate) fn push_inventory(
     out: &mut Vec<u8>,
-    bag: &OwnBag<'_>,
+    places: u8,
+    held: &Holdings<'_, '_>,
     scratch: &mut Scratch,
     display: &Display<'_>,
 ) -> Result<usize, AllocError>
     ensures text { OnOk result (out.new.items
-        ≡ out.old.items ++ bag_text (decimals_of display.now) bag.now) }
-    ensures width { IfOk result (λ n. n
-        ≡ text_width (bag_text (decimals_of display.now) bag.now)) }
+        ≡ out.old.items ++ bag_text (decimals_of display.now) (record { places = places; held = held.now })) }
+    ensures width { IfOk result (λ n. n ≡ text_width (bag_text (decimals_of display.now) (record { places = places; held = held.now }))) }
 {
-    let entries = bag.in_order(scratch.alloc)?;
+    let entries = held.in_order(scratch.alloc)?;
     if are_plain(&entries) {
         let start = out.len();
-        push_plain(out, &entries, bag.places(), &mut scratch.nears, display)?;
+        push_plain(out, &entries, places, &mut scratch.nears, display)?;
         return Ok(out.len() - start);
     }
-    make_entries(scratch, bag.places(), &entries, display)?;
+    make_entries(scratch, places, &entries, display)?;
     out.extend_from_slice(scratch.clean.as_bytes())?;
     Ok(width_of(&scratch.clean))
 }
 
 /// How many columns of a terminal an inventory takes.
 pub(crate) fn inventory_width(
-    bag: &OwnBag<'_>,
+    places: u8,
+    held: &Holdings<'_, '_>,
     scratch: &mut Scratch,
     display: &Display<'_>,
 ) -> Result<usize, AllocError>
-    ensures { IfOk result (λ n. n ≡ text_width (bag_text (decimals_of display.now) bag.now)) }
+    ensures { IfOk result (λ n. n ≡ text_width (bag_text (decimals_of display.now) (record { places = places; held = held.now }))) }
 {
-    if let Some(width) = plain_width(
-        &bag.positions(),
-        bag.places(),
-        &mut scratch.nears,
-        display,
-    ) {
+    if let Some(width) = plain_width(held, places, &mut scratch.nears, display) {
         return Ok(width);
     }
-    let entries = bag.in_order(scratch.alloc)?;
-    make_entries(scratch, bag.places(), &entries, display)?;
+    let entries = held.in_order(scratch.alloc)?;
+    make_entries(scratch, places, &entries, display)?;
     Ok(width_of(&scratch.clean))
 }
