@@ -77,7 +77,6 @@ fn dollar() -> Result<OwnRow<'static>, Fail>
 }
 
 /// A ledger of so many dollars.
-#[tactic(auto, using(posting_table::proofs::PartFacts::row_lies))]
 pub fn dollars(alloc: Global, count: usize) -> Result<Ledger<'static>, Fail> {
     let mut ledger = Ledger::new(alloc);
     for _ in 0..count {

@@ -10,8 +10,9 @@ ghost use Rattle.table_printer.specs.CellText.{bag_text, between_entries, entrie
 ghost use Rattle.table_printer.specs.CellText as spec;
 ghost use Rattle.theory.specs.Joined.{gap_before};
 
-use crate::cells::{Scratch, push_units, units_width, width_of};
+use crate::cells::{Scratch, held_width, push_held, width_of};
 use crate::nears::Nears;
+use crate::numbers::Numbers;
 use crate::positions::add_entry;
 use posting_table::Display;
 use query_values::{Entry, Holdings, InOrder};
@@ -66,6 +67,7 @@ fn push_plain(
     entries: &InOrder<'_, '_>,
     places: u8,
     nears: &mut Nears,
+    numbers: &mut Numbers,
     display: &Display<'_>,
 ) -> Result<(), AllocError>
     requires plain { list_all spec.is_plain entries.now ≡ true }
@@ -77,13 +79,14 @@ fn push_plain(
     for place in 0..entries.len() {
         let entry = entries.entry(place);
         push_between(out, place)?;
-        push_units(
+        push_held(
             out,
             entry.count(),
             places,
             entry.key().currency(),
             display,
             nears,
+            numbers,
         )?;
     }
     Ok(())
@@ -102,6 +105,7 @@ fn plain_width(
     held: &Holdings<'_, '_>,
     places: u8,
     nears: &mut Nears,
+    numbers: &mut Numbers,
     display: &Display<'_>,
 ) -> Option<usize>
     ensures { IfSome result (λ n. n
@@ -113,7 +117,7 @@ fn plain_width(
         if key.lot().is_some() {
             return None;
         }
-        let own = units_width(count, places, key.currency(), display, nears);
+        let own = held_width(count, places, key.currency(), display, nears, numbers);
         width = wider(width, own)?;
     }
     // Nothing stands behind the last.
@@ -155,7 +159,14 @@ pub(crate) fn push_inventory(
     let entries = held.in_order(scratch.alloc)?;
     if are_plain(&entries) {
         let start = out.len();
-        push_plain(out, &entries, places, &mut scratch.nears, display)?;
+        push_plain(
+            out,
+            &entries,
+            places,
+            &mut scratch.nears,
+            &mut scratch.numbers,
+            display,
+        )?;
         return Ok(out.len() - start);
     }
     make_entries(scratch, places, &entries, display)?;
@@ -172,7 +183,13 @@ pub(crate) fn inventory_width(
 ) -> Result<usize, AllocError>
     ensures { IfOk result (λ n. n ≡ text_width (bag_text (decimals_of display.now) (record { places = places; held = held.now }))) }
 {
-    if let Some(width) = plain_width(held, places, &mut scratch.nears, display) {
+    if let Some(width) = plain_width(
+        held,
+        places,
+        &mut scratch.nears,
+        &mut scratch.numbers,
+        display,
+    ) {
         return Ok(width);
     }
     let entries = held.in_order(scratch.alloc)?;

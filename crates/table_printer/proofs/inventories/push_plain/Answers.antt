@@ -28,7 +28,7 @@ loop-place-preserved c =
     let count = ap (λ n. to_z w128 (of_z w128 n)) c.count.ensures ∙ to_z-of_z w128 entry.count fits in
     let currency = c.currency.ensures ∙ ap (λ (k : Key). k.currency) c.key.ensures in
     let within : i < length entries = omega (arith, c.loop-place-test.true) in record {
-      text = c.in_ok-push_units.ensures.text
+      text = c.in_ok-push_held.ensures.text
           ∙ (λ k. c.in_ok-push_between.ensures k ++ units (count k) (currency k))
           ∙ ap (λ l. (l ++ gap) ++ own) c.loop-place.invariant.text
           ∙ append_assoc (c.args.out.now.items ++ so_far) gap own
@@ -37,5 +37,5 @@ loop-place-preserved c =
           (sym (next_is display places entries i entry within is c.requires.plain));
       printable = next_printable display places entries i entry within is
           c.requires.plain c.loop-place.invariant.printable
-          (subst Printable (λ k. units (count k) (currency k)) c.in_ok-push_units.ensures.printable);
+          (subst Printable (λ k. units (count k) (currency k)) c.in_ok-push_held.ensures.printable);
     }
