@@ -5,7 +5,7 @@ ghost use Rattle.posting_table.specs.Tables.{Keeps};
 
 use crate::row::Weight;
 use crate::tables::add;
-use bean_base::{Amount, Flag};
+use bean_base::{Amount, Apart, Flag};
 use pieces::Pieces;
 use posting_entries::Metadata;
 use std::alloc::{AllocError, Global};
@@ -44,7 +44,7 @@ impl Beside {
     /// These parts, in their table. Where there is nothing but the line no memory is taken.
     pub(crate) fn new<'a>(
         alloc: Global,
-        table: &mut Pieces<BesideParts<'a>>,
+        table: &mut Pieces<Apart<BesideParts<'a>>>,
         parts: BesideParts<'a>,
     ) -> Result<Beside, AllocError>
         requires { parts.line < 2 ^ 32 }
@@ -55,6 +55,7 @@ impl Beside {
         let has_metadata = !parts.metadata.as_slice().is_empty();
         let has_amount = parts.weight.is_some() || parts.price.is_some();
         if has_metadata || has_amount || parts.flag.is_some() {
+            let parts = Apart::new(alloc, parts)?;
             return Ok(Beside::Parts(add(alloc, table, parts)?));
         }
         Ok(Beside::line_alone(parts.line))

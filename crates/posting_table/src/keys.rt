@@ -8,7 +8,7 @@ ghost use Rattle.query_rows.specs.Row.{text_or_null};
 
 use crate::cells::lot_cell;
 use crate::tables::add;
-use bean_base::{Currency, Slice};
+use bean_base::{Apart, Currency, Slice};
 use bean_lots::{Key, Lot};
 use indexmap::IndexMap;
 use pieces::Pieces;
@@ -91,13 +91,17 @@ impl<'a> HeldKey<'a> {
 
 /// The number of a key, where it is that of a currency without a lot.
 #[inline(always)]
-fn of_currency(keys: &Pieces<HeldKey<'_>>, number: u32, currency: &Currency<'_>) -> Option<u32>
+fn of_currency(
+    keys: &Pieces<Apart<HeldKey<'_>>>,
+    number: u32,
+    currency: &Currency<'_>,
+) -> Option<u32>
     ensures { IfSome result (λ n. slice_get keys.now n ≡ Some (without_lot currency.now)) }
 {
     if number as usize >= keys.len() {
         return None;
     }
-    let key = keys.at(number as usize).key();
+    let key = keys.at(number as usize).get().key();
     if key.lot.is_none() && key.currency == *currency {
         return Some(number);
     }
@@ -123,14 +127,14 @@ impl<'a> KeyNumbers<'a> {
     }
 
     /// The key of a currency, where it was the last one.
-    fn last(&self, keys: &Pieces<HeldKey<'a>>, currency: &Currency<'_>) -> Option<u32>
+    fn last(&self, keys: &Pieces<Apart<HeldKey<'a>>>, currency: &Currency<'_>) -> Option<u32>
         ensures { IfSome result (λ n. slice_get keys.now n ≡ Some (without_lot currency.now)) }
     {
         of_currency(keys, self.last?, currency)
     }
 
     /// The key of a currency, where it stands already.
-    fn known(&self, keys: &Pieces<HeldKey<'a>>, currency: &Currency<'a>) -> Option<u32>
+    fn known(&self, keys: &Pieces<Apart<HeldKey<'a>>>, currency: &Currency<'a>) -> Option<u32>
         ensures { IfSome result (λ n. slice_get keys.now n ≡ Some (without_lot currency.now)) }
     {
         of_currency(keys, *self.plain.get(currency)?, currency)
@@ -140,7 +144,7 @@ impl<'a> KeyNumbers<'a> {
     fn keep(
         &mut self,
         alloc: Global,
-        keys: &mut Pieces<HeldKey<'a>>,
+        keys: &mut Pieces<Apart<HeldKey<'a>>>,
         currency: Currency<'a>,
     ) -> Result<u32, AllocError>
         ensures key { IfOk result (λ n. slice_get keys.new n ≡ Some (without_lot currency.entry)) }
@@ -150,7 +154,8 @@ impl<'a> KeyNumbers<'a> {
             currency: currency.lend(),
             lot: None,
         };
-        let number = add(alloc, keys, HeldKey { key, label: None })?;
+        let held = Apart::new(alloc, HeldKey { key, label: None })?;
+        let number = add(alloc, keys, held)?;
         self.plain.insert(currency, number)?;
         Ok(number)
     }
@@ -159,7 +164,7 @@ impl<'a> KeyNumbers<'a> {
     fn found(
         &mut self,
         alloc: Global,
-        keys: &mut Pieces<HeldKey<'a>>,
+        keys: &mut Pieces<Apart<HeldKey<'a>>>,
         currency: Currency<'a>,
     ) -> Result<u32, AllocError>
         ensures key { IfOk result (λ n. slice_get keys.new n ≡ Some (without_lot currency.entry)) }
@@ -175,7 +180,7 @@ impl<'a> KeyNumbers<'a> {
     pub(crate) fn plain(
         &mut self,
         alloc: Global,
-        keys: &mut Pieces<HeldKey<'a>>,
+        keys: &mut Pieces<Apart<HeldKey<'a>>>,
         currency: Currency<'a>,
     ) -> Result<u32, AllocError>
         ensures key { IfOk result (λ n. slice_get keys.new n ≡ Some (without_lot currency.entry)) }
@@ -194,14 +199,14 @@ impl<'a> KeyNumbers<'a> {
     pub(crate) fn held(
         &mut self,
         alloc: Global,
-        keys: &mut Pieces<HeldKey<'a>>,
+        keys: &mut Pieces<Apart<HeldKey<'a>>>,
         key: Key<'a>,
     ) -> Result<u32, AllocError>
         ensures key { IfOk result (λ n. slice_get keys.new n ≡ Some key.entry) }
         ensures kept { Keeps keys.old keys.new }
     {
         if key.lot.is_some() {
-            let held = HeldKey::new(alloc, key)?;
+            let held = Apart::new(alloc, HeldKey::new(alloc, key)?)?;
             return add(alloc, keys, held);
         }
         self.plain(alloc, keys, key.currency)

@@ -54,7 +54,7 @@ impl<'l, 'a> LentRow<'l, 'a> {
     fn held_key(&self) -> &'l HeldKey<'a>
         ensures { result.now ≡ (whole_row self.now).position.key }
     {
-        self.tables.keys.at(self.row.key as usize)
+        self.tables.keys.at(self.row.key as usize).get()
     }
 
     /// What its own metadata has under a key: none where nothing stands behind it.
@@ -67,6 +67,7 @@ impl<'l, 'a> LentRow<'l, 'a> {
                 self.tables
                     .besides
                     .at(number as usize)
+                    .get()
                     .metadata
                     .text_under(key)
             }
@@ -123,7 +124,13 @@ impl<'l, 'a> LentRow<'l, 'a> {
     {
         match self.row.beside {
             Beside::Line(_) => None,
-            Beside::Parts(number) => self.tables.besides.at(number as usize).weight.as_ref(),
+            Beside::Parts(number) => self
+                .tables
+                .besides
+                .at(number as usize)
+                .get()
+                .weight
+                .as_ref(),
         }
     }
 
@@ -161,7 +168,7 @@ impl<'l, 'a> LentRow<'l, 'a> {
     {
         match self.row.beside {
             Beside::Line(_) => None,
-            Beside::Parts(number) => self.tables.besides.at(number as usize).price.as_ref(),
+            Beside::Parts(number) => self.tables.besides.at(number as usize).get().price.as_ref(),
         }
     }
 
@@ -171,7 +178,7 @@ impl<'l, 'a> LentRow<'l, 'a> {
     {
         match self.row.beside {
             Beside::Line(line) => line as usize,
-            Beside::Parts(number) => self.tables.besides.at(number as usize).line,
+            Beside::Parts(number) => self.tables.besides.at(number as usize).get().line,
         }
     }
 
@@ -181,7 +188,7 @@ impl<'l, 'a> LentRow<'l, 'a> {
     {
         match self.row.beside {
             Beside::Line(_) => None,
-            Beside::Parts(number) => self.tables.besides.at(number as usize).flag,
+            Beside::Parts(number) => self.tables.besides.at(number as usize).get().flag,
         }
     }
 

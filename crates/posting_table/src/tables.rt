@@ -4,17 +4,19 @@ ghost use Rattle.posting_table.specs.Tables.{Keeps};
 
 use crate::beside::BesideParts;
 use crate::keys::HeldKey;
+use bean_base::Apart;
 use pieces::Pieces;
 use posting_entries::Entry;
 use std::alloc::{AllocError, Global};
 
 /// Entries, the keys of positions and what few rows have beside, each in the order in which it came.
-/// Rows have their numbers.
+/// Rows have their numbers. Keys and what few rows have lie apart: so they fit where booking gave
+/// memory up.
 #[derive(Drop)]
 pub(crate) struct Tables<'a> {
     pub entries: Pieces<Entry<'a>>,
-    pub keys: Pieces<HeldKey<'a>>,
-    pub besides: Pieces<BesideParts<'a>>,
+    pub keys: Pieces<Apart<HeldKey<'a>>>,
+    pub besides: Pieces<Apart<BesideParts<'a>>>,
 }
 
 /// Puts an item at the end of a table, and tells its number. It fails where memory lacks, and where
