@@ -1,6 +1,7 @@
 pub mod ChainFacts
 pub mod RankFacts
 pub mod WordFacts
+pub mod CodeFacts
 pub mod OrderFacts
 pub mod NumberFacts
 pub mod ShownFacts

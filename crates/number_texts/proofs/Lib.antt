@@ -5,3 +5,4 @@ pub mod LengthFacts
 pub mod NumberFacts
 pub mod Eights
 pub mod RunFacts
+pub mod OffFacts

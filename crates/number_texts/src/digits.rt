@@ -129,8 +129,52 @@ fn without_zeros(places: u8, decimals: u128, least: u8) -> (u8, u128)
     }
 }
 
-/// The same, one zero after the other, of 64 bits, which are divided much faster than 128.
+/// Decimals without four zeros at their end, where they have as many behind the first `least`.
+#[inline(always)]
+fn four_taken_off(places: u8, decimals: u64, least: u8) -> (u8, u64)
+    requires { decimals < 10 ^ places }
+    ensures same { exact_decimals result.0 result.1 ≡ exact_decimals places decimals }
+    ensures few { result.0 ≤ places }
+    ensures small { result.1 < 10 ^ result.0 }
+{
+    if places.saturating_sub(least) >= 4 && decimals % 10_000 == 0 {
+        return (places - 4, decimals / 10_000);
+    }
+    (places, decimals)
+}
+
+/// Decimals without two zeros at their end, where they have as many behind the first `least`.
+#[inline(always)]
+fn two_taken_off(places: u8, decimals: u64, least: u8) -> (u8, u64)
+    requires { decimals < 10 ^ places }
+    ensures same { exact_decimals result.0 result.1 ≡ exact_decimals places decimals }
+    ensures few { result.0 ≤ places }
+    ensures small { result.1 < 10 ^ result.0 }
+{
+    if places.saturating_sub(least) >= 2 && decimals % 100 == 0 {
+        return (places - 2, decimals / 100);
+    }
+    (places, decimals)
+}
+
+/// The same of 64 bits, which are divided much faster than 128: some zeros at once, and what is left
+/// one after the other.
 fn zeros_taken_off_few(places: u8, decimals: u64, least: u8) -> (u8, u64)
+    requires { decimals < 10 ^ places }
+    ensures digits { digits_of result.0 result.1 ++ zeros (least - result.0)
+        ≡ exact_decimals places decimals
+        ++ zeros (least - length (exact_decimals places decimals)) }
+    ensures few { result.0 ≤ places }
+    ensures small { result.1 < 10 ^ result.0 }
+{
+    let (places, decimals) = four_taken_off(places, decimals, least);
+    let (places, decimals) = two_taken_off(places, decimals, least);
+    one_by_one(places, decimals, least)
+}
+
+/// The same, one zero after the other.
+#[inline(always)]
+fn one_by_one(places: u8, decimals: u64, least: u8) -> (u8, u64)
     requires { decimals < 10 ^ places }
     ensures digits { digits_of result.0 result.1 ++ zeros (least - result.0)
         ≡ exact_decimals places decimals

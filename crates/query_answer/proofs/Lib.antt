@@ -1,2 +1,3 @@
 pub mod SpanFacts
 pub mod MovedFacts
+pub mod PlaceFacts

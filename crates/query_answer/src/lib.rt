@@ -28,12 +28,14 @@
 //! The values of all rows lie one behind the other in one piece of memory, which grows as a vector
 //! does, and beside it 16 bytes a row tell where they lie. From 65,536 values or rows on, either
 //! takes room for two million at once, which costs nothing where it isn't written to. To cut rows,
-//! or to show less of them, moves no value and gives none up. Picked rows are moved once, to a piece
-//! of their size, which stands beside the old one until then; the values of the others are given up
-//! with that.
+//! or to show less of them, moves no value and gives none up. Where all rows are picked, and rows
+//! of as many values lie one behind the other, they change places where they lie, and 8 bytes a row
+//! are taken beside them. Else picked rows are moved once, to a piece of their size, which stands
+//! beside the old one until then; the values of the others are given up with that.
 #![tactic(auto)]
 
 mod answer;
+mod places;
 mod rows;
 
 pub use answer::Answer;

@@ -1,9 +1,13 @@
 //! Rows of values that lie one behind the other.
 ghost use Rattle.std.specs.Prelude.{◌≡◌, ◌≤◌, ◌++◌, ◌∷◌, [], length, map, take, vec_capacity};
-ghost use Rattle.std.specs.Prelude.{IfOk, OnOk};
+ghost use Rattle.std.specs.Prelude.{IfOk, IfSome, OnOk};
+ghost use Rattle.query_answer.specs.Places as spec;
+ghost use Rattle.query_answer.specs.Places.{AreDense, AreMixed, HaveBecome, MayGo};
 ghost use Rattle.query_answer.specs.Rows.{ArePicked, row_at};
-ghost use Rattle.query_answer.specs.Spans.{IsSameAround, between, narrowed_to, span_at, values_in};
+ghost use Rattle.query_answer.specs.Spans.{IsSameAround, LieApart, between, narrowed_to, rows_in, span_at};
+ghost use Rattle.query_answer.specs.Spans.{values_in};
 
+use crate::places::{are_dense, bring_all, places_of};
 use query_values::Value;
 use std::alloc::{AllocError, Global};
 use std::marker::Model;
@@ -11,9 +15,9 @@ use std::mem::replace;
 
 /// From where to where the values of a row lie.
 #[derive(Clone, Copy)]
-struct Span {
-    start: usize,
-    end: usize,
+pub(crate) struct Span {
+    pub(crate) start: usize,
+    pub(crate) end: usize,
 }
 
 /// Rows of values, all of which lie one behind the other in one piece of memory. Its value is the
@@ -148,6 +152,75 @@ fn move_span<'a>(
     Ok(Span { start, end })
 }
 
+/// How many values the first row has.
+fn width_of(spans: &[Span]) -> usize
+    ensures { result ≡ spec.width_of spans.now }
+{
+    match spans {
+        [first, ..] => first.end.saturating_sub(first.start),
+        [] => 0,
+    }
+}
+
+/// Where each row goes if rows are picked by these numbers, where these are all rows, and rows of as
+/// many values lie one behind the other.
+fn places_for(
+    alloc: Global,
+    spans: &[Span],
+    numbers: &[usize],
+) -> Result<Option<Vec<usize>>, AllocError>
+    ensures { IfOk result (λ found. IfSome found (λ places.
+        MayGo spans.now numbers.now places.items)) }
+{
+    if numbers.len() != spans.len() || !are_dense(spans, width_of(spans)) {
+        return Ok(None);
+    }
+    places_of(alloc, numbers)
+}
+
+/// All rows in another order, where they lie.
+fn brought<'a>(values: Vec<Value<'a>>, spans: Vec<Span>, places: Vec<usize>) -> AnswerRows<'a>
+    requires apart { LieApart 0 (length values.items) spans.items }
+    requires dense { AreDense spans.items }
+    requires mixed { AreMixed places.items }
+    requires count { length places.items ≡ length spans.items }
+    ensures { HaveBecome (rows_in values.entry.items spans.items) places.items result }
+{
+    let mut values = values;
+    let mut places = places;
+    let width = width_of(spans.as_slice());
+    bring_all(&mut values, spans.as_slice(), width, &mut places);
+    AnswerRows { values, spans }
+}
+
+/// The rows of these numbers, moved to memory of their own.
+fn moved<'a>(
+    alloc: Global,
+    values: Vec<Value<'a>>,
+    spans: Vec<Span>,
+    numbers: &[usize],
+) -> Result<AnswerRows<'a>, AllocError>
+    requires apart { LieApart 0 (length values.items) spans.items }
+    requires picked { ArePicked (length spans.items) numbers.now }
+    ensures { IfOk result (λ moved.
+        moved ≡ map (row_at (rows_in values.entry.items spans.items)) numbers.now) }
+{
+    // Where they lie is looked up for all of them first, so that no look-up waits for a row on its
+    // way.
+    let lying = spans_of(alloc, spans.as_slice(), numbers)?;
+    let mut left = values;
+    let mut values = Vec::with_capacity(alloc, room_for(lying.as_slice()))?;
+    let mut moved = Vec::with_capacity(alloc, lying.len())?;
+    for lies in lying.as_slice() {
+        let span = move_span(&mut left, *lies, &mut values)?;
+        moved.push(span)?;
+    }
+    Ok(AnswerRows {
+        values,
+        spans: moved,
+    })
+}
+
 impl<'a> AnswerRows<'a> {
     /// No rows.
     pub fn new(alloc: Global) -> AnswerRows<'a>
@@ -222,25 +295,15 @@ impl<'a> AnswerRows<'a> {
         narrow_all(&mut self.spans, width);
     }
 
-    /// The rows of these numbers, moved side by side in this order. None is picked twice.
+    /// The rows of these numbers, side by side in this order. None is picked twice.
     pub fn picked(self, alloc: Global, numbers: &[usize]) -> Result<AnswerRows<'a>, AllocError>
         requires { ArePicked (length self) numbers.now }
         ensures { IfOk result (λ picked. picked ≡ map (row_at self.entry) numbers.now) }
     {
         let AnswerRows { values, spans } = self;
-        // Where they lie is looked up for all of them first, so that no look-up waits for a row on
-        // its way.
-        let lying = spans_of(alloc, spans.as_slice(), numbers)?;
-        let mut left = values;
-        let mut values = Vec::with_capacity(alloc, room_for(lying.as_slice()))?;
-        let mut picked = Vec::with_capacity(alloc, lying.len())?;
-        for lies in lying.as_slice() {
-            let span = move_span(&mut left, *lies, &mut values)?;
-            picked.push(span)?;
+        match places_for(alloc, spans.as_slice(), numbers)? {
+            Some(places) => Ok(brought(values, spans, places)),
+            None => moved(alloc, values, spans, numbers),
         }
-        Ok(AnswerRows {
-            values,
-            spans: picked,
-        })
     }
 }

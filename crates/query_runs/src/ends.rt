@@ -63,6 +63,7 @@ fn keep_row(run: &mut Run<'_>) -> Result<(), AllocError>
 }
 
 /// Gathers what a row section left: keys, and inputs above them.
+#[inline(never)]
 fn gather(input: &Inputs<'_, '_>, run: &mut Run<'_>) -> Result<(), AllocError>
     requires { grouped_with (keeps input.now.parts.now) input.now.parts.now (kept_in run.old)
         (reverse run.old.frame.stack.values) ≢ None }
@@ -142,6 +143,7 @@ fn begin_row(alloc: Global, input: &Inputs<'_, '_>, run: &mut Run<'_>) -> Result
 }
 
 /// The running inventory takes the position of the posting.
+#[inline(never)]
 fn add_position<'r>(input: &Inputs<'r, '_>, run: &mut Run<'r>) -> Result<(), AllocError>
     requires there { run.old.row < length (rows_in input.now) }
     requires fine { option_and_then (running_with run.old.running)

@@ -39,6 +39,7 @@ impl<'r> Frame<'r> {
     }
 
     /// Goes back before the first instruction of a section. Takes memory only where a slot was set.
+    #[inline(always)]
     pub fn begin(&mut self, alloc: Global) -> Result<(), AllocError>
         ensures begun { OnOk result (standing self.new ≡ begun) }
         ensures room { self.new.stack.room ≡ self.old.stack.room }

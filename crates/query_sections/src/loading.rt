@@ -7,7 +7,7 @@ ghost use Rattle.plain_machine.specs.SectionRun.{with_top};
 ghost use Rattle.query_code.specs.declared.instruction.Push.TheVariants.{LoadColumn};
 ghost use Rattle.query_rows.specs.Row as rows;
 ghost use Rattle.posting_table.specs.Rows.{row_of};
-ghost use Rattle.query_sections.specs.Reading.{loads_of};
+ghost use Rattle.query_sections.specs.Reading.{IsOther, loads_of};
 ghost use Rattle.query_sections.specs.Room.{HasRoom};
 
 use crate::loads::Loads;
@@ -154,6 +154,50 @@ fn put<'r>(
     stack.push(value);
 }
 
+/// Puts the running inventory on the stack.
+#[inline(never)]
+fn load_balance<'r>(
+    pool: &[Constant<'r>],
+    loads: &Loads<'_, 'r, '_>,
+    number: u8,
+    stack: &mut Stack<'r>,
+) -> Result<(), AllocError>
+    requires room { HasRoom stack.old.room
+        (with_top (push_of pool.now (loads_of loads.now) (LoadColumn number)) stack.old.values) }
+    requires there { column_at (loads_of loads.now) number ≢ None }
+    requires is { column_at (loads_of loads.now) number ≡ (loads_of loads.now).balance }
+    ensures values { OnOk result
+        (with_top (push_of pool.now (loads_of loads.now) (LoadColumn number)) stack.old.values
+        ≡ Some stack.new.values) }
+    ensures room { stack.new.room ≡ stack.old.room }
+{
+    let running = loads.balance()?;
+    put(pool, loads, Push::LoadColumn(number), running, stack);
+    Ok(())
+}
+
+/// Puts what stands in a column of the posting on the stack.
+#[inline(never)]
+fn load_cell<'r>(
+    pool: &[Constant<'r>],
+    loads: &Loads<'_, 'r, '_>,
+    number: u8,
+    column: Column,
+    stack: &mut Stack<'r>,
+)
+    requires room { HasRoom stack.old.room
+        (with_top (push_of pool.now (loads_of loads.now) (LoadColumn number)) stack.old.values) }
+    requires there { column_at (loads_of loads.now) number ≢ None }
+    requires is { column_at (loads_of loads.now) number ≡ cell_in (loads_of loads.now) column }
+    requires other { column ≢ Column.Balance }
+    ensures values { with_top (push_of pool.now (loads_of loads.now) (LoadColumn number)) stack.old.values
+        ≡ Some stack.new.values }
+    ensures room { stack.new.room ≡ stack.old.room }
+{
+    let cell = loads.cell_of_row(column);
+    put(pool, loads, Push::LoadColumn(number), cell, stack);
+}
+
 /// Puts what stands in a column on the stack; in that of the balance the running inventory.
 #[inline(always)]
 fn load_column<'r>(
@@ -171,11 +215,8 @@ fn load_column<'r>(
     ensures room { stack.new.room ≡ stack.old.room }
 {
     match loads.numbered(number) {
-        Column::Balance => {
-            let running = loads.balance()?;
-            put(pool, loads, Push::LoadColumn(number), running, stack);
-        }
-        // Those that most queries read are told apart here: what is in them goes to the stack at once.
+        // Those that most queries read are told apart here: what is in them goes to the stack at
+        // once. All else is a call, so that no memory is cleared for what it would hand over.
         Column::Account => {
             let cell = loads.cell_of_row(Column::Account);
             put(pool, loads, Push::LoadColumn(number), cell, stack);
@@ -184,16 +225,64 @@ fn load_column<'r>(
             let cell = loads.cell_of_row(Column::Date);
             put(pool, loads, Push::LoadColumn(number), cell, stack);
         }
+        Column::Number => {
+            let cell = loads.cell_of_row(Column::Number);
+            put(pool, loads, Push::LoadColumn(number), cell, stack);
+        }
         Column::Position => {
             let cell = loads.cell_of_row(Column::Position);
             put(pool, loads, Push::LoadColumn(number), cell, stack);
         }
-        column => {
-            let cell = loads.cell_of_row(column);
-            put(pool, loads, Push::LoadColumn(number), cell, stack);
-        }
+        Column::Balance => return load_balance(pool, loads, number, stack),
+        column => load_cell(pool, loads, number, column, stack),
     }
     Ok(())
+}
+
+/// Puts on the stack what few instructions load.
+#[inline(never)]
+fn load_other<'r>(
+    pool: &[Constant<'r>],
+    loads: &Loads<'_, 'r, '_>,
+    op: Push,
+    stack: &mut Stack<'r>,
+) -> Result<(), AllocError>
+    requires room { HasRoom stack.old.room
+        (with_top (push_of pool.now (loads_of loads.now) op) stack.old.values) }
+    requires there { loaded pool.now (loads_of loads.now) op ≢ None }
+    requires other { IsOther op }
+    ensures values { OnOk result (with_top (push_of pool.now (loads_of loads.now) op)
+        stack.old.values ≡ Some stack.new.values) }
+    ensures room { stack.new.room ≡ stack.old.room }
+{
+    match op {
+        Push::LoadKey(place) => {
+            let value = value_at(loads.keys, place)?;
+            put(pool, loads, op, value, stack);
+            Ok(())
+        }
+        Push::LoadAggregate(place) => {
+            let value = value_at(loads.aggregates, place)?;
+            put(pool, loads, op, value, stack);
+            Ok(())
+        }
+        Push::Meta(place) => {
+            let value = posting_text(loads.posting(), key(&pool[place as usize]));
+            put(pool, loads, op, value, stack);
+            Ok(())
+        }
+        Push::EntryMeta(place) => {
+            let value = transaction_text(loads.posting(), key(&pool[place as usize]));
+            put(pool, loads, op, value, stack);
+            Ok(())
+        }
+        Push::AnyMeta(place) => {
+            let value = any_text(loads.posting(), key(&pool[place as usize]));
+            put(pool, loads, op, value, stack);
+            Ok(())
+        }
+        _ => unreachable!(),
+    }
 }
 
 /// Puts what an instruction loads on the stack.
@@ -226,30 +315,6 @@ pub fn load<'r>(
             Ok(())
         }
         Push::LoadColumn(number) => load_column(pool, loads, number, stack),
-        Push::LoadKey(place) => {
-            let value = value_at(loads.keys, place)?;
-            put(pool, loads, op, value, stack);
-            Ok(())
-        }
-        Push::LoadAggregate(place) => {
-            let value = value_at(loads.aggregates, place)?;
-            put(pool, loads, op, value, stack);
-            Ok(())
-        }
-        Push::Meta(place) => {
-            let value = posting_text(loads.posting(), key(&pool[place as usize]));
-            put(pool, loads, op, value, stack);
-            Ok(())
-        }
-        Push::EntryMeta(place) => {
-            let value = transaction_text(loads.posting(), key(&pool[place as usize]));
-            put(pool, loads, op, value, stack);
-            Ok(())
-        }
-        Push::AnyMeta(place) => {
-            let value = any_text(loads.posting(), key(&pool[place as usize]));
-            put(pool, loads, op, value, stack);
-            Ok(())
-        }
+        other => load_other(pool, loads, other, stack),
     }
 }

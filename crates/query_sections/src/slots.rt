@@ -70,13 +70,23 @@ impl<'r> Slots<'r> {
     }
 
     /// Makes all slots unset. Takes memory only where one was set.
+    #[inline(always)]
     pub fn clear(&mut self, alloc: Global) -> Result<(), AllocError>
         ensures { OnOk result (self.new ≡ unset) }
     {
         if self.is_used {
-            self.values = unset_values(alloc)?;
-            self.is_used = false;
+            return self.unset(alloc);
         }
+        Ok(())
+    }
+
+    /// The same where one was set, which few programs do.
+    #[inline(never)]
+    fn unset(&mut self, alloc: Global) -> Result<(), AllocError>
+        ensures { OnOk result (self.new ≡ unset) }
+    {
+        self.values = unset_values(alloc)?;
+        self.is_used = false;
         Ok(())
     }
 }

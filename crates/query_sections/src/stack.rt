@@ -68,8 +68,20 @@ impl<'r> Stack<'r> {
         rows.push(&mut self.values)
     }
 
-    /// Takes all values away, and keeps the room.
+    /// Takes all values away, and keeps the room. A section that left none has nothing to take.
+    #[inline(always)]
     pub fn clear(&mut self)
+        ensures values { self.new.values ≡ [] }
+        ensures room { self.new.room ≡ self.old.room }
+    {
+        if !self.values.is_empty() {
+            self.take_all();
+        }
+    }
+
+    /// Takes all values away where there are some.
+    #[inline(never)]
+    fn take_all(&mut self)
         ensures values { self.new.values ≡ [] }
         ensures room { self.new.room ≡ self.old.room }
     {
