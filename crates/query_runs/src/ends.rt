@@ -10,8 +10,8 @@ ghost use Rattle.query_runs.specs.Stands.{keeps, kept_in, rows_in, stand_of};
 use crate::run::{Inputs, Run, Stage};
 use query_code::Mode;
 use query_terms::Column;
-use query_values::Aggregate;
 use query_values::comparison::is_true;
+use query_values::{Aggregate, share_keys};
 use std::alloc::{AllocError, Global};
 
 /// Goes to the next group, or to the end.
@@ -160,7 +160,8 @@ fn add_position<'r>(input: &Inputs<'r, '_>, run: &mut Run<'r>) -> Result<(), All
     ensures room { run.new.frame.stack.room ≡ run.old.frame.stack.room }
 {
     let position = input.ledger.cell(run.row, Column::Position);
-    Aggregate::SumInventory(8).add(&mut run.running, &position)
+    Aggregate::SumInventory(8).add(&mut run.running, &position)?;
+    share_keys(&mut run.running)
 }
 
 /// The running inventory takes the position of the posting, where the program reads it.

@@ -1,7 +1,9 @@
 -- Entries that are held without a lot: their texts, one behind the other.
 use Rattle.std.proofs.Common.{◌≡◌, ℕ, ◌+◌, ◌<◌, Bool, true, false, cond, nat_lt, List, [], take, ◌++◌}
 use Rattle.std.proofs.Common.{length, get_or, Option, Some, None, refl, subst, sym, ap, ◌∙◌}
-use Rattle.std.proofs.Common.{true≢false}
+use Rattle.std.proofs.Common.{true≢false, drop, slice_get, ◌&&◌, ◌∷◌}
+use Rattle.std.proofs.lemmas.List.{drop_more}
+use Rattle.std.proofs.lemmas.Option.{get_or_from_slice_get, slice_get_within}
 use Rattle.std.proofs.lemmas.List.Folds.{list_all_at}
 use Rattle.std.specs.List.{list_all}
 use Rattle.std.specs.Option.{is_none}
@@ -27,6 +29,14 @@ plain_at es i e within is all = without e.key.lot (told (is_plain e) refl)
     told false h =
         absurd
         (true≢false (sym all ∙ list_all_at is_plain es i e within (ap is_plain (sym is) ∙ h)))
+
+-- whether all are, told of one and those behind it
+pub plain_rest : (es : List Position) (i : ℕ) (e : Position) → slice_get es i ≡ Some e
+    → list_all is_plain (drop i es) ≡ (is_plain e && list_all is_plain (drop (i + 1) es))
+plain_rest es i e at =
+    ap (list_all is_plain)
+    (drop_more es i e (slice_get_within es i e at)
+    ∙ ap (λ x. x ∷ drop (i + 1) es) (get_or_from_slice_get es i e e at))
 
 -- one entry more
 pub next_is : (display : List ℕ → ℕ) (places : ℕ) (es : List Position) (i : ℕ) (e : Position)

@@ -110,8 +110,8 @@ impl<'r> Cell<'r> {
                 count: *count,
             },
             Value::Inventory(bag) => Shown::Inventory {
-                places: bag.get().places,
-                held: bag.get().held.positions(),
+                places: bag.places(),
+                held: bag.positions(),
             },
         };
         Cell { shown }

@@ -13,7 +13,8 @@ ghost use Rattle.theory.specs.Joined.{gap_before};
 
 use crate::cell::{Cell, Shown};
 use crate::inventories::{inventory_width, push_inventory};
-use crate::nears::Nears;
+use crate::nears::{Nears, place_of};
+use crate::numbers::{Numbers, Told};
 use crate::positions::{position_width, push_position};
 use bean_base::Currency;
 use number_texts::{LastDay, is_printable, number_len, push_number};
@@ -36,6 +37,8 @@ pub(crate) struct Scratch {
     pub day: LastDay,
     /// Where decimals were found last.
     pub nears: Nears,
+    /// The numbers of inventories that were written last.
+    pub numbers: Numbers,
 }
 
 impl Scratch {
@@ -47,6 +50,7 @@ impl Scratch {
             measured: Vec::new(alloc),
             day: LastDay::new(),
             nears: Nears::new(),
+            numbers: Numbers::new(),
         }
     }
 }
@@ -266,6 +270,55 @@ pub(crate) fn units_width(
 {
     let number = number_len(count, places, nears.decimals(display, currency));
     number + 1 + currency.text().len()
+}
+
+/// The same of a number in an inventory, which most often was there in the one before.
+pub(crate) fn push_held(
+    out: &mut Vec<u8>,
+    count: i128,
+    places: u8,
+    currency: &Currency<'_>,
+    display: &Display<'_>,
+    nears: &mut Nears,
+    numbers: &mut Numbers,
+) -> Result<(), AllocError>
+    ensures text { OnOk result (out.new.items ≡ out.old.items
+        ++ units_text (decimals_of display.now) count places currency.now) }
+    ensures printable { IfOk result (λ _. list_all (is_in_range 32 126)
+        (units_text (decimals_of display.now) count places currency.now) ≡ true) }
+{
+    let least = nears.decimals(display, currency);
+    let told = Told {
+        count,
+        places,
+        least,
+    };
+    numbers.push(out, place_of(currency.text()), told)?;
+    push_name(out, currency.text().as_bytes())?;
+    Ok(())
+}
+
+/// How many columns of a terminal the number of an inventory and its currency take.
+pub(crate) fn held_width(
+    count: i128,
+    places: u8,
+    currency: &Currency<'_>,
+    display: &Display<'_>,
+    nears: &mut Nears,
+    numbers: &mut Numbers,
+) -> usize
+    ensures width { result
+        ≡ text_width (units_text (decimals_of display.now) count places currency.now) }
+    ensures printable { list_all (is_in_range 32 126)
+        (units_text (decimals_of display.now) count places currency.now) ≡ true }
+{
+    let least = nears.decimals(display, currency);
+    let told = Told {
+        count,
+        places,
+        least,
+    };
+    numbers.len(place_of(currency.text()), told) + 1 + currency.text().len()
 }
 
 /// How wide the text of a day is.

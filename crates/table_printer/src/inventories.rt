@@ -6,14 +6,16 @@ ghost use Rattle.std.specs.String.{string_bytes};
 ghost use Rattle.posting_table.specs.Decimals.{decimals_of};
 ghost use Rattle.table_printer.specs.Table.{text_width};
 ghost use Rattle.query_holdings.specs.Entries.{in_order};
-ghost use Rattle.table_printer.specs.CellText.{bag_text, between_entries, entries_text, is_plain};
+ghost use Rattle.table_printer.specs.CellText.{bag_text, between_entries, entries_text};
+ghost use Rattle.table_printer.specs.CellText as spec;
 ghost use Rattle.theory.specs.Joined.{gap_before};
 
-use crate::cells::{Scratch, push_units, units_width, width_of};
+use crate::cells::{Scratch, held_width, push_held, width_of};
 use crate::nears::Nears;
+use crate::numbers::Numbers;
 use crate::positions::add_entry;
 use posting_table::Display;
-use query_values::{Entry, Holdings};
+use query_values::{Entry, Holdings, InOrder};
 use std::alloc::AllocError;
 
 /// How wide what stands between two entries is.
@@ -40,36 +42,51 @@ fn push_between(out: &mut Vec<u8>, entry: usize) -> Result<(), AllocError>
     Ok(())
 }
 
-/// Whether all entries are held without a lot, as most are.
-fn are_plain(entries: &[Entry<'_, '_>]) -> bool
-    ensures { result ≡ list_all is_plain entries.now }
+/// Whether an entry is held without a lot.
+fn is_plain(entry: &Entry<'_, '_>) -> bool
+    ensures { result ≡ spec.is_plain entry.now }
 {
-    entries.iter().all(|entry| entry.key().lot().is_none())
+    entry.key().lot().is_none()
+}
+
+/// Whether all entries are held without a lot, as most are.
+fn are_plain(entries: &InOrder<'_, '_>) -> bool
+    ensures { result ≡ list_all spec.is_plain entries.now }
+{
+    for place in 0..entries.len() {
+        if !is_plain(&entries.entry(place)) {
+            return false;
+        }
+    }
+    true
 }
 
 /// Adds entries that are held without a lot.
 fn push_plain(
     out: &mut Vec<u8>,
-    entries: &[Entry<'_, '_>],
+    entries: &InOrder<'_, '_>,
     places: u8,
     nears: &mut Nears,
+    numbers: &mut Numbers,
     display: &Display<'_>,
 ) -> Result<(), AllocError>
-    requires plain { list_all is_plain entries.now ≡ true }
+    requires plain { list_all spec.is_plain entries.now ≡ true }
     ensures text { OnOk result (out.new.items
         ≡ out.old.items ++ entries_text (decimals_of display.now) places entries.now) }
     ensures printable { OnOk result (list_all (is_in_range 32 126)
         (entries_text (decimals_of display.now) places entries.now) ≡ true) }
 {
-    for (i, entry) in entries.iter().enumerate() {
-        push_between(out, i)?;
-        push_units(
+    for place in 0..entries.len() {
+        let entry = entries.entry(place);
+        push_between(out, place)?;
+        push_held(
             out,
             entry.count(),
             places,
             entry.key().currency(),
             display,
             nears,
+            numbers,
         )?;
     }
     Ok(())
@@ -88,6 +105,7 @@ fn plain_width(
     held: &Holdings<'_, '_>,
     places: u8,
     nears: &mut Nears,
+    numbers: &mut Numbers,
     display: &Display<'_>,
 ) -> Option<usize>
     ensures { IfSome result (λ n. n
@@ -99,7 +117,7 @@ fn plain_width(
         if key.lot().is_some() {
             return None;
         }
-        let own = units_width(count, places, key.currency(), display, nears);
+        let own = held_width(count, places, key.currency(), display, nears, numbers);
         width = wider(width, own)?;
     }
     // Nothing stands behind the last.
@@ -110,15 +128,16 @@ fn plain_width(
 fn make_entries(
     scratch: &mut Scratch,
     places: u8,
-    entries: &[Entry<'_, '_>],
+    entries: &InOrder<'_, '_>,
     display: &Display<'_>,
 ) -> Result<(), AllocError>
     ensures { OnOk result (string_bytes scratch.new.clean
         ≡ entries_text (decimals_of display.now) places entries.now) }
 {
     scratch.clean.clear();
-    for (i, entry) in entries.iter().enumerate() {
-        add_gap(&mut scratch.clean, i)?;
+    for place in 0..entries.len() {
+        let entry = entries.entry(place);
+        add_gap(&mut scratch.clean, place)?;
         let lent = entry.key();
         add_entry(scratch, &lent.key(), entry.count(), places, display)?;
     }
@@ -140,7 +159,14 @@ pub(crate) fn push_inventory(
     let entries = held.in_order(scratch.alloc)?;
     if are_plain(&entries) {
         let start = out.len();
-        push_plain(out, &entries, places, &mut scratch.nears, display)?;
+        push_plain(
+            out,
+            &entries,
+            places,
+            &mut scratch.nears,
+            &mut scratch.numbers,
+            display,
+        )?;
         return Ok(out.len() - start);
     }
     make_entries(scratch, places, &entries, display)?;
@@ -157,7 +183,13 @@ pub(crate) fn inventory_width(
 ) -> Result<usize, AllocError>
     ensures { IfOk result (λ n. n ≡ text_width (bag_text (decimals_of display.now) (record { places = places; held = held.now }))) }
 {
-    if let Some(width) = plain_width(held, places, &mut scratch.nears, display) {
+    if let Some(width) = plain_width(
+        held,
+        places,
+        &mut scratch.nears,
+        &mut scratch.numbers,
+        display,
+    ) {
         return Ok(width);
     }
     let entries = held.in_order(scratch.alloc)?;

@@ -51,7 +51,8 @@
 //! Two passes over the rows: one measures all columns, one writes. The memory is that of the text,
 //! for which room is taken at once where its columns are narrow, of a few buffers that every cell
 //! uses again, of a word or two for each column, and of 32 bytes for each entry of an inventory
-//! while it is written.
+//! while it is written, where the order of its keys isn't known. Of inventories that follow one
+//! another most counts are the same: the text of one is made once as long as it comes again.
 #![tactic(auto)]
 
 mod answers;
@@ -62,6 +63,7 @@ mod headings;
 mod inventories;
 mod lines;
 mod nears;
+mod numbers;
 mod positions;
 mod rows;
 mod table;

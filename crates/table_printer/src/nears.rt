@@ -17,7 +17,7 @@ pub(crate) struct Nears {
 }
 
 /// The place of a name.
-fn place_of(name: &str) -> usize
+pub(crate) fn place_of(name: &str) -> usize
     ensures { result < 32 }
 {
     let bytes = name.as_bytes();

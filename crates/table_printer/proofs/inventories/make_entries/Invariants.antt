@@ -5,8 +5,8 @@ use Rattle.theory.specs.Joined.{joined}
 use Rattle.table_printer.specs.CellText.{between_entries, text_of_entry}
 use Rattle.table_printer.proofs.inventories.make_entries.Given as goal
 
-abbrev pub invariant-loop-i : goal.invariant-loop-i
-invariant-loop-i l =
+abbrev pub invariant-loop-place : goal.invariant-loop-place
+invariant-loop-place l =
     string_bytes l.scratch.clean
     ≡ joined between_entries
-    (map (text_of_entry (decimals_of l.display) l.places) (take l.i l.entries))
+    (map (text_of_entry (decimals_of l.display) l.places) (take l.place l.entries))

@@ -22,10 +22,10 @@ loop-key-preserved c =
     let text : units (to_z w128 (of_z w128 e.count)) c.currency.result.now ≡ units e.count e.key.currency =
     λ k. units (to_z-of_z w128 e.count fits k) (c.currency.ensures k) in
     let own : Printable (units e.count e.key.currency) =
-    subst Printable text c.units_width-own.ensures.printable in
+    subst Printable text c.held_width-own.ensures.printable in
     let bare : e.key.lot ≡ None = sym c.lot.ensures
     ∙ none_for _ c.lot.result (sym c.is_some.ensures ∙ c.if-is_some.false) in
-    let wide = c.units_width-own.ensures.width ∙ ap text_width text
+    let wide = c.held_width-own.ensures.width ∙ ap text_width text
     ∙ width_printable (units e.count e.key.currency) own in
     record {
       width = omega (

@@ -10,10 +10,9 @@ pub returns-then-are_plain-clause-width : goal.returns-then-are_plain-clause-wid
 returns-then-are_plain-clause-width c =
     let display = decimals_of c.args.display.now in
     let places = c.args.places in
-    let entries = c.deref-then-are_plain.result.now in
+    let entries = c.in_ok-entries.entries in
     let text = entries_text display places entries in
-    let is : entries ≡ in_order c.args.held.now =
-    c.deref-then-are_plain.ensures.value ∙ c.in_ok-entries.ensures in
+    let is : entries ≡ in_order c.args.held.now = c.in_ok-entries.ensures in
     let sized = ap length c.in_ok-push_plain.ensures.text in
     let apart = length-append c.args.out.now.items text in
     let wide = width_printable text c.in_ok-push_plain.ensures.printable in

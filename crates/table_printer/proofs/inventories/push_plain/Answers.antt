@@ -3,6 +3,7 @@ use Rattle.std.proofs.Common.{of_z, to_z}
 use Rattle.std.specs.Int.{w128}
 use Rattle.std.specs.Int.RustNames.{FitsSigned}
 use Rattle.std.proofs.lemmas.Int.{to_z-of_z}
+use Rattle.std.proofs.lemmas.Option.{get_or_from_slice_get}
 use Rattle.bean_lots.specs.declared.lot.Key.{Key}
 use Rattle.posting_table.specs.Decimals.{decimals_of}
 use Rattle.number_texts.proofs.PrintableFacts.{Printable}
@@ -11,13 +12,14 @@ use Rattle.table_printer.specs.CellText.{between_entries, entries_text, units_te
 use Rattle.table_printer.proofs.InventoryFacts.{next_is, next_printable}
 use Rattle.table_printer.proofs.inventories.push_plain.Goals as goal
 
-pub loop-i-preserved : goal.loop-i-preserved
-loop-i-preserved c =
+pub loop-place-preserved : goal.loop-place-preserved
+loop-place-preserved c =
     let display = decimals_of c.args.display.now in
     let places = c.args.places in
     let entries = c.args.entries.now in
-    let i = c.loop-i.i in
-    let entry = c.index-entries-i.result in
+    let i = c.loop-place.place in
+    let entry = c.entry-entry.result in
+    let is = sym (get_or_from_slice_get entries i entry entry c.entry-entry.ensures) in
     let so_far = entries_text display places (take i entries) in
     let gap = gap_before between_entries i in
     let units : ℤ → List ℕ → List ℕ = λ n currency. units_text display n places currency in
@@ -25,15 +27,15 @@ loop-i-preserved c =
     let fits : FitsSigned w128 entry.count = search rules in
     let count = ap (λ n. to_z w128 (of_z w128 n)) c.count.ensures ∙ to_z-of_z w128 entry.count fits in
     let currency = c.currency.ensures ∙ ap (λ (k : Key). k.currency) c.key.ensures in
-    let within : i < length entries = omega (arith, c.loop-i-test.true) in record {
-      text = c.in_ok-push_units.ensures.text
+    let within : i < length entries = omega (arith, c.loop-place-test.true) in record {
+      text = c.in_ok-push_held.ensures.text
           ∙ (λ k. c.in_ok-push_between.ensures k ++ units (count k) (currency k))
-          ∙ ap (λ l. (l ++ gap) ++ own) c.loop-i.invariant.text
+          ∙ ap (λ l. (l ++ gap) ++ own) c.loop-place.invariant.text
           ∙ append_assoc (c.args.out.now.items ++ so_far) gap own
           ∙ append_assoc c.args.out.now.items so_far (gap ++ own)
           ∙ ap (λ l. c.args.out.now.items ++ l)
-          (sym (next_is display places entries i entry within c.index-entries-i.is c.requires.plain));
-      printable = next_printable display places entries i entry within c.index-entries-i.is
-          c.requires.plain c.loop-i.invariant.printable
-          (subst Printable (λ k. units (count k) (currency k)) c.in_ok-push_units.ensures.printable);
+          (sym (next_is display places entries i entry within is c.requires.plain));
+      printable = next_printable display places entries i entry within is
+          c.requires.plain c.loop-place.invariant.printable
+          (subst Printable (λ k. units (count k) (currency k)) c.in_ok-push_held.ensures.printable);
     }

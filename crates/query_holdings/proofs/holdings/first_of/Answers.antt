@@ -5,7 +5,7 @@ use Rattle.std.specs.Ordering.{int_eq}
 use Rattle.std.proofs.lemmas.Int.{ints}
 use Rattle.bean_lots.specs.Slots.{positions}
 use Rattle.bean_lots.proofs.SlotFacts.{full_slot, hole_at}
-use Rattle.query_holdings.proofs.holding.first_of.Goals as goal
+use Rattle.query_holdings.proofs.holdings.first_of.Goals as goal
 
 pub returns-then-count-ne0-clause-some : goal.returns-then-count-ne0-clause-some
 returns-then-count-ne0-clause-some c =
