@@ -7,12 +7,12 @@ ghost use Rattle.bq.specs.Batch as command;
 ghost use Rattle.bq.specs.Runs.{Finds};
 ghost use Rattle.requests.specs.Batch as words;
 
-use bean_books::book_of;
 use crate::commands::file::file_bytes;
 use crate::commands::ledger::{Question, answer_about};
 use crate::given::Given;
 use crate::text::Text;
 use bean_base::{List, Slice};
+use bean_books::book_of;
 use bean_load::Texts;
 use endings::{Refusal, Verdict};
 use query_files::outlined;

@@ -1,8 +1,8 @@
 //! `check LEDGER`: the lines of the faults of a ledger, and whether its books are fine.
-use bean_books::faults_in;
 use crate::commands::ledger::Question;
 use crate::given::Given;
 use crate::text::Text;
+use bean_books::faults_in;
 use bean_load::Texts;
 use endings::{Refusal, verdict_of};
 use fault_printer::FaultLines;

@@ -1,9 +1,9 @@
 //! `list LEDGER`: the table of the postings of a ledger.
-use bean_books::book_of;
 use crate::commands::ledger::Question;
 use crate::given::Given;
 use crate::shown::Postings;
 use crate::text::Text;
+use bean_books::book_of;
 use bean_load::Texts;
 use endings::{Refusal, Verdict};
 use std::alloc::Global;

@@ -4,11 +4,11 @@ ghost use Rattle.bq.specs.Query.{HasBounds};
 ghost use Rattle.bq.specs.Runs.{Finds};
 ghost use Rattle.query_rows.specs.ColumnShape.{widest};
 
-use bean_books::book_of;
 use crate::commands::ledger::{Question, answer_about};
 use crate::commands::table::table_of;
 use crate::given::Given;
 use crate::text::Text;
+use bean_books::book_of;
 use bean_load::Texts;
 use endings::{Refusal, Verdict};
 use limits::{Bounds, MOST_POSTINGS, MOST_UNITS_DIGITS, MOST_VALUE_DIGITS, Version};

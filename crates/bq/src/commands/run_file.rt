@@ -2,12 +2,12 @@
 ghost use Rattle.bq.specs.RunFile as command;
 ghost use Rattle.bq.specs.Runs.{Finds};
 
-use bean_books::book_of;
 use crate::commands::file::file_bytes;
 use crate::commands::ledger::{Question, answer_about};
 use crate::commands::table::table_of;
 use crate::given::Given;
 use crate::text::Text;
+use bean_books::book_of;
 use bean_load::Texts;
 use endings::{Refusal, Verdict};
 use query_files::outlined;
