@@ -1,6 +1,6 @@
 -- Lexemes are told apart by what they are and what they hold.
 use Rattle.std.proofs.Common.{◌≡◌, ℕ, true, false, List, ◌∷◌, refl, ◌∙◌, ap}
-use denote.Enum.Bare.{sameb, same_false}
+use denote.Enum.Bare.{sameb, same_true, same_false}
 use Rattle.theory.proofs.FormFacts.{IsExact}
 use Rattle.bean_lexer.specs.contracts.kind.Keyword as keyword_type
 use Rattle.bean_lexer.specs.contracts.kind.Sign as sign_type
@@ -11,6 +11,7 @@ use Rattle.bean_lexer.specs.declared.kind.Sign as signs
 use Rattle.bean_lexer.proofs.WordFacts.{spelled, not_both}
 use Rattle.bean_lexer.proofs.OneListOfTokensFacts.{one_keyword, one_sign}
 use Rattle.bean_grammar.specs.Lexeme.{Lexeme, Day, Number, Text, Account, Currency, Tag, Link, Key}
+use Rattle.bean_grammar.specs.Lexeme.{Keyword, Sign}
 use Rattle.bean_grammar.specs.Lexeme.{Star, Bang, Txn, flag_word, plus_or_minus, lexeme_at}
 use Rattle.bean_grammar.specs.Lexeme.{same_keyword, same_sign, begins_with_keyword}
 use Rattle.bean_grammar.specs.Lexeme.{begins_with_sign}
@@ -24,6 +25,15 @@ another_spelling a b e =
 another_mark : (a b : signs.Sign) → sameb sign_type.the_type a b ≡ false → same_sign a b ≡ false
 another_mark a b e =
     not_both _ (λ same. same_false sign_type.the_type a b e (one_sign a b (spelled _ _ same)))
+
+pub that_keyword :
+    (k : Kind) (bs : List ℕ) (rest ls : List Lexeme) (found sought : keywords.Keyword)
+    → ls ≡ lexeme_at k bs ∷ rest → k ≡ kind.Keyword found
+    → sameb keyword_type.the_type found sought ≡ true
+    → ls ≡ Keyword sought ∷ rest
+that_keyword k bs rest ls found sought at is test =
+    at ∙ ap (λ x. lexeme_at x bs ∷ rest) is
+    ∙ ap (λ x. Keyword x ∷ rest) (same_true keyword_type.the_type tt found sought test)
 
 pub another_keyword :
     (k : Kind) (bs : List ℕ) (rest ls : List Lexeme) (found sought : keywords.Keyword)
@@ -46,6 +56,14 @@ pub no_keyword : (k : Kind) (bs : List ℕ) (rest ls : List Lexeme) (sought : ke
     → begins_with_keyword sought ls ≡ false
 no_keyword k bs rest ls sought at none =
     ap (begins_with_keyword sought) at ∙ no_keyword_at k bs rest sought none
+
+pub that_sign : (k : Kind) (bs : List ℕ) (rest ls : List Lexeme) (found sought : signs.Sign)
+    → ls ≡ lexeme_at k bs ∷ rest → k ≡ kind.Sign found
+    → sameb sign_type.the_type found sought ≡ true
+    → ls ≡ Sign sought ∷ rest
+that_sign k bs rest ls found sought at is test =
+    at ∙ ap (λ x. lexeme_at x bs ∷ rest) is
+    ∙ ap (λ x. Sign x ∷ rest) (same_true sign_type.the_type tt found sought test)
 
 pub another_sign : (k : Kind) (bs : List ℕ) (rest ls : List Lexeme) (found sought : signs.Sign)
     → ls ≡ lexeme_at k bs ∷ rest → k ≡ kind.Sign found

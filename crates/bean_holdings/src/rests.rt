@@ -30,7 +30,7 @@ fn is_gone(key: &Key<'_>, count: i128, taken: &Inventory<'_>) -> bool
 }
 
 /// What is behind the first position, where nothing is left of that.
-fn behind_gone<'s, 'a>(rest: &Positions<'s, 'a>, taken: &Inventory<'_>) -> Option<Positions<'s, 'a>>
+fn behind_gone<'s, 'a>(rest: &Positions<'a, 's>, taken: &Inventory<'_>) -> Option<Positions<'a, 's>>
     requires rest { AreSmall (2 ^ 125) rest.now }
     requires taken { AreSmall (2 ^ 125) taken.now }
     ensures rest { IfSome result (λ behind. HasAllLeft taken.now behind rest.now) }
@@ -45,7 +45,7 @@ fn behind_gone<'s, 'a>(rest: &Positions<'s, 'a>, taken: &Inventory<'_>) -> Optio
 }
 
 /// What is before the last position, where nothing is left of that.
-fn before_gone<'s, 'a>(rest: &Positions<'s, 'a>, taken: &Inventory<'_>) -> Option<Positions<'s, 'a>>
+fn before_gone<'s, 'a>(rest: &Positions<'a, 's>, taken: &Inventory<'_>) -> Option<Positions<'a, 's>>
     requires rest { AreSmall (2 ^ 125) rest.now }
     requires taken { AreSmall (2 ^ 125) taken.now }
     ensures rest { IfSome result (λ before. HasAllLeft taken.now before rest.now) }
@@ -60,7 +60,7 @@ fn before_gone<'s, 'a>(rest: &Positions<'s, 'a>, taken: &Inventory<'_>) -> Optio
 }
 
 /// A rest without the first positions of which nothing is left.
-fn without_first_gone<'s, 'a>(rest: Positions<'s, 'a>, taken: &Inventory<'_>) -> Positions<'s, 'a>
+fn without_first_gone<'s, 'a>(rest: Positions<'a, 's>, taken: &Inventory<'_>) -> Positions<'a, 's>
     requires rest { AreSmall (2 ^ 125) rest }
     requires taken { AreSmall (2 ^ 125) taken.now }
     ensures { HasAllLeft taken.now result rest.entry }
@@ -73,7 +73,7 @@ fn without_first_gone<'s, 'a>(rest: Positions<'s, 'a>, taken: &Inventory<'_>) ->
 }
 
 /// A rest without the last positions of which nothing is left.
-fn without_last_gone<'s, 'a>(rest: Positions<'s, 'a>, taken: &Inventory<'_>) -> Positions<'s, 'a>
+fn without_last_gone<'s, 'a>(rest: Positions<'a, 's>, taken: &Inventory<'_>) -> Positions<'a, 's>
     requires rest { AreSmall (2 ^ 125) rest }
     requires taken { AreSmall (2 ^ 125) taken.now }
     ensures { HasAllLeft taken.now result rest.entry }
@@ -86,7 +86,7 @@ fn without_last_gone<'s, 'a>(rest: Positions<'s, 'a>, taken: &Inventory<'_>) -> 
 }
 
 /// A rest without the positions at both ends of which nothing is left.
-pub fn without_gone<'s, 'a>(rest: Positions<'s, 'a>, taken: &Inventory<'_>) -> Positions<'s, 'a>
+pub fn without_gone<'s, 'a>(rest: Positions<'a, 's>, taken: &Inventory<'_>) -> Positions<'a, 's>
     requires rest { AreSmall (2 ^ 125) rest }
     requires taken { AreSmall (2 ^ 125) taken.now }
     ensures { HasAllLeft taken.now result rest.entry }
@@ -98,8 +98,8 @@ pub fn without_gone<'s, 'a>(rest: Positions<'s, 'a>, taken: &Inventory<'_>) -> P
 }
 
 /// The rest of each account from which a transaction took. Of any other it is all that it held.
-pub struct Rests<'s, 'a> {
-    rests: IndexMap<Account<'a>, Positions<'s, 'a>>,
+pub struct Rests<'a, 's> {
+    rests: IndexMap<Account<'a>, Positions<'a, 's>>,
 }
 
 /// Written out, so that what gives one up needs to know nothing of what is in it.
@@ -109,9 +109,9 @@ impl Drop for Rests<'_, '_> {
     }
 }
 
-impl<'s, 'a> Rests<'s, 'a> {
+impl<'a, 's> Rests<'a, 's> {
     /// Nothing is taken. Takes no memory.
-    pub fn new(alloc: Global) -> Rests<'s, 'a>
+    pub fn new(alloc: Global) -> Rests<'a, 's>
         ensures { (a : List ℕ) (held : List Position) → rest_in result a held ≡ held }
     {
         Rests {
@@ -120,7 +120,7 @@ impl<'s, 'a> Rests<'s, 'a> {
     }
 
     /// The rest of an account, which held so much before.
-    pub fn of(&self, account: &Account<'a>, held: &'s Inventory<'a>) -> Positions<'s, 'a>
+    pub fn of(&self, account: &Account<'a>, held: &'s Inventory<'a>) -> Positions<'a, 's>
         ensures { result ≡ rest_in self.now account.now held.now }
     {
         match self.rests.get(account) {
@@ -138,7 +138,7 @@ impl<'s, 'a> Rests<'s, 'a> {
         held: &'s Inventory<'a>,
         taken: &Inventory<'_>,
         key: &Key<'_>,
-    ) -> Option<Positions<'s, 'a>>
+    ) -> Option<Positions<'a, 's>>
         requires rest { HasAllLeft taken.now (rest_in self.now account.now held.now) held.now }
         requires fits { FitsSigned w128 (count_of held.now key.now +ℤ count_of taken.now key.now) }
         ensures some { IfSome result (λ rest. (n : ℤ)
@@ -157,7 +157,7 @@ impl<'s, 'a> Rests<'s, 'a> {
     }
 
     /// Puts another rest in place of that of an account.
-    pub fn set(&mut self, account: Account<'a>, rest: Positions<'s, 'a>) -> Result<(), AllocError>
+    pub fn set(&mut self, account: Account<'a>, rest: Positions<'a, 's>) -> Result<(), AllocError>
         ensures { OnOk result ((a : List ℕ) (held : List Position) → rest_in self.new a held
             ≡ (if bytes_eq account.entry a then rest.entry else rest_in self.old a held)) }
     {

@@ -105,7 +105,7 @@ impl<'a> Inventory<'a> {
     }
 
     /// The positions, in order of entry.
-    pub fn positions(&self) -> Positions<'_, 'a>
+    pub fn positions(&self) -> Positions<'a, '_>
         ensures { result ≡ self.now }
     {
         self.slots.positions()
@@ -117,7 +117,7 @@ impl<'a> Inventory<'a> {
         &self,
         currency: &Currency<'_>,
         cost: &Cost<'_>,
-    ) -> Option<Positions<'_, 'a>>
+    ) -> Option<Positions<'a, '_>>
         ensures { IfSome result (λ own. own ≡ filter (is_lot_at currency.now cost.now) self.now) }
     {
         self.slots.positions_at(currency, cost)

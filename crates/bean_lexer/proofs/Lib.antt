@@ -1,4 +1,3 @@
-pub mod GapFacts
 pub mod BoundaryFacts
 pub mod NumberFacts
 pub mod FirstByteFacts
@@ -10,10 +9,14 @@ pub mod RootFacts
 pub mod NameFacts
 pub mod WordFacts
 pub mod CapitalFacts
+pub mod CodeFacts
+pub mod TableFacts
 pub mod TokensFacts
 pub mod OneListOfTokensFacts
 mod Examples
 pub mod LineFeedFacts
+pub mod OneLineFacts
+pub mod PlainTextFacts
 pub mod BetweenFacts
 pub mod ColumnOneFacts
 pub mod SomeTokensFacts

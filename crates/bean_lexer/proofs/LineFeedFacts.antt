@@ -14,7 +14,7 @@ use Rattle.bean_base.specs.Day.{is_day_form}
 use Rattle.bean_base.proofs.NumeralFacts.{drop_more}
 use Rattle.bean_lexer.specs.TokenForm.{is_in_name, is_name_behind, is_in_key, is_key}
 use Rattle.bean_lexer.specs.TokenForm.{keyword_spelling, sign_spelling}
-use Rattle.bean_lexer.specs.KindForm.{is_of, may_be}
+use Rattle.bean_lexer.specs.KindForm.{is_of}
 use Rattle.bean_lexer.specs.declared.kind.Kind.{Kind}
 use Rattle.bean_lexer.specs.declared.kind.Kind.TheVariants as kinds
 use Rattle.bean_lexer.specs.declared.kind.Keyword.{Keyword}
@@ -36,7 +36,7 @@ count_first b bs h rest =
     ∙ (λ i. (0 + cond (h i) 1 0) + rest i)
 
 -- where no byte of a class is a line feed
-none_in : (p : ℕ → Bool) → ((b : ℕ) → p b ≡ true → is_line_feed b ≡ false) → (bs : List ℕ)
+pub none_in : (p : ℕ → Bool) → ((b : ℕ) → p b ≡ true → is_line_feed b ≡ false) → (bs : List ℕ)
     → list_all p bs ≡ true → count_by is_line_feed bs ≡ 0
 none_in p out [] h = refl
 none_in p out (b ∷ bs) h = let both = two_true (p b) (list_all p bs) h in
@@ -256,16 +256,6 @@ no_feeds (kinds.Keyword word) bs out h =
     ap (count_by is_line_feed) (spelled bs (keyword_spelling word) h) ∙ word_count word
 no_feeds (kinds.Sign sign) bs out h =
     ap (count_by is_line_feed) (spelled bs (sign_spelling sign) h) ∙ sign_count sign
-
-not_feeds_by : (kind : Kind) (bs : List ℕ) → may_span_lines kind ≡ false → may_be kind bs ≡ true
-    → is_of kind bs ≡ true
-not_feeds_by kinds.Fault bs out h = absurd (cc)
-not_feeds_by kinds.Day bs out h = h
-not_feeds_by _ bs out h = h
-
-pub no_feeds_in : (kind : Kind) (bs : List ℕ) → may_span_lines kind ≡ false → may_be kind bs ≡ true
-    → count_by is_line_feed bs ≡ 0
-no_feeds_in kind bs out h = no_feeds kind bs out (not_feeds_by kind bs out h)
 
 pub spans_none : (kind : Kind) → (kind ≡ kinds.Text → ⊥) → (kind ≡ kinds.Fault → ⊥)
     → may_span_lines kind ≡ false

@@ -35,69 +35,63 @@ no_colon_by xs i all h e =
 plain_list : (xs : List ℕ) → list_all (λ b. not (is_colon b)) xs ≡ true → NoColon xs
 plain_list xs all = λ i h e. no_colon_by xs i all h e
 
-starts_split : (bs pre : List ℕ) → starts_with nat_eq bs pre ≡ true
+pub starts_split : (bs pre : List ℕ) → starts_with nat_eq bs pre ≡ true
     → bs ≡ pre ++ drop (length pre) bs
 starts_split bs pre h =
     sym (ap (λ l. l ++ drop (length pre) bs) ((bytes_eq-Decides pre (take (length pre) bs)).0 h)
     ∙ take-append-drop (length pre) bs)
 
-root_by : (bs : List ℕ) (a l e i x : Bool) → starts_with nat_eq bs (codes "Assets:") ≡ a
-    → starts_with nat_eq bs (codes "Liabilities:") ≡ l → starts_with nat_eq bs (codes "Equity:") ≡ e
-    → starts_with nat_eq bs (codes "Income:") ≡ i → starts_with nat_eq bs (codes "Expenses:") ≡ x →
-    0 < cond a 7 (cond l 12 (cond e 7 (cond i 7 (cond x 9 0))))
-    → RootAt bs (cond a 7 (cond l 12 (cond e 7 (cond i 7 (cond x 9 0)))))
-root_by bs true l e i x ha hl he hi hx some =
-    record {
-      root = codes "Assets";
-      is = refl;
-      plain = plain_list (codes "Assets") refl;
-      split =
-          starts_split bs (codes "Assets:") ha;
-      len = refl;
-      long = omega arith;
-    }
-root_by bs false true e i x ha hl he hi hx some =
-    record {
-      root = codes "Liabilities";
-      is = refl;
-      plain =
-          plain_list (codes "Liabilities") refl;
-      split = starts_split bs (codes "Liabilities:") hl;
-      len =
-          refl;
-      long = omega arith;
-    }
-root_by bs false false true i x ha hl he hi hx some =
-    record {
-      root = codes "Equity";
-      is = refl;
-      plain = plain_list (codes "Equity") refl;
-      split =
-          starts_split bs (codes "Equity:") he;
-      len = refl;
-      long = omega arith;
-    }
-root_by bs false false false true x ha hl he hi hx some =
-    record {
-      root = codes "Income";
-      is = refl;
-      plain = plain_list (codes "Income") refl;
-      split =
-          starts_split bs (codes "Income:") hi;
-      len = refl;
-      long = omega arith;
-    }
-root_by bs false false false false true ha hl he hi hx some =
+root_by : (bs : List ℕ) (x a l e i : Bool) → starts_with nat_eq bs (codes "Expenses:") ≡ x
+    → starts_with nat_eq bs (codes "Assets:") ≡ a → starts_with nat_eq bs (codes "Liabilities:") ≡ l
+    → starts_with nat_eq bs (codes "Equity:") ≡ e → starts_with nat_eq bs (codes "Income:") ≡ i →
+    0 < cond x 9 (cond a 7 (cond l 12 (cond e 7 (cond i 7 0))))
+    → RootAt bs (cond x 9 (cond a 7 (cond l 12 (cond e 7 (cond i 7 0)))))
+root_by bs true a l e i hx ha hl he hi some =
     record {
       root = codes "Expenses";
       is = refl;
       plain = plain_list (codes "Expenses") refl;
-      split =
-          starts_split bs (codes "Expenses:") hx;
+      split = starts_split bs (codes "Expenses:") hx;
       len = refl;
       long = omega arith;
     }
-root_by bs false false false false false ha hl he hi hx some = absurd (omega arith)
+root_by bs false true l e i hx ha hl he hi some =
+    record {
+      root = codes "Assets";
+      is = refl;
+      plain = plain_list (codes "Assets") refl;
+      split = starts_split bs (codes "Assets:") ha;
+      len = refl;
+      long = omega arith;
+    }
+root_by bs false false true e i hx ha hl he hi some =
+    record {
+      root = codes "Liabilities";
+      is = refl;
+      plain = plain_list (codes "Liabilities") refl;
+      split = starts_split bs (codes "Liabilities:") hl;
+      len = refl;
+      long = omega arith;
+    }
+root_by bs false false false true i hx ha hl he hi some =
+    record {
+      root = codes "Equity";
+      is = refl;
+      plain = plain_list (codes "Equity") refl;
+      split = starts_split bs (codes "Equity:") he;
+      len = refl;
+      long = omega arith;
+    }
+root_by bs false false false false true hx ha hl he hi some =
+    record {
+      root = codes "Income";
+      is = refl;
+      plain = plain_list (codes "Income") refl;
+      split = starts_split bs (codes "Income:") hi;
+      len = refl;
+      long = omega arith;
+    }
+root_by bs false false false false false hx ha hl he hi some = absurd (omega arith)
 
 pub root_at : (bs : List ℕ) → 0 < root_len bs → RootAt bs (root_len bs)
 root_at bs some = root_by bs _ _ _ _ _ refl refl refl refl refl some

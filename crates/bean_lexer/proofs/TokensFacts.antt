@@ -55,7 +55,7 @@ token_some bs kind n some token =
     (λ fault. fault_some bs n some fault.reach) token
 
 -- lines, from one place to a later one
-feeds_add : (text : List ℕ) (at n : ℕ)
+pub feeds_add : (text : List ℕ) (at n : ℕ)
     → count_by is_line_feed (take (at + n) text)
     ≡ count_by is_line_feed (take at text) + count_by is_line_feed (take n (drop at text))
 feeds_add text at n =

@@ -1,6 +1,6 @@
 -- What stands between tokens: white space, line feeds, comments and skipped lines.
 use Rattle.std.specs.Prelude.{ℕ, zero, suc, ◌+◌, ◌==◌, ◌&&◌, ◌||◌, Bool, true, false, List, [], ◌∷◌}
-use Rattle.std.specs.Prelude.{drop, Option, Some, None, if◌then◌else◌}
+use Rattle.std.specs.Prelude.{not, drop, Option, Some, None, if◌then◌else◌}
 use Rattle.std.specs.Option.{option_map_or}
 use Rattle.bean_base.specs.Character.{tab, line_feed, carriage_return, space, hash, star, colon}
 use Rattle.bean_base.specs.Character.{semicolon}
@@ -46,6 +46,10 @@ gap_step at b =
     else if is_comment at || (b == semicolon) || (is_line_start at && begins_skipped b) then
     Some spot.Comment
     else None
+
+-- a byte that a gap goes on with only in a comment or a skipped line
+abbrev pub begins_token : ℕ → Bool
+begins_token b = not (is_line_feed b) && not (is_white b) && not (b == semicolon)
 
 -- how long the gap at the front is
 abbrev pub gap_len : Spot → List ℕ → ℕ

@@ -5,9 +5,10 @@ use Rattle.std.specs.List.{find, list_all, starts_with}
 use Rattle.std.specs.Char.{is_ascii_digit, is_ascii_uppercase, is_ascii_lowercase}
 use Rattle.bean_base.specs.Character.{bang, quote, hash, open_parenthesis, close_parenthesis, star}
 use Rattle.bean_base.specs.Character.{plus, comma, dash, colon, at_sign, caret, open_brace}
-use Rattle.bean_base.specs.Character.{close_brace, tilde}
+use Rattle.bean_base.specs.Character.{close_brace, tilde, space, is_ascii}
 use Rattle.bean_base.specs.Name.{begins_component, is_in_currency}
-use Rattle.bean_lexer.specs.TokenForm.{keyword_spelling}
+use Rattle.bean_lexer.specs.TokenForm.{keyword_spelling, is_plain}
+use Rattle.bean_lexer.specs.Gap.{is_line_feed}
 use Rattle.bean_lexer.specs.declared.kind.TheConstants.{WORDS}
 use Rattle.bean_lexer.specs.declared.kind.Keyword.{Keyword}
 use Rattle.bean_lexer.specs.declared.kind.Sign.{Sign}
@@ -22,11 +23,11 @@ has_more_digits bs at =
 -- the length of a root and its colon at the front, or 0
 abbrev pub root_len : List ℕ → ℕ
 root_len bs =
-    if starts_with nat_eq bs (codes "Assets:") then 7
+    if starts_with nat_eq bs (codes "Expenses:") then 9
+    else if starts_with nat_eq bs (codes "Assets:") then 7
     else if starts_with nat_eq bs (codes "Liabilities:") then 12
     else if starts_with nat_eq bs (codes "Equity:") then 7
     else if starts_with nat_eq bs (codes "Income:") then 7
-    else if starts_with nat_eq bs (codes "Expenses:") then 9
     else 0
 
 abbrev pub begins_component_at : List ℕ → ℕ → Bool
@@ -48,6 +49,13 @@ is_currency_form bs =
     && (is_ascii_uppercase (slice_index bs (length bs - 1))
     || is_ascii_digit (slice_index bs (length bs - 1))))
 
+-- three capitals, and behind them a byte that is no larger than a space
+abbrev pub is_code : List ℕ → Bool
+is_code bs =
+    nat_lt 3 (length bs) && nat_le (slice_index bs 3) space && is_ascii_uppercase (slice_index bs 0)
+    && is_ascii_uppercase (slice_index bs 1)
+    && is_ascii_uppercase (slice_index bs 2)
+
 abbrev pub ends_currency : ℕ → Bool
 ends_currency b = is_ascii_uppercase b || is_ascii_digit b
 
@@ -65,6 +73,14 @@ begins_other b =
     not (is_ascii_digit b) && not (is_ascii_uppercase b) && not (is_ascii_lowercase b)
     && not (b == quote) && not (b == hash)
     && not (b == caret)
+
+-- a byte that begins no token of more than one line
+abbrev pub begins_on_line : ℕ → Bool
+begins_on_line b = is_ascii b && not (b == quote) && not (is_line_feed b)
+
+-- a byte that goes on a text in its line, without an escape
+abbrev pub is_in_plain_text : ℕ → Bool
+is_in_plain_text b = is_plain b && not (is_line_feed b)
 
 -- the sign of one byte, but for #
 abbrev pub sign_of : ℕ → Option Sign

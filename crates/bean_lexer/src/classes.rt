@@ -1,8 +1,10 @@
 //! The classes of bytes that tokens are made of.
 ghost use Rattle.bean_base.specs.Name.{is_in_component, is_in_currency};
 ghost use Rattle.bean_lexer.specs.TokenForm.{is_in_name, is_in_key, is_plain};
+ghost use Rattle.bean_lexer.specs.Lookahead.{is_in_plain_text};
 ghost use Rattle.bean_lexer.specs.Tokens.{goes_on_character};
 
+use crate::tables::{goes_on_component, goes_on_plain_text};
 use byte_runs::ByteClass;
 
 /// What a component of an account goes on with.
@@ -12,11 +14,7 @@ impl ByteClass for InComponent {
     ghost holds = { is_in_component };
 
     fn has(b: u8) -> bool {
-        // Most are letters: they are told first.
-        if b.is_ascii_alphabetic() {
-            return true;
-        }
-        b.is_ascii_digit() || b == b'-' || b >= 128
+        goes_on_component(b)
     }
 }
 
@@ -65,6 +63,17 @@ impl ByteClass for InText {
 
     fn has(b: u8) -> bool {
         b != b'"' && b != b'\\'
+    }
+}
+
+/// What goes on a text in its line, without an escape.
+pub struct InPlainText;
+
+impl ByteClass for InPlainText {
+    ghost holds = { is_in_plain_text };
+
+    fn has(b: u8) -> bool {
+        goes_on_plain_text(b)
     }
 }
 

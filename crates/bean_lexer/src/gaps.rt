@@ -1,12 +1,15 @@
 //! What stands between tokens: white space, line feeds, comments and skipped lines.
-ghost use Rattle.std.specs.Prelude.{◌≡◌, ◌≤◌, ◌&&◌, nat_lt, length, slice_index, take, count_by};
-ghost use Rattle.std.specs.Prelude.{IsTrue};
+ghost use Rattle.std.specs.Prelude.{◌≡◌, ◌≤◌, ◌&&◌, nat_lt, length, slice_index, take, drop, count_by};
+ghost use Rattle.std.specs.Prelude.{IsTrue, ◌==◌, None};
+ghost use Rattle.std.specs.Option.{IfSome};
+ghost use Rattle.bean_base.specs.Character.{space};
 ghost use Rattle.bean_lexer.specs.Gap.{is_line_feed, gap_len, behind_gap, gap_step, place_of};
 ghost use Rattle.bean_lexer.specs.Gap as spec;
 ghost use Rattle.bean_lexer.specs.Gap.{spot_at};
-ghost use Rattle.bean_lexer.specs.InGap.{IsInGap, is_blank};
+ghost use Rattle.bean_lexer.specs.InGap.{IsInGap, IsLead};
 
 use crate::kind::Place;
+use crate::tables::begins_token;
 
 /// Where in a gap a byte stands.
 #[derive(Clone, Copy, Debug, PartialEq, Eq)]
@@ -21,12 +24,20 @@ pub enum Spot {
     Comment,
 }
 
-/// A gap's length, the line feeds in it, and where it ends.
+/// How far one is in a gap: what is behind one, the line feeds in it, and where it ends.
 #[derive(Clone, Copy)]
 pub struct Gap {
     pub len: usize,
     pub line_feeds: usize,
     pub end: Spot,
+}
+
+/// A gap's length, the line feeds in it, and the place of the token behind it.
+#[derive(Clone, Copy)]
+pub struct Lead {
+    pub len: usize,
+    pub line_feeds: usize,
+    pub place: Place,
 }
 
 impl Spot {
@@ -79,66 +90,134 @@ impl Spot {
     }
 }
 
-/// White space stands at the front, and behind its first byte a token's byte.
-#[tactic(auto, using(crate::proofs::GapFacts::one_white))]
 #[inline(always)]
-fn is_one_white(start: Spot, bytes: &[u8]) -> bool
-    ensures len { IsTrue result → gap_len start bytes.now ≡ 1 }
-    ensures end { IsTrue result → behind_gap start bytes.now ≡ spec.behind_white start }
-    ensures inside { IsTrue result → 1 ≤ length bytes.now }
-    ensures line_feeds { IsTrue result → count_by is_line_feed (take 1 bytes.now) ≡ 0 }
+fn is_space_at(bytes: &[u8], at: usize) -> bool
+    ensures { result ≡ (nat_lt at (length bytes.now) && (slice_index bytes.now at == space)) }
 {
-    bytes.len() >= 2
-        && (bytes[0] == b' ' || bytes[0] == b'\t')
-        && start.behind_white().step(bytes[1]).is_none()
+    at < bytes.len() && bytes[at] == b' '
 }
 
+/// A token begins at a byte where a gap has come to a spot.
 #[inline(always)]
-fn is_blank_at(bytes: &[u8], at: usize) -> bool
-    ensures { result ≡ (nat_lt at (length bytes.now) && is_blank (slice_index bytes.now at)) }
+fn ends_gap(spot: Spot, b: u8) -> bool
+    ensures { IsTrue result → gap_step spot b ≡ None }
 {
-    at < bytes.len() && (bytes[at] == b' ' || bytes[at] == b'\t')
-}
-
-/// The front of the gap at the front of a text: at most one line feed, and then white space.
-#[inline(always)]
-fn front_of_gap(start: Spot, bytes: &[u8]) -> Gap
-    ensures { IsInGap start bytes.now result }
-{
-    let mut line_feeds = 0;
-    let mut end = start;
-    if !bytes.is_empty() && bytes[0] == b'\n' {
-        line_feeds = 1;
-        end = Spot::LineStart;
+    match spot {
+        Spot::LineStart => begins_token(b) && !matches!(b, b'*' | b':' | b'#'),
+        Spot::Indent | Spot::Behind => begins_token(b),
+        Spot::Comment => false,
     }
-    let mut len = line_feeds;
-    if is_blank_at(bytes, len) {
-        end = end.behind_white();
+}
+
+/// A token begins behind a front of a gap.
+#[inline(always)]
+fn is_whole(front: Gap, bytes: &[u8]) -> bool
+    ensures len { IsTrue result → gap_len front.end (drop front.len bytes.now) ≡ 0 }
+    ensures end { IsTrue result → behind_gap front.end (drop front.len bytes.now) ≡ front.end }
+{
+    front.len < bytes.len() && ends_gap(front.end, bytes[front.len])
+}
+
+/// A front of a gap, if it is the whole.
+#[inline(always)]
+fn whole_gap(start: Spot, front: Gap, bytes: &[u8]) -> Option<Lead>
+    requires { IsInGap start bytes.now front }
+    ensures { IfSome result (IsLead start bytes.now) }
+{
+    let _ = start;
+    if is_whole(front, bytes) {
+        Some(Lead {
+            len: front.len,
+            line_feeds: front.line_feeds,
+            place: front.end.place(),
+        })
+    } else {
+        None
+    }
+}
+
+/// The gap that is a front that ends with spaces, and more of them, as in front of amounts that stand
+/// below one another.
+#[inline(always)]
+fn with_more_spaces(start: Spot, front: Gap, bytes: &[u8]) -> Option<Lead>
+    requires front { IsInGap start bytes.now front }
+    requires spaces { spec.behind_white front.end ≡ front.end }
+    ensures { IfSome result (IsLead start bytes.now) }
+{
+    let line_feeds = front.line_feeds;
+    let end = front.end;
+    let mut len = front.len;
+    while is_space_at(bytes, len) {
         len += 1;
-        while is_blank_at(bytes, len) {
-            len += 1;
-        }
     }
-    Gap {
+    let spaces = Gap {
         len,
         line_feeds,
         end,
+    };
+    whole_gap(start, spaces, bytes)
+}
+
+/// The gap that is a front and spaces: mostly none, one or two.
+#[inline(always)]
+fn with_spaces(start: Spot, front: Gap, bytes: &[u8]) -> Option<Lead>
+    requires { IsInGap start bytes.now front }
+    ensures { IfSome result (IsLead start bytes.now) }
+{
+    if !is_space_at(bytes, front.len) {
+        return whole_gap(start, front, bytes);
+    }
+    let one = Gap {
+        len: front.len + 1,
+        line_feeds: front.line_feeds,
+        end: front.end.behind_white(),
+    };
+    if !is_space_at(bytes, one.len) {
+        return whole_gap(start, one, bytes);
+    }
+    let two = Gap {
+        len: front.len + 2,
+        line_feeds: front.line_feeds,
+        end: one.end,
+    };
+    match whole_gap(start, two, bytes) {
+        Some(lead) => Some(lead),
+        None => with_more_spaces(start, two, bytes),
     }
 }
 
-/// The gap of which a front is known, byte by byte.
+/// The gap at the front of a text, if it is as most are: at most one line feed, and then spaces.
 #[inline(always)]
-fn long_gap(start: Spot, front: Gap, bytes: &[u8]) -> Gap
-    requires { IsInGap start bytes.now front }
+fn short_gap(start: Spot, bytes: &[u8]) -> Option<Lead>
+    ensures { IfSome result (IsLead start bytes.now) }
+{
+    if !bytes.is_empty() && bytes[0] == b'\n' {
+        let front = Gap {
+            len: 1,
+            line_feeds: 1,
+            end: Spot::LineStart,
+        };
+        return with_spaces(start, front, bytes);
+    }
+    let front = Gap {
+        len: 0,
+        line_feeds: 0,
+        end: start,
+    };
+    with_spaces(start, front, bytes)
+}
+
+/// The gap at the front of a text, byte by byte.
+#[inline(always)]
+fn long_gap(start: Spot, bytes: &[u8]) -> Lead
     ensures len { result.len ≡ gap_len start bytes.now }
-    ensures end { result.end ≡ behind_gap start bytes.now }
+    ensures place { result.place ≡ place_of (behind_gap start bytes.now) }
     ensures inside { result.len ≤ length bytes.now }
     ensures line_feeds { result.line_feeds ≡ count_by is_line_feed (take result.len bytes.now) }
 {
-    let _ = start;
-    let mut end = front.end;
-    let mut len = front.len;
-    let mut line_feeds = front.line_feeds;
+    let mut end = start;
+    let mut len = 0;
+    let mut line_feeds = 0;
     while len < bytes.len() {
         match end.step(bytes[len]) {
             Some(next) => {
@@ -149,28 +228,27 @@ fn long_gap(start: Spot, front: Gap, bytes: &[u8]) -> Gap
             None => break,
         }
     }
-    Gap {
+    Lead {
         len,
         line_feeds,
-        end,
+        place: end.place(),
     }
 }
 
 /// The gap at the front of a text.
 #[inline(always)]
-pub fn gap_at(start: Spot, bytes: &[u8]) -> Gap
+pub fn gap_at(start: Spot, bytes: &[u8]) -> Lead
     ensures len { result.len ≡ gap_len start bytes.now }
-    ensures end { result.end ≡ behind_gap start bytes.now }
+    ensures place { result.place ≡ place_of (behind_gap start bytes.now) }
     ensures inside { result.len ≤ length bytes.now }
     ensures line_feeds { result.line_feeds ≡ count_by is_line_feed (take result.len bytes.now) }
 {
-    if is_one_white(start, bytes) {
-        Gap {
-            len: 1,
-            line_feeds: 0,
-            end: start.behind_white(),
-        }
-    } else {
-        long_gap(start, front_of_gap(start, bytes), bytes)
+    // The spot is known from here on, so the place of the token is too.
+    if start != Spot::Behind {
+        return long_gap(start, bytes);
+    }
+    match short_gap(Spot::Behind, bytes) {
+        Some(lead) => lead,
+        None => long_gap(Spot::Behind, bytes),
     }
 }

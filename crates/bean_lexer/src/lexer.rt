@@ -5,7 +5,7 @@ ghost use Rattle.bean_lexer.specs.Tokens.{line_at};
 
 use crate::gaps::{Spot, gap_at};
 use crate::token::Token;
-use crate::token_at::{line_feeds_of, token_at};
+use crate::token_at::token_at;
 use bean_base::Slice;
 
 /// Gives the tokens of a text one after the other. It takes no memory.
@@ -57,7 +57,7 @@ impl<'a> Lexer<'a> {
         let (text, rest) = behind.split_at(found.len);
         let token = Token {
             kind: found.kind,
-            place: gap.end.place(),
+            place: gap.place,
             text: Slice::new(text),
             start: self.text.len() - behind.len(),
             line: self.line + gap.line_feeds,
@@ -65,7 +65,7 @@ impl<'a> Lexer<'a> {
         *self = Lexer {
             text: self.text,
             rest,
-            line: token.line + line_feeds_of(found.kind, text.as_bytes()),
+            line: token.line + found.line_feeds,
         };
         Some(token)
     }

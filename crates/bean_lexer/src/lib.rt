@@ -39,6 +39,7 @@ mod kind;
 mod lexer;
 mod marks;
 mod names;
+mod tables;
 mod texts;
 mod token;
 mod token_at;

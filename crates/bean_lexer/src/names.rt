@@ -18,6 +18,19 @@ use crate::found::Found;
 use crate::kind::{Keyword, Kind, Sign};
 use byte_runs::{end_of_run, has_front};
 
+/// Three capitals stand at the front, and white space or a line feed behind them: so is most money
+/// named.
+#[inline(always)]
+fn is_code(bytes: &[u8]) -> bool
+    ensures { result ≡ lookahead.is_code bytes.now }
+{
+    bytes.len() > 3
+        && bytes[3] <= b' '
+        && bytes[0].is_ascii_uppercase()
+        && bytes[1].is_ascii_uppercase()
+        && bytes[2].is_ascii_uppercase()
+}
+
 /// The account, the currency or the truth value that begins with a capital.
 #[inline(always)]
 pub fn account_or_currency(bytes: &[u8]) -> Found
@@ -26,6 +39,12 @@ pub fn account_or_currency(bytes: &[u8]) -> Found
     ensures token { IsToken bytes.now result.kind result.len }
     ensures boundary { IsUtf8 bytes.now → IsCharBoundary bytes.now result.len }
 {
+    if is_code(bytes) {
+        return Found {
+            kind: Kind::Currency,
+            len: 3,
+        };
+    }
     match account_len(bytes) {
         Some(len) => Found {
             kind: Kind::Account,
@@ -35,12 +54,14 @@ pub fn account_or_currency(bytes: &[u8]) -> Found
     }
 }
 
-/// The length of a root and its colon at the front, or 0.
+/// The length of a root and its colon at the front, or 0. Most accounts are of expenses.
 #[inline(always)]
 fn root_len(bytes: &[u8]) -> usize
     ensures { result ≡ lookahead.root_len bytes.now }
 {
-    if has_front(bytes, b"Assets:") {
+    if has_front(bytes, b"Expenses:") {
+        9
+    } else if has_front(bytes, b"Assets:") {
         7
     } else if has_front(bytes, b"Liabilities:") {
         12
@@ -48,8 +69,6 @@ fn root_len(bytes: &[u8]) -> usize
         7
     } else if has_front(bytes, b"Income:") {
         7
-    } else if has_front(bytes, b"Expenses:") {
-        9
     } else {
         0
     }

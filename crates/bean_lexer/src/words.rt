@@ -1,5 +1,5 @@
 //! Keys, words and signs, and characters that begin no token.
-ghost use Rattle.std.specs.Prelude.{◌≡◌, ◌<◌, ◌∷◌, [], ◌+◌, if◌then◌else◌, drop, length};
+ghost use Rattle.std.specs.Prelude.{◌≡◌, ◌<◌, ◌≤◌, ◌∷◌, [], ◌+◌, if◌then◌else◌, drop, length};
 ghost use Rattle.std.specs.Prelude.{slice_index, IsTrue};
 ghost use Rattle.std.specs.List.{prefix_len};
 ghost use Rattle.std.specs.Option.{IfSome};
@@ -17,7 +17,7 @@ use crate::kind::{Keyword, Kind, Sign, WORDS};
 use byte_runs::{end_of_run, has_front};
 
 /// The key or the word that begins with a small letter, or a fault.
-#[inline(never)]
+#[inline(always)]
 pub fn key_or_keyword(bytes: &[u8]) -> Found
     requires some { 0 < length bytes.now }
     requires small { IsTrue (is_ascii_lowercase (slice_index bytes.now 0)) }
@@ -50,6 +50,7 @@ fn has_colon(bytes: &[u8], at: usize) -> bool
 }
 
 /// The word in small letters at the front.
+#[inline(never)]
 fn keyword_at(bytes: &[u8]) -> Option<Keyword>
     ensures { result ≡ spec.keyword_at bytes.now }
 {
@@ -111,6 +112,7 @@ fn character_len(bytes: &[u8]) -> usize
     requires { 0 < length bytes.now }
     ensures len { result ≡ (if is_ascii (slice_index bytes.now 0) then 1
         else 1 + prefix_len goes_on_character (drop 1 bytes.now)) }
+    ensures inside { result ≤ length bytes.now }
     ensures boundary { IsUtf8 bytes.now → IsCharBoundary bytes.now result }
 {
     if bytes[0] < 128 {
@@ -125,6 +127,7 @@ fn character_len(bytes: &[u8]) -> usize
 pub fn sign_or_fault(bytes: &[u8]) -> Found
     requires some { 0 < length bytes.now }
     requires other { IsTrue (begins_other (slice_index bytes.now 0)) }
+    ensures inside { result.len ≤ length bytes.now }
     ensures token { IsToken bytes.now result.kind result.len }
     ensures boundary { IsUtf8 bytes.now → IsCharBoundary bytes.now result.len }
 {

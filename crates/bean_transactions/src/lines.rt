@@ -26,11 +26,11 @@ use std::alloc::{AllocError, Global};
 
 /// The lines of a transaction so far, what its takes come to in each account, which lots these leave
 /// there, and where they stand.
-pub(crate) struct Lines<'s, 'a> {
+pub(crate) struct Lines<'a, 's> {
     lines: Vec<Line<'a>>,
     taken: Inventories<'a>,
     left: LotsLeft<'a>,
-    rests: Rests<'s, 'a>,
+    rests: Rests<'a, 's>,
     /// What an account holds that isn't there.
     nothing: &'s Inventory<'a>,
 }
@@ -59,8 +59,8 @@ fn is_in_braces(posting: &Posting<'_>) -> bool
     }
 }
 
-impl<'s, 'a> Lines<'s, 'a> {
-    fn new(alloc: Global, nothing: &'s Inventory<'a>) -> Lines<'s, 'a>
+impl<'a, 's> Lines<'a, 's> {
+    fn new(alloc: Global, nothing: &'s Inventory<'a>) -> Lines<'a, 's>
         requires { nothing.now ≡ [] }
         ensures lines { result.lines.items ≡ [] }
         ensures keeping { (h : holdings.Holdings) → IsKeeping h result }

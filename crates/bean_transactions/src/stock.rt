@@ -14,7 +14,7 @@ pub(crate) struct Stock<'s, 'a> {
     pub held: &'s Inventory<'a>,
     pub taken: &'s Inventory<'a>,
     pub left: &'s LotsLeft<'a>,
-    pub rests: &'s Rests<'s, 'a>,
+    pub rests: &'s Rests<'a, 's>,
 }
 
 impl<'s, 'a> Stock<'s, 'a> {
@@ -22,7 +22,7 @@ impl<'s, 'a> Stock<'s, 'a> {
     pub fn of_nothing(
         nothing: &'s Inventory<'a>,
         left: &'s LotsLeft<'a>,
-        rests: &'s Rests<'s, 'a>,
+        rests: &'s Rests<'a, 's>,
     ) -> Stock<'s, 'a>
         ensures held { result.held.now ≡ nothing.now }
         ensures taken { result.taken.now ≡ nothing.now }

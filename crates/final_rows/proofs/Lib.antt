@@ -8,3 +8,4 @@ pub mod ShownFacts
 mod FrontFacts
 pub mod LastFacts
 pub mod EnoughFacts
+pub mod KeyFacts

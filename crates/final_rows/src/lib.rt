@@ -36,6 +36,7 @@
 #![tactic(auto)]
 
 mod codes;
+mod hints;
 mod keys;
 mod ordering;
 mod rank;

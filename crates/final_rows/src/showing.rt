@@ -25,7 +25,7 @@ fn front<'s, 'r>(row: &'s [Value<'r>], width: usize) -> &'s [Value<'r>]
 fn note<'s, 'r>(
     number: usize,
     shown: &'s [Value<'r>],
-    seen: &mut IndexSet<LentKey<'s, 'r>>,
+    seen: &mut IndexSet<LentKey<'r, 's>>,
     once: &mut Vec<usize>,
 ) -> Result<(), AllocError>
     ensures seen { OnOk result (seen.new.keys ≡ with_new seen.old.keys shown.now) }

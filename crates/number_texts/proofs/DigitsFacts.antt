@@ -111,7 +111,7 @@ leading_one (suc places) n few small =
     ∙ ap (λ ds. ds ++ (48 + n % 10) ∷ []) (leading_one places (n / 10) (omega arith) (omega arith))
 
 -- one zero at the end less
-fewer : (places n : ℕ) → n % 10 ≡ 0 → exact_decimals (suc places) n ≡ exact_decimals places (n / 10)
+pub fewer : (places n : ℕ) → n % 10 ≡ 0 → exact_decimals (suc places) n ≡ exact_decimals places (n / 10)
 fewer places n ends =
     let yes : nat_eq (n % 10) 0 ≡ true = grind (arith, nat_tests) in
     ap (λ b. cond b (exact_decimals places (n / 10)) (digits_of (suc places) n)) yes

@@ -2,7 +2,7 @@
 use Rattle.std.specs.Prelude.{ℕ, ℤ, zero, suc, pos, negsuc, ◌+◌, ◌-◌, ◌/◌, ◌%◌, ◌^◌, ◌==◌, List, []}
 use Rattle.std.specs.Prelude.{◌∷◌, ◌++◌, length, replicate, if◌then◌else◌}
 use Rattle.std.specs.Fmt.{decimal}
-use Rattle.bean_base.specs.Character.{dash, point}
+use Rattle.bean_base.specs.Character.{dash, point, space}
 use Rattle.bean_base.specs.declared.days.Day.{Day}
 use Rattle.std.specs.Int.RustNames.{unsigned_abs}
 
@@ -44,6 +44,10 @@ magnitude_text n places least =
 abbrev pub number_text : ℤ → ℕ → ℕ → List ℕ
 number_text (pos n) places least = magnitude_text n places least
 number_text (negsuc n) places least = dash ∷ magnitude_text (suc n) places least
+
+-- a text at the right of a column that is so wide, with spaces before it
+abbrev pub right_of : ℕ → List ℕ → List ℕ
+right_of width text = replicate (width - length text) space ++ text
 
 -- YYYY-MM-DD
 abbrev pub day_text : Day → List ℕ

@@ -1,14 +1,14 @@
 //! The texts of numbers and days.
-ghost use Rattle.std.specs.Prelude.{◌≡◌, ◌≤◌, ◌<◌, ◌+◌, ◌-◌, ◌/◌, ◌%◌, ◌^◌, [], ◌∷◌, ◌++◌, OnOk};
-ghost use Rattle.std.specs.Prelude.{IfSome, drop, length, max, nat_lt, if◌then◌else◌};
+ghost use Rattle.std.specs.Prelude.{◌≡◌, ◌≤◌, ◌<◌, ◌+◌, ◌-◌, ◌/◌, ◌%◌, ◌^◌, [], ◌∷◌, ◌++◌, OnOk, IfOk};
+ghost use Rattle.std.specs.Prelude.{IfSome, drop, length, max, nat_lt, replicate, take, if◌then◌else◌};
 ghost use Rattle.std.specs.Fmt.{decimal};
 ghost use Rattle.std.specs.Int.RustNames.{unsigned_abs};
-ghost use Rattle.bean_base.specs.Character.{dash};
+ghost use Rattle.bean_base.specs.Character.{dash, space};
 ghost use Rattle.number_texts.specs.Digits.{behind_point, digits_of, exact_decimals, number_text};
 ghost use Rattle.number_texts.specs.Digits.{parts_text};
-ghost use Rattle.number_texts.specs.Digits.{day_text, zeros};
+ghost use Rattle.number_texts.specs.Digits.{day_text, right_of, zeros};
 
-use crate::runs::push_run;
+use crate::runs::{push_run, push_spaces};
 use bean_base::{Day, power_of_ten};
 use itoa::{Buffer, write_digits};
 use std::alloc::AllocError;
@@ -324,21 +324,69 @@ pub fn number_len(count: i128, places: u8, least: u8) -> usize
     }
 }
 
-/// Puts a sign before the text that begins at `start`, and tells where the text begins with it. It
-/// stands there whether or not it is wanted.
+/// Puts a sign before the text that begins at `start`, where it is wanted, and tells where the text
+/// begins with it. Spaces stand before it.
 fn put_sign(text: &mut [u8], start: usize, is_wanted: bool) -> usize
-    requires { (0 < start) × (start ≤ length text.old) }
+    requires some { (0 < start) × (start ≤ length text.old) }
+    requires spaces { take start text.old ≡ replicate start space }
     ensures text { drop result text.new
         ≡ (if is_wanted then dash ∷ [] else []) ++ drop start text.old }
     ensures start { result + length (if is_wanted then dash ∷ [] else []) ≡ start }
+    ensures spaces { take result text.new ≡ replicate result space }
 {
-    text[start - 1] = b'-';
+    text[start - 1] = if is_wanted { b'-' } else { b' ' };
     start - len_if(is_wanted)
 }
 
-/// A sign where it is wanted, a whole part and decimals, where they are few: one text of at most 40
-/// bytes. So many are added, whatever its length, and those that are too many taken off: copies of a
-/// known length are made in place.
+/// How many spaces stand before a text of that length at the right of a column that is so wide, with
+/// those that stand before the column.
+#[inline(always)]
+fn spaces_before(spaces: usize, width: usize, len: usize) -> Result<usize, AllocError>
+    ensures { IfOk result (λ n. n ≡ spaces + (width - len)) }
+{
+    spaces
+        .checked_add(width.saturating_sub(len))
+        .ok_or(AllocError)
+}
+
+/// A sign where it is wanted, a whole part and decimals, where they are few, at the right of a column
+/// that is so wide and that so many spaces stand before: one text of at most 40 bytes, with spaces
+/// before it. So many are added, whatever its length, and those that are too many taken off: copies of
+/// a known length are made in place.
+#[inline(always)]
+fn push_few_parts_right(
+    out: &mut Vec<u8>,
+    spaces: usize,
+    is_negative: bool,
+    whole: u64,
+    shown: u8,
+    digits: u64,
+    width: usize,
+) -> Result<(), AllocError>
+    requires few { shown ≤ 18 }
+    requires small { digits < 10 ^ shown }
+    ensures { OnOk result (out.new.items ≡ out.old.items ++ replicate spaces space
+        ++ right_of width ((if is_negative then dash ∷ [] else [])
+        ++ (decimal whole ++ behind_point (digits_of shown digits)))) }
+{
+    let mut text = [b' '; 80];
+    // A one before the digits keeps the zeros in front of them. The point takes its place.
+    let point = write_digits(power_of_ten(shown) as u64 + digits, &mut text, 40);
+    text[point] = b'.';
+    let whole = write_digits(whole, &mut text, point);
+    let start = put_sign(&mut text, whole, is_negative);
+    // Without decimals the point is one too many.
+    let end = 40 - len_if(shown == 0);
+    let before = spaces_before(spaces, width, end - start)?;
+    // Mostly they are few, and stand in the text.
+    push_spaces(out, before.saturating_sub(start))?;
+    let from = start.saturating_sub(before);
+    out.extend_from_slice(&text[from..from + 40])?;
+    out.truncate(out.len() - (from + (40 - end)));
+    Ok(())
+}
+
+/// The same without spaces before it.
 #[inline(always)]
 fn push_few_parts(
     out: &mut Vec<u8>,
@@ -353,16 +401,7 @@ fn push_few_parts(
         ++ (if is_negative then dash ∷ [] else [])
         ++ (decimal whole ++ behind_point (digits_of shown digits))) }
 {
-    let mut text = [0; 80];
-    // A one before the digits keeps the zeros in front of them. The point takes its place.
-    let point = write_digits(power_of_ten(shown) as u64 + digits, &mut text, 40);
-    text[point] = b'.';
-    let whole = write_digits(whole, &mut text, point);
-    let start = put_sign(&mut text, whole, is_negative);
-    out.extend_from_slice(&text[start..start + 40])?;
-    // Without decimals the point is one too many.
-    out.truncate(out.len() - (start + len_if(shown == 0)));
-    Ok(())
+    push_few_parts_right(out, 0, is_negative, whole, shown, digits, 0)
 }
 
 /// A sign where it is wanted, a whole part and the decimals that are shown, with zeros behind them up
@@ -417,6 +456,53 @@ pub fn push_number(out: &mut Vec<u8>, count: i128, places: u8, least: u8) -> Res
     match few_parts(number, places, least) {
         Some((whole, digits)) => push_few_parts(out, count < 0, whole, least, digits),
         None => push_parts(out, count < 0, any_parts(number, places, least), least),
+    }
+}
+
+/// The same at the right of a column that is so wide, whatever its parts are.
+#[inline(never)]
+fn push_any_right(
+    out: &mut Vec<u8>,
+    spaces: usize,
+    count: i128,
+    places: u8,
+    least: u8,
+    width: usize,
+) -> Result<(), AllocError>
+    ensures { OnOk result (out.new.items ≡ out.old.items ++ replicate spaces space
+        ++ right_of width (number_text count places least)) }
+{
+    push_spaces(out, spaces)?;
+    push_spaces(out, width.saturating_sub(number_len(count, places, least)))?;
+    push_number(out, count, places, least)?;
+    Ok(())
+}
+
+/// So many spaces, and the same number at the right of a column that is so wide. Most are written at
+/// once with the spaces before them, and needn't be measured.
+#[inline(always)]
+pub fn push_number_right(
+    out: &mut Vec<u8>,
+    spaces: usize,
+    count: i128,
+    places: u8,
+    least: u8,
+    width: usize,
+) -> Result<(), AllocError>
+    ensures { OnOk result (out.new.items ≡ out.old.items ++ replicate spaces space
+        ++ right_of width (number_text count places least)) }
+{
+    match few_parts(count.unsigned_abs(), places, least) {
+        Some((whole, digits)) => push_few_parts_right(
+            out,
+            spaces,
+            count < 0,
+            whole,
+            least,
+            digits,
+            width,
+        ),
+        None => push_any_right(out, spaces, count, places, least, width),
     }
 }
 

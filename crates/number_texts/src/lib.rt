@@ -5,6 +5,7 @@
 //! push_number(&mut out, -1050, 2, 0)?;   // -10.5
 //! push_number(&mut out, -1050, 2, 2)?;   // -10.50
 //! number_len(-1050, 2, 2);               // 6
+//! push_number_right(&mut out, 1, -1050, 2, 2, 8)?;   // a space, two more, and -10.50
 //! push_day(&mut out, day)?;              // 2014-01-31
 //! last.push(&mut out, day)?;             // the same, made once for a day that comes again
 //! ```
@@ -26,6 +27,6 @@ mod printable;
 mod runs;
 
 pub use days::LastDay;
-pub use digits::{number_len, push_day, push_number};
+pub use digits::{number_len, push_day, push_number, push_number_right};
 pub use printable::is_printable;
 pub use runs::{push_run, push_spaces};

@@ -29,14 +29,16 @@
 //! does, and beside it 16 bytes a row tell where they lie. From 65,536 values or rows on, either
 //! takes room for two million at once, which costs nothing where it isn't written to. To cut rows,
 //! or to show less of them, moves no value and gives none up. Where all rows are picked, and rows
-//! of as many values lie one behind the other, they change places where they lie, and 8 bytes a row
+//! of as many values lie one behind the other, they change places where they lie, and 4 bytes a row
 //! are taken beside them. Else picked rows are moved once, to a piece of their size, which stands
 //! beside the old one until then; the values of the others are given up with that.
 #![tactic(auto)]
 
 mod answer;
+mod bringing;
 mod places;
 mod rows;
+mod turns;
 
 pub use answer::Answer;
 pub use rows::AnswerRows;

@@ -7,7 +7,8 @@ ghost use Rattle.query_answer.specs.Rows.{ArePicked, row_at};
 ghost use Rattle.query_answer.specs.Spans.{IsSameAround, LieApart, between, narrowed_to, rows_in, span_at};
 ghost use Rattle.query_answer.specs.Spans.{values_in};
 
-use crate::places::{are_dense, bring_all, places_of};
+use crate::bringing::bring_all;
+use crate::places::{are_dense, places_of};
 use query_values::Value;
 use std::alloc::{AllocError, Global};
 use std::marker::Model;
@@ -168,7 +169,7 @@ fn places_for(
     alloc: Global,
     spans: &[Span],
     numbers: &[usize],
-) -> Result<Option<Vec<usize>>, AllocError>
+) -> Result<Option<Vec<u32>>, AllocError>
     ensures { IfOk result (λ found. IfSome found (λ places.
         MayGo spans.now numbers.now places.items)) }
 {
@@ -179,7 +180,7 @@ fn places_for(
 }
 
 /// All rows in another order, where they lie.
-fn brought<'a>(values: Vec<Value<'a>>, spans: Vec<Span>, places: Vec<usize>) -> AnswerRows<'a>
+fn brought<'a>(values: Vec<Value<'a>>, spans: Vec<Span>, places: Vec<u32>) -> AnswerRows<'a>
     requires apart { LieApart 0 (length values.items) spans.items }
     requires dense { AreDense spans.items }
     requires mixed { AreMixed places.items }

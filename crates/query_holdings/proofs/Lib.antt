@@ -1,1 +1,2 @@
 pub mod HoldingFacts
+pub mod KeptFacts

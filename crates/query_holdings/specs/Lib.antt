@@ -1,3 +1,7 @@
 pub mod Total
 pub mod BagKey
 pub mod Entries
+pub mod Kept
+pub mod Placed
+pub mod Rest
+pub mod Listed

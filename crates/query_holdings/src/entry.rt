@@ -1,10 +1,12 @@
 //! The entries of a bag in the order of their keys.
-ghost use Rattle.std.specs.Prelude.{◌≡◌, IfOk, OnOk};
+ghost use Rattle.std.specs.Prelude.{◌≡◌, ◌<◌, IfOk, OnOk, Some, get_or, length, map, pos, slice_get};
 ghost use Rattle.bean_lots.specs.Lot.{key_order};
 ghost use Rattle.query_holdings.specs.Entries.{in_order};
+ghost use Rattle.query_holdings.specs.Placed.{entry_in};
 
 use crate::bag_key::BagKey;
-use crate::holding::Holdings;
+use crate::holdings::Holdings;
+use crate::keys::Placed;
 use std::alloc::{AllocError, Global};
 use std::cmp::Ordering;
 use std::marker::Model;
@@ -40,6 +42,49 @@ impl<'s, 'r> Entry<'s, 'r> {
     {
         self.count
     }
+
+    /// The same entry once more.
+    fn lend(&self) -> Entry<'s, 'r>
+        ensures { result ≡ self.now }
+    {
+        Entry {
+            key: self.key,
+            count: self.count,
+        }
+    }
+}
+
+/// The count at a place, 0 behind the last.
+#[inline(always)]
+fn count_at(counts: &[i64], place: usize) -> i64
+    ensures { result ≡ get_or counts.now place (pos 0) }
+{
+    match counts.get(place) {
+        Some(count) => *count,
+        None => 0,
+    }
+}
+
+/// The entry at a place of a list of them.
+#[inline(always)]
+fn listed_at<'s, 'r>(entries: &[Entry<'s, 'r>], place: usize) -> Entry<'s, 'r>
+    requires { place < length entries.now }
+    ensures { slice_get entries.now place ≡ Some result }
+{
+    entries[place].lend()
+}
+
+/// The entry of the key at a place, whose count stands at the key's own place.
+#[inline(always)]
+fn placed_at<'s, 'r>(placed: &'s [Placed<'r>], counts: &[i64], place: usize) -> Entry<'s, 'r>
+    requires { place < length placed.now }
+    ensures { slice_get (map (entry_in counts.now) placed.now) place ≡ Some result }
+{
+    let one = &placed[place];
+    Entry {
+        key: &one.key,
+        count: count_at(counts, one.place) as i128,
+    }
 }
 
 /// The entries of a bag, in order of entry.
@@ -69,13 +114,104 @@ fn arrange(entries: &mut Vec<Entry<'_, '_>>) -> Result<(), AllocError>
     )
 }
 
-impl<'s, 'r> Holdings<'s, 'r> {
-    /// The entries in the order of their keys.
-    pub fn in_order(&self, alloc: Global) -> Result<Vec<Entry<'s, 'r>>, AllocError>
-        ensures { IfOk result (λ v. v.items ≡ in_order self.now) }
+/// Keys in order, whose counts stand at their own places.
+#[derive(Drop)]
+pub(crate) struct PlacedRun<'s, 'r> {
+    placed: &'s [Placed<'r>],
+    counts: &'s [i64],
+}
+
+impl<'s, 'r> Model for PlacedRun<'s, 'r> {
+    ghost use Rattle.std.specs.Prelude.{List, map};
+    ghost use Rattle.bean_lots.specs.declared.lot.Position.{Position};
+    ghost use Rattle.query_holdings.specs.Placed.{entry_in};
+
+    ghost Value = { List Position };
+
+    ghost view = { λ r. map (entry_in r.counts.now) r.placed.now };
+}
+
+impl<'s, 'r> PlacedRun<'s, 'r> {
+    /// How many there are.
+    fn len(&self) -> usize
+        ensures { result ≡ length self.now }
     {
-        let mut entries = entries_of(alloc, self)?;
+        self.placed.len()
+    }
+
+    /// The entry at a place.
+    #[inline(always)]
+    fn at(&self, place: usize) -> Entry<'s, 'r>
+        requires { place < length self.now }
+        ensures { slice_get self.now place ≡ Some result }
+    {
+        placed_at(self.placed, self.counts, place)
+    }
+}
+
+/// Entries as they lie in order: one behind the other, or as keys whose counts stand at their places.
+#[derive(Drop)]
+pub(crate) enum Listed<'s, 'r> {
+    Entries(Vec<Entry<'s, 'r>>),
+    Placed(PlacedRun<'s, 'r>),
+}
+
+/// The entries of a bag in the order of their keys.
+#[derive(Drop)]
+pub struct InOrder<'s, 'r> {
+    listed: Listed<'s, 'r>,
+}
+
+impl<'s, 'r> Model for InOrder<'s, 'r> {
+    ghost use Rattle.std.specs.Prelude.{List};
+    ghost use Rattle.bean_lots.specs.declared.lot.Position.{Position};
+    ghost use Rattle.query_holdings.specs.Listed.{entries_in};
+
+    ghost Value = { List Position };
+
+    ghost view = { λ o. entries_in o.listed };
+}
+
+impl<'s, 'r> InOrder<'s, 'r> {
+    /// The entries of a bag that can grow.
+    pub(crate) fn of(alloc: Global, held: &Holdings<'s, 'r>) -> Result<InOrder<'s, 'r>, AllocError>
+        ensures { IfOk result (λ o. o ≡ in_order held.now) }
+    {
+        let mut entries = entries_of(alloc, held)?;
         arrange(&mut entries)?;
-        Ok(entries)
+        Ok(InOrder {
+            listed: Listed::Entries(entries),
+        })
+    }
+
+    /// The entries of keys that are in order, with their counts.
+    pub(crate) fn placed(placed: &'s [Placed<'r>], counts: &'s [i64]) -> InOrder<'s, 'r>
+        ensures { result ≡ map (entry_in counts.now) placed.now }
+    {
+        InOrder {
+            listed: Listed::Placed(PlacedRun { placed, counts }),
+        }
+    }
+
+    /// How many entries there are.
+    pub fn len(&self) -> usize
+        ensures { result ≡ length self.now }
+    {
+        match &self.listed {
+            Listed::Entries(entries) => entries.len(),
+            Listed::Placed(run) => run.len(),
+        }
+    }
+
+    /// The entry at a place.
+    #[inline(always)]
+    pub fn entry(&self, place: usize) -> Entry<'s, 'r>
+        requires { place < length self.now }
+        ensures { slice_get self.now place ≡ Some result }
+    {
+        match &self.listed {
+            Listed::Entries(entries) => listed_at(entries, place),
+            Listed::Placed(run) => run.at(place),
+        }
     }
 }

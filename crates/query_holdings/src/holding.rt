@@ -2,8 +2,8 @@
 //!
 //! Nothing moves where a count comes to 0: a hole is left, until half of all are holes and these are
 //! swept out.
-ghost use Rattle.std.specs.Prelude.{◌≡◌, ◌+◌, ◌+ℤ◌, ◌≤◌, ◌∷◌, [], All, IfNone, IfSome, None, OnErr, OnOk};
-ghost use Rattle.std.specs.Prelude.{Some, drop, length, map, pos, position};
+ghost use Rattle.std.specs.Prelude.{◌≡◌, ◌+ℤ◌, [], All, IfOk, IfSome, None, OnErr, OnOk, Some, map, pos};
+ghost use Rattle.std.specs.Prelude.{position};
 ghost use Rattle.std.specs.Int.{w128};
 ghost use Rattle.std.specs.Int.RustNames.{FitsSigned};
 ghost use Rattle.std.specs.Map.{keys_of, lookup};
@@ -14,7 +14,10 @@ ghost use Rattle.bean_lots.specs.Slots.{positions};
 ghost use Rattle.bean_lots.specs.declared.lot.Key.{Key as KeyValue};
 
 use crate::bag_key::BagKey;
-use key_counts::{KeyCounts, Run};
+use crate::holdings::Holdings;
+use crate::kept::{Kept, ROOM};
+use crate::keys::Keys;
+use key_counts::KeyCounts;
 use std::alloc::{AllocError, Global};
 use std::marker::Model;
 
@@ -28,6 +31,8 @@ pub struct Holding<'r> {
     counts: KeyCounts<BagKey<'r>>,
     /// About how many of these are 0: how soon they are swept out.
     holes: usize,
+    /// The keys, where copies share them: those of the counts then, none of which is 0.
+    keys: Option<Keys<'r>>,
 }
 
 /// Written out, so that crates which give one up need to know nothing of what is in it.
@@ -36,6 +41,7 @@ impl Drop for Holding<'_> {
         let Holding {
             counts: _,
             holes: _,
+            keys: _,
         } = self;
     }
 }
@@ -44,10 +50,13 @@ impl<'r> Model for Holding<'r> {
     ghost use Rattle.std.specs.Prelude.{List};
     ghost use Rattle.bean_lots.specs.Slots.{positions};
     ghost use Rattle.bean_lots.specs.declared.lot.Position.{Position};
+    ghost use Rattle.query_holdings.specs.Kept.{AreKeys};
 
     ghost Value = { List Position };
 
     ghost view = { λ h. positions h.counts };
+
+    ghost invariant = { λ h. AreKeys h.keys h.counts };
 }
 
 impl Clone for Holding<'_> {
@@ -57,6 +66,7 @@ impl Clone for Holding<'_> {
         Ok(Holding {
             counts: self.counts.clone()?,
             holes: self.holes,
+            keys: None,
         })
     }
 }
@@ -71,6 +81,13 @@ fn sweep(counts: &mut KeyCounts<BagKey<'_>>, holes: &mut usize)
         counts.keep_full();
         *holes = 0;
     }
+}
+
+/// Takes out all holes.
+fn sweep_all(counts: &mut KeyCounts<BagKey<'_>>)
+    ensures { positions counts.new ≡ positions counts.old }
+{
+    counts.keep_full();
 }
 
 /// Puts a key that isn't there behind all others.
@@ -114,7 +131,13 @@ impl<'r> Holding<'r> {
         Holding {
             counts: KeyCounts::new(alloc),
             holes: 0,
+            keys: None,
         }
+    }
+
+    /// Where memory is taken.
+    pub fn alloc(&self) -> Global {
+        self.counts.alloc()
     }
 
     /// The count under a key, 0 where nothing is held.
@@ -134,9 +157,7 @@ impl<'r> Holding<'r> {
     {
         // Each key stands once.
         let _count = self.counts.len();
-        Holdings {
-            slots: self.counts.as_run(),
-        }
+        Holdings::in_slots(self.counts.as_run())
     }
 
     /// Adds to the count under a key. The caller knows that the sum fits.
@@ -146,20 +167,51 @@ impl<'r> Holding<'r> {
         ensures err { OnErr result (self.new ≡ self.old) }
     {
         let Some(place) = self.counts.place_of(&key) else {
+            self.keys = None;
             sweep(&mut self.counts, &mut self.holes);
             return push(&mut self.counts, key, count);
         };
         let before = self.counts.count_at(place);
         if before == 0 {
+            self.keys = None;
+            self.holes = self.holes.saturating_sub(1);
             remove(&mut self.counts, &key, place);
             return push(&mut self.counts, key, count);
         }
         let after = before + count;
         self.counts.set(place, after);
         if after == 0 {
+            self.keys = None;
             self.holes = self.holes.saturating_add(1);
         }
         Ok(())
+    }
+
+    /// Lets the copies that follow share their keys, where these are few.
+    pub fn share_keys(&mut self) -> Result<(), AllocError>
+        ensures { self.new ≡ self.old }
+    {
+        if self.keys.is_some() || self.counts.len().saturating_sub(self.holes) > ROOM {
+            return Ok(());
+        }
+        if self.holes > 0 {
+            sweep_all(&mut self.counts);
+            self.holes = 0;
+        }
+        self.keys = Some(Keys::of(self.counts.alloc(), &self.counts.as_run())?);
+        Ok(())
+    }
+
+    /// A copy in few bytes, where keys are shared, and counts are narrow and none is 0.
+    pub fn kept(&self) -> Result<Option<Kept<'r>>, AllocError>
+        ensures { IfOk result (λ o. IfSome o (λ k. k ≡ self.now)) }
+    {
+        // Each key stands once.
+        let _count = self.counts.len();
+        match &self.keys {
+            Some(keys) => Kept::of(self.counts.alloc(), keys, &self.counts.as_run()),
+            None => Ok(None),
+        }
     }
 
     /// Changes the sign of every count. None is the least of 128 bits.
@@ -167,59 +219,7 @@ impl<'r> Holding<'r> {
         requires { All MayBeNegated self.old }
         ensures { self.new ≡ map negative_entry self.old }
     {
+        self.keys = None;
         negate(&mut self.counts);
-    }
-}
-
-/// The first count that isn't 0, with its key and the place behind it.
-fn first_of<'s, 'r>(slots: &Run<'s, BagKey<'r>>) -> Option<(&'s BagKey<'r>, i128, usize)>
-    ensures some { IfSome result (λ p. positions slots.now
-        ≡ position_of p.0.now p.1 ∷ positions (drop p.2 slots.now)) }
-    ensures inside { IfSome result (λ p. p.2 ≤ length slots.now) }
-    ensures none { IfNone result (positions slots.now ≡ []) }
-{
-    for place in 0..slots.len() {
-        let (key, count) = slots.slot_at(place);
-        if count != 0 {
-            return Some((key, count, place + 1));
-        }
-    }
-    None
-}
-
-/// The positions of a bag that are still to come, in order of entry.
-#[derive(Drop)]
-pub struct Holdings<'s, 'r> {
-    slots: Run<'s, BagKey<'r>>,
-}
-
-impl<'s, 'r> Model for Holdings<'s, 'r> {
-    ghost use Rattle.std.specs.Prelude.{List};
-    ghost use Rattle.bean_lots.specs.Slots.{positions};
-    ghost use Rattle.bean_lots.specs.declared.lot.Position.{Position};
-
-    ghost Value = { List Position };
-
-    ghost view = { λ h. positions h.slots };
-}
-
-impl<'s, 'r> Holdings<'s, 'r> {
-    /// The same positions once more.
-    pub fn lend(&self) -> Holdings<'s, 'r>
-        ensures { result ≡ self.now }
-    {
-        let (_, slots) = self.slots.split_at(0);
-        Holdings { slots }
-    }
-
-    /// The key and the count of the next position, or none where there are no more.
-    pub fn next_held(&mut self) -> Option<(&'s BagKey<'r>, i128)>
-        ensures some { IfSome result (λ e. self.old ≡ position_of e.0.now e.1 ∷ self.new) }
-        ensures none { IfNone result (self.old ≡ []) }
-    {
-        let (key, count, behind) = first_of(&self.slots)?;
-        let (_, rest) = self.slots.split_at(behind);
-        self.slots = rest;
-        Some((key, count))
     }
 }

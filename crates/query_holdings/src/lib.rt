@@ -8,22 +8,36 @@
 //! ```
 //!
 //! A [`Holding`] is seen as an account's inventory is, as the list of its positions in order of
-//! entry, but knows nothing of lots that booking asks for. It is copied for each row of a running
-//! balance, so it is small: 48 bytes for each key ([`BagKey`]), which is lent ([`Lent`]), and its count.
+//! entry, but knows nothing of lots that booking asks for: 48 bytes for each key ([`BagKey`]), which
+//! is lent ([`Lent`]), and its count.
+//!
+//! A running balance is copied for each of its rows, and most rows have the keys of the row before. So
+//! a copy of few positions ([`Kept`]) has no more than their counts, in a piece of 48 bytes, and their
+//! keys stand once for all copies that have the same, in order of entry and in their own order.
+//!
+//! ```text
+//! held.share_keys()?;
+//! let kept = held.kept()?;             // None where positions are many, or a count has more than 64 bits
+//! ```
 //!
 //! # Cost
 //!
 //! Few keys are compared one by one, and more are hashed, so that one is found in constant time. What
 //! comes to 0 leaves a hole, until half of all are holes. To copy is linear in what is held. Entries in
-//! the order of their keys ([`Holdings::in_order`]) are lent, 32 bytes for each.
+//! the order of their keys ([`InOrder`]) are lent, 32 bytes for each; of a [`Kept`] they are there.
 #![tactic(auto)]
 
 mod bag_key;
 mod entry;
 mod holding;
+mod holdings;
+mod kept;
+mod keys;
 mod lent;
 
 pub use bag_key::BagKey;
-pub use entry::Entry;
-pub use holding::{Holding, Holdings};
+pub use entry::{Entry, InOrder};
+pub use holding::Holding;
+pub use holdings::Holdings;
+pub use kept::Kept;
 pub use lent::Lent;

@@ -18,7 +18,7 @@ use Rattle.query_values.specs.Operation.{is_true}
 use Rattle.query_values.specs.declared.value.Value.{Value}
 use Rattle.query_values.specs.declared.value.Value.TheVariants.{Null, Truth, Number, Text, Day, Set}
 use Rattle.query_values.specs.declared.value.Value.TheVariants.{Amount, Position, Inventory}
-use Rattle.query_runs.specs.Ends.{filter_ends, last_ends, row_begins, row_ends}
+use Rattle.query_runs.specs.Ends.{filter_ends, last_ends, passing, row_begins, row_ends}
 use Rattle.query_runs.specs.Stands.{Gathered, keeps}
 use Rattle.query_runs.proofs.Starts.{Front, front}
 
@@ -159,23 +159,6 @@ module _ (p : Parts) (rows : List Row) (j : ℕ) (k : Kept Gathered) (stack : Li
       ap (λ l. filter_ends p l k stack) f.is
       ∙ passes p f.head (drop (j + 1) rows) k stack left x is truth fine_here
 
-  pub running_there : (left : List Value) (x : Value) → stack ≡ x ∷ left → is_true x ≡ true
-      → option_and_then ((keeps p).running_on k.running) (slice_get rows j) ≢ None
-  running_there left x is truth none =
-      fine (begun left x is truth
-      ∙ ap (λ o. begin_row (keeps p) p f.head (drop (j + 1) rows) (option_map (with_running k) o))
-      (ap (option_and_then ((keeps p).running_on k.running)) (sym f.at) ∙ none))
-
-  pub filter_takes : (left : List Value) (x : Value) (total : Value) → stack ≡ x ∷ left
-      → is_true x ≡ true
-      → option_and_then ((keeps p).running_on k.running) (slice_get rows j) ≡ Some total
-      → filter_ends p (drop j rows) k stack ≡ row_begins p (drop j rows) (with_running k total)
-  filter_takes left x total is truth taken =
-      begun left x is truth
-      ∙ ap (λ o. begin_row (keeps p) p f.head (drop (j + 1) rows) (option_map (with_running k) o))
-      (ap (option_and_then ((keeps p).running_on k.running)) (sym f.at) ∙ taken)
-      ∙ ap (λ l. row_begins p l (with_running k total)) (sym f.is)
-
   pub filter_next : (left : List Value) (x : Value) (n : ℕ) (g : Kept Gathered)
       → stack ≡ x ∷ left → is_true x ≡ false → n ≡ j + 1 → g ≡ k
       → filter_ends p (drop j rows) k stack ≡ begin_filter p (drop n rows) g
@@ -184,13 +167,42 @@ module _ (p : Parts) (rows : List Row) (j : ℕ) (k : Kept Gathered) (stack : Li
       ∙ ap (λ m. begin_filter p (drop m rows) k) (sym at)
       ∙ ap (begin_filter p (drop n rows)) (sym same)
 
-  pub filter_on : (left : List Value) (x total : Value) (n : ℕ) (g : Kept Gathered)
-      → stack ≡ x ∷ left → is_true x ≡ true
+  pub filter_passes : (left : List Value) (x : Value) (n : ℕ) (g : Kept Gathered)
+      → stack ≡ x ∷ left → is_true x ≡ true → n ≡ j → g ≡ k
+      → filter_ends p (drop j rows) k stack ≡ passing p (drop n rows) g
+  filter_passes left x n g is truth at same =
+      begun left x is truth
+      ∙ ap (λ l. passing p l k) (sym f.is)
+      ∙ ap (λ m. passing p (drop m rows) k) (sym at)
+      ∙ ap (passing p (drop n rows)) (sym same)
+
+-- ---- a posting that passes
+
+module _ (p : Parts) (rows : List Row) (j : ℕ) (k : Kept Gathered) (within : j < length rows) where
+  here : Front rows j
+  here = front rows j within
+
+  passing_is : (o : Option Value)
+      → option_and_then ((keeps p).running_on k.running) (slice_get rows j) ≡ o
+      → passing p (drop j rows) k
+      ≡ begin_row (keeps p) p here.head (drop (j + 1) rows) (option_map (with_running k) o)
+  passing_is o is =
+      ap (λ l. passing p l k) here.is
+      ∙ ap (λ o. begin_row (keeps p) p here.head (drop (j + 1) rows)
+      (option_map (with_running k) o))
+      (ap (option_and_then ((keeps p).running_on k.running)) (sym here.at) ∙ is)
+
+  pub running_there : passing p (drop j rows) k ≢ Fault
+      → option_and_then ((keeps p).running_on k.running) (slice_get rows j) ≢ None
+  running_there fine none = fine (passing_is None none)
+
+  pub passes_on : (total : Value) (n : ℕ) (g : Kept Gathered)
       → option_and_then ((keeps p).running_on k.running) (slice_get rows j) ≡ Some total
       → n ≡ j → g ≡ with_running k total
-      → filter_ends p (drop j rows) k stack ≡ row_begins p (drop n rows) g
-  filter_on left x total n g is truth taken at same =
-      filter_takes left x total is truth taken
+      → passing p (drop j rows) k ≡ row_begins p (drop n rows) g
+  passes_on total n g taken at same =
+      passing_is (Some total) taken
+      ∙ ap (λ l. row_begins p l (with_running k total)) (sym here.is)
       ∙ ap (λ m. row_begins p (drop m rows) (with_running k total)) (sym at)
       ∙ ap (row_begins p (drop n rows)) (sym same)
 

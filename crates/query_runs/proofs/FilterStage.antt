@@ -5,7 +5,7 @@ use Rattle.std.proofs.Common.{inl, inr}
 use Rattle.std.proofs.lemmas.Bool.{cases_lt, eq-eqb, ne_eqb}
 use Rattle.std.specs.Prelude.{slice_get}
 use Rattle.plain_machine.specs.PlainMachine.{steps}
-use Rattle.plain_machine.specs.PlainMachine.{Kept, InFilter}
+use Rattle.plain_machine.specs.PlainMachine.{Fault, InFilter, Kept, Stand}
 use Rattle.plain_machine.specs.PlainMachine.{end_filter, filter_acts}
 use Rattle.plain_machine.specs.PlainMachine.{in_filter}
 use Rattle.plain_machine.specs.SectionRun.{Acts, Outcome, Standing, after_steps}
@@ -22,8 +22,9 @@ use Rattle.query_values.specs.declared.value.Value.{Value}
 use Rattle.query_runs.specs.Ends.{filter_ends}
 use Rattle.query_runs.specs.Stands.{Gathered, in_filter_at, keeps, kept_in, stand_of}
 use Rattle.query_runs.specs.Stands.{by_stage}
-use Rattle.query_runs.proofs.Turning.{AreGoing}
-use Rattle.query_runs.specs.Turns.{IsSafe, is_ready}
+use Rattle.query_runs.proofs.Turning.{AreGoing, goes_further, safe_further}
+use Rattle.plain_machine.specs.WholeRun.{is_going}
+use Rattle.query_runs.specs.Turns.{FilterWent, GoesOn, IsSafe, is_ready}
 use Rattle.query_runs.specs.declared.run.Run.{Run}
 use Rattle.query_runs.specs.declared.run.Stage.TheVariants as stage
 use Rattle.query_runs.proofs.Readiness.{stays_ready}
@@ -200,3 +201,49 @@ module _ (p : Parts) (rows : List Row) (run : Run) (before room : ℕ)
         ∙ ap (λ g. InFilter f.head (drop (run.row + 1) rows) (kept_in run) g.place (state_in g))
         frame_is
         ∙ sym (filter_goes inside)
+
+    pub filter_went : (next : Run) → before ≡ 0 → next.row ≡ run.row → kept_in next ≡ kept_in run
+        → next.frame ≡ frame → next.stage ≡ stage.Filter
+        → FilterWent p rows made (stand_of rows run) next
+    filter_went next first row kept frame_is stage_is = record {
+      ended = λ end.
+          ap (λ j. filter_ends p (drop j rows) (kept_in next) next.frame.stack.values) row
+          ∙ ap (λ k. filter_ends p (drop run.row rows) k next.frame.stack.values) kept
+          ∙ ap (λ (g : Frame). filter_ends p (drop run.row rows) (kept_in run) g.stack.values) frame_is
+          ∙ sym (filter_ended (ap (λ (g : Frame). g.place) (sym frame_is) ∙ end
+          ∙ sym (ap length code_is)))
+          ∙ counted made;
+      stands = λ inside.
+          filter_at_next next
+          (λ end. inside (ap (λ (g : Frame). g.place) frame_is ∙ end ∙ ap length code_is)) row
+          kept frame_is stage_is
+          ∙ counted made;
+      going = λ k lt. ap is_going (sym (counted k)) ∙ filter_going.each k lt;
+    }
+      where
+        none : (k : ℕ) → before + k ≡ k
+        none k = omega (arith, first)
+
+        counted : (k : ℕ) → steps (keeps p) p (before + k) (stand_of rows run)
+            ≡ steps (keeps p) p k (stand_of rows run)
+        counted k = ap (λ n. steps (keeps p) p n (stand_of rows run)) (none k)
+
+-- the filter went on at one posting behind other steps
+module _ (p : Parts) (rows : List Row) (m n : ℕ) (s t : Stand Gathered) (new : Run)
+    (first : GoesOn p m s t) (went : FilterWent p rows n t new) where
+  pub before_end : new.frame.place ≢ length p.code.filter → GoesOn p (m + n) s (stand_of rows new)
+  before_end inside =
+      goes_further p m n (m + n) s t (stand_of rows new) refl first
+      (record { comes = went.stands inside; going = went.going })
+
+  pub at_end : (u : Stand Gathered) → new.frame.place ≡ length p.code.filter
+      → u ≡ filter_ends p (drop new.row rows) (kept_in new) new.frame.stack.values
+      → GoesOn p (m + n) s u
+  at_end u end same =
+      goes_further p m n (m + n) s t u refl first
+      (record { comes = same ∙ went.ended end; going = went.going })
+
+  pub end_fine : (room : ℕ) → IsSafe p s room → new.frame.place ≡ length p.code.filter
+      → filter_ends p (drop new.row rows) (kept_in new) new.frame.stack.values ≢ Fault
+  end_fine room safe end fault =
+      (safe_further p room m s t safe first.comes).never_faults n (sym (went.ended end) ∙ fault)

@@ -1,8 +1,8 @@
 -- What follows at the end of a section, where its posting or its group stands first.
-use Rattle.std.specs.Prelude.{List, [], ◌∷◌, Some}
+use Rattle.std.specs.Prelude.{List, [], ◌∷◌, Some, true}
 use Rattle.plain_machine.specs.Gathering.{Group}
 use Rattle.plain_machine.specs.PlainMachine.{Kept, Stand, Fault, begin_row, end_filter, end_last}
-use Rattle.plain_machine.specs.PlainMachine.{end_row}
+use Rattle.plain_machine.specs.PlainMachine.{end_row, judged}
 use Rattle.query_code.specs.declared.program.Parts.{Parts}
 use Rattle.query_rows.specs.Row.{Row}
 use Rattle.query_runs.specs.Stands.{Gathered, keeps}
@@ -11,6 +11,11 @@ use Rattle.query_values.specs.declared.value.Value.{Value}
 abbrev pub filter_ends : Parts → List Row → Kept Gathered → List Value → Stand Gathered
 filter_ends p [] k stack = Fault
 filter_ends p (r ∷ rest) k stack = end_filter (keeps p) p r rest k stack
+
+-- what follows at a posting that passes
+abbrev pub passing : Parts → List Row → Kept Gathered → Stand Gathered
+passing p [] k = Fault
+passing p (r ∷ rest) k = judged (keeps p) p r rest k (Some true)
 
 abbrev pub row_begins : Parts → List Row → Kept Gathered → Stand Gathered
 row_begins p [] k = Fault

@@ -1,21 +1,26 @@
 //! What comes between two sections.
 ghost use Rattle.std.specs.Prelude.{◌≡◌, ◌≢◌, ◌<◌, ◌+◌, [], Some, None, OnOk, drop, length, reverse};
-ghost use Rattle.std.specs.Prelude.{option_and_then, slice_get};
+ghost use Rattle.std.specs.Prelude.{option_and_then, slice_get, true, false};
 ghost use Rattle.plain_machine.specs.PlainMachine.{Fault, begin_filter, begin_last, grouped_with};
 ghost use Rattle.plain_machine.specs.Gathering.{running_with};
 ghost use Rattle.plain_machine.specs.PlainMachine.{kept_with, with_row};
-ghost use Rattle.query_runs.specs.Ends.{filter_ends, last_ends, row_begins, row_ends};
+ghost use Rattle.query_runs.specs.Ends.{filter_ends, last_ends, passing, row_begins, row_ends};
 ghost use Rattle.query_runs.specs.Stands.{keeps, kept_in, rows_in, stand_of};
+ghost use Rattle.query_runs.specs.declared.run.Stage.TheVariants as stages;
 
 use crate::run::{Inputs, Run, Stage};
 use query_code::Mode;
 use query_terms::Column;
-use query_values::Aggregate;
 use query_values::comparison::is_true;
+use query_values::{Aggregate, share_keys};
 use std::alloc::{AllocError, Global};
 
 /// Goes to the next group, or to the end.
-fn start_group(alloc: Global, input: &Inputs<'_, '_>, run: &mut Run<'_>) -> Result<(), AllocError>
+fn start_group<'r>(
+    alloc: Global,
+    input: &Inputs<'r, '_>,
+    run: &mut Run<'r>,
+) -> Result<(), AllocError>
     requires { begin_last input.now.parts.now (drop run.old.group run.old.groups)
         run.old.rows ≢ Fault }
     ensures stand { OnOk result (stand_of (rows_in input.now) run.new ≡ begin_last
@@ -32,8 +37,33 @@ fn start_group(alloc: Global, input: &Inputs<'_, '_>, run: &mut Run<'_>) -> Resu
     Ok(())
 }
 
+/// Begins the filter at a posting.
+#[inline(always)]
+pub fn start_filter<'r>(
+    alloc: Global,
+    input: &Inputs<'r, '_>,
+    run: &mut Run<'r>,
+) -> Result<(), AllocError>
+    requires there { run.old.row < length (rows_in input.now) }
+    requires fine { begin_filter input.now.parts.now (drop run.old.row (rows_in input.now))
+        (kept_in run.old) ≢ Fault }
+    ensures stand { OnOk result (stand_of (rows_in input.now) run.new ≡ begin_filter
+        input.now.parts.now (drop run.old.row (rows_in input.now)) (kept_in run.old)) }
+    ensures stage { OnOk result (run.new.stage ≡ stages.Filter) }
+    ensures finders { run.new.finders ≡ run.old.finders }
+    ensures room { run.new.frame.stack.room ≡ run.old.frame.stack.room }
+{
+    run.frame.begin(alloc)?;
+    run.stage = Stage::Filter;
+    Ok(())
+}
+
 /// Goes to the next posting, or to the groups.
-pub fn start_row(alloc: Global, input: &Inputs<'_, '_>, run: &mut Run<'_>) -> Result<(), AllocError>
+pub fn start_row<'r>(
+    alloc: Global,
+    input: &Inputs<'r, '_>,
+    run: &mut Run<'r>,
+) -> Result<(), AllocError>
     requires { begin_filter input.now.parts.now (drop run.old.row (rows_in input.now))
         (kept_in run.old) ≢ Fault }
     ensures stand { OnOk result (stand_of (rows_in input.now) run.new ≡ begin_filter
@@ -42,9 +72,7 @@ pub fn start_row(alloc: Global, input: &Inputs<'_, '_>, run: &mut Run<'_>) -> Re
     ensures room { run.new.frame.stack.room ≡ run.old.frame.stack.room }
 {
     if run.row < input.ledger.len() {
-        run.frame.begin(alloc)?;
-        run.stage = Stage::Filter;
-        return Ok(());
+        return start_filter(alloc, input, run);
     }
     run.group = 0;
     start_group(alloc, input, run)
@@ -64,7 +92,7 @@ fn keep_row(run: &mut Run<'_>) -> Result<(), AllocError>
 
 /// Gathers what a row section left: keys, and inputs above them.
 #[inline(never)]
-fn gather(input: &Inputs<'_, '_>, run: &mut Run<'_>) -> Result<(), AllocError>
+fn gather<'r>(input: &Inputs<'r, '_>, run: &mut Run<'r>) -> Result<(), AllocError>
     requires { grouped_with (keeps input.now.parts.now) input.now.parts.now (kept_in run.old)
         (reverse run.old.frame.stack.values) ≢ None }
     ensures kept { OnOk result (grouped_with (keeps input.now.parts.now) input.now.parts.now
@@ -80,7 +108,7 @@ fn gather(input: &Inputs<'_, '_>, run: &mut Run<'_>) -> Result<(), AllocError>
 }
 
 /// Keeps what a row section left: a row of the answer, or a member of a group.
-fn keep(input: &Inputs<'_, '_>, run: &mut Run<'_>) -> Result<(), AllocError>
+fn keep<'r>(input: &Inputs<'r, '_>, run: &mut Run<'r>) -> Result<(), AllocError>
     requires { kept_with (keeps input.now.parts.now) input.now.parts.now (kept_in run.old)
         run.old.frame.stack.values ≢ None }
     ensures kept { OnOk result (kept_with (keeps input.now.parts.now) input.now.parts.now
@@ -96,7 +124,7 @@ fn keep(input: &Inputs<'_, '_>, run: &mut Run<'_>) -> Result<(), AllocError>
 }
 
 /// Goes to the posting behind this one.
-fn next_row(input: &Inputs<'_, '_>, run: &mut Run<'_>)
+fn next_row<'r>(input: &Inputs<'r, '_>, run: &mut Run<'r>)
     requires { run.old.row < length (rows_in input.now) }
     ensures row { run.new.row ≡ run.old.row + 1 }
     ensures kept { kept_in run.new ≡ kept_in run.old }
@@ -109,7 +137,11 @@ fn next_row(input: &Inputs<'_, '_>, run: &mut Run<'_>)
 }
 
 /// Goes on behind the end of the row section.
-pub fn end_row(alloc: Global, input: &Inputs<'_, '_>, run: &mut Run<'_>) -> Result<(), AllocError>
+pub fn end_row<'r>(
+    alloc: Global,
+    input: &Inputs<'r, '_>,
+    run: &mut Run<'r>,
+) -> Result<(), AllocError>
     requires there { run.old.row < length (rows_in input.now) }
     requires fine { row_ends input.now.parts.now (drop run.old.row (rows_in input.now))
         (kept_in run.old) run.old.frame.stack.values ≢ Fault }
@@ -125,7 +157,7 @@ pub fn end_row(alloc: Global, input: &Inputs<'_, '_>, run: &mut Run<'_>) -> Resu
 }
 
 /// Begins the row section at a posting that passes; one without instructions ends at once.
-fn begin_row(alloc: Global, input: &Inputs<'_, '_>, run: &mut Run<'_>) -> Result<(), AllocError>
+fn begin_row<'r>(alloc: Global, input: &Inputs<'r, '_>, run: &mut Run<'r>) -> Result<(), AllocError>
     requires there { run.old.row < length (rows_in input.now) }
     requires fine { row_begins input.now.parts.now (drop run.old.row (rows_in input.now))
         (kept_in run.old) ≢ Fault }
@@ -160,7 +192,8 @@ fn add_position<'r>(input: &Inputs<'r, '_>, run: &mut Run<'r>) -> Result<(), All
     ensures room { run.new.frame.stack.room ≡ run.old.frame.stack.room }
 {
     let position = input.ledger.cell(run.row, Column::Position);
-    Aggregate::SumInventory(8).add(&mut run.running, &position)
+    Aggregate::SumInventory(8).add(&mut run.running, &position)?;
+    share_keys(&mut run.running)
 }
 
 /// The running inventory takes the position of the posting, where the program reads it.
@@ -186,32 +219,52 @@ fn take_position<'r>(input: &Inputs<'r, '_>, run: &mut Run<'r>) -> Result<(), Al
     Ok(())
 }
 
-/// Goes on behind the end of the filter.
-pub fn end_filter<'r>(
-    alloc: Global,
-    input: &Inputs<'r, '_>,
-    run: &mut Run<'r>,
-) -> Result<(), AllocError>
+/// Whether the posting doesn't pass, at the end of its filter. The run then stands at the posting
+/// behind it.
+#[inline(always)]
+pub fn fails<'r>(input: &Inputs<'r, '_>, run: &mut Run<'r>) -> bool
     requires there { run.old.row < length (rows_in input.now) }
     requires fine { filter_ends input.now.parts.now (drop run.old.row (rows_in input.now))
         (kept_in run.old) run.old.frame.stack.values ≢ Fault }
-    ensures stand { OnOk result (stand_of (rows_in input.now) run.new ≡ filter_ends
-        input.now.parts.now (drop run.old.row (rows_in input.now)) (kept_in run.old)
-        run.old.frame.stack.values) }
+    ensures fails { result ≡ true → filter_ends input.now.parts.now
+        (drop run.old.row (rows_in input.now)) (kept_in run.old) run.old.frame.stack.values
+        ≡ begin_filter input.now.parts.now (drop run.new.row (rows_in input.now))
+        (kept_in run.new) }
+    ensures passes { result ≡ false → filter_ends input.now.parts.now
+        (drop run.old.row (rows_in input.now)) (kept_in run.old) run.old.frame.stack.values
+        ≡ passing input.now.parts.now (drop run.new.row (rows_in input.now)) (kept_in run.new) }
+    ensures there { result ≡ false → run.new.row < length (rows_in input.now) }
     ensures finders { run.new.finders ≡ run.old.finders }
     ensures room { run.new.frame.stack.room ≡ run.old.frame.stack.room }
 {
     let passes = is_true(&run.frame.stack.pop());
     if !passes {
         next_row(input, run);
-        return start_row(alloc, input, run);
+        return true;
     }
+    false
+}
+
+/// Goes on at a posting that passes.
+pub fn pass<'r>(alloc: Global, input: &Inputs<'r, '_>, run: &mut Run<'r>) -> Result<(), AllocError>
+    requires there { run.old.row < length (rows_in input.now) }
+    requires fine { passing input.now.parts.now (drop run.old.row (rows_in input.now))
+        (kept_in run.old) ≢ Fault }
+    ensures stand { OnOk result (stand_of (rows_in input.now) run.new ≡ passing
+        input.now.parts.now (drop run.old.row (rows_in input.now)) (kept_in run.old)) }
+    ensures finders { run.new.finders ≡ run.old.finders }
+    ensures room { run.new.frame.stack.room ≡ run.old.frame.stack.room }
+{
     take_position(input, run)?;
     begin_row(alloc, input, run)
 }
 
 /// Goes on behind the end of the last section.
-pub fn end_last(alloc: Global, input: &Inputs<'_, '_>, run: &mut Run<'_>) -> Result<(), AllocError>
+pub fn end_last<'r>(
+    alloc: Global,
+    input: &Inputs<'r, '_>,
+    run: &mut Run<'r>,
+) -> Result<(), AllocError>
     requires there { run.old.group < length run.old.groups }
     requires fine { last_ends input.now.parts.now (drop run.old.group run.old.groups)
         run.old.rows run.old.frame.stack.values ≢ Fault }

@@ -1,13 +1,13 @@
 //! Runs that go on, instruction by instruction.
-ghost use Rattle.std.specs.Prelude.{◌≡◌, ◌≢◌, true, ◌<◌, ◌≤◌, IfOk, map};
+ghost use Rattle.std.specs.Prelude.{◌≡◌, ◌≢◌, true, ◌<◌, ◌≤◌, IfOk, length, map};
 ghost use Rattle.std.specs.Option.{option_copied};
 ghost use Rattle.plain_machine.specs.PlainMachine.{balance_in};
 ghost use Rattle.plain_machine.specs.Pool.{pattern_in};
 ghost use Rattle.query_runs.specs.Stands.{rows_in, stand_of};
-ghost use Rattle.query_runs.specs.Turns.{GoesOn, IsSafe, is_at_end};
+ghost use Rattle.query_runs.specs.Turns.{FilterWent, GoesOn, IsSafe, is_at_end};
 ghost use Rattle.query_runs.specs.declared.run.Stage.TheVariants as stage;
 
-use crate::ends::{end_filter, end_last, end_row};
+use crate::ends::{end_last, end_row, fails, pass, start_filter, start_row};
 use crate::run::{Inputs, Run, Stage};
 use query_code::Mode;
 use query_sections as sections;
@@ -25,7 +25,51 @@ fn readable<'s, 'r>(mode: Mode, running: &'s Value<'r>) -> Option<&'s Value<'r>>
     }
 }
 
-/// Goes on in the filter by so many instructions, at most to its end and what follows there.
+/// Goes on in the filter at one posting by so many instructions, at most to its end.
+#[inline(always)]
+fn at_posting<'r>(
+    alloc: Global,
+    input: &Inputs<'r, '_>,
+    section: &Section<'r, '_>,
+    run: &mut Run<'r>,
+    most: u64,
+) -> Result<u64, AllocError>
+    requires instructions { section.now.instructions.now ≡ input.now.parts.now.code.filter }
+    requires pool { section.now.pool.now ≡ input.now.parts.now.code.pool }
+    requires stage { run.old.stage ≡ stage.Filter }
+    requires more { 0 < most }
+    requires built { run.old.finders ≡ map pattern_in input.now.parts.now.code.pool }
+    requires safe { IsSafe input.now.parts.now (stand_of (rows_in input.now) run.old)
+        run.old.frame.stack.room }
+    ensures few { IfOk result (λ made. made ≤ most) }
+    ensures some { IfOk result (λ made. 0 < made) }
+    ensures went { IfOk result (λ made. FilterWent input.now.parts.now (rows_in input.now) made
+        (stand_of (rows_in input.now) run.old) run.new) }
+    ensures stage { run.new.stage ≡ stage.Filter }
+    ensures there { IfOk result (λ made. run.new.row < length (rows_in input.now)) }
+    ensures finders { run.new.finders ≡ run.old.finders }
+    ensures room { run.new.frame.stack.room ≡ run.old.frame.stack.room }
+{
+    let loads = Loads {
+        schema: input.parts.bounds.schema,
+        posting: Some(input.ledger.row(run.row)),
+        running: None,
+        keys: &[],
+        aggregates: &[],
+    };
+    let made = sections::go_on(
+        alloc,
+        section,
+        &loads,
+        &mut run.finders,
+        &mut run.frame,
+        most,
+    )?;
+    Ok(made)
+}
+
+/// Goes on in the filter by so many instructions, from posting to posting while they don't pass,
+/// at most to the first that does or to the groups.
 pub fn filter_on<'r>(
     alloc: Global,
     input: &Inputs<'r, '_>,
@@ -48,23 +92,21 @@ pub fn filter_on<'r>(
         instructions: input.parts.code.filter.as_slice(),
         pool: input.parts.code.pool.as_slice(),
     };
-    let loads = Loads {
-        schema: input.parts.bounds.schema,
-        posting: Some(input.ledger.row(run.row)),
-        running: None,
-        keys: &[],
-        aggregates: &[],
-    };
-    let made = sections::go_on(
-        alloc,
-        &section,
-        &loads,
-        &mut run.finders,
-        &mut run.frame,
-        most,
-    )?;
-    if run.frame.place == section.instructions.len() {
-        end_filter(alloc, input, run)?;
+    let mut made = 0;
+    while made < most {
+        made += at_posting(alloc, input, &section, run, most - made)?;
+        if run.frame.place != section.instructions.len() {
+            return Ok(made);
+        }
+        if !fails(input, run) {
+            pass(alloc, input, run)?;
+            return Ok(made);
+        }
+        if run.row >= input.ledger.len() {
+            start_row(alloc, input, run)?;
+            return Ok(made);
+        }
+        start_filter(alloc, input, run)?;
     }
     Ok(made)
 }

@@ -9,15 +9,10 @@ ghost use Rattle.query_sections.specs.declared.known.TheConstants.{PLACES};
 
 use bean_base::Slice;
 use std::alloc::{AllocError, Global};
+use value_hashes::end_of;
 
 /// Of so many texts it is known at most; each has one place.
-pub(crate) const PLACES: usize = 1024;
-
-/// So many bytes at the end of a text tell its place: names of accounts differ there.
-const TELLING: usize = 8;
-
-/// What the telling bytes are multiplied with, so that all of them have a part in the upper bits.
-const SPREAD: u64 = 0x9e37_79b9_7f4a_7c15;
+pub(crate) const PLACES: usize = 4096;
 
 /// Whether a text has the pattern of a number in the pool.
 #[derive(Drop)]
@@ -42,28 +37,12 @@ pub(crate) fn nothing_known<'r>(
     Ok(known)
 }
 
-/// The bytes that tell the place of a text, as one number.
-#[inline(always)]
-fn telling(bytes: &[u8]) -> u64 {
-    if let Some(last) = bytes.last_chunk::<TELLING>() {
-        return u64::from_le_bytes(*last);
-    }
-    let mut number: u64 = 0;
-    for byte in bytes {
-        number = number.wrapping_mul(256).wrapping_add(*byte as u64);
-    }
-    number
-}
-
 /// The place of a text that is searched for a pattern.
 #[inline(always)]
 pub(crate) fn place_of(pattern: u16, text: &str) -> usize
     ensures { result < PLACES }
 {
-    let bytes = text.as_bytes();
-    let apart = bytes.len().wrapping_add(pattern as usize) as u64;
-    let spread = telling(bytes).wrapping_add(apart).wrapping_mul(SPREAD);
-    (spread >> 54) as usize % PLACES
+    end_of(text, pattern as usize, PLACES)
 }
 
 /// What is known of a text, where it is this one of which it is known.

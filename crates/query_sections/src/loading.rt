@@ -81,7 +81,7 @@ fn any_text<'r>(posting: &'r HeldRow<'_>, key: &str) -> Value<'r>
     }
 }
 
-impl<'r, 'a> Loads<'_, 'r, 'a> {
+impl<'r, 'a> Loads<'r, '_, 'a> {
     /// The posting, which is there.
     #[inline(always)]
     fn posting(&self) -> &'r HeldRow<'a>
@@ -139,7 +139,7 @@ fn value_at<'r>(values: &[Value<'r>], place: u8) -> Result<Value<'r>, AllocError
 #[inline(always)]
 fn put<'r>(
     pool: &[Constant<'r>],
-    loads: &Loads<'_, 'r, '_>,
+    loads: &Loads<'r, '_, '_>,
     op: Push,
     value: Value<'r>,
     stack: &mut Stack<'r>,
@@ -158,7 +158,7 @@ fn put<'r>(
 #[inline(never)]
 fn load_balance<'r>(
     pool: &[Constant<'r>],
-    loads: &Loads<'_, 'r, '_>,
+    loads: &Loads<'r, '_, '_>,
     number: u8,
     stack: &mut Stack<'r>,
 ) -> Result<(), AllocError>
@@ -180,7 +180,7 @@ fn load_balance<'r>(
 #[inline(never)]
 fn load_cell<'r>(
     pool: &[Constant<'r>],
-    loads: &Loads<'_, 'r, '_>,
+    loads: &Loads<'r, '_, '_>,
     number: u8,
     column: Column,
     stack: &mut Stack<'r>,
@@ -202,7 +202,7 @@ fn load_cell<'r>(
 #[inline(always)]
 fn load_column<'r>(
     pool: &[Constant<'r>],
-    loads: &Loads<'_, 'r, '_>,
+    loads: &Loads<'r, '_, '_>,
     number: u8,
     stack: &mut Stack<'r>,
 ) -> Result<(), AllocError>
@@ -243,7 +243,7 @@ fn load_column<'r>(
 #[inline(never)]
 fn load_other<'r>(
     pool: &[Constant<'r>],
-    loads: &Loads<'_, 'r, '_>,
+    loads: &Loads<'r, '_, '_>,
     op: Push,
     stack: &mut Stack<'r>,
 ) -> Result<(), AllocError>
@@ -289,7 +289,7 @@ fn load_other<'r>(
 #[inline(always)]
 pub fn load<'r>(
     pool: &[Constant<'r>],
-    loads: &Loads<'_, 'r, '_>,
+    loads: &Loads<'r, '_, '_>,
     op: Push,
     stack: &mut Stack<'r>,
 ) -> Result<(), AllocError>

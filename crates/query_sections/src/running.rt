@@ -7,6 +7,7 @@ ghost use Rattle.plain_machine.specs.Pool.{pattern_in};
 ghost use Rattle.plain_machine.specs.SectionRun.{after_steps, effect, has_true_top, next_place};
 ghost use Rattle.plain_machine.specs.SectionRun.{one_operand, one_step, slot_at, stored, tested};
 ghost use Rattle.plain_machine.specs.SectionRun.{two_operands, with_top};
+ghost use Rattle.query_code.specs.declared.instruction.Unary.TheVariants.{Match};
 ghost use Rattle.query_values.specs.Operand.{is_truth};
 ghost use Rattle.query_sections.specs.Reading as spec;
 ghost use Rattle.query_sections.specs.Reading.{acts_of, loads_of};
@@ -21,7 +22,7 @@ use crate::loading::load;
 use crate::loads::Loads;
 use crate::slots::Slots;
 use crate::stack::Stack;
-use crate::unary::apply_unary;
+use crate::unary::{apply_match, apply_unary};
 use query_code::{Constant, Instruction, Push, Unary};
 use query_values::Binary;
 use query_values::comparison::is_true;
@@ -29,7 +30,7 @@ use std::alloc::{AllocError, Global};
 
 /// The instructions of a section, and the pool of its program.
 #[derive(Clone, Copy)]
-pub struct Section<'s, 'r> {
+pub struct Section<'r, 's> {
     pub instructions: &'s [Instruction],
     pub pool: &'s [Constant<'r>],
 }
@@ -38,7 +39,7 @@ pub struct Section<'s, 'r> {
 #[inline(always)]
 fn push<'r>(
     pool: &[Constant<'r>],
-    loads: &Loads<'_, 'r, '_>,
+    loads: &Loads<'r, '_, '_>,
     op: Push,
     stack: &mut Stack<'r>,
 ) -> Result<(), AllocError>
@@ -51,8 +52,29 @@ fn push<'r>(
     load(pool, loads, op, stack)
 }
 
+/// Puts in place of a text whether it has a pattern.
+#[inline(always)]
+fn match_top<'r>(
+    pool: &[Constant<'r>],
+    finders: &mut Finders<'r>,
+    place: u16,
+    stack: &mut Stack<'r>,
+)
+    requires built { finders.old ≡ map pattern_in pool.now }
+    requires room { HasRoom stack.old.room
+        (one_operand (unary_of pool.now (Match place)) stack.old.values) }
+    ensures values { one_operand (unary_of pool.now (Match place)) stack.old.values
+        ≡ Some stack.new.values }
+    ensures room { stack.new.room ≡ stack.old.room }
+    ensures same { finders.new ≡ finders.old }
+{
+    let text = stack.pop();
+    stack.push(apply_match(finders, pool, place, &text));
+}
+
 /// Puts what an operation gives in place of its operand.
-fn unary<'r>(
+#[inline(never)]
+fn unary_any<'r>(
     alloc: Global,
     pool: &[Constant<'r>],
     finders: &mut Finders<'r>,
@@ -67,8 +89,33 @@ fn unary<'r>(
     ensures same { finders.new ≡ finders.old }
 {
     let x = stack.pop();
-    stack.push(apply_unary(alloc, pool, finders, op, x)?);
+    stack.push(apply_unary(alloc, finders, pool, op, x)?);
     Ok(())
+}
+
+/// The same. What most filters ask is told apart: it goes through no `Result`.
+#[inline(always)]
+fn unary<'r>(
+    alloc: Global,
+    pool: &[Constant<'r>],
+    finders: &mut Finders<'r>,
+    op: Unary,
+    stack: &mut Stack<'r>,
+) -> Result<(), AllocError>
+    requires built { finders.old ≡ map pattern_in pool.now }
+    requires room { HasRoom stack.old.room (one_operand (unary_of pool.now op) stack.old.values) }
+    ensures values { OnOk result
+        (one_operand (unary_of pool.now op) stack.old.values ≡ Some stack.new.values) }
+    ensures room { stack.new.room ≡ stack.old.room }
+    ensures same { finders.new ≡ finders.old }
+{
+    match op {
+        Unary::Match(place) => {
+            match_top(pool, finders, place, stack);
+            Ok(())
+        }
+        op => unary_any(alloc, pool, finders, op, stack),
+    }
 }
 
 /// Puts what an operation gives in place of its operands.
@@ -134,7 +181,7 @@ fn behind_test(goes_on: bool, place: usize, to: u16) -> usize
 fn execute<'r>(
     alloc: Global,
     pool: &[Constant<'r>],
-    loads: &Loads<'_, 'r, '_>,
+    loads: &Loads<'r, '_, '_>,
     finders: &mut Finders<'r>,
     instruction: Instruction,
     frame: &mut Frame<'r>,
@@ -193,8 +240,8 @@ fn execute<'r>(
 #[inline(always)]
 fn step<'r>(
     alloc: Global,
-    section: &Section<'_, 'r>,
-    loads: &Loads<'_, 'r, '_>,
+    section: &Section<'r, '_>,
+    loads: &Loads<'r, '_, '_>,
     finders: &mut Finders<'r>,
     frame: &mut Frame<'r>,
 ) -> Result<(), AllocError>
@@ -232,8 +279,8 @@ fn is_true_alone(instructions: &[Instruction]) -> bool
 #[inline(always)]
 fn step_true<'r>(
     alloc: Global,
-    section: &Section<'_, 'r>,
-    loads: &Loads<'_, 'r, '_>,
+    section: &Section<'r, '_>,
+    loads: &Loads<'r, '_, '_>,
     finders: &mut Finders<'r>,
     frame: &mut Frame<'r>,
 ) -> Result<(), AllocError>
@@ -258,8 +305,8 @@ fn step_true<'r>(
 #[inline(never)]
 fn go_through<'r>(
     alloc: Global,
-    section: &Section<'_, 'r>,
-    loads: &Loads<'_, 'r, '_>,
+    section: &Section<'r, '_>,
+    loads: &Loads<'r, '_, '_>,
     finders: &mut Finders<'r>,
     frame: &mut Frame<'r>,
     most: u64,
@@ -292,8 +339,8 @@ fn go_through<'r>(
 #[inline(always)]
 pub fn go_on<'r>(
     alloc: Global,
-    section: &Section<'_, 'r>,
-    loads: &Loads<'_, 'r, '_>,
+    section: &Section<'r, '_>,
+    loads: &Loads<'r, '_, '_>,
     finders: &mut Finders<'r>,
     frame: &mut Frame<'r>,
     most: u64,

@@ -2,7 +2,7 @@
 ghost use Rattle.std.specs.Prelude.{◌≡◌, ◌≢◌, Some, None, IfOk, map, option_map};
 ghost use Rattle.plain_machine.specs.Loading.{unary_of};
 ghost use Rattle.plain_machine.specs.Pool.{members_in, pattern_in};
-ghost use Rattle.query_code.specs.declared.instruction.Unary.TheVariants.{Neg};
+ghost use Rattle.query_code.specs.declared.instruction.Unary.TheVariants.{Match, Neg};
 ghost use Rattle.query_sections.specs.Reading.{MayBeIn};
 ghost use Rattle.query_values.specs.Choice.{text_choice};
 ghost use Rattle.query_values.specs.Operation.{is_among};
@@ -42,8 +42,8 @@ fn in_list(x: &Value<'_>, list: &Constant<'_>) -> bool
 /// can be held.
 fn applied<'r>(
     alloc: Global,
-    pool: &[Constant<'_>],
     finders: &mut Finders<'r>,
+    pool: &[Constant<'_>],
     op: Unary,
     x: &Value<'r>,
 ) -> Result<Value<'r>, AllocError>
@@ -77,12 +77,28 @@ fn applied<'r>(
     }
 }
 
+/// Whether a text has the pattern at a place of the pool, as most filters ask of each posting.
+#[inline(always)]
+pub fn apply_match<'r>(
+    finders: &mut Finders<'r>,
+    pool: &[Constant<'_>],
+    place: u16,
+    x: &Value<'r>,
+) -> Value<'r>
+    requires built { finders.old ≡ map pattern_in pool.now }
+    requires fine { unary_of pool.now (Match place) x.now ≢ None }
+    ensures value { unary_of pool.now (Match place) x.now ≡ Some result }
+    ensures same { finders.new ≡ finders.old }
+{
+    Value::Truth(finders.matches(place, x))
+}
+
 /// What an operation gives, where it may be applied and the result can be held. An inventory whose
 /// sign changes keeps its memory.
 pub fn apply_unary<'r>(
     alloc: Global,
-    pool: &[Constant<'_>],
     finders: &mut Finders<'r>,
+    pool: &[Constant<'_>],
     op: Unary,
     x: Value<'r>,
 ) -> Result<Value<'r>, AllocError>
@@ -93,6 +109,6 @@ pub fn apply_unary<'r>(
 {
     match op {
         Unary::Neg => Ok(neg(x)),
-        _ => applied(alloc, pool, finders, op, &x),
+        _ => applied(alloc, finders, pool, op, &x),
     }
 }

@@ -2,11 +2,13 @@
 ghost use Rattle.std.specs.Prelude.{◌≡◌, ◌≤◌, ◌+ℤ◌, [], All, IfOk, IsTrue, OnErr, OnOk, map};
 ghost use Rattle.std.specs.Int.{w128};
 ghost use Rattle.std.specs.Int.RustNames.{FitsSigned};
-ghost use Rattle.bean_lots.specs.Inventory.{MayBeNegated, added, count_of};
-ghost use Rattle.query_holdings.specs.Total.{adds_up, at_cost, cost_total, total_from, units_total};
+ghost use Rattle.bean_lots.specs.Inventory.{IsInventory, MayBeNegated, count_of};
+ghost use Rattle.query_holdings.specs.Total.{adds_up, at_cost, cost_total, units_total};
 ghost use Rattle.query_holdings.specs.Total.{without_lot};
+ghost use Rattle.query_values.specs.Bag.{bag_cost, bag_units, negative_bag, with_entry};
+ghost use Rattle.query_values.specs.Own.{bag_in};
 
-use query_holdings::{BagKey, Holding, Lent};
+use query_holdings::{BagKey, Holding, Holdings, Kept, Lent};
 use std::alloc::{AllocError, Global};
 use std::marker::Model;
 
@@ -34,26 +36,24 @@ impl Clone for Bag<'_> {
     }
 }
 
-/// The inventory without its lots.
-fn units_in<'r>(alloc: Global, inventory: &Holding<'r>) -> Result<Holding<'r>, AllocError>
-    requires { IsTrue (adds_up [] (map without_lot inventory.now)) }
-    ensures { IfOk result (λ held. held ≡ units_total inventory.now) }
+/// Positions without their lots.
+fn units_in<'r>(alloc: Global, mut rest: Holdings<'_, 'r>) -> Result<Holding<'r>, AllocError>
+    requires { IsTrue (adds_up [] (map without_lot rest)) }
+    ensures { IfOk result (λ held. held ≡ units_total rest.entry) }
 {
     let mut held = Holding::new(alloc);
-    let mut rest = inventory.positions();
     while let Some((key, count)) = rest.next_held() {
         held.add(BagKey::bare(Lent::new(key.currency())), count)?;
     }
     Ok(held)
 }
 
-/// The inventory at cost.
-fn cost_in<'r>(alloc: Global, inventory: &Holding<'r>) -> Result<Holding<'r>, AllocError>
-    requires { IsTrue (adds_up [] (map at_cost inventory.now)) }
-    ensures { IfOk result (λ held. held ≡ cost_total inventory.now) }
+/// Positions at cost.
+fn cost_in<'r>(alloc: Global, mut rest: Holdings<'_, 'r>) -> Result<Holding<'r>, AllocError>
+    requires { IsTrue (adds_up [] (map at_cost rest)) }
+    ensures { IfOk result (λ held. held ≡ cost_total rest.entry) }
 {
     let mut held = Holding::new(alloc);
-    let mut rest = inventory.positions();
     while let Some((key, count)) = rest.next_held() {
         let cost = key.count_at_cost(count);
         held.add(BagKey::bare(Lent::new(key.currency_at_cost())), cost)?;
@@ -61,80 +61,154 @@ fn cost_in<'r>(alloc: Global, inventory: &Holding<'r>) -> Result<Holding<'r>, Al
     Ok(held)
 }
 
-impl<'r> Bag<'r> {
-    ghost use Rattle.query_values.specs.Bag.{bag_cost, bag_units};
-
-    /// The inventory without its lots.
-    pub fn units(&self, alloc: Global) -> Result<Bag<'r>, AllocError>
-        requires { IsTrue (adds_up [] (map without_lot self.now.held)) }
-        ensures { IfOk result (λ b. b ≡ bag_units self.now) }
-    {
-        Ok(Bag {
-            places: self.places,
-            held: units_in(alloc, &self.held)?,
-        })
-    }
-
-    /// The inventory at cost, with 8 decimals more.
-    pub fn cost(&self, alloc: Global) -> Result<Bag<'r>, AllocError>
-        requires sums { IsTrue (adds_up [] (map at_cost self.now.held)) }
-        requires places { self.now.places ≤ 24 }
-        ensures { IfOk result (λ b. b ≡ bag_cost self.now) }
-    {
-        Ok(Bag {
-            places: self.places + 8,
-            held: cost_in(alloc, &self.held)?,
-        })
-    }
+/// How a bag lies.
+#[derive(Drop)]
+pub(crate) enum Form<'r> {
+    /// It can grow.
+    Grown(Box<Bag<'r>>),
+    /// A copy of one that has few positions.
+    Kept { places: u8, held: Kept<'r> },
 }
 
-/// A bag in memory of its own: values stay small, few of which are bags. Contracts see the bag itself.
+/// A bag in memory of its own: values stay small, few of which are bags. A copy of it, as of the
+/// running inventory for each row, takes little memory where it has few positions. Contracts see the
+/// bag itself.
 pub struct OwnBag<'r> {
-    place: Box<Bag<'r>>,
+    form: Form<'r>,
 }
 
 /// Written out, so that what gives one up needs to know nothing of what is in it.
 impl Drop for OwnBag<'_> {
     fn drop(self) {
-        let OwnBag { place: _ } = self;
+        let OwnBag { form: _ } = self;
     }
 }
 
 impl<'r> Model for OwnBag<'r> {
+    ghost use Rattle.query_values.specs.Own.{bag_in};
     ghost use Rattle.query_values.specs.declared.bag.Bag.{Bag};
 
     ghost Value = { Bag };
 
-    ghost view = { λ b. b.place.value };
+    ghost view = { λ b. bag_in b.form };
+}
+
+/// A copy of a bag that can grow: in few bytes where that can be.
+fn copy_of<'r>(bag: &Bag<'r>) -> Result<Form<'r>, AllocError>
+    ensures { IfOk result (λ form. bag_in form ≡ bag.now) }
+{
+    if let Some(held) = bag.held.kept()? {
+        return Ok(Form::Kept {
+            places: bag.places,
+            held,
+        });
+    }
+    let alloc = bag.held.alloc();
+    Ok(Form::Grown(Box::new(alloc, bag.clone()?)?))
 }
 
 impl Clone for OwnBag<'_> {
     ghost is_clone = { λ a b. b ≡ a };
 
     fn clone(&self) -> Result<Self, AllocError> {
-        Ok(OwnBag {
-            place: self.place.clone()?,
-        })
+        let form = match &self.form {
+            Form::Grown(bag) => copy_of(bag)?,
+            Form::Kept { places, held } => Form::Kept {
+                places: *places,
+                held: held.clone()?,
+            },
+        };
+        Ok(OwnBag { form })
     }
 }
 
-impl<'r> OwnBag<'r> {
-    ghost use Rattle.query_values.specs.Bag.{negative_bag, with_entry};
+/// A copy with a count more under a key, which can grow.
+fn grown_with<'r>(
+    places: u8,
+    kept: &Kept<'r>,
+    key: BagKey<'r>,
+    count: i128,
+) -> Result<Form<'r>, AllocError>
+    requires { FitsSigned w128 (count_of kept.now key +ℤ count) }
+    ensures { IfOk result (λ form. bag_in form ≡ with_entry
+        (record { places = places; held = kept.now }) key.entry count) }
+{
+    let mut held = kept.grown()?;
+    held.add(key, count)?;
+    let alloc = held.alloc();
+    Ok(Form::Grown(Box::new(alloc, Bag { places, held })?))
+}
 
+impl<'r> OwnBag<'r> {
     /// The bag in memory of its own.
     pub fn new(alloc: Global, bag: Bag<'r>) -> Result<OwnBag<'r>, AllocError>
         ensures { IfOk result (λ b. b ≡ bag.entry) }
     {
         Ok(OwnBag {
-            place: Box::new(alloc, bag)?,
+            form: Form::Grown(Box::new(alloc, bag)?),
         })
     }
 
-    /// The bag.
-    pub fn get(&self) -> &Bag<'r>
-        ensures { result.now ≡ self.now }
+    /// How many decimals its counts have.
+    pub fn places(&self) -> u8
+        ensures { result ≡ self.now.places }
     {
-        &self.place
+        match &self.form {
+            Form::Grown(bag) => bag.places,
+            Form::Kept { places, .. } => *places,
+        }
+    }
+
+    /// The count under a key, 0 where nothing is held.
+    pub fn get(&self, key: &BagKey<'_>) -> i128
+        ensures { result ≡ count_of self.now.held key.now }
+    {
+        match &self.form {
+            Form::Grown(bag) => bag.held.get(key),
+            Form::Kept { held, .. } => held.get(key),
+        }
+    }
+
+    /// The positions, in order of entry.
+    pub fn positions(&self) -> Holdings<'_, 'r>
+        ensures positions { result ≡ self.now.held }
+        ensures inventory { IsInventory self.now.held }
+    {
+        match &self.form {
+            Form::Grown(bag) => bag.held.positions(),
+            Form::Kept { held, .. } => held.positions(),
+        }
+    }
+
+    /// The inventory without its lots.
+    pub fn units(&self, alloc: Global) -> Result<OwnBag<'r>, AllocError>
+        requires { IsTrue (adds_up [] (map without_lot self.now.held)) }
+        ensures { IfOk result (λ b. b ≡ bag_units self.now) }
+    {
+        let held = units_in(alloc, self.positions())?;
+        OwnBag::new(
+            alloc,
+            Bag {
+                places: self.places(),
+                held,
+            },
+        )
+    }
+
+    /// The inventory at cost, with 8 decimals more.
+    pub fn cost(&self, alloc: Global) -> Result<OwnBag<'r>, AllocError>
+        requires sums { IsTrue (adds_up [] (map at_cost self.now.held)) }
+        requires places { self.now.places ≤ 24 }
+        ensures { IfOk result (λ b. b ≡ bag_cost self.now) }
+    {
+        let held = cost_in(alloc, self.positions())?;
+        OwnBag::new(
+            alloc,
+            Bag {
+                places: self.places() + 8,
+                held,
+            },
+        )
     }
 
     /// The inventory of the other sign.
@@ -142,9 +216,22 @@ impl<'r> OwnBag<'r> {
         requires { All MayBeNegated self.held }
         ensures { result ≡ negative_bag self.entry }
     {
-        let OwnBag { mut place } = self;
-        place.held.negate();
-        OwnBag { place }
+        let OwnBag { mut form } = self;
+        match &mut form {
+            Form::Grown(bag) => bag.held.negate(),
+            Form::Kept { held, .. } => held.negate(),
+        }
+        OwnBag { form }
+    }
+
+    /// Lets the copies that follow share their keys, where these are few: they take less memory then.
+    pub fn share_keys(&mut self) -> Result<(), AllocError>
+        ensures { self.new ≡ self.old }
+    {
+        match &mut self.form {
+            Form::Grown(bag) => bag.held.share_keys(),
+            Form::Kept { .. } => Ok(()),
+        }
     }
 
     /// Adds to the count under a key. The caller knows that the sum fits.
@@ -153,6 +240,13 @@ impl<'r> OwnBag<'r> {
         ensures ok { OnOk result (self.new ≡ with_entry self.old key.entry count) }
         ensures err { OnErr result (self.new ≡ self.old) }
     {
-        self.place.held.add(key, count)
+        if let Form::Kept { places, held } = &self.form {
+            self.form = grown_with(*places, held, key, count)?;
+            return Ok(());
+        }
+        match &mut self.form {
+            Form::Grown(bag) => bag.held.add(key, count),
+            Form::Kept { .. } => unreachable!(),
+        }
     }
 }

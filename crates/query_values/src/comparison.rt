@@ -11,13 +11,13 @@ ghost use Rattle.query_values.specs.Order.{is_at_most, is_less, order_of};
 ghost use Rattle.query_values.specs.Order as order_spec;
 ghost use Rattle.query_values.specs.Operation as operation;
 
-use crate::bag::Bag;
+use crate::bag::OwnBag;
 pub use crate::number::compare_numbers;
 use crate::number::same_number;
 use crate::value::Value;
 use bean_base::Slice;
 use bean_lots::Key;
-use query_holdings::{BagKey, Holding};
+use query_holdings::{BagKey, Holdings};
 use std::cmp::Ordering;
 
 /// Whether it is null.
@@ -42,29 +42,28 @@ fn same_texts(a: &[Slice<'_>], b: &[Slice<'_>]) -> bool
 }
 
 /// Whether two inventories have the same count under a key.
-fn agree_at(key: &BagKey<'_>, a: &Bag<'_>, b: &Bag<'_>) -> bool
+fn agree_at(a: &OwnBag<'_>, b: &OwnBag<'_>, key: &BagKey<'_>) -> bool
     ensures { (n : ℤ) → result ≡ spec.agree_at a.now b.now (record { key = key.now; count = n }) }
 {
-    same_number(a.places, a.held.get(key), b.places, b.held.get(key))
+    same_number(a.places(), a.get(key), b.places(), b.get(key))
 }
 
-/// Whether two inventories have the same count under each key of a third.
-fn agree_in(held: &Holding<'_>, a: &Bag<'_>, b: &Bag<'_>) -> bool
-    ensures { result ≡ list_all (spec.agree_at a.now b.now) held.now }
+/// Whether two inventories have the same count under each key of some positions.
+fn agree_in(a: &OwnBag<'_>, b: &OwnBag<'_>, mut rest: Holdings<'_, '_>) -> bool
+    ensures { result ≡ list_all (spec.agree_at a.now b.now) rest.entry }
 {
-    let mut rest = held.positions();
     while let Some((key, _)) = rest.next_held() {
-        if !agree_at(key, a, b) {
+        if !agree_at(a, b, key) {
             return false;
         }
     }
     true
 }
 
-fn same_bag(a: &Bag<'_>, b: &Bag<'_>) -> bool
+fn same_bag(a: &OwnBag<'_>, b: &OwnBag<'_>) -> bool
     ensures { result ≡ spec.same_bag a.now b.now }
 {
-    agree_in(&a.held, a, b) && agree_in(&b.held, a, b)
+    agree_in(a, b, a.positions()) && agree_in(a, b, b.positions())
 }
 
 /// Whether two positions are the same: so many units of one key.
@@ -110,7 +109,7 @@ pub fn equal(a: &Value<'_>, b: &Value<'_>) -> bool
         (Value::Position { key: j, count: m }, Value::Position { key: k, count: n }) => {
             same_position(j.get(), *m, k.get(), *n)
         }
-        (Value::Inventory(a), Value::Inventory(b)) => same_bag(a.get(), b.get()),
+        (Value::Inventory(a), Value::Inventory(b)) => same_bag(a, b),
         _ => false,
     }
 }

@@ -57,6 +57,16 @@ fn add_entry<'r>(total: &mut Value<'r>, entry: &Value<'r>) -> Result<(), AllocEr
     Ok(())
 }
 
+/// Lets copies of an inventory that follow share their keys, where these are few.
+pub fn share_keys(total: &mut Value<'_>) -> Result<(), AllocError>
+    ensures { total.new ≡ total.old }
+{
+    match total {
+        Value::Inventory(bag) => bag.share_keys(),
+        _ => Ok(()),
+    }
+}
+
 fn take_place<'r>(total: &mut Value<'r>, value: &Value<'r>) -> Result<(), AllocError>
     ensures ok { OnOk result (total.new ≡ value.now) }
     ensures err { OnErr result (total.new ≡ total.old) }

@@ -10,7 +10,6 @@ ghost use Rattle.query_holdings.specs.Total.{cost_count, cost_currency, is_count
 ghost use Rattle.query_values.specs.Unary as spec;
 ghost use Rattle.query_values.specs.declared.value.Value.TheVariants.{Amount};
 
-use crate::bag::OwnBag;
 use crate::component::{leaf_of, parent_of, rank_of_root, root_of};
 use crate::value::Value;
 use bean_base::Slice;
@@ -153,7 +152,7 @@ pub fn units<'r>(alloc: Global, x: &Value<'r>) -> Result<Value<'r>, AllocError>
             count: *count,
             currency: Lent::new(&key.get().currency),
         },
-        Value::Inventory(bag) => Value::Inventory(OwnBag::new(alloc, bag.get().units(alloc)?)?),
+        Value::Inventory(bag) => Value::Inventory(bag.units(alloc)?),
         _ => Value::Null,
     })
 }
@@ -177,7 +176,7 @@ pub fn cost<'r>(alloc: Global, x: &Value<'r>) -> Result<Value<'r>, AllocError>
 {
     Ok(match x {
         Value::Position { key, count } => cost_of_units(&BagKey::of(key.get()), *count),
-        Value::Inventory(bag) => Value::Inventory(OwnBag::new(alloc, bag.get().cost(alloc)?)?),
+        Value::Inventory(bag) => Value::Inventory(bag.cost(alloc)?),
         _ => Value::Null,
     })
 }

@@ -1,5 +1,5 @@
 -- Headings, row by row.
-use Rattle.std.proofs.Common.{◌≡◌, ℕ, zero, suc, ◌+◌, ◌<◌, max, Bool, true, false, ◌||◌, List, []}
+use Rattle.std.proofs.Common.{◌≡◌, ℕ, zero, suc, ◌+◌, ◌<◌, ◌≤◌, max, Bool, true, false, ◌||◌, List, []}
 use Rattle.std.proofs.Common.{◌∷◌, ◌++◌, length, get_or, take, map, fold, Some, unwrap_or, refl}
 use Rattle.std.proofs.Common.{sym, ap, ◌∙◌, arith}
 use Rattle.std.specs.List.{slice_get, slice_set, range_with_len}
@@ -9,15 +9,16 @@ use Rattle.std.proofs.lemmas.List.Folds.{list_any-append}
 use Rattle.std.proofs.lemmas.List.Sums.{fold-append}
 use Rattle.std.proofs.lemmas.Option.{get_or_from_slice_get, slice_get_within}
 use Rattle.query_values.specs.declared.value.Value.{Value}
-use Rattle.table_printer.specs.CellText.{is_number, clean_text, cell_text, row_at}
+use Rattle.cell_texts.specs.CellText.{is_number, clean_text, cell_text}
 use Rattle.table_printer.specs.Heading.{bare_heading, heading_text, width_of, with_cell, with_row}
-use Rattle.table_printer.specs.Table.{PlacedText, text_of, text_width, width_at, column_width}
-use Rattle.table_printer.specs.Table.{is_number_at, has_number, headers_from, widths_of}
+use Rattle.table_printer.specs.Table.{PlacedText, text_of, width_at, column_width}
+use Rattle.cell_texts.specs.Width.{text_width}
+use Rattle.table_printer.specs.Table.{is_number_at, has_number, headers_from, row_at, widths_of}
 use Rattle.table_printer.specs.declared.headings.Heading.{Heading}
 use Rattle.table_printer.proofs.InColumn.{width_seen, name_width, length-headers_from}
 
 -- the greatest width of a name and of what rows have in its column, and at least 1
-abbrev widest : (List ℕ → ℕ) → ℕ → List (List Value) → List ℕ → ℕ
+abbrev pub widest : (List ℕ → ℕ) → ℕ → List (List Value) → List ℕ → ℕ
 widest display k rows name =
     fold max (max 1 (text_width (clean_text name)))
     (map (width_at k) (map (map (text_of display)) rows))
@@ -36,13 +37,22 @@ pub with_none : (display : List ℕ → ℕ) (hs : List Heading) → with_row di
 with_none display [] = refl
 with_none display (h ∷ hs) = refl
 
+-- cells without a heading change none
+pub with_front : (display : List ℕ → ℕ) (hs : List Heading) (vs : List Value) (n : ℕ)
+    → length hs ≤ n → with_row display hs (take n vs) ≡ with_row display hs vs
+with_front display [] vs n few = refl
+with_front display (h ∷ hs) vs zero few = absurd (omega (arith, few))
+with_front display (h ∷ hs) [] (suc n) few = refl
+with_front display (h ∷ hs) (v ∷ vs) (suc n) few =
+    ap (λ l. with_cell display h v ∷ l) (with_front display hs vs n (omega (arith, few)))
+
 next : (display : List ℕ → ℕ) (hs : List Heading) (row : List Value) (i : ℕ) (h : Heading)
-    (v : Value) → length hs ≡ length row → i < length row
+    (v : Value) → length hs ≤ length row → i < length hs
     → h ≡ get_or (with_row display hs (take i row)) i h → Some v ≡ slice_get row i
     → slice_set (with_row display hs (take i row)) i (with_cell display h v)
     ≡ with_row display hs (take (suc i) row)
-next display hs [] i h v same within at is = absurd (omega (arith, within))
-next display [] (w ∷ row) i h v same within at is = absurd (omega (arith, same))
+next display hs [] i h v same within at is = absurd (omega (arith, same, within))
+next display [] (w ∷ row) i h v same within at is = absurd (omega (arith, within))
 next display (g ∷ hs) (w ∷ row) zero h v same within at is =
     let cell : v ≡ w = ap (λ o. unwrap_or o v) is in
     λ k. with_cell display (at k) (cell k) ∷ sym (with_none display hs) k
@@ -52,13 +62,13 @@ next display (g ∷ hs) (w ∷ row) (suc i) h v same within at is =
 
 -- one more cell of a row
 pub next_cell : (display : List ℕ → ℕ) (hs : List Heading) (row : List Value) (i : ℕ)
-    (h : Heading) (v : Value) → length hs ≡ length row → Some v ≡ slice_get row i
+    (h : Heading) (v : Value) → length hs ≤ length row → i < length hs → Some v ≡ slice_get row i
     → h ≡ get_or (with_row display hs (take i row)) i h
     → slice_set (with_row display hs (take i row)) i (with_cell display h v)
     ≡ with_row display hs (take (i + 1) row)
-next_cell display hs row i h v same is at =
+next_cell display hs row i h v same within is at =
     let e : suc i ≡ i + 1 = omega arith in
-    next display hs row i h v same (slice_get_within row i v (sym is)) at is
+    next display hs row i h v same within at is
     ∙ ap (λ n. with_row display hs (take n row)) e
 
 -- one more name
@@ -94,7 +104,7 @@ IsLeft k vs row = (j m : ℕ) → m ≡ k + j → slice_get vs j ≡ slice_get r
 
 -- one more row
 more : (display : List ℕ → ℕ) (k : ℕ) (rows : List (List Value)) (names : List (List ℕ))
-    (row vs : List Value) → IsLeft k vs row → length vs ≡ length names
+    (row vs : List Value) → IsLeft k vs row → length names ≤ length vs
     → with_row display (under display k rows names) vs
     ≡ under display k (rows ++ row ∷ []) names
 more display k rows [] row vs left same = refl
@@ -121,7 +131,7 @@ more display k rows (n ∷ ns) row (v ∷ vs) left same =
     (omega (arith, same)) i
 
 pub one_more : (display : List ℕ → ℕ) (rows : List (List Value)) (names : List (List ℕ)) (i : ℕ)
-    → i < length rows → length (row_at rows i) ≡ length names
+    → i < length rows → length names ≤ length (row_at rows i)
     → with_row display (under display 0 (take i rows) names) (row_at rows i)
     ≡ under display 0 (take (i + 1) rows) names
 one_more display rows names i within same =

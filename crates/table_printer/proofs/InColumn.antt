@@ -7,9 +7,9 @@ use Rattle.std.specs.Option.{option_map, option_map_or}
 use Rattle.std.proofs.lemmas.Option.{slice_get-map, slice_get_read, slice_get-get_or}
 use Rattle.std.proofs.lemmas.Option.{slice_get_within, get_or_from_slice_get}
 use Rattle.query_values.specs.declared.value.Value.{Value}
-use Rattle.table_printer.specs.Table.{text_of, text_width, width_at}
-use Rattle.table_printer.specs.Table.{headers_from}
-use Rattle.table_printer.specs.CellText.{clean_text, cell_text, row_at}
+use Rattle.table_printer.specs.Table.{headers_from, row_at, text_of, width_at}
+use Rattle.cell_texts.specs.Width.{text_width}
+use Rattle.cell_texts.specs.CellText.{clean_text, cell_text}
 use Rattle.table_printer.specs.Heading.{heading_text}
 use Rattle.table_printer.specs.Line.{placed_text, header_cells, row_cells}
 use Rattle.table_printer.specs.declared.headings.Heading.{Heading}

@@ -1,8 +1,5 @@
 pub mod LayoutFacts
 pub mod TableFacts
 pub mod InColumn
-mod InventoryFacts
-mod WidthFacts
 mod HeadingFacts
-pub mod Printable
-pub mod Written
+pub mod OpenFacts

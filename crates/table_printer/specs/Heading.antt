@@ -1,8 +1,9 @@
 -- What stands over a column.
 use Rattle.std.specs.Prelude.{ℕ, max, ◌||◌, false, List, [], ◌∷◌}
 use Rattle.query_values.specs.declared.value.Value.{Value}
-use Rattle.table_printer.specs.CellText.{cell_text, clean_text, is_number}
-use Rattle.table_printer.specs.Table.{PlacedText, text_width}
+use Rattle.cell_texts.specs.CellText.{cell_text, clean_text, is_number}
+use Rattle.table_printer.specs.Table.{PlacedText}
+use Rattle.cell_texts.specs.Width.{text_width}
 use Rattle.table_printer.specs.declared.headings.Heading.{Heading}
 
 -- the name of a column, as it stands in the header line

@@ -2,7 +2,7 @@
 use Rattle.std.specs.Prelude.{ℕ, List, map}
 use Rattle.query_values.specs.declared.value.Value.{Value}
 use Rattle.query_values.specs.declared.value.Value.TheVariants.{Text}
-use Rattle.table_printer.specs.CellText.{is_number, cell_text}
+use Rattle.cell_texts.specs.CellText.{is_number, cell_text}
 use Rattle.table_printer.specs.Table.{PlacedText}
 use Rattle.table_printer.specs.declared.headings.Heading.{Heading}
 use Rattle.table_printer.specs.declared.lines.Placed.{Placed}

@@ -1,12 +1,12 @@
 -- The text of a table: a header line, a rule and the rows.
-use Rattle.std.specs.Prelude.{ℕ, ◌+◌, max, Bool, false, List, [], ◌∷◌, ◌++◌, length, map, fold}
-use Rattle.std.specs.Prelude.{chars, slice_get}
+use Rattle.std.specs.Prelude.{◌≡◌, ◌<◌, ℕ, ◌+◌, max, Bool, false, List, [], ◌∷◌, ◌++◌, length, map, fold}
+use Rattle.std.specs.Prelude.{slice_get, slice_index_or}
 use Rattle.std.specs.List.{flat_map, list_any, range_with_len}
 use Rattle.std.specs.Option.{option_map_or}
 use Rattle.bean_base.specs.Character.{line_feed}
-use Rattle.unicode_width.specs.Width.{str_width}
-use Rattle.table_printer.specs.Layout.{trimmed, joined, filled, rule_of}
-use Rattle.table_printer.specs.CellText.{is_number, clean_text, cell_text}
+use Rattle.table_printer.specs.Layout.{trimmed, joined, rule_of}
+use Rattle.cell_texts.specs.Width.{filled, text_width}
+use Rattle.cell_texts.specs.CellText.{is_number, clean_text, cell_text}
 use Rattle.query_values.specs.declared.value.Value.{Value}
 
 -- a text in a line of the table, and whether it stands at the right of its column
@@ -17,6 +17,10 @@ pub record PlacedText : Type 0 where
 abbrev pub text_of : (List ℕ → ℕ) → Value → PlacedText
 text_of display value = record { text = cell_text display value; stands_right = is_number value }
 
+-- a row: none behind the last
+abbrev pub row_at : List (List Value) → ℕ → List Value
+row_at rows i = slice_index_or rows i []
+
 abbrev pub is_number_at : ℕ → List Value → Bool
 is_number_at i row = option_map_or is_number (slice_get row i) false
 
@@ -24,16 +28,16 @@ is_number_at i row = option_map_or is_number (slice_get row i) false
 abbrev pub has_number : ℕ → List (List Value) → Bool
 has_number i rows = list_any (is_number_at i) rows
 
+-- no row has a number in the column i
+abbrev pub HasNoNumber : ℕ → List (List Value) → Type 0
+HasNoNumber i rows = (k : ℕ) → k < length rows → is_number_at i (row_at rows k) ≡ false
+
 -- the names of the columns from i on; a name stands right over numbers
 abbrev pub headers_from : ℕ → List (List Value) → List (List ℕ) → List PlacedText
 headers_from i rows [] = []
 headers_from i rows (name ∷ names) =
     record { text = clean_text name; stands_right = has_number i rows }
     ∷ headers_from (i + 1) rows names
-
--- how many columns of a terminal a text takes
-abbrev pub text_width : List ℕ → ℕ
-text_width text = str_width false (chars text)
 
 -- the width of a line's cell in the column i
 abbrev pub width_at : ℕ → List PlacedText → ℕ

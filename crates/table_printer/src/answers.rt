@@ -1,8 +1,8 @@
 //! The answer of a query, as rows of cells.
 ghost use Rattle.std.specs.Prelude.{◌≡◌, ◌<◌, length, slice_get, Some};
 
-use crate::cell::Cell;
 use crate::rows::Rows;
+use cell_texts::Cell;
 use query_answer::Answer;
 use query_values::Value;
 

@@ -1,16 +1,15 @@
 //! What stands over the columns of a table: their names, their widths, and whether numbers stand in
 //! them.
 ghost use Rattle.std.specs.Prelude.{◌≡◌, ◌<◌, length, map, slice_get, Some, IfOk, OnOk, All};
-ghost use Rattle.std.specs.Prelude.{vec_len};
+ghost use Rattle.std.specs.Prelude.{◌≤◌, take, vec_len};
 ghost use Rattle.posting_table.specs.Decimals.{decimals_of};
 ghost use Rattle.table_printer.specs.Heading.{bare_heading, heading_text, width_of, with_cell};
 ghost use Rattle.table_printer.specs.Heading.{with_row};
 ghost use Rattle.table_printer.specs.Table.{text_of, headers_from, widths_of};
 
-use crate::cell::Cell;
-use crate::cells::{Scratch, cell_width, is_number};
 use crate::rows::Rows;
 use bean_base::Slice;
+use cell_texts::{Cell, Scratch, cell_width, is_number, wider};
 use posting_table::Display;
 use std::alloc::{AllocError, Global};
 
@@ -24,7 +23,7 @@ pub(crate) struct Heading<'a> {
 }
 
 /// The heading of a column without rows: as wide as its name, and at least 1.
-fn heading_of<'t, T: Rows>(
+pub(crate) fn heading_of<'t, T: Rows>(
     table: &'t T,
     column: usize,
     scratch: &mut Scratch,
@@ -44,18 +43,20 @@ fn heading_of<'t, T: Rows>(
     })
 }
 
-/// The headings of a table without rows, in their order.
+/// The headings of the first columns of a table without rows, in their order.
 fn bare_headings<'t, T: Rows>(
     alloc: Global,
     table: &'t T,
+    count: usize,
     scratch: &mut Scratch,
     display: &Display<'_>,
 ) -> Result<Vec<Heading<'t>>, AllocError>
-    ensures bare { IfOk result (λ v. v.items ≡ map bare_heading (T.names table.now)) }
-    ensures len { IfOk result (λ v. vec_len v ≡ length (T.names table.now)) }
+    requires { count ≤ length (T.names table.now) }
+    ensures bare { IfOk result (λ v. v.items ≡ map bare_heading (take count (T.names table.now))) }
+    ensures len { IfOk result (λ v. vec_len v ≡ count) }
 {
-    let mut headings = Vec::with_capacity(alloc, table.columns())?;
-    for column in 0..table.columns() {
+    let mut headings = Vec::with_capacity(alloc, count)?;
+    for column in 0..count {
         headings.push(heading_of(table, column, scratch, display)?)?;
     }
     Ok(headings)
@@ -72,19 +73,19 @@ fn widen(
     ensures { OnOk result (heading.new
         ≡ with_cell (decimals_of display.now) heading.old cell.now) }
 {
-    heading.width = heading.width.max(cell_width(cell, scratch, display)?);
+    heading.width = wider(heading.width, cell, scratch, display)?;
     heading.has_numbers |= is_number(cell);
     Ok(())
 }
 
-/// The same for all cells of a row.
+/// The same for all cells of a row that stand under headings.
 fn widen_all<T: Rows>(
     headings: &mut [Heading<'_>],
     row: &T::Row,
     scratch: &mut Scratch,
     display: &Display<'_>,
 ) -> Result<(), AllocError>
-    requires { length headings.old ≡ length (T.values row.now) }
+    requires { length headings.old ≤ length (T.values row.now) }
     ensures { OnOk result (headings.new
         ≡ with_row (decimals_of display.now) headings.old (T.values row.now)) }
 {
@@ -99,22 +100,25 @@ fn widen_all<T: Rows>(
     Ok(())
 }
 
-/// The headings of a table, in their order. Its rows are passed once, since they lie far apart.
+/// The headings of the first columns of a table, in their order. Its rows are passed once, since they
+/// lie far apart.
 pub(crate) fn headings<'t, T: Rows>(
     alloc: Global,
     table: &'t T,
+    count: usize,
     scratch: &mut Scratch,
     display: &Display<'_>,
 ) -> Result<Vec<Heading<'t>>, AllocError>
-    requires { All (λ row. length row ≡ length (T.names table.now)) (T.rows table.now) }
+    requires even { All (λ row. length row ≡ length (T.names table.now)) (T.rows table.now) }
+    requires few { count ≤ length (T.names table.now) }
     ensures headers { IfOk result (λ v. map heading_text v.items
-        ≡ headers_from 0 (T.rows table.now) (T.names table.now)) }
+        ≡ headers_from 0 (T.rows table.now) (take count (T.names table.now))) }
     ensures widths { IfOk result (λ v. map width_of v.items
-        ≡ widths_of (headers_from 0 (T.rows table.now) (T.names table.now))
+        ≡ widths_of (headers_from 0 (T.rows table.now) (take count (T.names table.now)))
         (map (map (text_of (decimals_of display.now))) (T.rows table.now))) }
-    ensures len { IfOk result (λ v. vec_len v ≡ length (T.names table.now)) }
+    ensures len { IfOk result (λ v. vec_len v ≡ count) }
 {
-    let mut headings = bare_headings(alloc, table, scratch, display)?;
+    let mut headings = bare_headings(alloc, table, count, scratch, display)?;
     for number in 0..table.len() {
         let row = table.row(number);
         widen_all::<T>(&mut headings, &row, scratch, display)?;

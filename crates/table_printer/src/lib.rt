@@ -23,15 +23,8 @@
 //!
 //! A line of names, a rule of `-` as wide as each column, then a line for each row, with two spaces
 //! between columns and none at a line's end. A column is as wide as its widest name or cell by
-//! `unicode_width`, and at least 1. Numbers stand right and their names over them, all else left.
-//! Control characters become spaces.
-//!
-//! - Null is empty, truth is `TRUE` or `FALSE`. A number has the fewest decimals that are exact.
-//! - An amount, the units of a position and what they cost have at least the decimals that their
-//!   currency shows: `100.00 USD`, `5 HOOL {120.00 USD, 2014-01-02, "a label"}`.
-//! - The texts of a set stand in the order of their bytes, with a `,` between.
-//! - The entries of an inventory stand in the order of their currencies, then of their lots, none
-//!   first, with `, ` between, whatever the order in which they came.
+//! `unicode_width`, and at least 1. Numbers stand right and their names over them, all else left. What
+//! the text of a cell is, `cell_texts` tells.
 //!
 //! # Rows
 //!
@@ -48,28 +41,26 @@
 //!
 //! # Cost
 //!
-//! Two passes over the rows: one measures all columns, one writes. The memory is that of the text,
-//! for which room is taken at once where its columns are narrow, of a few buffers that every cell
-//! uses again, of a word or two for each column, and of 32 bytes for each entry of an inventory
-//! while it is written.
+//! Two passes over the rows: one measures the columns, one writes. A cell that is known to be no wider
+//! than those before it isn't measured. A last column without numbers is
+//! measured where it is written, since nothing fills it up in a row; the head of the table then comes
+//! last, and changes places with the rows. Whether the last column has a number is looked up first.
+//! The memory is that of the text, for which room is taken at once where its columns are narrow, of a
+//! word or two for each column, and of what `cell_texts` uses again for every cell.
 #![tactic(auto)]
 
 mod answers;
 mod cause;
-mod cell;
-mod cells;
 mod headings;
-mod inventories;
 mod lines;
-mod nears;
-mod positions;
+mod open;
 mod rows;
 mod table;
 mod writing;
 
 pub use answers::{AnswerRow, AnswerTable};
 pub use cause::PrintCause;
-pub use cell::Cell;
+pub use cell_texts::Cell;
 pub use query_answer::Answer;
 pub use rows::Rows;
 pub use table::print;

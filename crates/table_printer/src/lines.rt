@@ -5,15 +5,14 @@ ghost use Rattle.bean_base.specs.Character.{line_feed, space};
 ghost use Rattle.posting_table.specs.Decimals.{decimals_of};
 ghost use Rattle.table_printer.specs.Heading.{width_of};
 ghost use Rattle.table_printer.specs.Layout.{Leaves, trimmed, joined, rule_of, gap};
-ghost use Rattle.table_printer.specs.Line.{placed_text};
+ghost use Rattle.table_printer.specs.Line.{placed_text, row_cells};
 ghost use Rattle.table_printer.specs.Table.{padded, pieces, line_of};
 ghost use Rattle.table_printer.specs.declared.lines.Placed.{Placed};
 
-use crate::cell::Cell;
-use crate::cells::{Scratch, cell_width, is_number, push_cell};
 use crate::headings::Heading;
 use crate::rows::Rows;
-use number_texts::{push_run, push_spaces};
+use cell_texts::{Cell, Scratch, is_number, push_cell, push_padding, push_right};
+use number_texts::push_run;
 use posting_table::Display;
 use std::alloc::AllocError;
 
@@ -55,7 +54,18 @@ impl Line for HeaderLine<'_, '_> {
     }
 }
 
-/// A row; numbers stand right.
+/// What a row has in a column; numbers stand right.
+#[inline(always)]
+fn row_cell<'r, T: Rows>(row: &'r T::Row, column: usize) -> Placed<'r>
+    requires { column < length (T.values row.now) }
+    ensures { Some result ≡ slice_get (row_cells (T.values row.now)) column }
+{
+    let cell = T::cell(row, column);
+    let stands_right = is_number(&cell);
+    Placed { cell, stands_right }
+}
+
+/// A row.
 #[derive(Clone, Copy)]
 pub(crate) struct RowLine<'t, T: Rows> {
     pub row: &'t T::Row,
@@ -66,10 +76,29 @@ impl<T: Rows> Line for RowLine<'_, T> {
 
     ghost cells = { λ line. row_cells (T.values line.row.now) };
 
+    #[inline(always)]
     fn cell(&self, column: usize) -> Placed<'_> {
-        let cell = T::cell(self.row, column);
-        let stands_right = is_number(&cell);
-        Placed { cell, stands_right }
+        row_cell::<T>(self.row, column)
+    }
+}
+
+/// The first cells of a row.
+#[derive(Clone, Copy)]
+pub(crate) struct FrontLine<'t, T: Rows> {
+    pub row: &'t T::Row,
+    pub count: usize,
+}
+
+impl<T: Rows> Line for FrontLine<'_, T> {
+    ghost use Rattle.std.specs.Prelude.{take};
+    ghost use Rattle.table_printer.specs.Line.{row_cells};
+
+    ghost cells = { λ line. take line.count (row_cells (T.values line.row.now)) };
+
+    #[inline(always)]
+    #[tactic(auto, using(crate::proofs::OpenFacts::front_cell, crate::proofs::OpenFacts::front_within))]
+    fn cell(&self, column: usize) -> Placed<'_> {
+        row_cell::<T>(self.row, column)
     }
 }
 
@@ -87,7 +116,7 @@ fn trimmed_len(bytes: &[u8]) -> usize
 }
 
 /// How many spaces stand before a cell: those that the cell before it leaves, and the gap.
-fn spaces_before(left: usize, column: usize) -> Result<usize, AllocError>
+pub(crate) fn spaces_before(left: usize, column: usize) -> Result<usize, AllocError>
     ensures { IfOk result (λ n. replicate n space ≡ replicate left space ++ gap column) }
 {
     if column == 0 {
@@ -106,31 +135,37 @@ fn push_gap(out: &mut Vec<u8>, column: usize) -> Result<(), AllocError>
     Ok(())
 }
 
-/// A cell. Tells how many spaces fill it up to its column's width.
+/// So many spaces and a cell. Tells how many spaces fill it up to its column's width. The cell is made
+/// where it is looked at, behind the spaces.
 #[inline(always)]
-fn push_placed(
+fn push_placed<L: Line>(
     out: &mut Vec<u8>,
-    placed: &Placed<'_>,
+    spaces: usize,
+    line: &L,
+    column: usize,
     width: usize,
     scratch: &mut Scratch,
     display: &Display<'_>,
 ) -> Result<usize, AllocError>
-    ensures { IfOk result (λ left. Leaves out.old.items out.new.items left
-        (padded width (placed_text (decimals_of display.now) placed.now))) }
+    requires { column < length (L.cells line.now) }
+    ensures { IfOk result (λ left. (placed : Placed) → Some placed ≡ slice_get (L.cells line.now) column
+        → Leaves out.old.items out.new.items left
+        (replicate spaces space ++ padded width (placed_text (decimals_of display.now) placed))) }
 {
-    if placed.stands_right {
-        let own = cell_width(&placed.cell, scratch, display)?;
-        push_spaces(out, width.saturating_sub(own))?;
-        push_cell(out, &placed.cell, scratch, display)?;
+    if line.cell(column).stands_right {
+        let placed = line.cell(column);
+        push_right(out, spaces, &placed.cell, width, scratch, display)?;
         return Ok(0);
     }
+    push_padding(out, spaces)?;
+    let placed = line.cell(column);
     let own = push_cell(out, &placed.cell, scratch, display)?;
     Ok(width.saturating_sub(own))
 }
 
 /// The cells of a line, with the gaps between them. Spaces are added before a cell, all at once: so
 /// those at the line's end are told alone.
-fn push_joined<L: Line>(
+pub(crate) fn push_joined<L: Line>(
     out: &mut Vec<u8>,
     line: &L,
     headings: &[Heading<'_>],
@@ -145,15 +180,13 @@ fn push_joined<L: Line>(
     let mut left = 0;
     for (i, heading) in headings.iter().enumerate() {
         let spaces = spaces_before(left, i)?;
-        push_spaces(out, spaces)?;
-        // The cell is made where it is looked at.
-        left = push_placed(out, &line.cell(i), heading.width, scratch, display)?;
+        left = push_placed(out, spaces, line, i, heading.width, scratch, display)?;
     }
     Ok(left)
 }
 
 /// Ends the line that begins at `start`: no spaces stand at its end.
-fn end_line(out: &mut Vec<u8>, start: usize) -> Result<(), AllocError>
+pub(crate) fn end_line(out: &mut Vec<u8>, start: usize) -> Result<(), AllocError>
     requires { start ≤ vec_len out.old }
     ensures { OnOk result (out.new.items
         ≡ take start out.old.items ++ trimmed (drop start out.old.items) ++ line_feed ∷ []) }

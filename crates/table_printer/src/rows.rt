@@ -1,9 +1,9 @@
 //! Rows of cells under the names of their columns, wherever they are kept.
 ghost use Rattle.std.specs.Prelude.{◌≡◌, ◌<◌, ℕ, List, length, slice_get, Some};
-ghost use Rattle.table_printer.specs.CellText.{row_at};
+ghost use Rattle.table_printer.specs.Table.{row_at};
 ghost use Rattle.query_values.specs.declared.value.Value.{Value};
 
-use crate::cell::Cell;
+use cell_texts::Cell;
 
 /// What a table is printed of: an answer, or what lends its cells from where they are. A row is
 /// looked up once for all of its cells.

@@ -5,10 +5,11 @@ ghost use Rattle.posting_table.specs.Decimals.{decimals_of};
 ghost use Rattle.table_printer.specs.Heading.{width_of};
 ghost use Rattle.table_printer.specs.Table.{text_of, line_of, table_text};
 
-use crate::cells::Scratch;
 use crate::headings::{Heading, headings};
 use crate::lines::{HeaderLine, RowLine, push_line, push_rule};
+use crate::open::{has_no_number, print_open};
 use crate::rows::Rows;
+use cell_texts::Scratch;
 use posting_table::Display;
 use std::alloc::{AllocError, Global};
 
@@ -36,14 +37,39 @@ fn push_rows<T: Rows>(
 /// The most bytes a line for which room is taken beforehand: a row takes more memory than that.
 const MOST_ROOM: usize = 128;
 
+/// What a line takes in a column that isn't measured, and to be ended: what few positions go beyond.
+const NOT_MEASURED: usize = 24;
+
 /// How much room is taken beforehand, so that the text isn't moved while it grows: that of lines
-/// which fill their columns.
-fn room_for(headings: &[Heading<'_>], rows: usize) -> usize {
-    let mut line: usize = 1;
+/// which fill their columns, and one that isn't measured.
+pub(crate) fn room_for(headings: &[Heading<'_>], rows: usize) -> usize {
+    let mut line: usize = NOT_MEASURED;
     for heading in headings {
         line = line.saturating_add(heading.width).saturating_add(2);
     }
     line.min(MOST_ROOM).saturating_mul(rows.saturating_add(2))
+}
+
+/// The table of rows: all of their cells are measured first.
+fn print_measured<T: Rows>(
+    alloc: Global,
+    table: &T,
+    scratch: &mut Scratch,
+    display: &Display<'_>,
+) -> Result<Vec<u8>, AllocError>
+    requires { All (λ row. length row ≡ length (T.names table.now)) (T.rows table.now) }
+    ensures { IfOk result (λ v. v.items
+        ≡ table_text (T.names table.now) (T.rows table.now) (decimals_of display.now)) }
+{
+    let headings = headings(alloc, table, table.columns(), scratch, display)?;
+    let header = HeaderLine {
+        headings: &headings,
+    };
+    let mut out = Vec::with_capacity(alloc, room_for(&headings, table.len()))?;
+    push_line(&mut out, &header, &headings, scratch, display)?;
+    push_rule(&mut out, &headings)?;
+    push_rows(&mut out, table, &headings, scratch, display)?;
+    Ok(out)
 }
 
 /// The table of rows: each has as many cells as there are columns.
@@ -57,13 +83,9 @@ pub fn print<T: Rows>(
         ≡ table_text (T.names table.now) (T.rows table.now) (decimals_of display.now)) }
 {
     let mut scratch = Scratch::new(alloc);
-    let headings = headings(alloc, table, &mut scratch, display)?;
-    let header = HeaderLine {
-        headings: &headings,
-    };
-    let mut out = Vec::with_capacity(alloc, room_for(&headings, table.len()))?;
-    push_line(&mut out, &header, &headings, &mut scratch, display)?;
-    push_rule(&mut out, &headings)?;
-    push_rows(&mut out, table, &headings, &mut scratch, display)?;
-    Ok(out)
+    let columns = table.columns();
+    if columns > 0 && has_no_number(table, columns - 1) {
+        return print_open(alloc, table, columns - 1, &mut scratch, display);
+    }
+    print_measured(alloc, table, &mut scratch, display)
 }

@@ -7,7 +7,7 @@ ghost use Rattle.value_hashes.specs.Fed as spec;
 
 use bean_base::Slice;
 use bean_lots::{Key, Lot};
-use query_values::{Bag, BagKey, TextSet, Value};
+use query_values::{BagKey, OwnBag, TextSet, Value};
 use std::hash::{FoldHasher, Hash, Hasher};
 
 /// A magnitude in the fewest decimals that are exact.
@@ -74,13 +74,14 @@ fn mark_of(places: u8, key: &BagKey<'_>, count: i128) -> u64
 }
 
 /// The sum of the marks of all entries, whatever their order.
-fn marks_of(bag: &Bag<'_>) -> u64
+fn marks_of(bag: &OwnBag<'_>) -> u64
     ensures { result ≡ spec.marks_beside bag.now.places [] bag.now.held % 2 ^ 64 }
 {
     let mut marks: u64 = 0;
-    let mut rest = bag.held.positions();
+    let places = bag.places();
+    let mut rest = bag.positions();
     while let Some((key, count)) = rest.next_held() {
-        marks = marks.wrapping_add(mark_of(bag.places, key, count));
+        marks = marks.wrapping_add(mark_of(places, key, count));
     }
     marks
 }
@@ -108,7 +109,7 @@ pub fn feed<H: Hasher>(value: &Value<'_>, state: &mut H)
             count.hash(state);
             feed_key(key.get(), state);
         }
-        Value::Inventory(bag) => marks_of(bag.get()).hash(state),
+        Value::Inventory(bag) => marks_of(bag).hash(state),
     }
 }
 

@@ -15,11 +15,11 @@ use std::marker::Model;
 
 /// Values that stand for the key of them, which needn't be made to look it up.
 #[derive(Drop)]
-pub struct LentKey<'s, 'r> {
+pub struct LentKey<'r, 's> {
     values: &'s [Value<'r>],
 }
 
-impl<'s, 'r> Model for LentKey<'s, 'r> {
+impl<'r, 's> Model for LentKey<'r, 's> {
     ghost use Rattle.std.specs.Prelude.{List};
     ghost use Rattle.query_values.specs.declared.value.Value as of_queries;
 
@@ -28,9 +28,9 @@ impl<'s, 'r> Model for LentKey<'s, 'r> {
     ghost view = { λ k. k.values.now };
 }
 
-impl<'s, 'r> LentKey<'s, 'r> {
+impl<'r, 's> LentKey<'r, 's> {
     /// The key of these values.
-    pub fn new(values: &'s [Value<'r>]) -> LentKey<'s, 'r>
+    pub fn new(values: &'s [Value<'r>]) -> LentKey<'r, 's>
         ensures { result ≡ values.now }
     {
         LentKey { values }
@@ -61,7 +61,7 @@ impl Hash for LentKey<'_, '_> {
     }
 }
 
-impl<'r> Equivalent<ValueKey<'r>> for &LentKey<'_, 'r> {
+impl<'r> Equivalent<ValueKey<'r>> for &LentKey<'r, '_> {
     ghost equivalent = { λ q. same_values q.now };
 
     ghost respects_hash = { λ q. values_alike q.now };

@@ -14,13 +14,13 @@ use std::marker::Model;
 
 /// The positions that are still to come, in order of entry.
 #[derive(Drop)]
-pub struct Positions<'s, 'a> {
+pub struct Positions<'a, 's> {
     slots: Run<'s, Key<'a>>,
     /// Whether lots are known to stand in the order of their days.
     in_order: bool,
 }
 
-impl<'s, 'a> Model for Positions<'s, 'a> {
+impl<'a, 's> Model for Positions<'a, 's> {
     ghost use Rattle.std.specs.Prelude.{◌≡◌, List, true};
     ghost use Rattle.bean_lots.specs.declared.lot.Position.{Position};
     ghost use Rattle.bean_lots.specs.Slots.{positions};
@@ -95,9 +95,9 @@ fn without_last_holes<'s, 'a>(slots: Run<'s, Key<'a>>) -> Run<'s, Key<'a>>
     }
 }
 
-impl<'s, 'a> Positions<'s, 'a> {
+impl<'a, 's> Positions<'a, 's> {
     /// What is held in slots, of which it may be known that they are in the order of days.
-    pub(crate) fn new(slots: Run<'s, Key<'a>>, in_order: bool) -> Positions<'s, 'a>
+    pub(crate) fn new(slots: Run<'s, Key<'a>>, in_order: bool) -> Positions<'a, 's>
         requires { in_order ≡ true → AreInOrder slots }
         ensures { result ≡ positions slots.entry }
     {
@@ -105,7 +105,7 @@ impl<'s, 'a> Positions<'s, 'a> {
     }
 
     /// The same positions once more.
-    pub fn lend(&self) -> Positions<'s, 'a>
+    pub fn lend(&self) -> Positions<'a, 's>
         ensures { result ≡ self.now }
     {
         let (_, slots) = self.slots.split_at(0);
@@ -117,7 +117,7 @@ impl<'s, 'a> Positions<'s, 'a> {
 
     /// The positions about a day, in order of entry: all lots of that day, and few others where
     /// lots are known to stand in the order of their days. Where no day is given, all positions.
-    pub fn about(&self, day: Option<Day>) -> Positions<'s, 'a>
+    pub fn about(&self, day: Option<Day>) -> Positions<'a, 's>
         ensures { HasAllOf day result self.now }
     {
         let Some(day) = day else {

@@ -4,12 +4,13 @@
 //! and all of these are swept out. So a lot that goes costs no more than one that comes. Where a lot
 //! goes, holes behind all that is held go at once, and where there are more than a few slots, so that
 //! what is looked at from the end is held, or stands before few holes.
-ghost use Rattle.std.specs.Prelude.{◌≡◌, ◌≢◌, ◌+◌, ◌+ℤ◌, ◌++◌, ◌∷◌, ◌<◌, ◌^◌, All, IfSome, List};
+ghost use Rattle.std.specs.Prelude.{◌≡◌, ◌≢◌, ◌+◌, ◌+ℤ◌, ◌++◌, ◌∷◌, ◌<◌, ◌^◌, All, IfNone, IfSome, List};
 ghost use Rattle.std.specs.Prelude.{None, OnErr, OnOk, Some, [], drop, filter, length, map, pos};
-ghost use Rattle.std.specs.Prelude.{position, take, true, ℕ, ℤ};
+ghost use Rattle.std.specs.Prelude.{position, slice_get, take, true, ℕ, ℤ};
 ghost use Rattle.std.specs.Int.{w128};
 ghost use Rattle.std.specs.Int.RustNames.{FitsSigned};
-ghost use Rattle.std.specs.Map.{lookup, keys_of};
+ghost use Rattle.std.specs.List.{IsDistinct};
+ghost use Rattle.std.specs.Map.{lookup, keys_of, values_of};
 ghost use Rattle.bean_inventories.specs.AtCost.{is_lot_at};
 ghost use Rattle.bean_inventories.specs.Costs.{IsTold};
 ghost use Rattle.bean_lots.specs.Inventory.{IsInventory, MayBeNegated, added, count_of, negative_entry};
@@ -49,7 +50,7 @@ fn key_on<'k>(currency: &Currency<'k>, cost: &Cost<'k>, day: Day) -> Key<'k>
 }
 
 /// What is held in a slot.
-fn held_in<'s, 'a>(slots: &Run<'s, Key<'a>>, index: usize) -> Positions<'s, 'a>
+fn held_in<'s, 'a>(slots: &Run<'s, Key<'a>>, index: usize) -> Positions<'a, 's>
     requires { index < length slots.now }
     ensures { result ≡ spec.positions (take 1 (drop index slots.now)) }
 {
@@ -99,12 +100,24 @@ impl<'a> Slots<'a> {
         }
     }
 
+    /// Where a key has its slot.
+    fn place_of(&self, key: &Key<'_>) -> Option<usize>
+        ensures place { result ≡ position (same_key key.now) (keys_of self.now.counts) }
+        ensures inside { IfSome result (λ place. place < length self.now.counts) }
+        ensures value { IfSome result (λ place. slice_get (values_of self.now.counts) place
+            ≡ lookup (same_key key.now) self.now.counts) }
+        ensures none { IfNone result (lookup (same_key key.now) self.now.counts ≡ None) }
+        ensures unique { IsDistinct same_key (keys_of self.now.counts) }
+    {
+        self.counts.place_of(key)
+    }
+
     /// The count under a key.
     pub(crate) fn get(&self, key: &Key<'_>) -> i128
         ensures count { result ≡ count_of (held self.now) key.now }
         ensures inventory { IsInventory (held self.now) }
     {
-        match self.counts.place_of(key) {
+        match self.place_of(key) {
             Some(index) => self.counts.count_at(index),
             None => 0,
         }
@@ -129,7 +142,7 @@ impl<'a> Slots<'a> {
     }
 
     /// What is held, in order of entry.
-    pub(crate) fn positions(&self) -> Positions<'_, 'a>
+    pub(crate) fn positions(&self) -> Positions<'a, '_>
         requires { IsKept self.now }
         ensures { result ≡ held self.now }
     {
@@ -357,11 +370,11 @@ impl<'a> Slots<'a> {
     }
 
     /// What is held under a key.
-    fn positions_of(&self, key: &Key<'_>) -> Positions<'_, 'a>
+    fn positions_of(&self, key: &Key<'_>) -> Positions<'a, '_>
         ensures { result ≡ filter (λ e. same_key key.now e.key) (held self.now) }
     {
         let slots = self.counts.as_run();
-        match self.counts.place_of(key) {
+        match self.place_of(key) {
             Some(index) => held_in(&slots, index),
             None => Positions::new(Run::new(), false),
         }
@@ -372,7 +385,7 @@ impl<'a> Slots<'a> {
         &self,
         currency: &Currency<'_>,
         cost: &Cost<'_>,
-    ) -> Option<Positions<'_, 'a>>
+    ) -> Option<Positions<'a, '_>>
         requires { IsKept self.now }
         ensures { IfSome result (λ own. own
             ≡ filter (is_lot_at currency.now cost.now) (held self.now)) }

@@ -55,7 +55,7 @@ pub(crate) fn push_left<'a>(
 /// the want is enough, no more.
 pub(crate) fn candidates_after<'a>(
     alloc: Global,
-    positions: Positions<'_, 'a>,
+    positions: Positions<'a, '_>,
     taken: &Inventory<'_>,
     selector: &Selector<'_>,
     want: i128,
@@ -100,7 +100,7 @@ fn is_back_enough(inventory: &Inventory<'_>, method: Method) -> bool
 pub fn reduce_after<'a>(
     alloc: Global,
     inventory: &Inventory<'a>,
-    rest: &Positions<'_, 'a>,
+    rest: &Positions<'a, '_>,
     taken: &Inventory<'_>,
     selector: &Selector<'_>,
     units: Num,

@@ -23,7 +23,7 @@ use std::alloc::Global;
 pub(crate) fn positions_at_cost<'s, 'a>(
     inventory: &'s Inventory<'a>,
     selector: &Selector<'_>,
-) -> Option<Positions<'s, 'a>>
+) -> Option<Positions<'a, 's>>
     ensures all { IfSome result (λ part. (want : ℤ) (taken : List Position)
         → candidates selector.now want (after part taken)
         ≡ candidates selector.now want (after inventory.now taken)) }
@@ -38,7 +38,7 @@ pub(crate) fn positions_at_cost<'s, 'a>(
 /// What a reduction takes of what is left of positions, each of which is looked at.
 pub(crate) fn reduce_from<'a>(
     alloc: Global,
-    positions: Positions<'_, 'a>,
+    positions: Positions<'a, '_>,
     taken: &Inventory<'_>,
     selector: &Selector<'_>,
     want: i128,

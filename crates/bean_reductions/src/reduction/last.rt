@@ -42,7 +42,7 @@ fn is_earlier(key: &Key<'_>, found: &[Candidate<'_>]) -> bool
 /// their days, from the end.
 fn candidates_from_end<'a>(
     alloc: Global,
-    positions: Positions<'_, 'a>,
+    positions: Positions<'a, '_>,
     taken: &Inventory<'_>,
     selector: &Selector<'_>,
     want: i128,
@@ -69,7 +69,7 @@ fn candidates_from_end<'a>(
 /// What a reduction takes of what is left of positions under `Lifo`.
 fn reduce_last<'a>(
     alloc: Global,
-    positions: Positions<'_, 'a>,
+    positions: Positions<'a, '_>,
     taken: &Inventory<'_>,
     selector: &Selector<'_>,
     want: i128,
@@ -137,7 +137,7 @@ fn last_day(
 /// The first candidates of a day, which is the last that has any, where they come to the want.
 fn first_on<'a>(
     alloc: Global,
-    positions: &Positions<'_, 'a>,
+    positions: &Positions<'a, '_>,
     taken: &Inventory<'_>,
     selector: &Selector<'_>,
     want: i128,
@@ -164,7 +164,7 @@ fn first_on<'a>(
 /// gives no day.
 fn first_of_last_day<'a>(
     alloc: Global,
-    positions: &Positions<'_, 'a>,
+    positions: &Positions<'a, '_>,
     taken: &Inventory<'_>,
     selector: &Selector<'_>,
     want: i128,
@@ -187,7 +187,7 @@ fn first_of_last_day<'a>(
 /// What a reduction takes of what is left of positions under `Lifo`, where the last day may do.
 pub(crate) fn reduce_last_in<'a>(
     alloc: Global,
-    positions: &Positions<'_, 'a>,
+    positions: &Positions<'a, '_>,
     taken: &Inventory<'_>,
     selector: &Selector<'_>,
     want: i128,

@@ -1,4 +1,4 @@
-use Rattle.std.proofs.Common.{◌≡◌, ◌≤◌, ◌-◌, arith, suc}
+use Rattle.std.proofs.Common.{◌-◌, arith}
 use Rattle.number_texts.proofs.OffFacts.{four_less, four_off}
 use Rattle.number_texts.proofs.digits.four_taken_off.Goals as goal
 

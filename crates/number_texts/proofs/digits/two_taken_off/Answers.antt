@@ -1,4 +1,4 @@
-use Rattle.std.proofs.Common.{◌≡◌, ◌≤◌, ◌-◌, arith, suc}
+use Rattle.std.proofs.Common.{◌-◌, arith}
 use Rattle.number_texts.proofs.OffFacts.{two_less, two_off}
 use Rattle.number_texts.proofs.digits.two_taken_off.Goals as goal
 

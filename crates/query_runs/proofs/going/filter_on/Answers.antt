@@ -1,113 +1,93 @@
-use Rattle.std.proofs.Common.{◌∙◌, ◌+◌, sym, refl, arith}
+use Rattle.std.proofs.Common.{◌∙◌, ap, length, subst, sym, arith}
 use Rattle.query_runs.specs.Stands.{rows_in, stand_of}
-use Rattle.query_runs.proofs.FilterStage.{in_filter_there, filter_safely, filter_ended, filter_inside}
-use Rattle.query_runs.proofs.FilterStage.{filter_going, filter_at_next, some_made}
-use Rattle.query_runs.proofs.Starts.{posting_there}
-use Rattle.query_runs.proofs.Turning.{goes_on_from}
+use Rattle.query_runs.specs.Turns.{IsSafe}
+use Rattle.query_runs.proofs.FilterStage.{at_end, before_end, end_fine}
+use Rattle.query_runs.proofs.Turning.{safe_further}
 use Rattle.query_runs.proofs.going.filter_on.Goals as goal
 
-pub row-requires : goal.row-requires
-row-requires c =
+pub at_posting-requires-clause-safe : goal.at_posting-requires-clause-safe
+at_posting-requires-clause-safe c =
     let p = c.args.input.now.parts.now in
-    let rows = rows_in c.args.input.now in
-    let run = c.args.run.now in
-    let f = in_filter_there p rows run 0 run.frame.stack.room c.requires.stage refl c.requires.safe in
-    posting_there c.args.input.now.ledger.now run.row f.there
+    let old = stand_of (rows_in c.args.input.now) c.args.run.now in
+    let new = stand_of (rows_in c.args.input.now) c.loop-made.run in
+    subst (IsSafe p new) (sym c.loop-made.invariant.room)
+    (safe_further p c.args.run.now.frame.stack.room c.loop-made.made old new c.requires.safe
+    c.loop-made.invariant.goes.comes)
 
-pub go_on-requires-clause-within : goal.go_on-requires-clause-within
-go_on-requires-clause-within c =
-    let p = c.args.input.now.parts.now in
-    let rows = rows_in c.args.input.now in
-    let run = c.args.run.now in
-    let room = run.frame.stack.room in
-    let f = in_filter_there p rows run 0 room c.requires.stage refl
-    c.requires.safe in
-    let inside = filter_inside p rows run 0 room f c.as_slice.result.now c.as_slice-2.result.now
-    c.as_slice.ensures c.as_slice-2.ensures _ c.row.ensures.row c.requires.safe in
-    omega (arith, inside)
+pub returns-then-run-section-clause-goes : goal.returns-then-run-section-clause-goes
+returns-then-run-section-clause-goes c =
+    before_end c.args.input.now.parts.now (rows_in c.args.input.now) c.loop-made.made
+    c.in_ok-made.field-0 (stand_of (rows_in c.args.input.now) c.args.run.now)
+    (stand_of (rows_in c.args.input.now) c.loop-made.run) c.at_posting.new.run
+    c.loop-made.invariant.goes c.in_ok-made.ensures.went
+    (λ end. c.if-run-section.true (end ∙ sym (ap length c.as_slice.ensures)))
 
-pub go_on-requires-clause-safe : goal.go_on-requires-clause-safe
-go_on-requires-clause-safe c =
-    let p = c.args.input.now.parts.now in
-    let rows = rows_in c.args.input.now in
-    let run = c.args.run.now in
-    let room = run.frame.stack.room in
-    let f = in_filter_there p rows run 0 room c.requires.stage refl
-    c.requires.safe in
-    filter_safely p rows run 0 room f c.as_slice.result.now c.as_slice-2.result.now
-    c.as_slice.ensures c.as_slice-2.ensures _ c.row.ensures.row c.requires.safe
+pub fails-requires-clause-fine : goal.fails-requires-clause-fine
+fails-requires-clause-fine c =
+    end_fine c.args.input.now.parts.now (rows_in c.args.input.now) c.loop-made.made
+    c.in_ok-made.field-0 (stand_of (rows_in c.args.input.now) c.args.run.now)
+    (stand_of (rows_in c.args.input.now) c.loop-made.run) c.at_posting.new.run
+    c.loop-made.invariant.goes c.in_ok-made.ensures.went
+    c.args.run.now.frame.stack.room c.requires.safe (c.if-run-section.false ∙ ap length c.as_slice.ensures)
 
-pub end_filter-requires-clause-fine : goal.end_filter-requires-clause-fine
-end_filter-requires-clause-fine c = λ fault.
-    let p = c.args.input.now.parts.now in
-    let rows = rows_in c.args.input.now in
-    let run = c.args.run.now in
-    let room = run.frame.stack.room in
-    let f = in_filter_there p rows run 0 room c.requires.stage refl
-    c.requires.safe in
-    c.requires.safe.never_faults (0 + c.in_ok-made.made)
-    (filter_ended p rows run 0 room f c.as_slice.result.now c.as_slice-2.result.now
-    c.as_slice.ensures c.as_slice-2.ensures _ c.row.ensures.row c.requires.safe c.in_ok-made.made c.in_ok-made.ensures.inside c.go_on.new.frame
-    c.in_ok-made.ensures.stands
-    c.if-run-section.true ∙ fault)
+pub pass-requires-clause-fine : goal.pass-requires-clause-fine
+pass-requires-clause-fine c = λ fault.
+    end_fine c.args.input.now.parts.now (rows_in c.args.input.now) c.loop-made.made
+    c.in_ok-made.field-0 (stand_of (rows_in c.args.input.now) c.args.run.now)
+    (stand_of (rows_in c.args.input.now) c.loop-made.run) c.at_posting.new.run
+    c.loop-made.invariant.goes c.in_ok-made.ensures.went
+    c.args.run.now.frame.stack.room c.requires.safe (c.if-run-section.false ∙ ap length c.as_slice.ensures)
+    (c.fails.ensures.passes c.if-not-fails.true ∙ fault)
 
-pub returns-in_ok-end_filter-clause-some : goal.returns-in_ok-end_filter-clause-some
-returns-in_ok-end_filter-clause-some c =
-    let p = c.args.input.now.parts.now in
-    let rows = rows_in c.args.input.now in
-    let run = c.args.run.now in
-    let room = run.frame.stack.room in
-    let f = in_filter_there p rows run 0 room c.requires.stage refl
-    c.requires.safe in
-    some_made p rows run 0 room f c.as_slice.result.now c.as_slice-2.result.now
-    c.as_slice.ensures c.as_slice-2.ensures _ c.row.ensures.row c.requires.safe c.in_ok-made.made c.in_ok-made.ensures.inside c.go_on.new.frame
-    c.in_ok-made.ensures.stands
-    c.args.most c.requires.more c.in_ok-made.ensures.ends
+pub returns-then-not-fails-clause-goes : goal.returns-then-not-fails-clause-goes
+returns-then-not-fails-clause-goes c =
+    at_end c.args.input.now.parts.now (rows_in c.args.input.now) c.loop-made.made
+    c.in_ok-made.field-0 (stand_of (rows_in c.args.input.now) c.args.run.now)
+    (stand_of (rows_in c.args.input.now) c.loop-made.run) c.at_posting.new.run
+    c.loop-made.invariant.goes c.in_ok-made.ensures.went _
+    (c.if-run-section.false ∙ ap length c.as_slice.ensures)
+    (c.in_ok-pass.ensures.stand ∙ sym (c.fails.ensures.passes c.if-not-fails.true))
 
-pub returns-else-run-section-clause-some : goal.returns-else-run-section-clause-some
-returns-else-run-section-clause-some c =
-    let p = c.args.input.now.parts.now in
-    let rows = rows_in c.args.input.now in
-    let run = c.args.run.now in
-    let room = run.frame.stack.room in
-    let f = in_filter_there p rows run 0 room c.requires.stage refl
-    c.requires.safe in
-    some_made p rows run 0 room f c.as_slice.result.now c.as_slice-2.result.now
-    c.as_slice.ensures c.as_slice-2.ensures _ c.row.ensures.row c.requires.safe c.in_ok-made.made c.in_ok-made.ensures.inside c.go_on.new.frame
-    c.in_ok-made.ensures.stands
-    c.args.most c.requires.more c.in_ok-made.ensures.ends
+pub start_row-requires : goal.start_row-requires
+start_row-requires c = λ fault.
+    end_fine c.args.input.now.parts.now (rows_in c.args.input.now) c.loop-made.made
+    c.in_ok-made.field-0 (stand_of (rows_in c.args.input.now) c.args.run.now)
+    (stand_of (rows_in c.args.input.now) c.loop-made.run) c.at_posting.new.run
+    c.loop-made.invariant.goes c.in_ok-made.ensures.went
+    c.args.run.now.frame.stack.room c.requires.safe (c.if-run-section.false ∙ ap length c.as_slice.ensures)
+    (c.fails.ensures.fails c.if-not-fails.false ∙ fault)
 
-pub returns-in_ok-end_filter-clause-goes : goal.returns-in_ok-end_filter-clause-goes
-returns-in_ok-end_filter-clause-goes c =
-    let p = c.args.input.now.parts.now in
-    let rows = rows_in c.args.input.now in
-    let run = c.args.run.now in
-    let room = run.frame.stack.room in
-    let f = in_filter_there p rows run 0 room c.requires.stage refl
-    c.requires.safe in
-    goes_on_from p (stand_of rows run) 0 c.in_ok-made.made _ _ refl
-    (c.in_ok-end_filter.ensures.stand
-    ∙ sym (filter_ended p rows run 0 room f c.as_slice.result.now c.as_slice-2.result.now
-    c.as_slice.ensures c.as_slice-2.ensures _ c.row.ensures.row c.requires.safe c.in_ok-made.made c.in_ok-made.ensures.inside c.go_on.new.frame
-    c.in_ok-made.ensures.stands
-    c.if-run-section.true))
-    (filter_going p rows run 0 room f c.as_slice.result.now c.as_slice-2.result.now
-    c.as_slice.ensures c.as_slice-2.ensures _ c.row.ensures.row c.requires.safe c.in_ok-made.made c.in_ok-made.ensures.inside c.go_on.new.frame
-    c.in_ok-made.ensures.stands)
+pub returns-then-run-len-clause-goes : goal.returns-then-run-len-clause-goes
+returns-then-run-len-clause-goes c =
+    at_end c.args.input.now.parts.now (rows_in c.args.input.now) c.loop-made.made
+    c.in_ok-made.field-0 (stand_of (rows_in c.args.input.now) c.args.run.now)
+    (stand_of (rows_in c.args.input.now) c.loop-made.run) c.at_posting.new.run
+    c.loop-made.invariant.goes c.in_ok-made.ensures.went _
+    (c.if-run-section.false ∙ ap length c.as_slice.ensures)
+    (c.in_ok-start_row.ensures.stand ∙ sym (c.fails.ensures.fails c.if-not-fails.false))
 
-pub returns-else-run-section-clause-goes : goal.returns-else-run-section-clause-goes
-returns-else-run-section-clause-goes c =
-    let p = c.args.input.now.parts.now in
-    let rows = rows_in c.args.input.now in
-    let run = c.args.run.now in
-    let room = run.frame.stack.room in
-    let f = in_filter_there p rows run 0 room c.requires.stage refl
-    c.requires.safe in
-    goes_on_from p (stand_of rows run) 0 c.in_ok-made.made _ _ refl
-    (filter_at_next p rows run 0 room f c.as_slice.result.now c.as_slice-2.result.now
-    c.as_slice.ensures c.as_slice-2.ensures _ c.row.ensures.row c.requires.safe c.in_ok-made.made c.in_ok-made.ensures.inside c.go_on.new.frame
-    c.in_ok-made.ensures.stands
-    _ c.if-run-section.false refl refl refl c.requires.stage)
-    (filter_going p rows run 0 room f c.as_slice.result.now c.as_slice-2.result.now
-    c.as_slice.ensures c.as_slice-2.ensures _ c.row.ensures.row c.requires.safe c.in_ok-made.made c.in_ok-made.ensures.inside c.go_on.new.frame
-    c.in_ok-made.ensures.stands)
+pub start_filter-requires-clause-fine : goal.start_filter-requires-clause-fine
+start_filter-requires-clause-fine c = λ fault.
+    end_fine c.args.input.now.parts.now (rows_in c.args.input.now) c.loop-made.made
+    c.in_ok-made.field-0 (stand_of (rows_in c.args.input.now) c.args.run.now)
+    (stand_of (rows_in c.args.input.now) c.loop-made.run) c.at_posting.new.run
+    c.loop-made.invariant.goes c.in_ok-made.ensures.went
+    c.args.run.now.frame.stack.room c.requires.safe (c.if-run-section.false ∙ ap length c.as_slice.ensures)
+    (c.fails.ensures.fails c.if-not-fails.false ∙ fault)
+
+pub loop-made-preserved : goal.loop-made-preserved
+loop-made-preserved c = record {
+  few = let few = c.in_ok-made.ensures.few in omega (arith, few);
+  stage = c.in_ok-start_filter.ensures.stage;
+  goes = at_end c.args.input.now.parts.now (rows_in c.args.input.now) c.loop-made.made
+      c.in_ok-made.field-0 (stand_of (rows_in c.args.input.now) c.args.run.now)
+      (stand_of (rows_in c.args.input.now) c.loop-made.run) c.at_posting.new.run
+      c.loop-made.invariant.goes c.in_ok-made.ensures.went _
+      (c.if-run-section.false ∙ ap length c.as_slice.ensures)
+      (c.in_ok-start_filter.ensures.stand
+      ∙ sym (c.fails.ensures.fails c.if-not-fails.false));
+  finders = c.start_filter.ensures.finders ∙ c.fails.ensures.finders
+      ∙ c.at_posting.ensures.finders ∙ c.loop-made.invariant.finders;
+  room = c.start_filter.ensures.room ∙ c.fails.ensures.room ∙ c.at_posting.ensures.room
+      ∙ c.loop-made.invariant.room;
+}

@@ -1,4 +1,4 @@
-use Rattle.std.proofs.Common.{◌≡◌, ap, sym, subst, ◌∙◌}
+use Rattle.std.proofs.Common.{ap, sym, subst, ◌∙◌}
 use Rattle.query_code.specs.declared.instruction.Instruction.TheVariants.{Push}
 use Rattle.query_code.specs.declared.instruction.Push.TheVariants.{True}
 use Rattle.plain_machine.specs.SectionRun.{effect, next_place}

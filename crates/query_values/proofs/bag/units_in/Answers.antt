@@ -1,4 +1,4 @@
-use Rattle.std.proofs.Common.{◌+ℤ◌, to_z, of_z, ap, ap₂, subst, sym, ◌∙◌}
+use Rattle.std.proofs.Common.{◌+ℤ◌, to_z, of_z, ap, ap₂, refl, subst, sym, ◌∙◌}
 use Rattle.std.proofs.Common.{rules}
 use Rattle.std.specs.Int.{w128}
 use Rattle.std.specs.Int.RustNames.{FitsSigned}
@@ -10,14 +10,14 @@ use Rattle.query_values.proofs.bag.units_in.Goals as goal
 
 pub loop-key-init : goal.loop-key-init
 loop-key-init c =
-    none_yet without_lot c.args.inventory.now c.new-held.result c.positions-rest.result
-    c.new-held.ensures c.positions-rest.ensures.positions c.requires
+    none_yet without_lot c.args.rest c.new-held.result c.args.rest
+    c.new-held.ensures refl c.requires
 
 pub add-requires : goal.add-requires
 add-requires c =
     let e = position_of c.in-Some.key.now c.in-Some.count in
     let adds =
-    one_more without_lot c.args.inventory.now c.loop-key.held c.loop-key.rest c.next_held.new.self e
+    one_more without_lot c.args.rest c.loop-key.held c.loop-key.rest c.next_held.new.self e
     c.in-Some.ensures.some c.loop-key.invariant in
     let fits : FitsSigned w128 e.count = search rules in
     let key = c.bare.ensures ∙ ap bare_key (c.new.ensures ∙ c.currency.ensures) in
@@ -28,7 +28,7 @@ add-requires c =
 pub loop-key-preserved : goal.loop-key-preserved
 loop-key-preserved c =
     let e = position_of c.in-Some.key.now c.in-Some.count in
-    let es = c.args.inventory.now in
+    let es = c.args.rest in
     let more = c.next_held.new.self in
     let adds =
     one_more without_lot es c.loop-key.held c.loop-key.rest more e c.in-Some.ensures.some
@@ -41,5 +41,5 @@ loop-key-preserved c =
 
 pub returns : goal.returns
 returns c =
-    all without_lot c.args.inventory.now c.loop-key.held c.loop-key.rest
+    all without_lot c.args.rest c.loop-key.held c.loop-key.rest
     c.in_default.ensures.none c.loop-key.invariant

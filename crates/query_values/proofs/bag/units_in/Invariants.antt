@@ -4,7 +4,7 @@ use Rattle.query_holdings.specs.Total.{without_lot}
 use Rattle.query_values.proofs.bag.units_in.Given as goal
 
 abbrev pub invariant-loop-key : goal.invariant-loop-key
-invariant-loop-key l = IsUpTo without_lot l.inventory l.held l.rest
+invariant-loop-key l = IsUpTo without_lot l.fn.rest l.held l.rest
 
 abbrev pub decreases-loop-key : goal.decreases-loop-key
 decreases-loop-key l = length l.rest

@@ -1,4 +1,4 @@
-use Rattle.std.proofs.Common.{◌≡◌, ◌<◌, ◌+◌, ◌++◌, [], ap, arith, drop, length, map, sym, take, ◌∙◌}
+use Rattle.std.proofs.Common.{◌≡◌, ◌<◌, ◌+◌, ◌++◌, [], ap, arith, drop, length, length-take-le, map, sym, take, ◌∙◌}
 use Rattle.std.proofs.Math.Seq.{take-append_seam}
 use Rattle.std.proofs.lemmas.List.{take_all}
 use Rattle.posting_table.specs.Decimals.{decimals_of}
@@ -10,25 +10,34 @@ use Rattle.table_printer.proofs.headings.headings.Goals as goal
 pub loop-number-init : goal.loop-number-init
 loop-number-init g c = record {
   under = c.in_ok-headings.ensures.bare
-      ∙ over_none (decimals_of c.args.display.now) 0 (g.T.Rows.names c.args.table.now);
+      ∙ over_none (decimals_of c.args.display.now) 0
+      (take c.args.count (g.T.Rows.names c.args.table.now));
   len = c.in_ok-headings.ensures.len;
 }
 
 pub widen_all-requires : goal.widen_all-requires
 widen_all-requires g c =
     let rows = g.T.Rows.rows c.args.table.now in
-    let names = g.T.Rows.names c.args.table.now in
+    let names = take c.args.count (g.T.Rows.names c.args.table.now) in
+    let few = length-take-le c.args.count (g.T.Rows.names c.args.table.now) c.requires.few in
     let i = c.loop-number.number in
     let last = c.len-number-end.ensures in
     let before = c.loop-number-test.true in
-    c.deref_mut.ensures.len ∙ c.loop-number.invariant.len
-    ∙ sym (ap length c.row-row.ensures ∙ c.requires i [] (omega (arith, last, before)))
+    let wide = ap length c.row-row.ensures ∙ c.requires.even i [] (omega (arith, last, before)) in
+    omega (
+      arith,
+      c.deref_mut.ensures.len,
+      c.loop-number.invariant.len,
+      wide,
+      c.requires.few,
+    )
 
 pub loop-number-preserved : goal.loop-number-preserved
 loop-number-preserved g c =
     let display = decimals_of c.args.display.now in
     let rows = g.T.Rows.rows c.args.table.now in
-    let names = g.T.Rows.names c.args.table.now in
+    let names = take c.args.count (g.T.Rows.names c.args.table.now) in
+    let few = length-take-le c.args.count (g.T.Rows.names c.args.table.now) c.requires.few in
     let i = c.loop-number.number in
     let last = c.len-number-end.ensures in
     let before = c.loop-number-test.true in
@@ -38,10 +47,11 @@ loop-number-preserved g c =
     c.in_ok-widen_all.ensures
     ∙ (λ k. with_row display
     ((c.deref_mut.ensures.value ∙ c.loop-number.invariant.under) k) (c.row-row.ensures k))
-    ∙ one_more display rows names i within (c.requires i [] within) in
+    ∙ one_more display rows names i within
+    (let wide = c.requires.even i [] within in omega (arith, wide, few, c.requires.few)) in
     let sized : c.loop-number.headings.len ≡ length new =
     c.loop-number.invariant.len
-    ∙ sym (ap length made ∙ length-under display 0 (take (i + 1) rows) names) in
+    ∙ sym (ap length made ∙ length-under display 0 (take (i + 1) rows) names ∙ few) in
     record {
       under = ap (λ n. take n (new ++ drop (length new) c.loop-number.headings.items)) sized
           ∙ take-append_seam new (drop (length new) c.loop-number.headings.items) ∙ made;
@@ -52,7 +62,8 @@ pub returns : goal.returns
 returns g c =
     let display = decimals_of c.args.display.now in
     let rows = g.T.Rows.rows c.args.table.now in
-    let names = g.T.Rows.names c.args.table.now in
+    let names = take c.args.count (g.T.Rows.names c.args.table.now) in
+    let few = length-take-le c.args.count (g.T.Rows.names c.args.table.now) c.requires.few in
     let last = c.len-number-end.ensures in
     let all = c.loop-number.invariant.under
     ∙ ap (λ rs. under display 0 rs names)

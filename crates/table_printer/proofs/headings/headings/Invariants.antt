@@ -1,4 +1,4 @@
-use Rattle.std.proofs.Common.{◌≡◌, length, take, vec_len}
+use Rattle.std.proofs.Common.{◌≡◌, take, vec_len}
 use Rattle.posting_table.specs.Decimals.{decimals_of}
 use Rattle.table_printer.proofs.HeadingFacts.{under}
 use Rattle.table_printer.proofs.headings.headings.Given as goal
@@ -7,6 +7,6 @@ abbrev pub invariant-loop-number : goal.invariant-loop-number
 invariant-loop-number g l = record {
   under : l.headings.items
       ≡ under (decimals_of l.display) 0 (take l.number (g.T.Rows.rows l.table))
-      (g.T.Rows.names l.table);
-  len : vec_len l.headings ≡ length (g.T.Rows.names l.table);
+      (take l.count (g.T.Rows.names l.table));
+  len : vec_len l.headings ≡ l.count;
 }

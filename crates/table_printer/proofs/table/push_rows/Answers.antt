@@ -3,8 +3,7 @@ use Rattle.std.specs.List.{flat_map}
 use Rattle.std.proofs.lemmas.List.{take_all}
 use Rattle.posting_table.specs.Decimals.{decimals_of}
 use Rattle.table_printer.specs.Heading.{width_of}
-use Rattle.table_printer.specs.Table.{text_of, line_of}
-use Rattle.table_printer.specs.CellText.{row_at}
+use Rattle.table_printer.specs.Table.{text_of, line_of, row_at}
 use Rattle.table_printer.proofs.TableFacts.{lines_more}
 use Rattle.table_printer.proofs.InColumn.{row_texts, row_is}
 use Rattle.table_printer.proofs.table.push_rows.Goals as goal

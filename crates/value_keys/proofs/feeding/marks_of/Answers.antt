@@ -18,7 +18,9 @@ loop-key-preserved c =
     let key = c.in-Some.key.now in
     let count = c.in-Some.count in
     let fits : FitsSigned w128 count = search rules in
-    let own = c.mark_of-marks.ensures ∙ ap (mark_of bag.places key) (to_z-of_z w128 count fits) in
+    let own =
+    c.mark_of-marks.ensures
+    ∙ (λ i. mark_of (c.places-places.ensures i) key (to_z-of_z w128 count fits i)) in
     let sum = c.loop-key.marks + c.mark_of-marks.result in
     one_more bag.places c.loop-key.marks c.mark_of-marks.result (sum % 2 ^ 64)
     (marks_beside bag.places [] bag.held % 2 ^ 64) c.loop-key.rest c.next_held.new.self key count

@@ -4,7 +4,7 @@ use Rattle.std.proofs.lemmas.Bool.Decides.{nat_tests}
 use Rattle.std.specs.List.{count_by}
 use Rattle.std.specs.Str.{IsCharBoundary}
 use Rattle.std.proofs.lemmas.Str.{IsCharBoundary-start}
-use Rattle.bean_lexer.specs.Gap.{is_line_feed, gap_len, behind_gap}
+use Rattle.bean_lexer.specs.Gap.{is_line_feed, gap_len, behind_gap, place_of}
 use Rattle.bean_lexer.specs.Tokens.{IsToken}
 use Rattle.bean_lexer.proofs.BoundaryFacts.{gap_boundary}
 use Rattle.bean_lexer.proofs.TokensFacts.{IsAt, Parts, Feeds, is_behind, token_to_come}
@@ -25,6 +25,7 @@ pub invariant_of-self : goal.invariant_of-self
 invariant_of-self c =
     let lexer = c.args.self.now in
     let seen = c.as_bytes.ensures.value in
+    let same = c.as_bytes-2.ensures.value in
     let gap = c.gap_at-gap.ensures in
     let inside = gap.inside in
     let same_length = ap length seen in
@@ -42,10 +43,12 @@ invariant_of-self c =
     } in
     let count :
     Feeds lexer.rest.now c.split_at-2.result.0.now c.gap_at-gap.result.len
-    c.gap_at-gap.result.line_feeds c.line_feeds_of.result = record {
+    c.gap_at-gap.result.line_feeds c.token_at-found.result.line_feeds = record {
       of_gap = gap.line_feeds
           ∙ ap (λ l. count_by is_line_feed (take c.gap_at-gap.result.len l)) seen;
-      of_token = c.line_feeds_of.ensures ∙ ap (count_by is_line_feed) c.as_bytes-3.ensures.value;
+      of_token = c.token_at-found.ensures.feeds
+          ∙ ap (λ l. count_by is_line_feed (take c.token_at-found.result.len l)) same
+          ∙ ap (count_by is_line_feed) (sym c.split_at-2.ensures.front);
     } in
     let next =
     is_behind lexer.text.now lexer.rest.now lexer.line _ _ _ c.split_at.result.1.now
@@ -74,19 +77,22 @@ returns-clause-tokens c =
     } in
     let count :
     Feeds lexer.rest.now c.split_at-2.result.0.now c.gap_at-gap.result.len
-    c.gap_at-gap.result.line_feeds c.line_feeds_of.result = record {
+    c.gap_at-gap.result.line_feeds c.token_at-found.result.line_feeds = record {
       of_gap = gap.line_feeds
           ∙ ap (λ l. count_by is_line_feed (take c.gap_at-gap.result.len l)) seen;
-      of_token = c.line_feeds_of.ensures ∙ ap (count_by is_line_feed) c.as_bytes-3.ensures.value;
+      of_token = c.token_at-found.ensures.feeds
+          ∙ ap (λ l. count_by is_line_feed (take c.token_at-found.result.len l)) same
+          ∙ ap (count_by is_line_feed) (sym c.split_at-2.ensures.front);
     } in
     let some : 0 < length c.split_at.result.1.now = let e :
     nat_eq (length c.split_at.result.1.now) 0 ≡ false =
     sym c.is_empty.ensures ∙ c.if-is_empty.false in grind (arith, nat_tests) in
     rw c.new.ensures
-    (token_to_come lexer.text.now lexer.rest.now lexer.line _ _ _ c.gap_at-gap.result.end
+    (token_to_come lexer.text.now lexer.rest.now lexer.line _ _ _ _
     c.split_at.result.1.now _ _ _ _ c.split_at-2.result.1.now at parts count
     (gap.len ∙ ap (gap_len _) seen ∙ ap (λ s. gap_len s lexer.rest.now) c.at-spot.ensures)
-    (gap.end ∙ ap (behind_gap _) seen ∙ ap (λ s. behind_gap s lexer.rest.now) c.at-spot.ensures)
+    refl
     some (subst (λ l. IsToken l c.token_at-found.result.kind c.token_at-found.result.len) same
     c.token_at-found.ensures.token)
-    c.place.ensures)
+    (gap.place ∙ ap (λ l. place_of (behind_gap c.at-spot.result l)) seen
+    ∙ ap (λ s. place_of (behind_gap s lexer.rest.now)) c.at-spot.ensures))

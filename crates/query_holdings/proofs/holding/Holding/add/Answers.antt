@@ -12,6 +12,7 @@ use Rattle.bean_lots.specs.Slots.{positions}
 use Rattle.bean_lots.specs.declared.lot.Key.{Key}
 use Rattle.bean_lots.specs.declared.lot.Position.{Position}
 use Rattle.bean_lots.proofs.SlotFacts.{counted, held_key, written}
+use Rattle.query_holdings.proofs.KeptFacts.{same_keys, still_keys}
 use Rattle.query_holdings.proofs.holding.Holding.add.Goals as goal
 
 -- a key that is held keeps its place
@@ -67,3 +68,8 @@ returns-else-after-eq0-clause-ok c =
     kept es c.set.new.self c.args.self.now k c.in-Some.place n c.args.count _ c.set.ensures
     (omega (arith, ints, fits)) c.self.view_is (sym c.place_of.ensures.place ∙ c.in-Some.is)
     (sym c.in-Some.ensures.value ∙ c.count_at-before.ensures) some
+
+pub invariant_of-self-else-after-eq0 : goal.invariant_of-self-else-after-eq0
+invariant_of-self-else-after-eq0 c =
+    still_keys c.self.inside.keys c.self.inside.counts c.set.new.self
+    (ap keys_of c.set.ensures ∙ same_keys c.self.inside.counts c.in-Some.place _) c.self.invariant

@@ -1,0 +1,6 @@
+mod InventoryFacts
+mod WidthFacts
+pub mod Printable
+pub mod WideFacts
+pub mod Written
+pub mod OwnDecimals

@@ -1,0 +1,474 @@
+//! The texts of cells, and how wide they are.
+ghost use Rattle.std.specs.Prelude.{◌≡◌, ◌≤◌, ◌+◌, ◌++◌, ◌∷◌, OnOk, IfOk, length, replicate, true, vec_len};
+ghost use Rattle.bean_base.specs.Character.{space};
+ghost use Rattle.std.specs.Int.{is_in_range};
+ghost use Rattle.std.specs.List.{list_all};
+ghost use Rattle.std.specs.String.{string_bytes};
+ghost use Rattle.posting_table.specs.Decimals.{decimals_of};
+ghost use Rattle.number_texts.specs.Digits.{number_text};
+ghost use Rattle.cell_texts.specs.Width.{text_width};
+ghost use Rattle.cell_texts.specs.Width.{filled};
+ghost use Rattle.cell_texts.specs.CellText.{between_entries, between_members, cell_text, clean_text, set_text, units_text};
+ghost use Rattle.cell_texts.specs.CellText as spec;
+ghost use Rattle.theory.specs.Joined.{gap_before};
+
+use crate::cell::{Cell, Shown};
+use crate::decimals::own_decimals;
+use crate::inventories::{inventory_width, push_inventory};
+use crate::nears::{Nears, place_of};
+use crate::numbers::{Numbers, Told};
+use crate::plain::{is_plain, push_bytes, push_padding};
+use crate::positions::{position_width, push_position};
+use bean_base::Currency;
+use number_texts::{LastDay, number_len, push_number, push_number_right};
+use posting_table::Display;
+use query_values::TextSet;
+use std::alloc::{AllocError, Global};
+use unicode_width::UnicodeWidthStr;
+
+/// Buffers that every cell uses again.
+#[derive(Drop)]
+pub struct Scratch {
+    pub(crate) alloc: Global,
+    /// A text without control characters.
+    pub(crate) clean: String,
+    /// What a text with escapes stands for.
+    pub(crate) read: String,
+    /// A text that is only measured.
+    pub(crate) measured: Vec<u8>,
+    /// The day that was written last.
+    pub(crate) day: LastDay,
+    /// Where decimals were found last.
+    pub(crate) nears: Nears,
+    /// The numbers of inventories that were written last.
+    pub(crate) numbers: Numbers,
+}
+
+impl Scratch {
+    /// Nothing was written.
+    pub fn new(alloc: Global) -> Scratch {
+        Scratch {
+            alloc,
+            clean: String::new(alloc),
+            read: String::new(alloc),
+            measured: Vec::new(alloc),
+            day: LastDay::new(),
+            nears: Nears::new(),
+            numbers: Numbers::new(),
+        }
+    }
+}
+
+/// Whether a cell stands at the right of its column.
+pub fn is_number(cell: &Cell<'_>) -> bool
+    ensures { result ≡ spec.is_number cell.now }
+{
+    matches!(cell.shown(), Shown::Number { .. })
+}
+
+fn shown_character(c: char) -> char
+    ensures { result ≡ spec.shown_character c }
+{
+    if c.is_control() { ' ' } else { c }
+}
+
+/// How many columns of a terminal a text takes that has no control characters.
+#[tactic(auto, using(crate::proofs::Printable::width_printable))]
+pub(crate) fn width_of(text: &str) -> usize
+    ensures { result ≡ text_width text.now }
+{
+    if is_plain(text) {
+        return text.len();
+    }
+    text.width()
+}
+
+/// Adds a text with spaces in place of its control characters.
+pub(crate) fn add_clean(clean: &mut String, text: &str) -> Result<(), AllocError>
+    ensures { OnOk result (string_bytes clean.new ≡ string_bytes clean.old ++ clean_text text.now) }
+{
+    for c in text.chars() {
+        clean.push(shown_character(c))?;
+    }
+    Ok(())
+}
+
+/// A text with spaces in place of its control characters, in place of what was there. Few texts are
+/// made so: it stays out of what is done for each cell.
+#[inline(never)]
+fn make_clean(clean: &mut String, text: &str) -> Result<(), AllocError>
+    ensures { OnOk result (string_bytes clean.new ≡ clean_text text.now) }
+{
+    clean.clear();
+    add_clean(clean, text)
+}
+
+/// Adds what stands before a member of a set.
+fn add_separator(clean: &mut String, member: usize) -> Result<(), AllocError>
+    ensures { OnOk result (string_bytes clean.new
+        ≡ string_bytes clean.old ++ gap_before between_members member) }
+{
+    if member > 0 {
+        clean.push(',')?;
+    }
+    Ok(())
+}
+
+/// The text of a set, in place of what was there.
+fn make_set(clean: &mut String, set: &TextSet<'_>) -> Result<(), AllocError>
+    ensures { OnOk result (string_bytes clean.new ≡ set_text set.now) }
+{
+    clean.clear();
+    for (i, text) in set.as_slice().iter().enumerate() {
+        add_separator(clean, i)?;
+        add_clean(clean, text.text())?;
+    }
+    Ok(())
+}
+
+/// How many columns of a terminal a text takes without its control characters.
+#[inline(always)]
+pub(crate) fn clean_width(text: &str, clean: &mut String) -> Result<usize, AllocError>
+    ensures { IfOk result (λ n. n ≡ text_width (clean_text text.now)) }
+{
+    if is_plain(text) {
+        return Ok(text.len());
+    }
+    make_clean(clean, text)?;
+    Ok(clean.width())
+}
+
+/// Adds a space and a name: at once where it is of three bytes.
+#[inline(always)]
+fn push_name(out: &mut Vec<u8>, name: &[u8]) -> Result<(), AllocError>
+    ensures items { OnOk result (out.new.items ≡ out.old.items ++ space ∷ name.now) }
+    ensures len { OnOk result (vec_len out.new ≡ vec_len out.old + (1 + length name.now)) }
+{
+    if let [first, second, third] = name {
+        return out.extend_from_slice(&[b' ', *first, *second, *third]);
+    }
+    out.push(b' ')?;
+    out.extend_from_slice(name)
+}
+
+/// Adds a text without its control characters, and tells its width.
+#[inline(always)]
+fn push_clean(out: &mut Vec<u8>, text: &str, clean: &mut String) -> Result<usize, AllocError>
+    ensures text { OnOk result (out.new.items ≡ out.old.items ++ clean_text text.now) }
+    ensures width { IfOk result (λ n. n ≡ text_width (clean_text text.now)) }
+{
+    if is_plain(text) {
+        push_bytes(out, text.as_bytes())?;
+        return Ok(text.len());
+    }
+    make_clean(clean, text)?;
+    out.extend_from_slice(clean.as_bytes())?;
+    Ok(clean.width())
+}
+
+/// Adds the texts of a set, and tells their width.
+fn push_set(out: &mut Vec<u8>, set: &TextSet<'_>, clean: &mut String) -> Result<usize, AllocError>
+    ensures text { OnOk result (out.new.items ≡ out.old.items ++ set_text set.now) }
+    ensures width { IfOk result (λ n. n ≡ text_width (set_text set.now)) }
+{
+    make_set(clean, set)?;
+    out.extend_from_slice(clean.as_bytes())?;
+    Ok(width_of(clean))
+}
+
+/// How many columns of a terminal the texts of a set take.
+fn set_width(set: &TextSet<'_>, clean: &mut String) -> Result<usize, AllocError>
+    ensures { IfOk result (λ n. n ≡ text_width (set_text set.now)) }
+{
+    make_set(clean, set)?;
+    Ok(width_of(clean))
+}
+
+fn truth_text(truth: bool) -> &'static str
+    ensures { result.now ≡ spec.truth_text truth }
+{
+    if truth { "TRUE" } else { "FALSE" }
+}
+
+/// Adds a truth value, and tells its width.
+fn push_truth(out: &mut Vec<u8>, truth: bool) -> Result<usize, AllocError>
+    ensures text { OnOk result (out.new.items ≡ out.old.items ++ spec.truth_text truth) }
+    ensures width { IfOk result (λ n. n ≡ text_width (spec.truth_text truth)) }
+{
+    let text = truth_text(truth);
+    out.extend_from_slice(text.as_bytes())?;
+    Ok(text.len())
+}
+
+/// How many columns of a terminal a truth value takes.
+fn truth_width(truth: bool) -> usize
+    ensures { result ≡ text_width (spec.truth_text truth) }
+{
+    truth_text(truth).len()
+}
+
+/// Adds a number with the fewest decimals that are exact, and tells its width. Numbers stand at the
+/// right of their columns, and are added so.
+#[inline(never)]
+fn push_exact(out: &mut Vec<u8>, count: i128, places: u8) -> Result<usize, AllocError>
+    ensures text { OnOk result (out.new.items ≡ out.old.items ++ number_text count places 0) }
+    ensures width { IfOk result (λ n. n ≡ text_width (number_text count places 0)) }
+{
+    let start = out.len();
+    push_number(out, count, places, own_decimals(count, places))?;
+    Ok(out.len() - start)
+}
+
+/// Adds the number `count` · `10^-places` and a currency, and tells their width.
+#[inline(never)]
+pub(crate) fn push_units(
+    out: &mut Vec<u8>,
+    count: i128,
+    places: u8,
+    currency: &Currency<'_>,
+    display: &Display<'_>,
+    nears: &mut Nears,
+) -> Result<usize, AllocError>
+    ensures text { OnOk result (out.new.items ≡ out.old.items
+        ++ units_text (decimals_of display.now) count places currency.now) }
+    ensures width { IfOk result (λ n. n
+        ≡ text_width (units_text (decimals_of display.now) count places currency.now)) }
+    ensures printable { IfOk result (λ _. list_all (is_in_range 32 126)
+        (units_text (decimals_of display.now) count places currency.now) ≡ true) }
+{
+    let start = out.len();
+    push_number(out, count, places, nears.decimals(display, currency))?;
+    push_name(out, currency.text().as_bytes())?;
+    Ok(out.len() - start)
+}
+
+/// How many columns of a terminal a number takes that has the fewest decimals that are exact.
+#[inline(always)]
+pub(crate) fn exact_width(count: i128, places: u8) -> usize
+    ensures { result ≡ text_width (number_text count places 0) }
+{
+    number_len(count, places, own_decimals(count, places))
+}
+
+/// How many columns of a terminal the number `count` · `10^-places` and a currency take.
+#[inline(never)]
+pub(crate) fn units_width(
+    count: i128,
+    places: u8,
+    currency: &Currency<'_>,
+    display: &Display<'_>,
+    nears: &mut Nears,
+) -> usize
+    ensures width { result
+        ≡ text_width (units_text (decimals_of display.now) count places currency.now) }
+    ensures printable { list_all (is_in_range 32 126)
+        (units_text (decimals_of display.now) count places currency.now) ≡ true }
+{
+    let number = number_len(count, places, nears.decimals(display, currency));
+    number + 1 + currency.text().len()
+}
+
+/// Adds a space, a name and what stands between two entries: at once where the name is of three bytes.
+#[inline(always)]
+fn push_name_between(out: &mut Vec<u8>, name: &[u8]) -> Result<(), AllocError>
+    ensures { OnOk result (out.new.items ≡ out.old.items ++ (space ∷ name.now ++ between_entries)) }
+{
+    if let [first, second, third] = name {
+        return out.extend_from_slice(&[b' ', *first, *second, *third, b',', b' ']);
+    }
+    out.push(b' ')?;
+    out.extend_from_slice(name)?;
+    out.extend_from_slice(b", ")
+}
+
+/// Adds a number of an inventory, which most often was there in the one before, its currency, and what
+/// stands between two entries.
+pub(crate) fn push_held(
+    out: &mut Vec<u8>,
+    count: i128,
+    places: u8,
+    currency: &Currency<'_>,
+    display: &Display<'_>,
+    nears: &mut Nears,
+    numbers: &mut Numbers,
+) -> Result<(), AllocError>
+    ensures text { OnOk result (out.new.items ≡ out.old.items
+        ++ (units_text (decimals_of display.now) count places currency.now ++ between_entries)) }
+    ensures printable { IfOk result (λ _. list_all (is_in_range 32 126)
+        (units_text (decimals_of display.now) count places currency.now) ≡ true) }
+{
+    let place = place_of(currency.text());
+    let least = nears.decimals_at(place, display, currency);
+    let told = Told {
+        count,
+        places,
+        least,
+    };
+    numbers.push(out, place, told)?;
+    push_name_between(out, currency.text().as_bytes())?;
+    Ok(())
+}
+
+/// How many columns of a terminal the number of an inventory and its currency take.
+pub(crate) fn held_width(
+    count: i128,
+    places: u8,
+    currency: &Currency<'_>,
+    display: &Display<'_>,
+    nears: &mut Nears,
+    numbers: &mut Numbers,
+) -> usize
+    ensures width { result
+        ≡ text_width (units_text (decimals_of display.now) count places currency.now) }
+    ensures printable { list_all (is_in_range 32 126)
+        (units_text (decimals_of display.now) count places currency.now) ≡ true }
+{
+    let place = place_of(currency.text());
+    let least = nears.decimals_at(place, display, currency);
+    let told = Told {
+        count,
+        places,
+        least,
+    };
+    numbers.len(place, told) + 1 + currency.text().len()
+}
+
+/// How wide the text of a day is.
+const DAY_WIDTH: usize = 10;
+
+/// Adds the text of a cell, and tells how many columns of a terminal it takes.
+#[inline(always)]
+pub fn push_cell(
+    out: &mut Vec<u8>,
+    cell: &Cell<'_>,
+    scratch: &mut Scratch,
+    display: &Display<'_>,
+) -> Result<usize, AllocError>
+    ensures text { OnOk result (out.new.items ≡ out.old.items
+        ++ cell_text (decimals_of display.now) cell.now) }
+    ensures width { IfOk result (λ n. n
+        ≡ text_width (cell_text (decimals_of display.now) cell.now)) }
+{
+    match cell.shown() {
+        Shown::Null => Ok(0),
+        Shown::Truth(truth) => push_truth(out, *truth),
+        Shown::Number { places, count } => push_exact(out, *count, *places),
+        Shown::Text(text) => push_clean(out, text.text(), &mut scratch.clean),
+        Shown::Day(day) => {
+            scratch.day.push(out, *day)?;
+            Ok(DAY_WIDTH)
+        }
+        Shown::Set(set) => push_set(out, set.get(), &mut scratch.clean),
+        Shown::Amount {
+            places,
+            count,
+            currency,
+        } => push_units(
+            out,
+            *count,
+            *places,
+            currency.get(),
+            display,
+            &mut scratch.nears,
+        ),
+        Shown::Position { key, count } => push_position(out, key.get(), *count, scratch, display),
+        Shown::Inventory { places, held } => push_inventory(
+            out,
+            *places,
+            &held.lend(),
+            scratch,
+            display,
+        ),
+    }
+}
+
+/// Adds so many spaces, and a number at the right of a column that is so wide, with the fewest
+/// decimals that are exact.
+#[inline(always)]
+fn push_exact_right(
+    out: &mut Vec<u8>,
+    spaces: usize,
+    count: i128,
+    places: u8,
+    width: usize,
+) -> Result<(), AllocError>
+    ensures { OnOk result (out.new.items ≡ out.old.items ++ replicate spaces space ++ filled true width
+        (text_width (number_text count places 0)) (number_text count places 0)) }
+{
+    let least = own_decimals(count, places);
+    push_number_right(out, spaces, count, places, least, width)?;
+    Ok(())
+}
+
+/// The same of any cell: it is measured first.
+#[inline(never)]
+fn push_any_right(
+    out: &mut Vec<u8>,
+    spaces: usize,
+    cell: &Cell<'_>,
+    width: usize,
+    scratch: &mut Scratch,
+    display: &Display<'_>,
+) -> Result<(), AllocError>
+    ensures { OnOk result (out.new.items ≡ out.old.items ++ replicate spaces space ++ filled true width
+        (text_width (cell_text (decimals_of display.now) cell.now))
+        (cell_text (decimals_of display.now) cell.now)) }
+{
+    push_padding(out, spaces)?;
+    let own = cell_width(cell, scratch, display)?;
+    push_padding(out, width.saturating_sub(own))?;
+    push_cell(out, cell, scratch, display)?;
+    Ok(())
+}
+
+/// Adds so many spaces, and a cell at the right of a column that is so wide.
+#[inline(always)]
+pub fn push_right(
+    out: &mut Vec<u8>,
+    spaces: usize,
+    cell: &Cell<'_>,
+    width: usize,
+    scratch: &mut Scratch,
+    display: &Display<'_>,
+) -> Result<(), AllocError>
+    ensures { OnOk result (out.new.items ≡ out.old.items ++ replicate spaces space ++ filled true width
+        (text_width (cell_text (decimals_of display.now) cell.now))
+        (cell_text (decimals_of display.now) cell.now)) }
+{
+    if let Shown::Number { places, count } = cell.shown() {
+        return push_exact_right(out, spaces, *count, *places, width);
+    }
+    push_any_right(out, spaces, cell, width, scratch, display)
+}
+
+/// How many columns of a terminal the text of a cell takes.
+#[inline(always)]
+pub fn cell_width(
+    cell: &Cell<'_>,
+    scratch: &mut Scratch,
+    display: &Display<'_>,
+) -> Result<usize, AllocError>
+    ensures { IfOk result (λ n. n
+        ≡ text_width (cell_text (decimals_of display.now) cell.now)) }
+{
+    match cell.shown() {
+        Shown::Null => Ok(0),
+        Shown::Truth(truth) => Ok(truth_width(*truth)),
+        Shown::Number { places, count } => Ok(exact_width(*count, *places)),
+        Shown::Text(text) => clean_width(text.text(), &mut scratch.clean),
+        Shown::Day(_) => Ok(DAY_WIDTH),
+        Shown::Set(set) => set_width(set.get(), &mut scratch.clean),
+        Shown::Amount {
+            places,
+            count,
+            currency,
+        } => Ok(units_width(*count, *places, currency.get(), display, &mut scratch.nears)),
+        Shown::Position { key, count } => position_width(key.get(), *count, scratch, display),
+        Shown::Inventory { places, held } => inventory_width(
+            *places,
+            &held.lend(),
+            scratch,
+            display,
+        ),
+    }
+}
