@@ -6,6 +6,8 @@ generate.py --unlisted POSTINGS SEED      the same, but each transaction is of a
                                           and then left out, so that `list` has no row to print
 generate.py --missing POSTINGS SEED       the same, but the last posting of each transaction has no
                                           amount, which booking fills in
+generate.py --short POSTINGS SEED         so many postings in short lines, eight a transaction, so that four
+                                          million of them fit in what a ledger's texts may have together
 generate.py --opens BYTES SEED            about so many bytes of `open` lines, which give no row either
 generate.py --lots POSTINGS SEED          about so many postings, with lots, prices and metadata, and
                                           every other kind of directive between them
@@ -16,7 +18,7 @@ generate.py --hoard ACCOUNTS --lifo LOTS SEED   the same, the latest first
 
 Booked, they have no fault, but for the days of `--unlisted`.
 
-With `--files N FOLDER` before these words, a plain ledger (`--missing` or not) or one of `--hoard` stands in N
+With `--files N FOLDER` before these words, a plain ledger (`--missing`, `--short` or not) or one of `--hoard` stands in N
 files of that folder: main.beancount has the first of its blocks and includes the others at its end, so that
 the blocks are read in the same order.
 """
@@ -24,6 +26,7 @@ import argparse
 import datetime
 import pathlib
 import random
+import string
 import sys
 
 import lots
@@ -111,6 +114,21 @@ def ledger(postings, seed, unlisted, missing):
         done += size
 
 
+def short_transaction(day, size, names, pick):
+    counts = [pick.randint(1, 9) for _ in range(size - 1)]
+    lines = [f" {pick.choice(names)} {count} X\n" for count in [*counts, -sum(counts)]]
+    return f"{day} *\n" + "".join(lines)
+
+
+def short_ledger(postings, seed):
+    pick = random.Random(seed)
+    names = [f"Assets:{sign}" for sign in string.ascii_uppercase + string.digits]
+    yield opens(names, FIRST_DAY)
+    for done in range(0, postings, 8):
+        day = FIRST_DAY + datetime.timedelta(days=done * DAYS // postings)
+        yield short_transaction(day, min(8, postings - done), names, pick)
+
+
 def write_files(blocks, count, folder):
     """Writes blocks to so many files of about as many blocks each; the first includes the others."""
     folder.mkdir(parents=True, exist_ok=True)
@@ -136,23 +154,24 @@ def main():
     words.add_argument("size", type=int, metavar="POSTINGS|BYTES|LOTS")
     words.add_argument("seed", type=int)
     kinds = words.add_mutually_exclusive_group()
-    for kind in ["--unlisted", "--missing", "--opens", "--lots", "--lots-dense"]:
+    for kind in ["--unlisted", "--missing", "--short", "--opens", "--lots", "--lots-dense"]:
         kinds.add_argument(kind, action="store_true")
     kinds.add_argument("--hoard", type=int, metavar="ACCOUNTS")
     words.add_argument("--lifo", action="store_true")
     words.add_argument("--files", nargs=2, metavar=("N", "FOLDER"))
     given = words.parse_args()
     hoard = given.hoard and lots.hoard(given.hoard, given.size, "LIFO" if given.lifo else "FIFO")
+    short = given.short and short_ledger(given.size, given.seed)
     if given.files:
         count, folder = given.files
-        blocks = hoard or ledger(given.size, given.seed, given.unlisted, given.missing)
+        blocks = hoard or short or ledger(given.size, given.seed, given.unlisted, given.missing)
         write_files(list(blocks), int(count), pathlib.Path(folder))
     elif given.opens:
         sys.stdout.writelines(only_opens(given.size, given.seed))
     elif given.lots or given.lots_dense:
         sys.stdout.writelines(lots.ledger(given.size, random.Random(given.seed), given.lots_dense))
-    elif hoard:
-        sys.stdout.writelines(hoard)
+    elif hoard or short:
+        sys.stdout.writelines(hoard or short)
     else:
         sys.stdout.writelines(ledger(given.size, given.seed, given.unlisted, given.missing))
 
