@@ -26,7 +26,6 @@ use std::marker::Model;
 /// row itself.
 #[derive(Drop)]
 pub struct HeldRow<'a> {
-    count: i128,
     account: Account<'a>,
     entry: Shared<Entry<'a>>,
     key: Shared<HeldKey<'a>>,
@@ -44,15 +43,15 @@ impl<'a> Model for HeldRow<'a> {
     ghost view = { λ h. record {
       entry = h.entry;
       account = h.account;
-      position = record { key = h.key; count = h.count };
-      weight = weight_in h.key.currency h.count h.beside.weight;
+      position = record { key = h.key; count = h.beside.count };
+      weight = weight_in h.key.currency h.beside.count h.beside.weight;
       price = h.beside.price;
       metadata = h.beside.metadata;
       line = h.beside.line;
       flag = h.beside.flag;
     } };
 
-    ghost invariant = { λ h. unsigned_abs h.count < 10 ^ 20 };
+    ghost invariant = { λ h. unsigned_abs h.beside.count < 10 ^ 20 };
 }
 
 /// How much so many units weigh by themselves.
@@ -108,6 +107,7 @@ impl<'a> HeldRow<'a> {
     {
         let position = row.position;
         let beside = BesideParts {
+            count: position.count,
             weight: weight_beside(&position, row.weight),
             price: row.price,
             metadata: row.metadata,
@@ -115,7 +115,6 @@ impl<'a> HeldRow<'a> {
             flag: row.flag,
         };
         Ok(HeldRow {
-            count: position.count,
             account: row.account,
             entry: row.entry,
             key: keys.held(alloc, position.key)?,
@@ -133,11 +132,10 @@ impl<'a> HeldRow<'a> {
         ensures { IfOk result (λ held. held ≡ plain.row_of row.entry) }
     {
         Ok(HeldRow {
-            count: row.count,
             account: row.account,
             entry: row.entry,
             key: keys.plain(alloc, row.currency)?,
-            beside: Beside::line_alone(row.line),
+            beside: Beside::plain(alloc, row.count, row.line)?,
         })
     }
 
@@ -187,7 +185,7 @@ impl<'a> HeldRow<'a> {
     pub fn count(&self) -> i128
         ensures { result ≡ self.now.position.count }
     {
-        self.count
+        self.beside.count()
     }
 
     /// What its units are held as.
@@ -203,7 +201,7 @@ impl<'a> HeldRow<'a> {
     {
         match self.beside.weight() {
             Some(weight) => weight.count,
-            None => weight_by_itself(self.count),
+            None => weight_by_itself(self.count()),
         }
     }
 
@@ -242,7 +240,7 @@ impl<'a> HeldRow<'a> {
             Column::PostingFlag => flag_or_null(self.beside.flag()),
             Column::Number => Value::Number {
                 places: 8,
-                count: self.count,
+                count: self.count(),
             },
             Column::Currency => Value::Text(Slice::new(self.key().currency.text())),
             Column::CostNumber | Column::CostCurrency | Column::CostDate => {
@@ -251,7 +249,7 @@ impl<'a> HeldRow<'a> {
             Column::CostLabel => self.key.get().label_cell(),
             Column::Position => Value::Position {
                 key: Lent::new(self.key()),
-                count: self.count,
+                count: self.count(),
             },
             Column::Weight => self.weight_cell(),
             Column::Balance => Value::Null,
