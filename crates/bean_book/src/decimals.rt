@@ -7,7 +7,7 @@ ghost use Rattle.bean_book.specs.Booked.{decimals_from};
 ghost use Rattle.bean_book.specs.Rows.{written_in};
 
 use bean_base::Amount;
-use bean_postings::{Posting, Units};
+use bean_postings::{Units, WrittenPosting};
 use posting_table::Ledger;
 use std::alloc::AllocError;
 
@@ -36,14 +36,14 @@ fn note_amount<'a>(
 fn note_posting<'a>(
     ledger: &mut Ledger<'a>,
     near: &mut usize,
-    posting: &Posting<'a>,
+    posting: &WrittenPosting<'a>,
 ) -> Result<(), AllocError>
     ensures decimals { OnOk result ((name : List ℕ) → decimals_of ledger.new.decimals name
         ≡ decimals_from (decimals_of ledger.old.decimals name) name (written_in posting.now)) }
     ensures rows { OnOk result (ledger.new.rows ≡ ledger.old.rows) }
 {
-    match &posting.units {
-        Units::Amount(units) => note_amount(ledger, near, &units.lend()),
+    match posting.units() {
+        Units::Amount(units) => note_amount(ledger, near, &units),
         _ => Ok(()),
     }
 }
@@ -53,7 +53,7 @@ fn note_posting<'a>(
 pub(crate) fn note_written<'a>(
     ledger: &mut Ledger<'a>,
     near: &mut usize,
-    postings: &[Posting<'a>],
+    postings: &[WrittenPosting<'a>],
 ) -> Result<(), AllocError>
     ensures decimals { OnOk result ((name : List ℕ) → decimals_of ledger.new.decimals name
         ≡ decimals_from (decimals_of ledger.old.decimals name) name

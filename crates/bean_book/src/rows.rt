@@ -16,7 +16,7 @@ use crate::metadata::metadata_of;
 use bean_base::Amount;
 use bean_holdings::Posted;
 use bean_lots::{Key, Position};
-use bean_postings::{Posting, Price};
+use bean_postings::{Price, WrittenPosting};
 use bean_replay::Kept;
 use bean_transactions::whole;
 use posting_table::{Entry, Ledger, Metadata, PlainRow, Row, Shared, Weight};
@@ -33,7 +33,7 @@ struct Noted<'a> {
 /// The metadata of the written posting of that number: none where there is no such posting.
 fn noted_at<'a>(
     alloc: Global,
-    postings: &[Posting<'a>],
+    postings: &[WrittenPosting<'a>],
     written: usize,
 ) -> Result<Noted<'a>, AllocError>
     ensures number { IfOk result (λ noted. noted.written ≡ written) }
@@ -41,14 +41,14 @@ fn noted_at<'a>(
         ≡ spec.items_in (slice_get postings.now written)) }
 {
     let metadata = match postings.get(written) {
-        Some(posting) => metadata_of(alloc, posting.details.metadata())?,
+        Some(posting) => metadata_of(alloc, posting.metadata())?,
         None => Metadata::empty(),
     };
     Ok(Noted { written, metadata })
 }
 
 /// Before any metadata is looked at: that of the posting behind the last, which isn't there.
-fn noted_nowhere<'a>(postings: &[Posting<'a>]) -> Noted<'a>
+fn noted_nowhere<'a>(postings: &[WrittenPosting<'a>]) -> Noted<'a>
     ensures { result.metadata ≡ spec.items_in (slice_get postings.now result.written) }
 {
     Noted {
@@ -60,7 +60,7 @@ fn noted_nowhere<'a>(postings: &[Posting<'a>]) -> Noted<'a>
 /// Goes on to the metadata of the written posting of that number, which most often is at hand.
 fn go_on<'a>(
     alloc: Global,
-    postings: &[Posting<'a>],
+    postings: &[WrittenPosting<'a>],
     noted: &mut Noted<'a>,
     written: usize,
 ) -> Result<(), AllocError>
@@ -77,7 +77,7 @@ fn go_on<'a>(
 }
 
 /// What a booked posting weighs.
-fn weight_of<'a>(postings: &[Posting<'a>], posted: &Posted<'a>) -> Weight<'a>
+fn weight_of<'a>(postings: &[WrittenPosting<'a>], posted: &Posted<'a>) -> Weight<'a>
     requires { IsLight (booked_leg postings.now posted.now) }
     ensures { result
         ≡ spec.weight_by (whole_at (slice_get postings.now posted.now.written) posted.now) }
@@ -105,20 +105,20 @@ fn position_of<'a>(posted: &Posted<'a>) -> Position<'a>
 }
 
 /// What a unit of a written posting is priced at.
-fn price_of<'a>(written: &Posting<'a>) -> Option<Amount<'a>>
+fn price_of<'a>(written: &WrittenPosting<'a>) -> Option<Amount<'a>>
     ensures { result ≡ spec.unit_price written.now.details.price }
 {
-    match &written.details.get()?.price {
+    match &written.details()?.price {
         Price::PerUnit(price) => Some(price.get().lend()),
         _ => None,
     }
 }
 
 /// Whether a posting has nothing of its own but what it adds to its account.
-fn is_plain(written: &Posting<'_>, posted: &Posted<'_>) -> bool
+fn is_plain(written: &WrittenPosting<'_>, posted: &Posted<'_>) -> bool
     ensures { IsTrue result → IsPlain written.now posted.now }
 {
-    match written.details.get() {
+    match written.details() {
         Some(_) => false,
         None => posted.lot.is_none(),
     }
@@ -127,7 +127,7 @@ fn is_plain(written: &Posting<'_>, posted: &Posted<'_>) -> bool
 /// The row of a booked posting that has nothing of its own but what it adds to its account.
 fn plain_row<'a>(
     entry: &Shared<Entry<'a>>,
-    postings: &[Posting<'a>],
+    postings: &[WrittenPosting<'a>],
     posted: &Posted<'a>,
 ) -> Result<Option<PlainRow<'a>>, AllocError>
     ensures { IfOk result (λ found. IfSome found (λ row. (line : ℕ) → plain.row_of row
@@ -144,7 +144,7 @@ fn plain_row<'a>(
         account: posted.account.lend(),
         currency: posted.units.currency.lend(),
         count: posted.units.number.scaled(8),
-        line: written.details.line(),
+        line: written.line(),
     }))
 }
 
@@ -152,7 +152,7 @@ fn plain_row<'a>(
 fn row_of<'a>(
     entry: &Shared<Entry<'a>>,
     line: usize,
-    postings: &[Posting<'a>],
+    postings: &[WrittenPosting<'a>],
     metadata: Metadata<'a>,
     posted: &Posted<'a>,
 ) -> Result<Row<'a>, AllocError>
@@ -163,11 +163,7 @@ fn row_of<'a>(
         ≡ spec.row_of entry.now line postings.now posted.now) }
 {
     let (line, flag, price) = match postings.get(posted.written) {
-        Some(written) => (
-            written.details.line(),
-            written.details.flag(),
-            price_of(written),
-        ),
+        Some(written) => (written.line(), written.flag(), price_of(written)),
         None => (line, None, None),
     };
     Ok(Row {
@@ -190,7 +186,7 @@ fn push_full<'a>(
     ledger: &mut Ledger<'a>,
     entry: &Shared<Entry<'a>>,
     line: usize,
-    postings: &[Posting<'a>],
+    postings: &[WrittenPosting<'a>],
     noted: &mut Noted<'a>,
     posted: &Posted<'a>,
 ) -> Result<(), AllocError>

@@ -10,7 +10,7 @@ use bean_grammar::literal::text_if_due;
 use bean_grammar::mark::marks;
 use bean_grammar::{Mark, Ranged};
 use bean_lexer::Token;
-use bean_postings::Posting;
+use bean_postings::WrittenPosting;
 use std::alloc::{AllocError, Global};
 
 /// A change of accounts.
@@ -23,7 +23,7 @@ pub struct Transaction<'a> {
     /// Its tags and links in the order in which they are written, then the tags that are pushed to
     /// it. A mark may stand twice.
     pub marks: Few<Mark<'a>>,
-    pub postings: List<Posting<'a>>,
+    pub postings: List<WrittenPosting<'a>>,
 }
 
 /// The payee and the narration of a transaction.

@@ -20,7 +20,7 @@ use bean_directives::undated::undated_line;
 use bean_directives::{Directive, DirectiveKind, Transaction, Undated};
 use bean_grammar::{Mark, Ranged};
 use bean_lexer::{Kind, Sign, Token};
-use bean_postings::Posting;
+use bean_postings::WrittenPosting;
 use std::alloc::{AllocError, Global};
 
 /// What a block gives.
@@ -64,7 +64,10 @@ fn takes_postings(kind: &Ranged<DirectiveKind<'_>>) -> bool
 
 /// The kind, with the postings that stand under it.
 #[inline(always)]
-fn with_postings<'a>(kind: DirectiveKind<'a>, postings: List<Posting<'a>>) -> DirectiveKind<'a>
+fn with_postings<'a>(
+    kind: DirectiveKind<'a>,
+    postings: List<WrittenPosting<'a>>,
+) -> DirectiveKind<'a>
     ensures { result ≡ rule.with_body kind.entry [] postings.entry }
 {
     match kind.into_transaction() {
@@ -136,7 +139,7 @@ fn plainly_dated<'a>(
     line: usize,
     day: Ranged<Day>,
     kind: Ranged<DirectiveKind<'a>>,
-    postings: List<Posting<'a>>,
+    postings: List<WrittenPosting<'a>>,
 ) -> Ranged<Statement<'a>>
     ensures { result ≡ rule.dated line day kind.entry
         (with_lines no_lines (map said_posting postings.entry)) }

@@ -17,7 +17,7 @@ use bean_grammar::front::{after_key, after_link, after_tag, next};
 use bean_grammar::mark::line_of_marks;
 use bean_grammar::{Mark, MetaEntry, Ranged};
 use bean_lexer::{Kind, Token};
-use bean_postings::Posting;
+use bean_postings::WrittenPosting;
 use bean_postings::posting_line::{plain_posting, posting};
 use std::alloc::{AllocError, Global};
 
@@ -26,7 +26,7 @@ use std::alloc::{AllocError, Global};
 pub enum LineKind<'a> {
     Entry(Ranged<MetaEntry<'a>>),
     Marks(List<Mark<'a>>),
-    Posting(Ranged<Posting<'a>>),
+    Posting(Ranged<WrittenPosting<'a>>),
 }
 
 /// What lines say.
@@ -36,8 +36,8 @@ pub struct Body<'a> {
     pub metadata: Few<MetaEntry<'a>>,
     pub marks: List<Mark<'a>>,
     /// The postings but the last.
-    pub before: List<Posting<'a>>,
-    pub last: Option<Posting<'a>>,
+    pub before: List<WrittenPosting<'a>>,
+    pub last: Option<WrittenPosting<'a>>,
     /// Whether all of it is in the range of a ledger.
     pub is_in_range: bool,
 }
@@ -114,7 +114,7 @@ fn line_kind<'a>(
 
 impl<'a> Body<'a> {
     /// What lines say of which no one says anything but postings.
-    pub(crate) fn of_postings(alloc: Global, postings: Vec<Posting<'a>>) -> Body<'a>
+    pub(crate) fn of_postings(alloc: Global, postings: Vec<WrittenPosting<'a>>) -> Body<'a>
         ensures { result ≡ with_lines rule.no_lines (map rule.said_posting postings.entry.items) }
     {
         let mut before = postings;
@@ -133,13 +133,13 @@ impl<'a> Body<'a> {
         ensures { OnOk result (self.new ≡ rule.with_entry self.old self.old.last entry.entry) }
     {
         match &mut self.last {
-            Some(posting) => posting.details.push(alloc, entry),
+            Some(posting) => posting.push(alloc, entry),
             None => self.metadata.push(alloc, entry),
         }
     }
 
     /// Adds a posting.
-    fn add_posting(&mut self, posting: Posting<'a>) -> Result<(), AllocError>
+    fn add_posting(&mut self, posting: WrittenPosting<'a>) -> Result<(), AllocError>
         ensures { OnOk result (self.new ≡ rule.with_posting self.old posting.entry) }
     {
         if let Some(previous) = self.last.replace(posting) {
@@ -179,9 +179,9 @@ fn most_postings(under: &[Token<'_>]) -> usize {
 
 /// All postings.
 pub fn all_postings<'a>(
-    before: List<Posting<'a>>,
-    last: Option<Posting<'a>>,
-) -> Result<List<Posting<'a>>, AllocError>
+    before: List<WrittenPosting<'a>>,
+    last: Option<WrittenPosting<'a>>,
+) -> Result<List<WrittenPosting<'a>>, AllocError>
     ensures { IfOk result (λ all. all ≡ rule.all_before before.entry last.entry) }
 {
     let mut all = before;
@@ -197,7 +197,7 @@ pub fn all_postings<'a>(
 pub fn plain_lines<'t, 'a>(
     alloc: Global,
     under: &'t [Token<'a>],
-) -> Result<(Vec<Posting<'a>>, &'t [Token<'a>]), AllocError>
+) -> Result<(Vec<WrittenPosting<'a>>, &'t [Token<'a>]), AllocError>
     ensures { IfOk result (λ r. InLines true (lines under.now) (lines r.1.now)
         (with_lines rule.no_lines (map rule.said_posting r.0.items))) }
 {

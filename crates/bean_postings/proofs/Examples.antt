@@ -7,7 +7,6 @@ use Rattle.bean_postings.specs.declared.posting.Units.TheVariants as units_kind
 use Rattle.bean_postings.specs.declared.price.Price.TheVariants as price_kind
 use Rattle.bean_postings.specs.Cost.{cost_of}
 use Rattle.bean_postings.specs.CostPart.{no_parts, number_part_of, put}
-use Rattle.bean_grammar.specs.Exact.{written}
 use Rattle.bean_postings.specs.Details.{on_line}
 use Rattle.bean_postings.specs.Posting.{is_outside_profile, posting_of, units_of}
 use Rattle.bean_postings.specs.Price.{price_of}

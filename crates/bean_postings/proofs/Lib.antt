@@ -1,7 +1,7 @@
 pub mod PriceFacts
-mod WrittenAmountFacts
 pub mod CostPartFacts
 pub mod CostFacts
 pub mod PostingFacts
+pub mod WrittenPostingFacts
 pub mod PlainFacts
 mod Examples

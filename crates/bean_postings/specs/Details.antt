@@ -4,8 +4,6 @@ use Rattle.bean_base.specs.declared.flags.Flag as flags
 use Rattle.bean_postings.specs.declared.cost.Cost as costs
 use Rattle.bean_postings.specs.declared.cost.Cost.TheVariants as cost_kind
 use Rattle.bean_postings.specs.declared.details.DetailParts.{DetailParts}
-use Rattle.bean_postings.specs.declared.details.Kept.{Kept}
-use Rattle.bean_postings.specs.declared.details.Kept.TheVariants as kept
 use Rattle.bean_grammar.specs.declared.metadata.MetaEntry.{MetaEntry}
 use Rattle.bean_postings.specs.declared.price.Price as prices
 use Rattle.bean_postings.specs.declared.price.Price.TheVariants as price_kind
@@ -15,10 +13,9 @@ abbrev pub on_line : ℕ → Option flags.Flag → costs.Cost → prices.Price �
 on_line line flag cost price =
     record { cost = cost; price = price; metadata = []; line = line; flag = flag }
 
--- the details that are kept
-abbrev pub parts_of : Kept → DetailParts
-parts_of (kept.Line line) = on_line line None cost_kind.Absent price_kind.Absent
-parts_of (kept.Parts parts) = parts
+-- a line that has nothing but its number
+abbrev pub alone : ℕ → DetailParts
+alone line = on_line line None cost_kind.Absent price_kind.Absent
 
 -- nothing but the line
 pub record IsLineAlone (d : DetailParts) : Type 0 where

@@ -2,5 +2,5 @@ pub mod CostPart
 pub mod Cost
 pub mod Price
 pub mod Details
-pub mod WrittenAmount
 pub mod Posting
+pub mod WrittenPosting

@@ -1,7 +1,7 @@
 -- Postings.
 --
 -- posting = ["*"|"!"] account [expression] [currency] [cost] [price]
-use Rattle.std.specs.Prelude.{ℕ, Bool, true, false, ◌&&◌, ◌||◌, not, List, [], ◌∷◌, Option, Some}
+use Rattle.std.specs.Prelude.{ℕ, Bool, true, false, ◌&&◌, ◌||◌, not, List, ◌∷◌, Option, Some}
 use Rattle.std.specs.Prelude.{None}
 use Rattle.theory.specs.Form.{Form, word, made, ◌<+>◌, due}
 use Rattle.bean_base.specs.declared.flags.Flag as flags
@@ -22,6 +22,7 @@ use Rattle.bean_grammar.specs.declared.ranged.Ranged.TheVariants.{Within}
 use Rattle.bean_grammar.specs.Amount.{amount_parts}
 use Rattle.bean_postings.specs.Cost.{cost_if_due}
 use Rattle.bean_postings.specs.Details.{on_line}
+use Rattle.bean_postings.specs.declared.details.DetailParts.{DetailParts}
 use Rattle.bean_grammar.specs.Lexeme.{Lexeme, Account, Sign}
 use Rattle.bean_postings.specs.Price.{price_if_due}
 use Rattle.bean_grammar.specs.Ranged.{ranged_map, ranged_map3}
@@ -91,8 +92,11 @@ is_written c p = true
 
 -- a number without a currency, a cost or a price outside the profile, and units without a number
 -- before a cost or a price
+abbrev pub are_outside_profile : units_declared.Units → DetailParts → Bool
+are_outside_profile units details =
+    is_number_alone units
+    || (is_left_out details.cost details.price
+    || (not (has_number units) && is_written details.cost details.price))
+
 abbrev pub is_outside_profile : postings.Posting → Bool
-is_outside_profile p =
-    is_number_alone p.units
-    || (is_left_out p.details.cost p.details.price
-    || (not (has_number p.units) && is_written p.details.cost p.details.price))
+is_outside_profile p = are_outside_profile p.units p.details

@@ -16,8 +16,9 @@
 //!
 //! # Cost
 //!
-//! Linear in the tokens. A posting has its line at hand and its flag, cost, price and metadata
-//! apart, where it has any ([`Details`]): these, a lot and a price take memory.
+//! Linear in the tokens. A posting has its amount and its line at hand, and lies apart where it has a
+//! flag, a cost, a price, metadata or a number that is seldom as large ([`WrittenPosting`]): these, a lot
+//! and a price take memory.
 #![tactic(auto)]
 
 mod cost;
@@ -27,10 +28,10 @@ mod grammar;
 mod posting;
 pub mod posting_line;
 mod price;
-mod written_amount;
+mod written_posting;
 
 pub use cost::{Cost, LotParts};
-pub use details::{DetailParts, Details};
+pub use details::DetailParts;
 pub use posting::{Posting, Units};
 pub use price::Price;
-pub use written_amount::WrittenAmount;
+pub use written_posting::WrittenPosting;

@@ -3,10 +3,9 @@ ghost use Rattle.std.specs.Prelude.{◌≡◌};
 ghost use Rattle.bean_postings.specs.Posting as rule;
 
 use crate::cost::Cost;
-use crate::details::Details;
+use crate::details::DetailParts;
 use crate::price::Price;
-use crate::written_amount::WrittenAmount;
-use bean_base::{Account, Currency};
+use bean_base::{Account, Amount, Currency};
 
 /// What a posting adds to its account, as far as it is written.
 #[derive(Drop)]
@@ -14,9 +13,23 @@ pub enum Units<'a> {
     Missing,
     /// A currency without a number.
     Currency(Currency<'a>),
-    Amount(WrittenAmount<'a>),
+    Amount(Amount<'a>),
     /// A number without a currency, which is outside the profile.
     NumberAlone,
+}
+
+impl<'a> Units<'a> {
+    /// The same units once more.
+    pub fn lend(&self) -> Units<'a>
+        ensures { result ≡ self.now }
+    {
+        match self {
+            Units::Missing => Units::Missing,
+            Units::Currency(currency) => Units::Currency(currency.lend()),
+            Units::Amount(amount) => Units::Amount(amount.lend()),
+            Units::NumberAlone => Units::NumberAlone,
+        }
+    }
 }
 
 /// A line of a transaction that changes an account.
@@ -25,26 +38,22 @@ pub struct Posting<'a> {
     pub units: Units<'a>,
     pub account: Account<'a>,
     /// Its line, its flag, its cost, its price and the entries that stand under it.
-    pub details: Details<'a>,
+    pub details: DetailParts<'a>,
 }
 
-impl Posting<'_> {
-    /// Whether the books have no such posting: its units are a number without a currency, or have
-    /// no number before a cost or a price, or its cost or its price is outside the profile.
-    pub fn is_outside_profile(&self) -> bool
-        ensures { result ≡ rule.is_outside_profile self.now }
-    {
-        let Some(parts) = self.details.get() else {
-            return matches!(self.units, Units::NumberAlone);
-        };
-        let is_left_out = matches!(parts.cost, Cost::OutsideProfile)
-            || matches!(parts.price, Price::OutsideProfile);
-        let is_written = !matches!(parts.cost, Cost::Absent)
-            || !matches!(parts.price, Price::Absent);
-        match self.units {
-            Units::NumberAlone => true,
-            Units::Amount(_) => is_left_out,
-            Units::Missing | Units::Currency(_) => is_left_out || is_written,
-        }
+/// Whether the books have no posting of these units with these details: the units are a number without
+/// a currency, or have no number before a cost or a price, or the cost or the price is outside the
+/// profile.
+pub(crate) fn are_outside_profile(units: &Units<'_>, details: &DetailParts<'_>) -> bool
+    ensures { result ≡ rule.are_outside_profile units.now details.now }
+{
+    let is_left_out = matches!(details.cost, Cost::OutsideProfile)
+        || matches!(details.price, Price::OutsideProfile);
+    let is_written =
+        !matches!(details.cost, Cost::Absent) || !matches!(details.price, Price::Absent);
+    match units {
+        Units::NumberAlone => true,
+        Units::Amount(_) => is_left_out,
+        Units::Missing | Units::Currency(_) => is_left_out || is_written,
     }
 }

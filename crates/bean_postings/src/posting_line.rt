@@ -9,11 +9,11 @@ ghost use Rattle.bean_postings.specs.declared.cost.Cost.TheVariants as costs;
 ghost use Rattle.bean_postings.specs.declared.price.Price.TheVariants as prices;
 
 use crate::cost::{Cost, cost_if_due};
-use crate::details::Details;
+use crate::details::DetailParts;
 use crate::posting::{Posting, Units};
 use crate::price::{Price, price_if_due};
-use crate::written_amount::WrittenAmount;
-use bean_base::{Account, Currency, Flag, Num};
+use crate::written_posting::WrittenPosting;
+use bean_base::{Account, Amount, Currency, Few, Flag, Num};
 use bean_grammar::amount::amount_parts;
 use bean_grammar::front::{after_account, after_currency, next};
 use bean_grammar::{AmountParts, Ranged, expression};
@@ -53,7 +53,7 @@ fn units_of<'a>(parts: AmountParts<'a>) -> Ranged<Units<'a>>
         (Some(Ranged::Outside), _) => Ranged::Outside,
         (Some(Ranged::Within(_)), None) => Ranged::Within(Units::NumberAlone),
         (Some(Ranged::Within(number)), Some(currency)) => {
-            Ranged::Within(Units::Amount(WrittenAmount::new(number, currency)))
+            Ranged::Within(Units::Amount(Amount { number, currency }))
         }
     }
 }
@@ -67,6 +67,33 @@ fn units<'t, 'a>(tokens: &'t [Token<'a>]) -> Option<(Ranged<Units<'a>>, &'t [Tok
     Some((units_of(parts), rest))
 }
 
+/// A posting that needs no memory: it has nothing beside its account, its units and its line.
+fn few_of<'a>(
+    line: usize,
+    flag: Option<Flag>,
+    account: &Account<'a>,
+    units: &Units<'a>,
+    cost: &Cost<'a>,
+    price: &Price<'a>,
+) -> Option<WrittenPosting<'a>>
+    ensures { IfSome result (λ p. Within p ≡ rule.posting_of line flag account.now
+        (Within units.now) (Within cost.now) (Within price.now)) }
+{
+    let (None, Cost::Absent, Price::Absent) = (flag, cost, price) else {
+        return None;
+    };
+    match units {
+        Units::Amount(amount) => WrittenPosting::of_amount(
+            line,
+            account.lend(),
+            amount.number,
+            amount.currency.lend(),
+        ),
+        Units::Missing => WrittenPosting::without_amount(line, account.lend()),
+        Units::Currency(_) | Units::NumberAlone => None,
+    }
+}
+
 fn posting_of<'a>(
     alloc: Global,
     line: usize,
@@ -75,7 +102,7 @@ fn posting_of<'a>(
     units: Ranged<Units<'a>>,
     cost: Ranged<Cost<'a>>,
     price: Ranged<Price<'a>>,
-) -> Result<Ranged<Posting<'a>>, AllocError>
+) -> Result<Ranged<WrittenPosting<'a>>, AllocError>
     ensures { IfOk result (λ p. p
         ≡ rule.posting_of line flag account.entry units.entry cost.entry price.entry) }
 {
@@ -83,11 +110,21 @@ fn posting_of<'a>(
     else {
         return Ok(Ranged::Outside);
     };
-    Ok(Ranged::Within(Posting {
+    if let Some(few) = few_of(line, flag, &account, &units, &cost, &price) {
+        return Ok(Ranged::Within(few));
+    }
+    let posting = Posting {
         units,
         account,
-        details: Details::of(alloc, line, flag, cost, price)?,
-    }))
+        details: DetailParts {
+            cost,
+            price,
+            metadata: Few::new(),
+            line,
+            flag,
+        },
+    };
+    Ok(Ranged::Within(WrittenPosting::whole(alloc, posting)?))
 }
 
 /// The flag, the account and the units at the front, and what stands behind them.
@@ -111,58 +148,58 @@ fn posted<'t, 'a>(
     Some((flag, account, units, rest))
 }
 
-/// The posting on a line that has an account, a number and a currency, and nothing else.
+/// The posting on a line that has an account, a number and a currency, and nothing else; none where it
+/// isn't small enough to be kept without memory.
 #[inline(always)]
 fn plainly<'a>(
     line: usize,
     account: Account<'a>,
     number: Ranged<Num>,
     currency: Currency<'a>,
-) -> Ranged<Posting<'a>>
-    ensures { result ≡ rule.posting_of line None account.entry
+) -> Option<Ranged<WrittenPosting<'a>>>
+    ensures { IfSome result (λ p. p ≡ rule.posting_of line None account.entry
         (rule.units_by (Some number) (Some currency.entry)) (Within costs.Absent)
-        (Within prices.Absent) }
+        (Within prices.Absent)) }
 {
     match number {
-        Ranged::Within(number) => Ranged::Within(Posting {
-            units: Units::Amount(WrittenAmount::new(number, currency)),
-            account,
-            details: Details::alone(line),
-        }),
-        Ranged::Outside => Ranged::Outside,
+        Ranged::Within(number) => {
+            let posting = WrittenPosting::of_amount(line, account, number, currency)?;
+            Some(Ranged::Within(posting))
+        }
+        Ranged::Outside => Some(Ranged::Outside),
     }
 }
 
 /// The posting that a line is which has an account, and a number, alone or behind a sign, with a
 /// currency, or neither. Nearly every posting is one of these, and they are read without a look at
-/// what others may have.
+/// what others may have, and without memory.
 #[inline(always)]
-pub fn plain_posting<'a>(line: usize, tokens: &[Token<'a>]) -> Option<Ranged<Posting<'a>>>
+pub fn plain_posting<'a>(
+    line: usize,
+    tokens: &[Token<'a>],
+) -> Option<Ranged<WrittenPosting<'a>>>
     ensures { IfSome result (Is (rule.posting line) (lexemes tokens.now)) }
 {
     let (account, rest) = after_account(tokens)?;
     let Some(_) = next(rest) else {
-        return Some(Ranged::Within(Posting {
-            units: Units::Missing,
-            account,
-            details: Details::alone(line),
-        }));
+        let posting = WrittenPosting::without_amount(line, account)?;
+        return Some(Ranged::Within(posting));
     };
     let (number, rest) = expression::plain(rest)?;
     let (currency, rest) = after_currency(rest)?;
     match next(rest) {
         Some(_) => None,
-        None => Some(plainly(line, account, number, currency)),
+        None => plainly(line, account, number, currency),
     }
 }
 
-/// The posting that a line of that number is. It takes memory where it has a flag,
-/// a cost or a price alone.
+/// The posting that a line of that number is. It takes memory where it has more than an account, an
+/// amount that isn't seldom as large, and its line.
 pub fn posting<'a>(
     alloc: Global,
     line: usize,
     tokens: &[Token<'a>],
-) -> Result<Option<Ranged<Posting<'a>>>, AllocError>
+) -> Result<Option<Ranged<WrittenPosting<'a>>>, AllocError>
     ensures { IfOk result (λ found.
         MatchOption found (IsNone (rule.posting line) (lexemes tokens.now))
         (Is (rule.posting line) (lexemes tokens.now))) }

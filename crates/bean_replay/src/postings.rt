@@ -17,17 +17,17 @@ use bean_accounts::Accounts;
 use bean_base::{Fault, FaultKind, Place};
 use bean_holdings::{Holdings, Posted};
 use bean_interp::Scales;
-use bean_postings::Posting;
+use bean_postings::WrittenPosting;
 use bean_transactions::{Tried, balances};
 use std::alloc::{AllocError, Global};
 
 /// The place of a posting of a transaction at a place.
-fn place_in(at: Place, postings: &[Posting<'_>], written: usize) -> Place
+fn place_in(at: Place, postings: &[WrittenPosting<'_>], written: usize) -> Place
     ensures { result ≡ spec.place_in at (slice_get postings.now written) }
 {
     match postings.get(written) {
         Some(posting) => Place {
-            line: posting.details.line(),
+            line: posting.line(),
             ..at
         },
         None => at,
@@ -43,7 +43,7 @@ fn book_posting<'a>(
     holdings: &mut Holdings<'a>,
     faults: &mut Vec<Fault>,
     at: Place,
-    postings: &[Posting<'a>],
+    postings: &[WrittenPosting<'a>],
     posted: &mut Posted<'a>,
 ) -> Result<(), AllocError>
     requires bounded { IsBounded holdings.old }
@@ -70,7 +70,7 @@ pub(crate) fn book_postings<'a>(
     holdings: &mut Holdings<'a>,
     faults: &mut Vec<Fault>,
     at: Place,
-    postings: &[Posting<'a>],
+    postings: &[WrittenPosting<'a>],
     posted: &mut [Posted<'a>],
 ) -> Result<(), AllocError>
     requires bounded { IsBounded holdings.old }
@@ -103,7 +103,7 @@ pub(crate) fn book_postings<'a>(
 /// trial didn't.
 fn balances_as<'a>(
     scales: &mut Scales<'a>,
-    postings: &[Posting<'a>],
+    postings: &[WrittenPosting<'a>],
     tried: &Tried<'a>,
 ) -> Result<bool, AllocError>
     requires few { length tried.now.posted ≤ 10 ^ 9 }
@@ -122,7 +122,7 @@ pub(crate) fn note_balance<'a>(
     scales: &mut Scales<'a>,
     faults: &mut Vec<Fault>,
     at: Place,
-    postings: &[Posting<'a>],
+    postings: &[WrittenPosting<'a>],
     tried: &Tried<'a>,
 ) -> Result<(), AllocError>
     requires few { length tried.now.posted ≤ 10 ^ 9 }

@@ -15,7 +15,7 @@ use bean_base::{Apart, Num};
 use bean_holdings::Posted;
 use bean_interp::{Leg, Scales, WeighCause, Whole, Worth};
 use bean_lots::Lot;
-use bean_postings::{Posting, Price, Units};
+use bean_postings::{Price, Units, WrittenPosting};
 use refusals::Refusal;
 use std::alloc::{AllocError, Global};
 
@@ -31,10 +31,10 @@ fn worth_of<'a>(lot: &Option<Apart<Lot<'a>>>, without: Worth<'a>) -> Worth<'a>
 }
 
 /// What units without a cost are worth.
-fn worth_without<'a>(written: &Posting<'a>) -> Worth<'a>
+fn worth_without<'a>(written: &WrittenPosting<'a>) -> Worth<'a>
     ensures { result ≡ spec.worth_of prelude.None written.now.details.price }
 {
-    let Some(parts) = written.details.get() else {
+    let Some(parts) = written.details() else {
         return Worth::Units;
     };
     match &parts.price {
@@ -45,11 +45,11 @@ fn worth_without<'a>(written: &Posting<'a>) -> Worth<'a>
 }
 
 /// The number that is written for units.
-fn number_in(units: &Units<'_>) -> Option<Num>
-    ensures { result ≡ spec.number_in units.now }
+fn number_in(units: Units<'_>) -> Option<Num>
+    ensures { result ≡ spec.number_in units.entry }
 {
     match units {
-        Units::Amount(amount) => Some(amount.number()),
+        Units::Amount(amount) => Some(amount.number),
         _ => None,
     }
 }
@@ -70,12 +70,12 @@ fn whole_of<'a>(number: Option<Num>, worth: Worth<'a>, posted: &Posted<'a>) -> W
 }
 
 /// A booked posting of a transaction with these written ones, as a leg.
-pub fn whole<'a>(postings: &[Posting<'a>], posted: &Posted<'a>) -> Whole<'a>
+pub fn whole<'a>(postings: &[WrittenPosting<'a>], posted: &Posted<'a>) -> Whole<'a>
     ensures { result ≡ whole_at (slice_get postings.now posted.now.written) posted.now }
 {
     match postings.get(posted.written) {
         Some(written) => whole_of(
-            number_in(&written.units),
+            number_in(written.units()),
             worth_of(&posted.lot, worth_without(written)),
             posted,
         ),
@@ -83,7 +83,7 @@ pub fn whole<'a>(postings: &[Posting<'a>], posted: &Posted<'a>) -> Whole<'a>
     }
 }
 
-fn leg_of<'a>(postings: &[Posting<'a>], line: &Line<'a>) -> Leg<'a>
+fn leg_of<'a>(postings: &[WrittenPosting<'a>], line: &Line<'a>) -> Leg<'a>
     ensures { result ≡ spec.leg_of postings.now line.now }
 {
     match line {
@@ -97,7 +97,7 @@ fn leg_of<'a>(postings: &[Posting<'a>], line: &Line<'a>) -> Leg<'a>
 /// The legs that lines are.
 pub(crate) fn legs_of<'a>(
     alloc: Global,
-    postings: &[Posting<'a>],
+    postings: &[WrittenPosting<'a>],
     lines: &[Line<'a>],
 ) -> Result<Vec<Leg<'a>>, AllocError>
     ensures { IfOk result (λ legs. legs.items ≡ spec.legs_of postings.now lines.now) }
@@ -111,7 +111,7 @@ pub(crate) fn legs_of<'a>(
 
 /// Whether a booked posting weighs what its units are: it has no lot, and nothing is written beside
 /// its units.
-fn is_of_units<'a>(postings: &[Posting<'a>], posted: &Posted<'a>) -> bool
+fn is_of_units<'a>(postings: &[WrittenPosting<'a>], posted: &Posted<'a>) -> bool
     ensures { IsTrue result → IsOfUnits posted.now.units
         (whole_at (slice_get postings.now posted.now.written) posted.now) }
 {
@@ -119,7 +119,7 @@ fn is_of_units<'a>(postings: &[Posting<'a>], posted: &Posted<'a>) -> bool
         return false;
     }
     match postings.get(posted.written) {
-        Some(written) => written.details.get().is_none(),
+        Some(written) => written.details().is_none(),
         None => true,
     }
 }
@@ -127,7 +127,7 @@ fn is_of_units<'a>(postings: &[Posting<'a>], posted: &Posted<'a>) -> bool
 /// Lays a booked posting on the scales.
 fn lay_one<'a>(
     scales: &mut Scales<'a>,
-    postings: &[Posting<'a>],
+    postings: &[WrittenPosting<'a>],
     posted: &Posted<'a>,
 ) -> Result<(), Refusal<WeighCause>>
     ensures weighed { OnOk result ((legs : prelude.List Leg) → AreWeighed scales.old legs
@@ -148,7 +148,7 @@ fn lay_one<'a>(
 /// Lays the booked postings of a transaction on the scales, in place of what lay there.
 fn lay<'a>(
     scales: &mut Scales<'a>,
-    postings: &[Posting<'a>],
+    postings: &[WrittenPosting<'a>],
     posted: &[Posted<'a>],
 ) -> Result<(), Refusal<WeighCause>>
     ensures weighed { OnOk result
@@ -170,7 +170,7 @@ fn lay<'a>(
 /// Notes the decimals of the booked postings of a transaction, which lie on the scales.
 fn note<'a>(
     scales: &mut Scales<'a>,
-    postings: &[Posting<'a>],
+    postings: &[WrittenPosting<'a>],
     posted: &[Posted<'a>],
 ) -> Result<(), AllocError>
     requires weighed { AreWeighed scales.old (spec.booked_legs postings.now posted.now) }
@@ -186,7 +186,7 @@ fn note<'a>(
 /// Whether a transaction balances by the postings that it is booked as, or that they are too wide.
 pub(crate) fn judge<'a>(
     scales: &mut Scales<'a>,
-    postings: &[Posting<'a>],
+    postings: &[WrittenPosting<'a>],
     posted: &[Posted<'a>],
 ) -> Result<bool, Refusal<WeighCause>>
     ensures { Judges (spec.booked_legs postings.now posted.now) result }

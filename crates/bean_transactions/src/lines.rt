@@ -20,7 +20,7 @@ use crate::stock::Stock;
 use crate::stop::LineFault;
 use bean_holdings::{Holdings, Inventories, LotsLeft, Posted, Rests, without_gone};
 use bean_inventories::Inventory;
-use bean_postings::{Cost, Posting};
+use bean_postings::{Cost, WrittenPosting};
 use refusals::Refusal;
 use std::alloc::{AllocError, Global};
 
@@ -50,10 +50,10 @@ impl Drop for Lines<'_, '_> {
 
 /// Whether a posting has a cost in braces. What comes of any other doesn't depend on what its
 /// account holds, which isn't looked up then.
-fn is_in_braces(posting: &Posting<'_>) -> bool
+fn is_in_braces(posting: &WrittenPosting<'_>) -> bool
     ensures { result ≡ is_lot posting.now.details.cost }
 {
-    match posting.details.get() {
+    match posting.details() {
         Some(parts) => matches!(parts.cost, Cost::Lot(_)),
         None => false,
     }
@@ -212,7 +212,7 @@ impl<'a, 's> Lines<'a, 's> {
         methods: &Methods<'a>,
         head: Head,
         index: usize,
-        posting: &Posting<'a>,
+        posting: &WrittenPosting<'a>,
     ) -> Result<Outcome<'a>, Refusal<LineFault>>
         requires keeping { IsKeeping holdings.now self.now }
         requires bounded { IsBounded holdings.now }
@@ -228,9 +228,9 @@ impl<'a, 's> Lines<'a, 's> {
             return outcome_of(alloc, stock, head, index, posting);
         }
         let stock = Stock {
-            method: methods.of(&posting.account),
-            held: holdings.of(&posting.account, self.nothing),
-            taken: self.taken.of(&posting.account, self.nothing),
+            method: methods.of(posting.account()),
+            held: holdings.of(posting.account(), self.nothing),
+            taken: self.taken.of(posting.account(), self.nothing),
             left: &self.left,
             rests: &self.rests,
         };
@@ -245,7 +245,7 @@ impl<'a, 's> Lines<'a, 's> {
         methods: &Methods<'a>,
         head: Head,
         index: usize,
-        posting: &Posting<'a>,
+        posting: &WrittenPosting<'a>,
     ) -> Result<(), Refusal<LineFault>>
         requires keeping { IsKeeping holdings.now self.old }
         requires bounded { IsBounded holdings.now }
@@ -277,7 +277,7 @@ pub(crate) fn line_up<'s, 'a>(
     nothing: &'s Inventory<'a>,
     methods: &Methods<'a>,
     head: Head,
-    postings: &[Posting<'a>],
+    postings: &[WrittenPosting<'a>],
 ) -> Result<Vec<Line<'a>>, Refusal<LineFault>>
     requires nothing { nothing.now ≡ [] }
     requires bounded { IsBounded holdings.now }

@@ -20,7 +20,7 @@ use crate::stop::LineFault;
 use bean_base::{Account, Amount, Apart, Currency, FaultKind, Num, Text};
 use bean_holdings::Posted;
 use bean_lots::Lot;
-use bean_postings::{Cost, LotParts, Posting, Units};
+use bean_postings::{Cost, LotParts, Units, WrittenPosting};
 use bean_reductions::{LotCause, Method, Selector, has_opposite, reduce_after};
 use refusals::Refusal;
 use std::alloc::{AllocError, Global};
@@ -147,7 +147,7 @@ fn reduced<'a>(
     alloc: Global,
     stock: Stock<'_, 'a>,
     index: usize,
-    posting: &Posting<'a>,
+    posting: &WrittenPosting<'a>,
     units: &Amount<'a>,
     parts: &LotParts<'a>,
 ) -> Result<Outcome<'a>, Refusal<LineFault>>
@@ -158,7 +158,7 @@ fn reduced<'a>(
         posting.now.account units.now index posting.now.details.line) result }
 {
     let selector = selector_of(units, parts);
-    let rest = stock.rests.of(&posting.account, stock.held);
+    let rest = stock.rests.of(posting.account(), stock.held);
     match reduce_after(
         alloc,
         stock.held,
@@ -169,10 +169,10 @@ fn reduced<'a>(
         stock.method,
     ) {
         Ok(takes) => {
-            let lines = take_lines(alloc, &posting.account, &units.currency, index, &takes)?;
+            let lines = take_lines(alloc, posting.account(), &units.currency, index, &takes)?;
             Ok(Outcome::Takes(lines))
         }
-        Err(fault) => Err(refusal_of(fault, posting.details.line())),
+        Err(fault) => Err(refusal_of(fault, posting.line())),
     }
 }
 
@@ -192,7 +192,7 @@ fn augmented<'a>(
     alloc: Global,
     head: Head,
     index: usize,
-    posting: &Posting<'a>,
+    posting: &WrittenPosting<'a>,
     units: &Amount<'a>,
     parts: &LotParts<'a>,
 ) -> Result<Outcome<'a>, Refusal<LineFault>>
@@ -203,11 +203,11 @@ fn augmented<'a>(
         return Err(refusal_at(FaultKind::OutsideProfile, head.line));
     };
     if cost.number.count < 0 {
-        return Err(refusal_at(FaultKind::NegativeCost, posting.details.line()));
+        return Err(refusal_at(FaultKind::NegativeCost, posting.line()));
     }
     let lot = Apart::new(alloc, lot_of(head, parts, cost))?;
     Ok(Outcome::Line(Line::Posted(Posted {
-        account: posting.account.lend(),
+        account: posting.account().lend(),
         units: units.lend(),
         lot: Some(lot),
         written: index,
@@ -220,7 +220,7 @@ fn in_braces<'a>(
     stock: Stock<'_, 'a>,
     head: Head,
     index: usize,
-    posting: &Posting<'a>,
+    posting: &WrittenPosting<'a>,
     units: &Amount<'a>,
     parts: &LotParts<'a>,
 ) -> Result<Outcome<'a>, Refusal<LineFault>>
@@ -229,7 +229,7 @@ fn in_braces<'a>(
     ensures { ComesOf (IsInBraces stock.entry.method (rest_of stock.entry) head parts.now
         posting.now.account units.now index posting.now.details.line) result }
 {
-    if is_reduction(stock, &posting.account, units) {
+    if is_reduction(stock, posting.account(), units) {
         reduced(alloc, stock, index, posting, units, parts)
     } else {
         augmented(alloc, head, index, posting, units, parts)
@@ -237,11 +237,11 @@ fn in_braces<'a>(
 }
 
 /// What comes of units without a cost.
-fn without_lot<'a>(index: usize, posting: &Posting<'a>, units: &Amount<'a>) -> Outcome<'a>
+fn without_lot<'a>(index: usize, posting: &WrittenPosting<'a>, units: &Amount<'a>) -> Outcome<'a>
     ensures { lines_of result ≡ spec.without_lot posting.now.account units.now index ∷ [] }
 {
     Outcome::Line(Line::Posted(Posted {
-        account: posting.account.lend(),
+        account: posting.account().lend(),
         units: units.lend(),
         lot: None,
         written: index,
@@ -254,7 +254,7 @@ fn outcome_by_cost<'a>(
     stock: Stock<'_, 'a>,
     head: Head,
     index: usize,
-    posting: &Posting<'a>,
+    posting: &WrittenPosting<'a>,
     units: &Amount<'a>,
 ) -> Result<Outcome<'a>, Refusal<LineFault>>
     requires small { IsSmallStock stock }
@@ -264,7 +264,7 @@ fn outcome_by_cost<'a>(
         posting.now.account units.now posting.now.details.cost index
         posting.now.details.line) result }
 {
-    let Some(parts) = posting.details.get() else {
+    let Some(parts) = posting.details() else {
         return Ok(without_lot(index, posting, units));
     };
     match &parts.cost {
@@ -280,7 +280,7 @@ pub(crate) fn outcome_of<'a>(
     stock: Stock<'_, 'a>,
     head: Head,
     index: usize,
-    posting: &Posting<'a>,
+    posting: &WrittenPosting<'a>,
 ) -> Result<Outcome<'a>, Refusal<LineFault>>
     requires small { IsSmallStock stock }
     requires left { is_lot posting.now.details.cost ≡ true → KnowsLots stock posting.now.account }
@@ -289,16 +289,16 @@ pub(crate) fn outcome_of<'a>(
         posting.now.account posting.now.units posting.now.details.cost index
         posting.now.details.line) result }
 {
-    match &posting.units {
-        Units::Missing => Ok(Outcome::Line(Line::MissingAmount(posting.account.lend(), index))),
+    match posting.units() {
+        Units::Missing => {
+            Ok(Outcome::Line(Line::MissingAmount(posting.account().lend(), index)))
+        }
         Units::Currency(currency) => Ok(Outcome::Line(Line::MissingNumber(
-            posting.account.lend(),
-            currency.lend(),
+            posting.account().lend(),
+            currency,
             index,
         ))),
-        Units::Amount(units) => {
-            outcome_by_cost(alloc, stock, head, index, posting, &units.lend())
-        }
+        Units::Amount(units) => outcome_by_cost(alloc, stock, head, index, posting, &units),
         Units::NumberAlone => unreachable!(),
     }
 }

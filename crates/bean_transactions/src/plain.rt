@@ -14,43 +14,43 @@ use crate::stop::{LineFault, refusal_of};
 use bean_base::List;
 use bean_holdings::Posted;
 use bean_interp::{Scales, completion_refusal};
-use bean_postings::{Cost, Posting, Units};
+use bean_postings::{Cost, Units, WrittenPosting};
 use refusals::Refusal;
 use std::alloc::AllocError;
 
 /// Whether a posting has no cost.
-fn has_no_cost(posting: &Posting<'_>) -> bool
+fn has_no_cost(posting: &WrittenPosting<'_>) -> bool
     ensures { result ≡ spec.is_absent posting.now.details.cost }
 {
-    match posting.details.get() {
+    match posting.details() {
         Some(parts) => matches!(parts.cost, Cost::Absent),
         None => true,
     }
 }
 
 /// Whether a posting is booked as it is written: its units are an amount, without a cost.
-fn is_plain(posting: &Posting<'_>) -> bool
+fn is_plain(posting: &WrittenPosting<'_>) -> bool
     ensures { result ≡ spec.is_plain posting.now }
 {
-    matches!(posting.units, Units::Amount(_)) && has_no_cost(posting)
+    matches!(posting.units(), Units::Amount(_)) && has_no_cost(posting)
 }
 
 /// Whether all postings are booked as they are written, as those of most transactions.
-pub(crate) fn are_plain(postings: &[Posting<'_>]) -> bool
+pub(crate) fn are_plain(postings: &[WrittenPosting<'_>]) -> bool
     ensures { result ≡ list_all spec.is_plain postings.now }
 {
     postings.iter().all(|posting| is_plain(posting))
 }
 
 /// The posting of that index as it is booked.
-fn posted_as_written<'a>(index: usize, posting: &Posting<'a>) -> Posted<'a>
+fn posted_as_written<'a>(index: usize, posting: &WrittenPosting<'a>) -> Posted<'a>
     requires { spec.is_plain posting.now ≡ true }
     ensures { IsAsWritten index posting.now result }
 {
-    match &posting.units {
+    match posting.units() {
         Units::Amount(units) => Posted {
-            account: posting.account.lend(),
-            units: units.lend(),
+            account: posting.account().lend(),
+            units,
             lot: None,
             written: index,
         },
@@ -61,7 +61,7 @@ fn posted_as_written<'a>(index: usize, posting: &Posting<'a>) -> Posted<'a>
 /// The postings as they are booked, in the memory of a list that is used no more.
 fn as_written<'a>(
     spare: Vec<Posted<'a>>,
-    postings: &[Posting<'a>],
+    postings: &[WrittenPosting<'a>],
 ) -> Result<Vec<Posted<'a>>, AllocError>
     requires { list_all spec.is_plain postings.now ≡ true }
     ensures { IfOk result (λ posted. AreAsWritten (reverse postings.now) posted.items) }
@@ -79,7 +79,7 @@ pub(crate) fn try_plain<'a>(
     scales: &mut Scales<'a>,
     spare: Vec<Posted<'a>>,
     head: Head,
-    postings: &[Posting<'a>],
+    postings: &[WrittenPosting<'a>],
 ) -> Result<Tried<'a>, Refusal<LineFault>>
     requires plain { list_all spec.is_plain postings.now ≡ true }
     requires inside { is_outside postings.now ≡ false }

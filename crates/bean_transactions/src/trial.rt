@@ -22,11 +22,11 @@ use bean_base::{FaultKind, List};
 use bean_holdings::{Holdings, Posted};
 use bean_interp::{Scales, WeighCause};
 use bean_inventories::Inventory;
-use bean_postings::Posting;
+use bean_postings::WrittenPosting;
 use refusals::Refusal;
 use std::alloc::{AllocError, Global};
 
-fn are_outside_profile(postings: &[Posting<'_>]) -> bool
+fn are_outside_profile(postings: &[WrittenPosting<'_>]) -> bool
     ensures { result ≡ spec.is_outside postings.now }
 {
     postings.iter().any(|posting| posting.is_outside_profile())
@@ -38,7 +38,7 @@ fn complete<'a>(
     scales: &mut Scales<'a>,
     spare: Vec<Posted<'a>>,
     head: Head,
-    postings: &[Posting<'a>],
+    postings: &[WrittenPosting<'a>],
     lines: Vec<Line<'a>>,
 ) -> Result<Tried<'a>, Refusal<LineFault>>
     ensures ok { IfOk result (λ t. IsCompleted postings.now lines.entry.items t.posted) }
@@ -69,7 +69,7 @@ fn try_lines<'a>(
     scales: &mut Scales<'a>,
     spare: Vec<Posted<'a>>,
     head: Head,
-    postings: &[Posting<'a>],
+    postings: &[WrittenPosting<'a>],
 ) -> Result<Tried<'a>, Refusal<LineFault>>
     requires bounded { IsBounded holdings.now }
     requires few { additions_in holdings.now ≤ 2 ^ 40 }
@@ -95,7 +95,7 @@ pub fn try_transaction<'a>(
     scales: &mut Scales<'a>,
     spare: Vec<Posted<'a>>,
     head: Head,
-    postings: &[Posting<'a>],
+    postings: &[WrittenPosting<'a>],
 ) -> Result<Tried<'a>, Refusal<LineFault>>
     requires bounded { IsBounded holdings.now }
     requires few { additions_in holdings.now ≤ 2 ^ 40 }
@@ -118,7 +118,7 @@ pub fn try_transaction<'a>(
 /// Whether a transaction balances by the postings that it is booked as.
 pub fn balances<'a>(
     scales: &mut Scales<'a>,
-    postings: &[Posting<'a>],
+    postings: &[WrittenPosting<'a>],
     posted: &[Posted<'a>],
 ) -> Result<bool, AllocError>
     requires few { length posted.now ≤ 10 ^ 9 }
