@@ -227,10 +227,11 @@ impl<'a, 's> Lines<'a, 's> {
             let stock = Stock::of_nothing(self.nothing, &self.left, &self.rests);
             return outcome_of(alloc, stock, head, index, posting);
         }
+        let account = posting.account();
         let stock = Stock {
-            method: methods.of(posting.account()),
-            held: holdings.of(posting.account(), self.nothing),
-            taken: self.taken.of(posting.account(), self.nothing),
+            method: methods.of(account),
+            held: holdings.of(account, self.nothing),
+            taken: self.taken.of(account, self.nothing),
             left: &self.left,
             rests: &self.rests,
         };

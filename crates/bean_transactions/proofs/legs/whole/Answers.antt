@@ -15,7 +15,7 @@ returns-in-Some c =
     let worth = c.worth_of.ensures w.details.price c.worth_without.ensures in
     subst (λ o. c.whole_of.result ≡ whole_at o p) (sym at)
     (whole_by c.whole_of.result c.number_in.result (number_in w.units) w.details.price p
-    c.number_in.ensures c.whole_of.ensures.units c.whole_of.ensures.decimals
+    (c.number_in.ensures ∙ ap number_in c.units.ensures) c.whole_of.ensures.units c.whole_of.ensures.decimals
     (c.whole_of.ensures.worth ∙ worth))
 
 pub returns-in-None : goal.returns-in-None

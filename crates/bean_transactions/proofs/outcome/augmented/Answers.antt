@@ -1,4 +1,4 @@
-use Rattle.std.proofs.Common.{◌≡◌, pos, false, to_z, of_z, arith, subst, sym}
+use Rattle.std.proofs.Common.{◌≡◌, ◌∙◌, pos, false, to_z, of_z, arith, subst, sym}
 use Rattle.std.specs.Int.{w128}
 use Rattle.std.specs.Int.Signed.{lt_z}
 use Rattle.std.proofs.lemmas.Int.{ints}
@@ -15,4 +15,4 @@ returns c =
     c.in-Some.is (subst (λ n. lt_z n (pos 0) ≡ false) count c.if-cost-lt0.false)
     (subst (IsLotOf c.args.head c.args.parts.now c.in-Some.cost) (sym c.in_ok-lot.ensures)
     c.lot_of.ensures)
-    c.lend.ensures c.lend-2.ensures
+    (c.lend.ensures ∙ c.account.ensures) c.lend-2.ensures

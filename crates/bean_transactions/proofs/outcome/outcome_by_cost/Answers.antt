@@ -9,9 +9,9 @@ use Rattle.bean_transactions.proofs.outcome.outcome_by_cost.Goals as goal
 pub returns-in-Lot : goal.returns-in-Lot
 returns-in-Lot c =
     let p = c.args.posting.now in
-    let cost : p.details.cost ≡ Lot c.get-in-Lot.result.now =
+    let cost : p.details.cost ≡ Lot c.get.result.now =
     ap (λ (e : DetailParts). e.cost) (sym c.in-Some.ensures) ∙ c.in-Lot.is
-    ∙ ap Lot (sym c.get-in-Lot.ensures) in
+    ∙ ap Lot (sym c.get.ensures) in
     subst
     (λ cost. ComesOf (IsLinedByCost c.args.stock.method (rest_of c.args.stock) c.args.head p.account
     c.args.units.now cost c.args.index p.details.line) c.in_braces.result)

@@ -1,6 +1,9 @@
 use Rattle.std.proofs.Common.{◌∙◌, ap}
+use Rattle.bean_holdings.specs.Holdings.{holding}
+use Rattle.bean_holdings.specs.Inventories.{inventory_in}
 use Rattle.bean_reductions.specs.After.{after}
 use Rattle.bean_transactions.specs.Held.{takes_in}
+use Rattle.bean_transactions.specs.Methods.{method_in}
 use Rattle.bean_transactions.proofs.LinedFacts.{next_of}
 use Rattle.bean_transactions.proofs.WithinFacts.{small_held, small_taken, within_of}
 use Rattle.bean_transactions.proofs.lines.Lines.next.Goals as goal
@@ -12,19 +15,22 @@ outcome_of-requires-2-clause-small c =
     let ps = takes_in c.args.self.now.lines.items in
     record {
       held =
-          small_held h a ps c.of-2.result.now c.of-3.result.now c.of-2.ensures c.requires.bounded
-          c.requires.few;
+          small_held h a ps c.of-2.result.now c.of-3.result.now
+          (c.of-2.ensures ∙ ap (holding h) c.account-account.ensures) c.requires.bounded c.requires.few;
       taken =
           small_taken h a ps c.of-2.result.now c.of-3.result.now
-          (c.of-3.ensures ∙ c.requires.keeping.takes a) c.requires.keeping.within c.requires.bounded
-          c.requires.few;
+          (c.of-3.ensures ∙ ap (inventory_in c.args.self.now.taken) c.account-account.ensures
+          ∙ c.requires.keeping.takes a) c.requires.keeping.within c.requires.bounded c.requires.few;
     }
 
 pub returns-clause-comes : goal.returns-clause-comes
 returns-clause-comes c = λ s is.
     next_of s c.args.holdings.now c.args.methods.now c.args.head c.args.self.now _ _ _ c.args.index
-    c.args.posting.now c.outcome_of-2.result is c.requires.keeping c.of.ensures c.of-2.ensures
-    c.of-3.ensures c.outcome_of-2.ensures
+    c.args.posting.now c.outcome_of-2.result is c.requires.keeping
+    (c.of.ensures ∙ ap (method_in c.args.methods.now) c.account-account.ensures)
+    (c.of-2.ensures ∙ ap (holding c.args.holdings.now) c.account-account.ensures)
+    (c.of-3.ensures ∙ ap (inventory_in c.args.self.now.taken) c.account-account.ensures)
+    c.outcome_of-2.ensures
 
 pub returns-clause-within : goal.returns-clause-within
 returns-clause-within c =
@@ -34,6 +40,7 @@ returns-clause-within c =
     (takes_in c.args.self.now.lines.items) c.outcome_of-2.result c.requires.keeping.within
     (c.requires.bounded.inventories a)
     (λ lot.
-    ap (λ es. after es c.of-3.result.now) c.of-2.ensures
-    ∙ ap (after _) (c.of-3.ensures ∙ c.requires.keeping.takes a))
+    ap (λ es. after es c.of-3.result.now) (c.of-2.ensures ∙ ap (holding h) c.account-account.ensures)
+    ∙ ap (after _) (c.of-3.ensures ∙ ap (inventory_in c.args.self.now.taken) c.account-account.ensures
+    ∙ c.requires.keeping.takes a))
     c.outcome_of-2.ensures
