@@ -4,10 +4,11 @@ ghost use Rattle.bean_load.specs.Order as spec;
 ghost use Rattle.bean_load.specs.Order.{AreInOrder, AreSettingsInOrder};
 
 use crate::rank::Rank;
+use arranging::arrange;
 use bean_base::Apart;
 use bean_loaded::Placed;
 use bean_parser::{Directive, Setting};
-use std::alloc::AllocError;
+use std::alloc::{AllocError, Global};
 
 /// One number for a day's number and a rank.
 fn turn(day: i32, rank: u8) -> i64
@@ -27,12 +28,49 @@ fn turn_of(placed: &Placed<Apart<Directive<'_>>>) -> (i64, usize)
     (turn(directive.day.number(), rank.number()), placed.part)
 }
 
+/// How many parts have room beside a turn.
+const PARTS: usize = 1 << 16;
+
+/// No day has a number below this one's negative.
+const DAYS_BEFORE: i32 = 1 << 20;
+
+/// One number for a turn and a part, where both have room.
+fn code_of(placed: &Placed<Apart<Directive<'_>>>) -> Option<u64> {
+    let (turn, part) = turn_of(placed);
+    let above = u64::try_from(turn.saturating_add(1 << 23)).ok()?;
+    if part >= PARTS {
+        return None;
+    }
+    above.checked_mul(PARTS as u64)?.checked_add(part as u64)
+}
+
+/// The codes of directives, where all have room.
+fn codes_of(
+    alloc: Global,
+    directives: &[Placed<Apart<Directive<'_>>>],
+) -> Result<Option<Vec<u64>>, AllocError> {
+    let mut codes = Vec::with_capacity(alloc, directives.len())?;
+    for directive in directives {
+        let Some(code) = code_of(directive) else {
+            return Ok(None);
+        };
+        codes.push(code)?;
+    }
+    Ok(Some(codes))
+}
+
 /// By day, of one day opens, then balances, all else, documents and closes, then in reading order.
 pub fn order_directives(
+    alloc: Global,
     directives: &mut Vec<Placed<Apart<Directive<'_>>>>,
 ) -> Result<(), AllocError>
     ensures { OnOk result (AreInOrder directives.old.items directives.new.items) }
 {
+    if let Some(codes) = codes_of(alloc, directives)? {
+        if arrange(alloc, directives, codes)? {
+            return Ok(());
+        }
+    }
     directives.sort_by_cached_key(turn_of)
 }
 
