@@ -1,6 +1,7 @@
 pub mod LineFacts
 pub mod OneLoading
 pub mod OrderFacts
+pub mod TurnFacts
 pub mod ReadFacts
 pub mod BooksFacts
 pub mod AskedFacts

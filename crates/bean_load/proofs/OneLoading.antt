@@ -1,14 +1,14 @@
 -- Texts say one thing together.
 use Rattle.std.proofs.Common.{◌≡◌, List, [], ◌∷◌, ◌++◌, sym, ap, ◌∙◌, subst}
-use Rattle.std.specs.Cmp.{IsTotalOrder}
 use Rattle.std.specs.List.{flat_map}
 use Rattle.std.specs.Ordering.{nat_cmp}
-use Rattle.std.proofs.lemmas.Cmp.{on_total, then_total, nat_cmp_total, int_cmp_total}
+use Rattle.std.proofs.lemmas.Cmp.{nat_cmp_total}
 use Rattle.theory.proofs.ArrangementFacts.{one_by_key}
 use Rattle.bean_load.specs.Loaded.{AreParsed, directives_in, settings_in, faults_in, title_in}
 use Rattle.bean_load.specs.Loaded.{operating_of, method_of}
 use Rattle.bean_load.specs.Loading.{HasOneLoading}
-use Rattle.bean_load.specs.Order.{AreInOrder, AreSettingsInOrder, DayKey, Key, key_of, key_cmp}
+use Rattle.bean_load.proofs.OrderFacts.{key_total}
+use Rattle.bean_load.specs.Order.{AreInOrder, AreSettingsInOrder, key_of, key_cmp}
 use Rattle.bean_load.specs.Texts.{File}
 use Rattle.bean_loaded.specs.declared.placed.Placed.{Placed}
 use Rattle.bean_directives.specs.declared.directive.Directive.{Directive}
@@ -24,14 +24,6 @@ one_parsing (f ∷ fs) (p ∷ ps) [] h k = absurd k
 one_parsing (f ∷ fs) (p ∷ ps) (q ∷ qs) h k =
     ap (λ r. r ∷ ps) (one_reading f.text p q h.0 k.0)
     ∙ ap (λ rs. q ∷ rs) (one_parsing fs ps qs h.1 k.1)
-
-key_total : IsTotalOrder key_cmp
-key_total =
-    then_total
-    (on_total (λ (a : Key). a.0)
-    (then_total (on_total (λ (a : DayKey). a.0) int_cmp_total)
-    (on_total (λ (a : DayKey). a.1) nat_cmp_total)))
-    (on_total (λ (a : Key). a.1) nat_cmp_total)
 
 one_order : (xs ys zs : List (Placed Directive)) → AreInOrder xs ys → AreInOrder xs zs → ys ≡ zs
 one_order = one_by_key key_of key_cmp key_total

@@ -1,20 +1,31 @@
 -- Directives are in order by their turns as they are by day, rank and place.
 use Rattle.std.proofs.Common.{◌≡◌, ℕ, ℤ, ◌+ℤ◌, ◌*ℤ◌, ◌<ℤ◌, ◌<◌, pos, Bool}
-use Rattle.std.proofs.Common.{List, [], ◌∷◌, filter, refl, sym, ◌∙◌, ap, arith}
+use Rattle.std.proofs.Common.{◌≤◌, ◌++◌, drop, length, take, List, [], ◌∷◌, filter, refl, sym, ◌∙◌, ap, subst, arith}
 use Rattle.std.proofs.lemmas.Int.{ints}
-use Rattle.std.specs.Cmp.{int_cmp_is, int_ranks, ranks}
+use Rattle.std.proofs.lemmas.List.{append-nil, drop_all, take_all}
+use Rattle.std.proofs.lemmas.Cmp.{int_cmp_total, nat_cmp_total, on_total, then_total}
+use Rattle.std.specs.Cmp.{IsTotalOrder, int_cmp_is, int_ranks, ranks}
 use Rattle.std.specs.List.Sorted.{IsSortedBy, IsStableBy, ties}
 use Rattle.std.specs.Ordering.{MatchOrdering, int_cmp, is_lt, nat_cmp, ordering_then}
 use Rattle.std.specs.declared.cmp.Ordering.{Ordering}
 use Rattle.std.specs.declared.cmp.Ordering.TheVariants.{Less, Equal, Greater}
 use Rattle.bean_base.specs.Day.{number}
 use Rattle.bean_directives.specs.declared.directive.Directive.{Directive}
-use Rattle.bean_load.specs.Order.{key_cmp, key_of, turn_of}
+use Rattle.bean_load.specs.Order.{AreInOrder, DayKey, Key, key_cmp, key_of, turn_of}
 use Rattle.bean_load.specs.Rank.{rank_number, rank_of}
 use Rattle.bean_loaded.specs.declared.placed.Placed.{Placed}
 use Rattle.bean_load.specs.declared.rank.Rank.{Rank}
 use Rattle.bean_load.specs.declared.rank.Rank.TheVariants.{Open, Balance, Other, Document, Close}
 use Rattle.theory.specs.Arrangement.{IsArrangement, by_key}
+
+-- ---- a list whose items are lent, and come back as they were
+
+pub come_back : {X : Type 0} (xs ys : List X) (count : ℕ) → ys ≡ xs → length xs ≤ count
+    → take count (ys ++ drop (length ys) xs) ≡ xs
+come_back xs ys count same all =
+    ap (λ l. take count (l ++ drop (length l) xs)) same
+    ∙ ap (λ l. take count (xs ++ l)) (drop_all (length xs) xs (omega arith))
+    ∙ ap (take count) (append-nil xs) ∙ take_all count xs all
 
 -- ---- two tests that answer alike arrange alike
 
@@ -23,7 +34,7 @@ kept_alike : {X : Type 0} (p q : X → Bool) → ((x : X) → p x ≡ q x) → (
 kept_alike p q same [] = refl
 kept_alike p q same (x ∷ xs) = rw (same x, kept_alike p q same xs) refl
 
-pub arranged_alike : {X : Type 0} (before other : X → X → Bool)
+arranged_alike : {X : Type 0} (before other : X → X → Bool)
     → ((x y : X) → before x y ≡ other x y) → (xs ys : List X)
     → IsSortedBy before ys → IsStableBy before xs ys → IsArrangement other xs ys
 arranged_alike {X} before other same xs ys sorted stable = record {
@@ -74,12 +85,35 @@ turns a b r s few less = int_cmp_is (turn a r) (turn b s) (ordering_then (int_cm
 abbrev pub turn_cmp : ℤ × ℕ → ℤ × ℕ → Ordering
 turn_cmp a b = ordering_then (int_cmp a.0 b.0) (nat_cmp a.1 b.1)
 
-pub turns_are_alike : (x y : Placed Directive)
-    → by_key turn_of turn_cmp x y ≡ by_key key_of key_cmp x y
+-- directives stand by their turns as by their keys
+pub keys_are_turns : (x y : Placed Directive)
+    → turn_cmp (turn_of x) (turn_of y) ≡ key_cmp (key_of x) (key_of y)
 unfolding turn
-turns_are_alike x y =
+keys_are_turns x y =
     let r = rank_of x.item.kind in
     let s = rank_of y.item.kind in
-    ap (λ o. is_lt (ordering_then o (nat_cmp x.part y.part)))
+    ap (λ o. ordering_then o (nat_cmp x.part y.part))
     (sym (turns (number x.item.day) (number y.item.day) (rank_number r) (rank_number s) (small r)
     (small s)))
+
+turns_are_alike : (x y : Placed Directive)
+    → by_key turn_of turn_cmp x y ≡ by_key key_of key_cmp x y
+turns_are_alike x y = ap is_lt (keys_are_turns x y)
+
+pub in_order_by_turns : (xs ys zs : List (Placed Directive))
+    → IsSortedBy (by_key turn_of turn_cmp) ys → IsStableBy (by_key turn_of turn_cmp) xs ys
+    → xs ≡ zs → AreInOrder zs ys
+in_order_by_turns xs ys zs sorted stable same =
+    subst (λ l. AreInOrder l ys) same
+    (arranged_alike (by_key turn_of turn_cmp) (by_key key_of key_cmp) turns_are_alike xs ys sorted
+    stable)
+
+-- ---- keys are in order
+
+pub key_total : IsTotalOrder key_cmp
+key_total =
+    then_total
+    (on_total (λ (a : Key). a.0)
+    (then_total (on_total (λ (a : DayKey). a.0) int_cmp_total)
+    (on_total (λ (a : DayKey). a.1) nat_cmp_total)))
+    (on_total (λ (a : Key). a.1) nat_cmp_total)

@@ -1,15 +1,14 @@
 -- What the texts of a ledger say together is small where each of them is.
 use Rattle.std.proofs.Common.{ℕ, ◌+◌, ◌≤◌, List, [], ◌∷◌, map, length, length-append, subst, sym}
 use Rattle.std.proofs.Common.{arith}
-use Rattle.std.specs.Cmp.{IsTotalOrder}
 use Rattle.std.specs.List.{AllByRecursion}
-use Rattle.std.proofs.lemmas.Cmp.{on_total, then_total, nat_cmp_total, int_cmp_total}
 use Rattle.std.proofs.lemmas.List.{length-map}
 use Rattle.theory.proofs.AllFacts.{all_joined, in_order_all, in_order_length}
 use Rattle.bean_directives.specs.declared.directive.Directive.{Directive}
 use Rattle.bean_load.specs.Loaded.{AreParsed, directives_in}
 use Rattle.bean_load.specs.Loading.{AreRead}
-use Rattle.bean_load.specs.Order.{AreInOrder, DayKey, Key, key_of, key_cmp}
+use Rattle.bean_load.proofs.OrderFacts.{key_total}
+use Rattle.bean_load.specs.Order.{AreInOrder, key_of, key_cmp}
 use Rattle.bean_load.specs.Placed.{parts_of, placed_directive}
 use Rattle.bean_load.specs.Texts.{File, Texts}
 use Rattle.bean_loaded.specs.declared.loaded.TheConstants.{LARGEST_LEDGER}
@@ -24,14 +23,6 @@ use Rattle.bean_load.specs.Small.{AreLimited, bytes_in}
 use Rattle.bean_loaded.specs.Limited.{IsSmall, AreFew, AreSmall}
 use Rattle.bean_load.proofs.FewFacts.{parsed_few}
 use Rattle.bean_parser.proofs.SmallParsedFacts.{parsed_small}
-
-key_total : IsTotalOrder key_cmp
-key_total =
-    then_total
-    (on_total (λ (a : Key). a.0)
-    (then_total (on_total (λ (a : DayKey). a.0) int_cmp_total)
-    (on_total (λ (a : DayKey). a.1) nat_cmp_total)))
-    (on_total (λ (a : Key). a.1) nat_cmp_total)
 
 -- what the texts say, with its places
 

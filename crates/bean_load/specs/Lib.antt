@@ -1,6 +1,7 @@
 pub mod LoadCause
 pub mod Include
 pub mod Texts
+pub mod Turns
 pub mod Gathered
 pub mod Gathering
 pub mod Asking

@@ -1,5 +1,5 @@
 -- The order in which the directives of all texts are taken.
-use Rattle.std.specs.Prelude.{ℕ, ℤ, ◌+ℤ◌, ◌*ℤ◌, pos, List}
+use Rattle.std.specs.Prelude.{◌≡◌, ℕ, ℤ, ◌+ℤ◌, ◌*ℤ◌, pos, Bool, true, false, List}
 use Rattle.std.specs.Ordering.{int_cmp, nat_cmp, ordering_then}
 use Rattle.std.specs.declared.cmp.Ordering.{Ordering}
 use Rattle.theory.specs.Arrangement.{IsArrangedByKey}
@@ -39,6 +39,11 @@ key_cmp a b = ordering_then (day_key_cmp a.0 b.0) (nat_cmp a.1 b.1)
 -- order
 abbrev pub AreInOrder : List (Placed Directive) → List (Placed Directive) → Type 0
 AreInOrder = IsArrangedByKey key_of key_cmp
+
+-- they are in order, or else as they were
+abbrev pub AreInOrderIf : Bool → List (Placed Directive) → List (Placed Directive) → Type 0
+AreInOrderIf true xs ys = AreInOrder xs ys
+AreInOrderIf false xs ys = ys ≡ xs
 
 -- ys has the settings of xs by their parts of the ledger, and those of one part in their order
 abbrev pub AreSettingsInOrder : List (Placed Setting) → List (Placed Setting) → Type 0

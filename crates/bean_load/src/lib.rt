@@ -35,8 +35,8 @@
 //!
 //! Each text is searched for lines that begin with the word `include`; where there are some, its
 //! tokens are read once to find its include lines. It is parsed once to be loaded. The name of an
-//! include line is made when the line is met, and looked up by its hash. The directives are moved
-//! once and sorted, which takes memory for half of them.
+//! include line is made when the line is met, and looked up by its hash. The directives are put in
+//! order where they lie, which takes 12 bytes for each, half of what its place takes.
 #![tactic(auto)]
 
 mod cause;

@@ -123,7 +123,7 @@ pub fn load(alloc: Global, texts: &Texts) -> Result<Loaded<'_>, AllocError>
     ensures { IfOk result (IsLoaded texts.now) }
 {
     let mut read = read_all(alloc, texts)?;
-    order_directives(&mut read.directives)?;
+    order_directives(alloc, &mut read.directives)?;
     order_settings(&mut read.settings)?;
     let books = books_of(alloc, &read.settings)?;
     read.faults.extend_from_slice(texts.faults())?;

@@ -1,13 +1,16 @@
 //! The order in which the directives and the settings of all texts are taken.
-ghost use Rattle.std.specs.Prelude.{◌≡◌, ◌<◌, ◌+ℤ◌, ◌*ℤ◌, pos, List, OnOk};
+ghost use Rattle.std.specs.Prelude.{◌≡◌, ◌<◌, ◌+ℤ◌, ◌*ℤ◌, pos, List, IfOk, IfSome, OnErr, OnOk};
 ghost use Rattle.bean_load.specs.Order as spec;
-ghost use Rattle.bean_load.specs.Order.{AreInOrder, AreSettingsInOrder};
+ghost use Rattle.bean_load.specs.Order.{AreInOrder, AreInOrderIf, AreSettingsInOrder};
+ghost use Rattle.bean_load.specs.Turns.{AreCodes, IsCode};
+ghost use Rattle.bean_load.specs.declared.order.TheConstants.{BEFORE};
 
 use crate::rank::Rank;
+use arranging::arrange;
 use bean_base::Apart;
 use bean_loaded::Placed;
 use bean_parser::{Directive, Setting};
-use std::alloc::AllocError;
+use std::alloc::{AllocError, Global};
 
 /// One number for a day's number and a rank.
 fn turn(day: i32, rank: u8) -> i64
@@ -27,12 +30,78 @@ fn turn_of(placed: &Placed<Apart<Directive<'_>>>) -> (i64, usize)
     (turn(directive.day.number(), rank.number()), placed.part)
 }
 
+/// In a code there is room for so many parts. The turns of all days, a number from 0 on for each
+/// directive, and these have room in 64 bits together.
+pub(crate) const PARTS: usize = 1 << 16;
+
+/// No turn is so far below 0: that of the first day of the year 1 isn't.
+pub(crate) const BEFORE: i64 = 1 << 23;
+
+/// A turn as a number from 0 on.
+fn above(turn: i64) -> Option<u64>
+    ensures { IfSome result (λ above. pos above ≡ turn +ℤ BEFORE) }
+{
+    let Ok(above) = u64::try_from(turn.checked_add(BEFORE)?) else {
+        return None;
+    };
+    Some(above)
+}
+
+/// One number for a turn and a part, where they have room.
+fn code_of(placed: &Placed<Apart<Directive<'_>>>) -> Option<u64>
+    ensures { IfSome result (IsCode (spec.turn_of placed.now)) }
+{
+    let (turn, part) = turn_of(placed);
+    if part >= PARTS {
+        return None;
+    }
+    above(turn)?
+        .checked_mul(PARTS as u64)?
+        .checked_add(part as u64)
+}
+
+/// The codes of directives, where all have one.
+fn codes_of(
+    alloc: Global,
+    directives: &[Placed<Apart<Directive<'_>>>],
+) -> Result<Option<Vec<u64>>, AllocError>
+    ensures { IfOk result (λ found. IfSome found (λ codes.
+        AreCodes directives.now codes.items)) }
+{
+    let mut codes = Vec::with_capacity(alloc, directives.len())?;
+    for place in 0..directives.len() {
+        let Some(code) = code_of(&directives[place]) else {
+            return Ok(None);
+        };
+        codes.push(code)?;
+    }
+    Ok(Some(codes))
+}
+
+/// Arranges directives by their codes, where all have one. Whether it did.
+fn order_by_codes(
+    alloc: Global,
+    directives: &mut [Placed<Apart<Directive<'_>>>],
+) -> Result<bool, AllocError>
+    ensures in_order { IfOk result (λ done. AreInOrderIf done directives.old directives.new) }
+    ensures unchanged { OnErr result (directives.new ≡ directives.old) }
+{
+    let Some(codes) = codes_of(alloc, directives)? else {
+        return Ok(false);
+    };
+    arrange(alloc, directives, codes)
+}
+
 /// By day, of one day opens, then balances, all else, documents and closes, then in reading order.
 pub fn order_directives(
+    alloc: Global,
     directives: &mut Vec<Placed<Apart<Directive<'_>>>>,
 ) -> Result<(), AllocError>
     ensures { OnOk result (AreInOrder directives.old.items directives.new.items) }
 {
+    if order_by_codes(alloc, directives)? {
+        return Ok(());
+    }
     directives.sort_by_cached_key(turn_of)
 }
 

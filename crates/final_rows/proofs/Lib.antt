@@ -1,4 +1,3 @@
-pub mod ChainFacts
 pub mod RankFacts
 pub mod WordFacts
 pub mod CodeFacts

@@ -1,8 +1,9 @@
 //! Rows of values that lie one behind the other.
 ghost use Rattle.std.specs.Prelude.{◌≡◌, ◌≤◌, ◌++◌, ◌∷◌, [], length, map, take, vec_capacity};
 ghost use Rattle.std.specs.Prelude.{IfOk, IfSome, OnOk};
+ghost use Rattle.arranging.specs.Places.{AreMixed};
 ghost use Rattle.query_answer.specs.Places as spec;
-ghost use Rattle.query_answer.specs.Places.{AreDense, AreMixed, HaveBecome, MayGo};
+ghost use Rattle.query_answer.specs.Places.{AreDense, HaveBecome, MayGo};
 ghost use Rattle.query_answer.specs.Rows.{ArePicked, row_at};
 ghost use Rattle.query_answer.specs.Spans.{IsSameAround, LieApart, between, narrowed_to, rows_in, span_at};
 ghost use Rattle.query_answer.specs.Spans.{values_in};

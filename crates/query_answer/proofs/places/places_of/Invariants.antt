@@ -1,4 +1,4 @@
-use Rattle.query_answer.proofs.PlaceFacts.{AreSoFar}
+use Rattle.arranging.proofs.PlaceFacts.{AreSoFar}
 use Rattle.query_answer.proofs.places.places_of.Given as goal
 
 abbrev pub invariant-loop-place : goal.invariant-loop-place

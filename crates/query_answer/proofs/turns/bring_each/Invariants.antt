@@ -1,5 +1,6 @@
 use Rattle.std.proofs.Common.{◌≡◌, length}
-use Rattle.query_answer.specs.Places.{AreMixed, GoAlike}
+use Rattle.arranging.specs.Places.{AreMixed}
+use Rattle.query_answer.specs.Places.{GoAlike}
 use Rattle.query_answer.proofs.turns.bring_each.Given as goal
 
 abbrev pub invariant-loop-turn : goal.invariant-loop-turn

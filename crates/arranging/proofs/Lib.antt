@@ -1,0 +1,4 @@
+pub mod ArrangedFacts
+pub mod ChainFacts
+pub mod KeyFacts
+pub mod PlaceFacts
