@@ -6,7 +6,7 @@ use Rattle.bean_postings.specs.declared.posting.Posting.{Posting}
 use Rattle.bean_transactions.specs.Tried.{worth_of}
 use Rattle.bean_holdings.specs.declared.posted.Posted.{Posted}
 use Rattle.posting_table.specs.Plain as plain
-use Rattle.posting_table.specs.declared.entry.Entry.{Entry}
+use Rattle.posting_entries.specs.declared.entry.Entry.{Entry}
 use Rattle.bean_book.specs.Metadata.{items_of}
 use Rattle.bean_book.specs.Plain.{IsPlain}
 use Rattle.bean_book.specs.Rows.{row_by, unit_price}

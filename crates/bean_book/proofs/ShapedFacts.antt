@@ -38,7 +38,7 @@ use Rattle.posting_table.specs.Parts as parts
 use Rattle.posting_table.specs.Parts.{HasShortTexts, HasSmallParts, IsShortLot, IsShortSet}
 use Rattle.posting_table.specs.Shaped.{AreShort}
 use Rattle.query_rows.specs.Shaped.{IsShortIfThere}
-use Rattle.posting_table.specs.declared.entry.Entry.{Entry}
+use Rattle.posting_entries.specs.declared.entry.Entry.{Entry}
 use Rattle.query_rows.specs.Mass.{value_of}
 use Rattle.query_values.specs.TextSet.{set_of}
 use Rattle.theory.proofs.OnceFacts.{all_once, few_once}

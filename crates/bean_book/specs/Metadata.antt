@@ -5,7 +5,7 @@ use Rattle.bean_base.specs.declared.num.Num.{Num}
 use Rattle.bean_grammar.specs.declared.metadata.MetaEntry.{MetaEntry}
 use Rattle.bean_grammar.specs.declared.metadata.Value.{Value}
 use Rattle.bean_grammar.specs.declared.metadata.Value.TheVariants as value
-use Rattle.posting_table.specs.declared.metadata.MetaItem.{MetaItem}
+use Rattle.posting_entries.specs.declared.metadata.MetaItem.{MetaItem}
 use Rattle.number_texts.specs.Digits.{day_text, number_text}
 
 abbrev pub truth_text : Bool → List ℕ

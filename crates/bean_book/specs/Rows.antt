@@ -21,9 +21,9 @@ use Rattle.bean_pad.specs.declared.note.Outcome as outcomes
 use Rattle.bean_pad.specs.declared.note.Outcome.TheVariants as outcome
 use Rattle.bean_transactions.specs.Tried.{whole_at}
 use Rattle.bean_holdings.specs.declared.posted.Posted.{Posted}
-use Rattle.posting_table.specs.declared.entry.Entry.{Entry}
-use Rattle.posting_table.specs.declared.entry.EntryFlag.TheVariants.{Written, Padding}
-use Rattle.posting_table.specs.declared.metadata.MetaItem.{MetaItem}
+use Rattle.posting_entries.specs.declared.entry.Entry.{Entry}
+use Rattle.posting_entries.specs.declared.entry.EntryFlag.TheVariants.{Written, Padding}
+use Rattle.posting_entries.specs.declared.metadata.MetaItem.{MetaItem}
 use Rattle.posting_table.specs.declared.row.Row.{Row}
 use Rattle.posting_table.specs.declared.row.Weight.{Weight}
 use Rattle.query_values.specs.TextSet.{set_of}

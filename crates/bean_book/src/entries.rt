@@ -10,7 +10,7 @@ use bean_grammar::Mark;
 use bean_holdings::Posted;
 use bean_pad::NotedPad;
 use bean_replay::Kept;
-use posting_table::{Entry, EntryFlag, Metadata, PlainText, Shared};
+use posting_entries::{Entry, EntryFlag, Metadata, PlainText, Shared};
 use query_values::TextSet;
 use std::alloc::{AllocError, Global};
 use std::marker::Model;

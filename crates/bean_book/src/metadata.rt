@@ -8,7 +8,7 @@ ghost use Rattle.bean_book.specs.Metadata as spec;
 use bean_base::{Amount, Day, Num, Slice};
 use bean_grammar::{MetaEntry, Value};
 use number_texts::{push_day, push_number};
-use posting_table::{MetaItem, Metadata, PlainText};
+use posting_entries::{MetaItem, Metadata, PlainText};
 use std::alloc::{AllocError, Global};
 
 /// A text that was made byte by byte.

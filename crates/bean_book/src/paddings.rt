@@ -9,7 +9,8 @@ use crate::entries::{NoTexts, padding_entry};
 use bean_base::{Account, Currency};
 use bean_lots::{Key, Position};
 use bean_pad::{Note, NotedPad, Outcome};
-use posting_table::{Entry, Ledger, Metadata, Row, Shared, Weight};
+use posting_entries::{Entry, Metadata, Shared};
+use posting_table::{Ledger, Row, Weight};
 use std::alloc::{AllocError, Global};
 
 /// So much in an account, as a count of `10^-8`.

@@ -19,7 +19,8 @@ use bean_lots::{Key, Position};
 use bean_postings::{Price, WrittenPosting};
 use bean_replay::Kept;
 use bean_transactions::whole;
-use posting_table::{Entry, Ledger, Metadata, PlainRow, Row, Shared, Weight};
+use posting_entries::{Entry, Metadata, Shared};
+use posting_table::{Ledger, PlainRow, Row, Weight};
 use std::alloc::{AllocError, Global};
 
 /// The metadata of a written posting, for all that it is booked as.

@@ -2,10 +2,11 @@
 ghost use Rattle.std.specs.Prelude.{◌≡◌, slice_get, Some};
 ghost use Rattle.bq.specs.Columns as spec;
 ghost use Rattle.bq.specs.List.{shown_row};
-ghost use Rattle.posting_table.specs.Row.{entry_spelling};
+ghost use Rattle.posting_entries.specs.Entry.{entry_spelling};
 ghost use Rattle.query_values.specs.declared.value.Value.TheVariants as value;
 
-use posting_table::{EntryFlag, HeldRow, Ledger};
+use posting_entries::EntryFlag;
+use posting_table::{HeldRow, Ledger};
 use query_terms::Column;
 use table_printer::{Cell, Rows};
 

@@ -1,5 +1,5 @@
 -- Worked rows and bounds.
-use Rattle.std.proofs.Common.{◌≡◌, ◌<◌, ◌^◌, pos, true, false, List, [], ◌∷◌, Some, None, refl}
+use Rattle.std.proofs.Common.{◌≡◌, ◌<◌, ◌^◌, pos, true, false, Some, None, refl}
 use Rattle.std.proofs.Common.{arith}
 use Rattle.std.specs.Int.RustNames.{unsigned_abs}
 use Rattle.std.specs.Prelude.{codes}
@@ -7,43 +7,13 @@ use Rattle.limits.specs.declared.bounds.Bounds.{Bounds}
 use Rattle.limits.specs.declared.bounds.Version.TheVariants.{Second}
 use Rattle.bean_base.specs.declared.days.Day as day
 use Rattle.bean_lots.specs.declared.lot.Lot.{Lot}
-use Rattle.posting_table.specs.Row.{cell_at, entry_spelling, of_lot}
-use Rattle.posting_table.specs.Rows.{entries_of}
-use Rattle.posting_table.specs.declared.entry.EntryFlag.TheVariants.{Padding}
-use Rattle.posting_table.specs.declared.metadata.MetaItem.{MetaItem}
+use Rattle.posting_table.specs.Row.{cell_at, of_lot}
 use Rattle.posting_table.specs.declared.row.Row.{Row}
 use Rattle.query_terms.specs.declared.column.Column.TheVariants.{Balance, Tags}
 use Rattle.query_rows.specs.Fits.{has_digits, lot_fits}
-use Rattle.query_rows.specs.Row.{text_or_null, text_under}
 use Rattle.query_values.specs.declared.value.Value.TheVariants.{Null, Set, Text}
 
--- ---- metadata
-
-abbrev items : List MetaItem
-items =
-    record { key = codes "receipt"; text = Some (codes "A-17") }
-    ∷ record { key = codes "paid"; text = None }
-    ∷ record { key = codes "receipt"; text = Some (codes "B") }
-    ∷ record { key = codes "paid"; text = Some (codes "cash") } ∷ []
-
-the_first_of_a_key : text_under (codes "receipt") (entries_of items) ≡ Some (codes "A-17")
-the_first_of_a_key = refl
-
--- it hides a later one
-nothing_behind_a_key : text_under (codes "paid") (entries_of items) ≡ None
-nothing_behind_a_key = refl
-
--- keys are the same in the same letters alone
-another_key : text_under (codes "Receipt") (entries_of items) ≡ None
-another_key = refl
-
 -- ---- cells
-
-padding : entry_spelling Padding ≡ codes "P"
-padding = refl
-
-no_payee : text_or_null None ≡ Null
-no_payee = refl
 
 no_cost : of_lot (λ lot. Text lot.cost.currency) None ≡ Null
 no_cost = refl

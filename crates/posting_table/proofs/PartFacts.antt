@@ -10,13 +10,14 @@ use Rattle.bean_base.specs.declared.flags.Flag.{Flag}
 use Rattle.bean_base.specs.declared.flags.Flag.TheVariants.{Complete, Incomplete}
 use Rattle.bean_lots.specs.declared.lot.Lot.{Lot}
 use Rattle.posting_table.specs.Parts.{HasSmallParts, IsShortLot, IsShortPrice}
-use Rattle.posting_table.specs.Row.{cell_at, entry_spelling, flag_or_null, label_of, of_lot}
+use Rattle.posting_table.specs.Row.{cell_at, flag_or_null, label_of, of_lot}
 use Rattle.posting_table.specs.Row.{price_or_null}
-use Rattle.posting_table.specs.Rows.{entries_of}
+use Rattle.posting_entries.specs.Entry.{entry_spelling}
+use Rattle.posting_entries.specs.Metadata.{entries_of}
 use Rattle.posting_table.specs.Shaped.{IsShaped, AreShort}
-use Rattle.posting_table.specs.declared.metadata.MetaItem.{MetaItem}
-use Rattle.posting_table.specs.declared.entry.EntryFlag.{EntryFlag}
-use Rattle.posting_table.specs.declared.entry.EntryFlag.TheVariants.{Written, Padding}
+use Rattle.posting_entries.specs.declared.metadata.MetaItem.{MetaItem}
+use Rattle.posting_entries.specs.declared.entry.EntryFlag.{EntryFlag}
+use Rattle.posting_entries.specs.declared.entry.EntryFlag.TheVariants.{Written, Padding}
 use Rattle.posting_table.specs.declared.row.Row.{Row}
 use Rattle.query_rows.specs.ColumnShape.{column_shape, widest}
 use Rattle.query_terms.specs.declared.column.Column.{Column}

@@ -1,4 +1,3 @@
-pub mod PlainText
 pub mod Row
 pub mod Cells
 pub mod Decimals

@@ -1,13 +1,12 @@
 -- The cells of a row.
-use Rattle.std.specs.Prelude.{ℕ, List, codes, Option, Some, None}
+use Rattle.std.specs.Prelude.{ℕ, List, Option, Some, None}
 use Rattle.std.specs.Int.RustNames.{unsigned_abs}
 use Rattle.bean_base.specs.Decimal.{scaled}
 use Rattle.bean_base.specs.Flag.{spelling}
 use Rattle.bean_base.specs.declared.amounts.Amount as amounts
 use Rattle.bean_base.specs.declared.flags.Flag.{Flag}
 use Rattle.bean_lots.specs.declared.lot.Lot.{Lot}
-use Rattle.posting_table.specs.declared.entry.EntryFlag.{EntryFlag}
-use Rattle.posting_table.specs.declared.entry.EntryFlag.TheVariants.{Written, Padding}
+use Rattle.posting_entries.specs.Entry.{entry_spelling}
 use Rattle.posting_table.specs.declared.row.Row.{Row}
 use Rattle.query_terms.specs.declared.column.Column.{Column}
 use Rattle.query_terms.specs.declared.column.Column.TheVariants as column
@@ -16,11 +15,6 @@ use Rattle.query_values.specs.Operation.{whole}
 use Rattle.query_values.specs.declared.value.Value.{Value}
 use Rattle.query_values.specs.declared.value.Value.TheVariants.{Null, Number, Text, Day, Set}
 use Rattle.query_values.specs.declared.value.Value.TheVariants.{Amount, Position}
-
--- how a table shows the flag of a transaction
-abbrev pub entry_spelling : EntryFlag → List ℕ
-entry_spelling (Written flag) = spelling flag
-entry_spelling Padding = codes "P"
 
 -- a flag, what is told of a lot; null where there is none
 

@@ -3,14 +3,8 @@ use Rattle.std.specs.Prelude.{List, map}
 use Rattle.query_rows.specs.Row as rows
 use Rattle.posting_table.specs.Ledger.{Ledger}
 use Rattle.posting_table.specs.Row.{cell_at}
-use Rattle.posting_table.specs.declared.metadata.MetaItem.{MetaItem}
+use Rattle.posting_entries.specs.Metadata.{entries_of}
 use Rattle.posting_table.specs.declared.row.Row.{Row}
-
-abbrev pub entry_of : MetaItem → rows.MetaText
-entry_of m = record { key = m.key; text = m.text }
-
-abbrev pub entries_of : List MetaItem → List rows.MetaText
-entries_of items = map entry_of items
 
 abbrev pub row_of : Row → rows.Row
 row_of r = record {

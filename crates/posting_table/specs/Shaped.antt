@@ -5,7 +5,7 @@ use Rattle.limits.specs.declared.bounds.Bounds.{Bounds}
 use Rattle.query_rows.specs.Shaped as rows
 use Rattle.query_rows.specs.Shaped.{IsShortIfThere}
 use Rattle.posting_table.specs.Rows.{row_of}
-use Rattle.posting_table.specs.declared.metadata.MetaItem.{MetaItem}
+use Rattle.posting_entries.specs.declared.metadata.MetaItem.{MetaItem}
 use Rattle.posting_table.specs.declared.row.Row.{Row}
 
 -- it is, as queries see it

@@ -1,13 +1,13 @@
 //! What rows have of their own beside their accounts: little, in most of them.
 ghost use Rattle.std.specs.Prelude.{◌≡◌, IfOk, IfSome};
 ghost use Rattle.std.specs.Option.{option_copied};
-ghost use Rattle.posting_table.specs.Rows.{entries_of};
+ghost use Rattle.posting_entries.specs.Metadata.{entries_of};
 ghost use Rattle.posting_table.specs.Beside as spec;
 ghost use Rattle.query_rows.specs.Row as row_spec;
 
-use crate::metadata::Metadata;
 use crate::row::Weight;
 use bean_base::{Amount, Apart, Flag};
+use posting_entries::Metadata;
 use std::alloc::{AllocError, Global};
 use std::marker::Model;
 

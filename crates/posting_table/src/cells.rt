@@ -1,19 +1,15 @@
 //! Cells, and what the parts of a row have in their columns.
 ghost use Rattle.std.specs.Prelude.{◌≡◌};
 ghost use Rattle.std.specs.Option.{option_copied};
-ghost use Rattle.posting_table.specs.Cells.{entry_cell};
 ghost use Rattle.posting_table.specs.Cells as spec;
 ghost use Rattle.posting_table.specs.Row as row_spec;
 ghost use Rattle.posting_table.specs.Row.{price_or_null};
-ghost use Rattle.query_rows.specs.Row as rows;
 ghost use Rattle.query_values.specs.Operation as operation;
 
-use crate::entry::Entry;
-use crate::plain_text::PlainText;
 use bean_base::{Amount, Flag, Slice};
 use bean_lots::Lot;
 use query_terms::Column;
-use query_values::{Lent, Value, part};
+use query_values::{Lent, Value};
 
 /// A whole number.
 pub(crate) fn whole<'r>(number: usize) -> Value<'r>
@@ -22,16 +18,6 @@ pub(crate) fn whole<'r>(number: usize) -> Value<'r>
     Value::Number {
         places: 0,
         count: number as i128,
-    }
-}
-
-/// A text, or null where there is none.
-pub(crate) fn text_or_null<'r>(text: &'r Option<PlainText<'_>>) -> Value<'r>
-    ensures { result ≡ rows.text_or_null text.now }
-{
-    match text {
-        Some(text) => Value::Text(Slice::new(text.as_str())),
-        None => Value::Null,
     }
 }
 
@@ -71,26 +57,5 @@ pub(crate) fn lot_cell<'r>(lot: &'r Lot<'_>, column: Column) -> Value<'r>
         Column::CostCurrency => Value::Text(Slice::new(lot.cost.currency.text())),
         Column::CostDate => Value::Day(lot.day),
         _ => Value::Null,
-    }
-}
-
-impl<'a> Entry<'a> {
-    /// What the transaction has in one of its columns; null in any other.
-    pub(crate) fn cell(&self, column: Column) -> Value<'_>
-        ensures { result ≡ entry_cell self.now column }
-    {
-        match column {
-            Column::Date => Value::Day(self.date),
-            Column::Year => part::year(&Value::Day(self.date)),
-            Column::Month => part::month(&Value::Day(self.date)),
-            Column::Day => part::day(&Value::Day(self.date)),
-            Column::Flag => Value::Text(Slice::new(self.flag.spelling())),
-            Column::Payee => text_or_null(&self.payee),
-            Column::Narration => Value::Text(Slice::new(self.narration.as_str())),
-            Column::Tags => Value::Set(Lent::new(self.tags.get())),
-            Column::Links => Value::Set(Lent::new(self.links.get())),
-            Column::Accounts => Value::Set(Lent::new(&self.accounts)),
-            _ => Value::Null,
-        }
     }
 }

@@ -10,12 +10,11 @@ ghost use Rattle.posting_table.specs.Row as spec;
 
 use crate::beside::{Beside, BesideParts};
 use crate::cells::{flag_or_null, price_cell, whole};
-use crate::entry::{Entry, EntryFlag};
 use crate::keys::{HeldKey, Keys};
 use crate::row::{PlainRow, Row, Weight};
-use crate::shared::Shared;
 use bean_base::{Account, Amount, Currency, Day, Slice};
 use bean_lots::{Key, Position};
+use posting_entries::{Entry, EntryFlag, Shared};
 use query_terms::Column;
 use query_values::{Lent, Value};
 use std::alloc::{AllocError, Global};

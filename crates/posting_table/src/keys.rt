@@ -6,11 +6,10 @@ ghost use Rattle.posting_table.specs.Row as spec;
 ghost use Rattle.query_rows.specs.Row.{text_or_null};
 
 use crate::cells::lot_cell;
-use crate::plain_text::PlainText;
-use crate::shared::Shared;
 use bean_base::{Currency, Slice};
 use bean_lots::{Key, Lot};
 use indexmap::IndexMap;
+use posting_entries::{PlainText, Shared};
 use query_terms::Column;
 use query_values::Value;
 use std::alloc::{AllocError, Global};

@@ -34,11 +34,10 @@
 //!
 //! # Rows
 //!
-//! What the postings of a transaction have in common, its [`Entry`], stands once for all of them, and
-//! so does the [`Metadata`] of a written posting that became several; the set of no tags may stand
-//! once for all. A text is a slice of the ledger's text, and is made only where it is written with an
-//! escape or stands for no text. What units of a currency are held as without a lot stands once for
-//! all rows of the currency, and a weight is kept only where it isn't that of the units themselves.
+//! What the postings of a transaction have in common, its entry (`posting_entries`), stands once for
+//! all of them, and so does the metadata of a written posting that became several. What units of a
+//! currency are held as without a lot stands once for all rows of the currency, and a weight is kept
+//! only where it isn't that of the units themselves.
 //!
 //! # Cells
 //!
@@ -73,24 +72,16 @@ mod beside;
 mod bounded;
 mod cells;
 mod display;
-mod entry;
 mod held;
 mod keys;
 mod laws;
 mod ledger;
-mod metadata;
-mod plain_text;
 mod row;
-mod shared;
 
 pub use display::Display;
-pub use entry::{Entry, EntryFlag};
 pub use held::HeldRow;
 pub use laws::{cells_lie_in_their_shapes, rows_of_small_parts_are_shaped};
 pub use ledger::Ledger;
 pub use ledger::taken::TakenRows;
-pub use metadata::{MetaItem, Metadata};
-pub use plain_text::PlainText;
 pub use query_terms::Column;
 pub use row::{PlainRow, Row, Weight};
-pub use shared::Shared;

@@ -1,11 +1,9 @@
 //! Rows of the table.
 ghost use Rattle.std.specs.Prelude.{◌≡◌};
 
-use crate::entry::Entry;
-use crate::metadata::Metadata;
-use crate::shared::Shared;
 use bean_base::{Account, Amount, Currency, Flag};
 use bean_lots::Position;
+use posting_entries::{Entry, Metadata, Shared};
 
 /// What a posting weighs in its transaction, as a count of `10^-16`.
 #[derive(Drop, PartialEq, Eq)]

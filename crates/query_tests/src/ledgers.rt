@@ -5,7 +5,8 @@ ghost use Rattle.posting_table.specs.Parts.{HasShortTexts, HasSmallParts, IsShor
 use bean_base::{Flag, Slice, parse_account, parse_currency, parse_day};
 use bean_lots::{Key, Position};
 use limits::MOST_POSTINGS;
-use posting_table::{Entry, EntryFlag, Ledger, Metadata, PlainText, Row, Shared, Weight};
+use posting_entries::{Entry, EntryFlag, Metadata, PlainText, Shared};
+use posting_table::{Ledger, Row, Weight};
 use query_values::TextSet;
 use std::alloc::Global;
 use std::test::Fail;

@@ -14,7 +14,7 @@ use Rattle.bean_holdings.specs.declared.posted.Posted.{Posted}
 use Rattle.posting_table.specs.Ledger.{Ledger}
 use Rattle.posting_table.specs.Plain as plain
 use Rattle.posting_table.specs.Shaped.{IsShaped}
-use Rattle.posting_table.specs.declared.entry.Entry.{Entry}
+use Rattle.posting_entries.specs.declared.entry.Entry.{Entry}
 use Rattle.posting_table.specs.declared.row.Row.{Row}
 use Rattle.bean_replay.specs.declared.booking.Kept.{Kept}
 use Rattle.bean_book.specs.Tame.{IsTameKept}

@@ -1,7 +1,7 @@
 //! Metadata: texts under keys.
 ghost use Rattle.std.specs.Prelude.{◌≡◌, [], IfOk};
 ghost use Rattle.std.specs.Option.{option_copied};
-ghost use Rattle.posting_table.specs.Rows.{entries_of};
+ghost use Rattle.posting_entries.specs.Metadata.{entries_of};
 ghost use Rattle.query_rows.specs.Row as spec;
 
 use crate::plain_text::PlainText;
@@ -33,7 +33,7 @@ impl Drop for Metadata<'_> {
 impl<'a> Model for Metadata<'a> {
     ghost use Rattle.std.specs.Prelude.{[], unwrap_or};
     ghost use Rattle.std.specs.Prelude as prelude;
-    ghost use Rattle.posting_table.specs.declared.metadata.MetaItem.{MetaItem};
+    ghost use Rattle.posting_entries.specs.declared.metadata.MetaItem.{MetaItem};
 
     ghost Value = { prelude.List MetaItem };
 

@@ -28,7 +28,7 @@ impl Drop for PlainText<'_> {
 
 impl<'a> Model for PlainText<'a> {
     ghost use Rattle.std.specs.Prelude.{List, ℕ};
-    ghost use Rattle.posting_table.specs.PlainText.{bytes_of};
+    ghost use Rattle.posting_entries.specs.PlainText.{bytes_of};
 
     ghost Value = { List ℕ };
 

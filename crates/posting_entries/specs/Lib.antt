@@ -1,0 +1,3 @@
+pub mod PlainText
+pub mod Metadata
+pub mod Entry
