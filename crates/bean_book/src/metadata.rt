@@ -12,12 +12,12 @@ use posting_entries::{MetaItem, Metadata, PlainText};
 use std::alloc::{AllocError, Global};
 
 /// A text that was made byte by byte.
-fn made<'a>(bytes: Vec<u8>) -> PlainText<'a>
+fn made<'a>(alloc: Global, bytes: Vec<u8>) -> Result<PlainText<'a>, AllocError>
     requires { IsAscii bytes.items }
-    ensures { result ≡ bytes.items }
+    ensures { IfOk result (λ text. text ≡ bytes.items) }
 {
     match String::from_utf8(bytes) {
-        Ok(text) => PlainText::made(text),
+        Ok(text) => PlainText::made(alloc, text),
         Err(_) => unreachable!(),
     }
 }
@@ -35,7 +35,7 @@ fn number_text<'a>(alloc: Global, number: Num) -> Result<PlainText<'a>, AllocErr
 {
     let mut out = Vec::new(alloc);
     push_num(&mut out, number)?;
-    Ok(made(out))
+    made(alloc, out)
 }
 
 fn amount_text<'a>(alloc: Global, amount: &Amount<'a>) -> Result<PlainText<'a>, AllocError>
@@ -45,7 +45,7 @@ fn amount_text<'a>(alloc: Global, amount: &Amount<'a>) -> Result<PlainText<'a>, 
     push_num(&mut out, amount.number)?;
     out.push(b' ')?;
     out.extend_from_slice(amount.currency.text().as_bytes())?;
-    Ok(made(out))
+    made(alloc, out)
 }
 
 fn day_text<'a>(alloc: Global, day: Day) -> Result<PlainText<'a>, AllocError>
@@ -53,7 +53,7 @@ fn day_text<'a>(alloc: Global, day: Day) -> Result<PlainText<'a>, AllocError>
 {
     let mut out = Vec::new(alloc);
     push_day(&mut out, day)?;
-    Ok(made(out))
+    made(alloc, out)
 }
 
 /// A value as a text, where it is something.

@@ -2,7 +2,7 @@
 ghost use Rattle.std.specs.Prelude.{◌≡◌, IfOk};
 ghost use Rattle.std.specs.String.{string_bytes};
 
-use bean_base::{Slice, Text};
+use bean_base::{Apart, Slice, Text};
 use std::alloc::{AllocError, Global};
 use std::marker::Model;
 
@@ -10,7 +10,7 @@ use std::marker::Model;
 #[derive(Drop)]
 enum Bytes<'a> {
     Lent(Slice<'a>),
-    Made(String),
+    Made(Apart<String>),
 }
 
 /// A text without escapes: a slice of where it stands, or one that was made. Its value is its
@@ -45,13 +45,13 @@ impl<'a> PlainText<'a> {
         }
     }
 
-    /// The text that was made.
-    pub fn made(text: String) -> PlainText<'a>
-        ensures { result ≡ string_bytes text }
+    /// The text that was made. Few are: it lies apart, so that the others stay small.
+    pub fn made(alloc: Global, text: String) -> Result<PlainText<'a>, AllocError>
+        ensures { IfOk result (λ plain. plain ≡ string_bytes text) }
     {
-        PlainText {
-            bytes: Bytes::Made(text),
-        }
+        Ok(PlainText {
+            bytes: Bytes::Made(Apart::new(alloc, text)?),
+        })
     }
 
     /// What a quoted text stands for. It takes memory where the text has an escape.
@@ -63,7 +63,7 @@ impl<'a> PlainText<'a> {
         }
         let mut made = String::new(alloc);
         text.add_to(&mut made)?;
-        Ok(PlainText::made(made))
+        PlainText::made(alloc, made)
     }
 
     /// The text.
@@ -72,7 +72,7 @@ impl<'a> PlainText<'a> {
     {
         match &self.bytes {
             Bytes::Lent(slice) => slice.text(),
-            Bytes::Made(text) => text,
+            Bytes::Made(text) => text.get(),
         }
     }
 }
