@@ -6,7 +6,7 @@ use Rattle.bean_postings.specs.declared.posting.Posting.{Posting}
 use Rattle.bean_transactions.specs.Tried.{worth_of}
 use Rattle.bean_holdings.specs.declared.posted.Posted.{Posted}
 use Rattle.posting_table.specs.Plain as plain
-use Rattle.posting_entries.specs.declared.entry.Entry.{Entry}
+use Rattle.posting_entries.specs.declared.entry.EntryParts.{EntryParts}
 use Rattle.bean_book.specs.Metadata.{items_of}
 use Rattle.bean_book.specs.Plain.{IsPlain}
 use Rattle.bean_book.specs.Rows.{row_by, unit_price}
@@ -19,7 +19,7 @@ weighs w p h =
     scaled_16 number.count number.places number.in_range.0
     ∙ (λ i. count_of p.units (worth_of (sym h.held i) (sym h.alone.price i)))
 
-pub plain_is : (e : Entry) (line : ℕ) (w : Posting) (p : Posted) → IsPlain w p
+pub plain_is : (e : EntryParts) (line : ℕ) (w : Posting) (p : Posted) → IsPlain w p
     → plain.row_of (record {
       entry = e;
       account = p.account;

@@ -38,7 +38,7 @@ use Rattle.posting_table.specs.Parts as parts
 use Rattle.posting_table.specs.Parts.{HasShortTexts, HasSmallParts, IsShortLot, IsShortSet}
 use Rattle.posting_table.specs.Shaped.{AreShort}
 use Rattle.query_rows.specs.Shaped.{IsShortIfThere}
-use Rattle.posting_entries.specs.declared.entry.Entry.{Entry}
+use Rattle.posting_entries.specs.declared.entry.EntryParts.{EntryParts}
 use Rattle.query_rows.specs.Mass.{value_of}
 use Rattle.query_values.specs.TextSet.{set_of}
 use Rattle.theory.proofs.OnceFacts.{all_once, few_once}
@@ -164,7 +164,7 @@ price_short (price.PerUnit amount) h = short_currency amount.currency h
 price_short (price.Total amount) h = tt
 price_short price.OutsideProfile h = tt
 
-row_by_small : (e : Entry) (line : ℕ) (w : Option Posting) (p : Posted) → HasShortTexts e
+row_by_small : (e : EntryParts) (line : ℕ) (w : Option Posting) (p : Posted) → HasShortTexts e
     → IsSmallPosted p → IsLight (leg.Whole (whole_at w p)) → IfSome w IsSmallPosting
     → line ≤ most → HasSmallParts (row_by e line w p)
 row_by_small e line None p texts small light written at = record {
@@ -195,7 +195,7 @@ row_by_small e line (Some w) p texts small light written at = record {
   texts = short_items w.details.metadata written.metadata;
 }
 
-pub row_small : (e : Entry) (line : ℕ) (ps : List Posting) (p : Posted) → HasShortTexts e
+pub row_small : (e : EntryParts) (line : ℕ) (ps : List Posting) (p : Posted) → HasShortTexts e
     → IsSmallPosted p → IsLight (booked_leg ps p) → AllByRecursion IsSmallPosting ps
     → line ≤ most → HasSmallParts (row_of e line ps p)
 row_small e line ps p texts small light written at =

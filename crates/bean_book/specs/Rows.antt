@@ -21,7 +21,7 @@ use Rattle.bean_pad.specs.declared.note.Outcome as outcomes
 use Rattle.bean_pad.specs.declared.note.Outcome.TheVariants as outcome
 use Rattle.bean_transactions.specs.Tried.{whole_at}
 use Rattle.bean_holdings.specs.declared.posted.Posted.{Posted}
-use Rattle.posting_entries.specs.declared.entry.Entry.{Entry}
+use Rattle.posting_entries.specs.declared.entry.EntryParts.{EntryParts}
 use Rattle.posting_entries.specs.declared.entry.EntryFlag.TheVariants.{Written, Padding}
 use Rattle.posting_entries.specs.declared.metadata.MetaItem.{MetaItem}
 use Rattle.posting_table.specs.declared.row.Row.{Row}
@@ -43,7 +43,7 @@ link_in (Tag name) = []
 link_in (Link name) = name ∷ []
 
 -- what the postings of a transaction have in common
-abbrev pub entry_of : Kept → Entry
+abbrev pub entry_of : Kept → EntryParts
 entry_of k = record {
   payee = k.written.transaction.payee;
   narration = k.written.transaction.narration;
@@ -85,7 +85,7 @@ position_of p = record {
 abbrev pub weight_by : Whole → Weight
 weight_by w = record { count = weight_of w; currency = currency_of w.units w.worth }
 
-abbrev pub row_by : Entry → ℕ → Option Posting → Posted → Row
+abbrev pub row_by : EntryParts → ℕ → Option Posting → Posted → Row
 row_by e line written p = record {
   entry = e;
   account = p.account;
@@ -97,7 +97,7 @@ row_by e line written p = record {
   flag = flag_in written;
 }
 
-abbrev pub row_of : Entry → ℕ → List Posting → Posted → Row
+abbrev pub row_of : EntryParts → ℕ → List Posting → Posted → Row
 row_of e line ps p = row_by e line (slice_get ps p.written) p
 
 abbrev pub rows_of_transaction : Kept → List Row
@@ -106,7 +106,7 @@ rows_of_transaction k =
 
 -- ---- paddings
 
-abbrev pub padding_entry : NotedPad → Entry
+abbrev pub padding_entry : NotedPad → EntryParts
 padding_entry n = record {
   payee = None;
   narration = codes "Padding";

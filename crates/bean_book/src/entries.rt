@@ -10,42 +10,9 @@ use bean_grammar::Mark;
 use bean_holdings::Posted;
 use bean_pad::NotedPad;
 use bean_replay::Kept;
-use posting_entries::{Entry, EntryFlag, Metadata, PlainText, Shared};
+use posting_entries::{Entry, EntryFlag, EntryParts, Metadata, NoExtras, PlainText, Shared};
 use query_values::TextSet;
 use std::alloc::{AllocError, Global};
-use std::marker::Model;
-
-/// The set of no texts, which stands once for all transactions without tags or without links.
-#[derive(Drop)]
-pub(crate) struct NoTexts<'a> {
-    set: Shared<TextSet<'a>>,
-}
-
-impl<'a> Model for NoTexts<'a> {
-    ghost use Rattle.std.specs.Prelude.{◌≡◌, [], ℕ};
-    ghost use Rattle.std.specs.Prelude as prelude;
-
-    ghost Value = { prelude.List (prelude.List ℕ) };
-
-    ghost view = { λ n. n.set };
-
-    ghost invariant = { λ n. n.set ≡ [] };
-}
-
-impl<'a> NoTexts<'a> {
-    pub(crate) fn new(alloc: Global) -> Result<NoTexts<'a>, AllocError> {
-        Ok(NoTexts {
-            set: Shared::new(alloc, TextSet::new(Vec::new(alloc)))?,
-        })
-    }
-
-    /// The set once more.
-    pub(crate) fn share(&self) -> Result<Shared<TextSet<'a>>, AllocError>
-        ensures { IfOk result (λ set. set ≡ []) }
-    {
-        self.set.share()
-    }
-}
 
 /// The names of the tags among marks. Few transactions have any: it stays out of what is done for
 /// each.
@@ -65,13 +32,13 @@ fn tags_among<'a>(alloc: Global, marks: &[Mark<'a>]) -> Result<Shared<TextSet<'a
 /// The names of the tags.
 fn tags_of<'a>(
     alloc: Global,
-    none: &NoTexts<'a>,
+    none: &NoExtras<'a>,
     marks: &[Mark<'a>],
 ) -> Result<Shared<TextSet<'a>>, AllocError>
     ensures { IfOk result (λ set. set ≡ set_of (flat_map spec.tag_in marks.now)) }
 {
     if marks.is_empty() {
-        return none.share();
+        return none.no_texts();
     }
     tags_among(alloc, marks)
 }
@@ -93,13 +60,13 @@ fn links_among<'a>(alloc: Global, marks: &[Mark<'a>]) -> Result<Shared<TextSet<'
 /// The names of the links.
 fn links_of<'a>(
     alloc: Global,
-    none: &NoTexts<'a>,
+    none: &NoExtras<'a>,
     marks: &[Mark<'a>],
 ) -> Result<Shared<TextSet<'a>>, AllocError>
     ensures { IfOk result (λ set. set ≡ set_of (flat_map spec.link_in marks.now)) }
 {
     if marks.is_empty() {
-        return none.share();
+        return none.no_texts();
     }
     links_among(alloc, marks)
 }
@@ -131,7 +98,7 @@ fn payee_of<'a>(
 /// What the booked postings of a transaction have in common.
 pub(crate) fn entry_of<'a>(
     alloc: Global,
-    none: &NoTexts<'a>,
+    none: &NoExtras<'a>,
     kept: &Kept<'a>,
 ) -> Result<Shared<Entry<'a>>, AllocError>
     ensures { IfOk result (λ entry. entry ≡ spec.entry_of kept.now) }
@@ -139,7 +106,7 @@ pub(crate) fn entry_of<'a>(
     let written = &kept.written;
     let transaction = &written.transaction;
     let marks = transaction.marks.as_slice();
-    let entry = Entry {
+    let parts = EntryParts {
         payee: payee_of(alloc, &transaction.payee)?,
         narration: PlainText::of(alloc, &transaction.narration)?,
         tags: tags_of(alloc, none, marks)?,
@@ -149,13 +116,13 @@ pub(crate) fn entry_of<'a>(
         date: written.day,
         flag: EntryFlag::Written(transaction.flag),
     };
-    Shared::new(alloc, entry)
+    Shared::new(alloc, Entry::new(alloc, none, parts)?)
 }
 
 /// What the two postings have in common that a pad inserts.
 pub(crate) fn padding_entry<'a>(
     alloc: Global,
-    none: &NoTexts<'a>,
+    none: &NoExtras<'a>,
     noted: &NotedPad<'a>,
 ) -> Result<Shared<Entry<'a>>, AllocError>
     ensures { IfOk result (λ entry. entry ≡ spec.padding_entry noted.now) }
@@ -164,15 +131,15 @@ pub(crate) fn padding_entry<'a>(
         Slice::new(noted.pad.account.text()),
         Slice::new(noted.pad.source.text()),
     ];
-    let entry = Entry {
+    let parts = EntryParts {
         payee: None,
         narration: PlainText::lent("Padding"),
-        tags: none.share()?,
-        links: none.share()?,
+        tags: none.no_texts()?,
+        links: none.no_texts()?,
         accounts: TextSet::new(Vec::from_array(alloc, names)?),
         metadata: Metadata::empty(),
         date: noted.day,
         flag: EntryFlag::Padding,
     };
-    Shared::new(alloc, entry)
+    Shared::new(alloc, Entry::new(alloc, none, parts)?)
 }

@@ -13,12 +13,12 @@ ghost use Rattle.bean_replay.specs.declared.booking.Draft as drafts;
 
 use crate::counts::count_pads;
 use crate::decimals::note_written;
-use crate::entries::NoTexts;
 use crate::paddings::push_pad;
 use crate::rows::push_transaction;
 use bean_pad::NotedPad;
 use bean_replay::{BookCause, Bookings, Kept};
 use limits::MOST_POSTINGS;
+use posting_entries::NoExtras;
 use posting_table::{Ledger, TakenRows};
 use refusals::Refusal;
 use std::alloc::{AllocError, Global};
@@ -28,7 +28,7 @@ use std::alloc::{AllocError, Global};
 #[derive(Drop)]
 pub(crate) struct LedgerRows<'a> {
     alloc: Global,
-    none: NoTexts<'a>,
+    none: NoExtras<'a>,
     ledger: Ledger<'a>,
     /// How many rows stand before each pad.
     places: Vec<usize>,
@@ -43,7 +43,7 @@ impl<'a> LedgerRows<'a> {
     {
         Ok(LedgerRows {
             alloc,
-            none: NoTexts::new(alloc)?,
+            none: NoExtras::new(alloc)?,
             ledger: Ledger::new(alloc),
             places: Vec::new(alloc),
             near: 0,
@@ -54,7 +54,7 @@ impl<'a> LedgerRows<'a> {
 /// Adds a transaction that is kept.
 fn push_kept<'a>(
     alloc: Global,
-    none: &NoTexts<'a>,
+    none: &NoExtras<'a>,
     ledger: &mut Ledger<'a>,
     near: &mut usize,
     kept: &Kept<'a>,
@@ -93,7 +93,7 @@ impl<'a> Bookings<'a> for LedgerRows<'a> {
 /// Puts so many rows back, and behind them those that a pad inserts.
 fn put_pad<'a>(
     alloc: Global,
-    none: &NoTexts<'a>,
+    none: &NoExtras<'a>,
     ledger: &mut Ledger<'a>,
     rest: &mut TakenRows<'a>,
     count: usize,
@@ -114,7 +114,7 @@ fn put_pad<'a>(
 /// Puts the rows in that pads insert, each at its place.
 fn put_pads<'a>(
     alloc: Global,
-    none: &NoTexts<'a>,
+    none: &NoExtras<'a>,
     ledger: &mut Ledger<'a>,
     places: Vec<usize>,
     pads: Vec<NotedPad<'a>>,

@@ -5,11 +5,11 @@ ghost use Rattle.bean_replay.specs.Small.{IsSmallNote, IsSmallNoted};
 ghost use Rattle.limits.specs.declared.counts.TheConstants.{MOST_POSTINGS};
 ghost use Rattle.bean_book.specs.Rows as spec;
 
-use crate::entries::{NoTexts, padding_entry};
+use crate::entries::padding_entry;
 use bean_base::{Account, Currency};
 use bean_lots::{Key, Position};
 use bean_pad::{Note, NotedPad, Outcome};
-use posting_entries::{Entry, Metadata, Shared};
+use posting_entries::{Entry, Metadata, NoExtras, Shared};
 use posting_table::{Ledger, Row, Weight};
 use std::alloc::{AllocError, Global};
 
@@ -76,7 +76,7 @@ fn push_note<'a>(
 /// Adds the rows that a pad inserts.
 pub(crate) fn push_pad<'a>(
     alloc: Global,
-    none: &NoTexts<'a>,
+    none: &NoExtras<'a>,
     ledger: &mut Ledger<'a>,
     noted: &NotedPad<'a>,
 ) -> Result<(), AllocError>

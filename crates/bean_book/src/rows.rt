@@ -11,7 +11,7 @@ ghost use Rattle.bean_book.specs.Plain.{IsPlain};
 ghost use Rattle.bean_book.specs.Rows as spec;
 ghost use Rattle.bean_book.specs.Tame.{IsTameKept};
 
-use crate::entries::{NoTexts, entry_of};
+use crate::entries::entry_of;
 use crate::metadata::metadata_of;
 use bean_base::Amount;
 use bean_holdings::Posted;
@@ -19,7 +19,7 @@ use bean_lots::{Key, Position};
 use bean_postings::{Price, WrittenPosting};
 use bean_replay::Kept;
 use bean_transactions::whole;
-use posting_entries::{Entry, Metadata, Shared};
+use posting_entries::{Entry, Metadata, NoExtras, Shared};
 use posting_table::{Ledger, PlainRow, Row, Weight};
 use std::alloc::{AllocError, Global};
 
@@ -238,7 +238,7 @@ fn push_posted<'a>(
 /// Adds the rows of a transaction that is kept.
 pub(crate) fn push_transaction<'a>(
     alloc: Global,
-    none: &NoTexts<'a>,
+    none: &NoExtras<'a>,
     ledger: &mut Ledger<'a>,
     kept: &Kept<'a>,
 ) -> Result<(), AllocError>

@@ -2,7 +2,7 @@
 use Rattle.std.specs.Prelude.{ℕ, List, codes}
 use Rattle.std.specs.Int.RustNames.{unsigned_abs}
 use Rattle.bean_base.specs.Flag.{spelling}
-use Rattle.posting_entries.specs.declared.entry.Entry.{Entry}
+use Rattle.posting_entries.specs.declared.entry.EntryParts.{EntryParts}
 use Rattle.posting_entries.specs.declared.entry.EntryFlag.{EntryFlag}
 use Rattle.posting_entries.specs.declared.entry.EntryFlag.TheVariants.{Written, Padding}
 use Rattle.query_terms.specs.declared.column.Column.{Column}
@@ -18,7 +18,7 @@ entry_spelling (Written flag) = spelling flag
 entry_spelling Padding = codes "P"
 
 -- a transaction in one of its columns; null in any other
-abbrev pub entry_cell : Entry → Column → Value
+abbrev pub entry_cell : EntryParts → Column → Value
 entry_cell e column.Date = Day e.date
 entry_cell e column.Year = whole (unsigned_abs e.date.date.year)
 entry_cell e column.Month = whole e.date.date.month

@@ -1,3 +1,4 @@
 pub mod PlainText
 pub mod Metadata
+pub mod Extras
 pub mod Entry

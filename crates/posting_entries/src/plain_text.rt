@@ -1,5 +1,5 @@
 //! What quoted texts stand for, as one slice of bytes.
-ghost use Rattle.std.specs.Prelude.{◌≡◌, IfOk};
+ghost use Rattle.std.specs.Prelude.{◌≡◌, IfOk, IfSome};
 ghost use Rattle.std.specs.String.{string_bytes};
 
 use bean_base::{Apart, Slice, Text};
@@ -64,6 +64,16 @@ impl<'a> PlainText<'a> {
         let mut made = String::new(alloc);
         text.add_to(&mut made)?;
         PlainText::made(alloc, made)
+    }
+
+    /// The slice, where it is one.
+    pub(crate) fn slice(&self) -> Option<Slice<'a>>
+        ensures { IfSome result (λ slice. slice ≡ self.now) }
+    {
+        match &self.bytes {
+            Bytes::Lent(slice) => Some(slice.lend()),
+            Bytes::Made(_) => None,
+        }
     }
 
     /// The text.

@@ -6,7 +6,7 @@ use Rattle.bean_base.specs.declared.amounts.Amount.{Amount}
 use Rattle.bean_lots.specs.declared.lot.Lot.{Lot}
 use Rattle.limits.specs.declared.counts.TheConstants.{LARGEST_TEXT}
 use Rattle.posting_table.specs.Shaped.{AreShort}
-use Rattle.posting_entries.specs.declared.entry.Entry.{Entry}
+use Rattle.posting_entries.specs.declared.entry.EntryParts.{EntryParts}
 use Rattle.posting_table.specs.declared.row.Row.{Row}
 use Rattle.query_rows.specs.Shaped.{IsShortIfThere}
 use Rattle.query_rows.specs.Mass.{value_of}
@@ -16,7 +16,7 @@ abbrev pub IsShortSet : List (List ℕ) → Type 0
 IsShortSet texts = (length texts ≤ LARGEST_TEXT) × AllByRecursion IsShort texts
 
 -- the texts of a transaction are short
-pub record HasShortTexts (e : Entry) : Type 0 where
+pub record HasShortTexts (e : EntryParts) : Type 0 where
   pub payee : IsShortIfThere e.payee
   pub narration : IsShort e.narration
   pub tags : IsShortSet e.tags

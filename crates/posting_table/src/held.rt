@@ -156,21 +156,21 @@ impl<'a> HeldRow<'a> {
     pub fn entry_meta(&self, key: &str) -> Option<&str>
         ensures { option_copied result ≡ text_under key.now (row_of self.now).transaction_entries }
     {
-        self.entry().metadata.text_under(key)
+        self.entry().metadata().text_under(key)
     }
 
     /// The day of its transaction.
     pub fn date(&self) -> Day
         ensures { result ≡ self.now.entry.date }
     {
-        self.entry().date
+        self.entry().date()
     }
 
     /// How its transaction is marked.
     pub fn flag(&self) -> EntryFlag
         ensures { result ≡ self.now.entry.flag }
     {
-        self.entry().flag
+        self.entry().flag()
     }
 
     /// The account.

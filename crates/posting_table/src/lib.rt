@@ -5,13 +5,13 @@
 //!
 //! ```text
 //! let mut ledger = Ledger::new(alloc);
-//! let entry = Shared::new(alloc, Entry {
+//! let entry = Shared::new(alloc, Entry::new(alloc, &none, EntryParts {
 //!     date: parse_day("2014-01-02")?,
 //!     flag: EntryFlag::Written(Flag::Complete),
 //!     payee: None,
 //!     narration: PlainText::lent("Lunch"),
 //!     ..                                           // tags, links, accounts, metadata
-//! })?;
+//! })?)?;
 //! ledger.push(Row {
 //!     entry: entry.share()?,
 //!     account: parse_account("Assets:Cash")?,

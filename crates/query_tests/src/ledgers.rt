@@ -5,7 +5,7 @@ ghost use Rattle.posting_table.specs.Parts.{HasShortTexts, HasSmallParts, IsShor
 use bean_base::{Flag, Slice, parse_account, parse_currency, parse_day};
 use bean_lots::{Key, Position};
 use limits::MOST_POSTINGS;
-use posting_entries::{Entry, EntryFlag, Metadata, PlainText, Shared};
+use posting_entries::{Entry, EntryFlag, EntryParts, Metadata, NoExtras, PlainText, Shared};
 use posting_table::{Ledger, Row, Weight};
 use query_values::TextSet;
 use std::alloc::Global;
@@ -40,7 +40,7 @@ fn set_of<'a>(alloc: Global, text: &'a str) -> Result<TextSet<'a>, Fail>
 fn lunch(alloc: Global) -> Result<Entry<'static>, Fail>
     ensures { IfOk result (λ entry. HasShortTexts entry) }
 {
-    Ok(Entry {
+    let parts = EntryParts {
         payee: None,
         narration: PlainText::lent("Lunch"),
         tags: Shared::new(alloc, set_of(alloc, "trip")?)?,
@@ -49,7 +49,9 @@ fn lunch(alloc: Global) -> Result<Entry<'static>, Fail>
         metadata: Metadata::empty(),
         date: parse_day("2014-01-02")?,
         flag: EntryFlag::Written(Flag::Complete),
-    })
+    };
+    let none = NoExtras::new(alloc)?;
+    Ok(Entry::new(alloc, &none, parts)?)
 }
 
 /// A dollar that was paid.

@@ -14,7 +14,7 @@ use Rattle.bean_holdings.specs.declared.posted.Posted.{Posted}
 use Rattle.posting_table.specs.Ledger.{Ledger}
 use Rattle.posting_table.specs.Plain as plain
 use Rattle.posting_table.specs.Shaped.{IsShaped}
-use Rattle.posting_entries.specs.declared.entry.Entry.{Entry}
+use Rattle.posting_entries.specs.declared.entry.EntryParts.{EntryParts}
 use Rattle.posting_table.specs.declared.row.Row.{Row}
 use Rattle.bean_replay.specs.declared.booking.Kept.{Kept}
 use Rattle.bean_book.specs.Tame.{IsTameKept}
@@ -97,7 +97,7 @@ behind k old new before row i p items pushed was is are within at =
     ∙ ap (λ l. old ++ l) (sym (one_more k items i p are within at))
 
 -- the row of a posting, of what is at hand of its transaction
-own_row : (k : Kept) (e : Entry) (ps : List Posting) (p : Posted) → e ≡ entry_of k
+own_row : (k : Kept) (e : EntryParts) (ps : List Posting) (p : Posted) → e ≡ entry_of k
     → ps ≡ k.written.transaction.postings
     → row_of e k.written.place.line ps p
     ≡ row_of (entry_of k) k.written.place.line k.written.transaction.postings p
