@@ -1,5 +1,5 @@
 -- Plain rows are those of their postings.
-use Rattle.std.proofs.Common.{◌≡◌, ℕ, ℤ, pos, ◌*ℤ◌, ◌^◌, Some, sym, ap, ◌∙◌}
+use Rattle.std.proofs.Common.{◌≡◌, ℕ, pos, ◌*ℤ◌, ◌^◌, Some, sym, ◌∙◌}
 use Rattle.bean_interp.proofs.CountFacts.{scaled_16}
 use Rattle.bean_interp.specs.Weight.{at_8, count_of, currency_of}
 use Rattle.bean_postings.specs.declared.posting.Posting.{Posting}

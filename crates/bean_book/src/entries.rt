@@ -103,7 +103,7 @@ pub(crate) fn entry_of<'a>(
 ) -> Result<Shared<Entry<'a>>, AllocError>
     ensures { IfOk result (λ entry. entry ≡ spec.entry_of kept.now) }
 {
-    let written = &kept.written;
+    let written = kept.written.get();
     let transaction = &written.transaction;
     let marks = transaction.marks.as_slice();
     let parts = EntryParts {

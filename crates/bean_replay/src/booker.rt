@@ -25,7 +25,7 @@ use crate::cause::BookCause;
 use crate::postings::{book_postings, note_balance};
 use crate::steps::show_watched;
 use bean_accounts::Accounts;
-use bean_base::{Day, Fault, List, Place};
+use bean_base::{Apart, Day, Fault, List, Place};
 use bean_directives::{Directive, DirectiveKind};
 use bean_holdings::{Holdings, Posted};
 use bean_interp::Scales;
@@ -56,8 +56,8 @@ fn place_of(placed: &Placed<Directive<'_>>) -> Place
 
 /// Gives a transaction up, together with many others. The memory of one alone is a hole between those of
 /// others, and whatever takes memory next looks through all holes; that of many lies side by side.
-fn give_up<'a>(spent: &mut Vec<Written<'a>>, written: Written<'a>) {
-    if written.transaction.postings.as_slice().len() > FEW_POSTINGS {
+fn give_up<'a>(spent: &mut Vec<Apart<Written<'a>>>, written: Apart<Written<'a>>) {
+    if written.get().transaction.postings.as_slice().len() > FEW_POSTINGS {
         return;
     }
     if spent.len() >= MANY {
@@ -77,7 +77,7 @@ pub(crate) struct Booker<'a> {
     /// A list that is used no more, for what the next transaction is booked as.
     spare: Vec<Posted<'a>>,
     /// Transactions that were handed over, up to [`MANY`].
-    spent: Vec<Written<'a>>,
+    spent: Vec<Apart<Written<'a>>>,
     pub padder: Padder<'a>,
     /// Whether any directive is a pad or a balance. Where none is the padder is shown nothing, so
     /// that such a ledger sums nothing up.
@@ -158,6 +158,7 @@ impl<'a> Booker<'a> {
             posted.as_mut_slice(),
         )?;
         show_watched(self.watched, &mut self.padder, posted.as_slice())?;
+        let written = Apart::new(self.alloc, written)?;
         Ok(Some(Draft::Transaction(Kept {
             written,
             postings: List::new(posted),

@@ -28,7 +28,9 @@ impl Drop for Written<'_> {
 /// A transaction that is kept.
 #[derive(Drop)]
 pub struct Kept<'a> {
-    pub written: Written<'a>,
+    /// In memory of its own, which its directive just gave up. So no hole is left between the postings
+    /// of transactions that wait to be given up together, in which what is booked would come to lie.
+    pub written: Apart<Written<'a>>,
     /// The postings that it is booked as.
     pub postings: List<Posted<'a>>,
 }

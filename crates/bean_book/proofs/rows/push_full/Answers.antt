@@ -1,5 +1,4 @@
-use Rattle.std.proofs.Common.{ap, subst, sym, ◌∙◌}
-use Rattle.posting_table.specs.Ledger.{Ledger}
+use Rattle.std.proofs.Common.{subst, sym}
 use Rattle.posting_table.specs.Shaped.{IsShaped}
 use Rattle.query_rows.specs.ColumnShape.{widest}
 use Rattle.bean_book.proofs.rows.push_full.Goals as goal

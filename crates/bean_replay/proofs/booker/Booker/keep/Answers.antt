@@ -91,6 +91,10 @@ returns-clause-standing c = λ m past st is.
               omega (arith, more, few, added, lengths, seen);
         };
       };
-      adds = ap (λ ps. st.drafts ++ draft.Transaction (record { written = w; postings = ps }) ∷ [])
-          (sym (c.new.ensures ∙ back));
+      adds = λ k. st.drafts
+          ++ draft.Transaction (record {
+            written = sym c.in_ok-written.ensures k;
+            postings = sym (c.new-2.ensures ∙ back) k;
+          })
+          ∷ [];
     }
