@@ -3,7 +3,7 @@ use Rattle.std.proofs.Common.{◌≡◌, inl, inr, ℕ, suc, List, [], ◌∷◌
 use Rattle.std.proofs.Common.{refl, sym, ap, ap₂, subst, append_assoc}
 use Rattle.std.proofs.lemmas.List.{append-nil}
 use Rattle.std.specs.List.{AllByRecursion}
-use Rattle.query_tables.specs.Fates.{AreFates, AreFilesFor, HasProgram}
+use Rattle.query_fates.specs.Fates.{AreFates, AreFilesFor, HasProgram}
 use Rattle.bean_book.specs.declared.booked.Booked.{Booked}
 use Rattle.clap.specs.Walk.{Text}
 use Rattle.query_code.specs.declared.program.Parts.{Parts}

@@ -1,7 +1,7 @@
 -- What becomes of each of some files.
 use Rattle.std.proofs.Common.{◌≡◌, ℕ, suc, List, [], ◌∷◌, length, refl, ap, ◌∙◌}
-use Rattle.query_tables.specs.Fates.{AreFates, AreFatesOf, AreFilesFor}
-use Rattle.query_tables.specs.declared.tabulating.Fate.{Fate}
+use Rattle.query_fates.specs.Fates.{AreFates, AreFatesOf, AreFilesFor}
+use Rattle.query_fates.specs.declared.tabulating.Fate.{Fate}
 use Rattle.posting_table.specs.Ledger.{Ledger}
 use Rattle.query_code.specs.declared.program.Parts.{Parts}
 

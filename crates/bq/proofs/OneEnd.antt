@@ -4,9 +4,9 @@ use Rattle.std.proofs.Common.{Err, map, refl, sym, ap, ap₂, ◌∙◌, subst}
 use Rattle.std.specs.List.{list_any}
 use Rattle.std.specs.Prelude.{if◌then◌else◌}
 use Rattle.stores.specs.Reading.{Reading}
-use Rattle.query_tables.specs.Fates.{AreFates, IsFate}
-use Rattle.query_tables.specs.declared.tabulating.Fate.{Fate}
-use Rattle.query_tables.specs.declared.tabulating.Fate.TheVariants as fate
+use Rattle.query_fates.specs.Fates.{AreFates, IsFate}
+use Rattle.query_fates.specs.declared.tabulating.Fate.{Fate}
+use Rattle.query_fates.specs.declared.tabulating.Fate.TheVariants as fate
 use Rattle.bean_book.specs.OneBook.{AreAlike as SameBooks}
 use Rattle.bql_meaning.specs.Answer.{IsAnswer, finish_of}
 use Rattle.bql_meaning.specs.Answer as meaning

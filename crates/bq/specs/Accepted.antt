@@ -1,6 +1,6 @@
 -- Query files that are read one after the other, as long as each is accepted.
 use Rattle.std.specs.Prelude.{◌≡◌, ℕ, List, [], ◌∷◌, Result, Ok, Err}
-use Rattle.query_tables.specs.Fates.{HasProgram}
+use Rattle.query_fates.specs.Fates.{HasProgram}
 use Rattle.clap.specs.Walk.{Text}
 use Rattle.stores.specs.Reading.{Reading}
 use Rattle.stores.specs.Source.{Gave}

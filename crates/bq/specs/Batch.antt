@@ -2,9 +2,9 @@
 use Rattle.std.specs.Prelude.{◌≡◌, ℕ, Bool, true, false, List, [], ◌∷◌, ◌++◌, codes, Ok}
 use Rattle.std.specs.Prelude.{if◌then◌else◌}
 use Rattle.std.specs.List.{list_any}
-use Rattle.query_tables.specs.Fates.{AreFates, AreFatesOf}
-use Rattle.query_tables.specs.declared.tabulating.Fate.{Fate}
-use Rattle.query_tables.specs.declared.tabulating.Fate.TheVariants as fate
+use Rattle.query_fates.specs.Fates.{AreFates, AreFatesOf}
+use Rattle.query_fates.specs.declared.tabulating.Fate.{Fate}
+use Rattle.query_fates.specs.declared.tabulating.Fate.TheVariants as fate
 use Rattle.bean_book.specs.declared.booked.Booked.{Booked}
 use Rattle.clap.specs.Walk.{Text}
 use Rattle.query_code.specs.declared.program.Parts.{Parts}

@@ -1,2 +1,3 @@
 pub mod OwnTurns
 pub mod Joining
+pub mod RoundFacts

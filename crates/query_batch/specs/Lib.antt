@@ -1,3 +1,4 @@
 pub mod BatchCause
 pub mod Members
 pub mod Batch
+pub mod Rounds

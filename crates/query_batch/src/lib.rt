@@ -13,6 +13,9 @@
 //! }
 //! ```
 //!
+//! Or all of them have turns of so many steps each, in the order of the programs, round by round,
+//! until none can go on ([`run_to_end`]).
+//!
 //! Each run stands where its own turns lead it, as if there were no others. One that lacked memory
 //! has failed for good, and the others go on.
 //!
@@ -24,19 +27,22 @@
 //!
 //! # Faults
 //!
-//! [`Batch::new`] answers an error where memory lacks.
+//! [`Batch::new`] and [`run_to_end`] answer an error where memory lacks before the first turn.
 //!
 //! # Cost
 //!
-//! That of the runs. All of them read the one ledger, and their programs.
+//! That of the runs. All of them read the one ledger, and their programs. Each round looks at each
+//! run, also where it has ended.
 #![tactic(auto)]
 
 mod batch;
 mod cause;
 mod laws;
 mod member;
+mod rounds;
 
 pub use batch::Batch;
 pub use cause::BatchCause;
 pub use laws::runs_stand_by_their_own_turns;
 pub use member::Member;
+pub use rounds::run_to_end;

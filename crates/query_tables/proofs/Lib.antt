@@ -1,5 +1,2 @@
 mod TableFacts
 mod FileFacts
-pub mod FateFacts
-pub mod BatchFileFacts
-pub mod RoundFacts

@@ -1,7 +1,7 @@
 //! `batch K LEDGER FILE..`: what query files answer over a ledger, in turns of K steps each.
 ghost use Rattle.std.specs.Prelude.{◌≡◌, ◌≤◌, ◌++◌, IfOk, OnOk, length};
 ghost use Rattle.std.specs.List.{AllByRecursion, list_any};
-ghost use Rattle.query_tables.specs.Fates.{HasProgram};
+ghost use Rattle.query_fates.specs.Fates.{HasProgram};
 ghost use Rattle.bq.specs.Accepted.{AcceptsFile, AcceptsFiles};
 ghost use Rattle.bq.specs.Batch as command;
 ghost use Rattle.bq.specs.Runs.{Finds};
@@ -15,8 +15,8 @@ use bean_base::{List, Slice};
 use bean_books::book_of;
 use bean_load::Texts;
 use endings::{Refusal, Verdict};
+use query_fates::{Fate, file_fates};
 use query_files::outlined;
-use query_tables::{Fate, file_fates};
 use std::alloc::{AllocError, Global};
 use std::mem::forget;
 use stores::Source;

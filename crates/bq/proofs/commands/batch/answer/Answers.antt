@@ -1,6 +1,6 @@
 use Rattle.std.proofs.Common.{◌++◌, length, sym, ap, ◌∙◌, subst}
 use Rattle.std.specs.List.{AllByRecursion}
-use Rattle.query_tables.specs.Fates.{HasProgram}
+use Rattle.query_fates.specs.Fates.{HasProgram}
 use Rattle.bean_book.specs.declared.booked.Booked.{Booked}
 use Rattle.stores.proofs.GaveFacts.{gave_behind}
 use Rattle.requests.specs.Batch.{words_of}

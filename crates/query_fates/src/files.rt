@@ -1,7 +1,7 @@
 //! Batches of query files.
 ghost use Rattle.std.specs.Prelude.{◌≤◌, IfOk, map};
 ghost use Rattle.std.specs.List.{AllByRecursion};
-ghost use Rattle.query_tables.specs.Fates.{AreFatesOf, AreFilesFor, HasProgram, IsFileFor, verified};
+ghost use Rattle.query_fates.specs.Fates.{AreFatesOf, AreFilesFor, HasProgram, IsFileFor, verified};
 
 use crate::tabulating::{Fate, fates};
 use bean_base::List;

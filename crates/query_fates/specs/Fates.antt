@@ -1,7 +1,7 @@
 -- What becomes of programs over a ledger.
 use Rattle.std.specs.Prelude.{◌≡◌, ℕ, true, false, List, [], ◌∷◌}
-use Rattle.query_tables.specs.declared.tabulating.Fate.{Fate}
-use Rattle.query_tables.specs.declared.tabulating.Fate.TheVariants as fate
+use Rattle.query_fates.specs.declared.tabulating.Fate.{Fate}
+use Rattle.query_fates.specs.declared.tabulating.Fate.TheVariants as fate
 use Rattle.posting_table.specs.Ledger.{Ledger}
 use Rattle.posting_table.specs.Rows.{rows_of}
 use Rattle.query_code.specs.declared.program.Parts.{Parts}

@@ -1,12 +1,12 @@
 //! Turns round by round.
 ghost use Rattle.std.specs.Prelude.{◌≡◌, ◌<◌, ◌≤◌, IfOk, All, length};
 ghost use Rattle.std.specs.List.{list_any};
-ghost use Rattle.query_tables.specs.Rounds as spec;
-ghost use Rattle.query_tables.specs.Rounds.{AreAllTurned, GoesOn, HaveEnded, IsBrief};
-ghost use Rattle.query_tables.specs.Rounds.{IsTurnTold};
+ghost use Rattle.query_batch.specs.Rounds as spec;
+ghost use Rattle.query_batch.specs.Rounds.{AreAllTurned, GoesOn, HaveEnded, IsBrief};
+ghost use Rattle.query_batch.specs.Rounds.{IsTurnTold};
 
+use crate::batch::Batch;
 use posting_table::Ledger;
-use query_batch::Batch;
 use query_machine::{Turn, turns_add_up};
 use std::alloc::{AllocError, Global};
 use verified_program::Checked;
@@ -76,7 +76,7 @@ fn go_on(batch: &mut Batch<'_, '_>, k: u64, most: u64)
 
 /// The runs of the programs, after turns of so many steps for each, round by round, until none can
 /// go on.
-pub(crate) fn rounds<'r, 'a>(
+pub fn run_to_end<'r, 'a>(
     alloc: Global,
     programs: &'r [Checked<'r>],
     ledger: &'r Ledger<'a>,

@@ -21,8 +21,8 @@ use Rattle.query_machine.specs.declared.turn.Turn.{Turn}
 use Rattle.query_rows.specs.Fits.{row_fits}
 use Rattle.query_rows.specs.Row.{Row}
 use Rattle.verified_program.specs.declared.checked.Checked.{Checked}
-use Rattle.query_tables.specs.Rounds.{AreAllTurned, AreRounds, EndsAt, GoesOn, HaveEnded, IsBrief}
-use Rattle.query_tables.specs.Rounds.{IsEnd, IsTurnTold, is_going, is_going_at, is_told_going}
+use Rattle.query_batch.specs.Rounds.{AreAllTurned, AreRounds, EndsAt, GoesOn, HaveEnded, IsBrief}
+use Rattle.query_batch.specs.Rounds.{IsEnd, IsTurnTold, is_going, is_going_at, is_told_going}
 
 -- ---- how long runs may be
 

@@ -1,7 +1,7 @@
 use Rattle.std.proofs.Common.{◌≡◌, ◌+◌, arith, drop, [], ◌∷◌, subst}
 use Rattle.std.proofs.lemmas.Grind.{common_steps}
-use Rattle.query_tables.proofs.BatchFileFacts.{AreSoFar, program_next, programs_end}
-use Rattle.query_tables.proofs.files.programs_in.Goals as goal
+use Rattle.query_fates.proofs.BatchFileFacts.{AreSoFar, program_next, programs_end}
+use Rattle.query_fates.proofs.files.programs_in.Goals as goal
 
 pub loop-file-preserved : goal.loop-file-preserved
 loop-file-preserved c =

@@ -1,14 +1,13 @@
 //! What becomes of the programs of a batch.
 ghost use Rattle.std.specs.Prelude.{◌≤◌, IfOk, map};
-ghost use Rattle.query_tables.specs.Fates.{AreFates, IsFate, verified};
-ghost use Rattle.query_tables.specs.Rounds.{IsEnd};
+ghost use Rattle.query_fates.specs.Fates.{AreFates, IsFate, verified};
+ghost use Rattle.query_batch.specs.Rounds.{IsEnd};
 
-use crate::rounds::rounds;
-use crate::tabulated;
 use bean_base::List;
 use posting_table::Ledger;
-use query_batch::Member;
+use query_batch::{Member, run_to_end};
 use query_machine::RunCause;
+use query_tables::tabulated;
 use refusals::Refusal;
 use std::alloc::{AllocError, Global};
 use verified_program::Checked;
@@ -51,7 +50,7 @@ pub fn fates(
     requires { 1 ≤ k }
     ensures { IfOk result (λ fates. AreFates ledger.now (map verified programs.now) fates.items) }
 {
-    let batch = rounds(alloc, programs, ledger, k)?;
+    let batch = run_to_end(alloc, programs, ledger, k)?;
     let mut fates = Vec::with_capacity(alloc, programs.len())?;
     for (number, program) in programs.iter().enumerate() {
         fates.push(fate_of(alloc, program, batch.member(number), ledger))?;

@@ -1,7 +1,7 @@
 use Rattle.std.proofs.Common.{arith, sym}
 use Rattle.std.proofs.lemmas.Option.{get_or_from_slice_get}
-use Rattle.query_tables.proofs.FateFacts.{as_many, end_at, fate_next}
-use Rattle.query_tables.proofs.tabulating.fates.Goals as goal
+use Rattle.query_fates.proofs.FateFacts.{as_many, end_at, fate_next}
+use Rattle.query_fates.proofs.tabulating.fates.Goals as goal
 
 pub member-requires : goal.member-requires
 member-requires c =

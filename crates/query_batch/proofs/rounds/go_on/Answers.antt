@@ -1,5 +1,5 @@
-use Rattle.query_tables.proofs.RoundFacts.{all_rounds, round_next, stops}
-use Rattle.query_tables.proofs.rounds.go_on.Goals as goal
+use Rattle.query_batch.proofs.RoundFacts.{all_rounds, round_next, stops}
+use Rattle.query_batch.proofs.rounds.go_on.Goals as goal
 
 pub loop-preserved : goal.loop-preserved
 loop-preserved c =

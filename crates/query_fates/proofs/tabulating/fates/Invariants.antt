@@ -1,6 +1,6 @@
 use Rattle.std.proofs.Common.{map, take}
-use Rattle.query_tables.specs.Fates.{AreFates, verified}
-use Rattle.query_tables.proofs.tabulating.fates.Given as goal
+use Rattle.query_fates.specs.Fates.{AreFates, verified}
+use Rattle.query_fates.proofs.tabulating.fates.Given as goal
 
 abbrev pub invariant-loop-number : goal.invariant-loop-number
 invariant-loop-number l =

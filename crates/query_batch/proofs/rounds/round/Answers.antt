@@ -1,6 +1,6 @@
 use Rattle.std.proofs.Common.{arith}
-use Rattle.query_tables.proofs.RoundFacts.{any_of_all, any_told, as_long, round_ends, takes_next}
-use Rattle.query_tables.proofs.rounds.round.Goals as goal
+use Rattle.query_batch.proofs.RoundFacts.{any_of_all, any_told, as_long, round_ends, takes_next}
+use Rattle.query_batch.proofs.rounds.round.Goals as goal
 
 pub turn_of-is_any_going-requires : goal.turn_of-is_any_going-requires
 turn_of-is_any_going-requires c =

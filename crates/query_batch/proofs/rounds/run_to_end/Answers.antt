@@ -1,5 +1,5 @@
-use Rattle.query_tables.proofs.RoundFacts.{all_brief, all_end}
-use Rattle.query_tables.proofs.rounds.rounds.Goals as goal
+use Rattle.query_batch.proofs.RoundFacts.{all_brief, all_end}
+use Rattle.query_batch.proofs.rounds.run_to_end.Goals as goal
 
 pub returns : goal.returns
 returns c =

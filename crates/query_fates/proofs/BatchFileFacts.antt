@@ -1,7 +1,7 @@
 -- The programs of files, one after the other.
 use Rattle.std.proofs.Common.{◌≡◌, ℕ, List, [], ◌∷◌, ◌++◌, map, Ok, sym, ap, ◌∙◌, subst, append_assoc}
 use Rattle.std.proofs.lemmas.List.{append-nil, map-append}
-use Rattle.query_tables.specs.Fates.{AreFilesFor, IsFileFor, verified}
+use Rattle.query_fates.specs.Fates.{AreFilesFor, IsFileFor, verified}
 use Rattle.query_code.specs.declared.program.Parts.{Parts}
 use Rattle.query_verifier.specs.Checking.{Checks}
 use Rattle.verified_program.specs.declared.checked.Checked.{Checked}

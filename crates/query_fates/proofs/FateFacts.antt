@@ -2,9 +2,9 @@
 use Rattle.std.proofs.Common.{◌≡◌, ℕ, zero, suc, ◌+◌, ◌<◌, List, [], ◌∷◌, ◌++◌, length, map, take, get_or, sym, ap, subst, ◌∙◌}
 use Rattle.std.proofs.Common.{Option, Some, None, Result, Ok, Err, refl, arith}
 use Rattle.std.proofs.lemmas.List.{take_more}
-use Rattle.query_tables.specs.Fates.{AreFates, IsFate, verified}
-use Rattle.query_tables.specs.Rounds.{EndsAt, HaveEnded, IsEnd}
-use Rattle.query_tables.specs.declared.tabulating.Fate.{Fate}
+use Rattle.query_fates.specs.Fates.{AreFates, IsFate, verified}
+use Rattle.query_batch.specs.Rounds.{EndsAt, HaveEnded, IsEnd}
+use Rattle.query_fates.specs.declared.tabulating.Fate.{Fate}
 use Rattle.posting_table.specs.Ledger.{Ledger}
 use Rattle.posting_table.specs.Rows.{rows_of}
 use Rattle.query_answer.specs.declared.answer.Answer.{Answer}

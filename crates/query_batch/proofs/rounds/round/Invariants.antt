@@ -1,8 +1,8 @@
 use Rattle.std.proofs.Common.{◌≡◌, take}
 use Rattle.std.specs.List.{list_any}
-use Rattle.query_tables.proofs.RoundFacts.{AreTurnedTo}
-use Rattle.query_tables.specs.Rounds as spec
-use Rattle.query_tables.proofs.rounds.round.Given as goal
+use Rattle.query_batch.proofs.RoundFacts.{AreTurnedTo}
+use Rattle.query_batch.specs.Rounds as spec
+use Rattle.query_batch.proofs.rounds.round.Given as goal
 
 abbrev pub invariant-loop-number : goal.invariant-loop-number
 invariant-loop-number l =

@@ -1,0 +1,2 @@
+mod FateFacts
+mod BatchFileFacts
