@@ -49,8 +49,8 @@ pub(crate) fn are_outside_profile(units: &Units<'_>, details: &DetailParts<'_>) 
 {
     let is_left_out = matches!(details.cost, Cost::OutsideProfile)
         || matches!(details.price, Price::OutsideProfile);
-    let is_written =
-        !matches!(details.cost, Cost::Absent) || !matches!(details.price, Price::Absent);
+    let is_written = !matches!(details.cost, Cost::Absent)
+        || !matches!(details.price, Price::Absent);
     match units {
         Units::NumberAlone => true,
         Units::Amount(_) => is_left_out,

@@ -174,10 +174,7 @@ fn plainly<'a>(
 /// currency, or neither. Nearly every posting is one of these, and they are read without a look at
 /// what others may have, and without memory.
 #[inline(always)]
-pub fn plain_posting<'a>(
-    line: usize,
-    tokens: &[Token<'a>],
-) -> Option<Ranged<WrittenPosting<'a>>>
+pub fn plain_posting<'a>(line: usize, tokens: &[Token<'a>]) -> Option<Ranged<WrittenPosting<'a>>>
     ensures { IfSome result (Is (rule.posting line) (lexemes tokens.now)) }
 {
     let (account, rest) = after_account(tokens)?;

@@ -35,7 +35,9 @@ enum Kept<'a> {
         currency: Currency<'a>,
     },
     /// No amount, on such a line, and nothing else.
-    Missing { line: u32 },
+    Missing {
+        line: u32,
+    },
     Whole(Apart<Rest<'a>>),
 }
 

@@ -18,6 +18,6 @@ returns-in-None c =
 pub returns-in_default : goal.returns-in_default
 returns-in_default c =
     let is : c.in_ok-posting.posting ≡ without_amount c.args.line c.in_ok-account.account =
-        search rules in
+    search rules in
     subst (Is (rule.posting c.args.line) (lexemes c.args.tokens.now)) (sym (ap Within is))
     (lone_account c.args.line _ _ _ c.in_ok-account.ensures.front c.in_default.ensures.front)

@@ -10,13 +10,13 @@ returns c =
     let r = subst IsInRange (sym is) c.self.inside.in_range in
     let s = subst IsSmall (sym is) c.self.inside.small in
     let units = c.of-rest.ensures.units r s
-        ∙ units_alike c.replace.result c.self.inside.kept is r s c.self.inside.in_range
-        c.self.inside.small
-        ∙ ap (λ p. p.units) c.self.view_is in
+    ∙ units_alike c.replace.result c.self.inside.kept is r s c.self.inside.in_range
+    c.self.inside.small
+    ∙ ap (λ p. p.units) c.self.view_is in
     let details = c.of-rest.ensures.details ∙ ap details_in is
-        ∙ ap (λ p. p.details) c.self.view_is in
+    ∙ ap (λ p. p.details) c.self.view_is in
     let entries : c.push.new.self ≡ c.of-rest.result.details.metadata ++ c.args.entry ∷ [] =
-        search rules in
+    search rules in
     entry_added c.args.self.now c.args.entry _ _ _ (ap (λ x. x.units) c.in_ok-new.ensures ∙ units)
     (ap (λ p. p.account) c.self.view_is)
     (ap (λ x. x.details) c.in_ok-new.ensures
