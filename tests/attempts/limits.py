@@ -70,6 +70,21 @@ def counts_of_files(folder):
     yield answers, "one file 2,000 times", folder, words, Answer(1, faults)
 
 
+def parts(folder):
+    """A ledger of more parts, each behind an include line, than are told by short numbers: it is arranged as
+    one without these lines, also where the last parts are of the first days."""
+    path = pathlib.Path(folder)
+    (path / "f0").write_text("")
+    opens = "2014-01-01 open Assets:A\n2014-01-01 open Assets:B\n"
+    blocks = [f'2014-{12 - n // 10:02}-{28 - n % 10:02} * "{n}"\n  Assets:A  {n + 1} X\n  Assets:B\n'
+              for n in range(70)]
+    (path / "few_parts").write_text(opens + "".join(blocks))
+    (path / "many_parts").write_text(opens + "".join(block + 'include "f0"\n' * 1_000 for block in blocks))
+    wanted = run(["list", "few_parts"], folder)
+    assert wanted.out.count(b"\n") == 142 and wanted.status == 0
+    yield answers, "70,000 parts", folder, ["list", "many_parts"], wanted
+
+
 # ---- numbers
 
 # Where a number stands, each a ledger whose fourth line begins the block that has it.
@@ -191,7 +206,7 @@ def postings(folder):
 def main(everything):
     with tempfile.TemporaryDirectory() as folder:
         write_books(folder)
-        attempts = [attempt for part in (bounds, sizes, counts_of_files, numbers, queries, turns)
+        attempts = [attempt for part in (bounds, sizes, counts_of_files, parts, numbers, queries, turns)
                     for attempt in part(folder)]
         if everything:
             attempts += postings(folder)
