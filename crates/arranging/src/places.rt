@@ -8,7 +8,7 @@ use crate::keys::Behind;
 use std::alloc::{AllocError, Global};
 
 /// Whether all places are among so many.
-fn are_inside(mut places: &[u32], count: usize) -> bool
+pub fn are_inside(mut places: &[u32], count: usize) -> bool
     ensures { result ≡ list_all (λ place. nat_lt place count) places.entry.now }
 {
     while let [place, others @ ..] = places {
