@@ -96,6 +96,7 @@ impl<'a> Gathered<'a> {
     }
 
     /// Adds a directive that a block says. It lies apart, and stays there until it is booked.
+    #[inline(always)]
     fn add_directive(&mut self, alloc: Global, directive: Directive<'a>) -> Result<(), AllocError>
         ensures { OnOk result ((os : List Outcome) → IsGathered os self.old
             → IsGathered (os ++ outcome.Statement (statements.Directive directive.entry) ∷ [])
@@ -112,11 +113,19 @@ impl<'a> Gathered<'a> {
     {
         match plain_block(alloc, block)? {
             Some(directive) => self.add_directive(alloc, directive),
-            None => {
-                let outcome = read_block(alloc, block)?;
-                self.add(alloc, outcome)
-            }
+            None => self.add_other(alloc, block),
         }
+    }
+
+    /// Adds what a block gives that isn't a plain one. It stays a call of its own: the memory for what
+    /// such a block gives would be cleared for each plain one too.
+    #[inline(never)]
+    fn add_other(&mut self, alloc: Global, block: &[Token<'a>]) -> Result<(), AllocError>
+        ensures { OnOk result ((o : Outcome) × Gives block.now o
+            × ((os : List Outcome) → IsGathered os self.old → IsGathered (os ++ o ∷ []) self.new)) }
+    {
+        let outcome = read_block(alloc, block)?;
+        self.add(alloc, outcome)
     }
 
     /// What blocks come to that gave this.
