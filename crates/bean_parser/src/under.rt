@@ -205,10 +205,7 @@ pub fn plain_lines<'t, 'a>(
     let mut postings = Vec::with_capacity(alloc, most)?;
     let mut rest = Unread { tokens: under };
     while let Some((line, after)) = first_part(Part::Line, rest.tokens) {
-        let Some(found) = plain_posting(first_line(line), line) else {
-            break;
-        };
-        let Ranged::Within(posting) = found else {
+        let Some(posting) = plain_posting(first_line(line), line) else {
             break;
         };
         postings.push(posting)?;
