@@ -270,13 +270,11 @@ fn are_plain(block: &[Token<'_>]) -> bool
     block.iter().all(|token| is_plain(token.kind))
 }
 
-/// How many lines stand under the first one, where none is left out between them and no text goes
-/// over more than one.
-fn most_lines(block: &[Token<'_>]) -> usize {
-    match (block.first(), block.last()) {
-        (Some(first), Some(last)) => last.line.saturating_sub(first.line).min(block.len()),
-        (_, _) => 0,
-    }
+/// How many lines these are, where each is on one line and none is left out between them.
+fn most_lines(under: &[Token<'_>]) -> usize {
+    let last = under.last().map_or(0, |token| token.line);
+    let more = last.saturating_sub(first_line(under));
+    more.saturating_add(1).min(under.len())
 }
 
 /// The directive that a block gives which is a transaction with a plain first line and nothing but
@@ -300,7 +298,7 @@ pub fn plain_block<'a>(
         return Ok(None);
     };
     // What can fail comes first, so that a transaction that was read is given up nowhere.
-    let (postings, others) = plain_lines(alloc, most_lines(block), under)?;
+    let (postings, others) = plain_lines(alloc, most_lines(under), under)?;
     if !others.is_empty() {
         return Ok(None);
     }

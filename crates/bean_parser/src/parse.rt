@@ -81,20 +81,6 @@ impl<'a> Gathered<'a> {
         }
     }
 
-    /// Adds what a block gives.
-    fn add(&mut self, alloc: Global, outcome: Outcome<'a>) -> Result<(), AllocError>
-        ensures { OnOk result ((os : List Outcome) → IsGathered os self.old
-            → IsGathered (os ++ outcome.entry ∷ []) self.new) }
-    {
-        match outcome {
-            Outcome::Statement(statement) => self.add_statement(alloc, statement),
-            Outcome::Fault(fault) => {
-                self.faults.push(fault)?;
-                Ok(())
-            }
-        }
-    }
-
     /// Adds a directive that a block says. It lies apart, and stays there until it is booked.
     #[inline(always)]
     fn add_directive(&mut self, alloc: Global, directive: Directive<'a>) -> Result<(), AllocError>
@@ -117,15 +103,17 @@ impl<'a> Gathered<'a> {
         }
     }
 
-    /// Adds what a block gives that isn't a plain one. It stays a call of its own: the memory for what
-    /// such a block gives would be cleared for each plain one too.
+    /// Adds what a block gives that isn't plain. In place, it would clear memory for each that is.
     #[inline(never)]
     fn add_other(&mut self, alloc: Global, block: &[Token<'a>]) -> Result<(), AllocError>
         ensures { OnOk result ((o : Outcome) × Gives block.now o
             × ((os : List Outcome) → IsGathered os self.old → IsGathered (os ++ o ∷ []) self.new)) }
     {
-        let outcome = read_block(alloc, block)?;
-        self.add(alloc, outcome)
+        match read_block(alloc, block)? {
+            Outcome::Statement(statement) => self.add_statement(alloc, statement)?,
+            Outcome::Fault(fault) => self.faults.push(fault)?,
+        }
+        Ok(())
     }
 
     /// What blocks come to that gave this.

@@ -164,16 +164,14 @@ impl<'a> Body<'a> {
     }
 }
 
-/// Whether a token begins a line that may be a posting.
-fn may_begin_posting(token: &Token<'_>) -> bool {
-    Part::Line.begins_at(token.place) && !matches!(token.kind, Kind::Key | Kind::Tag | Kind::Link)
-}
-
 /// How many lines may be postings.
 pub fn most_postings(under: &[Token<'_>]) -> usize {
     under
         .iter()
-        .filter(|token| may_begin_posting(token))
+        .filter(|token| {
+            Part::Line.begins_at(token.place)
+                && !matches!(token.kind, Kind::Key | Kind::Tag | Kind::Link)
+        })
         .count()
 }
 
