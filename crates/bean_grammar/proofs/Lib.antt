@@ -4,6 +4,7 @@ pub mod LiteralFacts
 pub mod AppliedFacts
 pub mod ExactFacts
 pub mod ExpressionFacts
+pub mod NumberFacts
 pub mod PlainFacts
 pub mod ValueFacts
 pub mod AmountFacts

@@ -30,6 +30,7 @@ mod grammar;
 pub mod literal;
 pub mod mark;
 mod metadata;
+pub mod number;
 mod ranged;
 
 pub use amount::AmountParts;

@@ -13,7 +13,7 @@ ghost use Rattle.bean_parser.specs.declared.statement.Statement.TheVariants as s
 
 use crate::part::{Part, first_line, first_part};
 use crate::statement::Statement;
-use crate::under::{Body, all_postings, other_lines, plain_lines};
+use crate::under::{Body, all_postings, most_postings, other_lines, plain_lines};
 use bean_base::{Day, Fault, FaultKind, Few, List, Place};
 use bean_directives::head::{head, plain_head};
 use bean_directives::undated::undated_line;
@@ -194,7 +194,7 @@ fn dated_block<'a>(
         let front = Body::of_postings(alloc, Vec::new(alloc));
         return other_block(alloc, line, day, kind, front, under);
     }
-    let (postings, others) = plain_lines(alloc, under)?;
+    let (postings, others) = plain_lines(alloc, most_postings(under), under)?;
     if others.is_empty() {
         let postings = List::new(postings);
         return Ok(Some(plainly_dated(line, day, kind, postings)));
@@ -270,6 +270,13 @@ fn are_plain(block: &[Token<'_>]) -> bool
     block.iter().all(|token| is_plain(token.kind))
 }
 
+/// How many lines these are, where each is on one line and none is left out between them.
+fn most_lines(under: &[Token<'_>]) -> usize {
+    let last = under.last().map_or(0, |token| token.line);
+    let more = last.saturating_sub(first_line(under));
+    more.saturating_add(1).min(under.len())
+}
+
 /// The directive that a block gives which is a transaction with a plain first line and nothing but
 /// plain postings under it. Nearly all blocks are such, and what they say is read without a look at
 /// what others may say; of the others nothing is said.
@@ -291,7 +298,7 @@ pub fn plain_block<'a>(
         return Ok(None);
     };
     // What can fail comes first, so that a transaction that was read is given up nowhere.
-    let (postings, others) = plain_lines(alloc, under)?;
+    let (postings, others) = plain_lines(alloc, most_lines(under), under)?;
     if !others.is_empty() {
         return Ok(None);
     }

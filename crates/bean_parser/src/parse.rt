@@ -81,21 +81,8 @@ impl<'a> Gathered<'a> {
         }
     }
 
-    /// Adds what a block gives.
-    fn add(&mut self, alloc: Global, outcome: Outcome<'a>) -> Result<(), AllocError>
-        ensures { OnOk result ((os : List Outcome) → IsGathered os self.old
-            → IsGathered (os ++ outcome.entry ∷ []) self.new) }
-    {
-        match outcome {
-            Outcome::Statement(statement) => self.add_statement(alloc, statement),
-            Outcome::Fault(fault) => {
-                self.faults.push(fault)?;
-                Ok(())
-            }
-        }
-    }
-
     /// Adds a directive that a block says. It lies apart, and stays there until it is booked.
+    #[inline(always)]
     fn add_directive(&mut self, alloc: Global, directive: Directive<'a>) -> Result<(), AllocError>
         ensures { OnOk result ((os : List Outcome) → IsGathered os self.old
             → IsGathered (os ++ outcome.Statement (statements.Directive directive.entry) ∷ [])
@@ -112,11 +99,21 @@ impl<'a> Gathered<'a> {
     {
         match plain_block(alloc, block)? {
             Some(directive) => self.add_directive(alloc, directive),
-            None => {
-                let outcome = read_block(alloc, block)?;
-                self.add(alloc, outcome)
-            }
+            None => self.add_other(alloc, block),
         }
+    }
+
+    /// Adds what a block gives that isn't plain. In place, it would clear memory for each that is.
+    #[inline(never)]
+    fn add_other(&mut self, alloc: Global, block: &[Token<'a>]) -> Result<(), AllocError>
+        ensures { OnOk result ((o : Outcome) × Gives block.now o
+            × ((os : List Outcome) → IsGathered os self.old → IsGathered (os ++ o ∷ []) self.new)) }
+    {
+        match read_block(alloc, block)? {
+            Outcome::Statement(statement) => self.add_statement(alloc, statement)?,
+            Outcome::Fault(fault) => self.faults.push(fault)?,
+        }
+        Ok(())
     }
 
     /// What blocks come to that gave this.

@@ -164,16 +164,14 @@ impl<'a> Body<'a> {
     }
 }
 
-/// Whether a token begins a line that may be a posting.
-fn may_begin_posting(token: &Token<'_>) -> bool {
-    Part::Line.begins_at(token.place) && !matches!(token.kind, Kind::Key | Kind::Tag | Kind::Link)
-}
-
 /// How many lines may be postings.
-fn most_postings(under: &[Token<'_>]) -> usize {
+pub fn most_postings(under: &[Token<'_>]) -> usize {
     under
         .iter()
-        .filter(|token| may_begin_posting(token))
+        .filter(|token| {
+            Part::Line.begins_at(token.place)
+                && !matches!(token.kind, Kind::Key | Kind::Tag | Kind::Link)
+        })
         .count()
 }
 
@@ -193,21 +191,19 @@ pub fn all_postings<'a>(
 
 /// The postings that the lines at the front are, as far as each is a plain one, and what stands
 /// behind them. Nearly all lines are, and each of their postings is moved but once, to the list that
-/// the transaction keeps; that has room for all.
+/// the transaction keeps; that has room for `most` from the start.
 pub fn plain_lines<'t, 'a>(
     alloc: Global,
+    most: usize,
     under: &'t [Token<'a>],
 ) -> Result<(Vec<WrittenPosting<'a>>, &'t [Token<'a>]), AllocError>
     ensures { IfOk result (λ r. InLines true (lines under.now) (lines r.1.now)
         (with_lines rule.no_lines (map rule.said_posting r.0.items))) }
 {
-    let mut postings = Vec::with_capacity(alloc, most_postings(under))?;
+    let mut postings = Vec::with_capacity(alloc, most)?;
     let mut rest = Unread { tokens: under };
     while let Some((line, after)) = first_part(Part::Line, rest.tokens) {
-        let Some(found) = plain_posting(first_line(line), line) else {
-            break;
-        };
-        let Ranged::Within(posting) = found else {
+        let Some(posting) = plain_posting(first_line(line), line) else {
             break;
         };
         postings.push(posting)?;

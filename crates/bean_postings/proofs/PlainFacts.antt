@@ -1,11 +1,14 @@
 -- A line that is an account, a number and a currency, or an account alone, is a posting.
-use Rattle.std.proofs.Common.{◌≡◌, ℕ, List, [], ◌∷◌, Some, None, ap}
+use Rattle.std.proofs.Common.{◌≡◌, ℕ, ℤ, List, [], ◌∷◌, Some, None, ap, Bool}
 use Rattle.theory.specs.Form.{Reads, Is}
 use Rattle.bean_base.specs.declared.num.Num.{Num}
 use Rattle.bean_lexer.specs.declared.kind.Sign.TheVariants.{OpenBrace, OpenBraces}
 use Rattle.bean_grammar.specs.declared.ranged.Ranged.{Ranged}
 use Rattle.bean_grammar.specs.declared.ranged.Ranged.TheVariants.{Within}
 use Rattle.bean_grammar.specs.Amount.{amount_parts_of}
+use Rattle.bean_grammar.specs.Exact.{exact, signed, written}
+use Rattle.bean_grammar.proofs.NumberFacts.{small_is_worth}
+use Rattle.bean_grammar.specs.Ranged.{ranged_map}
 use Rattle.bean_grammar.specs.Expression.{expression, begins_with_expression}
 use Rattle.bean_grammar.specs.Lexeme.{Lexeme, Account, Currency, begins_with_sign}
 use Rattle.bean_grammar.specs.Lexeme.{begins_with_currency}
@@ -42,6 +45,24 @@ plain_posting line ls bs mid n more cs rest account number currency end =
     (reads_with_cost line ls None bs _ rest (Within costs.Absent) rest
     (reads_posted line ls None bs mid _ rest address units) cost)
     (absent_price rest (ap begins_with_price end)) end
+
+-- the same of a number whose count and decimals are known
+pub small_posting :
+    (line : ℕ) (ls : List Lexeme) (bs : List ℕ) (mid : List Lexeme) (minus : Bool)
+    (ds : List ℕ) (more : List Lexeme) (cs : List ℕ) (rest : List Lexeme) (n : Num) (count : ℤ) (places : ℕ)
+    → n.count ≡ count → n.places ≡ places
+    → signed minus (written ds) ≡ Within (record { count = count; places = places })
+    → ls ≡ Account bs ∷ mid
+    → ((m : Ranged Num) → ranged_map exact m ≡ signed minus (written ds)
+    → Reads expression mid m more)
+    → more ≡ Currency cs ∷ rest → rest ≡ []
+    → Is (posting line) ls
+    (posting_of line None bs (units_by (Some (Within n)) (Some cs)) (Within costs.Absent)
+    (Within prices.Absent))
+small_posting line ls bs mid minus ds more cs rest n count places is so_many worth account number currency
+    end =
+    plain_posting line ls bs mid (Within n) more cs rest account
+    (number (Within n) (small_is_worth n minus ds count places is so_many worth)) currency end
 
 pub lone_account :
     (line : ℕ) (ls : List Lexeme) (bs : List ℕ) (rest : List Lexeme)

@@ -1,6 +1,6 @@
 //! Lines that are postings.
 ghost use Rattle.std.specs.Prelude.{◌≡◌, ◌∷◌, ◌<◌, ◌≤◌, false, length, MatchOption, IfSome, IfOk};
-ghost use Rattle.std.specs.Prelude.{ℕ, Some, None};
+ghost use Rattle.std.specs.Prelude.{ℕ};
 ghost use Rattle.theory.specs.Form.{HasNone, Reads, Is, IsNone};
 ghost use Rattle.bean_grammar.specs.Lexeme.{lexemes};
 ghost use Rattle.bean_grammar.specs.declared.ranged.Ranged.TheVariants.{Within};
@@ -13,9 +13,10 @@ use crate::details::DetailParts;
 use crate::posting::{Posting, Units};
 use crate::price::{Price, price_if_due};
 use crate::written_posting::WrittenPosting;
-use bean_base::{Account, Amount, Currency, Few, Flag, Num};
+use bean_base::{Account, Amount, Few, Flag};
 use bean_grammar::amount::amount_parts;
 use bean_grammar::front::{after_account, after_currency, next};
+use bean_grammar::number::small_number;
 use bean_grammar::{AmountParts, Ranged, expression};
 use bean_lexer::{Kind, Sign, Token};
 use std::alloc::{AllocError, Global};
@@ -148,45 +149,25 @@ fn posted<'t, 'a>(
     Some((flag, account, units, rest))
 }
 
-/// The posting on a line that has an account, a number and a currency, and nothing else; none where it
-/// isn't small enough to be kept without memory.
-#[inline(always)]
-fn plainly<'a>(
-    line: usize,
-    account: Account<'a>,
-    number: Ranged<Num>,
-    currency: Currency<'a>,
-) -> Option<Ranged<WrittenPosting<'a>>>
-    ensures { IfSome result (λ p. p ≡ rule.posting_of line None account.entry
-        (rule.units_by (Some number) (Some currency.entry)) (Within costs.Absent)
-        (Within prices.Absent)) }
-{
-    match number {
-        Ranged::Within(number) => {
-            let posting = WrittenPosting::of_amount(line, account, number, currency)?;
-            Some(Ranged::Within(posting))
-        }
-        Ranged::Outside => Some(Ranged::Outside),
-    }
-}
-
 /// The posting that a line is which has an account, and a number, alone or behind a sign, with a
-/// currency, or neither. Nearly every posting is one of these, and they are read without a look at
-/// what others may have, and without memory.
+/// currency, or neither, where it can be kept without memory. Nearly every posting is one of these, and
+/// they are read without a look at what others may have.
 #[inline(always)]
-pub fn plain_posting<'a>(line: usize, tokens: &[Token<'a>]) -> Option<Ranged<WrittenPosting<'a>>>
-    ensures { IfSome result (Is (rule.posting line) (lexemes tokens.now)) }
+pub fn plain_posting<'a>(line: usize, tokens: &[Token<'a>]) -> Option<WrittenPosting<'a>>
+    ensures { IfSome result (λ p. Is (rule.posting line) (lexemes tokens.now) (Within p)) }
 {
     let (account, rest) = after_account(tokens)?;
     let Some(_) = next(rest) else {
-        let posting = WrittenPosting::without_amount(line, account)?;
-        return Some(Ranged::Within(posting));
+        return WrittenPosting::without_amount(line, account);
     };
-    let (number, rest) = expression::plain(rest)?;
+    let (is_minus, written, rest) = expression::plain(rest)?;
     let (currency, rest) = after_currency(rest)?;
     match next(rest) {
         Some(_) => None,
-        None => plainly(line, account, number, currency),
+        None => {
+            let number = small_number(is_minus, written)?;
+            WrittenPosting::of_small(line, account, number, currency)
+        }
     }
 }
 
@@ -202,7 +183,7 @@ pub fn posting<'a>(
         (Is (rule.posting line) (lexemes tokens.now))) }
 {
     if let Some(posting) = plain_posting(line, tokens) {
-        return Ok(Some(posting));
+        return Ok(Some(Ranged::Within(posting)));
     }
     let Some(found) = posted(tokens) else {
         return Ok(None);

@@ -2,6 +2,7 @@
 ghost use Rattle.std.specs.Prelude.{◌≡◌, ◌<◌, ◌^◌, MatchOption, IfOk, IfSome, OnOk};
 ghost use Rattle.std.specs.Int.RustNames.{unsigned_abs};
 ghost use Rattle.bean_base.specs.Decimal.{IsLedger};
+ghost use Rattle.bean_base.specs.declared.num.Num.{Num};
 ghost use Rattle.bean_postings.specs.Details.{IsLineAlone};
 ghost use Rattle.bean_postings.specs.Posting as rule;
 ghost use Rattle.bean_postings.specs.WrittenPosting.{IsInRange, IsSmall};
@@ -13,6 +14,7 @@ use crate::posting::{Posting, Units, are_outside_profile};
 use crate::price::Price;
 use bean_base::{Account, Amount, Apart, Currency, Flag, Num};
 use bean_grammar::MetaEntry;
+use bean_grammar::number::SmallNumber;
 use std::alloc::{AllocError, Global};
 use std::marker::Model;
 use std::mem::replace;
@@ -138,6 +140,30 @@ impl<'a> WrittenPosting<'a> {
                 places: number.places,
                 line,
                 count,
+                currency,
+            },
+        })
+    }
+
+    /// The same of one whose number is small.
+    #[inline(always)]
+    pub(crate) fn of_small(
+        line: usize,
+        account: Account<'a>,
+        number: SmallNumber,
+        currency: Currency<'a>,
+    ) -> Option<WrittenPosting<'a>>
+        ensures { IfSome result (λ p. (whole : Num) × (whole.count ≡ number.count)
+            × (whole.places ≡ number.places)
+            × (p ≡ spec.of_amount line account.entry whole currency.entry)) }
+    {
+        let line = u32::try_from(line).ok()?;
+        Some(WrittenPosting {
+            account,
+            kept: Kept::Amount {
+                places: number.places as u8,
+                line,
+                count: number.count,
                 currency,
             },
         })

@@ -9,6 +9,7 @@
 #![tactic(auto)]
 
 ghost use Rattle.std.specs.Prelude.{◌≡◌, ℕ, Bool, ◌+◌, ◌<◌, ◌≤◌, nat_eq, length, drop};
+ghost use Rattle.std.specs.Option.{MatchOption};
 ghost use Rattle.std.specs.List.{prefix_len, starts_with};
 ghost use Rattle.std.specs.Char.{is_ascii_digit};
 ghost use Rattle.std.specs.Cmp.Lexicographic.{pointwise};
@@ -21,13 +22,46 @@ pub trait ByteClass {
         ensures { result ≡ holds b };
 }
 
-/// Where the run of bytes of a class that begins at `start` ends.
+/// Where the run of bytes of a class that begins at `start` ends, if it doesn't go on over the next
+/// four bytes.
+#[inline(always)]
+fn end_in_four<C: ByteClass>(bytes: &[u8], start: usize) -> Option<usize>
+    requires { start + 4 ≤ length bytes.now }
+    ensures { MatchOption result
+        (prefix_len C.holds (drop start bytes.now)
+        ≡ 4 + prefix_len C.holds (drop (start + 4) bytes.now))
+        (λ end. (end ≡ start + prefix_len C.holds (drop start bytes.now))
+        × (end ≤ length bytes.now)) }
+{
+    if !C::has(bytes[start]) {
+        return Some(start);
+    }
+    if !C::has(bytes[start + 1]) {
+        return Some(start + 1);
+    }
+    if !C::has(bytes[start + 2]) {
+        return Some(start + 2);
+    }
+    if !C::has(bytes[start + 3]) {
+        return Some(start + 3);
+    }
+    None
+}
+
+/// Where the run of bytes of a class that begins at `start` ends. Four bytes are looked at in one step
+/// while there are as many, since to look at bytes is most of what a lexer does.
 pub fn end_of_run<C: ByteClass>(bytes: &[u8], start: usize) -> usize
     requires { start ≤ length bytes.now }
     ensures run { result ≡ start + prefix_len C.holds (drop start bytes.now) }
     ensures inside { result ≤ length bytes.now }
 {
     let mut end = start;
+    while bytes.len() - end >= 4 {
+        if let Some(end) = end_in_four::<C>(bytes, end) {
+            return end;
+        }
+        end += 4;
+    }
     while end < bytes.len() && C::has(bytes[end]) {
         end += 1;
     }

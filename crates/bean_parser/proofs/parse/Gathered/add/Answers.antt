@@ -1,8 +1,0 @@
-use Rattle.bean_parser.proofs.GatheredFacts.{fault_adds}
-use Rattle.bean_parser.proofs.parse.Gathered.add.Goals as goal
-use Rattle.std.proofs.Common.{refl}
-
-pub returns-in_ok-push-in-Fault : goal.returns-in_ok-push-in-Fault
-returns-in_ok-push-in-Fault c =
-    λ os h. fault_adds os _ _ c.args.self.now _ c.in-Fault.is refl refl refl
-    c.in_ok-push-in-Fault.ensures.items h
