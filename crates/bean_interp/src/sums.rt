@@ -158,6 +158,7 @@ impl<'a> Sums<'a> {
     }
 
     /// Adds a weight, unless the sum of its currency would be too wide.
+    #[inline(always)]
     fn add(&mut self, weight: Weight<'a>) -> Result<(), Refusal<WeighCause>>
         ensures added { OnOk result
             (self.new ≡ added self.old weight.entry.currency weight.entry.count) }

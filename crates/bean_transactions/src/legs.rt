@@ -124,6 +124,25 @@ fn is_of_units<'a>(postings: &[WrittenPosting<'a>], posted: &Posted<'a>) -> bool
     }
 }
 
+/// Lays a booked posting on the scales as a leg. It is a function of its own, so that any other makes
+/// no room for one.
+#[inline(never)]
+fn lay_leg<'a>(
+    scales: &mut Scales<'a>,
+    postings: &[WrittenPosting<'a>],
+    posted: &Posted<'a>,
+) -> Result<(), Refusal<WeighCause>>
+    ensures weighed { OnOk result ((legs : prelude.List Leg) → AreWeighed scales.old legs
+        → AreWeighed scales.new (legs ++ spec.booked_leg postings.now posted.now ∷ [])) }
+    ensures noted { (legs : prelude.List Leg) → AreNoted scales.old legs
+        → AreNoted scales.new legs }
+    ensures wide { result ≡ Err (Refusal.Refused WeighCause.TooWide)
+        → (legs later : prelude.List Leg) → AreWeighed scales.old legs
+        → ¬ AreInRange (legs ++ spec.booked_leg postings.now posted.now ∷ later) }
+{
+    scales.add(&Leg::Whole(whole(postings, posted)))
+}
+
 /// Lays a booked posting on the scales.
 fn lay_one<'a>(
     scales: &mut Scales<'a>,
@@ -142,7 +161,7 @@ fn lay_one<'a>(
     if is_of_units(postings, posted) {
         return scales.add_units(&posted.units);
     }
-    scales.add(&Leg::Whole(whole(postings, posted)))
+    lay_leg(scales, postings, posted)
 }
 
 /// Lays the booked postings of a transaction on the scales, in place of what lay there.

@@ -36,7 +36,8 @@ impl<T> Model for Pieces<T> {
         × AreFull PIECE p.full.items × (length p.last.items ≤ PIECE) };
 }
 
-/// Begins a piece behind the last one.
+/// Begins a piece behind the last one. Few items need it: it stays out of what is done for each.
+#[inline(never)]
 fn begin_piece<T: Drop>(
     alloc: Global,
     full: &mut Vec<List<T>>,
@@ -110,7 +111,8 @@ impl<T: Drop> Pieces<T> {
         }
     }
 
-    /// Adds an item at the end.
+    /// Adds an item at the end. It is put in place where it is called, so that an item is moved once.
+    #[inline(always)]
     pub fn push(&mut self, alloc: Global, item: T) -> Result<(), AllocError>
         requires { length self.old < 2 ^ 40 }
         ensures pushed { OnOk result (self.new ≡ self.old ++ item ∷ []) }

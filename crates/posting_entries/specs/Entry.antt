@@ -1,8 +1,10 @@
 -- What the postings of a transaction have in common, in the columns of queries.
-use Rattle.std.specs.Prelude.{ℕ, List, codes}
+use Rattle.std.specs.Prelude.{ℕ, List, [], codes}
 use Rattle.std.specs.Int.RustNames.{unsigned_abs}
 use Rattle.bean_base.specs.Flag.{spelling}
 use Rattle.posting_entries.specs.declared.entry.EntryParts.{EntryParts}
+use Rattle.posting_entries.specs.declared.entry.PlainParts.{PlainParts}
+use Rattle.posting_entries.specs.Extras.{payee_of}
 use Rattle.posting_entries.specs.declared.entry.EntryFlag.{EntryFlag}
 use Rattle.posting_entries.specs.declared.entry.EntryFlag.TheVariants.{Written, Padding}
 use Rattle.query_terms.specs.declared.column.Column.{Column}
@@ -11,6 +13,19 @@ use Rattle.query_rows.specs.Row.{text_or_null}
 use Rattle.query_values.specs.Operation.{whole}
 use Rattle.query_values.specs.declared.value.Value.{Value}
 use Rattle.query_values.specs.declared.value.Value.TheVariants.{Null, Text, Day, Set}
+
+-- the parts of a transaction that has nothing of what few have
+abbrev pub plain_parts : PlainParts → EntryParts
+plain_parts p = record {
+  payee = payee_of p.payee;
+  narration = p.narration;
+  tags = [];
+  links = [];
+  accounts = p.accounts;
+  metadata = [];
+  date = p.date;
+  flag = p.flag;
+}
 
 -- how a table shows the flag of a transaction
 abbrev pub entry_spelling : EntryFlag → List ℕ

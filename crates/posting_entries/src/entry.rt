@@ -1,7 +1,7 @@
 //! What the postings of a transaction have in common.
 ghost use Rattle.std.specs.Prelude.{◌≡◌, IfOk, IfSome};
 ghost use Rattle.std.specs.Option.{option_copied};
-ghost use Rattle.posting_entries.specs.Entry.{entry_cell, entry_spelling};
+ghost use Rattle.posting_entries.specs.Entry.{entry_cell, entry_spelling, plain_parts};
 ghost use Rattle.posting_entries.specs.Extras as spec;
 ghost use Rattle.query_rows.specs.Row as rows;
 
@@ -46,6 +46,19 @@ pub struct EntryParts<'a> {
     /// The accounts of all its postings.
     pub accounts: TextSet<'a>,
     pub metadata: Metadata<'a>,
+    pub date: Day,
+    pub flag: EntryFlag,
+}
+
+/// What the postings of a transaction have in common, of one that has no tags, no links and no
+/// metadata, and whose texts are as they are written, as nearly all are.
+#[derive(Drop)]
+pub struct PlainParts<'a> {
+    /// The payee; no bytes where there is none.
+    pub payee: Slice<'a>,
+    pub narration: Slice<'a>,
+    /// The accounts of all its postings.
+    pub accounts: TextSet<'a>,
     pub date: Day,
     pub flag: EntryFlag,
 }
@@ -160,6 +173,20 @@ impl<'a> Entry<'a> {
             narration: slices.narration,
             accounts: parts.accounts,
             extras: none.or(alloc, extras)?,
+            date: parts.date,
+            flag: parts.flag,
+        })
+    }
+
+    /// These parts. Takes no memory.
+    pub fn plain(none: &NoExtras<'a>, parts: PlainParts<'a>) -> Result<Entry<'a>, AllocError>
+        ensures { IfOk result (λ entry. entry ≡ plain_parts parts.entry) }
+    {
+        Ok(Entry {
+            payee: parts.payee,
+            narration: parts.narration,
+            accounts: parts.accounts,
+            extras: none.extras()?,
             date: parts.date,
             flag: parts.flag,
         })

@@ -106,6 +106,13 @@ impl<'a> NoExtras<'a> {
         self.extras.get().tags.share()
     }
 
+    /// These, once more.
+    pub(crate) fn extras(&self) -> Result<Shared<Extras<'a>>, AllocError>
+        ensures { IfOk result (λ held. held ≡ no_extras) }
+    {
+        self.extras.share()
+    }
+
     /// These, or where there are none, those that stand for all.
     pub(crate) fn or(
         &self,

@@ -43,7 +43,7 @@ mod metadata;
 mod plain_text;
 mod shared;
 
-pub use entry::{Entry, EntryFlag, EntryParts};
+pub use entry::{Entry, EntryFlag, EntryParts, PlainParts};
 pub use extras::NoExtras;
 pub use metadata::{MetaItem, Metadata};
 pub use plain_text::PlainText;

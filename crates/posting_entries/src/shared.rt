@@ -24,7 +24,8 @@ impl<T> Model for Shared<T> {
 }
 
 impl<T: Drop> Shared<T> {
-    /// The value, held once so far.
+    /// The value, held once so far. It is put in place where it is called, so that a value is moved once.
+    #[inline(always)]
     pub fn new(alloc: Global, value: T) -> Result<Shared<T>, AllocError>
         ensures { IfOk result (λ s. s ≡ value) }
     {

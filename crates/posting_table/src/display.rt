@@ -1,5 +1,5 @@
 //! How many decimals each currency shows.
-ghost use Rattle.std.specs.Prelude.{◌≡◌, OnOk, OnErr};
+ghost use Rattle.std.specs.Prelude.{◌≡◌, IfSome, OnOk, OnErr};
 ghost use Rattle.std.specs.FinMap as map;
 ghost use Rattle.posting_table.specs.Decimals.{decimals_of};
 
@@ -7,6 +7,9 @@ use bean_base::Currency;
 use indexmap::IndexMap;
 use std::alloc::{AllocError, Global};
 use std::marker::Model;
+
+/// How many currencies are compared one by one before any is hashed: most ledgers have few.
+const FEW: usize = 4;
 
 /// The display decimals of the currencies, as a map from each name to a count: 0 where none is set.
 #[derive(Drop)]
@@ -48,9 +51,20 @@ impl<'a> Display<'a> {
     pub fn places_near(&self, currency: &Currency<'_>, near: &mut usize) -> u8
         ensures { result ≡ decimals_of self.now currency.now }
     {
-        match self.places.get_index(*near) {
-            Some((found, places)) if *currency == *found => *places,
-            _ => self.places_found(currency, near),
+        match self.places_at(*near, currency) {
+            Some(places) => places,
+            None => self.places_found(currency, near),
+        }
+    }
+
+    /// The decimals of a currency, where they stand at that place.
+    #[inline(always)]
+    fn places_at(&self, place: usize, currency: &Currency<'_>) -> Option<u8>
+        ensures { IfSome result (λ places. places ≡ decimals_of self.now currency.now) }
+    {
+        match self.places.get_index(place) {
+            Some((found, places)) if *currency == *found => Some(*places),
+            _ => None,
         }
     }
 
@@ -59,6 +73,12 @@ impl<'a> Display<'a> {
     fn places_found(&self, currency: &Currency<'_>, near: &mut usize) -> u8
         ensures { result ≡ decimals_of self.now currency.now }
     {
+        for place in 0..FEW {
+            if let Some(places) = self.places_at(place, currency) {
+                *near = place;
+                return places;
+            }
+        }
         let Some(place) = self.places.get_index_of(currency) else {
             return 0;
         };

@@ -101,12 +101,15 @@ fn of_currency<'s, 'a>(
     None
 }
 
+/// How many currencies are compared one by one before any is hashed: most ledgers have few.
+const FEW: usize = 4;
+
 /// The keys of currencies without a lot, each of which stands once for all rows of the currency.
 #[derive(Drop)]
 pub(crate) struct Keys<'a> {
     plain: IndexMap<Currency<'a>, Shared<HeldKey<'a>>>,
-    /// The one that was asked for last.
-    last: Option<Shared<HeldKey<'a>>>,
+    /// The place of the one that was asked for last.
+    near: usize,
 }
 
 impl<'a> Keys<'a> {
@@ -114,22 +117,27 @@ impl<'a> Keys<'a> {
     pub(crate) fn new(alloc: Global) -> Keys<'a> {
         Keys {
             plain: IndexMap::new(alloc),
-            last: None,
+            near: 0,
         }
     }
 
-    /// The key of a currency, where it was the last one.
-    fn last(&self, currency: &Currency<'_>) -> Option<&Shared<HeldKey<'a>>>
-        ensures { IfSome result (λ last. last.now ≡ without_lot currency.now) }
+    /// The key of a currency, where it stands at that place.
+    #[inline(always)]
+    fn at(&self, place: usize, currency: &Currency<'_>) -> Option<&Shared<HeldKey<'a>>>
+        ensures { IfSome result (λ held. held.now ≡ without_lot currency.now) }
     {
-        of_currency(self.last.as_ref()?, currency)
+        let (_, held) = self.plain.get_index(place)?;
+        of_currency(held, currency)
     }
 
-    /// The key of a currency, where it stands already.
-    fn known(&self, currency: &Currency<'a>) -> Option<&Shared<HeldKey<'a>>>
-        ensures { IfSome result (λ known. known.now ≡ without_lot currency.now) }
-    {
-        of_currency(self.plain.get(currency)?, currency)
+    /// Where the key of a currency stands, if it does.
+    fn place_of(&self, currency: &Currency<'a>) -> Option<usize> {
+        for place in 0..FEW {
+            if self.at(place, currency).is_some() {
+                return Some(place);
+            }
+        }
+        self.plain.get_index_of(currency)
     }
 
     /// Keeps the key of a currency for later rows.
@@ -150,6 +158,7 @@ impl<'a> Keys<'a> {
     }
 
     /// The key of a currency that wasn't the last one, as it is held.
+    #[inline(never)]
     fn found(
         &mut self,
         alloc: Global,
@@ -157,7 +166,12 @@ impl<'a> Keys<'a> {
     ) -> Result<Shared<HeldKey<'a>>, AllocError>
         ensures { IfOk result (λ held. held ≡ without_lot currency.entry) }
     {
-        if let Some(known) = self.known(&currency) {
+        let Some(place) = self.place_of(&currency) else {
+            self.near = self.plain.len();
+            return self.keep(alloc, currency);
+        };
+        self.near = place;
+        if let Some(known) = self.at(place, &currency) {
             return known.share();
         }
         self.keep(alloc, currency)
@@ -171,13 +185,11 @@ impl<'a> Keys<'a> {
     ) -> Result<Shared<HeldKey<'a>>, AllocError>
         ensures { IfOk result (λ held. held ≡ without_lot currency.entry) }
     {
-        // The postings of a transaction are mostly of one currency, which is hashed once then.
-        if let Some(last) = self.last(&currency) {
+        // The postings of a transaction are mostly of one currency.
+        if let Some(last) = self.at(self.near, &currency) {
             return last.share();
         }
-        let held = self.found(alloc, currency)?;
-        self.last = Some(held.share()?);
-        Ok(held)
+        self.found(alloc, currency)
     }
 
     /// The key as it is held: one of a lot stands by itself.

@@ -1,11 +1,13 @@
 //! Sets of texts.
-ghost use Rattle.std.specs.Prelude.{◌≡◌};
+ghost use Rattle.std.specs.Prelude.{◌≡◌, ◌∷◌, [], IfOk};
 ghost use Rattle.std.specs.Cmp.Lexicographic.{slice_cmp};
 ghost use Rattle.std.specs.List.Sorted.{IsStrictlySortedBy};
 ghost use Rattle.std.specs.Ordering.{nat_cmp};
 ghost use Rattle.query_values.specs.TextSet.{set_of};
 
 use bean_base::Slice;
+use std::alloc::{AllocError, Global};
+use std::cmp::Ordering;
 use std::marker::Model;
 
 /// Texts, each once. Its value is the list of them in the order of their bytes.
@@ -46,6 +48,27 @@ impl<'a> TextSet<'a> {
         texts.sort_unstable();
         texts.dedup();
         TextSet { texts }
+    }
+
+    /// The set of two texts, which may be the same. They are compared once.
+    pub fn of_two(
+        alloc: Global,
+        first: Slice<'a>,
+        second: Slice<'a>,
+    ) -> Result<TextSet<'a>, AllocError>
+        ensures { IfOk result (λ set. set ≡ set_of (first.entry ∷ second.entry ∷ [])) }
+    {
+        match first.cmp(&second) {
+            Ordering::Less => Ok(TextSet {
+                texts: Vec::from_array(alloc, [first, second])?,
+            }),
+            Ordering::Equal => Ok(TextSet {
+                texts: Vec::from_array(alloc, [second])?,
+            }),
+            Ordering::Greater => Ok(TextSet {
+                texts: Vec::from_array(alloc, [second, first])?,
+            }),
+        }
     }
 
     /// The texts, in the order of their bytes.

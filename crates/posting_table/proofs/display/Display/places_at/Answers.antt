@@ -1,7 +1,7 @@
 use Rattle.std.proofs.Common.{sym, ap, ◌∙◌}
 use Rattle.posting_table.specs.Decimals.{decimals_of}
 use Rattle.posting_table.proofs.DecimalsFacts.{placed_is}
-use Rattle.posting_table.proofs.display.Display.places_near.Goals as goal
+use Rattle.posting_table.proofs.display.Display.places_at.Goals as goal
 
 pub returns-in-Some : goal.returns-in-Some
 returns-in-Some c =

@@ -3,7 +3,7 @@ use Rattle.bean_interp.specs.Residual.{AreInRange}
 use Rattle.bean_interp.specs.Scales.{AreWeighed}
 use Rattle.bean_interp.specs.declared.leg.Leg.{Leg}
 use Rattle.bean_interp.specs.declared.leg.Leg.TheVariants as leg
-use Rattle.bean_transactions.proofs.legs.lay_one.Goals as goal
+use Rattle.bean_transactions.proofs.legs.lay_leg.Goals as goal
 
 pub returns-clause-weighed : goal.returns-clause-weighed
 returns-clause-weighed c =
