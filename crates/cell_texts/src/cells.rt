@@ -1,5 +1,5 @@
 //! The texts of cells, and how wide they are.
-ghost use Rattle.std.specs.Prelude.{◌≡◌, ◌≤◌, ◌+◌, ◌++◌, ◌∷◌, OnOk, IfOk, length, replicate, true, vec_len};
+ghost use Rattle.std.specs.Prelude.{◌≡◌, ◌≤◌, ◌+◌, ◌-◌, ◌++◌, ◌∷◌, OnOk, IfOk, false, length, replicate, true};
 ghost use Rattle.bean_base.specs.Character.{space};
 ghost use Rattle.std.specs.Int.{is_in_range};
 ghost use Rattle.std.specs.List.{list_all};
@@ -20,7 +20,7 @@ use crate::numbers::{Numbers, Told};
 use crate::plain::{is_plain, push_bytes, push_padding};
 use crate::positions::{position_width, push_position};
 use bean_base::Currency;
-use number_texts::{LastDay, number_len, push_number, push_number_right};
+use number_texts::{LastDay, number_len, push_number, push_number_named, push_number_right};
 use posting_table::Display;
 use query_values::TextSet;
 use std::alloc::{AllocError, Global};
@@ -138,17 +138,26 @@ pub(crate) fn clean_width(text: &str, clean: &mut String) -> Result<usize, Alloc
     Ok(clean.width())
 }
 
-/// Adds a space and a name: at once where it is of three bytes.
+/// How many spaces stand behind a text that wide in a column, with those behind the column.
 #[inline(always)]
-fn push_name(out: &mut Vec<u8>, name: &[u8]) -> Result<(), AllocError>
-    ensures items { OnOk result (out.new.items ≡ out.old.items ++ space ∷ name.now) }
-    ensures len { OnOk result (vec_len out.new ≡ vec_len out.old + (1 + length name.now)) }
+fn spaces_behind(own: usize, width: usize, behind: usize) -> Result<usize, AllocError>
+    ensures { IfOk result (λ n. n ≡ width - own + behind) }
 {
-    if let [first, second, third] = name {
-        return out.extend_from_slice(&[b' ', *first, *second, *third]);
-    }
-    out.push(b' ')?;
-    out.extend_from_slice(name)
+    width
+        .saturating_sub(own)
+        .checked_add(behind)
+        .ok_or(AllocError)
+}
+
+/// Adds a text without its control characters, that isn't plain, and tells its width.
+#[inline(never)]
+fn push_made(out: &mut Vec<u8>, text: &str, clean: &mut String) -> Result<usize, AllocError>
+    ensures text { OnOk result (out.new.items ≡ out.old.items ++ clean_text text.now) }
+    ensures width { IfOk result (λ n. n ≡ text_width (clean_text text.now)) }
+{
+    make_clean(clean, text)?;
+    out.extend_from_slice(clean.as_bytes())?;
+    Ok(clean.width())
 }
 
 /// Adds a text without its control characters, and tells its width.
@@ -158,12 +167,33 @@ fn push_clean(out: &mut Vec<u8>, text: &str, clean: &mut String) -> Result<usize
     ensures width { IfOk result (λ n. n ≡ text_width (clean_text text.now)) }
 {
     if is_plain(text) {
-        push_bytes(out, text.as_bytes())?;
+        push_bytes(out, text.as_bytes(), 0)?;
         return Ok(text.len());
     }
-    make_clean(clean, text)?;
-    out.extend_from_slice(clean.as_bytes())?;
-    Ok(clean.width())
+    push_made(out, text, clean)
+}
+
+/// Adds a text without its control characters at the left of a column that is so wide, and so many
+/// spaces behind the column.
+#[inline(always)]
+fn push_clean_left(
+    out: &mut Vec<u8>,
+    text: &str,
+    width: usize,
+    behind: usize,
+    clean: &mut String,
+) -> Result<(), AllocError>
+    ensures { OnOk result (out.new.items ≡ out.old.items ++ clean_text text.now
+        ++ replicate (width - text_width (clean_text text.now) + behind) space) }
+{
+    if is_plain(text) {
+        let spaces = spaces_behind(text.len(), width, behind)?;
+        push_bytes(out, text.as_bytes(), spaces)?;
+        return Ok(());
+    }
+    let own = push_made(out, text, clean)?;
+    push_padding(out, spaces_behind(own, width, behind)?)?;
+    Ok(())
 }
 
 /// Adds the texts of a set, and tells their width.
@@ -237,8 +267,8 @@ pub(crate) fn push_units(
         (units_text (decimals_of display.now) count places currency.now) ≡ true) }
 {
     let start = out.len();
-    push_number(out, count, places, nears.decimals(display, currency))?;
-    push_name(out, currency.text().as_bytes())?;
+    let least = nears.decimals(display, currency);
+    push_number_named(out, count, places, least, currency.text().as_bytes())?;
     Ok(out.len() - start)
 }
 
@@ -355,7 +385,7 @@ pub fn push_cell(
         Shown::Number { places, count } => push_exact(out, *count, *places),
         Shown::Text(text) => push_clean(out, text.text(), &mut scratch.clean),
         Shown::Day(day) => {
-            scratch.day.push(out, *day)?;
+            scratch.day.push(out, *day, 0)?;
             Ok(DAY_WIDTH)
         }
         Shown::Set(set) => push_set(out, set.get(), &mut scratch.clean),
@@ -382,21 +412,69 @@ pub fn push_cell(
     }
 }
 
-/// Adds so many spaces, and a number at the right of a column that is so wide, with the fewest
-/// decimals that are exact.
+/// Adds a cell of any kind at the left of a column that is so wide, and so many spaces behind the column.
+#[inline(always)]
+fn push_any_left(
+    out: &mut Vec<u8>,
+    cell: &Cell<'_>,
+    width: usize,
+    behind: usize,
+    scratch: &mut Scratch,
+    display: &Display<'_>,
+) -> Result<(), AllocError>
+    ensures { OnOk result (out.new.items ≡ out.old.items ++ filled false width
+        (text_width (cell_text (decimals_of display.now) cell.now))
+        (cell_text (decimals_of display.now) cell.now) ++ replicate behind space) }
+{
+    let own = push_cell(out, cell, scratch, display)?;
+    push_padding(out, spaces_behind(own, width, behind)?)?;
+    Ok(())
+}
+
+/// Adds a cell at the left of a column that is so wide, and so many spaces behind the column.
+#[inline(always)]
+pub fn push_left(
+    out: &mut Vec<u8>,
+    cell: &Cell<'_>,
+    width: usize,
+    behind: usize,
+    scratch: &mut Scratch,
+    display: &Display<'_>,
+) -> Result<(), AllocError>
+    ensures { OnOk result (out.new.items ≡ out.old.items ++ filled false width
+        (text_width (cell_text (decimals_of display.now) cell.now))
+        (cell_text (decimals_of display.now) cell.now) ++ replicate behind space) }
+{
+    match cell.shown() {
+        Shown::Text(text) => {
+            push_clean_left(out, text.text(), width, behind, &mut scratch.clean)?;
+            Ok(())
+        }
+        Shown::Day(day) => {
+            let spaces = spaces_behind(DAY_WIDTH, width, behind)?;
+            scratch.day.push(out, *day, spaces)?;
+            Ok(())
+        }
+        _ => push_any_left(out, cell, width, behind, scratch, display),
+    }
+}
+
+/// Adds a number at the right of a column that is so wide, with the fewest decimals that are exact, and
+/// so many spaces behind it.
 #[inline(always)]
 fn push_exact_right(
     out: &mut Vec<u8>,
-    spaces: usize,
     count: i128,
     places: u8,
     width: usize,
+    behind: usize,
 ) -> Result<(), AllocError>
-    ensures { OnOk result (out.new.items ≡ out.old.items ++ replicate spaces space ++ filled true width
-        (text_width (number_text count places 0)) (number_text count places 0)) }
+    ensures { OnOk result (out.new.items ≡ out.old.items ++ filled true width
+        (text_width (number_text count places 0)) (number_text count places 0)
+        ++ replicate behind space) }
 {
     let least = own_decimals(count, places);
-    push_number_right(out, spaces, count, places, least, width)?;
+    push_number_right(out, count, places, least, width, behind)?;
     Ok(())
 }
 
@@ -404,41 +482,41 @@ fn push_exact_right(
 #[inline(never)]
 fn push_any_right(
     out: &mut Vec<u8>,
-    spaces: usize,
     cell: &Cell<'_>,
     width: usize,
+    behind: usize,
     scratch: &mut Scratch,
     display: &Display<'_>,
 ) -> Result<(), AllocError>
-    ensures { OnOk result (out.new.items ≡ out.old.items ++ replicate spaces space ++ filled true width
+    ensures { OnOk result (out.new.items ≡ out.old.items ++ filled true width
         (text_width (cell_text (decimals_of display.now) cell.now))
-        (cell_text (decimals_of display.now) cell.now)) }
+        (cell_text (decimals_of display.now) cell.now) ++ replicate behind space) }
 {
-    push_padding(out, spaces)?;
     let own = cell_width(cell, scratch, display)?;
     push_padding(out, width.saturating_sub(own))?;
     push_cell(out, cell, scratch, display)?;
+    push_padding(out, behind)?;
     Ok(())
 }
 
-/// Adds so many spaces, and a cell at the right of a column that is so wide.
+/// Adds a cell at the right of a column that is so wide, and so many spaces behind it.
 #[inline(always)]
 pub fn push_right(
     out: &mut Vec<u8>,
-    spaces: usize,
     cell: &Cell<'_>,
     width: usize,
+    behind: usize,
     scratch: &mut Scratch,
     display: &Display<'_>,
 ) -> Result<(), AllocError>
-    ensures { OnOk result (out.new.items ≡ out.old.items ++ replicate spaces space ++ filled true width
+    ensures { OnOk result (out.new.items ≡ out.old.items ++ filled true width
         (text_width (cell_text (decimals_of display.now) cell.now))
-        (cell_text (decimals_of display.now) cell.now)) }
+        (cell_text (decimals_of display.now) cell.now) ++ replicate behind space) }
 {
     if let Shown::Number { places, count } = cell.shown() {
-        return push_exact_right(out, spaces, *count, *places, width);
+        return push_exact_right(out, *count, *places, width, behind);
     }
-    push_any_right(out, spaces, cell, width, scratch, display)
+    push_any_right(out, cell, width, behind, scratch, display)
 }
 
 /// How many columns of a terminal the text of a cell takes.

@@ -6,7 +6,8 @@
 //! cell_width(&cell, &mut scratch, display)?;                 // 10
 //! wider(4, &cell, &mut scratch, display)?;                   // 10
 //! push_cell(&mut out, &cell, &mut scratch, display)?;        // 100.00 USD, and 10
-//! push_right(&mut out, 1, &cell, 12, &mut scratch, display)?; // a space, and two more before it
+//! push_left(&mut out, &cell, 12, 1, &mut scratch, display)?;  // the same, with three spaces behind it
+//! push_right(&mut out, &cell, 12, 1, &mut scratch, display)?; // the same, with two before and one behind
 //! ```
 //!
 //! # The text
@@ -50,6 +51,5 @@ mod positions;
 mod widening;
 
 pub use cell::Cell;
-pub use cells::{Scratch, cell_width, is_number, push_cell, push_right};
-pub use plain::push_padding;
+pub use cells::{Scratch, cell_width, is_number, push_cell, push_left, push_right};
 pub use widening::wider;

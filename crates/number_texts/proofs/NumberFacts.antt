@@ -1,7 +1,7 @@
 -- The parts of a number's text: how long they are, and how they come together.
 use Rattle.std.proofs.Common.{◌≡◌, ℕ, ℤ, zero, suc, pos, negsuc, ◌+◌, ◌-◌, ◌*◌, ◌/◌, ◌%◌, ◌^◌, ◌<◌}
-use Rattle.std.proofs.Common.{◌≤◌, max, nat_eq, nat_lt, int_lt, Bool, true, false, cond, List, [], ◌∷◌, ◌++◌}
-use Rattle.std.proofs.Common.{length, drop, set, refl, sym, ap, ◌∙◌, append_assoc, arith}
+use Rattle.std.proofs.Common.{◌≤◌, max, nat_lt, int_lt, Bool, true, false, cond, List, [], ◌∷◌, ◌++◌}
+use Rattle.std.proofs.Common.{length, drop, get_or, set, refl, sym, ap, ◌∙◌, append_assoc, arith}
 use Rattle.std.proofs.Common.{length-append}
 use Rattle.std.proofs.Math.Nat.{pow-succ'}
 use Rattle.std.proofs.Common.{take, take-take}
@@ -128,49 +128,61 @@ number_parts before (negsuc n) whole places shown digits least is same =
     append_assoc before (45 ∷ []) (parts_text whole shown digits least)
     ∙ (λ i. before ++ 45 ∷ (decimal (is i) ++ behind_point (same i)))
 
--- the text in the buffer: the point takes the place of the one before the digits
-pub in_buffer : (text after behind : List ℕ) (at : ℕ) (whole shown digits : ℕ) → shown ≤ 32
-    → digits < 10 ^ shown → at < length text
-    → drop at text ≡ decimal (10 ^ shown + digits) ++ behind
-    → after ≡ decimal whole ++ drop at (set text at 46)
-    → after ≡ decimal whole ++ 46 ∷ (digits_of shown digits ++ behind)
-in_buffer text after behind at whole shown digits few small inside written is =
+-- the point takes the place of the one before the digits
+pub point_put : (text behind : List ℕ) (at shown digits : ℕ) → shown ≤ 32 → digits < 10 ^ shown
+    → at < length text → drop at text ≡ decimal (10 ^ shown + digits) ++ behind
+    → drop at (set text at 46) ≡ 46 ∷ (digits_of shown digits ++ behind)
+point_put text behind at shown digits few small inside written =
     let e : at + 1 ≡ suc at = omega arith in
     let rest : drop (at + 1) text ≡ digits_of shown digits ++ behind =
     ap (λ k. drop k text) e ∙ past text at inside
     ∙ ap (drop 1) (written ∙ ap (λ l. l ++ behind) (leading_one shown digits few small)) in
-    is ∙ ap (λ l. decimal whole ++ l) (drop-set text at 46 inside ∙ ap (λ l. 46 ∷ l) rest)
+    drop-set text at 46 inside ∙ ap (λ l. 46 ∷ l) rest
   where
     past : (xs : List ℕ) (k : ℕ) → k < length xs → drop (suc k) xs ≡ drop 1 (drop k xs)
     past [] k low = absurd (omega arith)
     past (x ∷ xs) zero low = refl
     past (x ∷ xs) (suc k) low = past xs k (omega arith)
 
--- a point that no decimals follow is one too many
-pub pointed : (shown digits : ℕ) (behind : List ℕ)
-    → 46 ∷ (digits_of shown digits ++ behind)
-    ≡ behind_point (digits_of shown digits) ++ (cond (nat_eq shown 0) (46 ∷ []) [] ++ behind)
-pointed zero digits behind = refl
-pointed (suc shown) digits behind =
+-- some decimals stand behind a point
+pub pointed : (shown digits : ℕ) → 0 < shown
+    → behind_point (digits_of shown digits) ≡ 46 ∷ digits_of shown digits
+pointed zero digits low = absurd (omega arith)
+pointed (suc shown) digits low =
     let ds = digits_of (suc shown) digits in
     let some : nat_lt 0 (suc shown) ≡ true = grind (arith, nat_tests) in
-    let other : nat_eq (suc shown) 0 ≡ false = grind (arith, nat_tests) in
-    sym (ap (λ l. l ++ (cond (nat_eq (suc shown) 0) (46 ∷ []) [] ++ behind))
-    (behind_some ds (suc shown) (length-digits_of (suc shown) digits)
-    ∙ ap (λ b. cond b (46 ∷ []) [] ++ ds) some)
-    ∙ ap (λ b. (46 ∷ ds) ++ (cond b (46 ∷ []) [] ++ behind)) other)
+    behind_some ds (suc shown) (length-digits_of (suc shown) digits)
+    ∙ ap (λ b. cond b (46 ∷ []) [] ++ ds) some
 
-pub length-pointed : (shown digits : ℕ)
-    → length (behind_point (digits_of shown digits)) + cond (nat_eq shown 0) 1 0 ≡ 1 + shown
-length-pointed zero digits = refl
-length-pointed (suc shown) digits =
-    let ds = digits_of (suc shown) digits in
-    let long = length-digits_of (suc shown) digits in
-    let some : nat_lt 0 (suc shown) ≡ true = grind (arith, nat_tests) in
-    let other : nat_eq (suc shown) 0 ≡ false = grind (arith, nat_tests) in
-    (λ i. length ((behind_some ds (suc shown) long ∙ ap (λ b. cond b (46 ∷ []) [] ++ ds) some) i)
-    + cond {A = ℕ} (other i) 1 0)
-    ∙ (let e : suc (length ds) + 0 ≡ 1 + suc shown = omega (arith, long) in e)
+pub length-pointed : (shown digits : ℕ) → 0 < shown
+    → length (behind_point (digits_of shown digits)) ≡ 1 + shown
+length-pointed shown digits low =
+    let long = ap length (pointed shown digits low) in
+    omega (arith, long, length-digits_of shown digits)
+
+pub pointed-le : (shown digits : ℕ) → length (behind_point (digits_of shown digits)) ≤ 1 + shown
+pointed-le zero digits = omega arith
+pointed-le (suc shown) digits =
+    let long = length-pointed (suc shown) digits (omega arith) in omega (arith, long)
+
+-- three bytes that are put one behind the other
+pub three_put : (xs : List ℕ) (n a b c : ℕ) → n + 3 ≤ length xs
+    → drop n (set (set (set xs n a) (suc n) b) (suc (suc n)) c)
+    ≡ a ∷ b ∷ c ∷ drop (suc (suc (suc n))) xs
+three_put [] n a b c many = absurd (omega (arith, many))
+three_put (x ∷ []) zero a b c many = absurd (omega (arith, many))
+three_put (x ∷ y ∷ []) zero a b c many = absurd (omega (arith, many))
+three_put (x ∷ y ∷ z ∷ xs) zero a b c many = refl
+three_put (x ∷ xs) (suc n) a b c many = three_put xs n a b c (omega (arith, many))
+
+-- the three bytes of a name
+pub three_of : (xs : List ℕ) → length xs ≡ 3
+    → get_or xs 0 0 ∷ get_or xs 1 0 ∷ get_or xs 2 0 ∷ [] ≡ xs
+three_of [] many = absurd (omega (arith, many))
+three_of (x ∷ []) many = absurd (omega (arith, many))
+three_of (x ∷ y ∷ []) many = absurd (omega (arith, many))
+three_of (x ∷ y ∷ z ∷ []) many = refl
+three_of (x ∷ y ∷ z ∷ w ∷ xs) many = absurd (omega (arith, many))
 
 pub length-leading_one : (unit shown digits : ℕ) → unit ≡ 10 ^ shown → shown ≤ 32
     → digits < 10 ^ shown → length (decimal (unit + digits)) ≡ 1 + shown

@@ -36,10 +36,13 @@ fn split_few_at(number: u64, places: u8) -> (u64, u64)
     ensures before { result.0 ≡ number / 10 ^ places }
     ensures behind { result.1 ≡ number % 10 ^ places }
 {
+    // Of eight decimals two are mostly shown.
+    if places == 6 {
+        return (number / 1_000_000, number % 1_000_000);
+    }
     match places {
         8 => (number / 100_000_000, number % 100_000_000),
         7 => (number / 10_000_000, number % 10_000_000),
-        6 => (number / 1_000_000, number % 1_000_000),
         5 => (number / 100_000, number % 100_000),
         4 => (number / 10_000, number % 10_000),
         3 => (number / 1_000, number % 1_000),
@@ -338,55 +341,113 @@ fn put_sign(text: &mut [u8], start: usize, is_wanted: bool) -> usize
     start - len_if(is_wanted)
 }
 
-/// How many spaces stand before a text of that length at the right of a column that is so wide, with
-/// those that stand before the column.
+/// Puts a point and two decimals, as most numbers have, so that they end at the byte 40.
 #[inline(always)]
-fn spaces_before(spaces: usize, width: usize, len: usize) -> Result<usize, AllocError>
-    ensures { IfOk result (λ n. n ≡ spaces + (width - len)) }
+fn put_two_decimals(text: &mut [u8], digits: u64)
+    requires { 40 ≤ length text.old }
+    ensures text { drop 37 text.new ≡ behind_point (digits_of 2 digits) ++ drop 40 text.old }
+    ensures before { take 37 text.new ≡ take 37 text.old }
 {
-    spaces
-        .checked_add(width.saturating_sub(len))
-        .ok_or(AllocError)
+    text[37] = b'.';
+    text[38] = digit(digits / 10);
+    text[39] = digit(digits);
 }
 
+/// Puts a point and so many decimals so that they end at the byte 40, and tells where they begin.
+#[inline(always)]
+fn put_some_decimals(text: &mut [u8], shown: u8, digits: u64) -> usize
+    requires some { 0 < shown }
+    requires few { shown ≤ 18 }
+    requires small { digits < 10 ^ shown }
+    requires many { 40 ≤ length text.old }
+    ensures text { drop result text.new ≡ behind_point (digits_of shown digits) ++ drop 40 text.old }
+    ensures before { take result text.new ≡ take result text.old }
+    ensures start { result + length (behind_point (digits_of shown digits)) ≡ 40 }
+{
+    // A one before the digits keeps the zeros in front of them. The point takes its place.
+    let point = write_digits(power_of_ten(shown) as u64 + digits, text, 40);
+    text[point] = b'.';
+    point
+}
+
+/// The same where some decimals are shown, and else nothing.
+#[inline(always)]
+fn put_decimals(text: &mut [u8], shown: u8, digits: u64) -> usize
+    requires few { shown ≤ 18 }
+    requires small { digits < 10 ^ shown }
+    requires many { 40 ≤ length text.old }
+    ensures text { drop result text.new ≡ behind_point (digits_of shown digits) ++ drop 40 text.old }
+    ensures before { take result text.new ≡ take result text.old }
+    ensures start { result + length (behind_point (digits_of shown digits)) ≡ 40 }
+{
+    if shown == 2 {
+        put_two_decimals(text, digits);
+        return 37;
+    }
+    if shown == 0 {
+        return 40;
+    }
+    put_some_decimals(text, shown, digits)
+}
+
+/// Puts a sign where it is wanted, a whole part and decimals so that they end at the byte 40, and tells
+/// where they begin. Spaces stand before them.
+#[inline(always)]
+fn put_few_parts(text: &mut [u8], is_negative: bool, whole: u64, shown: u8, digits: u64) -> usize
+    requires few { shown ≤ 18 }
+    requires small { digits < 10 ^ shown }
+    requires many { 40 ≤ length text.old }
+    requires spaces { take 40 text.old ≡ replicate 40 space }
+    ensures text { drop result text.new ≡ ((if is_negative then dash ∷ [] else [])
+        ++ (decimal whole ++ behind_point (digits_of shown digits))) ++ drop 40 text.old }
+    ensures spaces { take result text.new ≡ replicate result space }
+    ensures start { result + length ((if is_negative then dash ∷ [] else [])
+        ++ (decimal whole ++ behind_point (digits_of shown digits))) ≡ 40 }
+{
+    let point = put_decimals(text, shown, digits);
+    let start = write_digits(whole, text, point);
+    put_sign(text, start, is_negative)
+}
+
+/// So many bytes are added at once: a text of at most 40, and what stands behind it. Those that are too
+/// many are taken off again, since copies of a known length are made in place.
+const SOME: usize = 48;
+
+/// How many of these stand behind the text.
+const BEHIND: usize = 8;
+
 /// A sign where it is wanted, a whole part and decimals, where they are few, at the right of a column
-/// that is so wide and that so many spaces stand before: one text of at most 40 bytes, with spaces
-/// before it. So many are added, whatever its length, and those that are too many taken off: copies of
-/// a known length are made in place.
+/// that is so wide, and so many spaces behind: one text of at most 40 bytes, with spaces around it.
 #[inline(always)]
 fn push_few_parts_right(
     out: &mut Vec<u8>,
-    spaces: usize,
     is_negative: bool,
     whole: u64,
     shown: u8,
     digits: u64,
     width: usize,
+    behind: usize,
 ) -> Result<(), AllocError>
     requires few { shown ≤ 18 }
     requires small { digits < 10 ^ shown }
-    ensures { OnOk result (out.new.items ≡ out.old.items ++ replicate spaces space
+    ensures { OnOk result (out.new.items ≡ out.old.items
         ++ right_of width ((if is_negative then dash ∷ [] else [])
-        ++ (decimal whole ++ behind_point (digits_of shown digits)))) }
+        ++ (decimal whole ++ behind_point (digits_of shown digits))) ++ replicate behind space) }
 {
-    let mut text = [b' '; 80];
-    // A one before the digits keeps the zeros in front of them. The point takes its place.
-    let point = write_digits(power_of_ten(shown) as u64 + digits, &mut text, 40);
-    text[point] = b'.';
-    let whole = write_digits(whole, &mut text, point);
-    let start = put_sign(&mut text, whole, is_negative);
-    // Without decimals the point is one too many.
-    let end = 40 - len_if(shown == 0);
-    let before = spaces_before(spaces, width, end - start)?;
+    let mut text = [b' '; 40 + SOME];
+    let start = put_few_parts(&mut text, is_negative, whole, shown, digits);
+    let before = width.saturating_sub(40 - start);
     // Mostly they are few, and stand in the text.
     push_spaces(out, before.saturating_sub(start))?;
     let from = start.saturating_sub(before);
-    out.extend_from_slice(&text[from..from + 40])?;
-    out.truncate(out.len() - (from + (40 - end)));
+    out.extend_from_slice(&text[from..from + SOME])?;
+    let kept = behind.min(BEHIND);
+    out.truncate(out.len() - (from + (BEHIND - kept)));
+    push_spaces(out, behind - kept)?;
     Ok(())
 }
 
-/// The same without spaces before it.
+/// The same without spaces.
 #[inline(always)]
 fn push_few_parts(
     out: &mut Vec<u8>,
@@ -401,7 +462,33 @@ fn push_few_parts(
         ++ (if is_negative then dash ∷ [] else [])
         ++ (decimal whole ++ behind_point (digits_of shown digits))) }
 {
-    push_few_parts_right(out, 0, is_negative, whole, shown, digits, 0)
+    push_few_parts_right(out, is_negative, whole, shown, digits, 0, 0)
+}
+
+/// The same, and a name of three letters behind a space.
+#[inline(always)]
+fn push_few_parts_named(
+    out: &mut Vec<u8>,
+    is_negative: bool,
+    whole: u64,
+    shown: u8,
+    digits: u64,
+    name: &[u8; 3],
+) -> Result<(), AllocError>
+    requires few { shown ≤ 18 }
+    requires small { digits < 10 ^ shown }
+    ensures { OnOk result (out.new.items ≡ out.old.items
+        ++ ((if is_negative then dash ∷ [] else [])
+        ++ (decimal whole ++ behind_point (digits_of shown digits))) ++ space ∷ name.now) }
+{
+    let mut text = [b' '; 40 + SOME];
+    text[41] = name[0];
+    text[42] = name[1];
+    text[43] = name[2];
+    let start = put_few_parts(&mut text, is_negative, whole, shown, digits);
+    out.extend_from_slice(&text[start..start + SOME])?;
+    out.truncate(out.len() - (start + (BEHIND - 4)));
+    Ok(())
 }
 
 /// A sign where it is wanted, a whole part and the decimals that are shown, with zeros behind them up
@@ -459,50 +546,96 @@ pub fn push_number(out: &mut Vec<u8>, count: i128, places: u8, least: u8) -> Res
     }
 }
 
-/// The same at the right of a column that is so wide, whatever its parts are.
+/// The same, and a name behind a space.
+#[inline(never)]
+fn push_any_named(
+    out: &mut Vec<u8>,
+    count: i128,
+    places: u8,
+    least: u8,
+    name: &[u8],
+) -> Result<(), AllocError>
+    ensures { OnOk result (out.new.items ≡ out.old.items
+        ++ number_text count places least ++ space ∷ name.now) }
+{
+    push_number(out, count, places, least)?;
+    out.push(b' ')?;
+    out.extend_from_slice(name)
+}
+
+/// The same number, and a name behind a space: at once, where they are as most are.
+#[inline(always)]
+pub fn push_number_named(
+    out: &mut Vec<u8>,
+    count: i128,
+    places: u8,
+    least: u8,
+    name: &[u8],
+) -> Result<(), AllocError>
+    ensures { OnOk result (out.new.items ≡ out.old.items
+        ++ number_text count places least ++ space ∷ name.now) }
+{
+    match (
+        few_parts(count.unsigned_abs(), places, least),
+        name.as_array::<3>(),
+    ) {
+        (Some((whole, digits)), Some(name)) => push_few_parts_named(
+            out,
+            count < 0,
+            whole,
+            least,
+            digits,
+            name,
+        ),
+        _ => push_any_named(out, count, places, least, name),
+    }
+}
+
+/// The number at the right of a column that is so wide, and so many spaces behind it, whatever its parts
+/// are.
 #[inline(never)]
 fn push_any_right(
     out: &mut Vec<u8>,
-    spaces: usize,
     count: i128,
     places: u8,
     least: u8,
     width: usize,
+    behind: usize,
 ) -> Result<(), AllocError>
-    ensures { OnOk result (out.new.items ≡ out.old.items ++ replicate spaces space
-        ++ right_of width (number_text count places least)) }
+    ensures { OnOk result (out.new.items ≡ out.old.items
+        ++ right_of width (number_text count places least) ++ replicate behind space) }
 {
-    push_spaces(out, spaces)?;
     push_spaces(out, width.saturating_sub(number_len(count, places, least)))?;
     push_number(out, count, places, least)?;
+    push_spaces(out, behind)?;
     Ok(())
 }
 
-/// So many spaces, and the same number at the right of a column that is so wide. Most are written at
-/// once with the spaces before them, and needn't be measured.
+/// The same number at the right of a column that is so wide, and so many spaces behind it. Most are
+/// written at once with the spaces around them, and needn't be measured.
 #[inline(always)]
 pub fn push_number_right(
     out: &mut Vec<u8>,
-    spaces: usize,
     count: i128,
     places: u8,
     least: u8,
     width: usize,
+    behind: usize,
 ) -> Result<(), AllocError>
-    ensures { OnOk result (out.new.items ≡ out.old.items ++ replicate spaces space
-        ++ right_of width (number_text count places least)) }
+    ensures { OnOk result (out.new.items ≡ out.old.items
+        ++ right_of width (number_text count places least) ++ replicate behind space) }
 {
     match few_parts(count.unsigned_abs(), places, least) {
         Some((whole, digits)) => push_few_parts_right(
             out,
-            spaces,
             count < 0,
             whole,
             least,
             digits,
             width,
+            behind,
         ),
-        None => push_any_right(out, spaces, count, places, least, width),
+        None => push_any_right(out, count, places, least, width, behind),
     }
 }
 

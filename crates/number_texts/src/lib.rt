@@ -5,9 +5,10 @@
 //! push_number(&mut out, -1050, 2, 0)?;   // -10.5
 //! push_number(&mut out, -1050, 2, 2)?;   // -10.50
 //! number_len(-1050, 2, 2);               // 6
-//! push_number_right(&mut out, 1, -1050, 2, 2, 8)?;   // a space, two more, and -10.50
+//! push_number_right(&mut out, -1050, 2, 2, 8, 1)?;   // two spaces, -10.50 and a space
+//! push_number_named(&mut out, -1050, 2, 2, b"USD")?;   // -10.50 USD
 //! push_day(&mut out, day)?;              // 2014-01-31
-//! last.push(&mut out, day)?;             // the same, made once for a day that comes again
+//! last.push(&mut out, day, 2)?;          // the same and two spaces, made once for a day that comes again
 //! ```
 //!
 //! A number has the fewest decimals that are exact, but at least as many as are asked for.
@@ -27,6 +28,6 @@ mod printable;
 mod runs;
 
 pub use days::LastDay;
-pub use digits::{number_len, push_day, push_number, push_number_right};
+pub use digits::{number_len, push_day, push_number, push_number_named, push_number_right};
 pub use printable::is_printable;
 pub use runs::{push_run, push_spaces};

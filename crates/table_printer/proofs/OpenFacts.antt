@@ -1,48 +1,28 @@
 -- Rows whose last cell stands left.
-use Rattle.std.proofs.Common.{◌≡◌, ℕ, zero, suc, ◌+◌, ◌-◌, ◌<◌, ◌≤◌, max, Bool, true, false, List, []}
-use Rattle.std.proofs.Common.{◌∷◌, ◌++◌, length, get_or, take, drop, map, fold, Some, replicate}
-use Rattle.std.proofs.Common.{refl, sym, ap, ◌∙◌, arith, cond, length-append, length-take-le}
+use Rattle.std.proofs.Common.{◌≡◌, ℕ, ◌+◌, ◌-◌, ◌<◌, max, Bool, true, false, List, []}
+use Rattle.std.proofs.Common.{◌∷◌, ◌++◌, length, take, drop, map, fold, Some, replicate}
+use Rattle.std.proofs.Common.{refl, sym, ap, ◌∙◌, arith, cond, length-take-le}
 use Rattle.std.proofs.Common.{nat_lt}
 use Rattle.std.proofs.lemmas.Bool.Decides.{nat_tests}
 use Rattle.std.specs.Option.{option_map_or}
-use Rattle.std.specs.List.{slice_get}
-use Rattle.std.proofs.lemmas.List.{length-map, map-append, take_all, take_more}
+use Rattle.std.specs.List.{flat_map, slice_get}
+use Rattle.std.proofs.lemmas.List.{map-append, take_all, take_more}
 use Rattle.std.proofs.lemmas.List.Folds.{list_any_none}
 use Rattle.std.proofs.lemmas.List.Sums.{fold-append}
 use Rattle.std.proofs.lemmas.Option.{get_or_from_slice_get, slice_get_within, slice_get-get_or}
 use Rattle.query_values.specs.declared.value.Value.{Value}
 use Rattle.cell_texts.specs.CellText.{cell_text, clean_text, is_number}
 use Rattle.table_printer.specs.Heading.{heading_text, width_of}
-use Rattle.table_printer.specs.Layout.{joined, gap}
+use Rattle.table_printer.specs.Layout.{before_gap, joined}
 use Rattle.table_printer.specs.Line.{placed_text, row_cells}
-use Rattle.table_printer.specs.Table.{PlacedText, HasNoNumber, has_number, headers_from, is_number_at}
+use Rattle.table_printer.specs.Table.{HasNoNumber, has_number, headers_from, is_number_at}
 use Rattle.table_printer.specs.Table.{padded, pieces, row_at, text_of, width_at, widths_of}
 use Rattle.cell_texts.specs.Width.{text_width}
 use Rattle.table_printer.specs.declared.headings.Heading.{Heading}
-use Rattle.table_printer.specs.declared.lines.Placed.{Placed}
 use Rattle.table_printer.proofs.LayoutFacts.{behind_of, front_of}
-use Rattle.table_printer.proofs.TableFacts.{length-pieces, pieces_more_at}
+use Rattle.table_printer.proofs.InColumn.{row_texts}
+use Rattle.table_printer.proofs.TableFacts.{line_joined}
 use Rattle.table_printer.proofs.HeadingFacts.{texts_are, under, widest, widths_are}
-
--- what stands at the front stands in the whole
-front_at : {X : Type 0} (xs : List X) (n i : ℕ) → i < length (take n xs)
-    → slice_get (take n xs) i ≡ slice_get xs i
-front_at xs zero i within = absurd (omega (arith, within))
-front_at [] (suc n) i within = absurd (omega (arith, within))
-front_at (x ∷ xs) (suc n) zero within = refl
-front_at (x ∷ xs) (suc n) (suc i) within = front_at xs n i (omega (arith, within))
-
-pub front_cell : (cells : List Placed) (n i : ℕ) (x : Placed) → i < length (take n cells)
-    → Some x ≡ slice_get cells i → Some x ≡ slice_get (take n cells) i
-front_cell cells n i x within is = is ∙ sym (front_at cells n i within)
-
-pub front_within : (row : List Value) (n i : ℕ) → i < length (take n (row_cells row))
-    → i < length row
-front_within row zero i within = absurd (omega (arith, within))
-front_within [] (suc n) i within = within
-front_within (v ∷ row) (suc n) zero within = omega arith
-front_within (v ∷ row) (suc n) (suc i) within =
-    let rest = front_within row n i (omega (arith, within)) in omega (arith, rest)
 
 -- one more row without a number in a column
 pub one_more_without : (rows : List (List Value)) (column n : ℕ) (row : List Value) (v : Value)
@@ -70,37 +50,14 @@ none_has column rows none =
     (get_or_from_slice_get rows k (row_at rows k) d (slice_get-get_or rows k [] within))
     ∙ none k within)
 
-behind_all : (ws : List ℕ) (w : ℕ) → get_or (ws ++ w ∷ []) (length ws) 0 ≡ w
-behind_all [] w = refl
-behind_all (x ∷ ws) w = behind_all ws w
-
-front_pieces : (d : List ℕ → ℕ) (ws : List ℕ) (w : ℕ) (row : List Value) → length ws ≤ length row
-    → take (length ws) (pieces (ws ++ w ∷ []) (map (text_of d) row))
-    ≡ pieces ws (map (placed_text d) (take (length ws) (row_cells row)))
-front_pieces d [] w row few = refl
-front_pieces d (x ∷ ws) w [] few = absurd (omega (arith, few))
-front_pieces d (x ∷ ws) w (v ∷ row) few =
-    ap (λ l. padded x (text_of d v) ∷ l) (front_pieces d ws w row (omega (arith, few)))
-
--- the last cell of a line
-pub last_piece : (d : List ℕ → ℕ) (ws : List ℕ) (w n : ℕ) (row : List Value) (v : Value)
-    → n ≡ length ws → length row ≡ n + 1 → Some v ≡ slice_get row n
-    → joined (pieces (ws ++ w ∷ []) (map (text_of d) row))
-    ≡ joined (pieces ws (map (placed_text d) (take n (row_cells row)))) ++ gap n
-    ++ padded w (text_of d v)
-last_piece d ws w n row v many all is =
-    let wide : List ℕ = ws ++ w ∷ [] in
-    let length_wide = length-append ws (w ∷ []) in
-    let same : length row ≡ length wide = omega (arith, many, all, length_wide) in
-    let texts : List PlacedText = map (text_of d) row in
-    let sized = length-pieces wide texts (length-map row (text_of d) ∙ same) in
-    let sized_texts = length-map row (text_of d) in
-    ap joined (sym (take_all (n + 1) (pieces wide texts) (omega (arith, sized, sized_texts, all))))
-    ∙ pieces_more_at (text_of d) wide row n v same is
-    ∙ (λ i. joined ((ap (λ k. take k (pieces wide texts)) many
-    ∙ front_pieces d ws w row (omega (arith, many, all))
-    ∙ ap (λ k. pieces ws (map (placed_text d) (take k (row_cells row)))) (sym many)) i) ++ gap n
-    ++ padded ((ap (λ k. get_or wide k 0) many ∙ behind_all ws w) i) (text_of d v))
+-- a line whose last cell is left open
+pub open_line : (d : List ℕ → ℕ) (ws : List ℕ) (w : ℕ) (row : List Value) (v : Value)
+    → Some v ≡ slice_get row (length ws)
+    → flat_map before_gap (pieces ws (map (placed_text d) (row_cells row))) ++ padded w (text_of d v)
+    ≡ joined (pieces (ws ++ w ∷ []) (map (text_of d) row))
+open_line d ws w row v is =
+    ap (λ l. flat_map before_gap (pieces ws l) ++ padded w (text_of d v)) (row_texts d row)
+    ∙ line_joined (text_of d) ws w row v is
 
 -- a cell that is no number is filled behind
 pub left_filled : (d : List ℕ → ℕ) (n w : ℕ) (row : List Value) (v : Value)

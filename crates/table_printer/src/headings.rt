@@ -74,7 +74,9 @@ fn widen(
         ≡ with_cell (decimals_of display.now) heading.old cell.now) }
 {
     heading.width = wider(heading.width, cell, scratch, display)?;
-    heading.has_numbers |= is_number(cell);
+    if is_number(cell) {
+        heading.has_numbers = true;
+    }
     Ok(())
 }
 

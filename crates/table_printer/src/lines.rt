@@ -1,17 +1,18 @@
 //! The lines of a table: the header line, the rule and the rows.
 ghost use Rattle.std.specs.Prelude.{◌≡◌, ◌<◌, ◌≤◌, ◌++◌, ◌∷◌, [], List, Some, length, vec_len, map};
-ghost use Rattle.std.specs.Prelude.{take, drop, slice_get, OnOk, IfOk, replicate};
-ghost use Rattle.bean_base.specs.Character.{line_feed, space};
+ghost use Rattle.std.specs.Prelude.{take, drop, slice_get, OnOk, IfOk};
+ghost use Rattle.std.specs.List.{flat_map};
+ghost use Rattle.bean_base.specs.Character.{line_feed};
 ghost use Rattle.posting_table.specs.Decimals.{decimals_of};
 ghost use Rattle.table_printer.specs.Heading.{width_of};
-ghost use Rattle.table_printer.specs.Layout.{Leaves, trimmed, joined, rule_of, gap};
+ghost use Rattle.table_printer.specs.Layout.{Leaves, before_gap, trimmed, joined, rule_of, gap};
 ghost use Rattle.table_printer.specs.Line.{placed_text, row_cells};
 ghost use Rattle.table_printer.specs.Table.{padded, pieces, line_of};
 ghost use Rattle.table_printer.specs.declared.lines.Placed.{Placed};
 
 use crate::headings::Heading;
 use crate::rows::Rows;
-use cell_texts::{Cell, Scratch, is_number, push_cell, push_padding, push_right};
+use cell_texts::{Cell, Scratch, is_number, push_cell, push_left, push_right};
 use number_texts::push_run;
 use posting_table::Display;
 use std::alloc::AllocError;
@@ -82,26 +83,6 @@ impl<T: Rows> Line for RowLine<'_, T> {
     }
 }
 
-/// The first cells of a row.
-#[derive(Clone, Copy)]
-pub(crate) struct FrontLine<'t, T: Rows> {
-    pub row: &'t T::Row,
-    pub count: usize,
-}
-
-impl<T: Rows> Line for FrontLine<'_, T> {
-    ghost use Rattle.std.specs.Prelude.{take};
-    ghost use Rattle.table_printer.specs.Line.{row_cells};
-
-    ghost cells = { λ line. take line.count (row_cells (T.values line.row.now)) };
-
-    #[inline(always)]
-    #[tactic(auto, using(crate::proofs::OpenFacts::front_cell, crate::proofs::OpenFacts::front_within))]
-    fn cell(&self, column: usize) -> Placed<'_> {
-        row_cell::<T>(self.row, column)
-    }
-}
-
 /// How many bytes are left without the spaces at the end.
 #[tactic(auto, using(crate::proofs::LayoutFacts::shorter, crate::proofs::LayoutFacts::stays))]
 fn trimmed_len(bytes: &[u8]) -> usize
@@ -115,17 +96,10 @@ fn trimmed_len(bytes: &[u8]) -> usize
     n
 }
 
-/// How many spaces stand before a cell: those that the cell before it leaves, and the gap.
-pub(crate) fn spaces_before(left: usize, column: usize) -> Result<usize, AllocError>
-    ensures { IfOk result (λ n. replicate n space ≡ replicate left space ++ gap column) }
-{
-    if column == 0 {
-        return Ok(left);
-    }
-    left.checked_add(2).ok_or(AllocError)
-}
+/// How many spaces stand between two columns.
+const GAP: usize = 2;
 
-/// What stands before a column.
+/// What stands before a column of the rule.
 fn push_gap(out: &mut Vec<u8>, column: usize) -> Result<(), AllocError>
     ensures { OnOk result (out.new.items ≡ out.old.items ++ gap column) }
 {
@@ -135,12 +109,55 @@ fn push_gap(out: &mut Vec<u8>, column: usize) -> Result<(), AllocError>
     Ok(())
 }
 
-/// So many spaces and a cell. Tells how many spaces fill it up to its column's width. The cell is made
-/// where it is looked at, behind the spaces.
+/// A cell in its column, and the gap behind it. The cell is made where it is looked at.
 #[inline(always)]
 fn push_placed<L: Line>(
     out: &mut Vec<u8>,
-    spaces: usize,
+    line: &L,
+    column: usize,
+    width: usize,
+    scratch: &mut Scratch,
+    display: &Display<'_>,
+) -> Result<(), AllocError>
+    requires { column < length (L.cells line.now) }
+    ensures { OnOk result ((placed : Placed) → Some placed ≡ slice_get (L.cells line.now) column
+        → out.new.items ≡ out.old.items
+        ++ before_gap (padded width (placed_text (decimals_of display.now) placed))) }
+{
+    if line.cell(column).stands_right {
+        let placed = line.cell(column);
+        push_right(out, &placed.cell, width, GAP, scratch, display)?;
+        return Ok(());
+    }
+    let placed = line.cell(column);
+    push_left(out, &placed.cell, width, GAP, scratch, display)?;
+    Ok(())
+}
+
+/// The first cells of a line, each in its column and with the gap behind it.
+#[inline(always)]
+pub(crate) fn push_front<L: Line>(
+    out: &mut Vec<u8>,
+    line: &L,
+    headings: &[Heading<'_>],
+    scratch: &mut Scratch,
+    display: &Display<'_>,
+) -> Result<(), AllocError>
+    requires { length headings.now ≤ length (L.cells line.now) }
+    ensures { OnOk result (out.new.items ≡ out.old.items ++ flat_map before_gap
+        (pieces (map width_of headings.now)
+        (map (placed_text (decimals_of display.now)) (L.cells line.now)))) }
+{
+    for (i, heading) in headings.iter().enumerate() {
+        push_placed(out, line, i, heading.width, scratch, display)?;
+    }
+    Ok(())
+}
+
+/// The last cell of a line. Tells how many spaces fill it up to its column's width.
+#[inline(always)]
+fn push_last<L: Line>(
+    out: &mut Vec<u8>,
     line: &L,
     column: usize,
     width: usize,
@@ -150,22 +167,20 @@ fn push_placed<L: Line>(
     requires { column < length (L.cells line.now) }
     ensures { IfOk result (λ left. (placed : Placed) → Some placed ≡ slice_get (L.cells line.now) column
         → Leaves out.old.items out.new.items left
-        (replicate spaces space ++ padded width (placed_text (decimals_of display.now) placed))) }
+        (padded width (placed_text (decimals_of display.now) placed))) }
 {
     if line.cell(column).stands_right {
         let placed = line.cell(column);
-        push_right(out, spaces, &placed.cell, width, scratch, display)?;
+        push_right(out, &placed.cell, width, 0, scratch, display)?;
         return Ok(0);
     }
-    push_padding(out, spaces)?;
     let placed = line.cell(column);
     let own = push_cell(out, &placed.cell, scratch, display)?;
     Ok(width.saturating_sub(own))
 }
 
-/// The cells of a line, with the gaps between them. Spaces are added before a cell, all at once: so
-/// those at the line's end are told alone.
-pub(crate) fn push_joined<L: Line>(
+/// The cells of a line, each in its column. Tells how many spaces fill up the last.
+fn push_joined<L: Line>(
     out: &mut Vec<u8>,
     line: &L,
     headings: &[Heading<'_>],
@@ -177,11 +192,11 @@ pub(crate) fn push_joined<L: Line>(
         (joined (pieces (map width_of headings.now)
         (map (placed_text (decimals_of display.now)) (L.cells line.now))))) }
 {
-    let mut left = 0;
-    for (i, heading) in headings.iter().enumerate() {
-        let spaces = spaces_before(left, i)?;
-        left = push_placed(out, spaces, line, i, heading.width, scratch, display)?;
-    }
+    let Some((last, front)) = headings.split_last() else {
+        return Ok(0);
+    };
+    push_front(out, line, front, scratch, display)?;
+    let left = push_last(out, line, front.len(), last.width, scratch, display)?;
     Ok(left)
 }
 

@@ -9,12 +9,10 @@ ghost use Rattle.table_printer.specs.Heading.{width_of};
 ghost use Rattle.table_printer.specs.Table.{HasNoNumber, is_number_at, line_of, table_text, text_of, width_at};
 
 use crate::headings::{Heading, heading_of, headings};
-use crate::lines::{
-    FrontLine, HeaderLine, end_line, push_joined, push_line, push_rule, spaces_before,
-};
+use crate::lines::{HeaderLine, RowLine, end_line, push_front, push_line, push_rule};
 use crate::rows::Rows;
 use crate::table::room_for;
-use cell_texts::{Scratch, is_number, push_cell, push_padding};
+use cell_texts::{Scratch, is_number, push_cell};
 use posting_table::Display;
 use std::alloc::{AllocError, Global};
 
@@ -52,12 +50,9 @@ fn push_open_line<T: Rows>(
         (map (text_of (decimals_of display.now)) (T.values row.now))) }
 {
     let start = out.len();
-    let last = headings.len();
-    let front: FrontLine<'_, T> = FrontLine { row, count: last };
-    let left = push_joined(out, &front, headings, scratch, display)?;
-    let spaces = spaces_before(left, last)?;
-    push_padding(out, spaces)?;
-    let own = push_cell(out, &T::cell(row, last), scratch, display)?;
+    let line: RowLine<'_, T> = RowLine { row };
+    push_front(out, &line, headings, scratch, display)?;
+    let own = push_cell(out, &T::cell(row, headings.len()), scratch, display)?;
     end_line(out, start)?;
     Ok(own)
 }

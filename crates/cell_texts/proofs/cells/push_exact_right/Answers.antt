@@ -13,10 +13,11 @@ returns c =
     let places = c.args.places in
     let width = c.args.width in
     let text = number_text count places 0 in
-    let before = c.args.out.now.items ++ replicate c.args.spaces 32 in
+    let before = c.args.out.now.items in
+    let behind = replicate c.args.behind 32 in
     let same = same_text _ places c.own_decimals-least.result c.own_decimals-least.ensures in
     let is = to_z-of_z w128 count c.ranges.count in
     let wide = width_printable text (printable_number count places 0 (bounded count c.ranges.count)) in
-    c.in_ok-push_number_right.ensures ∙ ap (λ t. before ++ right_of width t) same
-    ∙ ap (λ n. before ++ right_of width (number_text n places 0)) is
-    ∙ ap (λ n. before ++ (replicate (width - n) 32 ++ text)) (sym wide)
+    c.in_ok-push_number_right.ensures ∙ ap (λ t. (before ++ right_of width t) ++ behind) same
+    ∙ ap (λ n. (before ++ right_of width (number_text n places 0)) ++ behind) is
+    ∙ ap (λ n. (before ++ (replicate (width - n) 32 ++ text)) ++ behind) (sym wide)

@@ -13,15 +13,14 @@ returns-clause-text c =
     let currency = c.args.currency.now in
     let least = decimals_of c.args.display.now currency in
     let number = number_text c.args.count c.args.places least in
-    c.in_ok-push_name.ensures.items
-    ∙ ap (λ l. c.push_number.new.out.items ++ 32 ∷ l) (c.as_bytes.ensures.value ∙ c.text.ensures.text)
-    ∙ ap (λ l. l ++ 32 ∷ currency)
-    (rw c.decimals.ensures at c.in_ok-push_number.ensures
-    ∙ (λ k. out ++ number_text (to_z-of_z w128 c.args.count c.ranges.count k) c.args.places least))
+    (rw c.decimals-least.ensures at c.in_ok-push_number_named.ensures)
+    ∙ (λ k. (out ++ number_text (to_z-of_z w128 c.args.count c.ranges.count k) c.args.places least)
+    ++ 32 ∷ (c.as_bytes.ensures.value ∙ c.text.ensures.text) k)
     ∙ append_assoc out number (32 ∷ currency)
 
 pub returns-clause-width : goal.returns-clause-width
 returns-clause-width c =
+    let out = c.args.out.now.items in
     let currency = c.args.currency.now in
     let least = decimals_of c.args.display.now currency in
     let number = number_text c.args.count c.args.places least in
@@ -31,21 +30,22 @@ returns-clause-width c =
     (printable_number c.args.count c.args.places least (bounded c.args.count c.ranges.count))
     c.text.ensures.is_currency) in
     let sized =
-    ap length (rw c.decimals.ensures at c.in_ok-push_number.ensures
-    ∙ (λ k. c.args.out.now.items
-    ++ number_text (to_z-of_z w128 c.args.count c.ranges.count k) c.args.places least)) in
-    let named = ap length (c.as_bytes.ensures.value ∙ c.text.ensures.text) in
+    ap length
+    ((rw c.decimals-least.ensures at c.in_ok-push_number_named.ensures)
+    ∙ (λ k. (out ++ number_text (to_z-of_z w128 c.args.count c.ranges.count k) c.args.places least)
+    ++ 32 ∷ (c.as_bytes.ensures.value ∙ c.text.ensures.text) k)
+    ∙ append_assoc out number (32 ∷ currency)) in
     omega (
       arith,
       wide,
       sized,
-      named,
-      length-append c.args.out.now.items number,
+      length-append out (number ++ 32 ∷ currency),
       length-append
           number (32 ∷ currency),
-      c.in_ok-push_name.ensures.len,
       c.len.ensures,
       c.len-start.ensures,
+      c.args.out.now.ok,
+      c.push_number_named.new.out.ok,
     )
 
 pub returns-clause-printable : goal.returns-clause-printable

@@ -5,6 +5,6 @@ use Rattle.cell_texts.proofs.plain.some_are_printable.Given as goal
 
 -- what is known so far, and the bytes that are left
 abbrev pub invariant-loop-b : goal.invariant-loop-b
-invariant-loop-b l =
+invariant-loop-b g l =
     (l.all && list_all (is_in_range 32 126) (drop l.b-index l.bytes))
     ≡ list_all (is_in_range 32 126) l.bytes

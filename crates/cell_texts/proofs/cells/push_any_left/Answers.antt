@@ -1,0 +1,16 @@
+use Rattle.std.proofs.Common.{◌≡◌, ◌+◌, ◌-◌, ◌++◌, replicate, ◌∙◌, arith}
+use Rattle.posting_table.specs.Decimals.{decimals_of}
+use Rattle.cell_texts.specs.CellText.{cell_text}
+use Rattle.cell_texts.specs.Width.{text_width}
+use Rattle.cell_texts.proofs.Among.{filled_left}
+use Rattle.cell_texts.proofs.cells.push_any_left.Goals as goal
+
+pub returns : goal.returns
+returns c =
+    let text = cell_text (decimals_of c.args.display.now) c.args.cell.now in
+    let own = c.in_ok-own.ensures in
+    let spaces : c.in_ok-spaces_behind.field-0 ≡ c.args.width - text_width text + c.args.behind =
+    omega (arith, c.in_ok-spaces_behind.ensures, own.width) in
+    c.in_ok-push_padding.ensures
+    ∙ (λ i. own.text i ++ replicate (spaces i) 32)
+    ∙ filled_left c.args.out.now.items text (text_width text) c.args.width c.args.behind
