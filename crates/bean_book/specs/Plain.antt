@@ -1,10 +1,20 @@
--- Booked postings that have nothing of their own but what they add to their accounts.
-use Rattle.std.specs.Prelude.{◌≡◌, None}
+-- Booked postings that have nothing of their own but what they add to their accounts, and
+-- transactions that have nothing of what few have.
+use Rattle.std.specs.Prelude.{◌≡◌, ℕ, List, [], None}
 use Rattle.bean_holdings.specs.declared.posted.Posted.{Posted}
 use Rattle.bean_postings.specs.Details.{IsLineAlone}
 use Rattle.bean_postings.specs.declared.posting.Posting.{Posting}
+use Rattle.bean_replay.specs.declared.written.WrittenParts.{WrittenParts as Written}
+use Rattle.posting_entries.specs.Extras.{payee_of}
 
 -- nothing is written beside the units, and they are held without a lot
 pub record IsPlain (w : Posting) (p : Posted) : Type 0 where
   pub alone : IsLineAlone w.details
   pub held : p.lot ≡ None
+
+-- no marks and no metadata, and these are the texts, no bytes where there is no payee
+pub record IsPlainEntry (w : Written) (first second : List ℕ) : Type 0 where
+  pub payee : payee_of first ≡ w.transaction.payee
+  pub narration : second ≡ w.transaction.narration
+  pub marks : w.transaction.marks ≡ []
+  pub metadata : w.metadata ≡ []

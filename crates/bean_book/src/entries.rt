@@ -1,7 +1,9 @@
 //! What the postings of a booked transaction have in common.
-ghost use Rattle.std.specs.Prelude.{◌≡◌, ◌++◌, ◌∷◌, [], IfOk, OnOk, codes, map};
+ghost use Rattle.std.specs.Prelude.{◌≡◌, ◌++◌, ◌∷◌, [], IfOk, IfSome, OnOk, codes, map};
 ghost use Rattle.std.specs.List.{flat_map};
 ghost use Rattle.query_values.specs.TextSet.{set_of};
+ghost use Rattle.posting_entries.specs.Extras.{payee_of};
+ghost use Rattle.bean_book.specs.Plain.{IsPlainEntry};
 ghost use Rattle.bean_book.specs.Rows as spec;
 
 use crate::metadata::metadata_of;
@@ -9,8 +11,10 @@ use bean_base::{Slice, Text};
 use bean_grammar::Mark;
 use bean_holdings::Posted;
 use bean_pad::NotedPad;
-use bean_replay::Kept;
-use posting_entries::{Entry, EntryFlag, EntryParts, Metadata, NoExtras, PlainText, Shared};
+use bean_replay::{Kept, Written};
+use posting_entries::{
+    Entry, EntryFlag, EntryParts, Metadata, NoExtras, PlainParts, PlainText, Shared,
+};
 use query_values::TextSet;
 use std::alloc::{AllocError, Global};
 
@@ -71,8 +75,19 @@ fn links_of<'a>(
     links_among(alloc, marks)
 }
 
-/// The accounts of booked postings.
+/// The accounts of booked postings. Most transactions have two.
 fn accounts_of<'a>(alloc: Global, posted: &[Posted<'a>]) -> Result<TextSet<'a>, AllocError>
+    ensures { IfOk result (λ set. set ≡ set_of (map (λ p. p.account) posted.now)) }
+{
+    if let [first, second] = posted {
+        let first = Slice::new(first.account.text());
+        return TextSet::of_two(alloc, first, Slice::new(second.account.text()));
+    }
+    accounts_among(alloc, posted)
+}
+
+/// The accounts of any number of booked postings.
+fn accounts_among<'a>(alloc: Global, posted: &[Posted<'a>]) -> Result<TextSet<'a>, AllocError>
     ensures { IfOk result (λ set. set ≡ set_of (map (λ p. p.account) posted.now)) }
 {
     let mut names = Vec::with_capacity(alloc, posted.len())?;
@@ -95,6 +110,50 @@ fn payee_of<'a>(
     })
 }
 
+/// A text as it is written, where it has no escape.
+fn slice_of<'a>(text: &Text<'a>) -> Option<Slice<'a>>
+    ensures { IfSome result (λ slice. slice ≡ text.now) }
+{
+    Some(Slice::new(text.plain()?))
+}
+
+/// A payee as it is written, no bytes where there is none; none where it has an escape, or is there
+/// and has no bytes.
+fn payee_slice<'a>(payee: &Option<Text<'a>>) -> Option<Slice<'a>>
+    ensures { IfSome result (λ slice. payee_of slice ≡ payee.now) }
+{
+    let Some(payee) = payee else {
+        return Some(Slice::new(""));
+    };
+    let slice = slice_of(payee)?;
+    if slice.text().is_empty() {
+        return None;
+    }
+    Some(slice)
+}
+
+/// The texts of a transaction as they are written, the payee of no bytes where there is none.
+#[derive(Drop)]
+struct Texts<'a> {
+    payee: Slice<'a>,
+    narration: Slice<'a>,
+}
+
+/// The texts of a transaction that has no marks and no metadata, where they are kept as they are
+/// written.
+fn plain_texts<'a>(written: &Written<'a>) -> Option<Texts<'a>>
+    ensures { IfSome result (λ texts. IsPlainEntry written.now texts.payee texts.narration) }
+{
+    let transaction = written.transaction();
+    if !transaction.marks.as_slice().is_empty() || !written.metadata().is_empty() {
+        return None;
+    }
+    Some(Texts {
+        payee: payee_slice(&transaction.payee)?,
+        narration: slice_of(&transaction.narration)?,
+    })
+}
+
 /// What the booked postings of a transaction have in common.
 pub(crate) fn entry_of<'a>(
     alloc: Global,
@@ -103,8 +162,32 @@ pub(crate) fn entry_of<'a>(
 ) -> Result<Shared<Entry<'a>>, AllocError>
     ensures { IfOk result (λ entry. entry ≡ spec.entry_of kept.now) }
 {
-    let written = kept.written.get();
-    let transaction = &written.transaction;
+    let written = &kept.written;
+    let Some(texts) = plain_texts(written) else {
+        return full_entry(alloc, none, kept);
+    };
+    let parts = PlainParts {
+        payee: texts.payee,
+        narration: texts.narration,
+        accounts: accounts_of(alloc, kept.postings.as_slice())?,
+        date: written.day(),
+        flag: EntryFlag::Written(written.transaction().flag),
+    };
+    Shared::new(alloc, Entry::plain(none, parts)?)
+}
+
+/// The same of a transaction that may have marks, metadata, and texts with escapes. It stays out of
+/// what is done for each.
+#[inline(never)]
+fn full_entry<'a>(
+    alloc: Global,
+    none: &NoExtras<'a>,
+    kept: &Kept<'a>,
+) -> Result<Shared<Entry<'a>>, AllocError>
+    ensures { IfOk result (λ entry. entry ≡ spec.entry_of kept.now) }
+{
+    let written = &kept.written;
+    let transaction = written.transaction();
     let marks = transaction.marks.as_slice();
     let parts = EntryParts {
         payee: payee_of(alloc, &transaction.payee)?,
@@ -112,8 +195,8 @@ pub(crate) fn entry_of<'a>(
         tags: tags_of(alloc, none, marks)?,
         links: links_of(alloc, none, marks)?,
         accounts: accounts_of(alloc, kept.postings.as_slice())?,
-        metadata: metadata_of(alloc, written.metadata.as_slice())?,
-        date: written.day,
+        metadata: metadata_of(alloc, written.metadata())?,
+        date: written.day(),
         flag: EntryFlag::Written(transaction.flag),
     };
     Shared::new(alloc, Entry::new(alloc, none, parts)?)

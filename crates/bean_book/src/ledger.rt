@@ -64,11 +64,7 @@ fn push_kept<'a>(
     ensures { OnOk result (Adds (booking.Transaction kept.now) ledger.old ledger.new) }
 {
     push_transaction(alloc, none, ledger, kept)?;
-    note_written(
-        ledger,
-        near,
-        kept.written.get().transaction.postings.as_slice(),
-    )?;
+    note_written(ledger, near, kept.written.transaction().postings.as_slice())?;
     Ok(())
 }
 

@@ -222,9 +222,8 @@ fn push_posted<'a>(
         ≡ ledger.old.rows ++ spec.rows_of_transaction kept.now) }
     ensures decimals { OnOk result (ledger.new.decimals ≡ ledger.old.decimals) }
 {
-    let written = kept.written.get();
-    let line = written.place.line;
-    let postings = written.transaction.postings.as_slice();
+    let line = kept.written.place().line;
+    let postings = kept.written.transaction().postings.as_slice();
     let mut noted = noted_nowhere(postings);
     for one in kept.postings.as_slice() {
         if let Some(plain) = plain_row(entry, postings, one)? {

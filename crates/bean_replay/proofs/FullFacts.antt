@@ -26,7 +26,7 @@ use Rattle.refusals.specs.declared.refusal.Refusal.{Refusal}
 use Rattle.refusals.specs.declared.refusal.Refusal.TheVariants.{OutOfMemory}
 use Rattle.bean_replay.specs.declared.booking.Draft.{Draft}
 use Rattle.bean_replay.specs.declared.booking.Draft.TheVariants as draft
-use Rattle.bean_replay.specs.declared.booking.Written.{Written}
+use Rattle.bean_replay.specs.declared.written.WrittenParts.{WrittenParts as Written}
 
 kept : Written → List Posted → Draft
 kept w posted = draft.Transaction (record { written = w; postings = posted })

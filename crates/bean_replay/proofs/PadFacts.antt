@@ -19,7 +19,7 @@ use Rattle.bean_replay.specs.Stand.{IsStepBy, LeadsTo, Stand, after_trial, place
 use Rattle.bean_replay.specs.Stand.{written_in}
 use Rattle.bean_replay.specs.declared.booking.Draft.{Draft}
 use Rattle.bean_replay.specs.declared.booking.Draft.TheVariants as draft
-use Rattle.bean_replay.specs.declared.booking.Written.{Written}
+use Rattle.bean_replay.specs.declared.written.WrittenParts.{WrittenParts as Written}
 use Rattle.bean_replay.proofs.ShownFacts.{pads_alone}
 
 places_more : (ds : List Draft) (d : Draft)

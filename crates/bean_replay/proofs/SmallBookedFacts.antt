@@ -7,7 +7,7 @@ use Rattle.bean_replay.specs.Stand.{postings_in, postings_of, setting_of, writte
 use Rattle.bean_replay.specs.Booked.{bookings_of, with_pads}
 use Rattle.bean_replay.specs.declared.booking.Draft.{Draft}
 use Rattle.bean_replay.specs.declared.booking.Draft.TheVariants as draft
-use Rattle.bean_replay.specs.declared.booking.Written.{Written}
+use Rattle.bean_replay.specs.declared.written.WrittenParts.{WrittenParts as Written}
 use Rattle.bean_directives.specs.declared.directive.Directive.{Directive}
 use Rattle.bean_directives.specs.declared.directive.DirectiveKind.{DirectiveKind}
 use Rattle.bean_directives.specs.declared.directive.DirectiveKind.TheVariants as kind

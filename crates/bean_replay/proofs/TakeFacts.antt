@@ -4,6 +4,8 @@ use Rattle.std.proofs.Common.{Option, refl, sym, ap, ◌∙◌, subst, arith}
 use Rattle.std.specs.declared.vec.Vec.{Vec}
 use Rattle.std.specs.declared.alloc.Global.{Global}
 use Rattle.bean_accounts.specs.Kept.{IsKept}
+use Rattle.bean_base.specs.declared.days.Day.{Day}
+use Rattle.bean_base.specs.declared.span.Place.{Place}
 use Rattle.bean_directives.specs.declared.accounts.Close as closes
 use Rattle.bean_directives.specs.declared.accounts.Open as opens
 use Rattle.bean_directives.specs.declared.accounts.Pad as pads
@@ -21,14 +23,17 @@ use Rattle.bean_replay.specs.Booker.{HasRoom, IsBehind, IsStanding}
 use Rattle.bean_replay.specs.Stand.{IsStepBy, Stand, account_step, account_steps, setting_of}
 use Rattle.bean_replay.specs.declared.booker.Booker.{Booker}
 use Rattle.bean_replay.specs.declared.booking.Draft.{Draft}
-use Rattle.bean_replay.specs.declared.booking.Written.{Written}
+use Rattle.bean_replay.specs.declared.written.WrittenParts.{WrittenParts as Written}
 
 -- the setting of a transaction is what the program has
 pub settled : (m : List ℕ → Method) (past : List (Placed Directive)) (st : Stand) (w : Written)
-    (b : Booker) → IsStanding m past st b
-    → IsSettled (setting_of m st w) b.holdings b.methods
-    (record { day = w.day; line = w.place.line })
-settled m past st w b is = record { held = is.held; methods = is.methods; head_is = refl }
+    (b : Booker) (day : Day) (at : Place) → day ≡ w.day → at ≡ w.place → IsStanding m past st b
+    → IsSettled (setting_of m st w) b.holdings b.methods (record { day = day; line = at.line })
+settled m past st w b day at same there is = record {
+  held = is.held;
+  methods = is.methods;
+  head_is = λ k. record { day = sym same k; line = (sym there k).line };
+}
 
 -- so many directives and one more have as much room
 pub one_more : (n : ℕ) (b : Booker) → HasRoom n b → HasRoom (n + 1) b

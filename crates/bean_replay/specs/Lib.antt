@@ -5,3 +5,4 @@ pub mod Booker
 pub mod Booked
 pub mod BookCause
 pub mod Small
+mod Written

@@ -19,7 +19,6 @@ use crate::bookings::Bookings;
 use crate::cause::BookCause;
 use crate::handed::take_into;
 use crate::methods::{methods_of, note_unknown, otherwise};
-use crate::placed::taken_out;
 use crate::steps::are_watched;
 use bean_base::{Apart, Fault, List};
 use bean_directives::Directive;
@@ -71,7 +70,7 @@ fn take_all<'a, S: Bookings<'a> + Drop>(
     let mut booker = Booker::new(alloc, methods, are_watched(&directives));
     let mut bookings = bookings;
     for placed in directives {
-        match take_into(&mut booker, &mut bookings, taken_out(placed)) {
+        match take_into(&mut booker, &mut bookings, placed) {
             Ok(()) => {}
             Err(fault) => return Err(fault),
         }

@@ -20,10 +20,11 @@ ghost use Rattle.bean_holdings.specs.declared.posted.Posted as declared;
 ghost use Rattle.bean_transactions.specs.declared.stop.LineFault as trials;
 
 use crate::accounts::{take_balance, take_close, take_open, take_pad};
-use crate::booking::{Draft, Kept, Written};
+use crate::booking::{Draft, Kept};
 use crate::cause::BookCause;
 use crate::postings::{book_postings, note_balance};
 use crate::steps::show_watched;
+use crate::written::Written;
 use bean_accounts::Accounts;
 use bean_base::{Apart, Day, Fault, List, Place};
 use bean_directives::{Directive, DirectiveKind};
@@ -45,19 +46,19 @@ const MANY: usize = 8_192;
 const FEW_POSTINGS: usize = 8;
 
 /// The place of a directive.
-fn place_of(placed: &Placed<Directive<'_>>) -> Place
+fn place_of(placed: &Placed<Apart<Directive<'_>>>) -> Place
     ensures { result ≡ spec.place_of placed.now }
 {
     Place {
         file: placed.file,
-        line: placed.item.line,
+        line: placed.item.get().line,
     }
 }
 
 /// Gives a transaction up, together with many others. The memory of one alone is a hole between those of
 /// others, and whatever takes memory next looks through all holes; that of many lies side by side.
-fn give_up<'a>(spent: &mut Vec<Apart<Written<'a>>>, written: Apart<Written<'a>>) {
-    if written.get().transaction.postings.as_slice().len() > FEW_POSTINGS {
+fn give_up<'a>(spent: &mut Vec<Written<'a>>, written: Written<'a>) {
+    if written.transaction().postings.as_slice().len() > FEW_POSTINGS {
         return;
     }
     if spent.len() >= MANY {
@@ -77,7 +78,7 @@ pub(crate) struct Booker<'a> {
     /// A list that is used no more, for what the next transaction is booked as.
     spare: Vec<Posted<'a>>,
     /// Transactions that were handed over, up to [`MANY`].
-    spent: Vec<Apart<Written<'a>>>,
+    spent: Vec<Written<'a>>,
     pub padder: Padder<'a>,
     /// Whether any directive is a pad or a balance. Where none is the padder is shown nothing, so
     /// that such a ledger sums nothing up.
@@ -144,8 +145,8 @@ impl<'a> Booker<'a> {
         if tried.posted.as_slice().len() > MOST_POSTINGS - self.holdings.additions() {
             return Err(Refusal::Refused(BookCause::TooManyPostings));
         }
-        let at = written.place;
-        let postings = written.transaction.postings.as_slice();
+        let at = written.place();
+        let postings = written.transaction().postings.as_slice();
         note_balance(&mut self.scales, &mut self.faults, at, postings, &tried)?;
         let mut posted = tried.posted.into_vec();
         book_postings(
@@ -158,7 +159,6 @@ impl<'a> Booker<'a> {
             posted.as_mut_slice(),
         )?;
         show_watched(self.watched, &mut self.padder, posted.as_slice())?;
-        let written = Apart::new(self.alloc, written)?;
         Ok(Some(Draft::Transaction(Kept {
             written,
             postings: List::new(posted),
@@ -181,7 +181,7 @@ impl<'a> Booker<'a> {
             kind: fault.kind,
             place: Place {
                 line: fault.line,
-                ..written.place
+                ..written.place()
             },
         })?;
         Ok(None)
@@ -202,8 +202,8 @@ impl<'a> Booker<'a> {
             → IsFull (after_trial past st written.entry r)) }
     {
         let head = Head {
-            day: written.day,
-            line: written.place.line,
+            day: written.day(),
+            line: written.place().line,
         };
         let spare = replace(&mut self.spare, Vec::new(self.alloc));
         match try_transaction(
@@ -213,7 +213,7 @@ impl<'a> Booker<'a> {
             &mut self.scales,
             spare,
             head,
-            written.transaction.postings.as_slice(),
+            written.transaction().postings.as_slice(),
         ) {
             Ok(tried) => self.keep(written, tried),
             Err(Refusal::Refused(fault)) => self.drop_with(&written, fault),
@@ -284,7 +284,7 @@ impl<'a> Booker<'a> {
     /// Takes the next directive, and gives what is booked of it.
     pub(crate) fn take(
         &mut self,
-        placed: Placed<Directive<'a>>,
+        placed: Placed<Apart<Directive<'a>>>,
     ) -> Result<Option<Draft<'a>>, Refusal<BookCause>>
         requires stands { Stands self.old }
         requires watched { IsWatched self.old.watched placed }
@@ -296,21 +296,13 @@ impl<'a> Booker<'a> {
             → Wherever self.old (λ m past st. (new : Stand)
             → IsStepBy m past st placed.entry placed.entry.item.kind new → IsFull new) }
     {
-        let place = place_of(&placed);
-        let Directive {
-            day,
-            metadata,
-            kind,
-            ..
-        } = placed.item;
-        match kind.into_transaction() {
-            Ok(transaction) => self.transaction(Written {
-                day,
-                place,
-                metadata,
-                transaction,
-            }),
-            Err(other) => self.take_other(day, place, &other),
+        match Written::of(placed) {
+            Ok(written) => self.transaction(written),
+            Err(other) => {
+                let place = place_of(&other);
+                let directive = other.item.get();
+                self.take_other(directive.day, place, &directive.kind)
+            }
         }
     }
 

@@ -45,10 +45,12 @@ mod placed;
 mod postings;
 mod sizes;
 mod steps;
+mod written;
 
 pub use booked::{Booked, book_directives};
-pub use booking::{Booking, Draft, Kept, Written};
+pub use booking::{Booking, Draft, Kept};
 pub use bookings::Bookings;
 pub use cause::BookCause;
 pub use laws::one_booking;
 pub use sizes::booked_ledgers_are_small;
+pub use written::{Written, WrittenParts};

@@ -11,14 +11,3 @@ pub(crate) fn kind_of<'s, 'a>(placed: &'s Placed<Apart<Directive<'a>>>) -> &'s D
 {
     &placed.item.get().kind
 }
-
-/// The directive with its place, out of its memory.
-pub(crate) fn taken_out<'a>(placed: Placed<Apart<Directive<'a>>>) -> Placed<Directive<'a>>
-    ensures { result ≡ placed.entry }
-{
-    Placed {
-        file: placed.file,
-        part: placed.part,
-        item: placed.item.into_inner(),
-    }
-}

@@ -17,7 +17,8 @@ use Rattle.posting_table.specs.Shaped.{IsShaped}
 use Rattle.posting_entries.specs.declared.entry.EntryParts.{EntryParts}
 use Rattle.posting_table.specs.declared.row.Row.{Row}
 use Rattle.bean_replay.specs.declared.booking.Kept.{Kept}
-use Rattle.bean_replay.specs.declared.booking.Written.{Written}
+use Rattle.bean_base.specs.declared.span.Place.{Place}
+use Rattle.bean_directives.specs.declared.transaction.Transaction.{Transaction}
 use Rattle.bean_book.specs.Tame.{IsTameKept}
 use Rattle.query_rows.specs.ColumnShape.{widest}
 use Rattle.posting_table.proofs.PartFacts.{row_lies}
@@ -34,17 +35,17 @@ light_at ps posted i p within is light =
     (all_unmapped (λ (q : Posted). IsLight (booked_leg ps q)) IsLight (booked_leg ps) (λ q h. h)
     posted light)
 
--- the written postings of a transaction that lies apart
-postings_of : (k : Kept) (w : Written) (ps : List Posting) → w ≡ k.written
-    → ps ≡ w.transaction.postings → ps ≡ k.written.transaction.postings
-postings_of k w ps same are = are ∙ ap (λ (w : Written). w.transaction.postings) same
+-- the written postings of a transaction, of what is at hand of it
+postings_of : (k : Kept) (t : Transaction) (ps : List Posting) → t ≡ k.written.transaction
+    → ps ≡ t.postings → ps ≡ k.written.transaction.postings
+postings_of k t ps same are = are ∙ ap (λ (t : Transaction). t.postings) same
 
 pub push_full-requires-clause-light : goal.push_full-requires-clause-light
 push_full-requires-clause-light c =
     let k = c.args.kept.now in
     let posted = c.as_slice-one-items.result.now in
     subst (λ ps. IsLight (booked_leg ps c.one-item.result))
-    (sym (postings_of k c.get-written.result.now _ c.get-written.ensures c.as_slice-postings.ensures))
+    (sym (postings_of k c.transaction.result.now _ c.transaction.ensures c.as_slice-postings.ensures))
     (light_at k.written.transaction.postings posted c.loop-one.one-index c.one-item.result
     (omega arith) c.one-item.is
     (subst (λ l. AllByRecursion IsLight (booked_legs k.written.transaction.postings l))
@@ -104,12 +105,13 @@ behind k old new before row i p items pushed was is are within at =
     ∙ ap (λ l. old ++ l) (sym (one_more k items i p are within at))
 
 -- the row of a posting, of what is at hand of its transaction
-own_row : (k : Kept) (w : Written) (e : EntryParts) (ps : List Posting) (p : Posted) → w ≡ k.written
-    → e ≡ entry_of k → ps ≡ w.transaction.postings
-    → row_of e w.place.line ps p
+own_row : (k : Kept) (at : Place) (t : Transaction) (e : EntryParts) (ps : List Posting)
+    (p : Posted) → at ≡ k.written.place → t ≡ k.written.transaction → e ≡ entry_of k
+    → ps ≡ t.postings
+    → row_of e at.line ps p
     ≡ row_of (entry_of k) k.written.place.line k.written.transaction.postings p
-own_row k w e ps p same is are = λ i.
-    row_of (is i) (same i).place.line (postings_of k w ps same are i) p
+own_row k at t e ps p there same is are = λ i.
+    row_of (is i) (there i).line (postings_of k t ps same are i) p
 
 pub push_full-requires-clause-shaped : goal.push_full-requires-clause-shaped
 push_full-requires-clause-shaped c =
@@ -117,8 +119,9 @@ push_full-requires-clause-shaped c =
     let p = c.one-item.result in
     lies k c.as_slice-one-items.result.now c.loop-one.one-index p _ c.requires.tame
     c.as_slice-one-items.ensures (omega arith) c.one-item.is
-    (own_row k c.get-written.result.now c.args.entry.now c.as_slice-postings.result.now p
-    c.get-written.ensures c.requires.entry c.as_slice-postings.ensures)
+    (own_row k c.place-line.result c.transaction.result.now c.args.entry.now
+    c.as_slice-postings.result.now p c.place-line.ensures c.transaction.ensures c.requires.entry
+    c.as_slice-postings.ensures)
 
 pub push_plain-requires-clause-shaped : goal.push_plain-requires-clause-shaped
 push_plain-requires-clause-shaped c =
@@ -130,7 +133,7 @@ push_plain-requires-clause-shaped c =
     (given_some _ _ c.in-Some.plain c.in-Some.is c.in_ok-plain.ensures line
     ∙ ap (λ e. row_of e line c.as_slice-postings.result.now p) c.requires.entry
     ∙ ap (λ ps. row_of (entry_of k) line ps p)
-    (postings_of k c.get-written.result.now _ c.get-written.ensures c.as_slice-postings.ensures))
+    (postings_of k c.transaction.result.now _ c.transaction.ensures c.as_slice-postings.ensures))
 
 pub push_full-requires-clause-room : goal.push_full-requires-clause-room
 push_full-requires-clause-room c =
@@ -172,7 +175,7 @@ loop-one-preserved-in-Some c =
           (given_some _ _ c.in-Some.plain c.in-Some.is c.in_ok-plain.ensures line
           ∙ ap (λ e. row_of e line c.as_slice-postings.result.now p) c.requires.entry
           ∙ ap (λ ps. row_of (entry_of k) line ps p)
-          (postings_of k c.get-written.result.now _ c.get-written.ensures c.as_slice-postings.ensures))
+          (postings_of k c.transaction.result.now _ c.transaction.ensures c.as_slice-postings.ensures))
           c.as_slice-one-items.ensures (omega arith) c.one-item.is;
       decimals = ap (λ (l : Ledger). l.decimals) c.in_ok-push_plain.ensures.pushed
           ∙ c.loop-one.invariant.decimals;
@@ -185,8 +188,9 @@ loop-one-preserved c =
     let p = c.one-item.result in record {
       rows = behind k c.args.ledger.now.rows _ _ _ c.loop-one.one-index p
           c.as_slice-one-items.result.now c.in_ok-push_full.ensures.rows c.loop-one.invariant.rows
-          (own_row k c.get-written.result.now c.args.entry.now c.as_slice-postings.result.now p
-          c.get-written.ensures c.requires.entry c.as_slice-postings.ensures)
+          (own_row k c.place-line.result c.transaction.result.now c.args.entry.now
+          c.as_slice-postings.result.now p c.place-line.ensures c.transaction.ensures c.requires.entry
+          c.as_slice-postings.ensures)
           c.as_slice-one-items.ensures (omega arith) c.one-item.is;
       decimals = c.in_ok-push_full.ensures.decimals ∙ c.loop-one.invariant.decimals;
       noted = c.in_ok-push_full.ensures.noted;

@@ -20,7 +20,7 @@ take_into-requires g c = λ k.
     let whole = ap length c.loop-placed.invariant.whole in
     let parts = length-append before c.loop-placed.placed-iterator.rest.items in
     let turned = length-reverse before in
-    let next = c.in-Some.ensures.steps.0 ∙ ap (λ d. d ∷ after) (sym c.taken_out.ensures) in
+    let next = c.in-Some.ensures.steps.0 in
     let small =
     subst (AllByRecursion IsSmall)
     (sym c.loop-placed.invariant.whole ∙ ap (λ l. before ++ l) next) c.requires.small in (
@@ -32,9 +32,9 @@ take_into-requires g c = λ k.
           led.0,
           led.1,
           (
-            (all_behind IsSmall before (c.taken_out.result ∷ after) small).0,
+            (all_behind IsSmall before (c.in-Some.placed ∷ after) small).0,
             all_reversed IsSmall before
-                (all_front IsSmall before (c.taken_out.result ∷ after) small),
+                (all_front IsSmall before (c.in-Some.placed ∷ after) small),
           ),
           let few = c.requires.few in omega (arith, few, whole, parts, turned),
         ),
@@ -66,8 +66,7 @@ loop-placed-init g c =
 pub loop-placed-preserved : goal.loop-placed-preserved
 loop-placed-preserved g c =
     let before = c.loop-placed.yielded in
-    let after = c.next.new.self.rest.items in
-    let same = c.taken_out.ensures in record {
+    let after = c.next.new.self.rest.items in record {
       whole =
           append_assoc before (c.in-Some.placed ∷ []) after
           ∙ ap (λ l. before ++ l) (sym c.in-Some.ensures.steps.0)
@@ -82,8 +81,7 @@ loop-placed-preserved g c =
           let led = c.loop-placed.invariant.leads m methods in
           subst (λ past. (st : Stand) × IsLed g.S.Bookings m past st booker bookings)
           (sym (reverse-append before (c.in-Some.placed ∷ [])))
-          (subst (λ d. (st : Stand) × IsLed g.S.Bookings m (d ∷ reverse before) st booker bookings)
-          same (c.in-Ok.ensures.led m (reverse before) led.0 led.1));
+          (c.in-Ok.ensures.led m (reverse before) led.0 led.1);
     }
 
 pub returns-clause-stands : goal.returns-clause-stands
@@ -116,8 +114,8 @@ pub returns-in-Err-clause-full : goal.returns-in-Err-clause-full
 returns-in-Err-clause-full g c = λ is_full m methods st all.
     let before = c.loop-placed.yielded in
     let after = c.next.new.self.rest.items in
-    let d = c.taken_out.result in
-    let next = c.in-Some.ensures.steps.0 ∙ ap (λ d. d ∷ after) (sym c.taken_out.ensures) in
+    let d = c.in-Some.placed in
+    let next = c.in-Some.ensures.steps.0 in
     let led = c.loop-placed.invariant.leads m methods in
     let full =
     c.in-Err.ensures.full (ap Err (ap fault_of is_full)) m (reverse before) led.0 led.1 in

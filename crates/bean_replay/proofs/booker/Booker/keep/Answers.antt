@@ -3,6 +3,8 @@ use Rattle.std.proofs.Common.{append_assoc, sym, ◌∙◌}
 use Rattle.std.specs.List.{flat_map}
 use Rattle.bean_accounts.specs.Faults.{faults_at, kind_if}
 use Rattle.bean_base.specs.declared.fault.FaultKind.TheVariants as kinds
+use Rattle.bean_base.specs.declared.span.Place.{Place}
+use Rattle.bean_directives.specs.declared.transaction.Transaction.{Transaction}
 use Rattle.bean_interp.specs.Balance.{is_balanced}
 use Rattle.bean_pad.specs.Following.{Follows}
 use Rattle.bean_postings.specs.declared.posting.Posting.{Posting}
@@ -40,7 +42,7 @@ pub returns-clause-standing : goal.returns-clause-standing
 returns-clause-standing c = λ m past st is.
     let b = c.args.self.now in
     let w = c.args.written in
-    let at = w.place in
+    let there = c.place-at.ensures in
     let posted : List Posted = c.args.tried.posted in
     let one : Draft = draft.Transaction (record { written = w; postings = posted }) in
     let lent = c.as_mut_slice.ensures.value ∙ c.into_vec-posted.ensures in
@@ -49,16 +51,18 @@ returns-clause-standing c = λ m past st is.
     c.as_mut_slice.result.now c.book_postings.new.posted posted c.as_mut_slice.ensures.len
     c.in_ok-book_postings.ensures.posted lent in
     let shown = c.as_slice-2.ensures.value ∙ back in
-    let written = c.as_slice-postings.ensures in
+    let written =
+    c.as_slice-postings.ensures
+    ∙ ap (λ (t : Transaction). t.postings) c.transaction.ensures in
     let count = count_more st.drafts one in
     let added = c.in_ok-book_postings.ensures.additions in
     let before = is.count in
     let lengths = ap length lent in
     let seen = ap length shown in
     let sizes = ap length c.as_slice.ensures in
-    let own : List Posting → List Posted → List _ = λ ps l.
+    let own : Place → List Posting → List Posted → List _ = λ at ps l.
     faults_at at (kind_if (not (is_balanced (booked_legs ps l))) kinds.Unbalanced) in
-    let each : List Posting → List Posted → List _ = λ ps l.
+    let each : Place → List Posting → List Posted → List _ = λ at ps l.
     flat_map (posted_faults (account_steps past) at ps) l in
     record {
       stands = record {
@@ -75,10 +79,13 @@ returns-clause-standing c = λ m past st is.
             (postings_of (st.drafts ++ one ∷ [])) st.steps is.seen (postings_more st.drafts one)
             is.steps_are;
         faults_are = c.in_ok-book_postings.ensures.faults (account_steps past) is.accounts
-            ∙ ap (λ l. l ++ each c.as_slice-postings.result.now c.as_mut_slice.result.now)
+            ∙ ap (λ l. l
+            ++ each c.place-at.result c.as_slice-postings.result.now c.as_mut_slice.result.now)
             c.in_ok-note_balance.ensures
-            ∙ (λ k. (is.faults_are k ++ own (written k) posted) ++ each (written k) (lent k))
-            ∙ append_assoc st.faults (own _ posted) (each _ posted);
+            ∙ (λ k. (is.faults_are k ++ own (there k) (written k) posted)
+            ++ each (there k) (written k) (lent k))
+            ∙ append_assoc st.faults (own w.place w.transaction.postings posted)
+            (each w.place w.transaction.postings posted);
         room = record {
           bounded = c.in_ok-book_postings.ensures.bounded;
           near = c.in_ok-show_watched.ensures.near;
@@ -93,8 +100,8 @@ returns-clause-standing c = λ m past st is.
       };
       adds = λ k. st.drafts
           ++ draft.Transaction (record {
-            written = sym c.in_ok-written.ensures k;
-            postings = sym (c.new-2.ensures ∙ back) k;
+            written = w;
+            postings = sym (c.new.ensures ∙ back) k;
           })
           ∷ [];
     }

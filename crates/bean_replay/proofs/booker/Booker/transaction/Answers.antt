@@ -1,5 +1,6 @@
-use Rattle.std.proofs.Common.{◌+◌, ◌<◌, Ok, Err, length, subst}
+use Rattle.std.proofs.Common.{◌+◌, ◌<◌, Ok, Err, ap, length, subst, ◌∙◌}
 use Rattle.std.proofs.lemmas.Result.{IfOk-weaker}
+use Rattle.bean_directives.specs.declared.transaction.Transaction.{Transaction}
 use Rattle.limits.specs.declared.counts.TheConstants.{MOST_POSTINGS}
 use Rattle.bean_transactions.proofs.LightFacts.{kept_light}
 use Rattle.bean_transactions.specs.Outcome.{StopsAt}
@@ -25,16 +26,16 @@ keep-requires-clause-light c =
     let w = c.args.written in
     let s = setting_of z.method_of z.stand w in
     kept_light s w.transaction.postings c.in-Ok.tried.posted
-    (subst (λ ps. Tries s ps (Ok c.in-Ok.tried.posted)) c.as_slice.ensures
-    (c.in-Ok.ensures.tried s (settled z.method_of z.past z.stand w c.args.self.now z.is)))
+    (subst (λ ps. Tries s ps (Ok c.in-Ok.tried.posted)) (c.as_slice.ensures ∙ ap (λ (t : Transaction). t.postings) c.transaction.ensures)
+    (c.in-Ok.ensures.tried s (settled z.method_of z.past z.stand w c.args.self.now _ _ c.day.ensures c.place.ensures z.is)))
 
 pub returns-in-Ok-clause-standing : goal.returns-in-Ok-clause-standing
 returns-in-Ok-clause-standing c = λ m past st is.
     let w = c.args.written in
     let s = setting_of m st w in
     let tries =
-    subst (λ ps. Tries s ps (Ok c.in-Ok.tried.posted)) c.as_slice.ensures
-    (c.in-Ok.ensures.tried s (settled m past st w c.args.self.now is)) in
+    subst (λ ps. Tries s ps (Ok c.in-Ok.tried.posted)) (c.as_slice.ensures ∙ ap (λ (t : Transaction). t.postings) c.transaction.ensures)
+    (c.in-Ok.ensures.tried s (settled m past st w c.args.self.now _ _ c.day.ensures c.place.ensures is)) in
     IfOk-weaker c.keep.result _ _ (λ booked behind. (Ok c.in-Ok.tried.posted, tries, behind))
     (c.keep.ensures.standing m past st (reweighed m past st c.args.self.now _ _ is))
 
@@ -43,9 +44,9 @@ returns-in-Err-Refused-clause-standing c = λ m past st is.
     let w = c.args.written in
     let s = setting_of m st w in
     let told =
-    c.in-Err-Refused.ensures.tried s (settled m past st w c.args.self.now is) in
+    c.in-Err-Refused.ensures.tried s (settled m past st w c.args.self.now _ _ c.day.ensures c.place.ensures is) in
     let tries =
-    subst (λ ps. Tries s ps (Err c.in-Err-Refused.fault)) c.as_slice.ensures
+    subst (λ ps. Tries s ps (Err c.in-Err-Refused.fault)) (c.as_slice.ensures ∙ ap (λ (t : Transaction). t.postings) c.transaction.ensures)
     (subst (StopsAt (λ f. Tries s c.as_slice.result.now (Err f))) c.in-Err-Refused.field-0-is told) in
     IfOk-weaker c.drop_with.result _ _ (λ booked behind. (Err c.in-Err-Refused.fault, tries, behind))
     (c.drop_with.ensures.standing m past st (reweighed m past st c.args.self.now _ _ is))
@@ -55,7 +56,7 @@ returns-in-Ok-clause-full c = λ is_full m past st is r tries.
     let w = c.args.written in
     let s = setting_of m st w in
     let own =
-    subst (λ ps. Tries s ps (Ok c.in-Ok.tried.posted)) c.as_slice.ensures
-    (c.in-Ok.ensures.tried s (settled m past st w c.args.self.now is)) in
+    subst (λ ps. Tries s ps (Ok c.in-Ok.tried.posted)) (c.as_slice.ensures ∙ ap (λ (t : Transaction). t.postings) c.transaction.ensures)
+    (c.in-Ok.ensures.tried s (settled m past st w c.args.self.now _ _ c.day.ensures c.place.ensures is)) in
     full_kept m past st w c.in-Ok.tried.posted r own tries
     (subst (λ n. MOST_POSTINGS < n + length c.in-Ok.tried.posted) is.count (c.keep.ensures.full is_full))
