@@ -1,6 +1,6 @@
 -- Codes stand to each other as the directives that have them.
-use Rattle.std.proofs.Common.{◌≡◌, ◌<◌, ◌+◌, ◌<ℤ◌, ◌+ℤ◌, ℕ, ℤ, pos, List, [], ◌∷◌, ◌++◌, length, get_or}
-use Rattle.std.proofs.Common.{Bool, true, false, refl, sym, ap, ap₂, subst, ◌∙◌, arith, inl, inr}
+use Rattle.std.proofs.Common.{◌≡◌, ◌<◌, ◌<ℤ◌, ◌+ℤ◌, ℕ, ℤ, pos, List, [], ◌∷◌, ◌++◌, length, get_or}
+use Rattle.std.proofs.Common.{Bool, true, false, sym, ap, ap₂, subst, ◌∙◌, arith, inl, inr}
 use Rattle.std.proofs.lemmas.Bool.{cases_lt, cases_order}
 use Rattle.std.proofs.lemmas.Cmp.{on_total}
 use Rattle.std.proofs.lemmas.Int.{ints}
@@ -12,48 +12,45 @@ use Rattle.arranging.proofs.KeyFacts.{digits_lead}
 use Rattle.arranging.specs.Keys.{AreArranged, AreArrangedIf}
 use Rattle.bean_directives.specs.declared.directive.Directive.{Directive}
 use Rattle.bean_load.specs.Order.{AreInOrder, AreInOrderIf, key_cmp, key_of, turn_of}
-use Rattle.bean_load.specs.Turns.{AreCodes, IsCode}
+use Rattle.bean_load.specs.Turns.{AreCodes, AreCodesIf, IsCode}
+use Rattle.bean_load.specs.declared.order.Codes.{Codes}
 use Rattle.bean_load.specs.declared.order.TheConstants.{BEFORE, PARTS}
 use Rattle.bean_load.proofs.OrderFacts.{key_total, keys_are_turns, turn_cmp}
 use Rattle.bean_loaded.specs.declared.placed.Placed.{Placed}
 
 -- ---- one code after the other
 
--- so many have their codes
-pub record HaveCodes (ds : List (Placed Directive)) (codes : List ℕ) (count : ℕ) : Type 0 where
-  pub long : length codes ≡ count
-  pub each : (n : ℕ) (d : Placed Directive) → n < count
-      → IsCode (turn_of (get_or ds n d)) (get_or codes n 0)
-
-pub no_codes : (ds : List (Placed Directive)) → HaveCodes ds [] 0
-no_codes ds = record { long = refl; each = λ n d few. absurd (omega (arith, few)) }
-
-pub one_code_more : (ds : List (Placed Directive)) (codes : List ℕ) (count code : ℕ)
-    → HaveCodes ds codes count
-    → ((d : Placed Directive) → IsCode (turn_of (get_or ds count d)) code)
-    → HaveCodes ds (codes ++ code ∷ []) (count + 1)
-one_code_more ds codes count code have last = record {
-  long = length_push codes code ∙ ap (λ l. l + 1) have.long;
-  each = λ n d few.
-      elim (cases_lt n count) [
+module _ (ds : List (Placed Directive)) (codes : List ℕ) (d : Placed Directive) (code : ℕ)
+    (are : AreCodes ds codes) (is : IsCode (turn_of d) code) where
+  code_at : (n : ℕ) (e : Placed Directive) → n < length (ds ++ d ∷ [])
+      → IsCode (turn_of (get_or (ds ++ d ∷ []) n e)) (get_or (codes ++ code ∷ []) n 0)
+  code_at n e inside =
+      elim (cases_lt n (length ds)) [
         | inl front ↦
-            subst (IsCode (turn_of (get_or ds n d)))
-            (sym (get_or_append_left codes (code ∷ []) 0 n (omega (arith, have.long, front))))
-            (have.each n d front)
+            rw (
+              get_or_append_left ds (d ∷ []) e n front,
+              get_or_append_left codes (code ∷ []) 0 n (omega (arith, are.count, front)),
+            ) (are.each n e front)
         | inr behind ↦
-            let at : count ≡ n = omega (arith, few, behind) in
-            subst (λ m. IsCode (turn_of (get_or ds m d)) (get_or (codes ++ code ∷ []) m 0)) at
-            (subst (IsCode (turn_of (get_or ds count d)))
-            (sym (get_or_push codes code 0 count have.long)) (last d))
-      ];
-}
+            let at : length ds ≡ n = omega (arith, length_push ds d, inside, behind) in
+            rw (
+              get_or_push ds d e n at,
+              get_or_push codes code 0 n (are.count ∙ at),
+            ) is
+      ]
 
-pub are_codes : (ds : List (Placed Directive)) (codes : List ℕ) (count : ℕ) → count ≡ length ds
-    → HaveCodes ds codes count → AreCodes ds codes
-are_codes ds codes count all have = record {
-  count = have.long ∙ all;
-  each = λ n d inside. have.each n d (omega (arith, inside, all));
-}
+  one_code_more : AreCodes (ds ++ d ∷ []) (codes ++ code ∷ [])
+  one_code_more = record {
+    count = omega (arith, length_push ds d, length_push codes code, are.count);
+    each = code_at;
+  }
+
+pub code_added : (ds : List (Placed Directive)) (old new : Codes) (d : Placed Directive) (code : ℕ)
+    → IsCode (turn_of d) code → new.codes.items ≡ old.codes.items ++ code ∷ []
+    → new.are_all ≡ old.are_all → AreCodesIf ds old → AreCodesIf (ds ++ d ∷ []) new
+code_added ds old new d code is added same have = λ all.
+    subst (AreCodes (ds ++ d ∷ [])) (sym added)
+    (one_code_more ds old.codes.items d code (have (sym same ∙ all)) is)
 
 -- ---- what codes tell
 
