@@ -1,10 +1,9 @@
 -- Codes stand to each other as the directives that have them.
-use Rattle.std.proofs.Common.{◌≡◌, ◌<◌, ◌<ℤ◌, ◌+ℤ◌, ℕ, ℤ, pos, List, [], ◌∷◌, ◌++◌, length, get_or}
-use Rattle.std.proofs.Common.{Bool, true, false, sym, ap, ap₂, subst, ◌∙◌, arith, inl, inr}
-use Rattle.std.proofs.lemmas.Bool.{cases_lt, cases_order}
+use Rattle.std.proofs.Common.{◌≡◌, ◌<◌, ◌<ℤ◌, ◌+ℤ◌, ℕ, ℤ, pos, List, get_or}
+use Rattle.std.proofs.Common.{Bool, true, false, sym, ap, ap₂, ◌∙◌, arith, inl, inr}
+use Rattle.std.proofs.lemmas.Bool.{cases_order}
 use Rattle.std.proofs.lemmas.Cmp.{on_total}
 use Rattle.std.proofs.lemmas.Int.{ints}
-use Rattle.std.proofs.lemmas.List.{get_or_append_left, get_or_push, length_push}
 use Rattle.std.specs.Cmp.{int_cmp_is, nat_cmp_is}
 use Rattle.std.specs.Ordering.{int_cmp, nat_cmp, ordering_then}
 use Rattle.std.specs.declared.cmp.Ordering.TheVariants.{Less, Equal, Greater}
@@ -12,45 +11,10 @@ use Rattle.arranging.proofs.KeyFacts.{digits_lead}
 use Rattle.arranging.specs.Keys.{AreArranged, AreArrangedIf}
 use Rattle.bean_directives.specs.declared.directive.Directive.{Directive}
 use Rattle.bean_load.specs.Order.{AreInOrder, AreInOrderIf, key_cmp, key_of, turn_of}
-use Rattle.bean_load.specs.Turns.{AreCodes, AreCodesIf, IsCode}
-use Rattle.bean_load.specs.declared.order.Codes.{Codes}
+use Rattle.bean_load.specs.Turns.{AreCodes, IsCode}
 use Rattle.bean_load.specs.declared.order.TheConstants.{BEFORE, PARTS}
 use Rattle.bean_load.proofs.OrderFacts.{key_total, keys_are_turns, turn_cmp}
 use Rattle.bean_loaded.specs.declared.placed.Placed.{Placed}
-
--- ---- one code after the other
-
-module _ (ds : List (Placed Directive)) (codes : List ℕ) (d : Placed Directive) (code : ℕ)
-    (are : AreCodes ds codes) (is : IsCode (turn_of d) code) where
-  code_at : (n : ℕ) (e : Placed Directive) → n < length (ds ++ d ∷ [])
-      → IsCode (turn_of (get_or (ds ++ d ∷ []) n e)) (get_or (codes ++ code ∷ []) n 0)
-  code_at n e inside =
-      elim (cases_lt n (length ds)) [
-        | inl front ↦
-            rw (
-              get_or_append_left ds (d ∷ []) e n front,
-              get_or_append_left codes (code ∷ []) 0 n (omega (arith, are.count, front)),
-            ) (are.each n e front)
-        | inr behind ↦
-            let at : length ds ≡ n = omega (arith, length_push ds d, inside, behind) in
-            rw (
-              get_or_push ds d e n at,
-              get_or_push codes code 0 n (are.count ∙ at),
-            ) is
-      ]
-
-  one_code_more : AreCodes (ds ++ d ∷ []) (codes ++ code ∷ [])
-  one_code_more = record {
-    count = omega (arith, length_push ds d, length_push codes code, are.count);
-    each = code_at;
-  }
-
-pub code_added : (ds : List (Placed Directive)) (old new : Codes) (d : Placed Directive) (code : ℕ)
-    → IsCode (turn_of d) code → new.codes.items ≡ old.codes.items ++ code ∷ []
-    → new.are_all ≡ old.are_all → AreCodesIf ds old → AreCodesIf (ds ++ d ∷ []) new
-code_added ds old new d code is added same have = λ all.
-    subst (AreCodes (ds ++ d ∷ [])) (sym added)
-    (one_code_more ds old.codes.items d code (have (sym same ∙ all)) is)
 
 -- ---- what codes tell
 
