@@ -1,7 +1,10 @@
 -- What the texts from one on say completes what is read of those before it.
 use Rattle.std.proofs.Common.{◌≡◌, ℕ, ◌+◌, List, [], ◌∷◌, ◌++◌, map, refl, sym, ap, ◌∙◌}
 use Rattle.std.proofs.Common.{append_assoc}
-use Rattle.std.proofs.lemmas.List.{append-nil}
+use Rattle.std.proofs.lemmas.List.{append-nil, map_push}
+use Rattle.bean_directives.specs.declared.directive.Directive.{Directive}
+use Rattle.bean_load.specs.declared.placed.Own.{Own}
+use Rattle.bean_loaded.specs.declared.placed.Placed.{Placed}
 use Rattle.bean_load.specs.Loaded.{AreParsed, directives_in, settings_in, faults_in, fault_in}
 use Rattle.bean_load.specs.Loading.{AddsParsed, AreRead}
 use Rattle.bean_load.specs.Placed.{parts_of, placed_directive, placed_setting}
@@ -38,6 +41,17 @@ moved : {A : Type 0} (old new mine others whole : List A) → new ≡ old ++ min
     → old ++ (mine ++ others) ≡ whole → new ++ others ≡ whole
 moved old new mine others whole is was =
     ap (λ xs. xs ++ others) is ∙ append_assoc old mine others ∙ was
+
+-- one directive more is placed
+pub one_placed :
+    (file : ℕ) (own : List Own) (ds : List Directive) (d : Directive)
+    (old out new : List (Placed Directive)) (p : Placed Directive)
+    → out ≡ old ++ map (placed_directive file own) ds → p ≡ placed_directive file own d
+    → new ≡ out ++ p ∷ [] → new ≡ old ++ map (placed_directive file own) (ds ++ d ∷ [])
+one_placed file own ds d old out new p was is added =
+    added ∙ ap (λ x. out ++ x ∷ []) is ∙ ap (λ l. l ++ placed_directive file own d ∷ []) was
+    ∙ append_assoc old (map (placed_directive file own) ds) (placed_directive file own d ∷ [])
+    ∙ ap (λ l. old ++ l) (sym (map_push (placed_directive file own) ds d))
 
 pub one_more :
     (texts : Texts) (n : ℕ) (old new : Read) (file : File) (files : List File) (p : Parsed)

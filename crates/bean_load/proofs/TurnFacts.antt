@@ -1,10 +1,9 @@
 -- Codes stand to each other as the directives that have them.
-use Rattle.std.proofs.Common.{◌≡◌, ◌<◌, ◌+◌, ◌<ℤ◌, ◌+ℤ◌, ℕ, ℤ, pos, List, [], ◌∷◌, ◌++◌, length, get_or}
-use Rattle.std.proofs.Common.{Bool, true, false, refl, sym, ap, ap₂, subst, ◌∙◌, arith, inl, inr}
-use Rattle.std.proofs.lemmas.Bool.{cases_lt, cases_order}
+use Rattle.std.proofs.Common.{◌≡◌, ◌<◌, ◌<ℤ◌, ◌+ℤ◌, ℕ, ℤ, pos, List, get_or}
+use Rattle.std.proofs.Common.{Bool, true, false, sym, ap, ap₂, ◌∙◌, arith, inl, inr}
+use Rattle.std.proofs.lemmas.Bool.{cases_order}
 use Rattle.std.proofs.lemmas.Cmp.{on_total}
 use Rattle.std.proofs.lemmas.Int.{ints}
-use Rattle.std.proofs.lemmas.List.{get_or_append_left, get_or_push, length_push}
 use Rattle.std.specs.Cmp.{int_cmp_is, nat_cmp_is}
 use Rattle.std.specs.Ordering.{int_cmp, nat_cmp, ordering_then}
 use Rattle.std.specs.declared.cmp.Ordering.TheVariants.{Less, Equal, Greater}
@@ -16,44 +15,6 @@ use Rattle.bean_load.specs.Turns.{AreCodes, IsCode}
 use Rattle.bean_load.specs.declared.order.TheConstants.{BEFORE, PARTS}
 use Rattle.bean_load.proofs.OrderFacts.{key_total, keys_are_turns, turn_cmp}
 use Rattle.bean_loaded.specs.declared.placed.Placed.{Placed}
-
--- ---- one code after the other
-
--- so many have their codes
-pub record HaveCodes (ds : List (Placed Directive)) (codes : List ℕ) (count : ℕ) : Type 0 where
-  pub long : length codes ≡ count
-  pub each : (n : ℕ) (d : Placed Directive) → n < count
-      → IsCode (turn_of (get_or ds n d)) (get_or codes n 0)
-
-pub no_codes : (ds : List (Placed Directive)) → HaveCodes ds [] 0
-no_codes ds = record { long = refl; each = λ n d few. absurd (omega (arith, few)) }
-
-pub one_code_more : (ds : List (Placed Directive)) (codes : List ℕ) (count code : ℕ)
-    → HaveCodes ds codes count
-    → ((d : Placed Directive) → IsCode (turn_of (get_or ds count d)) code)
-    → HaveCodes ds (codes ++ code ∷ []) (count + 1)
-one_code_more ds codes count code have last = record {
-  long = length_push codes code ∙ ap (λ l. l + 1) have.long;
-  each = λ n d few.
-      elim (cases_lt n count) [
-        | inl front ↦
-            subst (IsCode (turn_of (get_or ds n d)))
-            (sym (get_or_append_left codes (code ∷ []) 0 n (omega (arith, have.long, front))))
-            (have.each n d front)
-        | inr behind ↦
-            let at : count ≡ n = omega (arith, few, behind) in
-            subst (λ m. IsCode (turn_of (get_or ds m d)) (get_or (codes ++ code ∷ []) m 0)) at
-            (subst (IsCode (turn_of (get_or ds count d)))
-            (sym (get_or_push codes code 0 count have.long)) (last d))
-      ];
-}
-
-pub are_codes : (ds : List (Placed Directive)) (codes : List ℕ) (count : ℕ) → count ≡ length ds
-    → HaveCodes ds codes count → AreCodes ds codes
-are_codes ds codes count all have = record {
-  count = have.long ∙ all;
-  each = λ n d inside. have.each n d (omega (arith, inside, all));
-}
 
 -- ---- what codes tell
 

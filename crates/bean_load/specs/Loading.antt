@@ -8,6 +8,7 @@ use Rattle.bean_load.specs.Loaded.{faults_in, fault_in, title_behind, title_in, 
 use Rattle.bean_load.specs.Loaded.{method_of}
 use Rattle.bean_load.specs.Placed.{placed_directive, placed_setting}
 use Rattle.bean_load.specs.Texts.{Texts}
+use Rattle.bean_load.specs.Turns.{AreCodesIf}
 use Rattle.bean_load.specs.declared.loaded.Books.{Books}
 use Rattle.bean_load.specs.declared.loaded.Read.{Read}
 use Rattle.bean_load.specs.declared.placed.Own.{Own}
@@ -20,6 +21,7 @@ pub record AddsParsed (file : ℕ) (own : List Own) (p : Parsed) (old new : Read
       new.directives.items ≡ old.directives.items ++ map (placed_directive file own) p.directives
   pub settings : new.settings.items ≡ old.settings.items ++ map (placed_setting file own) p.settings
   pub faults : new.faults.items ≡ old.faults.items ++ map (fault_in file) p.faults
+  pub codes : AreCodesIf old.directives.items old.codes → AreCodesIf new.directives.items new.codes
 
 -- what all the texts say
 pub record AreRead (texts : Texts) (read : Read) : Type 0 where

@@ -5,9 +5,10 @@ ghost use Rattle.bean_load.specs.Loaded as spec;
 ghost use Rattle.bean_load.specs.Loaded.{IsLoaded};
 ghost use Rattle.bean_load.specs.Loading.{AddsParsed, AddsSetting, AreBooks, AreRead};
 ghost use Rattle.bean_load.specs.Loading.{HasOneLoading};
+ghost use Rattle.bean_load.specs.Turns.{AreCodesIf};
 ghost use Rattle.bean_loaded.specs.Limited.{AreFew, AreSmall};
 
-use crate::order::{order_directives, order_settings};
+use crate::order::{Codes, order_directives, order_settings};
 use crate::placed::{Own, add_directives, add_settings, parts_of};
 use crate::texts::Texts;
 use bean_base::{Apart, Fault, Place, Text};
@@ -20,6 +21,8 @@ use std::alloc::{AllocError, Global};
 #[derive(Drop)]
 pub struct Read<'a> {
     pub directives: Vec<Placed<Apart<Directive<'a>>>>,
+    /// By which the directives are arranged.
+    pub codes: Codes,
     pub settings: Vec<Placed<Setting<'a>>>,
     pub faults: Vec<Fault>,
 }
@@ -49,6 +52,7 @@ impl<'a> Read<'a> {
             own,
             parsed.directives.into_vec(),
             &mut self.directives,
+            &mut self.codes,
         )?;
         add_settings(file, own, parsed.settings.into_vec(), &mut self.settings)?;
         add_faults(file, parsed.faults.as_slice(), &mut self.faults)
@@ -104,9 +108,11 @@ fn read_all(alloc: Global, texts: &Texts) -> Result<Read<'_>, AllocError>
     ensures read { IfOk result (AreRead texts.now) }
     ensures small { IfOk result (λ read. AreSmall read.directives.items) }
     ensures few { IfOk result (λ read. AreFew read.directives.items) }
+    ensures coded { IfOk result (λ read. AreCodesIf read.directives.items read.codes) }
 {
     let mut read = Read {
         directives: Vec::new(alloc),
+        codes: Codes::new(alloc),
         settings: Vec::new(alloc),
         faults: Vec::new(alloc),
     };
@@ -122,14 +128,17 @@ fn read_all(alloc: Global, texts: &Texts) -> Result<Read<'_>, AllocError>
 pub fn load(alloc: Global, texts: &Texts) -> Result<Loaded<'_>, AllocError>
     ensures { IfOk result (IsLoaded texts.now) }
 {
-    let mut read = read_all(alloc, texts)?;
-    order_directives(alloc, &mut read.directives)?;
-    order_settings(&mut read.settings)?;
-    let books = books_of(alloc, &read.settings)?;
-    read.faults.extend_from_slice(texts.faults())?;
+    let read = read_all(alloc, texts)?;
+    let mut directives = read.directives;
+    let mut settings = read.settings;
+    let mut faults = read.faults;
+    order_directives(alloc, &mut directives, read.codes)?;
+    order_settings(&mut settings)?;
+    let books = books_of(alloc, &settings)?;
+    faults.extend_from_slice(texts.faults())?;
     Ok(Loaded::new(
-        read.directives,
-        read.faults,
+        directives,
+        faults,
         books.title,
         books.operating,
         books.methods,

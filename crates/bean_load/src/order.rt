@@ -1,8 +1,11 @@
 //! The order in which the directives and the settings of all texts are taken.
-ghost use Rattle.std.specs.Prelude.{◌≡◌, ◌<◌, ◌+ℤ◌, ◌*ℤ◌, pos, List, IfOk, IfSome, OnErr, OnOk};
+ghost use Rattle.std.specs.Prelude.{◌≡◌, ◌<◌, ◌+ℤ◌, ◌*ℤ◌, pos, List, [], ◌∷◌, ◌++◌, IfOk, IfSome};
+ghost use Rattle.std.specs.Prelude.{OnErr, OnOk};
+ghost use Rattle.bean_directives.specs.declared.directive.Directive.{Directive};
+ghost use Rattle.bean_loaded.specs.declared.placed.Placed as placed_declared;
 ghost use Rattle.bean_load.specs.Order as spec;
 ghost use Rattle.bean_load.specs.Order.{AreInOrder, AreInOrderIf, AreSettingsInOrder};
-ghost use Rattle.bean_load.specs.Turns.{AreCodes, IsCode};
+ghost use Rattle.bean_load.specs.Turns.{AreCodesIf, IsCode};
 ghost use Rattle.bean_load.specs.declared.order.TheConstants.{BEFORE};
 
 use crate::rank::Rank;
@@ -60,46 +63,63 @@ fn code_of(placed: &Placed<Apart<Directive<'_>>>) -> Option<u64>
         .checked_add(part as u64)
 }
 
-/// The codes of directives, where all have one.
-fn codes_of(
-    alloc: Global,
-    directives: &[Placed<Apart<Directive<'_>>>],
-) -> Result<Option<Vec<u64>>, AllocError>
-    ensures { IfOk result (λ found. IfSome found (λ codes.
-        AreCodes directives.now codes.items)) }
-{
-    let mut codes = Vec::with_capacity(alloc, directives.len())?;
-    for place in 0..directives.len() {
-        let Some(code) = code_of(&directives[place]) else {
-            return Ok(None);
-        };
-        codes.push(code)?;
+/// The codes of directives, one for each, as far as all have one.
+#[derive(Drop)]
+pub struct Codes {
+    pub codes: Vec<u64>,
+    /// Whether each directive had one.
+    pub are_all: bool,
+}
+
+impl Codes {
+    pub fn new(alloc: Global) -> Codes
+        ensures { AreCodesIf [] result }
+    {
+        Codes {
+            codes: Vec::new(alloc),
+            are_all: true,
+        }
     }
-    Ok(Some(codes))
+
+    /// Adds the code of one more directive.
+    pub fn add(&mut self, placed: &Placed<Apart<Directive<'_>>>) -> Result<(), AllocError>
+        ensures { OnOk result ((ds : List (placed_declared.Placed Directive))
+            → AreCodesIf ds self.old → AreCodesIf (ds ++ placed.now ∷ []) self.new) }
+    {
+        match code_of(placed) {
+            Some(code) => self.codes.push(code)?,
+            None => self.are_all = false,
+        }
+        Ok(())
+    }
 }
 
 /// Arranges directives by their codes, where all have one. Whether it did.
 fn order_by_codes(
     alloc: Global,
     directives: &mut [Placed<Apart<Directive<'_>>>],
+    codes: Codes,
 ) -> Result<bool, AllocError>
+    requires { AreCodesIf directives.old codes }
     ensures in_order { IfOk result (λ done. AreInOrderIf done directives.old directives.new) }
     ensures unchanged { OnErr result (directives.new ≡ directives.old) }
 {
-    let Some(codes) = codes_of(alloc, directives)? else {
+    if !codes.are_all {
         return Ok(false);
-    };
-    arrange(alloc, directives, codes)
+    }
+    arrange(alloc, directives, codes.codes)
 }
 
 /// By day, of one day opens, then balances, all else, documents and closes, then in reading order.
 pub fn order_directives(
     alloc: Global,
     directives: &mut Vec<Placed<Apart<Directive<'_>>>>,
+    codes: Codes,
 ) -> Result<(), AllocError>
+    requires { AreCodesIf directives.old.items codes }
     ensures { OnOk result (AreInOrder directives.old.items directives.new.items) }
 {
-    if order_by_codes(alloc, directives)? {
+    if order_by_codes(alloc, directives, codes)? {
         return Ok(());
     }
     directives.sort_by_cached_key(turn_of)

@@ -1,7 +1,9 @@
 //! What is written in texts, with its place in reading order.
 ghost use Rattle.std.specs.Prelude.{◌≡◌, ◌++◌, map, length, fold, IfOk, OnOk};
 ghost use Rattle.bean_load.specs.Placed as spec;
+ghost use Rattle.bean_load.specs.Turns.{AreCodesIf};
 
+use crate::order::Codes;
 use crate::texts::Part;
 use bean_base::Apart;
 use bean_loaded::Placed;
@@ -52,24 +54,31 @@ fn part_at(own: &[Own], line: usize) -> usize
     number
 }
 
-/// Adds the directives of a text with their places. Each lies apart, so that little is moved here and
-/// where they are sorted, and each is given up alone.
+/// Adds the directives of a text with their places, and their codes. Each lies apart, so that little is
+/// moved here and where they are sorted, and each is given up alone. To look at one waits for memory,
+/// so what is asked of it is asked at once.
 pub fn add_directives<'a>(
     file: usize,
     own: &[Own],
     directives: Vec<Apart<Directive<'a>>>,
     out: &mut Vec<Placed<Apart<Directive<'a>>>>,
+    codes: &mut Codes,
 ) -> Result<(), AllocError>
-    ensures { OnOk result (out.new.items
+    ensures placed { OnOk result (out.new.items
         ≡ out.old.items ++ map (spec.placed_directive file own.now) directives.entry.items) }
+    ensures coded { OnOk result (AreCodesIf out.old.items codes.old
+        → AreCodesIf out.new.items codes.new) }
 {
     out.reserve(directives.len())?;
+    codes.codes.reserve(directives.len())?;
     for directive in directives {
-        out.push(Placed {
+        let placed = Placed {
             file,
             part: part_at(own, directive.get().line),
             item: directive,
-        })?;
+        };
+        codes.add(&placed)?;
+        out.push(placed)?;
     }
     Ok(())
 }

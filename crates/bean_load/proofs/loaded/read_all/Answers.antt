@@ -17,13 +17,18 @@ loop-number-preserved c =
     let p = c.in_ok-parse.field-0 in
     let next : drop n files ≡ c.index-files-number.result ∷ drop (n + 1) files =
     grind (arith, common_steps) in
-    one_more texts n old new c.index-files-number.result (drop (n + 1) files) p
-    (subst (λ fs. IsCompleted texts n old fs) next c.loop-number.invariant)
-    (subst (λ t. IsParsed t p) (c.deref-in-loop-number.ensures ∙ ap (λ f. f.text) c.file.view_is)
-    c.in_ok-parse.ensures)
-    (subst (λ own. AddsParsed n own p old new)
+    let adds =
+    subst (λ own. AddsParsed n own p old new)
     (c.deref.ensures.value ∙ c.in_ok-own.ensures
-    ∙ ap (λ parts. parts_of n 0 parts) c.parts.ensures) c.in_ok-add.ensures)
+    ∙ ap (λ parts. parts_of n 0 parts) c.parts.ensures) c.in_ok-add.ensures in record {
+      completed = one_more texts n old new c.index-files-number.result (drop (n + 1) files) p
+          (subst (λ fs. IsCompleted texts n old fs) next c.loop-number.invariant.completed)
+          (subst (λ t. IsParsed t p)
+          (c.deref-in-loop-number.ensures ∙ ap (λ f. f.text) c.file.view_is)
+          c.in_ok-parse.ensures)
+          adds;
+      coded = adds.codes c.loop-number.invariant.coded;
+    }
 
 pub returns : goal.returns
 returns c =
@@ -33,9 +38,10 @@ returns c =
     let none : drop n files ≡ [] = grind (arith, common_steps) in
     let read =
     all_read texts n c.loop-number.read
-    (subst (λ fs. IsCompleted texts n c.loop-number.read fs) none c.loop-number.invariant) in
+    (subst (λ fs. IsCompleted texts n c.loop-number.read fs) none c.loop-number.invariant.completed) in
     record {
       read = read;
       small = read_small texts c.loop-number.read read c.files-files.ensures.limited;
       few = read_few texts c.loop-number.read read c.files-files.ensures.limited;
+      coded = c.loop-number.invariant.coded;
     }

@@ -6,6 +6,6 @@ use Rattle.bean_load.proofs.order.order_by_codes.Goals as goal
 
 pub returns-clause-in_order : goal.returns-clause-in_order
 returns-clause-in_order c =
-    let are : AreCodes c.args.directives.now c.in-Some.codes.items = search rules in
-    IfOk-weaker c.arrange.result _ _ (arranged_if _ _ c.in-Some.codes.items are)
+    let are : AreCodes c.args.directives.now c.args.codes.codes.items = search rules in
+    IfOk-weaker c.arrange.result _ _ (arranged_if _ _ c.args.codes.codes.items are)
     c.arrange.ensures.arranged
