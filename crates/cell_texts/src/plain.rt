@@ -87,7 +87,9 @@ fn put_at<const N: usize>(out: &mut Vec<u8>, at: usize, bytes: &[u8; N])
         ≡ take at out.old.items ++ bytes.now ++ drop (at + N) out.old.items }
     ensures len { vec_len out.new ≡ vec_len out.old }
 {
-    out[at..at + N].copy_from_slice(bytes);
+    // A copy of one's own lies nowhere in what is written.
+    let bytes = *bytes;
+    out[at..at + N].copy_from_slice(&bytes);
 }
 
 /// Adds bytes that are neither many nor few, and so many spaces behind them: the bytes are put among

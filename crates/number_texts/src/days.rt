@@ -56,7 +56,9 @@ impl Written {
         ensures { OnOk result (out.new.items
             ≡ out.old.items ++ day_text self.now.day ++ replicate behind space) }
     {
-        out.extend_from_slice(&self.text)?;
+        // A copy of one's own lies nowhere in what is written.
+        let text = self.text;
+        out.extend_from_slice(&text)?;
         let kept = behind.min(BEHIND);
         out.truncate(out.len() - (BEHIND - kept));
         push_spaces(out, behind - kept)?;

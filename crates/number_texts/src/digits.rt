@@ -36,13 +36,10 @@ fn split_few_at(number: u64, places: u8) -> (u64, u64)
     ensures before { result.0 ≡ number / 10 ^ places }
     ensures behind { result.1 ≡ number % 10 ^ places }
 {
-    // Of eight decimals two are mostly shown.
-    if places == 6 {
-        return (number / 1_000_000, number % 1_000_000);
-    }
     match places {
         8 => (number / 100_000_000, number % 100_000_000),
         7 => (number / 10_000_000, number % 10_000_000),
+        6 => (number / 1_000_000, number % 1_000_000),
         5 => (number / 100_000, number % 100_000),
         4 => (number / 10_000, number % 10_000),
         3 => (number / 1_000, number % 1_000),
