@@ -4,4 +4,4 @@ pub mod Printable
 pub mod WideFacts
 pub mod Written
 pub mod OwnDecimals
-pub mod Among
+pub mod Filled

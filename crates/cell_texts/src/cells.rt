@@ -17,10 +17,12 @@ use crate::decimals::own_decimals;
 use crate::inventories::{inventory_width, push_inventory};
 use crate::nears::{Nears, place_of};
 use crate::numbers::{Numbers, Told};
-use crate::plain::{is_plain, push_bytes, push_padding};
 use crate::positions::{position_width, push_position};
 use bean_base::Currency;
-use number_texts::{LastDay, number_len, push_number, push_number_named, push_number_right};
+use number_texts::{
+    LastDay, is_plain, number_len, push_bytes, push_number, push_number_named, push_number_right,
+    push_padding,
+};
 use posting_table::Display;
 use query_values::TextSet;
 use std::alloc::{AllocError, Global};

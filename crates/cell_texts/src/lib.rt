@@ -46,7 +46,6 @@ mod decimals;
 mod inventories;
 mod nears;
 mod numbers;
-mod plain;
 mod positions;
 mod widening;
 

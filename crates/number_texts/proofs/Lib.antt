@@ -6,3 +6,4 @@ pub mod NumberFacts
 pub mod Eights
 pub mod RunFacts
 pub mod OffFacts
+pub mod Among

@@ -1,5 +1,5 @@
-//! The texts of numbers and days, as tables and metadata show them, spaces between texts, and whether a
-//! text is printable as it is.
+//! The texts of numbers and days, as tables and metadata show them, spaces between texts, and texts that
+//! show as they are.
 //!
 //! ```text
 //! push_number(&mut out, -1050, 2, 0)?;   // -10.5
@@ -24,10 +24,12 @@
 
 mod days;
 mod digits;
+mod plain;
 mod printable;
 mod runs;
 
 pub use days::LastDay;
 pub use digits::{number_len, push_day, push_number, push_number_named, push_number_right};
+pub use plain::{is_plain, push_bytes, push_padding};
 pub use printable::is_printable;
 pub use runs::{push_run, push_spaces};

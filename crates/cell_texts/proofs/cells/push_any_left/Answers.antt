@@ -2,7 +2,7 @@ use Rattle.std.proofs.Common.{◌≡◌, ◌+◌, ◌-◌, ◌++◌, replicate, 
 use Rattle.posting_table.specs.Decimals.{decimals_of}
 use Rattle.cell_texts.specs.CellText.{cell_text}
 use Rattle.cell_texts.specs.Width.{text_width}
-use Rattle.cell_texts.proofs.Among.{filled_left}
+use Rattle.cell_texts.proofs.Filled.{filled_left}
 use Rattle.cell_texts.proofs.cells.push_any_left.Goals as goal
 
 pub returns : goal.returns

@@ -4,7 +4,7 @@ use Rattle.number_texts.specs.Digits.{day_text}
 use Rattle.cell_texts.specs.Cell.{value_of}
 use Rattle.cell_texts.specs.CellText.{cell_text, clean_text}
 use Rattle.cell_texts.specs.Width.{filled, text_width}
-use Rattle.cell_texts.proofs.Among.{filled_left}
+use Rattle.cell_texts.proofs.Filled.{filled_left}
 use Rattle.cell_texts.proofs.Written.{day_width}
 use Rattle.cell_texts.proofs.cells.push_left.Goals as goal
 

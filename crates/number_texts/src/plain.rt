@@ -5,7 +5,8 @@ ghost use Rattle.bean_base.specs.Character.{space};
 ghost use Rattle.std.specs.Int.{is_in_range};
 ghost use Rattle.std.specs.List.{list_all};
 
-use number_texts::{is_printable, push_spaces};
+use crate::printable::is_printable;
+use crate::runs::push_spaces;
 use std::alloc::AllocError;
 
 /// The first bytes of a text and its last, so many of each that no byte is left out.
@@ -56,7 +57,7 @@ fn ends_are_printable<const N: usize>(bytes: &[u8]) -> Option<bool>
 
 /// Whether a text has printable ASCII characters alone, as most have.
 #[inline(always)]
-pub(crate) fn is_plain(text: &str) -> bool
+pub fn is_plain(text: &str) -> bool
     ensures { result ≡ list_all (is_in_range 32 126) text.now }
 {
     let bytes = text.as_bytes();
@@ -139,7 +140,7 @@ fn push_some<const N: usize>(
 
 /// Adds bytes, and so many spaces behind them.
 #[inline(always)]
-pub(crate) fn push_bytes(out: &mut Vec<u8>, bytes: &[u8], spaces: usize) -> Result<(), AllocError>
+pub fn push_bytes(out: &mut Vec<u8>, bytes: &[u8], spaces: usize) -> Result<(), AllocError>
     ensures { OnOk result (out.new.items
         ≡ out.old.items ++ bytes.now ++ replicate spaces space) }
 {
@@ -165,7 +166,7 @@ const SPACES: usize = 48;
 /// Adds spaces: where they are few, as they mostly are, so many as are copied at once, of which those
 /// that are too many are taken off.
 #[inline(always)]
-pub(crate) fn push_padding(out: &mut Vec<u8>, count: usize) -> Result<(), AllocError>
+pub fn push_padding(out: &mut Vec<u8>, count: usize) -> Result<(), AllocError>
     ensures { OnOk result (out.new.items ≡ out.old.items ++ replicate count space) }
 {
     if count == 0 {

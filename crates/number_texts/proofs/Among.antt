@@ -1,10 +1,8 @@
 -- Texts that are put among spaces.
-use Rattle.std.proofs.Common.{◌≡◌, ◌≤◌, false, refl, ◌+◌, ◌-◌, ◌++◌, ℕ, List, length, replicate, take, drop, sym, ap, ◌∙◌}
+use Rattle.std.proofs.Common.{◌≡◌, ◌≤◌, ◌+◌, ◌-◌, ◌++◌, ℕ, List, length, replicate, take, drop, ap, ◌∙◌}
 use Rattle.std.proofs.Common.{arith, append_assoc, length-append, length-take-le}
 use Rattle.std.proofs.Math.Seq.{drop-append-add, take-append-add}
 use Rattle.std.proofs.lemmas.List.{drop-replicate, take-append-le, take-replicate}
-use Rattle.number_texts.proofs.RunFacts.{more_behind}
-use Rattle.cell_texts.specs.Width.{filled}
 
 -- what is put behind a front
 pub put_behind : (old rest bytes : List ℕ) (at n k : ℕ) → at ≡ length old + k
@@ -54,10 +52,3 @@ among first last n len spaces many all least most fits =
     ∙ take-append-add text (replicate (64 - n - (len - n)) 32) spaces
     ∙ ap (λ l. text ++ l)
     (take-replicate spaces (64 - n - (len - n)) 32 (omega (arith, fits, least)))
-
--- a text that stands left
-pub filled_left : (old text : List ℕ) (own width behind : ℕ)
-    → (old ++ text) ++ replicate (width - own + behind) 32
-    ≡ (old ++ filled false width own text) ++ replicate behind 32
-filled_left old text own width behind =
-    sym (more_behind old text (width - own) behind (width - own + behind) refl)

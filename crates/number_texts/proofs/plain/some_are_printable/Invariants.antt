@@ -1,7 +1,7 @@
 use Rattle.std.proofs.Common.{◌≡◌, ◌&&◌, drop}
 use Rattle.std.specs.Int.{is_in_range}
 use Rattle.std.specs.List.{list_all}
-use Rattle.cell_texts.proofs.plain.some_are_printable.Given as goal
+use Rattle.number_texts.proofs.plain.some_are_printable.Given as goal
 
 -- what is known so far, and the bytes that are left
 abbrev pub invariant-loop-b : goal.invariant-loop-b

@@ -1,8 +1,8 @@
 use Rattle.std.proofs.Common.{◌≡◌, ◌+◌, ◌-◌, ◌++◌, ℕ, List, length, replicate, take, drop, ap, sym, ◌∙◌, arith}
 use Rattle.std.proofs.Common.{append_assoc}
 use Rattle.std.proofs.Math.Seq.{take-append-add}
-use Rattle.cell_texts.proofs.Among.{among, first_put, put_behind}
-use Rattle.cell_texts.proofs.plain.push_ends.Goals as goal
+use Rattle.number_texts.proofs.Among.{among, first_put, put_behind}
+use Rattle.number_texts.proofs.plain.push_ends.Goals as goal
 
 pub returns : goal.returns
 returns g c =

@@ -2,7 +2,7 @@ use Rattle.std.proofs.Common.{◌-◌, ◌&&◌, length, ap, ◌∙◌, arith}
 use Rattle.std.specs.Int.{is_in_range}
 use Rattle.std.specs.List.{list_all}
 use Rattle.number_texts.proofs.Eights.{covered_from}
-use Rattle.cell_texts.proofs.plain.ends_are_printable.Goals as goal
+use Rattle.number_texts.proofs.plain.ends_are_printable.Goals as goal
 
 pub returns : goal.returns
 returns g c =

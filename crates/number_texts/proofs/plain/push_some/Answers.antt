@@ -1,6 +1,6 @@
 use Rattle.std.proofs.Common.{◌-◌, ◌++◌, length, replicate, take, drop, take-append-drop, ap, ◌∙◌, arith}
 use Rattle.std.proofs.lemmas.List.{take-take}
-use Rattle.cell_texts.proofs.plain.push_some.Goals as goal
+use Rattle.number_texts.proofs.plain.push_some.Goals as goal
 
 pub returns : goal.returns
 returns g c =

@@ -1,6 +1,6 @@
 use Rattle.std.proofs.Common.{◌≡◌, ◌≤◌, ◌+◌, ◌-◌, length, arith, ◌∙◌}
 use Rattle.number_texts.proofs.RunFacts.{few_spaces}
-use Rattle.cell_texts.proofs.plain.push_padding.Goals as goal
+use Rattle.number_texts.proofs.plain.push_padding.Goals as goal
 
 pub returns : goal.returns
 returns c =
