@@ -4,13 +4,10 @@
 //! let a = Value::Number { places: 2, count: 1_250 };        // 12.50
 //! let b = Value::Number { places: 2, count: 50 };
 //! let sum = arithmetic::add(&a, &b);                        // 13.00
-//! let is_less = comparison::less(&b, &a);                   // true
 //! let parent = part::parent(&Value::Text(Slice::new("Assets:Cash")));   // Assets
-//!
 //! let pattern = Pattern::new(alloc, "cash$")?;
 //! let mut finder = pattern.finder(alloc)?;                  // one for each run
 //! let is_cash = membership::matches(&account, &mut finder);
-//!
 //! let mut total = Aggregate::SumInventory(8).start(alloc)?;
 //! Aggregate::SumInventory(8).add(&mut total, &position)?;   // one input after the other
 //! ```
@@ -22,12 +19,8 @@
 //! are kept ([`Lent`]), so that a value is small and an operation on numbers or texts takes no
 //! memory; an inventory ([`Bag`]) owns its entries and lies apart ([`OwnBag`]). A value is itself what
 //! contracts speak of: its counts and decimals have no bounds of their own, and `is_held` says which
-//! values a machine can hold.
-//!
-//! # Null
-//!
-//! Null is the same as null, and comes first. Comparisons with it but `equal`, patterns and
-//! memberships are false; arithmetic and parts of it are null.
+//! a machine can hold. Null is the same as null, and comes first; comparisons with it but `equal`,
+//! patterns and memberships are false, and arithmetic and parts of it are null.
 //!
 //! # What may be asked
 //!
@@ -36,17 +29,14 @@
 //! decimals fit, and `root` at least one component. For units and costs of an inventory no sum on
 //! the way may be too large. All else takes any value.
 //!
-//! # Faults
+//! # Faults and cost
 //!
 //! `C2` ([`PatternCause`]), where a text is no regular expression or one that would be too large.
-//! Otherwise memory may lack, for patterns and for inventories alone.
-//!
-//! # Cost
-//!
-//! An operation takes a few steps; on texts it is linear in the text, on a list in the list, and on
-//! inventories it looks up each entry, by going through the others where these are few. An inventory
-//! takes 48 bytes for each of its entries, whose keys are lent ([`BagKey`]). A copy of one that has at
-//! most five takes 48 bytes in all, where it shares its keys ([`share_keys`]).
+//! Else memory may lack, for patterns and inventories alone. An operation takes a few steps; on texts
+//! it is linear in the text, on a list in the list, and on inventories it looks up each entry, by
+//! going through the others where these are few. An inventory takes 48 bytes for each of its entries,
+//! whose keys are lent ([`BagKey`]), and a copy that shares its keys ([`share_keys`]) 48 bytes in all
+//! where it has at most five.
 #![tactic(auto)]
 
 pub mod arithmetic;
