@@ -25,9 +25,19 @@ LINES = "".join(f"{FAULTY}:{number}: F2 not a directive\n" for number in range(1
 WRITTEN = 0, 1, 1_010, 1_011, 4_096, 16_383, 16_384, 16_385, 32_768, 65_536, 100_000, len(LINES) - 1
 
 
+# The signals that end a run.
+ENDING = signal.SIGHUP, signal.SIGINT, signal.SIGTERM
+
+
+def heed():
+    """What is ignored here, as under nohup, isn't in a run."""
+    for number in ENDING:
+        signal.signal(number, signal.SIG_DFL)
+
+
 def begin(folder, words, **streams):
     """A run that goes on beside this one."""
-    return subprocess.Popen([PROGRAM, *words], cwd=folder, **streams)
+    return subprocess.Popen([PROGRAM, *words], cwd=folder, preexec_fn=heed, **streams)
 
 
 def stops_after(folder, words, text, most):
@@ -157,7 +167,7 @@ def attempts(folder):
     text = LEDGER.encode()
     yield from ((ends_early, folder, text[:length]) for length in range(len(text) + 1))
     for words in (["list", "-"], ["check", "-"], ["run", "-", "ledger"], ["upgrade", "-", "new"]):
-        for number in (signal.SIGHUP, signal.SIGINT, signal.SIGTERM):
+        for number in ENDING:
             yield is_ended, folder, words, number
     yield goes_on, folder
 
