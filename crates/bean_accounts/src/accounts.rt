@@ -1,5 +1,5 @@
 //! Accounts, as far as opens and closes came.
-ghost use Rattle.std.specs.Prelude.{◌≡◌, ◌∷◌, ◌++◌, [], OnOk, None, if◌then◌else◌, not};
+ghost use Rattle.std.specs.Prelude.{◌≡◌, ◌∷◌, ◌++◌, [], IfSome, OnOk, None, if◌then◌else◌, not};
 ghost use Rattle.std.specs.Prelude as prelude;
 ghost use Rattle.std.specs.Str.{bytes_eq};
 ghost use Rattle.std.specs.Option.{option_map};
@@ -13,6 +13,7 @@ ghost use Rattle.bean_accounts.specs.declared.step.Step.TheVariants as step;
 use crate::life::Life;
 use crate::method::method_named;
 use bean_base::{Account, Currency, Fault, FaultKind, Place, Text};
+use byte_runs::Hints;
 use indexmap::IndexMap;
 use std::alloc::{AllocError, Global};
 
@@ -56,6 +57,8 @@ fn note_life(
 #[derive(Drop)]
 pub struct Accounts<'a> {
     lives: IndexMap<Account<'a>, Life<'a>>,
+    /// The places of those that were found last.
+    hints: Hints,
 }
 
 impl<'a> Accounts<'a> {
@@ -65,6 +68,7 @@ impl<'a> Accounts<'a> {
     {
         Accounts {
             lives: IndexMap::new(alloc),
+            hints: Hints::new(alloc),
         }
     }
 
@@ -120,25 +124,65 @@ impl<'a> Accounts<'a> {
         }
     }
 
-    /// Adds the faults of a posting: F6, F7, F8. Where its account was opened, the name becomes the
-    /// one that the open wrote: these are the same bytes, which all postings on the account lend
-    /// from one place then. It gives the account's place in the order in which accounts were opened,
-    /// 0 where it wasn't: a number by which what else is kept of it may be found sooner.
-    pub fn note_posting(
-        &self,
+    /// The name that an open wrote and what is known of the account, where the account that was opened
+    /// at a place is this one.
+    #[inline(always)]
+    fn opened_at(&self, place: usize, account: &Account<'_>) -> Option<(&Account<'a>, &Life<'a>)>
+        ensures { IfSome result (λ found. (found.0.now ≡ account.now)
+            × (life_in self.now account.now ≡ prelude.Some found.1.now)) }
+    {
+        let (opened, life) = self.lives.get_index(place)?;
+        if *opened == *account {
+            return Some((opened, life));
+        }
+        None
+    }
+
+    /// Adds the faults of a posting whose account isn't where one was found last.
+    #[inline(never)]
+    fn note_elsewhere(
+        &mut self,
         account: &mut Account<'a>,
         currency: &Currency<'_>,
         at: Place,
         faults: &mut Vec<Fault>,
     ) -> Result<usize, AllocError>
         ensures account { account.new ≡ account.old }
-        ensures faults { (past : prelude.List Step) → IsKept past self.now
+        ensures lives { self.new.lives ≡ self.old.lives }
+        ensures faults { (past : prelude.List Step) → IsKept past self.old
             → OnOk result (faults.new.items ≡ faults.old.items
             ++ faults_at at (spec.of_posting account.old currency.now past)) }
     {
         let Some((place, opened, life)) = self.lives.get_full(&*account) else {
             note_if(true, FaultKind::AccountNotOpen, at, faults)?;
             return Ok(0);
+        };
+        note_life(life, currency, at, faults)?;
+        self.hints.note(account.text(), place);
+        *account = opened.lend();
+        Ok(place)
+    }
+
+    /// Adds the faults of a posting: F6, F7, F8. Where its account was opened, the name becomes the
+    /// one that the open wrote: these are the same bytes, which all postings on the account lend
+    /// from one place then. It gives the account's place in the order in which accounts were opened,
+    /// 0 where it wasn't: a number by which what else is kept of it may be found sooner.
+    pub fn note_posting(
+        &mut self,
+        account: &mut Account<'a>,
+        currency: &Currency<'_>,
+        at: Place,
+        faults: &mut Vec<Fault>,
+    ) -> Result<usize, AllocError>
+        ensures account { account.new ≡ account.old }
+        ensures kept { (past : prelude.List Step) → IsKept past self.old → IsKept past self.new }
+        ensures faults { (past : prelude.List Step) → IsKept past self.old
+            → OnOk result (faults.new.items ≡ faults.old.items
+            ++ faults_at at (spec.of_posting account.old currency.now past)) }
+    {
+        let place = self.hints.place_for(account.text());
+        let Some((opened, life)) = self.opened_at(place, account) else {
+            return self.note_elsewhere(account, currency, at, faults);
         };
         note_life(life, currency, at, faults)?;
         *account = opened.lend();

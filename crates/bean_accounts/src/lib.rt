@@ -25,8 +25,9 @@
 //!
 //! # Cost
 //!
-//! A look-up by the account's name for each call; a posting also looks through the currencies that
-//! the account's open lists. Memory is taken for each account, and for each currency of its open.
+//! A look-up by the account's name for each call, which of a posting is seldom more than a look where
+//! an account with such an end was found last; a posting also looks through the currencies that the
+//! account's open lists. Memory is taken for each account, and for each currency of its open.
 //! Accounts are numbered as they are opened, and a posting is told the number of its account, by
 //! which what else is kept of it is found without a look-up. It is given the name that the open
 //! wrote too, so that all postings on an account lend their names from one place.

@@ -1,5 +1,5 @@
 -- Numbers are told by their counts and places.
-use Rattle.std.proofs.Common.{◌≡◌, ℕ, ◌^◌, ◌<◌, ℤ}
+use Rattle.std.proofs.Common.{◌≡◌, ◌^◌, ◌<◌}
 use Rattle.std.proofs.Math.Dec.{T_prop}
 use Rattle.std.specs.Coded.{le_prop}
 use Rattle.std.specs.Int.RustNames.{unsigned_abs}

@@ -1,9 +1,8 @@
 -- Days for worked values, here and in the crates above, with their numbers.
-use Rattle.std.proofs.Common.{◌≡◌, ◌≤ℤ◌, ℕ, pos, refl, rules}
+use Rattle.std.proofs.Common.{◌≡◌, ◌≤ℤ◌, pos, refl, rules}
 use Rattle.std.specs.Int.{IsInRange}
 use Rattle.jiff_core.specs.Calendar.{IsYear, days_in_month, days_from_civil, day_count}
 use Rattle.jiff_core.specs.Calendar.{days_of_years, days_of_months}
-use Rattle.jiff_core.specs.declared.civil.date.Date.{Date}
 use Rattle.bean_base.specs.declared.days.Day.{Day}
 use Rattle.bean_base.specs.Day.{number}
 

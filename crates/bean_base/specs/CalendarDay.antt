@@ -7,7 +7,6 @@ use Rattle.std.proofs.Common.{arith}
 use Rattle.std.proofs.lemmas.Grind.{common_steps}
 use Rattle.std.proofs.lemmas.Int.{ints}
 use Rattle.jiff_core.specs.Calendar.{IsYear, days_in_month}
-use Rattle.jiff_core.specs.declared.civil.date.Date.{Date}
 use Rattle.bean_base.specs.declared.days.Day.{Day}
 
 -- from the year 1 to 9999, and as many days in a month as the calendar has

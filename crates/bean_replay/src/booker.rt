@@ -151,7 +151,7 @@ impl<'a> Booker<'a> {
         let mut posted = tried.posted.into_vec();
         book_postings(
             self.alloc,
-            &self.accounts,
+            &mut self.accounts,
             &mut self.holdings,
             &mut self.faults,
             at,

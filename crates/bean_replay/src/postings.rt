@@ -39,7 +39,7 @@ fn place_in(at: Place, postings: &[WrittenPosting<'_>], written: usize) -> Place
 /// tells it apart from others where it holds something.
 fn book_posting<'a>(
     alloc: Global,
-    accounts: &Accounts<'a>,
+    accounts: &mut Accounts<'a>,
     holdings: &mut Holdings<'a>,
     faults: &mut Vec<Fault>,
     at: Place,
@@ -49,7 +49,9 @@ fn book_posting<'a>(
     requires bounded { IsBounded holdings.old }
     requires few { additions_in holdings.old < 2 ^ 40 }
     ensures posted { posted.new ≡ posted.old }
-    ensures faults { (past : prelude.List lives.Step) → IsKept past accounts.now
+    ensures kept { (past : prelude.List lives.Step) → IsKept past accounts.old
+        → IsKept past accounts.new }
+    ensures faults { (past : prelude.List lives.Step) → IsKept past accounts.old
         → OnOk result (faults.new.items ≡ faults.old.items
         ++ spec.posted_faults past at postings.now posted.old) }
     ensures held { OnOk result ((ps : prelude.List declared.Posted) → AreHeld ps holdings.old
@@ -66,7 +68,7 @@ fn book_posting<'a>(
 /// hold, which are named as they were opened.
 pub(crate) fn book_postings<'a>(
     alloc: Global,
-    accounts: &Accounts<'a>,
+    accounts: &mut Accounts<'a>,
     holdings: &mut Holdings<'a>,
     faults: &mut Vec<Fault>,
     at: Place,
@@ -76,7 +78,9 @@ pub(crate) fn book_postings<'a>(
     requires bounded { IsBounded holdings.old }
     requires few { additions_in holdings.old + length posted.old ≤ 2 ^ 40 }
     ensures posted { OnOk result (posted.new ≡ posted.old) }
-    ensures faults { (past : prelude.List lives.Step) → IsKept past accounts.now
+    ensures kept { (past : prelude.List lives.Step) → IsKept past accounts.old
+        → IsKept past accounts.new }
+    ensures faults { (past : prelude.List lives.Step) → IsKept past accounts.old
         → OnOk result (faults.new.items ≡ faults.old.items
         ++ flat_map (spec.posted_faults past at postings.now) posted.old) }
     ensures held { OnOk result ((ps : prelude.List declared.Posted) → AreHeld ps holdings.old

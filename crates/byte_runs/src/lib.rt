@@ -1,18 +1,27 @@
-//! Classes of bytes, the runs of a class, and what stands at a front: the tools of a lexer.
+//! Classes of bytes, the runs of a class, and what stands at a front: the tools of a lexer. Which end
+//! a text has, and where one with that end was found last: it is looked for there first.
 //!
 //! ```text
 //! end_of_run::<Digit>(b"2014-01-02", 0)   // 4
 //! has_front(b"{{1 USD}}", b"{{")          // true
+//! end_of("Assets:Cash", 0, 4096)          // some number below 4096, the same each time
 //! ```
 //!
-//! Nothing takes memory, and a run is looked at once.
+//! A run is looked at once. The end of a text is told by its last eight bytes, in a few steps. [`Hints`]
+//! alone take memory.
 #![tactic(auto)]
+
+mod ends;
+mod hints;
 
 ghost use Rattle.std.specs.Prelude.{◌≡◌, ℕ, Bool, ◌+◌, ◌<◌, ◌≤◌, nat_eq, length, drop};
 ghost use Rattle.std.specs.Option.{MatchOption};
 ghost use Rattle.std.specs.List.{prefix_len, starts_with};
 ghost use Rattle.std.specs.Char.{is_ascii_digit};
 ghost use Rattle.std.specs.Cmp.Lexicographic.{pointwise};
+
+pub use ends::end_of;
+pub use hints::Hints;
 
 /// A class of bytes.
 pub trait ByteClass {

@@ -36,7 +36,6 @@
 #![tactic(auto)]
 
 mod codes;
-mod hints;
 mod keys;
 mod ordering;
 mod rank;

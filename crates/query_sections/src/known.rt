@@ -8,8 +8,8 @@ ghost use Rattle.query_sections.specs.Known.{IsNothing, is_of};
 ghost use Rattle.query_sections.specs.declared.known.TheConstants.{PLACES};
 
 use bean_base::Slice;
+use byte_runs::end_of;
 use std::alloc::{AllocError, Global};
-use value_hashes::end_of;
 
 /// Of so many texts it is known at most; each has one place.
 pub(crate) const PLACES: usize = 4096;

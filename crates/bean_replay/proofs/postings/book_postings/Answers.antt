@@ -16,6 +16,8 @@ loop-index-preserved c =
       posted =
           ap (slice_set c.loop-index.posted i) (c.in_ok-book_posting.ensures.posted ∙ sym at)
           ∙ written_same c.loop-index.posted i item at ∙ same;
+      kept = λ past kept.
+          c.in_ok-book_posting.ensures.kept past (c.loop-index.invariant.kept past kept);
       faults = λ past kept.
           flat_more (spec.posted_faults past c.args.at c.args.postings.now) posted i item
           c.args.faults.now.items c.loop-index.faults.items c.book_posting.new.faults.items
@@ -23,7 +25,7 @@ loop-index-preserved c =
           (subst (λ p. c.book_posting.new.faults.items
           ≡ c.loop-index.faults.items
           ++ spec.posted_faults past c.args.at c.args.postings.now p) (sym at)
-          (c.in_ok-book_posting.ensures.faults past kept));
+          (c.in_ok-book_posting.ensures.faults past (c.loop-index.invariant.kept past kept)));
       bounded = c.in_ok-book_posting.ensures.bounded;
       additions =
           let was = c.loop-index.invariant.additions in

@@ -10,7 +10,8 @@ use Rattle.bean_replay.proofs.postings.book_postings.Given as goal
 abbrev pub invariant-loop-index : goal.invariant-loop-index
 invariant-loop-index l = record {
   posted : l.posted ≡ l.initial.posted;
-  faults : (past : List lives.Step) → IsKept past l.accounts
+  kept : (past : List lives.Step) → IsKept past l.initial.accounts → IsKept past l.accounts;
+  faults : (past : List lives.Step) → IsKept past l.initial.accounts
       → l.faults.items
       ≡ l.initial.faults.items
       ++ flat_map (spec.posted_faults past l.at l.postings) (take l.index l.initial.posted);

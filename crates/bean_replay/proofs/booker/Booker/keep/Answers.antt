@@ -67,7 +67,7 @@ returns-clause-standing c = λ m past st is.
     record {
       stands = record {
         methods = is.methods;
-        accounts = is.accounts;
+        accounts = c.in_ok-book_postings.ensures.kept (account_steps past) is.accounts;
         held = subst (λ l. AreHeld l c.book_postings.new.holdings)
             (ap (λ l. postings_of st.drafts ++ l) lent ∙ sym (postings_more st.drafts one))
             (c.in_ok-book_postings.ensures.held (postings_of st.drafts) is.held);

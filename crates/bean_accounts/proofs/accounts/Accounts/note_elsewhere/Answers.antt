@@ -1,7 +1,7 @@
 use Rattle.std.proofs.Common.{sym, ◌∙◌}
 use Rattle.std.proofs.lemmas.Map.Made.{lookup_key_same}
 use Rattle.std.proofs.lemmas.Slice.Eq.{bytes_eq-Decides}
-use Rattle.bean_accounts.proofs.accounts.Accounts.note_posting.Goals as goal
+use Rattle.bean_accounts.proofs.accounts.Accounts.note_elsewhere.Goals as goal
 
 pub returns-clause-account : goal.returns-clause-account
 returns-clause-account c =
