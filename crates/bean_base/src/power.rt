@@ -1,38 +1,36 @@
 //! Powers of ten.
 ghost use Rattle.std.specs.Prelude.{◌≡◌, ◌≤◌, ◌^◌, pos};
 
-/// The first powers of ten.
-pub(crate) const POWERS: [u64; 20] = [
-    1,
-    10,
-    100,
-    1_000,
-    10_000,
-    100_000,
-    1_000_000,
-    10_000_000,
-    100_000_000,
-    1_000_000_000,
-    10_000_000_000,
-    100_000_000_000,
-    1_000_000_000_000,
-    10_000_000_000_000,
-    100_000_000_000_000,
-    1_000_000_000_000_000,
-    10_000_000_000_000_000,
-    100_000_000_000_000_000,
-    1_000_000_000_000_000_000,
-    10_000_000_000_000_000_000,
-];
-
-/// A power of ten, looked up, since a call of `pow` would be most of the work of an addition.
+/// A power of ten, looked up, since a call of `pow` would be most of the work of an addition. In 64
+/// bits it is one look at a table.
 #[inline(always)]
-#[tactic(auto, using(crate::proofs::TableFacts::power_at))]
-pub(crate) fn power_to_19(exponent: u8) -> i128
+pub(crate) fn power_to_19(exponent: u8) -> u64
     requires { exponent ≤ 19 }
-    ensures { result ≡ pos (10 ^ exponent) }
+    ensures { result ≡ 10 ^ exponent }
 {
-    POWERS[exponent as usize] as i128
+    match exponent {
+        0 => 1,
+        1 => 10,
+        2 => 100,
+        3 => 1_000,
+        4 => 10_000,
+        5 => 100_000,
+        6 => 1_000_000,
+        7 => 10_000_000,
+        8 => 100_000_000,
+        9 => 1_000_000_000,
+        10 => 10_000_000_000,
+        11 => 100_000_000_000,
+        12 => 1_000_000_000_000,
+        13 => 10_000_000_000_000,
+        14 => 100_000_000_000_000,
+        15 => 1_000_000_000_000_000,
+        16 => 10_000_000_000_000_000,
+        17 => 100_000_000_000_000_000,
+        18 => 1_000_000_000_000_000_000,
+        19 => 10_000_000_000_000_000_000,
+        _ => unreachable!(),
+    }
 }
 
 /// A power of ten.
@@ -41,8 +39,8 @@ pub fn power_of_ten(exponent: u8) -> i128
     ensures { result ≡ pos (10 ^ exponent) }
 {
     if exponent <= 19 {
-        power_to_19(exponent)
+        power_to_19(exponent) as i128
     } else {
-        power_to_19(19) * power_to_19(exponent - 19)
+        power_to_19(19) as i128 * power_to_19(exponent - 19) as i128
     }
 }

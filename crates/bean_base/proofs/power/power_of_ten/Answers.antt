@@ -9,10 +9,10 @@ returns-else-exponent-le19 c =
     let a = c.power_to_19-else-exponent-le19 in
     let b = c.power_to_19-else-exponent-le19-2 in
     let n = c.args.exponent in
-    let f : FitsSigned w128 a.result = search rules in
-    let g : FitsSigned w128 b.result = search rules in
+    let f : FitsSigned w128 (pos a.result) = search rules in
+    let g : FitsSigned w128 (pos b.result) = search rules in
     let e =
-    product_is a.result b.result f g ∙ ap (λ p. p *ℤ b.result) a.ensures
-    ∙ ap (λ p. pos (10 ^ 19) *ℤ p) b.ensures
+    product_is (pos a.result) (pos b.result) f g ∙ ap (λ p. pos p *ℤ pos b.result) a.ensures
+    ∙ ap (λ p. pos (10 ^ 19) *ℤ pos p) b.ensures
     ∙ ap pos (power_split n (omega arith)) in
     ap (λ z. to_z w128 (of_z w128 z)) e ∙ to_z-of_z w128 (pos (10 ^ n)) (fits_power n c.requires)
