@@ -21,7 +21,7 @@ use crate::positions::{position_width, push_position};
 use bean_base::Currency;
 use number_texts::{
     LastDay, is_plain, number_len, push_bytes, push_number, push_number_named, push_number_right,
-    push_padding,
+    push_padding, push_plain,
 };
 use posting_table::Display;
 use query_values::TextSet;
@@ -188,6 +188,25 @@ fn push_clean_left(
     ensures { OnOk result (out.new.items ≡ out.old.items ++ clean_text text.now
         ++ replicate (width - text_width (clean_text text.now) + behind) space) }
 {
+    let spaces = spaces_behind(text.len(), width, behind)?;
+    if push_plain(out, text, spaces)? {
+        return Ok(());
+    }
+    push_any_clean_left(out, text, width, behind, clean)
+}
+
+/// The same of any text.
+#[inline(never)]
+fn push_any_clean_left(
+    out: &mut Vec<u8>,
+    text: &str,
+    width: usize,
+    behind: usize,
+    clean: &mut String,
+) -> Result<(), AllocError>
+    ensures { OnOk result (out.new.items ≡ out.old.items ++ clean_text text.now
+        ++ replicate (width - text_width (clean_text text.now) + behind) space) }
+{
     if is_plain(text) {
         let spaces = spaces_behind(text.len(), width, behind)?;
         push_bytes(out, text.as_bytes(), spaces)?;
@@ -252,7 +271,7 @@ fn push_exact(out: &mut Vec<u8>, count: i128, places: u8) -> Result<usize, Alloc
 }
 
 /// Adds the number `count` · `10^-places` and a currency, and tells their width.
-#[inline(never)]
+#[inline(always)]
 pub(crate) fn push_units(
     out: &mut Vec<u8>,
     count: i128,
@@ -272,6 +291,26 @@ pub(crate) fn push_units(
     let least = nears.decimals(display, currency);
     push_number_named(out, count, places, least, currency.text().as_bytes())?;
     Ok(out.len() - start)
+}
+
+/// The same where it is seldom called. Positions are many, and their units are put in place.
+#[inline(never)]
+pub(crate) fn push_amount(
+    out: &mut Vec<u8>,
+    count: i128,
+    places: u8,
+    currency: &Currency<'_>,
+    display: &Display<'_>,
+    nears: &mut Nears,
+) -> Result<usize, AllocError>
+    ensures text { OnOk result (out.new.items ≡ out.old.items
+        ++ units_text (decimals_of display.now) count places currency.now) }
+    ensures width { IfOk result (λ n. n
+        ≡ text_width (units_text (decimals_of display.now) count places currency.now)) }
+    ensures printable { IfOk result (λ _. list_all (is_in_range 32 126)
+        (units_text (decimals_of display.now) count places currency.now) ≡ true) }
+{
+    push_units(out, count, places, currency, display, nears)
 }
 
 /// How many columns of a terminal a number takes that has the fewest decimals that are exact.
@@ -395,7 +434,7 @@ pub fn push_cell(
             places,
             count,
             currency,
-        } => push_units(
+        } => push_amount(
             out,
             *count,
             *places,

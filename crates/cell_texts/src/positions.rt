@@ -8,7 +8,7 @@ ghost use Rattle.number_texts.specs.Digits.{day_text};
 ghost use Rattle.cell_texts.specs.Width.{text_width};
 ghost use Rattle.cell_texts.specs.CellText.{entry_text, label_text, lot_text, position_text, units_text};
 
-use crate::cells::{Scratch, add_clean, push_units, units_width, width_of};
+use crate::cells::{Scratch, add_clean, push_amount, push_units, units_width, width_of};
 use bean_base::{Currency, Day, Text};
 use bean_lots::{Key, Lot};
 use number_texts::push_day;
@@ -41,7 +41,7 @@ fn add_units(
         ++ units_text (decimals_of display.now) count places currency.now) }
 {
     scratch.measured.clear();
-    push_units(
+    push_amount(
         &mut scratch.measured,
         count,
         places,

@@ -21,7 +21,7 @@ struct Written {
 
 /// Whether two days are one.
 #[inline(always)]
-fn are_one(first: Day, second: Day) -> bool
+pub fn are_one(first: Day, second: Day) -> bool
     ensures { IsTrue result → day_text first ≡ day_text second }
 {
     // All at once: they lie beside each other.

@@ -19,6 +19,15 @@ fn digit(number: u64) -> u8
     b'0' + (number % 10) as u8
 }
 
+/// The first of two digits.
+#[inline(always)]
+fn first_of_two(number: u64) -> u8
+    requires { number < 100 }
+    ensures { result ≡ 48 + number / 10 % 10 }
+{
+    b'0' + (number / 10) as u8
+}
+
 fn unit_of(places: u8) -> u128
     requires { places ≤ 38 }
     ensures value { result ≡ 10 ^ places }
@@ -341,12 +350,13 @@ fn put_sign(text: &mut [u8], start: usize, is_wanted: bool) -> usize
 /// Puts a point and two decimals, as most numbers have, so that they end at the byte 40.
 #[inline(always)]
 fn put_two_decimals(text: &mut [u8], digits: u64)
-    requires { 40 ≤ length text.old }
+    requires many { 40 ≤ length text.old }
+    requires small { digits < 100 }
     ensures text { drop 37 text.new ≡ behind_point (digits_of 2 digits) ++ drop 40 text.old }
     ensures before { take 37 text.new ≡ take 37 text.old }
 {
     text[37] = b'.';
-    text[38] = digit(digits / 10);
+    text[38] = first_of_two(digits);
     text[39] = digit(digits);
 }
 
@@ -560,9 +570,9 @@ fn push_any_named(
     out.extend_from_slice(name)
 }
 
-/// The same number, and a name behind a space: at once, where they are as most are.
+/// The same, at once, where they are as most are.
 #[inline(always)]
-pub fn push_number_named(
+fn push_most_named(
     out: &mut Vec<u8>,
     count: i128,
     places: u8,
@@ -586,6 +596,25 @@ pub fn push_number_named(
         ),
         _ => push_any_named(out, count, places, least, name),
     }
+}
+
+/// The same number, and a name behind a space: at once, where they are as most are. Most numbers have
+/// two decimals: what is known of these is taken out of the steps.
+#[inline(always)]
+pub fn push_number_named(
+    out: &mut Vec<u8>,
+    count: i128,
+    places: u8,
+    least: u8,
+    name: &[u8],
+) -> Result<(), AllocError>
+    ensures { OnOk result (out.new.items ≡ out.old.items
+        ++ number_text count places least ++ space ∷ name.now) }
+{
+    if places == 8 && least == 2 {
+        return push_most_named(out, count, 8, 2, name);
+    }
+    push_most_named(out, count, places, least, name)
 }
 
 /// The number at the right of a column that is so wide, and so many spaces behind it, whatever its parts

@@ -28,8 +28,8 @@ mod plain;
 mod printable;
 mod runs;
 
-pub use days::LastDay;
+pub use days::{LastDay, are_one};
 pub use digits::{number_len, push_day, push_number, push_number_named, push_number_right};
-pub use plain::{is_plain, push_bytes, push_padding};
+pub use plain::{is_plain, push_bytes, push_padding, push_plain};
 pub use printable::is_printable;
 pub use runs::{push_run, push_spaces};

@@ -1,5 +1,5 @@
 //! Texts that show as they are. Most are short, and so they are looked at and copied in few steps.
-ghost use Rattle.std.specs.Prelude.{◌≡◌, ◌≤◌, ◌+◌, ◌-◌, ◌++◌, List, ℕ, OnOk, IfOk, IfSome, length, take, drop};
+ghost use Rattle.std.specs.Prelude.{◌≡◌, ◌≤◌, ◌+◌, ◌-◌, ◌++◌, List, ℕ, OnOk, IfOk, IfSome, IsTrue, length, take, drop, true};
 ghost use Rattle.std.specs.Prelude.{replicate, if◌then◌else◌, vec_len};
 ghost use Rattle.bean_base.specs.Character.{space};
 ghost use Rattle.std.specs.Int.{is_in_range};
@@ -45,6 +45,18 @@ fn some_are_printable<const N: usize>(bytes: &[u8; N]) -> bool
     all
 }
 
+/// Whether bytes are printable ASCII characters, of which these are the ends.
+#[inline(always)]
+fn are_printable<const N: usize>(ends: Ends<'_, N>, bytes: &[u8]) -> bool
+    requires many { N ≤ length bytes.now }
+    requires few { length bytes.now ≤ N + N }
+    requires first { ends.first.now ≡ take N bytes.now }
+    requires last { ends.last.now ≡ drop (length bytes.now - N) bytes.now }
+    ensures { result ≡ list_all (is_in_range 32 126) bytes.now }
+{
+    some_are_printable(ends.last) & some_are_printable(ends.first)
+}
+
 /// Whether bytes are printable ASCII characters, where so many at their front and at their end tell it.
 #[inline(always)]
 fn ends_are_printable<const N: usize>(bytes: &[u8]) -> Option<bool>
@@ -52,7 +64,7 @@ fn ends_are_printable<const N: usize>(bytes: &[u8]) -> Option<bool>
     ensures { IfSome result (λ all. all ≡ list_all (is_in_range 32 126) bytes.now) }
 {
     let ends = ends_of::<N>(bytes)?;
-    Some(some_are_printable(ends.last) & some_are_printable(ends.first))
+    Some(are_printable(ends, bytes))
 }
 
 /// Whether a text has printable ASCII characters alone, as most have.
@@ -158,6 +170,51 @@ pub fn push_bytes(out: &mut Vec<u8>, bytes: &[u8], spaces: usize) -> Result<(), 
     out.extend_from_slice(bytes)?;
     push_padding(out, spaces)?;
     Ok(())
+}
+
+/// Adds bytes, and so many spaces behind them, where so many at their front and at their end are all and
+/// are printable ASCII characters. Tells whether it did.
+#[inline(always)]
+fn push_plain_some<const N: usize>(
+    out: &mut Vec<u8>,
+    bytes: &[u8],
+    spaces: usize,
+) -> Result<bool, AllocError>
+    requires short { N ≤ 16 }
+    requires spaces { spaces ≤ 32 }
+    ensures items { IfOk result (λ are. out.new.items ≡ (if are then
+        out.old.items ++ bytes.now ++ replicate spaces space else out.old.items)) }
+    ensures plain { IfOk result (λ are. IsTrue are → list_all (is_in_range 32 126) bytes.now ≡ true) }
+{
+    let Some(ends) = ends_of::<N>(bytes) else {
+        return Ok(false);
+    };
+    if !are_printable(ends, bytes) {
+        return Ok(false);
+    }
+    push_ends(out, ends.first, ends.last, bytes.len(), spaces)?;
+    Ok(true)
+}
+
+/// Adds a text and so many spaces behind it, where it is short and has printable ASCII characters alone,
+/// as most have: what tells it is looked at once. Tells whether it did.
+#[inline(always)]
+pub fn push_plain(out: &mut Vec<u8>, text: &str, spaces: usize) -> Result<bool, AllocError>
+    ensures items { IfOk result (λ is. out.new.items ≡ (if is then
+        out.old.items ++ text.now ++ replicate spaces space else out.old.items)) }
+    ensures plain { IfOk result (λ is. IsTrue is → list_all (is_in_range 32 126) text.now ≡ true) }
+{
+    let bytes = text.as_bytes();
+    if spaces > MOST_BEHIND {
+        return Ok(false);
+    }
+    if push_plain_some::<1>(out, bytes, spaces)? {
+        return Ok(true);
+    }
+    if push_plain_some::<16>(out, bytes, spaces)? {
+        return Ok(true);
+    }
+    push_plain_some::<8>(out, bytes, spaces)
 }
 
 /// How many spaces are added at once.

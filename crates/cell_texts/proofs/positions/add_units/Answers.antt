@@ -11,5 +11,5 @@ add_printable-requires c =
     let units =
     units_text (decimals_of c.args.display.now) (to_z w128 (of_z w128 c.args.count))
     c.args.places c.args.currency.now in
-    ap all c.deref.ensures.value ∙ ap all c.in_ok-push_units.ensures.text
-    ∙ ap (λ l. all (l ++ units)) c.clear.ensures.items ∙ c.in_ok-push_units.ensures.printable
+    ap all c.deref.ensures.value ∙ ap all c.in_ok-push_amount.ensures.text
+    ∙ ap (λ l. all (l ++ units)) c.clear.ensures.items ∙ c.in_ok-push_amount.ensures.printable
