@@ -1,10 +1,12 @@
 //! What `list` shows of a ledger.
-ghost use Rattle.std.specs.Prelude.{◌≡◌, slice_get, Some};
+ghost use Rattle.std.specs.Prelude.{◌≡◌, ℕ, IsTrue, List, map, slice_get, take, Some};
 ghost use Rattle.bq.specs.Columns as spec;
 ghost use Rattle.bq.specs.List.{shown_row};
 ghost use Rattle.posting_entries.specs.Entry.{entry_spelling};
+ghost use Rattle.table_printer.specs.Table.{text_of};
 ghost use Rattle.query_values.specs.declared.value.Value.TheVariants as value;
 
+use number_texts::are_one;
 use posting_entries::EntryFlag;
 use posting_table::{HeldRow, Ledger};
 use query_terms::Column;
@@ -70,6 +72,15 @@ fn position_of<'r>(row: &'r HeldRow<'_>) -> Cell<'r>
     Cell::position(row.key(), row.count())
 }
 
+/// Whether two postings have one date and one flag.
+#[inline(always)]
+fn are_marked_alike(first: &HeldRow<'_>, second: &HeldRow<'_>) -> bool
+    ensures { IsTrue result → (display : List ℕ → ℕ) → take 2 (map (text_of display) (shown_row first.now))
+        ≡ take 2 (map (text_of display) (shown_row second.now)) }
+{
+    are_one(first.date(), second.date()) && first.flag() == second.flag()
+}
+
 impl<'l, 'a> Rows for Postings<'l, 'a> {
     ghost use Rattle.std.specs.Prelude.{map};
     ghost use Rattle.bq.specs.List.{headers, shown_row};
@@ -99,6 +110,19 @@ impl<'l, 'a> Rows for Postings<'l, 'a> {
         Posting {
             row: self.ledger.row(number),
         }
+    }
+
+    /// The day and the flag: rows of one transaction have the same.
+    fn front(&self) -> usize {
+        2
+    }
+
+    #[inline(always)]
+    fn alike(first: &Posting<'l, 'a>, second: &Posting<'l, 'a>) -> usize {
+        if are_marked_alike(first.row, second.row) {
+            return 2;
+        }
+        0
     }
 
     #[inline(always)]

@@ -1,16 +1,17 @@
 -- Headings, row by row.
 use Rattle.std.proofs.Common.{◌≡◌, ℕ, zero, suc, ◌+◌, ◌<◌, ◌≤◌, max, Bool, true, false, ◌||◌, List, []}
-use Rattle.std.proofs.Common.{◌∷◌, ◌++◌, length, get_or, take, map, fold, Some, unwrap_or, refl}
+use Rattle.std.proofs.Common.{◌∷◌, ◌++◌, length, get_or, take, map, fold, Option, None, Some, IfSome, unwrap_or, refl}
 use Rattle.std.proofs.Common.{sym, ap, ◌∙◌, arith}
 use Rattle.std.specs.List.{slice_get, slice_set, range_with_len}
 use Rattle.std.specs.Option.{option_map_or}
-use Rattle.std.proofs.lemmas.List.{map-append, take_more}
+use Rattle.std.proofs.lemmas.List.{map-append, take-map, take_more}
 use Rattle.std.proofs.lemmas.List.Folds.{list_any-append}
 use Rattle.std.proofs.lemmas.List.Sums.{fold-append}
 use Rattle.std.proofs.lemmas.Option.{get_or_from_slice_get, slice_get_within}
 use Rattle.query_values.specs.declared.value.Value.{Value}
 use Rattle.cell_texts.specs.CellText.{is_number, clean_text, cell_text}
 use Rattle.table_printer.specs.Heading.{bare_heading, heading_text, width_of, with_cell, with_row}
+use Rattle.table_printer.specs.Line.{AreAlike}
 use Rattle.table_printer.specs.Table.{PlacedText, text_of, width_at, column_width}
 use Rattle.cell_texts.specs.Width.{text_width}
 use Rattle.table_printer.specs.Table.{is_number_at, has_number, headers_from, row_at, widths_of}
@@ -45,6 +46,69 @@ with_front display (h ∷ hs) vs zero few = absurd (omega (arith, few))
 with_front display (h ∷ hs) [] (suc n) few = refl
 with_front display (h ∷ hs) (v ∷ vs) (suc n) few =
     ap (λ l. with_cell display h v ∷ l) (with_front display hs vs n (omega (arith, few)))
+
+-- the heading with one more text under it
+abbrev with_text : Heading → PlacedText → Heading
+with_text h t = record {
+  name = h.name;
+  width = max h.width (text_width t.text);
+  has_numbers = h.has_numbers || t.stands_right;
+}
+
+abbrev with_texts : List Heading → List PlacedText → List Heading
+with_texts [] ts = []
+with_texts (h ∷ hs) [] = h ∷ hs
+with_texts (h ∷ hs) (t ∷ ts) = with_text h t ∷ with_texts hs ts
+
+-- what a row shows decides what it makes of headings
+by_texts : (display : List ℕ → ℕ) (hs : List Heading) (row : List Value)
+    → with_row display hs row ≡ with_texts hs (map (text_of display) row)
+by_texts display [] row = refl
+by_texts display (h ∷ hs) [] = refl
+by_texts display (h ∷ hs) (v ∷ vs) =
+    ap (λ l. with_cell display h v ∷ l) (by_texts display hs vs)
+
+-- a text that was measured changes nothing
+again : (h : Heading) (t : PlacedText) → with_text (with_text h t) t ≡ with_text h t
+again h t = λ i. record {
+  name = h.name;
+  width = wide i;
+  has_numbers = twice h.has_numbers t.stands_right i;
+}
+  where
+    wide : max (max h.width (text_width t.text)) (text_width t.text)
+        ≡ max h.width (text_width t.text)
+    wide = let w = text_width t.text in omega arith
+
+    twice : (a b : Bool) → ((a || b) || b) ≡ (a || b)
+    twice true b = refl
+    twice false true = refl
+    twice false false = refl
+
+measured : (hs : List Heading) (ts : List PlacedText) (n : ℕ)
+    → with_texts (with_texts hs ts) (take n ts) ≡ with_texts hs ts
+measured [] ts n = refl
+measured (h ∷ hs) [] zero = refl
+measured (h ∷ hs) [] (suc n) = refl
+measured (h ∷ hs) (t ∷ ts) zero = refl
+measured (h ∷ hs) (t ∷ ts) (suc n) = λ i. again h t i ∷ measured hs ts n i
+
+-- what a row shows as one did that was measured changes nothing
+pub known_cells : {R : Type 0} (values : R → List Value) (display : List ℕ → ℕ) (hs : List Heading)
+    (row : R) (known : ℕ) (before : Option R) → AreAlike values known row before
+    → IfSome before (λ r. (old : List Heading) × (with_row display old (values r) ≡ hs))
+    → with_row display hs (take known (values row)) ≡ hs
+known_cells values display hs row known None alike before =
+    ap (λ n. with_row display hs (take n (values row))) alike ∙ with_none display hs
+known_cells values display hs row known (Some r) alike before =
+    let old = before.0 in
+    let seen : List PlacedText = map (text_of display) (values r) in
+    let made : with_texts old seen ≡ hs = sym (by_texts display old (values r)) ∙ before.1 in
+    by_texts display hs (take known (values row))
+    ∙ ap (with_texts hs) (sym (take-map (text_of display) known (values row)) ∙ alike display)
+    ∙ (λ i. with_texts (sym made i) (take known seen))
+    ∙ measured old seen known
+    ∙ made
 
 next : (display : List ℕ → ℕ) (hs : List Heading) (row : List Value) (i : ℕ) (h : Heading)
     (v : Value) → length hs ≤ length row → i < length hs

@@ -3,3 +3,4 @@ pub mod TableFacts
 pub mod InColumn
 mod HeadingFacts
 pub mod OpenFacts
+pub mod FrontFacts

@@ -53,6 +53,14 @@ impl<'t, 'a> Rows for AnswerTable<'t, 'a> {
         }
     }
 
+    fn front(&self) -> usize {
+        0
+    }
+
+    fn alike(_first: &AnswerRow<'t, 'a>, _second: &AnswerRow<'t, 'a>) -> usize {
+        0
+    }
+
     fn cell<'r>(row: &'r AnswerRow<'t, 'a>, column: usize) -> Cell<'r> {
         cell_of(row.values, column)
     }

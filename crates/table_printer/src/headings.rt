@@ -5,6 +5,7 @@ ghost use Rattle.std.specs.Prelude.{◌≤◌, take, vec_len};
 ghost use Rattle.posting_table.specs.Decimals.{decimals_of};
 ghost use Rattle.table_printer.specs.Heading.{bare_heading, heading_text, width_of, with_cell};
 ghost use Rattle.table_printer.specs.Heading.{with_row};
+ghost use Rattle.table_printer.specs.Line.{AreAlike};
 ghost use Rattle.table_printer.specs.Table.{text_of, headers_from, widths_of};
 
 use crate::rows::Rows;
@@ -80,18 +81,22 @@ fn widen(
     Ok(())
 }
 
-/// The same for all cells of a row that stand under headings.
+/// The same for all cells of a row that stand under headings, of which the first change nothing.
+#[inline(always)]
 fn widen_all<T: Rows>(
     headings: &mut [Heading<'_>],
     row: &T::Row,
+    known: usize,
     scratch: &mut Scratch,
     display: &Display<'_>,
 ) -> Result<(), AllocError>
-    requires { length headings.old ≤ length (T.values row.now) }
+    requires many { length headings.old ≤ length (T.values row.now) }
+    requires known { with_row (decimals_of display.now) headings.old (take known (T.values row.now))
+        ≡ headings.old }
     ensures { OnOk result (headings.new
         ≡ with_row (decimals_of display.now) headings.old (T.values row.now)) }
 {
-    for column in 0..headings.len() {
+    for column in known..headings.len() {
         widen(
             &mut headings[column],
             &T::cell(row, column),
@@ -100,6 +105,17 @@ fn widen_all<T: Rows>(
         )?;
     }
     Ok(())
+}
+
+/// How many cells at the front of a row are those of the row before, which were measured.
+#[inline(always)]
+fn alike<T: Rows>(row: &T::Row, before: &Option<T::Row>) -> usize
+    ensures { AreAlike T.values result row.now before.now }
+{
+    match before {
+        Some(before) => T::alike(row, before),
+        None => 0,
+    }
 }
 
 /// The headings of the first columns of a table, in their order. Its rows are passed once, since they
@@ -121,9 +137,12 @@ pub(crate) fn headings<'t, T: Rows>(
     ensures len { IfOk result (λ v. vec_len v ≡ count) }
 {
     let mut headings = bare_headings(alloc, table, count, scratch, display)?;
+    let mut before = None;
     for number in 0..table.len() {
         let row = table.row(number);
-        widen_all::<T>(&mut headings, &row, scratch, display)?;
+        let known = alike::<T>(&row, &before);
+        widen_all::<T>(&mut headings, &row, known, scratch, display)?;
+        before = Some(row);
     }
     Ok(headings)
 }

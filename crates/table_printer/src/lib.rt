@@ -51,6 +51,7 @@
 
 mod answers;
 mod cause;
+mod fronts;
 mod headings;
 mod lines;
 mod open;

@@ -1,5 +1,5 @@
 //! The lines of a table: the header line, the rule and the rows.
-ghost use Rattle.std.specs.Prelude.{◌≡◌, ◌<◌, ◌≤◌, ◌++◌, ◌∷◌, [], List, Some, length, vec_len, map};
+ghost use Rattle.std.specs.Prelude.{◌≡◌, ◌<◌, ◌≤◌, ◌++◌, ◌∷◌, [], List, ℕ, Some, length, vec_len, map};
 ghost use Rattle.std.specs.Prelude.{take, drop, slice_get, OnOk, IfOk};
 ghost use Rattle.std.specs.List.{flat_map};
 ghost use Rattle.bean_base.specs.Character.{line_feed};
@@ -134,22 +134,29 @@ fn push_placed<L: Line>(
     Ok(())
 }
 
-/// The first cells of a line, each in its column and with the gap behind it.
+/// The cells of a line from one column up to another, each in its column and with the gap behind it.
 #[inline(always)]
-pub(crate) fn push_front<L: Line>(
+pub(crate) fn push_cells<L: Line>(
     out: &mut Vec<u8>,
     line: &L,
     headings: &[Heading<'_>],
+    from: usize,
+    to: usize,
     scratch: &mut Scratch,
     display: &Display<'_>,
 ) -> Result<(), AllocError>
-    requires { length headings.now ≤ length (L.cells line.now) }
-    ensures { OnOk result (out.new.items ≡ out.old.items ++ flat_map before_gap
-        (pieces (map width_of headings.now)
-        (map (placed_text (decimals_of display.now)) (L.cells line.now)))) }
+    requires order { from ≤ to }
+    requires within { to ≤ length headings.now }
+    requires many { length headings.now ≤ length (L.cells line.now) }
+    ensures { OnOk result ((before : List ℕ) → out.old.items ≡ before ++ flat_map before_gap
+        (take from (pieces (map width_of headings.now)
+        (map (placed_text (decimals_of display.now)) (L.cells line.now))))
+        → out.new.items ≡ before ++ flat_map before_gap
+        (take to (pieces (map width_of headings.now)
+        (map (placed_text (decimals_of display.now)) (L.cells line.now))))) }
 {
-    for (i, heading) in headings.iter().enumerate() {
-        push_placed(out, line, i, heading.width, scratch, display)?;
+    for column in from..to {
+        push_placed(out, line, column, headings[column].width, scratch, display)?;
     }
     Ok(())
 }
@@ -195,7 +202,7 @@ fn push_joined<L: Line>(
     let Some((last, front)) = headings.split_last() else {
         return Ok(0);
     };
-    push_front(out, line, front, scratch, display)?;
+    push_cells(out, line, front, 0, front.len(), scratch, display)?;
     let left = push_last(out, line, front.len(), last.width, scratch, display)?;
     Ok(left)
 }

@@ -1,15 +1,17 @@
 //! Tables whose last column has no numbers. In a row nothing fills that column up to its width: so its
 //! cells are measured where they are written, and the head of the table, which shows the width, comes
 //! last.
-ghost use Rattle.std.specs.Prelude.{◌≡◌, ◌<◌, ◌≤◌, ◌+◌, ◌++◌, ◌∷◌, [], ℕ, All, IfOk, IsTrue, fold, length};
+ghost use Rattle.std.specs.Prelude.{◌≡◌, ◌<◌, ◌≤◌, ◌+◌, ◌++◌, ◌∷◌, [], ℕ, All, IfOk, IsTrue, OnOk, fold, length};
 ghost use Rattle.std.specs.Prelude.{drop, false, map, max, take, vec_len};
 ghost use Rattle.std.specs.List.{flat_map};
 ghost use Rattle.posting_table.specs.Decimals.{decimals_of};
 ghost use Rattle.table_printer.specs.Heading.{width_of};
+ghost use Rattle.table_printer.specs.Line.{IsKept};
 ghost use Rattle.table_printer.specs.Table.{HasNoNumber, is_number_at, line_of, table_text, text_of, width_at};
 
+use crate::fronts::{Front, push_front};
 use crate::headings::{Heading, heading_of, headings};
-use crate::lines::{HeaderLine, RowLine, end_line, push_front, push_line, push_rule};
+use crate::lines::{HeaderLine, RowLine, end_line, push_cells, push_line, push_rule};
 use crate::rows::Rows;
 use crate::table::room_for;
 use cell_texts::{Scratch, is_number, push_cell};
@@ -38,20 +40,35 @@ fn push_open_line<T: Rows>(
     out: &mut Vec<u8>,
     row: &T::Row,
     headings: &[Heading<'_>],
+    front: usize,
+    kept: &mut Option<Front<T::Row>>,
     scratch: &mut Scratch,
     display: &Display<'_>,
 ) -> Result<usize, AllocError>
     requires many { length (T.values row.now) ≡ length headings.now + 1 }
+    requires front { front ≤ length headings.now }
+    requires kept { IsKept T.values (decimals_of display.now) (map width_of headings.now) front kept.old }
     requires left { is_number_at (length headings.now) (T.values row.now) ≡ false }
     ensures line { IfOk result (λ own. (w : ℕ) → out.new.items ≡ out.old.items
         ++ line_of (map width_of headings.now ++ w ∷ [])
         (map (text_of (decimals_of display.now)) (T.values row.now))) }
     ensures own { IfOk result (λ own. own ≡ width_at (length headings.now)
         (map (text_of (decimals_of display.now)) (T.values row.now))) }
+    ensures kept { OnOk result (IsKept T.values (decimals_of display.now) (map width_of headings.now)
+        front kept.new) }
 {
     let start = out.len();
     let line: RowLine<'_, T> = RowLine { row };
-    push_front(out, &line, headings, scratch, display)?;
+    push_front::<T>(out, row, headings, front, kept, scratch, display)?;
+    push_cells(
+        out,
+        &line,
+        headings,
+        front,
+        headings.len(),
+        scratch,
+        display,
+    )?;
     let own = push_cell(out, &T::cell(row, headings.len()), scratch, display)?;
     end_line(out, start)?;
     Ok(own)
@@ -75,10 +92,12 @@ fn push_open_rows<T: Rows>(
         (map (width_at (length headings.now))
         (map (map (text_of (decimals_of display.now))) (T.rows table.now)))) }
 {
+    let front = table.front().min(headings.len());
+    let mut kept = None;
     let mut most = least;
     for number in 0..table.len() {
         let row = table.row(number);
-        let own = push_open_line::<T>(out, &row, headings, scratch, display)?;
+        let own = push_open_line::<T>(out, &row, headings, front, &mut kept, scratch, display)?;
         most = most.max(own);
     }
     Ok(most)

@@ -1,6 +1,6 @@
 //! Rows of cells under the names of their columns, wherever they are kept.
-ghost use Rattle.std.specs.Prelude.{◌≡◌, ◌<◌, ℕ, List, length, slice_get, Some};
-ghost use Rattle.table_printer.specs.Table.{row_at};
+ghost use Rattle.std.specs.Prelude.{◌≡◌, ◌<◌, ℕ, List, length, map, slice_get, take, Some};
+ghost use Rattle.table_printer.specs.Table.{row_at, text_of};
 ghost use Rattle.query_values.specs.declared.value.Value.{Value};
 
 use cell_texts::Cell;
@@ -37,6 +37,16 @@ pub trait Rows {
     fn row(&self, number: usize) -> Self::Row
         requires { number < length (rows self.now) }
         ensures { values result ≡ row_at (rows self.now) number };
+
+    /// How many cells at the front of a row mostly are those of the row before it: as many are
+    /// written at once where they are. Any number is right.
+    fn front(&self) -> usize;
+
+    /// How many cells at the front of two rows show the same, as far as few steps tell it: 0 is always
+    /// right.
+    fn alike(first: &Self::Row, second: &Self::Row) -> usize
+        ensures { (display : List ℕ → ℕ) → take result (map (text_of display) (values first.now))
+            ≡ take result (map (text_of display) (values second.now)) };
 
     /// What a row has in a column.
     fn cell<'r>(row: &'r Self::Row, column: usize) -> Cell<'r>

@@ -3,7 +3,7 @@ use Rattle.std.proofs.Math.Seq.{take-append_seam}
 use Rattle.std.proofs.lemmas.List.{take_all}
 use Rattle.posting_table.specs.Decimals.{decimals_of}
 use Rattle.table_printer.specs.Heading.{heading_text, width_of, with_row}
-use Rattle.table_printer.proofs.HeadingFacts.{length-under, one_more, over_none, texts_are, under}
+use Rattle.table_printer.proofs.HeadingFacts.{known_cells, length-under, one_more, over_none, texts_are, under}
 use Rattle.table_printer.proofs.HeadingFacts.{widths_are}
 use Rattle.table_printer.proofs.headings.headings.Goals as goal
 
@@ -13,10 +13,20 @@ loop-number-init g c = record {
       ∙ over_none (decimals_of c.args.display.now) 0
       (take c.args.count (g.T.Rows.names c.args.table.now));
   len = c.in_ok-headings.ensures.len;
+  before = tt;
 }
 
-pub widen_all-requires : goal.widen_all-requires
-widen_all-requires g c =
+pub widen_all-requires-clause-known : goal.widen_all-requires-clause-known
+widen_all-requires-clause-known g c =
+    let display = decimals_of c.args.display.now in
+    let same = c.deref_mut.ensures.value in
+    ap (λ hs. with_row display hs (take c.alike-known.result (g.T.Rows.values c.row-row.result))) same
+    ∙ known_cells g.T.Rows.values display c.loop-number.headings.items c.row-row.result
+    c.alike-known.result c.loop-number.before c.alike-known.ensures c.loop-number.invariant.before
+    ∙ sym same
+
+pub widen_all-requires-clause-many : goal.widen_all-requires-clause-many
+widen_all-requires-clause-many g c =
     let rows = g.T.Rows.rows c.args.table.now in
     let names = take c.args.count (g.T.Rows.names c.args.table.now) in
     let few = length-take-le c.args.count (g.T.Rows.names c.args.table.now) c.requires.few in
@@ -52,10 +62,13 @@ loop-number-preserved g c =
     let sized : c.loop-number.headings.len ≡ length new =
     c.loop-number.invariant.len
     ∙ sym (ap length made ∙ length-under display 0 (take (i + 1) rows) names ∙ few) in
+    let whole =
+    ap (λ n. take n (new ++ drop (length new) c.loop-number.headings.items)) sized
+    ∙ take-append_seam new (drop (length new) c.loop-number.headings.items) in
     record {
-      under = ap (λ n. take n (new ++ drop (length new) c.loop-number.headings.items)) sized
-          ∙ take-append_seam new (drop (length new) c.loop-number.headings.items) ∙ made;
+      under = whole ∙ made;
       len = c.loop-number.invariant.len;
+      before = (_, sym c.in_ok-widen_all.ensures ∙ sym whole);
     }
 
 pub returns : goal.returns

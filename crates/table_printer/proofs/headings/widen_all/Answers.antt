@@ -2,12 +2,12 @@ use Rattle.std.proofs.Common.{◌<◌, ◌≤◌, length, arith, ap, get_or, ref
 use Rattle.std.proofs.lemmas.List.{length-set}
 use Rattle.posting_table.specs.Decimals.{decimals_of}
 use Rattle.table_printer.specs.Heading.{with_cell}
-use Rattle.table_printer.proofs.HeadingFacts.{next_cell, with_front, with_none}
+use Rattle.table_printer.proofs.HeadingFacts.{next_cell, with_front}
 use Rattle.table_printer.proofs.headings.widen_all.Goals as goal
 
 pub loop-column-init : goal.loop-column-init
 loop-column-init g c = record {
-  headings = sym (with_none (decimals_of c.args.display.now) c.args.headings.now);
+  headings = sym c.requires.known;
   len = refl;
 }
 
@@ -23,7 +23,7 @@ loop-column-preserved g c =
           ∙ ap (λ x. slice_set c.loop-column.headings i (with_cell display x v))
           (sym c.index-headings-column.is)
           ∙ (λ k. slice_set (c.loop-column.invariant.headings k) i (with_cell display h v))
-          ∙ next_cell display c.args.headings.now row i h v c.requires
+          ∙ next_cell display c.args.headings.now row i h v c.requires.many
           (let e : i < length c.args.headings.now = omega (arith, c.loop-column-test.true, c.loop-column.invariant.len) in e) c.cell.ensures
           (c.index-headings-column.is ∙ ap (λ l. get_or l i h) c.loop-column.invariant.headings);
       len = length-set c.loop-column.headings i c.widen.new.heading

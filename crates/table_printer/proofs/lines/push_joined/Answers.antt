@@ -1,7 +1,7 @@
 use Rattle.std.proofs.Common.{◌≡◌, ◌++◌, ◌∷◌, [], ℕ, List, length, map, get_or, false, Some, sym, ap, subst, ◌∙◌, arith}
 use Rattle.std.proofs.Common.{length-append}
 use Rattle.std.specs.List.{flat_map, slice_get}
-use Rattle.std.proofs.lemmas.List.{length-map, map-append}
+use Rattle.std.proofs.lemmas.List.{append-nil, length-map, map-append, take_all}
 use Rattle.std.proofs.lemmas.Option.{slice_get-get_or}
 use Rattle.query_values.specs.declared.value.Value.TheVariants.{Null}
 use Rattle.posting_table.specs.Decimals.{decimals_of}
@@ -12,7 +12,7 @@ use Rattle.table_printer.specs.Table.{padded, pieces}
 use Rattle.table_printer.specs.declared.headings.Heading.{Heading}
 use Rattle.table_printer.specs.declared.lines.Placed.{Placed}
 use Rattle.table_printer.proofs.LayoutFacts.{leaves_behind}
-use Rattle.table_printer.proofs.TableFacts.{line_joined}
+use Rattle.table_printer.proofs.TableFacts.{line_joined, pieces-le}
 use Rattle.table_printer.proofs.lines.push_joined.Goals as goal
 
 -- the first cells, and the last
@@ -34,8 +34,15 @@ returns g c =
     let at : Some x ≡ slice_get cells (length ws) = is ∙ ap (slice_get cells) (sym many) in
     let widths : ws ++ h.width ∷ [] ≡ map width_of c.args.headings.now =
     sym (ap (map width_of) parts ∙ map-append width_of hs (h ∷ [])) in
+    let out = c.args.out.now.items in
+    let all_front = pieces ws (map shown cells) in
+    let front : c.push_cells.new.out.items ≡ out ++ flat_map before_gap all_front =
+    c.in_ok-push_cells.ensures out (sym (append-nil out))
+    ∙ ap (λ l. out ++ flat_map before_gap l)
+    (take_all (length hs) all_front
+    (let few = pieces-le ws (map shown cells) in omega (arith, few, many))) in
     subst (λ t. Leaves c.args.out.now.items c.push_last.new.out.items c.in_ok-left.left t)
     (line_joined shown ws h.width cells x at ∙ ap (λ l. joined (pieces l (map shown cells))) widths)
-    (leaves_behind c.args.out.now.items c.push_front.new.out.items c.push_last.new.out.items
+    (leaves_behind c.args.out.now.items c.push_cells.new.out.items c.push_last.new.out.items
     (flat_map before_gap (pieces ws (map shown cells))) (padded h.width (shown x)) c.in_ok-left.left
-    c.in_ok-push_front.ensures (c.in_ok-left.ensures x is))
+    front (c.in_ok-left.ensures x is))

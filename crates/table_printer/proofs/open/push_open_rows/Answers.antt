@@ -17,6 +17,8 @@ push_open_line-requires g c =
     let within : i < length rows = omega (arith, c.loop-number-test.true, c.len-number-end.ensures) in
     record {
       many = ap length c.row-row.ensures ∙ c.requires.even i [] within;
+      front = omega (arith, c.min-front.ensures);
+      kept = c.loop-number.invariant.kept;
       left = ap (is_number_at (length c.args.headings.now)) c.row-row.ensures
           ∙ c.requires.left i within;
     }
@@ -43,6 +45,7 @@ loop-number-preserved g c =
           ((c.in_ok-own.ensures.own
           ∙ ap (λ r. width_at n (map (text_of d) r)) c.row-row.ensures) k))
           ∙ most_more d n c.args.least rows i within;
+      kept = c.in_ok-own.ensures.kept;
     }
 
 pub returns-clause-lines : goal.returns-clause-lines
