@@ -3,7 +3,7 @@ use Rattle.std.proofs.Common.{◌≡◌, ℕ, ◌+◌, List, [], ◌∷◌, ◌+
 use Rattle.std.proofs.Common.{append_assoc, arith}
 use Rattle.std.proofs.lemmas.List.{append-nil}
 use Rattle.std.specs.List.{flat_map}
-use Rattle.bean_parser.specs.Gathered.{IsGathered, undated_at}
+use Rattle.bean_parser.specs.Gathered.{AreWithin, IsGathered, all_directives, undated_at}
 use Rattle.bean_parser.specs.Parsed.{directives_in, settings_in, faults_in, bounds_in, all_bounds}
 use Rattle.bean_base.specs.declared.fault.Fault as faults
 use Rattle.bean_base.specs.declared.fault.FaultKind.TheVariants.{Ignored}
@@ -54,14 +54,16 @@ bounds_from_first os o =
 
 -- what a block adds
 pub record Adds (o : Outcome) (g g' : Gathered) : Type 0 where
-  pub directives : g'.directives.items ≡ g.directives.items ++ directives_in o
+  pub within : AreWithin g'
+  pub directives : all_directives g' ≡ all_directives g ++ directives_in o
   pub settings : g'.settings.items ≡ g.settings.items ++ settings_in o
-  pub bounds : g'.bounds.items ≡ g.bounds.items ++ bounds_in (length g.directives.items) o
+  pub bounds : g'.bounds.items ≡ g.bounds.items ++ bounds_in (length (all_directives g)) o
   pub faults : g'.faults.items ≡ g.faults.items ++ faults_in o
 
 pub gathered_more : (os : List Outcome) (o : Outcome) (g g' : Gathered) → Adds o g g'
     → IsGathered os g → IsGathered (os ++ o ∷ []) g'
 gathered_more os o g g' a is = record {
+  within = a.within;
   directives =
       a.directives ∙ ap (λ x. x ++ directives_in o) is.directives
       ∙ sym (one_more directives_in os o);
@@ -75,14 +77,15 @@ gathered_more os o g g' a is = record {
 -- what each kind of block adds
 
 pub fault_adds : (os : List Outcome) (o : Outcome) (f : faults.Fault) (g g' : Gathered)
-    → o ≡ outcome.Fault f → g'.directives.items ≡ g.directives.items
+    → o ≡ outcome.Fault f → AreWithin g' → all_directives g' ≡ all_directives g
     → g'.settings.items ≡ g.settings.items → g'.bounds.items ≡ g.bounds.items
     → g'.faults.items ≡ g.faults.items ++ f ∷ [] → IsGathered os g → IsGathered (os ++ o ∷ []) g'
-fault_adds os o f g g' is ds ss bs fs h =
+fault_adds os o f g g' is within ds ss bs fs h =
     subst (λ x. IsGathered (os ++ x ∷ []) g') (sym is)
     (gathered_more os (outcome.Fault f) g g' record {
+      within = within;
       directives =
-          ds ∙ sym (append-nil g.directives.items);
+          ds ∙ sym (append-nil (all_directives g));
       settings = ss ∙ sym (append-nil g.settings.items);
       bounds = bs ∙ sym (append-nil g.bounds.items);
       faults = fs;
@@ -90,13 +93,14 @@ fault_adds os o f g g' is ds ss bs fs h =
 
 pub directive_adds :
     (os : List Outcome) (s : Statement) (d : directives.Directive) (g g' : Gathered)
-    → s ≡ statement.Directive d → g'.directives.items ≡ g.directives.items ++ d ∷ []
+    → s ≡ statement.Directive d → AreWithin g' → all_directives g' ≡ all_directives g ++ d ∷ []
     → g'.settings.items ≡ g.settings.items
     → g'.bounds.items ≡ g.bounds.items → g'.faults.items ≡ g.faults.items → IsGathered os g
     → IsGathered (os ++ outcome.Statement s ∷ []) g'
-directive_adds os s d g g' is ds ss bs fs h =
+directive_adds os s d g g' is within ds ss bs fs h =
     subst (λ x. IsGathered (os ++ outcome.Statement x ∷ []) g') (sym is)
     (gathered_more os (outcome.Statement (statement.Directive d)) g g' record {
+      within = within;
       directives =
           ds;
       settings = ss ∙ sym (append-nil g.settings.items);
@@ -107,15 +111,16 @@ directive_adds os s d g g' is ds ss bs fs h =
 
 pub setting_adds :
     (os : List Outcome) (line : ℕ) (u : UndatedKind) (k : SettingKind) (g g' : Gathered)
-    → u ≡ kind.Setting k → g'.directives.items ≡ g.directives.items
+    → u ≡ kind.Setting k → AreWithin g' → all_directives g' ≡ all_directives g
     → g'.settings.items ≡ g.settings.items ++ record { line = line; kind = k } ∷ []
     → g'.bounds.items ≡ g.bounds.items → g'.faults.items ≡ g.faults.items → IsGathered os g
     → IsGathered (os ++ undated_at line u ∷ []) g'
-setting_adds os line u k g g' is ds ss bs fs h =
+setting_adds os line u k g g' is within ds ss bs fs h =
     subst (λ x. IsGathered (os ++ undated_at line x ∷ []) g') (sym is)
     (gathered_more os (undated_at line (kind.Setting k)) g g' record {
+      within = within;
       directives =
-          ds ∙ sym (append-nil g.directives.items);
+          ds ∙ sym (append-nil (all_directives g));
       settings = ss;
       bounds =
           bs ∙ sym (append-nil g.bounds.items);
@@ -123,33 +128,35 @@ setting_adds os line u k g g' is ds ss bs fs h =
     } h)
 
 pub ignored_adds : (os : List Outcome) (line : ℕ) (u : UndatedKind) (g g' : Gathered)
-    → u ≡ kind.Ignored → g'.directives.items ≡ g.directives.items
+    → u ≡ kind.Ignored → AreWithin g' → all_directives g' ≡ all_directives g
     → g'.settings.items ≡ g.settings.items
     → g'.bounds.items ≡ g.bounds.items
     → g'.faults.items ≡ g.faults.items ++ fault_at Ignored line ∷ [] → IsGathered os g
     → IsGathered (os ++ undated_at line u ∷ []) g'
-ignored_adds os line u g g' is ds ss bs fs h =
+ignored_adds os line u g g' is within ds ss bs fs h =
     subst (λ x. IsGathered (os ++ undated_at line x ∷ []) g') (sym is)
     (gathered_more os (undated_at line kind.Ignored) g g' record {
+      within = within;
       directives =
-          ds ∙ sym (append-nil g.directives.items);
+          ds ∙ sym (append-nil (all_directives g));
       settings = ss ∙ sym (append-nil g.settings.items);
       bounds = bs ∙ sym (append-nil g.bounds.items);
       faults = fs;
     } h)
 
 pub bound_adds : (os : List Outcome) (line : ℕ) (u : UndatedKind) (b : Bound) (g g' : Gathered)
-    → u ≡ kind.Bound b → g'.directives.items ≡ g.directives.items
+    → u ≡ kind.Bound b → AreWithin g' → all_directives g' ≡ all_directives g
     → g'.settings.items ≡ g.settings.items
     → g'.bounds.items ≡ g.bounds.items
-    ++ record { line = line; place = length g.directives.items; bound = b } ∷ []
+    ++ record { line = line; place = length (all_directives g); bound = b } ∷ []
     → g'.faults.items ≡ g.faults.items → IsGathered os g
     → IsGathered (os ++ undated_at line u ∷ []) g'
-bound_adds os line u b g g' is ds ss bs fs h =
+bound_adds os line u b g g' is within ds ss bs fs h =
     subst (λ x. IsGathered (os ++ undated_at line x ∷ []) g') (sym is)
     (gathered_more os (undated_at line (kind.Bound b)) g g' record {
+      within = within;
       directives =
-          ds ∙ sym (append-nil g.directives.items);
+          ds ∙ sym (append-nil (all_directives g));
       settings = ss ∙ sym (append-nil g.settings.items);
       bounds = bs;
       faults = fs ∙ sym (append-nil g.faults.items);

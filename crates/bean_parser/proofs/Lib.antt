@@ -7,6 +7,7 @@ pub mod BlockFacts
 pub mod ScopeFacts
 pub mod MatchFacts
 pub mod GatheredFacts
+pub mod WaitingFacts
 pub mod ParsedFacts
 pub mod OneTree
 pub mod OneReadingFacts

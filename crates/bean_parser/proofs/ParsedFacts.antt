@@ -7,7 +7,7 @@ use Rattle.bean_lexer.specs.Tokens.{AreTokens}
 use Rattle.bean_lexer.specs.declared.token.Token.{Token}
 use Rattle.bean_parser.specs.Block.{blocks}
 use Rattle.bean_parser.specs.BlockReader.{ToRead, TakesBlock}
-use Rattle.bean_parser.specs.Gathered.{IsGathered}
+use Rattle.bean_parser.specs.Gathered.{IsGathered, all_directives}
 use Rattle.bean_parser.specs.Outcome.{Gives, AllGive}
 use Rattle.bean_parser.specs.Parsed.{IsParsed, ComeTo, AreByLine}
 use Rattle.bean_parser.specs.Scope.{unmatched, with_pushes}
@@ -68,7 +68,7 @@ text_ends text reader g parsed p at come =
 pub come_to :
     (os : List Outcome) (g : Gathered) (ds : List directives.Directive) (ss : List settings.Setting)
     (fs all : List faults.Fault) → IsGathered os g
-    → ds ≡ with_pushes [] g.bounds.items g.directives.items
+    → ds ≡ with_pushes [] g.bounds.items (all_directives g)
     → ss ≡ g.settings.items → all ≡ g.faults.items ++ unmatched [] g.bounds.items → AreByLine all fs
     → ComeTo os record { directives = ds; settings = ss; faults = fs }
 come_to os g ds ss fs all is given same added by_line = record {

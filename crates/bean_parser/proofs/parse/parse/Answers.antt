@@ -5,6 +5,12 @@ use Rattle.bean_parser.proofs.BlockFacts.{if_ok}
 use Rattle.bean_parser.proofs.ParsedFacts.{block_more, text_ends}
 use Rattle.bean_parser.proofs.parse.parse.Goals as goal
 
+pub add_block-requires : goal.add_block-requires
+add_block-requires c = c.loop-block.invariant.gathered.within
+
+pub parsed-requires : goal.parsed-requires
+parsed-requires c = c.loop-block.invariant.gathered.within
+
 pub loop-block-preserved : goal.loop-block-preserved
 loop-block-preserved c =
     let before = c.loop-block.reader in

@@ -6,6 +6,6 @@ pub returns-in_ok-push-in-Fault : goal.returns-in_ok-push-in-Fault
 returns-in_ok-push-in-Fault c = (
   _,
   c.in_ok-statement.ensures,
-  λ os h. fault_adds os _ _ c.args.self.now _ c.in-Fault.is refl refl refl
+  λ os h. fault_adds os _ _ c.args.self.now _ c.in-Fault.is h.within refl refl refl
       c.in_ok-push-in-Fault.ensures.items h,
 )
