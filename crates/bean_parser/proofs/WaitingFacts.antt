@@ -87,26 +87,23 @@ postings_more os g g' qs more same ds ss bs fs h = record {
 }
 
 -- one more directive waits
-pub waits_within : (g g' : Gathered) (d : directives.Directive) (p : Option InBlock) → AreWithin g
-    → IsPart (length g.postings.items) p → g'.postings.items ≡ g.postings.items
-    → g'.waiting.items ≡ g.waiting.items ++ record { directive = d; part = p } ∷ []
-    → AreWithin g'
-waits_within g g' d p within part same more =
-    subst (λ ps. AllByRecursion (IsWithin ps) g'.waiting.items) (sym same)
-    (subst (AllByRecursion (IsWithin g.postings.items)) (sym more)
-    (one_more g.postings.items g.waiting.items record { directive = d; part = p } within part))
+pub waits_within : (ps : List Posting) (ws all : List Waiting) (d : directives.Directive)
+    (p : Option InBlock) → AllByRecursion (IsWithin ps) ws → IsPart (length ps) p
+    → all ≡ ws ++ record { directive = d; part = p } ∷ [] → AllByRecursion (IsWithin ps) all
+waits_within ps ws all d p within part more =
+    subst (AllByRecursion (IsWithin ps)) (sym more)
+    (one_more ps ws record { directive = d; part = p } within part)
 
-pub waits : (g g' : Gathered) (d : directives.Directive) (p : Option InBlock)
-    → g'.directives.items ≡ g.directives.items → g'.postings.items ≡ g.postings.items
-    → g'.waiting.items ≡ g.waiting.items ++ record { directive = d; part = p } ∷ []
-    → all_directives g' ≡ all_directives g ++ completed_by g.postings.items d p ∷ []
-waits g g' d p ds same more =
-    let f = completed g.postings.items in
-    (λ i. ds i ++ map (completed (same i)) (more i))
-    ∙ ap (λ l. g.directives.items ++ l)
-        (map-append f g.waiting.items (record { directive = d; part = p } ∷ []))
-    ∙ sym (append_assoc g.directives.items (map f g.waiting.items)
-        (completed_by g.postings.items d p ∷ []))
+pub waits : (ds : List directives.Directive) (ps : List Posting) (ws all : List Waiting)
+    (d : directives.Directive) (p : Option InBlock)
+    → all ≡ ws ++ record { directive = d; part = p } ∷ []
+    → ds ++ map (completed ps) all
+    ≡ (ds ++ map (completed ps) ws) ++ completed_by ps d p ∷ []
+waits ds ps ws all d p more =
+    let f = completed ps in
+    ap (λ l. ds ++ map f l) more
+    ∙ ap (λ l. ds ++ l) (map-append f ws (record { directive = d; part = p } ∷ []))
+    ∙ sym (append_assoc ds (map f ws) (completed_by ps d p ∷ []))
 
 -- none waits any more
 pub settled_all : (os : List Outcome) (g g' : Gathered) → g'.directives.items ≡ all_directives g
@@ -134,7 +131,7 @@ pub count_all : (g : Gathered) (m n : ℕ) → m ≡ length g.directives.items
 count_all g m n ds ws =
     let ps = g.postings.items in
     let both = length-append g.directives.items (map (completed ps) g.waiting.items) in
-    let same = length-map (completed ps) g.waiting.items in
+    let same = length-map g.waiting.items (completed ps) in
     omega (arith, ds, ws, both, same)
 
 pub none_waits : (g : Gathered) → g.waiting.items ≡ [] → g.directives.items ≡ all_directives g
