@@ -2,7 +2,7 @@
 use Rattle.std.proofs.Common.{◌≡◌, ℕ, ◌≤◌, max, List, [], ◌∷◌, length, map, fold}
 use Rattle.std.proofs.Common.{reverse}
 use Rattle.std.proofs.Common.{Ok, Err, Bool, true, false, cond, refl, sym, ap, ◌∙◌}
-use Rattle.std.proofs.Common.{unwrap_or}
+use Rattle.std.proofs.Common.{None, unwrap_or}
 use Rattle.std.specs.Cmp.Lexicographic.{slice_cmp}
 use Rattle.std.specs.FinMap.{empty, get-empty, insert}
 use Rattle.std.specs.Ordering.{nat_cmp}
@@ -74,7 +74,12 @@ with_decimals d (a ∷ amounts) name =
     ∙ sym (decimals_from-append (decimals_of d name) name (a ∷ []) amounts)
 
 made : List Booking → Ledger
-made bs = record { rows = rows_of_all bs; decimals = decimals_with empty (written_in_all bs) }
+made bs = record {
+  rows = rows_of_all bs;
+  decimals = decimals_with empty (written_in_all bs);
+  entry = None;
+  rest = [];
+}
 
 is_made : (bs : List Booking) → length (rows_of_all bs) ≤ MOST_POSTINGS → IsLedgerOf bs (made bs)
 unfolding made

@@ -20,8 +20,7 @@ weighs w p h =
     ∙ (λ i. count_of p.units (worth_of (sym h.held i) (sym h.alone.price i)))
 
 pub plain_is : (e : EntryParts) (line : ℕ) (w : Posting) (p : Posted) → IsPlain w p
-    → plain.row_of (record {
-      entry = e;
+    → plain.row_of e (record {
       account = p.account;
       currency = p.units.currency;
       count = at_8 p.units.number;

@@ -13,7 +13,7 @@ use Rattle.bean_replay.specs.declared.booking.Draft.{Draft}
 use Rattle.bean_replay.specs.declared.booking.Draft.TheVariants as draft
 use Rattle.bean_replay.specs.declared.booking.Kept.{Kept}
 use Rattle.posting_table.specs.Decimals.{decimals_of}
-use Rattle.posting_table.specs.declared.row.Row.{Row}
+use Rattle.posting_table.specs.Whole.{Row}
 use Rattle.bean_book.specs.Booked.{Adds, decimals_from, rows_of_all, written_in_all}
 use Rattle.bean_book.specs.Rows.{entry_of, row_of, rows_of_pad, rows_of_transaction, written_of}
 use Rattle.bean_book.specs.Taken.{IsLedgerSoFar, amounts_in, kept_amounts, kept_rows, places_from}

@@ -15,7 +15,7 @@ use Rattle.bean_loaded.specs.Loaded.{Loaded}
 use Rattle.posting_table.specs.Decimals.{decimals_of}
 use Rattle.posting_table.specs.Ledger as tables
 use Rattle.limits.specs.declared.counts.TheConstants.{MOST_POSTINGS}
-use Rattle.posting_table.specs.declared.row.Row.{Row}
+use Rattle.posting_table.specs.Whole.{Row}
 use Rattle.bean_book.specs.Reported.{reported}
 use Rattle.bean_book.specs.Rows.{rows_of, written_of}
 use Rattle.bean_book.specs.declared.booked.Booked as declared

@@ -24,7 +24,7 @@ use Rattle.bean_holdings.specs.declared.posted.Posted.{Posted}
 use Rattle.posting_entries.specs.declared.entry.EntryParts.{EntryParts}
 use Rattle.posting_entries.specs.declared.entry.EntryFlag.TheVariants.{Written, Padding}
 use Rattle.posting_entries.specs.declared.metadata.MetaItem.{MetaItem}
-use Rattle.posting_table.specs.declared.row.Row.{Row}
+use Rattle.posting_table.specs.Whole.{Row}
 use Rattle.posting_table.specs.declared.row.Weight.{Weight}
 use Rattle.query_values.specs.TextSet.{set_of}
 use Rattle.bean_replay.specs.declared.booking.Booking.{Booking}

@@ -6,7 +6,7 @@ use Rattle.bean_pad.specs.declared.note.NotedPad.{NotedPad}
 use Rattle.bean_replay.specs.declared.booking.Draft.{Draft}
 use Rattle.bean_replay.specs.declared.booking.Draft.TheVariants as draft
 use Rattle.posting_table.specs.Decimals.{decimals_of}
-use Rattle.posting_table.specs.declared.row.Row.{Row}
+use Rattle.posting_table.specs.Whole.{Row}
 use Rattle.bean_book.specs.Booked.{decimals_from}
 use Rattle.bean_book.specs.Rows.{rows_of_pad, rows_of_transaction, written_in}
 use Rattle.bean_book.specs.declared.ledger.LedgerRows.{LedgerRows}

@@ -159,7 +159,7 @@ pub(crate) fn entry_of<'a>(
     alloc: Global,
     none: &NoExtras<'a>,
     kept: &Kept<'a>,
-) -> Result<Shared<Entry<'a>>, AllocError>
+) -> Result<Entry<'a>, AllocError>
     ensures { IfOk result (λ entry. entry ≡ spec.entry_of kept.now) }
 {
     let written = &kept.written;
@@ -173,7 +173,7 @@ pub(crate) fn entry_of<'a>(
         date: written.day(),
         flag: EntryFlag::Written(written.transaction().flag),
     };
-    Shared::new(alloc, Entry::plain(none, parts)?)
+    Entry::plain(none, parts)
 }
 
 /// The same of a transaction that may have marks, metadata, and texts with escapes. It stays out of
@@ -183,7 +183,7 @@ fn full_entry<'a>(
     alloc: Global,
     none: &NoExtras<'a>,
     kept: &Kept<'a>,
-) -> Result<Shared<Entry<'a>>, AllocError>
+) -> Result<Entry<'a>, AllocError>
     ensures { IfOk result (λ entry. entry ≡ spec.entry_of kept.now) }
 {
     let written = &kept.written;
@@ -199,7 +199,7 @@ fn full_entry<'a>(
         date: written.day(),
         flag: EntryFlag::Written(transaction.flag),
     };
-    Shared::new(alloc, Entry::new(alloc, none, parts)?)
+    Entry::new(alloc, none, parts)
 }
 
 /// What the two postings have in common that a pad inserts.
@@ -207,7 +207,7 @@ pub(crate) fn padding_entry<'a>(
     alloc: Global,
     none: &NoExtras<'a>,
     noted: &NotedPad<'a>,
-) -> Result<Shared<Entry<'a>>, AllocError>
+) -> Result<Entry<'a>, AllocError>
     ensures { IfOk result (λ entry. entry ≡ spec.padding_entry noted.now) }
 {
     let names = [
@@ -224,5 +224,5 @@ pub(crate) fn padding_entry<'a>(
         date: noted.day,
         flag: EntryFlag::Padding,
     };
-    Shared::new(alloc, Entry::new(alloc, none, parts)?)
+    Entry::new(alloc, none, parts)
 }

@@ -19,7 +19,7 @@ use bean_pad::NotedPad;
 use bean_replay::{BookCause, Bookings, Kept};
 use limits::MOST_POSTINGS;
 use posting_entries::NoExtras;
-use posting_table::{Ledger, TakenRows};
+use posting_table::Ledger;
 use refusals::Refusal;
 use std::alloc::{AllocError, Global};
 
@@ -95,19 +95,18 @@ fn put_pad<'a>(
     alloc: Global,
     none: &NoExtras<'a>,
     ledger: &mut Ledger<'a>,
-    rest: &mut TakenRows<'a>,
     count: usize,
     noted: &NotedPad<'a>,
 ) -> Result<(), AllocError>
     requires small { IsSmallNoted noted.now }
-    requires room { length ledger.old.rows + length rest.old + length (rows_of_pad noted.now)
+    requires room { length ledger.old.rows + length ledger.old.rest + length (rows_of_pad noted.now)
         ≤ MOST_POSTINGS }
     ensures rows { OnOk result (ledger.new.rows
-        ≡ ledger.old.rows ++ (take count rest.old ++ rows_of_pad noted.now)) }
+        ≡ ledger.old.rows ++ (take count ledger.old.rest ++ rows_of_pad noted.now)) }
     ensures decimals { OnOk result (ledger.new.decimals ≡ ledger.old.decimals) }
-    ensures rest { OnOk result (rest.new ≡ drop count rest.old) }
+    ensures rest { OnOk result (ledger.new.rest ≡ drop count ledger.old.rest) }
 {
-    ledger.put_back(rest, count)?;
+    ledger.put_back(count)?;
     push_pad(alloc, none, ledger, noted)
 }
 
@@ -125,17 +124,17 @@ fn put_pads<'a>(
         ≡ with_rows 0 ledger.old.rows places.items pads.entry.items) }
     ensures decimals { OnOk result (ledger.new.decimals ≡ ledger.old.decimals) }
 {
-    let mut rest = ledger.take_rows()?;
+    ledger.take_rows()?;
     let mut passed = 0;
     let mut left = places.into_iter();
     for noted in pads {
         if let Some(place) = left.next() {
             let count = place.saturating_sub(passed);
-            put_pad(alloc, none, ledger, &mut rest, count, &noted)?;
+            put_pad(alloc, none, ledger, count, &noted)?;
             passed = place;
         }
     }
-    ledger.put_back(&mut rest, MOST_POSTINGS)
+    ledger.put_back(MOST_POSTINGS)
 }
 
 /// The ledger, now that it is known what comes of the pads.

@@ -1,33 +1,31 @@
 //! The rows that pads insert.
-ghost use Rattle.std.specs.Prelude.{◌≡◌, ◌<◌, ◌≤◌, ◌+◌, ◌++◌, ◌^◌, IfOk, OnOk, length};
+ghost use Rattle.std.specs.Prelude.{◌≡◌, ◌<◌, ◌≤◌, ◌+◌, ◌++◌, ◌^◌, OnOk, Some, length};
 ghost use Rattle.std.specs.Int.RustNames.{unsigned_abs};
 ghost use Rattle.bean_replay.specs.Small.{IsSmallNote, IsSmallNoted};
 ghost use Rattle.limits.specs.declared.counts.TheConstants.{MOST_POSTINGS};
+ghost use Rattle.posting_table.specs.Whole.{row_with};
 ghost use Rattle.bean_book.specs.Rows as spec;
 
 use crate::entries::padding_entry;
 use bean_base::{Account, Currency};
 use bean_lots::{Key, Position};
 use bean_pad::{Note, NotedPad, Outcome};
-use posting_entries::{Entry, Metadata, NoExtras, Shared};
-use posting_table::{Ledger, Row, Weight};
+use posting_entries::{Metadata, NoExtras};
+use posting_table::{Ledger, OwnRow, Weight};
 use std::alloc::{AllocError, Global};
 
 /// So much in an account, as a count of `10^-8`.
 fn padding_row<'a>(
-    entry: &Shared<Entry<'a>>,
     noted: &NotedPad<'a>,
     account: &Account<'a>,
     currency: &Currency<'a>,
     count: i128,
-) -> Result<Row<'a>, AllocError>
-    requires entry { entry.now ≡ spec.padding_entry noted.now }
-    requires small { unsigned_abs count < 10 ^ 20 }
-    ensures { IfOk result (λ row. row
-        ≡ spec.padding_row noted.now account.now currency.now count) }
+) -> OwnRow<'a>
+    requires { unsigned_abs count < 10 ^ 20 }
+    ensures { row_with (spec.padding_entry noted.now) result
+        ≡ spec.padding_row noted.now account.now currency.now count }
 {
-    Ok(Row {
-        entry: entry.share()?,
+    OwnRow {
         account: account.lend(),
         position: Position {
             key: Key {
@@ -44,32 +42,31 @@ fn padding_row<'a>(
         metadata: Metadata::empty(),
         line: noted.place.line,
         flag: None,
-    })
+    }
 }
 
 /// Adds the rows that a pad inserts for one balance.
 fn push_note<'a>(
     ledger: &mut Ledger<'a>,
-    entry: &Shared<Entry<'a>>,
     noted: &NotedPad<'a>,
     note: &Note<'a>,
 ) -> Result<(), AllocError>
-    requires entry { entry.now ≡ spec.padding_entry noted.now }
+    requires entry { ledger.old.entry ≡ Some (spec.padding_entry noted.now) }
     requires pad { IsSmallNoted noted.now }
     requires note { IsSmallNote note.now }
     requires room { length ledger.old.rows + length (spec.rows_of_note noted.now note.now)
         ≤ MOST_POSTINGS }
-    ensures rows { OnOk result (ledger.new.rows
-        ≡ ledger.old.rows ++ spec.rows_of_note noted.now note.now) }
-    ensures decimals { OnOk result (ledger.new.decimals ≡ ledger.old.decimals) }
+    ensures { OnOk result (ledger.new ≡ record ledger.old {
+      rows = ledger.old.rows ++ spec.rows_of_note noted.now note.now;
+    }) }
 {
     let Outcome::Padding(number) = note.outcome else {
         return Ok(());
     };
     let count = number.scaled(8);
-    let row = padding_row(entry, noted, &noted.pad.account, &note.currency, count)?;
+    let row = padding_row(noted, &noted.pad.account, &note.currency, count);
     ledger.push(row)?;
-    let row = padding_row(entry, noted, &noted.pad.source, &note.currency, -count)?;
+    let row = padding_row(noted, &noted.pad.source, &note.currency, -count);
     ledger.push(row)
 }
 
@@ -84,10 +81,11 @@ pub(crate) fn push_pad<'a>(
     requires room { length ledger.old.rows + length (spec.rows_of_pad noted.now) ≤ MOST_POSTINGS }
     ensures rows { OnOk result (ledger.new.rows ≡ ledger.old.rows ++ spec.rows_of_pad noted.now) }
     ensures decimals { OnOk result (ledger.new.decimals ≡ ledger.old.decimals) }
+    ensures rest { OnOk result (ledger.new.rest ≡ ledger.old.rest) }
 {
-    let entry = padding_entry(alloc, none, noted)?;
+    ledger.begin(padding_entry(alloc, none, noted)?)?;
     for note in noted.notes.as_slice() {
-        push_note(ledger, &entry, noted, note)?;
+        push_note(ledger, noted, note)?;
     }
     Ok(())
 }

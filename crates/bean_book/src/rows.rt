@@ -1,11 +1,13 @@
 //! The rows of kept transactions.
 ghost use Rattle.std.specs.Prelude.{◌≡◌, ◌<◌, ◌≤◌, ◌+◌, ◌++◌, ◌∷◌, [], ℕ, IfOk, IfSome, IsTrue};
-ghost use Rattle.std.specs.Prelude.{OnOk, length, slice_get};
+ghost use Rattle.std.specs.Prelude.{OnOk, Some, length, slice_get};
 ghost use Rattle.bean_interp.specs.Residual.{IsLight};
 ghost use Rattle.bean_transactions.specs.Tried.{booked_leg, whole_at};
 ghost use Rattle.limits.specs.declared.counts.TheConstants.{MOST_POSTINGS};
+ghost use Rattle.posting_entries.specs.declared.entry.EntryParts.{EntryParts};
 ghost use Rattle.posting_table.specs.Plain as plain;
 ghost use Rattle.posting_table.specs.Shaped.{IsShaped};
+ghost use Rattle.posting_table.specs.Whole.{row_with};
 ghost use Rattle.query_rows.specs.ColumnShape.{widest};
 ghost use Rattle.bean_book.specs.Plain.{IsPlain};
 ghost use Rattle.bean_book.specs.Rows as spec;
@@ -19,8 +21,8 @@ use bean_lots::{Key, Position};
 use bean_postings::{Price, WrittenPosting};
 use bean_replay::Kept;
 use bean_transactions::whole;
-use posting_entries::{Entry, Metadata, NoExtras, Shared};
-use posting_table::{Ledger, PlainRow, Row, Weight};
+use posting_entries::{Metadata, NoExtras};
+use posting_table::{Ledger, OwnRow, PlainRow, Weight};
 use std::alloc::{AllocError, Global};
 
 /// The metadata of a written posting, for all that it is booked as.
@@ -126,49 +128,39 @@ fn is_plain(written: &WrittenPosting<'_>, posted: &Posted<'_>) -> bool
 }
 
 /// The row of a booked posting that has nothing of its own but what it adds to its account.
-fn plain_row<'a>(
-    entry: &Shared<Entry<'a>>,
-    postings: &[WrittenPosting<'a>],
-    posted: &Posted<'a>,
-) -> Result<Option<PlainRow<'a>>, AllocError>
-    ensures { IfOk result (λ found. IfSome found (λ row. (line : ℕ) → plain.row_of row
-        ≡ spec.row_of entry.now line postings.now posted.now)) }
+fn plain_row<'a>(postings: &[WrittenPosting<'a>], posted: &Posted<'a>) -> Option<PlainRow<'a>>
+    ensures { IfSome result (λ row. (e : EntryParts) (line : ℕ) → plain.row_of e row
+        ≡ spec.row_of e line postings.now posted.now) }
 {
-    let Some(written) = postings.get(posted.written) else {
-        return Ok(None);
-    };
+    let written = postings.get(posted.written)?;
     if !is_plain(written, posted) {
-        return Ok(None);
+        return None;
     }
-    Ok(Some(PlainRow {
-        entry: entry.share()?,
+    Some(PlainRow {
         account: posted.account.lend(),
         currency: posted.units.currency.lend(),
         count: posted.units.number.scaled(8),
         line: written.line(),
-    }))
+    })
 }
 
 /// The row of a booked posting, which has the metadata and the price of the written one.
-fn row_of<'a>(
-    entry: &Shared<Entry<'a>>,
+fn own_row<'a>(
     line: usize,
     postings: &[WrittenPosting<'a>],
     metadata: Metadata<'a>,
     posted: &Posted<'a>,
-) -> Result<Row<'a>, AllocError>
+) -> OwnRow<'a>
     requires light { IsLight (booked_leg postings.now posted.now) }
     requires noted { metadata
         ≡ spec.items_in (slice_get postings.now posted.now.written) }
-    ensures { IfOk result (λ row. row
-        ≡ spec.row_of entry.now line postings.now posted.now) }
+    ensures { (e : EntryParts) → row_with e result ≡ spec.row_of e line postings.now posted.now }
 {
     let (line, flag, price) = match postings.get(posted.written) {
         Some(written) => (written.line(), written.flag(), price_of(written)),
         None => (line, None, None),
     };
-    Ok(Row {
-        entry: entry.share()?,
+    OwnRow {
         account: posted.account.lend(),
         position: position_of(posted),
         weight: weight_of(postings, posted),
@@ -176,7 +168,7 @@ fn row_of<'a>(
         metadata,
         line,
         flag,
-    })
+    }
 }
 
 /// Adds the row of a posting that has more of its own than what it adds to its account. It is a
@@ -185,7 +177,6 @@ fn row_of<'a>(
 fn push_full<'a>(
     alloc: Global,
     ledger: &mut Ledger<'a>,
-    entry: &Shared<Entry<'a>>,
     line: usize,
     postings: &[WrittenPosting<'a>],
     noted: &mut Noted<'a>,
@@ -194,16 +185,18 @@ fn push_full<'a>(
     requires noted { noted.old.metadata ≡ spec.items_in (slice_get postings.now noted.old.written) }
     requires light { IsLight (booked_leg postings.now posted.now) }
     requires room { length ledger.old.rows < MOST_POSTINGS }
-    requires shaped { IsShaped widest (spec.row_of entry.now line postings.now posted.now) }
-    ensures rows { OnOk result (ledger.new.rows
-        ≡ ledger.old.rows ++ spec.row_of entry.now line postings.now posted.now ∷ []) }
-    ensures decimals { OnOk result (ledger.new.decimals ≡ ledger.old.decimals) }
+    requires shaped { (e : EntryParts) × (ledger.old.entry ≡ Some e)
+        × IsShaped widest (spec.row_of e line postings.now posted.now) }
+    ensures pushed { OnOk result ((e : EntryParts) → ledger.old.entry ≡ Some e → ledger.new
+        ≡ record ledger.old {
+          rows = ledger.old.rows ++ spec.row_of e line postings.now posted.now ∷ [];
+        }) }
     ensures noted { OnOk result (noted.new.metadata
         ≡ spec.items_in (slice_get postings.now noted.new.written)) }
 {
     go_on(alloc, postings, noted, posted.written)?;
     let metadata = noted.metadata.share()?;
-    let row = row_of(entry, line, postings, metadata, posted)?;
+    let row = own_row(line, postings, metadata, posted);
     ledger.push(row)?;
     Ok(())
 }
@@ -212,10 +205,9 @@ fn push_full<'a>(
 fn push_posted<'a>(
     alloc: Global,
     ledger: &mut Ledger<'a>,
-    entry: &Shared<Entry<'a>>,
     kept: &Kept<'a>,
 ) -> Result<(), AllocError>
-    requires entry { entry.now ≡ spec.entry_of kept.now }
+    requires entry { ledger.old.entry ≡ Some (spec.entry_of kept.now) }
     requires tame { IsTameKept kept.now }
     requires room { length ledger.old.rows + length kept.now.postings ≤ MOST_POSTINGS }
     ensures rows { OnOk result (ledger.new.rows
@@ -226,11 +218,11 @@ fn push_posted<'a>(
     let postings = kept.written.transaction().postings.as_slice();
     let mut noted = noted_nowhere(postings);
     for one in kept.postings.as_slice() {
-        if let Some(plain) = plain_row(entry, postings, one)? {
+        if let Some(plain) = plain_row(postings, one) {
             ledger.push_plain(plain)?;
             continue;
         }
-        push_full(alloc, ledger, entry, line, postings, &mut noted, one)?;
+        push_full(alloc, ledger, line, postings, &mut noted, one)?;
     }
     Ok(())
 }
@@ -248,6 +240,6 @@ pub(crate) fn push_transaction<'a>(
         ≡ ledger.old.rows ++ spec.rows_of_transaction kept.now) }
     ensures decimals { OnOk result (ledger.new.decimals ≡ ledger.old.decimals) }
 {
-    let entry = entry_of(alloc, none, kept)?;
-    push_posted(alloc, ledger, &entry, kept)
+    ledger.begin(entry_of(alloc, none, kept)?)?;
+    push_posted(alloc, ledger, kept)
 }

@@ -13,7 +13,7 @@ use Rattle.endings.specs.declared.verdict.Verdict.TheVariants.{Fine}
 use Rattle.posting_table.specs.Decimals.{decimals_of}
 use Rattle.posting_table.specs.Ledger.{Ledger}
 use Rattle.posting_table.specs.Row.{cell_at}
-use Rattle.posting_table.specs.declared.row.Row.{Row}
+use Rattle.posting_table.specs.Whole.{Row}
 use Rattle.query_terms.specs.Column.{name}
 use Rattle.query_values.specs.declared.value.Value.{Value}
 use Rattle.table_printer.specs.Table.{table_text}

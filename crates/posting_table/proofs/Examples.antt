@@ -8,7 +8,7 @@ use Rattle.limits.specs.declared.bounds.Version.TheVariants.{Second}
 use Rattle.bean_base.specs.declared.days.Day as day
 use Rattle.bean_lots.specs.declared.lot.Lot.{Lot}
 use Rattle.posting_table.specs.Row.{cell_at, of_lot}
-use Rattle.posting_table.specs.declared.row.Row.{Row}
+use Rattle.posting_table.specs.Whole.{Row}
 use Rattle.query_terms.specs.declared.column.Column.TheVariants.{Balance, Tags}
 use Rattle.query_rows.specs.Fits.{has_digits, lot_fits}
 use Rattle.query_values.specs.declared.value.Value.TheVariants.{Null, Set, Text}

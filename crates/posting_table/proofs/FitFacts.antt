@@ -21,7 +21,11 @@ use Rattle.bean_lots.specs.declared.lot.Lot.{Lot}
 use Rattle.posting_table.specs.Row.{cell_at, of_lot, price_or_null}
 use Rattle.posting_table.specs.Rows.{row_of}
 use Rattle.posting_table.specs.Shaped.{IsShaped}
-use Rattle.posting_table.specs.declared.row.Row.{Row}
+use Rattle.posting_table.proofs.HeldFacts.{shaped_all}
+use Rattle.posting_table.specs.Held.{IsHeld, row_in}
+use Rattle.posting_table.specs.Whole.{Row}
+use Rattle.posting_table.specs.declared.held.HeldRow.{HeldRow}
+use Rattle.posting_table.specs.declared.tables.Tables.{Tables}
 use Rattle.query_terms.specs.Column.{is_in}
 use Rattle.query_rows.specs.ColumnShape.{column_shape, value_most, widest}
 use Rattle.query_terms.specs.declared.column.Column.{Column}
@@ -214,3 +218,14 @@ rows_are_within rs few are =
 
 pub few_units : (r : Row) → IsShaped widest r → unsigned_abs r.position.count < 10 ^ 20
 few_units r is = below 20 _ (cell_of r is column.Number).1
+
+-- ---- rows that are held
+
+abbrev pub held_fits : Bounds → Tables → HeldRow → Bool
+held_fits b t h = row_fits b (row_in t h)
+
+pub all_held_fit : (b : Bounds) (t : Tables) (hs : List HeldRow) → b ≡ widest → All (IsHeld t) hs
+    → list_all (held_fits b t) hs ≡ true
+all_held_fit b t hs same are =
+    sym (list_all-map (row_fits b) (row_in t) hs)
+    ∙ within_these b (map (row_in t) hs) same (shaped_all t hs are)

@@ -1,4 +1,5 @@
 pub mod DecimalsFacts
 pub mod FitFacts
+pub mod HeldFacts
 pub mod PartFacts
 mod Examples

@@ -18,7 +18,7 @@ use Rattle.posting_table.specs.Shaped.{IsShaped, AreShort}
 use Rattle.posting_entries.specs.declared.metadata.MetaItem.{MetaItem}
 use Rattle.posting_entries.specs.declared.entry.EntryFlag.{EntryFlag}
 use Rattle.posting_entries.specs.declared.entry.EntryFlag.TheVariants.{Written, Padding}
-use Rattle.posting_table.specs.declared.row.Row.{Row}
+use Rattle.posting_table.specs.Whole.{Row}
 use Rattle.query_rows.specs.ColumnShape.{column_shape, widest}
 use Rattle.query_terms.specs.declared.column.Column.{Column}
 use Rattle.query_terms.specs.declared.column.Column.TheVariants as column

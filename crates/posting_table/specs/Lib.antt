@@ -1,10 +1,13 @@
+pub mod Whole
 pub mod Row
 pub mod Cells
 pub mod Decimals
-pub mod Held
 pub mod Plain
 pub mod Beside
 pub mod Ledger
 pub mod Rows
 pub mod Shaped
 pub mod Parts
+pub mod Held
+pub mod Tables
+pub mod Lent

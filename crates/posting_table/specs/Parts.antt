@@ -7,7 +7,7 @@ use Rattle.bean_lots.specs.declared.lot.Lot.{Lot}
 use Rattle.limits.specs.declared.counts.TheConstants.{LARGEST_TEXT}
 use Rattle.posting_table.specs.Shaped.{AreShort}
 use Rattle.posting_entries.specs.declared.entry.EntryParts.{EntryParts}
-use Rattle.posting_table.specs.declared.row.Row.{Row}
+use Rattle.posting_table.specs.Whole.{Row}
 use Rattle.query_rows.specs.Shaped.{IsShortIfThere}
 use Rattle.query_rows.specs.Mass.{value_of}
 use Rattle.query_rows.specs.Shape.{IsShort}

@@ -7,7 +7,7 @@ use Rattle.bean_base.specs.declared.amounts.Amount as amounts
 use Rattle.bean_base.specs.declared.flags.Flag.{Flag}
 use Rattle.bean_lots.specs.declared.lot.Lot.{Lot}
 use Rattle.posting_entries.specs.Entry.{entry_spelling}
-use Rattle.posting_table.specs.declared.row.Row.{Row}
+use Rattle.posting_table.specs.Whole.{Row}
 use Rattle.query_terms.specs.declared.column.Column.{Column}
 use Rattle.query_terms.specs.declared.column.Column.TheVariants as column
 use Rattle.query_rows.specs.Row.{text_or_null}

@@ -1,10 +1,10 @@
 -- The rows of a ledger, as queries see them.
 use Rattle.std.specs.Prelude.{List, map}
+use Rattle.posting_entries.specs.Metadata.{entries_of}
 use Rattle.query_rows.specs.Row as rows
 use Rattle.posting_table.specs.Ledger.{Ledger}
 use Rattle.posting_table.specs.Row.{cell_at}
-use Rattle.posting_entries.specs.Metadata.{entries_of}
-use Rattle.posting_table.specs.declared.row.Row.{Row}
+use Rattle.posting_table.specs.Whole.{Row}
 
 abbrev pub row_of : Row → rows.Row
 row_of r = record {

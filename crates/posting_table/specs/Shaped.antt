@@ -6,7 +6,7 @@ use Rattle.query_rows.specs.Shaped as rows
 use Rattle.query_rows.specs.Shaped.{IsShortIfThere}
 use Rattle.posting_table.specs.Rows.{row_of}
 use Rattle.posting_entries.specs.declared.metadata.MetaItem.{MetaItem}
-use Rattle.posting_table.specs.declared.row.Row.{Row}
+use Rattle.posting_table.specs.Whole.{Row}
 
 -- it is, as queries see it
 abbrev pub IsShaped : Bounds → Row → Type 0

@@ -2,6 +2,8 @@
 ghost use Rattle.std.specs.Prelude.{◌≡◌, ◌<◌, ◌^◌, All, IsTrue};
 ghost use Rattle.std.specs.List.{list_all};
 ghost use Rattle.std.specs.Option.{option_copied};
+ghost use Rattle.posting_table.specs.Held.{IsHeld, row_in};
+ghost use Rattle.posting_table.specs.Lent.{whole_row};
 ghost use Rattle.posting_table.specs.Row.{price_or_null};
 ghost use Rattle.posting_table.specs.Rows.{row_of};
 ghost use Rattle.posting_table.specs.Shaped.{IsShaped};
@@ -10,6 +12,8 @@ ghost use Rattle.query_rows.specs.Fits as spec;
 ghost use Rattle.query_rows.specs.Mass.{value_of};
 
 use crate::held::HeldRow;
+use crate::lent::LentRow;
+use crate::tables::Tables;
 use bean_base::{Amount, List, power_of_ten};
 use bean_lots::Lot;
 use limits::{Bounds, MOST_POSTINGS, MOST_UNITS_DIGITS, MOST_VALUE_DIGITS, Version};
@@ -67,9 +71,9 @@ fn price_fits(bounds: &Bounds, price: Option<&Amount<'_>>) -> bool
 }
 
 /// Whether the counts of a row are within bounds.
-fn row_fits(bounds: &Bounds, row: &HeldRow<'_>) -> bool
-    requires { IsShaped widest row.now }
-    ensures { result ≡ spec.row_fits bounds.now (row_of row.now) }
+fn row_fits(bounds: &Bounds, row: &LentRow<'_, '_>) -> bool
+    requires { IsShaped widest (whole_row row.now) }
+    ensures { result ≡ spec.row_fits bounds.now (row_of (whole_row row.now)) }
 {
     has_digits(bounds.units_digits, row.count().unsigned_abs())
         && lot_fits(bounds, &row.key().lot, row.count())
@@ -78,12 +82,13 @@ fn row_fits(bounds: &Bounds, row: &HeldRow<'_>) -> bool
 }
 
 /// Whether the counts of some rows are within bounds.
-fn are_fit(bounds: &Bounds, rows: &[HeldRow<'_>]) -> bool
-    requires { All (IsShaped widest) rows.now }
-    ensures { result ≡ list_all (λ r. spec.row_fits bounds.now (row_of r)) rows.now }
+fn are_fit<'l, 'a>(bounds: &Bounds, tables: &'l Tables<'a>, rows: &'l [HeldRow<'a>]) -> bool
+    requires { All (IsHeld tables.now) rows.now }
+    ensures { result
+        ≡ list_all (λ h. spec.row_fits bounds.now (row_of (row_in tables.now h))) rows.now }
 {
     for row in rows {
-        if !row_fits(bounds, row) {
+        if !row_fits(bounds, &LentRow::new(tables, row)) {
             return false;
         }
     }
@@ -91,13 +96,17 @@ fn are_fit(bounds: &Bounds, rows: &[HeldRow<'_>]) -> bool
 }
 
 /// Whether those of some lists of rows are.
-fn lists_fit(bounds: &Bounds, lists: &[List<HeldRow<'_>>]) -> bool
-    requires { All (All (IsShaped widest)) lists.now }
-    ensures { result
-        ≡ list_all (list_all (λ r. spec.row_fits bounds.now (row_of r))) lists.now }
+fn lists_fit<'l, 'a>(
+    bounds: &Bounds,
+    tables: &'l Tables<'a>,
+    lists: &'l [List<HeldRow<'a>>],
+) -> bool
+    requires { All (All (IsHeld tables.now)) lists.now }
+    ensures { result ≡ list_all (list_all
+        (λ h. spec.row_fits bounds.now (row_of (row_in tables.now h)))) lists.now }
 {
     for list in lists {
-        if !are_fit(bounds, list.as_slice()) {
+        if !are_fit(bounds, tables, list.as_slice()) {
             return false;
         }
     }
@@ -105,14 +114,19 @@ fn lists_fit(bounds: &Bounds, lists: &[List<HeldRow<'_>>]) -> bool
 }
 
 /// Whether the counts of all rows are within bounds.
-pub(crate) fn all_fit(bounds: &Bounds, rows: &Pieces<HeldRow<'_>>) -> bool
-    requires { All (IsShaped widest) rows.now }
-    ensures { result ≡ list_all (λ r. spec.row_fits bounds.now (row_of r)) rows.now }
+pub(crate) fn all_fit<'l, 'a>(
+    bounds: &Bounds,
+    tables: &'l Tables<'a>,
+    rows: &'l Pieces<HeldRow<'a>>,
+) -> bool
+    requires { All (IsHeld tables.now) rows.now }
+    ensures { result
+        ≡ list_all (λ h. spec.row_fits bounds.now (row_of (row_in tables.now h))) rows.now }
 {
     // Most programs are for any ledger: no row is looked at for them.
     if are_widest(bounds) {
         return true;
     }
     let (full, last) = rows.pieces();
-    lists_fit(bounds, full) && are_fit(bounds, last)
+    lists_fit(bounds, tables, full) && are_fit(bounds, tables, last)
 }

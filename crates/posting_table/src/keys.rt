@@ -1,15 +1,18 @@
 //! The keys of positions, as a ledger holds them.
-ghost use Rattle.std.specs.Prelude.{◌≡◌, IfOk, IfSome};
+ghost use Rattle.std.specs.Prelude.{◌≡◌, IfOk, IfSome, Some, slice_get};
 ghost use Rattle.posting_table.specs.Cells.{lot_cell};
 ghost use Rattle.posting_table.specs.Plain.{without_lot};
 ghost use Rattle.posting_table.specs.Row as spec;
+ghost use Rattle.posting_table.specs.Tables.{Keeps};
 ghost use Rattle.query_rows.specs.Row.{text_or_null};
 
 use crate::cells::lot_cell;
-use bean_base::{Currency, Slice};
+use crate::tables::add;
+use bean_base::{Apart, Currency, Slice};
 use bean_lots::{Key, Lot};
 use indexmap::IndexMap;
-use posting_entries::{PlainText, Shared};
+use pieces::Pieces;
+use posting_entries::PlainText;
 use query_terms::Column;
 use query_values::Value;
 use std::alloc::{AllocError, Global};
@@ -50,12 +53,12 @@ fn label_of<'a>(alloc: Global, lot: &Option<Lot<'a>>) -> Result<Option<PlainText
 }
 
 impl<'a> HeldKey<'a> {
-    /// The key, with its label made plain, held once so far.
-    fn shared(alloc: Global, key: Key<'a>) -> Result<Shared<HeldKey<'a>>, AllocError>
+    /// The key, with its label made plain.
+    fn new(alloc: Global, key: Key<'a>) -> Result<HeldKey<'a>, AllocError>
         ensures { IfOk result (λ held. held ≡ key.entry) }
     {
         let label = label_of(alloc, &key.lot)?;
-        Shared::new(alloc, HeldKey { key, label })
+        Ok(HeldKey { key, label })
     }
 
     /// The key.
@@ -86,17 +89,21 @@ impl<'a> HeldKey<'a> {
     }
 }
 
-/// A key that is held, where it is that of a currency without a lot.
+/// The number of a key, where it is that of a currency without a lot.
 #[inline(always)]
-fn of_currency<'s, 'a>(
-    held: &'s Shared<HeldKey<'a>>,
+fn of_currency(
+    keys: &Pieces<Apart<HeldKey<'_>>>,
+    number: u32,
     currency: &Currency<'_>,
-) -> Option<&'s Shared<HeldKey<'a>>>
-    ensures { IfSome result (λ held. held.now ≡ without_lot currency.now) }
+) -> Option<u32>
+    ensures { IfSome result (λ n. slice_get keys.now n ≡ Some (without_lot currency.now)) }
 {
-    let key = held.get().key();
+    if number as usize >= keys.len() {
+        return None;
+    }
+    let key = keys.at(number as usize).get().key();
     if key.lot.is_none() && key.currency == *currency {
-        return Some(held);
+        return Some(number);
     }
     None
 }
@@ -104,36 +111,46 @@ fn of_currency<'s, 'a>(
 /// How many currencies are compared one by one before any is hashed: most ledgers have few.
 const FEW: usize = 4;
 
-/// The keys of currencies without a lot, each of which stands once for all rows of the currency.
+/// The numbers of the keys of currencies without a lot, each of which stands once for all rows of the
+/// currency.
 #[derive(Drop)]
-pub(crate) struct Keys<'a> {
-    plain: IndexMap<Currency<'a>, Shared<HeldKey<'a>>>,
+pub(crate) struct KeyNumbers<'a> {
+    plain: IndexMap<Currency<'a>, u32>,
     /// The place of the one that was asked for last.
     near: usize,
 }
 
-impl<'a> Keys<'a> {
+impl<'a> KeyNumbers<'a> {
     /// No keys. Takes no memory.
-    pub(crate) fn new(alloc: Global) -> Keys<'a> {
-        Keys {
+    pub(crate) fn new(alloc: Global) -> KeyNumbers<'a> {
+        KeyNumbers {
             plain: IndexMap::new(alloc),
             near: 0,
         }
     }
 
-    /// The key of a currency, where it stands at that place.
+    /// The key of a currency, where its number stands at that place.
     #[inline(always)]
-    fn at(&self, place: usize, currency: &Currency<'_>) -> Option<&Shared<HeldKey<'a>>>
-        ensures { IfSome result (λ held. held.now ≡ without_lot currency.now) }
+    fn at(
+        &self,
+        keys: &Pieces<Apart<HeldKey<'a>>>,
+        place: usize,
+        currency: &Currency<'_>,
+    ) -> Option<u32>
+        ensures { IfSome result (λ n. slice_get keys.now n ≡ Some (without_lot currency.now)) }
     {
-        let (_, held) = self.plain.get_index(place)?;
-        of_currency(held, currency)
+        let (_, number) = self.plain.get_index(place)?;
+        of_currency(keys, *number, currency)
     }
 
-    /// Where the key of a currency stands, if it does.
-    fn place_of(&self, currency: &Currency<'a>) -> Option<usize> {
+    /// Where the number of a currency's key stands, if it does.
+    fn place_of(
+        &self,
+        keys: &Pieces<Apart<HeldKey<'a>>>,
+        currency: &Currency<'a>,
+    ) -> Option<usize> {
         for place in 0..FEW {
-            if self.at(place, currency).is_some() {
+            if self.at(keys, place, currency).is_some() {
                 return Some(place);
             }
         }
@@ -144,65 +161,75 @@ impl<'a> Keys<'a> {
     fn keep(
         &mut self,
         alloc: Global,
+        keys: &mut Pieces<Apart<HeldKey<'a>>>,
         currency: Currency<'a>,
-    ) -> Result<Shared<HeldKey<'a>>, AllocError>
-        ensures { IfOk result (λ held. held ≡ without_lot currency.entry) }
+    ) -> Result<u32, AllocError>
+        ensures key { IfOk result (λ n. slice_get keys.new n ≡ Some (without_lot currency.entry)) }
+        ensures kept { Keeps keys.old keys.new }
     {
         let key = Key {
             currency: currency.lend(),
             lot: None,
         };
-        let held = HeldKey::shared(alloc, key)?;
-        self.plain.insert(currency, held.share()?)?;
-        Ok(held)
+        let held = Apart::new(alloc, HeldKey { key, label: None })?;
+        let number = add(alloc, keys, held)?;
+        self.plain.insert(currency, number)?;
+        Ok(number)
     }
 
-    /// The key of a currency that wasn't the last one, as it is held.
+    /// The key of a currency that wasn't the last one.
     #[inline(never)]
     fn found(
         &mut self,
         alloc: Global,
+        keys: &mut Pieces<Apart<HeldKey<'a>>>,
         currency: Currency<'a>,
-    ) -> Result<Shared<HeldKey<'a>>, AllocError>
-        ensures { IfOk result (λ held. held ≡ without_lot currency.entry) }
+    ) -> Result<u32, AllocError>
+        ensures key { IfOk result (λ n. slice_get keys.new n ≡ Some (without_lot currency.entry)) }
+        ensures kept { Keeps keys.old keys.new }
     {
-        let Some(place) = self.place_of(&currency) else {
+        let Some(place) = self.place_of(keys, &currency) else {
             self.near = self.plain.len();
-            return self.keep(alloc, currency);
+            return self.keep(alloc, keys, currency);
         };
         self.near = place;
-        if let Some(known) = self.at(place, &currency) {
-            return known.share();
+        if let Some(known) = self.at(keys, place, &currency) {
+            return Ok(known);
         }
-        self.keep(alloc, currency)
+        self.keep(alloc, keys, currency)
     }
 
-    /// The key of a currency without a lot, as it is held.
+    /// The key of a currency without a lot.
     pub(crate) fn plain(
         &mut self,
         alloc: Global,
+        keys: &mut Pieces<Apart<HeldKey<'a>>>,
         currency: Currency<'a>,
-    ) -> Result<Shared<HeldKey<'a>>, AllocError>
-        ensures { IfOk result (λ held. held ≡ without_lot currency.entry) }
+    ) -> Result<u32, AllocError>
+        ensures key { IfOk result (λ n. slice_get keys.new n ≡ Some (without_lot currency.entry)) }
+        ensures kept { Keeps keys.old keys.new }
     {
         // The postings of a transaction are mostly of one currency.
-        if let Some(last) = self.at(self.near, &currency) {
-            return last.share();
+        if let Some(last) = self.at(keys, self.near, &currency) {
+            return Ok(last);
         }
-        self.found(alloc, currency)
+        self.found(alloc, keys, currency)
     }
 
-    /// The key as it is held: one of a lot stands by itself.
+    /// The key: one of a lot stands by itself.
     pub(crate) fn held(
         &mut self,
         alloc: Global,
+        keys: &mut Pieces<Apart<HeldKey<'a>>>,
         key: Key<'a>,
-    ) -> Result<Shared<HeldKey<'a>>, AllocError>
-        ensures { IfOk result (λ held. held ≡ key.entry) }
+    ) -> Result<u32, AllocError>
+        ensures key { IfOk result (λ n. slice_get keys.new n ≡ Some key.entry) }
+        ensures kept { Keeps keys.old keys.new }
     {
         if key.lot.is_some() {
-            return HeldKey::shared(alloc, key);
+            let held = Apart::new(alloc, HeldKey::new(alloc, key)?)?;
+            return add(alloc, keys, held);
         }
-        self.plain(alloc, key.currency)
+        self.plain(alloc, keys, key.currency)
     }
 }

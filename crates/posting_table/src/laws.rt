@@ -4,7 +4,7 @@ ghost use Rattle.limits.specs.declared.bounds.Bounds.{Bounds};
 ghost use Rattle.posting_table.specs.Parts.{HasSmallParts};
 ghost use Rattle.posting_table.specs.Rows.{row_of};
 ghost use Rattle.posting_table.specs.Shaped.{IsShaped};
-ghost use Rattle.posting_table.specs.declared.row.Row.{Row};
+ghost use Rattle.posting_table.specs.Whole.{Row};
 ghost use Rattle.query_rows.specs.ColumnShape.{widest};
 ghost use Rattle.query_rows.specs.Fits.{fits};
 

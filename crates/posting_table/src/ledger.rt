@@ -1,11 +1,14 @@
 //! The ledger: rows in order, and the display decimals.
 ghost use Rattle.std.specs.Prelude.{◌≡◌, ◌≢◌, ◌==◌, [], ◌∷◌, ◌++◌, ◌<◌, ◌≤◌, OnOk, OnErr, length};
-ghost use Rattle.std.specs.Prelude.{All, IsTrue, Some, slice_get, true};
+ghost use Rattle.std.specs.Prelude.{All, IsTrue, None, Some, slice_get, true};
 ghost use Rattle.std.specs.Option.{option_map};
 ghost use Rattle.std.specs.FinMap as map;
+ghost use Rattle.posting_entries.specs.declared.entry.EntryParts.{EntryParts};
+ghost use Rattle.posting_table.specs.Lent.{whole_row};
 ghost use Rattle.posting_table.specs.Plain as plain;
 ghost use Rattle.posting_table.specs.Rows.{row_of, rows_of};
 ghost use Rattle.posting_table.specs.Shaped.{IsShaped};
+ghost use Rattle.posting_table.specs.Whole.{row_with};
 ghost use Rattle.query_rows.specs.ColumnShape.{widest};
 ghost use Rattle.query_rows.specs.Fits as spec;
 ghost use Rattle.query_rows.specs.Shaped as rows;
@@ -15,11 +18,14 @@ pub(crate) mod taken;
 use crate::bounded::all_fit;
 use crate::display::Display;
 use crate::held::HeldRow;
-use crate::keys::Keys;
-use crate::row::{PlainRow, Row};
+use crate::keys::KeyNumbers;
+use crate::lent::LentRow;
+use crate::row::{OwnRow, PlainRow};
+use crate::tables::{Tables, add};
 use bean_base::Currency;
 use limits::{Bounds, MOST_POSTINGS};
-use pieces::Pieces;
+use pieces::{Pieces, Taken};
+use posting_entries::Entry;
 use query_terms::Column;
 use query_values::Value;
 use std::alloc::{AllocError, Global};
@@ -29,7 +35,12 @@ use std::marker::Model;
 pub struct Ledger<'a> {
     alloc: Global,
     rows: Pieces<HeldRow<'a>>,
-    keys: Keys<'a>,
+    /// The rows that were taken out.
+    rest: Option<Taken<HeldRow<'a>>>,
+    tables: Tables<'a>,
+    numbers: KeyNumbers<'a>,
+    /// The number of the entry whose rows are pushed.
+    begun: Option<u32>,
     display: Display<'a>,
 }
 
@@ -39,76 +50,102 @@ impl Drop for Ledger<'_> {
         let Ledger {
             alloc: _,
             rows: _,
-            keys: _,
+            rest: _,
+            tables: _,
+            numbers: _,
+            begun: _,
             display: _,
         } = self;
     }
 }
 
 impl<'a> Model for Ledger<'a> {
-    ghost use Rattle.std.specs.Prelude.{◌≤◌, All, length};
+    ghost use Rattle.std.specs.Prelude.{[], unwrap_or};
     ghost use Rattle.std.specs.Coded.{codes};
     ghost use Rattle.posting_table.specs.Decimals.{decimals_code};
+    ghost use Rattle.posting_table.specs.Held.{AreHeld, seen};
     ghost use Rattle.posting_table.specs.Ledger.{Ledger};
-    ghost use Rattle.posting_table.specs.Shaped.{IsShaped};
-    ghost use Rattle.query_rows.specs.ColumnShape.{widest};
-    ghost use Rattle.limits.specs.declared.counts.TheConstants.{MOST_POSTINGS};
 
     ghost Value = { Ledger };
 
     ghost coded = { Prim.hlevel (codes, decimals_code) };
 
-    ghost view = { λ l. record { rows = l.rows; decimals = l.display } };
+    ghost view = { λ l. seen l.tables l.rows (unwrap_or l.rest []) l.begun l.display };
 
-    ghost invariant = { λ l.
-        (length l.rows ≤ MOST_POSTINGS) × All (IsShaped widest) l.rows };
+    ghost invariant = { λ l. AreHeld l.tables l.rows (unwrap_or l.rest []) l.begun };
 }
 
 impl<'a> Ledger<'a> {
     /// No postings, and every currency at 0 decimals. Takes no memory.
     pub fn new(alloc: Global) -> Ledger<'a>
-        ensures { result ≡ record { rows = []; decimals = map.empty } }
+        ensures { result
+            ≡ record { rows = []; decimals = map.empty; entry = None; rest = [] } }
     {
         Ledger {
             alloc,
             rows: Pieces::new(alloc),
-            keys: Keys::new(alloc),
+            rest: None,
+            tables: Tables {
+                entries: Pieces::new(alloc),
+                keys: Pieces::new(alloc),
+            },
+            numbers: KeyNumbers::new(alloc),
+            begun: None,
             display: Display::new(alloc),
         }
     }
 
-    /// Adds a posting at the end.
-    pub fn push(&mut self, row: Row<'a>) -> Result<(), AllocError>
-        requires room { length self.old.rows < MOST_POSTINGS }
-        requires shaped { IsShaped widest row }
-        ensures pushed { OnOk result (self.new
-            ≡ record { rows = self.old.rows ++ row.entry ∷ []; decimals = self.old.decimals }) }
+    /// Begins a transaction: what is pushed from now on is of it. What it has is put in place where it
+    /// is called, so that it is moved once.
+    #[inline(always)]
+    pub fn begin(&mut self, entry: Entry<'a>) -> Result<(), AllocError>
+        ensures begun { OnOk result (self.new
+            ≡ record self.old { entry = Some entry.entry }) }
         ensures unchanged { OnErr result (self.new ≡ self.old) }
     {
-        let row = HeldRow::new(self.alloc, &mut self.keys, row)?;
+        let number = add(self.alloc, &mut self.tables.entries, entry)?;
+        self.begun = Some(number);
+        Ok(())
+    }
+
+    /// Adds a posting of the transaction at the end.
+    pub fn push(&mut self, row: OwnRow<'a>) -> Result<(), AllocError>
+        requires room { length self.old.rows < MOST_POSTINGS }
+        requires shaped { (e : EntryParts) × (self.old.entry ≡ Some e)
+            × IsShaped widest (row_with e row) }
+        ensures pushed { OnOk result ((e : EntryParts) → self.old.entry ≡ Some e → self.new
+            ≡ record self.old { rows = self.old.rows ++ row_with e row.entry ∷ [] }) }
+        ensures unchanged { OnErr result (self.new ≡ self.old) }
+    {
+        let Some(entry) = self.begun else {
+            unreachable!();
+        };
+        let row = HeldRow::new(self.alloc, &mut self.tables, &mut self.numbers, entry, row)?;
         self.rows.push(self.alloc, row)?;
         Ok(())
     }
 
-    /// Adds a posting at the end that has nothing of its own but what it adds to its account.
+    /// Adds a posting of the transaction at the end that has nothing of its own but what it adds to
+    /// its account.
     pub fn push_plain(&mut self, row: PlainRow<'a>) -> Result<(), AllocError>
         requires room { length self.old.rows < MOST_POSTINGS }
-        requires shaped { IsShaped widest (plain.row_of row) }
-        ensures pushed { OnOk result (self.new ≡ record {
-          rows = self.old.rows ++ plain.row_of row.entry ∷ [];
-          decimals = self.old.decimals;
-        }) }
+        requires shaped { (e : EntryParts) × (self.old.entry ≡ Some e)
+            × IsShaped widest (plain.row_of e row) }
+        ensures pushed { OnOk result ((e : EntryParts) → self.old.entry ≡ Some e → self.new
+            ≡ record self.old { rows = self.old.rows ++ plain.row_of e row.entry ∷ [] }) }
         ensures unchanged { OnErr result (self.new ≡ self.old) }
     {
-        let row = HeldRow::plain(self.alloc, &mut self.keys, row)?;
+        let Some(entry) = self.begun else {
+            unreachable!();
+        };
+        let row = HeldRow::plain(self.alloc, &mut self.tables, &mut self.numbers, entry, row)?;
         self.rows.push(self.alloc, row)?;
         Ok(())
     }
 
     /// Sets how many decimals a currency shows.
     pub fn set_display(&mut self, currency: Currency<'a>, places: u8) -> Result<(), AllocError>
-        ensures set { OnOk result (self.new ≡ record {
-          rows = self.old.rows;
+        ensures set { OnOk result (self.new ≡ record self.old {
           decimals = map.insert self.old.decimals currency.entry places;
         }) }
         ensures unchanged { OnErr result (self.new ≡ self.old) }
@@ -133,12 +170,12 @@ impl<'a> Ledger<'a> {
 
     /// A posting, lent from the ledger: for callers that look at several of its cells.
     #[inline(always)]
-    pub fn row(&self, row: usize) -> &HeldRow<'a>
+    pub fn row(&self, row: usize) -> LentRow<'_, 'a>
         requires { row < length self.now.rows }
-        ensures held { Some result.now ≡ slice_get self.now.rows row }
-        ensures row { Some (row_of result.now) ≡ slice_get (rows_of self.now) row }
+        ensures held { Some (whole_row result) ≡ slice_get self.now.rows row }
+        ensures row { Some (row_of (whole_row result)) ≡ slice_get (rows_of self.now) row }
     {
-        self.rows.at(row)
+        LentRow::new(&self.tables, self.rows.at(row))
     }
 
     /// What a posting has in a column, lent from its row. No posting has a balance by itself.
@@ -148,7 +185,7 @@ impl<'a> Ledger<'a> {
         ensures { Some result
             ≡ option_map (λ r. r.cell column) (slice_get (rows_of self.now) row) }
     {
-        self.rows.at(row).cell(column)
+        self.row(row).cell(column)
     }
 
     /// Whether it is within bounds: it has no more postings than they allow, and no wider counts.
@@ -159,7 +196,7 @@ impl<'a> Ledger<'a> {
         ensures widest { spec.fits widest (rows_of self.now) ≡ true }
         ensures shaped { IsTrue result → All (rows.IsShaped bounds.now) (rows_of self.now) }
     {
-        self.len() <= bounds.postings as usize && all_fit(bounds, &self.rows)
+        self.len() <= bounds.postings as usize && all_fit(bounds, &self.tables, &self.rows)
     }
 
     /// How many decimals each currency shows.

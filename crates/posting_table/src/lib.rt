@@ -1,19 +1,20 @@
 //! The table of postings that booking makes and that listings and queries read.
 //!
-//! A [`Ledger`] is a list of [`Row`]s, one for each booked posting, and a map of display decimals:
-//! how many decimals a table shows at least of each currency.
+//! A [`Ledger`] is a list of rows, one for each booked posting, and a map of display decimals: how
+//! many decimals a table shows at least of each currency. A row has what its transaction has, an
+//! `Entry`, and what the posting has by itself, an [`OwnRow`]: a transaction is begun, and then its
+//! postings are pushed.
 //!
 //! ```text
 //! let mut ledger = Ledger::new(alloc);
-//! let entry = Shared::new(alloc, Entry::new(alloc, &none, EntryParts {
+//! ledger.begin(Entry::new(alloc, &none, EntryParts {
 //!     date: parse_day("2014-01-02")?,
 //!     flag: EntryFlag::Written(Flag::Complete),
 //!     payee: None,
 //!     narration: PlainText::lent("Lunch"),
 //!     ..                                           // tags, links, accounts, metadata
 //! })?)?;
-//! ledger.push(Row {
-//!     entry: entry.share()?,
+//! ledger.push(OwnRow {
 //!     account: parse_account("Assets:Cash")?,
 //!     flag: None,
 //!     position: Position {
@@ -37,32 +38,35 @@
 //! What the postings of a transaction have in common, its entry (`posting_entries`), stands once for
 //! all of them, and so does the metadata of a written posting that became several. What units of a
 //! currency are held as without a lot stands once for all rows of the currency, and a weight is kept
-//! only where it isn't that of the units themselves.
+//! only where it isn't that of the units themselves. Entries and the keys of positions stand in tables
+//! of the ledger, and rows have their numbers there. Contracts see the rows whole.
 //!
 //! # Cells
 //!
 //! What a row has in a [`Column`] is a `Value` of queries, lent from where the row is kept: names
 //! and texts as slices, sets and the keys of positions by reference (`Lent`). Contracts see what is
 //! lent as the thing itself. By itself a posting has no balance. What listings show, its date, its
-//! flag, its account, and the key and the count of its position, a row ([`HeldRow`]) lends without a
+//! flag, its account, and the key and the count of its position, a row ([`LentRow`]) lends without a
 //! value around it, as it does what stands under a key of its metadata.
 //!
 //! # What may be asked
 //!
-//! `push` wants room, since a ledger holds at most [`limits::MOST_POSTINGS`], and a row whose cells lie in
-//! the shapes that its columns have by the widest bounds: its texts are short and its counts small
-//! ([`rows_of_small_parts_are_shaped`]). So in a ledger that is within narrower bounds
-//! ([`Ledger::fits`]) they lie in the shapes by these. `cell` wants a row that is there, as does
-//! `row`, which lends it whole. Rows are taken out, to be put back with others between them, by
-//! `take_rows` and `put_back`. Of the other calls one that answers with an error left the ledger as
-//! it was; the only cause is want of memory. `push_plain` adds a row that has nothing of its own but
-//! what it adds to its account, as most have, and needn't look for more.
+//! `push` wants that a transaction is begun, and room, since a ledger holds at most
+//! [`limits::MOST_POSTINGS`], and a row whose cells lie in the shapes that its columns have by the
+//! widest bounds: its texts are short and its counts small ([`rows_of_small_parts_are_shaped`]). So in
+//! a ledger that is within narrower bounds ([`Ledger::fits`]) they lie in the shapes by these. `cell`
+//! wants a row that is there, as does `row`, which lends it whole. Rows are taken out, to be put back
+//! with others between them, by `take_rows` and `put_back`; the ledger keeps them meanwhile. Of the
+//! other calls one that answers with an error left the ledger as it was; the only cause is want of
+//! memory. `push_plain` adds a row that has nothing of its own but what it adds to its account, as most
+//! have, and needn't look for more.
 //!
 //! # Cost
 //!
-//! A row is moved in once, and once more where it is taken out and put back; it takes 64 bytes. Where
-//! it has a lot, a weight, a flag or metadata of its own, these lie apart. Rows lie in pieces of
-//! 32 KiB, so that none is moved when there are more, and they take memory that others gave up.
+//! A row is moved in once, and once more where it is taken out and put back; it takes 40 bytes. Where
+//! it has a lot, a weight, a flag or metadata of its own, these lie apart. Rows and entries lie in
+//! pieces of 512 each, so that none is moved when there are more, and they take memory that others
+//! gave up.
 //! `cell` and `len` take a few steps, `push` and `set_display` a few on the average, `meta` and
 //! `entry_meta` look at each entry, and `fits` at each row, but for the widest bounds at none. `new`
 //! takes no memory.
@@ -76,12 +80,13 @@ mod held;
 mod keys;
 mod laws;
 mod ledger;
+mod lent;
 mod row;
+mod tables;
 
 pub use display::Display;
-pub use held::HeldRow;
 pub use laws::{cells_lie_in_their_shapes, rows_of_small_parts_are_shaped};
 pub use ledger::Ledger;
-pub use ledger::taken::TakenRows;
+pub use lent::LentRow;
 pub use query_terms::Column;
-pub use row::{PlainRow, Row, Weight};
+pub use row::{OwnRow, PlainRow, Weight};

@@ -1,9 +1,8 @@
-//! Rows of the table.
-ghost use Rattle.std.specs.Prelude.{◌≡◌};
+//! What a booked posting has by itself, beside what it has from its transaction.
 
 use bean_base::{Account, Amount, Currency, Flag};
 use bean_lots::Position;
-use posting_entries::{Entry, Metadata, Shared};
+use posting_entries::Metadata;
 
 /// What a posting weighs in its transaction, as a count of `10^-16`.
 #[derive(Drop, PartialEq, Eq)]
@@ -16,8 +15,6 @@ pub struct Weight<'a> {
 /// units are, and has no lot, no price, no flag and no metadata.
 #[derive(Drop)]
 pub struct PlainRow<'a> {
-    /// What it has from its transaction.
-    pub entry: Shared<Entry<'a>>,
     pub account: Account<'a>,
     pub currency: Currency<'a>,
     /// How many units, as a count of `10^-8`.
@@ -26,11 +23,9 @@ pub struct PlainRow<'a> {
     pub line: usize,
 }
 
-/// A booked posting.
+/// What a booked posting has by itself.
 #[derive(Drop)]
-pub struct Row<'a> {
-    /// What it has from its transaction.
-    pub entry: Shared<Entry<'a>>,
+pub struct OwnRow<'a> {
     pub account: Account<'a>,
     pub position: Position<'a>,
     pub weight: Weight<'a>,

@@ -5,6 +5,7 @@ use Rattle.std.specs.Option.{option_copied}
 use Rattle.plain_machine.specs.Loading.{Loads, value_acts}
 use Rattle.plain_machine.specs.Pool.{members_in}
 use Rattle.plain_machine.specs.SectionRun.{Acts}
+use Rattle.posting_table.specs.Lent.{whole_row}
 use Rattle.posting_table.specs.Rows.{row_of}
 use Rattle.query_code.specs.declared.program.Constant.{Constant}
 use Rattle.query_code.specs.declared.instruction.Instruction.{Instruction}
@@ -18,7 +19,7 @@ use Rattle.query_values.specs.declared.value.Value.{Value}
 abbrev pub loads_of : loads.Loads → Loads
 loads_of l = record {
   schema = l.schema;
-  row = option_map row_of (option_copied l.posting);
+  row = option_map (λ p. row_of (whole_row p)) l.posting;
   balance = option_copied l.running;
   keys = l.keys.now;
   aggregates = l.aggregates.now;

@@ -6,6 +6,7 @@ ghost use Rattle.plain_machine.specs.Pool.{key_in, value_in};
 ghost use Rattle.plain_machine.specs.SectionRun.{with_top};
 ghost use Rattle.query_code.specs.declared.instruction.Push.TheVariants.{LoadColumn};
 ghost use Rattle.query_rows.specs.Row as rows;
+ghost use Rattle.posting_table.specs.Lent.{whole_row};
 ghost use Rattle.posting_table.specs.Rows.{row_of};
 ghost use Rattle.query_sections.specs.Reading.{IsOther, loads_of};
 ghost use Rattle.query_sections.specs.Room.{HasRoom};
@@ -13,7 +14,7 @@ ghost use Rattle.query_sections.specs.Room.{HasRoom};
 use crate::loads::Loads;
 use crate::stack::Stack;
 use bean_base::Slice;
-use posting_table::HeldRow;
+use posting_table::LentRow;
 use query_code::{Constant, Push};
 use query_terms::Column;
 use query_values::Value;
@@ -58,22 +59,22 @@ fn text_or_null<'r>(text: Option<&'r str>) -> Value<'r>
 }
 
 /// A text of a posting's metadata.
-fn posting_text<'r>(posting: &'r HeldRow<'_>, key: &str) -> Value<'r>
-    ensures { result ≡ rows.posting_text key.now (row_of posting.now) }
+fn posting_text<'r>(posting: &LentRow<'r, '_>, key: &str) -> Value<'r>
+    ensures { result ≡ rows.posting_text key.now (row_of (whole_row posting.now)) }
 {
     text_or_null(posting.meta(key))
 }
 
 /// A text of the metadata of a posting's transaction.
-fn transaction_text<'r>(posting: &'r HeldRow<'_>, key: &str) -> Value<'r>
-    ensures { result ≡ rows.transaction_text key.now (row_of posting.now) }
+fn transaction_text<'r>(posting: &LentRow<'r, '_>, key: &str) -> Value<'r>
+    ensures { result ≡ rows.transaction_text key.now (row_of (whole_row posting.now)) }
 {
     text_or_null(posting.entry_meta(key))
 }
 
 /// A text of a posting's metadata, else of its transaction's.
-fn any_text<'r>(posting: &'r HeldRow<'_>, key: &str) -> Value<'r>
-    ensures { result ≡ rows.any_text key.now (row_of posting.now) }
+fn any_text<'r>(posting: &LentRow<'r, '_>, key: &str) -> Value<'r>
+    ensures { result ≡ rows.any_text key.now (row_of (whole_row posting.now)) }
 {
     match posting_text(posting, key) {
         Value::Null => transaction_text(posting, key),
@@ -84,9 +85,9 @@ fn any_text<'r>(posting: &'r HeldRow<'_>, key: &str) -> Value<'r>
 impl<'r, 'a> Loads<'r, '_, 'a> {
     /// The posting, which is there.
     #[inline(always)]
-    fn posting(&self) -> &'r HeldRow<'a>
+    fn posting(&self) -> LentRow<'r, 'a>
         requires { (loads_of self.now).row ≢ None }
-        ensures { (loads_of self.now).row ≡ Some (row_of result.now) }
+        ensures { (loads_of self.now).row ≡ Some (row_of (whole_row result)) }
     {
         let Some(posting) = self.posting else {
             unreachable!();
@@ -267,17 +268,17 @@ fn load_other<'r>(
             Ok(())
         }
         Push::Meta(place) => {
-            let value = posting_text(loads.posting(), key(&pool[place as usize]));
+            let value = posting_text(&loads.posting(), key(&pool[place as usize]));
             put(pool, loads, op, value, stack);
             Ok(())
         }
         Push::EntryMeta(place) => {
-            let value = transaction_text(loads.posting(), key(&pool[place as usize]));
+            let value = transaction_text(&loads.posting(), key(&pool[place as usize]));
             put(pool, loads, op, value, stack);
             Ok(())
         }
         Push::AnyMeta(place) => {
-            let value = any_text(loads.posting(), key(&pool[place as usize]));
+            let value = any_text(&loads.posting(), key(&pool[place as usize]));
             put(pool, loads, op, value, stack);
             Ok(())
         }

@@ -1,7 +1,7 @@
 //! What the instructions of a section read.
 
 use limits::Version;
-use posting_table::HeldRow;
+use posting_table::LentRow;
 use query_values::Value;
 
 /// A posting, with the running inventory where it may be read; or the keys and the aggregates of a
@@ -9,7 +9,7 @@ use query_values::Value;
 #[derive(Clone, Copy)]
 pub struct Loads<'r, 's, 'a> {
     pub schema: Version,
-    pub posting: Option<&'r HeldRow<'a>>,
+    pub posting: Option<LentRow<'r, 'a>>,
     pub running: Option<&'s Value<'r>>,
     pub keys: &'s [Value<'r>],
     pub aggregates: &'s [Value<'r>],

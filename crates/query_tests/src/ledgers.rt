@@ -1,12 +1,14 @@
 //! Ledgers and programs that the tests run.
 ghost use Rattle.std.specs.Prelude.{IfOk, ◌≤◌, length};
+ghost use Rattle.posting_entries.specs.declared.entry.EntryParts.{EntryParts};
 ghost use Rattle.posting_table.specs.Parts.{HasShortTexts, HasSmallParts, IsShortSet};
+ghost use Rattle.posting_table.specs.Whole.{row_with};
 
 use bean_base::{Flag, Slice, parse_account, parse_currency, parse_day};
 use bean_lots::{Key, Position};
 use limits::MOST_POSTINGS;
 use posting_entries::{Entry, EntryFlag, EntryParts, Metadata, NoExtras, PlainText, Shared};
-use posting_table::{Ledger, Row, Weight};
+use posting_table::{Ledger, OwnRow, Weight};
 use query_values::TextSet;
 use std::alloc::Global;
 use std::test::Fail;
@@ -55,12 +57,11 @@ fn lunch(alloc: Global) -> Result<Entry<'static>, Fail>
 }
 
 /// A dollar that was paid.
-fn dollar(entry: Shared<Entry<'static>>) -> Result<Row<'static>, Fail>
-    requires { HasShortTexts entry }
-    ensures { IfOk result (λ row. HasSmallParts row) }
+fn dollar() -> Result<OwnRow<'static>, Fail>
+    ensures { IfOk result (λ row. (e : EntryParts) → HasShortTexts e
+        → HasSmallParts (row_with e row)) }
 {
-    Ok(Row {
-        entry,
+    Ok(OwnRow {
         account: parse_account("Assets:Cash")?,
         position: Position {
             key: Key {
@@ -81,12 +82,11 @@ fn dollar(entry: Shared<Entry<'static>>) -> Result<Row<'static>, Fail>
 }
 
 /// A ledger of so many dollars.
-#[tactic(auto, using(posting_table::proofs::PartFacts::row_lies))]
 pub fn dollars(alloc: Global, count: usize) -> Result<Ledger<'static>, Fail> {
     let mut ledger = Ledger::new(alloc);
     for _ in 0..count {
-        let entry = Shared::new(alloc, lunch(alloc)?)?;
-        let row = dollar(entry)?;
+        let row = dollar()?;
+        ledger.begin(lunch(alloc)?)?;
         if ledger.len() < MOST_POSTINGS {
             ledger.push(row)?;
         }

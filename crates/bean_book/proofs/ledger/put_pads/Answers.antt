@@ -26,11 +26,11 @@ put_pad-requires-clause-room c =
     let next = c.in-Some.ensures.steps.0 in
     let whole =
     ap length
-    ((λ i. l.ledger.rows ++ with_rows l.passed l.rest (sym place i) (sym next i)) ∙ l.invariant.rows)
+    ((λ i. l.ledger.rows ++ with_rows l.passed l.ledger.rest (sym place i) (sym next i)) ∙ l.invariant.rows)
     in
     let both = length-append l.ledger.rows
-    (with_rows l.passed l.rest (c.in-Some-next.place ∷ places) (c.in-Some.noted ∷ pads)) in
-    let own = pad_within l.passed c.in-Some-next.place l.rest places c.in-Some.noted pads in
+    (with_rows l.passed l.ledger.rest (c.in-Some-next.place ∷ places) (c.in-Some.noted ∷ pads)) in
+    let own = pad_within l.passed c.in-Some-next.place l.ledger.rest places c.in-Some.noted pads in
     let room = c.requires.room in omega (arith, room, whole, both, own)
 
 pub loop-noted-preserved : goal.loop-noted-preserved
@@ -49,13 +49,13 @@ loop-noted-preserved c =
           let put = w.in_ok-put_pad.ensures in
           let gap : w.saturating_sub-count.result ≡ place - l.passed = w.saturating_sub-count.ensures in
           record {
-            rows = (λ i. (w.ledger-is i).rows ++ with_rows (w.passed-is i) (w.rest-is i) places pads)
+            rows = (λ i. (w.ledger-is i).rows ++ with_rows (w.passed-is i) (w.ledger-is i).rest places pads)
                 ∙ (λ i. put.rows i ++ with_rows place (put.rest i) places pads)
-                ∙ ap (λ n. (l.ledger.rows ++ (take n l.rest ++ rows_of_pad noted))
-                ++ with_rows place (drop n l.rest) places pads) gap
-                ∙ append_assoc l.ledger.rows (take (place - l.passed) l.rest ++ rows_of_pad noted)
-                (with_rows place (drop (place - l.passed) l.rest) places pads)
-                ∙ (λ i. l.ledger.rows ++ with_rows l.passed l.rest (sym behind i) (sym next i))
+                ∙ ap (λ n. (l.ledger.rows ++ (take n l.ledger.rest ++ rows_of_pad noted))
+                ++ with_rows place (drop n l.ledger.rest) places pads) gap
+                ∙ append_assoc l.ledger.rows (take (place - l.passed) l.ledger.rest ++ rows_of_pad noted)
+                (with_rows place (drop (place - l.passed) l.ledger.rest) places pads)
+                ∙ (λ i. l.ledger.rows ++ with_rows l.passed l.ledger.rest (sym behind i) (sym next i))
                 ∙ l.invariant.rows;
             decimals = ap (λ (t : Ledger). t.decimals) w.ledger-is ∙ put.decimals
                 ∙ l.invariant.decimals;
@@ -69,8 +69,8 @@ loop-noted-preserved c =
           let none = empty left.items (omega (arith, count, zero)) in
           let after = sym w.in_default.ensures.items ∙ none in
           record {
-            rows = (λ i. (w.ledger-is i).rows ++ with_rows (w.passed-is i) (w.rest-is i) (after i) pads)
-                ∙ (λ i. l.ledger.rows ++ with_rows l.passed l.rest (sym none i) (sym next i))
+            rows = (λ i. (w.ledger-is i).rows ++ with_rows (w.passed-is i) (w.ledger-is i).rest (after i) pads)
+                ∙ (λ i. l.ledger.rows ++ with_rows l.passed l.ledger.rest (sym none i) (sym next i))
                 ∙ l.invariant.rows;
             decimals = ap (λ (t : Ledger). t.decimals) w.ledger-is ∙ l.invariant.decimals;
             small = small;
@@ -85,14 +85,14 @@ returns-clause-rows c =
     let done = c.in-None.ensures.steps.0 in
     let none = empty left.items (omega (arith, count, done)) in
     let whole =
-    sym (ap (λ qs. l.ledger.rows ++ with_rows l.passed l.rest l.left.rest.items qs) none)
+    sym (ap (λ qs. l.ledger.rows ++ with_rows l.passed l.ledger.rest l.left.rest.items qs) none)
     ∙ l.invariant.rows in
     let as_many = ap length whole in
-    let both = length-append l.ledger.rows l.rest in
+    let both = length-append l.ledger.rows l.ledger.rest in
     let room = c.requires.room in
-    let few : length l.rest ≤ MOST_POSTINGS = omega (arith, as_many, both, room) in
+    let few : length l.ledger.rest ≤ MOST_POSTINGS = omega (arith, as_many, both, room) in
     on_ok_weaker c.put_back.result
     (λ put.
     ap (λ (t : Ledger). t.rows) put
-    ∙ ap (λ rs. l.ledger.rows ++ rs) (take_all MOST_POSTINGS l.rest few) ∙ whole)
+    ∙ ap (λ rs. l.ledger.rows ++ rs) (take_all MOST_POSTINGS l.ledger.rest few) ∙ whole)
     c.put_back.ensures.put

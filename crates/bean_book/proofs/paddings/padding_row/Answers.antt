@@ -1,15 +1,15 @@
 use Rattle.std.proofs.Common.{None, arith, ◌∙◌}
 use Rattle.bean_book.proofs.PaddingFacts.{same, weighed}
+use Rattle.bean_book.specs.Rows.{padding_entry}
 use Rattle.bean_book.proofs.paddings.padding_row.Goals as goal
 
 pub returns : goal.returns
 returns c =
-    let small = c.requires.small in
-    let entry = c.in_ok-share.ensures ∙ c.requires.entry in
+    let small = c.requires in
     let count = same c.args.count (omega (arith, small)) in
     let weight = weighed c.args.count small in
     λ i. record {
-      entry = entry i;
+      entry = padding_entry c.args.noted.now;
       account = c.lend.ensures i;
       position = record {
         key = record { currency = c.lend-2.ensures i; lot = None };

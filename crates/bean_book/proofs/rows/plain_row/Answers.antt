@@ -8,14 +8,12 @@ use Rattle.bean_book.proofs.rows.plain_row.Goals as goal
 
 pub returns : goal.returns
 returns c =
-    let entry = c.args.entry.now in
     let posted = c.args.posted.now in
-    let written = c.in-Some.written.now in
-    let at = c.in-Some.ensures.lookup in
+    let written = c.in_ok-written.written.now in
+    let at = c.in_ok-written.ensures.lookup in
     let small = c.scaled.ensures.bound in
     let count = same c.scaled.result (omega (arith, small)) ∙ c.scaled.ensures.value in
-    λ line. (λ i. plain.row_of (record {
-      entry = c.in_ok-share.ensures i;
+    λ entry line. (λ i. plain.row_of entry (record {
       account = c.lend.ensures i;
       currency = c.lend-2.ensures i;
       count = count i;

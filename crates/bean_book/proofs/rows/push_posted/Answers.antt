@@ -14,8 +14,7 @@ use Rattle.bean_holdings.specs.declared.posted.Posted.{Posted}
 use Rattle.posting_table.specs.Ledger.{Ledger}
 use Rattle.posting_table.specs.Plain as plain
 use Rattle.posting_table.specs.Shaped.{IsShaped}
-use Rattle.posting_entries.specs.declared.entry.EntryParts.{EntryParts}
-use Rattle.posting_table.specs.declared.row.Row.{Row}
+use Rattle.posting_table.specs.Whole.{Row}
 use Rattle.bean_replay.specs.declared.booking.Kept.{Kept}
 use Rattle.bean_base.specs.declared.span.Place.{Place}
 use Rattle.bean_directives.specs.declared.transaction.Transaction.{Transaction}
@@ -50,10 +49,6 @@ push_full-requires-clause-light c =
     (omega arith) c.one-item.is
     (subst (λ l. AllByRecursion IsLight (booked_legs k.written.transaction.postings l))
     (sym c.as_slice-one-items.ensures) c.requires.tame.small.light))
-
--- what holds of something that is there
-given_some : {X : Type 0} (P : X → Type 0) (o : Option X) (x : X) → o ≡ Some x → IfSome o P → P x
-given_some P o x is h = subst (λ q. IfSome q P) is h
 
 -- the row of a booked posting of a tame transaction lies in the widest shapes
 lies : (k : Kept) (posted : List Posted) (i : ℕ) (p : Posted) (row : Row) → IsTameKept k
@@ -105,35 +100,40 @@ behind k old new before row i p items pushed was is are within at =
     ∙ ap (λ l. old ++ l) (sym (one_more k items i p are within at))
 
 -- the row of a posting, of what is at hand of its transaction
-own_row : (k : Kept) (at : Place) (t : Transaction) (e : EntryParts) (ps : List Posting)
-    (p : Posted) → at ≡ k.written.place → t ≡ k.written.transaction → e ≡ entry_of k
-    → ps ≡ t.postings
-    → row_of e at.line ps p
+own_row : (k : Kept) (at : Place) (t : Transaction) (ps : List Posting) (p : Posted)
+    → at ≡ k.written.place → t ≡ k.written.transaction → ps ≡ t.postings
+    → row_of (entry_of k) at.line ps p
     ≡ row_of (entry_of k) k.written.place.line k.written.transaction.postings p
-own_row k at t e ps p there same is are = λ i.
-    row_of (is i) (there i).line (postings_of k t ps same are i) p
+own_row k at t ps p there same are = λ i.
+    row_of (entry_of k) (there i).line (postings_of k t ps same are i) p
 
 pub push_full-requires-clause-shaped : goal.push_full-requires-clause-shaped
 push_full-requires-clause-shaped c =
     let k = c.args.kept.now in
-    let p = c.one-item.result in
-    lies k c.as_slice-one-items.result.now c.loop-one.one-index p _ c.requires.tame
-    c.as_slice-one-items.ensures (omega arith) c.one-item.is
-    (own_row k c.place-line.result c.transaction.result.now c.args.entry.now
-    c.as_slice-postings.result.now p c.place-line.ensures c.transaction.ensures c.requires.entry
-    c.as_slice-postings.ensures)
+    let p = c.one-item.result in (
+      entry_of k,
+      c.loop-one.invariant.entry,
+      lies k c.as_slice-one-items.result.now c.loop-one.one-index p _ c.requires.tame
+          c.as_slice-one-items.ensures (omega arith) c.one-item.is
+          (own_row k c.place-line.result c.transaction.result.now c.as_slice-postings.result.now p
+          c.place-line.ensures c.transaction.ensures c.as_slice-postings.ensures),
+    )
 
 pub push_plain-requires-clause-shaped : goal.push_plain-requires-clause-shaped
 push_plain-requires-clause-shaped c =
     let k = c.args.kept.now in
     let line = k.written.place.line in
-    let p = c.one-item.result in
-    lies k c.as_slice-one-items.result.now c.loop-one.one-index p (plain.row_of c.in-Some.plain)
-    c.requires.tame c.as_slice-one-items.ensures (omega arith) c.one-item.is
-    (given_some _ _ c.in-Some.plain c.in-Some.is c.in_ok-plain.ensures line
-    ∙ ap (λ e. row_of e line c.as_slice-postings.result.now p) c.requires.entry
-    ∙ ap (λ ps. row_of (entry_of k) line ps p)
-    (postings_of k c.transaction.result.now _ c.transaction.ensures c.as_slice-postings.ensures))
+    let p = c.one-item.result in (
+      entry_of k,
+      c.loop-one.invariant.entry,
+      lies k c.as_slice-one-items.result.now c.loop-one.one-index p
+          (plain.row_of (entry_of k) c.in-Some.plain) c.requires.tame
+          c.as_slice-one-items.ensures (omega arith) c.one-item.is
+          (c.in-Some.ensures (entry_of k) line
+          ∙ ap (λ ps. row_of (entry_of k) line ps p)
+          (postings_of k c.transaction.result.now _ c.transaction.ensures
+          c.as_slice-postings.ensures)),
+    )
 
 pub push_full-requires-clause-room : goal.push_full-requires-clause-room
 push_full-requires-clause-room c =
@@ -167,31 +167,36 @@ pub loop-one-preserved-in-Some : goal.loop-one-preserved-in-Some
 loop-one-preserved-in-Some c =
     let k = c.args.kept.now in
     let line = k.written.place.line in
-    let p = c.one-item.result in record {
-      rows = behind k c.args.ledger.now.rows _ _ (plain.row_of c.in-Some.plain)
+    let p = c.one-item.result in
+    let pushed = c.in_ok-push_plain.ensures.pushed (entry_of k) c.loop-one.invariant.entry in
+    record {
+      rows = behind k c.args.ledger.now.rows _ _ (plain.row_of (entry_of k) c.in-Some.plain)
           c.loop-one.one-index p c.as_slice-one-items.result.now
-          (ap (λ (l : Ledger). l.rows) c.in_ok-push_plain.ensures.pushed)
+          (ap (λ (l : Ledger). l.rows) pushed)
           c.loop-one.invariant.rows
-          (given_some _ _ c.in-Some.plain c.in-Some.is c.in_ok-plain.ensures line
-          ∙ ap (λ e. row_of e line c.as_slice-postings.result.now p) c.requires.entry
+          (c.in-Some.ensures (entry_of k) line
           ∙ ap (λ ps. row_of (entry_of k) line ps p)
-          (postings_of k c.transaction.result.now _ c.transaction.ensures c.as_slice-postings.ensures))
+          (postings_of k c.transaction.result.now _ c.transaction.ensures
+          c.as_slice-postings.ensures))
           c.as_slice-one-items.ensures (omega arith) c.one-item.is;
-      decimals = ap (λ (l : Ledger). l.decimals) c.in_ok-push_plain.ensures.pushed
-          ∙ c.loop-one.invariant.decimals;
+      decimals = ap (λ (l : Ledger). l.decimals) pushed ∙ c.loop-one.invariant.decimals;
+      entry = ap (λ (l : Ledger). l.entry) pushed ∙ c.loop-one.invariant.entry;
       noted = c.loop-one.invariant.noted;
     }
 
 pub loop-one-preserved : goal.loop-one-preserved
 loop-one-preserved c =
     let k = c.args.kept.now in
-    let p = c.one-item.result in record {
+    let p = c.one-item.result in
+    let pushed = c.in_ok-push_full.ensures.pushed (entry_of k) c.loop-one.invariant.entry in
+    record {
       rows = behind k c.args.ledger.now.rows _ _ _ c.loop-one.one-index p
-          c.as_slice-one-items.result.now c.in_ok-push_full.ensures.rows c.loop-one.invariant.rows
-          (own_row k c.place-line.result c.transaction.result.now c.args.entry.now
-          c.as_slice-postings.result.now p c.place-line.ensures c.transaction.ensures c.requires.entry
-          c.as_slice-postings.ensures)
+          c.as_slice-one-items.result.now (ap (λ (l : Ledger). l.rows) pushed)
+          c.loop-one.invariant.rows
+          (own_row k c.place-line.result c.transaction.result.now c.as_slice-postings.result.now p
+          c.place-line.ensures c.transaction.ensures c.as_slice-postings.ensures)
           c.as_slice-one-items.ensures (omega arith) c.one-item.is;
-      decimals = c.in_ok-push_full.ensures.decimals ∙ c.loop-one.invariant.decimals;
+      decimals = ap (λ (l : Ledger). l.decimals) pushed ∙ c.loop-one.invariant.decimals;
+      entry = ap (λ (l : Ledger). l.entry) pushed ∙ c.loop-one.invariant.entry;
       noted = c.in_ok-push_full.ensures.noted;
     }

@@ -1,4 +1,4 @@
-use Rattle.std.proofs.Common.{◌≡◌, ◌++◌, map, slice_get, take}
+use Rattle.std.proofs.Common.{◌≡◌, ◌++◌, Some, map, slice_get, take}
 use Rattle.bean_book.specs.Rows.{entry_of, items_in, row_of}
 use Rattle.bean_book.proofs.rows.push_posted.Given as goal
 
@@ -9,5 +9,6 @@ invariant-loop-one l = record {
       ++ map (row_of (entry_of l.kept) l.kept.written.place.line l.kept.written.transaction.postings)
       (take l.one-index l.kept.postings);
   decimals : l.ledger.decimals ≡ l.initial.ledger.decimals;
+  entry : l.ledger.entry ≡ Some (entry_of l.kept);
   noted : l.noted.metadata ≡ items_in (slice_get l.postings l.noted.written);
 }

@@ -1,8 +1,9 @@
 use Rattle.std.proofs.Common.{◌≡◌, drop}
 use Rattle.std.specs.List.{list_all}
-use Rattle.posting_table.proofs.FitFacts.{row_fits}
+use Rattle.posting_table.proofs.FitFacts.{held_fits}
 use Rattle.posting_table.proofs.bounded.are_fit.Given as goal
 
 abbrev pub invariant-loop-row : goal.invariant-loop-row
 invariant-loop-row l =
-    list_all (row_fits l.bounds) l.rows ≡ list_all (row_fits l.bounds) (drop l.row-index l.rows)
+    list_all (held_fits l.bounds l.tables) l.rows
+    ≡ list_all (held_fits l.bounds l.tables) (drop l.row-index l.rows)
