@@ -25,7 +25,7 @@ use Rattle.posting_table.proofs.HeldFacts.{shaped_all}
 use Rattle.posting_table.specs.Held.{IsHeld, row_in}
 use Rattle.posting_table.specs.Whole.{Row}
 use Rattle.posting_table.specs.declared.held.HeldRow.{HeldRow}
-use Rattle.posting_table.specs.declared.tables.Tables.{Tables}
+use Rattle.posting_entries.specs.declared.entry.EntryParts.{EntryParts}
 use Rattle.query_terms.specs.Column.{is_in}
 use Rattle.query_rows.specs.ColumnShape.{column_shape, value_most, widest}
 use Rattle.query_terms.specs.declared.column.Column.{Column}
@@ -221,11 +221,11 @@ few_units r is = below 20 _ (cell_of r is column.Number).1
 
 -- ---- rows that are held
 
-abbrev pub held_fits : Bounds → Tables → HeldRow → Bool
-held_fits b t h = row_fits b (row_in t h)
+abbrev pub held_fits : Bounds → List EntryParts → HeldRow → Bool
+held_fits b es h = row_fits b (row_in es h)
 
-pub all_held_fit : (b : Bounds) (t : Tables) (hs : List HeldRow) → b ≡ widest → All (IsHeld t) hs
-    → list_all (held_fits b t) hs ≡ true
-all_held_fit b t hs same are =
-    sym (list_all-map (row_fits b) (row_in t) hs)
-    ∙ within_these b (map (row_in t) hs) same (shaped_all t hs are)
+pub all_held_fit : (b : Bounds) (es : List EntryParts) (hs : List HeldRow) → b ≡ widest
+    → All (IsHeld es) hs → list_all (held_fits b es) hs ≡ true
+all_held_fit b es hs same are =
+    sym (list_all-map (row_fits b) (row_in es) hs)
+    ∙ within_these b (map (row_in es) hs) same (shaped_all es hs are)

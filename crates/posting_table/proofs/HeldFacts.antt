@@ -9,13 +9,12 @@ use Rattle.std.proofs.lemmas.Option.{get_or_from_slice_get, same_Some, slice_get
 use Rattle.limits.specs.declared.counts.TheConstants.{MOST_POSTINGS}
 use Rattle.posting_entries.specs.declared.entry.EntryParts.{EntryParts}
 use Rattle.posting_table.specs.Decimals.{Decimals}
-use Rattle.posting_table.specs.Held.{AreHeld, IsHeld, IsWithin, entry_at, no_entry, no_key, row_in}
+use Rattle.posting_table.specs.Held.{AreHeld, IsHeld, entry_at, no_entry, row_in}
 use Rattle.posting_table.specs.Held.{row_by, seen}
 use Rattle.posting_table.specs.Shaped.{IsShaped}
-use Rattle.posting_table.specs.Tables.{Grow, Keeps}
+use Rattle.posting_table.specs.Tables.{Keeps}
 use Rattle.posting_table.specs.Whole.{Row}
 use Rattle.posting_table.specs.declared.held.HeldRow.{HeldRow}
-use Rattle.posting_table.specs.declared.tables.Tables.{Tables}
 use Rattle.query_rows.specs.ColumnShape.{widest}
 
 -- ---- lists that grow at their ends
@@ -52,130 +51,118 @@ still old new n d keeps below =
 
 -- ---- rows
 
-pub row_stays : (s t : Tables) (h : HeldRow) → Grow s t → IsWithin s h → row_in t h ≡ row_in s h
-row_stays s t h grow within =
-    let entry = stays s.entries t.entries h.entry no_entry grow.entries within.0 in
-    let key = stays s.keys t.keys h.key no_key grow.keys within.1 in
-    λ i. row_by (entry i) (key i) h
+pub row_stays : (s t : List EntryParts) (h : HeldRow) → Keeps s t → h.entry < length s
+    → row_in t h ≡ row_in s h
+row_stays s t h keeps within = ap (λ e. row_by e h) (stays s t h.entry no_entry keeps within)
 
-pub within_stays : (s t : Tables) (h : HeldRow) → Grow s t → IsWithin s h → IsWithin t h
-within_stays s t h grow within = (
-  still s.entries t.entries h.entry no_entry grow.entries within.0,
-  still s.keys t.keys h.key no_key grow.keys within.1,
-)
-
-held_stays : (s t : Tables) (h : HeldRow) → Grow s t → IsHeld s h → IsHeld t h
-held_stays s t h grow held = record {
-  within = within_stays s t h grow held.within;
-  shaped = subst (IsShaped widest) (sym (row_stays s t h grow held.within)) held.shaped;
+held_stays : (s t : List EntryParts) (h : HeldRow) → Keeps s t → IsHeld s h → IsHeld t h
+held_stays s t h keeps held = record {
+  within = still s t h.entry no_entry keeps held.within;
+  shaped = subst (IsShaped widest) (sym (row_stays s t h keeps held.within)) held.shaped;
 }
 
-pub all_stay : (s t : Tables) (hs : List HeldRow) → Grow s t → All (IsHeld s) hs → All (IsHeld t) hs
-all_stay s t hs grow all = λ k d below. held_stays s t (get_or hs k d) grow (all k d below)
+pub all_stay : (s t : List EntryParts) (hs : List HeldRow) → Keeps s t → All (IsHeld s) hs → All (IsHeld t) hs
+all_stay s t hs keeps all = λ k d below. held_stays s t (get_or hs k d) keeps (all k d below)
 
-tail : (s : Tables) (h : HeldRow) (hs : List HeldRow) → All (IsHeld s) (h ∷ hs) → All (IsHeld s) hs
+tail : (s : List EntryParts) (h : HeldRow) (hs : List HeldRow) → All (IsHeld s) (h ∷ hs) → All (IsHeld s) hs
 tail s h hs all = λ k d below. all (suc k) d (omega (arith, below))
 
-pub rows_stay : (s t : Tables) (hs : List HeldRow) → Grow s t → All (IsHeld s) hs
+pub rows_stay : (s t : List EntryParts) (hs : List HeldRow) → Keeps s t → All (IsHeld s) hs
     → map (row_in t) hs ≡ map (row_in s) hs
-rows_stay s t [] grow all = refl
-rows_stay s t (h ∷ hs) grow all =
-    let first = row_stays s t h grow (all 0 h (omega arith)).within in
-    let rest = rows_stay s t hs grow (tail s h hs all) in
+rows_stay s t [] keeps all = refl
+rows_stay s t (h ∷ hs) keeps all =
+    let first = row_stays s t h keeps (all 0 h (omega arith)).within in
+    let rest = rows_stay s t hs keeps (tail s h hs all) in
     λ i. first i ∷ rest i
 
 -- ---- ledgers
 
-begun_stays : (s t : Tables) (n : Option ℕ) → Grow s t → IfSome n (λ n. n < length s.entries)
-    → IfSome n (λ n. n < length t.entries)
-begun_stays s t None grow there = there
-begun_stays s t (Some n) grow there = still s.entries t.entries n no_entry grow.entries there
+begun_stays : (s t : List EntryParts) (n : Option ℕ) → Keeps s t → IfSome n (λ n. n < length s)
+    → IfSome n (λ n. n < length t)
+begun_stays s t None keeps there = there
+begun_stays s t (Some n) keeps there = still s t n no_entry keeps there
 
-entry_stays : (s t : Tables) (n : Option ℕ) → Grow s t → IfSome n (λ n. n < length s.entries)
+entry_stays : (s t : List EntryParts) (n : Option ℕ) → Keeps s t → IfSome n (λ n. n < length s)
     → option_map (entry_at t) n ≡ option_map (entry_at s) n
-entry_stays s t None grow there = refl
-entry_stays s t (Some n) grow there =
-    ap Some (stays s.entries t.entries n no_entry grow.entries there)
+entry_stays s t None keeps there = refl
+entry_stays s t (Some n) keeps there =
+    ap Some (stays s t n no_entry keeps there)
 
--- where tables grow, and nothing else changes
-pub held_alike : (s t : Tables) (rows rest : List HeldRow) (n : Option ℕ) → Grow s t
+-- where entries are added, and nothing else changes
+pub held_alike : (s t : List EntryParts) (rows rest : List HeldRow) (n : Option ℕ) → Keeps s t
     → AreHeld s rows rest n → AreHeld t rows rest n
-held_alike s t rows rest n grow are = record {
+held_alike s t rows rest n keeps are = record {
   few = are.few;
-  rows = all_stay s t rows grow are.rows;
-  rest = all_stay s t rest grow are.rest;
-  begun = begun_stays s t n grow are.begun;
+  rows = all_stay s t rows keeps are.rows;
+  rest = all_stay s t rest keeps are.rest;
+  begun = begun_stays s t n keeps are.begun;
 }
 
-pub seen_alike : (s t : Tables) (rows rest : List HeldRow) (n : Option ℕ) (d : Decimals)
-    → Grow s t → AreHeld s rows rest n → seen t rows rest n d ≡ seen s rows rest n d
-seen_alike s t rows rest n d grow are = λ i. record {
-  rows = rows_stay s t rows grow are.rows i;
+pub seen_alike : (s t : List EntryParts) (rows rest : List HeldRow) (n : Option ℕ) (d : Decimals)
+    → Keeps s t → AreHeld s rows rest n → seen t rows rest n d ≡ seen s rows rest n d
+seen_alike s t rows rest n d keeps are = λ i. record {
+  rows = rows_stay s t rows keeps are.rows i;
   decimals = d;
-  entry = entry_stays s t n grow are.begun i;
-  rest = rows_stay s t rest grow are.rest i;
+  entry = entry_stays s t n keeps are.begun i;
+  rest = rows_stay s t rest keeps are.rest i;
 }
 
 -- the entry that was begun
-pub begun_is : (t : Tables) (n : Option ℕ) (k : ℕ) (e : EntryParts) → n ≡ Some k
+pub begun_is : (t : List EntryParts) (n : Option ℕ) (k : ℕ) (e : EntryParts) → n ≡ Some k
     → option_map (entry_at t) n ≡ Some e → entry_at t k ≡ e
 begun_is t n k e at is = same_Some _ _ (ap (option_map (entry_at t)) (sym at) ∙ is)
 
+-- a row of that entry
+pub held_is : (es : List EntryParts) (h : HeldRow) (k : ℕ) (e : EntryParts) → h.entry ≡ k
+    → entry_at es k ≡ e → row_in es h ≡ row_by e h
+held_is es h k e number is = ap (λ e. row_by e h) (ap (entry_at es) number ∙ is)
+
 -- one row more
-pub held_more : (s t : Tables) (rows rest : List HeldRow) (n : Option ℕ) (h : HeldRow) (row : Row)
-    → Grow s t → AreHeld s rows rest n → length rows < MOST_POSTINGS → IsWithin t h
-    → row_in t h ≡ row → IsShaped widest row → AreHeld t (rows ++ h ∷ []) rest n
-held_more s t rows rest n h row grow are room within is shaped =
+pub held_more : (es : List EntryParts) (rows rest : List HeldRow) (n : Option ℕ) (h : HeldRow)
+    (row : Row) → AreHeld es rows rest n → length rows < MOST_POSTINGS → h.entry < length es
+    → row_in es h ≡ row → IsShaped widest row → AreHeld es (rows ++ h ∷ []) rest n
+held_more es rows rest n h row are room within is shaped =
     let longer = length-append rows (h ∷ []) in
     record {
       few = omega (arith, room, longer);
-      rows = All-push (IsHeld t) rows h (all_stay s t rows grow are.rows)
+      rows = All-push (IsHeld es) rows h are.rows
           (record { within = within; shaped = subst (IsShaped widest) (sym is) shaped });
-      rest = all_stay s t rest grow are.rest;
-      begun = begun_stays s t n grow are.begun;
+      rest = are.rest;
+      begun = are.begun;
     }
 
-pub seen_more : (s t : Tables) (rows rest : List HeldRow) (n : Option ℕ) (d : Decimals)
-    (h : HeldRow) (row : Row) → Grow s t → AreHeld s rows rest n → row_in t h ≡ row
-    → seen t (rows ++ h ∷ []) rest n d
-    ≡ record (seen s rows rest n d) { rows = map (row_in s) rows ++ row ∷ [] }
-seen_more s t rows rest n d h row grow are is = λ i. record {
-  rows = (map-append (row_in t) rows (h ∷ [])
-      ∙ (λ j. rows_stay s t rows grow are.rows j ++ is j ∷ [])) i;
-  decimals = d;
-  entry = entry_stays s t n grow are.begun i;
-  rest = rows_stay s t rest grow are.rest i;
-}
+pub seen_more : (es : List EntryParts) (rows rest : List HeldRow) (n : Option ℕ) (d : Decimals)
+    (h : HeldRow) (row : Row) → row_in es h ≡ row
+    → seen es (rows ++ h ∷ []) rest n d
+    ≡ record (seen es rows rest n d) { rows = map (row_in es) rows ++ row ∷ [] }
+seen_more es rows rest n d h row is =
+    ap (λ l. record (seen es rows rest n d) { rows = l })
+    (map-append (row_in es) rows (h ∷ []) ∙ ap (λ r. map (row_in es) rows ++ r ∷ []) is)
 
 -- one entry more, which is begun
 
-pub more_entries : (t : Tables) (entries : List EntryParts) → Keeps t.entries entries
-    → Grow t (record t { entries = entries })
-more_entries t entries keeps =
-    record { entries = keeps; keys = λ n x at. at }
-
-pub held_begun : (s t : Tables) (rows rest : List HeldRow) (n : Option ℕ) (k : ℕ) (e : EntryParts)
-    → Grow s t → AreHeld s rows rest n → slice_get t.entries k ≡ Some e
+pub held_begun : (s t : List EntryParts) (rows rest : List HeldRow) (n : Option ℕ) (k : ℕ) (e : EntryParts)
+    → Keeps s t → AreHeld s rows rest n → slice_get t k ≡ Some e
     → AreHeld t rows rest (Some k)
-held_begun s t rows rest n k e grow are at = record {
+held_begun s t rows rest n k e keeps are at = record {
   few = are.few;
-  rows = all_stay s t rows grow are.rows;
-  rest = all_stay s t rest grow are.rest;
-  begun = slice_get_within t.entries k e at;
+  rows = all_stay s t rows keeps are.rows;
+  rest = all_stay s t rest keeps are.rest;
+  begun = slice_get_within t k e at;
 }
 
-pub seen_begun : (s t : Tables) (rows rest : List HeldRow) (n : Option ℕ) (d : Decimals) (k : ℕ)
-    (e : EntryParts) → Grow s t → AreHeld s rows rest n → slice_get t.entries k ≡ Some e
+pub seen_begun : (s t : List EntryParts) (rows rest : List HeldRow) (n : Option ℕ) (d : Decimals) (k : ℕ)
+    (e : EntryParts) → Keeps s t → AreHeld s rows rest n → slice_get t k ≡ Some e
     → seen t rows rest (Some k) d ≡ record (seen s rows rest n d) { entry = Some e }
-seen_begun s t rows rest n d k e grow are at = λ i. record {
-  rows = rows_stay s t rows grow are.rows i;
+seen_begun s t rows rest n d k e keeps are at = λ i. record {
+  rows = rows_stay s t rows keeps are.rows i;
   decimals = d;
-  entry = Some (get_or_from_slice_get t.entries k e no_entry at i);
-  rest = rows_stay s t rest grow are.rest i;
+  entry = Some (get_or_from_slice_get t k e no_entry at i);
+  rest = rows_stay s t rest keeps are.rest i;
 }
 
 -- rows that were taken out, and some of them at the end
-pub held_moved : (t : Tables) (rows rest : List HeldRow) (n : Option ℕ) (i j : ℕ)
+pub held_moved : (t : List EntryParts) (rows rest : List HeldRow) (n : Option ℕ) (i j : ℕ)
     → AreHeld t rows rest n → length rows + length rest ≤ MOST_POSTINGS
     → AreHeld t (rows ++ take i rest) (drop j rest) n
 held_moved t rows rest n i j are room =
@@ -189,7 +176,7 @@ held_moved t rows rest n i j are room =
       begun = are.begun;
     }
 
-pub seen_moved : (t : Tables) (rows rest : List HeldRow) (n : Option ℕ) (d : Decimals) (i : ℕ)
+pub seen_moved : (t : List EntryParts) (rows rest : List HeldRow) (n : Option ℕ) (d : Decimals) (i : ℕ)
     → seen t (rows ++ take i rest) (drop i rest) n d
     ≡ record (seen t rows rest n d) {
       rows = map (row_in t) rows ++ take i (map (row_in t) rest);
@@ -205,12 +192,12 @@ seen_moved t rows rest n d i = λ k. record {
 
 -- its rows as their readers want them
 
-pub shaped_all : (t : Tables) (rows : List HeldRow) → All (IsHeld t) rows
+pub shaped_all : (t : List EntryParts) (rows : List HeldRow) → All (IsHeld t) rows
     → All (IsShaped widest) (map (row_in t) rows)
 shaped_all t rows all =
     All-map (IsShaped widest) (row_in t) rows (λ k d below. (all k d below).shaped)
 
-pub few_rows : (t : Tables) (rows rest : List HeldRow) (n : Option ℕ) → AreHeld t rows rest n
+pub few_rows : (t : List EntryParts) (rows rest : List HeldRow) (n : Option ℕ) → AreHeld t rows rest n
     → length (map (row_in t) rows) ≤ MOST_POSTINGS
 few_rows t rows rest n are =
     let long = length-map rows (row_in t) in

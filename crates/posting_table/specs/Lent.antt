@@ -5,4 +5,4 @@ use Rattle.posting_table.specs.declared.lent.LentRow.{LentRow}
 
 -- the row that is lent
 abbrev pub whole_row : LentRow → Row
-whole_row l = row_by l.entry.now l.key.now l.row.now
+whole_row l = row_by l.entry.now l.row.now

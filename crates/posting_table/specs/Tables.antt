@@ -1,11 +1,6 @@
 -- Tables that grow.
 use Rattle.std.specs.Prelude.{◌≡◌, ℕ, List, Some, slice_get}
-use Rattle.posting_table.specs.declared.tables.Tables.{Tables}
 
 -- what stands at a number stays there
 abbrev pub Keeps : {X : Type 0} → List X → List X → Type 0
 Keeps {X} old new = (n : ℕ) (x : X) → slice_get old n ≡ Some x → slice_get new n ≡ Some x
-
-pub record Grow (old new : Tables) : Type 0 where
-  pub entries : Keeps old.entries new.entries
-  pub keys : Keeps old.keys new.keys

@@ -13,11 +13,11 @@ ghost use Rattle.query_rows.specs.Mass.{value_of};
 
 use crate::held::HeldRow;
 use crate::lent::LentRow;
-use crate::tables::Tables;
 use bean_base::{Amount, List, power_of_ten};
 use bean_lots::Lot;
 use limits::{Bounds, MOST_POSTINGS, MOST_UNITS_DIGITS, MOST_VALUE_DIGITS, Version};
 use pieces::Pieces;
+use posting_entries::Entry;
 
 /// The bounds that each ledger is within.
 const WIDEST: Bounds = Bounds {
@@ -82,13 +82,13 @@ fn row_fits(bounds: &Bounds, row: &LentRow<'_, '_>) -> bool
 }
 
 /// Whether the counts of some rows are within bounds.
-fn are_fit<'l, 'a>(bounds: &Bounds, tables: &'l Tables<'a>, rows: &'l [HeldRow<'a>]) -> bool
-    requires { All (IsHeld tables.now) rows.now }
+fn are_fit<'l, 'a>(bounds: &Bounds, entries: &'l Pieces<Entry<'a>>, rows: &'l [HeldRow<'a>]) -> bool
+    requires { All (IsHeld entries.now) rows.now }
     ensures { result
-        ≡ list_all (λ h. spec.row_fits bounds.now (row_of (row_in tables.now h))) rows.now }
+        ≡ list_all (λ h. spec.row_fits bounds.now (row_of (row_in entries.now h))) rows.now }
 {
     for row in rows {
-        if !row_fits(bounds, &LentRow::new(tables, row)) {
+        if !row_fits(bounds, &LentRow::new(entries, row)) {
             return false;
         }
     }
@@ -98,15 +98,15 @@ fn are_fit<'l, 'a>(bounds: &Bounds, tables: &'l Tables<'a>, rows: &'l [HeldRow<'
 /// Whether those of some lists of rows are.
 fn lists_fit<'l, 'a>(
     bounds: &Bounds,
-    tables: &'l Tables<'a>,
+    entries: &'l Pieces<Entry<'a>>,
     lists: &'l [List<HeldRow<'a>>],
 ) -> bool
-    requires { All (All (IsHeld tables.now)) lists.now }
+    requires { All (All (IsHeld entries.now)) lists.now }
     ensures { result ≡ list_all (list_all
-        (λ h. spec.row_fits bounds.now (row_of (row_in tables.now h)))) lists.now }
+        (λ h. spec.row_fits bounds.now (row_of (row_in entries.now h)))) lists.now }
 {
     for list in lists {
-        if !are_fit(bounds, tables, list.as_slice()) {
+        if !are_fit(bounds, entries, list.as_slice()) {
             return false;
         }
     }
@@ -116,17 +116,17 @@ fn lists_fit<'l, 'a>(
 /// Whether the counts of all rows are within bounds.
 pub(crate) fn all_fit<'l, 'a>(
     bounds: &Bounds,
-    tables: &'l Tables<'a>,
+    entries: &'l Pieces<Entry<'a>>,
     rows: &'l Pieces<HeldRow<'a>>,
 ) -> bool
-    requires { All (IsHeld tables.now) rows.now }
+    requires { All (IsHeld entries.now) rows.now }
     ensures { result
-        ≡ list_all (λ h. spec.row_fits bounds.now (row_of (row_in tables.now h))) rows.now }
+        ≡ list_all (λ h. spec.row_fits bounds.now (row_of (row_in entries.now h))) rows.now }
 {
     // Most programs are for any ledger: no row is looked at for them.
     if are_widest(bounds) {
         return true;
     }
     let (full, last) = rows.pieces();
-    lists_fit(bounds, tables, full) && are_fit(bounds, tables, last)
+    lists_fit(bounds, entries, full) && are_fit(bounds, entries, last)
 }

@@ -1,30 +1,30 @@
 //! Rows as a ledger holds them.
-ghost use Rattle.std.specs.Prelude.{◌≡◌, ◌<◌, ◌^◌, ◌*ℤ◌, IfOk, None, ℤ, length, pos};
+ghost use Rattle.std.specs.Prelude.{◌≡◌, ◌<◌, ◌^◌, ◌*ℤ◌, IfOk, None, ℤ, pos};
 ghost use Rattle.std.specs.Int.RustNames.{unsigned_abs};
 ghost use Rattle.std.specs.Option.{option_copied};
-ghost use Rattle.posting_table.specs.Held.{IsWithin, entry_at, row_in, weight_in};
+ghost use Rattle.posting_entries.specs.declared.entry.EntryParts.{EntryParts};
+ghost use Rattle.posting_table.specs.Held.{row_by, weight_in};
 ghost use Rattle.posting_table.specs.Plain as plain;
-ghost use Rattle.posting_table.specs.Tables.{Grow};
 ghost use Rattle.posting_table.specs.Whole.{row_with};
 
 use crate::beside::{Beside, BesideParts};
-use crate::keys::KeyNumbers;
+use crate::keys::{HeldKey, Keys};
 use crate::row::{OwnRow, PlainRow, Weight};
-use crate::tables::Tables;
 use bean_base::{Account, Currency};
 use bean_lots::{Key, Position};
+use posting_entries::Shared;
 use std::alloc::{AllocError, Global};
 
-/// A row in 40 bytes: what it has in common with others stands in tables, and what few rows have lies
-/// apart. Most postings weigh what their units are, so that a weight is seldom held.
+/// A row in 48 bytes: what it has from its transaction stands in a table, the key of its position
+/// stands elsewhere, and so does what few rows have. Most postings weigh what their units are, so that
+/// a weight is seldom held.
 #[derive(Drop)]
 pub(crate) struct HeldRow<'a> {
     pub account: Account<'a>,
+    pub key: Shared<HeldKey<'a>>,
+    pub beside: Beside<'a>,
     /// The number of what it has from its transaction.
     pub entry: u32,
-    /// The number of its position's key.
-    pub key: u32,
-    pub beside: Beside<'a>,
 }
 
 /// How much so many units weigh by themselves.
@@ -72,23 +72,20 @@ fn weight_beside<'a>(position: &Position<'a>, weight: Weight<'a>) -> Option<Weig
 }
 
 impl<'a> HeldRow<'a> {
-    /// The row of a posting of the transaction of that number.
+    /// The row of a posting of the transaction of that number, whose key is held as others are.
     pub(crate) fn new(
         alloc: Global,
-        tables: &mut Tables<'a>,
-        numbers: &mut KeyNumbers<'a>,
+        keys: &mut Keys<'a>,
         entry: u32,
         row: OwnRow<'a>,
     ) -> Result<HeldRow<'a>, AllocError>
-        requires entry { entry < length tables.old.entries }
-        requires units { unsigned_abs row.position.count < 10 ^ 20 }
-        ensures held { IfOk result (λ held. row_in tables.new held
-            ≡ row_with (entry_at tables.old entry) row.entry) }
-        ensures within { IfOk result (IsWithin tables.new) }
-        ensures grown { Grow tables.old tables.new }
+        requires { unsigned_abs row.position.count < 10 ^ 20 }
+        ensures number { IfOk result (λ held. held.entry ≡ entry) }
+        ensures row { IfOk result (λ held. (e : EntryParts) → row_by e held
+            ≡ row_with e row.entry) }
     {
         let position = row.position;
-        let parts = BesideParts {
+        let beside = BesideParts {
             count: position.count,
             weight: weight_beside(&position, row.weight),
             price: row.price,
@@ -96,37 +93,31 @@ impl<'a> HeldRow<'a> {
             line: row.line,
             flag: row.flag,
         };
-        let key = numbers.held(alloc, &mut tables.keys, position.key)?;
         Ok(HeldRow {
             account: row.account,
+            key: keys.held(alloc, position.key)?,
+            beside: Beside::new(alloc, beside)?,
             entry,
-            key,
-            beside: Beside::new(alloc, parts)?,
         })
     }
 
-    /// The row of a posting of the transaction of that number, which has nothing of its own but what
-    /// it adds to its account.
+    /// The same of a posting that has nothing of its own but what it adds to its account.
     pub(crate) fn plain(
         alloc: Global,
-        tables: &mut Tables<'a>,
-        numbers: &mut KeyNumbers<'a>,
+        keys: &mut Keys<'a>,
         entry: u32,
         row: PlainRow<'a>,
     ) -> Result<HeldRow<'a>, AllocError>
-        requires entry { entry < length tables.old.entries }
-        requires units { unsigned_abs row.count < 10 ^ 20 }
-        ensures held { IfOk result (λ held. row_in tables.new held
-            ≡ plain.row_of (entry_at tables.old entry) row.entry) }
-        ensures within { IfOk result (IsWithin tables.new) }
-        ensures grown { Grow tables.old tables.new }
+        requires { unsigned_abs row.count < 10 ^ 20 }
+        ensures number { IfOk result (λ held. held.entry ≡ entry) }
+        ensures row { IfOk result (λ held. (e : EntryParts) → row_by e held
+            ≡ plain.row_of e row.entry) }
     {
-        let key = numbers.plain(alloc, &mut tables.keys, row.currency)?;
         Ok(HeldRow {
             account: row.account,
-            entry,
-            key,
+            key: keys.plain(alloc, row.currency)?,
             beside: Beside::plain(alloc, row.count, row.line)?,
+            entry,
         })
     }
 }

@@ -1,18 +1,15 @@
 //! The keys of positions, as a ledger holds them.
-ghost use Rattle.std.specs.Prelude.{◌≡◌, IfOk, IfSome, Some, slice_get};
+ghost use Rattle.std.specs.Prelude.{◌≡◌, IfOk, IfSome};
 ghost use Rattle.posting_table.specs.Cells.{lot_cell};
 ghost use Rattle.posting_table.specs.Plain.{without_lot};
 ghost use Rattle.posting_table.specs.Row as spec;
-ghost use Rattle.posting_table.specs.Tables.{Keeps};
 ghost use Rattle.query_rows.specs.Row.{text_or_null};
 
 use crate::cells::lot_cell;
-use crate::tables::add;
-use bean_base::{Apart, Currency, Slice};
+use bean_base::{Currency, Slice};
 use bean_lots::{Key, Lot};
 use indexmap::IndexMap;
-use pieces::Pieces;
-use posting_entries::PlainText;
+use posting_entries::{PlainText, Shared};
 use query_terms::Column;
 use query_values::Value;
 use std::alloc::{AllocError, Global};
@@ -53,12 +50,12 @@ fn label_of<'a>(alloc: Global, lot: &Option<Lot<'a>>) -> Result<Option<PlainText
 }
 
 impl<'a> HeldKey<'a> {
-    /// The key, with its label made plain.
-    fn new(alloc: Global, key: Key<'a>) -> Result<HeldKey<'a>, AllocError>
+    /// The key, with its label made plain, held once so far.
+    fn shared(alloc: Global, key: Key<'a>) -> Result<Shared<HeldKey<'a>>, AllocError>
         ensures { IfOk result (λ held. held ≡ key.entry) }
     {
         let label = label_of(alloc, &key.lot)?;
-        Ok(HeldKey { key, label })
+        Shared::new(alloc, HeldKey { key, label })
     }
 
     /// The key.
@@ -89,21 +86,17 @@ impl<'a> HeldKey<'a> {
     }
 }
 
-/// The number of a key, where it is that of a currency without a lot.
+/// A key that is held, where it is that of a currency without a lot.
 #[inline(always)]
-fn of_currency(
-    keys: &Pieces<Apart<HeldKey<'_>>>,
-    number: u32,
+fn of_currency<'s, 'a>(
+    held: &'s Shared<HeldKey<'a>>,
     currency: &Currency<'_>,
-) -> Option<u32>
-    ensures { IfSome result (λ n. slice_get keys.now n ≡ Some (without_lot currency.now)) }
+) -> Option<&'s Shared<HeldKey<'a>>>
+    ensures { IfSome result (λ held. held.now ≡ without_lot currency.now) }
 {
-    if number as usize >= keys.len() {
-        return None;
-    }
-    let key = keys.at(number as usize).get().key();
+    let key = held.get().key();
     if key.lot.is_none() && key.currency == *currency {
-        return Some(number);
+        return Some(held);
     }
     None
 }
@@ -111,46 +104,36 @@ fn of_currency(
 /// How many currencies are compared one by one before any is hashed: most ledgers have few.
 const FEW: usize = 4;
 
-/// The numbers of the keys of currencies without a lot, each of which stands once for all rows of the
-/// currency.
+/// The keys of currencies without a lot, each of which stands once for all rows of the currency.
 #[derive(Drop)]
-pub(crate) struct KeyNumbers<'a> {
-    plain: IndexMap<Currency<'a>, u32>,
+pub(crate) struct Keys<'a> {
+    plain: IndexMap<Currency<'a>, Shared<HeldKey<'a>>>,
     /// The place of the one that was asked for last.
     near: usize,
 }
 
-impl<'a> KeyNumbers<'a> {
+impl<'a> Keys<'a> {
     /// No keys. Takes no memory.
-    pub(crate) fn new(alloc: Global) -> KeyNumbers<'a> {
-        KeyNumbers {
+    pub(crate) fn new(alloc: Global) -> Keys<'a> {
+        Keys {
             plain: IndexMap::new(alloc),
             near: 0,
         }
     }
 
-    /// The key of a currency, where its number stands at that place.
+    /// The key of a currency, where it stands at that place.
     #[inline(always)]
-    fn at(
-        &self,
-        keys: &Pieces<Apart<HeldKey<'a>>>,
-        place: usize,
-        currency: &Currency<'_>,
-    ) -> Option<u32>
-        ensures { IfSome result (λ n. slice_get keys.now n ≡ Some (without_lot currency.now)) }
+    fn at(&self, place: usize, currency: &Currency<'_>) -> Option<&Shared<HeldKey<'a>>>
+        ensures { IfSome result (λ held. held.now ≡ without_lot currency.now) }
     {
-        let (_, number) = self.plain.get_index(place)?;
-        of_currency(keys, *number, currency)
+        let (_, held) = self.plain.get_index(place)?;
+        of_currency(held, currency)
     }
 
-    /// Where the number of a currency's key stands, if it does.
-    fn place_of(
-        &self,
-        keys: &Pieces<Apart<HeldKey<'a>>>,
-        currency: &Currency<'a>,
-    ) -> Option<usize> {
+    /// Where the key of a currency stands, if it does.
+    fn place_of(&self, currency: &Currency<'a>) -> Option<usize> {
         for place in 0..FEW {
-            if self.at(keys, place, currency).is_some() {
+            if self.at(place, currency).is_some() {
                 return Some(place);
             }
         }
@@ -161,75 +144,65 @@ impl<'a> KeyNumbers<'a> {
     fn keep(
         &mut self,
         alloc: Global,
-        keys: &mut Pieces<Apart<HeldKey<'a>>>,
         currency: Currency<'a>,
-    ) -> Result<u32, AllocError>
-        ensures key { IfOk result (λ n. slice_get keys.new n ≡ Some (without_lot currency.entry)) }
-        ensures kept { Keeps keys.old keys.new }
+    ) -> Result<Shared<HeldKey<'a>>, AllocError>
+        ensures { IfOk result (λ held. held ≡ without_lot currency.entry) }
     {
         let key = Key {
             currency: currency.lend(),
             lot: None,
         };
-        let held = Apart::new(alloc, HeldKey { key, label: None })?;
-        let number = add(alloc, keys, held)?;
-        self.plain.insert(currency, number)?;
-        Ok(number)
+        let held = HeldKey::shared(alloc, key)?;
+        self.plain.insert(currency, held.share()?)?;
+        Ok(held)
     }
 
-    /// The key of a currency that wasn't the last one.
+    /// The key of a currency that wasn't the last one, as it is held.
     #[inline(never)]
     fn found(
         &mut self,
         alloc: Global,
-        keys: &mut Pieces<Apart<HeldKey<'a>>>,
         currency: Currency<'a>,
-    ) -> Result<u32, AllocError>
-        ensures key { IfOk result (λ n. slice_get keys.new n ≡ Some (without_lot currency.entry)) }
-        ensures kept { Keeps keys.old keys.new }
+    ) -> Result<Shared<HeldKey<'a>>, AllocError>
+        ensures { IfOk result (λ held. held ≡ without_lot currency.entry) }
     {
-        let Some(place) = self.place_of(keys, &currency) else {
+        let Some(place) = self.place_of(&currency) else {
             self.near = self.plain.len();
-            return self.keep(alloc, keys, currency);
+            return self.keep(alloc, currency);
         };
         self.near = place;
-        if let Some(known) = self.at(keys, place, &currency) {
-            return Ok(known);
+        if let Some(known) = self.at(place, &currency) {
+            return known.share();
         }
-        self.keep(alloc, keys, currency)
+        self.keep(alloc, currency)
     }
 
-    /// The key of a currency without a lot.
+    /// The key of a currency without a lot, as it is held.
     pub(crate) fn plain(
         &mut self,
         alloc: Global,
-        keys: &mut Pieces<Apart<HeldKey<'a>>>,
         currency: Currency<'a>,
-    ) -> Result<u32, AllocError>
-        ensures key { IfOk result (λ n. slice_get keys.new n ≡ Some (without_lot currency.entry)) }
-        ensures kept { Keeps keys.old keys.new }
+    ) -> Result<Shared<HeldKey<'a>>, AllocError>
+        ensures { IfOk result (λ held. held ≡ without_lot currency.entry) }
     {
         // The postings of a transaction are mostly of one currency.
-        if let Some(last) = self.at(keys, self.near, &currency) {
-            return Ok(last);
+        if let Some(last) = self.at(self.near, &currency) {
+            return last.share();
         }
-        self.found(alloc, keys, currency)
+        self.found(alloc, currency)
     }
 
-    /// The key: one of a lot stands by itself.
+    /// The key as it is held: one of a lot stands by itself.
     pub(crate) fn held(
         &mut self,
         alloc: Global,
-        keys: &mut Pieces<Apart<HeldKey<'a>>>,
         key: Key<'a>,
-    ) -> Result<u32, AllocError>
-        ensures key { IfOk result (λ n. slice_get keys.new n ≡ Some key.entry) }
-        ensures kept { Keeps keys.old keys.new }
+    ) -> Result<Shared<HeldKey<'a>>, AllocError>
+        ensures { IfOk result (λ held. held ≡ key.entry) }
     {
         if key.lot.is_some() {
-            let held = Apart::new(alloc, HeldKey::new(alloc, key)?)?;
-            return add(alloc, keys, held);
+            return HeldKey::shared(alloc, key);
         }
-        self.plain(alloc, keys, key.currency)
+        self.plain(alloc, key.currency)
     }
 }

@@ -18,10 +18,10 @@ pub(crate) mod taken;
 use crate::bounded::all_fit;
 use crate::display::Display;
 use crate::held::HeldRow;
-use crate::keys::KeyNumbers;
+use crate::keys::Keys;
 use crate::lent::LentRow;
 use crate::row::{OwnRow, PlainRow};
-use crate::tables::{Tables, add};
+use crate::tables::add;
 use bean_base::Currency;
 use limits::{Bounds, MOST_POSTINGS};
 use pieces::{Pieces, Taken};
@@ -37,8 +37,9 @@ pub struct Ledger<'a> {
     rows: Pieces<HeldRow<'a>>,
     /// The rows that were taken out.
     rest: Option<Taken<HeldRow<'a>>>,
-    tables: Tables<'a>,
-    numbers: KeyNumbers<'a>,
+    /// What the rows of transactions have in common. Rows have the numbers.
+    entries: Pieces<Entry<'a>>,
+    keys: Keys<'a>,
     /// The number of the entry whose rows are pushed.
     begun: Option<u32>,
     display: Display<'a>,
@@ -51,8 +52,8 @@ impl Drop for Ledger<'_> {
             alloc: _,
             rows: _,
             rest: _,
-            tables: _,
-            numbers: _,
+            entries: _,
+            keys: _,
             begun: _,
             display: _,
         } = self;
@@ -70,9 +71,9 @@ impl<'a> Model for Ledger<'a> {
 
     ghost coded = { Prim.hlevel (codes, decimals_code) };
 
-    ghost view = { λ l. seen l.tables l.rows (unwrap_or l.rest []) l.begun l.display };
+    ghost view = { λ l. seen l.entries l.rows (unwrap_or l.rest []) l.begun l.display };
 
-    ghost invariant = { λ l. AreHeld l.tables l.rows (unwrap_or l.rest []) l.begun };
+    ghost invariant = { λ l. AreHeld l.entries l.rows (unwrap_or l.rest []) l.begun };
 }
 
 impl<'a> Ledger<'a> {
@@ -85,11 +86,8 @@ impl<'a> Ledger<'a> {
             alloc,
             rows: Pieces::new(alloc),
             rest: None,
-            tables: Tables {
-                entries: Pieces::new(alloc),
-                keys: Pieces::new(alloc),
-            },
-            numbers: KeyNumbers::new(alloc),
+            entries: Pieces::new(alloc),
+            keys: Keys::new(alloc),
             begun: None,
             display: Display::new(alloc),
         }
@@ -103,7 +101,7 @@ impl<'a> Ledger<'a> {
             ≡ record self.old { entry = Some entry.entry }) }
         ensures unchanged { OnErr result (self.new ≡ self.old) }
     {
-        let number = add(self.alloc, &mut self.tables.entries, entry)?;
+        let number = add(self.alloc, &mut self.entries, entry)?;
         self.begun = Some(number);
         Ok(())
     }
@@ -120,7 +118,7 @@ impl<'a> Ledger<'a> {
         let Some(entry) = self.begun else {
             unreachable!();
         };
-        let row = HeldRow::new(self.alloc, &mut self.tables, &mut self.numbers, entry, row)?;
+        let row = HeldRow::new(self.alloc, &mut self.keys, entry, row)?;
         self.rows.push(self.alloc, row)?;
         Ok(())
     }
@@ -138,7 +136,7 @@ impl<'a> Ledger<'a> {
         let Some(entry) = self.begun else {
             unreachable!();
         };
-        let row = HeldRow::plain(self.alloc, &mut self.tables, &mut self.numbers, entry, row)?;
+        let row = HeldRow::plain(self.alloc, &mut self.keys, entry, row)?;
         self.rows.push(self.alloc, row)?;
         Ok(())
     }
@@ -175,7 +173,7 @@ impl<'a> Ledger<'a> {
         ensures held { Some (whole_row result) ≡ slice_get self.now.rows row }
         ensures row { Some (row_of (whole_row result)) ≡ slice_get (rows_of self.now) row }
     {
-        LentRow::new(&self.tables, self.rows.at(row))
+        LentRow::new(&self.entries, self.rows.at(row))
     }
 
     /// What a posting has in a column, lent from its row. No posting has a balance by itself.
@@ -196,7 +194,7 @@ impl<'a> Ledger<'a> {
         ensures widest { spec.fits widest (rows_of self.now) ≡ true }
         ensures shaped { IsTrue result → All (rows.IsShaped bounds.now) (rows_of self.now) }
     {
-        self.len() <= bounds.postings as usize && all_fit(bounds, &self.tables, &self.rows)
+        self.len() <= bounds.postings as usize && all_fit(bounds, &self.entries, &self.rows)
     }
 
     /// How many decimals each currency shows.

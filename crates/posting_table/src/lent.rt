@@ -5,10 +5,9 @@ ghost use Rattle.posting_table.specs.Held.{IsHeld, row_in};
 
 use crate::cells::{flag_or_null, price_cell, whole};
 use crate::held::{HeldRow, currency_in, weight_by_itself};
-use crate::keys::HeldKey;
-use crate::tables::Tables;
 use bean_base::{Account, Amount, Currency, Day, Slice};
 use bean_lots::Key;
+use pieces::Pieces;
 use posting_entries::{Entry, EntryFlag};
 use query_terms::Column;
 use query_values::{Lent, Value};
@@ -19,8 +18,6 @@ pub struct LentRow<'l, 'a> {
     row: &'l HeldRow<'a>,
     /// What the row has from its transaction.
     entry: &'l Entry<'a>,
-    /// What its units are held as, as the ledger holds that.
-    key: &'l HeldKey<'a>,
     ghost small: { unsigned_abs row.now.beside.count < 10 ^ 20 },
 }
 
@@ -31,16 +28,15 @@ impl<'l, 'a> LentRow<'l, 'a> {
     ghost use Rattle.posting_table.specs.Rows.{row_of};
     ghost use Rattle.query_rows.specs.Row.{text_under};
 
-    /// A row, with what it refers to in these tables.
+    /// A row, with what its transaction has among these.
     #[inline(always)]
-    pub(crate) fn new(tables: &'l Tables<'a>, row: &'l HeldRow<'a>) -> LentRow<'l, 'a>
-        requires { IsHeld tables.now row.now }
-        ensures { whole_row result ≡ row_in tables.now row.now }
+    pub(crate) fn new(entries: &'l Pieces<Entry<'a>>, row: &'l HeldRow<'a>) -> LentRow<'l, 'a>
+        requires { IsHeld entries.now row.now }
+        ensures { whole_row result ≡ row_in entries.now row.now }
     {
         LentRow {
             row,
-            entry: tables.entries.at(row.entry as usize),
-            key: tables.keys.at(row.key as usize).get(),
+            entry: entries.at(row.entry as usize),
         }
     }
 
@@ -92,7 +88,7 @@ impl<'l, 'a> LentRow<'l, 'a> {
     pub fn key(&self) -> &'l Key<'a>
         ensures { result.now ≡ (whole_row self.now).position.key }
     {
-        self.key.key()
+        self.row.key.get().key()
     }
 
     /// How much the posting weighs, as a count of `10^-16`.
@@ -144,9 +140,9 @@ impl<'l, 'a> LentRow<'l, 'a> {
             },
             Column::Currency => Value::Text(Slice::new(self.key().currency.text())),
             Column::CostNumber | Column::CostCurrency | Column::CostDate => {
-                self.key.cost_cell(column)
+                self.row.key.get().cost_cell(column)
             }
-            Column::CostLabel => self.key.label_cell(),
+            Column::CostLabel => self.row.key.get().label_cell(),
             Column::Position => Value::Position {
                 key: Lent::new(self.key()),
                 count: self.count(),

@@ -38,8 +38,8 @@
 //! What the postings of a transaction have in common, its entry (`posting_entries`), stands once for
 //! all of them, and so does the metadata of a written posting that became several. What units of a
 //! currency are held as without a lot stands once for all rows of the currency, and a weight is kept
-//! only where it isn't that of the units themselves. Entries and the keys of positions stand in tables
-//! of the ledger, and rows have their numbers there. Contracts see the rows whole.
+//! only where it isn't that of the units themselves. Entries stand in a table of the ledger, and rows
+//! have their numbers there. Contracts see the rows whole.
 //!
 //! # Cells
 //!
@@ -63,7 +63,7 @@
 //!
 //! # Cost
 //!
-//! A row is moved in once, and once more where it is taken out and put back; it takes 40 bytes. Where
+//! A row is moved in once, and once more where it is taken out and put back; it takes 48 bytes. Where
 //! it has a lot, a weight, a flag or metadata of its own, these lie apart. Rows and entries lie in
 //! pieces of 512 each, so that none is moved when there are more, and they take memory that others
 //! gave up.

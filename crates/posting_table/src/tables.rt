@@ -1,23 +1,13 @@
-//! What rows refer to by number.
+//! Tables in which things have numbers.
 ghost use Rattle.std.specs.Prelude.{◌≡◌, IfOk, Some, slice_get};
 ghost use Rattle.posting_table.specs.Tables.{Keeps};
 
-use crate::keys::HeldKey;
-use bean_base::Apart;
 use pieces::Pieces;
-use posting_entries::Entry;
 use std::alloc::{AllocError, Global};
 
-/// Entries, and the keys of positions, each in the order in which it came. Rows have their numbers.
-/// Keys lie apart, since those of lots are large: so they fit where booking gave memory up.
-#[derive(Drop)]
-pub(crate) struct Tables<'a> {
-    pub entries: Pieces<Entry<'a>>,
-    pub keys: Pieces<Apart<HeldKey<'a>>>,
-}
-
 /// Puts an item at the end of a table, and tells its number. It fails where memory lacks, and where
-/// there are as many as can be numbered.
+/// there are as many as can be numbered. It is put in place where it is called, so that an item is
+/// moved once.
 #[inline(always)]
 pub(crate) fn add<T: Drop>(alloc: Global, table: &mut Pieces<T>, item: T) -> Result<u32, AllocError>
     ensures there { IfOk result (λ n. slice_get table.new n ≡ Some item) }

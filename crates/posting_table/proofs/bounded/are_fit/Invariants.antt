@@ -5,5 +5,5 @@ use Rattle.posting_table.proofs.bounded.are_fit.Given as goal
 
 abbrev pub invariant-loop-row : goal.invariant-loop-row
 invariant-loop-row l =
-    list_all (held_fits l.bounds l.tables) l.rows
-    ≡ list_all (held_fits l.bounds l.tables) (drop l.row-index l.rows)
+    list_all (held_fits l.bounds l.entries) l.rows
+    ≡ list_all (held_fits l.bounds l.entries) (drop l.row-index l.rows)

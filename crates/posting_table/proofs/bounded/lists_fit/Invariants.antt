@@ -5,5 +5,5 @@ use Rattle.posting_table.proofs.bounded.lists_fit.Given as goal
 
 abbrev pub invariant-loop-list : goal.invariant-loop-list
 invariant-loop-list l =
-    list_all (list_all (held_fits l.bounds l.tables)) l.lists
-    ≡ list_all (list_all (held_fits l.bounds l.tables)) (drop l.list-index l.lists)
+    list_all (list_all (held_fits l.bounds l.entries)) l.lists
+    ≡ list_all (list_all (held_fits l.bounds l.entries)) (drop l.list-index l.lists)

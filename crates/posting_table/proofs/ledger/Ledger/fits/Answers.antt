@@ -20,15 +20,15 @@ pub returns-then-len-bounds-clause-widest : goal.returns-then-len-bounds-clause-
 returns-then-len-bounds-clause-widest c =
     let l = c.self.inside in
     subst (λ (l : Ledger). fits widest (map row_of l.rows) ≡ true) c.self.view_is
-    (rows_are_within (map (row_in l.tables) l.rows) (few_rows l.tables l.rows _ _ c.self.invariant)
-    (shaped_all l.tables l.rows c.self.invariant.rows))
+    (rows_are_within (map (row_in l.entries) l.rows) (few_rows l.entries l.rows _ _ c.self.invariant)
+    (shaped_all l.entries l.rows c.self.invariant.rows))
 
 pub returns-else-len-bounds-clause-widest : goal.returns-else-len-bounds-clause-widest
 returns-else-len-bounds-clause-widest c =
     let l = c.self.inside in
     subst (λ (l : Ledger). fits widest (map row_of l.rows) ≡ true) c.self.view_is
-    (rows_are_within (map (row_in l.tables) l.rows) (few_rows l.tables l.rows _ _ c.self.invariant)
-    (shaped_all l.tables l.rows c.self.invariant.rows))
+    (rows_are_within (map (row_in l.entries) l.rows) (few_rows l.entries l.rows _ _ c.self.invariant)
+    (shaped_all l.entries l.rows c.self.invariant.rows))
 
 pub returns-then-len-bounds-clause-shaped : goal.returns-then-len-bounds-clause-shaped
 returns-then-len-bounds-clause-shaped c fit =
@@ -37,9 +37,9 @@ returns-then-len-bounds-clause-shaped c fit =
     All-map (rows.IsShaped b) row_of c.args.self.now.rows
     (rows_that_fit_lie b c.args.self.now.rows
     (subst (λ (l : Ledger). All (IsShaped widest) l.rows) c.self.view_is
-    (shaped_all l.tables l.rows c.self.invariant.rows))
+    (shaped_all l.entries l.rows c.self.invariant.rows))
     (sym (ap (λ (l : Ledger). list_all (row_fits b) l.rows) c.self.view_is)
-    ∙ list_all-map (row_fits b) (row_in l.tables) l.rows ∙ sym c.all_fit.ensures ∙ fit))
+    ∙ list_all-map (row_fits b) (row_in l.entries) l.rows ∙ sym c.all_fit.ensures ∙ fit))
 
 pub returns-then-len-bounds-clause-fits : goal.returns-then-len-bounds-clause-fits
 returns-then-len-bounds-clause-fits c =
@@ -49,7 +49,7 @@ returns-then-len-bounds-clause-fits c =
     let few : length rs ≤ b.postings =
     subst (λ n. n ≤ b.postings) c.len.ensures.count c.if-len-bounds.true in
     c.all_fit.ensures
-    ∙ sym (list_all-map (row_fits b) (row_in l.tables) l.rows)
+    ∙ sym (list_all-map (row_fits b) (row_in l.entries) l.rows)
     ∙ ap (λ (l : Ledger). list_all (row_fits b) l.rows) c.self.view_is
     ∙ sym (ap (λ is. is && list_all (row_fits b) rs) (le-leb (length rs) b.postings few))
     ∙ sym (fits_alike b rs)

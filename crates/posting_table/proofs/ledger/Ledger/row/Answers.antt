@@ -12,7 +12,7 @@ returns-clause-row c =
     let l = c.self.inside in
     ap (λ r. Some (row_of r)) c.new.ensures
     ∙ ap (option_map row_of)
-    (ap (option_map (row_in l.tables)) c.at.ensures
-    ∙ sym (slice_get-map (row_in l.tables) l.rows c.args.row))
+    (ap (option_map (row_in l.entries)) c.at.ensures
+    ∙ sym (slice_get-map (row_in l.entries) l.rows c.args.row))
     ∙ sym (slice_get-map row_of _ c.args.row)
     ∙ ap (λ (l : Ledger). slice_get (rows_of l) c.args.row) c.self.view_is
