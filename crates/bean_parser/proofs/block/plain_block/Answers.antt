@@ -1,5 +1,4 @@
-use Rattle.std.proofs.Common.{[], sym, ◌∙◌}
-use Rattle.std.proofs.lemmas.List.{append-nil}
+use Rattle.std.proofs.Common.{sym, ◌∙◌}
 use Rattle.bean_parser.proofs.PlainBlockFacts.{no_plain_fault, plain_given}
 use Rattle.bean_parser.proofs.PlainLinesFacts.{no_others}
 use Rattle.bean_parser.proofs.block.plain_block.Goals as goal

@@ -1,10 +1,10 @@
-use Rattle.std.proofs.Common.{refl, sym, ◌∙◌}
+use Rattle.std.proofs.Common.{refl}
 use Rattle.std.proofs.lemmas.Result.{on_ok_weaker}
 use Rattle.bean_parser.proofs.GatheredFacts.{none_added, plain_adds}
 use Rattle.bean_parser.proofs.parse.Gathered.add_block.Goals as goal
 
-pub returns-then : goal.returns-then
-returns-then c =
+pub returns-then-branch : goal.returns-then-branch
+returns-then-branch c =
     plain_adds c.args.block.now _ c.args.self.now _ c.if-branch.true c.in_ok-add_plain.ensures refl
     refl refl
 
