@@ -50,7 +50,7 @@ mod texts;
 
 pub use amounts::Amount;
 pub use apart::Apart;
-pub use days::{Day, NotADay, parse_day};
+pub use days::{Day, NotADay, day_of_form, parse_day};
 pub use fault::{Fault, FaultKind};
 pub use few::Few;
 pub use flags::Flag;

@@ -64,16 +64,24 @@ impl Day {
     }
 }
 
-/// The day that a text writes, as `2014-01-31` or `2014/01/31`.
-pub fn parse_day(text: &str) -> Result<Day, NotADay>
+/// The day that a text of the form of one writes, as `2014-01-31` or `2014/01/31`.
+pub fn day_of_form(text: &str) -> Result<Day, NotADay>
+    requires { IsTrue (is_day_form text.now) }
     ensures { ParsesDay result text.now }
 {
     let bytes = text.as_bytes();
-    if !Day::is_form(bytes) {
-        return Err(NotADay);
-    }
     let year = value_of(&bytes[..4]);
     let month = value_of(&bytes[5..7]);
     let day = value_of(&bytes[8..10]);
     Day::new(year, month as u8, day as u8)
+}
+
+/// The day that a text writes, if it writes one.
+pub fn parse_day(text: &str) -> Result<Day, NotADay>
+    ensures { ParsesDay result text.now }
+{
+    if !Day::is_form(text.as_bytes()) {
+        return Err(NotADay);
+    }
+    day_of_form(text)
 }
