@@ -10,8 +10,8 @@ ghost use Rattle.bean_lexer.specs.InGap.{IsLead};
 ghost use Rattle.bean_lexer.specs.declared.gaps.Spot.TheVariants as spot;
 ghost use Rattle.bean_lexer.specs.declared.kind.Place.TheVariants as place;
 
-use crate::kind::Place;
 use crate::classes::Space;
+use crate::kind::Place;
 use crate::tables::begins_token;
 use byte_runs::end_of_run;
 
