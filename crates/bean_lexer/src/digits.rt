@@ -47,7 +47,7 @@ fn has_more_digits(bytes: &[u8], at: usize) -> bool
     requires { at ≤ length bytes.now }
     ensures { result ≡ spec.has_more_digits bytes.now at }
 {
-    at + 1 < bytes.len() && bytes[at] == b',' && bytes[at + 1].is_ascii_digit()
+    at < bytes.len() && bytes[at] == b',' && at + 1 < bytes.len() && bytes[at + 1].is_ascii_digit()
 }
 
 fn has_point(bytes: &[u8], at: usize) -> bool

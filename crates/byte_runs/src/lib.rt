@@ -13,6 +13,7 @@
 
 mod ends;
 mod hints;
+mod tables;
 
 ghost use Rattle.std.specs.Prelude.{◌≡◌, ℕ, Bool, ◌+◌, ◌<◌, ◌≤◌, nat_eq, length, take, drop};
 ghost use Rattle.std.specs.Option.{MatchOption};
@@ -22,6 +23,7 @@ ghost use Rattle.std.specs.Cmp.Lexicographic.{pointwise};
 
 pub use ends::end_of;
 pub use hints::Hints;
+pub use tables::{COMPONENT_BYTES, PLAIN_TEXT_BYTES, TOKEN_STARTS};
 
 /// A class of bytes.
 pub trait ByteClass {

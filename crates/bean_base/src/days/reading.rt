@@ -8,8 +8,13 @@ ghost use Rattle.bean_base.specs.CalendarDay.{day_of};
 ghost use Rattle.bean_base.specs.Day.{is_day_form, HasDay, ParsesDay};
 
 use crate::days::{Day, NotADay};
-use crate::digits::are_digits;
 use jiff::civil::Date;
+
+fn are_digits(bytes: &[u8]) -> bool
+    ensures { result ≡ list_all is_ascii_digit bytes.now }
+{
+    bytes.iter().all(|b| b.is_ascii_digit())
+}
 
 /// The number that up to four digits write.
 #[tactic(auto, using(crate::proofs::DayFacts::more, crate::proofs::DayFacts::fits_more))]
