@@ -21,4 +21,5 @@
 mod pieces;
 
 pub use pieces::Pieces;
+pub use pieces::parts::{Parts, forget_items};
 pub use pieces::taken::{Taken, move_items};
