@@ -1,5 +1,6 @@
 -- Pieces of a text, one behind the other.
-use Rattle.std.proofs.Common.{◌≡◌, ℕ, List, [], ◌∷◌, ◌++◌, append_assoc, refl, sym, ap, ◌∙◌}
+use Rattle.std.proofs.Common.{◌≡◌, ℕ, List, [], ◌∷◌, ◌++◌, append_assoc, refl, ap, ◌∙◌}
+use Rattle.std.proofs.lemmas.List.{append-nil}
 use Rattle.pieces.specs.Pieces.{pieced}
 use Rattle.table_printer.specs.Growing.{together}
 
@@ -12,7 +13,7 @@ last_behind (p ∷ ps) last =
 
 all_together : (full : List (List ℕ)) (last : List ℕ)
     → together (full ++ last ∷ []) ≡ pieced full last
-all_together [] last = search rules
+all_together [] last = append-nil last
 all_together (p ∷ ps) last = ap (λ l. p ++ l) (all_together ps last)
 
 -- lines behind their head

@@ -6,3 +6,4 @@ pub mod OpenFacts
 pub mod FrontFacts
 mod GrowingFacts
 pub mod PrintingFacts
+mod TextFacts

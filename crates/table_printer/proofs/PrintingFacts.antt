@@ -1,69 +1,15 @@
 -- Tables of which some rows are printed.
-use Rattle.std.proofs.Common.{◌≡◌, ℕ, ◌+◌, List, [], ◌∷◌, ◌++◌, Option, None, Some, fold, length, map, max, refl, sym, ap, ◌∙◌}
-use Rattle.std.proofs.Common.{append_assoc, arith, subst, take}
+use Rattle.std.proofs.Common.{◌≡◌, ℕ, ◌+◌, List, [], ◌∷◌, ◌++◌, Option, None, Some, length, map, sym, ap, ◌∙◌}
+use Rattle.std.proofs.Common.{arith, subst, take}
 use Rattle.std.specs.List.{flat_map, slice_get}
-use Rattle.std.proofs.lemmas.Grind.{flat_map-append}
-use Rattle.std.proofs.lemmas.List.{append-nil, length-map, map-append, take_all}
-use Rattle.std.proofs.lemmas.List.Sums.{fold-append}
+use Rattle.std.proofs.lemmas.List.{append-nil, map-append, take_all}
 use Rattle.cell_texts.specs.CellText.{clean_text}
 use Rattle.query_values.specs.declared.value.Value.{Value}
 use Rattle.table_printer.specs.Heading.{bare_heading, heading_text, width_of}
-use Rattle.table_printer.specs.Printing.{IsLeftOpen, IsMeasured, NoneIn, Stands, count_with, head_of}
-use Rattle.table_printer.specs.Table.{HasNoNumber, PlacedText, headers_from, line_of, table_text, text_of, width_at, widths_of}
+use Rattle.table_printer.specs.Printing.{IsLeftOpen, IsMeasured, NoneIn, Stands, head_of}
+use Rattle.table_printer.specs.Table.{HasNoNumber, headers_from, line_of, table_text, text_of, widths_of}
 use Rattle.table_printer.specs.declared.headings.Heading.{Heading}
-use Rattle.table_printer.proofs.InColumn.{length-headers_from}
 use Rattle.table_printer.proofs.OpenFacts.{all_headers, all_widths}
-
--- the lines of rows behind others
-both_lines : (head : List ℕ) (line : List PlacedText → List ℕ) (d : List ℕ → ℕ)
-    (done rows : List (List Value)) (old new : List ℕ)
-    → old ≡ head ++ flat_map line (map (map (text_of d)) done)
-    → new ≡ old ++ flat_map line (map (map (text_of d)) rows)
-    → new ≡ head ++ flat_map line (map (map (text_of d)) (done ++ rows))
-both_lines head line d done rows old new was is =
-    is ∙ ap (λ l. l ++ flat_map line (map (map (text_of d)) rows)) was
-    ∙ append_assoc head (flat_map line (map (map (text_of d)) done)) (flat_map line (map (map (text_of d)) rows))
-    ∙ ap (λ l. head ++ l)
-    (sym (flat_map-append line (map (map (text_of d)) done) (map (map (text_of d)) rows))
-    ∙ ap (flat_map line) (sym (map-append (map (text_of d)) done rows)))
-
-module _ (names : List (List ℕ)) (all done rows : List (List Value)) (d : List ℕ → ℕ)
-    (hs : List Heading) (old new : List ℕ) where
-  -- the lines of more rows
-  pub more : IsMeasured names all done d hs old
-      → new ≡ old ++ flat_map (line_of (map width_of hs)) (map (map (text_of d)) rows)
-      → IsMeasured names all (done ++ rows) d hs new
-  more before is = record {
-    headers = before.headers;
-    widths = before.widths;
-    lines = both_lines (head_of (map width_of hs) (map heading_text hs))
-        (line_of (map width_of hs)) d done rows old new before.lines is;
-  }
-
-  pub more_open : (h after : Heading) → IsLeftOpen names all done d hs h old
-      → after.name ≡ h.name → after.has_numbers ≡ h.has_numbers
-      → after.width ≡ fold max h.width (map (width_at (length hs)) (map (map (text_of d)) rows))
-      → ((w : ℕ) → new ≡ old ++ flat_map (line_of (map width_of hs ++ w ∷ [])) (map (map (text_of d)) rows))
-      → IsLeftOpen names all (done ++ rows) d hs after new
-  more_open h after before name has wide is =
-      let k = length hs in
-      let texts = map (map (text_of d)) in record {
-        many = before.many;
-        none = before.none;
-        headers = before.headers;
-        widths = before.widths;
-        name = ap (λ n. Some n) name ∙ before.name;
-        left = has ∙ before.left;
-        width = wide
-            ∙ ap (λ s. fold max s (map (width_at k) (texts rows))) before.width
-            ∙ sym (fold-append max _ (map (width_at k) (texts done)) (map (width_at k) (texts rows)))
-            ∙ ap (fold max _) (sym (map-append (width_at k) (texts done) (texts rows)))
-            ∙ ap (λ l. fold max _ (map (width_at k) l)) (sym (map-append (map (text_of d)) done rows))
-            ∙ (λ i. fold max (max (text_width (clean_text (sym name i))) 1)
-            (map (width_at k) (texts (done ++ rows))));
-        lines = λ w.
-            both_lines [] (line_of (map width_of hs ++ w ∷ [])) d done rows old new (before.lines w) (is w);
-      }
 
 -- no rows are printed so far
 module _ (names : List (List ℕ)) (all : List (List Value)) (d : List ℕ → ℕ) (hs : List Heading)
@@ -95,14 +41,6 @@ module _ (names : List (List ℕ)) (all : List (List Value)) (d : List ℕ → �
     width = ap (λ b. b.width) bare;
     lines = λ w. none;
   }
-
--- as many columns as names
-pub columns_are : (names : List (List ℕ)) (all done : List (List Value)) (d : List ℕ → ℕ)
-    (own : Option Heading) (hs : List Heading) (text : List ℕ) → Stands names all done d own hs text
-    → count_with own (length hs) ≡ length names
-columns_are names all done d None hs text is =
-    sym (length-map hs heading_text) ∙ ap length is.headers ∙ length-headers_from 0 all names
-columns_are names all done d (Some h) hs text is = is.many
 
 -- where the last column is left open, no row has a number there
 pub may_be : (names : List (List ℕ)) (all done : List (List Value)) (d : List ℕ → ℕ)

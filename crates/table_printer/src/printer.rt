@@ -79,8 +79,8 @@ fn open_head<'t>(
     scratch: &mut Scratch,
     display: &Display<'_>,
 ) -> Result<Vec<u8>, AllocError>
-    ensures { IfOk result (λ v. v.items ≡ head_of (map width_of (headings.items ++ own ∷ []))
-        (map heading_text (headings.items ++ own ∷ []))) }
+    ensures { IfOk result (λ v. v.items ≡ head_of (map width_of (headings.entry.items ++ own.entry ∷ []))
+        (map heading_text (headings.entry.items ++ own.entry ∷ []))) }
 {
     let mut headings = headings;
     headings.push(own)?;
@@ -222,7 +222,7 @@ impl<'t> Printer<'t> {
     /// What is still to be put in front of the lines, and these.
     fn finish(self, display: &Display<'_>) -> Result<(Vec<u8>, Growing), AllocError>
         ensures { IfOk result (λ t. (names : List (List ℕ)) (all : List (List Value))
-            → IsPrinted names all all (decimals_of display.now) self
+            → IsPrinted names all all (decimals_of display.now) self.entry
             → t.0.items ++ grown t.1 ≡ table_text names all (decimals_of display.now)) }
     {
         let Printer {
@@ -243,7 +243,7 @@ impl<'t> Printer<'t> {
     /// The text of the table, of which all rows are printed.
     pub fn into_text(self, display: &Display<'_>) -> Result<TableText, AllocError>
         ensures { IfOk result (λ text. (names : List (List ℕ)) (all : List (List Value))
-            → IsPrinted names all all (decimals_of display.now) self
+            → IsPrinted names all all (decimals_of display.now) self.entry
             → text ≡ table_text names all (decimals_of display.now)) }
     {
         let (head, lines) = self.finish(display)?;
@@ -254,7 +254,7 @@ impl<'t> Printer<'t> {
     /// The same in one piece.
     pub(crate) fn into_bytes(self, display: &Display<'_>) -> Result<Vec<u8>, AllocError>
         ensures { IfOk result (λ text. (names : List (List ℕ)) (all : List (List Value))
-            → IsPrinted names all all (decimals_of display.now) self
+            → IsPrinted names all all (decimals_of display.now) self.entry
             → text.items ≡ table_text names all (decimals_of display.now)) }
     {
         let alloc = self.alloc;

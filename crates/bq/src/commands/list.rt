@@ -46,7 +46,8 @@ fn printed(alloc: Global, ledger: &mut Ledger<'_>) -> Result<TableText, AllocErr
     let mut printer = Printer::new(alloc, &names, &Postings { ledger }, ledger.display())?;
     let mut parts = ledger.take_parts()?;
     print_parts(&mut printer, &mut parts, ledger.display())?;
-    printer.into_text(ledger.display())
+    let text = printer.into_text(ledger.display())?;
+    Ok(text)
 }
 
 /// What the postings are that texts are booked as.

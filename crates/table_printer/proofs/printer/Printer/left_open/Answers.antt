@@ -1,4 +1,4 @@
-use Rattle.std.proofs.Common.{◌∙◌, arith, map, length, sym, ap, Some}
+use Rattle.std.proofs.Common.{◌∙◌, arith, sym, ap}
 use Rattle.std.specs.List.{slice_get}
 use Rattle.posting_table.specs.Decimals.{decimals_of}
 use Rattle.table_printer.specs.Growing.{grown}

@@ -1,4 +1,4 @@
-use Rattle.std.proofs.Common.{◌++◌, ◌∙◌, arith, map, sym, ap}
+use Rattle.std.proofs.Common.{◌++◌, ◌∙◌, arith, map, ap}
 use Rattle.pieces.specs.Pieces.{pieced}
 use Rattle.pieces.proofs.PieceFacts.{at_end}
 use Rattle.posting_table.specs.Decimals.{decimals_of}
