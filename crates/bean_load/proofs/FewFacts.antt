@@ -8,12 +8,12 @@ use Rattle.bean_directives.specs.declared.undated.Pushed.{Pushed}
 use Rattle.bean_parser.specs.Block.{begins_block, blocks}
 use Rattle.bean_parser.specs.Outcome.{AllGive}
 use Rattle.bean_parser.specs.Parsed.{IsParsed, all_bounds, directives_in}
-use Rattle.bean_parser.specs.Scope.{given_behind, given_between, given_up_to, latest, open_pushes}
-use Rattle.bean_parser.specs.Scope.{name_in, reach_of, with_pushes}
+use Rattle.bean_pushes.specs.Scope.{given_behind, given_between, given_up_to, latest, open_pushes}
+use Rattle.bean_pushes.specs.Scope.{name_in, reach_of, with_pushes}
 use Rattle.bean_parser.specs.declared.block.Outcome.{Outcome}
 use Rattle.bean_parser.specs.declared.block.Outcome.TheVariants as outcome
 use Rattle.bean_parser.specs.declared.parse.Parsed.{Parsed}
-use Rattle.bean_parser.specs.declared.scope.PlacedBound.{PlacedBound}
+use Rattle.bean_pushes.specs.declared.scope.PlacedBound.{PlacedBound}
 use Rattle.bean_parser.specs.declared.statement.Statement.TheVariants.{Directive, Undated}
 use Rattle.bean_parser.proofs.SmallCutFacts.{AreSome, count, cut_count, cut_some}
 use Rattle.bean_parser.proofs.SmallTokenFacts.{tokens_few}

@@ -4,8 +4,6 @@ pub mod LinesFacts
 pub mod PlainLinesFacts
 pub mod PlainBlockFacts
 pub mod BlockFacts
-pub mod ScopeFacts
-pub mod MatchFacts
 pub mod GatheredFacts
 pub mod ParsedFacts
 pub mod OneTree

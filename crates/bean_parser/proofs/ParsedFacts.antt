@@ -10,7 +10,7 @@ use Rattle.bean_parser.specs.BlockReader.{ToRead, TakesBlock}
 use Rattle.bean_parser.specs.Gathered.{IsGathered}
 use Rattle.bean_parser.specs.Outcome.{Gives, AllGive}
 use Rattle.bean_parser.specs.Parsed.{IsParsed, ComeTo, AreByLine}
-use Rattle.bean_parser.specs.Scope.{unmatched, with_pushes}
+use Rattle.bean_pushes.specs.Scope.{unmatched, with_pushes}
 use Rattle.bean_parser.specs.declared.block.Outcome.{Outcome}
 use Rattle.bean_directives.specs.declared.directive.Directive as directives
 use Rattle.bean_parser.specs.declared.parse.Gathered.{Gathered}

@@ -4,7 +4,7 @@ use Rattle.std.specs.List.{AllByRecursion, flat_map}
 use Rattle.bean_directives.specs.declared.directive.Directive.{Directive}
 use Rattle.bean_parser.specs.Block.{begins_block, blocks}
 use Rattle.bean_parser.specs.Parsed.{IsParsed, directives_in, all_bounds}
-use Rattle.bean_parser.specs.Scope.{with_pushes}
+use Rattle.bean_pushes.specs.Scope.{with_pushes}
 use Rattle.bean_parser.specs.declared.parse.Parsed.{Parsed}
 use Rattle.bean_directives.specs.SmallPart.{most, IsShort}
 use Rattle.bean_directives.specs.Small.{IsSmallDirective}

@@ -4,8 +4,6 @@ pub mod Under
 pub mod Grammar
 pub mod Outcome
 pub mod Reading
-pub mod Scope
-pub mod Matches
 pub mod Parsed
 pub mod Gathered
 pub mod OneReading

@@ -9,12 +9,12 @@ use Rattle.bean_lexer.specs.declared.token.Token.{Token}
 use Rattle.bean_lexer.specs.Tokens.{AreTokens}
 use Rattle.bean_parser.specs.Block.{blocks}
 use Rattle.bean_parser.specs.Outcome.{AllGive, fault_at}
-use Rattle.bean_parser.specs.Scope.{unmatched, with_pushes}
+use Rattle.bean_pushes.specs.Scope.{unmatched, with_pushes}
 use Rattle.bean_parser.specs.declared.block.Outcome.{Outcome}
 use Rattle.bean_parser.specs.declared.block.Outcome.TheVariants as outcome
 use Rattle.bean_directives.specs.declared.directive.Directive as directives
 use Rattle.bean_parser.specs.declared.parse.Parsed.{Parsed}
-use Rattle.bean_parser.specs.declared.scope.PlacedBound.{PlacedBound}
+use Rattle.bean_pushes.specs.declared.scope.PlacedBound.{PlacedBound}
 use Rattle.bean_parser.specs.declared.statement.Statement.TheVariants.{Directive, Undated}
 use Rattle.bean_directives.specs.declared.undated.UndatedKind.{UndatedKind}
 use Rattle.bean_directives.specs.declared.undated.UndatedKind.TheVariants as kind

@@ -44,11 +44,9 @@
 mod block;
 mod grammar;
 pub mod includes;
-mod matches;
 pub mod parse;
 mod part;
 mod reader;
-mod scope;
 mod sizes;
 mod statement;
 mod under;

@@ -8,13 +8,12 @@ ghost use Rattle.bean_parser.specs.declared.statement.Statement.TheVariants as s
 ghost use Rattle.bean_parser.specs.Outcome.{Gives};
 
 use crate::block::{Outcome, fault_at, plain_block, read_block};
-use crate::matches::reaches;
 use crate::reader::BlockReader;
-use crate::scope::{PlacedBound, add_unmatched, give_all};
 use crate::statement::Statement;
 use bean_base::{Apart, Fault, FaultKind, List};
 use bean_directives::{Directive, Setting, UndatedKind};
 use bean_lexer::Token;
+use bean_pushes::{PlacedBound, add_unmatched, give_all, reaches};
 use std::alloc::{AllocError, Global};
 
 /// What a ledger's text says, in reading order. The faults have file 0.

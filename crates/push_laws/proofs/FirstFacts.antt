@@ -14,10 +14,10 @@ use Rattle.bean_directives.specs.declared.undated.Bound.{Bound}
 use Rattle.bean_directives.specs.declared.undated.Bound.TheVariants.{Push, Pop}
 use Rattle.bean_directives.specs.declared.undated.Pushed.{Pushed}
 use Rattle.bean_directives.specs.declared.undated.PushName.{PushName}
-use Rattle.bean_parser.proofs.MatchFacts.{one_more, other_pops, same_is}
-use Rattle.bean_parser.specs.Scope.{latest, name_in, name_of, next_of, open_behind, open_pushes}
-use Rattle.bean_parser.specs.Scope.{pops_before, pops_left, reach_of, same_name}
-use Rattle.bean_parser.specs.declared.scope.PlacedBound.{PlacedBound}
+use Rattle.bean_pushes.proofs.MatchFacts.{one_more, other_pops, same_is}
+use Rattle.bean_pushes.specs.Scope.{latest, name_in, name_of, next_of, open_behind, open_pushes}
+use Rattle.bean_pushes.specs.Scope.{pops_before, pops_left, reach_of, same_name}
+use Rattle.bean_pushes.specs.declared.scope.PlacedBound.{PlacedBound}
 use Rattle.push_laws.proofs.GivenFacts.{by_latest, by_push, each_given, latest_given, up_to}
 use Rattle.push_laws.proofs.OpenFacts.{latest_of, latest_of_last, one_goes, one_stays, open_of}
 use Rattle.push_laws.proofs.OpenFacts.{latest_one, other_open}

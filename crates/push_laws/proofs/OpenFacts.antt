@@ -9,10 +9,10 @@ use Rattle.bean_directives.specs.declared.undated.Bound.{Bound}
 use Rattle.bean_directives.specs.declared.undated.Bound.TheVariants.{Push, Pop}
 use Rattle.bean_directives.specs.declared.undated.Pushed.{Pushed}
 use Rattle.bean_directives.specs.declared.undated.PushName.{PushName}
-use Rattle.bean_parser.proofs.MatchFacts.{less_one}
-use Rattle.bean_parser.specs.Scope.{latest, name_in, name_of, open_behind, open_pushes, pops_before}
-use Rattle.bean_parser.specs.Scope.{pops_left, same_name}
-use Rattle.bean_parser.specs.declared.scope.PlacedBound.{PlacedBound}
+use Rattle.bean_pushes.proofs.MatchFacts.{less_one}
+use Rattle.bean_pushes.specs.Scope.{latest, name_in, name_of, open_behind, open_pushes, pops_before}
+use Rattle.bean_pushes.specs.Scope.{pops_left, same_name}
+use Rattle.bean_pushes.specs.declared.scope.PlacedBound.{PlacedBound}
 
 -- ---- the latest of some
 

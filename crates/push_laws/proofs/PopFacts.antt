@@ -8,9 +8,9 @@ use Rattle.bean_directives.specs.declared.undated.Bound.{Bound}
 use Rattle.bean_directives.specs.declared.undated.Bound.TheVariants.{Push, Pop}
 use Rattle.bean_directives.specs.declared.undated.Pushed.{Pushed}
 use Rattle.bean_directives.specs.declared.undated.PushName.{PushName}
-use Rattle.bean_parser.specs.Scope.{name_of, open_behind, open_pushes, pops_before}
-use Rattle.bean_parser.specs.Scope.{pops_left, same_name}
-use Rattle.bean_parser.specs.declared.scope.PlacedBound.{PlacedBound}
+use Rattle.bean_pushes.specs.Scope.{name_of, open_behind, open_pushes, pops_before}
+use Rattle.bean_pushes.specs.Scope.{pops_left, same_name}
+use Rattle.bean_pushes.specs.declared.scope.PlacedBound.{PlacedBound}
 use Rattle.push_laws.proofs.OpenFacts.{open_is, take_none}
 use Rattle.push_laws.specs.EachPush.{later_behind, one_less, or_on, pop_of}
 

@@ -6,7 +6,7 @@ use Rattle.bean_directives.specs.declared.undated.UndatedKind.TheVariants as kin
 use Rattle.bean_parser.specs.Parsed.{all_bounds, bounds_in, bounds_of, directives_in}
 use Rattle.bean_parser.specs.declared.block.Outcome.{Outcome}
 use Rattle.bean_parser.specs.declared.block.Outcome.TheVariants as outcome
-use Rattle.bean_parser.specs.declared.scope.PlacedBound.{PlacedBound}
+use Rattle.bean_pushes.specs.declared.scope.PlacedBound.{PlacedBound}
 use Rattle.bean_parser.specs.declared.statement.Statement.TheVariants.{Directive, Undated}
 use Rattle.push_laws.proofs.AlikeFacts.{give_the_same}
 use Rattle.push_laws.specs.Alike.{AreAlike, InOrder, TextsGiveTheSame}

@@ -11,10 +11,10 @@ use Rattle.bean_grammar.specs.declared.mark.Mark.{Mark}
 use Rattle.bean_grammar.specs.declared.mark.Mark.TheVariants as mark
 use Rattle.bean_grammar.specs.declared.metadata.MetaEntry.{MetaEntry}
 use Rattle.bean_parser.specs.Parsed.{ComeTo, all_bounds, directives_in}
-use Rattle.bean_parser.specs.Scope.{name_of, pops_left, with_pushes}
+use Rattle.bean_pushes.specs.Scope.{name_of, pops_left, with_pushes}
 use Rattle.bean_parser.specs.declared.block.Outcome.{Outcome}
 use Rattle.bean_parser.specs.declared.parse.Parsed.{Parsed}
-use Rattle.bean_parser.specs.declared.scope.PlacedBound.{PlacedBound}
+use Rattle.bean_pushes.specs.declared.scope.PlacedBound.{PlacedBound}
 use Rattle.push_laws.specs.EachPush.{pop_of, with_each}
 
 -- ---- what is found of a directive

@@ -4,8 +4,8 @@ use Rattle.bean_directives.specs.declared.directive.Directive.{Directive}
 use Rattle.bean_directives.specs.declared.undated.Bound.{Bound}
 use Rattle.bean_directives.specs.declared.undated.Bound.TheVariants.{Push, Pop}
 use Rattle.bean_directives.specs.declared.undated.PushName.{PushName}
-use Rattle.bean_parser.specs.Scope.{given_up_to, name_of, same_name}
-use Rattle.bean_parser.specs.declared.scope.PlacedBound.{PlacedBound}
+use Rattle.bean_pushes.specs.Scope.{given_up_to, name_of, same_name}
+use Rattle.bean_pushes.specs.declared.scope.PlacedBound.{PlacedBound}
 
 abbrev pub one_less : ℕ → Option ℕ
 one_less zero = None

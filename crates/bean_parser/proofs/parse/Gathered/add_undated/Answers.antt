@@ -2,7 +2,7 @@ use Rattle.bean_parser.proofs.GatheredFacts.{setting_adds, ignored_adds, bound_a
 use Rattle.bean_parser.proofs.parse.Gathered.add_undated.Goals as goal
 use Rattle.std.proofs.Common.{◌≡◌, ℕ, List, refl, ◌∙◌, ap, ◌++◌, ◌∷◌, [], length, arith}
 use Rattle.std.proofs.lemmas.Grind.{common_steps}
-use Rattle.bean_parser.specs.declared.scope.PlacedBound.{PlacedBound}
+use Rattle.bean_pushes.specs.declared.scope.PlacedBound.{PlacedBound}
 
 pub returns-in_ok-push-in-Setting : goal.returns-in_ok-push-in-Setting
 returns-in_ok-push-in-Setting c =

@@ -2,7 +2,7 @@ use Rattle.bean_parser.proofs.ParsedFacts.{come_to}
 use Rattle.bean_parser.proofs.parse.Gathered.parsed.Goals as goal
 use Rattle.std.proofs.Common.{◌∙◌, sym, ap, subst, ◌++◌, []}
 use Rattle.bean_parser.specs.Parsed.{AreByLine}
-use Rattle.bean_parser.specs.Scope.{unmatched, with_pushes}
+use Rattle.bean_pushes.specs.Scope.{unmatched, with_pushes}
 
 pub returns : goal.returns
 returns c = λ os is.

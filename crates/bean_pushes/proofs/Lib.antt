@@ -1,0 +1,3 @@
+pub mod ScopeFacts
+pub mod MatchFacts
+mod Examples

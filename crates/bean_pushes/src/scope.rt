@@ -1,0 +1,204 @@
+//! Pushes and pops: what is given to the transactions between them.
+ghost use Rattle.std.specs.Prelude.{◌≡◌, ◌++◌, ◌∷◌, [], IfOk, OnOk, option_copied};
+ghost use Rattle.std.specs.Prelude as prelude;
+ghost use Rattle.bean_directives.specs.declared.undated.PushName as names;
+ghost use Rattle.bean_directives.specs.declared.undated.Pushed as pushed_declared;
+ghost use Rattle.bean_pushes.specs.Matches.{open_in, reaches_of};
+ghost use Rattle.bean_pushes.specs.Scope as spec;
+ghost use Rattle.bean_pushes.specs.declared.scope.PlacedBound as placed;
+
+use crate::matches::{Opens, name_in};
+use bean_base::{Apart, Fault, FaultKind, Few, Place};
+use bean_directives::{Bound, Directive, DirectiveKind, Pushed};
+use bean_grammar::{Mark, MetaEntry};
+use bean_lexer::Tag;
+use std::alloc::{AllocError, Global};
+use std::mem::replace;
+
+/// Where a scope begins or ends, with its place.
+#[derive(Drop)]
+pub struct PlacedBound<'a> {
+    /// The line on which it is written, from 1.
+    pub line: usize,
+    /// How many directives stand before it.
+    pub place: usize,
+    pub bound: Bound<'a>,
+}
+
+/// Whether a push has its pop behind it, or a pop an open push before it.
+fn is_matched<'a>(bound: &Bound<'a>, reach: Option<usize>, opens: &Opens<'a>) -> bool
+    ensures { (before behind : prelude.List placed.PlacedBound)
+        → reach ≡ spec.reach_of (spec.name_in bound.now) behind
+        → ((n : names.PushName) → open_in opens.now n ≡ spec.open_pushes n [] before)
+        → result ≡ spec.is_matched before bound.now behind }
+{
+    match bound {
+        Bound::Push(_) => reach.is_some(),
+        Bound::Pop(name) => opens.latest(name).is_some(),
+    }
+}
+
+/// F4 at a line.
+fn unmatched_at(line: usize) -> Fault
+    ensures { result ≡ spec.unmatched_at line }
+{
+    Fault {
+        kind: FaultKind::UnmatchedPushOrPop,
+        place: Place { file: 0, line },
+    }
+}
+
+/// Adds F4 at a line where what is written there isn't matched.
+fn note_unless(is_matched: bool, line: usize, faults: &mut Vec<Fault>) -> Result<(), AllocError>
+    ensures { OnOk result (faults.new.items
+        ≡ faults.old.items ++ spec.fault_unless is_matched line) }
+{
+    if !is_matched {
+        faults.push(unmatched_at(line))?;
+    }
+    Ok(())
+}
+
+/// Adds F4 at each bound that isn't matched.
+pub fn add_unmatched<'a>(
+    alloc: Global,
+    bounds: &[PlacedBound<'a>],
+    reaches: &[Option<usize>],
+    faults: &mut Vec<Fault>,
+) -> Result<(), AllocError>
+    requires { reaches.now ≡ reaches_of bounds.now }
+    ensures { OnOk result (faults.new.items ≡ faults.old.items ++ spec.unmatched [] bounds.now) }
+{
+    let mut opens = Opens::new(alloc);
+    let mut i = 0;
+    while i < bounds.len() {
+        let bound = &bounds[i];
+        let matched = is_matched(&bound.bound, reaches[i], &opens);
+        note_unless(matched, bound.line, faults)?;
+        opens.take(alloc, &bound.bound)?;
+        i += 1;
+    }
+    Ok(())
+}
+
+/// Gives a tag to a transaction.
+fn give_tag<'a>(
+    alloc: Global,
+    tag: &Tag<'a>,
+    kind: &mut DirectiveKind<'a>,
+) -> Result<(), AllocError>
+    ensures { OnOk result (kind.new ≡ spec.with_tag tag.now kind.old) }
+{
+    match kind {
+        DirectiveKind::Transaction(transaction) => {
+            transaction.marks.push(alloc, Mark::Tag(tag.lend()))
+        }
+        _ => Ok(()),
+    }
+}
+
+/// Gives an entry to a transaction.
+fn give_entry<'a>(
+    alloc: Global,
+    entry: &MetaEntry<'a>,
+    kind: &DirectiveKind<'a>,
+    entries: &mut Few<MetaEntry<'a>>,
+) -> Result<(), AllocError>
+    ensures { OnOk result (entries.new ≡ spec.entries_with kind.now entries.old entry.now) }
+{
+    match kind {
+        DirectiveKind::Transaction(_) => entries.push(alloc, entry.lend()),
+        _ => Ok(()),
+    }
+}
+
+/// A directive with what is pushed, where it is a transaction.
+fn given<'a>(
+    alloc: Global,
+    pushed: &Pushed<'a>,
+    directive: Directive<'a>,
+) -> Result<Directive<'a>, AllocError>
+    ensures { IfOk result (λ d. d ≡ spec.with_pushed pushed.now directive.entry) }
+{
+    let mut own = directive;
+    let lent = &mut own;
+    match pushed {
+        Pushed::Tag(tag) => give_tag(alloc, tag, &mut lent.kind)?,
+        Pushed::Entry(entry) => give_entry(alloc, entry, &lent.kind, &mut lent.metadata)?,
+    }
+    Ok(own)
+}
+
+/// Gives what is pushed to a directive, which is taken out of its memory for that.
+fn give<'a>(
+    alloc: Global,
+    pushed: &Pushed<'a>,
+    directive: &mut Apart<Directive<'a>>,
+) -> Result<(), AllocError>
+    ensures { OnOk result (directive.new ≡ spec.with_pushed pushed.now directive.old) }
+{
+    let stand_in = Apart::new(alloc, Directive::stand_in(alloc, directive.get().day))?;
+    let own = replace(directive, stand_in).into_inner();
+    let _ = replace(directive, Apart::new(alloc, given(alloc, pushed, own)?)?);
+    Ok(())
+}
+
+/// Gives what is pushed to the transactions from one place up to another.
+fn give_between<'a>(
+    alloc: Global,
+    pushed: &Pushed<'a>,
+    from: usize,
+    to: usize,
+    directives: &mut Vec<Apart<Directive<'a>>>,
+) -> Result<(), AllocError>
+    ensures { OnOk result (directives.new.items
+        ≡ spec.given_between pushed.now from to 0 directives.old.items) }
+{
+    let mut i = from;
+    while i < to && i < directives.len() {
+        give(alloc, pushed, &mut directives[i])?;
+        i += 1;
+    }
+    Ok(())
+}
+
+/// Gives what is pushed, if anything is, to the transactions from one place up to another, if
+/// there is one.
+fn give_up_to<'a>(
+    alloc: Global,
+    pushed: Option<&Pushed<'a>>,
+    from: usize,
+    to: Option<usize>,
+    directives: &mut Vec<Apart<Directive<'a>>>,
+) -> Result<(), AllocError>
+    ensures { OnOk result (directives.new.items
+        ≡ spec.given_up_to (option_copied pushed.entry) from to directives.old.items) }
+{
+    match (pushed, to) {
+        (Some(pushed), Some(to)) => give_between(alloc, pushed, from, to, directives),
+        (_, _) => Ok(()),
+    }
+}
+
+/// Gives what stands of each name, from each bound of it up to the next.
+pub fn give_all<'a>(
+    alloc: Global,
+    bounds: &[PlacedBound<'a>],
+    reaches: &[Option<usize>],
+    directives: &mut Vec<Apart<Directive<'a>>>,
+) -> Result<(), AllocError>
+    requires { reaches.now ≡ reaches_of bounds.now }
+    ensures { OnOk result (directives.new.items
+        ≡ spec.with_pushes [] bounds.now directives.old.items) }
+{
+    let mut opens = Opens::new(alloc);
+    let mut i = 0;
+    while i < bounds.len() {
+        let bound = &bounds[i];
+        opens.take(alloc, &bound.bound)?;
+        let latest = opens.latest(&name_in(&bound.bound));
+        give_up_to(alloc, latest, bound.place, reaches[i], directives)?;
+        i += 1;
+    }
+    Ok(())
+}
