@@ -42,9 +42,8 @@ impl<T: Drop> Few<T> {
         if items.as_slice().is_empty() {
             return Ok(Few::new());
         }
-        Ok(Few {
-            items: Some(Apart::new(alloc, items)?),
-        })
+        let items = Some(Apart::new(alloc, items)?);
+        Ok(Few { items })
     }
 
     /// The items.

@@ -4,9 +4,7 @@
 //! ```text
 //! let usd = parse_currency("USD")?;
 //! let price = Num::parse("1,000.50")?;         // the count 100050 of 10^-2
-//! let fee = Num::parse("2")?.negated();
-//! let paid = Amount { number: price.add(fee)?, currency: usd };
-//! let cash = parse_account("Assets:Cash")?;
+//! let paid = Amount { number: price, currency: usd };
 //! let day = parse_day("2014-01-31")?;          // Display writes it so again
 //! let shop = Text::new("The \"Corner\" shop");  // stands for The "Corner" shop
 //! ```
@@ -20,11 +18,8 @@
 //!
 //! # Faults
 //!
-//! - `N1`, where a number is no number of the ledger: more than 8 decimals, or a whole part of
-//!   `10^12` or more,
-//! - `N2` to `N5`, where a text is no number, account, currency or day.
-//!
-//! [`Fault`] is what a ledger's text has wrong, with its [`Place`].
+//! `N1` for a number with more than 8 decimals, or whose whole part is `10^12` or more; `N2` to `N5`
+//! for what is no number, account, currency or day. [`Fault`] is what is wrong at a [`Place`].
 //!
 //! # Cost
 //!
@@ -35,7 +30,6 @@
 mod amounts;
 mod apart;
 mod days;
-mod digits;
 mod fault;
 mod few;
 mod flags;
@@ -50,7 +44,7 @@ mod texts;
 
 pub use amounts::Amount;
 pub use apart::Apart;
-pub use days::{Day, NotADay, parse_day};
+pub use days::{Day, NotADay, day_of_form, parse_day};
 pub use fault::{Fault, FaultKind};
 pub use few::Few;
 pub use flags::Flag;

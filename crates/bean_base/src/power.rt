@@ -1,8 +1,7 @@
 //! Powers of ten.
 ghost use Rattle.std.specs.Prelude.{◌≡◌, ◌≤◌, ◌^◌, pos};
 
-/// A power of ten, looked up, since a call of `pow` would be most of the work of an addition. In 64
-/// bits it is one look at a table.
+/// A power of ten by one look at a table, since a call of `pow` would be most of an addition.
 #[inline(always)]
 pub(crate) fn power_to_19(exponent: u8) -> u64
     requires { exponent ≤ 19 }

@@ -8,7 +8,7 @@ ghost use Rattle.bean_grammar.specs.Literal as rule;
 
 use crate::front::{after_day, after_text};
 use crate::ranged::Ranged;
-use bean_base::{Day, Text, parse_day};
+use bean_base::{Day, Text, day_of_form};
 use bean_lexer::Token;
 
 /// The day that a token writes, where the calendar has it.
@@ -16,7 +16,7 @@ pub fn day_of(written: &str) -> Ranged<Day>
     requires { IsTrue (is_day_form written.now) }
     ensures { rule.IsDay written.now result }
 {
-    match parse_day(written) {
+    match day_of_form(written) {
         Ok(day) => Ranged::Within(day),
         Err(_) => Ranged::Outside,
     }

@@ -20,3 +20,4 @@ pub mod PlainTextFacts
 pub mod BetweenFacts
 pub mod ColumnOneFacts
 pub mod SomeTokensFacts
+pub mod GapFacts

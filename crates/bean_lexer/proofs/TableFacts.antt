@@ -3,8 +3,8 @@ use Rattle.std.proofs.Common.{◌≡◌, ℕ, zero, suc, add-zero, ◌+◌, ◌<
 use Rattle.std.proofs.Common.{List, [], ◌∷◌, length, get_or, arith, sym, ap, ◌∙◌, refl, rules}
 use Rattle.bean_base.specs.Name.{is_in_component}
 use Rattle.bean_lexer.specs.Gap.{begins_token}
-use Rattle.bean_lexer.specs.declared.tables.TheConstants.{COMPONENT_BYTES, TOKEN_STARTS}
-use Rattle.bean_lexer.specs.declared.tables.TheConstants.{PLAIN_TEXT_BYTES}
+use Rattle.byte_runs.specs.declared.tables.TheConstants.{COMPONENT_BYTES, TOKEN_STARTS}
+use Rattle.byte_runs.specs.declared.tables.TheConstants.{PLAIN_TEXT_BYTES}
 use Rattle.bean_lexer.specs.Lookahead.{is_in_plain_text}
 use Rattle.bean_lexer.proofs.OneListOfTokensFacts.{two_true}
 

@@ -2,7 +2,7 @@
 use Rattle.std.proofs.Common.{◌≡◌, ◌≢◌, ℕ, ◌+◌, ◌-◌, ◌<◌, ◌≤◌, ◌&&◌, cond, if◌then◌else◌, Bool}
 use Rattle.std.proofs.Common.{true, false, nat_eq, nat_lt, List, [], ◌∷◌, ◌++◌, Some, None, length}
 use Rattle.std.proofs.Common.{get_or, take, drop, arith, sym, ap, subst, ◌∙◌, refl, length-take}
-use Rattle.std.proofs.Common.{length-take-le, IsUtf8, ⊎_elim, lit<}
+use Rattle.std.proofs.Common.{length-take-le, IsUtf8, ⊎_elim, lit<, Option}
 use Rattle.std.proofs.str.Laws.{order}
 use Rattle.std.proofs.lemmas.Bool.Decides.{nat_tests}
 use Rattle.std.proofs.lemmas.Slice.Eq.{bytes_eq-Decides}
@@ -245,6 +245,15 @@ doubled_parts : (bs : List ℕ) (sign : Sign) → doubled_sign_at bs ≡ Some si
     × (doubled_sign_of (get_or bs 0 0) ≡ Some sign)
 doubled_parts bs sign h =
     doubled_by (nat_lt 1 (length bs)) (nat_eq (get_or bs 1 0) (get_or bs 0 0)) bs sign refl refl h
+
+none_if : (t : Bool) (s : Option Sign) → s ≡ None → cond t s None ≡ None
+none_if true s h = h
+none_if false s h = refl
+
+-- two bytes are no sign where the first is none that can be doubled
+pub not_doubled : (bs : List ℕ) (b : ℕ) → get_or bs 0 0 ≡ b → doubled_sign_of b ≡ None
+    → doubled_sign_at bs ≡ None
+not_doubled bs b first none = none_if _ _ (ap doubled_sign_of first ∙ none)
 
 pub doubled_token : (bs : List ℕ) (sign : Sign) → begins_other (get_or bs 0 0) ≡ true
     → doubled_sign_at bs ≡ Some sign → IsLongestToken bs (kinds.Sign sign) 2

@@ -9,6 +9,9 @@ use Rattle.bean_lexer.specs.declared.kind.Place.TheVariants as place
 use Rattle.bean_lexer.specs.declared.gaps.Spot.{Spot}
 use Rattle.bean_lexer.specs.declared.gaps.Spot.TheVariants as spot
 
+abbrev pub is_space : ℕ → Bool
+is_space b = b == space
+
 -- space, tab and carriage return
 abbrev pub is_white : ℕ → Bool
 is_white b = (b == space) || (b == tab) || (b == carriage_return)

@@ -3,6 +3,7 @@ ghost use Rattle.bean_base.specs.Name.{is_in_component, is_in_currency};
 ghost use Rattle.bean_lexer.specs.TokenForm.{is_in_name, is_in_key, is_plain};
 ghost use Rattle.bean_lexer.specs.Lookahead.{is_in_plain_text};
 ghost use Rattle.bean_lexer.specs.Tokens.{goes_on_character};
+ghost use Rattle.bean_lexer.specs.Gap.{is_space};
 
 use crate::tables::{goes_on_component, goes_on_plain_text};
 use byte_runs::ByteClass;
@@ -52,6 +53,17 @@ impl ByteClass for InCurrency {
             return true;
         }
         b.is_ascii_digit() || matches!(b, b'\'' | b'.' | b'_' | b'-')
+    }
+}
+
+/// The space.
+pub struct Space;
+
+impl ByteClass for Space {
+    ghost holds = { is_space };
+
+    fn has(b: u8) -> bool {
+        b == b' '
     }
 }
 

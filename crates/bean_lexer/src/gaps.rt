@@ -6,10 +6,14 @@ ghost use Rattle.bean_base.specs.Character.{space};
 ghost use Rattle.bean_lexer.specs.Gap.{is_line_feed, gap_len, behind_gap, gap_step, place_of};
 ghost use Rattle.bean_lexer.specs.Gap as spec;
 ghost use Rattle.bean_lexer.specs.Gap.{spot_at};
-ghost use Rattle.bean_lexer.specs.InGap.{IsInGap, IsLead};
+ghost use Rattle.bean_lexer.specs.InGap.{IsLead};
+ghost use Rattle.bean_lexer.specs.declared.gaps.Spot.TheVariants as spot;
+ghost use Rattle.bean_lexer.specs.declared.kind.Place.TheVariants as place;
 
+use crate::classes::Space;
 use crate::kind::Place;
 use crate::tables::begins_token;
+use byte_runs::end_of_run;
 
 /// Where in a gap a byte stands.
 #[derive(Clone, Copy, Debug, PartialEq, Eq)]
@@ -22,14 +26,6 @@ pub enum Spot {
     Behind,
     /// In a comment or a skipped line.
     Comment,
-}
-
-/// How far one is in a gap: what is behind one, the line feeds in it, and where it ends.
-#[derive(Clone, Copy)]
-pub struct Gap {
-    pub len: usize,
-    pub line_feeds: usize,
-    pub end: Spot,
 }
 
 /// A gap's length, the line feeds in it, and the place of the token behind it.
@@ -90,135 +86,40 @@ impl Spot {
     }
 }
 
+/// A token begins at a byte in the first column.
 #[inline(always)]
-fn is_space_at(bytes: &[u8], at: usize) -> bool
-    ensures { result ≡ (nat_lt at (length bytes.now) && (slice_index bytes.now at == space)) }
+fn begins_line(b: u8) -> bool
+    ensures { IsTrue result → gap_step spot.LineStart b ≡ None }
 {
-    at < bytes.len() && bytes[at] == b' '
+    begins_token(b) && !matches!(b, b'*' | b':' | b'#')
 }
 
-/// A token begins at a byte where a gap has come to a spot.
+/// Spaces behind a token of the same line.
 #[inline(always)]
-fn ends_gap(spot: Spot, b: u8) -> bool
-    ensures { IsTrue result → gap_step spot b ≡ None }
+fn inside(len: usize) -> Lead
+    ensures { result ≡ record { len = len; line_feeds = 0; place = place.Inside } }
 {
-    match spot {
-        Spot::LineStart => begins_token(b) && !matches!(b, b'*' | b':' | b'#'),
-        Spot::Indent | Spot::Behind => begins_token(b),
-        Spot::Comment => false,
-    }
-}
-
-/// A token begins behind a front of a gap.
-#[inline(always)]
-fn is_whole(front: Gap, bytes: &[u8]) -> bool
-    ensures len { IsTrue result → gap_len front.end (drop front.len bytes.now) ≡ 0 }
-    ensures end { IsTrue result → behind_gap front.end (drop front.len bytes.now) ≡ front.end }
-{
-    front.len < bytes.len() && ends_gap(front.end, bytes[front.len])
-}
-
-/// A front of a gap, if it is the whole.
-#[inline(always)]
-fn whole_gap(start: Spot, front: Gap, bytes: &[u8]) -> Option<Lead>
-    requires { IsInGap start bytes.now front }
-    ensures { IfSome result (IsLead start bytes.now) }
-{
-    let _ = start;
-    if is_whole(front, bytes) {
-        Some(Lead {
-            len: front.len,
-            line_feeds: front.line_feeds,
-            place: front.end.place(),
-        })
-    } else {
-        None
-    }
-}
-
-/// The gap that is a front that ends with spaces, and more of them, as in front of amounts that stand
-/// below one another.
-#[inline(always)]
-fn with_more_spaces(start: Spot, front: Gap, bytes: &[u8]) -> Option<Lead>
-    requires front { IsInGap start bytes.now front }
-    requires spaces { spec.behind_white front.end ≡ front.end }
-    ensures { IfSome result (IsLead start bytes.now) }
-{
-    let line_feeds = front.line_feeds;
-    let end = front.end;
-    let mut len = front.len;
-    while is_space_at(bytes, len) {
-        len += 1;
-    }
-    let spaces = Gap {
+    Lead {
         len,
-        line_feeds,
-        end,
-    };
-    whole_gap(start, spaces, bytes)
-}
-
-/// The gap that is a front and spaces: mostly none, one or two.
-#[inline(always)]
-fn with_spaces(start: Spot, front: Gap, bytes: &[u8]) -> Option<Lead>
-    requires { IsInGap start bytes.now front }
-    ensures { IfSome result (IsLead start bytes.now) }
-{
-    if !is_space_at(bytes, front.len) {
-        return whole_gap(start, front, bytes);
-    }
-    let one = Gap {
-        len: front.len + 1,
-        line_feeds: front.line_feeds,
-        end: front.end.behind_white(),
-    };
-    if !is_space_at(bytes, one.len) {
-        return whole_gap(start, one, bytes);
-    }
-    let two = Gap {
-        len: front.len + 2,
-        line_feeds: front.line_feeds,
-        end: one.end,
-    };
-    match whole_gap(start, two, bytes) {
-        Some(lead) => Some(lead),
-        None => with_more_spaces(start, two, bytes),
-    }
-}
-
-/// The gap at the front of a text, if it is as most are: at most one line feed, and then spaces.
-#[inline(always)]
-fn short_gap(start: Spot, bytes: &[u8]) -> Option<Lead>
-    ensures { IfSome result (IsLead start bytes.now) }
-{
-    if !bytes.is_empty() && bytes[0] == b'\n' {
-        let front = Gap {
-            len: 1,
-            line_feeds: 1,
-            end: Spot::LineStart,
-        };
-        return with_spaces(start, front, bytes);
-    }
-    let front = Gap {
-        len: 0,
         line_feeds: 0,
-        end: start,
-    };
-    with_spaces(start, front, bytes)
+        place: Place::Inside,
+    }
 }
 
 /// The gap at the front of a text, byte by byte.
 #[inline(always)]
 fn long_gap(start: Spot, bytes: &[u8]) -> Lead
-    ensures len { result.len ≡ gap_len start bytes.now }
-    ensures place { result.place ≡ place_of (behind_gap start bytes.now) }
-    ensures inside { result.len ≤ length bytes.now }
-    ensures line_feeds { result.line_feeds ≡ count_by is_line_feed (take result.len bytes.now) }
+    ensures { IsLead start bytes.now result }
 {
     let mut end = start;
     let mut len = 0;
     let mut line_feeds = 0;
     while len < bytes.len() {
+        if bytes[len] == b' ' {
+            end = end.behind_white();
+            len = end_of_run::<Space>(bytes, len);
+            continue;
+        }
         match end.step(bytes[len]) {
             Some(next) => {
                 end = next;
@@ -235,6 +136,48 @@ fn long_gap(start: Spot, bytes: &[u8]) -> Lead
     }
 }
 
+/// The gap behind a token, if it is as most are: one or two spaces, or a line feed with two spaces
+/// behind it or none.
+#[inline(always)]
+fn found_gap(start: Spot, bytes: &[u8]) -> Lead
+    ensures { IsLead start bytes.now result }
+{
+    // The spot is known from here on, so the place of the token is too.
+    if start != Spot::Behind {
+        return long_gap(start, bytes);
+    }
+    if bytes.len() >= 4 {
+        if bytes[0] == b'\n' {
+            if bytes[1] == b' ' {
+                if bytes[2] == b' ' && begins_token(bytes[3]) {
+                    return Lead {
+                        len: 3,
+                        line_feeds: 1,
+                        place: Place::Indented,
+                    };
+                }
+            } else if begins_line(bytes[1]) {
+                return Lead {
+                    len: 1,
+                    line_feeds: 1,
+                    place: Place::ColumnOne,
+                };
+            }
+        } else if bytes[0] == b' ' {
+            if bytes[1] == b' ' {
+                if begins_token(bytes[2]) {
+                    return inside(2);
+                }
+            } else if begins_token(bytes[1]) {
+                return inside(1);
+            }
+        } else if begins_token(bytes[0]) {
+            return inside(0);
+        }
+    }
+    long_gap(Spot::Behind, bytes)
+}
+
 /// The gap at the front of a text.
 #[inline(always)]
 pub fn gap_at(start: Spot, bytes: &[u8]) -> Lead
@@ -243,12 +186,5 @@ pub fn gap_at(start: Spot, bytes: &[u8]) -> Lead
     ensures inside { result.len ≤ length bytes.now }
     ensures line_feeds { result.line_feeds ≡ count_by is_line_feed (take result.len bytes.now) }
 {
-    // The spot is known from here on, so the place of the token is too.
-    if start != Spot::Behind {
-        return long_gap(start, bytes);
-    }
-    match short_gap(Spot::Behind, bytes) {
-        Some(lead) => lead,
-        None => long_gap(Spot::Behind, bytes),
-    }
+    found_gap(start, bytes)
 }

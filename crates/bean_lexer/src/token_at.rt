@@ -24,6 +24,9 @@ pub fn token_at(bytes: &[u8]) -> Counted
     if bytes[0].is_ascii_digit() {
         return on_one_line(bytes, day_or_number(bytes));
     }
+    if bytes[0] == b'-' || bytes[0] == b'*' {
+        return on_one_line(bytes, sign_or_fault(bytes));
+    }
     match bytes[0] {
         b'"' => text_at(bytes),
         b'a'..=b'z' => on_one_line(bytes, key_or_keyword(bytes)),

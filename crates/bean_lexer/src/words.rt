@@ -131,6 +131,19 @@ pub fn sign_or_fault(bytes: &[u8]) -> Found
     ensures token { IsToken bytes.now result.kind result.len }
     ensures boundary { IsUtf8 bytes.now → IsCharBoundary bytes.now result.len }
 {
+    // Most are of one sign, which is never doubled.
+    if bytes[0] == b'-' {
+        return Found {
+            kind: Kind::Sign(Sign::Minus),
+            len: 1,
+        };
+    }
+    if bytes[0] == b'*' {
+        return Found {
+            kind: Kind::Sign(Sign::Star),
+            len: 1,
+        };
+    }
     if let Some(sign) = doubled_sign_at(bytes) {
         return Found {
             kind: Kind::Sign(sign),

@@ -1,11 +1,14 @@
 -- What a listing shows of a posting, by the numbers of its columns.
-use Rattle.std.proofs.Common.{◌≡◌, ◌≢◌, ℕ, ◌<◌, List, [], length, map, Some, sym, ap, ◌∙◌, arith}
+use Rattle.std.proofs.Common.{◌≡◌, ◌≢◌, ℕ, zero, suc, ◌<◌, List, [], ◌∷◌, length, map, Option, None, Some}
+use Rattle.std.proofs.Common.{refl, sym, ap, subst, ◌∙◌, arith}
 use Rattle.std.specs.List.{slice_get}
 use Rattle.std.specs.Option.{option_map}
 use Rattle.std.proofs.lemmas.Option.{get_or_from_slice_get, slice_get-map}
 use Rattle.posting_table.specs.declared.row.Row.{Row}
 use Rattle.query_values.specs.declared.value.Value.{Value}
-use Rattle.table_printer.specs.Table.{row_at}
+use Rattle.table_printer.specs.Printing.{NoneIn, count_with}
+use Rattle.table_printer.specs.Table.{HasNoNumber, row_at}
+use Rattle.table_printer.specs.declared.headings.Heading.{Heading}
 use Rattle.bq.specs.List.{shown_row}
 
 -- a row of the listing
@@ -23,3 +26,16 @@ in_the_last r n x some not_0 not_1 not_2 is =
     let few : n < 4 = some in
     let last : 3 ≡ n = omega (arith, few, not_0, not_1, not_2) in
     is ∙ ap (slice_get (shown_row r)) last
+
+-- where so many columns are four and the last is left open, no posting has a number there
+pub none_in_the_last : (own : Option Heading) (n : ℕ) (rows : List Row) → count_with own n ≡ 4
+    → NoneIn own n (map shown_row rows)
+none_in_the_last None n rows all = tt
+none_in_the_last (Some h) n rows all =
+    let last : 3 ≡ n = omega (arith, all) in
+    subst (λ k. HasNoNumber k (map shown_row rows)) last (no_number rows)
+  where
+    no_number : (rows : List Row) → HasNoNumber 3 (map shown_row rows)
+    no_number [] k within = absurd (omega (arith, within))
+    no_number (r ∷ rows) zero within = refl
+    no_number (r ∷ rows) (suc k) within = no_number rows k (omega (arith, within))

@@ -6,12 +6,14 @@ use bean_base::List;
 use fault_printer::FaultLines;
 use outputs::{Output, write_bytes};
 use std::marker::Model;
+use table_printer::TableText;
 
 /// What a text is kept as.
 #[derive(Drop)]
 enum Kept {
     Whole(List<u8>),
     Lines(FaultLines),
+    Table(TableText),
 }
 
 /// A text for standard output. All that it says was found, and to write it takes no memory.
@@ -49,6 +51,15 @@ impl Text {
         }
     }
 
+    /// The text of a table, which stands in pieces.
+    pub fn of_table(table: TableText) -> Text
+        ensures { result ≡ table }
+    {
+        Text {
+            kept: Kept::Table(table),
+        }
+    }
+
     /// How many bytes it has.
     pub fn len(&self) -> usize
         ensures { result ≡ length self.now }
@@ -56,6 +67,7 @@ impl Text {
         match &self.kept {
             Kept::Whole(bytes) => bytes.as_slice().len(),
             Kept::Lines(lines) => lines.len(),
+            Kept::Table(table) => table.len(),
         }
     }
 
@@ -66,6 +78,7 @@ impl Text {
         match &self.kept {
             Kept::Whole(bytes) => write_bytes(out, bytes.as_slice()),
             Kept::Lines(lines) => lines.write(out),
+            Kept::Table(table) => table.write(out),
         }
     }
 }

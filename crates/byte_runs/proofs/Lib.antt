@@ -1,2 +1,3 @@
 pub mod RunFacts
 pub mod FrontFacts
+pub mod NumberFacts

@@ -13,8 +13,9 @@
 
 mod ends;
 mod hints;
+mod tables;
 
-ghost use Rattle.std.specs.Prelude.{◌≡◌, ℕ, Bool, ◌+◌, ◌<◌, ◌≤◌, nat_eq, length, drop};
+ghost use Rattle.std.specs.Prelude.{◌≡◌, ℕ, Bool, ◌+◌, ◌<◌, ◌≤◌, nat_eq, length, take, drop};
 ghost use Rattle.std.specs.Option.{MatchOption};
 ghost use Rattle.std.specs.List.{prefix_len, starts_with};
 ghost use Rattle.std.specs.Char.{is_ascii_digit};
@@ -22,6 +23,7 @@ ghost use Rattle.std.specs.Cmp.Lexicographic.{pointwise};
 
 pub use ends::end_of;
 pub use hints::Hints;
+pub use tables::{COMPONENT_BYTES, PLAIN_TEXT_BYTES, TOKEN_STARTS};
 
 /// A class of bytes.
 pub trait ByteClass {
@@ -77,15 +79,41 @@ pub fn end_of_run<C: ByteClass>(bytes: &[u8], start: usize) -> usize
     end
 }
 
-/// Whether two slices of one length are the same, byte by byte: what is looked for is short, and known
-/// where this is put in place, so that it is a few comparisons and no call.
+/// Whether two slices begin with the same eight bytes: one comparison.
+#[inline(always)]
+fn begin_with_same_eight(front: &[u8], part: &[u8]) -> bool
+    requires front { 8 ≤ length front.now }
+    requires part { 8 ≤ length part.now }
+    ensures { result ≡ pointwise nat_eq (take 8 front.now) (take 8 part.now) }
+{
+    match (front.first_chunk::<8>(), part.first_chunk::<8>()) {
+        (Some(x), Some(y)) => u64::from_le_bytes(*x) == u64::from_le_bytes(*y),
+        _ => false,
+    }
+}
+
+/// Whether two slices begin with the same four bytes: one comparison.
+#[inline(always)]
+fn begin_with_same_four(front: &[u8], part: &[u8]) -> bool
+    requires front { 4 ≤ length front.now }
+    requires part { 4 ≤ length part.now }
+    ensures { result ≡ pointwise nat_eq (take 4 front.now) (take 4 part.now) }
+{
+    match (front.first_chunk::<4>(), part.first_chunk::<4>()) {
+        (Some(x), Some(y)) => u32::from_le_bytes(*x) == u32::from_le_bytes(*y),
+        _ => false,
+    }
+}
+
+/// Whether two slices of one length are the same from a place on, byte by byte.
 #[inline(always)]
 #[tactic(auto, using(crate::proofs::FrontFacts::next_pair))]
-fn are_same(front: &[u8], part: &[u8]) -> bool
-    requires { length part.now ≡ length front.now }
-    ensures { result ≡ pointwise nat_eq front.now part.now }
+fn are_same_from(front: &[u8], part: &[u8], start: usize) -> bool
+    requires start { start ≤ length front.now }
+    requires len { length part.now ≡ length front.now }
+    ensures { result ≡ pointwise nat_eq (drop start front.now) (drop start part.now) }
 {
-    let mut at = 0;
+    let mut at = start;
     while at < front.len() {
         if front[at] != part[at] {
             return false;
@@ -93,6 +121,22 @@ fn are_same(front: &[u8], part: &[u8]) -> bool
         at += 1;
     }
     true
+}
+
+/// Whether two slices of one length are the same: what is looked for is short, and known where this
+/// is put in place, so that it is a few comparisons and no call.
+#[inline(always)]
+fn are_same(front: &[u8], part: &[u8]) -> bool
+    requires { length part.now ≡ length front.now }
+    ensures { result ≡ pointwise nat_eq front.now part.now }
+{
+    if front.len() >= 8 {
+        return begin_with_same_eight(front, part) && are_same_from(front, part, 8);
+    }
+    if front.len() >= 4 {
+        return begin_with_same_four(front, part) && are_same_from(front, part, 4);
+    }
+    are_same_from(front, part, 0)
 }
 
 /// Whether some bytes stand at the front.

@@ -6,6 +6,9 @@
 //! let first = list.at(0);
 //! let mut taken = Taken::new(alloc, list)?;       // its items, to be put into another list
 //! move_items(alloc, &mut other, &mut taken, 3)?;
+//!
+//! let mut parts = Parts::new(list)?;              // a list, piece by piece
+//! while let Some(piece) = parts.next() { .. }
 //! ```
 //!
 //! # Faults
@@ -15,10 +18,12 @@
 //! # Cost
 //!
 //! A piece has 512 items. `new` takes no memory; `push` and `at` take a few steps. Items that are
-//! taken out of a list are moved once each, and a piece is given up as soon as it is empty.
+//! taken out of a list are moved once each, and a piece is given up as soon as it is empty. `Parts` hand
+//! out each piece as it lies; `forget_items` gives the memory of one back without a look at its items.
 #![tactic(auto)]
 
 mod pieces;
 
 pub use pieces::Pieces;
+pub use pieces::parts::{Parts, forget_items};
 pub use pieces::taken::{Taken, move_items};

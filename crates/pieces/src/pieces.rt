@@ -4,6 +4,7 @@ ghost use Rattle.std.specs.Prelude.{◌≡◌, ◌<◌, ◌≤◌, ◌^◌, ◌+
 ghost use Rattle.pieces.specs.Pieces.{AreFull, pieced};
 ghost use Rattle.pieces.specs.declared.pieces.TheConstants.{PIECE};
 
+pub(crate) mod parts;
 pub(crate) mod taken;
 
 use bean_base::List;

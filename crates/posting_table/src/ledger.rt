@@ -10,6 +10,7 @@ ghost use Rattle.query_rows.specs.ColumnShape.{widest};
 ghost use Rattle.query_rows.specs.Fits as spec;
 ghost use Rattle.query_rows.specs.Shaped as rows;
 
+pub(crate) mod parts;
 pub(crate) mod taken;
 
 use crate::bounded::all_fit;

@@ -54,15 +54,15 @@
 //! ([`rows_of_small_parts_are_shaped`]). So in a ledger that is within narrower bounds
 //! ([`Ledger::fits`]) they lie in the shapes by these. `cell` wants a row that is there, as does
 //! `row`, which lends it whole. Rows are taken out, to be put back with others between them, by
-//! `take_rows` and `put_back`. Of the other calls one that answers with an error left the ledger as
+//! `take_rows` and `put_back`; or part by part, to be given up one part after the other, by `take_parts`. Of the other calls one that answers with an error left the ledger as
 //! it was; the only cause is want of memory. `push_plain` adds a row that has nothing of its own but
 //! what it adds to its account, as most have, and needn't look for more.
 //!
 //! # Cost
 //!
-//! A row is moved in once, and once more where it is taken out and put back; it takes 64 bytes. Where
+//! A row is moved in once, and once more where it is taken out and put back; it takes 48 bytes. Where
 //! it has a lot, a weight, a flag or metadata of its own, these lie apart. Rows lie in pieces of
-//! 32 KiB, so that none is moved when there are more, and they take memory that others gave up.
+//! 24 KiB, so that none is moved when there are more, and they take memory that others gave up.
 //! `cell` and `len` take a few steps, `push` and `set_display` a few on the average, `meta` and
 //! `entry_meta` look at each entry, and `fits` at each row, but for the widest bounds at none. `new`
 //! takes no memory.
@@ -82,6 +82,7 @@ pub use display::Display;
 pub use held::HeldRow;
 pub use laws::{cells_lie_in_their_shapes, rows_of_small_parts_are_shaped};
 pub use ledger::Ledger;
+pub use ledger::parts::{LedgerPart, LedgerParts};
 pub use ledger::taken::TakenRows;
 pub use query_terms::Column;
 pub use row::{PlainRow, Row, Weight};

@@ -7,7 +7,7 @@ ghost use Rattle.plain_machine.specs.Pool.{pattern_in};
 ghost use Rattle.plain_machine.specs.SectionRun.{after_steps, effect, has_true_top, next_place};
 ghost use Rattle.plain_machine.specs.SectionRun.{one_operand, one_step, slot_at, stored, tested};
 ghost use Rattle.plain_machine.specs.SectionRun.{two_operands, with_top};
-ghost use Rattle.query_code.specs.declared.instruction.Unary.TheVariants.{Match};
+ghost use Rattle.query_code.specs.declared.instruction.Unary.TheVariants.{Align, Match};
 ghost use Rattle.query_values.specs.Operand.{is_truth};
 ghost use Rattle.query_sections.specs.Reading as spec;
 ghost use Rattle.query_sections.specs.Reading.{acts_of, loads_of};
@@ -25,6 +25,7 @@ use crate::stack::Stack;
 use crate::unary::{apply_match, apply_unary};
 use query_code::{Constant, Instruction, Push, Unary};
 use query_values::Binary;
+use query_values::arithmetic::align;
 use query_values::comparison::is_true;
 use std::alloc::{AllocError, Global};
 
@@ -72,6 +73,20 @@ fn match_top<'r>(
     stack.push(apply_match(finders, pool, place, &text));
 }
 
+/// Puts in place of a number the same with so many decimals.
+#[inline(always)]
+fn align_top<'r>(pool: &[Constant<'r>], places: u8, stack: &mut Stack<'r>)
+    requires { HasRoom stack.old.room
+        (one_operand (unary_of pool.now (Align places)) stack.old.values) }
+    ensures values { one_operand (unary_of pool.now (Align places)) stack.old.values
+        ≡ Some stack.new.values }
+    ensures room { stack.new.room ≡ stack.old.room }
+{
+    let _ = pool;
+    let number = stack.pop();
+    stack.push(align(&number, places));
+}
+
 /// Puts what an operation gives in place of its operand.
 #[inline(never)]
 fn unary_any<'r>(
@@ -112,6 +127,10 @@ fn unary<'r>(
     match op {
         Unary::Match(place) => {
             match_top(pool, finders, place, stack);
+            Ok(())
+        }
+        Unary::Align(places) => {
+            align_top(pool, places, stack);
             Ok(())
         }
         op => unary_any(alloc, pool, finders, op, stack),

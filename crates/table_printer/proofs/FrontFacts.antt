@@ -4,7 +4,7 @@ use Rattle.std.specs.List.{flat_map}
 use Rattle.std.proofs.lemmas.List.{take-take}
 use Rattle.query_values.specs.declared.value.Value.{Value}
 use Rattle.table_printer.specs.Layout.{before_gap}
-use Rattle.table_printer.specs.Line.{IsKept, front_text, placed_text, row_cells}
+use Rattle.table_printer.specs.Line.{IsKept, front_text}
 use Rattle.table_printer.specs.declared.fronts.Front.{Front}
 use Rattle.table_printer.specs.Table.{PlacedText, padded, pieces, text_of}
 use Rattle.table_printer.proofs.InColumn.{row_texts}

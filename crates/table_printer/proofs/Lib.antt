@@ -4,3 +4,6 @@ pub mod InColumn
 mod HeadingFacts
 pub mod OpenFacts
 pub mod FrontFacts
+mod GrowingFacts
+pub mod PrintingFacts
+mod TextFacts

@@ -120,13 +120,15 @@ fn alike<T: Rows>(row: &T::Row, before: &Option<T::Row>) -> usize
 
 /// The headings of the first columns of a table, in their order. Its rows are passed once, since they
 /// lie far apart.
-pub(crate) fn headings<'t, T: Rows>(
+pub(crate) fn headings<'t, N: Rows, T: Rows>(
     alloc: Global,
-    table: &'t T,
+    names: &'t N,
+    table: &T,
     count: usize,
     scratch: &mut Scratch,
     display: &Display<'_>,
 ) -> Result<Vec<Heading<'t>>, AllocError>
+    requires names { N.names names.now ≡ T.names table.now }
     requires even { All (λ row. length row ≡ length (T.names table.now)) (T.rows table.now) }
     requires few { count ≤ length (T.names table.now) }
     ensures headers { IfOk result (λ v. map heading_text v.items
@@ -136,7 +138,7 @@ pub(crate) fn headings<'t, T: Rows>(
         (map (map (text_of (decimals_of display.now))) (T.rows table.now))) }
     ensures len { IfOk result (λ v. vec_len v ≡ count) }
 {
-    let mut headings = bare_headings(alloc, table, count, scratch, display)?;
+    let mut headings = bare_headings(alloc, names, count, scratch, display)?;
     let mut before = None;
     for number in 0..table.len() {
         let row = table.row(number);

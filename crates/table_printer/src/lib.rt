@@ -33,36 +33,55 @@
 //! ([`Cell`]) and copies no text. A row is looked up once for all of its cells, in each of two
 //! passes. Each row has as many cells as there are names.
 //!
+//! # Part by part
+//!
+//! Rows that are given up as they are printed make room for the text. So a [`Printer`] measures the
+//! columns once over all of them, and lends nothing of them behind that; then it adds the lines of any
+//! rows after others. Its text stands in pieces of memory ([`TableText`]).
+//!
+//! ```text
+//! let mut printer = Printer::new(alloc, &none, &rows, display)?;  // none: no rows, of the same names
+//! printer.push(&first, display)?;
+//! printer.push(&second, display)?;
+//! printer.into_text(display)?.write(&mut out)
+//! ```
+//!
 //! # Faults
 //!
-//! `print` answers an error where memory lacks. [`write_table`] makes the whole text before it
-//! hands over the first byte; it answers `P1` with the count of bytes that were taken, where the
-//! output failed or took nothing, and `M2` where memory lacks, with nothing handed over.
+//! `print` answers an error where memory lacks, as do the steps of a `Printer`. [`write_table`] makes the
+//! whole text before it hands over the first byte; it answers `P1` with the count of bytes that were
+//! taken, where the output failed or took nothing, and `M2` where memory lacks, with nothing handed over.
 //!
 //! # Cost
 //!
 //! Two passes over the rows: one measures the columns, one writes. A cell that is known to be no wider
 //! than those before it isn't measured. A last column without numbers is
-//! measured where it is written, since nothing fills it up in a row; the head of the table then comes
-//! last, and changes places with the rows. Whether the last column has a number is looked up first.
-//! The memory is that of the text, for which room is taken at once where its columns are narrow, of a
-//! word or two for each column, and of what `cell_texts` uses again for every cell.
+//! measured where it is written, since nothing fills it up in a row; so the head of a table is made last,
+//! and changes places with the rows. Whether the last column has a number is looked up first.
+//! The memory is that of the text, of a word or two for each column, and of what `cell_texts` uses again
+//! for every cell. `print` takes room for a text at once, where its columns are narrow. A `Printer` takes
+//! it in pieces of 24 KiB, as much as a ledger has for 512 rows, so that one lies where these were.
 #![tactic(auto)]
 
 mod answers;
 mod cause;
 mod fronts;
+mod growing;
 mod headings;
 mod lines;
 mod open;
+mod printer;
 mod rows;
 mod table;
+mod text;
 mod writing;
 
 pub use answers::{AnswerRow, AnswerTable};
 pub use cause::PrintCause;
 pub use cell_texts::Cell;
+pub use printer::Printer;
 pub use query_answer::Answer;
 pub use rows::Rows;
 pub use table::print;
+pub use text::TableText;
 pub use writing::write_table;

@@ -5,15 +5,16 @@ ghost use Rattle.std.specs.Prelude.{◌≡◌, ◌<◌, ◌≤◌, ◌+◌, ◌+
 ghost use Rattle.std.specs.Prelude.{drop, false, map, max, take, vec_len};
 ghost use Rattle.std.specs.List.{flat_map};
 ghost use Rattle.posting_table.specs.Decimals.{decimals_of};
+ghost use Rattle.table_printer.specs.Growing.{grown};
 ghost use Rattle.table_printer.specs.Heading.{width_of};
 ghost use Rattle.table_printer.specs.Line.{IsKept};
 ghost use Rattle.table_printer.specs.Table.{HasNoNumber, is_number_at, line_of, table_text, text_of, width_at};
 
 use crate::fronts::{Front, push_front};
-use crate::headings::{Heading, heading_of, headings};
-use crate::lines::{HeaderLine, RowLine, end_line, push_cells, push_line, push_rule};
+use crate::growing::Growing;
+use crate::headings::Heading;
+use crate::lines::{RowLine, end_line, push_cells};
 use crate::rows::Rows;
-use crate::table::room_for;
 use cell_texts::{Scratch, is_number, push_cell};
 use posting_table::Display;
 use std::alloc::{AllocError, Global};
@@ -75,8 +76,9 @@ fn push_open_line<T: Rows>(
 }
 
 /// A line for each row. Tells the greatest width in the last column, or `least`.
-fn push_open_rows<T: Rows>(
-    out: &mut Vec<u8>,
+pub(crate) fn push_open_rows<T: Rows>(
+    alloc: Global,
+    out: &mut Growing,
     table: &T,
     headings: &[Heading<'_>],
     least: usize,
@@ -85,7 +87,7 @@ fn push_open_rows<T: Rows>(
 ) -> Result<usize, AllocError>
     requires even { All (λ row. length row ≡ length headings.now + 1) (T.rows table.now) }
     requires left { HasNoNumber (length headings.now) (T.rows table.now) }
-    ensures lines { IfOk result (λ most. (w : ℕ) → out.new.items ≡ out.old.items
+    ensures lines { IfOk result (λ most. (w : ℕ) → grown out.new ≡ grown out.old
         ++ flat_map (line_of (map width_of headings.now ++ w ∷ []))
         (map (map (text_of (decimals_of display.now))) (T.rows table.now))) }
     ensures most { IfOk result (λ most. most ≡ fold max least
@@ -96,46 +98,18 @@ fn push_open_rows<T: Rows>(
     let mut kept = None;
     let mut most = least;
     for number in 0..table.len() {
+        out.make_room(alloc)?;
         let row = table.row(number);
-        let own = push_open_line::<T>(out, &row, headings, front, &mut kept, scratch, display)?;
+        let own = push_open_line::<T>(
+            &mut out.last,
+            &row,
+            headings,
+            front,
+            &mut kept,
+            scratch,
+            display,
+        )?;
         most = most.max(own);
     }
     Ok(most)
-}
-
-/// What stands behind a place comes before what stands in front of it.
-fn turn(out: &mut Vec<u8>, place: usize)
-    requires { place ≤ vec_len out.old }
-    ensures { out.new.items ≡ drop place out.old.items ++ take place out.old.items }
-{
-    out.rotate_left(place);
-}
-
-/// The table of rows of which none has a number in the last column.
-pub(crate) fn print_open<T: Rows>(
-    alloc: Global,
-    table: &T,
-    last: usize,
-    scratch: &mut Scratch,
-    display: &Display<'_>,
-) -> Result<Vec<u8>, AllocError>
-    requires even { All (λ row. length row ≡ length (T.names table.now)) (T.rows table.now) }
-    requires last { last + 1 ≡ length (T.names table.now) }
-    requires left { HasNoNumber last (T.rows table.now) }
-    ensures { IfOk result (λ v. v.items
-        ≡ table_text (T.names table.now) (T.rows table.now) (decimals_of display.now)) }
-{
-    let mut headings = headings(alloc, table, last, scratch, display)?;
-    let mut own = heading_of(table, last, scratch, display)?;
-    let mut out = Vec::with_capacity(alloc, room_for(&headings, table.len()))?;
-    own.width = push_open_rows(&mut out, table, &headings, own.width, scratch, display)?;
-    headings.push(own)?;
-    let rows = out.len();
-    let header = HeaderLine {
-        headings: &headings,
-    };
-    push_line(&mut out, &header, &headings, scratch, display)?;
-    push_rule(&mut out, &headings)?;
-    turn(&mut out, rows);
-    Ok(out)
 }

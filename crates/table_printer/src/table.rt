@@ -2,34 +2,38 @@
 ghost use Rattle.std.specs.Prelude.{◌≡◌, ◌++◌, length, map, All, OnOk, IfOk};
 ghost use Rattle.std.specs.List.{flat_map};
 ghost use Rattle.posting_table.specs.Decimals.{decimals_of};
+ghost use Rattle.table_printer.specs.Growing.{grown};
 ghost use Rattle.table_printer.specs.Heading.{width_of};
 ghost use Rattle.table_printer.specs.Table.{text_of, line_of, table_text};
 
-use crate::headings::{Heading, headings};
-use crate::lines::{HeaderLine, RowLine, push_line, push_rule};
-use crate::open::{has_no_number, print_open};
+use crate::growing::Growing;
+use crate::headings::Heading;
+use crate::lines::{RowLine, push_line};
+use crate::printer::{Printer, Room};
 use crate::rows::Rows;
 use cell_texts::Scratch;
 use posting_table::Display;
 use std::alloc::{AllocError, Global};
 
 /// A line for each row.
-fn push_rows<T: Rows>(
-    out: &mut Vec<u8>,
+pub(crate) fn push_rows<T: Rows>(
+    alloc: Global,
+    out: &mut Growing,
     table: &T,
     headings: &[Heading<'_>],
     scratch: &mut Scratch,
     display: &Display<'_>,
 ) -> Result<(), AllocError>
     requires { All (λ row. length row ≡ length headings.now) (T.rows table.now) }
-    ensures { OnOk result (out.new.items
-        ≡ out.old.items ++ flat_map (line_of (map width_of headings.now))
+    ensures { OnOk result (grown out.new
+        ≡ grown out.old ++ flat_map (line_of (map width_of headings.now))
         (map (map (text_of (decimals_of display.now))) (T.rows table.now))) }
 {
     for number in 0..table.len() {
+        out.make_room(alloc)?;
         let row = table.row(number);
         let line: RowLine<'_, T> = RowLine { row: &row };
-        push_line(out, &line, headings, scratch, display)?;
+        push_line(&mut out.last, &line, headings, scratch, display)?;
     }
     Ok(())
 }
@@ -50,28 +54,6 @@ pub(crate) fn room_for(headings: &[Heading<'_>], rows: usize) -> usize {
     line.min(MOST_ROOM).saturating_mul(rows.saturating_add(2))
 }
 
-/// The table of rows: all of their cells are measured first.
-fn print_measured<T: Rows>(
-    alloc: Global,
-    table: &T,
-    scratch: &mut Scratch,
-    display: &Display<'_>,
-) -> Result<Vec<u8>, AllocError>
-    requires { All (λ row. length row ≡ length (T.names table.now)) (T.rows table.now) }
-    ensures { IfOk result (λ v. v.items
-        ≡ table_text (T.names table.now) (T.rows table.now) (decimals_of display.now)) }
-{
-    let headings = headings(alloc, table, table.columns(), scratch, display)?;
-    let header = HeaderLine {
-        headings: &headings,
-    };
-    let mut out = Vec::with_capacity(alloc, room_for(&headings, table.len()))?;
-    push_line(&mut out, &header, &headings, scratch, display)?;
-    push_rule(&mut out, &headings)?;
-    push_rows(&mut out, table, &headings, scratch, display)?;
-    Ok(out)
-}
-
 /// The table of rows: each has as many cells as there are columns.
 pub fn print<T: Rows>(
     alloc: Global,
@@ -82,10 +64,8 @@ pub fn print<T: Rows>(
     ensures { IfOk result (λ v. v.items
         ≡ table_text (T.names table.now) (T.rows table.now) (decimals_of display.now)) }
 {
-    let mut scratch = Scratch::new(alloc);
-    let columns = table.columns();
-    if columns > 0 && has_no_number(table, columns - 1) {
-        return print_open(alloc, table, columns - 1, &mut scratch, display);
-    }
-    print_measured(alloc, table, &mut scratch, display)
+    let mut printer = Printer::begun(alloc, Room::Whole, table, table, display)?;
+    printer.push(table, display)?;
+    let text = printer.into_bytes(display)?;
+    Ok(text)
 }

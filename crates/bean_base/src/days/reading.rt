@@ -8,8 +8,13 @@ ghost use Rattle.bean_base.specs.CalendarDay.{day_of};
 ghost use Rattle.bean_base.specs.Day.{is_day_form, HasDay, ParsesDay};
 
 use crate::days::{Day, NotADay};
-use crate::digits::are_digits;
 use jiff::civil::Date;
+
+fn are_digits(bytes: &[u8]) -> bool
+    ensures { result ≡ list_all is_ascii_digit bytes.now }
+{
+    bytes.iter().all(|b| b.is_ascii_digit())
+}
 
 /// The number that up to four digits write.
 #[tactic(auto, using(crate::proofs::DayFacts::more, crate::proofs::DayFacts::fits_more))]
@@ -64,16 +69,24 @@ impl Day {
     }
 }
 
-/// The day that a text writes, as `2014-01-31` or `2014/01/31`.
-pub fn parse_day(text: &str) -> Result<Day, NotADay>
+/// The day that a text of the form of one writes, as `2014-01-31` or `2014/01/31`.
+pub fn day_of_form(text: &str) -> Result<Day, NotADay>
+    requires { IsTrue (is_day_form text.now) }
     ensures { ParsesDay result text.now }
 {
     let bytes = text.as_bytes();
-    if !Day::is_form(bytes) {
-        return Err(NotADay);
-    }
     let year = value_of(&bytes[..4]);
     let month = value_of(&bytes[5..7]);
     let day = value_of(&bytes[8..10]);
     Day::new(year, month as u8, day as u8)
+}
+
+/// The day that a text writes, if it writes one.
+pub fn parse_day(text: &str) -> Result<Day, NotADay>
+    ensures { ParsesDay result text.now }
+{
+    if !Day::is_form(text.as_bytes()) {
+        return Err(NotADay);
+    }
+    day_of_form(text)
 }

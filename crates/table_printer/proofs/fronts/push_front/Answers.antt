@@ -1,7 +1,7 @@
 use Rattle.std.proofs.Common.{◌≡◌, ◌++◌, map, OnOk, subst, ◌∙◌}
 use Rattle.posting_table.specs.Decimals.{decimals_of}
 use Rattle.table_printer.specs.Heading.{width_of}
-use Rattle.table_printer.specs.Line.{IsKept, front_text}
+use Rattle.table_printer.specs.Line.{IsKept}
 use Rattle.table_printer.proofs.FrontFacts.{one_front}
 use Rattle.table_printer.proofs.fronts.push_front.Goals as goal
 

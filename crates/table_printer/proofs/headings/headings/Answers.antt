@@ -2,7 +2,7 @@ use Rattle.std.proofs.Common.{◌≡◌, ◌<◌, ◌+◌, ◌++◌, [], ap, ari
 use Rattle.std.proofs.Math.Seq.{take-append_seam}
 use Rattle.std.proofs.lemmas.List.{take_all}
 use Rattle.posting_table.specs.Decimals.{decimals_of}
-use Rattle.table_printer.specs.Heading.{heading_text, width_of, with_row}
+use Rattle.table_printer.specs.Heading.{bare_heading, heading_text, width_of, with_row}
 use Rattle.table_printer.proofs.HeadingFacts.{known_cells, length-under, one_more, over_none, texts_are, under}
 use Rattle.table_printer.proofs.HeadingFacts.{widths_are}
 use Rattle.table_printer.proofs.headings.headings.Goals as goal
@@ -10,6 +10,7 @@ use Rattle.table_printer.proofs.headings.headings.Goals as goal
 pub loop-number-init : goal.loop-number-init
 loop-number-init g c = record {
   under = c.in_ok-headings.ensures.bare
+      ∙ ap (λ ns. map bare_heading (take c.args.count ns)) c.requires.names
       ∙ over_none (decimals_of c.args.display.now) 0
       (take c.args.count (g.T.Rows.names c.args.table.now));
   len = c.in_ok-headings.ensures.len;

@@ -3,6 +3,9 @@ use Rattle.std.proofs.Common.{arith, append_assoc}
 use Rattle.std.specs.List.{flat_map}
 use Rattle.std.proofs.lemmas.List.{take_all}
 use Rattle.posting_table.specs.Decimals.{decimals_of}
+use Rattle.pieces.specs.Pieces.{pieced}
+use Rattle.pieces.proofs.PieceFacts.{at_end}
+use Rattle.table_printer.specs.Growing.{grown}
 use Rattle.table_printer.specs.Heading.{width_of}
 use Rattle.table_printer.specs.Table.{is_number_at, line_of, row_at, text_of, width_at}
 use Rattle.table_printer.proofs.TableFacts.{lines_more}
@@ -28,16 +31,18 @@ loop-number-preserved g c =
     let d = decimals_of c.args.display.now in
     let rows = g.T.Rows.rows c.args.table.now in
     let n = length c.args.headings.now in
+    let room = c.make_room.new.self in
     let i = c.loop-number.number in
     let within : i < length rows = omega (arith, c.loop-number-test.true, c.len-number-end.ensures) in
     record {
       lines = λ w.
           let line : List _ → List ℕ = line_of (map width_of c.args.headings.now ++ w ∷ []) in
-          c.in_ok-own.ensures.line w
-          ∙ (λ k. c.loop-number.invariant.lines w k
+          ap (pieced room.full.items) (c.in_ok-own.ensures.line w)
+          ∙ at_end room.full.items room.last.items _
+          ∙ (λ k. (c.in_ok-make_room.ensures ∙ c.loop-number.invariant.lines w) k
           ++ line (ap (map (text_of d)) c.row-row.ensures k))
-          ∙ append_assoc c.args.out.now.items _ _
-          ∙ ap (λ l. c.args.out.now.items ++ l)
+          ∙ append_assoc (grown c.args.out.now) _ _
+          ∙ ap (λ l. grown c.args.out.now ++ l)
           (sym (lines_more line (map (text_of d)) rows i (row_at rows i) within
           (row_is rows i within)));
       most = c.max-most.ensures
@@ -51,7 +56,7 @@ loop-number-preserved g c =
 pub returns-clause-lines : goal.returns-clause-lines
 returns-clause-lines g c = λ w.
     c.loop-number.invariant.lines w
-    ∙ ap (λ rows. c.args.out.now.items
+    ∙ ap (λ rows. grown c.args.out.now
     ++ flat_map (line_of (map width_of c.args.headings.now ++ w ∷ []))
     (map (map (text_of (decimals_of c.args.display.now))) rows))
     (take_all c.loop-number.number (g.T.Rows.rows c.args.table.now)
