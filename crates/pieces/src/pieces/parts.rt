@@ -1,5 +1,5 @@
 //! A list in pieces that is taken apart, piece by piece.
-ghost use Rattle.std.specs.Prelude.{◌≡◌, ◌++◌, [], IfOk, IfSome, IsNone};
+ghost use Rattle.std.specs.Prelude.{◌≡◌, ◌<◌, ◌++◌, [], IfOk, IfSome, IsNone, length};
 ghost use Rattle.pieces.specs.Pieces.{pieced};
 
 use super::Pieces;
@@ -25,6 +25,21 @@ impl<T> Model for Parts<T> {
     ghost view = { λ p. pieced p.pieces.rest.items [] };
 }
 
+/// Takes the next piece that has an item.
+fn next_of<T: Drop>(pieces: &mut IntoIter<List<T>>) -> Option<List<T>>
+    ensures some { IfSome result (λ piece. pieced pieces.old.rest.items []
+        ≡ piece ++ pieced pieces.new.rest.items []) }
+    ensures has { IfSome result (λ piece. 0 < length piece) }
+    ensures none { IsNone result → (pieced pieces.old.rest.items [] ≡ []) × (pieces.new.rest.items ≡ []) }
+{
+    while let Some(piece) = pieces.next() {
+        if piece.as_slice().len() > 0 {
+            return Some(piece);
+        }
+    }
+    None
+}
+
 impl<T: Drop> Parts<T> {
     /// The pieces of a list.
     pub fn new(list: Pieces<T>) -> Result<Parts<T>, AllocError>
@@ -38,12 +53,13 @@ impl<T: Drop> Parts<T> {
         })
     }
 
-    /// The next piece.
+    /// The next piece that has an item.
     pub fn next(&mut self) -> Option<List<T>>
         ensures some { IfSome result (λ piece. self.old ≡ piece ++ self.new) }
+        ensures has { IfSome result (λ piece. 0 < length piece) }
         ensures none { IsNone result → (self.old ≡ []) × (self.new ≡ []) }
     {
-        self.pieces.next()
+        next_of(&mut self.pieces)
     }
 }
 

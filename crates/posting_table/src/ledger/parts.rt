@@ -1,5 +1,5 @@
 //! A ledger's rows that are taken out part by part, so that each part can be given up by itself.
-ghost use Rattle.std.specs.Prelude.{◌≡◌, ◌++◌, [], IfOk, IfSome, IsNone};
+ghost use Rattle.std.specs.Prelude.{◌≡◌, ◌<◌, ◌++◌, [], IfOk, IfSome, IsNone, length};
 
 use super::Ledger;
 use crate::held::HeldRow;
@@ -53,9 +53,10 @@ impl<'a> Ledger<'a> {
 }
 
 impl<'a> LedgerParts<'a> {
-    /// The next part.
+    /// The next part that has a row.
     pub fn next(&mut self) -> Option<LedgerPart<'a>>
         ensures some { IfSome result (λ part. self.old ≡ part ++ self.new) }
+        ensures has { IfSome result (λ part. 0 < length part) }
         ensures none { IsNone result → (self.old ≡ []) × (self.new ≡ []) }
     {
         let rows = self.rows.next()?;

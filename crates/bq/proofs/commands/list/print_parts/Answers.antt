@@ -4,7 +4,7 @@ use Rattle.std.proofs.lemmas.List.Elements.{All-map}
 use Rattle.bq.specs.List.{headers, shown_row}
 use Rattle.posting_table.specs.Decimals.{decimals_of}
 use Rattle.posting_table.specs.declared.row.Row.{Row}
-use Rattle.table_printer.specs.Printing.{IsPrinted}
+use Rattle.table_printer.specs.Printing.{IsPrinted, columns_of}
 use Rattle.bq.proofs.ShownFacts.{none_in_the_last}
 use Rattle.bq.proofs.commands.list.print_parts.Goals as goal
 
@@ -22,7 +22,7 @@ loop-part-init c = record {
 
 pub push-requires-clause-even : goal.push-requires-clause-even
 push-requires-clause-even c =
-    All-map (λ row. length row ≡ _) shown_row c.rows.result.now
+    All-map (λ row. length row ≡ columns_of c.loop-part.printer) shown_row c.rows.result.now
     (λ k d within. sym c.loop-part.invariant.columns)
 
 pub push-requires-clause-left : goal.push-requires-clause-left
@@ -54,7 +54,7 @@ loop-part-preserved c =
 pub returns : goal.returns
 returns c = λ all done is.
     let before = c.loop-part.invariant.so_far in
-    let none = (c.in-None.ensures.none refl).0 in
+    let none = (c.in_default.ensures.none refl).0 in
     subst
     (λ rows. IsPrinted headers all (map shown_row (done ++ rows)) (decimals_of c.args.display.now)
     c.loop-part.printer)

@@ -1,4 +1,4 @@
-use Rattle.std.proofs.Common.{◌≡◌, ◌++◌, List, map}
+use Rattle.std.proofs.Common.{◌≡◌, ◌++◌, List, length, map}
 use Rattle.bq.specs.List.{headers, shown_row}
 use Rattle.posting_table.specs.Decimals.{decimals_of}
 use Rattle.posting_table.specs.declared.row.Row.{Row}
@@ -15,3 +15,7 @@ invariant-loop-part l = record {
       → IsPrinted headers all (map shown_row done) (decimals_of l.display) l.initial.printer
       → IsPrinted headers all (map shown_row (done ++ so)) (decimals_of l.display) l.printer);
 }
+
+-- each part has a row
+abbrev pub decreases-loop-part : goal.decreases-loop-part
+decreases-loop-part l = length l.parts

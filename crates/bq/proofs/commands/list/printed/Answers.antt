@@ -26,6 +26,6 @@ returns c =
     subst (λ d. IsPrinted headers all all (decimals_of d) c.print_parts.new.printer)
     (second ∙ sym third)
     (subst (λ rs. IsPrinted headers all (map shown_row rs) (decimals_of c.display-2.result.now)
-    c.print_parts.new.printer) c.in_ok-parts.ensures (c.in_ok-print_parts.ensures all [] begun)) in
+    c.print_parts.new.printer) c.in_ok-parts.ensures.taken (c.in_ok-print_parts.ensures all [] begun)) in
     c.in_ok-text.ensures headers all whole
     ∙ ap (λ d. table_text headers all (decimals_of d)) third
