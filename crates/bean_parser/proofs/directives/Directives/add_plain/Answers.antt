@@ -53,11 +53,11 @@ returns-in_ok-settle_if_full-in-Some c =
       gives,
       c.in_ok-settle_if_full-in-Some.ensures
           ∙ last_waits was.settled.items was.postings.items read.0 all was.waiting.items
-              c.push.new.self.items c.in_ok-directive-in-Some.directive
-              (record {
-                first = c.len-first.result;
-                end = c.len-end.result;
-              }) read.1 from to c.in_ok-push-in-Some.ensures.items c.self.invariant
+          c.push.new.self.items c.in_ok-directive-in-Some.directive
+          (record {
+            first = c.len-first.result;
+            end = c.len-end.result;
+          }) read.1 from to c.in_ok-push-in-Some.ensures.items c.self.invariant
           ∙ (λ i. c.self.view_is i
           ++ with_postings read.0 (c.in_ok-directive-in-Some.ensures i) ∷ []),
     )

@@ -36,8 +36,8 @@ returns c =
     (λ same.
     same
     ∙ last_waits was.settled.items was.postings.items c.args.own.items
-        c.add_postings.new.postings.items was.waiting.items c.push.new.self.items
-        c.in_ok-directive.directive c.in_ok-part.part added.0 added.1 added.2
-        c.in_ok-push.ensures.items c.self.invariant
+    c.add_postings.new.postings.items was.waiting.items c.push.new.self.items
+    c.in_ok-directive.directive c.in_ok-part.part added.0 added.1 added.2
+    c.in_ok-push.ensures.items c.self.invariant
     ∙ (λ i. c.self.view_is i ++ with_postings c.args.own.items (c.in_ok-directive.ensures i) ∷ []))
     c.settle_if_full.ensures

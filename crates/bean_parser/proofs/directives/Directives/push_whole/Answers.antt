@@ -10,5 +10,5 @@ returns c =
     (λ same.
     same
     ∙ own_waits was.settled.items was.postings.items was.waiting.items c.push.new.self.items
-        c.in_ok-directive.directive c.in_ok-push.ensures.items
+    c.in_ok-directive.directive c.in_ok-push.ensures.items
     ∙ (λ i. c.self.view_is i ++ c.in_ok-directive.ensures i ∷ [])) c.settle_if_full.ensures
