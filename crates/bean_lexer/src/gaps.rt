@@ -1,8 +1,5 @@
 //! What stands between tokens: white space, line feeds, comments and skipped lines.
-ghost use Rattle.std.specs.Prelude.{◌≡◌, ◌≤◌, ◌&&◌, nat_lt, length, slice_index, take, drop, count_by};
-ghost use Rattle.std.specs.Prelude.{IsTrue, ◌==◌, None};
-ghost use Rattle.std.specs.Option.{IfSome};
-ghost use Rattle.bean_base.specs.Character.{space};
+ghost use Rattle.std.specs.Prelude.{◌≡◌, ◌≤◌, length, take, count_by, IsTrue, None};
 ghost use Rattle.bean_lexer.specs.Gap.{is_line_feed, gap_len, behind_gap, gap_step, place_of};
 ghost use Rattle.bean_lexer.specs.Gap as spec;
 ghost use Rattle.bean_lexer.specs.Gap.{spot_at};
