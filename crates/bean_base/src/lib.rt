@@ -4,7 +4,9 @@
 //! ```text
 //! let usd = parse_currency("USD")?;
 //! let price = Num::parse("1,000.50")?;         // the count 100050 of 10^-2
-//! let paid = Amount { number: price, currency: usd };
+//! let fee = Num::parse("2")?.negated();
+//! let paid = Amount { number: price.add(fee)?, currency: usd };
+//! let cash = parse_account("Assets:Cash")?;
 //! let day = parse_day("2014-01-31")?;          // Display writes it so again
 //! let shop = Text::new("The \"Corner\" shop");  // stands for The "Corner" shop
 //! ```

@@ -2,3 +2,5 @@ pub mod Head
 pub mod Undated
 pub mod SmallPart
 pub mod Small
+pub mod Stretch
+pub mod Given

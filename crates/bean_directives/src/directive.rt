@@ -3,9 +3,11 @@
 use crate::accounts::{Close, Open, Pad};
 use crate::notes::{Custom, Document, Event, Note, Query};
 use crate::numbers::{Balance, Commodity, Price};
+use crate::stretch::Stretch;
 use crate::transaction::Transaction;
-use bean_base::{Apart, Day, Few, Flag, List, Text};
+use bean_base::{Apart, Day, Few, Flag, Text};
 use bean_grammar::MetaEntry;
+use bean_postings::WrittenPosting;
 use std::alloc::Global;
 
 /// What a directive does. What few directives have, and is large, lies apart.
@@ -77,6 +79,30 @@ pub struct Directive<'a> {
 }
 
 impl<'a> Directive<'a> {
+    ghost use Rattle.std.specs.Prelude.{◌≡◌, MatchOption};
+    ghost use Rattle.bean_directives.specs.Given.{with_postings};
+
+    /// Gives a transaction its postings, which stand in a block that is full by now.
+    #[inline(always)]
+    pub fn give_postings(&mut self, postings: Stretch<WrittenPosting<'a>>)
+        ensures { self.new ≡ with_postings postings.entry self.old }
+    {
+        if let DirectiveKind::Transaction(transaction) = &mut self.kind {
+            transaction.postings = postings;
+        }
+    }
+
+    /// Takes the postings of a transaction out, if they lie by themselves.
+    pub fn take_postings(&mut self, alloc: Global) -> Option<Vec<WrittenPosting<'a>>>
+        ensures { MatchOption result (self.new ≡ self.old)
+            (λ own. with_postings own.items self.new ≡ self.old) }
+    {
+        match &mut self.kind {
+            DirectiveKind::Transaction(transaction) => transaction.postings.take_own(alloc),
+            _ => None,
+        }
+    }
+
     /// A transaction of nothing, which stands in for a directive that is changed elsewhere. Takes no
     /// memory.
     pub fn stand_in(alloc: Global, day: Day) -> Directive<'a> {
@@ -89,7 +115,7 @@ impl<'a> Directive<'a> {
                 payee: None,
                 narration: Text::new(""),
                 marks: Few::new(),
-                postings: List::new(Vec::new(alloc)),
+                postings: Stretch::new(Vec::new(alloc)),
             }),
         }
     }

@@ -11,8 +11,9 @@ use crate::accounts::{close_line, open_line, pad_line};
 use crate::directive::DirectiveKind;
 use crate::notes::{custom_line, document_line, event_line, note_line, query_line};
 use crate::numbers::{balance_line, commodity_line, price_line};
+use crate::stretch::Stretch;
 use crate::transaction::{Transaction, transaction_line, words};
-use bean_base::{Day, Few, Flag, List};
+use bean_base::{Day, Few, Flag};
 use bean_grammar::Ranged;
 use bean_grammar::front::next;
 use bean_grammar::literal::day;
@@ -131,7 +132,7 @@ pub fn plain_head<'a>(alloc: Global, line: &[Token<'a>]) -> Option<(Day, Transac
                 payee: words.payee,
                 narration: words.narration,
                 marks: Few::new(),
-                postings: List::new(Vec::new(alloc)),
+                postings: Stretch::new(Vec::new(alloc)),
             };
             Some((day, transaction))
         }

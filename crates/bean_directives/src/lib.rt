@@ -25,17 +25,21 @@
 #![tactic(auto)]
 
 mod accounts;
+mod apart;
 mod directive;
 pub mod head;
 mod notes;
 mod numbers;
+mod stretch;
 mod transaction;
 pub mod undated;
 mod worth;
 
 pub use accounts::{Close, Open, Pad};
+pub use apart::ApartDirective;
 pub use directive::{Directive, DirectiveKind};
 pub use notes::{Custom, Document, Event, Note, Query};
 pub use numbers::{Balance, Commodity, Price};
+pub use stretch::Stretch;
 pub use transaction::Transaction;
 pub use undated::{Bound, PushName, Pushed, Setting, SettingKind, Undated, UndatedKind};

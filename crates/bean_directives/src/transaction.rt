@@ -5,7 +5,8 @@ ghost use Rattle.bean_grammar.specs.Lexeme.{lexemes};
 ghost use Rattle.bean_directives.specs.Head as rule;
 
 use crate::directive::DirectiveKind;
-use bean_base::{Few, Flag, List, Text};
+use crate::stretch::Stretch;
+use bean_base::{Few, Flag, Text};
 use bean_grammar::literal::text_if_due;
 use bean_grammar::mark::marks;
 use bean_grammar::{Mark, Ranged};
@@ -23,7 +24,8 @@ pub struct Transaction<'a> {
     /// Its tags and links in the order in which they are written, then the tags that are pushed to
     /// it. A mark may stand twice.
     pub marks: Few<Mark<'a>>,
-    pub postings: List<WrittenPosting<'a>>,
+    /// In a block with those of other transactions, where nothing but postings stands under it.
+    pub postings: Stretch<WrittenPosting<'a>>,
 }
 
 /// The payee and the narration of a transaction.
@@ -80,7 +82,7 @@ pub fn transaction_line<'t, 'a>(
         payee: words.payee,
         narration: words.narration,
         marks,
-        postings: List::new(Vec::new(alloc)),
+        postings: Stretch::new(Vec::new(alloc)),
     };
     Ok((
         Ranged::Within(DirectiveKind::Transaction(transaction)),

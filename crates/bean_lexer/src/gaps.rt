@@ -1,8 +1,5 @@
 //! What stands between tokens: white space, line feeds, comments and skipped lines.
-ghost use Rattle.std.specs.Prelude.{◌≡◌, ◌≤◌, ◌&&◌, nat_lt, length, slice_index, take, drop, count_by};
-ghost use Rattle.std.specs.Prelude.{IsTrue, ◌==◌, None};
-ghost use Rattle.std.specs.Option.{IfSome};
-ghost use Rattle.bean_base.specs.Character.{space};
+ghost use Rattle.std.specs.Prelude.{◌≡◌, ◌≤◌, length, take, count_by, IsTrue, None};
 ghost use Rattle.bean_lexer.specs.Gap.{is_line_feed, gap_len, behind_gap, gap_step, place_of};
 ghost use Rattle.bean_lexer.specs.Gap as spec;
 ghost use Rattle.bean_lexer.specs.Gap.{spot_at};
@@ -106,8 +103,8 @@ fn inside(len: usize) -> Lead
     }
 }
 
-/// The gap at the front of a text, byte by byte.
-#[inline(always)]
+/// The gap at the front of a text, byte by byte. Few gaps need it: it stays out of what is done for each.
+#[inline(never)]
 fn long_gap(start: Spot, bytes: &[u8]) -> Lead
     ensures { IsLead start bytes.now result }
 {
@@ -142,11 +139,7 @@ fn long_gap(start: Spot, bytes: &[u8]) -> Lead
 fn found_gap(start: Spot, bytes: &[u8]) -> Lead
     ensures { IsLead start bytes.now result }
 {
-    // The spot is known from here on, so the place of the token is too.
-    if start != Spot::Behind {
-        return long_gap(start, bytes);
-    }
-    if bytes.len() >= 4 {
+    if start == Spot::Behind && bytes.len() >= 4 {
         if bytes[0] == b'\n' {
             if bytes[1] == b' ' {
                 if bytes[2] == b' ' && begins_token(bytes[3]) {
@@ -175,7 +168,7 @@ fn found_gap(start: Spot, bytes: &[u8]) -> Lead
             return inside(0);
         }
     }
-    long_gap(Spot::Behind, bytes)
+    long_gap(start, bytes)
 }
 
 /// The gap at the front of a text.

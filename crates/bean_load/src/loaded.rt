@@ -11,16 +11,16 @@ ghost use Rattle.bean_loaded.specs.Limited.{AreFew, AreSmall};
 use crate::order::{Codes, order_directives, order_settings};
 use crate::placed::{Own, add_directives, add_settings, parts_of};
 use crate::texts::Texts;
-use bean_base::{Apart, Fault, Place, Text};
+use bean_base::{Fault, Place, Text};
 use bean_loaded::{Loaded, MethodLine, Placed};
 use bean_parser::parse::parse;
-use bean_parser::{Directive, Parsed, Setting, SettingKind};
+use bean_parser::{ApartDirective, Parsed, Setting, SettingKind};
 use std::alloc::{AllocError, Global};
 
 /// What is read of texts so far.
 #[derive(Drop)]
 pub struct Read<'a> {
-    pub directives: Vec<Placed<Apart<Directive<'a>>>>,
+    pub directives: Vec<Placed<ApartDirective<'a>>>,
     /// By which the directives are arranged.
     pub codes: Codes,
     pub settings: Vec<Placed<Setting<'a>>>,

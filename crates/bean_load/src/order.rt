@@ -10,9 +10,8 @@ ghost use Rattle.bean_load.specs.declared.order.TheConstants.{BEFORE};
 
 use crate::rank::Rank;
 use arranging::arrange;
-use bean_base::Apart;
 use bean_loaded::Placed;
-use bean_parser::{Directive, Setting};
+use bean_parser::{ApartDirective, Setting};
 use std::alloc::{AllocError, Global};
 
 /// One number for a day's number and a rank.
@@ -25,7 +24,7 @@ fn turn(day: i32, rank: u8) -> i64
 
 /// The turn of a directive, and its part of the ledger: so two whole numbers are all that is
 /// compared.
-fn turn_of(placed: &Placed<Apart<Directive<'_>>>) -> (i64, usize)
+fn turn_of(placed: &Placed<ApartDirective<'_>>) -> (i64, usize)
     ensures { result ≡ spec.turn_of placed.now }
 {
     let directive = placed.item.get();
@@ -51,7 +50,7 @@ fn above(turn: i64) -> Option<u64>
 }
 
 /// One number for a turn and a part, where they have room.
-fn code_of(placed: &Placed<Apart<Directive<'_>>>) -> Option<u64>
+fn code_of(placed: &Placed<ApartDirective<'_>>) -> Option<u64>
     ensures { IfSome result (IsCode (spec.turn_of placed.now)) }
 {
     let (turn, part) = turn_of(placed);
@@ -82,7 +81,7 @@ impl Codes {
     }
 
     /// Adds the code of one more directive.
-    pub fn add(&mut self, placed: &Placed<Apart<Directive<'_>>>) -> Result<(), AllocError>
+    pub fn add(&mut self, placed: &Placed<ApartDirective<'_>>) -> Result<(), AllocError>
         ensures { OnOk result ((ds : List (placed_declared.Placed Directive))
             → AreCodesIf ds self.old → AreCodesIf (ds ++ placed.now ∷ []) self.new) }
     {
@@ -97,7 +96,7 @@ impl Codes {
 /// Arranges directives by their codes, where all have one. Whether it did.
 fn order_by_codes(
     alloc: Global,
-    directives: &mut [Placed<Apart<Directive<'_>>>],
+    directives: &mut [Placed<ApartDirective<'_>>],
     codes: Codes,
 ) -> Result<bool, AllocError>
     requires { AreCodesIf directives.old codes }
@@ -113,7 +112,7 @@ fn order_by_codes(
 /// By day, of one day opens, then balances, all else, documents and closes, then in reading order.
 pub fn order_directives(
     alloc: Global,
-    directives: &mut Vec<Placed<Apart<Directive<'_>>>>,
+    directives: &mut Vec<Placed<ApartDirective<'_>>>,
     codes: Codes,
 ) -> Result<(), AllocError>
     requires { AreCodesIf directives.old.items codes }

@@ -5,9 +5,8 @@ ghost use Rattle.bean_load.specs.Turns.{AreCodesIf};
 
 use crate::order::Codes;
 use crate::texts::Part;
-use bean_base::Apart;
 use bean_loaded::Placed;
-use bean_parser::{Directive, Setting};
+use bean_parser::{ApartDirective, Setting};
 use std::alloc::{AllocError, Global};
 
 /// A part of a text: the line behind which it begins, and its number in reading order.
@@ -60,8 +59,8 @@ fn part_at(own: &[Own], line: usize) -> usize
 pub fn add_directives<'a>(
     file: usize,
     own: &[Own],
-    directives: Vec<Apart<Directive<'a>>>,
-    out: &mut Vec<Placed<Apart<Directive<'a>>>>,
+    directives: Vec<ApartDirective<'a>>,
+    out: &mut Vec<Placed<ApartDirective<'a>>>,
     codes: &mut Codes,
 ) -> Result<(), AllocError>
     ensures placed { OnOk result (out.new.items

@@ -3,8 +3,8 @@ ghost use Rattle.std.specs.Prelude.{◌≡◌};
 ghost use Rattle.bean_loaded.specs.Limited.{AreFew, AreSmall};
 
 use crate::placed::Placed;
-use bean_base::{Apart, Fault, Place, Text};
-use bean_directives::Directive;
+use bean_base::{Fault, Place, Text};
+use bean_directives::ApartDirective;
 use std::marker::Model;
 
 /// The most bytes of all texts of a ledger: 64 MiB.
@@ -23,7 +23,7 @@ pub struct MethodLine<'a> {
 /// directives than all texts may have bytes, [`LARGEST_LEDGER`].
 #[derive(Drop)]
 pub struct Loaded<'a> {
-    directives: Vec<Placed<Apart<Directive<'a>>>>,
+    directives: Vec<Placed<ApartDirective<'a>>>,
     faults: Vec<Fault>,
     title: Option<Text<'a>>,
     operating: Vec<Text<'a>>,
@@ -50,7 +50,7 @@ impl<'a> Model for Loaded<'a> {
 impl<'a> Loaded<'a> {
     /// These directives, in the order in which they are taken, and what else the texts say.
     pub fn new(
-        directives: Vec<Placed<Apart<Directive<'a>>>>,
+        directives: Vec<Placed<ApartDirective<'a>>>,
         faults: Vec<Fault>,
         title: Option<Text<'a>>,
         operating: Vec<Text<'a>>,
@@ -76,7 +76,7 @@ impl<'a> Loaded<'a> {
     }
 
     /// The directives in the order in which they are taken.
-    pub fn directives(&self) -> &[Placed<Apart<Directive<'a>>>]
+    pub fn directives(&self) -> &[Placed<ApartDirective<'a>>]
         ensures directives { result.now ≡ self.now.directives }
         ensures small { AreSmall self.now.directives }
         ensures few { AreFew self.now.directives }
@@ -85,7 +85,7 @@ impl<'a> Loaded<'a> {
     }
 
     /// The directives themselves; all else is given up.
-    pub fn into_directives(self) -> Vec<Placed<Apart<Directive<'a>>>>
+    pub fn into_directives(self) -> Vec<Placed<ApartDirective<'a>>>
         ensures directives { result.items ≡ self.entry.directives }
         ensures small { AreSmall self.entry.directives }
         ensures few { AreFew self.entry.directives }

@@ -1,5 +1,6 @@
 -- What is kept of blocks, one after the other.
-use Rattle.std.proofs.Common.{◌≡◌, ℕ, ◌+◌, List, [], ◌∷◌, ◌++◌, length, sym, ◌∙◌, ap, subst}
+use Rattle.std.proofs.Common.{◌≡◌, ℕ, ◌+◌, Bool, true, false, List, [], ◌∷◌, ◌++◌, length, refl, sym, ◌∙◌}
+use Rattle.std.proofs.Common.{ap, subst}
 use Rattle.std.proofs.Common.{append_assoc, arith}
 use Rattle.std.proofs.lemmas.List.{append-nil}
 use Rattle.std.specs.List.{flat_map}
@@ -7,7 +8,9 @@ use Rattle.bean_parser.specs.Gathered.{IsGathered, undated_at}
 use Rattle.bean_parser.specs.Parsed.{directives_in, settings_in, faults_in, bounds_in, all_bounds}
 use Rattle.bean_base.specs.declared.fault.Fault as faults
 use Rattle.bean_base.specs.declared.fault.FaultKind.TheVariants.{Ignored}
-use Rattle.bean_parser.specs.Outcome.{fault_at}
+use Rattle.bean_lexer.specs.declared.token.Token.{Token}
+use Rattle.bean_parser.specs.Outcome.{Gives, fault_at}
+use Rattle.bean_parser.specs.Waiting.{AddsPlain}
 use Rattle.bean_parser.specs.declared.block.Outcome.{Outcome}
 use Rattle.bean_parser.specs.declared.block.Outcome.TheVariants as outcome
 use Rattle.bean_directives.specs.declared.directive.Directive as directives
@@ -54,9 +57,9 @@ bounds_from_first os o =
 
 -- what a block adds
 pub record Adds (o : Outcome) (g g' : Gathered) : Type 0 where
-  pub directives : g'.directives.items ≡ g.directives.items ++ directives_in o
+  pub directives : g'.directives ≡ g.directives ++ directives_in o
   pub settings : g'.settings.items ≡ g.settings.items ++ settings_in o
-  pub bounds : g'.bounds.items ≡ g.bounds.items ++ bounds_in (length g.directives.items) o
+  pub bounds : g'.bounds.items ≡ g.bounds.items ++ bounds_in (length g.directives) o
   pub faults : g'.faults.items ≡ g.faults.items ++ faults_in o
 
 pub gathered_more : (os : List Outcome) (o : Outcome) (g g' : Gathered) → Adds o g g'
@@ -75,14 +78,14 @@ gathered_more os o g g' a is = record {
 -- what each kind of block adds
 
 pub fault_adds : (os : List Outcome) (o : Outcome) (f : faults.Fault) (g g' : Gathered)
-    → o ≡ outcome.Fault f → g'.directives.items ≡ g.directives.items
+    → o ≡ outcome.Fault f → g'.directives ≡ g.directives
     → g'.settings.items ≡ g.settings.items → g'.bounds.items ≡ g.bounds.items
     → g'.faults.items ≡ g.faults.items ++ f ∷ [] → IsGathered os g → IsGathered (os ++ o ∷ []) g'
 fault_adds os o f g g' is ds ss bs fs h =
     subst (λ x. IsGathered (os ++ x ∷ []) g') (sym is)
     (gathered_more os (outcome.Fault f) g g' record {
       directives =
-          ds ∙ sym (append-nil g.directives.items);
+          ds ∙ sym (append-nil g.directives);
       settings = ss ∙ sym (append-nil g.settings.items);
       bounds = bs ∙ sym (append-nil g.bounds.items);
       faults = fs;
@@ -90,7 +93,7 @@ fault_adds os o f g g' is ds ss bs fs h =
 
 pub directive_adds :
     (os : List Outcome) (s : Statement) (d : directives.Directive) (g g' : Gathered)
-    → s ≡ statement.Directive d → g'.directives.items ≡ g.directives.items ++ d ∷ []
+    → s ≡ statement.Directive d → g'.directives ≡ g.directives ++ d ∷ []
     → g'.settings.items ≡ g.settings.items
     → g'.bounds.items ≡ g.bounds.items → g'.faults.items ≡ g.faults.items → IsGathered os g
     → IsGathered (os ++ outcome.Statement s ∷ []) g'
@@ -107,7 +110,7 @@ directive_adds os s d g g' is ds ss bs fs h =
 
 pub setting_adds :
     (os : List Outcome) (line : ℕ) (u : UndatedKind) (k : SettingKind) (g g' : Gathered)
-    → u ≡ kind.Setting k → g'.directives.items ≡ g.directives.items
+    → u ≡ kind.Setting k → g'.directives ≡ g.directives
     → g'.settings.items ≡ g.settings.items ++ record { line = line; kind = k } ∷ []
     → g'.bounds.items ≡ g.bounds.items → g'.faults.items ≡ g.faults.items → IsGathered os g
     → IsGathered (os ++ undated_at line u ∷ []) g'
@@ -115,7 +118,7 @@ setting_adds os line u k g g' is ds ss bs fs h =
     subst (λ x. IsGathered (os ++ undated_at line x ∷ []) g') (sym is)
     (gathered_more os (undated_at line (kind.Setting k)) g g' record {
       directives =
-          ds ∙ sym (append-nil g.directives.items);
+          ds ∙ sym (append-nil g.directives);
       settings = ss;
       bounds =
           bs ∙ sym (append-nil g.bounds.items);
@@ -123,7 +126,7 @@ setting_adds os line u k g g' is ds ss bs fs h =
     } h)
 
 pub ignored_adds : (os : List Outcome) (line : ℕ) (u : UndatedKind) (g g' : Gathered)
-    → u ≡ kind.Ignored → g'.directives.items ≡ g.directives.items
+    → u ≡ kind.Ignored → g'.directives ≡ g.directives
     → g'.settings.items ≡ g.settings.items
     → g'.bounds.items ≡ g.bounds.items
     → g'.faults.items ≡ g.faults.items ++ fault_at Ignored line ∷ [] → IsGathered os g
@@ -132,25 +135,51 @@ ignored_adds os line u g g' is ds ss bs fs h =
     subst (λ x. IsGathered (os ++ undated_at line x ∷ []) g') (sym is)
     (gathered_more os (undated_at line kind.Ignored) g g' record {
       directives =
-          ds ∙ sym (append-nil g.directives.items);
+          ds ∙ sym (append-nil g.directives);
       settings = ss ∙ sym (append-nil g.settings.items);
       bounds = bs ∙ sym (append-nil g.bounds.items);
       faults = fs;
     } h)
 
 pub bound_adds : (os : List Outcome) (line : ℕ) (u : UndatedKind) (b : Bound) (g g' : Gathered)
-    → u ≡ kind.Bound b → g'.directives.items ≡ g.directives.items
+    → u ≡ kind.Bound b → g'.directives ≡ g.directives
     → g'.settings.items ≡ g.settings.items
     → g'.bounds.items ≡ g.bounds.items
-    ++ record { line = line; place = length g.directives.items; bound = b } ∷ []
+    ++ record { line = line; place = length g.directives; bound = b } ∷ []
     → g'.faults.items ≡ g.faults.items → IsGathered os g
     → IsGathered (os ++ undated_at line u ∷ []) g'
 bound_adds os line u b g g' is ds ss bs fs h =
     subst (λ x. IsGathered (os ++ undated_at line x ∷ []) g') (sym is)
     (gathered_more os (undated_at line (kind.Bound b)) g g' record {
       directives =
-          ds ∙ sym (append-nil g.directives.items);
+          ds ∙ sym (append-nil g.directives);
       settings = ss ∙ sym (append-nil g.settings.items);
       bounds = bs;
       faults = fs ∙ sym (append-nil g.faults.items);
     } h)
+
+-- what a plain block adds, and that another adds nothing
+
+pub plain_adds : (block : List Token) (plain : Bool) (g g' : Gathered) → plain ≡ true
+    → AddsPlain plain block g.directives g'.directives → g'.settings.items ≡ g.settings.items
+    → g'.bounds.items ≡ g.bounds.items → g'.faults.items ≡ g.faults.items
+    → (o : Outcome) × Gives block o
+    × ((os : List Outcome) → IsGathered os g → IsGathered (os ++ o ∷ []) g')
+plain_adds block plain g g' is adds ss bs fs =
+    let one = subst (λ b. AddsPlain b block g.directives g'.directives) is adds in (
+      outcome.Statement (statement.Directive one.0),
+      one.1,
+      λ os h. directive_adds os (statement.Directive one.0) one.0 g g' refl one.2 ss bs fs h,
+    )
+
+pub none_added : (block : List Token) (plain : Bool) (os : List Outcome) (g g' : Gathered)
+    → plain ≡ false → AddsPlain plain block g.directives g'.directives
+    → g'.settings.items ≡ g.settings.items → g'.bounds.items ≡ g.bounds.items
+    → g'.faults.items ≡ g.faults.items → IsGathered os g → IsGathered os g'
+none_added block plain os g g' is adds ss bs fs h = record {
+  directives =
+      subst (λ b. AddsPlain b block g.directives g'.directives) is adds ∙ h.directives;
+  settings = ss ∙ h.settings;
+  bounds = bs ∙ h.bounds;
+  faults = fs ∙ h.faults;
+}

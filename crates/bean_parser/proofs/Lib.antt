@@ -5,6 +5,7 @@ pub mod PlainLinesFacts
 pub mod PlainBlockFacts
 pub mod BlockFacts
 pub mod GatheredFacts
+pub mod WaitingFacts
 pub mod ParsedFacts
 pub mod OneTree
 pub mod OneReadingFacts

@@ -68,7 +68,7 @@ text_ends text reader g parsed p at come =
 pub come_to :
     (os : List Outcome) (g : Gathered) (ds : List directives.Directive) (ss : List settings.Setting)
     (fs all : List faults.Fault) → IsGathered os g
-    → ds ≡ with_pushes [] g.bounds.items g.directives.items
+    → ds ≡ with_pushes [] g.bounds.items g.directives
     → ss ≡ g.settings.items → all ≡ g.faults.items ++ unmatched [] g.bounds.items → AreByLine all fs
     → ComeTo os record { directives = ds; settings = ss; faults = fs }
 come_to os g ds ss fs all is given same added by_line = record {

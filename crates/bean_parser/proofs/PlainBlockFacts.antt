@@ -13,6 +13,8 @@ use Rattle.bean_lexer.specs.declared.token.Token.{Token}
 use Rattle.bean_grammar.specs.declared.ranged.Ranged.TheVariants.{Within}
 use Rattle.bean_grammar.specs.Lexeme.{lexemes}
 use Rattle.bean_postings.specs.declared.posting.Posting.{Posting}
+use Rattle.std.proofs.lemmas.List.{append-nil}
+use Rattle.bean_directives.specs.Given.{with_postings}
 use Rattle.bean_directives.specs.Head.{IsHead}
 use Rattle.bean_directives.specs.declared.directive.DirectiveKind.TheVariants as kinds
 use Rattle.bean_directives.specs.declared.transaction.Transaction.{Transaction}
@@ -54,6 +56,30 @@ plain_gives block line under others d t ps n no_fault column cut number head at 
     (plainly_read n (Within d) (Within (kinds.Transaction t)) (lines under) others _ _ refl postings
     end (plainly_said n d (kinds.Transaction t) ps)) in
     subst (λ o. GivesAt o block (outcomes.Statement (plainly n d t ps))) (sym no_fault) (said.0, said.1, sym said.2)
+
+-- the same, with the postings given to what the first line says
+pub plain_given :
+    (block line under others : List Token) (d : days.Day) (t : Transaction) (ps : List Posting)
+    (n : ℕ) → fault_line block ≡ None → is_in_column_one block ≡ true
+    → cut_before begins_line block ≡ line ∷ cut_before begins_line under
+    → first_line line ≡ first_line block
+    → IsHead (lexemes line) (Within d) (Within (kinds.Transaction t)) → n ≡ first_line block
+    → InLines true (lines under) (lines others) (with_lines no_lines (map said_posting ps))
+    → others ≡ []
+    → Gives block (outcomes.Statement (statements.Directive (with_postings ps (record {
+      day = d;
+      line = n;
+      metadata = [];
+      kind = kinds.Transaction t;
+    }))))
+plain_given block line under others d t ps n no_fault column cut number head at postings end =
+    subst (λ ms. Gives block (outcomes.Statement (statements.Directive (record {
+      day = d;
+      line = n;
+      metadata = [];
+      kind = kinds.Transaction (record t { marks = ms; postings = ps });
+    })))) (append-nil t.marks)
+    (plain_gives block line under others d t ps n no_fault column cut number head at postings end)
 
 plain_sound : (k : Kind) → is_plain k ≡ true → is_fault k ≡ false
 plain_sound kinds_of.Fault plain = absurd (cc)

@@ -12,7 +12,7 @@ abbrev pub undated_at : ℕ → UndatedKind → Outcome
 undated_at line kind = outcome.Statement (statement.Undated record { line = line; kind = kind })
 
 pub record IsGathered (os : List Outcome) (g : Gathered) : Type 0 where
-  pub directives : g.directives.items ≡ flat_map directives_in os
+  pub directives : g.directives ≡ flat_map directives_in os
   pub settings : g.settings.items ≡ flat_map settings_in os
   pub bounds : g.bounds.items ≡ all_bounds 0 os
   pub faults : g.faults.items ≡ flat_map faults_in os

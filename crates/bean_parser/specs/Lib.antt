@@ -5,6 +5,7 @@ pub mod Grammar
 pub mod Outcome
 pub mod Reading
 pub mod Parsed
+pub mod Waiting
 pub mod Gathered
 pub mod OneReading
 pub mod Includes

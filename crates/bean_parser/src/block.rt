@@ -1,7 +1,9 @@
 //! Blocks: what each gives.
-ghost use Rattle.std.specs.Prelude.{◌≡◌, [], map, MatchOption, IfSome, IfOk};
+ghost use Rattle.std.specs.Prelude.{◌≡◌, ◌++◌, [], map, MatchOption, IfSome, IfOk};
 ghost use Rattle.std.specs.List.{list_all};
 ghost use Rattle.std.specs.Prelude as prelude;
+ghost use Rattle.bean_directives.specs.Given.{with_postings};
+ghost use Rattle.bean_postings.specs.declared.posting.Posting.{Posting};
 ghost use Rattle.bean_parser.specs.Block as spec;
 ghost use Rattle.bean_parser.specs.Grammar as rule;
 ghost use Rattle.bean_parser.specs.Outcome as outcomes;
@@ -13,11 +15,11 @@ ghost use Rattle.bean_parser.specs.declared.statement.Statement.TheVariants as s
 
 use crate::part::{Part, first_line, first_part};
 use crate::statement::Statement;
-use crate::under::{Body, all_postings, most_postings, other_lines, plain_lines};
-use bean_base::{Day, Fault, FaultKind, Few, List, Place};
+use crate::under::{Body, all_postings, other_lines, own_lines, plain_lines};
+use bean_base::{Day, Fault, FaultKind, Few, Place};
 use bean_directives::head::{head, plain_head};
 use bean_directives::undated::undated_line;
-use bean_directives::{Directive, DirectiveKind, Transaction, Undated};
+use bean_directives::{Directive, DirectiveKind, Stretch, Transaction, Undated};
 use bean_grammar::{Mark, Ranged};
 use bean_lexer::{Kind, Sign, Token};
 use bean_postings::WrittenPosting;
@@ -66,7 +68,7 @@ fn takes_postings(kind: &Ranged<DirectiveKind<'_>>) -> bool
 #[inline(always)]
 fn with_postings<'a>(
     kind: DirectiveKind<'a>,
-    postings: List<WrittenPosting<'a>>,
+    postings: Stretch<WrittenPosting<'a>>,
 ) -> DirectiveKind<'a>
     ensures { result ≡ rule.with_body kind.entry [] postings.entry }
 {
@@ -100,7 +102,7 @@ fn directive_of<'a>(
         ..
     } = body;
     let postings = all_postings(before, last)?;
-    let mut kind = with_postings(kind, postings);
+    let mut kind = with_postings(kind, Stretch::new(postings.into_vec()));
     if let DirectiveKind::Transaction(transaction) = &mut kind {
         transaction.marks.append(alloc, marks)?;
     }
@@ -139,7 +141,7 @@ fn plainly_dated<'a>(
     line: usize,
     day: Ranged<Day>,
     kind: Ranged<DirectiveKind<'a>>,
-    postings: List<WrittenPosting<'a>>,
+    postings: Stretch<WrittenPosting<'a>>,
 ) -> Ranged<Statement<'a>>
     ensures { result ≡ rule.dated line day kind.entry
         (with_lines no_lines (map said_posting postings.entry)) }
@@ -194,9 +196,9 @@ fn dated_block<'a>(
         let front = Body::of_postings(alloc, Vec::new(alloc));
         return other_block(alloc, line, day, kind, front, under);
     }
-    let (postings, others) = plain_lines(alloc, most_postings(under), under)?;
+    let (postings, others) = own_lines(alloc, under)?;
     if others.is_empty() {
-        let postings = List::new(postings);
+        let postings = Stretch::new(postings);
         return Ok(Some(plainly_dated(line, day, kind, postings)));
     }
     let front = Body::of_postings(alloc, postings);
@@ -270,23 +272,19 @@ fn are_plain(block: &[Token<'_>]) -> bool
     block.iter().all(|token| is_plain(token.kind))
 }
 
-/// How many lines these are, where each is on one line and none is left out between them.
-fn most_lines(under: &[Token<'_>]) -> usize {
-    let last = under.last().map_or(0, |token| token.line);
-    let more = last.saturating_sub(first_line(under));
-    more.saturating_add(1).min(under.len())
-}
-
 /// The directive that a block gives which is a transaction with a plain first line and nothing but
-/// plain postings under it. Nearly all blocks are such, and what they say is read without a look at
-/// what others may say; of the others nothing is said.
+/// plain postings under it, which are added to others: it is to be given them. Nearly all blocks are
+/// such, and what they say is read without a look at what others may say; of the others nothing is
+/// said.
 #[inline(always)]
 pub fn plain_block<'a>(
     alloc: Global,
     block: &[Token<'a>],
+    postings: &mut Vec<WrittenPosting<'a>>,
 ) -> Result<Option<Directive<'a>>, AllocError>
-    ensures { IfOk result (λ found. IfSome found (λ d.
-        Gives block.now (outcome.Statement (statements.Directive d)))) }
+    ensures { (ps : prelude.List Posting) × (postings.new.items ≡ postings.old.items ++ ps)
+        × IfOk result (λ found. IfSome found (λ d.
+        Gives block.now (outcome.Statement (statements.Directive (with_postings ps d))))) }
 {
     if !are_plain(block) {
         return Ok(None);
@@ -298,7 +296,7 @@ pub fn plain_block<'a>(
         return Ok(None);
     };
     // What can fail comes first, so that a transaction that was read is given up nowhere.
-    let (postings, others) = plain_lines(alloc, most_lines(under), under)?;
+    let others = plain_lines(under, postings)?;
     if !others.is_empty() {
         return Ok(None);
     }
@@ -307,7 +305,7 @@ pub fn plain_block<'a>(
             day,
             line: first_line(block),
             metadata: Few::new(),
-            kind: with_postings(DirectiveKind::Transaction(transaction), List::new(postings)),
+            kind: DirectiveKind::Transaction(transaction),
         })),
         None => Ok(None),
     }

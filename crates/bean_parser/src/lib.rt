@@ -42,6 +42,7 @@
 #![tactic(auto)]
 
 mod block;
+mod directives;
 mod grammar;
 pub mod includes;
 pub mod parse;
@@ -51,7 +52,9 @@ mod sizes;
 mod statement;
 mod under;
 
-pub use bean_directives::{Directive, DirectiveKind, Setting, SettingKind, Transaction};
+pub use bean_directives::{
+    ApartDirective, Directive, DirectiveKind, Setting, SettingKind, Transaction,
+};
 pub use includes::IncludeLine;
 pub use parse::Parsed;
 pub use sizes::texts_say_what_is_small;

@@ -4,14 +4,14 @@ ghost use Rattle.bean_parser.specs.Parsed.{IsParsed, ComeTo, AreByLine};
 ghost use Rattle.bean_parser.specs.Gathered.{IsGathered, undated_at};
 ghost use Rattle.bean_parser.specs.declared.block.Outcome.{Outcome};
 ghost use Rattle.bean_parser.specs.declared.block.Outcome.TheVariants as outcome;
-ghost use Rattle.bean_parser.specs.declared.statement.Statement.TheVariants as statements;
 ghost use Rattle.bean_parser.specs.Outcome.{Gives};
 
-use crate::block::{Outcome, fault_at, plain_block, read_block};
+use crate::block::{Outcome, fault_at, read_block};
+use crate::directives::Directives;
 use crate::reader::BlockReader;
 use crate::statement::Statement;
-use bean_base::{Apart, Fault, FaultKind, List};
-use bean_directives::{Directive, Setting, UndatedKind};
+use bean_base::{Fault, FaultKind, List};
+use bean_directives::{ApartDirective, Setting, UndatedKind};
 use bean_lexer::Token;
 use bean_pushes::{PlacedBound, add_unmatched, give_all, reaches};
 use std::alloc::{AllocError, Global};
@@ -19,7 +19,7 @@ use std::alloc::{AllocError, Global};
 /// What a ledger's text says, in reading order. The faults have file 0.
 #[derive(Drop)]
 pub struct Parsed<'a> {
-    pub directives: List<Apart<Directive<'a>>>,
+    pub directives: List<ApartDirective<'a>>,
     pub settings: List<Setting<'a>>,
     pub faults: List<Fault>,
 }
@@ -27,7 +27,7 @@ pub struct Parsed<'a> {
 /// What blocks gave so far, scopes aside.
 #[derive(Drop)]
 pub struct Gathered<'a> {
-    pub directives: Vec<Apart<Directive<'a>>>,
+    pub directives: Directives<'a>,
     pub settings: Vec<Setting<'a>>,
     pub bounds: Vec<PlacedBound<'a>>,
     pub faults: Vec<Fault>,
@@ -46,7 +46,7 @@ impl<'a> Gathered<'a> {
         ensures { IsGathered [] result }
     {
         Gathered {
-            directives: Vec::new(alloc),
+            directives: Directives::new(alloc),
             settings: Vec::new(alloc),
             bounds: Vec::new(alloc),
             faults: Vec::new(alloc),
@@ -75,20 +75,9 @@ impl<'a> Gathered<'a> {
             → IsGathered (os ++ outcome.Statement statement.entry ∷ []) self.new) }
     {
         match statement {
-            Statement::Directive(directive) => self.add_directive(alloc, directive),
+            Statement::Directive(directive) => self.directives.push(alloc, directive),
             Statement::Undated(undated) => self.add_undated(undated.line, undated.kind),
         }
-    }
-
-    /// Adds a directive that a block says. It lies apart, and stays there until it is booked.
-    #[inline(always)]
-    fn add_directive(&mut self, alloc: Global, directive: Directive<'a>) -> Result<(), AllocError>
-        ensures { OnOk result ((os : List Outcome) → IsGathered os self.old
-            → IsGathered (os ++ outcome.Statement (statements.Directive directive.entry) ∷ [])
-            self.new) }
-    {
-        self.directives.push(Apart::new(alloc, directive)?)?;
-        Ok(())
     }
 
     /// Adds what a block gives.
@@ -96,10 +85,10 @@ impl<'a> Gathered<'a> {
         ensures { OnOk result ((o : Outcome) × Gives block.now o
             × ((os : List Outcome) → IsGathered os self.old → IsGathered (os ++ o ∷ []) self.new)) }
     {
-        match plain_block(alloc, block)? {
-            Some(directive) => self.add_directive(alloc, directive),
-            None => self.add_other(alloc, block),
+        if self.directives.add_plain(alloc, block)? {
+            return Ok(());
         }
+        self.add_other(alloc, block)
     }
 
     /// Adds what a block gives that isn't plain. In place, it would clear memory for each that is.
@@ -119,7 +108,7 @@ impl<'a> Gathered<'a> {
     fn parsed(self, alloc: Global) -> Result<Parsed<'a>, AllocError>
         ensures { IfOk result (λ p. (os : List Outcome) → IsGathered os self.entry → ComeTo os p) }
     {
-        let mut directives = self.directives;
+        let mut directives = self.directives.into_vec(alloc)?;
         let mut faults = self.faults;
         let bounds = self.bounds.as_slice();
         let reaches = reaches(alloc, bounds)?;

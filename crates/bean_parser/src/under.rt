@@ -1,10 +1,11 @@
 //! The lines under the first one of a directive.
-ghost use Rattle.std.specs.Prelude.{◌≡◌, true, false, List, map, MatchOption, IfOk, OnOk};
+ghost use Rattle.std.specs.Prelude.{◌≡◌, ◌++◌, true, false, List, map, MatchOption, IfOk, OnOk};
 ghost use Rattle.theory.specs.Form.{Is, IsNone};
 ghost use Rattle.bean_grammar.specs.Lexeme.{lexemes};
 ghost use Rattle.bean_grammar.specs.Lexeme as spec;
 ghost use Rattle.bean_grammar.specs.Mark as mark_spec;
 ghost use Rattle.bean_grammar.specs.Metadata as metadata;
+ghost use Rattle.bean_postings.specs.declared.posting.Posting.{Posting};
 ghost use Rattle.bean_parser.specs.Block.{Line, line_of, lines};
 ghost use Rattle.bean_parser.specs.Reading.{ReadsLines, ReadsLine, InLines};
 ghost use Rattle.bean_parser.specs.Under as rule;
@@ -165,7 +166,7 @@ impl<'a> Body<'a> {
 }
 
 /// How many lines may be postings.
-pub fn most_postings(under: &[Token<'_>]) -> usize {
+fn most_postings(under: &[Token<'_>]) -> usize {
     under
         .iter()
         .filter(|token| {
@@ -189,18 +190,17 @@ pub fn all_postings<'a>(
     Ok(all)
 }
 
-/// The postings that the lines at the front are, as far as each is a plain one, and what stands
-/// behind them. Nearly all lines are, and each of their postings is moved but once, to the list that
-/// the transaction keeps; that has room for `most` from the start.
+/// Adds the postings that the lines at the front are, as far as each is a plain one, and gives what
+/// stands behind them. Nearly all lines are, and each of their postings is moved but once, to where
+/// it stays.
 pub fn plain_lines<'t, 'a>(
-    alloc: Global,
-    most: usize,
     under: &'t [Token<'a>],
-) -> Result<(Vec<WrittenPosting<'a>>, &'t [Token<'a>]), AllocError>
-    ensures { IfOk result (λ r. InLines true (lines under.now) (lines r.1.now)
-        (with_lines rule.no_lines (map rule.said_posting r.0.items))) }
+    postings: &mut Vec<WrittenPosting<'a>>,
+) -> Result<&'t [Token<'a>], AllocError>
+    ensures { (ps : List Posting) × (postings.new.items ≡ postings.old.items ++ ps)
+        × IfOk result (λ rest. InLines true (lines under.now) (lines rest.now)
+        (with_lines rule.no_lines (map rule.said_posting ps))) }
 {
-    let mut postings = Vec::with_capacity(alloc, most)?;
     let mut rest = Unread { tokens: under };
     while let Some((line, after)) = first_part(Part::Line, rest.tokens) {
         let Some(posting) = plain_posting(first_line(line), line) else {
@@ -209,7 +209,20 @@ pub fn plain_lines<'t, 'a>(
         postings.push(posting)?;
         rest = Unread { tokens: after };
     }
-    Ok((postings, rest.tokens))
+    Ok(rest.tokens)
+}
+
+/// The same, in a list of their own.
+pub fn own_lines<'t, 'a>(
+    alloc: Global,
+    under: &'t [Token<'a>],
+) -> Result<(Vec<WrittenPosting<'a>>, &'t [Token<'a>]), AllocError>
+    ensures { IfOk result (λ r. InLines true (lines under.now) (lines r.1.now)
+        (with_lines rule.no_lines (map rule.said_posting r.0.items))) }
+{
+    let mut postings = Vec::with_capacity(alloc, most_postings(under))?;
+    let others = plain_lines(under, &mut postings)?;
+    Ok((postings, others))
 }
 
 /// What lines say of which those at the front say `front`, where each of the others is one that may

@@ -8,8 +8,8 @@ ghost use Rattle.bean_pushes.specs.Scope as spec;
 ghost use Rattle.bean_pushes.specs.declared.scope.PlacedBound as placed;
 
 use crate::matches::{Opens, name_in};
-use bean_base::{Apart, Fault, FaultKind, Few, Place};
-use bean_directives::{Bound, Directive, DirectiveKind, Pushed};
+use bean_base::{Fault, FaultKind, Few, Place};
+use bean_directives::{ApartDirective, Bound, Directive, DirectiveKind, Pushed};
 use bean_grammar::{Mark, MetaEntry};
 use bean_lexer::Tag;
 use std::alloc::{AllocError, Global};
@@ -133,13 +133,16 @@ fn given<'a>(
 fn give<'a>(
     alloc: Global,
     pushed: &Pushed<'a>,
-    directive: &mut Apart<Directive<'a>>,
+    directive: &mut ApartDirective<'a>,
 ) -> Result<(), AllocError>
     ensures { OnOk result (directive.new ≡ spec.with_pushed pushed.now directive.old) }
 {
-    let stand_in = Apart::new(alloc, Directive::stand_in(alloc, directive.get().day))?;
+    let stand_in = ApartDirective::new(alloc, Directive::stand_in(alloc, directive.get().day))?;
     let own = replace(directive, stand_in).into_inner();
-    let _ = replace(directive, Apart::new(alloc, given(alloc, pushed, own)?)?);
+    let _ = replace(
+        directive,
+        ApartDirective::new(alloc, given(alloc, pushed, own)?)?,
+    );
     Ok(())
 }
 
@@ -149,7 +152,7 @@ fn give_between<'a>(
     pushed: &Pushed<'a>,
     from: usize,
     to: usize,
-    directives: &mut Vec<Apart<Directive<'a>>>,
+    directives: &mut Vec<ApartDirective<'a>>,
 ) -> Result<(), AllocError>
     ensures { OnOk result (directives.new.items
         ≡ spec.given_between pushed.now from to 0 directives.old.items) }
@@ -169,7 +172,7 @@ fn give_up_to<'a>(
     pushed: Option<&Pushed<'a>>,
     from: usize,
     to: Option<usize>,
-    directives: &mut Vec<Apart<Directive<'a>>>,
+    directives: &mut Vec<ApartDirective<'a>>,
 ) -> Result<(), AllocError>
     ensures { OnOk result (directives.new.items
         ≡ spec.given_up_to (option_copied pushed.entry) from to directives.old.items) }
@@ -185,7 +188,7 @@ pub fn give_all<'a>(
     alloc: Global,
     bounds: &[PlacedBound<'a>],
     reaches: &[Option<usize>],
-    directives: &mut Vec<Apart<Directive<'a>>>,
+    directives: &mut Vec<ApartDirective<'a>>,
 ) -> Result<(), AllocError>
     requires { reaches.now ≡ reaches_of bounds.now }
     ensures { OnOk result (directives.new.items

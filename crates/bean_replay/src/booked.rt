@@ -20,8 +20,8 @@ use crate::cause::BookCause;
 use crate::handed::take_into;
 use crate::methods::{methods_of, note_unknown, otherwise};
 use crate::steps::are_watched;
-use bean_base::{Apart, Fault, List};
-use bean_directives::Directive;
+use bean_base::{Fault, List};
+use bean_directives::ApartDirective;
 use bean_loaded::{Loaded, Placed};
 use bean_pad::NotedPad;
 use bean_transactions::Methods;
@@ -51,7 +51,7 @@ struct Led<'a, S> {
 fn take_all<'a, S: Bookings<'a> + Drop>(
     alloc: Global,
     methods: Methods<'a>,
-    directives: Vec<Placed<Apart<Directive<'a>>>>,
+    directives: Vec<Placed<ApartDirective<'a>>>,
     bookings: S,
 ) -> Result<Led<'a, S>, Refusal<BookCause>>
     requires few { length directives.items ≤ 2 ^ 39 }

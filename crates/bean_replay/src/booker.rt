@@ -26,8 +26,8 @@ use crate::postings::{book_postings, note_balance};
 use crate::steps::show_watched;
 use crate::written::Written;
 use bean_accounts::Accounts;
-use bean_base::{Apart, Day, Fault, List, Place};
-use bean_directives::{Directive, DirectiveKind};
+use bean_base::{Day, Fault, List, Place};
+use bean_directives::{ApartDirective, DirectiveKind};
 use bean_holdings::{Holdings, Posted};
 use bean_interp::Scales;
 use bean_loaded::Placed;
@@ -46,7 +46,7 @@ const MANY: usize = 8_192;
 const FEW_POSTINGS: usize = 8;
 
 /// The place of a directive.
-fn place_of(placed: &Placed<Apart<Directive<'_>>>) -> Place
+fn place_of(placed: &Placed<ApartDirective<'_>>) -> Place
     ensures { result ≡ spec.place_of placed.now }
 {
     Place {
@@ -284,7 +284,7 @@ impl<'a> Booker<'a> {
     /// Takes the next directive, and gives what is booked of it.
     pub(crate) fn take(
         &mut self,
-        placed: Placed<Apart<Directive<'a>>>,
+        placed: Placed<ApartDirective<'a>>,
     ) -> Result<Option<Draft<'a>>, Refusal<BookCause>>
         requires stands { Stands self.old }
         requires watched { IsWatched self.old.watched placed }

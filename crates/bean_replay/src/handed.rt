@@ -17,8 +17,7 @@ use crate::booker::Booker;
 use crate::booking::Draft;
 use crate::bookings::Bookings;
 use crate::cause::BookCause;
-use bean_base::Apart;
-use bean_directives::Directive;
+use bean_directives::ApartDirective;
 use bean_loaded::Placed;
 use refusals::Refusal;
 use std::alloc::AllocError;
@@ -55,7 +54,7 @@ fn hand_over<'a, S: Bookings<'a>>(booked: &Option<Draft<'a>>, to: &mut S) -> Res
 pub(crate) fn take_into<'a, S: Bookings<'a>>(
     booker: &mut Booker<'a>,
     to: &mut S,
-    placed: Placed<Apart<Directive<'a>>>,
+    placed: Placed<ApartDirective<'a>>,
 ) -> Result<(), Refusal<BookCause>>
     requires stands { (m : List ℕ → Method) × (past : List (places.Placed directives.Directive))
         × (st : Stand) × IsLed S.Bookings m past st booker.old to.old

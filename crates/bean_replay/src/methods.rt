@@ -5,8 +5,8 @@ ghost use Rattle.bean_transactions.specs.Methods.{method_in};
 
 use crate::placed::kind_of;
 use bean_accounts::method_named;
-use bean_base::{Apart, Fault, FaultKind, Text};
-use bean_directives::{Directive, DirectiveKind};
+use bean_base::{Fault, FaultKind, Text};
+use bean_directives::{ApartDirective, DirectiveKind};
 use bean_loaded::{MethodLine, Placed};
 use bean_reductions::Method;
 use bean_transactions::Methods;
@@ -88,7 +88,7 @@ fn note_open<'a>(
 pub(crate) fn methods_of<'a>(
     alloc: Global,
     otherwise: Method,
-    directives: &[Placed<Apart<Directive<'a>>>],
+    directives: &[Placed<ApartDirective<'a>>],
 ) -> Result<Methods<'a>, AllocError>
     ensures { IfOk result (λ ms. (a : List ℕ)
         → method_in ms a ≡ spec.method_of otherwise directives.now a) }

@@ -8,8 +8,7 @@ ghost use Rattle.bean_pad.specs.Following.{Follows, IsBounded, steps_in};
 ghost use Rattle.bean_pad.specs.declared.step.Step.{Step};
 
 use crate::placed::kind_of;
-use bean_base::Apart;
-use bean_directives::{Directive, DirectiveKind};
+use bean_directives::{ApartDirective, DirectiveKind};
 use bean_holdings::Posted;
 use bean_loaded::Placed;
 use bean_pad::Padder;
@@ -23,7 +22,7 @@ fn is_watching(kind: &DirectiveKind<'_>) -> bool
 }
 
 /// Whether any directive is a pad or a balance.
-pub(crate) fn are_watched(directives: &[Placed<Apart<Directive<'_>>>]) -> bool
+pub(crate) fn are_watched(directives: &[Placed<ApartDirective<'_>>]) -> bool
     ensures { AllByRecursion (IsWatched result) directives.now }
 {
     for directive in directives {

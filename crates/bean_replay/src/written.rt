@@ -5,8 +5,8 @@ ghost use Rattle.bean_directives.specs.declared.transaction.Transaction.{Transac
 ghost use Rattle.bean_replay.specs.Stand.{written_in};
 ghost use Rattle.bean_replay.specs.Written as spec;
 
-use bean_base::{Apart, Day, Few, Place};
-use bean_directives::{Directive, DirectiveKind, Transaction};
+use bean_base::{Day, Few, Place};
+use bean_directives::{ApartDirective, DirectiveKind, Transaction};
 use bean_grammar::MetaEntry;
 use bean_loaded::Placed;
 use std::marker::Model;
@@ -23,7 +23,7 @@ pub struct WrittenParts<'a> {
 /// A transaction as it is written: a directive, which stays where it lies. Contracts see its parts.
 pub struct Written<'a> {
     file: usize,
-    directive: Apart<Directive<'a>>,
+    directive: ApartDirective<'a>,
 }
 
 /// Written out, so that what gives one up needs to know nothing of what is in it.
@@ -64,8 +64,8 @@ impl<'a> Written<'a> {
     /// The transaction that a directive is, or else the directive.
     #[inline(always)]
     pub(crate) fn of(
-        placed: Placed<Apart<Directive<'a>>>,
-    ) -> Result<Written<'a>, Placed<Apart<Directive<'a>>>>
+        placed: Placed<ApartDirective<'a>>,
+    ) -> Result<Written<'a>, Placed<ApartDirective<'a>>>
         ensures transaction { IfOk result (λ w. (t : Transaction)
             × (placed.entry.item.kind ≡ kinds.Transaction t) × (w ≡ written_in placed.entry t)) }
         ensures same { IfErr result (λ d. d ≡ placed.entry) }

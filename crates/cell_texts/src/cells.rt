@@ -454,7 +454,8 @@ pub fn push_cell(
 }
 
 /// Adds a cell of any kind at the left of a column that is so wide, and so many spaces behind the column.
-#[inline(always)]
+/// It is too long to be put in place wherever texts and days are written.
+#[inline(never)]
 fn push_any_left(
     out: &mut Vec<u8>,
     cell: &Cell<'_>,

@@ -54,9 +54,10 @@
 //! ([`rows_of_small_parts_are_shaped`]). So in a ledger that is within narrower bounds
 //! ([`Ledger::fits`]) they lie in the shapes by these. `cell` wants a row that is there, as does
 //! `row`, which lends it whole. Rows are taken out, to be put back with others between them, by
-//! `take_rows` and `put_back`; or part by part, to be given up one part after the other, by `take_parts`. Of the other calls one that answers with an error left the ledger as
-//! it was; the only cause is want of memory. `push_plain` adds a row that has nothing of its own but
-//! what it adds to its account, as most have, and needn't look for more.
+//! `take_rows` and `put_back`; or part by part, to be given up one part after the other, by
+//! `take_parts`. Of the other calls one that answers with an error left the ledger as it was; the only
+//! cause is want of memory. `push_plain` adds a row that has nothing of its own but what it adds to its
+//! account, as most have, and needn't look for more.
 //!
 //! # Cost
 //!

@@ -1,4 +1,4 @@
-use Rattle.std.proofs.Common.{rules, take, sym, ap, ◌∙◌}
+use Rattle.std.proofs.Common.{rules, take, ap, ◌∙◌}
 use Rattle.std.specs.Int.{from_le_bytes, w64}
 use Rattle.byte_runs.proofs.NumberFacts.{by_number_8, small_front}
 use Rattle.byte_runs.proofs.begin_with_same_eight.Goals as goal

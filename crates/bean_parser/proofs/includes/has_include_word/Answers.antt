@@ -1,4 +1,4 @@
-use Rattle.std.proofs.Common.{◌≡◌, nat_eq, false, ◌∷◌, [], codes, sym, ◌∙◌, ap, subst, MatchBool}
+use Rattle.std.proofs.Common.{◌≡◌, nat_eq, false, ◌∷◌, codes, sym, ◌∙◌, ap, subst, MatchBool}
 use Rattle.std.specs.List.{starts_with}
 use Rattle.memchr.specs.Find.{FindsNeedle}
 use Rattle.bean_parser.specs.Includes.{HasIncludeWord}

@@ -1,7 +1,6 @@
 use Rattle.bean_parser.proofs.GatheredFacts.{setting_adds, ignored_adds, bound_adds}
 use Rattle.bean_parser.proofs.parse.Gathered.add_undated.Goals as goal
-use Rattle.std.proofs.Common.{◌≡◌, ℕ, List, refl, ◌∙◌, ap, ◌++◌, ◌∷◌, [], length, arith}
-use Rattle.std.proofs.lemmas.Grind.{common_steps}
+use Rattle.std.proofs.Common.{ℕ, List, refl, ◌∙◌, ap, ◌++◌, ◌∷◌, []}
 use Rattle.bean_pushes.specs.declared.scope.PlacedBound.{PlacedBound}
 
 pub returns-in_ok-push-in-Setting : goal.returns-in_ok-push-in-Setting
@@ -17,10 +16,8 @@ returns-in_ok-push-in-Ignored c =
 
 pub returns-in_ok-push-in-Bound : goal.returns-in_ok-push-in-Bound
 returns-in_ok-push-in-Bound c = λ os h.
-    let place : c.len-place.result ≡ length c.args.self.now.directives.items =
-    grind (arith, common_steps, c.len-place.ensures) in
     let with_place : ℕ → List PlacedBound =
     λ n. c.args.self.now.bounds.items
     ++ record { line = c.args.line; place = n; bound = c.in-Bound.bound } ∷ [] in
     bound_adds os _ _ _ c.args.self.now _ c.in-Bound.is refl refl
-    (c.in_ok-push-in-Bound.ensures.items ∙ ap with_place place) refl h
+    (c.in_ok-push-in-Bound.ensures.items ∙ ap with_place c.len-place.ensures) refl h

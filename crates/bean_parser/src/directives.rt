@@ -1,0 +1,241 @@
+//! The directives of a text while they are gathered: the postings of many lie in one block of memory.
+ghost use Rattle.std.specs.Prelude.{◌≡◌, ◌≤◌, ◌++◌, ◌∷◌, [], IfOk, OnErr, OnOk, length, map};
+ghost use Rattle.std.specs.List.{AllByRecursion};
+ghost use Rattle.bean_directives.specs.Given.{with_postings};
+ghost use Rattle.bean_parser.specs.Waiting.{AddsPlain, IsWithin, completed};
+
+use crate::block::plain_block;
+use bean_directives::{ApartDirective, Directive, Stretch};
+use bean_lexer::Token;
+use bean_postings::WrittenPosting;
+use std::alloc::{AllocError, Global};
+use std::marker::Model;
+use std::mem::replace;
+use std::rc::Rc;
+
+/// How many postings a block of memory has room for.
+const MOST_TOGETHER: usize = 1_024;
+
+/// How many directives wait at most until a block is full.
+const MOST_WAITING: usize = 1_024;
+
+/// So many postings have most transactions at most: a block with no more room is full.
+const ROOM: usize = 16;
+
+/// A directive that waits until the block is full in which its postings stand.
+#[derive(Drop)]
+pub struct Waiting<'a> {
+    directive: ApartDirective<'a>,
+    /// Where they stand there, if it has none by itself.
+    part: Option<InBlock>,
+}
+
+/// A part of a block: from one place up to another.
+#[derive(Clone, Copy, Drop)]
+pub struct InBlock {
+    first: usize,
+    end: usize,
+}
+
+/// Directives in reading order. Contracts see the list of them, each with its postings.
+#[derive(Drop)]
+pub struct Directives<'a> {
+    /// Those that have their postings.
+    settled: Vec<ApartDirective<'a>>,
+    /// Those behind these.
+    waiting: Vec<Waiting<'a>>,
+    /// The postings of those that wait.
+    postings: Vec<WrittenPosting<'a>>,
+}
+
+impl<'a> Model for Directives<'a> {
+    ghost use Rattle.std.specs.Prelude as prelude;
+    ghost use Rattle.std.specs.Prelude.{◌++◌, map};
+    ghost use Rattle.std.specs.List.{AllByRecursion};
+    ghost use Rattle.bean_directives.specs.declared.directive.Directive as declared;
+    ghost use Rattle.bean_parser.specs.Waiting.{IsWithin, completed};
+
+    ghost Value = { prelude.List declared.Directive };
+
+    ghost view = { λ d. d.settled.items ++ map (completed d.postings.items) d.waiting.items };
+
+    ghost invariant = { λ d. AllByRecursion (IsWithin d.postings.items) d.waiting.items };
+}
+
+/// A directive with its postings, which may stand in a block.
+#[inline(always)]
+fn settled<'a>(
+    block: &Rc<Vec<WrittenPosting<'a>>>,
+    waiting: Waiting<'a>,
+) -> Result<ApartDirective<'a>, AllocError>
+    requires { IsWithin block.now.value.items waiting }
+    ensures { IfOk result (λ d. d ≡ completed block.now.value.items waiting.entry) }
+{
+    let Waiting {
+        mut directive,
+        part,
+    } = waiting;
+    if let Some(part) = part {
+        directive.give_postings(Stretch::within(block, part.first, part.end)?);
+    }
+    Ok(directive)
+}
+
+/// Adds directives that waited until a block was full.
+fn add_settled<'a>(
+    block: &Rc<Vec<WrittenPosting<'a>>>,
+    waiting: Vec<Waiting<'a>>,
+    directives: &mut Vec<ApartDirective<'a>>,
+) -> Result<(), AllocError>
+    requires { AllByRecursion (IsWithin block.now.value.items) waiting.items }
+    ensures { OnOk result (directives.new.items
+        ≡ directives.old.items ++ map (completed block.now.value.items) waiting.entry.items) }
+{
+    for one in waiting {
+        directives.push(settled(block, one)?)?;
+    }
+    Ok(())
+}
+
+/// Moves postings behind those of a block. Says where they stand there.
+fn add_postings<'a>(
+    own: Vec<WrittenPosting<'a>>,
+    postings: &mut Vec<WrittenPosting<'a>>,
+) -> Result<InBlock, AllocError>
+    ensures added { IfOk result (λ part.
+        (postings.new.items ≡ postings.old.items ++ own.entry.items)
+        × (part.first ≡ length postings.old.items) × (part.end ≡ length postings.new.items)) }
+    ensures unchanged { OnErr result (postings.new.items ≡ postings.old.items) }
+{
+    let mut own = own;
+    let first = postings.len();
+    postings.append(&mut own)?;
+    Ok(InBlock {
+        first,
+        end: postings.len(),
+    })
+}
+
+impl<'a> Directives<'a> {
+    /// No directives.
+    pub fn new(alloc: Global) -> Directives<'a>
+        ensures { result ≡ [] }
+    {
+        Directives {
+            settled: Vec::new(alloc),
+            waiting: Vec::new(alloc),
+            postings: Vec::new(alloc),
+        }
+    }
+
+    /// How many there are.
+    pub fn len(&self) -> usize
+        ensures { result ≡ length self.now }
+    {
+        self.settled.len() + self.waiting.len()
+    }
+
+    /// Adds a directive. Few blocks aren't plain: what does it stays a call of its own.
+    #[inline(never)]
+    pub fn push(&mut self, alloc: Global, directive: Directive<'a>) -> Result<(), AllocError>
+        ensures { OnOk result (self.new ≡ self.old ++ directive.entry ∷ []) }
+    {
+        let mut directive = directive;
+        match directive.take_postings(alloc) {
+            Some(own) => self.push_apart(alloc, own, directive),
+            None => self.push_whole(alloc, directive),
+        }
+    }
+
+    /// Adds a directive whose postings are by themselves: they go to the block.
+    fn push_apart(
+        &mut self,
+        alloc: Global,
+        own: Vec<WrittenPosting<'a>>,
+        directive: Directive<'a>,
+    ) -> Result<(), AllocError>
+        ensures { OnOk result
+            (self.new ≡ self.old ++ with_postings own.entry.items directive.entry ∷ []) }
+    {
+        let part = add_postings(own, &mut self.postings)?;
+        let directive = ApartDirective::new(alloc, directive)?;
+        self.waiting.push(Waiting {
+            directive,
+            part: Some(part),
+        })?;
+        self.settle_if_full(alloc)
+    }
+
+    /// Adds a directive that has its postings.
+    fn push_whole(&mut self, alloc: Global, directive: Directive<'a>) -> Result<(), AllocError>
+        ensures { OnOk result (self.new ≡ self.old ++ directive.entry ∷ []) }
+    {
+        let directive = ApartDirective::new(alloc, directive)?;
+        self.waiting.push(Waiting {
+            directive,
+            part: None,
+        })?;
+        self.settle_if_full(alloc)
+    }
+
+    /// Adds the transaction that a block is, if it is a plain one, which it tells. Each of its postings
+    /// is moved but once, to where it stays.
+    #[inline(always)]
+    pub fn add_plain(&mut self, alloc: Global, block: &[Token<'a>]) -> Result<bool, AllocError>
+        ensures { IfOk result (λ plain. AddsPlain plain block.now self.old self.new) }
+    {
+        let first = self.postings.len();
+        match plain_block(alloc, block, &mut self.postings)? {
+            Some(directive) => {
+                let end = self.postings.len();
+                let directive = ApartDirective::new(alloc, directive)?;
+                self.waiting.push(Waiting {
+                    directive,
+                    part: Some(InBlock { first, end }),
+                })?;
+                self.settle_if_full(alloc)?;
+                Ok(true)
+            }
+            None => {
+                self.postings.truncate(first);
+                Ok(false)
+            }
+        }
+    }
+
+    /// Gives those that wait their postings, if the block is full.
+    #[inline(always)]
+    fn settle_if_full(&mut self, alloc: Global) -> Result<(), AllocError>
+        ensures { OnOk result (self.new ≡ self.old) }
+    {
+        if self.postings.len() <= MOST_TOGETHER - ROOM && self.waiting.len() < MOST_WAITING {
+            return Ok(());
+        }
+        self.settle(alloc)
+    }
+
+    /// Gives those that wait their postings. What is behind comes to lie in another block.
+    #[inline(never)]
+    fn settle(&mut self, alloc: Global) -> Result<(), AllocError>
+        ensures { OnOk result (self.new ≡ self.old) }
+    {
+        let next = Vec::with_capacity(alloc, self.postings.capacity().min(MOST_TOGETHER))?;
+        let waiting = replace(&mut self.waiting, Vec::new(alloc));
+        let block = Rc::new(alloc, replace(&mut self.postings, next))?;
+        add_settled(&block, waiting, &mut self.settled)
+    }
+
+    /// All of them, each with its postings.
+    pub fn into_vec(self, alloc: Global) -> Result<Vec<ApartDirective<'a>>, AllocError>
+        ensures { IfOk result (λ all. all.items ≡ self.entry) }
+    {
+        let Directives {
+            mut settled,
+            waiting,
+            postings,
+        } = self;
+        let block = Rc::new(alloc, postings)?;
+        add_settled(&block, waiting, &mut settled)?;
+        Ok(settled)
+    }
+}
