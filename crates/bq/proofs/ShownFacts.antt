@@ -47,7 +47,7 @@ none_in_the_last (Some h) n rows all =
 
 rows_alike : (rows : List Row) → map shown_row (map row_but_accounts rows) ≡ map shown_row rows
 rows_alike [] = refl
-rows_alike (r ∷ rows) = ap (shown_row r ∷_) (rows_alike rows)
+rows_alike (r ∷ rows) = ap (λ rest. shown_row r ∷ rest) (rows_alike rows)
 
 -- a listing shows nothing of them
 pub listed_alike : (bare whole : Booked) → IsSameButAccounts bare whole
