@@ -4,12 +4,15 @@ use Rattle.std.proofs.Common.{refl, sym, ap, subst, ◌∙◌, arith}
 use Rattle.std.specs.List.{slice_get}
 use Rattle.std.specs.Option.{option_map}
 use Rattle.std.proofs.lemmas.Option.{get_or_from_slice_get, slice_get-map}
+use Rattle.bean_book.specs.LeftOut.{IsSameButAccounts, row_but_accounts}
+use Rattle.bean_book.specs.declared.booked.Booked.{Booked}
+use Rattle.posting_table.specs.Decimals.{decimals_of}
 use Rattle.posting_table.specs.declared.row.Row.{Row}
 use Rattle.query_values.specs.declared.value.Value.{Value}
 use Rattle.table_printer.specs.Printing.{NoneIn, count_with}
-use Rattle.table_printer.specs.Table.{HasNoNumber, row_at}
+use Rattle.table_printer.specs.Table.{HasNoNumber, row_at, table_text}
 use Rattle.table_printer.specs.declared.headings.Heading.{Heading}
-use Rattle.bq.specs.List.{shown_row}
+use Rattle.bq.specs.List.{headers, shown_row, table_of}
 
 -- a row of the listing
 pub row_shown : (rows : List Row) (i : ℕ) (r : Row) → Some r ≡ slice_get rows i
@@ -39,3 +42,18 @@ none_in_the_last (Some h) n rows all =
     no_number [] k within = absurd (omega (arith, within))
     no_number (r ∷ rows) zero within = refl
     no_number (r ∷ rows) (suc k) within = no_number rows k (omega (arith, within))
+
+-- ---- without the accounts of transactions
+
+rows_alike : (rows : List Row) → map shown_row (map row_but_accounts rows) ≡ map shown_row rows
+rows_alike [] = refl
+rows_alike (r ∷ rows) = ap (λ rest. shown_row r ∷ rest) (rows_alike rows)
+
+-- a listing shows nothing of them
+pub listed_alike : (bare whole : Booked) → IsSameButAccounts bare whole
+    → table_of bare.ledger ≡ table_of whole.ledger
+listed_alike bare whole same =
+    ap (λ rows. table_text headers (map shown_row rows) (decimals_of bare.ledger.decimals)) same.rows
+    ∙ ap (λ rows. table_text headers rows (decimals_of bare.ledger.decimals))
+    (rows_alike whole.ledger.rows)
+    ∙ ap (λ d. table_text headers (map shown_row whole.ledger.rows) (decimals_of d)) same.decimals

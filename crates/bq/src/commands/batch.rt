@@ -12,6 +12,7 @@ use crate::commands::ledger::{Question, answer_about};
 use crate::given::Given;
 use crate::text::Text;
 use bean_base::{List, Slice};
+use bean_book::AccountSets;
 use bean_books::book_of;
 use bean_load::Texts;
 use endings::{Refusal, Verdict};
@@ -138,7 +139,7 @@ impl Question for Batching<'_, '_> {
     ghost says = { λ batch. about_book (FilesBatched batch.names.now batch.files.now) };
 
     fn answer<'w>(&self, alloc: Global, texts: Texts) -> Result<Given<'w>, Refusal> {
-        let booked = book_of(alloc, &texts)?;
+        let booked = book_of(alloc, &texts, AccountSets::Made)?;
         let ended = file_fates(alloc, self.files, &booked.ledger, self.steps)?;
         // The process ends soon, and takes all memory back at once.
         forget(booked);

@@ -10,6 +10,7 @@ use crate::commands::ledger::Question;
 use crate::given::Given;
 use crate::shown::{Part, Postings};
 use crate::text::Text;
+use bean_book::AccountSets;
 use bean_books::book_of;
 use bean_load::Texts;
 use endings::{Refusal, Verdict};
@@ -60,7 +61,8 @@ impl Question for Listing {
     ghost says = { λ _. Lists };
 
     fn answer<'w>(&self, alloc: Global, texts: Texts) -> Result<Given<'w>, Refusal> {
-        let mut booked = book_of(alloc, &texts)?;
+        // Nothing of the table is told by the accounts of a transaction.
+        let mut booked = book_of(alloc, &texts, AccountSets::LeftOut)?;
         let text = printed(alloc, &mut booked.ledger)?;
         // The process ends soon, and takes all memory back at once.
         forget(booked);

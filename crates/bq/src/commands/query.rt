@@ -8,6 +8,7 @@ use crate::commands::ledger::{Question, answer_about};
 use crate::commands::table::table_of;
 use crate::given::Given;
 use crate::text::Text;
+use bean_book::AccountSets;
 use bean_books::book_of;
 use bean_load::Texts;
 use endings::{Refusal, Verdict};
@@ -39,7 +40,7 @@ impl Question for Asking<'_> {
     ghost says = { λ asking. about_book (FileAnswers asking.file.now) };
 
     fn answer<'w>(&self, alloc: Global, texts: Texts) -> Result<Given<'w>, Refusal> {
-        let booked = book_of(alloc, &texts)?;
+        let booked = book_of(alloc, &texts, AccountSets::Made)?;
         // So its program is never refused for them.
         prove!(booked.ledger.fits(&WIDEST));
         let text = table_of(alloc, self.file, &booked.ledger)?;

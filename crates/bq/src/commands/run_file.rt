@@ -7,6 +7,7 @@ use crate::commands::ledger::{Question, answer_about};
 use crate::commands::table::table_of;
 use crate::given::Given;
 use crate::text::Text;
+use bean_book::AccountSets;
 use bean_books::book_of;
 use bean_load::Texts;
 use endings::{Refusal, Verdict};
@@ -28,7 +29,7 @@ impl Question for Running<'_> {
     ghost says = { λ running. about_book (FileRan running.file.now) };
 
     fn answer<'w>(&self, alloc: Global, texts: Texts) -> Result<Given<'w>, Refusal> {
-        let booked = book_of(alloc, &texts)?;
+        let booked = book_of(alloc, &texts, AccountSets::Made)?;
         let text = table_of(alloc, self.file, &booked.ledger)?;
         // The process ends soon, and takes all memory back at once.
         forget(booked);

@@ -1,4 +1,5 @@
 use Rattle.std.proofs.Common.{inr, length, Ok, sym, ap, ap₂, ◌∙◌, subst}
+use Rattle.bean_book.specs.declared.account_sets.AccountSets.TheVariants.{Made}
 use Rattle.bq.specs.Batch.{FilesBatched, text_of, verdict_of}
 use Rattle.bq.specs.Due.{ComesTo}
 use Rattle.bq.specs.Ledgers.{about_book}
@@ -31,7 +32,7 @@ returns-in_err-booked c =
     let fault = c.in_err-booked.field-0.0 in
     subst (ComesTo (about_book says texts))
     (sym (converted c.from_residual.result (unbooked fault) c.from_residual.ensures.1))
-    (not_booked texts says fault c.in_err-booked.ensures)
+    (not_booked Made texts says fault c.in_err-booked.ensures)
 
 pub returns-in_err-ended : goal.returns-in_err-ended
 returns-in_err-ended c =

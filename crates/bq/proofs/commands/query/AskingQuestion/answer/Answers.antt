@@ -1,4 +1,5 @@
 use Rattle.std.proofs.Common.{inr, Ok, sym, subst}
+use Rattle.bean_book.specs.declared.account_sets.AccountSets.TheVariants.{Made}
 use Rattle.bq.specs.Due.{ComesTo}
 use Rattle.bq.specs.Ledgers.{about_book}
 use Rattle.bq.specs.Query.{FileAnswers}
@@ -16,7 +17,7 @@ returns-in_err-booked c =
     let fault = c.in_err-booked.field-0.0 in
     subst (ComesTo (about_book says texts))
     (sym (converted c.from_residual.result (unbooked fault) c.from_residual.ensures.1))
-    (not_booked texts says fault c.in_err-booked.ensures)
+    (not_booked Made texts says fault c.in_err-booked.ensures)
 
 pub returns-in_err-text : goal.returns-in_err-text
 returns-in_err-text c =
