@@ -7,6 +7,7 @@ pub mod AlikeFacts
 pub mod ReadingFacts
 pub mod AnswerFacts
 pub mod UpgradeFacts
+pub mod UnreadFacts
 pub mod StandFacts
 pub mod ShownFacts
 mod Examples
