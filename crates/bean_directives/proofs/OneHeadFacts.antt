@@ -1,6 +1,6 @@
 -- First lines are read in one way.
 use Rattle.std.proofs.Common.{◌≡◌, List, refl}
-use Rattle.theory.specs.Form.{IsUnambiguous, word, made, ◌<+>◌, behind, due, snoc, alone}
+use Rattle.theory.specs.Form.{IsUnambiguous, word, made, ◌<+>◌, due, snoc, alone}
 use Rattle.theory.proofs.OneReading.{one_word, one_behind, one_due, one_row, one_applied, one_value}
 use Rattle.bean_base.specs.declared.days.Day as days
 use Rattle.bean_base.specs.declared.flags.Flag as flags

@@ -1,13 +1,15 @@
 -- The items of a list that may lie in a block with others.
-use Rattle.std.specs.Prelude.{◌≤◌, List, length, slice_range}
+use Rattle.std.specs.Prelude.{◌≤◌, List, [], length, slice_range}
 use Rattle.bean_directives.specs.declared.stretch.Items.{Items}
-use Rattle.bean_directives.specs.declared.stretch.Items.TheVariants.{Own, Within}
+use Rattle.bean_directives.specs.declared.stretch.Items.TheVariants.{Empty, Own, Within}
 
 abbrev pub items_in : {T : Type 0} → Items T → List T
-items_in (Own items) = items.items
+items_in Empty = []
+items_in (Own items) = items
 items_in (Within block first end) = slice_range block.value.items first end
 
 -- what is said to lie in a block does
 abbrev pub IsInBlock : {T : Type 0} → Items T → Type 0
+IsInBlock Empty = Unit {0}
 IsInBlock (Own items) = Unit {0}
 IsInBlock (Within block first end) = (first ≤ end) × (end ≤ length block.value.items)

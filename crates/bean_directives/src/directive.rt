@@ -71,7 +71,7 @@ impl<'a> DirectiveKind<'a> {
 pub struct Directive<'a> {
     pub day: Day,
     /// The line on which it begins, from 1.
-    pub line: usize,
+    pub line: u32,
     /// Its own entries in the order in which they are written, then those that are pushed to it,
     /// the latest push first. The first entry of a key stands.
     pub metadata: Few<MetaEntry<'a>>,
@@ -105,7 +105,7 @@ impl<'a> Directive<'a> {
 
     /// A transaction of nothing, which stands in for a directive that is changed elsewhere. Takes no
     /// memory.
-    pub fn stand_in(alloc: Global, day: Day) -> Directive<'a> {
+    pub fn stand_in(day: Day) -> Directive<'a> {
         Directive {
             day,
             line: 0,
@@ -115,7 +115,7 @@ impl<'a> Directive<'a> {
                 payee: None,
                 narration: Text::new(""),
                 marks: Few::new(),
-                postings: Stretch::new(Vec::new(alloc)),
+                postings: Stretch::new(),
             }),
         }
     }

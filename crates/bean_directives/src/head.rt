@@ -114,7 +114,7 @@ pub fn head<'a>(
 /// The day and the transaction of a first line that has a day of the calendar, a sign and at most two
 /// texts. Nearly all first lines are such, and are read without a look at what others have.
 #[inline(always)]
-pub fn plain_head<'a>(alloc: Global, line: &[Token<'a>]) -> Option<(Day, Transaction<'a>)>
+pub fn plain_head<'a>(line: &[Token<'a>]) -> Option<(Day, Transaction<'a>)>
     ensures { IfSome result (λ r. rule.IsHead (lexemes line.now) (Within r.0)
         (Within (kinds.Transaction r.1))) }
 {
@@ -132,7 +132,7 @@ pub fn plain_head<'a>(alloc: Global, line: &[Token<'a>]) -> Option<(Day, Transac
                 payee: words.payee,
                 narration: words.narration,
                 marks: Few::new(),
-                postings: Stretch::new(Vec::new(alloc)),
+                postings: Stretch::new(),
             };
             Some((day, transaction))
         }

@@ -1,6 +1,7 @@
 //! Lists of which many may lie in one block of memory.
-ghost use Rattle.std.specs.Prelude.{◌≡◌, ◌≤◌, IfOk, MatchOption, length, slice_range};
+ghost use Rattle.std.specs.Prelude.{◌≡◌, ◌≤◌, [], IfOk, MatchOption, length, slice_range};
 
+use bean_base::{Apart, List};
 use std::alloc::{AllocError, Global};
 use std::marker::Model;
 use std::mem::replace;
@@ -15,13 +16,15 @@ pub struct Stretch<T> {
 /// Where the items of a list lie.
 #[derive(Drop)]
 enum Items<T> {
+    /// There are none.
+    Empty,
     /// By themselves.
-    Own(Vec<T>),
+    Own(Apart<List<T>>),
     /// In a block with others, which is given up with the last list in it.
     Within {
         block: Rc<Vec<T>>,
-        first: usize,
-        end: usize,
+        first: u32,
+        end: u32,
     },
 }
 
@@ -44,22 +47,36 @@ impl<T> Model for Stretch<T> {
 }
 
 impl<T: Drop> Stretch<T> {
-    /// The list of a vector's items.
-    pub fn new(items: Vec<T>) -> Stretch<T>
-        ensures { result ≡ items.items }
+    /// No items. Takes no memory.
+    pub fn new() -> Stretch<T>
+        ensures { result ≡ [] }
     {
         Stretch {
-            items: Items::Own(items),
+            items: Items::Empty,
         }
     }
 
+    /// The items of a list, by themselves.
+    pub fn of(alloc: Global, items: List<T>) -> Result<Stretch<T>, AllocError>
+        ensures { IfOk result (λ s. s ≡ items) }
+    {
+        if items.as_slice().is_empty() {
+            return Ok(Stretch::new());
+        }
+        let items = Items::Own(Apart::new(alloc, items)?);
+        Ok(Stretch { items })
+    }
+
     /// The items of a block from a first one up to another. Takes no memory; it fails only where the
-    /// block is held as often as can be counted.
+    /// block is held as often as can be counted, or has more items than 32 bits count.
     pub fn within(block: &Rc<Vec<T>>, first: usize, end: usize) -> Result<Stretch<T>, AllocError>
         requires from { first ≤ end }
         requires to { end ≤ length block.now.value.items }
         ensures { IfOk result (λ s. s ≡ slice_range block.now.value.items first end) }
     {
+        let (Ok(first), Ok(end)) = (u32::try_from(first), u32::try_from(end)) else {
+            return Err(AllocError);
+        };
         Ok(Stretch {
             items: Items::Within {
                 block: block.clone()?,
@@ -73,9 +90,13 @@ impl<T: Drop> Stretch<T> {
     pub fn take_own(&mut self, alloc: Global) -> Option<Vec<T>>
         ensures { MatchOption result (self.new ≡ self.old) (λ own. own.items ≡ self.old) }
     {
-        match &mut self.items {
-            Items::Own(items) => Some(replace(items, Vec::new(alloc))),
-            Items::Within { .. } => None,
+        if matches!(self.items, Items::Within { .. }) {
+            return None;
+        }
+        match replace(&mut self.items, Items::Empty) {
+            Items::Empty => Some(Vec::new(alloc)),
+            Items::Own(items) => Some(items.into_inner().into_vec()),
+            Items::Within { .. } => unreachable!(),
         }
     }
 
@@ -84,8 +105,9 @@ impl<T: Drop> Stretch<T> {
         ensures { result.now ≡ self.now }
     {
         match &self.items {
-            Items::Own(items) => items.as_slice(),
-            Items::Within { block, first, end } => &block[*first..*end],
+            Items::Empty => &[],
+            Items::Own(items) => items.get().as_slice(),
+            Items::Within { block, first, end } => &block[*first as usize..*end as usize],
         }
     }
 }

@@ -82,7 +82,7 @@ pub fn transaction_line<'t, 'a>(
         payee: words.payee,
         narration: words.narration,
         marks,
-        postings: Stretch::new(Vec::new(alloc)),
+        postings: Stretch::new(),
     };
     Ok((
         Ranged::Within(DirectiveKind::Transaction(transaction)),

@@ -103,8 +103,8 @@ fn inside(len: usize) -> Lead
     }
 }
 
-/// The gap at the front of a text, byte by byte. Few gaps need it: it stays out of what is done for each.
-#[inline(never)]
+/// The gap at the front of a text, byte by byte.
+#[inline(always)]
 fn long_gap(start: Spot, bytes: &[u8]) -> Lead
     ensures { IsLead start bytes.now result }
 {

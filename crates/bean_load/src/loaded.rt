@@ -77,7 +77,7 @@ impl<'a> Books<'a> {
             SettingKind::OperatingCurrency(currency) => self.operating.push(currency.lend())?,
             SettingKind::BookingMethod(method) => self.methods.push(MethodLine {
                 place: Place {
-                    file: setting.file,
+                    file: setting.file as usize,
                     line: setting.item.line,
                 },
                 method: method.lend(),

@@ -29,7 +29,10 @@ fn turn_of(placed: &Placed<ApartDirective<'_>>) -> (i64, usize)
 {
     let directive = placed.item.get();
     let rank = Rank::of(&directive.kind);
-    (turn(directive.day.number(), rank.number()), placed.part)
+    (
+        turn(directive.day.number(), rank.number()),
+        placed.part as usize,
+    )
 }
 
 /// In a code there is room for so many parts. The turns of all days, a number from 0 on for each

@@ -71,11 +71,8 @@ pub fn add_directives<'a>(
     out.reserve(directives.len())?;
     codes.codes.reserve(directives.len())?;
     for directive in directives {
-        let placed = Placed {
-            file,
-            part: part_at(own, directive.get().line),
-            item: directive,
-        };
+        let part = part_at(own, directive.get().line as usize);
+        let placed = Placed::new(file, part, directive)?;
         codes.add(&placed)?;
         out.push(placed)?;
     }
@@ -93,11 +90,8 @@ pub fn add_settings<'a>(
         ≡ out.old.items ++ map (spec.placed_setting file own.now) settings.entry.items) }
 {
     for setting in settings {
-        out.push(Placed {
-            file,
-            part: part_at(own, setting.line),
-            item: setting,
-        })?;
+        let part = part_at(own, setting.line);
+        out.push(Placed::new(file, part, setting)?)?;
     }
     Ok(())
 }

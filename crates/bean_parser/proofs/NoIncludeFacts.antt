@@ -1,7 +1,7 @@
 -- A text of which no line begins with the word `include` has no include line.
 use Rattle.std.proofs.Common.{◌≡◌, ℕ, zero, suc, ◌+◌, ◌<◌, ◌≤◌, ◌^◌, ⊎_elim, inl, inr, cond, Bool, true}
 use Rattle.std.proofs.Common.{false, nat_eq, List, [], ◌∷◌, Option, Some, None, length, get_or, take}
-use Rattle.std.proofs.Common.{drop, arith, refl, sym, ◌∙◌, ap, subst, codes, length-drop}
+use Rattle.std.proofs.Common.{drop, arith, refl, sym, ◌∙◌, ap, codes, length-drop}
 use Rattle.std.proofs.Common.{is_some, length-take-le, MatchBool}
 use Rattle.std.proofs.lemmas.List.{get_or-drop, get_or-take}
 use Rattle.std.specs.Cmp.Lexicographic.{pointwise}

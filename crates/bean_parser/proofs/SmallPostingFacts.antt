@@ -1,5 +1,5 @@
 -- Costs, prices and posting lines are small where their lexemes are short.
-use Rattle.std.proofs.Common.{ℕ, ◌≤◌, ◌≡◌, Bool, true, false, cond, List, [], Option, Some, None}
+use Rattle.std.proofs.Common.{ℕ, ◌≤◌, ◌≡◌, Bool, true, false, cond, List, Option, Some, None}
 use Rattle.std.proofs.Common.{IfSome, subst}
 use Rattle.theory.specs.Form.{word, made, ◌<+>◌, behind, closed, due, either}
 use Rattle.bean_base.specs.declared.amounts.Amount as amounts

@@ -16,7 +16,7 @@ ghost use Rattle.bean_parser.specs.declared.statement.Statement.TheVariants as s
 use crate::part::{Part, first_line, first_part};
 use crate::statement::Statement;
 use crate::under::{Body, all_postings, other_lines, own_lines, plain_lines};
-use bean_base::{Day, Fault, FaultKind, Few, Place};
+use bean_base::{Day, Fault, FaultKind, Few, List, Place};
 use bean_directives::head::{head, plain_head};
 use bean_directives::undated::undated_line;
 use bean_directives::{Directive, DirectiveKind, Stretch, Transaction, Undated};
@@ -87,7 +87,7 @@ fn with_postings<'a>(
 /// The directive that a head makes, with what the lines under it say.
 fn directive_of<'a>(
     alloc: Global,
-    line: usize,
+    line: u32,
     body: Body<'a>,
     day: Day,
     kind: DirectiveKind<'a>,
@@ -101,8 +101,8 @@ fn directive_of<'a>(
         last,
         ..
     } = body;
-    let postings = all_postings(before, last)?;
-    let mut kind = with_postings(kind, Stretch::new(postings.into_vec()));
+    let postings = Stretch::of(alloc, all_postings(before, last)?)?;
+    let mut kind = with_postings(kind, postings);
     if let DirectiveKind::Transaction(transaction) = &mut kind {
         transaction.marks.append(alloc, marks)?;
     }
@@ -117,7 +117,7 @@ fn directive_of<'a>(
 /// What a head says with the lines under it, where all of it is in range.
 fn dated<'a>(
     alloc: Global,
-    line: usize,
+    line: u32,
     day: Ranged<Day>,
     kind: Ranged<DirectiveKind<'a>>,
     body: Body<'a>,
@@ -138,7 +138,7 @@ fn dated<'a>(
 
 /// What a head says with nothing but postings under it, where all of it is in range.
 fn plainly_dated<'a>(
-    line: usize,
+    line: u32,
     day: Ranged<Day>,
     kind: Ranged<DirectiveKind<'a>>,
     postings: Stretch<WrittenPosting<'a>>,
@@ -165,7 +165,7 @@ fn plainly_dated<'a>(
 #[inline(never)]
 fn other_block<'a>(
     alloc: Global,
-    line: usize,
+    line: u32,
     day: Ranged<Day>,
     kind: Ranged<DirectiveKind<'a>>,
     front: Body<'a>,
@@ -185,7 +185,7 @@ fn other_block<'a>(
 /// What a block says whose first line is a head.
 fn dated_block<'a>(
     alloc: Global,
-    line: usize,
+    line: u32,
     day: Ranged<Day>,
     kind: Ranged<DirectiveKind<'a>>,
     under: &[Token<'a>],
@@ -198,7 +198,7 @@ fn dated_block<'a>(
     }
     let (postings, others) = own_lines(alloc, under)?;
     if others.is_empty() {
-        let postings = Stretch::new(postings);
+        let postings = Stretch::of(alloc, List::new(postings))?;
         return Ok(Some(plainly_dated(line, day, kind, postings)));
     }
     let front = Body::of_postings(alloc, postings);
@@ -224,6 +224,16 @@ fn undated_block<'a>(
     }
 }
 
+/// A line as a directive keeps it. No text that memory holds has as many lines as 32 bits count.
+fn kept_line(line: usize) -> Result<u32, AllocError>
+    ensures { IfOk result (λ kept. kept ≡ line) }
+{
+    match u32::try_from(line) {
+        Ok(kept) => Ok(kept),
+        Err(_) => Err(AllocError),
+    }
+}
+
 /// What a block without fault tokens says.
 fn statement<'a>(
     alloc: Global,
@@ -239,7 +249,7 @@ fn statement<'a>(
     };
     let line = first_line(block);
     match head(alloc, first) {
-        Ok(Some((day, kind))) => dated_block(alloc, line, day, kind, under),
+        Ok(Some((day, kind))) => dated_block(alloc, kept_line(line)?, day, kind, under),
         Ok(None) => Ok(undated_block(line, first, under)),
         Err(error) => Err(error),
     }
@@ -278,7 +288,6 @@ fn are_plain(block: &[Token<'_>]) -> bool
 /// said.
 #[inline(always)]
 pub fn plain_block<'a>(
-    alloc: Global,
     block: &[Token<'a>],
     postings: &mut Vec<WrittenPosting<'a>>,
 ) -> Result<Option<Directive<'a>>, AllocError>
@@ -300,10 +309,11 @@ pub fn plain_block<'a>(
     if !others.is_empty() {
         return Ok(None);
     }
-    match plain_head(alloc, first) {
+    let line = kept_line(first_line(block))?;
+    match plain_head(first) {
         Some((day, transaction)) => Ok(Some(Directive {
             day,
-            line: first_line(block),
+            line,
             metadata: Few::new(),
             kind: DirectiveKind::Transaction(transaction),
         })),

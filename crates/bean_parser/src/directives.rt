@@ -185,7 +185,7 @@ impl<'a> Directives<'a> {
         ensures { IfOk result (λ plain. AddsPlain plain block.now self.old self.new) }
     {
         let first = self.postings.len();
-        match plain_block(alloc, block, &mut self.postings)? {
+        match plain_block(block, &mut self.postings)? {
             Some(directive) => {
                 let end = self.postings.len();
                 let directive = ApartDirective::new(alloc, directive)?;

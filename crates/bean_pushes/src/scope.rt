@@ -137,7 +137,7 @@ fn give<'a>(
 ) -> Result<(), AllocError>
     ensures { OnOk result (directive.new ≡ spec.with_pushed pushed.now directive.old) }
 {
-    let stand_in = ApartDirective::new(alloc, Directive::stand_in(alloc, directive.get().day))?;
+    let stand_in = ApartDirective::new(alloc, Directive::stand_in(directive.get().day))?;
     let own = replace(directive, stand_in).into_inner();
     let _ = replace(
         directive,

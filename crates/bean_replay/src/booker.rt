@@ -50,8 +50,8 @@ fn place_of(placed: &Placed<ApartDirective<'_>>) -> Place
     ensures { result ≡ spec.place_of placed.now }
 {
     Place {
-        file: placed.file,
-        line: placed.item.get().line,
+        file: placed.file as usize,
+        line: placed.item.get().line as usize,
     }
 }
 

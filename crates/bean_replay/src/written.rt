@@ -22,7 +22,7 @@ pub struct WrittenParts<'a> {
 
 /// A transaction as it is written: a directive, which stays where it lies. Contracts see its parts.
 pub struct Written<'a> {
-    file: usize,
+    file: u32,
     directive: ApartDirective<'a>,
 }
 
@@ -92,8 +92,8 @@ impl<'a> Written<'a> {
         ensures { result ≡ self.now.place }
     {
         Place {
-            file: self.file,
-            line: self.directive.get().line,
+            file: self.file as usize,
+            line: self.directive.get().line as usize,
         }
     }
 

@@ -6,7 +6,7 @@ use Rattle.bean_directives.proofs.head.plain_head.Goals as goal
 
 pub returns-in-None : goal.returns-in-None
 returns-in-None c =
-    rw (c.new.ensures, c.new-in-None-2.ensures, c.new-in-None.ensures.items)
+    rw (c.new.ensures, c.new-in-None.ensures)
     (subst (λ d. IsHead (lexemes c.args.line.now) d
     (transaction_of c.in_ok-flag.flag c.words-words.result.0 [])) c.in-Within.is
     (plain_head_is _ _ _ _ _ _ _ c.in_ok-found.ensures.read c.in_ok-flag.ensures.front

@@ -13,4 +13,4 @@ returns-then-is_empty c =
     (c.plainly_dated.ensures
     ∙ ap
     (λ ps. dated c.args.line c.args.day c.args.kind (with_lines no_lines (map said_posting ps)))
-    c.new-postings.ensures)
+    (c.in_ok-postings-2.ensures ∙ c.new-then-is_empty.ensures))

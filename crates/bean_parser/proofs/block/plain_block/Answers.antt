@@ -12,8 +12,9 @@ returns-in-Some-plain_head c =
       rw (c.new.ensures)
           (plain_given c.args.block.now c.in-Some.first.now c.in-Some.under.now
           c.in_ok-others.others.now c.in-Some-plain_head.day c.in-Some-plain_head.transaction
-          read.0 c.first_line.result no_fault
+          read.0 c.in_ok-line.line no_fault
           (sym c.is_in_column_one.ensures ∙ c.if-not-is_in_column_one.false) c.in-Some.ensures.front
-          c.in-Some.ensures.same_line c.in-Some-plain_head.ensures c.first_line.ensures
+          c.in-Some.ensures.same_line c.in-Some-plain_head.ensures
+          (c.in_ok-line.ensures ∙ c.first_line.ensures)
           read.2 (no_others _ (sym c.is_empty.ensures ∙ c.if-not-is_empty.false))),
     )

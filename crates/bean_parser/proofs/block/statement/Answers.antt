@@ -6,13 +6,14 @@ use Rattle.bean_directives.proofs.HeadFacts.{when_some}
 use Rattle.bean_parser.proofs.BlockFacts.{dated_is, undated_is_block, if_ok}
 use Rattle.bean_parser.proofs.block.statement.Goals as goal
 
-pub returns-in-Ok-Some : goal.returns-in-Ok-Some
-returns-in-Ok-Some c =
+pub returns-in_ok-kept_line-in-Ok-Some : goal.returns-in_ok-kept_line-in-Ok-Some
+returns-in_ok-kept_line-in-Ok-Some c =
     let column = sym c.is_in_column_one.ensures ∙ c.if-not-is_in_column_one.false in
     let is = when_some _ _ _ _ c.in-Ok-Some.field-0-is c.in-Ok-Some.ensures in
     if_ok _ _ _
     (λ o r. dated_is c.args.block.now c.in-Some.first.now c.in-Some.under.now _ _ _ o column
-    c.in-Some.ensures.front c.in-Some.ensures.same_line is c.first_line-line.ensures r)
+    c.in-Some.ensures.front c.in-Some.ensures.same_line is
+    (c.in_ok-kept_line-in-Ok-Some.ensures ∙ c.first_line-line.ensures) r)
     c.dated_block.ensures
 
 pub returns-in-Ok-None : goal.returns-in-Ok-None
