@@ -4,6 +4,7 @@ mod PlainFacts
 mod ShapedFacts
 mod PaddingFacts
 mod TakenFacts
+pub mod LeftOutFacts
 mod LedgerFacts
 mod BookFacts
 mod FoundFacts

@@ -43,9 +43,11 @@ use Rattle.query_rows.specs.Mass.{value_of}
 use Rattle.query_values.specs.TextSet.{set_of}
 use Rattle.theory.proofs.OnceFacts.{all_once, few_once}
 use Rattle.bean_book.specs.Metadata.{amount_text, item_of, items_of, num_text, text_of}
-use Rattle.bean_book.specs.Rows.{entry_of, link_in, padding_entry, padding_row}
+use Rattle.bean_book.specs.Rows.{account_set, entry_of, link_in, padding_entry, padding_row}
 use Rattle.bean_book.specs.Rows.{row_by, row_of, tag_in, unit_price}
 use Rattle.bean_book.specs.Tame.{IsTameKept}
+use Rattle.bean_book.specs.declared.account_sets.AccountSets.{AccountSets}
+use Rattle.bean_book.specs.declared.account_sets.AccountSets.TheVariants.{Made, LeftOut}
 
 -- ---- texts
 
@@ -111,8 +113,14 @@ short_link : (m : Mark) → IsShortMark m → AllByRecursion IsShort (link_in m)
 short_link (Tag name) h = tt
 short_link (Link name) h = (h, tt)
 
-pub entry_short : (k : Kept) → IsTameKept k → HasShortTexts (entry_of k)
-entry_short k h =
+-- the set is as short as what it is made of, made or left out
+short_accounts : (sets : AccountSets) (ts : List (List ℕ)) → length ts ≤ most
+    → AllByRecursion IsShort ts → IsShortSet (account_set sets ts)
+short_accounts Made ts few all = short_set ts few all
+short_accounts LeftOut ts few all = (omega arith, tt)
+
+pub entry_short : (sets : AccountSets) (k : Kept) → IsTameKept k → HasShortTexts (entry_of sets k)
+entry_short sets k h =
     let t : Transaction = k.written.transaction in
     let small = h.small in
     let tags = few_tags t.marks in
@@ -126,7 +134,8 @@ entry_short k h =
           (all_flat IsShortMark IsShort tag_in short_tag t.marks small.transaction.marks);
       links = short_set (flat_map link_in t.marks) (omega (arith, links, few_marks))
           (all_flat IsShortMark IsShort link_in short_link t.marks small.transaction.marks);
-      accounts = short_set (map (λ p. p.account) k.postings) (omega (arith, accounts, few))
+      accounts = short_accounts sets (map (λ p. p.account) k.postings)
+          (omega (arith, accounts, few))
           (all_mapped IsSmallPosted IsShort (λ p. p.account) (λ p k. k.account) k.postings
           small.postings);
       texts = short_items k.written.metadata small.metadata;
@@ -204,22 +213,24 @@ row_small e line ps p texts small light written at =
 
 -- ---- rows of pads
 
-padding_short : (n : NotedPad) → IsSmallPad n.pad → HasShortTexts (padding_entry n)
-padding_short n h = record {
+pub padding_short : (sets : AccountSets) (n : NotedPad) → IsSmallPad n.pad
+    → HasShortTexts (padding_entry sets n)
+padding_short sets n h = record {
   payee = tt;
   narration = omega arith;
   tags = (omega arith, tt);
   links = (omega arith, tt);
-  accounts = short_set (n.pad.account ∷ n.pad.source ∷ []) (omega arith) (h.account, (h.source, tt));
+  accounts = short_accounts sets (n.pad.account ∷ n.pad.source ∷ []) (omega arith)
+      (h.account, (h.source, tt));
   texts = tt;
 }
 
-pub padding_small : (n : NotedPad) (account currency : List ℕ) (count : ℤ) → IsSmallNoted n
-    → IsShort account → IsShortCurrency currency → unsigned_abs count < 10 ^ 20
-    → HasSmallParts (padding_row n account currency count)
-padding_small n account currency count h a c few =
+pub padding_small : (e : EntryParts) (n : NotedPad) (account currency : List ℕ) (count : ℤ)
+    → HasShortTexts e → IsSmallNoted n → IsShort account → IsShortCurrency currency
+    → unsigned_abs count < 10 ^ 20 → HasSmallParts (padding_row e n account currency count)
+padding_small e n account currency count texts h a c few =
     let wide = unsigned_abs-mul count (pos (10 ^ 8)) in record {
-      entry = padding_short n h.pad;
+      entry = texts;
       account = a;
       currency = short_currency currency c;
       lot = tt;

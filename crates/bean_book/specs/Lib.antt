@@ -7,3 +7,4 @@ pub mod Booked
 pub mod Taken
 pub mod Found
 pub mod OneBook
+pub mod LeftOut

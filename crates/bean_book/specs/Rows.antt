@@ -31,6 +31,8 @@ use Rattle.bean_replay.specs.declared.booking.Booking.{Booking}
 use Rattle.bean_replay.specs.declared.booking.Booking.TheVariants as booking
 use Rattle.bean_replay.specs.declared.booking.Kept.{Kept}
 use Rattle.bean_book.specs.Metadata.{items_of}
+use Rattle.bean_book.specs.declared.account_sets.AccountSets.{AccountSets}
+use Rattle.bean_book.specs.declared.account_sets.AccountSets.TheVariants.{Made, LeftOut}
 
 -- ---- transactions
 
@@ -42,14 +44,19 @@ abbrev pub link_in : Mark → List (List ℕ)
 link_in (Tag name) = []
 link_in (Link name) = name ∷ []
 
+-- the set of these accounts where sets are made, and the empty set where they are left out
+abbrev pub account_set : AccountSets → List (List ℕ) → List (List ℕ)
+account_set Made accounts = set_of accounts
+account_set LeftOut accounts = []
+
 -- what the postings of a transaction have in common
-abbrev pub entry_of : Kept → EntryParts
-entry_of k = record {
+abbrev pub entry_of : AccountSets → Kept → EntryParts
+entry_of sets k = record {
   payee = k.written.transaction.payee;
   narration = k.written.transaction.narration;
   tags = set_of (flat_map tag_in k.written.transaction.marks);
   links = set_of (flat_map link_in k.written.transaction.marks);
-  accounts = set_of (map (λ p. p.account) k.postings);
+  accounts = account_set sets (map (λ p. p.account) k.postings);
   metadata = items_of k.written.metadata;
   date = k.written.day;
   flag = Written k.written.transaction.flag;
@@ -100,28 +107,31 @@ row_by e line written p = record {
 abbrev pub row_of : EntryParts → ℕ → List Posting → Posted → Row
 row_of e line ps p = row_by e line (slice_get ps p.written) p
 
-abbrev pub rows_of_transaction : Kept → List Row
-rows_of_transaction k =
-    map (row_of (entry_of k) k.written.place.line k.written.transaction.postings) k.postings
+-- the rows of a transaction whose postings have this in common
+abbrev pub rows_with : EntryParts → Kept → List Row
+rows_with e k = map (row_of e k.written.place.line k.written.transaction.postings) k.postings
+
+abbrev pub rows_of_transaction : AccountSets → Kept → List Row
+rows_of_transaction sets k = rows_with (entry_of sets k) k
 
 -- ---- paddings
 
-abbrev pub padding_entry : NotedPad → EntryParts
-padding_entry n = record {
+abbrev pub padding_entry : AccountSets → NotedPad → EntryParts
+padding_entry sets n = record {
   payee = None;
   narration = codes "Padding";
   tags = [];
   links = [];
-  accounts = set_of (n.pad.account ∷ n.pad.source ∷ []);
+  accounts = account_set sets (n.pad.account ∷ n.pad.source ∷ []);
   metadata = [];
   date = n.day;
   flag = Padding;
 }
 
 -- so much in an account, as a count of 10^-8
-abbrev pub padding_row : NotedPad → List ℕ → List ℕ → ℤ → Row
-padding_row n account currency count = record {
-  entry = padding_entry n;
+abbrev pub padding_row : EntryParts → NotedPad → List ℕ → List ℕ → ℤ → Row
+padding_row e n account currency count = record {
+  entry = e;
   account = account;
   position = record { key = record { currency = currency; lot = None }; count = count };
   weight = record { count = count *ℤ pos (10 ^ 8); currency = currency };
@@ -132,23 +142,23 @@ padding_row n account currency count = record {
 }
 
 -- what is inserted goes to the account, and comes from the source
-abbrev pub rows_by : NotedPad → List ℕ → outcomes.Outcome → List Row
-rows_by n currency (outcome.Padding number) =
-    padding_row n n.pad.account currency (at_8 number)
-    ∷ padding_row n n.pad.source currency (neg_ℤ (at_8 number)) ∷ []
-rows_by n currency other = []
+abbrev pub rows_by : EntryParts → NotedPad → List ℕ → outcomes.Outcome → List Row
+rows_by e n currency (outcome.Padding number) =
+    padding_row e n n.pad.account currency (at_8 number)
+    ∷ padding_row e n n.pad.source currency (neg_ℤ (at_8 number)) ∷ []
+rows_by e n currency other = []
 
-abbrev pub rows_of_note : NotedPad → Note → List Row
-rows_of_note n note = rows_by n note.currency note.outcome
+abbrev pub rows_of_note : EntryParts → NotedPad → Note → List Row
+rows_of_note e n note = rows_by e n note.currency note.outcome
 
-abbrev pub rows_of_pad : NotedPad → List Row
-rows_of_pad n = flat_map (rows_of_note n) n.notes
+abbrev pub rows_of_pad : AccountSets → NotedPad → List Row
+rows_of_pad sets n = flat_map (rows_of_note (padding_entry sets n) n) n.notes
 
 -- ---- both
 
-abbrev pub rows_of : Booking → List Row
-rows_of (booking.Transaction k) = rows_of_transaction k
-rows_of (booking.Pad n) = rows_of_pad n
+abbrev pub rows_of : AccountSets → Booking → List Row
+rows_of sets (booking.Transaction k) = rows_of_transaction sets k
+rows_of sets (booking.Pad n) = rows_of_pad sets n
 
 -- ---- written numbers
 

@@ -3,7 +3,9 @@ ghost use Rattle.std.specs.Prelude.{◌≡◌, ◌<◌, ◌≤◌, ◌+◌, Err,
 ghost use Rattle.std.specs.List.{flat_map};
 ghost use Rattle.limits.specs.declared.counts.TheConstants.{MOST_POSTINGS};
 ghost use Rattle.bean_pad.specs.declared.note.NotedPad as pads;
+ghost use Rattle.posting_entries.specs.declared.entry.EntryParts as entries;
 ghost use Rattle.bean_book.specs.Rows as spec;
+ghost use Rattle.bean_book.specs.declared.account_sets.AccountSets.TheVariants.{Made};
 
 use bean_pad::{NotedPad, Outcome};
 use bean_replay::{BookCause, Bookings, Kept};
@@ -48,8 +50,8 @@ fn more(count: usize, rows: usize) -> Result<usize, Refusal<BookCause>>
 
 /// How many rows come of a pad in a currency.
 fn rows_in(outcome: Outcome) -> usize
-    ensures { (noted : pads.NotedPad) (currency : List ℕ)
-        → result ≡ length (spec.rows_by noted currency outcome) }
+    ensures { (e : entries.EntryParts) (noted : pads.NotedPad) (currency : List ℕ)
+        → result ≡ length (spec.rows_by e noted currency outcome) }
 {
     match outcome {
         Outcome::Padding(_) => 2,
@@ -60,10 +62,10 @@ fn rows_in(outcome: Outcome) -> usize
 /// The count with the rows of a pad.
 fn count_pad(count: usize, noted: &NotedPad<'_>) -> Result<usize, Refusal<BookCause>>
     requires { count ≤ MOST_POSTINGS }
-    ensures sum { IfOk result (λ n. n ≡ count + length (spec.rows_of_pad noted.now)) }
+    ensures sum { IfOk result (λ n. n ≡ count + length (spec.rows_of_pad Made noted.now)) }
     ensures few { IfOk result (λ n. n ≤ MOST_POSTINGS) }
     ensures full { result ≡ Err (Refusal.Refused BookCause.TooManyPostings)
-        → MOST_POSTINGS < count + length (spec.rows_of_pad noted.now) }
+        → MOST_POSTINGS < count + length (spec.rows_of_pad Made noted.now) }
 {
     let mut sum = count;
     for note in noted.notes.as_slice() {
@@ -78,10 +80,10 @@ fn count_pad(count: usize, noted: &NotedPad<'_>) -> Result<usize, Refusal<BookCa
 /// The count with the rows of all pads, unless they are too many.
 pub(crate) fn count_pads(count: usize, pads: &[NotedPad<'_>]) -> Result<usize, Refusal<BookCause>>
     requires { count ≤ MOST_POSTINGS }
-    ensures sum { IfOk result (λ n. n ≡ count + length (flat_map spec.rows_of_pad pads.now)) }
+    ensures sum { IfOk result (λ n. n ≡ count + length (flat_map (spec.rows_of_pad Made) pads.now)) }
     ensures few { IfOk result (λ n. n ≤ MOST_POSTINGS) }
     ensures full { result ≡ Err (Refusal.Refused BookCause.TooManyPostings)
-        → MOST_POSTINGS < count + length (flat_map spec.rows_of_pad pads.now) }
+        → MOST_POSTINGS < count + length (flat_map (spec.rows_of_pad Made) pads.now) }
 {
     let mut sum = count;
     for noted in pads {

@@ -6,8 +6,10 @@ ghost use Rattle.posting_entries.specs.Extras.{payee_of};
 ghost use Rattle.bean_book.specs.Plain.{IsPlainEntry};
 ghost use Rattle.bean_book.specs.Rows as spec;
 
+use crate::account_sets::AccountSets;
 use crate::metadata::metadata_of;
 use bean_base::{Slice, Text};
+use bean_directives::Pad;
 use bean_grammar::Mark;
 use bean_holdings::Posted;
 use bean_pad::NotedPad;
@@ -75,8 +77,22 @@ fn links_of<'a>(
     links_among(alloc, marks)
 }
 
-/// The accounts of booked postings. Most transactions have two.
-fn accounts_of<'a>(alloc: Global, posted: &[Posted<'a>]) -> Result<TextSet<'a>, AllocError>
+/// The accounts of booked postings, where sets are made.
+fn accounts_of<'a>(
+    alloc: Global,
+    sets: AccountSets,
+    posted: &[Posted<'a>],
+) -> Result<TextSet<'a>, AllocError>
+    ensures { IfOk result (λ set. set ≡ spec.account_set sets (map (λ p. p.account) posted.now)) }
+{
+    match sets {
+        AccountSets::Made => set_of_accounts(alloc, posted),
+        AccountSets::LeftOut => Ok(TextSet::new(Vec::new(alloc))),
+    }
+}
+
+/// The set of the accounts of booked postings. Most transactions have two.
+fn set_of_accounts<'a>(alloc: Global, posted: &[Posted<'a>]) -> Result<TextSet<'a>, AllocError>
     ensures { IfOk result (λ set. set ≡ set_of (map (λ p. p.account) posted.now)) }
 {
     if let [first, second] = posted {
@@ -158,18 +174,19 @@ fn plain_texts<'a>(written: &Written<'a>) -> Option<Texts<'a>>
 pub(crate) fn entry_of<'a>(
     alloc: Global,
     none: &NoExtras<'a>,
+    sets: AccountSets,
     kept: &Kept<'a>,
 ) -> Result<Shared<Entry<'a>>, AllocError>
-    ensures { IfOk result (λ entry. entry ≡ spec.entry_of kept.now) }
+    ensures { IfOk result (λ entry. entry ≡ spec.entry_of sets kept.now) }
 {
     let written = &kept.written;
     let Some(texts) = plain_texts(written) else {
-        return full_entry(alloc, none, kept);
+        return full_entry(alloc, none, sets, kept);
     };
     let parts = PlainParts {
         payee: texts.payee,
         narration: texts.narration,
-        accounts: accounts_of(alloc, kept.postings.as_slice())?,
+        accounts: accounts_of(alloc, sets, kept.postings.as_slice())?,
         date: written.day(),
         flag: EntryFlag::Written(written.transaction().flag),
     };
@@ -182,9 +199,10 @@ pub(crate) fn entry_of<'a>(
 fn full_entry<'a>(
     alloc: Global,
     none: &NoExtras<'a>,
+    sets: AccountSets,
     kept: &Kept<'a>,
 ) -> Result<Shared<Entry<'a>>, AllocError>
-    ensures { IfOk result (λ entry. entry ≡ spec.entry_of kept.now) }
+    ensures { IfOk result (λ entry. entry ≡ spec.entry_of sets kept.now) }
 {
     let written = &kept.written;
     let transaction = written.transaction();
@@ -194,7 +212,7 @@ fn full_entry<'a>(
         narration: PlainText::of(alloc, &transaction.narration)?,
         tags: tags_of(alloc, none, marks)?,
         links: links_of(alloc, none, marks)?,
-        accounts: accounts_of(alloc, kept.postings.as_slice())?,
+        accounts: accounts_of(alloc, sets, kept.postings.as_slice())?,
         metadata: metadata_of(alloc, written.metadata())?,
         date: written.day(),
         flag: EntryFlag::Written(transaction.flag),
@@ -202,24 +220,42 @@ fn full_entry<'a>(
     Shared::new(alloc, Entry::new(alloc, none, parts)?)
 }
 
+/// The accounts of the two postings that a pad inserts, where sets are made.
+fn padding_accounts<'a>(
+    alloc: Global,
+    sets: AccountSets,
+    pad: &Pad<'a>,
+) -> Result<TextSet<'a>, AllocError>
+    ensures { IfOk result (λ set. set
+        ≡ spec.account_set sets (pad.now.account ∷ pad.now.source ∷ [])) }
+{
+    match sets {
+        AccountSets::Made => {
+            let names = [
+                Slice::new(pad.account.text()),
+                Slice::new(pad.source.text()),
+            ];
+            Ok(TextSet::new(Vec::from_array(alloc, names)?))
+        }
+        AccountSets::LeftOut => Ok(TextSet::new(Vec::new(alloc))),
+    }
+}
+
 /// What the two postings have in common that a pad inserts.
 pub(crate) fn padding_entry<'a>(
     alloc: Global,
     none: &NoExtras<'a>,
+    sets: AccountSets,
     noted: &NotedPad<'a>,
 ) -> Result<Shared<Entry<'a>>, AllocError>
-    ensures { IfOk result (λ entry. entry ≡ spec.padding_entry noted.now) }
+    ensures { IfOk result (λ entry. entry ≡ spec.padding_entry sets noted.now) }
 {
-    let names = [
-        Slice::new(noted.pad.account.text()),
-        Slice::new(noted.pad.source.text()),
-    ];
     let parts = EntryParts {
         payee: None,
         narration: PlainText::lent("Padding"),
         tags: none.no_texts()?,
         links: none.no_texts()?,
-        accounts: TextSet::new(Vec::from_array(alloc, names)?),
+        accounts: padding_accounts(alloc, sets, &noted.pad)?,
         metadata: Metadata::empty(),
         date: noted.day,
         flag: EntryFlag::Padding,

@@ -1,5 +1,6 @@
 //! The ledger of what is booked, made while it is booked.
-ghost use Rattle.std.specs.Prelude.{◌≡◌, ◌≤◌, ◌+◌, ◌++◌, [], IfOk, List, OnOk, drop, length, take};
+ghost use Rattle.std.specs.Prelude.{◌≡◌, ◌≤◌, ◌+◌, ◌++◌, ◌∷◌, [], IfOk, List, OnOk};
+ghost use Rattle.std.specs.Prelude.{drop, length, take};
 ghost use Rattle.std.specs.List.{AllByRecursion};
 ghost use Rattle.limits.specs.declared.counts.TheConstants.{MOST_POSTINGS};
 ghost use Rattle.bean_book.specs.Booked.{Adds, MakesLedger};
@@ -7,10 +8,14 @@ ghost use Rattle.bean_book.specs.Rows.{rows_of_pad};
 ghost use Rattle.bean_book.specs.Taken.{IsLedgerSoFar, with_rows};
 ghost use Rattle.bean_book.specs.Tame.{IsTameKept};
 ghost use Rattle.bean_replay.specs.Booked as booked;
-ghost use Rattle.bean_replay.specs.Small.{IsSmallNoted};
+ghost use Rattle.bean_replay.specs.Small.{IsSmallKept, IsSmallNoted};
+ghost use Rattle.bean_replay.specs.Stand.{postings_of};
 ghost use Rattle.bean_replay.specs.declared.booking.Booking.TheVariants as booking;
 ghost use Rattle.bean_replay.specs.declared.booking.Draft as drafts;
+ghost use Rattle.bean_replay.specs.declared.booking.Draft.TheVariants as draft;
+ghost use Rattle.bean_book.specs.declared.account_sets.AccountSets as choices;
 
+use crate::account_sets::AccountSets;
 use crate::counts::count_pads;
 use crate::decimals::note_written;
 use crate::paddings::push_pad;
@@ -39,7 +44,7 @@ pub(crate) struct LedgerRows<'a> {
 impl<'a> LedgerRows<'a> {
     /// Nothing so far.
     pub(crate) fn new(alloc: Global) -> Result<LedgerRows<'a>, AllocError>
-        ensures { IfOk result (IsLedgerSoFar []) }
+        ensures { IfOk result (λ rows. (sets : choices.AccountSets) → IsLedgerSoFar sets [] rows) }
     {
         Ok(LedgerRows {
             alloc,
@@ -49,44 +54,95 @@ impl<'a> LedgerRows<'a> {
             near: 0,
         })
     }
-}
 
-/// Adds a transaction that is kept.
-fn push_kept<'a>(
-    alloc: Global,
-    none: &NoExtras<'a>,
-    ledger: &mut Ledger<'a>,
-    near: &mut usize,
-    kept: &Kept<'a>,
-) -> Result<(), AllocError>
-    requires tame { IsTameKept kept.now }
-    requires room { length ledger.old.rows + length kept.now.postings ≤ MOST_POSTINGS }
-    ensures { OnOk result (Adds (booking.Transaction kept.now) ledger.old ledger.new) }
-{
-    push_transaction(alloc, none, ledger, kept)?;
-    note_written(ledger, near, kept.written.transaction().postings.as_slice())?;
-    Ok(())
-}
-
-impl<'a> Bookings<'a> for LedgerRows<'a> {
-    ghost use Rattle.bean_book.specs.Taken.{IsLedgerSoFar};
-
-    ghost has_taken = { λ l ds. IsLedgerSoFar ds l };
-
-    fn keep(&mut self, kept: &Kept<'a>) -> Result<(), AllocError> {
+    /// Takes a transaction that is kept.
+    fn keep(&mut self, sets: AccountSets, kept: &Kept<'a>) -> Result<(), AllocError>
+        requires small { IsSmallKept kept.now }
+        requires room { (ds : List drafts.Draft) × IsLedgerSoFar sets ds self.old
+            × (length (postings_of ds) + length kept.now.postings ≤ MOST_POSTINGS) }
+        ensures { (ds : List drafts.Draft) → IsLedgerSoFar sets ds self.old
+            → OnOk result (IsLedgerSoFar sets (ds ++ draft.Transaction kept.now ∷ []) self.new) }
+    {
         push_kept(
             self.alloc,
             &self.none,
+            sets,
             &mut self.ledger,
             &mut self.near,
             kept,
         )
     }
 
-    fn pad(&mut self) -> Result<(), AllocError> {
+    /// Takes the place of a pad.
+    fn pad(&mut self) -> Result<(), AllocError>
+        ensures { (sets : choices.AccountSets) (ds : List drafts.Draft)
+            → IsLedgerSoFar sets ds self.old
+            → OnOk result (IsLedgerSoFar sets (ds ++ draft.Pad ∷ []) self.new) }
+    {
         let place = self.ledger.len();
         self.places.push(place)?;
         Ok(())
+    }
+}
+
+/// Adds a transaction that is kept.
+fn push_kept<'a>(
+    alloc: Global,
+    none: &NoExtras<'a>,
+    sets: AccountSets,
+    ledger: &mut Ledger<'a>,
+    near: &mut usize,
+    kept: &Kept<'a>,
+) -> Result<(), AllocError>
+    requires tame { IsTameKept kept.now }
+    requires room { length ledger.old.rows + length kept.now.postings ≤ MOST_POSTINGS }
+    ensures { OnOk result (Adds sets (booking.Transaction kept.now) ledger.old ledger.new) }
+{
+    push_transaction(alloc, none, sets, ledger, kept)?;
+    note_written(ledger, near, kept.written.transaction().postings.as_slice())?;
+    Ok(())
+}
+
+/// Rows that are taken with the sets of accounts: the type tells it, so that it is known of what has
+/// taken all directives.
+#[derive(Drop)]
+pub(crate) struct RowsWithSets<'a> {
+    pub rows: LedgerRows<'a>,
+}
+
+impl<'a> Bookings<'a> for RowsWithSets<'a> {
+    ghost use Rattle.bean_book.specs.Taken.{IsLedgerSoFar};
+    ghost use Rattle.bean_book.specs.declared.account_sets.AccountSets.TheVariants.{Made};
+
+    ghost has_taken = { λ l ds. IsLedgerSoFar Made ds l.rows };
+
+    fn keep(&mut self, kept: &Kept<'a>) -> Result<(), AllocError> {
+        self.rows.keep(AccountSets::Made, kept)
+    }
+
+    fn pad(&mut self) -> Result<(), AllocError> {
+        self.rows.pad()
+    }
+}
+
+/// Rows that are taken without the sets of accounts.
+#[derive(Drop)]
+pub(crate) struct RowsWithoutSets<'a> {
+    pub rows: LedgerRows<'a>,
+}
+
+impl<'a> Bookings<'a> for RowsWithoutSets<'a> {
+    ghost use Rattle.bean_book.specs.Taken.{IsLedgerSoFar};
+    ghost use Rattle.bean_book.specs.declared.account_sets.AccountSets.TheVariants.{LeftOut};
+
+    ghost has_taken = { λ l ds. IsLedgerSoFar LeftOut ds l.rows };
+
+    fn keep(&mut self, kept: &Kept<'a>) -> Result<(), AllocError> {
+        self.rows.keep(AccountSets::LeftOut, kept)
+    }
+
+    fn pad(&mut self) -> Result<(), AllocError> {
+        self.rows.pad()
     }
 }
 
@@ -94,35 +150,38 @@ impl<'a> Bookings<'a> for LedgerRows<'a> {
 fn put_pad<'a>(
     alloc: Global,
     none: &NoExtras<'a>,
+    sets: AccountSets,
     ledger: &mut Ledger<'a>,
     rest: &mut TakenRows<'a>,
     count: usize,
     noted: &NotedPad<'a>,
 ) -> Result<(), AllocError>
     requires small { IsSmallNoted noted.now }
-    requires room { length ledger.old.rows + length rest.old + length (rows_of_pad noted.now)
+    requires room { length ledger.old.rows + length rest.old + length (rows_of_pad sets noted.now)
         ≤ MOST_POSTINGS }
     ensures rows { OnOk result (ledger.new.rows
-        ≡ ledger.old.rows ++ (take count rest.old ++ rows_of_pad noted.now)) }
+        ≡ ledger.old.rows ++ (take count rest.old ++ rows_of_pad sets noted.now)) }
     ensures decimals { OnOk result (ledger.new.decimals ≡ ledger.old.decimals) }
     ensures rest { OnOk result (rest.new ≡ drop count rest.old) }
 {
     ledger.put_back(rest, count)?;
-    push_pad(alloc, none, ledger, noted)
+    push_pad(alloc, none, sets, ledger, noted)
 }
 
 /// Puts the rows in that pads insert, each at its place.
 fn put_pads<'a>(
     alloc: Global,
     none: &NoExtras<'a>,
+    sets: AccountSets,
     ledger: &mut Ledger<'a>,
     places: Vec<usize>,
     pads: Vec<NotedPad<'a>>,
 ) -> Result<(), AllocError>
     requires small { AllByRecursion IsSmallNoted pads.items }
-    requires room { length (with_rows 0 ledger.old.rows places.items pads.items) ≤ MOST_POSTINGS }
+    requires room { length (with_rows sets 0 ledger.old.rows places.items pads.items)
+        ≤ MOST_POSTINGS }
     ensures rows { OnOk result (ledger.new.rows
-        ≡ with_rows 0 ledger.old.rows places.items pads.entry.items) }
+        ≡ with_rows sets 0 ledger.old.rows places.items pads.entry.items) }
     ensures decimals { OnOk result (ledger.new.decimals ≡ ledger.old.decimals) }
 {
     let mut rest = ledger.take_rows()?;
@@ -131,7 +190,7 @@ fn put_pads<'a>(
     for noted in pads {
         if let Some(place) = left.next() {
             let count = place.saturating_sub(passed);
-            put_pad(alloc, none, ledger, &mut rest, count, &noted)?;
+            put_pad(alloc, none, sets, ledger, &mut rest, count, &noted)?;
             passed = place;
         }
     }
@@ -140,15 +199,16 @@ fn put_pads<'a>(
 
 /// The ledger, now that it is known what comes of the pads.
 pub(crate) fn with_pads<'a>(
+    sets: AccountSets,
     rows: LedgerRows<'a>,
     pads: Vec<NotedPad<'a>>,
 ) -> Result<Ledger<'a>, Refusal<BookCause>>
     requires small { AllByRecursion IsSmallNoted pads.items }
-    requires booked { (ds : List drafts.Draft) × IsLedgerSoFar ds rows
+    requires booked { (ds : List drafts.Draft) × IsLedgerSoFar sets ds rows
         × (booked.places_in ds ≡ length pads.items) }
-    ensures { (ds : List drafts.Draft) → IsLedgerSoFar ds rows.entry
+    ensures { (ds : List drafts.Draft) → IsLedgerSoFar sets ds rows.entry
         → booked.places_in ds ≡ length pads.entry.items
-        → MakesLedger (booked.with_pads ds pads.entry.items) result }
+        → MakesLedger sets (booked.with_pads ds pads.entry.items) result }
 {
     let LedgerRows {
         alloc,
@@ -166,6 +226,6 @@ pub(crate) fn with_pads<'a>(
         return Ok(ledger);
     }
     let mut ledger = ledger;
-    put_pads(alloc, &none, &mut ledger, places, pads)?;
+    put_pads(alloc, &none, sets, &mut ledger, places, pads)?;
     Ok(ledger)
 }

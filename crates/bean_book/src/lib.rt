@@ -3,7 +3,7 @@
 //!
 //! ```text
 //! let loaded = load(alloc, &texts)?;
-//! let booked = book(alloc, loaded)?;
+//! let booked = book(alloc, loaded, AccountSets::Made)?;
 //! booked.ledger.len()                    // how many postings there are
 //! booked.faults.as_slice()               // by file, line and number, equal ones once
 //!
@@ -13,7 +13,8 @@
 //! What the directives come to is told by [`bean_replay`]. In their order, each transaction that is
 //! kept gives a row for each posting that it is booked as, and each pad two for each balance that
 //! uses it up. A row has what its transaction says too: payee, narration, tags, links, accounts and
-//! metadata.
+//! metadata. The caller chooses whether the set of accounts is made or left out ([`AccountSets`]):
+//! what is booked without it is what is booked with it but for that set.
 //!
 //! # Display decimals
 //!
@@ -33,6 +34,7 @@
 //! those that there would be.
 #![tactic(auto)]
 
+mod account_sets;
 mod booked;
 mod counts;
 mod decimals;
@@ -44,6 +46,7 @@ mod metadata;
 mod paddings;
 mod rows;
 
+pub use account_sets::AccountSets;
 pub use bean_replay::BookCause;
 pub use booked::{Booked, book, find_faults};
-pub use laws::one_book;
+pub use laws::{one_book, only_sets_are_left_out, sets_refuse_nothing};

@@ -4,7 +4,9 @@ ghost use Rattle.std.specs.Int.RustNames.{unsigned_abs};
 ghost use Rattle.bean_replay.specs.Small.{IsSmallNote, IsSmallNoted};
 ghost use Rattle.limits.specs.declared.counts.TheConstants.{MOST_POSTINGS};
 ghost use Rattle.bean_book.specs.Rows as spec;
+ghost use Rattle.bean_book.specs.declared.account_sets.AccountSets as choices;
 
+use crate::account_sets::AccountSets;
 use crate::entries::padding_entry;
 use bean_base::{Account, Currency};
 use bean_lots::{Key, Position};
@@ -21,10 +23,9 @@ fn padding_row<'a>(
     currency: &Currency<'a>,
     count: i128,
 ) -> Result<Row<'a>, AllocError>
-    requires entry { entry.now ≡ spec.padding_entry noted.now }
     requires small { unsigned_abs count < 10 ^ 20 }
     ensures { IfOk result (λ row. row
-        ≡ spec.padding_row noted.now account.now currency.now count) }
+        ≡ spec.padding_row entry.now noted.now account.now currency.now count) }
 {
     Ok(Row {
         entry: entry.share()?,
@@ -54,13 +55,13 @@ fn push_note<'a>(
     noted: &NotedPad<'a>,
     note: &Note<'a>,
 ) -> Result<(), AllocError>
-    requires entry { entry.now ≡ spec.padding_entry noted.now }
+    requires entry { (sets : choices.AccountSets) × (entry.now ≡ spec.padding_entry sets noted.now) }
     requires pad { IsSmallNoted noted.now }
     requires note { IsSmallNote note.now }
-    requires room { length ledger.old.rows + length (spec.rows_of_note noted.now note.now)
+    requires room { length ledger.old.rows + length (spec.rows_of_note entry.now noted.now note.now)
         ≤ MOST_POSTINGS }
     ensures rows { OnOk result (ledger.new.rows
-        ≡ ledger.old.rows ++ spec.rows_of_note noted.now note.now) }
+        ≡ ledger.old.rows ++ spec.rows_of_note entry.now noted.now note.now) }
     ensures decimals { OnOk result (ledger.new.decimals ≡ ledger.old.decimals) }
 {
     let Outcome::Padding(number) = note.outcome else {
@@ -77,15 +78,18 @@ fn push_note<'a>(
 pub(crate) fn push_pad<'a>(
     alloc: Global,
     none: &NoExtras<'a>,
+    sets: AccountSets,
     ledger: &mut Ledger<'a>,
     noted: &NotedPad<'a>,
 ) -> Result<(), AllocError>
     requires small { IsSmallNoted noted.now }
-    requires room { length ledger.old.rows + length (spec.rows_of_pad noted.now) ≤ MOST_POSTINGS }
-    ensures rows { OnOk result (ledger.new.rows ≡ ledger.old.rows ++ spec.rows_of_pad noted.now) }
+    requires room { length ledger.old.rows + length (spec.rows_of_pad sets noted.now)
+        ≤ MOST_POSTINGS }
+    ensures rows { OnOk result (ledger.new.rows
+        ≡ ledger.old.rows ++ spec.rows_of_pad sets noted.now) }
     ensures decimals { OnOk result (ledger.new.decimals ≡ ledger.old.decimals) }
 {
-    let entry = padding_entry(alloc, none, noted)?;
+    let entry = padding_entry(alloc, none, sets, noted)?;
     for note in noted.notes.as_slice() {
         push_note(ledger, &entry, noted, note)?;
     }

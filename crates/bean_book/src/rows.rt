@@ -10,7 +10,9 @@ ghost use Rattle.query_rows.specs.ColumnShape.{widest};
 ghost use Rattle.bean_book.specs.Plain.{IsPlain};
 ghost use Rattle.bean_book.specs.Rows as spec;
 ghost use Rattle.bean_book.specs.Tame.{IsTameKept};
+ghost use Rattle.bean_book.specs.declared.account_sets.AccountSets as choices;
 
+use crate::account_sets::AccountSets;
 use crate::entries::entry_of;
 use crate::metadata::metadata_of;
 use bean_base::Amount;
@@ -215,11 +217,11 @@ fn push_posted<'a>(
     entry: &Shared<Entry<'a>>,
     kept: &Kept<'a>,
 ) -> Result<(), AllocError>
-    requires entry { entry.now ≡ spec.entry_of kept.now }
+    requires entry { (sets : choices.AccountSets) × (entry.now ≡ spec.entry_of sets kept.now) }
     requires tame { IsTameKept kept.now }
     requires room { length ledger.old.rows + length kept.now.postings ≤ MOST_POSTINGS }
     ensures rows { OnOk result (ledger.new.rows
-        ≡ ledger.old.rows ++ spec.rows_of_transaction kept.now) }
+        ≡ ledger.old.rows ++ spec.rows_with entry.now kept.now) }
     ensures decimals { OnOk result (ledger.new.decimals ≡ ledger.old.decimals) }
 {
     let line = kept.written.place().line;
@@ -239,15 +241,16 @@ fn push_posted<'a>(
 pub(crate) fn push_transaction<'a>(
     alloc: Global,
     none: &NoExtras<'a>,
+    sets: AccountSets,
     ledger: &mut Ledger<'a>,
     kept: &Kept<'a>,
 ) -> Result<(), AllocError>
     requires tame { IsTameKept kept.now }
     requires room { length ledger.old.rows + length kept.now.postings ≤ MOST_POSTINGS }
     ensures rows { OnOk result (ledger.new.rows
-        ≡ ledger.old.rows ++ spec.rows_of_transaction kept.now) }
+        ≡ ledger.old.rows ++ spec.rows_of_transaction sets kept.now) }
     ensures decimals { OnOk result (ledger.new.decimals ≡ ledger.old.decimals) }
 {
-    let entry = entry_of(alloc, none, kept)?;
+    let entry = entry_of(alloc, none, sets, kept)?;
     push_posted(alloc, ledger, &entry, kept)
 }

@@ -2,12 +2,15 @@
 //!
 //! ```text
 //! let texts = gather(alloc, &mut store, "main.beancount")?;
-//! let booked = book_of(alloc, &texts)?;          // its postings, and all that is wrong
+//! let sets = AccountSets::Made;
+//! let booked = book_of(alloc, &texts, sets)?;    // its postings, and all that is wrong
 //! let faults = faults_in(alloc, &texts)?;        // the faults alone
 //! ```
 //!
 //! [`bean_load`] reads what the texts say together, and [`bean_book`] books it. Texts have one book,
-//! and not both a book and too many postings: that is proved beside (`OneBook`).
+//! and not both a book and too many postings: that is proved beside (`OneBook`). The caller chooses
+//! whether transactions have the sets of their accounts ([`bean_book::AccountSets`]): the book is the
+//! same but for them.
 //!
 //! # Refusals
 //!
@@ -15,5 +18,7 @@
 #![tactic(auto)]
 
 mod booking;
+mod laws;
 
 pub use booking::{book_of, faults_in};
+pub use laws::{only_sets_are_left_out, sets_refuse_nothing};

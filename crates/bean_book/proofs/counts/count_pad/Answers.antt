@@ -1,12 +1,14 @@
 use Rattle.std.proofs.Common.{◌+◌, ap, arith, get_or, length, length-append, sym, take, ◌∙◌}
 use Rattle.std.specs.List.{flat_map}
-use Rattle.bean_book.specs.Rows.{rows_of_note}
+use Rattle.bean_book.specs.Rows.{padding_entry, rows_of_note}
+use Rattle.bean_book.specs.declared.account_sets.AccountSets.TheVariants.{Made}
 use Rattle.bean_book.proofs.ListFacts.{flat_map_more, length-flat_map-take}
 use Rattle.bean_book.proofs.counts.count_pad.Goals as goal
 
 pub returns-in-Err-clause-full : goal.returns-in-Err-clause-full
 returns-in-Err-clause-full c = λ refused.
-    let rows = rows_of_note c.args.noted.now in
+    let common = padding_entry Made c.args.noted.now in
+    let rows = rows_of_note common c.args.noted.now in
     let notes = c.as_slice-note-items.result.now in
     let are = c.as_slice-note-items.ensures in
     let i = c.loop-note.note-index in
@@ -18,7 +20,7 @@ returns-in-Err-clause-full c = λ refused.
     let next =
     ap length (flat_map_more rows notes i item (omega arith))
     ∙ length-append (flat_map rows (take i notes)) (rows (get_or notes i item)) in
-    let own = c.rows_in.ensures c.args.noted.now item.currency in
+    let own = c.rows_in.ensures common c.args.noted.now item.currency in
     let same = ap (λ n. length (rows n)) c.note-item.is in
     let whole = ap (λ l. length (flat_map rows l)) are in
     omega (arith, full, before, next, own, same, whole, length-flat_map-take rows notes (i + 1))

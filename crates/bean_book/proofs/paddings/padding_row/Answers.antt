@@ -1,11 +1,11 @@
-use Rattle.std.proofs.Common.{None, arith, ◌∙◌}
+use Rattle.std.proofs.Common.{None, arith}
 use Rattle.bean_book.proofs.PaddingFacts.{same, weighed}
 use Rattle.bean_book.proofs.paddings.padding_row.Goals as goal
 
 pub returns : goal.returns
 returns c =
     let small = c.requires.small in
-    let entry = c.in_ok-share.ensures ∙ c.requires.entry in
+    let entry = c.in_ok-share.ensures in
     let count = same c.args.count (omega (arith, small)) in
     let weight = weighed c.args.count small in
     λ i. record {

@@ -7,6 +7,6 @@ abbrev pub invariant-loop-note : goal.invariant-loop-note
 invariant-loop-note l = record {
   rows : l.ledger.rows
       ≡ l.initial.ledger.rows
-      ++ flat_map (rows_of_note l.noted) (take l.note-index l.noted.notes);
+      ++ flat_map (rows_of_note l.entry l.noted) (take l.note-index l.noted.notes);
   decimals : l.ledger.decimals ≡ l.initial.ledger.decimals;
 }

@@ -23,6 +23,8 @@ use Rattle.bean_book.specs.Tame.{IsTameKept}
 use Rattle.query_rows.specs.ColumnShape.{widest}
 use Rattle.posting_table.proofs.PartFacts.{row_lies}
 use Rattle.bean_book.specs.Rows.{entry_of, row_of}
+use Rattle.bean_book.specs.declared.account_sets.AccountSets.{AccountSets}
+use Rattle.posting_table.specs.Parts.{HasShortTexts}
 use Rattle.bean_book.proofs.ShapedFacts.{entry_short, row_small}
 use Rattle.bean_book.proofs.rows.push_posted.Goals as goal
 
@@ -56,11 +58,13 @@ given_some : {X : Type 0} (P : X → Type 0) (o : Option X) (x : X) → o ≡ So
 given_some P o x is h = subst (λ q. IfSome q P) is h
 
 -- the row of a booked posting of a tame transaction lies in the widest shapes
-lies : (k : Kept) (posted : List Posted) (i : ℕ) (p : Posted) (row : Row) → IsTameKept k
+lies : (k : Kept) (e : EntryParts) (posted : List Posted) (i : ℕ) (p : Posted) (row : Row)
+    → IsTameKept k → (sets : AccountSets) × (e ≡ entry_of sets k)
     → posted ≡ k.postings → i < length posted → p ≡ get_or posted i p
-    → row ≡ row_of (entry_of k) k.written.place.line k.written.transaction.postings p
+    → row ≡ row_of e k.written.place.line k.written.transaction.postings p
     → IsShaped widest row
-lies k posted i p row tame same within at is =
+lies k e posted i p row tame common same within at is =
+    let texts = subst HasShortTexts (sym common.1) (entry_short common.0 k tame) in
     let ps = k.written.transaction.postings in
     let line = k.written.place.line in
     let small = tame.small in
@@ -69,20 +73,20 @@ lies k posted i p row tame same within at is =
     let own = found_at IsSmallPosted posted i p within at
     (subst (AllByRecursion IsSmallPosted) (sym same) small.postings) in
     subst (IsShaped widest) (sym is)
-    (row_lies (row_of (entry_of k) line ps p)
-    (row_small (entry_of k) line ps p (entry_short k tame) own light small.transaction.postings
+    (row_lies (row_of e line ps p)
+    (row_small e line ps p texts own light small.transaction.postings
     small.line))
 
 -- one row more
-one_more : (k : Kept) (items : List Posted) (i : ℕ) (p : Posted) → items ≡ k.postings
+one_more : (k : Kept) (e : EntryParts) (items : List Posted) (i : ℕ) (p : Posted) → items ≡ k.postings
     → i < length items → p ≡ get_or items i p
-    → map (row_of (entry_of k) k.written.place.line k.written.transaction.postings)
+    → map (row_of e k.written.place.line k.written.transaction.postings)
     (take (i + 1) k.postings)
-    ≡ map (row_of (entry_of k) k.written.place.line k.written.transaction.postings)
+    ≡ map (row_of e k.written.place.line k.written.transaction.postings)
     (take i k.postings)
-    ++ row_of (entry_of k) k.written.place.line k.written.transaction.postings p ∷ []
-one_more k items i p are within at =
-    let row = row_of (entry_of k) k.written.place.line k.written.transaction.postings in
+    ++ row_of e k.written.place.line k.written.transaction.postings p ∷ []
+one_more k e items i p are within at =
+    let row = row_of e k.written.place.line k.written.transaction.postings in
     ap (λ l. map row (take (i + 1) l)) (sym are)
     ∙ ap (map row) (take_more items i p within)
     ∙ map-append row (take i items) (get_or items i p ∷ [])
@@ -90,56 +94,58 @@ one_more k items i p are within at =
     ∙ ap (λ l. map row (take i l) ++ row p ∷ []) are
 
 -- rows with one more behind them
-behind : (k : Kept) (old new before : List Row) (row : Row) (i : ℕ) (p : Posted) (items : List Posted)
+behind : (k : Kept) (e : EntryParts) (old new before : List Row) (row : Row) (i : ℕ) (p : Posted)
+    (items : List Posted)
     → new ≡ before ++ row ∷ []
-    → before ≡ old ++ map (row_of (entry_of k) k.written.place.line k.written.transaction.postings)
+    → before ≡ old ++ map (row_of e k.written.place.line k.written.transaction.postings)
     (take i k.postings)
-    → row ≡ row_of (entry_of k) k.written.place.line k.written.transaction.postings p
+    → row ≡ row_of e k.written.place.line k.written.transaction.postings p
     → items ≡ k.postings → i < length items → p ≡ get_or items i p
-    → new ≡ old ++ map (row_of (entry_of k) k.written.place.line k.written.transaction.postings)
+    → new ≡ old ++ map (row_of e k.written.place.line k.written.transaction.postings)
     (take (i + 1) k.postings)
-behind k old new before row i p items pushed was is are within at =
-    let row_at = row_of (entry_of k) k.written.place.line k.written.transaction.postings in
+behind k e old new before row i p items pushed was is are within at =
+    let row_at = row_of e k.written.place.line k.written.transaction.postings in
     pushed ∙ (λ j. was j ++ is j ∷ [])
     ∙ append_assoc old (map row_at (take i k.postings)) (row_at p ∷ [])
-    ∙ ap (λ l. old ++ l) (sym (one_more k items i p are within at))
+    ∙ ap (λ l. old ++ l) (sym (one_more k e items i p are within at))
 
 -- the row of a posting, of what is at hand of its transaction
 own_row : (k : Kept) (at : Place) (t : Transaction) (e : EntryParts) (ps : List Posting)
-    (p : Posted) → at ≡ k.written.place → t ≡ k.written.transaction → e ≡ entry_of k
-    → ps ≡ t.postings
+    (p : Posted) → at ≡ k.written.place → t ≡ k.written.transaction → ps ≡ t.postings
     → row_of e at.line ps p
-    ≡ row_of (entry_of k) k.written.place.line k.written.transaction.postings p
-own_row k at t e ps p there same is are = λ i.
-    row_of (is i) (there i).line (postings_of k t ps same are i) p
+    ≡ row_of e k.written.place.line k.written.transaction.postings p
+own_row k at t e ps p there same are = λ i.
+    row_of e (there i).line (postings_of k t ps same are i) p
 
 pub push_full-requires-clause-shaped : goal.push_full-requires-clause-shaped
 push_full-requires-clause-shaped c =
     let k = c.args.kept.now in
+    let e = c.args.entry.now in
     let p = c.one-item.result in
-    lies k c.as_slice-one-items.result.now c.loop-one.one-index p _ c.requires.tame
-    c.as_slice-one-items.ensures (omega arith) c.one-item.is
+    lies k e c.as_slice-one-items.result.now c.loop-one.one-index p _ c.requires.tame
+    c.requires.entry c.as_slice-one-items.ensures (omega arith) c.one-item.is
     (own_row k c.place-line.result c.transaction.result.now c.args.entry.now
-    c.as_slice-postings.result.now p c.place-line.ensures c.transaction.ensures c.requires.entry
+    c.as_slice-postings.result.now p c.place-line.ensures c.transaction.ensures
     c.as_slice-postings.ensures)
 
 pub push_plain-requires-clause-shaped : goal.push_plain-requires-clause-shaped
 push_plain-requires-clause-shaped c =
     let k = c.args.kept.now in
+    let e = c.args.entry.now in
     let line = k.written.place.line in
     let p = c.one-item.result in
-    lies k c.as_slice-one-items.result.now c.loop-one.one-index p (plain.row_of c.in-Some.plain)
-    c.requires.tame c.as_slice-one-items.ensures (omega arith) c.one-item.is
+    lies k e c.as_slice-one-items.result.now c.loop-one.one-index p (plain.row_of c.in-Some.plain)
+    c.requires.tame c.requires.entry c.as_slice-one-items.ensures (omega arith) c.one-item.is
     (given_some _ _ c.in-Some.plain c.in-Some.is c.in_ok-plain.ensures line
-    ∙ ap (λ e. row_of e line c.as_slice-postings.result.now p) c.requires.entry
-    ∙ ap (λ ps. row_of (entry_of k) line ps p)
+    ∙ ap (λ ps. row_of e line ps p)
     (postings_of k c.transaction.result.now _ c.transaction.ensures c.as_slice-postings.ensures))
 
 pub push_full-requires-clause-room : goal.push_full-requires-clause-room
 push_full-requires-clause-room c =
     let k = c.args.kept.now in
+    let e = c.args.entry.now in
     let room = c.requires.room in
-    let row = row_of (entry_of k) k.written.place.line k.written.transaction.postings in
+    let row = row_of e k.written.place.line k.written.transaction.postings in
     let taken = take c.loop-one.one-index k.postings in
     let before =
     ap length c.loop-one.invariant.rows ∙ length-append c.args.ledger.now.rows (map row taken)
@@ -152,8 +158,9 @@ push_full-requires-clause-room c =
 pub push_plain-requires-clause-room : goal.push_plain-requires-clause-room
 push_plain-requires-clause-room c =
     let k = c.args.kept.now in
+    let e = c.args.entry.now in
     let room = c.requires.room in
-    let row = row_of (entry_of k) k.written.place.line k.written.transaction.postings in
+    let row = row_of e k.written.place.line k.written.transaction.postings in
     let taken = take c.loop-one.one-index k.postings in
     let before =
     ap length c.loop-one.invariant.rows ∙ length-append c.args.ledger.now.rows (map row taken)
@@ -166,15 +173,15 @@ push_plain-requires-clause-room c =
 pub loop-one-preserved-in-Some : goal.loop-one-preserved-in-Some
 loop-one-preserved-in-Some c =
     let k = c.args.kept.now in
+    let e = c.args.entry.now in
     let line = k.written.place.line in
     let p = c.one-item.result in record {
-      rows = behind k c.args.ledger.now.rows _ _ (plain.row_of c.in-Some.plain)
+      rows = behind k e c.args.ledger.now.rows _ _ (plain.row_of c.in-Some.plain)
           c.loop-one.one-index p c.as_slice-one-items.result.now
           (ap (λ (l : Ledger). l.rows) c.in_ok-push_plain.ensures.pushed)
           c.loop-one.invariant.rows
           (given_some _ _ c.in-Some.plain c.in-Some.is c.in_ok-plain.ensures line
-          ∙ ap (λ e. row_of e line c.as_slice-postings.result.now p) c.requires.entry
-          ∙ ap (λ ps. row_of (entry_of k) line ps p)
+          ∙ ap (λ ps. row_of e line ps p)
           (postings_of k c.transaction.result.now _ c.transaction.ensures c.as_slice-postings.ensures))
           c.as_slice-one-items.ensures (omega arith) c.one-item.is;
       decimals = ap (λ (l : Ledger). l.decimals) c.in_ok-push_plain.ensures.pushed
@@ -185,11 +192,12 @@ loop-one-preserved-in-Some c =
 pub loop-one-preserved : goal.loop-one-preserved
 loop-one-preserved c =
     let k = c.args.kept.now in
+    let e = c.args.entry.now in
     let p = c.one-item.result in record {
-      rows = behind k c.args.ledger.now.rows _ _ _ c.loop-one.one-index p
+      rows = behind k e c.args.ledger.now.rows _ _ _ c.loop-one.one-index p
           c.as_slice-one-items.result.now c.in_ok-push_full.ensures.rows c.loop-one.invariant.rows
           (own_row k c.place-line.result c.transaction.result.now c.args.entry.now
-          c.as_slice-postings.result.now p c.place-line.ensures c.transaction.ensures c.requires.entry
+          c.as_slice-postings.result.now p c.place-line.ensures c.transaction.ensures
           c.as_slice-postings.ensures)
           c.as_slice-one-items.ensures (omega arith) c.one-item.is;
       decimals = c.in_ok-push_full.ensures.decimals ∙ c.loop-one.invariant.decimals;

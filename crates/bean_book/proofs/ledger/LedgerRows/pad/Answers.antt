@@ -1,10 +1,10 @@
 use Rattle.std.proofs.Common.{◌++◌, ◌∷◌, [], ap, refl, ◌∙◌}
 use Rattle.bean_book.proofs.TakenFacts.{pad_more}
-use Rattle.bean_book.proofs.ledger.LedgerRowsBookings.pad.Goals as goal
+use Rattle.bean_book.proofs.ledger.LedgerRows.pad.Goals as goal
 
 pub returns : goal.returns
-returns c = λ ds so_far.
+returns c = λ sets ds so_far.
     let old = c.args.self.now in
-    pad_more ds old _ so_far refl
+    pad_more sets ds old _ so_far refl
     (c.in_ok-push.ensures.items
     ∙ ap (λ n. old.places.items ++ n ∷ []) c.len-place.ensures.count)
