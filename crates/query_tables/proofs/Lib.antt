@@ -1,2 +1,4 @@
+mod UpgradeFacts
 mod TableFacts
+pub mod UnreadFacts
 mod FileFacts

@@ -18,6 +18,9 @@
 //! its budget of steps, with the rows that the plain machine gives, and the text is their table. Of
 //! a file that the compiler made it is the table of what the query means over the booked postings.
 //!
+//! The table of a program that doesn't read the accounts of transactions is the same over a ledger
+//! without them ([`unread_accounts_may_be_left_out`]).
+//!
 //! # Refusals
 //!
 //! [`answer_file`] tells those of `query_verifier` (`V1` to `V18`, with the byte), and then, as
@@ -37,5 +40,5 @@ mod tables;
 
 pub use answering::answer_file;
 pub use cause::AnswerCause;
-pub use laws::one_table_each;
+pub use laws::{one_table_each, unread_accounts_may_be_left_out};
 pub use tables::{table, tabulated};
