@@ -1,3 +1,3 @@
 mod FateFacts
 mod BatchFileFacts
-mod UnreadFacts
+pub mod UnreadFacts

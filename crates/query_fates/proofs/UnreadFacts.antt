@@ -1,16 +1,14 @@
 -- What becomes over ledgers without the accounts of transactions of programs that don't read them.
-use Rattle.std.proofs.Common.{◌≡◌, ℕ, List, [], ◌∷◌, map, true, false, ap, ◌∙◌}
+use Rattle.std.proofs.Common.{◌≡◌, ℕ, List, [], ◌∷◌, map, true, false}
 use Rattle.std.specs.List.{AllByRecursion}
 use Rattle.plain_machine.specs.Unread.{reads_accounts}
-use Rattle.query_code.proofs.QueryFileFacts.{same_program}
-use Rattle.query_code.specs.QueryFile.{IsFile}
 use Rattle.query_code.specs.declared.program.Parts.{Parts}
 use Rattle.query_fates.specs.Fates.{AreFates, AreFatesOf, AreFilesFor, IsFate, verified}
-use Rattle.query_fates.specs.Unread.{FileNeedsNoAccounts, NeedsNoAccounts}
+use Rattle.query_fates.specs.Unread.{NeedsNoAccounts}
 use Rattle.query_fates.specs.declared.tabulating.Fate.{Fate}
 use Rattle.query_fates.specs.declared.tabulating.Fate.TheVariants as fate
 use Rattle.query_tables.proofs.UnreadFacts.{fits_alike, same_truth, tables_alike}
-use Rattle.query_tables.specs.Unread.{IsSoOfBoth}
+use Rattle.query_tables.specs.Unread.{FileNeedsNoAccounts, IsSoOfBoth}
 use Rattle.verified_program.specs.declared.checked.Checked.{Checked}
 
 -- ---- programs
@@ -53,7 +51,7 @@ none_of_files [] [] none are = none
 none_of_files [] (p ∷ programs) none are = absurd are
 none_of_files (bytes ∷ files) [] none are = absurd are
 none_of_files (bytes ∷ files) (p ∷ programs) none are =
-    (none.0 p are.0, none_of_files files programs none.1 are.1)
+    (none.0 p.0 p.1 are.0, none_of_files files programs none.1 are.1)
 
 module _ (files : List (List ℕ)) (none : AllByRecursion FileNeedsNoAccounts files)
     (fates : List Fate) where
@@ -71,8 +69,3 @@ module _ (files : List (List ℕ)) (none : AllByRecursion FileNeedsNoAccounts fi
 
       from : AreFatesOf l files fates → AreFatesOf bare files fates
       from is = (is.0, is.1, (both is.0 is.1).1 is.2)
-
-pub one_tells : (bytes : List ℕ) (p : Parts) → IsFile bytes p → reads_accounts p ≡ false
-    → FileNeedsNoAccounts bytes
-one_tells bytes p is unread q also =
-    ap reads_accounts (same_program bytes q.0 p also.is_file is) ∙ unread

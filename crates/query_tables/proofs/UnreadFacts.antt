@@ -12,13 +12,19 @@ use Rattle.posting_table.specs.Decimals.{decimals_of}
 use Rattle.posting_table.specs.Ledger.{Ledger}
 use Rattle.posting_table.specs.Rows.{rows_of}
 use Rattle.query_code.specs.declared.program.Parts.{Parts}
+use Rattle.query_code.proofs.QueryFileFacts.{same_program}
+use Rattle.query_code.specs.QueryFile.{IsFile}
 use Rattle.query_machine.specs.declared.cause.RunCause.{RunCause}
 use Rattle.query_machine.specs.declared.cause.RunCause.TheVariants.{OutsideBounds}
 use Rattle.query_rows.specs.Fits.{fits}
 use Rattle.query_rows.specs.Row.{Row}
 use Rattle.query_tables.proofs.TableFacts.{tables_of_queries}
+use Rattle.query_tables.specs.Headline.{AnswersFile, IsAnswered, IsOutside}
 use Rattle.query_tables.specs.Table.{IsTableOf, Tabulates}
-use Rattle.query_tables.specs.Unread.{AreAlikeButAccounts, IsSoOfBoth}
+use Rattle.query_tables.specs.Unread.{AreAlikeButAccounts, FileNeedsNoAccounts, IsSoOfBoth}
+use Rattle.query_tables.specs.declared.cause.AnswerCause.{AnswerCause}
+use Rattle.query_tables.specs.declared.cause.AnswerCause.TheVariants.{NotAccepted, NotRun}
+use Rattle.query_verifier.specs.declared.cause.VerifierCause.TheVariants.{Code, File}
 use Rattle.refusals.specs.declared.refusal.Refusal.{Refusal}
 use Rattle.refusals.specs.declared.refusal.Refusal.TheVariants.{OutOfMemory, Refused}
 use Rattle.table_printer.specs.Table.{table_text}
@@ -103,3 +109,64 @@ tabulates_alike c unread (Err OutOfMemory) = λ bare l alike.
     same_truth (fits_alike bare l alike c.program.parts.bounds) true
 tabulates_alike c unread (Err (Refused OutsideBounds)) = λ bare l alike.
     same_truth (fits_alike bare l alike c.program.parts.bounds) false
+
+-- ---- what bytes answer
+
+pub one_tells : (bytes : List ℕ) (p : Parts) → IsFile bytes p → reads_accounts p ≡ false
+    → FileNeedsNoAccounts bytes
+one_tells bytes p is unread q depth also =
+    ap reads_accounts (same_program bytes q p also.is_file is) ∙ unread
+
+pub texts_alike : (bytes : List ℕ) → FileNeedsNoAccounts bytes → (text : List ℕ)
+    → IsSoOfBoth (λ l. IsAnswered bytes l text)
+texts_alike bytes unread text bare l alike = (to, from)
+  where
+    to : IsAnswered bytes bare text → IsAnswered bytes l text
+    to is = record {
+      program = is.program;
+      depth = is.depth;
+      verified = is.verified;
+      table =
+          (tables_alike is.program (unread is.program is.depth is.verified) is.depth text bare l
+          alike).0 is.table;
+    }
+
+    from : IsAnswered bytes l text → IsAnswered bytes bare text
+    from is = record {
+      program = is.program;
+      depth = is.depth;
+      verified = is.verified;
+      table =
+          (tables_alike is.program (unread is.program is.depth is.verified) is.depth text bare l
+          alike).1 is.table;
+    }
+
+pub outside_alike : (bytes : List ℕ) → IsSoOfBoth (λ l. IsOutside bytes l)
+outside_alike bytes bare l alike = (to, from)
+  where
+    to : IsOutside bytes bare → IsOutside bytes l
+    to is = record {
+      program = is.program;
+      depth = is.depth;
+      verified = is.verified;
+      outside = sym (fits_alike bare l alike is.program.bounds) ∙ is.outside;
+    }
+
+    from : IsOutside bytes l → IsOutside bytes bare
+    from is = record {
+      program = is.program;
+      depth = is.depth;
+      verified = is.verified;
+      outside = fits_alike bare l alike is.program.bounds ∙ is.outside;
+    }
+
+pub answers_alike : (bytes : List ℕ) → FileNeedsNoAccounts bytes
+    → (result : Result (Vec ℕ Global) (Refusal AnswerCause))
+    → IsSoOfBoth (λ l. AnswersFile bytes l result)
+answers_alike bytes unread (Ok text) = texts_alike bytes unread text.items
+answers_alike bytes unread (Err OutOfMemory) = λ bare l alike. ((λ is. is), (λ is. is))
+answers_alike bytes unread (Err (Refused (NotAccepted (File cause)))) = λ bare l alike.
+    ((λ is. is), (λ is. is))
+answers_alike bytes unread (Err (Refused (NotAccepted (Code cause place)))) = λ bare l alike.
+    ((λ is. is), (λ is. is))
+answers_alike bytes unread (Err (Refused (NotRun OutsideBounds))) = outside_alike bytes

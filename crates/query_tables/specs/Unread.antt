@@ -8,8 +8,12 @@ use Rattle.posting_table.specs.Ledger.{Ledger}
 use Rattle.posting_table.specs.Rows.{rows_of}
 use Rattle.query_code.specs.declared.program.Parts.{Parts}
 use Rattle.query_machine.specs.declared.cause.RunCause.{RunCause}
+use Rattle.query_code.specs.QueryFile.{IsFile}
 use Rattle.query_rows.specs.Fits.{fits}
+use Rattle.query_tables.specs.Headline.{AnswersFile, IsAnswered, IsOutside}
 use Rattle.query_tables.specs.Table.{IsTableOf, Tabulates}
+use Rattle.query_tables.specs.declared.cause.AnswerCause.{AnswerCause}
+use Rattle.query_verifier.specs.Checking.{IsVerified}
 use Rattle.refusals.specs.declared.refusal.Refusal.{Refusal}
 use Rattle.verified_program.specs.declared.checked.Checked.{Checked}
 
@@ -25,6 +29,11 @@ pub record AreAlikeButAccounts (bare l : Ledger) : Type 0 where
 abbrev pub IsSoOfBoth : (Ledger → Type 0) → Type 0
 IsSoOfBoth IsSo =
     (bare l : Ledger) → AreAlikeButAccounts bare l → (IsSo bare → IsSo l) × (IsSo l → IsSo bare)
+
+-- the program of a file, if it is accepted, doesn't read them
+abbrev pub FileNeedsNoAccounts : List ℕ → Type 0
+FileNeedsNoAccounts bytes =
+    (p : Parts) (depth : ℕ) → IsVerified bytes p depth → reads_accounts p ≡ false
 
 -- ---- laws
 
@@ -45,3 +54,26 @@ abbrev pub UnreadAccountsTabulateAlike : Type 0
 UnreadAccountsTabulateAlike =
     (c : Checked) → reads_accounts c.program.parts ≡ false
     → (result : Result (Vec ℕ Global) (Refusal RunCause)) → IsSoOfBoth (λ l. Tabulates c l result)
+
+-- a file has one program, so it is enough to look at that
+abbrev pub OneProgramTells : Type 0
+OneProgramTells =
+    (bytes : List ℕ) (p : Parts) → IsFile bytes p → reads_accounts p ≡ false
+    → FileNeedsNoAccounts bytes
+
+-- bytes whose program doesn't read them have the same text without them
+abbrev pub UnreadAccountsHaveOneText : Type 0
+UnreadAccountsHaveOneText =
+    (bytes : List ℕ) → FileNeedsNoAccounts bytes → (text : List ℕ)
+    → IsSoOfBoth (λ l. IsAnswered bytes l text)
+
+-- whatever the program of bytes reads, they don't change whether a ledger is outside its bounds
+abbrev pub OutsideWithoutAccounts : Type 0
+OutsideWithoutAccounts = (bytes : List ℕ) → IsSoOfBoth (λ l. IsOutside bytes l)
+
+-- so bytes whose program doesn't read them answer the same
+abbrev pub FilesAnswerAlike : Type 0
+FilesAnswerAlike =
+    (bytes : List ℕ) → FileNeedsNoAccounts bytes
+    → (result : Result (Vec ℕ Global) (Refusal AnswerCause))
+    → IsSoOfBoth (λ l. AnswersFile bytes l result)
