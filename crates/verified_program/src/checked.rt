@@ -5,7 +5,7 @@ ghost use Rattle.plain_machine.specs.Unread as unread;
 ghost use Rattle.plain_machine.specs.WholeRun as spec;
 ghost use Rattle.well_shaped.specs.Program.{IsDepth};
 
-use crate::reading::loads_accounts;
+use crate::reading::reads_accounts;
 use bean_base::List;
 use query_code::{Instruction, Program};
 use query_values::Pattern;
@@ -66,8 +66,7 @@ impl Checked<'_> {
     pub fn reads_accounts(&self) -> bool
         ensures { result ≡ unread.reads_accounts self.now.program.parts }
     {
-        let schema = self.program.version();
-        loads_accounts(schema, self.filter()) || loads_accounts(schema, self.row())
+        reads_accounts(&self.program)
     }
 
     /// The most steps of a run over so many postings that make so many groups; where postings

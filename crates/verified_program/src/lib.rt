@@ -26,3 +26,4 @@ mod checked;
 mod reading;
 
 pub use checked::Checked;
+pub use reading::reads_accounts;

@@ -1,11 +1,11 @@
-//! Whether code loads the accounts of transactions.
+//! Whether programs read the accounts of transactions.
 ghost use Rattle.std.specs.Prelude.{◌≡◌};
 ghost use Rattle.std.specs.List.{list_any};
 ghost use Rattle.plain_machine.specs.Unread as spec;
 ghost use Rattle.query_terms.specs.Column.{numbered_in};
 
 use limits::Version;
-use query_code::{Instruction, Push};
+use query_code::{Instruction, Program, Push};
 use query_terms::Column;
 
 /// The column that has the number in a schema.
@@ -35,8 +35,18 @@ fn loads(schema: Version, instruction: &Instruction) -> bool
 }
 
 /// Whether some instruction loads them, by the column's number in the schema.
-pub fn loads_accounts(schema: Version, code: &[Instruction]) -> bool
+fn loads_accounts(schema: Version, code: &[Instruction]) -> bool
     ensures { result ≡ list_any (spec.loads_accounts schema) code.now }
 {
     code.iter().any(|instruction| loads(schema, instruction))
+}
+
+/// Whether a program reads the accounts of transactions: whether its filter or its row section loads
+/// their column. The program need not be verified.
+pub fn reads_accounts(program: &Program<'_>) -> bool
+    ensures { result ≡ spec.reads_accounts program.now.parts }
+{
+    let schema = program.version();
+    let code = &program.parts.code;
+    loads_accounts(schema, code.filter.as_slice()) || loads_accounts(schema, code.row.as_slice())
 }
