@@ -15,7 +15,7 @@ pub struct Placed<T> {
 
 impl<T: Drop> Placed<T> {
     /// What is written, with the numbers of its text and of its part of the ledger. Takes no memory; it fails
-    /// only where there are more than 32 bits count, which no memory has room for.
+    /// only where there are more than 32 bits count, and a ledger has far fewer.
     pub fn new(file: usize, part: usize, item: T) -> Result<Placed<T>, AllocError>
         ensures { IfOk result (λ p. p ≡ record { file = file; part = part; item = item }) }
     {

@@ -224,7 +224,7 @@ fn undated_block<'a>(
     }
 }
 
-/// A line as a directive keeps it. No text that memory holds has as many lines as 32 bits count.
+/// A line as a directive keeps it. A text of a ledger has far fewer lines than 32 bits count.
 fn kept_line(line: usize) -> Result<u32, AllocError>
     ensures { IfOk result (λ kept. kept ≡ line) }
 {
