@@ -10,7 +10,7 @@ use Rattle.query_values.specs.declared.operation.Aggregate.TheVariants as aggreg
 use Rattle.query_values.specs.declared.operation.Binary.TheVariants as binary
 use Rattle.query_values.specs.declared.value.Value.{Value}
 use Rattle.query_values.specs.declared.value.Value.TheVariants.{Null, Truth, Number, Text, Position}
-use Rattle.query_values.specs.declared.value.Value.TheVariants.{Inventory}
+use Rattle.query_values.specs.declared.value.Value.TheVariants.{Inventory, Set}
 use Rattle.query_code.specs.declared.instruction.Push.TheVariants as push
 use Rattle.query_code.specs.declared.instruction.Unary.TheVariants as unary
 use Rattle.query_code.specs.declared.instruction.Instruction.{Instruction}
@@ -26,6 +26,7 @@ use Rattle.query_code.proofs.WorkedProgram.{counted}
 use Rattle.plain_machine.specs.Finishing.{are_orderable, finish_of, ranked}
 use Rattle.plain_machine.specs.PlainMachine.{Done, Fault, stand_after}
 use Rattle.query_rows.specs.Row.{Row}
+use Rattle.plain_machine.specs.Unread.{but_accounts, reads_accounts}
 use Rattle.plain_machine.specs.WholeRun.{budget, is_going}
 
 -- ---- rows
@@ -238,6 +239,26 @@ a_value_more = refl
 
 column_of_a_group : stand_after (grouped 1 [] load_account load_account) three_rows 7 ≡ Fault
 column_of_a_group = refl
+
+-- ---- accounts of transactions
+
+abbrev load_accounts : List Instruction
+load_accounts = Push (push.LoadColumn 21) ∷ []
+
+doesnt_read_them : reads_accounts accounts ≡ false
+doesnt_read_them = refl
+
+filter_reads_them : reads_accounts (plain [] load_accounts load_account) ≡ true
+filter_reads_them = refl
+
+row_reads_them : reads_accounts (plain [] (Push push.True ∷ []) load_accounts) ≡ true
+row_reads_them = refl
+
+-- a program that reads them does other things without them
+finds_none :
+    stand_after (plain [] (Push push.True ∷ []) load_accounts)
+    (but_accounts (posting cash (pos 5)) ∷ []) 2 ≡ Done ((Set [] ∷ []) ∷ [])
+finds_none = refl
 
 -- ---- final rows
 

@@ -7,6 +7,8 @@ pub mod AlikeFacts
 pub mod ReadingFacts
 pub mod AnswerFacts
 pub mod UpgradeFacts
+pub mod UpgradeAnswerFacts
+pub mod UnreadFacts
 pub mod StandFacts
 pub mod ShownFacts
 mod Examples

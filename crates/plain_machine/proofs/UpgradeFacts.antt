@@ -42,7 +42,7 @@ all_in None = refl
 all_in (Some c) = ap (λ known. cond known (Some c) None) (second_has_all c)
 
 -- with all columns known
-abbrev of_second : Loads → Loads
+abbrev pub of_second : Loads → Loads
 of_second l = record {
   schema = Second;
   row = l.row;
@@ -76,7 +76,7 @@ cell_alike l column.Lineno = refl
 cell_alike l column.Accounts = refl
 cell_alike l column.Price = refl
 
-columns_alike : (l : Loads) (o : Option Column)
+pub columns_alike : (l : Loads) (o : Option Column)
     → option_and_then (cell_in (of_second l)) o ≡ option_and_then (cell_in l) o
 columns_alike l None = refl
 columns_alike l (Some c) = cell_alike l c
@@ -147,7 +147,7 @@ module _ {X : Type 0} (p : Parts) where
   go_on_last_alike gs rows None = refl
   go_on_last_alike gs rows (Some row) = begin_last_alike gs _
 
-  begin_filter_alike : (rows : List Row) (k : Kept X)
+  pub begin_filter_alike : (rows : List Row) (k : Kept X)
       → begin_filter (upgraded p) rows k ≡ begin_filter p rows k
   begin_filter_alike [] k = begin_last_alike k.groups k.rows
   begin_filter_alike (r ∷ rest) k = refl
@@ -171,21 +171,21 @@ module _ {X : Type 0} (keep : Keeping X) (p : Parts) where
   judged_alike r rest k (Some true) = begin_row_alike r rest _
   judged_alike r rest k (Some false) = begin_filter_alike p rest k
 
-  in_filter_alike : (r : Row) (rest : List Row) (k : Kept X) (o : Outcome)
+  pub in_filter_alike : (r : Row) (rest : List Row) (k : Kept X) (o : Outcome)
       → in_filter keep (upgraded p) r rest k o ≡ in_filter keep p r rest k o
   in_filter_alike r rest k Stopped = refl
   in_filter_alike r rest k (Standing q s) =
       ap (λ x. cond (eqb q (length p.code.filter)) x (InFilter r rest k q s))
       (judged_alike r rest k (one_truth s.stack))
 
-  in_row_alike : (r : Row) (rest : List Row) (k : Kept X) (o : Outcome)
+  pub in_row_alike : (r : Row) (rest : List Row) (k : Kept X) (o : Outcome)
       → in_row keep (upgraded p) r rest k o ≡ in_row keep p r rest k o
   in_row_alike r rest k Stopped = refl
   in_row_alike r rest k (Standing q s) =
       ap (λ x. cond (eqb q (length p.code.row)) x (InRow r rest k q s))
       (go_on_alike p rest (kept_with keep p k s.stack))
 
-  in_last_alike : (g : Group X) (gs : List (Group X)) (rows : List (List Value)) (o : Outcome)
+  pub in_last_alike : (g : Group X) (gs : List (Group X)) (rows : List (List Value)) (o : Outcome)
       → in_last keep (upgraded p) g gs rows o ≡ in_last keep p g gs rows o
   in_last_alike g gs rows Stopped = refl
   in_last_alike g gs rows (Standing q s) =

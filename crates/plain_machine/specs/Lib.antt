@@ -12,4 +12,5 @@ pub mod Reading
 pub mod Depth
 pub mod Safety
 pub mod Upgrade
+pub mod Unread
 pub mod Widths

@@ -6,6 +6,9 @@ ghost use Rattle.plain_machine.specs.Answer.{NoFaultWithAnswer};
 ghost use Rattle.plain_machine.specs.Gathering.{all_inputs, running_values};
 ghost use Rattle.plain_machine.specs.Grouping.{MakesGroups};
 ghost use Rattle.plain_machine.specs.Reading.{ReadersStandAlike};
+ghost use Rattle.plain_machine.specs.Unread.{BudgetsWithoutAccounts, FitsWithoutAccounts};
+ghost use Rattle.plain_machine.specs.Unread.{UnreadAccountsAnswerAlike, UnreadAccountsAreAsSafe};
+ghost use Rattle.plain_machine.specs.Unread.{UnreadAccountsRunAlike};
 ghost use Rattle.plain_machine.specs.Upgrade.{UpgradesRunAlike};
 ghost use Rattle.plain_machine.specs.WholeRun.{AnswersAreReached, ComesToItsAnswer};
 ghost use Rattle.plain_machine.specs.Widths.{RowsAreAsWideAsTargets};
@@ -57,6 +60,18 @@ pub fn programs_have_one_answer()
 /// after each step where it stood before.
 pub fn upgrades_run_alike()
     ensures { UpgradesRunAlike }
+{}
+
+/// A program that doesn't read the accounts of transactions does the same over a ledger without
+/// them: after each step it stands where it would, it has the same answer and is as safe. Whatever
+/// a program reads, they don't change whether an answer is within its budget, nor whether the rows
+/// are within bounds.
+pub fn unread_accounts_may_be_left_out()
+    ensures run { UnreadAccountsRunAlike }
+    ensures answers { UnreadAccountsAnswerAlike }
+    ensures safe { UnreadAccountsAreAsSafe }
+    ensures budget { BudgetsWithoutAccounts }
+    ensures bounds { FitsWithoutAccounts }
 {}
 
 /// Each row of a program's answer, over whatever rows, has a value for each target: a section that

@@ -36,5 +36,6 @@ mod laws;
 pub use laws::{
     answers_are_reached, groups_are_of_their_members, programs_have_one_answer,
     readers_alone_need_the_running_inventory, rows_are_as_wide_as_their_targets,
-    running_values_stand_alike, runs_come_to_their_answers, upgrades_run_alike,
+    running_values_stand_alike, runs_come_to_their_answers, unread_accounts_may_be_left_out,
+    upgrades_run_alike,
 };

@@ -1,2 +1,3 @@
 mod FateFacts
 mod BatchFileFacts
+pub mod UnreadFacts

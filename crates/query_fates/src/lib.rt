@@ -17,6 +17,9 @@
 //! [`file_fates`] does the same with the bytes of query files that are accepted, and checks them once
 //! more for it, since a program stands in the bytes of its file.
 //!
+//! Where no program reads the accounts of transactions ([`verified_program::Checked::reads_accounts`]),
+//! it is the same over a ledger without them ([`unread_accounts_may_be_left_out`]).
+//!
 //! # Faults
 //!
 //! [`fates`] answers an error where memory lacks before the first turn, or for the list of fates;
@@ -30,7 +33,9 @@
 #![tactic(auto)]
 
 mod files;
+mod laws;
 mod tabulating;
 
 pub use files::file_fates;
+pub use laws::unread_accounts_may_be_left_out;
 pub use tabulating::{Fate, fates};

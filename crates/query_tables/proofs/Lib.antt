@@ -1,2 +1,3 @@
 mod TableFacts
+pub mod UnreadFacts
 mod FileFacts

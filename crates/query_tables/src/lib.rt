@@ -8,6 +8,8 @@
 //!
 //! let text = tabulated(alloc, &checked, &ledger, &answer)?;  // of a run that was made
 //!
+//! let reads = reads_accounts(alloc, &bytes)?;        // whether it needs the accounts of transactions
+//!
 //! // count(*)
 //! // --------
 //! //        3
@@ -17,6 +19,10 @@
 //! whoever made it, ends over each ledger within the bounds of its header: without a fault, within
 //! its budget of steps, with the rows that the plain machine gives, and the text is their table. Of
 //! a file that the compiler made it is the table of what the query means over the booked postings.
+//!
+//! The table of a program that doesn't read the accounts of transactions is the same over a ledger
+//! without them ([`unread_accounts_may_be_left_out`]), and [`reads_accounts`] tells of a file whether
+//! its program does.
 //!
 //! # Refusals
 //!
@@ -33,9 +39,11 @@
 mod answering;
 mod cause;
 mod laws;
+mod reading;
 mod tables;
 
 pub use answering::answer_file;
 pub use cause::AnswerCause;
-pub use laws::one_table_each;
+pub use laws::{one_table_each, unread_accounts_may_be_left_out};
+pub use reading::reads_accounts;
 pub use tables::{table, tabulated};

@@ -1,13 +1,10 @@
 -- The sections of a program that has a file are no longer than a file can say.
-use Rattle.std.proofs.Common.{◌≡◌, ℕ, ◌*◌, ◌+◌, ◌<◌, ◌≤◌, ◌^◌, List, length, arith}
+use Rattle.std.proofs.Common.{ℕ, ◌*◌, ◌+◌, ◌<◌, ◌≤◌, ◌^◌, length, arith}
 use Rattle.std.proofs.Math.Logic.{∥∥₁_elim}
 use Rattle.std.proofs.Math.Nat.{mul-le-mul}
 use Rattle.query_code.proofs.FitsFacts.{prop_file}
-use Rattle.query_code.specs.InstructionForm.{word, instruction}
-use Rattle.query_code.specs.QueryFile.{file, versioned, parts, code, section, only}
-use Rattle.query_code.specs.declared.instruction.Instruction.{Instruction}
+use Rattle.query_code.specs.QueryFile.{file, versioned, parts, code, section}
 use Rattle.query_code.specs.declared.program.Code.{Code}
-use Rattle.query_code.specs.declared.program.Mode.{Mode}
 use Rattle.query_code.specs.declared.program.Parts.{Parts}
 
 pub record AreShort (c : Code) : Type 0 where

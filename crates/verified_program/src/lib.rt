@@ -5,6 +5,7 @@
 //! let checked = check_file(alloc, &bytes)?;    // query_verifier makes it
 //! let steps = checked.budget(3, 1);            // at most, over three postings that make one group
 //! let answer = run(alloc, &checked, &ledger)?; // query_machine runs it
+//! let reads = checked.reads_accounts();        // whether it needs the accounts of transactions
 //! ```
 //!
 //! A [`Checked`] keeps the program, whose names and texts are slices of its file, the patterns of
@@ -17,9 +18,12 @@
 //!
 //! # Cost
 //!
-//! Nothing takes memory.
+//! Nothing takes memory. To tell whether a program reads the accounts looks at the instructions of
+//! two of its sections, once each.
 #![tactic(auto)]
 
 mod checked;
+mod reading;
 
 pub use checked::Checked;
+pub use reading::reads_accounts;

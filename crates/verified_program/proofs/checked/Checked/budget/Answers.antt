@@ -1,4 +1,4 @@
-use Rattle.std.proofs.Common.{◌≡◌, ◌*◌, ◌+◌, ◌<◌, ◌^◌, length, arith, ap}
+use Rattle.std.proofs.Common.{length, arith, ap}
 use Rattle.verified_program.proofs.SectionLengths.{are_short, small}
 use Rattle.verified_program.proofs.checked.Checked.budget.Goals as goal
 
