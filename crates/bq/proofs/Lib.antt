@@ -4,6 +4,7 @@ pub mod OneEnd
 pub mod StatusFacts
 pub mod Outcomes
 pub mod AcceptedFacts
+pub mod SetsFacts
 pub mod BatchFacts
 pub mod Programmed
 pub mod InMemory

@@ -10,6 +10,7 @@ pub mod Show
 pub mod Verified
 pub mod Verify
 pub mod Upgrade
+pub mod Sets
 pub mod Ran
 pub mod RunFile
 pub mod Asking

@@ -13,6 +13,7 @@ mod ledger;
 mod list;
 mod query;
 mod run_file;
+mod sets;
 mod show;
 mod table;
 mod upgrade;

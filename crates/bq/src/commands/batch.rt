@@ -9,10 +9,10 @@ ghost use Rattle.requests.specs.Batch as words;
 
 use crate::commands::file::file_bytes;
 use crate::commands::ledger::{Question, answer_about};
+use crate::commands::sets::sets_for_all;
 use crate::given::Given;
 use crate::text::Text;
 use bean_base::{List, Slice};
-use bean_book::AccountSets;
 use bean_books::book_of;
 use bean_load::Texts;
 use endings::{Refusal, Verdict};
@@ -139,7 +139,8 @@ impl Question for Batching<'_, '_> {
     ghost says = { λ batch. about_book (FilesBatched batch.names.now batch.files.now) };
 
     fn answer<'w>(&self, alloc: Global, texts: Texts) -> Result<Given<'w>, Refusal> {
-        let booked = book_of(alloc, &texts, AccountSets::Made)?;
+        let sets = sets_for_all(alloc, self.files)?;
+        let booked = book_of(alloc, &texts, sets)?;
         let ended = file_fates(alloc, self.files, &booked.ledger, self.steps)?;
         // The process ends soon, and takes all memory back at once.
         forget(booked);
