@@ -1,5 +1,4 @@
 use Rattle.std.proofs.Common.{inr, length, Ok, sym, ap, ap₂, ◌∙◌, subst}
-use Rattle.bean_book.specs.declared.account_sets.AccountSets.TheVariants.{Made}
 use Rattle.bq.specs.Batch.{FilesBatched, text_of, verdict_of}
 use Rattle.bq.specs.Due.{ComesTo}
 use Rattle.bq.specs.Ledgers.{about_book}
@@ -8,6 +7,7 @@ use Rattle.bq.specs.declared.given.Given.TheVariants.{Told}
 use Rattle.endings.specs.declared.refusal.Refusal.TheVariants.{OutOfMemory}
 use Rattle.bq.proofs.BatchFacts.{fates_for}
 use Rattle.bq.proofs.Outcomes.{converted, not_booked}
+use Rattle.bq.proofs.SetsFacts.{fates_of_whole}
 use Rattle.bq.proofs.commands.batch.BatchingQuestion.answer.Goals as goal
 
 pub file_fates-requires-clause-some : goal.file_fates-requires-clause-some
@@ -24,15 +24,24 @@ text_of-requires c =
     c.in_ok-ended.ensures
     ∙ batch.each
 
+pub returns-in_err-sets : goal.returns-in_err-sets
+returns-in_err-sets c =
+    let batch = c.args.self.now in
+    let step = c.from_residual in
+    subst
+    (ComesTo (about_book (FilesBatched batch.names.now batch.files.now) c.args.texts))
+    (sym (converted step.result OutOfMemory step.ensures.1)) tt
+
 pub returns-in_err-booked : goal.returns-in_err-booked
 returns-in_err-booked c =
     let texts = c.args.texts in
     let batch = c.args.self.now in
     let says = FilesBatched batch.names.now batch.files.now in
     let fault = c.in_err-booked.field-0.0 in
+    let step = c.from_residual-in_err-booked in
     subst (ComesTo (about_book says texts))
-    (sym (converted c.from_residual.result (unbooked fault) c.from_residual.ensures.1))
-    (not_booked Made texts says fault c.in_err-booked.ensures)
+    (sym (converted step.result (unbooked fault) step.ensures.1))
+    (not_booked c.in_ok-sets.sets texts says fault c.in_err-booked.ensures)
 
 pub returns-in_err-ended : goal.returns-in_err-ended
 returns-in_err-ended c =
@@ -53,12 +62,15 @@ returns-in_err-text c =
 pub returns : goal.returns
 returns c =
     let batch = c.args.self.now in
+    let whole =
+        fates_of_whole c.args.texts c.in_ok-sets.sets c.in_ok-booked.booked c.in_ok-booked.ensures
+        batch.files.now c.in_ok-sets.ensures c.in_ok-ended.ended.items c.in_ok-ended.ensures in
     inr (
-      c.in_ok-booked.booked,
-      c.in_ok-booked.ensures,
+      whole.0,
+      whole.1,
       (
         c.in_ok-ended.ended.items,
-        c.in_ok-ended.ensures,
+        whole.2,
         ap₂ (λ v t. Ok (Told v t)) (c.verdict_of.ensures ∙ ap verdict_of c.deref-2.ensures.value)
             (c.new.ensures ∙ c.in_ok-text.ensures ∙ ap (text_of batch.names.now) c.deref.ensures.value),
       ),

@@ -1,0 +1,131 @@
+-- From a book without the sets of accounts that nothing asked of it needs, to the book with them.
+use Rattle.std.proofs.Common.{◌≡◌, ℕ, List, [], ◌∷◌, map, refl, ap, ◌∙◌, Result, Ok, Err}
+use Rattle.std.specs.Prelude.{Vec}
+use Rattle.std.specs.List.{AllByRecursion}
+use Rattle.std.specs.declared.alloc.Global.{Global}
+use Rattle.bean_book.proofs.LeftOutFacts.{whole_book}
+use Rattle.bean_book.specs.LeftOut.{IsSameButAccounts, row_but_accounts}
+use Rattle.bean_book.specs.declared.account_sets.AccountSets.{AccountSets}
+use Rattle.bean_book.specs.declared.account_sets.AccountSets.TheVariants.{Made, LeftOut}
+use Rattle.bean_book.specs.declared.booked.Booked.{Booked}
+use Rattle.bean_books.specs.Booking.{IsBookOf}
+use Rattle.bean_load.specs.Texts.{Texts}
+use Rattle.plain_machine.specs.Unread.{but_accounts, cell_but_accounts}
+use Rattle.posting_table.specs.Decimals.{decimals_of}
+use Rattle.posting_table.specs.Ledger.{Ledger}
+use Rattle.posting_table.specs.Row.{cell_at}
+use Rattle.posting_table.specs.Rows.{row_of}
+use Rattle.posting_table.specs.declared.row.Row.{Row}
+use Rattle.query_rows.specs.Row as rows
+use Rattle.query_values.specs.declared.value.Value.{Value}
+use Rattle.query_fates.proofs.UnreadFacts.{files_alike}
+use Rattle.query_fates.specs.Fates.{AreFatesOf}
+use Rattle.query_fates.specs.declared.tabulating.Fate.{Fate}
+use Rattle.query_tables.proofs.UnreadFacts.{outside_alike, texts_alike}
+use Rattle.query_tables.specs.Unread.{AreAlikeButAccounts, FileNeedsNoAccounts, IsSoOfBoth}
+use Rattle.query_terms.specs.declared.column.Column.{Column}
+use Rattle.query_terms.specs.declared.column.Column.TheVariants as column
+use Rattle.bq.specs.Ran.{HasTable}
+use Rattle.bq.specs.Sets.{Suffice}
+use Rattle.endings.specs.declared.refusal.Cause.TheVariants as cause
+use Rattle.endings.specs.declared.refusal.Refusal.{Refusal}
+use Rattle.endings.specs.declared.refusal.Refusal.TheVariants.{OutOfMemory, Refused, NotWritten, NotKept}
+
+-- ---- the rows of one are those of the other, but for the accounts
+
+cell_alike : (r : Row) (c : Column)
+    → cell_at (row_but_accounts r) c ≡ cell_but_accounts (row_of r) c
+cell_alike r column.Date = refl
+cell_alike r column.Year = refl
+cell_alike r column.Month = refl
+cell_alike r column.Day = refl
+cell_alike r column.Flag = refl
+cell_alike r column.Payee = refl
+cell_alike r column.Narration = refl
+cell_alike r column.Tags = refl
+cell_alike r column.Links = refl
+cell_alike r column.Account = refl
+cell_alike r column.PostingFlag = refl
+cell_alike r column.Number = refl
+cell_alike r column.Currency = refl
+cell_alike r column.CostNumber = refl
+cell_alike r column.CostCurrency = refl
+cell_alike r column.CostDate = refl
+cell_alike r column.CostLabel = refl
+cell_alike r column.Position = refl
+cell_alike r column.Weight = refl
+cell_alike r column.Balance = refl
+cell_alike r column.Lineno = refl
+cell_alike r column.Accounts = refl
+cell_alike r column.Price = refl
+
+with_cells : Row → (Column → Value) → rows.Row
+with_cells r cell = record {
+  cell = cell;
+  posting_entries = (row_of r).posting_entries;
+  transaction_entries = (row_of r).transaction_entries;
+}
+
+row_alike : (r : Row) → row_of (row_but_accounts r) ≡ but_accounts (row_of r)
+unfolding with_cells
+row_alike r = ap (with_cells r) (λ i c. cell_alike r c i)
+
+rows_alike : (rs : List Row)
+    → map row_of (map row_but_accounts rs) ≡ map but_accounts (map row_of rs)
+rows_alike [] = refl
+rows_alike (r ∷ rs) = λ i. row_alike r i ∷ rows_alike rs i
+
+ledgers_alike : (bare whole : Booked) → IsSameButAccounts bare whole
+    → AreAlikeButAccounts bare.ledger whole.ledger
+ledgers_alike bare whole same = record {
+  rows = ap (map row_of) same.rows ∙ rows_alike whole.ledger.rows;
+  decimals = λ currency. ap (λ d. decimals_of d currency) same.decimals;
+}
+
+-- ---- so what nothing of needs them is so of the book with them
+
+module _ (texts : Texts) (NoneNeeds : Type 0) (IsSo : Ledger → Type 0)
+    (law : NoneNeeds → IsSoOfBoth IsSo) where
+  so_of_whole : (sets : AccountSets) → Suffice sets NoneNeeds → (b : Booked)
+      → IsBookOf sets texts b → IsSo b.ledger
+      → (whole : Booked) × IsBookOf Made texts whole × IsSo whole.ledger
+  so_of_whole Made suffice b book is = (b, book, is)
+  so_of_whole LeftOut none b book is =
+      let whole = whole_book book.0 b book.2 in
+      let alike = ledgers_alike b whole.0 whole.2 in (
+        whole.0,
+        (book.0, book.1, whole.1),
+        (law none b.ledger whole.0.ledger alike).0 is,
+      )
+
+-- what a query file has
+
+has_alike : (file : List ℕ) → FileNeedsNoAccounts file → (r : Result (Vec ℕ Global) Refusal)
+    → IsSoOfBoth (λ l. HasTable file l r)
+has_alike file none (Ok text) = texts_alike file none text.items
+has_alike file none (Err (Refused cause.OutsideBounds)) = outside_alike file
+has_alike file none (Err OutOfMemory) = λ bare l alike. ((λ is. is), (λ is. is))
+has_alike file none (Err (Refused cause.Words)) = λ bare l alike. ((λ is. is), (λ is. is))
+has_alike file none (Err (Refused (cause.Load c))) = λ bare l alike. ((λ is. is), (λ is. is))
+has_alike file none (Err (Refused (cause.Text c))) = λ bare l alike. ((λ is. is), (λ is. is))
+has_alike file none (Err (Refused (cause.File c))) = λ bare l alike. ((λ is. is), (λ is. is))
+has_alike file none (Err (Refused cause.TooManyPostings)) = λ bare l alike.
+    ((λ is. is), (λ is. is))
+has_alike file none (Err (NotWritten n)) = λ bare l alike. ((λ is. is), (λ is. is))
+has_alike file none (Err NotKept) = λ bare l alike. ((λ is. is), (λ is. is))
+
+module _ (texts : Texts) (sets : AccountSets) (b : Booked) (book : IsBookOf sets texts b) where
+  pub has_of_whole : (file : List ℕ) → Suffice sets (FileNeedsNoAccounts file)
+      → (r : Result (Vec ℕ Global) Refusal) → HasTable file b.ledger r
+      → (whole : Booked) × IsBookOf Made texts whole × HasTable file whole.ledger r
+  has_of_whole file suffice r has =
+      so_of_whole texts (FileNeedsNoAccounts file) (λ l. HasTable file l r)
+      (λ none. has_alike file none r) sets suffice b book has
+
+  pub fates_of_whole : (files : List (List ℕ))
+      → Suffice sets (AllByRecursion FileNeedsNoAccounts files) → (fates : List Fate)
+      → AreFatesOf b.ledger files fates
+      → (whole : Booked) × IsBookOf Made texts whole × AreFatesOf whole.ledger files fates
+  fates_of_whole files suffice fates are =
+      so_of_whole texts (AllByRecursion FileNeedsNoAccounts files) (λ l. AreFatesOf l files fates)
+      (λ none. files_alike files none fates) sets suffice b book are
