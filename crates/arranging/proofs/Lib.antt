@@ -1,4 +1,5 @@
 pub mod ArrangedFacts
 pub mod ChainFacts
 pub mod KeyFacts
+pub mod MergingFacts
 pub mod PlaceFacts
