@@ -5,8 +5,10 @@ use Rattle.std.proofs.Math.Seq.{length-take-le}
 use Rattle.std.proofs.lemmas.Bool.{cases_lt}
 use Rattle.std.proofs.lemmas.List.{drop-drop, drop-set-lt, drop_more, get_or-drop, get_or-map}
 use Rattle.std.proofs.lemmas.List.{get_or_default, length-map}
-use Rattle.std.proofs.lemmas.List.{length-append, take-append-drop}
+use Rattle.std.proofs.lemmas.List.{length-append, length-drop, take-append-drop}
+use Rattle.std.proofs.lemmas.Slice.{drop-put_mid, take-put_mid, take-put_mid_below}
 use Rattle.std.specs.List.{AllByRecursion}
+use borrow.Rule.Slice.PartMut.{put_mid}
 use Rattle.query_answer.specs.Rows.{ArePicked, row_at}
 use Rattle.query_answer.specs.Spans.{IsSameAround, LieApart, between, rows_in, span_at, values_in}
 use Rattle.query_answer.specs.declared.rows.Span.{Span}
@@ -16,7 +18,7 @@ use Rattle.query_answer.proofs.SpanFacts.{row_there, rows_added, same_before, sa
 
 -- ---- one row moved out
 
-pub same_around : (s : Span) (old new ys : List Value) → s.start ≤ s.end → s.end ≤ length old
+same_around : (s : Span) (old new ys : List Value) → s.start ≤ s.end → s.end ≤ length old
     → length ys ≡ s.end - s.start → take s.start new ≡ take s.start old
     → take s.end new ≡ take s.start old ++ ys → drop s.end new ≡ drop s.end old
     → IsSameAround s old new
@@ -34,6 +36,27 @@ same_around s old new ys up inside long front middle back = record {
         ap length middle ∙ length-append (take s.start old) ys
         ∙ ap₂ (λ m n. m + n) (length-take-le s.start old (omega (arith, up, inside))) long
         ∙ omega (arith, up) ∙ sym (length-take-le s.end old inside)
+
+-- what was written in place of a span, of as many values
+pub put_around : (s : Span) (old ys : List Value) → s.start ≤ s.end → s.end ≤ length old
+    → length ys ≡ length (values_in old s)
+    → IsSameAround s old (put_mid s.start (s.end - s.start) old ys)
+put_around s old ys up inside alike =
+    same_around s old (put_mid a n old ys) ys up inside long
+    (take-put_mid_below a n old ys a (omega arith) (omega (arith, up, inside)))
+    (take-put_mid a n old ys s.end (omega (arith, up, long)) (omega (arith, up, inside)))
+    (drop-put_mid a n old ys s.end (omega (arith, up)) (omega (arith, up, inside)) long)
+  where
+    a : ℕ
+    a = s.start
+
+    n : ℕ
+    n = s.end - s.start
+
+    long : length ys ≡ n
+    long =
+        let dropped = length-drop a old in
+        alike ∙ length-take-le n (drop a old) (omega (arith, inside, dropped))
 
 there : (vs : List Value) (ss : List Span) (m : ℕ) (d : Span) → m < length ss
     → row_at (rows_in vs ss) m ≡ values_in vs (get_or ss m d)
@@ -58,6 +81,27 @@ others_stay from count vs ws (s ∷ ss) (suc n) zero d (begins, ends, rest) with
     (lies_at s.end count ss n d (omega (arith, within)) rest).begins same.front
 others_stay from count vs ws (s ∷ ss) (suc n) (suc m) d (begins, ends, rest) within other same =
     others_stay s.end count vs ws ss n m d rest (omega (arith, within)) (λ e. other (ap suc e)) same
+
+-- ---- rows of which one is no longer what it was
+
+all_behind : (n from count : ℕ) (vs ws : List Value) (ss : List Span) → LieApart from count ss
+    → n ≤ from → drop n ws ≡ drop n vs → rows_in ws ss ≡ rows_in vs ss
+all_behind n from count vs ws [] apart past same = refl
+all_behind n from count vs ws (s ∷ ss) (begins, ends, rest) past same =
+    ap₂ (λ x l. x ∷ l)
+    (same_behind ws vs s.start s.end n (omega (arith, begins, past)) same)
+    (all_behind n s.end count vs ws ss rest (omega (arith, begins, ends, past)) same)
+
+-- the rows behind it, from one of them on
+pub stay_behind : (from count : ℕ) (vs ws : List Value) (ss : List Span) (n e : ℕ) (d : Span)
+    → LieApart from count ss → n < length ss → n < e → IsSameAround (get_or ss n d) vs ws
+    → drop e (rows_in ws ss) ≡ drop e (rows_in vs ss)
+stay_behind from count vs ws [] n e d apart within past same = refl
+stay_behind from count vs ws (s ∷ ss) n zero d apart within past same = absurd (omega (arith, past))
+stay_behind from count vs ws (s ∷ ss) zero (suc e) d (begins, ends, rest) within past same =
+    ap (drop e) (all_behind s.end s.end count vs ws ss rest (omega arith) same.back)
+stay_behind from count vs ws (s ∷ ss) (suc n) (suc e) d (begins, ends, rest) within past same =
+    stay_behind s.end count vs ws ss n e d rest (omega (arith, within)) (omega (arith, past)) same
 
 -- ---- rows that are picked
 

@@ -28,7 +28,9 @@
 //! The values of all rows lie one behind the other in one piece of memory, which grows as a vector
 //! does, and beside it 16 bytes a row tell where they lie. From 65,536 values or rows on, either
 //! takes room for two million at once, which costs nothing where it isn't written to. To cut rows,
-//! or to show less of them, moves no value and gives none up. Where all rows are picked, and rows
+//! or to show less of them, moves no value and gives none up. To give rows up
+//! ([`AnswerRows::give_up`]) gives back what their values own, as the counts of inventories, and leaves
+//! nulls in their places: the memory in which these lie stays. Where all rows are picked, and rows
 //! of as many values lie one behind the other, they change places where they lie, and 4 bytes a row
 //! are taken beside them. Else picked rows are moved once, to a piece of their size, which stands
 //! beside the old one until then; the values of the others are given up with that.

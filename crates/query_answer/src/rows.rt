@@ -1,5 +1,5 @@
 //! Rows of values that lie one behind the other.
-ghost use Rattle.std.specs.Prelude.{◌≡◌, ◌≤◌, ◌++◌, ◌∷◌, [], length, map, take, vec_capacity};
+ghost use Rattle.std.specs.Prelude.{◌≡◌, ◌≤◌, ◌++◌, ◌∷◌, [], drop, length, map, take, vec_capacity};
 ghost use Rattle.std.specs.Prelude.{IfOk, IfSome, OnOk};
 ghost use Rattle.arranging.specs.Places.{AreMixed};
 ghost use Rattle.query_answer.specs.Places as spec;
@@ -154,6 +154,35 @@ fn move_span<'a>(
     Ok(Span { start, end })
 }
 
+/// Gives up values, and leaves as many nulls.
+fn clear(values: &mut [Value<'_>])
+    ensures { length values.new ≡ length values.old }
+{
+    for i in 0..values.len() {
+        values[i] = Value::Null;
+    }
+}
+
+/// Gives up the values of a span, and leaves as many nulls.
+fn clear_span(values: &mut [Value<'_>], span: Span)
+    requires up { span.start ≤ span.end }
+    requires inside { span.end ≤ length values.old }
+    ensures { IsSameAround span values.old values.new }
+{
+    clear(&mut values[span.start..span.end]);
+}
+
+/// Gives up the values of the rows from one number up to another.
+fn clear_rows(values: &mut [Value<'_>], spans: &[Span], first: usize, end: usize)
+    requires { LieApart 0 (length values.old) spans.now }
+    ensures count { length values.new ≡ length values.old }
+    ensures behind { drop end (rows_in values.new spans.now) ≡ drop end (rows_in values.old spans.now) }
+{
+    for number in first..end.min(spans.len()) {
+        clear_span(values, spans[number]);
+    }
+}
+
 /// How many values the first row has.
 fn width_of(spans: &[Span]) -> usize
     ensures { result ≡ spec.width_of spans.now }
@@ -295,6 +324,15 @@ impl<'a> AnswerRows<'a> {
         ensures { self.new ≡ map (take width) self.old }
     {
         narrow_all(&mut self.spans, width);
+    }
+
+    /// Gives up the values of the rows from one number up to another, and leaves nulls in their places.
+    /// The rows behind these stay as they are.
+    pub fn give_up(&mut self, first: usize, end: usize)
+        ensures count { length self.new ≡ length self.old }
+        ensures behind { drop end self.new ≡ drop end self.old }
+    {
+        clear_rows(&mut self.values, &self.spans, first, end);
     }
 
     /// The rows of these numbers, side by side in this order. None is picked twice.
