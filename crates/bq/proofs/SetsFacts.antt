@@ -1,8 +1,6 @@
 -- From a book without the sets of accounts that nothing asked of it needs, to the book with them.
 use Rattle.std.proofs.Common.{◌≡◌, ℕ, List, [], ◌∷◌, map, refl, ap, ◌∙◌, Result, Ok, Err}
-use Rattle.std.specs.Prelude.{Vec}
 use Rattle.std.specs.List.{AllByRecursion}
-use Rattle.std.specs.declared.alloc.Global.{Global}
 use Rattle.bean_book.proofs.LeftOutFacts.{whole_book}
 use Rattle.bean_book.specs.LeftOut.{IsSameButAccounts, row_but_accounts}
 use Rattle.bean_book.specs.declared.account_sets.AccountSets.{AccountSets}
@@ -100,9 +98,9 @@ module _ (texts : Texts) (NoneNeeds : Type 0) (IsSo : Ledger → Type 0)
 
 -- what a query file has
 
-has_alike : (file : List ℕ) → FileNeedsNoAccounts file → (r : Result (Vec ℕ Global) Refusal)
+has_alike : (file : List ℕ) → FileNeedsNoAccounts file → (r : Result (List ℕ) Refusal)
     → IsSoOfBoth (λ l. HasTable file l r)
-has_alike file none (Ok text) = texts_alike file none text.items
+has_alike file none (Ok text) = texts_alike file none text
 has_alike file none (Err (Refused cause.OutsideBounds)) = outside_alike file
 has_alike file none (Err OutOfMemory) = λ bare l alike. ((λ is. is), (λ is. is))
 has_alike file none (Err (Refused cause.Words)) = λ bare l alike. ((λ is. is), (λ is. is))
@@ -116,7 +114,7 @@ has_alike file none (Err NotKept) = λ bare l alike. ((λ is. is), (λ is. is))
 
 module _ (texts : Texts) (sets : AccountSets) (b : Booked) (book : IsBookOf sets texts b) where
   pub has_of_whole : (file : List ℕ) → Suffice sets (FileNeedsNoAccounts file)
-      → (r : Result (Vec ℕ Global) Refusal) → HasTable file b.ledger r
+      → (r : Result (List ℕ) Refusal) → HasTable file b.ledger r
       → (whole : Booked) × IsBookOf Made texts whole × HasTable file whole.ledger r
   has_of_whole file suffice r has =
       so_of_whole texts (FileNeedsNoAccounts file) (λ l. HasTable file l r)

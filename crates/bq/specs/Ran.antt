@@ -1,6 +1,5 @@
 -- What comes of a verified program over the book of a ledger.
-use Rattle.std.specs.Prelude.{◌≡◌, ◌⊎◌, ⊤, ℕ, List, false, Result, Ok, Err, Vec}
-use Rattle.std.specs.declared.alloc.Global.{Global}
+use Rattle.std.specs.Prelude.{◌≡◌, ◌⊎◌, ⊤, ℕ, List, false, Result, Ok, Err}
 use Rattle.bean_book.specs.declared.booked.Booked.{Booked}
 use Rattle.posting_table.specs.Ledger.{Ledger}
 use Rattle.posting_table.specs.Rows.{rows_of}
@@ -27,8 +26,8 @@ abbrev pub FileRan : List ℕ → Booked → End → Type 0
 FileRan file b end = (p : Parts) × (depth : ℕ) × IsVerified file p depth × Ran p depth b end
 
 -- the table of a file over a ledger, or why it has none; memory may lack at any time
-abbrev pub HasTable : List ℕ → Ledger → Result (Vec ℕ Global) Refusal → Type 0
-HasTable file l (Ok text) = IsAnswered file l text.items
+abbrev pub HasTable : List ℕ → Ledger → Result (List ℕ) Refusal → Type 0
+HasTable file l (Ok text) = IsAnswered file l text
 HasTable file l (Err (refusal.Refused cause.OutsideBounds)) = IsOutside file l
 HasTable file l (Err refusal.OutOfMemory) = ⊤
 HasTable file l (Err r) = ⊥

@@ -1,7 +1,7 @@
 -- A program that has an answer over some rows has the same in the second version: it loads no column
 -- there that its schema doesn't have, which would be a fault.
-use Rattle.std.proofs.Common.{◌≡◌, ◌⊎◌, ℕ, zero, suc, Bool, true, false, List, [], ◌∷◌, length}
-use Rattle.std.proofs.Common.{Option, Some, None, refl, sym, ap, ◌∙◌, cond, eqb, inl, inr}
+use Rattle.std.proofs.Common.{◌≡◌, ◌⊎◌, ℕ, zero, suc, Bool, true, false, List, length}
+use Rattle.std.proofs.Common.{Option, Some, None, refl, sym, ap, ◌∙◌, cond, inl, inr}
 use Rattle.std.specs.Prelude.{slice_get, option_and_then}
 use Rattle.limits.specs.declared.bounds.Version.{Version}
 use Rattle.limits.specs.declared.bounds.Version.TheVariants.{Second}

@@ -1,8 +1,7 @@
 -- What bytes answer that are the file of a program.
 use Rattle.std.proofs.Common.{◌≡◌, ◌⊎◌, ℕ, List, true, false, sym, ap, ◌∙◌, subst, inl, inr}
 use Rattle.std.proofs.Common.{Result, Ok, Err}
-use Rattle.std.specs.Prelude.{IfOk, Vec}
-use Rattle.std.specs.declared.alloc.Global.{Global}
+use Rattle.std.specs.Prelude.{IfOk}
 use Rattle.bql_parser.specs.Answer.{query_of}
 use Rattle.bql_parser.specs.declared.query.Query.{Query}
 use Rattle.bql_compiler.specs.Carried.{Carries}
@@ -38,15 +37,15 @@ module _ (bytes : List ℕ) (b : Bounds) (q : Query) (are : AreCompiled bytes b 
       ]
 
   -- what the compiler made means its query
-  pub means_query : (depth : ℕ) (l : Ledger) (r : Result (Vec ℕ Global) (Refusal AnswerCause))
+  pub means_query : (depth : ℕ) (l : Ledger) (r : Result (List ℕ) (Refusal AnswerCause))
       → RunsChecked p depth l r
-      → IfOk r (λ text. IsTableOfQuery b (query_of q) l text.items)
+      → IfOk r (λ text. IsTableOfQuery b (query_of q) l text)
   means_query depth l (Ok text) ran = ran.means b (query_of q) carried
   means_query depth l (Err refusal) ran = tt
 
 -- a run of the program that was checked is a run of any whose file the bytes are
 pub comes_to : (bytes : List ℕ) (p q : Parts) (depth : ℕ) (l : Ledger)
-    (r : Result (Vec ℕ Global) (Refusal AnswerCause)) → IsFile bytes p → IsFile bytes q
+    (r : Result (List ℕ) (Refusal AnswerCause)) → IsFile bytes p → IsFile bytes q
     → RunsChecked p depth l r → ComesTo q l r
 comes_to bytes p q depth l (Ok text) x y ran =
     subst (λ p. fits p.bounds (rows_of l) ≡ true) (same_program bytes p q x y) ran.within

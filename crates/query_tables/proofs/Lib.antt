@@ -1,3 +1,4 @@
 mod TableFacts
 pub mod UnreadFacts
 mod FileFacts
+mod PartFacts

@@ -161,9 +161,9 @@ outside_alike bytes bare l alike = (to, from)
     }
 
 pub answers_alike : (bytes : List ℕ) → FileNeedsNoAccounts bytes
-    → (result : Result (Vec ℕ Global) (Refusal AnswerCause))
+    → (result : Result (List ℕ) (Refusal AnswerCause))
     → IsSoOfBoth (λ l. AnswersFile bytes l result)
-answers_alike bytes unread (Ok text) = texts_alike bytes unread text.items
+answers_alike bytes unread (Ok text) = texts_alike bytes unread text
 answers_alike bytes unread (Err OutOfMemory) = λ bare l alike. ((λ is. is), (λ is. is))
 answers_alike bytes unread (Err (Refused (NotAccepted (File cause)))) = λ bare l alike.
     ((λ is. is), (λ is. is))

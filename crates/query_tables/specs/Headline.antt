@@ -1,6 +1,5 @@
 -- What bytes answer over a ledger.
-use Rattle.std.specs.Prelude.{◌≡◌, ◌⊎◌, ℕ, true, false, List, Result, Ok, Err, Vec}
-use Rattle.std.specs.declared.alloc.Global.{Global}
+use Rattle.std.specs.Prelude.{◌≡◌, ◌⊎◌, ℕ, true, false, List, Result, Ok, Err}
 use Rattle.bql_parser.specs.Answer.{query_of}
 use Rattle.bql_parser.specs.declared.query.Query.{Query}
 use Rattle.bql_compiler.specs.Program.{parts_of}
@@ -50,8 +49,8 @@ pub record IsOutside (bytes : List ℕ) (l : Ledger) : Type 0 where
 
 -- The table of their program; or M1; or the first field that keeps them from being a file, or why
 -- their program isn't accepted, and where. Want of memory says nothing.
-abbrev pub AnswersFile : List ℕ → Ledger → Result (Vec ℕ Global) (Refusal AnswerCause) → Type 0
-AnswersFile bytes l (Ok text) = IsAnswered bytes l text.items
+abbrev pub AnswersFile : List ℕ → Ledger → Result (List ℕ) (Refusal AnswerCause) → Type 0
+AnswersFile bytes l (Ok text) = IsAnswered bytes l text
 AnswersFile bytes l (Err OutOfMemory) = Unit {0}
 AnswersFile bytes l (Err (Refused (NotAccepted (File cause)))) = decoded bytes ≡ Err cause
 AnswersFile bytes l (Err (Refused (NotAccepted (Code cause place)))) = IsRefused bytes cause place
@@ -59,7 +58,7 @@ AnswersFile bytes l (Err (Refused (NotRun OutsideBounds))) = IsOutside bytes l
 
 -- What a well shaped program may come to, memory and patterns that aren't built aside: a table
 -- exactly where the ledger is within its bounds, and M1 exactly where it is outside.
-abbrev pub ComesTo : Parts → Ledger → Result (Vec ℕ Global) (Refusal AnswerCause) → Type 0
+abbrev pub ComesTo : Parts → Ledger → Result (List ℕ) (Refusal AnswerCause) → Type 0
 ComesTo p l (Ok text) = fits p.bounds (rows_of l) ≡ true
 ComesTo p l (Err OutOfMemory) = Unit {0}
 ComesTo p l (Err (Refused (NotAccepted (Code Pattern place)))) = Unit {0}
@@ -67,8 +66,8 @@ ComesTo p l (Err (Refused (NotAccepted cause))) = ⊥
 ComesTo p l (Err (Refused (NotRun OutsideBounds))) = fits p.bounds (rows_of l) ≡ false
 
 -- the table of a program that was checked, with the causes of files
-abbrev pub RunsChecked : Parts → ℕ → Ledger → Result (Vec ℕ Global) (Refusal AnswerCause) → Type 0
-RunsChecked p depth l (Ok text) = IsTableOf p depth l text.items
+abbrev pub RunsChecked : Parts → ℕ → Ledger → Result (List ℕ) (Refusal AnswerCause) → Type 0
+RunsChecked p depth l (Ok text) = IsTableOf p depth l text
 RunsChecked p depth l (Err OutOfMemory) = Unit {0}
 RunsChecked p depth l (Err (Refused (NotAccepted cause))) = ⊥
 RunsChecked p depth l (Err (Refused (NotRun OutsideBounds))) = fits p.bounds (rows_of l) ≡ false

@@ -75,5 +75,5 @@ OutsideWithoutAccounts = (bytes : List ℕ) → IsSoOfBoth (λ l. IsOutside byte
 abbrev pub FilesAnswerAlike : Type 0
 FilesAnswerAlike =
     (bytes : List ℕ) → FileNeedsNoAccounts bytes
-    → (result : Result (Vec ℕ Global) (Refusal AnswerCause))
+    → (result : Result (List ℕ) (Refusal AnswerCause))
     → IsSoOfBoth (λ l. AnswersFile bytes l result)

@@ -33,12 +33,17 @@
 //! # Cost
 //!
 //! That of the check, of the run and of the table; the ledger is looked at once for whether it is
-//! within the bounds. The answer's rows are kept until they are printed.
+//! within the bounds. The answer's rows are kept until they are printed. [`answer_file`] gives up what
+//! the values of each 512 rows own, as the counts of inventories, once these are printed, so that the
+//! text comes to lie there: it stands in pieces ([`table_printer::TableText`]). The memory in which the
+//! values themselves lay stays until the process ends.
 #![tactic(auto)]
 
 mod answering;
 mod cause;
+mod giving_up;
 mod laws;
+mod parts;
 mod reading;
 mod tables;
 

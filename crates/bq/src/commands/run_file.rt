@@ -34,7 +34,7 @@ impl Question for Running<'_> {
         let text = table_of(alloc, self.file, &booked.ledger)?;
         // The process ends soon, and takes all memory back at once.
         forget(booked);
-        Ok(Given::Told(Verdict::Fine, Text::new(text)))
+        Ok(Given::Told(Verdict::Fine, Text::of_table(text)))
     }
 }
 

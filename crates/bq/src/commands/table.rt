@@ -5,9 +5,10 @@ use endings::{Cause, Refusal};
 use posting_table::Ledger;
 use query_tables::{AnswerCause, answer_file};
 use std::alloc::Global;
+use table_printer::TableText;
 
 /// The table of what a query file that is accepted answers over a ledger.
-pub fn table_of(alloc: Global, file: &[u8], ledger: &Ledger<'_>) -> Result<Vec<u8>, Refusal>
+pub fn table_of(alloc: Global, file: &[u8], ledger: &Ledger<'_>) -> Result<TableText, Refusal>
     ensures { HasTable file.now ledger.now result }
 {
     match answer_file(alloc, file, ledger) {

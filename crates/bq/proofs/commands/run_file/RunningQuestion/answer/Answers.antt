@@ -46,9 +46,9 @@ returns c =
     let whole =
         has_of_whole c.args.texts c.in_ok-sets.sets c.in_ok-booked.booked c.in_ok-booked.ensures
         file c.in_ok-sets.ensures (Ok text) c.in_ok-text.ensures in
-    let says = file_ran whole.0 file text.items whole.2 in
+    let says = file_ran whole.0 file text whole.2 in
     inr (
       whole.0,
       whole.1,
-      subst (λ t. FileRan file whole.0 (Ok (Told Fine t))) (sym c.new.ensures) says,
+      subst (λ t. FileRan file whole.0 (Ok (Told Fine t))) (sym c.of_table.ensures) says,
     )
