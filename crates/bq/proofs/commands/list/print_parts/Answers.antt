@@ -1,9 +1,8 @@
-use Rattle.std.proofs.Common.{◌≡◌, ◌++◌, [], List, append_assoc, length, map, refl, subst, sym, ap, ◌∙◌}
+use Rattle.std.proofs.Common.{◌≡◌, ◌++◌, [], append_assoc, length, map, refl, subst, sym, ap, ◌∙◌}
 use Rattle.std.proofs.lemmas.List.{append-nil, map-append}
 use Rattle.std.proofs.lemmas.List.Elements.{All-map}
 use Rattle.bq.specs.List.{headers, shown_row}
 use Rattle.posting_table.specs.Decimals.{decimals_of}
-use Rattle.posting_table.specs.declared.row.Row.{Row}
 use Rattle.table_printer.specs.Printing.{IsPrinted, columns_of}
 use Rattle.bq.proofs.ShownFacts.{none_in_the_last}
 use Rattle.bq.proofs.commands.list.print_parts.Goals as goal
