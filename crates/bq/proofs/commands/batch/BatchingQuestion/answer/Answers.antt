@@ -63,8 +63,8 @@ pub returns : goal.returns
 returns c =
     let batch = c.args.self.now in
     let whole =
-        fates_of_whole c.args.texts c.in_ok-sets.sets c.in_ok-booked.booked c.in_ok-booked.ensures
-        batch.files.now c.in_ok-sets.ensures c.in_ok-ended.ended.items c.in_ok-ended.ensures in
+    fates_of_whole c.args.texts c.in_ok-sets.sets c.in_ok-booked.booked c.in_ok-booked.ensures
+    batch.files.now c.in_ok-sets.ensures c.in_ok-ended.ended.items c.in_ok-ended.ensures in
     inr (
       whole.0,
       whole.1,

@@ -42,8 +42,8 @@ returns c =
     let file = c.args.self.now.file.now in
     let text = c.in_ok-text.text in
     let whole =
-        has_of_whole c.args.texts c.in_ok-sets.sets c.in_ok-booked.booked c.in_ok-booked.ensures
-        file c.in_ok-sets.ensures (Ok text) c.in_ok-text.ensures in
+    has_of_whole c.args.texts c.in_ok-sets.sets c.in_ok-booked.booked c.in_ok-booked.ensures
+    file c.in_ok-sets.ensures (Ok text) c.in_ok-text.ensures in
     let says = file_answers whole.0 file text whole.2 in
     inr (
       whole.0,

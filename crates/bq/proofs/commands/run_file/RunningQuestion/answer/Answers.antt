@@ -33,8 +33,8 @@ returns-in_err-text c =
     let file = c.args.self.now.file.now in
     let fault = c.in_err-text.field-0.0 in
     let whole =
-        has_of_whole texts c.in_ok-sets.sets c.in_ok-booked.booked c.in_ok-booked.ensures file
-        c.in_ok-sets.ensures (Err fault) c.in_err-text.ensures in
+    has_of_whole texts c.in_ok-sets.sets c.in_ok-booked.booked c.in_ok-booked.ensures file
+    c.in_ok-sets.ensures (Err fault) c.in_err-text.ensures in
     subst (ComesTo (about_book (FileRan file) texts))
     (sym (converted c.from_residual-in_err-text.result fault c.from_residual-in_err-text.ensures.1))
     (not_run texts whole.0 whole.1 file fault whole.2)
@@ -44,8 +44,8 @@ returns c =
     let file = c.args.self.now.file.now in
     let text = c.in_ok-text.text in
     let whole =
-        has_of_whole c.args.texts c.in_ok-sets.sets c.in_ok-booked.booked c.in_ok-booked.ensures
-        file c.in_ok-sets.ensures (Ok text) c.in_ok-text.ensures in
+    has_of_whole c.args.texts c.in_ok-sets.sets c.in_ok-booked.booked c.in_ok-booked.ensures
+    file c.in_ok-sets.ensures (Ok text) c.in_ok-text.ensures in
     let says = file_ran whole.0 file text whole.2 in
     inr (
       whole.0,
