@@ -146,11 +146,11 @@ impl<'a> Text<'a> {
         Text { written }
     }
 
-    /// The text of no characters.
-    pub fn empty() -> Text<'a>
-        ensures { result ≡ [] }
+    /// What is written between its quotes.
+    pub fn written(&self) -> &'a str
+        ensures { read_text result.now ≡ self.now }
     {
-        Text { written: "" }
+        self.written
     }
 
     /// The same text once more.

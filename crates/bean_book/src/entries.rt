@@ -9,7 +9,7 @@ ghost use Rattle.bean_book.specs.Rows as spec;
 use crate::account_sets::AccountSets;
 use crate::metadata::metadata_of;
 use bean_base::{Slice, Text};
-use bean_directives::Pad;
+use bean_directives::{Pad, Payee};
 use bean_grammar::Mark;
 use bean_holdings::Posted;
 use bean_pad::NotedPad;
@@ -114,14 +114,11 @@ fn accounts_among<'a>(alloc: Global, posted: &[Posted<'a>]) -> Result<TextSet<'a
 }
 
 /// What a payee stands for.
-fn payee_of<'a>(
-    alloc: Global,
-    payee: &Option<Text<'a>>,
-) -> Result<Option<PlainText<'a>>, AllocError>
+fn payee_of<'a>(alloc: Global, payee: &Payee<'a>) -> Result<Option<PlainText<'a>>, AllocError>
     ensures { IfOk result (λ text. text ≡ payee.now) }
 {
-    Ok(match payee {
-        Some(payee) => Some(PlainText::of(alloc, payee)?),
+    Ok(match payee.text() {
+        Some(payee) => Some(PlainText::of(alloc, &payee)?),
         None => None,
     })
 }
@@ -135,13 +132,13 @@ fn slice_of<'a>(text: &Text<'a>) -> Option<Slice<'a>>
 
 /// A payee as it is written, no bytes where there is none; none where it has an escape, or is there
 /// and has no bytes.
-fn payee_slice<'a>(payee: &Option<Text<'a>>) -> Option<Slice<'a>>
+fn payee_slice<'a>(payee: &Payee<'a>) -> Option<Slice<'a>>
     ensures { IfSome result (λ slice. payee_of slice ≡ payee.now) }
 {
-    let Some(payee) = payee else {
+    let Some(payee) = payee.text() else {
         return Some(Slice::new(""));
     };
-    let slice = slice_of(payee)?;
+    let slice = slice_of(&payee)?;
     if slice.text().is_empty() {
         return None;
     }

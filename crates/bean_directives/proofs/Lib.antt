@@ -6,3 +6,4 @@ pub mod PlainHeadFacts
 pub mod OneHeadFacts
 pub mod OneUndatedFacts
 mod Examples
+pub mod PayeeFacts

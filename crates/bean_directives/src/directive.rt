@@ -3,6 +3,7 @@
 use crate::accounts::{Close, Open, Pad};
 use crate::notes::{Custom, Document, Event, Note, Query};
 use crate::numbers::{Balance, Commodity, Price};
+use crate::payee::Payee;
 use crate::stretch::Stretch;
 use crate::transaction::Transaction;
 use bean_base::{Apart, Day, Few, Flag, Text};
@@ -112,7 +113,7 @@ impl<'a> Directive<'a> {
             metadata: Few::new(),
             kind: DirectiveKind::Transaction(Transaction {
                 flag: Flag::Complete,
-                payee: None,
+                payee: Payee::none(),
                 narration: Text::new(""),
                 marks: Few::new(),
                 postings: Stretch::new(),

@@ -20,12 +20,23 @@ enum Items<T> {
     Empty,
     /// By themselves.
     Own(Apart<List<T>>),
-    /// In a block with others, which is given up with the last list in it.
+    /// So many from a first one on, in a block with others, which is given up with the last list in
+    /// it. What is counted comes first: so it lies beside the word that tells which of these it is.
     Within {
-        block: Rc<Vec<T>>,
+        count: u16,
         first: u32,
-        end: u32,
+        block: Rc<Vec<T>>,
     },
+    /// The same of more of them, or further behind.
+    Far(Apart<Part<T>>),
+}
+
+/// Items in a block, from a first one up to another.
+#[derive(Drop)]
+struct Part<T> {
+    block: Rc<Vec<T>>,
+    first: usize,
+    end: usize,
 }
 
 /// Written out, so that what gives one up needs to know nothing of what is in it.
@@ -67,36 +78,41 @@ impl<T: Drop> Stretch<T> {
         Ok(Stretch { items })
     }
 
-    /// The items of a block from a first one up to another. Takes no memory; it fails only where the
-    /// block is held as often as can be counted, or has more items than 32 bits count.
-    pub fn within(block: &Rc<Vec<T>>, first: usize, end: usize) -> Result<Stretch<T>, AllocError>
+    /// The items of a block from a first one up to another. Takes no memory where these are fewer than
+    /// 2^16, and fewer than 2^32 stand before them.
+    pub fn within(
+        alloc: Global,
+        block: &Rc<Vec<T>>,
+        first: usize,
+        end: usize,
+    ) -> Result<Stretch<T>, AllocError>
         requires from { first ≤ end }
         requires to { end ≤ length block.now.value.items }
         ensures { IfOk result (λ s. s ≡ slice_range block.now.value.items first end) }
     {
-        let (Ok(first), Ok(end)) = (u32::try_from(first), u32::try_from(end)) else {
-            return Err(AllocError);
-        };
-        Ok(Stretch {
-            items: Items::Within {
-                block: block.clone()?,
+        let block = block.clone()?;
+        let items = match (u16::try_from(end - first), u32::try_from(first)) {
+            (Ok(count), Ok(first)) => Items::Within {
+                count,
                 first,
-                end,
+                block,
             },
-        })
+            _ => Items::Far(Apart::new(alloc, Part { block, first, end })?),
+        };
+        Ok(Stretch { items })
     }
 
     /// Takes the items out, if they lie by themselves.
     pub fn take_own(&mut self, alloc: Global) -> Option<Vec<T>>
         ensures { MatchOption result (self.new ≡ self.old) (λ own. own.items ≡ self.old) }
     {
-        if matches!(self.items, Items::Within { .. }) {
+        if matches!(self.items, Items::Within { .. } | Items::Far(_)) {
             return None;
         }
         match replace(&mut self.items, Items::Empty) {
             Items::Empty => Some(Vec::new(alloc)),
             Items::Own(items) => Some(items.into_inner().into_vec()),
-            Items::Within { .. } => unreachable!(),
+            Items::Within { .. } | Items::Far(_) => unreachable!(),
         }
     }
 
@@ -107,7 +123,18 @@ impl<T: Drop> Stretch<T> {
         match &self.items {
             Items::Empty => &[],
             Items::Own(items) => items.get().as_slice(),
-            Items::Within { block, first, end } => &block[*first as usize..*end as usize],
+            Items::Within {
+                count,
+                first,
+                block,
+            } => {
+                let first = *first as usize;
+                &block[first..first + *count as usize]
+            }
+            Items::Far(part) => {
+                let part = part.get();
+                &part.block[part.first..part.end]
+            }
         }
     }
 }

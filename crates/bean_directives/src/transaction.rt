@@ -5,6 +5,7 @@ ghost use Rattle.bean_grammar.specs.Lexeme.{lexemes};
 ghost use Rattle.bean_directives.specs.Head as rule;
 
 use crate::directive::DirectiveKind;
+use crate::payee::Payee;
 use crate::stretch::Stretch;
 use bean_base::{Few, Flag, Text};
 use bean_grammar::literal::text_if_due;
@@ -18,7 +19,7 @@ use std::alloc::{AllocError, Global};
 #[derive(Drop)]
 pub struct Transaction<'a> {
     pub flag: Flag,
-    pub payee: Option<Text<'a>>,
+    pub payee: Payee<'a>,
     /// The text of no characters where none is written.
     pub narration: Text<'a>,
     /// Its tags and links in the order in which they are written, then the tags that are pushed to
@@ -31,7 +32,7 @@ pub struct Transaction<'a> {
 /// The payee and the narration of a transaction.
 #[derive(Drop)]
 pub struct PayeeAndNarration<'a> {
-    pub payee: Option<Text<'a>>,
+    pub payee: Payee<'a>,
     pub narration: Text<'a>,
 }
 
@@ -41,16 +42,16 @@ fn words_of<'a>(first: Option<Text<'a>>, second: Option<Text<'a>>) -> PayeeAndNa
 {
     match (first, second) {
         (Some(payee), Some(narration)) => PayeeAndNarration {
-            payee: Some(payee),
+            payee: Payee::new(payee),
             narration,
         },
         (Some(narration), None) => PayeeAndNarration {
-            payee: None,
+            payee: Payee::none(),
             narration,
         },
         (None, _) => PayeeAndNarration {
-            payee: None,
-            narration: Text::empty(),
+            payee: Payee::none(),
+            narration: Text::new(""),
         },
     }
 }

@@ -65,6 +65,7 @@ impl<'a> Model for Directives<'a> {
 /// A directive with its postings, which may stand in a block.
 #[inline(always)]
 fn settled<'a>(
+    alloc: Global,
     block: &Rc<Vec<WrittenPosting<'a>>>,
     waiting: Waiting<'a>,
 ) -> Result<ApartDirective<'a>, AllocError>
@@ -76,13 +77,14 @@ fn settled<'a>(
         part,
     } = waiting;
     if let Some(part) = part {
-        directive.give_postings(Stretch::within(block, part.first, part.end)?);
+        directive.give_postings(Stretch::within(alloc, block, part.first, part.end)?);
     }
     Ok(directive)
 }
 
 /// Adds directives that waited until a block was full.
 fn add_settled<'a>(
+    alloc: Global,
     block: &Rc<Vec<WrittenPosting<'a>>>,
     waiting: Vec<Waiting<'a>>,
     directives: &mut Vec<ApartDirective<'a>>,
@@ -92,7 +94,7 @@ fn add_settled<'a>(
         ≡ directives.old.items ++ map (completed block.now.value.items) waiting.entry.items) }
 {
     for one in waiting {
-        directives.push(settled(block, one)?)?;
+        directives.push(settled(alloc, block, one)?)?;
     }
     Ok(())
 }
@@ -222,7 +224,7 @@ impl<'a> Directives<'a> {
         let next = Vec::with_capacity(alloc, self.postings.capacity().min(MOST_TOGETHER))?;
         let waiting = replace(&mut self.waiting, Vec::new(alloc));
         let block = Rc::new(alloc, replace(&mut self.postings, next))?;
-        add_settled(&block, waiting, &mut self.settled)
+        add_settled(alloc, &block, waiting, &mut self.settled)
     }
 
     /// All of them, each with its postings.
@@ -235,7 +237,7 @@ impl<'a> Directives<'a> {
             postings,
         } = self;
         let block = Rc::new(alloc, postings)?;
-        add_settled(&block, waiting, &mut settled)?;
+        add_settled(alloc, &block, waiting, &mut settled)?;
         Ok(settled)
     }
 }

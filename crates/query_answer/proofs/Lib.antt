@@ -1,3 +1,4 @@
 pub mod SpanFacts
 pub mod MovedFacts
 pub mod PlaceFacts
+pub mod GivenUpFacts

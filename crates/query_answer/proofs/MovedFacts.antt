@@ -82,26 +82,14 @@ others_stay from count vs ws (s ∷ ss) (suc n) zero d (begins, ends, rest) with
 others_stay from count vs ws (s ∷ ss) (suc n) (suc m) d (begins, ends, rest) within other same =
     others_stay s.end count vs ws ss n m d rest (omega (arith, within)) (λ e. other (ap suc e)) same
 
--- ---- rows of which one is no longer what it was
-
-all_behind : (n from count : ℕ) (vs ws : List Value) (ss : List Span) → LieApart from count ss
+-- the rows behind it
+pub all_behind : (n from count : ℕ) (vs ws : List Value) (ss : List Span) → LieApart from count ss
     → n ≤ from → drop n ws ≡ drop n vs → rows_in ws ss ≡ rows_in vs ss
 all_behind n from count vs ws [] apart past same = refl
 all_behind n from count vs ws (s ∷ ss) (begins, ends, rest) past same =
     ap₂ (λ x l. x ∷ l)
     (same_behind ws vs s.start s.end n (omega (arith, begins, past)) same)
     (all_behind n s.end count vs ws ss rest (omega (arith, begins, ends, past)) same)
-
--- the rows behind it, from one of them on
-pub stay_behind : (from count : ℕ) (vs ws : List Value) (ss : List Span) (n e : ℕ) (d : Span)
-    → LieApart from count ss → n < length ss → n < e → IsSameAround (get_or ss n d) vs ws
-    → drop e (rows_in ws ss) ≡ drop e (rows_in vs ss)
-stay_behind from count vs ws [] n e d apart within past same = refl
-stay_behind from count vs ws (s ∷ ss) n zero d apart within past same = absurd (omega (arith, past))
-stay_behind from count vs ws (s ∷ ss) zero (suc e) d (begins, ends, rest) within past same =
-    ap (drop e) (all_behind s.end s.end count vs ws ss rest (omega arith) same.back)
-stay_behind from count vs ws (s ∷ ss) (suc n) (suc e) d (begins, ends, rest) within past same =
-    stay_behind s.end count vs ws ss n e d rest (omega (arith, within)) (omega (arith, past)) same
 
 -- ---- rows that are picked
 

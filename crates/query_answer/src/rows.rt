@@ -1,10 +1,10 @@
 //! Rows of values that lie one behind the other.
-ghost use Rattle.std.specs.Prelude.{◌≡◌, ◌≤◌, ◌++◌, ◌∷◌, [], drop, length, map, take, vec_capacity};
+ghost use Rattle.std.specs.Prelude.{◌≡◌, ◌≤◌, ◌++◌, ◌∷◌, [], length, map, take, vec_capacity};
 ghost use Rattle.std.specs.Prelude.{IfOk, IfSome, OnOk};
 ghost use Rattle.arranging.specs.Places.{AreMixed};
 ghost use Rattle.query_answer.specs.Places as spec;
 ghost use Rattle.query_answer.specs.Places.{AreDense, HaveBecome, MayGo};
-ghost use Rattle.query_answer.specs.Rows.{ArePicked, row_at};
+ghost use Rattle.query_answer.specs.Rows.{ArePicked, given_up, nulls, row_at};
 ghost use Rattle.query_answer.specs.Spans.{IsSameAround, LieApart, between, narrowed_to, rows_in, span_at};
 ghost use Rattle.query_answer.specs.Spans.{values_in};
 
@@ -156,7 +156,7 @@ fn move_span<'a>(
 
 /// Gives up values, and leaves as many nulls.
 fn clear(values: &mut [Value<'_>])
-    ensures { length values.new ≡ length values.old }
+    ensures { values.new ≡ nulls values.old }
 {
     for i in 0..values.len() {
         values[i] = Value::Null;
@@ -167,7 +167,8 @@ fn clear(values: &mut [Value<'_>])
 fn clear_span(values: &mut [Value<'_>], span: Span)
     requires up { span.start ≤ span.end }
     requires inside { span.end ≤ length values.old }
-    ensures { IsSameAround span values.old values.new }
+    ensures cleared { values_in values.new span ≡ nulls (values_in values.old span) }
+    ensures left { IsSameAround span values.old values.new }
 {
     clear(&mut values[span.start..span.end]);
 }
@@ -176,7 +177,8 @@ fn clear_span(values: &mut [Value<'_>], span: Span)
 fn clear_rows(values: &mut [Value<'_>], spans: &[Span], first: usize, end: usize)
     requires { LieApart 0 (length values.old) spans.now }
     ensures count { length values.new ≡ length values.old }
-    ensures behind { drop end (rows_in values.new spans.now) ≡ drop end (rows_in values.old spans.now) }
+    ensures rows { rows_in values.new spans.now
+        ≡ given_up first end (rows_in values.old spans.now) }
 {
     for number in first..end.min(spans.len()) {
         clear_span(values, spans[number]);
@@ -327,10 +329,9 @@ impl<'a> AnswerRows<'a> {
     }
 
     /// Gives up the values of the rows from one number up to another, and leaves nulls in their places.
-    /// The rows behind these stay as they are.
+    /// The other rows stay as they are.
     pub fn give_up(&mut self, first: usize, end: usize)
-        ensures count { length self.new ≡ length self.old }
-        ensures behind { drop end self.new ≡ drop end self.old }
+        ensures { self.new ≡ given_up first end self.old }
     {
         clear_rows(&mut self.values, &self.spans, first, end);
     }

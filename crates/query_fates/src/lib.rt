@@ -17,7 +17,7 @@
 //! [`file_fates`] does the same with the bytes of query files that are accepted, and checks them once
 //! more for it, since a program stands in the bytes of its file.
 //!
-//! Where no program reads the accounts of transactions ([`verified_program::Checked::reads_accounts`]),
+//! Where no program reads the accounts of transactions ([`verified_program::reads_accounts`]),
 //! it is the same over a ledger without them ([`unread_accounts_may_be_left_out`]).
 //!
 //! # Faults

@@ -4,7 +4,7 @@ ghost use Rattle.posting_table.specs.Decimals.{decimals_of};
 ghost use Rattle.table_printer.specs.Printing.{IsPrinted, columns_of};
 ghost use Rattle.table_printer.specs.Table.{table_text};
 
-use crate::parts::AnswerPart;
+use bean_base::{List, Slice};
 use posting_table::Display;
 use query_answer::{Answer, AnswerRows};
 use std::alloc::{AllocError, Global};
@@ -18,19 +18,18 @@ const ROWS: usize = 512;
 /// the counts of its inventories were.
 fn print_parts<'a>(
     printer: &mut Printer<'_>,
-    names: &Answer<'a>,
+    names: &List<Slice<'a>>,
     rows: &mut AnswerRows<'a>,
     display: &Display<'_>,
 ) -> Result<(), AllocError>
     requires even { All (λ row. length row ≡ columns_of printer.old) rows.old }
-    requires begun { IsPrinted names.now.headers rows.old [] (decimals_of display.now) printer.old }
-    ensures { OnOk result (IsPrinted names.now.headers rows.old rows.old (decimals_of display.now)
-        printer.new) }
+    requires begun { IsPrinted names.now rows.old [] (decimals_of display.now) printer.old }
+    ensures { OnOk result (IsPrinted names.now rows.old rows.old (decimals_of display.now) printer.new) }
 {
     let mut first = 0;
     while first < rows.len() {
         let end = first.saturating_add(ROWS).min(rows.len());
-        let part = AnswerPart {
+        let part = AnswerTable {
             names,
             rows,
             first,
@@ -56,15 +55,15 @@ pub(crate) fn print_and_give_up(
     // Rows that change lend no names.
     let mut names = answer;
     let mut rows = replace(&mut names.rows, AnswerRows::new(alloc));
-    let whole = AnswerPart {
-        names: &names,
+    let none = AnswerTable::of(&names);
+    let whole = AnswerTable {
+        names: none.names,
         rows: &rows,
         first: 0,
         end: rows.len(),
     };
-    let none = AnswerTable { answer: &names };
     let mut printer = Printer::new(alloc, &none, &whole, display)?;
-    print_parts(&mut printer, &names, &mut rows, display)?;
+    print_parts(&mut printer, none.names, &mut rows, display)?;
     let text = printer.into_text(display)?;
     // Nulls are left, and to give them up looks at each.
     forget(rows);

@@ -13,7 +13,7 @@ pub fn one_table_each()
 /// A program that doesn't read the accounts of transactions has the same table over a ledger
 /// without them as over the ledger as it is, and the other way round. Whatever a program reads,
 /// they don't change whether a ledger is within its bounds. So a ledger may be booked without them
-/// for a program of which [`verified_program::Checked::reads_accounts`] tells that it doesn't. And
+/// for a program of which [`verified_program::reads_accounts`] tells that it doesn't. And
 /// so it is with what the bytes of a file answer.
 pub fn unread_accounts_may_be_left_out()
     ensures table { UnreadAccountsHaveOneTable }

@@ -43,7 +43,6 @@ mod answering;
 mod cause;
 mod giving_up;
 mod laws;
-mod parts;
 mod reading;
 mod tables;
 

@@ -27,7 +27,7 @@ pub fn tabulated(
 {
     // So its cells lie in the shapes that columns have by the program's bounds.
     prove!(ledger.fits(&program.program.parts.bounds));
-    let text = print(alloc, &AnswerTable { answer }, ledger.display())?;
+    let text = print(alloc, &AnswerTable::of(answer), ledger.display())?;
     Ok(text)
 }
 

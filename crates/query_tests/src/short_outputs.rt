@@ -21,7 +21,7 @@ fn a_short_table_is_told_with_its_count(rt: HostRuntime) -> Result<(), Fail> {
         steps: 0,
         groups: 0,
     };
-    let table = AnswerTable { answer: &answer };
+    let table = AnswerTable::of(&answer);
     let ledger = Ledger::new(alloc);
     let mut out = ShortWriter::new(alloc, 5);
     let written = write_table(alloc, &table, ledger.display(), &mut out);

@@ -64,7 +64,7 @@ fn sets_printed<'s>(
     let third = Value::Set(Lent::new(third));
     let answer = column_of(alloc, first, second, third)?;
     let display = Display::new(alloc);
-    print(alloc, &AnswerTable { answer: &answer }, &display)
+    print(alloc, &AnswerTable::of(&answer), &display)
 }
 
 #[test]
@@ -104,7 +104,7 @@ fn prints_numbers_of_many_decimals(rt: HostRuntime) -> Result<(), Fail> {
     let answer = column_of(alloc, half, long, whole)?;
     let display = Display::new(alloc);
     assert_eq!(rt;
-        print(alloc, &AnswerTable { answer: &answer }, &display)?.as_slice(),
+        print(alloc, &AnswerTable::of(&answer), &display)?.as_slice(),
         LONG.as_bytes()
     );
     Ok(())

@@ -13,7 +13,7 @@
 //!     steps: 0,
 //!     groups: 0,
 //! };
-//! let table = print(alloc, &AnswerTable { answer: &answer }, ledger.display())?;
+//! let table = print(alloc, &AnswerTable::of(&answer), ledger.display())?;
 //! // account      position
 //! // -----------  ----------
 //! // Assets:Cash  100.00 USD

@@ -1,11 +1,9 @@
 //! Verified programs.
 ghost use Rattle.std.specs.Prelude.{◌≡◌, ◌≤◌, map};
 ghost use Rattle.plain_machine.specs.Pool.{pattern_in};
-ghost use Rattle.plain_machine.specs.Unread as unread;
 ghost use Rattle.plain_machine.specs.WholeRun as spec;
 ghost use Rattle.well_shaped.specs.Program.{IsDepth};
 
-use crate::reading::reads_accounts;
 use bean_base::List;
 use query_code::{Instruction, Program};
 use query_values::Pattern;
@@ -59,14 +57,6 @@ impl Checked<'_> {
         ensures { result.now ≡ self.now.program.parts.code.last }
     {
         self.program.parts.code.last.as_slice()
-    }
-
-    /// Whether it reads the accounts of transactions: whether the filter or the row section loads
-    /// their column. One that doesn't answers the same over a ledger without them.
-    pub fn reads_accounts(&self) -> bool
-        ensures { result ≡ unread.reads_accounts self.now.program.parts }
-    {
-        reads_accounts(&self.program)
     }
 
     /// The most steps of a run over so many postings that make so many groups; where postings

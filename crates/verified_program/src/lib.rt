@@ -5,7 +5,7 @@
 //! let checked = check_file(alloc, &bytes)?;    // query_verifier makes it
 //! let steps = checked.budget(3, 1);            // at most, over three postings that make one group
 //! let answer = run(alloc, &checked, &ledger)?; // query_machine runs it
-//! let reads = checked.reads_accounts();        // whether it needs the accounts of transactions
+//! let reads = reads_accounts(&checked.program); // whether it needs the accounts of transactions
 //! ```
 //!
 //! A [`Checked`] keeps the program, whose names and texts are slices of its file, the patterns of

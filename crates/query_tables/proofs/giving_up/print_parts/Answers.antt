@@ -1,6 +1,7 @@
-use Rattle.std.proofs.Common.{◌≡◌, ◌≤◌, ◌++◌, All, List, ap, arith, length, subst, sym, take, ◌∙◌}
+use Rattle.std.proofs.Common.{◌≡◌, ◌≤◌, ◌++◌, All, List, ap, arith, drop, length, subst, sym, take, ◌∙◌}
 use Rattle.std.proofs.lemmas.List.Elements.{All-drop, All-take}
 use Rattle.posting_table.specs.Decimals.{decimals_of}
+use Rattle.query_answer.proofs.GivenUpFacts.{behind_given_up, count_given_up}
 use Rattle.query_values.specs.declared.value.Value.{Value}
 use Rattle.table_printer.specs.Growing.{grown}
 use Rattle.table_printer.specs.Printing.{IsPrinted, MayLeaveOpen, columns_of}
@@ -34,7 +35,7 @@ push-requires-clause-left c =
     let least = c.min-end.ensures in
     let up : first ≤ end = omega (arith, test, c.len.ensures, far, c.len-in-loop-first.ensures, least) in
     subst (MayLeaveOpen p) (sym (part_is c.loop-first.rows all first end before.behind up))
-    (may_be_part c.args.names.now.headers all (take first all) (decimals_of c.args.display.now) p.own
+    (may_be_part c.args.names.now all (take first all) (decimals_of c.args.display.now) p.own
     p.headings.items (grown p.lines) first end before.printed)
 
 pub loop-first-preserved : goal.loop-first-preserved
@@ -43,7 +44,7 @@ loop-first-preserved c =
     let first = c.loop-first.first in
     let end = c.min-end.result in
     let before = c.loop-first.invariant in
-    let names = c.args.names.now.headers in
+    let names = c.args.names.now in
     let d = decimals_of c.args.display.now in
     let test = c.loop-first-test.true in
     let far = c.saturating_add.ensures in
@@ -51,8 +52,8 @@ loop-first-preserved c =
     let up : first ≤ end = omega (arith, test, c.len.ensures, far, c.len-in-loop-first.ensures, least) in
     record {
       inside = omega (arith, c.min-end.ensures, c.len-in-loop-first.ensures, before.count);
-      count = c.give_up.ensures.count ∙ before.count;
-      behind = c.give_up.ensures.behind
+      count = ap length c.give_up.ensures ∙ count_given_up first end c.loop-first.rows ∙ before.count;
+      behind = ap (drop end) c.give_up.ensures ∙ behind_given_up first end c.loop-first.rows up
           ∙ behind_part c.loop-first.rows all first end before.behind up;
       columns = c.in_ok-push.ensures.columns ∙ before.columns;
       printed = subst (λ rows. IsPrinted names all rows d c.push.new.self)

@@ -10,7 +10,7 @@ invariant-loop-first l = record {
   count : length l.rows ≡ length l.initial.rows;
   behind : drop l.first l.rows ≡ drop l.first l.initial.rows;
   columns : columns_of l.printer ≡ columns_of l.initial.printer;
-  printed : IsPrinted l.names.headers l.initial.rows (take l.first l.initial.rows)
+  printed : IsPrinted l.names l.initial.rows (take l.first l.initial.rows)
       (decimals_of l.display) l.printer;
 }
 

@@ -1,7 +1,8 @@
-use Rattle.std.proofs.Common.{◌≡◌, ap, drop, length, subst, sym, ◌∙◌}
+use Rattle.std.proofs.Common.{◌≡◌, ap, length, subst, sym, ◌∙◌}
 use Rattle.std.specs.Vec.{with_items}
-use Rattle.std.proofs.lemmas.List.{length-map, with_items_is}
-use Rattle.query_answer.specs.Spans.{LieApart, rows_in, values_in}
+use Rattle.std.proofs.lemmas.List.{with_items_is}
+use Rattle.query_answer.specs.Rows.{given_up}
+use Rattle.query_answer.specs.Spans.{LieApart, rows_in}
 use Rattle.query_answer.proofs.rows.AnswerRows.give_up.Goals as goal
 
 pub clear_rows-requires : goal.clear_rows-requires
@@ -18,22 +19,17 @@ invariant_of-self c =
     let kept : (with_items values ws).items ≡ ws = with_items_is values ws (long ∙ sym values.ok.0) in
     subst (λ n. LieApart 0 n c.self.inside.spans.items) (sym (ap length kept ∙ long)) c.self.invariant
 
-pub returns-clause-count : goal.returns-clause-count
-returns-clause-count c =
-    let ss = c.self.inside.spans.items in
-    length-map ss (values_in (with_items c.self.inside.values c.clear_rows.new.values).items)
-    ∙ sym (length-map ss (values_in c.self.inside.values.items))
-    ∙ ap length c.self.view_is
-
-pub returns-clause-behind : goal.returns-clause-behind
-returns-clause-behind c =
+pub returns : goal.returns
+returns c =
     let values = c.self.inside.values in
     let ws = c.clear_rows.new.values in
     let ss = c.self.inside.spans.items in
+    let first = c.args.first in
     let end = c.args.end in
     let long = c.clear_rows.ensures.count ∙ ap length c.deref_mut.ensures.value in
     let kept : (with_items values ws).items ≡ ws = with_items_is values ws (long ∙ sym values.ok.0) in
-    ap (λ l. drop end (rows_in l ss)) kept
-    ∙ subst (λ l. drop end (rows_in ws l) ≡ drop end (rows_in values.items l)) c.deref.ensures.value
-    (c.clear_rows.ensures.behind ∙ ap (λ l. drop end (rows_in l c.deref.result.now)) c.deref_mut.ensures.value)
-    ∙ ap (drop end) c.self.view_is
+    ap (λ l. rows_in l ss) kept
+    ∙ subst (λ l. rows_in ws l ≡ given_up first end (rows_in values.items l)) c.deref.ensures.value
+    (c.clear_rows.ensures.rows
+    ∙ ap (λ l. given_up first end (rows_in l c.deref.result.now)) c.deref_mut.ensures.value)
+    ∙ ap (given_up first end) c.self.view_is

@@ -1,6 +1,6 @@
 use Rattle.std.proofs.Common.{◌≡◌, length, nat_lt}
 use Rattle.std.specs.List.{list_all}
-use Rattle.arranging.proofs.places.are_inside.Given as goal
+use Rattle.query_answer.proofs.places.are_inside.Given as goal
 
 abbrev pub invariant-loop-places : goal.invariant-loop-places
 invariant-loop-places l =
