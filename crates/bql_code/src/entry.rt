@@ -19,6 +19,7 @@ pub struct Entry<'a> {
 }
 
 impl<'a> Entry<'a> {
+    /// A text.
     pub fn text(text: ShortText<'a>) -> Entry<'a>
         ensures { constant_of result.literal ≡ constants.Text text.entry.text }
     {
@@ -27,6 +28,7 @@ impl<'a> Entry<'a> {
         }
     }
 
+    /// The text of a pattern.
     pub fn pattern(text: ShortText<'a>) -> Entry<'a>
         ensures { constant_of result.literal ≡ constants.Pattern text.entry.text }
     {
@@ -35,6 +37,7 @@ impl<'a> Entry<'a> {
         }
     }
 
+    /// A number, with its decimals.
     pub fn number(number: Decimal) -> Entry<'a>
         ensures { constant_of result.literal ≡ constants.Number number }
     {
@@ -43,6 +46,7 @@ impl<'a> Entry<'a> {
         }
     }
 
+    /// A day.
     pub fn day(day: Day) -> Entry<'a>
         ensures { constant_of result.literal ≡ constants.Day day }
     {
@@ -51,6 +55,7 @@ impl<'a> Entry<'a> {
         }
     }
 
+    /// A list of texts, at least one and at most as many as a query has bytes.
     pub fn texts(texts: List<ShortText<'a>>) -> Entry<'a>
         requires some { 1 ≤ length texts }
         requires few { length texts ≤ LARGEST_QUERY }
@@ -61,6 +66,7 @@ impl<'a> Entry<'a> {
         }
     }
 
+    /// A list of numbers of as many decimals, at least one and at most as many as a query has bytes.
     pub fn numbers(numbers: Numbers) -> Entry<'a>
         requires some { 1 ≤ length numbers.counts }
         requires few { length numbers.counts ≤ LARGEST_QUERY }
@@ -73,6 +79,7 @@ impl<'a> Entry<'a> {
         }
     }
 
+    /// A list of days, at least one and at most as many as a query has bytes.
     pub fn days(days: List<Day>) -> Entry<'a>
         requires some { 1 ≤ length days }
         requires few { length days ≤ LARGEST_QUERY }

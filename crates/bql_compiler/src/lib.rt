@@ -54,7 +54,6 @@
 //!                     [N]
 //! ```
 //!
-//!
 //! # Refusals
 //!
 //! The least that holds of these; and a query of which none holds is compiled, unless memory lacks.
@@ -64,7 +63,6 @@
 //! - `C2` ([`CompileCause::NotBuilt`]): a pattern that is no regular expression, or one that would
 //!   be too large.
 //! - `C3` ([`CompileCause::TooDeep`]): more than 256 values on the stack.
-//!
 //!
 //! # Cost
 //!

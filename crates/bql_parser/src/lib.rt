@@ -14,7 +14,7 @@
 //!
 //! # Faults
 //!
-//! The grammar stands in `specs/Grammar`, over the tokens of the text, and what is asked in
+//! The grammar stands in `bql_grammar/specs/Grammar`, over the tokens of the text, and what is asked in
 //! `specs/Settled`. [`parse_query`] accepts exactly the texts of the grammar that have no cause.
 //!
 //! - `Q1` ([`QueryCause::Syntax`]): the text is outside the grammar. The place is that of the token
@@ -22,10 +22,9 @@
 //! - `Q2` ([`bql_tree::PartCauseKind::UnknownName`]): a name, or the number of a target, that isn't
 //!   known.
 //! - `Q3` ([`bql_tree::PartCauseKind::OutsideProfile`]): the language has it, and the profile leaves
-//!   it out; or
-//!   it stands above a limit: 65,535 bytes, 255 targets, 255 items of GROUP BY, 255 of ORDER BY,
-//!   expressions 200 high. Of a text outside the grammar it is told where the token that can't go
-//!   on is a `/`, a word that is left out, or a parenthesis, sign or NOT inside 200 others.
+//!   it out; or it stands above a limit: 65,535 bytes, 255 targets, 255 items of GROUP BY, 255 of
+//!   ORDER BY, expressions 200 high. Of a text outside the grammar it is told where the token that
+//!   can't go on is a `/`, a word that is left out, or a parenthesis, sign or NOT inside 200 others.
 //!
 //! In a text of the grammar the least place of all causes counts, and at one place `Q2`.
 //!

@@ -2,10 +2,10 @@
 //!
 //! ```text
 //! let number = column_shape(&bounds, Column::Number);          // 8 decimals, below 10^20
-//! binary_shape(Binary::Times, number, number)                  // Err(Misfit::TooWide)
+//! binary_shape(BinaryOperator::Times, number, number)                  // Err(Misfit::TooWide)
 //! let bounds = Bounds { units_digits: 14, ..bounds };
 //! let number = column_shape(&bounds, Column::Number);
-//! binary_shape(Binary::Times, number, number)                  // Ok: 16 decimals
+//! binary_shape(BinaryOperator::Times, number, number)                  // Ok: 16 decimals
 //! call_shape(&bounds, Function::Units, &[Shape::Text])         // Err(Misfit::Kind)
 //! ```
 //!

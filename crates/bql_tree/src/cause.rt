@@ -25,6 +25,7 @@ pub struct PartCause {
 }
 
 impl PartCause {
+    /// `Q2`: the name at that byte isn't known.
     pub fn unknown_name(place: usize) -> PartCause
         ensures { result ≡ rule.unknown_name place }
     {
@@ -34,6 +35,7 @@ impl PartCause {
         }
     }
 
+    /// `Q3`: what begins at that byte is outside the profile.
     pub fn outside_profile(place: usize) -> PartCause
         ensures { result ≡ rule.outside_profile place }
     {

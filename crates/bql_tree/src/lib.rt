@@ -6,7 +6,7 @@
 //! let column = part::name(alloc, &number, Scope::Postings)?;   // Column::Number, height 1
 //! let negative = part::signed(alloc, &dash, true, column)?;    // height 2
 //! let two = part::leaf(alloc, &token, number::number("2"))?;
-//! let product = part::two(alloc, Binary::Times, negative, two)?;
+//! let product = part::two(alloc, BinaryOperator::Times, negative, two)?;
 //! // product.expr: Two(7, Times, One(7, Minus, Leaf(8, Column(Number))), Leaf(17, Number(2)))
 //! ```
 //!

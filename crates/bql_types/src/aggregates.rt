@@ -11,6 +11,7 @@ use bql_tree::{Expr, Function, Leaf};
 use limits::Bounds;
 use std::alloc::{AllocError, Global};
 
+/// Whether a function gathers the values of a group.
 pub fn is_aggregate_function(function: Function) -> bool
     ensures { result ≡ rule.is_aggregate_function function }
 {
@@ -25,6 +26,7 @@ pub fn is_aggregate_function(function: Function) -> bool
     )
 }
 
+/// Whether it is the star of `COUNT(*)`.
 pub fn is_rows(leaf: &Leaf<'_>) -> bool
     ensures { result ≡ rule.is_rows leaf.now }
 {

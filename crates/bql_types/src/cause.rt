@@ -38,6 +38,7 @@ pub struct TypeCause {
 }
 
 impl TypeCause {
+    /// A cause, with the place of the byte at which it is told.
     pub fn at(kind: TypeCauseKind, place: usize) -> TypeCause
         ensures { result ≡ rule.cause_at kind place }
     {

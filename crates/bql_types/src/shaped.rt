@@ -69,6 +69,7 @@ fn concluded(place: usize, ruled: Option<Result<Shape, Misfit>>, found: Option<T
     }
 }
 
+/// Whether it is a NULL.
 pub fn is_null(e: &Expr<'_>) -> bool
     ensures { result ≡ rule.is_null (tree_of e.now) }
 {
@@ -78,6 +79,7 @@ pub fn is_null(e: &Expr<'_>) -> bool
     }
 }
 
+/// Whether it is `=` or `!=`.
 pub fn is_equality(op: BinaryOperator) -> bool
     ensures { result ≡ rule.is_equality op }
 {

@@ -1,7 +1,7 @@
 //! Where the parts of a program's code stand in its file.
 //!
 //! ```text
-//! let place = from_filter(&bytes, &program.parts, 2);   // the first byte of the third instruction
+//! let place = place_in_filter(&bytes, &program.parts, 2);   // the first byte of the third instruction
 //! ```
 //!
 //! The sections are the last thing in a file, so a place is told by what stands behind it. Nothing

@@ -393,6 +393,7 @@ fn put_grouped_section(
     ensures { OnOk result (out.new.items
         ≡ out.old.items ++ (counted (only mode word) instruction).written steps.now) }
 {
+    // The clauses alone speak of the mode: only grouped programs have these.
     let _ = mode;
     put_word(out, steps.len() as u16)?;
     put_instructions(out, steps)
@@ -407,6 +408,7 @@ fn put_grouped_aggregates(
     ensures { OnOk result (out.new.items
         ≡ out.old.items ++ (counted (only mode byte) aggregate).written aggregates.now) }
 {
+    // The clauses alone speak of the mode: only grouped programs have these.
     let _ = mode;
     put_byte(out, aggregates.len() as u8)?;
     put_aggregates(out, aggregates)

@@ -8,7 +8,6 @@ use Rattle.plain_machine.specs.Gathering.{cons_if, next_input, take_each, with_v
 use Rattle.query_groups.specs.Taking.{taking}
 use Rattle.query_values.specs.declared.operation.Aggregate.{Aggregate}
 use Rattle.query_values.specs.declared.value.Value.{Value}
-use Rattle.query_values.specs.declared.value.Value.TheVariants.{Null}
 
 abbrev more_each : List Aggregate → List Value → List Value → Option (List Value)
 more_each = take_each with_value

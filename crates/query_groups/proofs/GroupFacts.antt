@@ -1,9 +1,12 @@
--- Putting inputs into their group is writing under its keys.
+-- Putting inputs into their group is writing under its keys, wherever these were found.
 use Rattle.std.proofs.Common.{◌≡◌, ◌≢◌, Bool, true, false, cond, List, [], ◌∷◌, Option, Some, None}
-use Rattle.std.proofs.Common.{unwrap_or, refl, sym, ap, ◌∙◌}
-use Rattle.std.specs.Option.{is_some}
+use Rattle.std.proofs.Common.{ℕ, position, slice_get, unwrap_or, refl, sym, ap, ◌∙◌}
+use Rattle.std.specs.Cmp.{IsEquivalence}
+use Rattle.std.specs.List.{IsDistinct}
 use Rattle.std.specs.Prelude.{option_map}
-use Rattle.std.specs.Map.{lookup}
+use Rattle.std.specs.Map.{keys_of, lookup}
+use Rattle.indexmap.proofs.MapLemmas.{index-first}
+use Rattle.indexmap.proofs.RemoveLemmas.{own_first}
 use Rattle.indexmap.specs.IndexMap.{insert_entry}
 use Rattle.plain_machine.specs.Gathering.{Keeping, Group, cons_if, group_if, put}
 use Rattle.query_rows.specs.Same.{same_values}
@@ -62,7 +65,11 @@ module _ (keep : Keeping (List Value)) (keys inputs : List Value) where
       (ap (λ x. keep.add x inputs) e ∙ made)
       ∙ ap Some (sym is)
 
--- nothing was found
-pub nothing : {V : Type 0} (o : Option V) (none : V) → false ≡ is_some o → unwrap_or o none ≡ none
-nothing None none h = refl
-nothing (Some v) none h = cc
+-- where one of keys that are told apart is the same as the one that is sought, the search ends there
+pub place_is : {K X : Type 0} {same : K → K → Bool} → IsEquivalence same
+    → (es : List (K × X)) (i : ℕ) (sought : K) (e : K × X) → IsDistinct same (keys_of es)
+    → slice_get es i ≡ Some e → same sought e.0 ≡ true
+    → position (same sought) (keys_of es) ≡ Some i
+place_is {same} o es i sought e distinct at alike =
+    (λ j. position (λ x. o.congr sought e.0 x alike j) (keys_of es))
+    ∙ index-first (same e.0) es i (own_first same o es i e.0 e.1 distinct at)

@@ -1,7 +1,7 @@
 -- What it is to take an input.
 use Rattle.std.proofs.Common.{◌≡◌, ◌≢◌, ℕ, zero, suc, ◌+◌, ◌<◌, ◌≤◌, Bool, true, false, cond, ◌&&◌}
 use Rattle.std.proofs.Common.{List, [], ◌∷◌, length, drop, get_or, Option, Some, None, refl, sym, ap}
-use Rattle.std.proofs.Common.{◌∙◌, subst, arith, add-one, IsTrue, ⊎_elim}
+use Rattle.std.proofs.Common.{◌∙◌, arith, add-one, IsTrue, ⊎_elim}
 use Rattle.std.specs.Prelude.{option_and_then, option_map}
 use Rattle.std.proofs.lemmas.Bool.{cases_lt}
 use Rattle.plain_machine.specs.Gathering.{front_of, next_input, with_value}

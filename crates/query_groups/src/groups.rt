@@ -1,8 +1,11 @@
 //! Groups by their keys.
-ghost use Rattle.std.specs.Prelude.{◌≡◌, ◌≢◌, ◌<◌, [], IfOk, None, OnOk, Some, length, slice_get};
+ghost use Rattle.std.specs.Prelude.{◌≡◌, ◌≢◌, ◌<◌, [], IfOk, None, OnOk, Some, length, slice_get, true};
+ghost use Rattle.indexmap.specs.IndexMap.{index_of_by};
 ghost use Rattle.plain_machine.specs.Gathering.{put, running_values};
+ghost use Rattle.query_rows.specs.Same.{same_values};
 
 use crate::totals::Totals;
+use byte_runs::Hints;
 use indexmap::IndexMap;
 use query_values::{Aggregate, Value};
 use std::alloc::{AllocError, Global};
@@ -13,6 +16,8 @@ use value_keys::{LentKey, ValueKey};
 pub struct Groups<'r> {
     alloc: Global,
     entries: IndexMap<ValueKey<'r>, Totals<'r>>,
+    /// Where groups were found last, by their first keys.
+    hints: Hints,
 }
 
 /// Written out, so that crates which give one up need to know nothing of what is in it.
@@ -21,6 +26,7 @@ impl Drop for Groups<'_> {
         let Groups {
             alloc: _,
             entries: _,
+            hints: _,
         } = self;
     }
 }
@@ -53,6 +59,55 @@ fn copies<'r>(alloc: Global, values: &[Value<'r>]) -> Result<Vec<Value<'r>>, All
     Ok(copies)
 }
 
+/// The first key, where it is a text.
+#[inline(always)]
+fn first_text<'r>(keys: &[Value<'r>]) -> Option<&'r str> {
+    match keys.first() {
+        Some(Value::Text(text)) => Some(text.text()),
+        _ => None,
+    }
+}
+
+/// Whether the group of a number has these keys.
+#[inline(always)]
+fn stands_at<'r>(
+    entries: &IndexMap<ValueKey<'r>, Totals<'r>>,
+    number: usize,
+    keys: &[Value<'r>],
+) -> bool
+    ensures { result ≡ true → index_of_by (same_values keys.now) entries.now ≡ Some number }
+{
+    if number >= entries.len() {
+        return false;
+    }
+    let (key, _) = entries.get_index(number).unwrap();
+    LentKey::new(keys) == LentKey::new(key.as_slice())
+}
+
+/// The number of the group of these keys. Where the first is a text, the group under such a text that
+/// was found last is compared before the keys are hashed.
+#[inline(always)]
+fn number_of<'r>(
+    entries: &IndexMap<ValueKey<'r>, Totals<'r>>,
+    keys: &[Value<'r>],
+    hints: &mut Hints,
+) -> Option<usize>
+    ensures { result ≡ index_of_by (same_values keys.now) entries.now }
+{
+    let Some(text) = first_text(keys) else {
+        return entries.get_index_of(&LentKey::new(keys));
+    };
+    let near = hints.place_for(text);
+    if stands_at(entries, near, keys) {
+        return Some(near);
+    }
+    let found = entries.get_index_of(&LentKey::new(keys));
+    if let Some(number) = found {
+        hints.note(text, number);
+    }
+    found
+}
+
 impl<'r> Groups<'r> {
     /// No group. Takes no memory.
     pub fn new(alloc: Global) -> Groups<'r>
@@ -61,6 +116,7 @@ impl<'r> Groups<'r> {
         Groups {
             alloc,
             entries: IndexMap::new(alloc),
+            hints: Hints::new(alloc),
         }
     }
 
@@ -83,14 +139,14 @@ impl<'r> Groups<'r> {
         ensures { OnOk result
             (put (running_values aggregates.now) self.old keys.now inputs.now ≡ Some self.new) }
     {
-        let Some(index) = self.entries.get_index_of(&LentKey::new(keys)) else {
+        let Some(number) = number_of(&self.entries, keys, &mut self.hints) else {
             let mut totals = Totals::start(self.alloc, aggregates)?;
             totals.gather(aggregates, inputs)?;
             let key = ValueKey::new(copies(self.alloc, keys)?);
             self.entries.insert(key, totals)?;
             return Ok(());
         };
-        self.entries[index].gather(aggregates, inputs)
+        self.entries[number].gather(aggregates, inputs)
     }
 
     /// A group, by its number in order of first appearance.

@@ -15,7 +15,9 @@
 //!
 //! # Cost
 //!
-//! A table that hashes its keys. A group takes its keys, and a running value for each aggregate.
+//! A table that hashes its keys. Where the first key is a text, as a name mostly is, the group that was
+//! found last under a text with the same end is compared first. A group takes its keys, and a running
+//! value for each aggregate.
 #![tactic(auto)]
 
 mod groups;

@@ -155,7 +155,7 @@ impl<'r> Holding<'r> {
         ensures positions { result ≡ self.now }
         ensures inventory { IsInventory self.now }
     {
-        // Each key stands once.
+        // That the counts know how many keys they have tells that each stands once.
         let _count = self.counts.len();
         Holdings::in_slots(self.counts.as_run())
     }
@@ -206,7 +206,7 @@ impl<'r> Holding<'r> {
     pub fn kept(&self) -> Result<Option<Kept<'r>>, AllocError>
         ensures { IfOk result (λ o. IfSome o (λ k. k ≡ self.now)) }
     {
-        // Each key stands once.
+        // That the counts know how many keys they have tells that each stands once.
         let _count = self.counts.len();
         match &self.keys {
             Some(keys) => Kept::of(self.counts.alloc(), keys, &self.counts.as_run()),

@@ -17,6 +17,7 @@ impl<'r, T> Model for Lent<'r, T> {
 }
 
 impl<'r, T> Lent<'r, T> {
+    /// Lends a thing.
     pub fn new(thing: &'r T) -> Lent<'r, T>
         ensures { result ≡ thing.now }
     {

@@ -30,7 +30,7 @@
 //! A posting that doesn't pass takes no memory, and one that does room for its row, behind the others
 //! in one piece of memory, or that of its keys where these are new. A turn goes on where its run lies,
 //! and moves nothing of it. At the end the rows are ordered by their numbers where there is something
-//! to order by, and moved once, side by side in that order.
+//! to order by, and brought into that order once (see `query_answer`).
 //!
 //! Where rows are cut at a limit and not told once, a run keeps at most twice as many, with those of
 //! 4,096 steps: it lets go of the others on its way, most of them with one comparison each.

@@ -11,8 +11,7 @@
 //!
 //! A [`Run`] stands before an instruction of one of the program's sections, at a posting or at a
 //! group, or it is at its end. [`go_on`] goes on by a number of instructions, at most to the end,
-//! and tells how many they were; [`row_on`] and [`last_on`] do so within their section, at most to
-//! its end and what follows there, and [`filter_on`] from posting to posting while they don't pass.
+//! and tells how many they were.
 //!
 //! What comes between two sections isn't counted as a step: the running inventory takes the
 //! posting's position where the program reads it, a row of the answer is kept, or its group gathers
@@ -41,8 +40,7 @@ mod reading;
 mod run;
 mod starting;
 
-pub use ends::{end_last, end_row, fails, pass, start_filter, start_row};
-pub use going::{filter_on, go_on, is_done, last_on, row_on};
+pub use going::{go_on, is_done};
 pub use reading::reads_running;
 pub use run::{Inputs, Run, Stage};
 pub use starting::start;

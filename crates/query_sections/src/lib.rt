@@ -28,8 +28,8 @@
 //!
 //! Each instruction takes a few steps beside what its operation takes. Texts, sets and the keys of
 //! positions are lent; a push on the stack takes no memory. Where the pool has a pattern, what was
-//! found in the last 4,096 texts is known, so that a text is searched once while it comes again and
-//! again, as the names of accounts do.
+//! found in the last text with each of 4,096 ends is known, so that a text is searched once while it
+//! comes again and again, as the names of accounts do. `HAS_ACCOUNT` searches each account anew.
 #![tactic(auto)]
 
 mod binary;

@@ -82,6 +82,7 @@ fn align_top<'r>(pool: &[Constant<'r>], places: u8, stack: &mut Stack<'r>)
         ≡ Some stack.new.values }
     ensures room { stack.new.room ≡ stack.old.room }
 {
+    // The clauses alone speak of the pool, as those of all operations do.
     let _ = pool;
     let number = stack.pop();
     stack.push(align(&number, places));

@@ -33,6 +33,7 @@ fn whole<'r>(number: usize) -> Value<'r>
     }
 }
 
+/// The year of a day, a whole number; null of what is no day.
 pub fn year<'r>(x: &Value<'_>) -> Value<'r>
     ensures { result ≡ unary_value spec.Year x.now }
 {
@@ -42,6 +43,7 @@ pub fn year<'r>(x: &Value<'_>) -> Value<'r>
     }
 }
 
+/// The month of a day, from 1; null of what is no day.
 pub fn month<'r>(x: &Value<'_>) -> Value<'r>
     ensures { result ≡ unary_value spec.Month x.now }
 {
@@ -51,6 +53,7 @@ pub fn month<'r>(x: &Value<'_>) -> Value<'r>
     }
 }
 
+/// The day of its month, from 1; null of what is no day.
 pub fn day<'r>(x: &Value<'_>) -> Value<'r>
     ensures { result ≡ unary_value spec.Day x.now }
 {

@@ -109,6 +109,7 @@ fn last_depth(
     requires grouped { parts.now.mode ≡ Grouped }
     ensures { spec.LastAnswers parts.now to_last.keys to_last.totals result }
 {
+    // The clauses alone speak of the row section: it hands over what this one finds.
     let _ = row;
     let loads = Loads::of_last(to_last.keys, to_last.totals);
     let code = parts.code.last.as_slice();
