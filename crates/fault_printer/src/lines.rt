@@ -1,5 +1,5 @@
 //! A line for each fault.
-ghost use Rattle.std.specs.Prelude.{◌≡◌, ◌+◌, ◌<◌, ◌^◌, length, IfOk, IfSome};
+ghost use Rattle.std.specs.Prelude.{◌≡◌, ◌+◌, ◌<◌, ◌≤◌, ◌^◌, length, IfErr, IfOk, MatchOption};
 ghost use Rattle.fault_printer.specs.Lines as spec;
 ghost use Rattle.outputs.specs.Output.{TookInPieces};
 ghost use Rattle.outputs.specs.Pieces.{Puts, length_so_far};
@@ -23,7 +23,8 @@ fn name_of(files: &[File], number: usize) -> &str
 
 /// How many bytes the line of a fault has, where a machine number holds that.
 fn line_len(files: &[File], fault: &Fault) -> Option<usize>
-    ensures { IfSome result (λ len. len ≡ length (spec.line_of files.now fault.now)) }
+    ensures { MatchOption result (2 ^ 64 ≤ length (spec.line_of files.now fault.now))
+        (λ len. len ≡ length (spec.line_of files.now fault.now)) }
 {
     let name = name_of(files, fault.place.file).len();
     let number = Buffer::new().format(fault.place.line).len();
@@ -35,7 +36,8 @@ fn line_len(files: &[File], fault: &Fault) -> Option<usize>
 
 /// How many bytes the lines of faults have, where a machine number holds that.
 fn lines_len(files: &[File], faults: &[Fault]) -> Option<usize>
-    ensures { IfSome result (λ len. len ≡ length (spec.lines_of files.now faults.now)) }
+    ensures { MatchOption result (2 ^ 64 ≤ length (spec.lines_of files.now faults.now))
+        (λ len. len ≡ length (spec.lines_of files.now faults.now)) }
 {
     let mut len = 0usize;
     for fault in faults {
@@ -133,7 +135,8 @@ impl FaultLines {
     /// The lines of the faults of these texts. Refused where a machine number doesn't hold how many
     /// bytes they have, as a text of that size would be.
     pub fn new(texts: Texts, faults: List<Fault>) -> Result<FaultLines, AllocError>
-        ensures { IfOk result (λ lines. lines ≡ spec.lines_of texts.files faults) }
+        ensures lines { IfOk result (λ lines. lines ≡ spec.lines_of texts.files faults) }
+        ensures refused { IfErr result (λ _. 2 ^ 64 ≤ length (spec.lines_of texts.files faults)) }
     {
         match lines_len(texts.files(), faults.as_slice()) {
             Some(len) => Ok(FaultLines { texts, faults, len }),
