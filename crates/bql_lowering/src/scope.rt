@@ -8,10 +8,10 @@ ghost use Rattle.bql_types.specs.Keys.{lent_trees};
 ghost use Rattle.bql_types.specs.Sought.{is_key};
 ghost use Rattle.query_rows.specs.ColumnShape.{AreBounds};
 
-use bql_plan::shape_in;
 use bql_tree::{BinaryOperator, Expr};
 use bql_types::grouped::Key;
 use bql_types::same::same;
+use bql_types::shaped::shape_in;
 use limits::Bounds;
 use query_rows::Shape;
 use std::alloc::{AllocError, Global};

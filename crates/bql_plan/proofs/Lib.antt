@@ -1,4 +1,3 @@
-pub mod LabelFacts
 pub mod PlanFacts
 pub mod LawFacts
 pub mod WholeFacts

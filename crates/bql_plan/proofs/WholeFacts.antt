@@ -1,31 +1,23 @@
 -- Why shapes are whole: what has no cause has a shape with each of its parts.
-use Rattle.std.proofs.Common.{◌≡◌, ℕ, zero, suc, Bool, true, false, not, ◌&&◌, List, [], ◌∷◌, ◌++◌}
-use Rattle.std.proofs.Common.{Option, Some, None, refl, sym, subst, ◌⊎◌, inl, inr, map}
+use Rattle.std.proofs.Common.{◌≡◌, ℕ, Bool, true, false, not, ◌&&◌, List, [], ◌∷◌, ◌++◌}
+use Rattle.std.proofs.Common.{Option, Some, None, refl, ◌⊎◌, inl, inr, map}
 use Rattle.std.proofs.Common.{if◌then◌else◌}
-use Rattle.std.specs.List.{AllByRecursion, slice_get}
-use Rattle.std.specs.Option.{option_map}
-use Rattle.theory.specs.Form.{steps}
+use Rattle.std.specs.List.{AllByRecursion}
 use Rattle.limits.specs.declared.bounds.Bounds.{Bounds}
 use Rattle.bql_parser.specs.Asked.{Asked, Target, Item, ItemKind, target_item, tree_item}
 use Rattle.bql_plan.specs.Labels.{labelled, all_labelled}
-use Rattle.bql_plan.specs.Plan.{added, tree_by, own_trees, shown, aggregates_in, all_aggregates}
-use Rattle.bql_plan.specs.Plan.{aggregates_of}
-use Rattle.bql_plan.specs.Planned.{with_shapes, planned, gathered, first_of, first_part}
+use Rattle.bql_plan.specs.Plan.{tree_by, own_trees}
 use Rattle.bql_plan.specs.Whole.{IsWhole, AreWhole, HasWholeShapes, TypedAreWhole, expressions}
-use Rattle.bql_plan.specs.Whole.{filter_trees, group_trees, IsWholeShaped, IsWholeIfThere}
-use Rattle.bql_plan.specs.Whole.{IsWholePlan, IsWholeInput}
-use Rattle.bql_tree.specs.Tree.{Operation, leaf_of, one_of, two_of, call_of, Tree, node, Trees}
+use Rattle.bql_plan.specs.Whole.{filter_trees, group_trees}
+use Rattle.bql_tree.specs.Tree.{Tree, node, Trees}
 use Rattle.bql_tree.specs.Tree.{trees, no_trees}
-use Rattle.bql_tree.specs.declared.tree.Leaf.TheVariants as leaf
 use Rattle.bql_types.specs.Shaped.{shape_causes, all_shape_causes, is_equation, is_null}
-use Rattle.bql_types.specs.Sought.{misplaced, balances, is_aggregate, is_key}
-use Rattle.bql_types.specs.Typing.{IsTyped, each, Grouping, grouping_of, grouping_by, target_tree}
+use Rattle.bql_types.specs.Sought.{misplaced, balances}
+use Rattle.bql_types.specs.Typing.{each, Grouping, grouping_of, target_tree}
 use Rattle.bql_types.specs.Typing.{shown_causes, row_causes, grouped_causes, filter_causes}
 use Rattle.bql_types.specs.Typing.{filters_causes, target_causes, group_causes, group_item_causes}
 use Rattle.bql_types.specs.Typing.{group_causes_by, order_item_causes, order_causes_by}
-use Rattle.bql_types.specs.Typing.{order_causes_at, place_of, causes, key_of, key_by}
-use Rattle.bql_types.specs.Typing.{keys_of, plain_target, plain_targets, tree_of_found}
-use Rattle.bql_types.specs.Typing.{target_aggregates, keys_of_targets, one_target_aggregates}
+use Rattle.bql_types.specs.Typing.{order_causes_at, place_of, causes}
 use Rattle.bql_types.proofs.LawFacts.{no_more, shapes_are_found}
 
 -- ---- an expression without causes
@@ -153,159 +145,3 @@ all_expressions b s h =
 pub typed_are_whole : TypedAreWhole
 typed_are_whole b q e =
     all b (expressions q) (all_expressions b q (faultless b q e))
-
--- ---- those of a plan
-
-is_added : (is : Bool) (P : Tree ℕ → Type 0) (ts : List (Tree ℕ)) (t : Tree ℕ)
-    → AllByRecursion P ts → P t → AllByRecursion P (if is then ts else ts ++ t ∷ [])
-is_added true P ts t h e = h
-is_added false P ts t h e = both_are P ts (t ∷ []) h (e, tt)
-
-are_added : (P : Tree ℕ → Type 0) (us ts : List (Tree ℕ)) → AllByRecursion P ts
-    → AllByRecursion P us → AllByRecursion P (steps added ts us)
-are_added P [] ts h k = h
-are_added P (u ∷ us) ts h k =
-    are_added P us (added ts u) (is_added (is_key ts u) P ts u h k.0) k.1
-
--- ---- the inputs of aggregates
-
-abbrev HasInput : Bounds → Tree ℕ → Type 0
-HasInput b t = AreFaultless b (filter_trees (first_part t))
-
-abbrev HaveInputs : Bounds → List (Tree ℕ) → Type 0
-HaveInputs b ts = AllByRecursion (HasInput b) ts
-
-no_equation : (op : Operation) → is_aggregate op ≡ true → is_equation op ≡ false
-no_equation (leaf_of l) e = refl
-no_equation (one_of op) e = refl
-no_equation (two_of op) e = absurd cc
-no_equation (call_of f) e = refl
-
-first_faultless : (b : Bounds) (eq : Bool) (parts : Trees ℕ) → eq ≡ false
-    → all_shape_causes b eq parts ≡ [] → AreFaultless b (filter_trees (first_of parts))
-first_faultless b eq no_trees is e = tt
-first_faultless b eq (trees t ts) is e =
-    let h = no_more (if eq && is_null t then [] else shape_causes b t) _ e in
-    (subst (λ z. (if z && is_null t then [] else shape_causes b t) ≡ []) is h.0, tt)
-
-null_has_none : (t : Tree ℕ) → is_null t ≡ true → aggregates_in t ≡ []
-null_has_none (node at (leaf_of leaf.Null) no_trees) e = refl
-null_has_none (node at (leaf_of leaf.Null) (trees t ts)) e = absurd cc
-null_has_none (node at (leaf_of l) parts) e = absurd cc
-null_has_none (node at op parts) e = absurd cc
-
-second : (a b : Bool) → (a && b) ≡ true → b ≡ true
-second true b e = e
-second false b e = absurd cc
-
-below : (skips : Bool) (b : Bounds) (t : Tree ℕ) → (skips ≡ true → is_null t ≡ true)
-    → (if skips then [] else shape_causes b t) ≡ []
-    → (shape_causes b t ≡ [] → HaveInputs b (aggregates_in t)) → HaveInputs b (aggregates_in t)
-below true b t is e h = subst (HaveInputs b) (sym (null_has_none t (is refl))) tt
-below false b t is e h = h e
-
-mutual
-  in_one : (b : Bounds) (t : Tree ℕ) → Faultless b t → HaveInputs b (aggregates_in t)
-  in_one b (node at op parts) e =
-      let h = no_more (all_shape_causes b (is_equation op) parts) _ e in
-      by (is_aggregate op) refl h.0 (in_parts b (is_equation op) parts h.0)
-    where
-      by : (is : Bool) → is_aggregate op ≡ is → all_shape_causes b (is_equation op) parts ≡ []
-          → HaveInputs b (all_aggregates parts)
-          → HaveInputs b (if is then node at op parts ∷ [] else all_aggregates parts)
-      by true is h k = (first_faultless b (is_equation op) parts (no_equation op is) h, tt)
-      by false is h k = k
-
-  in_parts : (b : Bounds) (eq : Bool) (ts : Trees ℕ) → all_shape_causes b eq ts ≡ []
-      → HaveInputs b (all_aggregates ts)
-  in_parts b eq no_trees e = tt
-  in_parts b eq (trees t ts) e =
-      let h = no_more (if eq && is_null t then [] else shape_causes b t) _ e in
-      both_are (HasInput b) (aggregates_in t) (all_aggregates ts)
-      (below (eq && is_null t) b t (second eq (is_null t)) h.0 (in_one b t))
-      (in_parts b eq ts h.1)
-
-in_each : (b : Bounds) (ts : List (Tree ℕ)) → AreFaultless b ts → HaveInputs b (aggregates_of ts)
-in_each b [] h = tt
-in_each b (t ∷ ts) h =
-    both_are (HasInput b) (aggregates_in t) (aggregates_of ts) (in_one b t h.0) (in_each b ts h.1)
-
-at_index : (b : Bounds) (ts : List Target) (index : ℕ) → AreFaultless b (map target_tree ts)
-    → AreFaultless b (tree_of_found (slice_get ts index))
-at_index b [] index h = tt
-at_index b (t ∷ ts) zero h = (h.0, tt)
-at_index b (t ∷ ts) (suc i) h = at_index b ts i h.1
-
-key_tree : (b : Bounds) (ts : List Target) (k : ItemKind) → AreFaultless b (map target_tree ts)
-    → AreFaultless b (tree_by k) → AreFaultless b (key_by ts k)
-key_tree b ts (target_item index) h e = at_index b ts index h
-key_tree b ts (tree_item t) h e = e
-
-front_of : (b : Bounds) (ts us : List (Tree ℕ)) → AreFaultless b (ts ++ us) → AreFaultless b ts
-front_of b [] us h = tt
-front_of b (t ∷ ts) us h = (h.0, front_of b ts us h.1)
-
-rear_of : (b : Bounds) (ts us : List (Tree ℕ)) → AreFaultless b (ts ++ us) → AreFaultless b us
-rear_of b [] us h = h
-rear_of b (t ∷ ts) us h = rear_of b ts us h.1
-
-item_keys : (b : Bounds) (ts : List Target) (is : List Item) → AreFaultless b (map target_tree ts)
-    → AreFaultless b (own_trees is) → AreFaultless b (keys_of ts is)
-item_keys b ts [] h k = tt
-item_keys b ts (i ∷ is) h k =
-    both b (key_of ts i) (keys_of ts is)
-    (key_tree b ts i.kind h (front_of b (tree_by i.kind) (own_trees is) k))
-    (item_keys b ts is h (rear_of b (tree_by i.kind) (own_trees is) k))
-
-plain_key : (is : Bool) (b : Bounds) (t : Tree ℕ) → Faultless b t
-    → AreFaultless b (if is then [] else t ∷ [])
-plain_key true b t e = tt
-plain_key false b t e = (e, tt)
-
-plain_keys : (b : Bounds) (ts : List Target) → AreFaultless b (map target_tree ts)
-    → AreFaultless b (plain_targets ts)
-plain_keys b [] h = tt
-plain_keys b (t ∷ ts) h =
-    both b (plain_target t) (plain_targets ts) (plain_key (target_aggregates t) b t.tree h.0)
-    (plain_keys b ts h.1)
-
-target_keys : (aggregating : Bool) (b : Bounds) (ts : List Target)
-    → AreFaultless b (map target_tree ts) → AreFaultless b (keys_of_targets aggregating ts)
-target_keys true b ts h = plain_keys b ts h
-target_keys false b ts h = tt
-
-keys : (b : Bounds) (ts : List Target) (o : Option (List Item))
-    → AreFaultless b (map target_tree ts) → AreFaultless b (group_trees o)
-    → AreFaultless b (grouping_by ts o).keys
-keys b ts None h k = target_keys (one_target_aggregates ts) b ts h
-keys b ts (Some is) h k = item_keys b ts is h k
-
-all_planned : (b : Bounds) (ts : List (Tree ℕ)) → AreFaultless b ts
-    → AllByRecursion IsWholeShaped (map (with_shapes b) ts)
-all_planned b [] h = tt
-all_planned b (t ∷ ts) h = (whole b t h.0, all_planned b ts h.1)
-
-planned_filter : (b : Bounds) (o : Option (Tree ℕ)) → AreFaultless b (filter_trees o)
-    → IsWholeIfThere (option_map (with_shapes b) o)
-planned_filter b None h = tt
-planned_filter b (Some t) h = whole b t h.0
-
-all_gathered : (b : Bounds) (ts : List (Tree ℕ)) → HaveInputs b ts
-    → AllByRecursion IsWholeInput (map (gathered b) ts)
-all_gathered b [] h = tt
-all_gathered b (t ∷ ts) h = (planned_filter b (first_part t) h.0, all_gathered b ts h.1)
-
-pub plan_is_whole : (b : Bounds) (q : Asked) → IsTyped b q → IsWholePlan (planned b q)
-plan_is_whole b q e =
-    let s = q in
-    let h = faultless b s e in
-    let all_shown = are_added (Faultless b) (own_trees s.order.items) (map target_tree s.targets) h.targets
-    h.order in
-    record {
-      from = planned_filter b s.filters.from h.from;
-      filter = planned_filter b s.filters.filter h.filter;
-      shown = all_planned b (shown s) all_shown;
-      keys = all_planned b (grouping_of s).keys (keys b s.targets s.group h.targets h.group);
-      aggregates = all_gathered b _
-          (are_added (HasInput b) (aggregates_of (shown s)) [] tt (in_each b (shown s) all_shown));
-    }

@@ -1,6 +1,5 @@
 pub mod Labels
 pub mod Plan
-pub mod Planned
 pub mod Kept
 pub mod Laws
 pub mod Whole

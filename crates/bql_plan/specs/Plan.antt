@@ -1,6 +1,6 @@
 -- What is computed for a query: the expressions that are shown or order rows, the keys, and what is
 -- gathered of each group.
-use Rattle.std.specs.Prelude.{ℕ, suc, List, [], ◌∷◌, ◌++◌, map, if◌then◌else◌}
+use Rattle.std.specs.Prelude.{ℕ, suc, List, [], ◌∷◌, ◌++◌, map, Option, Some, None, if◌then◌else◌}
 use Rattle.theory.specs.Form.{steps}
 use Rattle.bql_parser.specs.Asked.{Asked, Item, ItemKind, target_item, tree_item}
 use Rattle.bql_tree.specs.Tree.{Tree, node, Trees, no_trees, trees}
@@ -54,6 +54,14 @@ abbrev mutual
 abbrev pub aggregates_of : List (Tree ℕ) → List (Tree ℕ)
 aggregates_of [] = []
 aggregates_of (t ∷ ts) = aggregates_in t ++ aggregates_of ts
+
+-- the first part, of which an aggregate gathers the values; COUNT(*) has none
+abbrev pub first_of : Trees ℕ → Option (Tree ℕ)
+first_of no_trees = None
+first_of (trees t ts) = Some t
+
+abbrev pub first_part : Tree ℕ → Option (Tree ℕ)
+first_part (node at op parts) = first_of parts
 
 -- ---- plans
 

@@ -6,7 +6,6 @@ use Rattle.limits.specs.declared.bounds.Bounds.{Bounds}
 use Rattle.bql_parser.specs.Asked.{Asked, Item}
 use Rattle.bql_plan.specs.Labels.{Label, Labels, label, labels, no_labels, labelled}
 use Rattle.bql_plan.specs.Plan.{own_trees}
-use Rattle.bql_plan.specs.Planned.{Shaped, Gathered, Plan}
 use Rattle.bql_tree.specs.Tree.{Tree, node, Trees, trees, no_trees}
 use Rattle.query_rows.specs.declared.shape.Shape.{Shape}
 use Rattle.bql_types.specs.Shaped.{is_equation, is_null}
@@ -49,23 +48,3 @@ HasWholeShapes b t = IsWhole t (labelled b t)
 abbrev pub TypedAreWhole : Type 0
 TypedAreWhole = (b : Bounds) (s : Asked) → IsTyped b s
     → AllByRecursion (HasWholeShapes b) (expressions s)
-
--- ---- plans
-
-abbrev pub IsWholeShaped : Shaped → Type 0
-IsWholeShaped p = IsWhole p.tree p.shapes
-
-abbrev pub IsWholeIfThere : Option Shaped → Type 0
-IsWholeIfThere (Some p) = IsWholeShaped p
-IsWholeIfThere None = Unit {0}
-
-abbrev pub IsWholeInput : Gathered → Type 0
-IsWholeInput g = IsWholeIfThere g.input
-
--- all shapes of a plan are whole
-pub record IsWholePlan (p : Plan) : Type 0 where
-  pub from : IsWholeIfThere p.from
-  pub filter : IsWholeIfThere p.filter
-  pub shown : AllByRecursion IsWholeShaped p.shown
-  pub keys : AllByRecursion IsWholeShaped p.keys
-  pub aggregates : AllByRecursion IsWholeInput p.aggregates

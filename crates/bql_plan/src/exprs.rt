@@ -4,7 +4,6 @@ ghost use Rattle.theory.specs.Form.{steps};
 ghost use Rattle.bql_parser.specs.View.{target_of, item_of, kind_of};
 ghost use Rattle.bql_plan.specs.Kept.{lent_if};
 ghost use Rattle.bql_plan.specs.Plan as rule;
-ghost use Rattle.bql_plan.specs.Planned as part;
 ghost use Rattle.bql_tree.specs.Tree.{tree_of, trees_of};
 ghost use Rattle.bql_types.specs.Keys.{lent_tree, lent_trees};
 ghost use Rattle.bql_types.specs.Typing.{target_tree};
@@ -108,7 +107,7 @@ pub(crate) fn aggregates<'q, 'a>(
 
 /// The first of some parts, if there are any.
 fn first_of<'q, 'a>(es: &'q [Expr<'a>]) -> Option<Key<'q, 'a>>
-    ensures { lent_if result ≡ part.first_of (trees_of es.now) }
+    ensures { lent_if result ≡ rule.first_of (trees_of es.now) }
 {
     match es.first() {
         Some(expr) => Some(Key { expr }),
@@ -118,7 +117,7 @@ fn first_of<'q, 'a>(es: &'q [Expr<'a>]) -> Option<Key<'q, 'a>>
 
 /// The first part of an expression, if it has any.
 pub fn first_part<'q, 'a>(e: &'q Expr<'a>) -> Option<Key<'q, 'a>>
-    ensures { lent_if result ≡ part.first_part (tree_of e.now) }
+    ensures { lent_if result ≡ rule.first_part (tree_of e.now) }
 {
     match e {
         Expr::Leaf(_, _) => None,

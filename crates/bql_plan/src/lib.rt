@@ -1,24 +1,20 @@
-//! What is computed for a query, numbered as a program has it, with its shapes.
+//! What is computed for a query, numbered as a program has it.
 //!
 //! ```text
 //! // "SELECT year, sum(number), 2 * sum(number) ORDER BY 2, max(month), year"
 //! let query = parse_query(alloc, text)?;
-//! let typed = type_query(alloc, &query, &bounds)?;
-//! let plan = planned(alloc, &typed)?;
-//! // plan.shown:      year, sum(number), 2 * sum(number), and hidden behind them max(month)
-//! // plan.order:      1, 3, 0
-//! // plan.keys:       year, since the query aggregates
-//! // plan.aggregates: sum(number), once, and max(month)
+//! let numbering = numbered(alloc, &query)?;
+//! // numbering.shown:         year, sum(number), 2 * sum(number), and hidden behind them max(month)
+//! // numbering.order:         1, 3, 0
+//! // numbering.grouping.keys: year, since the query aggregates
+//! // numbering.aggregates:    sum(number), once, and max(month)
 //! ```
 //!
-//! A JOURNAL and a BALANCES are planned as the SELECT that they stand for. So the rows of a BALANCES
+//! A JOURNAL and a BALANCES are numbered as the SELECT that they stand for. So the rows of a BALANCES
 //! have the rank of their account's root hidden behind what is shown, and are ordered by it.
 //!
-//! # Shapes
-//!
-//! Each expression of a plan has its shape and those of all its parts beside it ([`Shapes`]), by
-//! the bounds within which the query has its type. None lacks but that of a NULL which is a side of
-//! an equation.
+//! Of a query that has a type, each expression has a shape, and so has each of its parts, but for a
+//! NULL that is a side of an equation: that is a law.
 //!
 //! # What is the same
 //!
@@ -29,15 +25,13 @@
 //!
 //! # Cost
 //!
-//! Each expression that is looked for is compared with those before it. A plan takes memory for its
-//! lists and shapes; expressions are lent.
+//! Each expression that is looked for is compared with those before it. A numbering takes memory for
+//! its lists; expressions are lent.
 #![tactic(auto)]
 
 mod exprs;
-mod labels;
 mod laws;
 mod plan;
 
 pub use exprs::first_part;
-pub use labels::{Shapes, shape_in, shapes_of};
-pub use plan::{Gathered, Numbering, Plan, Shaped, numbered, planned};
+pub use plan::{Numbering, numbered};

@@ -14,7 +14,7 @@ use std::alloc::{AllocError, Global};
 
 /// What is known of a part of an operation.
 #[derive(Clone, Copy, Drop, PartialEq, Eq)]
-pub enum Operand {
+pub(crate) enum Operand {
     /// A NULL that may stand there.
     Null,
     Shaped(Shape),
@@ -80,7 +80,7 @@ pub fn is_null(e: &Expr<'_>) -> bool
 }
 
 /// Whether it is `=` or `!=`.
-pub fn is_equality(op: BinaryOperator) -> bool
+fn is_equality(op: BinaryOperator) -> bool
     ensures { result ≡ rule.is_equality op }
 {
     op == BinaryOperator::Equal || op == BinaryOperator::NotEqual
@@ -98,7 +98,7 @@ fn beside_null(op: BinaryOperator) -> Result<Shape, Misfit>
 }
 
 /// What an operation on one part gives, if it has a shape.
-pub fn before(op: &UnaryOperator<'_>, x: Option<Shape>) -> Option<Result<Shape, Misfit>>
+fn before(op: &UnaryOperator<'_>, x: Option<Shape>) -> Option<Result<Shape, Misfit>>
     ensures { result ≡ seen_rule.before op.now x }
 {
     match x {
@@ -108,7 +108,7 @@ pub fn before(op: &UnaryOperator<'_>, x: Option<Shape>) -> Option<Result<Shape, 
 }
 
 /// What an operation between two parts gives, if they have shapes.
-pub fn between(op: BinaryOperator, x: Operand, y: Operand) -> Option<Result<Shape, Misfit>>
+fn between(op: BinaryOperator, x: Operand, y: Operand) -> Option<Result<Shape, Misfit>>
     ensures { result ≡ seen_rule.between op x y }
 {
     match (x, y) {
@@ -121,7 +121,7 @@ pub fn between(op: BinaryOperator, x: Operand, y: Operand) -> Option<Result<Shap
 }
 
 /// One more shape behind those of the parts before, if all have one.
-pub fn one_more(
+fn one_more(
     shapes: Option<Vec<Shape>>,
     shape: Option<Shape>,
 ) -> Result<Option<Vec<Shape>>, AllocError>
@@ -138,7 +138,7 @@ pub fn one_more(
 }
 
 /// What a function gives on its parts, if they have shapes.
-pub fn called(
+fn called(
     bounds: &Bounds,
     function: Function,
     shapes: Option<Vec<Shape>>,
@@ -230,4 +230,13 @@ pub(crate) fn look_at_all(
         shapes = one_more(shapes, e.shape)?;
     }
     Ok(SeenAll { shapes, found })
+}
+
+/// The shape of an expression, if it has one.
+pub fn shape_in(alloc: Global, bounds: &Bounds, e: &Expr<'_>) -> Result<Option<Shape>, AllocError>
+    requires { AreBounds bounds.now }
+    ensures { IfOk result (λ r. r ≡ rule.shape_of bounds.now (tree_of e.now)) }
+{
+    let seen = look(alloc, bounds, e, None)?;
+    Ok(seen.shape)
 }

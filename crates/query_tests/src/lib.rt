@@ -6,8 +6,6 @@
 #[cfg(test)]
 mod batches;
 #[cfg(test)]
-mod bounds;
-#[cfg(test)]
 mod cut_files;
 #[cfg(test)]
 mod ledgers;
@@ -15,8 +13,6 @@ mod ledgers;
 mod plans;
 #[cfg(test)]
 mod runs;
-#[cfg(test)]
-mod shapes;
 #[cfg(test)]
 mod short_outputs;
 #[cfg(test)]

@@ -1,5 +1,5 @@
 use Rattle.std.proofs.Common.{sym, ap, ◌∙◌}
-use Rattle.bql_plan.specs.Planned.{first_part}
+use Rattle.bql_plan.specs.Plan.{first_part}
 use Rattle.bql_types.proofs.CauseFacts.{is_call}
 use Rattle.bql_plan.proofs.exprs.first_part.Goals as goal
 
