@@ -165,8 +165,8 @@ impl<'a> Accounts<'a> {
 
     /// Adds the faults of a posting: F6, F7, F8. Where its account was opened, the name becomes the
     /// one that the open wrote: these are the same bytes, which all postings on the account lend
-    /// from one place then. It gives the account's place in the order in which accounts were opened,
-    /// 0 where it wasn't: a number by which what else is kept of it may be found sooner.
+    /// from one place then. It gives a number at which what else is kept of the account may be
+    /// looked for first: nothing rests on it, and no clause says what it is.
     pub fn note_posting(
         &mut self,
         account: &mut Account<'a>,

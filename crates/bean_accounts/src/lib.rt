@@ -28,9 +28,9 @@
 //! A look-up by the account's name for each call, which of a posting is seldom more than a look where
 //! an account with such an end was found last; a posting also looks through the currencies that the
 //! account's open lists. Memory is taken for each account, and for each currency of its open.
-//! Accounts are numbered as they are opened, and a posting is told the number of its account, by
-//! which what else is kept of it is found without a look-up. It is given the name that the open
-//! wrote too, so that all postings on an account lend their names from one place.
+//! A posting is told a number at which what else is kept of its account is looked for first, mostly
+//! without a look-up; nothing rests on it. It is given the name that the open wrote too, so that all
+//! postings on an account lend their names from one place.
 #![tactic(auto)]
 
 mod accounts;

@@ -56,5 +56,5 @@ pub use num::{Num, NumFault};
 pub use power::power_of_ten;
 pub use roots::Root;
 pub use slice::Slice;
-pub use span::{Place, Span};
+pub use span::Place;
 pub use texts::Text;

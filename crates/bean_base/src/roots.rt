@@ -1,7 +1,6 @@
 //! The five accounts that all others stand under.
 ghost use Rattle.std.specs.Prelude.{◌≡◌};
 ghost use Rattle.bean_base.specs.Root.{root_of};
-ghost use Rattle.bean_base.specs.Root as spec;
 
 /// What an account may begin with, in the order in which a report shows them.
 #[derive(Clone, Copy, Drop, PartialEq, Eq, PartialOrd, Ord, Hash)]
@@ -14,19 +13,6 @@ pub enum Root {
 }
 
 impl Root {
-    /// How the root is written.
-    pub fn spelling(self) -> &'static str
-        ensures { result.now ≡ spec.spelling self }
-    {
-        match self {
-            Root::Assets => "Assets",
-            Root::Liabilities => "Liabilities",
-            Root::Equity => "Equity",
-            Root::Income => "Income",
-            Root::Expenses => "Expenses",
-        }
-    }
-
     /// The root that a component is, if it is one.
     pub fn of(component: &str) -> Option<Root>
         ensures { result ≡ root_of component.now }

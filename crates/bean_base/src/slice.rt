@@ -26,6 +26,7 @@ impl<'a> Model for Slice<'a> {
 }
 
 impl<'a> Slice<'a> {
+    /// All of a text, as a slice.
     pub fn new(text: &'a str) -> Slice<'a>
         ensures { result ≡ text.now }
     {

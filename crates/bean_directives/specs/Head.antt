@@ -1,11 +1,18 @@
 -- The first line of a directive: a day, a word or a sign that tells the kind, and what stands
 -- behind it.
 --
--- open account [currency {"," currency}] [text] close account pad account account
--- commodity currency     note     account text           document account text {tag|link}
--- balance   account expression ["~" expression] currency  price   currency expression currency
--- event     text text    query    text text              custom  text {value}
--- "*", "!", txn          [text [text]] {tag|link}
+-- open           account [currency {"," currency}] [text]
+-- close          account
+-- pad            account account
+-- commodity      currency
+-- note           account text
+-- document       account text {tag|link}
+-- balance        account expression ["~" expression] currency
+-- price          currency expression currency
+-- event          text text
+-- query          text text
+-- custom         text {value}
+-- "*", "!", txn  [text [text]] {tag|link}
 use Rattle.std.specs.Prelude.{◌≡◌, ℕ, Bool, true, false, List, [], ◌∷◌, Option, Some, None}
 use Rattle.theory.specs.Form.{Form, Is, word, made, ◌<+>◌, behind, due, separated}
 use Rattle.bean_base.specs.declared.days.Day as days

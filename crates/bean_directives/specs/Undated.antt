@@ -1,7 +1,12 @@
 -- A block without a day: one line, of a word and what stands behind it.
 --
--- option  text text     include text     plugin   text [text]
--- pushtag tag           poptag  tag      pushmeta key value     popmeta key
+-- option    text text
+-- include   text
+-- plugin    text [text]
+-- pushtag   tag
+-- poptag    tag
+-- pushmeta  key value
+-- popmeta   key
 use Rattle.std.specs.Prelude.{◌≡◌, ℕ, false, List, ◌∷◌, Option, codes, if◌then◌else◌}
 use Rattle.std.specs.Str.{bytes_eq}
 use Rattle.theory.specs.Form.{Form, Is, word, made, ◌<+>◌, due}

@@ -12,7 +12,7 @@ use Rattle.bean_lexer.proofs.WordFacts.{spelled, not_both}
 use Rattle.bean_lexer.proofs.OneListOfTokensFacts.{one_keyword, one_sign}
 use Rattle.bean_grammar.specs.Lexeme.{Lexeme, Day, Number, Text, Account, Currency, Tag, Link, Key}
 use Rattle.bean_grammar.specs.Lexeme.{Keyword, Sign}
-use Rattle.bean_grammar.specs.Lexeme.{Star, Bang, Txn, flag_word, plus_or_minus, lexeme_at}
+use Rattle.bean_grammar.specs.Lexeme.{plus_or_minus, lexeme_at}
 use Rattle.bean_grammar.specs.Lexeme.{same_keyword, same_sign, begins_with_keyword}
 use Rattle.bean_grammar.specs.Lexeme.{begins_with_sign}
 
@@ -111,17 +111,6 @@ exact_link a b e = cc
 
 pub exact_key : IsExact Key
 exact_key a b e = cc
-
-pub exact_flag : IsExact flag_word
-exact_flag Star Star e = refl
-exact_flag Star Bang e = cc
-exact_flag Star Txn e = cc
-exact_flag Bang Star e = cc
-exact_flag Bang Bang e = refl
-exact_flag Bang Txn e = cc
-exact_flag Txn Star e = cc
-exact_flag Txn Bang e = cc
-exact_flag Txn Txn e = refl
 
 pub exact_plus_or_minus : IsExact plus_or_minus
 exact_plus_or_minus true true e = refl

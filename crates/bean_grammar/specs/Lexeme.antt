@@ -2,12 +2,9 @@
 use Rattle.std.specs.Prelude.{ℕ, ◌-◌, Bool, true, false, List, [], ◌∷◌, length, take, drop}
 use Rattle.std.specs.Str.{bytes_eq}
 use Rattle.bean_lexer.specs.TokenForm.{keyword_spelling, sign_spelling}
-use Rattle.bean_base.specs.declared.flags.Flag as flags
-use Rattle.bean_base.specs.declared.flags.Flag.TheVariants.{Complete, Incomplete}
 use Rattle.bean_lexer.specs.declared.kind.Kind as kinds
 use Rattle.bean_lexer.specs.declared.kind.Kind.TheVariants as kind
 use Rattle.bean_lexer.specs.declared.kind.Keyword as keywords
-use Rattle.bean_lexer.specs.declared.kind.Keyword.TheVariants as word
 use Rattle.bean_lexer.specs.declared.kind.Sign as signs
 use Rattle.bean_lexer.specs.declared.kind.Sign.TheVariants as mark
 use Rattle.bean_lexer.specs.declared.token.Token.{Token}
@@ -92,28 +89,6 @@ same_sign a b = bytes_eq (sign_spelling a) (sign_spelling b)
 abbrev pub begins_with_sign : signs.Sign → List Lexeme → Bool
 begins_with_sign s (Sign t ∷ rest) = same_sign t s
 begins_with_sign s rest = false
-
--- the flags of a transaction, as they are written
-pub data FlagWord : Type 0 where
-  Star : FlagWord
-  Bang : FlagWord
-  Txn : FlagWord
-
-abbrev pub flag_word : FlagWord → Lexeme
-flag_word Star = Sign mark.Star
-flag_word Bang = Sign mark.Bang
-flag_word Txn = Keyword word.Txn
-
-abbrev pub flag_of : FlagWord → flags.Flag
-flag_of Star = Complete
-flag_of Bang = Incomplete
-flag_of Txn = Complete
-
-abbrev pub begins_with_flag : List Lexeme → Bool
-begins_with_flag (Sign mark.Star ∷ rest) = true
-begins_with_flag (Sign mark.Bang ∷ rest) = true
-begins_with_flag (Keyword word.Txn ∷ rest) = true
-begins_with_flag rest = false
 
 -- the sign of a number: true where it is a minus
 abbrev pub plus_or_minus : Bool → Lexeme

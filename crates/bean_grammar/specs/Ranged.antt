@@ -1,5 +1,5 @@
 -- Values in the range of a ledger or outside it.
-use Rattle.std.specs.Prelude.{Bool, true, false, List, [], ◌∷◌, Option, Some, None}
+use Rattle.std.specs.Prelude.{Bool, true, false, Option, Some, None}
 use Rattle.bean_grammar.specs.declared.ranged.Ranged.{Ranged}
 use Rattle.bean_grammar.specs.declared.ranged.Ranged.TheVariants.{Within, Outside}
 
@@ -35,11 +35,3 @@ abbrev pub none_outside : {V : Type 0} → Option (Ranged V) → Bool
 none_outside None = true
 none_outside (Some (Within v)) = true
 none_outside (Some Outside) = false
-
-abbrev pub push_front : {V : Type 0} → V → List V → List V
-push_front v vs = v ∷ vs
-
--- a list is in range where each of it is
-abbrev pub all_within : {V : Type 0} → List (Ranged V) → Ranged (List V)
-all_within [] = Within []
-all_within (v ∷ vs) = ranged_map2 push_front v (all_within vs)

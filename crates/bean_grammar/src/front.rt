@@ -3,14 +3,14 @@ ghost use Rattle.std.specs.Prelude.{◌≡◌, ◌<◌, ◌-◌, [], ◌∷◌, 
 ghost use Rattle.std.specs.Prelude.{IsTrue, MatchOption, IfSome};
 ghost use Rattle.bean_base.specs.Day.{is_day_form};
 ghost use Rattle.bean_base.specs.Numeral.{is_number};
-ghost use Rattle.bean_lexer.specs.TokenForm.{is_text, is_tag, is_link, is_key};
+ghost use Rattle.bean_lexer.specs.TokenForm.{is_text, is_key};
 ghost use Rattle.bean_grammar.specs.Lexeme as lexeme;
-ghost use Rattle.bean_grammar.specs.Lexeme.{lexeme_of, lexemes, flag_word, plus_or_minus};
+ghost use Rattle.bean_grammar.specs.Lexeme.{lexeme_of, lexemes, plus_or_minus};
 ghost use Rattle.bean_grammar.specs.Lexeme.{begins_with_day, begins_with_number, begins_with_text};
 ghost use Rattle.bean_grammar.specs.Lexeme.{begins_with_account, begins_with_currency};
 ghost use Rattle.bean_grammar.specs.Lexeme.{begins_with_tag, begins_with_link, begins_with_key};
 ghost use Rattle.bean_grammar.specs.Lexeme.{begins_with_keyword, begins_with_sign};
-ghost use Rattle.bean_grammar.specs.Lexeme.{begins_with_flag, begins_with_plus_or_minus};
+ghost use Rattle.bean_grammar.specs.Lexeme.{begins_with_plus_or_minus};
 
 use bean_base::{Account, Currency};
 use bean_lexer::{Keyword, Kind, Link, MetaKey, Sign, Tag, Token};

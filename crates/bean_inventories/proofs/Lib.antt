@@ -6,6 +6,5 @@ pub mod OrderLeftFacts
 pub mod CostFacts
 pub mod AtCostFacts
 pub mod KeptFacts
-pub mod NegatedFacts
 pub mod PartFacts
 pub mod HeldFacts

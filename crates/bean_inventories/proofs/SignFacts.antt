@@ -1,9 +1,8 @@
 -- The table of signs, once the lots of a currency are counted anew.
-use Rattle.std.proofs.Common.{◌≡◌, ◌+◌, ◌&&◌, ℕ, ℤ, Bool, true, false, cond, List, Option, Some, None}
+use Rattle.std.proofs.Common.{◌≡◌, ◌+◌, ◌&&◌, ℕ, ℤ, Bool, true, false, cond, List, Option, Some}
 use Rattle.std.proofs.Common.{unwrap_or, refl, sym, ap, true≢false, arith}
 use Rattle.std.specs.Map.{lookup}
-use Rattle.std.specs.Option.{option_map}
-use Rattle.bean_inventories.specs.Signs.{negated, no_signs, same_currency, signs_at}
+use Rattle.bean_inventories.specs.Signs.{no_signs, same_currency, signs_at}
 use Rattle.bean_inventories.specs.declared.inventory.signs.SignTable.{SignTable}
 use Rattle.bean_inventories.specs.declared.inventory.signs.Signs.{Signs}
 
@@ -11,11 +10,6 @@ pub put_or_before : (b : Bool) (new none : Signs) (before : Option Signs)
     → unwrap_or (cond b (Some new) before) none ≡ cond b new (unwrap_or before none)
 put_or_before true new none before = refl
 put_or_before false new none before = refl
-
-pub turned : (o : Option Signs) → unwrap_or (option_map negated o) no_signs
-    ≡ negated (unwrap_or o no_signs)
-turned (Some s) = refl
-turned None = refl
 
 -- a lot of the currency that is counted anew changes the count of that currency alone
 pub recounted : (f : ℤ → ℕ) (g : Signs → ℕ) (b lot : Bool) (m n : ℤ) (own old new now : Signs)

@@ -15,9 +15,6 @@ abbrev pub against : ℤ → ℕ → ℕ → ℕ
 against want long short =
     if lt_z want (pos 0) then long else (if lt_z (pos 0) want then short else 0)
 
-abbrev pub negated : Signs → Signs
-negated s = record { long = s.short; short = s.long }
-
 abbrev pub same_currency : LotCurrency → LotCurrency → Bool
 same_currency a b = same_text a.currency b.currency
 

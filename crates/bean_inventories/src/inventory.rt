@@ -1,11 +1,11 @@
 //! Inventories: what an account holds of each currency, in lots or without one.
-ghost use Rattle.std.specs.Prelude.{◌≡◌, ◌+ℤ◌, ◌<◌, ◌^◌, [], All, IfSome, IsTrue, OnErr, OnOk};
-ghost use Rattle.std.specs.Prelude.{filter, length, map};
+ghost use Rattle.std.specs.Prelude.{◌≡◌, ◌+ℤ◌, ◌<◌, ◌^◌, [], IfSome, IsTrue, OnErr, OnOk};
+ghost use Rattle.std.specs.Prelude.{filter, length};
 ghost use Rattle.std.specs.Int.{w128};
 ghost use Rattle.std.specs.Int.RustNames.{FitsSigned};
 ghost use Rattle.bean_inventories.specs.AtCost.{is_lot_at};
 ghost use Rattle.bean_inventories.specs.Days.{RiseInDays};
-ghost use Rattle.bean_lots.specs.Inventory.{IsInventory, MayBeNegated, added, count_of, negative_entry};
+ghost use Rattle.bean_lots.specs.Inventory.{IsInventory, added, count_of};
 ghost use Rattle.bean_lots.specs.Inventory as spec;
 
 mod costs;
@@ -52,15 +52,6 @@ impl<'a> Model for Inventory<'a> {
     ghost invariant = { λ a. IsKept a.slots };
 }
 
-impl Clone for Inventory<'_> {
-    ghost is_clone = { λ a b. b ≡ a };
-
-    fn clone(&self) -> Result<Self, AllocError> {
-        let slots = self.slots.clone()?;
-        Ok(Inventory { slots })
-    }
-}
-
 impl<'a> Inventory<'a> {
     /// The inventory that holds nothing. Takes no memory.
     pub fn new(alloc: Global) -> Inventory<'a>
@@ -94,14 +85,6 @@ impl<'a> Inventory<'a> {
         ensures err { OnErr result (self.new ≡ self.old) }
     {
         self.slots.add(key, count)
-    }
-
-    /// Changes the sign of every count. None is the least of 128 bits.
-    pub fn negate(&mut self)
-        requires { All MayBeNegated self.old }
-        ensures { self.new ≡ map negative_entry self.old }
-    {
-        self.slots.negate();
     }
 
     /// The positions, in order of entry.

@@ -21,7 +21,7 @@
 //! `Positions::about` finds those of a day by halves. Where there are more than a few,
 //! `positions_at` finds the lot of a cost in constant time, if the lots at costs of that number,
 //! whatever the currency, are of one day and without a label. What tells it takes some 60 bytes for
-//! each number that lots cost; a clone begins without it. No contract shows what is kept.
+//! each number that lots cost. No contract shows what is kept.
 #![tactic(auto)]
 
 pub mod inventory;

@@ -1,10 +1,9 @@
 -- A text has one list of tokens.
-use Rattle.std.proofs.Common.{◌≡◌, ℕ, ◌+◌, ◌-◌, ◌<◌, ◌^◌, IsTrue, ◌||◌, ◌&&◌, if◌then◌else◌, Bool}
+use Rattle.std.proofs.Common.{◌≡◌, ℕ, ◌+◌, ◌-◌, ◌<◌, IsTrue, ◌||◌, ◌&&◌, if◌then◌else◌, Bool}
 use Rattle.std.proofs.Common.{true, false, nat_eq, nat_lt, List, [], ◌∷◌, Option, Some, option_map}
 use Rattle.std.proofs.Common.{length, get_or, take, drop, arith, sym, ap, subst, ◌∙◌, refl, ⊎_elim}
 use Rattle.std.proofs.Common.{inl, codes, length-drop}
 use mathlib.Core.HLevel.{is_prop→PathP}
-use Rattle.std.proofs.Math.Bridge.{le_prop}
 use Rattle.std.proofs.Math.Bool.{Bool-set}
 use Rattle.std.proofs.str.Laws.{order}
 use Rattle.std.proofs.lemmas.Bool.Decides.{nat_tests}
@@ -339,7 +338,6 @@ same_token t u kind place text start line = λ i. record {
   of_kind =
       is_prop→PathP (λ j. IsTrue (may_be (kind j) (text j))) (λ j. Bool-set _ _) t.of_kind u.of_kind
       i;
-  ends = is_prop→PathP (λ j. start j + length (text j) < 2 ^ 64) (λ j. le_prop) t.ends u.ends i;
 }
 
 same_from : (text : List ℕ) (at : ℕ) (ts us : List Token) → TokensFrom text at ts

@@ -140,7 +140,6 @@ one_more text at start small is low go =
       kind = found.0;
       place = place_behind text at;
       of_kind = token_may_be bs found.0 n found.3;
-      ends = omega arith;
     } in (
       token ∷ rest.0,
       (

@@ -15,8 +15,7 @@ use Rattle.bean_load.specs.declared.cause.LoadCause.TheVariants.{Unreadable, Not
 use Rattle.bean_load.specs.declared.gathering.TheConstants.{DEEPEST}
 
 -- What comes of what is known so far: which readings are left of those to come from the source, and
--- what is known then, or why
--- there are no texts.
+-- what is known then, or why there are no texts.
 abbrev pub Step : Type 1
 Step = Gathered → List Reading → List Reading → Result Gathered (Refusal LoadCause) → Type 0
 
@@ -61,8 +60,8 @@ Stands Text file line bytes s todo rest result =
     × (result ≡ gone_on file line.line end)
 
 -- what an include line comes to: F22 where its name was asked before; L3 where there is no room for
--- it; F22 where the source
--- fails; L3 for too many bytes; F22 for bytes that are no text; else the text stands there
+-- it; F22 where the source fails; L3 for too many bytes; F22 for bytes that are no text; else the
+-- text stands there
 abbrev pub LineBy : (List ℕ → List ℕ → Step) → ℕ → ℕ → Include → Step
 LineBy Text room file line s todo rest result =
     MatchBool (was_asked line.name s) (Ends (Ok (with_fault file line.line s)) todo rest result)

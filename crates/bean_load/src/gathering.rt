@@ -82,6 +82,7 @@ fn text_of(bytes: Vec<u8>) -> SourceAnswer
 }
 
 impl Gathering {
+    /// Nothing was asked for yet. Takes no memory.
     pub fn new(alloc: Global) -> Gathering
         ensures { result ≡ spec.nothing }
     {

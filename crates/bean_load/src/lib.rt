@@ -36,7 +36,8 @@
 //! Each text is searched for lines that begin with the word `include`; where there are some, its
 //! tokens are read once to find its include lines. It is parsed once to be loaded. The name of an
 //! include line is made when the line is met, and looked up by its hash. The directives are put in
-//! order where they lie, which takes 12 bytes for each, half of what its place takes.
+//! order where they lie, which takes 8 bytes for each, and as many again for each of those that
+//! don't rise (where these are more than half, at most for all).
 #![tactic(auto)]
 
 mod cause;

@@ -74,6 +74,7 @@ pub struct Codes {
 }
 
 impl Codes {
+    /// Those of no directives. Takes no memory.
     pub fn new(alloc: Global) -> Codes
         ensures { AreCodesIf [] result }
     {

@@ -8,9 +8,8 @@ use Rattle.bean_lexer.specs.declared.lexer.Lexer.{Lexer}
 use Rattle.bean_parser.specs.Block.{begins_block, blocks}
 use Rattle.bean_parser.specs.declared.reader.BlockReader.{BlockReader}
 
--- a token that was read ahead, and those that are to come from a lexer behind it; with no such
--- token
--- there are none
+-- a token that was read ahead, and those that are to come from a lexer behind it; with no
+-- such token there are none
 abbrev pub ToComeFrom : Option Token → Lexer → List Token → Type 0
 ToComeFrom None lexer ts = ts ≡ []
 ToComeFrom (Some t) lexer [] = ⊥

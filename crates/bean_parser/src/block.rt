@@ -255,6 +255,7 @@ fn statement<'a>(
     }
 }
 
+/// A fault at a line of the text that is parsed, of which the number isn't known here.
 pub fn fault_at(kind: FaultKind, line: usize) -> Fault
     ensures { result ≡ outcomes.fault_at kind line }
 {

@@ -42,6 +42,7 @@ pub struct CostParts<'a> {
 }
 
 impl<'a> CostParts<'a> {
+    /// None of them is written.
     pub fn none() -> CostParts<'a>
         ensures { result ≡ rule.no_parts }
     {

@@ -27,8 +27,7 @@ abbrev pub IsQueue : Method → List (Lot × ℕ) → List (Lot × ℕ) → Type
 IsQueue m cs q = IsArrangedByKey day_of (order_of m) cs q
 
 -- the first candidates of the queue are taken, each gives some of what is held of it, each but the
--- last all of it,
--- and together they give the want
+-- last all of it, and together they give the want
 pub record AreTakes (q : List (Lot × ℕ)) (want : ℕ) (ts : List (Lot × ℕ)) : Type 0 where
   pub few : length ts ≤ length q
   pub lots : (k : ℕ) (d : Lot × ℕ) → k < length ts

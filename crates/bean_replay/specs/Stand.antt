@@ -90,10 +90,6 @@ posting_step p = step.Posting p.account p.units
 abbrev pub steps_of_postings : List Posted → List Step
 steps_of_postings posted = reverse (map posting_step posted)
 
--- of what is booked
-abbrev pub steps_of : List Draft → List Step
-steps_of ds = steps_of_postings (postings_of ds)
-
 abbrev pub with_faults : Stand → List Fault → Stand
 with_faults st fs = record st { faults = st.faults ++ fs }
 
@@ -167,6 +163,6 @@ LeadsTo m [] new = new ≡ start
 LeadsTo m (d ∷ past) new =
     (st : Stand) × LeadsTo m past st × IsStepBy m past st d d.item.kind new
 
--- there are more than a million booked postings
+-- there are more booked postings than a ledger may have
 abbrev pub IsFull : Stand → Type 0
 IsFull st = MOST_POSTINGS < length (postings_of st.drafts)

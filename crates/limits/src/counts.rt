@@ -1,4 +1,5 @@
-//! The limits of ledgers, of queries and of programs, each told once.
+//! The limits of ledgers, of queries and of programs, each told once, but for those of loading: the
+//! bytes of all texts, the names that are asked for, and how deep texts stand in one another.
 
 /// The most postings of a ledger.
 pub const MOST_POSTINGS: usize = 4_000_000;

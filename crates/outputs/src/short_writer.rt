@@ -47,20 +47,6 @@ impl ShortWriter {
     {
         &self.taken
     }
-
-    /// Whether it ever failed for want of memory.
-    pub fn is_starved(&self) -> bool
-        ensures { result ≡ self.now.starved }
-    {
-        self.starved
-    }
-
-    /// How often it failed.
-    pub fn refusals(&self) -> u64
-        ensures { result ≡ self.now.refusals }
-    {
-        self.refusals
-    }
 }
 
 impl Output for ShortWriter {

@@ -30,13 +30,6 @@ impl<P> Stream<P> {
     {
         Stream { to, refusals: 0 }
     }
-
-    /// How often it failed, or took none of some bytes.
-    pub fn refusals(&self) -> u64
-        ensures { result ≡ self.now }
-    {
-        self.refusals
-    }
 }
 
 /// Hands bytes to the system, which takes some of them, from the front on. A call that a signal

@@ -258,13 +258,6 @@ impl<'a> Entry<'a> {
         self.extras.get().links.get()
     }
 
-    /// The accounts of all its postings.
-    pub fn accounts(&self) -> &TextSet<'a>
-        ensures { result.now ≡ self.now.accounts }
-    {
-        &self.accounts
-    }
-
     /// Its metadata.
     pub fn metadata(&self) -> &Metadata<'a>
         ensures { result.now ≡ self.now.metadata }

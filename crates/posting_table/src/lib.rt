@@ -21,6 +21,7 @@
 //!         count: 10_000_000_000,                   // 100 USD, in units of 10^-8
 //!     },
 //!     weight: Weight { count: 1_000_000_000_000_000_000, currency: parse_currency("USD")? },
+//!     price: None,
 //!     metadata: Metadata::empty(),
 //!     line: 7,
 //! })?;

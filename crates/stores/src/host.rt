@@ -38,13 +38,6 @@ impl<R> HostStore<R> {
             failures: 0,
         }
     }
-
-    /// How often it answered that it failed.
-    pub fn failures(&self) -> u64
-        ensures { result ≡ self.now }
-    {
-        self.failures
-    }
 }
 
 fn fault_of(error: &io::Error) -> SourceFault {

@@ -13,8 +13,8 @@
 //! # What is known of a store
 //!
 //! Each store says by a relation what a call of it may do, so a caller knows what the store tells:
-//! all of a `MemoryStore`; of a `HostStore` that it gives what its reader gave, up to the limit. Of
-//! every store its failures are counted, and what was asked or put before a call stays so.
+//! all of a `MemoryStore`; of a `HostStore` no more than of every store: its failures are counted, and
+//! what was asked or put before a call stays so.
 //!
 //! # Faults
 //!

@@ -1,8 +1,8 @@
 -- Laws of forms: what is read part by part is read as a whole.
 use Rattle.std.proofs.Common.{◌⊎◌, inl, inr, ◌≡◌, Bool, true, false, ◌||◌, List, [], ◌∷◌, Option}
 use Rattle.std.proofs.Common.{Some, None, refl, sym, ◌∙◌, ap, subst}
-use Rattle.theory.specs.Form.{Form, word, made, ◌<+>◌, behind, closed, checked, related, OptionRead}
-use Rattle.theory.specs.Form.{optional, DueRead, due, either, ending, Reads, HasNone, Is, IsNone}
+use Rattle.theory.specs.Form.{Form, word, made, ◌<+>◌, behind, closed, checked, related}
+use Rattle.theory.specs.Form.{DueRead, due, either, ending, Reads, HasNone, Is, IsNone}
 
 -- different contents make different lexemes
 abbrev pub IsExact : {L V : Type 0} → (V → L) → Type 0
@@ -132,43 +132,6 @@ Tells {L} {V} begins a = (ls : List L) (v : V) (rest : List L) → a.reads ls v 
 abbrev pub Avoids : {L V : Type 0} → (List L → Bool) → Form L V → Type 0
 Avoids {L} {V} begins a = (ls : List L) (v : V) (rest : List L) → a.reads ls v rest
     → begins ls ≡ false
-
-only_some :
-    {L V : Type 0} (begins : List L → Bool) (a : Form L V) (ls : List L) (v : V) (rest : List L)
-    → Tells begins a → Reads a ls v rest
-    → (o : Option V) (after : List L) → OptionRead a ls o after
-    → (begins after || a.goes_on after) ≡ false → (Some v ≡ o) × (rest ≡ after)
-only_some begins a ls v rest tells r None after e ends =
-    absurd (cc
-    (tells ls v rest r.read, ap begins e, (either_false (begins after) (a.goes_on after) ends).0))
-only_some begins a ls v rest tells r (Some w) after e ends = let o =
-    r.only w after e (either_false (begins after) (a.goes_on after) ends).1 in (ap Some o.0, o.1)
-
-pub reads_some :
-    {L V : Type 0} (begins : List L → Bool) (a : Form L V) (ls : List L) (v : V) (rest : List L)
-    → Tells begins a → Reads a ls v rest → Reads (optional begins a) ls (Some v) rest
-reads_some begins a ls v rest tells r =
-    record { read = r.read; only = only_some begins a ls v rest tells r }
-
-only_absent : {L V : Type 0} (begins : List L → Bool) (a : Form L V) (ls : List L) → Tells begins a
-    → begins ls ≡ false
-    → (o : Option V) (after : List L) → OptionRead a ls o after
-    → (begins after || a.goes_on after) ≡ false → (None ≡ o) × (ls ≡ after)
-only_absent begins a ls tells absent None after e ends = (refl, e)
-only_absent begins a ls tells absent (Some w) after e ends =
-    absurd (cc (tells ls w after e, absent))
-
-pub reads_none : {L V : Type 0} (begins : List L → Bool) (a : Form L V) (ls : List L)
-    → Tells begins a → begins ls ≡ false → Reads (optional begins a) ls None ls
-reads_none begins a ls tells absent =
-    record { read = refl; only = only_absent begins a ls tells absent }
-
-pub none_of_some : {L V : Type 0} (begins : List L → Bool) (a : Form L V) (ls : List L)
-    → begins ls ≡ true → HasNone a ls → HasNone (optional begins a) ls
-none_of_some begins a ls present none None after e ends =
-    cc (present, ap begins e, (either_false (begins after) (a.goes_on after) ends).0)
-none_of_some begins a ls present none (Some w) after e ends =
-    none w after e (either_false (begins after) (a.goes_on after) ends).1
 
 only_due :
     {L V : Type 0} (begins : List L → Bool) (a : Form L V) (ls : List L) (v : V) (rest : List L)

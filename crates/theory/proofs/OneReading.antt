@@ -1,11 +1,11 @@
 -- What can be read in one way part by part can be read in one way as a whole.
 use Rattle.std.proofs.Common.{inl, inr, ◌≡◌, Bool, false, ◌||◌, List, [], ◌∷◌, Option, Some, None}
 use Rattle.std.proofs.Common.{refl, sym, ◌∙◌, ap, subst}
-use Rattle.theory.specs.Form.{Form, word, made, ◌<+>◌, behind, closed, checked, related, optional}
+use Rattle.theory.specs.Form.{Form, word, made, ◌<+>◌, behind, closed, checked, related}
 use Rattle.theory.specs.Form.{due, either, ending, ItemsRead, steps, row, Reads, Is, IsUnambiguous}
 use Rattle.theory.proofs.FormFacts.{IsExact, Follows, Stops, Tells, Avoids, either_false}
 use Rattle.theory.proofs.FormFacts.{reads_word, reads_applied, reads_behind, reads_closed}
-use Rattle.theory.proofs.FormFacts.{reads_checked, reads_related, reads_none, reads_some, reads_due}
+use Rattle.theory.proofs.FormFacts.{reads_checked, reads_related, reads_due}
 use Rattle.theory.proofs.FormFacts.{reads_not_due, reads_left, reads_right, reads_ending}
 use Rattle.theory.proofs.RowFacts.{Separates, BeginsRow, EndsItems, InRow, items_follow, first_ends}
 use Rattle.theory.proofs.RowFacts.{row_ends, row_begins, row_goes_on, row_is_read}
@@ -48,16 +48,6 @@ pub one_related : {L V W : Type 0} (R : V → W → Type 0) (a : Form L V)
     → ((v : V) (w x : W) → R v w → R v x → w ≡ x) → IsUnambiguous a → IsUnambiguous (related R a)
 one_related R a same one ls w rest p ends =
     reads_related R a ls p.0 w rest (one ls p.0 rest p.1 ends) p.2 (λ x q. same p.0 w x p.2 q)
-
-pub one_optional : {L V : Type 0} (begins : List L → Bool) (a : Form L V) → Tells begins a
-    → IsUnambiguous a → IsUnambiguous (optional begins a)
-one_optional begins a tells one ls None rest p ends =
-    subst (λ m. Reads (optional begins a) ls None m) p
-    (reads_none begins a ls tells
-    (ap begins p ∙ (either_false (begins rest) (a.goes_on rest) ends).0))
-one_optional begins a tells one ls (Some v) rest p ends =
-    reads_some begins a ls v rest tells
-    (one ls v rest p (either_false (begins rest) (a.goes_on rest) ends).1)
 
 pub one_due : {L V : Type 0} (begins : List L → Bool) (a : Form L V) → Tells begins a
     → IsUnambiguous a → IsUnambiguous (due begins a)

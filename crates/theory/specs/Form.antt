@@ -1,9 +1,8 @@
 -- Forms of a grammar: what may be read at the front of a list of lexemes.
 use Rattle.std.specs.Prelude.{◌≡◌, ◌||◌, Bool, false, List, [], ◌∷◌, ◌++◌, Option, Some, None, ◌⊎◌}
 
--- Which values the fronts of lexemes may be read as, before which rests, and which rests could
--- carry
--- one on.
+-- Which values the fronts of lexemes may be read as, before which rests, and which
+-- rests could carry one on.
 pub record Form (L V : Type 0) : Type 1 where
   pub reads : List L → V → List L → Type 0
   pub goes_on : List L → Bool
@@ -48,14 +47,6 @@ related {L} {V} R a = record {
   reads = λ ls w rest. (v : V) × a.reads ls v rest × R v w;
   goes_on = a.goes_on;
 }
-
-abbrev pub OptionRead : {L V : Type 0} → Form L V → List L → Option V → List L → Type 0
-OptionRead a ls None rest = ls ≡ rest
-OptionRead a ls (Some v) rest = a.reads ls v rest
-
--- one or none; the test tells what begins one
-abbrev pub optional : {L V : Type 0} → (List L → Bool) → Form L V → Form L (Option V)
-optional begins a = record { reads = OptionRead a; goes_on = λ rest. begins rest || a.goes_on rest }
 
 abbrev pub DueRead : {L V : Type 0} → (List L → Bool) → Form L V → List L → Option V → List L
     → Type 0

@@ -3,7 +3,7 @@
 //!
 //! - `Form`: a rule of a grammar, as a relation of the lexemes that stand to be read, the value
 //!   that a front of them stands for, and the rest behind it. Forms are put together by `word`,
-//!   `behind`, `<+>`, `either`, `optional`, `row` and others; each has its laws of reading
+//!   `behind`, `<+>`, `either`, `due`, `row` and others; each has its laws of reading
 //!   (`FormFacts`), rows have theirs for loops (`RowFacts`), and each keeps a grammar unambiguous
 //!   (`OneReading`).
 //! - `LongestFront`: the longest front of a list that is of a form, as lexers take it.
@@ -11,4 +11,5 @@
 //!   that they had; there is one.
 //! - `Cut`: a list cut before each item that begins a part.
 //! - `Joined`: lists one behind the other, with a separator.
+//! - `Once`: the items of a list in order, each once.
 #![tactic(auto)]

@@ -4,7 +4,7 @@ ghost use Rattle.std.specs.Prelude.{◌≡◌, IfOk, List, None, OnErr, OnOk, �
 ghost use Rattle.bean_inventories.specs.Costs.{AreTold, IsTold};
 ghost use Rattle.bean_inventories.specs.Known.{signs_in, signs_of};
 ghost use Rattle.bean_inventories.specs.Recount.{AreFew, IsCounted, IsRecounted};
-ghost use Rattle.bean_inventories.specs.Signs.{negated, no_signs, signs_at};
+ghost use Rattle.bean_inventories.specs.Signs.{no_signs, signs_at};
 
 use super::costs::{CostDays, costs_with};
 use super::signs::{SignTable, Signs};
@@ -33,15 +33,6 @@ pub(crate) struct KnownLots<'a> {
     signs: Option<Box<SignTable<'a>>>,
     /// What is told of costs; none where there are few slots.
     pub costs: Option<Box<CostDays>>,
-}
-
-impl Clone for KnownLots<'_> {
-    ghost is_clone = { λ a b. ((c : List ℕ) → signs_of b c ≡ signs_of a c) × (b.costs ≡ None) };
-
-    fn clone(&self) -> Result<Self, AllocError> {
-        let signs = self.signs.clone()?;
-        Ok(KnownLots { signs, costs: None })
-    }
 }
 
 impl<'a> KnownLots<'a> {
@@ -104,15 +95,5 @@ impl<'a> KnownLots<'a> {
     {
         self.costs = costs_with(alloc, self.costs.take(), slots, key)?;
         Ok(())
-    }
-
-    /// Changes the sign of every count.
-    pub(crate) fn negate(&mut self)
-        ensures signs { (c : List ℕ) → signs_of self.new c ≡ negated (signs_of self.old c) }
-        ensures costs { self.new.costs ≡ self.old.costs }
-    {
-        if let Some(signs) = &mut self.signs {
-            signs.negate();
-        }
     }
 }

@@ -8,7 +8,7 @@ ghost use Rattle.bean_inventories.specs.Kept.{AreInOrder};
 
 use super::part::part_on;
 use bean_base::Day;
-use bean_lots::{Key, Position};
+use bean_lots::Key;
 use key_counts::Run;
 use std::marker::Model;
 
@@ -158,15 +158,5 @@ impl<'a, 's> Positions<'a, 's> {
         let (before, _) = self.slots.split_at(behind - 1);
         self.slots = before;
         Some((key, count))
-    }
-
-    /// The next position, or none where there are no more.
-    pub fn next(&mut self) -> Option<Position<'a>>
-        ensures some { IfSome result (λ e. self.old ≡ e ∷ self.new) }
-        ensures none { IfNone result (self.old ≡ []) }
-    {
-        let (key, count) = self.next_held()?;
-        let key = key.lend();
-        Some(Position { key, count })
     }
 }

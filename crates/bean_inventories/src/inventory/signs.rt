@@ -40,16 +40,6 @@ impl Signs {
         }
     }
 
-    /// The same lots with counts of the other sign.
-    fn negated(self) -> Signs
-        ensures { result ≡ spec.negated self }
-    {
-        Signs {
-            long: self.short,
-            short: self.long,
-        }
-    }
-
     /// What they are once the count of a lot becomes another.
     pub fn changed(self, before: i128, after: i128) -> Signs
         requires long { inventory.as_long before ≤ self.long }
@@ -86,30 +76,10 @@ pub(crate) struct LotCurrency<'a> {
     currency: Currency<'a>,
 }
 
-impl Clone for LotCurrency<'_> {
-    ghost is_clone = { λ a b. b ≡ a };
-
-    fn clone(&self) -> Result<Self, AllocError> {
-        Ok(LotCurrency {
-            currency: self.currency.lend(),
-        })
-    }
-}
-
 /// The signs of the lots of each currency. A currency that isn't there has no lots.
 #[derive(Drop)]
 pub(crate) struct SignTable<'a> {
     by_currency: IndexMap<LotCurrency<'a>, Signs>,
-}
-
-impl Clone for SignTable<'_> {
-    ghost is_clone = { λ a b. b.by_currency.entries ≡ a.by_currency.entries };
-
-    fn clone(&self) -> Result<Self, AllocError> {
-        Ok(SignTable {
-            by_currency: self.by_currency.clone()?,
-        })
-    }
 }
 
 impl<'a> SignTable<'a> {
@@ -157,15 +127,5 @@ impl<'a> SignTable<'a> {
     {
         let signs = self.of(&key.currency).changed(before, after);
         self.set(key.currency.lend(), signs)
-    }
-
-    /// Changes the sign of every count.
-    pub(crate) fn negate(&mut self)
-        ensures { (c : List ℕ) → signs_at self.new c ≡ spec.negated (signs_at self.old c) }
-    {
-        for index in 0..self.by_currency.len() {
-            let signs = self.by_currency[index];
-            self.by_currency[index] = signs.negated();
-        }
     }
 }

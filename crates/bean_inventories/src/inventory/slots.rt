@@ -4,8 +4,8 @@
 //! and all of these are swept out. So a lot that goes costs no more than one that comes. Where a lot
 //! goes, holes behind all that is held go at once, and where there are more than a few slots, so that
 //! what is looked at from the end is held, or stands before few holes.
-ghost use Rattle.std.specs.Prelude.{◌≡◌, ◌≢◌, ◌+◌, ◌+ℤ◌, ◌++◌, ◌∷◌, ◌<◌, ◌^◌, All, IfNone, IfSome, List};
-ghost use Rattle.std.specs.Prelude.{None, OnErr, OnOk, Some, [], drop, filter, length, map, pos};
+ghost use Rattle.std.specs.Prelude.{◌≡◌, ◌≢◌, ◌+◌, ◌+ℤ◌, ◌++◌, ◌∷◌, ◌<◌, ◌^◌, IfNone, IfSome, List};
+ghost use Rattle.std.specs.Prelude.{None, OnErr, OnOk, Some, [], drop, filter, length, pos};
 ghost use Rattle.std.specs.Prelude.{position, slice_get, take, true, ℕ, ℤ};
 ghost use Rattle.std.specs.Int.{w128};
 ghost use Rattle.std.specs.Int.RustNames.{FitsSigned};
@@ -13,7 +13,7 @@ ghost use Rattle.std.specs.List.{IsDistinct};
 ghost use Rattle.std.specs.Map.{lookup, keys_of, values_of};
 ghost use Rattle.bean_inventories.specs.AtCost.{is_lot_at};
 ghost use Rattle.bean_inventories.specs.Costs.{IsTold};
-ghost use Rattle.bean_lots.specs.Inventory.{IsInventory, MayBeNegated, added, count_of, negative_entry};
+ghost use Rattle.bean_lots.specs.Inventory.{IsInventory, added, count_of};
 ghost use Rattle.bean_inventories.specs.Known.{signs_of};
 ghost use Rattle.bean_lots.specs.Lot.{same_key};
 ghost use Rattle.bean_inventories.specs.Recount.{IsCounted, IsRecounted};
@@ -69,20 +69,6 @@ pub(crate) struct Slots<'a> {
     pub holes: usize,
     pub lots: KnownLots<'a>,
     pub days: Days,
-}
-
-impl Clone for Slots<'_> {
-    ghost is_clone = { λ a b. (b.counts ≡ a.counts) × (IsKept a → IsKept b) };
-
-    fn clone(&self) -> Result<Self, AllocError> {
-        Ok(Slots {
-            counts: self.counts.clone()?,
-            first: self.first,
-            holes: self.holes,
-            lots: self.lots.clone()?,
-            days: self.days,
-        })
-    }
 }
 
 impl<'a> Slots<'a> {
@@ -421,19 +407,5 @@ impl<'a> Slots<'a> {
         }
         self.remove_hole(&key, index);
         self.push(&key, count)
-    }
-
-    /// Changes the sign of every count.
-    pub(crate) fn negate(&mut self)
-        requires kept { IsKept self.old }
-        requires wide { All MayBeNegated (held self.old) }
-        ensures kept { IsKept self.new }
-        ensures negated { held self.new ≡ map negative_entry (held self.old) }
-    {
-        for index in 0..self.counts.len() {
-            let count = self.counts.count_at(index);
-            self.counts.set(index, -count);
-        }
-        self.lots.negate();
     }
 }
