@@ -16,7 +16,6 @@ ghost use Rattle.bean_pad.specs.declared.step.Step.TheVariants as step;
 use crate::balanced::{Balanced, Latest, Seen};
 use crate::check::{Check, Passed, add_failing, add_faults};
 use crate::note::{Note, NotedPad, Outcome, count_in, keep};
-use crate::step::Step;
 use crate::sums::Sums;
 use crate::tolerance::{is_out, tolerance_of};
 use bean_base::{Account, Amount, Day, Fault, List, Place};
@@ -242,24 +241,6 @@ impl<'a> Padder<'a> {
         self.trail.push(Passed::Balance(check))?;
         self.steps += 1;
         Ok(())
-    }
-
-    /// The next step, of whichever kind.
-    pub fn step(&mut self, step: Step<'a>) -> Result<(), AllocError>
-        requires bounded { IsBounded self.old }
-        requires few { steps_in self.old < 2 ^ 40 }
-        ensures follows { OnOk result ((past : prelude.List Step) → Follows past self.old
-            → Follows (step.entry ∷ past) self.new) }
-        ensures bounded { OnOk result (IsBounded self.new) }
-        ensures steps { OnOk result (steps_in self.new ≡ steps_in self.old + 1) }
-    {
-        match step {
-            Step::Posting(account, units) => self.post(&account, &units),
-            Step::Pad(pad, day, place) => self.pad(pad, day, place),
-            Step::Balance(balance, place, is_at_cost) => {
-                self.balance(&balance, place, is_at_cost)
-            }
-        }
     }
 
     /// The faults of the pads, then those of the balances, of all steps.
