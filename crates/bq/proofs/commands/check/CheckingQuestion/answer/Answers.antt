@@ -24,5 +24,5 @@ returns c =
       found.1,
       ap₂ (λ v t. Ok (Told v t))
           (c.verdict_of-verdict.ensures ∙ ap verdict_of (c.as_slice.ensures ∙ found.2))
-          (c.of_lines.ensures ∙ c.in_ok-lines.ensures ∙ ap (lines_of c.args.texts.files) found.2),
+          (c.of_lines.ensures ∙ c.in_ok-lines.ensures.lines ∙ ap (lines_of c.args.texts.files) found.2),
     )
