@@ -2,7 +2,7 @@
 use Rattle.std.proofs.Common.{◌≡◌, ℕ, ◌≤◌, ◌^◌, ℤ, pos, ◌+ℤ◌, Bool, true, false}
 use Rattle.std.proofs.Common.{cond}
 use Rattle.std.proofs.Common.{◌&&◌, List, [], ◌∷◌, ◌++◌, append_assoc}
-use Rattle.std.proofs.Common.{Option, Some, None, refl, sym, ap, ◌∙◌, arith, subst, sum_by, ◌-◌}
+use Rattle.std.proofs.Common.{Option, Some, None, refl, sym, ap, ◌∙◌, arith, subst, sum_by, ◌+◌, ◌-◌}
 use Rattle.std.proofs.lemmas.List.Sums.{sum_by-append}
 use Rattle.bean_reductions.specs.Take.{units_of}
 use Rattle.std.specs.Int.{w128}
@@ -105,5 +105,13 @@ pub missing_after : (want : ℕ) (found more own : List (Lot × ℕ)) (before un
     → more ≡ found ++ own → units ≡ sum_by units_of own → before ≡ want - sum_by units_of found
     → after ≡ before - units → after ≡ want - sum_by units_of more
 missing_after want found more own before units after e u b a =
+    let all = ap (sum_by units_of) e ∙ sum_by-append units_of found own in
+    omega (arith, all, u, b, a)
+
+-- what is found once some more are
+pub units_after : (found more own : List (Lot × ℕ)) (before units after : ℕ)
+    → more ≡ found ++ own → units ≡ sum_by units_of own → before ≤ sum_by units_of found
+    → after ≤ before + units → after ≤ sum_by units_of more
+units_after found more own before units after e u b a =
     let all = ap (sum_by units_of) e ∙ sum_by-append units_of found own in
     omega (arith, all, u, b, a)

@@ -1,6 +1,6 @@
 -- The last of the candidates that come to the want, with all others of their days, are as good as
 -- all of them under LIFO.
-use Rattle.std.proofs.Common.{◌≡◌, ◌+◌, ◌<◌, ◌≤◌, ◌<ℤ◌, inl, inr, ℕ, ℤ, Bool, true, false, cond, List, []}
+use Rattle.std.proofs.Common.{◌≡◌, ◌<◌, ◌≤◌, ◌<ℤ◌, inl, inr, ℕ, ℤ, Bool, true, false, cond, List, []}
 use Rattle.std.proofs.Common.{◌∷◌, ◌++◌, length, sum_by, Result, refl, sym, ◌∙◌, ap, subst, arith}
 use Rattle.std.specs.List.{AllByRecursion}
 use Rattle.std.specs.Int.RustNames.{unsigned_abs}
@@ -10,7 +10,6 @@ use Rattle.std.specs.declared.alloc.Global.{Global}
 use Rattle.std.proofs.lemmas.Int.{ints}
 use Rattle.std.proofs.lemmas.List.{append-nil}
 use Rattle.std.proofs.lemmas.List.Sorted.{ranks_by}
-use Rattle.std.proofs.lemmas.List.Sums.{sum_by-cons}
 use Rattle.theory.specs.Arrangement.{arranged_by, by_key, put_by}
 use Rattle.theory.proofs.ArrangedFacts.{is_arranged}
 use Rattle.bean_base.specs.declared.num.Num.{Num}
@@ -25,6 +24,7 @@ use Rattle.bean_reductions.specs.declared.reduction.Method.TheVariants.{Strict, 
 use Rattle.bean_reductions.proofs.EnoughFacts.{longer, of_enough}
 use Rattle.bean_reductions.proofs.InTurn.{TakesInTurn}
 use Rattle.bean_reductions.proofs.ReductionFacts.{one_queue, open_orders}
+use Rattle.bean_reductions.proofs.SumFacts.{sum_arranged}
 use Rattle.bean_reductions.proofs.TakeFacts.{to_first, to_takes}
 
 -- whether a candidate is taken before another
@@ -53,24 +53,8 @@ pub all_queued : (P : Lot × ℕ → Type 0) (cs : List (Lot × ℕ)) → AllByR
 all_queued P [] a = tt
 all_queued P (c ∷ cs) a = all_put P c (queue_of cs) a.0 (all_queued P cs a.1)
 
-sum_put : (c : Lot × ℕ) (q : List (Lot × ℕ))
-    → sum_by units_of (put_by before c q) ≡ c.1 + sum_by units_of q
-sum_put c [] = sum_by-cons units_of c []
-sum_put c (d ∷ q) = by (before d c) (sum_put c q)
-  where
-    by : (b : Bool) → sum_by units_of (put_by before c q) ≡ c.1 + sum_by units_of q
-        → sum_by units_of (cond b (d ∷ put_by before c q) (c ∷ d ∷ q))
-        ≡ c.1 + sum_by units_of (d ∷ q)
-    by true rest =
-        let first = sum_by-cons units_of d (put_by before c q) in
-        let all = sum_by-cons units_of d q in
-        omega (arith, first, all, rest)
-    by false rest = sum_by-cons units_of c (d ∷ q)
-
 pub sum_queued : (cs : List (Lot × ℕ)) → sum_by units_of (queue_of cs) ≡ sum_by units_of cs
-sum_queued [] = refl
-sum_queued (c ∷ cs) =
-    sum_put c (queue_of cs) ∙ ap (λ n. c.1 + n) (sum_queued cs) ∙ sym (sum_by-cons units_of c cs)
+sum_queued cs = sum_arranged before cs
 
 later : (a b : ℤ) → a <ℤ b → is_lt (int_cmp a b) ≡ true
 later a b h = grind (arith, ints)

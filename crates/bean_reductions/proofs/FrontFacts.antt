@@ -1,5 +1,5 @@
 -- A front of the candidates that comes to the want is as good as all of them, where their days
--- never go down.
+-- never go down; under STRICT so is one of several that come to more.
 use Rattle.std.proofs.Common.{◌≡◌, ◌<◌, ◌≤◌, ◌≤ℤ◌, inl, inr, ℕ, zero, suc, ℤ, Bool, true}
 use Rattle.std.proofs.Common.{false, cond, ◌&&◌, List, [], ◌∷◌, ◌++◌, length, sum_by, get_or}
 use Rattle.std.proofs.Common.{Option, Some}
@@ -18,7 +18,7 @@ use Rattle.bean_reductions.specs.After.{after}
 use Rattle.bean_lots.specs.Inventory.{is_opposite}
 use Rattle.bean_reductions.specs.Candidate.{IsHeld, agrees, candidate_of, candidates}
 use Rattle.bean_inventories.specs.Days.{IsNotBefore, RiseInDays}
-use Rattle.bean_reductions.specs.Front.{IsFront}
+use Rattle.bean_reductions.specs.Front.{IsFront, IsFrontFor, IsReached}
 use Rattle.bean_lots.specs.Inventory.{count_of}
 use Rattle.bean_lots.specs.Lot.{same_text}
 use Rattle.bean_reductions.specs.Reduction.{IsReduction, Reduces}
@@ -30,10 +30,13 @@ use Rattle.bean_reductions.specs.declared.cause.LotCause.{LotCause}
 use Rattle.bean_reductions.specs.declared.reduction.Method.{Method}
 use Rattle.bean_reductions.specs.declared.reduction.Method.TheVariants.{Strict, Fifo}
 use Rattle.bean_reductions.specs.declared.reduction.Selector.{Selector}
+use Rattle.bean_reductions.specs.declared.reduction.front.Front.{Front}
+use Rattle.bean_reductions.specs.declared.reduction.front.Front.TheVariants.{All, ToWant, PastWant}
 use Rattle.bean_reductions.proofs.AfterFacts.{front}
 use Rattle.bean_reductions.proofs.EnoughFacts.{longer, of_enough}
 use Rattle.bean_reductions.proofs.InTurn.{TakesInTurn}
 use Rattle.bean_reductions.proofs.ReductionFacts.{one_queue}
+use Rattle.bean_reductions.proofs.SeveralFacts.{of_several}
 use Rattle.bean_reductions.proofs.TakeFacts.{to_first, to_takes}
 
 -- of that day or a later one
@@ -157,22 +160,52 @@ enough f r want a days held wanted le h =
     not_strict : Fifo ≡ Strict → ⊥
     not_strict e = cc
 
-pub of_all : (m : Method) (b : Bool) (f cs : List (Lot × ℕ)) (want : ℤ)
-    (a : Result (Vec (Lot × Num) Global) (Refusal LotCause)) → IsFront b (unsigned_abs want) f cs
-    → (b ≡ true → (m ≡ Fifo) × AreByDay cs) → AllByRecursion IsHeld cs
+-- so many candidates are enough, of more units too
+pub reached_by : (front : Front) (w want n lots units sum : ℕ) → w ≡ want → n ≡ lots → units ≤ sum
+    → IsReached front w n units → IsReached front want lots sum
+reached_by All w want n lots units sum e k le is = is
+reached_by ToWant w want n lots units sum e k le is = omega (arith, e, le, is)
+reached_by PastWant w want n lots units sum e k le is =
+    (omega (arith, k, is.0), omega (arith, e, le, is.1))
+
+-- what a front settles by the candidates
+abbrev pub Settles : Front → Method → List (Lot × ℕ) → Type 0
+Settles All m cs = Unit {0}
+Settles ToWant m cs = (m ≡ Fifo) × AreByDay cs
+Settles PastWant m cs = m ≡ Strict
+
+pub settles : (front : Front) (m : Method) (s : Selector) (want : ℤ) (es taken : List Position)
+    → IsFrontFor front m es → Settles front m (candidates s want (after es taken))
+settles All m s want es taken h = tt
+settles ToWant m s want es taken h = (h.0, by_day s want es taken h.1)
+settles PastWant m s want es taken h = h
+
+reached : (front : Front) (m : Method) (f r : List (Lot × ℕ)) (want : ℤ)
+    (a : Result (Vec (Lot × Num) Global) (Refusal LotCause))
+    → IsReached front (unsigned_abs want) (length f) (sum_by units_of f) → Settles front m (f ++ r)
+    → AllByRecursion IsHeld (f ++ r) → (0 < length (f ++ r) → 0 < unsigned_abs want)
+    → Reduces m f want a → Reduces m (f ++ r) want a
+reached All m f r want a is settled held wanted h = absurd is
+reached ToWant m f r want a is settled held wanted h =
+    subst (λ m. Reduces m (f ++ r) want a) (sym settled.0)
+    (enough f r want a settled.1 held wanted is
+    (subst (λ m. Reduces m f want a) settled.0 h))
+reached PastWant m f r want a is settled held wanted h =
+    subst (λ m. Reduces m (f ++ r) want a) (sym settled)
+    (of_several f r want a is.0 is.1 (subst (λ m. Reduces m f want a) settled h))
+
+pub of_all : (m : Method) (front : Front) (f cs : List (Lot × ℕ)) (want : ℤ)
+    (a : Result (Vec (Lot × Num) Global) (Refusal LotCause)) → IsFront front (unsigned_abs want) f cs
+    → Settles front m cs → AllByRecursion IsHeld cs
     → (0 < length cs → 0 < unsigned_abs want) → Reduces m f want a → Reduces m cs want a
-of_all m b f cs want a front days held wanted h =
-    elim front.enough as (λ _. Reduces m cs want a) [
+of_all m front f cs want a is settled held wanted h =
+    elim is.enough as (λ _. Reduces m cs want a) [
       | inl none ↦
           subst (λ l. Reduces m l want a)
-          (sym (append-nil f) ∙ ap (λ r. f ++ r) (sym none) ∙ sym front.all) h
+          (sym (append-nil f) ∙ ap (λ r. f ++ r) (sym none) ∙ sym is.all) h
       | inr some ↦
-          let d = days some.0 in
-          let r = front.rest in
-          subst (λ l. Reduces m l want a) (sym front.all)
-          (subst (λ m. Reduces m (f ++ r) want a) (sym d.0)
-          (enough f r want a (subst AreByDay front.all d.1)
-          (subst (AllByRecursion IsHeld) front.all held)
-          (subst (λ l. 0 < length l → 0 < unsigned_abs want) front.all wanted) some.1
-          (subst (λ m. Reduces m f want a) d.0 h)))
+          subst (λ l. Reduces m l want a) (sym is.all)
+          (reached front m f is.rest want a some (subst (Settles front m) is.all settled)
+          (subst (AllByRecursion IsHeld) is.all held)
+          (subst (λ l. 0 < length l → 0 < unsigned_abs want) is.all wanted) h)
     ]

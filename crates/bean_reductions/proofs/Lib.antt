@@ -7,6 +7,8 @@ pub mod AfterFacts
 pub mod SignFacts
 pub mod LeftFacts
 pub mod EnoughFacts
+pub mod SumFacts
+pub mod SeveralFacts
 pub mod FrontFacts
 pub mod BackFacts
 pub mod LastFacts

@@ -7,7 +7,11 @@ use Rattle.bean_lots.specs.Inventory.{count_of, held_as}
 use Rattle.bean_lots.specs.declared.lot.Position.{Position}
 use Rattle.bean_inventories.proofs.PartFacts.{middle}
 use Rattle.bean_reductions.specs.After.{AreSmall, IsSmall, after}
+use Rattle.bean_reductions.specs.Front.{IsFrontFor}
 use Rattle.bean_reductions.specs.Rest.{AreGone, HasAllLeft}
+use Rattle.bean_reductions.specs.declared.reduction.Method.{Method}
+use Rattle.bean_reductions.specs.declared.reduction.front.Front.{Front}
+use Rattle.bean_reductions.specs.declared.reduction.front.Front.TheVariants.{All, ToWant, PastWant}
 use Rattle.bean_reductions.proofs.LastFacts.{rise_first, rise_second}
 
 after_both : (xs ys taken : List Position)
@@ -38,6 +42,13 @@ pub rise_rest : (taken rest held : List Position) → HasAllLeft taken rest held
 rise_rest taken rest held h r =
     rise_first rest h.behind
     (rise_second h.before (rest ++ h.behind) (subst RiseInDays h.all r))
+
+-- what settles by all that is held what is taken, does so by the rest
+pub front_of_rest : (front : Front) (m : Method) (taken rest held : List Position)
+    → HasAllLeft taken rest held → IsFrontFor front m held → IsFrontFor front m rest
+front_of_rest All m taken rest held h is = tt
+front_of_rest ToWant m taken rest held h is = (is.0, rise_rest taken rest held h is.1)
+front_of_rest PastWant m taken rest held h is = is
 
 pub small_rest : (taken rest held : List Position) → HasAllLeft taken rest held
     → AreSmall (2 ^ 125) held → AreSmall (2 ^ 125) rest

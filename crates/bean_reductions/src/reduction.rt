@@ -3,6 +3,7 @@ ghost use Rattle.std.specs.Prelude.{◌≡◌};
 
 mod after;
 mod by_cost;
+mod front;
 mod last;
 mod queue;
 mod takes;

@@ -15,6 +15,7 @@ ghost use Rattle.bean_reductions.specs.Rest.{HasAllLeft};
 ghost use Rattle.bean_reductions.specs.Take.{units_of};
 
 use super::by_cost::{positions_at_cost, reduce_from};
+use super::front::{Front, front_for};
 use super::last::reduce_last_in;
 use super::queue::{Candidate, push_candidate, selects};
 use super::takes::reduce_candidates;
@@ -51,39 +52,32 @@ pub(crate) fn push_left<'a>(
     push_candidate(found, selector, want, key, left)
 }
 
-/// The candidates among what is left of positions, in order of entry; where a front that comes to
-/// the want is enough, no more.
+/// The candidates among what is left of positions, in order of entry; no more than the front that is
+/// looked for.
 pub(crate) fn candidates_after<'a>(
     alloc: Global,
     positions: Positions<'a, '_>,
     taken: &Inventory<'_>,
     selector: &Selector<'_>,
     want: i128,
-    is_front_enough: bool,
+    front: Front,
 ) -> Result<Vec<Candidate<'a>>, AllocError>
     requires held { AreSmall (2 ^ 125) positions }
     requires taken { AreSmall (2 ^ 125) taken.now }
-    ensures { IfOk result (λ found. IsFront is_front_enough (unsigned_abs want) found.items
+    ensures { IfOk result (λ found. IsFront front (unsigned_abs want) found.items
         (candidates selector.now want (after positions.entry taken.now))) }
 {
     let mut found = Vec::new(alloc);
-    let mut missing = want.unsigned_abs();
+    let mut units = 0u128;
     let mut rest = positions;
     while let Some((key, count)) = rest.next_held() {
-        let units = push_left(&mut found, selector, want, key, count, taken)?;
-        missing = missing.saturating_sub(units);
-        if is_front_enough && missing == 0 {
+        let more = push_left(&mut found, selector, want, key, count, taken)?;
+        units = units.saturating_add(more);
+        if front.is_reached(found.len(), units, want.unsigned_abs()) {
             return Ok(found);
         }
     }
     Ok(found)
-}
-
-/// Whether the first candidates that come to a want are those that are taken.
-fn is_front_enough(inventory: &Inventory<'_>, method: Method) -> bool
-    ensures { result ≡ true → (method ≡ Method.Fifo) × RiseInDays inventory.now }
-{
-    method == Method::Fifo && inventory.rises_in_days()
 }
 
 /// Whether the last candidates that come to a want, with all others of their days, have those that
@@ -121,8 +115,8 @@ pub fn reduce_after<'a>(
         return reduce_last_in(alloc, rest, taken, selector, want);
     }
     let part = rest.about(selector.day);
-    let is_front_enough = is_front_enough(inventory, method);
-    let found = candidates_after(alloc, part, taken, selector, want, is_front_enough)?;
+    let front = front_for(inventory, method);
+    let found = candidates_after(alloc, part, taken, selector, want, front)?;
     reduce_candidates(alloc, found, want, method)
 }
 

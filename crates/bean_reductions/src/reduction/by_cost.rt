@@ -8,6 +8,7 @@ ghost use Rattle.bean_reductions.specs.Candidate.{candidates};
 ghost use Rattle.bean_reductions.specs.Reduction.{Reduces};
 
 use super::after::candidates_after;
+use super::front::Front;
 use super::takes::reduce_candidates;
 use super::{Method, Selector};
 use crate::cause::LotCause;
@@ -51,6 +52,6 @@ pub(crate) fn reduce_from<'a>(
     ensures { Reduces method (candidates selector.now want (after positions.entry taken.now)) want
         result }
 {
-    let found = candidates_after(alloc, positions, taken, selector, want, false)?;
+    let found = candidates_after(alloc, positions, taken, selector, want, Front::All)?;
     reduce_candidates(alloc, found, want, method)
 }

@@ -14,6 +14,7 @@ ghost use Rattle.bean_reductions.specs.Candidate.{candidate_of, candidates};
 ghost use Rattle.bean_reductions.specs.Reduction.{Reduces};
 
 use super::after::{candidates_after, push_left};
+use super::front::Front;
 use super::queue::{Candidate, is_opposite, selects, shortfall};
 use super::takes::reduce_candidates;
 use super::{Method, Selector};
@@ -153,7 +154,7 @@ fn first_on<'a>(
 {
     let on_day = selector.on(day);
     let part = positions.about(Some(day));
-    let found = candidates_after(alloc, part, taken, &on_day, want, true)?;
+    let found = candidates_after(alloc, part, taken, &on_day, want, Front::ToWant)?;
     if shortfall(&found, want.unsigned_abs()) > 0 {
         return Ok(None);
     }

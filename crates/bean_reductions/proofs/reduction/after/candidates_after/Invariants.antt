@@ -1,5 +1,4 @@
-use Rattle.std.proofs.Common.{◌≡◌, ◌^◌, ◌-◌, ◌++◌, length, sum_by}
-use Rattle.std.specs.Int.RustNames.{unsigned_abs}
+use Rattle.std.proofs.Common.{◌≡◌, ◌≤◌, ◌^◌, ◌++◌, length, sum_by}
 use Rattle.bean_reductions.specs.After.{AreSmall, after}
 use Rattle.bean_reductions.specs.Candidate.{candidates}
 use Rattle.bean_reductions.specs.Take.{units_of}
@@ -9,7 +8,7 @@ use Rattle.bean_reductions.proofs.reduction.after.candidates_after.Given as goal
 abbrev pub invariant-loop-key : goal.invariant-loop-key
 invariant-loop-key l = record {
   small : AreSmall (2 ^ 125) l.rest;
-  missing : l.missing ≡ unsigned_abs l.want - sum_by units_of l.found.items;
+  units : l.units ≤ sum_by units_of l.found.items;
   told : l.found.items ++ candidates l.selector l.want (after l.rest l.taken)
       ≡ candidates l.selector l.want (after l.initial.rest l.taken);
 }

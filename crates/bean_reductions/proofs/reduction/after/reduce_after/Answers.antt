@@ -11,11 +11,11 @@ use Rattle.bean_reductions.specs.Front.{IsFront}
 use Rattle.bean_reductions.specs.Reduction.{Reduces}
 use Rattle.bean_reductions.proofs.CandidateFacts.{all_held, wanted}
 use Rattle.bean_reductions.specs.declared.reduction.Method.TheVariants.{Lifo}
-use Rattle.bean_reductions.proofs.FrontFacts.{by_day, front_held, front_some, of_all}
+use Rattle.bean_reductions.proofs.FrontFacts.{front_held, front_some, of_all, settles}
 use Rattle.bean_lots.specs.declared.lot.Position.{Position}
 use Rattle.bean_inventories.proofs.PartFacts.{middle}
 use Rattle.bean_reductions.proofs.PartFacts.{same_candidates}
-use Rattle.bean_reductions.proofs.RestFacts.{rise_rest, same_left, small_rest}
+use Rattle.bean_reductions.proofs.RestFacts.{front_of_rest, rise_rest, same_left, small_rest}
 use Rattle.bean_reductions.proofs.reduction.after.reduce_after.Goals as goal
 
 pub reduce_from-requires-clause-held : goal.reduce_from-requires-clause-held
@@ -100,7 +100,7 @@ returns c =
     let wide = to_z w128 (of_z w128 c.scaled-want.result) in
     let want : wide ≡ scaled c.args.units.count c.args.units.places 8 =
     omega (arith, ints, c.scaled-want.ensures.value) in
-    let front = c.is_front_enough-is_front_enough.result in
+    let front = c.front_for-front.result in
     let same = same_candidates s wide c.about-part.result es taken c.about-part.ensures in
     let left = same_left taken es c.args.inventory.now c.requires.rest in
     subst
@@ -112,8 +112,8 @@ returns c =
     (candidates s wide (after es taken)) wide c.reduce_candidates.result
     (subst (IsFront front (unsigned_abs wide) c.in_ok-found.found.items) same
     c.in_ok-found.ensures)
-    (λ t.
-    let d = c.is_front_enough-is_front_enough.ensures t in
-    (d.0, by_day s wide es taken (rise_rest taken es c.args.inventory.now c.requires.rest d.1)))
+    (settles front c.args.method s wide es taken
+    (front_of_rest front c.args.method taken es c.args.inventory.now c.requires.rest
+    c.front_for-front.ensures))
     (all_held s wide (after es taken)) (wanted s wide (after es taken))
     c.reduce_candidates.ensures))

@@ -1,4 +1,4 @@
-use Rattle.std.proofs.Common.{◌≡◌, ◌<◌, length, to_z, of_z, arith, subst, sym, true≢false}
+use Rattle.std.proofs.Common.{◌≡◌, ◌<◌, length, to_z, of_z, arith, subst, sym}
 use Rattle.std.specs.Int.{w128}
 use Rattle.std.specs.List.{AllByRecursion}
 use Rattle.std.proofs.lemmas.Int.{ints}
@@ -33,5 +33,5 @@ returns c =
     let want : wide ≡ c.args.want = omega (arith, ints) in
     subst (λ w. Reduces c.args.method (candidates s w left) w c.reduce_candidates.result) want
     (of_all c.args.method _ c.in_ok-found.found.items (candidates s wide left) wide
-    c.reduce_candidates.result c.in_ok-found.ensures (λ t. absurd (true≢false (sym t)))
+    c.reduce_candidates.result c.in_ok-found.ensures tt
     (all_held s wide left) (wanted s wide left) c.reduce_candidates.ensures)
