@@ -1,3 +1,4 @@
+pub mod Currencies
 pub mod Life
 pub mod Method
 pub mod Faults

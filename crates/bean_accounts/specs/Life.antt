@@ -1,9 +1,9 @@
 -- What is known of an account.
 use Rattle.std.specs.Prelude.{ℕ, Bool, true, false, ◌||◌, List, [], ◌∷◌, Option, Some, None}
 use Rattle.std.specs.Prelude.{unwrap_or, if◌then◌else◌}
-use Rattle.std.specs.List.{list_any}
 use Rattle.std.specs.Option.{is_some, option_map}
 use Rattle.std.specs.Str.{bytes_eq}
+use Rattle.bean_accounts.specs.Currencies.{is_empty, is_listed}
 use Rattle.bean_accounts.specs.declared.life.Life.{Life}
 use Rattle.bean_accounts.specs.declared.step.Step.{Step}
 use Rattle.bean_accounts.specs.declared.step.Step.TheVariants as step
@@ -29,13 +29,6 @@ is_opened o = is_some o
 abbrev pub is_closed : Option Life → Bool
 is_closed None = false
 is_closed (Some l) = l.is_closed
-
-abbrev pub is_listed : List (List ℕ) → List ℕ → Bool
-is_listed currencies c = list_any (λ listed. bytes_eq listed c) currencies
-
-abbrev pub is_empty : List (List ℕ) → Bool
-is_empty [] = true
-is_empty (c ∷ cs) = false
 
 -- all currencies where none is listed
 abbrev pub allows : Life → List ℕ → Bool

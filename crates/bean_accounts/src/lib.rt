@@ -26,19 +26,22 @@
 //! # Cost
 //!
 //! A look-up by the account's name for each call, which of a posting is seldom more than a look where
-//! an account with such an end was found last; a posting also looks through the currencies that the
-//! account's open lists. Memory is taken for each account, and for each currency of its open.
+//! an account with such an end was found last; a posting also looks for its currency among those that
+//! the account's open lists, through all of them where they are few, else in a table. Memory is taken
+//! for each account, and for each currency of its open.
 //! A posting is told a number at which what else is kept of its account is looked for first, mostly
 //! without a look-up; nothing rests on it. It is given the name that the open wrote too, so that all
 //! postings on an account lend their names from one place.
 #![tactic(auto)]
 
 mod accounts;
+mod currencies;
 mod life;
 mod method;
 mod step;
 
 pub use accounts::Accounts;
+pub use currencies::Currencies;
 pub use life::Life;
 pub use method::method_named;
 pub use step::Step;
